@@ -1,0 +1,19 @@
+/// One of the two ends of a connection: A opens it, B listens.
+#[derive(Clone, Copy, Debug, PartialEq, Eq)]
+pub enum Side {
+    A,
+    B,
+}
+
+/// What a step of an actor is made on: a book of one side, or the actor itself.
+#[derive(Clone, Copy, Debug, PartialEq, Eq)]
+pub enum Object {
+    /// The bytes that a side sends.
+    Send(Side),
+    /// The bytes that a side receives.
+    Reassembly(Side),
+    /// The keys, modes and paths of a side.
+    Control(Side),
+    /// The actor itself, under no lock.
+    Me,
+}
