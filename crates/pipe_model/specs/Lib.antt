@@ -1,0 +1,3 @@
+pub mod Pipe
+pub mod Prefix
+pub mod Runs
