@@ -1,7 +1,20 @@
 //! What a connection touches of the world around it: the sides and objects that it names, the files that it
 //! reads, the ports that it writes, and the gate that its threads pass.
+//!
+//! An [`Outside`] is told to contracts by what it tells: the content of each name, what each port holds, and how
+//! many faults there were. [`MemoryOutside`] tells all of it; an outside over real files tells none.
 #![tactic(auto)]
 
+mod files;
+mod gate;
+mod memory;
+mod outside;
+mod port;
 mod side;
 
+pub use files::{FailAt, NamedFile};
+pub use gate::{Gate, OpenGate};
+pub use memory::MemoryOutside;
+pub use outside::{LoadFault, Outside, PutFault};
+pub use port::Port;
 pub use side::{Object, Side};

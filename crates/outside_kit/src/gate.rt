@@ -1,0 +1,32 @@
+use crate::side::Object;
+
+/// What the threads of a run pass on their way: a program's gate is open, a test's may hold some of them until
+/// others have come.
+pub trait Gate {
+    /// An actor begins its turn, with no lock held.
+    fn turn(&self, actor: u8);
+
+    /// An actor holds the lock of an object.
+    fn held(&self, actor: u8, object: Object);
+}
+
+/// A gate that holds nobody.
+#[derive(Clone, Copy, Debug, PartialEq, Eq)]
+pub struct OpenGate;
+
+impl Gate for OpenGate {
+    fn turn(&self, _actor: u8) {}
+
+    fn held(&self, _actor: u8, _object: Object) {}
+}
+
+#[cfg(test)]
+mod tests {
+    use super::*;
+
+    #[test]
+    fn an_open_gate_lets_everyone_pass() {
+        OpenGate.turn(0);
+        OpenGate.held(0, Object::Me);
+    }
+}

@@ -1,0 +1,357 @@
+ghost use Rattle.outside_kit.specs.Memory.{content_named, kept_at, stored};
+ghost use Rattle.outside_kit.specs.Outside.{HasRisen};
+ghost use Rattle.std.specs.Prelude.{◌≡◌, ◌≢◌, ◌≤◌, ◌<◌, ◌^◌, ◌↔◌, ◌⊎◌, ◌++◌, ℕ, List, [], length, map, Option, Some, None, take, IsSome, IsNone, IfOk, IfSome, OnOk, OnErr, vec_len, option_copied, IsTrue, IsErrOf, IsSomeAnd};
+
+use crate::files::{FailAt, NamedFile};
+use crate::outside::{LoadFault, Outside, PutFault};
+use crate::port::Port;
+use std::alloc::Global;
+use std::marker::Model;
+
+/// An outside whose files and ports lie in memory. It tells everything, and fails where it is told to.
+#[derive(Debug, Drop)]
+pub struct MemoryOutside {
+    files: Vec<NamedFile>,
+    failing: Vec<FailAt>,
+    /// How many calls were made, of loads, binds and puts together.
+    calls: u64,
+    load_faults: u64,
+    read_by_a: MemoryPort,
+    read_by_b: MemoryPort,
+    log: MemoryPort,
+}
+
+/// What was put to a port, and how many of its binds and puts have failed.
+#[derive(Debug, Drop)]
+struct MemoryPort {
+    held: Vec<u8>,
+    faults: u64,
+}
+
+impl Model for MemoryPort {
+    ghost use Rattle.outside_kit.specs.Memory.{StoredPort};
+
+    ghost Value = { StoredPort };
+
+    ghost view = { λ port. record { held = port.held.items; faults = port.faults } };
+}
+
+impl Model for MemoryOutside {
+    ghost use Rattle.std.specs.Prelude.{map};
+    ghost use Rattle.outside_kit.specs.Memory.{Memory, stored};
+
+    ghost Value = { Memory };
+
+    ghost view = { λ outside. record {
+      files = map stored outside.files.items;
+      failing = outside.failing.items;
+      calls = outside.calls;
+      load_faults = outside.load_faults;
+      read_by_a = outside.read_by_a;
+      read_by_b = outside.read_by_b;
+      log = outside.log;
+    } };
+}
+
+impl MemoryPort {
+    /// A port with nothing put to it, which takes no memory.
+    fn new(alloc: Global) -> Self
+        ensures { result ≡ record { held = []; faults = 0 } }
+    {
+        MemoryPort {
+            held: Vec::new(alloc),
+            faults: 0,
+        }
+    }
+
+    fn put(&mut self, piece: &[u8]) -> Result<(), PutFault>
+        ensures ok { OnOk result (self.new ≡ record self.old { held = self.old.held ++ piece.now }) }
+        ensures err { OnErr result (self.new ≡ self.old) }
+        ensures memory { result ≢ Err PutFault.Failed }
+    {
+        match self.held.extend_from_slice(piece) {
+            Ok(()) => Ok(()),
+            Err(_) => Err(PutFault::Memory),
+        }
+    }
+
+    /// A put fails with these octets put all the same, or is refused for want of memory.
+    fn fail(&mut self, kept: &[u8]) -> PutFault
+        ensures failed { result ≡ PutFault.Failed → self.new.held ≡ self.old.held ++ kept.now }
+        ensures risen { result ≡ PutFault.Failed → HasRisen self.old.faults self.new.faults }
+        ensures counted { self.old.faults ≤ self.new.faults }
+        ensures memory { result ≡ PutFault.Memory → self.new ≡ self.old }
+    {
+        match self.held.extend_from_slice(kept) {
+            Ok(()) => {
+                self.faults = self.faults.saturating_add(1);
+                PutFault::Failed
+            }
+            Err(_) => PutFault::Memory,
+        }
+    }
+}
+
+/// The content of the first file of that name.
+fn content_of<'a>(files: &'a [NamedFile], name: &str) -> Option<&'a [u8]>
+    ensures { option_copied result ≡ content_named (map stored files.now) name.now }
+{
+    for file in files {
+        if file.name.as_str() == name {
+            return Some(file.content.as_slice());
+        }
+    }
+    None
+}
+
+/// How much of its piece the call of that number keeps, where it is to fail.
+fn kept_of(failing: &[FailAt], call: u64) -> Option<u64>
+    ensures { result ≡ kept_at failing.now call }
+{
+    for fail in failing {
+        if fail.call == call {
+            return Some(fail.kept);
+        }
+    }
+    None
+}
+
+impl MemoryOutside {
+    ghost use Rattle.outside_kit.specs.Memory.{new_memory, stored, port_of, after_call, kept_next};
+
+    /// An outside with these files, whose calls of these numbers fail. Its ports are empty, and it has counted no
+    /// fault. It takes no memory.
+    pub fn new(alloc: Global, files: Vec<NamedFile>, failing: Vec<FailAt>) -> Self
+        ensures { result ≡ new_memory (map stored files.items) failing.items }
+    {
+        MemoryOutside {
+            files,
+            failing,
+            calls: 0,
+            load_faults: 0,
+            read_by_a: MemoryPort::new(alloc),
+            read_by_b: MemoryPort::new(alloc),
+            log: MemoryPort::new(alloc),
+        }
+    }
+
+    /// What the port holds, lent.
+    pub fn port(&self, port: Port) -> &[u8]
+        ensures { result.now ≡ (port_of port self.now).held }
+    {
+        match port {
+            Port::ReadByA => self.read_by_a.held.as_slice(),
+            Port::ReadByB => self.read_by_b.held.as_slice(),
+            Port::Log => self.log.held.as_slice(),
+        }
+    }
+
+    /// Counts a call, and says how much of its piece it keeps, where it is to fail.
+    fn start_call(&mut self) -> Option<u64>
+        ensures counted { self.new ≡ after_call self.old }
+        ensures kept { result ≡ kept_next self.old }
+    {
+        self.calls = self.calls.saturating_add(1);
+        kept_of(&self.failing, self.calls)
+    }
+}
+
+/// A copy of a content that is within the limit.
+fn copy_within(alloc: Global, content: &[u8], limit: u64) -> Result<Vec<u8>, LoadFault>
+    ensures whole { IfOk result (λ bytes. bytes.items ≡ content.now) }
+    ensures within { OnOk result (length content.now ≤ limit) }
+    ensures too_long { result ≡ Err LoadFault.TooLong → limit < length content.now }
+    ensures failed { result ≢ Err LoadFault.Failed }
+{
+    if content.len() as u64 > limit {
+        return Err(LoadFault::TooLong);
+    }
+    match Vec::from_slice(alloc, content) {
+        Ok(bytes) => Ok(bytes),
+        Err(_) => Err(LoadFault::Memory),
+    }
+}
+
+/// Binds a port, unless the call is to fail.
+fn bind_port(port: &mut MemoryPort, fails: bool) -> Result<(), PutFault>
+    ensures ok { OnOk result (port.new.held ≡ []) }
+    ensures err { OnErr result (port.new.held ≡ port.old.held) }
+    ensures counted { port.old.faults ≤ port.new.faults }
+    ensures failed { result ≡ Err PutFault.Failed → HasRisen port.old.faults port.new.faults }
+    ensures cause { IsErrOf result PutFault.Failed ↔ IsTrue fails }
+    ensures memory { result ≢ Err PutFault.Memory }
+{
+    if fails {
+        port.faults = port.faults.saturating_add(1);
+        return Err(PutFault::Failed);
+    }
+    port.held.clear();
+    Ok(())
+}
+
+/// Puts a piece to a port, or the front of it where the call is to fail.
+fn put_port(port: &mut MemoryPort, kept: Option<u64>, piece: &[u8]) -> Result<(), PutFault>
+    ensures ok { OnOk result (port.new.held ≡ port.old.held ++ piece.now) }
+    ensures err { OnErr result ((count : ℕ) × (port.new.held ≡ port.old.held ++ take count piece.now)) }
+    ensures counted { port.old.faults ≤ port.new.faults }
+    ensures failed { result ≡ Err PutFault.Failed → HasRisen port.old.faults port.new.faults }
+    ensures allowed { OnOk result (kept ≡ None) }
+    ensures cause { result ≡ Err PutFault.Failed → IsSomeAnd kept (λ count. port.new.held ≡ port.old.held ++ take count piece.now) }
+    ensures memory { result ≡ Err PutFault.Memory → port.new.held ≡ port.old.held }
+{
+    match kept {
+        None => port.put(piece),
+        Some(count) => Err(port.fail(front(piece, count))),
+    }
+}
+
+/// The first `count` octets of the piece, or all of it where it is shorter.
+fn front(piece: &[u8], count: u64) -> &[u8]
+    ensures { result.now ≡ take count piece.now }
+{
+    if count < piece.len() as u64 {
+        &piece[..count as usize]
+    } else {
+        piece
+    }
+}
+
+impl Outside for MemoryOutside {
+    ghost use Rattle.outside_kit.specs.Memory.{content_named, port_of, kept_next, one_more, with_port};
+    ghost use Rattle.outside_kit.specs.declared.port.Port.{Port};
+
+    ghost content = { λ outside name. content_named outside.files name };
+
+    ghost holds = { λ outside port. Some (port_of port outside).held };
+
+    ghost load_faults = { λ outside. outside.load_faults };
+
+    ghost port_faults = { λ outside port. (port_of port outside).faults };
+
+    /// As [`Outside::load`] says. It fails where this call is to fail, and for a name that no file has.
+    fn load(&mut self, alloc: Global, name: &str, limit: u64) -> Result<Vec<u8>, LoadFault>
+        ensures whole { IfOk result (λ bytes. content_named self.old.files name.now ≡ Some bytes.items) }
+        ensures within { IfOk result (λ bytes. vec_len bytes ≤ limit) }
+        ensures too_long { result ≡ Err LoadFault.TooLong →
+            IfSome (content_named self.old.files name.now) (λ told. limit < length told) }
+        ensures fails { result ≡ Err LoadFault.Failed ↔
+            (IsSome (kept_next self.old) ⊎ IsNone (content_named self.old.files name.now)) }
+        ensures counted { self.old.load_faults ≤ self.new.load_faults }
+        ensures failed { result ≡ Err LoadFault.Failed → HasRisen self.old.load_faults self.new.load_faults }
+        ensures calls { self.new.calls ≡ one_more self.old.calls }
+        ensures same { self.new ≡ record self.old { calls = self.new.calls; load_faults = self.new.load_faults } }
+    {
+        let fails = self.start_call().is_some();
+        match content_of(&self.files, name) {
+            Some(content) if !fails => copy_within(alloc, content, limit),
+            _ => {
+                self.load_faults = self.load_faults.saturating_add(1);
+                Err(LoadFault::Failed)
+            }
+        }
+    }
+
+    /// As [`Outside::bind`] says. It fails exactly where this call is to fail.
+    fn bind(&mut self, port: Port, _name: &str) -> Result<(), PutFault>
+        ensures empty { OnOk result ((port_of port self.new).held ≡ []) }
+        ensures err { OnErr result ((port_of port self.new).held ≡ (port_of port self.old).held) }
+        ensures fails { result ≡ Err PutFault.Failed ↔ IsSome (kept_next self.old) }
+        ensures memory { result ≢ Err PutFault.Memory }
+        ensures counted { (port_of port self.old).faults ≤ (port_of port self.new).faults }
+        ensures failed { result ≡ Err PutFault.Failed →
+            HasRisen (port_of port self.old).faults (port_of port self.new).faults }
+        ensures calls { self.new.calls ≡ one_more self.old.calls }
+        ensures same { self.new ≡ with_port port (port_of port self.new) (record self.old { calls = self.new.calls }) }
+    {
+        let fails = self.start_call().is_some();
+        match port {
+            Port::ReadByA => bind_port(&mut self.read_by_a, fails),
+            Port::ReadByB => bind_port(&mut self.read_by_b, fails),
+            Port::Log => bind_port(&mut self.log, fails),
+        }
+    }
+
+    /// As [`Outside::put`] says. It fails where this call is to fail, and then keeps as much of the piece as that
+    /// call is to keep.
+    fn put(&mut self, port: Port, piece: &[u8]) -> Result<(), PutFault>
+        ensures ok { OnOk result ((port_of port self.new).held ≡ (port_of port self.old).held ++ piece.now) }
+        ensures allowed { OnOk result (kept_next self.old ≡ None) }
+        ensures kept { result ≡ Err PutFault.Failed → IsSomeAnd (kept_next self.old) (λ count.
+            (port_of port self.new).held ≡ (port_of port self.old).held ++ take count piece.now) }
+        ensures memory { result ≡ Err PutFault.Memory → (port_of port self.new).held ≡ (port_of port self.old).held }
+        ensures counted { (port_of port self.old).faults ≤ (port_of port self.new).faults }
+        ensures failed { result ≡ Err PutFault.Failed →
+            HasRisen (port_of port self.old).faults (port_of port self.new).faults }
+        ensures calls { self.new.calls ≡ one_more self.old.calls }
+        ensures same { self.new ≡ with_port port (port_of port self.new) (record self.old { calls = self.new.calls }) }
+    {
+        let kept = self.start_call();
+        match port {
+            Port::ReadByA => put_port(&mut self.read_by_a, kept, piece),
+            Port::ReadByB => put_port(&mut self.read_by_b, kept, piece),
+            Port::Log => put_port(&mut self.log, kept, piece),
+        }
+    }
+}
+
+#[cfg(test)]
+mod tests {
+    use super::*;
+    use std::test::Fail;
+
+    fn outside(alloc: Global, failing: Vec<FailAt>) -> Result<MemoryOutside, Fail> {
+        let mut files = Vec::new(alloc);
+        files.push(NamedFile {
+            name: String::from_str(alloc, "greeting")?,
+            content: Vec::from_slice(alloc, b"hello")?,
+        })?;
+        Ok(MemoryOutside::new(alloc, files, failing))
+    }
+
+    #[test]
+    fn contents_are_loaded_and_pieces_put(rt: HostRuntime) -> Result<(), Fail> {
+        let mut outside = outside(rt.alloc(), Vec::new(rt.alloc()))?;
+        let content = outside.load(rt.alloc(), "greeting", 5);
+        assert!(rt; matches!(&content, Ok(bytes) if bytes.as_slice() == b"hello".as_slice()));
+        assert!(rt;
+            matches!(
+                outside.load(rt.alloc(), "greeting", 4),
+                Err(LoadFault::TooLong)
+            )
+        );
+        assert!(rt;
+            matches!(
+                outside.load(rt.alloc(), "greetings", 5),
+                Err(LoadFault::Failed)
+            )
+        );
+        assert_eq!(rt; outside.put(Port::ReadByB, b"old"), Ok(()));
+        assert_eq!(rt; outside.bind(Port::ReadByB, "copy"), Ok(()));
+        assert_eq!(rt; outside.put(Port::ReadByB, b"hel"), Ok(()));
+        assert_eq!(rt; outside.put(Port::Log, b"line"), Ok(()));
+        assert_eq!(rt; outside.put(Port::ReadByB, b"lo"), Ok(()));
+        assert_eq!(rt; outside.port(Port::ReadByB), b"hello".as_slice());
+        assert_eq!(rt; outside.port(Port::Log), b"line".as_slice());
+        assert!(rt; outside.port(Port::ReadByA).is_empty());
+        Ok(())
+    }
+
+    // Calls of all kinds are counted together from 1, and a put that fails keeps the front that it is told to.
+    #[test]
+    fn calls_fail_by_their_number(rt: HostRuntime) -> Result<(), Fail> {
+        let failing = [1, 2, 3, 5].map(|call| FailAt { call, kept: 3 });
+        let mut outside = outside(rt.alloc(), failing.to_vec(rt.alloc())?)?;
+        assert!(rt;
+            matches!(
+                outside.load(rt.alloc(), "greeting", 5),
+                Err(LoadFault::Failed)
+            )
+        );
+        assert_eq!(rt; outside.bind(Port::Log, "log"), Err(PutFault::Failed));
+        assert_eq!(rt; outside.put(Port::Log, b"first"), Err(PutFault::Failed));
+        assert_eq!(rt; outside.put(Port::Log, b"second"), Ok(()));
+        assert_eq!(rt; outside.put(Port::Log, b"3"), Err(PutFault::Failed));
+        assert_eq!(rt; outside.port(Port::Log), b"firsecond3".as_slice());
+        Ok(())
+    }
+}
