@@ -1,0 +1,38 @@
+-- What a run reads: which contents are within their limits, and which refusal each fault of them is.
+use Rattle.std.specs.Prelude.{◌≡◌, ℕ, ◌<◌, ◌≤◌, List, length, Option, IfSome}
+use Rattle.outside_kit.specs.Outside.{HasRisen}
+use Rattle.mptcp_run.specs.declared.status.Named.{Named}
+use Rattle.mptcp_run.specs.declared.status.Named.TheVariants as input
+use Rattle.mptcp_run.specs.declared.status.Status.{Status}
+use Rattle.mptcp_run.specs.declared.status.Status.TheVariants.{Delivered, Usage, Script, Load, Put, TooLong, Memory}
+use Rattle.mptcp_run.specs.Causes.{limit_of}
+use Rattle.mptcp_run.specs.Words.{Names}
+use Rattle.mptcp_run.specs.Script.{script_meaning, refused}
+
+abbrev pub name_of : Named → Names → List ℕ
+name_of input.Script names = names.script
+name_of input.FileA names = names.file_a
+name_of input.FileB names = names.file_b
+
+-- the content of this input, where it is told, is within its limit
+abbrev pub IsWithin : (List ℕ → Option (List ℕ)) → Names → Named → Type 0
+IsWithin content names named = IfSome (content (name_of named names)) (λ told. length told ≤ limit_of named)
+
+-- the inputs that are loaded before this one are within their limits
+abbrev pub AreWithinBefore : (List ℕ → Option (List ℕ)) → Names → Named → Type 0
+AreWithinBefore content names input.Script = Unit {0}
+AreWithinBefore content names input.FileA = IsWithin content names input.Script
+AreWithinBefore content names input.FileB = IsWithin content names input.Script × IsWithin content names input.FileA
+
+-- the inputs end a run with this status
+abbrev pub IsInputFault : (List ℕ → Option (List ℕ)) → Names → ℕ → ℕ → Status → Type 0
+-- the device failed, and counted it; what was loaded before is within its limits
+IsInputFault content names old new (Load named) = HasRisen old new × AreWithinBefore content names named
+-- the content is longer than its limit, and the first such one
+IsInputFault content names old new (TooLong named) =
+    IfSome (content (name_of named names)) (λ told. limit_of named < length told) × AreWithinBefore content names named
+-- all contents are within their limits, and this is the first line that the script's grammar refuses
+IsInputFault content names old new (Script line kind) =
+    IfSome (content names.script) (λ told. script_meaning told ≡ refused line kind) × ((named : Named) → IsWithin content names named)
+IsInputFault content names old new Memory = Unit {0}
+IsInputFault content names old new _ = ⊥

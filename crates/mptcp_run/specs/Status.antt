@@ -1,0 +1,48 @@
+-- The exit status of each end of a run, and the line that tells it.
+use Rattle.std.specs.Prelude.{ℕ, List, [], ◌++◌, codes}
+use Rattle.std.specs.Fmt.{decimal}
+use Rattle.outside_kit.specs.declared.port.Port.{Port}
+use Rattle.outside_kit.specs.declared.port.Port.TheVariants.{ReadByA, ReadByB, Log}
+use Rattle.mptcp_run.specs.declared.status.Named.{Named}
+use Rattle.mptcp_run.specs.declared.status.Named.TheVariants as input
+use Rattle.mptcp_run.specs.declared.status.ScriptKind.{ScriptKind}
+use Rattle.mptcp_run.specs.declared.status.ScriptKind.TheVariants as kind
+use Rattle.mptcp_run.specs.declared.status.Status.{Status}
+use Rattle.mptcp_run.specs.declared.status.Status.TheVariants.{Delivered, Usage, Script, Load, Put, TooLong, Memory}
+
+abbrev pub code_of : Status → ℕ
+code_of Delivered = 0
+code_of Usage = 4
+code_of (Script line kind) = 5
+code_of (Load input) = 6
+code_of (Put port) = 7
+code_of (TooLong input) = 8
+code_of Memory = 9
+
+abbrev pub kind_word : ScriptKind → List ℕ
+kind_word kind.Header = codes "header"
+kind_word kind.Word = codes "word"
+kind_word kind.Missing = codes "missing"
+
+abbrev pub input_word : Named → List ℕ
+input_word input.Script = codes "script"
+input_word input.FileA = codes "file-a"
+input_word input.FileB = codes "file-b"
+
+abbrev pub port_word : Port → List ℕ
+port_word ReadByA = codes "read-by-a"
+port_word ReadByB = codes "read-by-b"
+port_word Log = codes "log"
+
+-- the form of the command line
+abbrev pub usage : List ℕ
+usage = codes "--mode run|serial|replay|bench SCRIPT FILE_A FILE_B READ_BY_B READ_BY_A [--rounds N] [--order LOG] [--number N]"
+
+abbrev pub fault_line : Status → List ℕ
+fault_line Delivered = []
+fault_line Usage = codes "mptcp_sim: usage: " ++ usage
+fault_line (Script line kind) = codes "mptcp_sim: script line " ++ (decimal line ++ (codes ": " ++ kind_word kind))
+fault_line (Load input) = codes "mptcp_sim: cannot read " ++ input_word input
+fault_line (Put port) = codes "mptcp_sim: cannot write " ++ port_word port
+fault_line (TooLong input) = codes "mptcp_sim: too long: " ++ input_word input
+fault_line Memory = codes "mptcp_sim: out of memory"

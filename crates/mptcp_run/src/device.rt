@@ -1,0 +1,80 @@
+//! The calls of an outside, each fault of which is the status that names it.
+
+ghost use Rattle.std.specs.Prelude.{◌≡◌, ◌≢◌, ◌≤◌, ◌<◌, ◌++◌, ℕ, List, [], length, IfOk, IfErr, IfSome, OnOk, OnErr, vec_len};
+ghost use Rattle.outside_kit.specs.Outside.{HasRisen, HoldsAfter, HoldsFront};
+ghost use Rattle.outside_kit.specs.declared.port.Port.{Port};
+ghost use Rattle.mptcp_run.specs.Causes.{limit_of, IsLoadFault, IsPutFault};
+
+use crate::status::{Named, Status};
+use outside_kit::{LoadFault, Outside, Port, PutFault};
+use std::alloc::Global;
+
+impl Named {
+    /// How many octets the input may have.
+    fn limit(self) -> u64
+        ensures { result ≡ limit_of self }
+    {
+        match self {
+            Named::Script => 65_536,
+            Named::FileA => 16_777_216,
+            Named::FileB => 0,
+        }
+    }
+}
+
+/// Loads an input of this name.
+pub fn load<O: Outside>(
+    alloc: Global,
+    outside: &mut O,
+    input: Named,
+    name: &str,
+) -> Result<Vec<u8>, Status>
+    ensures whole { IfOk result (λ bytes. IfSome (O.content outside.old name.now) (λ told. bytes.items ≡ told)) }
+    ensures within { IfOk result (λ bytes. vec_len bytes ≤ limit_of input) }
+    ensures fault { IfErr result (IsLoadFault input (O.content outside.old name.now) (O.load_faults outside.old) (O.load_faults outside.new)) }
+    ensures counted { O.load_faults outside.old ≤ O.load_faults outside.new }
+    ensures same_contents { (other : List ℕ) → O.content outside.new other ≡ O.content outside.old other }
+    ensures same_ports { (port : Port) → O.holds outside.new port ≡ O.holds outside.old port }
+    ensures same_counts { (port : Port) → O.port_faults outside.new port ≡ O.port_faults outside.old port }
+{
+    match outside.load(alloc, name, input.limit()) {
+        Ok(bytes) => Ok(bytes),
+        Err(LoadFault::Failed) => Err(Status::Load { input }),
+        Err(LoadFault::TooLong) => Err(Status::TooLong { input }),
+        Err(LoadFault::Memory) => Err(Status::Memory),
+    }
+}
+
+/// Keeps what is put to the port under this name, from nothing on.
+pub fn bind<O: Outside>(outside: &mut O, port: Port, name: &str) -> Result<(), Status>
+    ensures empty { OnOk result (HoldsAfter (O.holds outside.old port) (O.holds outside.new port) (λ _. [])) }
+    ensures err { OnErr result (O.holds outside.new port ≡ O.holds outside.old port) }
+    ensures fault { IfErr result (IsPutFault port (O.port_faults outside.old port) (O.port_faults outside.new port)) }
+    ensures counted { O.port_faults outside.old port ≤ O.port_faults outside.new port }
+    ensures other_ports { (other : Port) → other ≢ port → O.holds outside.new other ≡ O.holds outside.old other }
+    ensures other_counts { (other : Port) → other ≢ port → O.port_faults outside.new other ≡ O.port_faults outside.old other }
+    ensures load_counts { O.load_faults outside.new ≡ O.load_faults outside.old }
+{
+    match outside.bind(port, name) {
+        Ok(()) => Ok(()),
+        Err(PutFault::Failed) => Err(Status::Put { port }),
+        Err(PutFault::Memory) => Err(Status::Memory),
+    }
+}
+
+/// Puts a piece to the port.
+pub fn put<O: Outside>(outside: &mut O, port: Port, piece: &[u8]) -> Result<(), Status>
+    ensures ok { OnOk result (HoldsAfter (O.holds outside.old port) (O.holds outside.new port) (λ held. held ++ piece.now)) }
+    ensures err { OnErr result (HoldsFront (O.holds outside.old port) (O.holds outside.new port) piece.now) }
+    ensures fault { IfErr result (IsPutFault port (O.port_faults outside.old port) (O.port_faults outside.new port)) }
+    ensures counted { O.port_faults outside.old port ≤ O.port_faults outside.new port }
+    ensures other_ports { (other : Port) → other ≢ port → O.holds outside.new other ≡ O.holds outside.old other }
+    ensures other_counts { (other : Port) → other ≢ port → O.port_faults outside.new other ≡ O.port_faults outside.old other }
+    ensures load_counts { O.load_faults outside.new ≡ O.load_faults outside.old }
+{
+    match outside.put(port, piece) {
+        Ok(()) => Ok(()),
+        Err(PutFault::Failed) => Err(Status::Put { port }),
+        Err(PutFault::Memory) => Err(Status::Memory),
+    }
+}

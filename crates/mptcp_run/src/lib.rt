@@ -1,0 +1,10 @@
+//! The top call: from the words of a command line to the two files that were sent and the log of the run.
+#![tactic(auto)]
+
+mod device;
+mod input;
+mod script;
+mod status;
+mod words;
+
+pub use status::{Mode4, Named, ScriptKind, Status, fault_text};
