@@ -1,0 +1,6 @@
+use Rattle.std.proofs.Common.{arith}
+use Rattle.ones_sum.proofs.Sums.{word_sum-append}
+use Rattle.ones_sum.proofs.words.sum_more.Goals as goal
+
+pub returns-clause-goes_on : goal.returns-clause-goes_on
+returns-clause-goes_on c = λ before even summed. omega (arith, word_sum-append before c.args.bytes.now even)
