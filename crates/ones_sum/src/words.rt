@@ -1,13 +1,14 @@
 //! Adding up words, and the sum in 16 bits.
 
-ghost use Rattle.std.specs.Prelude.{◌≡◌, ℕ, ◌+◌, ◌%◌, ◌^◌, ◌<◌, ◌≤◌, List, ◌++◌, length};
+ghost use Rattle.std.specs.Prelude.{◌≡◌, ℕ, ◌+◌, ◌*◌, ◌%◌, ◌^◌, ◌<◌, ◌≤◌, List, ◌++◌, length};
 ghost use Rattle.ones_sum.specs.Words.{word_sum, folded};
 
 /// The sum of the 16-bit words of at most 2^32 octets, as a plain number. An odd last octet is the high half of a
 /// word whose low half is 0 (RFC 1071, section 2).
 pub fn sum(bytes: &[u8]) -> u64
     requires { length bytes.now ≤ 2 ^ 32 }
-    ensures { result ≡ word_sum bytes.now }
+    ensures value { result ≡ word_sum bytes.now }
+    ensures bounded { result ≤ 65535 * length bytes.now }
 {
     sum_more(0, bytes)
 }
@@ -20,6 +21,7 @@ pub fn sum_more(so_far: u64, bytes: &[u8]) -> u64
     ensures adds { result ≡ so_far + word_sum bytes.now }
     ensures goes_on { (before : List ℕ) → length before % 2 ≡ 0 → so_far ≡ word_sum before
         → result ≡ word_sum (before ++ bytes.now) }
+    ensures bounded { result ≤ so_far + 65535 * length bytes.now }
 {
     added(so_far, bytes)
 }
