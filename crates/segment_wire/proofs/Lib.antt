@@ -1,0 +1,4 @@
+pub mod Text
+pub mod Sums
+pub mod Fronts
+pub mod Again

@@ -1,0 +1,5 @@
+pub mod Options
+pub mod OptionFront
+pub mod Checksum
+pub mod Segment
+pub mod Reading

@@ -1,0 +1,26 @@
+-- What stands at the front of option octets, and what it says of all of them.
+use Rattle.std.specs.Prelude.{◌≡◌, ℕ, ◌<◌, true, false, List, [], ◌∷◌, length}
+use Rattle.std.specs.Borrow.{Bor}
+use Rattle.std.specs.Ptr.{Ptr, as_ptr}
+use Rattle.segment_wire.specs.declared.options.Front.{Front}
+use Rattle.segment_wire.specs.declared.options.Front.TheVariants.{End, Padding, Whole, Broken}
+use Rattle.segment_wire.specs.declared.options.PlainOptions.{PlainOptions}
+use Rattle.segment_wire.specs.Options.{are_whole, placed_options}
+
+-- what an iterator has still to give: the options with the addresses where they lie
+abbrev pub options_left : PlainOptions → List (Ptr × List ℕ)
+options_left options = placed_options (as_ptr options.rest) options.rest.now
+
+-- what follows a front is shorter, and whole where all are
+pub record Follows (options rest : Bor (List ℕ)) : Type 0 where
+  pub shorter : length rest.now < length options.now
+  pub whole : are_whole options.now ≡ are_whole rest.now
+
+abbrev placed : Bor (List ℕ) → List (Ptr × List ℕ)
+placed options = placed_options (as_ptr options) options.now
+
+abbrev pub IsFront : Bor (List ℕ) → Front → Type 0
+IsFront options End = (are_whole options.now ≡ true) × (placed options ≡ [])
+IsFront options (Padding rest) = Follows options rest × (placed options ≡ placed rest)
+IsFront options (Whole option rest) = Follows options rest × (placed options ≡ (as_ptr option, option.now) ∷ placed rest)
+IsFront options Broken = (are_whole options.now ≡ false) × (placed options ≡ [])

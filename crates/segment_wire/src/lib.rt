@@ -1,0 +1,19 @@
+//! TCP segments, whole and both ways: what octets mean, and how a segment is written (RFC 9293, section 3.1).
+//!
+//! `parse` lends the parts of its input and copies nothing; `write` makes the octets in one allocation. Options other
+//! than MSS and window scale are handed on as they stand.
+#![tactic(auto)]
+
+mod checksum;
+mod head;
+mod options;
+mod reading;
+mod writing;
+
+pub use head::{Addresses, Head};
+pub use options::PlainOptions;
+pub use reading::{SegmentFault, SegmentRef, parse};
+pub use writing::write;
+
+#[cfg(test)]
+mod tests;

@@ -1,0 +1,127 @@
+//! Reading a segment: the parts of the input are lent, and nothing is copied.
+
+ghost use Rattle.std.specs.Prelude.{◌≡◌, ◌+◌, ◌≤◌, length, IfOk, Ok};
+ghost use Rattle.std.specs.Int.{w16, w32};
+ghost use Rattle.std.specs.Ptr.{as_ptr};
+ghost use Rattle.segment_wire.specs.Segment.{Segment, CanWrite, segment_text};
+ghost use Rattle.segment_wire.specs.Reading.{number_at, head_in, segment_meaning, segment_of, shown, options_place, payload_place, StandsIn};
+ghost use Rattle.segment_wire.specs.Options.{placed_options};
+ghost use Rattle.segment_wire.specs.OptionFront.{options_left};
+
+use crate::checksum::covered_sum;
+use crate::head::{ACK, Addresses, FIN, Head, RST, SYN};
+use crate::options::{PlainOptions, are_whole};
+
+/// Why octets are no segment: the first that holds, in this order.
+#[derive(Clone, Copy, Debug, PartialEq, Eq)]
+pub enum SegmentFault {
+    /// Fewer than 20 octets.
+    Short,
+    /// The data offset is below 5, or the header that it tells runs past the end.
+    DataOffset,
+    /// The length of an option is below 2, or runs past the header.
+    OptionLength,
+    /// More than 65,535 octets, or a sum over pseudo-header and segment other than ffff.
+    Checksum,
+}
+
+/// A segment whose options and payload are lent from the octets that it was read from.
+#[derive(Clone, Copy, Debug)]
+pub struct SegmentRef<'a> {
+    /// The fields of the fixed header.
+    pub head: Head,
+    options: &'a [u8],
+    payload: &'a [u8],
+}
+
+impl<'a> SegmentRef<'a> {
+    /// The options in their order, kinds 0 and 1 left out, as they stand in the input.
+    pub fn options(&self) -> PlainOptions<'a>
+        ensures { options_left result ≡ placed_options (options_place self.now) (segment_of self.now).options }
+    {
+        PlainOptions::of(self.options)
+    }
+
+    /// The payload, as it stands in the input.
+    pub fn payload(&self) -> &'a [u8]
+        ensures octets { result.now ≡ (segment_of self.now).payload }
+        ensures place { as_ptr result ≡ payload_place self.now }
+    {
+        self.payload
+    }
+}
+
+/// Reads a segment that went between these addresses, whatever the octets are.
+pub fn parse<'a>(bytes: &'a [u8], addresses: &Addresses) -> Result<SegmentRef<'a>, SegmentFault>
+    ensures exact { shown result ≡ segment_meaning addresses.now bytes.now }
+    // What is written between the same addresses is read again.
+    ensures written { (segment : Segment) → CanWrite segment → bytes.now ≡ segment_text addresses.now segment
+        → shown result ≡ Ok segment }
+    ensures lent { IfOk result (StandsIn bytes.entry) }
+{
+    read(bytes, addresses)
+}
+
+#[tactic(auto, unfolding(crate::specs::Reading::segment_meaning))]
+fn read<'a>(bytes: &'a [u8], addresses: &Addresses) -> Result<SegmentRef<'a>, SegmentFault>
+    ensures exact { shown result ≡ segment_meaning addresses.now bytes.now }
+    ensures lent { IfOk result (StandsIn bytes.entry) }
+{
+    if bytes.len() < 20 {
+        return Err(SegmentFault::Short);
+    }
+    let header_len = 4 * usize::from(bytes[12] >> 4);
+    if header_len < 20 || bytes.len() < header_len {
+        return Err(SegmentFault::DataOffset);
+    }
+    let options = &bytes[20..header_len];
+    if !are_whole(options) {
+        return Err(SegmentFault::OptionLength);
+    }
+    if bytes.len() > 65_535 || covered_sum(addresses, bytes) != 0xffff {
+        return Err(SegmentFault::Checksum);
+    }
+    Ok(SegmentRef {
+        head: head_in(bytes),
+        options,
+        payload: &bytes[header_len..],
+    })
+}
+
+#[tactic(auto, unfolding(crate::specs::Reading::head_in))]
+fn head_in(bytes: &[u8]) -> Head
+    requires { 20 ≤ length bytes.now }
+    ensures { result ≡ head_in bytes.now }
+{
+    let control = bytes[13];
+    Head {
+        source_port: u16_at(bytes, 0),
+        destination_port: u16_at(bytes, 2),
+        seq: u32_at(bytes, 4),
+        ack: u32_at(bytes, 8),
+        syn: control & SYN != 0,
+        fin: control & FIN != 0,
+        rst: control & RST != 0,
+        ack_set: control & ACK != 0,
+        window: u16_at(bytes, 14),
+    }
+}
+
+fn u16_at(bytes: &[u8], place: usize) -> u16
+    requires { place + 2 ≤ length bytes.now }
+    ensures { result ≡ number_at w16 place bytes.now }
+{
+    u16::from_be_bytes([bytes[place], bytes[place + 1]])
+}
+
+fn u32_at(bytes: &[u8], place: usize) -> u32
+    requires { place + 4 ≤ length bytes.now }
+    ensures { result ≡ number_at w32 place bytes.now }
+{
+    u32::from_be_bytes([
+        bytes[place],
+        bytes[place + 1],
+        bytes[place + 2],
+        bytes[place + 3],
+    ])
+}
