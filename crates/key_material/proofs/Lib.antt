@@ -1,0 +1,2 @@
+pub mod DigestOctets
+pub mod Bounds

@@ -1,0 +1,7 @@
+pub mod Address
+pub mod KeyDigest
+pub mod Hmac
+pub mod JoinHmac
+pub mod AddressHmac
+pub mod Drawing
+pub mod Laws

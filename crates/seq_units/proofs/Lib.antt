@@ -1,0 +1,2 @@
+mod MeantPositions
+pub mod ReadBack
