@@ -1,0 +1,4 @@
+pub mod Estimates
+pub mod Timer
+pub mod Rules
+pub mod Laws
