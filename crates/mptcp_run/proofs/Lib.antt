@@ -1,1 +1,4 @@
+mod Pieces
+mod PortsLemmas
+mod SendingLemmas
 mod Scripts

@@ -1,6 +1,10 @@
 pub mod Causes
+pub mod Dss
 pub mod Inputs
 pub mod PathLine
+pub mod Ports
 pub mod Script
+pub mod Segments
+pub mod Sending
 pub mod Status
 pub mod Words

@@ -1,7 +1,8 @@
 //! The calls of an outside, each fault of which is the status that names it.
 
 ghost use Rattle.std.specs.Prelude.{◌≡◌, ◌≢◌, ◌≤◌, ◌<◌, ◌++◌, ℕ, List, [], length, IfOk, IfErr, IfSome, OnOk, OnErr, vec_len};
-ghost use Rattle.outside_kit.specs.Outside.{HasRisen, HoldsAfter, HoldsFront};
+ghost use Rattle.outside_kit.specs.Outside.{HasRisen, HoldsAfter};
+ghost use Rattle.mptcp_run.specs.Ports.{HoldsPrefix};
 ghost use Rattle.outside_kit.specs.declared.port.Port.{Port};
 ghost use Rattle.mptcp_run.specs.Causes.{limit_of, IsLoadFault, IsPutFault};
 
@@ -65,7 +66,7 @@ pub fn bind<O: Outside>(outside: &mut O, port: Port, name: &str) -> Result<(), S
 /// Puts a piece to the port.
 pub fn put<O: Outside>(outside: &mut O, port: Port, piece: &[u8]) -> Result<(), Status>
     ensures ok { OnOk result (HoldsAfter (O.holds outside.old port) (O.holds outside.new port) (λ held. held ++ piece.now)) }
-    ensures err { OnErr result (HoldsFront (O.holds outside.old port) (O.holds outside.new port) piece.now) }
+    ensures err { OnErr result (HoldsPrefix (O.holds outside.old port) (O.holds outside.new port) piece.now) }
     ensures fault { IfErr result (IsPutFault port (O.port_faults outside.old port) (O.port_faults outside.new port)) }
     ensures counted { O.port_faults outside.old port ≤ O.port_faults outside.new port }
     ensures other_ports { (other : Port) → other ≢ port → O.holds outside.new other ≡ O.holds outside.old other }

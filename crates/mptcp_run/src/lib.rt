@@ -2,9 +2,12 @@
 #![tactic(auto)]
 
 mod device;
+mod dss;
 mod input;
+mod piece;
 mod script;
 mod status;
+mod transfer;
 mod words;
 
 pub use status::{Mode4, Named, ScriptKind, Status, fault_text};

@@ -1,0 +1,68 @@
+-- What ports hold over several puts.
+use Rattle.std.proofs.Common.{◌≡◌, refl, sym, ◌∙◌, ap, ℕ, ◌≤◌, List, [], ◌++◌, take, drop, Option, Some, None, append_assoc, subst, Result, Ok, Err, OnErr}
+use Rattle.std.proofs.lemmas.List.{append-nil, take-append-drop}
+use Rattle.pipe_model.specs.Prefix.{IsPrefix}
+use Rattle.outside_kit.specs.Outside.{HoldsAfter, HoldsFront}
+use Rattle.mptcp_run.specs.Ports.{AppendsFront, HoldsPrefix}
+
+pub IsPrefix-take : (count : ℕ) (text : List ℕ) → IsPrefix (take count text) text
+IsPrefix-take count text = record { rest = drop count text; whole_is = sym (take-append-drop count text) }
+
+-- a front of the piece is a front of the text that the piece is
+pub HoldsPrefix-front : (old new : Option (List ℕ)) (piece : List ℕ) → HoldsFront old new piece → HoldsPrefix old new piece
+HoldsPrefix-front None new piece h = tt
+HoldsPrefix-front (Some held) new piece h = record { front = take h.0 piece; is_front = IsPrefix-take h.0 piece; told_is = h.1 }
+
+-- after one change of what a port holds comes another
+pub HoldsAfter-then : (a b c : Option (List ℕ)) (f g : List ℕ → List ℕ) → HoldsAfter a b f → HoldsAfter b c g → HoldsAfter a c (λ held. g (f held))
+HoldsAfter-then None b c f g h k = tt
+HoldsAfter-then (Some held) b c f g h k = subst (λ (told : Option (List ℕ)). HoldsAfter told c g) h k
+
+-- what is put after a text, as far as it goes, is a front of the longer text
+pub HoldsPrefix-then : (a b c : Option (List ℕ)) (text more : List ℕ) → HoldsAfter a b (λ held. held ++ text) → HoldsPrefix b c more
+    → HoldsPrefix a c (text ++ more)
+HoldsPrefix-then None b c text more h k = tt
+HoldsPrefix-then (Some held) b c text more h k =
+    let put : AppendsFront (held ++ text) more c = subst (λ (told : Option (List ℕ)). HoldsPrefix told c more) h k in
+    record {
+      front = text ++ put.front;
+      is_front = record {
+        rest = put.is_front.rest;
+        whole_is = ap (λ xs. text ++ xs) put.is_front.whole_is ∙ sym (append_assoc text put.front put.is_front.rest);
+      };
+      told_is = put.told_is ∙ ap (λ xs. Some xs) (append_assoc held text put.front);
+    }
+
+-- a front of a front is a front of the whole
+pub HoldsPrefix-longer : (a b : Option (List ℕ)) (text whole : List ℕ) → HoldsPrefix a b text → IsPrefix text whole → HoldsPrefix a b whole
+HoldsPrefix-longer None b text whole h within = tt
+HoldsPrefix-longer (Some held) b text whole h within = record {
+  front = h.front;
+  is_front = record {
+    rest = h.is_front.rest ++ within.rest;
+    whole_is = within.whole_is ∙ ap (λ xs. xs ++ within.rest) h.is_front.whole_is ∙ append_assoc h.front h.is_front.rest within.rest;
+  };
+  told_is = h.told_is;
+}
+
+pub HoldsAfter-nothing : (a : Option (List ℕ)) (text : List ℕ) → text ≡ [] → HoldsAfter a a (λ held. held ++ text)
+HoldsAfter-nothing None text e = tt
+HoldsAfter-nothing (Some held) text e = ap (λ xs. Some xs) (sym (append-nil held) ∙ ap (λ xs. held ++ xs) (sym e))
+
+-- two texts that were put are the longer one
+pub HoldsAfter-append : (a b c : Option (List ℕ)) (x y whole : List ℕ) → HoldsAfter a b (λ held. held ++ x) → HoldsAfter b c (λ held. held ++ y)
+    → x ++ y ≡ whole → HoldsAfter a c (λ held. held ++ whole)
+HoldsAfter-append None b c x y whole h k e = tt
+HoldsAfter-append (Some held) b c x y whole h k e =
+    let put : c ≡ Some (held ++ x ++ y) = subst (λ (told : Option (List ℕ)). HoldsAfter told c (λ held. held ++ y)) h k in
+    put ∙ ap (λ xs. Some xs) (append_assoc held x y ∙ ap (λ xs. held ++ xs) e)
+
+-- after a text that was put, a front of more is a front of the whole
+pub HoldsPrefix-grown : (a b c : Option (List ℕ)) (x more whole : List ℕ) → HoldsAfter a b (λ held. held ++ x) → HoldsPrefix b c more
+    → IsPrefix (x ++ more) whole → HoldsPrefix a c whole
+HoldsPrefix-grown a b c x more whole h k within = HoldsPrefix-longer a c (x ++ more) whole (HoldsPrefix-then a b c x more h k) within
+
+-- what holds at all holds of an error
+pub OnErr-holds : {T E : Type 0} (r : Result T E) (P : Type 0) → P → OnErr r P
+OnErr-holds (Ok x) P h = tt
+OnErr-holds (Err e) P h = h

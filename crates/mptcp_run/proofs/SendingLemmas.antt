@@ -1,0 +1,121 @@
+-- What is sent and logged after each piece.
+use Rattle.std.proofs.Common.{◌≡◌, refl, sym, ◌∙◌, ap, ℕ, ◌+◌, ◌-◌, ◌*◌, ◌<◌, ◌≤◌, zero, suc, min, List, [], ◌∷◌, ◌++◌, length, take, drop, map, append_assoc, arith, subst, Option}
+use Rattle.std.specs.Int.{div_ceil}
+use Rattle.std.specs.List.{concat, range_with_len}
+use Rattle.std.proofs.Math.Nat.{mul-le-mul_left}
+use Rattle.std.proofs.Math.Seq.{take-add}
+use Rattle.std.proofs.lemmas.Grind.{common_steps, div_ceil_times}
+use Rattle.std.proofs.lemmas.List.{append-nil, length-take, length-drop}
+use Rattle.std.proofs.lemmas.List.FromFn.{map-range_with_len_more}
+use Rattle.std.proofs.lemmas.List.Folds.{concat-append}
+use Rattle.pipe_model.specs.declared.pipe.Pipe.{Pipe}
+use Rattle.pipe_model.specs.Prefix.{IsPrefix}
+use Rattle.outside_kit.specs.Outside.{HoldsAfter}
+use Rattle.mptcp_run.specs.Ports.{HoldsPrefix}
+use Rattle.segment_wire.specs.Segment.{segment_text}
+use Rattle.mptcp_run.specs.Segments.{addresses, data_segment, segment_line, piece_at, piece_count, piece_line, first_lines, all_lines}
+use Rattle.mptcp_run.specs.Sending.{IsSending, IsClosed, next_piece, next_octets, after_piece}
+use Rattle.mptcp_run.proofs.PortsLemmas.{HoldsAfter-then, HoldsPrefix-then, HoldsPrefix-longer}
+
+-- one piece more has one line more
+pub first_lines-more : (size : ℕ) (file : List ℕ) (n : ℕ) → first_lines size file (n + 1) ≡ first_lines size file n ++ piece_line size file n
+unfolding first_lines
+first_lines-more size file n =
+    ap concat (map-range_with_len_more (piece_line size file) 0 n n (omega arith))
+    ∙ concat-append (map (piece_line size file) (range_with_len 0 n)) (piece_line size file n ∷ [])
+    ∙ ap (λ xs. concat (map (piece_line size file) (range_with_len 0 n)) ++ xs) (append-nil (piece_line size file n))
+
+IsPrefix-refl : (xs : List ℕ) → IsPrefix xs xs
+IsPrefix-refl xs = record { rest = []; whole_is = sym (append-nil xs) }
+
+IsPrefix-more : (xs ys more zs : List ℕ) → IsPrefix xs ys → zs ≡ ys ++ more → IsPrefix xs zs
+IsPrefix-more xs ys more zs h e = record {
+  rest = h.rest ++ more;
+  whole_is = e ∙ ap (λ ws. ws ++ more) h.whole_is ∙ append_assoc xs h.rest more;
+}
+
+lines_within : (size : ℕ) (file : List ℕ) (n k : ℕ) → IsPrefix (first_lines size file n) (first_lines size file (n + k))
+lines_within size file n zero = subst (λ (m : ℕ). IsPrefix (first_lines size file n) (first_lines size file m)) (omega arith) (IsPrefix-refl (first_lines size file n))
+lines_within size file n (suc k) =
+    IsPrefix-more (first_lines size file n) (first_lines size file (n + k)) (piece_line size file (n + k)) _ (lines_within size file n k)
+    (ap (first_lines size file) (let e : n + suc k ≡ n + k + 1 = omega arith in e) ∙ first_lines-more size file (n + k))
+
+-- the lines of the first pieces are a front of those of more pieces
+pub first_lines-IsPrefix : (size : ℕ) (file : List ℕ) (n m : ℕ) → n ≤ m → IsPrefix (first_lines size file n) (first_lines size file m)
+first_lines-IsPrefix size file n m h =
+    subst (λ (k : ℕ). IsPrefix (first_lines size file n) (first_lines size file k)) (let e : n + (m - n) ≡ m = omega arith in e) (lines_within size file n (m - n))
+
+-- each piece begins before the end of the file
+pub begins_within : (index len size : ℕ) → 1 ≤ size → index < div_ceil len size → index * size < len
+begins_within index len size h k =
+    let bounds = div_ceil_times len size h in
+    let below : size * (index + 1) ≤ size * div_ceil len size = mul-le-mul_left size (omega arith) in
+    omega (arith, bounds.1, below)
+
+-- and the pieces together are the file
+pub covered : (len size : ℕ) → 1 ≤ size → len ≤ div_ceil len size * size
+covered len size h = (div_ceil_times len size h).0
+
+-- ---- the pipe
+
+-- a pipe of which so many pieces were read
+abbrev pub at_piece : Pipe → ℕ → ℕ → Pipe
+at_piece start size index = record start { read = min (index * size) (length start.written); acked = min (index * size) (length start.written) }
+
+pub at_piece-none : (start : Pipe) (size : ℕ) → IsClosed start size → start ≡ at_piece start size 0
+at_piece-none start size h =
+    let none : (start.read, start.acked) ≡ (min (0 * size) (length start.written), min (0 * size) (length start.written)) =
+        cc (h.unread, h.unacknowledged, (let z : min (0 * size) (length start.written) ≡ 0 = omega arith in z)) in
+    ap (λ (p : ℕ × ℕ). let q : Pipe = record start { read = p.0; acked = p.1 } in q) none
+
+record Stands (start pipe : Pipe) (size index : ℕ) : Type 0 where
+  at : pipe ≡ at_piece start size index
+  within : index * size < length start.written
+
+stands : (start pipe : Pipe) (size index : ℕ) → 1 ≤ size → index < div_ceil (length start.written) size → pipe ≡ at_piece start size index → Stands start pipe size index
+stands start pipe size index h k e = record { at = e; within = begins_within index (length start.written) size h k }
+
+read_is : (start pipe : Pipe) (size index : ℕ) → Stands start pipe size index → pipe.read ≡ index * size
+read_is start pipe size index s = ap (λ (p : Pipe). p.read) s.at ∙ (let w = s.within in omega arith)
+
+piece_is : (start pipe : Pipe) (size index : ℕ) → Stands start pipe size index → next_piece pipe size ≡ piece_at size start.written index
+piece_is start pipe size index s =
+    ap (λ (p : Pipe). take size (drop p.read p.written)) s.at
+    ∙ ap (λ n. take size (drop n start.written)) (let w = s.within in let e : min (index * size) (length start.written) ≡ index * size = omega arith in e)
+
+read_more : (size index : ℕ) (file : List ℕ)
+    → min (index * size) (length file) + length (take size (drop (min (index * size) (length file)) file)) ≡ min ((index + 1) * size) (length file)
+read_more size index file = simp (length-take, length-drop) (omega arith)
+
+-- one piece more is read
+pub at_piece-more : (start pipe new : Pipe) (size index : ℕ) → 1 ≤ size → index < div_ceil (length start.written) size
+    → pipe ≡ at_piece start size index → new ≡ after_piece pipe (next_piece pipe size) → new ≡ at_piece start size (index + 1)
+at_piece-more start pipe new size index h k e f =
+    f ∙ ap (λ (p : Pipe). after_piece p (next_piece p size)) e
+    ∙ ap (λ (n : ℕ). let q : Pipe = record start { read = n; acked = n } in q) (read_more size index start.written)
+
+-- the line of the next piece
+pub next_line_is : (start pipe : Pipe) (size index : ℕ) → 1 ≤ size → index < div_ceil (length start.written) size → pipe ≡ at_piece start size index
+    → segment_line (next_octets pipe size) ≡ piece_line size start.written index
+next_line_is start pipe size index h k e =
+    let s = stands start pipe size index h k e in
+    ap (λ (p : ℕ × List ℕ). segment_line (segment_text addresses (data_segment p.0 p.1)))
+    (let f : (pipe.read, next_piece pipe size) ≡ (index * size, piece_at size start.written index) = cc (read_is start pipe size index s, piece_is start pipe size index s) in f)
+
+-- what was read, and the next piece
+pub next_read_is : (start pipe : Pipe) (size index : ℕ) → 1 ≤ size → index < div_ceil (length start.written) size → pipe ≡ at_piece start size index
+    → take (index * size) start.written ++ next_piece pipe size ≡ take ((index + 1) * size) start.written
+next_read_is start pipe size index h k e =
+    ap (λ xs. take (index * size) start.written ++ xs) (piece_is start pipe size index (stands start pipe size index h k e))
+    ∙ sym (take-add (index * size) size start.written)
+    ∙ ap (λ n. take n start.written) (let f : index * size + size ≡ (index + 1) * size = omega arith in f)
+
+-- the lines of the pieces that were sent, and the next line
+pub next_lines_are : (start pipe : Pipe) (size index : ℕ) → 1 ≤ size → index < div_ceil (length start.written) size → pipe ≡ at_piece start size index
+    → first_lines size start.written index ++ segment_line (next_octets pipe size) ≡ first_lines size start.written (index + 1)
+next_lines_are start pipe size index h k e =
+    ap (λ xs. first_lines size start.written index ++ xs) (next_line_is start pipe size index h k e) ∙ sym (first_lines-more size start.written index)
+
+pub first_lines-none : (size : ℕ) (file : List ℕ) → first_lines size file 0 ≡ []
+unfolding first_lines
+first_lines-none size file = refl

@@ -1,0 +1,5 @@
+use Rattle.mptcp_run.proofs.Pieces.{first_option-given}
+use Rattle.mptcp_run.proofs.piece.first_option.Goals as goal
+
+pub returns : goal.returns
+returns c = first_option-given _ _ _ _ _ c.options.ensures c.next.ensures.steps

@@ -1,0 +1,163 @@
+//! Sends a file from A to B over the open path: each piece goes out as the octets of a segment, and what B reads is
+//! taken from what was parsed.
+
+ghost use Rattle.std.specs.Prelude.{◌≡◌, ◌+◌, ◌^◌, ◌<◌, ◌≤◌, ◌++◌, List, [], true, false, length, take, drop, IfOk, IfErr, OnOk, OnErr, None, vec_len, string_bytes};
+ghost use Rattle.outside_kit.specs.Outside.{HoldsAfter, HoldsFront};
+ghost use Rattle.pipe_model.specs.Pipe.{opening, refusal, after, TakesMemory};
+ghost use Rattle.segment_wire.specs.Segment.{segment_text};
+ghost use Rattle.mptcp_run.specs.Ports.{NeverFall, IsPortsFault, HoldsPrefix};
+ghost use Rattle.mptcp_run.specs.Segments.{addresses, data_segment, segment_line, all_lines};
+ghost use Rattle.mptcp_run.specs.Sending.{IsSending, next_piece, next_octets, after_piece, IsClosed};
+
+use crate::device::put;
+use crate::piece::{read_piece, write_piece};
+use crate::status::Status;
+use outside_kit::{Outside, Port};
+use pipe_model::{Pipe, PipeFault, PipeStep, Text, pipe_step};
+use std::alloc::{AllocError, Global};
+
+/// Makes a step that the pipe allows.
+fn step(pipe: &mut Pipe, step: &PipeStep) -> Result<(), Status>
+    requires { refusal step.now pipe.old ≡ None }
+    ensures after { OnOk result (pipe.new ≡ after step.now pipe.old) }
+    ensures memory { IfErr result (λ status. (status ≡ Status.Memory) × TakesMemory step.now) }
+    ensures err { OnErr result (pipe.new ≡ pipe.old) }
+{
+    match pipe_step(pipe, step) {
+        Ok(()) => Ok(()),
+        Err(PipeFault::Memory) => Err(Status::Memory),
+        Err(_) => unreachable!(),
+    }
+}
+
+/// The pipe of a stream whose writer has given this file and closed.
+fn closed_pipe(alloc: Global, file: Vec<u8>) -> Result<Pipe, Status>
+    ensures ok { IfOk result (λ pipe. pipe ≡ record opening { written = file.items; closed = true }) }
+    ensures memory { IfErr result (λ status. status ≡ Status.Memory) }
+{
+    let mut pipe = Pipe::new(alloc);
+    step(
+        &mut pipe,
+        &PipeStep::Write {
+            bytes: Text::from(file),
+        },
+    )?;
+    step(&mut pipe, &PipeStep::Close)?;
+    Ok(pipe)
+}
+
+/// The octets of the segment that carries the next piece.
+fn piece_octets(alloc: Global, pipe: &Pipe, size: usize) -> Result<Vec<u8>, Status>
+    requires { IsSending pipe.now size }
+    ensures ok { IfOk result (λ octets. octets.items ≡ next_octets pipe.now size) }
+    ensures memory { IfErr result (λ status. status ≡ Status.Memory) }
+{
+    let unread = &pipe.written.as_bytes()[pipe.read as usize..];
+    let piece = if size < unread.len() {
+        &unread[..size]
+    } else {
+        unread
+    };
+    match write_piece(alloc, pipe.read, piece) {
+        Ok(octets) => Ok(octets),
+        Err(AllocError) => Err(Status::Memory),
+    }
+}
+
+/// Takes the piece from the octets of its segment: B acknowledges it, and its reader reads it.
+fn receive<'a>(pipe: &mut Pipe, octets: &'a [u8], size: usize) -> Result<&'a [u8], Status>
+    requires sending { IsSending pipe.old size }
+    requires octets { octets.now ≡ next_octets pipe.old size }
+    ensures ok { IfOk result (λ payload. payload.now ≡ next_piece pipe.old size) }
+    ensures after { OnOk result (pipe.new ≡ after_piece pipe.old (next_piece pipe.old size)) }
+    ensures memory { IfErr result (λ status. status ≡ Status.Memory) }
+{
+    match read_piece(octets) {
+        Some(piece) if piece.place == pipe.read => {
+            let to = piece.place + piece.payload.len() as u64;
+            step(pipe, &PipeStep::Ack { to, received: to })?;
+            step(
+                pipe,
+                &PipeStep::Read {
+                    count: piece.payload.len() as u64,
+                },
+            )?;
+            Ok(piece.payload)
+        }
+        _ => unreachable!(),
+    }
+}
+
+/// The line of a segment in the log.
+fn segment_line(alloc: Global, octets: &[u8]) -> Result<String, Status>
+    ensures ok { IfOk result (λ line. string_bytes line ≡ segment_line octets.now) }
+    ensures memory { IfErr result (λ status. status ≡ Status.Memory) }
+{
+    match spell_line(alloc, octets) {
+        Ok(line) => Ok(line),
+        Err(AllocError) => Err(Status::Memory),
+    }
+}
+
+fn spell_line(alloc: Global, octets: &[u8]) -> Result<String, AllocError>
+    ensures { IfOk result (λ line. string_bytes line ≡ segment_line octets.now) }
+{
+    let mut line = String::from_str(alloc, "segment ")?;
+    line.push_str(hex::encode(alloc, octets)?.as_str())?;
+    line.push('\n')?;
+    Ok(line)
+}
+
+/// Sends the next piece, and puts it to B's reader and its segment to the log.
+fn send_piece<O: Outside>(
+    alloc: Global,
+    outside: &mut O,
+    pipe: &mut Pipe,
+    size: usize,
+) -> Result<(), Status>
+    requires { IsSending pipe.old size }
+    ensures after { OnOk result (pipe.new ≡ after_piece pipe.old (next_piece pipe.old size)) }
+
+    ensures read_by_b { OnOk result (HoldsAfter (O.holds outside.old Port.ReadByB) (O.holds outside.new Port.ReadByB) (λ held. held ++ next_piece pipe.old size)) }
+    ensures log { OnOk result (HoldsAfter (O.holds outside.old Port.Log) (O.holds outside.new Port.Log) (λ held. held ++ segment_line (next_octets pipe.old size))) }
+    ensures read_front { OnErr result (HoldsPrefix (O.holds outside.old Port.ReadByB) (O.holds outside.new Port.ReadByB) (next_piece pipe.old size)) }
+    ensures log_front { OnErr result (HoldsPrefix (O.holds outside.old Port.Log) (O.holds outside.new Port.Log) (segment_line (next_octets pipe.old size))) }
+
+    ensures fault { IfErr result (IsPortsFault (O.port_faults outside.old) (O.port_faults outside.new)) }
+    ensures counted { NeverFall (O.port_faults outside.old) (O.port_faults outside.new) }
+    ensures read_by_a { O.holds outside.new Port.ReadByA ≡ O.holds outside.old Port.ReadByA }
+    ensures load_counts { O.load_faults outside.new ≡ O.load_faults outside.old }
+{
+    let octets = piece_octets(alloc, pipe, size)?;
+    let line = segment_line(alloc, &octets)?;
+    let payload = receive(pipe, &octets, size)?;
+    put(outside, Port::ReadByB, payload)?;
+    put(outside, Port::Log, line.as_bytes())
+}
+
+/// Sends all pieces of the pipe's file.
+fn send_pieces<O: Outside>(
+    alloc: Global,
+    outside: &mut O,
+    pipe: &mut Pipe,
+    size: usize,
+) -> Result<(), Status>
+    requires { IsClosed pipe.old size }
+    ensures after { OnOk result (pipe.new ≡ record pipe.old { read = length pipe.old.written; acked = length pipe.old.written }) }
+
+    ensures read_by_b { OnOk result (HoldsAfter (O.holds outside.old Port.ReadByB) (O.holds outside.new Port.ReadByB) (λ held. held ++ pipe.old.written)) }
+    ensures log { OnOk result (HoldsAfter (O.holds outside.old Port.Log) (O.holds outside.new Port.Log) (λ held. held ++ all_lines size pipe.old.written)) }
+    ensures read_front { OnErr result (HoldsPrefix (O.holds outside.old Port.ReadByB) (O.holds outside.new Port.ReadByB) pipe.old.written) }
+    ensures log_front { OnErr result (HoldsPrefix (O.holds outside.old Port.Log) (O.holds outside.new Port.Log) (all_lines size pipe.old.written)) }
+
+    ensures fault { IfErr result (IsPortsFault (O.port_faults outside.old) (O.port_faults outside.new)) }
+    ensures counted { NeverFall (O.port_faults outside.old) (O.port_faults outside.new) }
+    ensures read_by_a { O.holds outside.new Port.ReadByA ≡ O.holds outside.old Port.ReadByA }
+    ensures load_counts { O.load_faults outside.new ≡ O.load_faults outside.old }
+{
+    let count = pipe.written.len().div_ceil(size);
+    for _index in 0..count {
+        send_piece(alloc, outside, pipe, size)?;
+    }
+    Ok(())
+}
