@@ -2,3 +2,4 @@ pub mod Text
 pub mod Sums
 pub mod Fronts
 pub mod Again
+pub mod Rewritten
