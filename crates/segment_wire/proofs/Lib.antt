@@ -3,3 +3,4 @@ pub mod Sums
 pub mod Fronts
 pub mod Again
 pub mod Rewritten
+pub mod Iterating
