@@ -142,3 +142,13 @@ segment_meaning-written addresses segment four four' can =
     let right : (covered_sum addresses text == 65535) ≡ true = eq-eqb (covered_sum addresses text) 65535 (covered_sum-written addresses segment four four') in
     reads_on addresses text room low within whole short right
     ∙ ap Ok (same_segment (segment_in text) segment (head_in-written checksum segment can.head) (options_in-written checksum segment padded) (payload-written checksum segment padded))
+
+abbrev meant : Segment → Result Segment SegmentFault
+meant segment = Ok segment
+
+meant_is : (s t : Segment) → meant s ≡ meant t → s ≡ t
+meant_is s t same = cc
+
+pub segment_text-differs : (addresses : Addresses) (s t : Segment) → length addresses.source ≡ 4 → length addresses.destination ≡ 4 → CanWrite s → CanWrite t → segment_text addresses s ≡ segment_text addresses t → s ≡ t
+segment_text-differs addresses s t four four' can_s can_t same =
+    meant_is s t (sym (segment_meaning-written addresses s four four' can_s) ∙ ap (segment_meaning addresses) same ∙ segment_meaning-written addresses t four four' can_t)

@@ -3,3 +3,4 @@ pub mod OptionFront
 pub mod Checksum
 pub mod Segment
 pub mod Reading
+pub mod Laws

@@ -1,5 +1,5 @@
 -- What stands at the front of option octets, and what it says of all of them.
-use Rattle.std.specs.Prelude.{◌≡◌, ℕ, ◌<◌, true, false, List, [], ◌∷◌, length}
+use Rattle.std.specs.Prelude.{◌≡◌, ℕ, ◌<◌, true, false, List, [], ◌∷◌, length, map}
 use Rattle.std.specs.Borrow.{Bor}
 use Rattle.std.specs.Ptr.{Ptr, as_ptr}
 use Rattle.segment_wire.specs.declared.options.Front.{Front}
@@ -10,6 +10,10 @@ use Rattle.segment_wire.specs.Options.{are_whole, placed_options}
 -- what an iterator has still to give: the options with the addresses where they lie
 abbrev pub options_left : PlainOptions → List (Ptr × List ℕ)
 options_left options = placed_options (as_ptr options.rest) options.rest.now
+
+-- the octets of options, wherever they lie
+abbrev pub octets_alone : List (Ptr × List ℕ) → List (List ℕ)
+octets_alone options = map (λ (o : Ptr × List ℕ). o.1) options
 
 -- what follows a front is shorter, and whole where all are
 pub record Follows (options rest : Bor (List ℕ)) : Type 0 where

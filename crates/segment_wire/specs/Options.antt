@@ -1,6 +1,6 @@
 -- The options of a TCP header (RFC 9293, section 3.2): kind 0 ends them, kind 1 is one octet of padding, and every
 -- other kind has a length octet that counts kind and length.
-use Rattle.std.specs.Prelude.{◌≡◌, ℕ, zero, suc, ◌+◌, ◌-◌, ◌<◌, Bool, true, false, ◌&&◌, nat_le, if◌then◌else◌, List, [], ◌∷◌, length, take, map}
+use Rattle.std.specs.Prelude.{◌≡◌, ℕ, zero, suc, ◌+◌, ◌-◌, ◌*◌, ◌<◌, Bool, true, false, ◌&&◌, nat_le, if◌then◌else◌, ◌==◌, min, Option, Some, None, List, [], ◌∷◌, length, take, map, slice_index}
 use Rattle.std.specs.Borrow.{Bor, u8 as octet}
 use Rattle.std.specs.Ptr.{Ptr, as_ptr, ptr_add}
 
@@ -39,3 +39,21 @@ plain_options options = options_after 0 0 options
 -- the same, where the first octet lies at this address
 unfoldable pub placed_options : Ptr → List ℕ → List (Ptr × List ℕ)
 placed_options start options = map (λ o. (ptr_add octet o.0 start, o.1)) (plain_options options)
+
+-- their octets alone
+abbrev pub option_octets : List ℕ → List (List ℕ)
+option_octets options = map (λ o. o.1) (plain_options options)
+
+-- ---- the two options that are read
+
+-- kind and length are these, and there are as many octets
+abbrev pub is_option : ℕ → ℕ → List ℕ → Bool
+is_option kind len option = length option == len && (slice_index option 0 == kind && slice_index option 1 == len)
+
+-- the maximum segment size: kind 2, length 4
+abbrev pub mss_of : List ℕ → Option ℕ
+mss_of option = if is_option 2 4 option then Some (256 * slice_index option 2 + slice_index option 3) else None
+
+-- the window scale: kind 3, length 3, and a shift above 14 is read as 14
+abbrev pub window_scale_of : List ℕ → Option ℕ
+window_scale_of option = if is_option 3 3 option then Some (min (slice_index option 2) 14) else None

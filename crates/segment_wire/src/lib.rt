@@ -6,11 +6,13 @@
 
 mod checksum;
 mod head;
-mod options;
+mod laws;
+pub mod options;
 mod reading;
 mod writing;
 
 pub use head::{Addresses, Head};
+pub use laws::{different_segments_differ, read_is_written_again, written_is_read_again};
 pub use options::PlainOptions;
 pub use reading::{SegmentFault, SegmentRef, parse};
 pub use writing::write;

@@ -3,13 +3,17 @@
 ghost use Rattle.std.specs.Prelude.{◌≡◌};
 ghost use Rattle.std.specs.Iterator.{YieldsFirstBy, item_count};
 ghost use Rattle.std.specs.Ptr.{as_ptr};
-ghost use Rattle.segment_wire.specs.Options.{are_whole, placed_options};
+ghost use Rattle.segment_wire.specs.Options.{are_whole, placed_options, mss_of, window_scale_of};
 ghost use Rattle.segment_wire.specs.OptionFront.{IsFront, options_left};
 
-// The kinds that are one octet alone.
-const END: u8 = 0;
+// The kinds that are one octet alone, and those that are read here (RFC 9293, section 3.2; RFC 7323, section 2.2).
+const END_OF_OPTIONS: u8 = 0;
 
-const PADDING: u8 = 1;
+const NO_OPERATION: u8 = 1;
+
+const MAXIMUM_SEGMENT_SIZE: u8 = 2;
+
+const WINDOW_SCALE: u8 = 3;
 
 /// The options of a segment in their order, each a part of the input: kind, length and body. Kinds 0 and 1, which end
 /// and pad the options, are left out.
@@ -78,10 +82,10 @@ enum Front<'a> {
 fn front_of(options: &[u8]) -> Front<'_>
     ensures { IsFront options.entry result }
 {
-    if options.is_empty() || options[0] == END {
+    if options.is_empty() || options[0] == END_OF_OPTIONS {
         return Front::End;
     }
-    if options[0] == PADDING {
+    if options[0] == NO_OPERATION {
         return Front::Padding(&options[1..]);
     }
     if options.len() < 2 {
@@ -92,4 +96,26 @@ fn front_of(options: &[u8]) -> Front<'_>
         return Front::Broken;
     }
     Front::Whole(&options[..len], &options[len..])
+}
+
+/// The maximum segment size in octets that this option tells: kind 2 of length 4 (RFC 9293, section 3.2). None where
+/// it is another option, or one of this kind with another length.
+pub fn mss(option: &[u8]) -> Option<u16>
+    ensures { result ≡ mss_of option.now }
+{
+    match option {
+        [MAXIMUM_SEGMENT_SIZE, 4, high, low] => Some(u16::from_be_bytes([*high, *low])),
+        _ => None,
+    }
+}
+
+/// How many bits windows are shifted by, as this option tells: kind 3 of length 3 (RFC 7323, section 2.2), and more
+/// than 14 counts as 14 (section 2.3). None where it is another option, or one of this kind with another length.
+pub fn window_scale(option: &[u8]) -> Option<u8>
+    ensures { result ≡ window_scale_of option.now }
+{
+    match option {
+        [WINDOW_SCALE, 3, shift] => Some((*shift).min(14)),
+        _ => None,
+    }
 }

@@ -5,8 +5,8 @@ ghost use Rattle.std.specs.Int.{w16, w32};
 ghost use Rattle.std.specs.Ptr.{as_ptr};
 ghost use Rattle.segment_wire.specs.Segment.{Segment, CanWrite, segment_text};
 ghost use Rattle.segment_wire.specs.Reading.{number_at, head_in, segment_meaning, segment_of, shown, options_place, payload_place, StandsIn};
-ghost use Rattle.segment_wire.specs.Options.{placed_options};
-ghost use Rattle.segment_wire.specs.OptionFront.{options_left};
+ghost use Rattle.segment_wire.specs.Options.{option_octets, placed_options};
+ghost use Rattle.segment_wire.specs.OptionFront.{options_left, octets_alone};
 
 use crate::checksum::covered_sum;
 use crate::head::{ACK, Addresses, FIN, Head, RST, SYN};
@@ -37,7 +37,8 @@ pub struct SegmentRef<'a> {
 impl<'a> SegmentRef<'a> {
     /// The options in their order, kinds 0 and 1 left out, as they stand in the input.
     pub fn options(&self) -> PlainOptions<'a>
-        ensures { options_left result ≡ placed_options (options_place self.now) (segment_of self.now).options }
+        ensures octets { octets_alone (options_left result) ≡ option_octets (segment_of self.now).options }
+        ensures place { options_left result ≡ placed_options (options_place self.now) (segment_of self.now).options }
     {
         PlainOptions::of(self.options)
     }

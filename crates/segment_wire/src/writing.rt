@@ -1,7 +1,7 @@
 //! Writing a segment.
 
 ghost use Rattle.std.specs.Prelude.{◌≡◌, ◌≤◌, ◌++◌, IfOk, OnOk};
-ghost use Rattle.segment_wire.specs.Segment.{CanCarry, segment_text, octets_with, fixed_header, ports_and_numbers, control_fields, control_bits};
+ghost use Rattle.segment_wire.specs.Segment.{CanCarry, CanWrite, IsHead, segment_text, octets_with, fixed_header, ports_and_numbers, control_fields, control_bits};
 
 use crate::checksum::covered_sum;
 use crate::head::{ACK, Addresses, FIN, Head, RST, SYN};
@@ -17,9 +17,11 @@ pub fn write(
     payload: &[u8],
 ) -> Result<Vec<u8>, AllocError>
     requires { CanCarry options.now payload.now }
-    ensures { IfOk result (λ octets. octets.items ≡ segment_text addresses.now (record { head = head.now; options = options.now; payload = payload.now })) }
+    ensures text { IfOk result (λ octets. octets.items ≡ segment_text addresses.now (record { head = head.now; options = options.now; payload = payload.now })) }
+    // They can be read again.
+    ensures readable { OnOk result (CanWrite (record { head = head.now; options = options.now; payload = payload.now })) }
 {
-    let mut octets = before_checksum(alloc, head, options, payload)?;
+    let mut octets = before_checksum(alloc, *head, options, payload)?;
     let checksum = 0xffff - covered_sum(addresses, &octets);
     let [high, low] = checksum.to_be_bytes();
     octets[16] = high;
@@ -30,15 +32,16 @@ pub fn write(
 // The octets with a checksum of 0.
 fn before_checksum(
     alloc: Global,
-    head: &Head,
+    head: Head,
     options: &[u8],
     payload: &[u8],
 ) -> Result<Vec<u8>, AllocError>
     requires { CanCarry options.now payload.now }
-    ensures { IfOk result (λ octets. octets.items ≡ octets_with 0 (record { head = head.now; options = options.now; payload = payload.now })) }
+    ensures text { IfOk result (λ octets. octets.items ≡ octets_with 0 (record { head = head; options = options.now; payload = payload.now })) }
+    ensures fits { IsHead head }
 {
     let mut octets = Vec::with_capacity(alloc, 20 + options.len() + payload.len())?;
-    put_header(&mut octets, head, options.len())?;
+    put_header(&mut octets, &head, options.len())?;
     octets.extend_from_slice(options)?;
     octets.extend_from_slice(payload)?;
     Ok(octets)
