@@ -1,37 +1,24 @@
 -- What is written as a piece is read as that piece.
-use Rattle.std.proofs.Common.{◌≡◌, refl, sym, ◌∙◌, ap, ℕ, ◌+◌, ◌^◌, ◌<◌, ◌≤◌, List, [], ◌∷◌, length, take, map, Option, Some, None, MatchOption, option_copied, Bor, arith, ◌-◌, ◌==◌, nat_le, if◌then◌else◌}
+use Rattle.std.proofs.Common.{◌≡◌, refl, sym, ◌∙◌, ap, ℕ, ◌+◌, ◌^◌, ◌<◌, ◌≤◌, List, [], ◌∷◌, length, take, map, Option, Some, None, MatchOption, option_copied, slice_get, Bor, arith, ◌-◌, ◌==◌, nat_le, if◌then◌else◌}
 use Rattle.std.proofs.lemmas.Nat.{from_be_bytes-to_be_bytes_2, from_be_bytes-to_be_bytes_4, from_be_bytes-to_be_bytes_8}
-use Rattle.std.specs.Ptr.{Ptr, as_ptr, ptr_add}
-use Rattle.std.specs.Borrow.{u8 as octet}
+use Rattle.std.specs.Ptr.{Ptr, as_ptr}
 use Rattle.segment_wire.specs.declared.head.Head.{Head}
 use Rattle.segment_wire.specs.Segment.{Segment, CanWrite, CanCarry}
-use Rattle.segment_wire.specs.Options.{plain_options, placed_options}
+use Rattle.segment_wire.specs.Options.{option_octets}
+use Rattle.segment_wire.specs.OptionFront.{octets_alone}
 use Rattle.mptcp_run.specs.declared.dss.Dss.{Dss}
 use Rattle.mptcp_run.specs.Dss.{dss_octets, dss_in}
-use Rattle.mptcp_run.specs.Segments.{◌>>=◌, data_segment, dss_at, first_of, first_option, piece_of}
+use Rattle.mptcp_run.specs.Segments.{◌>>=◌, data_segment, dss_at, first_option, piece_of}
 
 pub data_segment-made : (place : ℕ) (payload options : List ℕ) (head : Head) → head ≡ (data_segment place []).head
     → options ≡ dss_octets (dss_at place (length payload)) → record { head = head; options = options; payload = payload } ≡ data_segment place payload
 data_segment-made place payload options head e f = cc
 
-abbrev placed_at : Ptr → ℕ × List ℕ → Ptr × List ℕ
-placed_at p option = (ptr_add octet option.0 p, option.1)
-
 -- an iterator over options gives the first of them
-first_of-placed : (p : Ptr) (options : List (ℕ × List ℕ)) (r : Option (Bor (List ℕ))) (left : List (Ptr × List ℕ))
-    → MatchOption r (map (placed_at p) options ≡ []) (λ x. map (placed_at p) options ≡ (as_ptr x, x.now) ∷ left)
-    → option_copied r ≡ first_of options
-first_of-placed p [] None left h = refl
-first_of-placed p [] (Some x) left h = cc
-first_of-placed p (o ∷ options) None left h = cc
-first_of-placed p (o ∷ options) (Some x) left h =
-    let first : placed_at p o ≡ (as_ptr x, x.now) = cc in ap (λ (q : Ptr × List ℕ). Some q.1) (sym first)
-
-pub first_option-given : (p : Ptr) (options : List ℕ) (r : Option (Bor (List ℕ))) (given left : List (Ptr × List ℕ)) → given ≡ placed_options p options
+pub first_option-given : (options : List ℕ) (r : Option (Bor (List ℕ))) (given left : List (Ptr × List ℕ)) → octets_alone given ≡ option_octets options
     → MatchOption r ((given ≡ []) × (left ≡ [])) (λ x. given ≡ (as_ptr x, x.now) ∷ left) → option_copied r ≡ first_option options
-unfolding placed_options
-first_option-given p options None given left e h = first_of-placed p (plain_options options) None left (sym e ∙ h.0)
-first_option-given p options (Some x) given left e h = first_of-placed p (plain_options options) (Some x) left (sym e ∙ h)
+first_option-given options None given left e h = ap (λ gs. slice_get (octets_alone gs) 0) (sym h.0) ∙ ap (λ os. slice_get os 0) e
+first_option-given options (Some x) given left e h = ap (λ gs. slice_get (octets_alone gs) 0) (sym h) ∙ ap (λ os. slice_get os 0) e
 
 abbrev dss_of : ℕ → ℕ → ℕ → ℕ → Option Dss
 dss_of data_ack number relative length = Some (record { data_ack = data_ack; number = number; relative = relative; length = length })

@@ -1,9 +1,9 @@
 -- What ports hold over several puts.
-use Rattle.std.proofs.Common.{◌≡◌, refl, sym, ◌∙◌, ap, ℕ, ◌≤◌, List, [], ◌++◌, take, drop, Option, Some, None, append_assoc, subst, Result, Ok, Err, OnErr}
+use Rattle.std.proofs.Common.{◌≡◌, refl, sym, ◌∙◌, ap, ℕ, ◌≤◌, List, [], ◌++◌, take, drop, Option, Some, None, append_assoc, subst, inl, inr, ◌∷◌, Result, Ok, Err, OnErr, IfSome}
 use Rattle.std.proofs.lemmas.List.{append-nil, take-append-drop}
 use Rattle.pipe_model.specs.Prefix.{IsPrefix}
 use Rattle.outside_kit.specs.Outside.{HoldsAfter, HoldsFront}
-use Rattle.mptcp_run.specs.Ports.{AppendsFront, HoldsPrefix}
+use Rattle.mptcp_run.specs.Ports.{AppendsFront, HoldsPrefix, HoldsBound}
 
 pub IsPrefix-take : (count : ℕ) (text : List ℕ) → IsPrefix (take count text) text
 IsPrefix-take count text = record { rest = drop count text; whole_is = sym (take-append-drop count text) }
@@ -66,3 +66,30 @@ HoldsPrefix-grown a b c x more whole h k within = HoldsPrefix-longer a c (x ++ m
 pub OnErr-holds : {T E : Type 0} (r : Result T E) (P : Type 0) → P → OnErr r P
 OnErr-holds (Ok x) P h = tt
 OnErr-holds (Err e) P h = h
+
+pub IsPrefix-same : (xs ys : List ℕ) → xs ≡ ys → IsPrefix xs ys
+IsPrefix-same xs ys e = record { rest = []; whole_is = sym e ∙ sym (append-nil xs) }
+
+IsPrefix-nothing : (front text : List ℕ) → IsPrefix front [] → IsPrefix front text
+IsPrefix-nothing [] text h = record { rest = text; whole_is = refl }
+IsPrefix-nothing (x ∷ front) text h = let none : [] ≡ x ∷ (front ++ h.rest) = h.whole_is in cc
+
+-- a front of nothing is a front of every text
+pub HoldsBound-longer : (a b : Option (List ℕ)) (text : List ℕ) → HoldsBound a b [] → HoldsBound a b text
+HoldsBound-longer None b text h = tt
+HoldsBound-longer (Some held) b text (inl h) = inl h
+HoldsBound-longer (Some held) b text (inr h) = inr (record { front = h.front; is_front = IsPrefix-nothing h.front text h.is_front; told_is = h.told_is })
+
+-- what is as it was has a front of every text put to it
+pub HoldsPrefix-unchanged : (a b : Option (List ℕ)) (text : List ℕ) → b ≡ a → HoldsPrefix a b text
+HoldsPrefix-unchanged None b text e = tt
+HoldsPrefix-unchanged (Some held) b text e = record {
+  front = [];
+  is_front = record { rest = text; whole_is = refl };
+  told_is = e ∙ ap (λ xs. Some xs) (sym (append-nil held));
+}
+
+-- what holds of each value holds of an optional one
+pub IfSome-each : {T : Type 0} (o : Option T) (P : T → Type 0) → ((x : T) → P x) → IfSome o P
+IfSome-each None P h = tt
+IfSome-each (Some x) P h = h x

@@ -65,7 +65,7 @@ at_piece start size index = record start { read = min (index * size) (length sta
 pub at_piece-none : (start : Pipe) (size : ℕ) → IsClosed start size → start ≡ at_piece start size 0
 at_piece-none start size h =
     let none : (start.read, start.acked) ≡ (min (0 * size) (length start.written), min (0 * size) (length start.written)) =
-        cc (h.unread, h.unacknowledged, (let z : min (0 * size) (length start.written) ≡ 0 = omega arith in z)) in
+    cc (h.unread, h.unacknowledged, (let z : min (0 * size) (length start.written) ≡ 0 = omega arith in z)) in
     ap (λ (p : ℕ × ℕ). let q : Pipe = record start { read = p.0; acked = p.1 } in q) none
 
 record Stands (start pipe : Pipe) (size index : ℕ) : Type 0 where

@@ -7,4 +7,5 @@ pub mod Script
 pub mod Segments
 pub mod Sending
 pub mod Status
+pub mod Task
 pub mod Words

@@ -1,5 +1,5 @@
 -- What is said of the ports of an outside over several binds and puts.
-use Rattle.std.specs.Prelude.{◌≡◌, ℕ, ◌≤◌, List, ◌++◌, Option, Some, IfSome}
+use Rattle.std.specs.Prelude.{◌≡◌, ℕ, ◌≤◌, ◌⊎◌, List, [], ◌++◌, Option, Some, IfSome}
 use Rattle.pipe_model.specs.Prefix.{IsPrefix}
 use Rattle.outside_kit.specs.declared.port.Port.{Port}
 use Rattle.outside_kit.specs.Outside.{HasRisen}
@@ -25,3 +25,7 @@ pub record AppendsFront (held text : List ℕ) (told : Option (List ℕ)) : Type
 -- where a port told what it held, it tells that it holds this and a front of the text
 abbrev pub HoldsPrefix : Option (List ℕ) → Option (List ℕ) → List ℕ → Type 0
 HoldsPrefix old new text = IfSome old (λ held. AppendsFront held text new)
+
+-- a reader's port, which may be bound: where it told what it held, it holds that still, or a front of the text
+abbrev pub HoldsBound : Option (List ℕ) → Option (List ℕ) → List ℕ → Type 0
+HoldsBound old new text = IfSome old (λ held. (new ≡ Some held) ⊎ AppendsFront [] text new)

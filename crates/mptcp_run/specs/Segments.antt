@@ -1,5 +1,5 @@
 -- The segments that carry a file over path 0, which counts as open: the initial numbers of both directions are 0.
-use Rattle.std.specs.Prelude.{ℕ, ◌+◌, ◌-◌, ◌*◌, ◌/◌, ◌%◌, ◌^◌, true, false, List, [], ◌∷◌, ◌++◌, length, take, drop, map, codes, Option, Some, None, nat_le, ◌==◌, if◌then◌else◌}
+use Rattle.std.specs.Prelude.{ℕ, ◌+◌, ◌-◌, ◌*◌, ◌/◌, ◌%◌, ◌^◌, true, false, List, [], ◌∷◌, ◌++◌, length, take, drop, map, codes, slice_get, Option, Some, None, nat_le, ◌==◌, if◌then◌else◌}
 use Rattle.std.specs.Int.{div_ceil}
 use Rattle.std.specs.List.{concat, range_with_len}
 use Rattle.hex.specs.Hex.{encode_lower}
@@ -8,7 +8,7 @@ use Rattle.segment_wire.specs.Segment.{Segment, segment_text}
 use Rattle.mptcp_run.specs.declared.dss.Dss.{Dss}
 use Rattle.mptcp_run.specs.Dss.{dss_octets, dss_in}
 use Rattle.mptcp_run.specs.declared.piece.Piece.{Piece}
-use Rattle.segment_wire.specs.Options.{plain_options}
+use Rattle.segment_wire.specs.Options.{option_octets}
 
 -- A is 10.0.0.1 and B is 10.0.0.2 on path 0
 abbrev pub addresses : Addresses
@@ -36,13 +36,9 @@ data_segment place payload = record {
   payload = payload;
 }
 
-abbrev pub first_of : List (ℕ × List ℕ) → Option (List ℕ)
-first_of [] = None
-first_of (option ∷ options) = Some option.1
-
 -- the first option of a header, kinds 0 and 1 left out
 abbrev pub first_option : List ℕ → Option (List ℕ)
-first_option options = first_of (plain_options options)
+first_option options = slice_get (option_octets options) 0
 
 infixl 10 ◌>>=◌
 abbrev pub ◌>>=◌ : {A B : Type 0} → Option A → (A → Option B) → Option B

@@ -31,6 +31,7 @@ pub fn load_input<O: Outside>(
 ) -> Result<Input, Status>
     ensures script { IfOk result (λ input. IfSome (O.content outside.old command.now.script.now) (λ told. script_meaning told ≡ Ok input.path)) }
     ensures file_a { IfOk result (λ input. IfSome (O.content outside.old command.now.file_a.now) (λ told. input.file_a.items ≡ told)) }
+    ensures mss { IfOk result (λ input. (200 ≤ input.path.mss) × (input.path.mss ≤ 1460)) }
     ensures within { IfOk result (λ input. vec_len input.file_a ≤ 16777216) }
     ensures all_within { OnOk result ((named : Named) → IsWithin (O.content outside.old) (names_of command.now) named) }
     ensures fault { IfErr result (IsInputFault (O.content outside.old) (names_of command.now) (O.load_faults outside.old) (O.load_faults outside.new)) }

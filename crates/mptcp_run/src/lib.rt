@@ -7,7 +7,9 @@ mod input;
 mod piece;
 mod script;
 mod status;
+mod top_call;
 mod transfer;
 mod words;
 
 pub use status::{Mode4, Named, ScriptKind, Status, fault_text};
+pub use top_call::run;

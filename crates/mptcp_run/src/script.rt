@@ -1,4 +1,4 @@
-ghost use Rattle.std.specs.Prelude.{◌≡◌, ◌==◌, ◌-◌, ◌^◌, min, true, position};
+ghost use Rattle.std.specs.Prelude.{◌≡◌, ◌==◌, ◌-◌, ◌^◌, ◌≤◌, min, true, position, IfOk, IfSome};
 ghost use Rattle.std.specs.List.{list_all};
 ghost use Rattle.std.specs.Str.Parse.{digits_value};
 ghost use Rattle.mptcp_run.specs.PathLine.{parted_at, path_in, number_within, are_digits, is_digit};
@@ -13,6 +13,18 @@ pub struct PathLine {
     pub mss: u16,
     /// How long a segment is on its way: 1 to 200 ticks.
     pub delay: u16,
+}
+
+impl PathLine {
+    ghost use Rattle.mptcp_run.specs.Task.{payload_of};
+
+    /// How many octets of a file a segment carries.
+    pub fn payload(&self) -> usize
+        requires { 28 ≤ self.now.mss }
+        ensures { result ≡ payload_of self.now }
+    {
+        usize::from(self.mss) - 28
+    }
 }
 
 /// The first line that isn't the one of its place.
@@ -34,7 +46,8 @@ impl Refusal {
 /// Reads a script of exactly three lines: the header, path 0, and the end.
 #[tactic(auto, unfolding(crate::specs::Script::script_meaning))]
 pub fn read_script(text: &[u8]) -> Result<PathLine, Refusal>
-    ensures { result ≡ script_meaning text.now }
+    ensures meaning { result ≡ script_meaning text.now }
+    ensures mss { IfOk result (λ path. (200 ≤ path.mss) × (path.mss ≤ 1460)) }
 {
     let (header, rest) = line_at(text, 1)?;
     if header != b"mptcp-script 1".as_slice() {
@@ -84,7 +97,8 @@ fn first_place(text: &[u8], separator: u8) -> Option<usize>
 /// The line `path 0 mss N delay N`.
 #[tactic(auto, unfolding(crate::specs::PathLine::path_in))]
 fn path_of(line: &[u8]) -> Option<PathLine>
-    ensures { result ≡ path_in line.now }
+    ensures meaning { result ≡ path_in line.now }
+    ensures mss { IfSome result (λ path. (200 ≤ path.mss) × (path.mss ≤ 1460)) }
 {
     let rest = line.strip_prefix(b"path 0 mss ")?;
     let (mss, rest) = split_at_first(rest, b' ');
@@ -97,7 +111,8 @@ fn path_of(line: &[u8]) -> Option<PathLine>
 
 /// A number of 1 to 20 digits within these bounds.
 fn number_of(digits: &[u8], least: u16, greatest: u16) -> Option<u16>
-    ensures { result ≡ number_within least greatest digits.now }
+    ensures meaning { result ≡ number_within least greatest digits.now }
+    ensures within { IfSome result (λ number. (least ≤ number) × (number ≤ greatest)) }
 {
     if !are_digits(digits) {
         return None;

@@ -6,7 +6,7 @@ ghost use Rattle.outside_kit.specs.Outside.{HoldsAfter, HoldsFront};
 ghost use Rattle.pipe_model.specs.Pipe.{opening, refusal, after, TakesMemory};
 ghost use Rattle.segment_wire.specs.Segment.{segment_text};
 ghost use Rattle.mptcp_run.specs.Ports.{NeverFall, IsPortsFault, HoldsPrefix};
-ghost use Rattle.mptcp_run.specs.Segments.{addresses, data_segment, segment_line, all_lines};
+ghost use Rattle.mptcp_run.specs.Segments.{addresses, data_segment, segment_line, all_lines, log_text};
 ghost use Rattle.mptcp_run.specs.Sending.{IsSending, next_piece, next_octets, after_piece, IsClosed};
 
 use crate::device::put;
@@ -160,4 +160,31 @@ fn send_pieces<O: Outside>(
         send_piece(alloc, outside, pipe, size)?;
     }
     Ok(())
+}
+
+/// Sends the file in pieces of this size, and puts what B's reader reads, the line of each segment, and the outcome.
+pub fn transfer<O: Outside>(
+    alloc: Global,
+    outside: &mut O,
+    size: usize,
+    file: Vec<u8>,
+) -> Result<(), Status>
+    requires least { 1 ≤ size }
+    requires greatest { size ≤ 1432 }
+    requires limit { vec_len file ≤ 16777216 }
+
+    ensures read_by_b { OnOk result (HoldsAfter (O.holds outside.old Port.ReadByB) (O.holds outside.new Port.ReadByB) (λ held. held ++ file.items)) }
+    ensures log { OnOk result (HoldsAfter (O.holds outside.old Port.Log) (O.holds outside.new Port.Log) (λ held. held ++ log_text size file.items)) }
+    ensures read_front { OnErr result (HoldsPrefix (O.holds outside.old Port.ReadByB) (O.holds outside.new Port.ReadByB) file.items) }
+    ensures log_front { OnErr result (HoldsPrefix (O.holds outside.old Port.Log) (O.holds outside.new Port.Log) (log_text size file.items)) }
+
+    ensures fault { IfErr result (IsPortsFault (O.port_faults outside.old) (O.port_faults outside.new)) }
+    ensures counted { NeverFall (O.port_faults outside.old) (O.port_faults outside.new) }
+    ensures read_by_a { O.holds outside.new Port.ReadByA ≡ O.holds outside.old Port.ReadByA }
+    ensures load_counts { O.load_faults outside.new ≡ O.load_faults outside.old }
+{
+    let mut pipe = closed_pipe(alloc, file)?;
+    send_pieces(alloc, outside, &mut pipe, size)?;
+    step(&mut pipe, &PipeStep::TellEnd)?;
+    put(outside, Port::Log, b"outcome delivered\n")
 }

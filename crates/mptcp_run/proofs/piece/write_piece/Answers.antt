@@ -15,4 +15,4 @@ pub returns : goal.returns
 returns c =
     let options : c.deref.result.now ≡ dss_octets (dss_at c.args.place (length c.args.payload.now)) =
     c.deref.ensures.value ∙ c.in_ok-options.ensures ∙ ap dss_octets c.dss_of.ensures in
-    rw (data_segment-made c.args.place c.args.payload.now c.deref.result.now c.head_of.result c.head_of.ensures options) at c.write.ensures
+    rw (data_segment-made c.args.place c.args.payload.now c.deref.result.now c.head_of.result c.head_of.ensures options) at c.write.ensures.text
