@@ -7,6 +7,8 @@ mod input;
 mod piece;
 mod script;
 mod status;
+#[cfg(test)]
+mod tests;
 mod top_call;
 mod transfer;
 mod words;

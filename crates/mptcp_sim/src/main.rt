@@ -1,0 +1,54 @@
+//! Sends a file through a Multipath TCP connection over simulated links: `mptcp_sim --mode serial SCRIPT FILE_A FILE_B
+//! READ_BY_B READ_BY_A`.
+#![tactic(auto)]
+
+use files::FileOutside;
+use mptcp_run::{Status, fault_text, run};
+use outside_kit::OpenGate;
+use std::alloc::{AllocError, Global};
+use std::env::{self, Env};
+use std::io;
+use std::os::fd::AsFd;
+use std::process::ExitCode;
+
+mod files;
+
+/// The words after the program's name, or the status where there are none to be had.
+fn words_of(rt: &(impl Env + Alloc<A = Global>)) -> Result<Vec<String>, Status> {
+    let mut words = Vec::new(rt.alloc());
+    match env::args(rt) {
+        Ok(args) => {
+            for word in args.skip(1) {
+                if words.push(word).is_err() {
+                    return Err(Status::Memory);
+                }
+            }
+            Ok(words)
+        }
+        Err(error) if error.kind() == io::ErrorKind::OutOfMemory => Err(Status::Memory),
+        Err(_) => Err(Status::Usage),
+    }
+}
+
+/// Whether standard output is open. Where it isn't, a file that is opened later may have its number.
+fn has_output(rt: &HostRuntime) -> bool {
+    rt.stdout().as_fd().try_clone_to_owned().is_ok()
+}
+
+fn main(rt: HostRuntime) -> ExitCode {
+    let status = match words_of(&rt) {
+        Ok(words) => run(
+            rt.alloc(),
+            &words,
+            &mut FileOutside::new(&rt, has_output(&rt)),
+            &OpenGate,
+        ),
+        Err(status) => status,
+    };
+    if let Ok(line) = fault_text(rt.alloc(), &status) {
+        if !line.is_empty() {
+            let _ = eprintln!(rt; "{line}");
+        }
+    }
+    ExitCode::from(status.code())
+}
