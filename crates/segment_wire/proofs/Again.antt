@@ -1,7 +1,7 @@
 -- What is written is read again.
-use Rattle.std.proofs.Common.{◌≡◌, ℕ, zero, suc, ◌+◌, ◌-◌, ◌*◌, ◌/◌, ◌%◌, ◌^◌, ◌<◌, ◌≤◌, Bool, true, false, cond, List, [], ◌∷◌, ◌++◌, length, get_or, take, drop, Result, Ok, Err, refl, sym, ap, ◌∙◌, subst, arith, length-append}
-use Rattle.std.specs.Prelude.{not, ◌||◌, nat_lt, ◌==◌, bit_and, bit_or, if◌then◌else◌, IsTrue}
-use Rattle.std.specs.Int.{w16, w32, to_be_bytes, from_be_bytes}
+use Rattle.std.proofs.Common.{◌≡◌, ℕ, ◌+◌, ◌*◌, ◌/◌, ◌%◌, ◌<◌, Bool, true, false, List, [], ◌∷◌, ◌++◌, length, take, drop, Result, Ok, refl, sym, ap, ◌∙◌, arith, length-append}
+use Rattle.std.specs.Prelude.{not, nat_lt, ◌==◌, bit_and, bit_or, if◌then◌else◌, IsTrue}
+use Rattle.std.specs.Int.{w16, to_be_bytes}
 use Rattle.std.proofs.lemmas.Bool.{le-ltb, eq-eqb}
 use Rattle.std.proofs.lemmas.List.{take_at, drop_at, drop-drop}
 use Rattle.std.proofs.lemmas.Nat.{from_be_bytes-to_be_bytes_2, from_be_bytes-to_be_bytes_4}
@@ -13,9 +13,9 @@ use Rattle.segment_wire.specs.declared.head.Addresses.{Addresses}
 use Rattle.segment_wire.specs.declared.head.TheConstants.{FIN, SYN, RST, ACK}
 use Rattle.segment_wire.specs.declared.reading.SegmentFault.{SegmentFault}
 use Rattle.segment_wire.specs.Options.{are_whole}
-use Rattle.segment_wire.specs.Checksum.{pseudo_header, covered_sum, checksum_of, is_checksum_right}
-use Rattle.segment_wire.specs.Segment.{Segment, control_bits, ports_and_numbers, control_fields, fixed_header, octets_with, segment_text, IsHead, CanCarry, CanWrite}
-use Rattle.segment_wire.specs.Reading.{number_at, is_set, head_in, header_len, options_in, segment_in, is_short, has_wrong_offset, has_broken_option, has_wrong_checksum, segment_meaning}
+use Rattle.segment_wire.specs.Checksum.{pseudo_header, covered_sum, checksum_of}
+use Rattle.segment_wire.specs.Segment.{Segment, control_bits, ports_and_numbers, fixed_header, octets_with, segment_text, IsHead, CanWrite}
+use Rattle.segment_wire.specs.Reading.{head_in, header_len, options_in, segment_in, segment_meaning}
 use Rattle.segment_wire.proofs.Text.{length-octets_with}
 
 -- ---- the fields
@@ -143,12 +143,13 @@ segment_meaning-written addresses segment four four' can =
     reads_on addresses text room low within whole short right
     ∙ ap Ok (same_segment (segment_in text) segment (head_in-written checksum segment can.head) (options_in-written checksum segment padded) (payload-written checksum segment padded))
 
-abbrev meant : Segment → Result Segment SegmentFault
+abbrev pub meant : Segment → Result Segment SegmentFault
 meant segment = Ok segment
 
-meant_is : (s t : Segment) → meant s ≡ meant t → s ≡ t
-meant_is s t same = cc
+-- for callers that know what was read, as from `written` of `parse`
+pub same_from_ok : (s t : Segment) → meant s ≡ meant t → s ≡ t
+same_from_ok s t same = cc
 
 pub segment_text-differs : (addresses : Addresses) (s t : Segment) → length addresses.source ≡ 4 → length addresses.destination ≡ 4 → CanWrite s → CanWrite t → segment_text addresses s ≡ segment_text addresses t → s ≡ t
 segment_text-differs addresses s t four four' can_s can_t same =
-    meant_is s t (sym (segment_meaning-written addresses s four four' can_s) ∙ ap (segment_meaning addresses) same ∙ segment_meaning-written addresses t four four' can_t)
+    same_from_ok s t (sym (segment_meaning-written addresses s four four' can_s) ∙ ap (segment_meaning addresses) same ∙ segment_meaning-written addresses t four four' can_t)

@@ -1,5 +1,5 @@
 -- What the front of option octets says of all of them.
-use Rattle.std.proofs.Common.{◌≡◌, ℕ, zero, suc, ◌+◌, ◌-◌, ◌<◌, ◌≤◌, ◌⊎◌, inl, inr, Bool, true, false, ◌&&◌, cond, leb, List, [], ◌∷◌, ◌++◌, length, get_or, take, drop, map, refl, sym, ap, ◌∙◌, arith}
+use Rattle.std.proofs.Common.{◌≡◌, ℕ, zero, suc, ◌+◌, ◌-◌, ◌<◌, ◌≤◌, ◌⊎◌, inl, inr, Bool, true, false, ◌&&◌, cond, leb, List, [], ◌∷◌, length, get_or, take, drop, map, refl, ap, ◌∙◌, arith}
 use Rattle.std.specs.Borrow.{Bor, u8 as octet}
 use Rattle.std.specs.Ptr.{Ptr, as_ptr, block_ptr, null_ptr, ptr_add}
 use Rattle.std.proofs.lemmas.Bool.{cases_lt, le-leb, lt-leb, and_right}

@@ -1,10 +1,10 @@
 -- The options that an iterator gives, as a list of octets, for callers that go over them.
-use Rattle.std.proofs.Common.{◌≡◌, ℕ, List, [], ◌∷◌, length, map, Option, Some, None, refl, sym, ap, ◌∙◌, subst}
+use Rattle.std.proofs.Common.{◌≡◌, ℕ, List, [], ◌∷◌, length, map, Option, refl, ap, ◌∙◌, subst}
 use Rattle.std.specs.Iterator.{YieldsFirstBy}
 use Rattle.std.specs.Borrow.{Bor, u8 as octet}
 use Rattle.std.specs.Ptr.{Ptr, as_ptr, ptr_add}
 use Rattle.std.proofs.lemmas.Iterator.{YieldsList}
-use Rattle.std.proofs.lemmas.Iterator.Consumers.{YieldsList-from_shown, YieldsList-at}
+use Rattle.std.proofs.lemmas.Iterator.Consumers.{YieldsList-from_shown}
 use Rattle.segment_wire.specs.declared.options.PlainOptions.{PlainOptions}
 use Rattle.segment_wire.specs.Options.{plain_options, placed_options, option_octets}
 use Rattle.segment_wire.specs.OptionFront.{options_left, octets_alone}

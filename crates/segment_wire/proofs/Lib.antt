@@ -4,3 +4,4 @@ pub mod Fronts
 pub mod Again
 pub mod Rewritten
 pub mod Iterating
+pub mod Appended

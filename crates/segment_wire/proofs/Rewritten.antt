@@ -1,19 +1,18 @@
 -- What was read is written again.
-use Rattle.std.proofs.Common.{◌≡◌, ℕ, zero, suc, ◌+◌, ◌-◌, ◌*◌, ◌/◌, ◌%◌, ◌^◌, ◌<◌, ◌≤◌, ◌⊎◌, inl, inr, Bool, true, false, cond, eqb, List, [], ◌∷◌, ◌++◌, length, get_or, take, drop, Result, Ok, Err, refl, sym, ap, ◌∙◌, subst, arith}
-use Rattle.std.specs.Prelude.{not, ◌||◌, nat_lt, ◌==◌, bit_and, bit_or, if◌then◌else◌, IsTrue, All}
-use Rattle.std.specs.Int.{w16, w32, to_be_bytes, from_be_bytes}
-use Rattle.std.proofs.lemmas.Bool.{cases_lt, agree_below, agree_below_at, eqb-true, ltb-false, or_parts, not-false}
+use Rattle.std.proofs.Common.{◌≡◌, ℕ, zero, suc, ◌+◌, ◌-◌, ◌*◌, ◌/◌, ◌<◌, ◌≤◌, inl, inr, Bool, true, false, cond, eqb, List, [], ◌∷◌, ◌++◌, length, get_or, drop, Result, Ok, Err, refl, sym, ap, ◌∙◌, subst, arith}
+use Rattle.std.specs.Prelude.{not, nat_lt, ◌==◌, bit_and, bit_or, if◌then◌else◌, All}
+use Rattle.std.specs.Int.{w16, w32, to_be_bytes}
+use Rattle.std.proofs.lemmas.Bool.{cases_lt, agree_below_at, eqb-true, ltb-false, or_parts, not-false}
 use Rattle.std.proofs.lemmas.List.{take-append-drop, drop-drop, drop_more, length-take, length-drop, get_or_past}
 use Rattle.std.proofs.lemmas.Nat.{be_bytes_2, be_bytes_4}
-use Rattle.segment_wire.specs.declared.head.Head.{Head}
 use Rattle.segment_wire.specs.declared.head.Addresses.{Addresses}
 use Rattle.segment_wire.specs.declared.head.TheConstants.{FIN, SYN, RST, ACK}
 use Rattle.segment_wire.specs.declared.reading.SegmentFault.{SegmentFault}
 use Rattle.segment_wire.specs.declared.reading.SegmentFault.TheVariants.{Short, DataOffset, OptionLength, Checksum}
 use Rattle.segment_wire.specs.Options.{are_whole}
 use Rattle.segment_wire.specs.Checksum.{checksum_of, is_checksum_right}
-use Rattle.segment_wire.specs.Segment.{Segment, control_bits, fixed_header, octets_with, segment_text, IsHead, CanCarry, CanWrite}
-use Rattle.segment_wire.specs.Reading.{number_at, head_in, header_len, options_in, segment_in, is_short, has_wrong_offset, has_broken_option, has_wrong_checksum, segment_meaning}
+use Rattle.segment_wire.specs.Segment.{Segment, fixed_header, octets_with, segment_text, IsHead, CanWrite}
+use Rattle.segment_wire.specs.Reading.{head_in, header_len, options_in, segment_in, is_short, has_wrong_offset, has_broken_option, has_wrong_checksum, segment_meaning}
 use Rattle.segment_wire.specs.Laws.{without_ignored, with_checksum, summed_anew}
 
 abbrev IsOctets : List ℕ → Type 0

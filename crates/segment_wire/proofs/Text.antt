@@ -1,7 +1,7 @@
 -- The text of a segment as a list: its length, its checksum field, and what reading it gives.
-use Rattle.std.proofs.Common.{◌≡◌, ℕ, zero, suc, ◌+◌, ◌-◌, ◌*◌, ◌/◌, ◌%◌, ◌^◌, ◌<◌, ◌≤◌, List, [], ◌∷◌, ◌++◌, length, get_or, set, take, drop, refl, sym, ap, ◌∙◌, arith, length-append}
+use Rattle.std.proofs.Common.{◌≡◌, ℕ, ◌+◌, ◌/◌, ◌%◌, ◌++◌, length, set, refl, arith, length-append}
 use Rattle.segment_wire.specs.declared.head.Head.{Head}
-use Rattle.segment_wire.specs.Segment.{Segment, fixed_header, octets_with, segment_text}
+use Rattle.segment_wire.specs.Segment.{Segment, fixed_header, octets_with}
 
 pub length-fixed_header : (checksum : ℕ) (head : Head) (options_len : ℕ) → length (fixed_header checksum head options_len) ≡ 20
 unfolding fixed_header

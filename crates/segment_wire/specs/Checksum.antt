@@ -1,5 +1,5 @@
 -- What the checksum of a segment covers, and when it is right (RFC 9293, section 3.1; RFC 1071).
-use Rattle.std.specs.Prelude.{ℕ, ◌++◌, List, [], ◌∷◌, length, Bool, ◌==◌}
+use Rattle.std.specs.Prelude.{ℕ, ◌++◌, List, ◌∷◌, length, Bool, ◌==◌}
 use Rattle.std.specs.Int.{w16, to_be_bytes}
 use Rattle.ones_sum.specs.Words.{word_sum, folded, complement}
 use Rattle.segment_wire.specs.declared.head.Addresses.{Addresses}

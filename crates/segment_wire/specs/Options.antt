@@ -1,8 +1,8 @@
 -- The options of a TCP header (RFC 9293, section 3.2): kind 0 ends them, kind 1 is one octet of padding, and every
 -- other kind has a length octet that counts kind and length.
-use Rattle.std.specs.Prelude.{◌≡◌, ℕ, zero, suc, ◌+◌, ◌-◌, ◌*◌, ◌<◌, Bool, true, false, ◌&&◌, nat_le, if◌then◌else◌, ◌==◌, min, Option, Some, None, List, [], ◌∷◌, length, take, map, slice_index}
-use Rattle.std.specs.Borrow.{Bor, u8 as octet}
-use Rattle.std.specs.Ptr.{Ptr, as_ptr, ptr_add}
+use Rattle.std.specs.Prelude.{ℕ, zero, suc, ◌+◌, ◌-◌, ◌*◌, Bool, true, false, ◌&&◌, nat_le, if◌then◌else◌, ◌==◌, min, Option, Some, None, List, [], ◌∷◌, length, take, map, slice_index}
+use Rattle.std.specs.Borrow.{u8 as octet}
+use Rattle.std.specs.Ptr.{Ptr, ptr_add}
 
 -- Whether no option has a length below 2 or runs past the end, where as many octets as `left` are still of the option
 -- before.

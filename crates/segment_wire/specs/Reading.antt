@@ -1,5 +1,5 @@
 -- What octets mean as a segment, or the first fault in them (RFC 9293, section 3.1).
-use Rattle.std.specs.Prelude.{ℕ, ◌+◌, ◌-◌, ◌*◌, ◌/◌, List, length, take, drop, slice_index, slice_range, Bool, not, ◌||◌, nat_lt, ◌==◌, if◌then◌else◌, bit_and, Result, Ok, Err, ◌≡◌}
+use Rattle.std.specs.Prelude.{ℕ, ◌+◌, ◌*◌, ◌/◌, List, length, drop, slice_index, slice_range, Bool, not, ◌||◌, nat_lt, ◌==◌, if◌then◌else◌, bit_and, Result, Ok, Err, ◌≡◌}
 use Rattle.std.specs.Int.{Width, w16, w32, byte_len, from_be_bytes}
 use Rattle.std.specs.Borrow.{Bor, u8 as octet}
 use Rattle.std.specs.Ptr.{Ptr, as_ptr, ptr_add}

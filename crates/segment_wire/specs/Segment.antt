@@ -1,5 +1,5 @@
 -- A TCP segment as a value, and the one list of octets that it is written as (RFC 9293, section 3.1).
-use Rattle.std.specs.Prelude.{◌≡◌, ℕ, ◌+◌, ◌*◌, ◌/◌, ◌%◌, ◌^◌, ◌<◌, ◌≤◌, List, [], ◌∷◌, ◌++◌, length, Bool, if◌then◌else◌, bit_or, IsTrue}
+use Rattle.std.specs.Prelude.{◌≡◌, ℕ, ◌+◌, ◌*◌, ◌/◌, ◌%◌, ◌^◌, ◌<◌, ◌≤◌, List, [], ◌∷◌, ◌++◌, length, if◌then◌else◌, bit_or, IsTrue}
 use Rattle.std.specs.Int.{w16, w32, to_be_bytes}
 use Rattle.segment_wire.specs.declared.head.Head.{Head}
 use Rattle.segment_wire.specs.declared.head.Addresses.{Addresses}
@@ -15,16 +15,29 @@ pub record Segment : Type 0 where
 
 -- the octet of the control bits: CWR, ECE, URG and PSH are 0
 abbrev pub control_bits : Head → ℕ
-control_bits head = bit_or (bit_or (bit_or (if head.ack_set then ACK else 0) (if head.rst then RST else 0)) (if head.syn then SYN else 0)) (if head.fin then FIN else 0)
+control_bits head =
+    let ack = if head.ack_set then ACK else 0 in
+    let rst = if head.rst then RST else 0 in
+    let syn = if head.syn then SYN else 0 in
+    let fin = if head.fin then FIN else 0 in
+    bit_or (bit_or (bit_or ack rst) syn) fin
 
 -- the ports and the numbers
 abbrev pub ports_and_numbers : Head → List ℕ
-ports_and_numbers head = to_be_bytes w16 head.source_port ++ (to_be_bytes w16 head.destination_port ++ (to_be_bytes w32 head.seq ++ to_be_bytes w32 head.ack))
+ports_and_numbers head =
+    to_be_bytes w16 head.source_port
+    ++ (to_be_bytes w16 head.destination_port
+    ++ (to_be_bytes w32 head.seq
+    ++ to_be_bytes w32 head.ack))
 
 -- The data offset in words of four octets, above four reserved bits, where so many octets of options follow the
 -- fixed header; the control bits; the window; this checksum; the urgent pointer.
 abbrev pub control_fields : ℕ → Head → ℕ → List ℕ
-control_fields checksum head options_len = (16 * (5 + options_len / 4) ∷ control_bits head ∷ []) ++ (to_be_bytes w16 head.window ++ (to_be_bytes w16 checksum ++ to_be_bytes w16 0))
+control_fields checksum head options_len =
+    (16 * (5 + options_len / 4) ∷ control_bits head ∷ [])
+    ++ (to_be_bytes w16 head.window
+    ++ (to_be_bytes w16 checksum
+    ++ to_be_bytes w16 0))
 
 -- the twenty octets that each segment begins with
 unfoldable pub fixed_header : ℕ → Head → ℕ → List ℕ

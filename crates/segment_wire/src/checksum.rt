@@ -5,6 +5,9 @@ ghost use Rattle.segment_wire.specs.Checksum.{pseudo_header, covered_sum};
 
 use crate::head::Addresses;
 
+// The number of TCP among the protocols over IPv4.
+const PROTOCOL: u8 = 6;
+
 /// The one's complement sum of the pseudo-header and the segment, whose checksum field counts as it stands.
 pub fn covered_sum(addresses: &Addresses, segment: &[u8]) -> u16
     requires { length segment.now ≤ 65535 }
@@ -31,7 +34,7 @@ fn pseudo_header(addresses: &Addresses, segment_len: u16) -> [u8; 12]
         destination_2,
         destination_3,
         0,
-        6,
+        PROTOCOL,
         high,
         low,
     ]

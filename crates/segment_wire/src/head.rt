@@ -1,5 +1,10 @@
 //! The fields of a segment's header, and the addresses that its checksum covers.
 
+/// How many octets of header stand before the options.
+pub const FIXED_HEADER_LEN: usize = 20;
+
+// The control bits that are read and written (RFC 9293, section 3.1).
+
 /// No more octets follow from this side.
 pub const FIN: u8 = 0x01;
 /// Synchronizes sequence numbers: the first segment of a side.

@@ -52,7 +52,8 @@ impl<'a> Iterator for PlainOptions<'a> {
     }
 }
 
-/// Whether no option has a length below 2 or runs past the end.
+/// Whether no option has a length below 2 or runs past the end of these octets. What follows kind 0, which ends the
+/// options, is not looked at.
 pub fn are_whole(options: &[u8]) -> bool
     ensures { result ≡ are_whole options.now }
 {

@@ -9,7 +9,7 @@ ghost use Rattle.segment_wire.specs.Options.{option_octets, placed_options};
 ghost use Rattle.segment_wire.specs.OptionFront.{options_left, octets_alone};
 
 use crate::checksum::covered_sum;
-use crate::head::{ACK, Addresses, FIN, Head, RST, SYN};
+use crate::head::{ACK, Addresses, FIN, FIXED_HEADER_LEN, Head, RST, SYN};
 use crate::options::{PlainOptions, are_whole};
 
 /// Why octets are no segment: the first that holds, in this order.
@@ -19,13 +19,13 @@ pub enum SegmentFault {
     Short,
     /// The data offset is below 5, or the header that it tells runs past the end.
     DataOffset,
-    /// The length of an option is below 2, or runs past the header.
+    /// The length of an option is below 2, or the option runs past the header.
     OptionLength,
     /// More than 65,535 octets, or a sum over pseudo-header and segment other than ffff.
     Checksum,
 }
 
-/// A segment whose options and payload are lent from the octets that it was read from.
+/// A segment that was read. Its options and its payload are lent from the octets that it was read from.
 #[derive(Clone, Copy, Debug)]
 pub struct SegmentRef<'a> {
     /// The fields of the fixed header.
@@ -52,7 +52,12 @@ impl<'a> SegmentRef<'a> {
     }
 }
 
-/// Reads a segment that went between these addresses, whatever the octets are.
+/// The segment that the octets are, where they went between these addresses (RFC 9293, section 3.1). Reserved bits,
+/// CWR, ECE, URG, PSH and the urgent pointer are ignored. Answers for all octets, hostile ones too, and takes no memory.
+///
+/// # Errors
+///
+/// The first fault in the order of `SegmentFault`.
 pub fn parse<'a>(bytes: &'a [u8], addresses: &Addresses) -> Result<SegmentRef<'a>, SegmentFault>
     ensures exact { shown result ≡ segment_meaning addresses.now bytes.now }
     // What is written between the same addresses is read again.
@@ -68,14 +73,14 @@ fn read<'a>(bytes: &'a [u8], addresses: &Addresses) -> Result<SegmentRef<'a>, Se
     ensures exact { shown result ≡ segment_meaning addresses.now bytes.now }
     ensures lent { IfOk result (StandsIn bytes.entry) }
 {
-    if bytes.len() < 20 {
+    if bytes.len() < FIXED_HEADER_LEN {
         return Err(SegmentFault::Short);
     }
     let header_len = 4 * usize::from(bytes[12] >> 4);
-    if header_len < 20 || bytes.len() < header_len {
+    if header_len < FIXED_HEADER_LEN || bytes.len() < header_len {
         return Err(SegmentFault::DataOffset);
     }
-    let options = &bytes[20..header_len];
+    let options = &bytes[FIXED_HEADER_LEN..header_len];
     if !are_whole(options) {
         return Err(SegmentFault::OptionLength);
     }

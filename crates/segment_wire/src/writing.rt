@@ -4,11 +4,16 @@ ghost use Rattle.std.specs.Prelude.{◌≡◌, ◌≤◌, ◌++◌, IfOk, OnOk};
 ghost use Rattle.segment_wire.specs.Segment.{CanCarry, CanWrite, IsHead, segment_text, octets_with, fixed_header, ports_and_numbers, control_fields, control_bits};
 
 use crate::checksum::covered_sum;
-use crate::head::{ACK, Addresses, FIN, Head, RST, SYN};
+use crate::head::{ACK, Addresses, FIN, FIXED_HEADER_LEN, Head, RST, SYN};
 use std::alloc::{AllocError, Global};
 
-/// The octets of a segment between these addresses: at most 65,535, of which at most 40 are options, padded to a
-/// multiple of four. Reserved bits, CWR, ECE, URG, PSH and the urgent pointer are 0. Allocates once.
+/// The octets of a segment that goes between these addresses (RFC 9293, section 3.1): the fixed header, at most 40
+/// octets of whole options padded to a multiple of four, and the payload, at most 65,535 octets in all. Reserved bits,
+/// CWR, ECE, URG, PSH and the urgent pointer are 0. Allocates once.
+///
+/// # Errors
+///
+/// Only where there is no memory for the octets.
 pub fn write(
     alloc: Global,
     head: &Head,
@@ -40,7 +45,7 @@ fn before_checksum(
     ensures text { IfOk result (λ octets. octets.items ≡ octets_with 0 (record { head = head; options = options.now; payload = payload.now })) }
     ensures fits { IsHead head }
 {
-    let mut octets = Vec::with_capacity(alloc, 20 + options.len() + payload.len())?;
+    let mut octets = Vec::with_capacity(alloc, FIXED_HEADER_LEN + options.len() + payload.len())?;
     put_header(&mut octets, &head, options.len())?;
     octets.extend_from_slice(options)?;
     octets.extend_from_slice(payload)?;

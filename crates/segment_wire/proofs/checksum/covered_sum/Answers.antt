@@ -1,4 +1,4 @@
-use Rattle.std.proofs.Common.{◌≡◌, ◌%◌, ◌++◌, length, ap, ◌∙◌, refl, arith, List, ℕ}
+use Rattle.std.proofs.Common.{◌≡◌, ◌%◌, ◌++◌, length, ap, ◌∙◌, arith, List, ℕ}
 use Rattle.ones_sum.specs.Words.{folded, word_sum}
 use Rattle.segment_wire.specs.Checksum.{covered_sum}
 use Rattle.segment_wire.proofs.checksum.covered_sum.Goals as goal

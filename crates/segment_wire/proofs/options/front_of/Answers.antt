@@ -1,4 +1,4 @@
-use Rattle.std.proofs.Common.{◌≡◌, ℕ, ◌<◌, ◌≤◌, length, get_or, arith, inl, inr, ◌⊎◌, refl, rules}
+use Rattle.std.proofs.Common.{◌≡◌, ◌<◌, length, get_or, arith, inl, inr, ◌⊎◌, rules}
 use Rattle.std.proofs.lemmas.Bool.{eqb-true}
 use Rattle.std.proofs.lemmas.List.{get_or_past, take_rest}
 use Rattle.segment_wire.proofs.Fronts.{IsFront-end, IsFront-padding, IsFront-option, IsFront-broken}

@@ -1,6 +1,5 @@
-use Rattle.std.proofs.Common.{◌≡◌, ◌+◌, ◌-◌, ◌/◌, ◌%◌, length, get_or, set, arith, ap, ◌∙◌, sym, refl, List, ℕ}
-use Rattle.segment_wire.specs.Checksum.{covered_sum}
-use Rattle.segment_wire.specs.Segment.{octets_with, segment_text}
+use Rattle.std.proofs.Common.{length, arith, ap}
+use Rattle.segment_wire.specs.Segment.{segment_text}
 use Rattle.segment_wire.proofs.Text.{length-octets_with, octets_with-put}
 use Rattle.segment_wire.proofs.writing.write.Goals as goal
 
