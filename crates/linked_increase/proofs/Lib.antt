@@ -1,0 +1,7 @@
+pub mod RowsEquality
+pub mod Fractions
+pub mod Leading
+pub mod Sums
+pub mod Rounding
+pub mod Exactness
+pub mod Closeness
