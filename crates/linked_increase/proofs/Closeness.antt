@@ -1,10 +1,9 @@
 -- The growth in integers against the exact increase.
-use Rattle.std.proofs.Common.{◌≡◌, ℕ, suc, ◌+◌, ◌*◌, ◌/◌, ◌<◌, ◌≤◌, ◌⊎◌, inl, inr, ⊎_elim, min, List, arith}
+use Rattle.std.proofs.Common.{◌≡◌, ℕ, ◌+◌, ◌*◌, ◌/◌, ◌<◌, ◌≤◌, ◌⊎◌, inl, inr, ⊎_elim, min, List, arith}
 use Rattle.std.proofs.lemmas.Bool.{cases_lt}
 use Rattle.std.proofs.Math.Nat.{mul-pos, mul-le-mul_left, mul-le-mul_right, mul-lt-mul_of_pos_right, lt_of_mul-lt-mul_right, lt-div-mul-add, min-eq_left, min-eq_right}
 use Rattle.linked_increase.specs.declared.rows.Row.{Row}
-use Rattle.linked_increase.specs.declared.increase.TheConstants.{ALPHA_SCALE}
-use Rattle.linked_increase.specs.Fraction.{Fraction, whole, ratio, plus, times, over, lesser, IsAtMost, IsBelow}
+use Rattle.linked_increase.specs.Fraction.{Fraction, whole, ratio, plus, times, over, lesser, IsBelow}
 use Rattle.linked_increase.specs.Paths.{IsInRange, total}
 use Rattle.linked_increase.specs.Exact.{exact_alpha, exact_increase, increase_alone}
 use Rattle.linked_increase.specs.Scaled.{alpha_of, growth_of}
@@ -35,17 +34,17 @@ min_cases : (x y : ℕ) → (min x y ≡ x) ⊎ (min x y ≡ y)
 min_cases x y = ⊎_elim (λ below. inl (min-eq_left (omega arith))) (λ above. inr (min-eq_right above)) (cases_lt x y)
 
 scaled_alpha : (rows : List Row) → AreLinked rows
-    → ALPHA_SCALE * (exact_alpha rows).numerator < (alpha_of rows + 1) * (exact_alpha rows).denominator
+    → 512 * (exact_alpha rows).numerator < (alpha_of rows + 1) * (exact_alpha rows).denominator
 scaled_alpha rows linked =
     let some = exact_alpha_positive rows linked in
     let floor = alpha_is_at_least_exact rows linked in
-    let above = lt-div-mul-add {a = ALPHA_SCALE * (exact_alpha rows).numerator} {b = 1 * (exact_alpha rows).denominator} (omega arith) in
+    let above = lt-div-mul-add {a = 512 * (exact_alpha rows).numerator} {b = 1 * (exact_alpha rows).denominator} (omega arith) in
     let more = mul-le-mul_right (1 * (exact_alpha rows).denominator) floor in
     omega (arith, above, more)
 
 pub growth_is_as_fast_as_exact : (row : Row) (rows : List Row) (mss acked : ℕ) → AreLinked rows → IsInRange row
     → IsBelow (exact_increase row rows mss acked)
-    (plus (whole (growth_of row rows mss acked + 1)) (ratio (acked * mss) (ALPHA_SCALE * total rows)))
+    (plus (whole (growth_of row rows mss acked + 1)) (ratio (acked * mss) (512 * total rows)))
 unfolding exact_increase growth_of
 growth_is_as_fast_as_exact row rows mss acked linked r =
     let octets : ℕ = acked * mss in
@@ -57,17 +56,17 @@ growth_is_as_fast_as_exact row rows mss acked linked r =
     let some_total = total_some lead.m rows linked.in_range lead.leads in
     let some_exact = exact_alpha_positive rows linked in
     let some_least : 0 < least.denominator = lesser_positive linked_part alone (mul-pos (omega arith) some_total) r.some_window in
-    let divisor : 0 < total rows * ALPHA_SCALE = omega (arith, some_total) in
+    let divisor : 0 < total rows * 512 = omega (arith, some_total) in
     ⊎_elim
     (λ is. rw is
-        (let close = close_to_linked least.numerator least.denominator octets (total rows)
-                (alpha_of rows * octets / (total rows * ALPHA_SCALE)) (alpha_of rows) exact.numerator exact.denominator
-                some_exact some_least (omega (arith, lesser-le_first linked_part alone)) (scaled_alpha rows linked)
-                (lt-div-mul-add divisor) in
-            omega (arith, close)))
+    (let close = close_to_linked least.numerator least.denominator octets (total rows)
+    (alpha_of rows * octets / (total rows * 512)) (alpha_of rows) exact.numerator exact.denominator
+    some_exact some_least (omega (arith, lesser-le_first linked_part alone)) (scaled_alpha rows linked)
+    (lt-div-mul-add divisor) in
+    omega (arith, close)))
     (λ is. rw is
-        (let close = close_to_alone least.numerator least.denominator octets row.window (octets / row.window)
-                (ALPHA_SCALE * total rows) r.some_window some_least (omega (arith, some_total))
-                (lesser-le_second linked_part alone) (lt-div-mul-add r.some_window) in
-            omega (arith, close)))
-    (min_cases (alpha_of rows * octets / (total rows * ALPHA_SCALE)) (octets / row.window))
+    (let close = close_to_alone least.numerator least.denominator octets row.window (octets / row.window)
+    (512 * total rows) r.some_window some_least (omega (arith, some_total))
+    (lesser-le_second linked_part alone) (lt-div-mul-add r.some_window) in
+    omega (arith, close)))
+    (min_cases (alpha_of rows * octets / (total rows * 512)) (octets / row.window))

@@ -1,14 +1,13 @@
 -- alpha in integers against the exact one.
-use Rattle.std.proofs.Common.{◌≡◌, ℕ, zero, suc, ◌+◌, ◌*◌, ◌/◌, ◌<◌, ◌≤◌, length, List, [], ◌∷◌, Some, refl, lit<, arith}
+use Rattle.std.proofs.Common.{◌≡◌, ℕ, zero, suc, ◌*◌, ◌<◌, ◌≤◌, length, List, [], ◌∷◌, Some, refl, lit<, arith}
 use Rattle.std.proofs.lemmas.List.Elements.{All-head, All-tail}
 use Rattle.std.proofs.Math.Nat.{mul-pos, mul-le-mul, mul-le-mul_left}
 use Rattle.std.specs.Prelude.{All, fold}
 use Rattle.linked_increase.specs.declared.rows.Row.{Row}
-use Rattle.linked_increase.specs.declared.increase.TheConstants.{ALPHA_SCALE}
 use Rattle.linked_increase.specs.Fraction.{Fraction, whole, ratio, times, IsAtMost, floor_of}
 use Rattle.linked_increase.specs.Paths.{IsInRange, total, weight, leading, leader}
 use Rattle.linked_increase.specs.Exact.{rate_sum, greatest_weight, exact_alpha}
-use Rattle.linked_increase.specs.Scaled.{scaled_sum, alpha_by, alpha_of}
+use Rattle.linked_increase.specs.Scaled.{scaled_sum, alpha_of}
 use Rattle.linked_increase.specs.Laws.{AreLinked}
 use Rattle.linked_increase.proofs.Fractions.{floor_of-le, greater-le, greater_positive}
 use Rattle.linked_increase.proofs.Leading.{leader_leads}
@@ -65,7 +64,7 @@ crosswise c t g b n d s w r weight_below sum_below =
     omega (arith, squares, weights)
 
 pub alpha_is_at_least_exact : (rows : List Row) → AreLinked rows
-    → floor_of (times (whole ALPHA_SCALE) (exact_alpha rows)) ≤ alpha_of rows
+    → floor_of (times (whole 512) (exact_alpha rows)) ≤ alpha_of rows
 unfolding exact_alpha alpha_of
 alpha_is_at_least_exact rows linked =
     let lead = led rows linked.some in
@@ -74,9 +73,9 @@ alpha_is_at_least_exact rows linked =
     let below = greatest_weight-le (weight m) rows is.greatest in
     let some = scaled_sum_some m rows linked.in_range lead.leads in
     rw lead.leads
-    (floor_of-le (times (whole ALPHA_SCALE) (exact_alpha rows))
-        (ratio (ALPHA_SCALE * total rows * m.window) (scaled_sum m rows * scaled_sum m rows))
-        (omega (arith, exact_alpha_positive rows linked)) (mul-pos some some)
-        (crosswise ALPHA_SCALE (total rows) (greatest_weight rows).numerator (greatest_weight rows).denominator
-            (rate_sum rows).numerator (rate_sum rows).denominator (scaled_sum m rows) m.window m.rtt below
-            (between m rows linked.in_range).at_most))
+    (floor_of-le (times (whole 512) (exact_alpha rows))
+    (ratio (512 * total rows * m.window) (scaled_sum m rows * scaled_sum m rows))
+    (omega (arith, exact_alpha_positive rows linked)) (mul-pos some some)
+    (crosswise 512 (total rows) (greatest_weight rows).numerator (greatest_weight rows).denominator
+    (rate_sum rows).numerator (rate_sum rows).denominator (scaled_sum m rows) m.window m.rtt below
+    (between m rows linked.in_range).at_most))

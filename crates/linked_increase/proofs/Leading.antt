@@ -1,5 +1,5 @@
 -- The row that the fold arrives at is the leader.
-use Rattle.std.proofs.Common.{◌≡◌, ℕ, ◌+◌, ◌*◌, ◌<◌, ◌≤◌, Bool, true, false, nat_lt, ◌==◌, ◌||◌, ◌&&◌, cond, Some, fold, refl, List, [], ◌∷◌, ⊎_elim, arith}
+use Rattle.std.proofs.Common.{◌≡◌, ℕ, ◌*◌, ◌<◌, ◌≤◌, Bool, true, false, nat_lt, ◌==◌, ◌||◌, ◌&&◌, cond, Some, fold, refl, List, [], ◌∷◌, ⊎_elim, arith}
 use Rattle.std.proofs.lemmas.Bool.Decides.{nat_tests}
 use Rattle.std.proofs.lemmas.List.Elements.{All-nil, All-cons, All-head, All-tail, All-contains, Contains-push, Contains-append_left, Contains-append_right, Contains-append_cases}
 use Rattle.std.proofs.Math.Nat.{mul-pos}
@@ -31,9 +31,9 @@ before-trans a b c ra rb rc ab bc =
     record {
       greatest = IsAtMost-trans (weight c) (weight b) (weight a) (square b rb) bc.greatest ab.greatest;
       lowest = λ h.
-        let first = ab.lowest (IsAtMost-trans (weight a) (weight c) (weight b) (square c rc) h bc.greatest) in
-        let second = bc.lowest (IsAtMost-trans (weight b) (weight a) (weight c) (square a ra) ab.greatest h) in
-        omega (arith, first, second);
+          let first = ab.lowest (IsAtMost-trans (weight a) (weight c) (weight b) (square c rc) h bc.greatest) in
+          let second = bc.lowest (IsAtMost-trans (weight b) (weight a) (weight c) (square a ra) ab.greatest h) in
+          omega (arith, first, second);
     }
 
 -- what one step of the fold arrives at
@@ -76,8 +76,8 @@ among_two : (a b next m : Row) (rest : List Row) → Contains (a ∷ b ∷ []) n
 among_two a b next m rest first h =
     ⊎_elim
     (λ only. Contains-append_left (a ∷ b ∷ []) rest m
-        (All-contains (Contains (a ∷ b ∷ [])) (next ∷ []) m
-            (All-cons (Contains (a ∷ b ∷ [])) next [] first (All-nil (Contains (a ∷ b ∷ [])))) only))
+    (All-contains (Contains (a ∷ b ∷ [])) (next ∷ []) m
+    (All-cons (Contains (a ∷ b ∷ [])) next [] first (All-nil (Contains (a ∷ b ∷ [])))) only))
     (λ later. Contains-append_right (a ∷ b ∷ []) rest m later)
     (Contains-append_cases (next ∷ []) rest m h)
 
@@ -103,8 +103,8 @@ fold_leads first (row ∷ rest) own others =
     (before-trans m next first m_range two.in_range own before_next two.first)
     (among_two first row next m rest two.among later.among)
     (All-cons (IsBefore m) row rest
-        (before-trans m next row m_range two.in_range row_range before_next two.second)
-        (All-tail (IsBefore m) next rest after))
+    (before-trans m next row m_range two.in_range row_range before_next two.second)
+    (All-tail (IsBefore m) next rest after))
 
 pub leader_leads : (rows : List Row) (m : Row) → All IsInRange rows → leader rows ≡ Some m → IsLeader m rows
 leader_leads [] m ranges is = cc

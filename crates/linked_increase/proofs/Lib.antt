@@ -1,3 +1,4 @@
+pub mod Padding
 pub mod RowsEquality
 pub mod Fractions
 pub mod Leading

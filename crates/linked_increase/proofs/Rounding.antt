@@ -1,5 +1,5 @@
 -- The sum in integers against the exact one, row by row.
-use Rattle.std.proofs.Common.{◌≡◌, ℕ, suc, ◌+◌, ◌*◌, ◌/◌, ◌<◌, ◌≤◌, length, List, [], ◌∷◌, lit<, arith}
+use Rattle.std.proofs.Common.{ℕ, suc, ◌+◌, ◌*◌, ◌/◌, ◌<◌, ◌≤◌, length, List, [], ◌∷◌, lit<, arith}
 use Rattle.std.proofs.lemmas.List.Elements.{All-head, All-tail}
 use Rattle.std.proofs.lemmas.List.Sums.{sum_by-cons}
 use Rattle.std.proofs.Math.Nat.{mul-pos, mul-le-mul_right, mul-lt-mul_of_pos_right, div-mul-le_self, lt-div-mul-add}
@@ -36,14 +36,14 @@ step_close : (m row : Row) (rows : List Row) → IsInRange row → IsBetween m r
 step_close m row rows r others =
     rw sum_by-cons
     (close_more (m.rtt * row.window / row.rtt) row.rtt (rate_sum rows).denominator row.window m.rtt (scaled_sum m rows)
-        (rate_sum rows).numerator (length rows) others.some (lt-div-mul-add r.some_rtt) others.close)
+    (rate_sum rows).numerator (length rows) others.some (lt-div-mul-add r.some_rtt) others.close)
 
 step_at_most : (m row : Row) (rows : List Row) → IsBetween m rows
     → scaled_sum m (row ∷ rows) * (rate_sum (row ∷ rows)).denominator ≤ (rate_sum (row ∷ rows)).numerator * m.rtt
 step_at_most m row rows others =
     rw sum_by-cons
     (at_most_more (m.rtt * row.window / row.rtt) row.rtt (rate_sum rows).denominator row.window m.rtt (scaled_sum m rows)
-        (rate_sum rows).numerator (div-mul-le_self (m.rtt * row.window) row.rtt) others.at_most)
+    (rate_sum rows).numerator (div-mul-le_self (m.rtt * row.window) row.rtt) others.at_most)
 
 pub between : (m : Row) (rows : List Row) → All IsInRange rows → IsBetween m rows
 between m [] ranges = record { some = lit< tt; at_most = omega arith; close = omega arith }

@@ -1,5 +1,5 @@
 -- `==` decides whether two lists of rows are equal.
-use Rattle.std.proofs.Common.{◌≡◌, Bool, true, List, rules}
+use Rattle.std.proofs.Common.{◌≡◌, true, List, rules}
 use Rattle.std.specs.Cmp.Lexicographic.{pointwise, pointwise_decides}
 use Rattle.linked_increase.specs.declared.rows.Row.{Row}
 use Rattle.linked_increase.specs.contracts.rows.RowPartialEq.TheImpl.{eq-value}

@@ -1,30 +1,29 @@
 -- How great the sums over the rows are.
-use Rattle.std.proofs.Common.{◌≡◌, ℕ, ◌+◌, ◌*◌, ◌/◌, ◌^◌, ◌<◌, ◌≤◌, length, List, Some, arith}
+use Rattle.std.proofs.Common.{◌≡◌, ℕ, ◌*◌, ◌/◌, ◌<◌, ◌≤◌, length, List, Some, arith}
 use Rattle.std.proofs.lemmas.List.Elements.{All-weaker}
 use Rattle.std.proofs.lemmas.List.Sums.{sum_by-le, get_or-le-sum_by}
 use Rattle.std.proofs.Math.Nat.{mul-le-mul, mul-div_cancel_left, div-le_self}
 use Rattle.std.specs.Prelude.{All, Contains, sum_by}
 use Rattle.linked_increase.specs.declared.rows.Row.{Row}
-use Rattle.linked_increase.specs.declared.rows.TheConstants.{MAX_WINDOW, MAX_RTT}
 use Rattle.linked_increase.specs.Paths.{IsInRange, total, leader}
 use Rattle.linked_increase.specs.Scaled.{scaled_sum}
 use Rattle.linked_increase.proofs.Leading.{leader_leads, leader_in_range}
 
-pub total_le : (rows : List Row) → All IsInRange rows → total rows ≤ length rows * MAX_WINDOW
+pub total_le : (rows : List Row) → All IsInRange rows → total rows ≤ length rows * 1048576
 total_le rows ranges =
-    sum_by-le (λ row. row.window) MAX_WINDOW rows
-    (All-weaker IsInRange (λ row. row.window ≤ MAX_WINDOW) (λ row r. r.window) rows ranges)
+    sum_by-le (λ row. row.window) 1048576 rows
+    (All-weaker IsInRange (λ row. row.window ≤ 1048576) (λ row r. r.window) rows ranges)
 
-term_le : (m row : Row) → IsInRange m → IsInRange row → m.rtt * row.window / row.rtt ≤ MAX_RTT * MAX_WINDOW
+term_le : (m row : Row) → IsInRange m → IsInRange row → m.rtt * row.window / row.rtt ≤ 60000 * 1048576
 term_le m row rm r =
-    let product : m.rtt * row.window ≤ MAX_RTT * MAX_WINDOW = mul-le-mul rm.rtt r.window in
+    let product : m.rtt * row.window ≤ 60000 * 1048576 = mul-le-mul rm.rtt r.window in
     omega (arith, product, div-le_self (m.rtt * row.window) row.rtt)
 
 pub scaled_sum_le : (m : Row) (rows : List Row) → IsInRange m → All IsInRange rows
-    → scaled_sum m rows ≤ length rows * (MAX_RTT * MAX_WINDOW)
+    → scaled_sum m rows ≤ length rows * (60000 * 1048576)
 scaled_sum_le m rows rm ranges =
-    sum_by-le (λ row. m.rtt * row.window / row.rtt) (MAX_RTT * MAX_WINDOW) rows
-    (All-weaker IsInRange (λ row. m.rtt * row.window / row.rtt ≤ MAX_RTT * MAX_WINDOW) (λ row r. term_le m row rm r) rows ranges)
+    sum_by-le (λ row. m.rtt * row.window / row.rtt) (60000 * 1048576) rows
+    (All-weaker IsInRange (λ row. m.rtt * row.window / row.rtt ≤ 60000 * 1048576) (λ row r. term_le m row rm r) rows ranges)
 
 term-le-sum_by : (f : Row → ℕ) (rows : List Row) (m : Row) → Contains rows m → f m ≤ sum_by f rows
 term-le-sum_by f rows m (k, below, is) = rw is at (get_or-le-sum_by f rows k m below)

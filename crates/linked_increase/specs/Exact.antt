@@ -25,4 +25,4 @@ increase_alone row mss acked = ratio (acked * mss) row.window
 -- min (alpha * bytes_acked * MSS_i / cwnd_total, bytes_acked * MSS_i / cwnd_i)
 unfoldable pub exact_increase : Row → List Row → ℕ → ℕ → Fraction
 exact_increase row rows mss acked =
-  lesser (over (times (exact_alpha rows) (whole (acked * mss))) (whole (total rows))) (increase_alone row mss acked)
+    lesser (over (times (exact_alpha rows) (whole (acked * mss))) (whole (total rows))) (increase_alone row mss acked)

@@ -1,5 +1,5 @@
 -- Exact fractions of natural numbers, compared by multiplying crosswise.
-use Rattle.std.specs.Prelude.{ℕ, ◌+◌, ◌*◌, ◌/◌, ◌<◌, ◌≤◌, nat_lt, if◌then◌else◌}
+use Rattle.std.specs.Prelude.{ℕ, ◌+◌, ◌*◌, ◌/◌, ◌<◌, ◌≤◌, Bool, nat_lt, ◌==◌, if◌then◌else◌}
 
 pub record Fraction : Type 0 where
   pub numerator : ℕ
@@ -33,13 +33,21 @@ IsAtMost x y = x.numerator * y.denominator ≤ y.numerator * x.denominator
 abbrev pub IsBelow : Fraction → Fraction → Type 0
 IsBelow x y = x.numerator * y.denominator < y.numerator * x.denominator
 
+-- whether x < y
+abbrev pub is_below : Fraction → Fraction → Bool
+is_below x y = nat_lt (x.numerator * y.denominator) (y.numerator * x.denominator)
+
+-- whether x and y are as great
+abbrev pub is_level : Fraction → Fraction → Bool
+is_level x y = x.numerator * y.denominator == y.numerator * x.denominator
+
 -- the greater of two
 abbrev pub greater : Fraction → Fraction → Fraction
-greater x y = if nat_lt (x.numerator * y.denominator) (y.numerator * x.denominator) then y else x
+greater x y = if is_below x y then y else x
 
 -- the lesser of two
 abbrev pub lesser : Fraction → Fraction → Fraction
-lesser x y = if nat_lt (y.numerator * x.denominator) (x.numerator * y.denominator) then y else x
+lesser x y = if is_below y x then y else x
 
 -- the greatest whole number that is not above x
 abbrev pub floor_of : Fraction → ℕ

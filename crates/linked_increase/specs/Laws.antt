@@ -1,7 +1,6 @@
 -- How far the form in integers is from RFC 6356's own formula.
 use Rattle.std.specs.Prelude.{ℕ, ◌≡◌, ◌+◌, ◌*◌, ◌<◌, ◌≤◌, List, length, All, Some}
 use Rattle.linked_increase.specs.declared.rows.Row.{Row}
-use Rattle.linked_increase.specs.declared.increase.TheConstants.{ALPHA_SCALE}
 use Rattle.linked_increase.specs.Fraction.{whole, ratio, plus, times, IsAtMost, IsBelow, floor_of}
 use Rattle.linked_increase.specs.Paths.{IsInRange, total, leader, IsLeader}
 use Rattle.linked_increase.specs.Exact.{rate_sum, exact_alpha, increase_alone, exact_increase}
@@ -27,7 +26,7 @@ SumRoundsDown = (m : Row) (rows : List Row) → AreLinked rows → IsSumRoundedD
 -- alpha in integers is at least the exact one, scaled and rounded down
 abbrev pub AlphaIsAtLeastExact : Type 0
 AlphaIsAtLeastExact = (rows : List Row) → AreLinked rows
-    → floor_of (times (whole ALPHA_SCALE) (exact_alpha rows)) ≤ alpha_of rows
+    → floor_of (times (whole 512) (exact_alpha rows)) ≤ alpha_of rows
 
 -- the window grows by no more than that of a connection of this path alone
 abbrev pub GrowsNoFasterThanAlone : Type 0
@@ -38,4 +37,4 @@ GrowsNoFasterThanAlone = (row : Row) (rows : List Row) (mss acked : ℕ)
 abbrev pub GrowsAsFastAsExact : Type 0
 GrowsAsFastAsExact = (row : Row) (rows : List Row) (mss acked : ℕ) → AreLinked rows → IsInRange row
     → IsBelow (exact_increase row rows mss acked)
-    (plus (whole (growth_of row rows mss acked + 1)) (ratio (acked * mss) (ALPHA_SCALE * total rows)))
+    (plus (whole (growth_of row rows mss acked + 1)) (ratio (acked * mss) (512 * total rows)))

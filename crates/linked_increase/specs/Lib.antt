@@ -1,3 +1,4 @@
+pub mod Places
 pub mod Fraction
 pub mod Paths
 pub mod Exact

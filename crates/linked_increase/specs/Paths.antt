@@ -1,16 +1,15 @@
 -- The rows of several paths, and which of them leads.
-use Rattle.std.specs.Prelude.{◌≡◌, ℕ, ◌+◌, ◌*◌, ◌<◌, ◌≤◌, Bool, nat_lt, ◌==◌, ◌||◌, ◌&&◌, if◌then◌else◌, List, [], ◌∷◌, sum_by, length, All, Contains, Option}
+use Rattle.std.specs.Prelude.{ℕ, ◌*◌, ◌<◌, ◌≤◌, Bool, nat_lt, ◌||◌, ◌&&◌, if◌then◌else◌, List, sum_by, All, Contains, Option}
 use Rattle.std.specs.List.{reduce}
 use Rattle.linked_increase.specs.declared.rows.Row.{Row}
-use Rattle.linked_increase.specs.declared.rows.TheConstants.{MAX_WINDOW, MAX_RTT}
-use Rattle.linked_increase.specs.Fraction.{Fraction, ratio, IsAtMost}
+use Rattle.linked_increase.specs.Fraction.{Fraction, ratio, IsAtMost, is_below, is_level}
 
--- a row that can be linked
+-- a row that can be linked: a window of at most 2^20 octets, a round-trip time of at most a minute
 pub record IsInRange (row : Row) : Type 0 where
   pub some_window : 0 < row.window
-  pub window : row.window ≤ MAX_WINDOW
+  pub window : row.window ≤ 1048576
   pub some_rtt : 0 < row.rtt
-  pub rtt : row.rtt ≤ MAX_RTT
+  pub rtt : row.rtt ≤ 60000
 
 -- cwnd_total, the windows of all paths together
 abbrev pub total : List Row → ℕ
@@ -26,10 +25,7 @@ weight row = ratio row.window (row.rtt * row.rtt)
 
 -- row a goes before row b: its weight is greater, or as great and its path is lower
 abbrev pub leads : Row → Row → Bool
-leads a b =
-  let own = a.window * (b.rtt * b.rtt) in
-  let others = b.window * (a.rtt * a.rtt) in
-  nat_lt others own || (own == others && nat_lt a.path b.path)
+leads a b = is_below (weight b) (weight a) || (is_level (weight a) (weight b) && nat_lt a.path b.path)
 
 -- the one of two rows that goes before the other
 abbrev pub leading : Row → Row → Row

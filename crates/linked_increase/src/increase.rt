@@ -1,11 +1,13 @@
 //! alpha and the increase of one path, in integers.
 ghost use Rattle.std.specs.Prelude.{◌≡◌, ◌<◌, ◌≤◌, ◌*◌, ◌^◌, length, All, Contains};
+ghost use Rattle.linked_increase.specs.Fraction.{whole, times, floor_of};
 ghost use Rattle.linked_increase.specs.Paths.{IsInRange, total, leader};
+ghost use Rattle.linked_increase.specs.Exact.{exact_alpha, increase_alone};
 ghost use Rattle.linked_increase.specs.Scaled.{scaled_sum, alpha_of, growth_of};
 
-use crate::rows::{MAX_ROWS, MAX_WINDOW, Row, Rows};
+use crate::rows::{MAX_WINDOW, Row, Rows};
 
-/// alpha_scale, by which alpha is multiplied so that an integer keeps its fraction (RFC 6356, section 4).
+/// alpha_scale, by which alpha is multiplied so that an integer keeps its fraction (RFC 6356, section 4.1).
 pub const ALPHA_SCALE: u128 = 512;
 
 /// The greatest segment size, in octets.
@@ -21,6 +23,7 @@ pub fn alpha(rows: &Rows) -> u128
     requires some { 0 < length rows.now }
     requires in_range { All IsInRange rows.now }
     ensures value { result ≡ alpha_of rows.now }
+    ensures at_least { floor_of (times (whole 512) (exact_alpha rows.now)) ≤ result }
     ensures bound { result ≤ 2 ^ 53 }
 {
     let rows = rows.as_slice();
@@ -35,13 +38,15 @@ pub fn alpha(rows: &Rows) -> u128
 pub fn growth(row: &Row, rows: &Rows, mss: u32, acked: u32) -> u32
     requires among { Contains rows.now row.now }
     requires in_range { All IsInRange rows.now }
-    requires mss { mss ≤ MAX_MSS }
-    requires acked { acked ≤ MAX_ACKED }
-    ensures { result ≡ growth_of row.now rows.now mss acked }
+    requires mss { mss ≤ 1460 }
+    requires acked { acked ≤ 1048576 }
+    ensures value { result ≡ growth_of row.now rows.now mss acked }
+    ensures no_faster { result ≤ floor_of (increase_alone row.now mss acked) }
 {
     let octets = acked * mss;
     let alone = u128::from(octets / row.window);
-    let linked = alpha(rows) * u128::from(octets) / (u128::from(total(rows.as_slice())) * ALPHA_SCALE);
+    let linked = alpha(rows) * u128::from(octets)
+        / (u128::from(total(rows.as_slice())) * ALPHA_SCALE);
     linked.min(alone) as u32
 }
 
@@ -53,9 +58,8 @@ fn leader(rows: &[Row]) -> Option<Row>
 }
 
 /// The windows of all rows together, in octets.
-#[tactic(auto, using(crate::proofs::Sums::total_le))]
 fn total(rows: &[Row]) -> u64
-    requires few { length rows.now ≤ MAX_ROWS }
+    requires few { length rows.now ≤ 16 }
     requires in_range { All IsInRange rows.now }
     ensures value { result ≡ total rows.now }
     ensures bound { result ≤ 2 ^ 24 }
@@ -64,9 +68,8 @@ fn total(rows: &[Row]) -> u64
 }
 
 /// The sum of rtt_m * window / rtt over the rows, each term rounded down, m being the row that leads.
-#[tactic(auto, using(crate::proofs::Sums::scaled_sum_le))]
 fn scaled_sum(lead: Row, rows: &[Row]) -> u64
-    requires few { length rows.now ≤ MAX_ROWS }
+    requires few { length rows.now ≤ 16 }
     requires lead { IsInRange lead }
     requires in_range { All IsInRange rows.now }
     ensures value { result ≡ scaled_sum lead rows.now }

@@ -1,7 +1,6 @@
 //! What is known of the paths of a connection: a row for each.
 ghost use Rattle.std.specs.Prelude.{◌≡◌, ◌<◌, ◌≤◌, ◌*◌, ◌↔◌, IsTrue, [], ◌∷◌, ◌++◌, length};
 
-use arrayvec::ArrayVec;
 use std::marker::Model;
 
 /// The most rows that are linked.
@@ -14,7 +13,7 @@ pub const MAX_WINDOW: u32 = 1_048_576;
 pub const MAX_RTT: u32 = 60_000;
 
 /// What one path tells of itself.
-#[derive(Clone, Copy, Debug, Default, PartialEq, Eq)]
+#[derive(Clone, Copy, Debug, PartialEq, Eq)]
 pub struct Row {
     /// The number of the path.
     pub path: u8,
@@ -25,7 +24,14 @@ pub struct Row {
 }
 
 impl Row {
-    ghost use Rattle.linked_increase.specs.Paths.{leads, leading};
+    ghost use Rattle.linked_increase.specs.Paths.{IsInRange, leads, leading};
+
+    /// Whether the row can be linked: its window is 1 to [`MAX_WINDOW`], its round-trip time 1 to [`MAX_RTT`].
+    pub fn is_in_range(self) -> bool
+        ensures { IsTrue result ↔ IsInRange self }
+    {
+        (1..=MAX_WINDOW).contains(&self.window) && (1..=MAX_RTT).contains(&self.rtt)
+    }
 
     /// Whether this row goes before the other: its window / rtt^2 is greater, or as great and its path is lower.
     fn leads(self, other: Row) -> bool
@@ -51,24 +57,39 @@ impl Row {
     }
 }
 
+/// What stands in a place of [`Rows`] that no row has.
+const BLANK: Row = Row {
+    path: 0,
+    window: 0,
+    rtt: 0,
+};
+
 /// At most [`MAX_ROWS`] rows, which lie in the value itself.
-#[derive(Debug, Drop)]
+#[derive(Clone, Copy, Debug)]
 pub struct Rows {
-    rows: ArrayVec<Row, MAX_ROWS>,
+    /// The rows, and behind them blank places.
+    places: [Row; MAX_ROWS],
+    /// How many rows there are.
+    len: usize,
 }
 
 impl Model for Rows {
-    ghost use Rattle.std.specs.Prelude.{◌≤◌, List, length};
+    ghost use Rattle.std.specs.Prelude.{◌-◌, ◌++◌, List, length, take, replicate};
     ghost use Rattle.linked_increase.specs.declared.rows.Row.{Row};
-    ghost use Rattle.linked_increase.specs.declared.rows.TheConstants.{MAX_ROWS};
+    ghost use Rattle.linked_increase.specs.Places.{IsPadded, padded, padded-take, length-take_places};
 
     ghost Value = { List Row };
 
-    ghost view = { λ r. r.rows.items };
+    ghost view = { λ r. take r.len r.places };
 
-    ghost invariant = { λ r. length r.rows.items ≤ MAX_ROWS };
+    ghost invariant = { λ r. IsPadded r.places r.len };
 
-    ghost inverse = { λ rows. record { rows = record { items = rows } } };
+    ghost inverse = { λ rows. record { places = padded rows; len = length rows } };
+
+    ghost inverse_ok = { λ r is i. record {
+      places = padded-take r.places r.len is i;
+      len = length-take_places r.places r.len is i;
+    } };
 }
 
 impl Rows {
@@ -77,35 +98,36 @@ impl Rows {
         ensures { result ≡ [] }
     {
         Rows {
-            rows: ArrayVec::new(),
+            places: [BLANK; MAX_ROWS],
+            len: 0,
         }
     }
 
-    /// How many rows there are.
-    pub fn len(&self) -> usize
-        ensures value { result ≡ length self.now }
-        ensures bound { result ≤ MAX_ROWS }
+    /// Whether there is no place for another row.
+    pub fn is_full(&self) -> bool
+        ensures full { IsTrue result ↔ (length self.now ≡ 16) }
+        ensures bound { length self.now ≤ 16 }
     {
-        self.rows.len()
+        self.len == MAX_ROWS
     }
 
     /// Appends a row.
     pub fn push(&mut self, row: Row)
-        requires { length self.old < MAX_ROWS }
+        requires { length self.old < 16 }
         ensures { self.new ≡ self.old ++ row ∷ [] }
     {
-        self.rows.push(row);
+        self.places[self.len] = row;
+        self.len += 1;
     }
 
     /// The rows, in the order that they were pushed.
     pub fn as_slice(&self) -> &[Row]
         ensures value { result.now ≡ self.now }
-        ensures bound { length result.now ≤ MAX_ROWS }
+        ensures bound { length result.now ≤ 16 }
     {
-        self.rows.as_slice()
+        &self.places[..self.len]
     }
 }
-
 
 impl PartialEq for Rows {
     ghost use Rattle.std.specs.Cmp.Lexicographic.{pointwise, lists_per};
@@ -121,7 +143,7 @@ impl PartialEq for Rows {
         ensures value { result ≡ pointwise ⟦<Row as PartialEq>⟧.eq self.now other.now }
         ensures exact { IsTrue result ↔ (self.now ≡ other.now) }
     {
-        self.rows == other.rows
+        self.as_slice() == other.as_slice()
     }
 }
 
@@ -131,4 +153,12 @@ impl Eq for Rows {
     ghost use Rattle.std.proofs.Common.{rules};
 
     ghost laws = { lists_equiv (Prim.search (comparing, rules)) };
+}
+
+impl Default for Rows {
+    ghost is_default = { λ rows. rows ≡ [] };
+
+    fn default() -> Self {
+        Self::new()
+    }
 }

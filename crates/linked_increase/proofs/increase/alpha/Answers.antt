@@ -1,8 +1,9 @@
 -- The row that leads is one of the rows, so it is in range and the sum is not 0.
-use Rattle.std.proofs.Common.{◌≡◌, ◌*◌, ◌<◌, ◌≤◌, Some, arith}
+use Rattle.std.proofs.Common.{◌≡◌, ◌*◌, Some, arith}
 use Rattle.std.proofs.Math.Nat.{mul-pos, mul-le-mul, div-le_self}
 use Rattle.linked_increase.specs.Paths.{leader}
 use Rattle.linked_increase.specs.Scaled.{alpha_of}
+use Rattle.linked_increase.proofs.Exactness.{alpha_is_at_least_exact}
 use Rattle.linked_increase.proofs.Leading.{leader_in_range}
 use Rattle.linked_increase.proofs.Sums.{scaled_sum_some}
 use Rattle.linked_increase.proofs.increase.alpha.Goals as goal
@@ -23,6 +24,11 @@ unfolding alpha_of
 returns-clause-value c =
     let leads : leader c.args.rows.now ≡ Some c.unwrap-lead.result = cc in
     rw leads cc
+
+pub returns-clause-at_least : goal.returns-clause-at_least
+returns-clause-at_least c =
+    rw (returns-clause-value c)
+    (alpha_is_at_least_exact c.args.rows.now (record { some = c.requires.some; in_range = c.requires.in_range }))
 
 pub returns-clause-bound : goal.returns-clause-bound
 returns-clause-bound c =
