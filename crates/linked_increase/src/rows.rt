@@ -37,13 +37,13 @@ impl Row {
     fn leads(self, other: Row) -> bool
         ensures { result ≡ leads self other }
     {
-        let own = self.window_over(other.rtt);
-        let others = other.window_over(self.rtt);
+        let own = self.window_times_square(other.rtt);
+        let others = other.window_times_square(self.rtt);
         own > others || own == others && self.path < other.path
     }
 
-    /// The window times the square of a round-trip time.
-    fn window_over(self, rtt: u32) -> u128
+    /// The window times the square of a round-trip time: fractions are compared by multiplying crosswise.
+    fn window_times_square(self, rtt: u32) -> u128
         ensures { result ≡ self.window * (rtt * rtt) }
     {
         u128::from(self.window) * u128::from(u64::from(rtt) * u64::from(rtt))
