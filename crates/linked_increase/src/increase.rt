@@ -1,5 +1,5 @@
 //! alpha and the increase of one path, in integers.
-ghost use Rattle.std.specs.Prelude.{◌≡◌, ◌<◌, ◌≤◌, ◌*◌, ◌^◌, length, All, Contains};
+ghost use Rattle.std.specs.Prelude.{◌≡◌, ◌<◌, ◌≤◌, ◌^◌, length, All, Contains};
 ghost use Rattle.linked_increase.specs.Fraction.{whole, times, floor_of};
 ghost use Rattle.linked_increase.specs.Paths.{IsInRange, total, leader};
 ghost use Rattle.linked_increase.specs.Exact.{exact_alpha, increase_alone};

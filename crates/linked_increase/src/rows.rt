@@ -74,7 +74,7 @@ pub struct Rows {
 }
 
 impl Model for Rows {
-    ghost use Rattle.std.specs.Prelude.{◌-◌, ◌++◌, List, length, take, replicate};
+    ghost use Rattle.std.specs.Prelude.{List, length, take};
     ghost use Rattle.linked_increase.specs.declared.rows.Row.{Row};
     ghost use Rattle.linked_increase.specs.Places.{IsPadded, padded, padded-take, length-take_places};
 

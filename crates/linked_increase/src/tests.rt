@@ -1,4 +1,4 @@
-ghost use Rattle.std.specs.Prelude.{All, ◌<◌, length};
+ghost use Rattle.std.specs.Prelude.{All};
 ghost use Rattle.linked_increase.specs.Paths.{IsInRange};
 
 use super::*;

@@ -1,5 +1,5 @@
 //! The smoothed round-trip time and its variation (RFC 6298, section 2).
-ghost use Rattle.std.specs.Prelude.{◌≡◌, ◌≤◌, ◌*◌, ◌/◌};
+ghost use Rattle.std.specs.Prelude.{◌≡◌, ◌≤◌};
 
 /// The longest round-trip time that a sample tells, in ticks. A longer one counts as this.
 pub const MAX_SAMPLE: u32 = 60_000;
