@@ -1,6 +1,5 @@
 -- What the rules promise of whole runs.
 use Rattle.std.specs.Prelude.{ℕ, zero, suc, ◌≡◌, ◌+◌, ◌*◌, ◌<◌, ◌≤◌, min, true, false, List, [], ◌∷◌}
-use Rattle.reno_window.specs.declared.window.TheConstants.{MAX_WINDOW}
 use Rattle.reno_window.specs.Window.{Window}
 use Rattle.reno_window.specs.Rules.{capped, ssthresh_after_loss, after_ack, after_third_duplicate, after_more_duplicate, after_expiry}
 
@@ -28,7 +27,7 @@ after_acks (suc n) bytes growth w = after_ack bytes growth (after_acks n bytes g
 abbrev pub SlowStartAddsASegment : Type 0
 SlowStartAddsASegment = (acks bytes growth : ℕ) (w : Window) → w.in_fast_recovery ≡ false
     → 0 < w.mss → w.mss ≤ bytes
-    → w.window + acks * w.mss ≤ min w.ssthresh MAX_WINDOW
+    → w.window + acks * w.mss ≤ min w.ssthresh 1048576
     → (after_acks acks bytes growth w).window ≡ w.window + acks * w.mss
 
 -- the window after expiries that send the same segment again, at these flights

@@ -1,18 +1,18 @@
 -- What each event makes of a congestion window (RFC 5681, sections 3.1 and 3.2).
 use Rattle.std.specs.Prelude.{ℕ, ◌+◌, ◌*◌, ◌/◌, ◌<◌, ◌≤◌, min, max, Bool, true, false, nat_lt, nat_le, if◌then◌else◌}
-use Rattle.reno_window.specs.declared.window.TheConstants.{MAX_WINDOW, MAX_MSS}
 use Rattle.reno_window.specs.Window.{Window}
 
+-- at most 2^20 octets
 abbrev pub capped : ℕ → ℕ
-capped octets = min MAX_WINDOW octets
+capped octets = min 1048576 octets
 
 -- section 3.1: four segments of at most 1095 octets, or three
 abbrev pub initial_window : ℕ → ℕ
 initial_window mss = if nat_le mss 1095 then 4 * mss else 3 * mss
 
--- ssthresh begins arbitrarily high
+-- ssthresh begins as high as a window gets
 abbrev pub opening : ℕ → Window
-opening mss = record { mss = mss; window = initial_window mss; ssthresh = MAX_WINDOW; in_fast_recovery = false }
+opening mss = record { mss = mss; window = initial_window mss; ssthresh = 1048576; in_fast_recovery = false }
 
 -- so many octets more
 abbrev pub grown : ℕ → Window → Window
@@ -57,11 +57,11 @@ after_expiry flight again w = record w {
 -- a window holds a segment, and is no greater than the cap
 pub record IsWithin (mss window : ℕ) : Type 0 where
   pub least : mss ≤ window
-  pub greatest : window ≤ MAX_WINDOW
+  pub greatest : window ≤ 1048576
 
 -- what holds of every window: segments of a size that the profile has, and a threshold of at least two of them
 pub record IsSound (mss window ssthresh : ℕ) : Type 0 where
   pub some : 0 < mss
-  pub small : mss ≤ MAX_MSS
+  pub small : mss ≤ 1460
   pub within : IsWithin mss window
   pub threshold : 2 * mss ≤ ssthresh

@@ -18,7 +18,7 @@ pub struct Reno {
     window: u32,
     /// Below this the window grows by slow start. At least two segments.
     ssthresh: u32,
-    /// A third duplicate came, and nothing new was acknowledged since.
+    /// A third duplicate came, and nothing new was acknowledged since, nor did the timer expire.
     in_fast_recovery: bool,
 }
 
@@ -43,7 +43,7 @@ impl Reno {
     /// (section 3.1).
     pub fn new(mss: u16) -> Self
         requires some { 0 < mss }
-        requires small { mss ≤ MAX_MSS }
+        requires small { mss ≤ 1460 }
         ensures { result ≡ opening mss }
     {
         let smss = u32::from(mss);

@@ -1,7 +1,6 @@
 -- SRTT and RTTVAR by the rules of RFC 6298, section 2. SRTT is counted in eighths of a tick, RTTVAR in quarters.
 use Rattle.std.specs.Prelude.{ℕ, ◌+◌, ◌-◌, ◌*◌, ◌/◌, ◌≤◌, min, max}
 use Rattle.rtt_timer.specs.declared.estimate.Estimate.{Estimate}
-use Rattle.rtt_timer.specs.declared.estimate.TheConstants.{MAX_SAMPLE, MIN_RTO, MAX_RTO, CLOCK_GRANULARITY}
 
 -- |x - y|
 abbrev pub distance : ℕ → ℕ → ℕ
@@ -24,18 +23,18 @@ next_estimate r e = record {
 
 -- rules 2.4 and 2.5: not below a second, not above a minute
 abbrev pub bounded : ℕ → ℕ
-bounded rto = min MAX_RTO (max MIN_RTO rto)
+bounded rto = min 60000 (max 1000 rto)
 
--- RTO <- SRTT + max (G, 4 RTTVAR), bounded
+-- RTO <- SRTT + max (G, 4 RTTVAR), bounded; G is one tick
 abbrev pub rto_of : Estimate → ℕ
-rto_of e = bounded (srtt_of e + max CLOCK_GRANULARITY e.rttvar_quarters)
+rto_of e = bounded (srtt_of e + max 1 e.rttvar_quarters)
 
--- no mean of samples is above the greatest sample
+-- no mean is above the greatest sample, of a minute
 pub record IsMeasured (e : Estimate) : Type 0 where
-  pub srtt : e.srtt_eighths ≤ 8 * MAX_SAMPLE
-  pub rttvar : e.rttvar_quarters ≤ 4 * MAX_SAMPLE
+  pub srtt : e.srtt_eighths ≤ 8 * 60000
+  pub rttvar : e.rttvar_quarters ≤ 4 * 60000
 
 -- a timeout between a second and a minute
 pub record IsWithinBounds (rto : ℕ) : Type 0 where
-  pub least : MIN_RTO ≤ rto
-  pub greatest : rto ≤ MAX_RTO
+  pub least : 1000 ≤ rto
+  pub greatest : rto ≤ 60000

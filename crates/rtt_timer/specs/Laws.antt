@@ -1,7 +1,6 @@
 -- What the rules promise of the means, and of whole runs.
 use Rattle.std.specs.Prelude.{ℕ, zero, suc, ◌≡◌, ◌+◌, ◌*◌, ◌^◌, ◌<◌, ◌≤◌, min}
 use Rattle.rtt_timer.specs.declared.estimate.Estimate.{Estimate}
-use Rattle.rtt_timer.specs.declared.estimate.TheConstants.{MAX_RTO}
 use Rattle.rtt_timer.specs.Estimates.{distance, srtt_of, next_estimate, IsWithinBounds}
 use Rattle.rtt_timer.specs.Timer.{Timer}
 use Rattle.rtt_timer.specs.Rules.{after_expiry}
@@ -28,4 +27,4 @@ after_expiries (suc n) t = after_expiry (after_expiries n t)
 -- n expiries in a row make the timeout 2^n times as long, up to a minute
 abbrev pub BacksOff : Type 0
 BacksOff = (n : ℕ) (t : Timer) → IsWithinBounds t.rto
-    → (after_expiries n t).rto ≡ min MAX_RTO (2 ^ n * t.rto)
+    → (after_expiries n t).rto ≡ min 60000 (2 ^ n * t.rto)

@@ -1,5 +1,5 @@
 //! The smoothed round-trip time and its variation (RFC 6298, section 2).
-ghost use Rattle.std.specs.Prelude.{◌≡◌, ◌≤◌, ◌*◌, ◌/◌};
+ghost use Rattle.std.specs.Prelude.{◌≡◌, ◌≤◌};
 
 /// The longest round-trip time that a sample tells, in ticks. A longer one counts as this.
 pub const MAX_SAMPLE: u32 = 60_000;
@@ -27,7 +27,7 @@ impl Estimate {
 
     /// The estimate after the first sample, of `r` ticks: SRTT is `r`, RTTVAR is half of it (rule 2.2).
     pub(crate) fn first(r: u32) -> Self
-        requires { r ≤ MAX_SAMPLE }
+        requires { r ≤ 60000 }
         ensures value { result ≡ first_estimate r }
         ensures measured { IsMeasured result }
     {
@@ -39,7 +39,7 @@ impl Estimate {
 
     /// The estimate after one more sample, of `r` ticks (rule 2.3). RTTVAR comes first, by the SRTT from before.
     pub(crate) fn next(self, r: u32) -> Self
-        requires sample { r ≤ MAX_SAMPLE }
+        requires sample { r ≤ 60000 }
         requires measured { IsMeasured self }
         ensures value { result ≡ next_estimate r self }
         ensures measured { IsMeasured result }

@@ -35,7 +35,6 @@ impl Rtt {
     ghost use Rattle.std.specs.Option.{option_map};
     ghost use Rattle.rtt_timer.specs.Estimates.{IsWithinBounds, srtt_of};
     ghost use Rattle.rtt_timer.specs.Rules.{opening, after_sample, after_expiry};
-    ghost use Rattle.rtt_timer.specs.declared.estimate.TheConstants.{MAX_SAMPLE};
 
     /// A timer that has had no sample and no expiry.
     pub fn new() -> Self
@@ -50,7 +49,7 @@ impl Rtt {
     /// Takes a round-trip time of `r` ticks, at most [`MAX_SAMPLE`] (rules 2.2 and 2.3). The timeout follows from
     /// it anew, whatever the expiries made of it.
     pub fn sample(&mut self, r: u32)
-        requires { r ≤ MAX_SAMPLE }
+        requires { r ≤ 60000 }
         ensures { self.new ≡ after_sample r self.old }
     {
         let estimate = match self.estimate {
@@ -79,7 +78,7 @@ impl Rtt {
     /// The smoothed round-trip time in whole ticks, rounded down, at most [`MAX_SAMPLE`]; none until the first sample.
     pub fn srtt(&self) -> Option<u32>
         ensures value { result ≡ option_map srtt_of self.now.estimate }
-        ensures bound { IfSome result (λ srtt. srtt ≤ MAX_SAMPLE) }
+        ensures bound { IfSome result (λ srtt. srtt ≤ 60000) }
     {
         self.estimate.map(|estimate| estimate.srtt())
     }

@@ -1,6 +1,5 @@
 -- By induction on the acknowledgements: below the threshold each leaves all but the window as it was.
 use Rattle.std.proofs.Common.{◌≡◌, ℕ, zero, suc, ◌+◌, ◌*◌, ◌<◌, ◌≤◌, min, true, false, nat_lt, refl, arith, rules}
-use Rattle.reno_window.specs.declared.window.TheConstants.{MAX_WINDOW}
 use Rattle.reno_window.specs.Window.{Window}
 use Rattle.reno_window.specs.Rules.{after_ack}
 use Rattle.reno_window.specs.Laws.{after_acks}
@@ -13,7 +12,7 @@ record IsGrownBy (segments : ℕ) (old new : Window) : Type 0 where
   in_fast_recovery : new.in_fast_recovery ≡ false
 
 one_more : (bytes growth segments : ℕ) (old new : Window) → IsGrownBy segments old new
-    → 0 < old.mss → old.mss ≤ bytes → old.window + suc segments * old.mss ≤ min old.ssthresh MAX_WINDOW
+    → 0 < old.mss → old.mss ≤ bytes → old.window + suc segments * old.mss ≤ min old.ssthresh 1048576
     → IsGrownBy (suc segments) old (after_ack bytes growth new)
 one_more bytes growth segments old new before some whole room =
     let below : new.window < new.ssthresh = omega (arith, before.mss, before.window, before.ssthresh) in
@@ -27,7 +26,7 @@ one_more bytes growth segments old new before some whole room =
     }
 
 grown_by : (acks bytes growth : ℕ) (w : Window) → w.in_fast_recovery ≡ false
-    → 0 < w.mss → w.mss ≤ bytes → w.window + acks * w.mss ≤ min w.ssthresh MAX_WINDOW
+    → 0 < w.mss → w.mss ≤ bytes → w.window + acks * w.mss ≤ min w.ssthresh 1048576
     → IsGrownBy acks w (after_acks acks bytes growth w)
 grown_by zero bytes growth w normal some whole room =
     record { mss = refl; window = omega arith; ssthresh = refl; in_fast_recovery = normal }

@@ -1,0 +1,8 @@
+pub mod Padding
+pub mod RowsEquality
+pub mod Fractions
+pub mod Leading
+pub mod Sums
+pub mod Rounding
+pub mod Exactness
+pub mod Closeness

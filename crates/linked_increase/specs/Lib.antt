@@ -1,0 +1,6 @@
+pub mod Places
+pub mod Fraction
+pub mod Paths
+pub mod Exact
+pub mod Scaled
+pub mod Laws
