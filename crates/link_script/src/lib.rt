@@ -1,0 +1,9 @@
+//! The script of a run.
+#![tactic(auto)]
+
+mod fault;
+mod limits;
+mod number;
+
+pub use fault::{ScriptFault, ScriptKind};
+pub use limits::Limits;
