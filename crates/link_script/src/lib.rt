@@ -4,6 +4,7 @@
 mod fault;
 mod limits;
 mod number;
+mod word;
 
 pub use fault::{ScriptFault, ScriptKind};
 pub use limits::Limits;
