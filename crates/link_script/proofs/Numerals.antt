@@ -12,7 +12,7 @@ use Rattle.std.proofs.lemmas.Bool.{and_parts, ltb-true}
 use Rattle.std.proofs.lemmas.Str.{IsUtf8-from_ascii}
 use Rattle.std.proofs.lemmas.Str.Parse.{IsNumeralModel, numerals_by_value, parse_digits}
 use Rattle.std.proofs.lemmas.Fmt.{IsAscii-from_digits}
-use Rattle.link_script.specs.declared.number.TheConstants.{MAX_DIGITS}
+use Rattle.link_script.specs.declared.limits.TheConstants.{MAX_DIGITS}
 use Rattle.link_script.specs.Numbers.{is_numeral}
 
 abbrev pub AreDigits : List ℕ → Type 0

@@ -1,2 +1,4 @@
 pub mod Numbers
+pub mod Steps
 pub mod Words
+pub mod Lines

@@ -1,5 +1,5 @@
 -- The fixed words of a script, and how a text is cut into lines and words.
-use Rattle.std.specs.Prelude.{ℕ, Bool, true, false, List, [], ◌∷◌, Option, Result, ◌==◌, if◌then◌else◌, codes}
+use Rattle.std.specs.Prelude.{ℕ, Bool, true, false, List, [], ◌∷◌, Result, Ok, Err, ◌==◌, if◌then◌else◌, codes}
 use Rattle.std.specs.List.{find, slice_split, onto_first}
 use Rattle.std.specs.Option.{ok_or}
 use Rattle.std.specs.Str.{bytes_eq}
@@ -29,6 +29,10 @@ words_of line = slice_split (λ octet. octet == 32) line
 abbrev pub chosen : {C : Type 0} → (C → List ℕ) → List C → List ℕ → Result C ScriptKind
 chosen spelled choices word = ok_or (find (λ choice. bytes_eq (spelled choice) word) choices) Word
 
+-- a word that can't be another
+unfoldable pub fixed : List ℕ → List ℕ → Result (Unit {0}) ScriptKind
+fixed expected word = if bytes_eq word expected then Ok tt else Err Word
+
 abbrev pub keyword_word : Keyword → List ℕ
 keyword_word Seed = codes "seed"
 keyword_word Checksum = codes "checksum"
@@ -48,7 +52,7 @@ keyword_word FastClose = codes "fastclose"
 keyword_word End = codes "end"
 
 -- the first word of a line
-abbrev pub keyword : List ℕ → Result Keyword ScriptKind
+unfoldable pub keyword : List ℕ → Result Keyword ScriptKind
 keyword word = chosen keyword_word ALL word
 
 -- the side from which a segment comes
@@ -56,19 +60,19 @@ abbrev pub direction_word : Side → List ℕ
 direction_word A = codes "ab"
 direction_word B = codes "ba"
 
-abbrev pub direction : List ℕ → Result Side ScriptKind
+unfoldable pub direction : List ℕ → Result Side ScriptKind
 direction word = chosen direction_word (A ∷ B ∷ []) word
 
 abbrev pub side_word : Side → List ℕ
 side_word A = codes "a"
 side_word B = codes "b"
 
-abbrev pub side : List ℕ → Result Side ScriptKind
+unfoldable pub side : List ℕ → Result Side ScriptKind
 side word = chosen side_word (A ∷ B ∷ []) word
 
 abbrev pub switch_word : Bool → List ℕ
 switch_word true = codes "on"
 switch_word false = codes "off"
 
-abbrev pub switch : List ℕ → Result Bool ScriptKind
+unfoldable pub switch : List ℕ → Result Bool ScriptKind
 switch word = chosen switch_word (true ∷ false ∷ []) word

@@ -1,10 +1,18 @@
 //! The script of a run.
 #![tactic(auto)]
 
+mod event;
 mod fault;
 mod limits;
+mod line;
+mod lists;
 mod number;
+mod path;
+mod script;
+mod segment;
 mod word;
 
 pub use fault::{ScriptFault, ScriptKind};
 pub use limits::Limits;
+pub use lists::{PathLines, ScriptLines};
+pub use script::{PathLine, Script, ScriptLine};

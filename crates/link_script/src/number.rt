@@ -8,11 +8,8 @@ ghost use Rattle.std.specs.Str.Parse.{digits_value};
 ghost use Rattle.link_script.specs.Numbers.{is_numeral, within};
 
 use crate::fault::ScriptKind;
-use crate::limits::Limits;
+use crate::limits::{Limits, MAX_DIGITS};
 use std::str;
-
-/// How many digits a number has at most, leading zeros among them.
-pub const MAX_DIGITS: usize = 20;
 
 fn are_digits(word: &[u8]) -> bool
     ensures { result ≡ list_all is_ascii_digit word.now }
@@ -37,7 +34,7 @@ fn value(numeral: &[u8]) -> Option<u64>
 
 /// Reads a number within limits.
 #[tactic(auto, unfolding(crate::specs::Numbers::within))]
-pub fn number(word: &[u8], limits: Limits) -> Result<u64, ScriptKind>
+pub fn read_number(word: &[u8], limits: Limits) -> Result<u64, ScriptKind>
     ensures exact { result ≡ within limits word.now }
     ensures bound { IfOk result (λ n. n ≤ limits.most) }
 {

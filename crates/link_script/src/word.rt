@@ -1,7 +1,7 @@
 //! The fixed words of a script, and how a text is cut into lines and words.
 
 ghost use Rattle.std.specs.Prelude.{◌≡◌, ◌==◌, ◌<◌, ◌∷◌, length, map, position, IfOk};
-ghost use Rattle.link_script.specs.Words.{keyword_word, keyword, direction, side, switch, text_lines, words_of, is_passed_over};
+ghost use Rattle.link_script.specs.Words.{fixed, keyword_word, keyword, direction, side, switch, text_lines, words_of, is_passed_over};
 
 use crate::fault::ScriptKind;
 use outside_kit::Side;
@@ -82,6 +82,19 @@ impl Keyword {
     }
 }
 
+/// A word that can't be another.
+#[tactic(auto, unfolding(crate::specs::Words::fixed))]
+pub fn expect_word(word: &[u8], expected: &[u8]) -> Result<(), ScriptKind>
+    ensures { result ≡ fixed expected.now word.now }
+{
+    if word == expected {
+        Ok(())
+    } else {
+        Err(ScriptKind::Word)
+    }
+}
+
+#[tactic(auto, unfolding(crate::specs::Words::direction))]
 pub fn read_direction(word: &[u8]) -> Result<Side, ScriptKind>
     ensures { result ≡ direction word.now }
 {
@@ -92,6 +105,7 @@ pub fn read_direction(word: &[u8]) -> Result<Side, ScriptKind>
     }
 }
 
+#[tactic(auto, unfolding(crate::specs::Words::side))]
 pub fn read_side(word: &[u8]) -> Result<Side, ScriptKind>
     ensures { result ≡ side word.now }
 {
@@ -102,6 +116,7 @@ pub fn read_side(word: &[u8]) -> Result<Side, ScriptKind>
     }
 }
 
+#[tactic(auto, unfolding(crate::specs::Words::switch))]
 pub fn read_switch(word: &[u8]) -> Result<bool, ScriptKind>
     ensures { result ≡ switch word.now }
 {

@@ -1,0 +1,82 @@
+//! The lists of a script.
+
+ghost use Rattle.std.specs.Prelude.{◌≡◌};
+
+use crate::script::{PathLine, ScriptLine};
+use std::marker::Model;
+
+/// The paths of a script, path 0 first.
+#[derive(Debug, Drop)]
+pub struct PathLines {
+    lines: Vec<PathLine>,
+}
+
+impl Model for PathLines {
+    ghost use Rattle.std.specs.Prelude.{List};
+    ghost use Rattle.link_script.specs.declared.script.PathLine.{PathLine};
+
+    ghost Value = { List PathLine };
+
+    ghost view = { λ p. p.lines.items };
+}
+
+impl PathLines {
+    /// Makes the list of a vector, and takes no memory.
+    pub fn from_vec(lines: Vec<PathLine>) -> Self
+        ensures { result ≡ lines.items }
+    {
+        PathLines { lines }
+    }
+
+    /// Gives the vector back.
+    pub fn into_vec(self) -> Vec<PathLine>
+        ensures { result.items ≡ self }
+    {
+        self.lines
+    }
+
+    /// Lends the list, and takes no memory.
+    pub fn as_slice(&self) -> &[PathLine]
+        ensures { result.now ≡ self.now }
+    {
+        self.lines.as_slice()
+    }
+}
+
+/// What a script lets happen, in the order of its text.
+#[derive(Debug, Drop)]
+pub struct ScriptLines {
+    lines: Vec<ScriptLine>,
+}
+
+impl Model for ScriptLines {
+    ghost use Rattle.std.specs.Prelude.{List};
+    ghost use Rattle.link_script.specs.declared.script.ScriptLine.{ScriptLine};
+
+    ghost Value = { List ScriptLine };
+
+    ghost view = { λ p. p.lines.items };
+}
+
+impl ScriptLines {
+    /// Makes the list of a vector, and takes no memory.
+    pub fn from_vec(lines: Vec<ScriptLine>) -> Self
+        ensures { result ≡ lines.items }
+    {
+        ScriptLines { lines }
+    }
+
+    /// Gives the vector back.
+    pub fn into_vec(self) -> Vec<ScriptLine>
+        ensures { result.items ≡ self }
+    {
+        self.lines
+    }
+
+    /// Lends the list, and takes no memory.
+    pub fn as_slice(&self) -> &[ScriptLine]
+        ensures { result.now ≡ self.now }
+    {
+        self.lines.as_slice()
+    }
+}

@@ -1,0 +1,106 @@
+//! What a script says.
+
+use crate::lists::{PathLines, ScriptLines};
+use outside_kit::Side;
+
+/// How a connection is to run: its settings, its paths, and what happens on them.
+#[derive(Debug, Drop)]
+pub struct Script {
+    /// From this number keys, nonces and initial sequence numbers are drawn.
+    pub seed: u64,
+    /// Whether A asks for checksums of the data (RFC 8684, section 3.3).
+    pub checksum: bool,
+    /// Octets that each side buffers of what it sends, and of what it receives.
+    pub buffer: u64,
+    /// The paths, path 0 first.
+    pub paths: PathLines,
+    /// What happens on the paths, in the order of the text.
+    pub lines: ScriptLines,
+}
+
+/// One path.
+#[derive(Clone, Copy, Debug, PartialEq, Eq)]
+pub struct PathLine {
+    /// Octets of the maximum segment size that both ends announce.
+    pub mss: u16,
+    /// Ticks that a segment takes from one end to the other.
+    pub delay: u32,
+    /// The tick from which A joins the path to the connection.
+    pub join: u64,
+    /// Whether the path carries data only where no other path can (RFC 8684, section 3.3.8).
+    pub backup: bool,
+}
+
+/// What happens to one segment of a link, to one direction of it, to a path or to a side.
+///
+/// `path` is the number of a path. `from` is the side that sends, and `number` counts the segments
+/// that the path's link takes from it, the first being 1. A `tick` is one of the run.
+#[derive(Clone, Copy, Debug, PartialEq, Eq)]
+pub enum ScriptLine {
+    /// The segment doesn't arrive.
+    Drop {
+        path: u8,
+        from: Side,
+        number: u32,
+    },
+    /// The segment arrives without its Multipath TCP options.
+    Strip {
+        path: u8,
+        from: Side,
+        number: u32,
+    },
+    /// The segment arrives with the lowest bit of its first payload octet turned.
+    Alter {
+        path: u8,
+        from: Side,
+        number: u32,
+    },
+    /// The segment arrives twice, the second time so many ticks after the first.
+    Dup {
+        path: u8,
+        from: Side,
+        number: u32,
+        ticks: u32,
+    },
+    /// The segment arrives so many ticks late.
+    Late {
+        path: u8,
+        from: Side,
+        number: u32,
+        ticks: u32,
+    },
+    /// Each segment that is sent at the tick or later arrives without its Multipath TCP options.
+    StripAll {
+        path: u8,
+        from: Side,
+        tick: u64,
+    },
+    /// The link loses all that is under way, and both ends of the path die.
+    Die {
+        path: u8,
+        tick: u64,
+    },
+    /// The side tells its peer to use the path as a backup, or no longer so.
+    Prio {
+        path: u8,
+        side: Side,
+        tick: u64,
+        on: bool,
+    },
+    /// B announces an address under this identifier.
+    Add {
+        id: u8,
+        tick: u64,
+    },
+    /// The side withdraws the address with this identifier.
+    Remove {
+        side: Side,
+        id: u8,
+        tick: u64,
+    },
+    /// The side closes the whole connection at once.
+    FastClose {
+        side: Side,
+        tick: u64,
+    },
+}
