@@ -2,3 +2,4 @@ pub mod Numbers
 pub mod Steps
 pub mod Words
 pub mod Lines
+pub mod Places

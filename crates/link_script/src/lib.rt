@@ -8,6 +8,7 @@ mod line;
 mod lists;
 mod number;
 mod path;
+mod place;
 mod script;
 mod segment;
 mod word;

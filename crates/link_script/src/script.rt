@@ -104,3 +104,27 @@ pub enum ScriptLine {
         tick: u64,
     },
 }
+
+impl ScriptLine {
+    ghost use Rattle.std.specs.Prelude.{◌≡◌};
+    ghost use Rattle.link_script.specs.Places.{path_named};
+
+    /// The path that the line names.
+    pub fn path(&self) -> Option<u8>
+        ensures { result ≡ path_named self.now }
+    {
+        match *self {
+            ScriptLine::Drop { path, .. }
+            | ScriptLine::Strip { path, .. }
+            | ScriptLine::Alter { path, .. }
+            | ScriptLine::Dup { path, .. }
+            | ScriptLine::Late { path, .. }
+            | ScriptLine::StripAll { path, .. }
+            | ScriptLine::Die { path, .. }
+            | ScriptLine::Prio { path, .. } => Some(path),
+            ScriptLine::Add { .. } | ScriptLine::Remove { .. } | ScriptLine::FastClose { .. } => {
+                None
+            }
+        }
+    }
+}
