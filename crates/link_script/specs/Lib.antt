@@ -3,3 +3,4 @@ pub mod Steps
 pub mod Words
 pub mod Lines
 pub mod Places
+pub mod Reading

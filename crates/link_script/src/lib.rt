@@ -9,6 +9,7 @@ mod lists;
 mod number;
 mod path;
 mod place;
+mod reading;
 mod script;
 mod segment;
 mod word;

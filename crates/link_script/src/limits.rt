@@ -31,11 +31,15 @@ pub const SEED: Limits = Limits {
     most: u64::MAX,
 };
 
+pub const DEFAULT_SEED: u64 = 1;
+
 /// Octets of a send buffer, and of a receive buffer.
 pub const BUFFER: Limits = Limits {
     least: 4096,
     most: 1_048_576,
 };
+
+pub const DEFAULT_BUFFER: u64 = 65_536;
 
 /// The number of a path.
 pub const PATH: Limits = Limits { least: 0, most: 7 };

@@ -1,8 +1,9 @@
 //! The lists of a script.
 
-ghost use Rattle.std.specs.Prelude.{◌≡◌};
+ghost use Rattle.std.specs.Prelude.{◌≡◌, ◌∷◌, [], ◌++◌, OnOk, OnErr};
 
 use crate::script::{PathLine, ScriptLine};
+use std::alloc::AllocError;
 use std::marker::Model;
 
 /// The paths of a script, path 0 first.
@@ -26,6 +27,15 @@ impl PathLines {
         ensures { result ≡ lines.items }
     {
         PathLines { lines }
+    }
+
+    /// Adds a line at the end.
+    pub fn push(&mut self, line: PathLine) -> Result<(), AllocError>
+        ensures ok { OnOk result (self.new ≡ self.old ++ line ∷ []) }
+        ensures err { OnErr result (self.new ≡ self.old) }
+    {
+        self.lines.push(line)?;
+        Ok(())
     }
 
     /// Gives the vector back.
@@ -64,6 +74,15 @@ impl ScriptLines {
         ensures { result ≡ lines.items }
     {
         ScriptLines { lines }
+    }
+
+    /// Adds a line at the end.
+    pub fn push(&mut self, line: ScriptLine) -> Result<(), AllocError>
+        ensures ok { OnOk result (self.new ≡ self.old ++ line ∷ []) }
+        ensures err { OnErr result (self.new ≡ self.old) }
+    {
+        self.lines.push(line)?;
+        Ok(())
     }
 
     /// Gives the vector back.
