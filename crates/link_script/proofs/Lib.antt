@@ -2,3 +2,4 @@ pub mod Numerals
 pub mod Cuts
 pub mod Slices
 pub mod Turns
+pub mod Texts

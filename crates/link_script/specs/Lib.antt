@@ -4,3 +4,4 @@ pub mod Words
 pub mod Lines
 pub mod Places
 pub mod Reading
+pub mod Writing

@@ -13,6 +13,7 @@ mod reading;
 mod script;
 mod segment;
 mod word;
+mod writing;
 
 pub use fault::{ScriptFault, ScriptKind};
 pub use limits::Limits;
