@@ -3,3 +3,5 @@ pub mod Cuts
 pub mod Slices
 pub mod Turns
 pub mod Texts
+pub mod Ranges
+pub mod Kept

@@ -5,3 +5,4 @@ pub mod Lines
 pub mod Places
 pub mod Reading
 pub mod Writing
+pub mod Scripts

@@ -3,6 +3,7 @@
 
 mod event;
 mod fault;
+mod law;
 mod limits;
 mod line;
 mod lists;

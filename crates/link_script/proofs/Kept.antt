@@ -1,0 +1,127 @@
+-- What the lines read so far say keeps its ranges.
+use Rattle.std.proofs.Common.{◌≡◌, ◌≢◌, ℕ, zero, suc, ◌+◌, ◌-◌, ◌<◌, ◌≤◌, Bool, true, false, ◌||◌, not, cond, eqb, leb, List, [], ◌∷◌, ◌++◌, length, get_or, All, Result, Ok, Err, Option, Some, None, refl, sym, ap, subst, ◌∙◌, arith}
+use Rattle.std.specs.Prelude.{count_by, nat_lt, fold}
+use Rattle.std.specs.List.{list_any, AllPairs}
+use Rattle.std.proofs.lemmas.Bool.{or_parts, or_from, leb-false, eqb-true, eqb-false, not-true, not-false, false≢true}
+use Rattle.std.proofs.lemmas.List.{length-append, length-map, length_push}
+use Rattle.std.proofs.lemmas.List.Elements.{All-push, All-weaker, All-nil}
+use Rattle.std.proofs.lemmas.List.Folds.{list_any-append}
+use Rattle.std.proofs.lemmas.List.Quantifiers.{all_pairs_push}
+use Rattle.std.proofs.lemmas.List.Sums.{fold-append, sum_by-append}
+use Rattle.link_script.specs.declared.limits.TheConstants.{MAX_LINES, SEED, BUFFER, DEFAULT_SEED, DEFAULT_BUFFER}
+use Rattle.link_script.specs.declared.line.Line.{Line}
+use Rattle.link_script.specs.declared.line.Line.TheVariants.{Header, Seed, Checksum, Buffer, Path, Rule, End}
+use Rattle.link_script.specs.declared.script.PathLine.{PathLine}
+use Rattle.link_script.specs.declared.script.Script.{Script}
+use Rattle.link_script.specs.declared.script.ScriptLine.{ScriptLine}
+use Rattle.link_script.specs.declared.script.ScriptLine.TheVariants.{Drop, Strip, Alter, Dup, Late, StripAll, Die, Prio, Add, Remove, FastClose}
+use Rattle.link_script.specs.Places.{is_path, is_end, path_named, lacks, is_misplaced, settle_one}
+use Rattle.link_script.specs.Reading.{blank, with_line, script_of}
+use Rattle.link_script.specs.Scripts.{IsWithin, IsPath, OpensPlainly, IsRule, SettleApart}
+use Rattle.link_script.specs.Writing.{seed_lines, checksum_lines, buffer_lines, path_lines, rule_lines, lines_of}
+use Rattle.link_script.proofs.Ranges.{most_paths, IsLine}
+
+-- ---- paths
+
+pub record PathsKept (paths : List PathLine) : Type 0 where
+  pub few : length paths ≤ most_paths
+  pub ranges : All IsPath paths
+  pub first : OpensPlainly paths
+
+first_path : (paths : List PathLine) (path : PathLine) → OpensPlainly paths → (length paths ≡ 0 → (path.join ≡ 0) × (path.backup ≡ false)) → OpensPlainly (paths ++ path ∷ [])
+first_path [] path h plain = plain refl
+first_path (p ∷ paths) path h plain = h
+
+paths_more : (index : ℕ) (path : PathLine) (paths : List PathLine) → PathsKept paths → IsLine (Path index path) → index ≡ length paths → PathsKept (paths ++ path ∷ [])
+paths_more index path paths k h at = record {
+  few = omega (arith, length_push paths path, h.0);
+  ranges = All-push IsPath paths path k.ranges h.1;
+  first = first_path paths path k.first (λ z. h.2 (at ∙ z));
+}
+
+-- ---- lines
+
+pub record RulesKept (paths : ℕ) (rules : List ScriptLine) : Type 0 where
+  pub ranges : All (IsRule paths) rules
+  pub apart : AllPairs SettleApart rules
+
+-- a line that has its ranges speaks of a path that is there, where it isn't misplaced
+named : (limit paths : ℕ) (rule : ScriptLine) → IsRule limit rule → lacks paths (path_named rule) ≡ false → IsRule paths rule
+named limit paths (Drop path from number) h m = (leb-false paths path m, h.1)
+named limit paths (Strip path from number) h m = (leb-false paths path m, h.1)
+named limit paths (Alter path from number) h m = (leb-false paths path m, h.1)
+named limit paths (Dup path from number ticks) h m = (leb-false paths path m, h.1, h.2)
+named limit paths (Late path from number ticks) h m = (leb-false paths path m, h.1, h.2)
+named limit paths (StripAll path from tick) h m = (leb-false paths path m, h.1)
+named limit paths (Die path tick) h m = (leb-false paths path m, h.1)
+named limit paths (Prio path side tick on) h m = (leb-false paths path m, h.1)
+named limit paths (Add id tick) h m = h
+named limit paths (Remove side id tick) h m = h
+named limit paths (FastClose side tick) h m = h
+
+-- one more path is no harm
+more_paths : (paths : ℕ) (rule : ScriptLine) → IsRule paths rule → IsRule (paths + 1) rule
+more_paths paths (Drop path from number) h = (omega (arith, h.0), h.1)
+more_paths paths (Strip path from number) h = (omega (arith, h.0), h.1)
+more_paths paths (Alter path from number) h = (omega (arith, h.0), h.1)
+more_paths paths (Dup path from number ticks) h = (omega (arith, h.0), h.1, h.2)
+more_paths paths (Late path from number ticks) h = (omega (arith, h.0), h.1, h.2)
+more_paths paths (StripAll path from tick) h = (omega (arith, h.0), h.1)
+more_paths paths (Die path tick) h = (omega (arith, h.0), h.1)
+more_paths paths (Prio path side tick on) h = (omega (arith, h.0), h.1)
+more_paths paths (Add id tick) h = h
+more_paths paths (Remove side id tick) h = h
+more_paths paths (FastClose side tick) h = h
+
+each_apart : (rules : List ScriptLine) (rule : ScriptLine) → list_any (λ r. settle_one (Rule r) (Rule rule)) rules ≡ false → (k : ℕ) (d : ScriptLine) → k < length rules → SettleApart (get_or rules k d) rule
+each_apart [] rule h k d lt = absurd (omega arith)
+each_apart (r ∷ rules) rule h zero d lt = (or_parts _ _ h).0
+each_apart (r ∷ rules) rule h (suc k) d lt = each_apart rules rule (or_parts _ _ h).1 k d (omega arith)
+
+rules_more : (paths : ℕ) (rules : List ScriptLine) (rule : ScriptLine) → RulesKept paths rules → IsRule paths rule → list_any (λ r. settle_one (Rule r) (Rule rule)) rules ≡ false → RulesKept paths (rules ++ rule ∷ [])
+rules_more paths rules rule k h new = record {
+  ranges = All-push (IsRule paths) rules rule k.ranges h;
+  apart = all_pairs_push SettleApart rules rule k.apart (each_apart rules rule new);
+}
+
+rules_wider : (paths : ℕ) (rules : List ScriptLine) → RulesKept paths rules → RulesKept (paths + 1) rules
+rules_wider paths rules k = record { ranges = All-weaker (IsRule paths) (IsRule (paths + 1)) (more_paths paths) rules k.ranges; apart = k.apart }
+
+-- ---- a script
+
+pub record Kept (script : Script) : Type 0 where
+  pub seed : IsWithin SEED script.seed
+  pub buffer : IsWithin BUFFER script.buffer
+  pub paths : PathsKept script.paths
+  pub rules : RulesKept (length script.paths) script.lines
+
+pub kept_blank : Kept blank
+kept_blank = record {
+  seed = record { least = omega arith; most = omega arith };
+  buffer = record { least = omega arith; most = omega arith };
+  paths = record { few = omega arith; ranges = All-nil IsPath; first = tt };
+  rules = record { ranges = All-nil (IsRule 0); apart = λ i j d lt l. absurd (omega arith) };
+}
+
+-- what a script doesn't settle yet
+abbrev pub IsNew : Script → Line → Type 0
+IsNew script line = list_any (λ r. settle_one (Rule r) line) script.lines ≡ false
+
+pub kept_more : (script : Script) (line : Line) → Kept script → IsLine line → is_misplaced (length script.paths) line ≡ false → IsNew script line → Kept (with_line script line)
+kept_more script Header k h m new = k
+kept_more script (Seed n) k h m new = record { seed = h; buffer = k.buffer; paths = k.paths; rules = k.rules }
+kept_more script (Checksum on) k h m new = record { seed = k.seed; buffer = k.buffer; paths = k.paths; rules = k.rules }
+kept_more script (Buffer octets) k h m new = record { seed = k.seed; buffer = h; paths = k.paths; rules = k.rules }
+kept_more script (Path index path) k h m new = record {
+  seed = k.seed;
+  buffer = k.buffer;
+  paths = paths_more index path script.paths k.paths h (eqb-true _ _ (not-false _ m));
+  rules = subst (λ (n : ℕ). RulesKept n script.lines) (sym (length_push script.paths path)) (rules_wider (length script.paths) script.lines k.rules);
+}
+kept_more script (Rule rule) k h m new = record {
+  seed = k.seed;
+  buffer = k.buffer;
+  paths = k.paths;
+  rules = rules_more (length script.paths) script.lines rule k.rules (named most_paths (length script.paths) rule h m) new;
+}
+kept_more script End k h m new = k

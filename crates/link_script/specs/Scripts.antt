@@ -1,0 +1,60 @@
+-- What every script keeps to, whatever its text is.
+use Rattle.std.specs.Prelude.{◌≡◌, ℕ, ◌+◌, ◌<◌, ◌≤◌, Bool, false, List, [], ◌∷◌, length, Result, Ok, All}
+use Rattle.std.specs.List.{AllPairs}
+use Rattle.link_script.specs.declared.limits.Limits.{Limits}
+use Rattle.link_script.specs.declared.limits.TheConstants.{MAX_LINES, SEED, BUFFER, PATH, MSS, DELAY, SEGMENT, LATENESS, TICK, ADDRESS_ID}
+use Rattle.link_script.specs.declared.line.Line.TheVariants.{Rule}
+use Rattle.link_script.specs.declared.script.PathLine.{PathLine}
+use Rattle.link_script.specs.declared.script.Script.{Script}
+use Rattle.link_script.specs.declared.script.ScriptLine.{ScriptLine}
+use Rattle.link_script.specs.declared.script.ScriptLine.TheVariants.{Drop, Strip, Alter, Dup, Late, StripAll, Die, Prio, Add, Remove, FastClose}
+use Rattle.link_script.specs.Places.{settle_one}
+use Rattle.link_script.specs.Reading.{reading}
+use Rattle.link_script.specs.Writing.{lines_of}
+
+-- some text says it
+abbrev pub IsScript : Script → Type 0
+IsScript script = (text : List ℕ) × (reading text ≡ Ok script)
+
+pub record IsWithin (limits : Limits) (n : ℕ) : Type 0 where
+  pub least : limits.least ≤ n
+  pub most : n ≤ limits.most
+
+pub record IsPath (path : PathLine) : Type 0 where
+  pub mss : IsWithin MSS path.mss
+  pub delay : IsWithin DELAY path.delay
+  pub join : IsWithin TICK path.join
+
+-- the path that opens the connection joins nothing, and is no backup
+abbrev pub OpensPlainly : List PathLine → Type 0
+OpensPlainly [] = Unit {0}
+OpensPlainly (path ∷ paths) = (path.join ≡ 0) × (path.backup ≡ false)
+
+-- a line that speaks of one of so many paths
+abbrev pub IsRule : ℕ → ScriptLine → Type 0
+IsRule paths (Drop path from number) = (path < paths) × IsWithin SEGMENT number
+IsRule paths (Strip path from number) = (path < paths) × IsWithin SEGMENT number
+IsRule paths (Alter path from number) = (path < paths) × IsWithin SEGMENT number
+IsRule paths (Dup path from number ticks) = (path < paths) × IsWithin SEGMENT number × IsWithin LATENESS ticks
+IsRule paths (Late path from number ticks) = (path < paths) × IsWithin SEGMENT number × IsWithin LATENESS ticks
+IsRule paths (StripAll path from tick) = (path < paths) × IsWithin TICK tick
+IsRule paths (Die path tick) = (path < paths) × IsWithin TICK tick
+IsRule paths (Prio path side tick on) = (path < paths) × IsWithin TICK tick
+IsRule paths (Add id tick) = IsWithin ADDRESS_ID id × IsWithin TICK tick
+IsRule paths (Remove side id tick) = IsWithin ADDRESS_ID id × IsWithin TICK tick
+IsRule paths (FastClose side tick) = IsWithin TICK tick
+
+-- no two lines settle one thing
+abbrev pub SettleApart : ScriptLine → ScriptLine → Type 0
+SettleApart a b = settle_one (Rule a) (Rule b) ≡ false
+
+pub record HasRanges (script : Script) : Type 0 where
+  pub seed : IsWithin SEED script.seed
+  pub buffer : IsWithin BUFFER script.buffer
+  pub some_path : 0 < length script.paths
+  pub few_paths : length script.paths ≤ PATH.most + 1
+  pub paths : All IsPath script.paths
+  pub first_path : OpensPlainly script.paths
+  pub lines : All (IsRule (length script.paths)) script.lines
+  pub apart : AllPairs SettleApart script.lines
+  pub few_lines : length (lines_of script) ≤ MAX_LINES
