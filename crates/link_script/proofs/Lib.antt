@@ -5,3 +5,4 @@ pub mod Turns
 pub mod Texts
 pub mod Ranges
 pub mod Kept
+pub mod Sound
