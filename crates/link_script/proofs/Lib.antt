@@ -6,3 +6,5 @@ pub mod Texts
 pub mod Ranges
 pub mod Kept
 pub mod Sound
+pub mod Spelled
+pub mod Again

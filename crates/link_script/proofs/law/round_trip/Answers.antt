@@ -1,0 +1,5 @@
+use Rattle.link_script.proofs.Again.{line_again}
+use Rattle.link_script.proofs.law.round_trip.Goals as goal
+
+pub returns : goal.returns
+returns c = ?
