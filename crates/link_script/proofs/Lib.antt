@@ -8,3 +8,4 @@ pub mod Kept
 pub mod Sound
 pub mod Spelled
 pub mod Again
+pub mod Placed

@@ -1,4 +1,4 @@
-use Rattle.link_script.proofs.Again.{line_again}
+use Rattle.link_script.proofs.Placed.{Placed}
 use Rattle.link_script.proofs.law.round_trip.Goals as goal
 
 pub returns : goal.returns

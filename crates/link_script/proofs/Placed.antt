@@ -1,0 +1,181 @@
+-- The lines of a script stand where they may.
+use Rattle.std.proofs.Common.{◌≡◌, ℕ, zero, suc, ◌+◌, ◌<◌, ◌≤◌, Bool, true, false, ◌||◌, not, cond, eqb, leb, List, [], ◌∷◌, ◌++◌, length, get_or, All, Result, Ok, Err, Option, Some, None, refl, sym, ap, subst, ◌∙◌, append_assoc, arith}
+use Rattle.std.specs.Prelude.{count_by, map}
+use Rattle.std.specs.List.{list_any, AllByRecursion, AllPairs}
+use Rattle.std.proofs.lemmas.Bool.{or_parts, or_from, eq-eqb, ne_eqb, lt-leb, not_from_true}
+use Rattle.std.proofs.lemmas.List.{append-nil}
+use Rattle.std.proofs.lemmas.List.Folds.{list_any-append}
+use Rattle.std.proofs.lemmas.List.Sums.{sum_by-append}
+use Rattle.link_script.specs.declared.fault.ScriptKind.{ScriptKind}
+use Rattle.link_script.specs.declared.line.Line.{Line}
+use Rattle.link_script.specs.declared.line.Line.TheVariants.{Header, Seed, Checksum, Buffer, Path, Rule, End}
+use Rattle.link_script.specs.declared.place.Subject.{Subject}
+use Rattle.link_script.specs.declared.script.PathLine.{PathLine}
+use Rattle.link_script.specs.declared.script.Script.{Script}
+use Rattle.link_script.specs.declared.script.ScriptLine.{ScriptLine}
+use Rattle.link_script.specs.declared.script.ScriptLine.TheVariants.{Drop, Strip, Alter, Dup, Late, StripAll, Die, Prio, Add, Remove, FastClose}
+use Rattle.link_script.specs.Places.{is_path, is_end, path_named, lacks, is_misplaced, is_out_of_order, settled_by, are_same, settle_one, is_repeated}
+use Rattle.link_script.specs.Reading.{in_place}
+use Rattle.link_script.specs.Scripts.{IsRule, SettleApart}
+use Rattle.link_script.specs.Writing.{seed_lines, checksum_lines, buffer_lines, path_lines, rule_lines}
+
+-- each line may stand after these and those before it
+abbrev pub Placed : List Line → List Line → Type 0
+Placed seen [] = Unit {0}
+Placed seen (line ∷ lines) = (in_place seen line ≡ Ok line) × Placed (seen ++ line ∷ []) lines
+
+pub placed_append : (seen xs ys : List Line) → Placed seen xs → Placed (seen ++ xs) ys → Placed seen (xs ++ ys)
+placed_append seen [] ys p q = subst (λ (lines : List Line). Placed lines ys) (append-nil seen) q
+placed_append seen (x ∷ xs) ys p q =
+    (p.0, placed_append (seen ++ x ∷ []) xs ys p.1 (subst (λ (lines : List Line). Placed lines ys) (sym (append_assoc seen (x ∷ []) xs)) q))
+
+placed : (seen : List Line) (line : Line) → is_out_of_order seen line ≡ false → is_repeated seen line ≡ false → in_place seen line ≡ Ok line
+placed seen line o r = rw (o, r) refl
+
+-- ---- what stands before
+
+-- a line that settles nothing that a rule may settle
+abbrev IsApart : Line → Type 0
+IsApart line = (rule : ScriptLine) → settle_one line (Rule rule) ≡ false
+
+-- no end yet, so many paths, and no rule
+pub record Before (seen : List Line) (paths : ℕ) : Type 0 where
+  pub goes : list_any is_end seen ≡ false
+  pub count : count_by is_path seen ≡ paths
+  pub apart : (rule : ScriptLine) → is_repeated seen (Rule rule) ≡ false
+
+pub before_append : (xs ys : List Line) (a b n : ℕ) → Before xs a → Before ys b → a + b ≡ n → Before (xs ++ ys) n
+before_append xs ys a b n p q e = record {
+  goes = list_any-append is_end xs ys ∙ or_from _ _ p.goes q.goes;
+  count = omega (arith, sum_by-append (λ l. cond (is_path l) 1 0) xs ys, p.count, q.count);
+  apart = λ rule. list_any-append (λ l. settle_one l (Rule rule)) xs ys ∙ or_from _ _ (p.apart rule) (q.apart rule);
+}
+
+none_before : Before [] 0
+none_before = record { goes = refl; count = refl; apart = λ rule. refl }
+
+one_before : (line : Line) (paths : ℕ) → is_end line ≡ false → count_by is_path (line ∷ []) ≡ paths → IsApart line → Before (line ∷ []) paths
+one_before line paths goes count apart = record {
+  goes = or_from _ _ goes refl;
+  count = count;
+  apart = λ rule. or_from _ _ (apart rule) refl;
+}
+
+-- ---- settings
+
+seed_apart : (n : ℕ) → IsApart (Seed n)
+seed_apart n (Drop path from number) = refl
+seed_apart n rule = refl
+
+checksum_apart : (on : Bool) → IsApart (Checksum on)
+checksum_apart on (Drop path from number) = refl
+checksum_apart on rule = refl
+
+buffer_apart : (octets : ℕ) → IsApart (Buffer octets)
+buffer_apart octets (Drop path from number) = refl
+buffer_apart octets rule = refl
+
+either_before : (b : Bool) (line : Line) → Before (line ∷ []) 0 → Before (cond b [] (line ∷ [])) 0
+either_before true line h = none_before
+either_before false line h = h
+
+pub before_header : Before (Header ∷ []) 0
+before_header = one_before Header 0 refl refl (λ rule. refl)
+
+pub before_seed : (n : ℕ) → Before (seed_lines n) 0
+before_seed n = either_before (eqb n 1) (Seed n) (one_before (Seed n) 0 refl refl (seed_apart n))
+
+pub before_checksum : (on : Bool) → Before (checksum_lines on) 0
+before_checksum true = one_before (Checksum true) 0 refl refl (checksum_apart true)
+before_checksum false = none_before
+
+pub before_buffer : (octets : ℕ) → Before (buffer_lines octets) 0
+before_buffer octets = either_before (eqb octets 65536) (Buffer octets) (one_before (Buffer octets) 0 refl refl (buffer_apart octets))
+
+-- the settings behind the first line
+abbrev settings : Bool → Bool → Bool → ℕ → ℕ → List Line
+settings a b c n octets = cond a [] (Seed n ∷ []) ++ (cond b (Checksum true ∷ []) [] ++ cond c [] (Buffer octets ∷ []))
+
+settings_placed : (a b c : Bool) (n octets : ℕ) → Placed (Header ∷ []) (settings a b c n octets)
+settings_placed true true true n octets = (refl, tt)
+settings_placed true true false n octets = (refl, (refl, tt))
+settings_placed true false true n octets = tt
+settings_placed true false false n octets = (refl, tt)
+settings_placed false true true n octets = (refl, (refl, tt))
+settings_placed false true false n octets = (refl, (refl, (refl, tt)))
+settings_placed false false true n octets = (refl, tt)
+settings_placed false false false n octets = (refl, (refl, tt))
+
+pub all_settings : Script → List Line
+all_settings script = seed_lines script.seed ++ (checksum_lines script.checksum ++ buffer_lines script.buffer)
+
+pub placed_settings : (script : Script) → Placed (Header ∷ []) (all_settings script)
+unfolding all_settings
+placed_settings script = settings_placed (eqb script.seed 1) script.checksum (eqb script.buffer 65536) script.seed script.buffer
+
+-- ---- paths
+
+-- a line that settles nothing was not settled before
+not_same : (subject : Option Subject) → are_same subject None ≡ false
+not_same (Some s) = refl
+not_same None = refl
+
+not_repeated : (seen : List Line) (line : Line) → settled_by line ≡ None → is_repeated seen line ≡ false
+not_repeated [] line h = refl
+not_repeated (first ∷ seen) line h =
+    or_from _ _ (ap (are_same (settled_by first)) h ∙ not_same (settled_by first)) (not_repeated seen line h)
+
+pub before_paths : (index : ℕ) (paths : List PathLine) → Before (path_lines index paths) (length paths)
+before_paths index [] = none_before
+before_paths index (path ∷ paths) =
+    before_append (Path index path ∷ []) (path_lines (suc index) paths) 1 (length paths) (suc (length paths)) (one_before (Path index path) 1 refl refl (λ rule. refl)) (before_paths (suc index) paths) (omega arith)
+
+pub placed_paths : (index : ℕ) (paths : List PathLine) (seen : List Line) → Before seen index → Placed seen (path_lines index paths)
+placed_paths index [] seen h = tt
+placed_paths index (path ∷ paths) seen h =
+    let next : not (eqb index (count_by is_path seen)) ≡ false = not_from_true _ (eq-eqb index (count_by is_path seen) (sym h.count)) in
+    let more = before_append seen (Path index path ∷ []) index 1 (suc index) h (one_before (Path index path) 1 refl refl (λ rule. refl)) (omega arith) in
+    (placed seen (Path index path) (or_from _ _ h.goes next) (not_repeated seen (Path index path) refl), placed_paths (suc index) paths (seen ++ Path index path ∷ []) more)
+
+-- ---- rules
+
+there : (paths : ℕ) (rule : ScriptLine) → 0 < paths → IsRule paths rule → lacks paths (path_named rule) ≡ false
+there paths (Drop path from number) some h = lt-leb paths path h.0
+there paths (Strip path from number) some h = lt-leb paths path h.0
+there paths (Alter path from number) some h = lt-leb paths path h.0
+there paths (Dup path from number ticks) some h = lt-leb paths path h.0
+there paths (Late path from number ticks) some h = lt-leb paths path h.0
+there paths (StripAll path from tick) some h = lt-leb paths path h.0
+there paths (Die path tick) some h = lt-leb paths path h.0
+there paths (Prio path side tick on) some h = lt-leb paths path h.0
+there paths (Add id tick) some h = ne_eqb paths 0 (λ z. omega arith)
+there paths (Remove side id tick) some h = ne_eqb paths 0 (λ z. omega arith)
+there paths (FastClose side tick) some h = ne_eqb paths 0 (λ z. omega arith)
+
+-- what stands before a rule
+record Ready (seen : List Line) (paths : ℕ) (rules : List ScriptLine) : Type 0 where
+  goes : list_any is_end seen ≡ false
+  count : count_by is_path seen ≡ paths
+  new : AllByRecursion (λ rule. is_repeated seen (Rule rule) ≡ false) rules
+
+-- each rule is apart from those behind it
+abbrev AreApart : List ScriptLine → Type 0
+AreApart [] = Unit {0}
+AreApart (rule ∷ rules) = AllByRecursion (SettleApart rule) rules × AreApart rules
+
+still_new : (seen : List Line) (rule : ScriptLine) (rules : List ScriptLine) → AllByRecursion (λ r. is_repeated seen (Rule r) ≡ false) rules → AllByRecursion (SettleApart rule) rules
+    → AllByRecursion (λ r. is_repeated (seen ++ Rule rule ∷ []) (Rule r) ≡ false) rules
+still_new seen rule [] h apart = tt
+still_new seen rule (r ∷ rules) h apart =
+    (list_any-append (λ l. settle_one l (Rule r)) seen (Rule rule ∷ []) ∙ or_from _ _ h.0 (or_from _ _ apart.0 refl), still_new seen rule rules h.1 apart.1)
+
+placed_rules : (paths : ℕ) (rules : List ScriptLine) (seen : List Line) → 0 < paths → AllByRecursion (IsRule paths) rules → AreApart rules → Ready seen paths rules → Placed seen (rule_lines rules)
+placed_rules paths [] seen some fit apart h = tt
+placed_rules paths (rule ∷ rules) seen some fit apart h =
+    let here : lacks (count_by is_path seen) (path_named rule) ≡ false = ap (λ (n : ℕ). lacks n (path_named rule)) h.count ∙ there paths rule some fit.0 in
+    let more : Ready (seen ++ Rule rule ∷ []) paths rules = record {
+      goes = list_any-append is_end seen (Rule rule ∷ []) ∙ or_from _ _ h.goes refl;
+      count = omega (arith, sum_by-append (λ l. cond (is_path l) 1 0) seen (Rule rule ∷ []), h.count);
+      new = still_new seen rule rules h.new.1 apart.0;
+    } in
+    (placed seen (Rule rule) (or_from _ _ h.goes here) h.new.0, placed_rules paths rules (seen ++ Rule rule ∷ []) some fit.1 apart.1 more)
