@@ -59,19 +59,19 @@ named limit paths (Add id tick) h m = h
 named limit paths (Remove side id tick) h m = h
 named limit paths (FastClose side tick) h m = h
 
--- one more path is no harm
-more_paths : (paths : ℕ) (rule : ScriptLine) → IsRule paths rule → IsRule (paths + 1) rule
-more_paths paths (Drop path from number) h = (omega (arith, h.0), h.1)
-more_paths paths (Strip path from number) h = (omega (arith, h.0), h.1)
-more_paths paths (Alter path from number) h = (omega (arith, h.0), h.1)
-more_paths paths (Dup path from number ticks) h = (omega (arith, h.0), h.1, h.2)
-more_paths paths (Late path from number ticks) h = (omega (arith, h.0), h.1, h.2)
-more_paths paths (StripAll path from tick) h = (omega (arith, h.0), h.1)
-more_paths paths (Die path tick) h = (omega (arith, h.0), h.1)
-more_paths paths (Prio path side tick on) h = (omega (arith, h.0), h.1)
-more_paths paths (Add id tick) h = h
-more_paths paths (Remove side id tick) h = h
-more_paths paths (FastClose side tick) h = h
+-- more paths are no harm
+pub wider : (paths more : ℕ) (rule : ScriptLine) → paths ≤ more → IsRule paths rule → IsRule more rule
+wider paths more (Drop path from number) le h = (omega (arith, h.0), h.1)
+wider paths more (Strip path from number) le h = (omega (arith, h.0), h.1)
+wider paths more (Alter path from number) le h = (omega (arith, h.0), h.1)
+wider paths more (Dup path from number ticks) le h = (omega (arith, h.0), h.1, h.2)
+wider paths more (Late path from number ticks) le h = (omega (arith, h.0), h.1, h.2)
+wider paths more (StripAll path from tick) le h = (omega (arith, h.0), h.1)
+wider paths more (Die path tick) le h = (omega (arith, h.0), h.1)
+wider paths more (Prio path side tick on) le h = (omega (arith, h.0), h.1)
+wider paths more (Add id tick) le h = h
+wider paths more (Remove side id tick) le h = h
+wider paths more (FastClose side tick) le h = h
 
 each_apart : (rules : List ScriptLine) (rule : ScriptLine) → list_any (λ r. settle_one (Rule r) (Rule rule)) rules ≡ false → (k : ℕ) (d : ScriptLine) → k < length rules → SettleApart (get_or rules k d) rule
 each_apart [] rule h k d lt = absurd (omega arith)
@@ -85,7 +85,7 @@ rules_more paths rules rule k h new = record {
 }
 
 rules_wider : (paths : ℕ) (rules : List ScriptLine) → RulesKept paths rules → RulesKept (paths + 1) rules
-rules_wider paths rules k = record { ranges = All-weaker (IsRule paths) (IsRule (paths + 1)) (more_paths paths) rules k.ranges; apart = k.apart }
+rules_wider paths rules k = record { ranges = All-weaker (IsRule paths) (IsRule (paths + 1)) (λ rule. wider paths (paths + 1) rule (omega arith)) rules k.ranges; apart = k.apart }
 
 -- ---- a script
 

@@ -9,3 +9,4 @@ pub mod Sound
 pub mod Spelled
 pub mod Again
 pub mod Placed
+pub mod RoundTrip

@@ -4,6 +4,7 @@ use Rattle.std.specs.Prelude.{count_by, map}
 use Rattle.std.specs.List.{list_any, AllByRecursion, AllPairs}
 use Rattle.std.proofs.lemmas.Bool.{or_parts, or_from, eq-eqb, ne_eqb, lt-leb, not_from_true}
 use Rattle.std.proofs.lemmas.List.{append-nil}
+use Rattle.std.proofs.lemmas.List.Elements.{recursion_from_All}
 use Rattle.std.proofs.lemmas.List.Folds.{list_any-append}
 use Rattle.std.proofs.lemmas.List.Sums.{sum_by-append}
 use Rattle.link_script.specs.declared.fault.ScriptKind.{ScriptKind}
@@ -16,7 +17,7 @@ use Rattle.link_script.specs.declared.script.ScriptLine.{ScriptLine}
 use Rattle.link_script.specs.declared.script.ScriptLine.TheVariants.{Drop, Strip, Alter, Dup, Late, StripAll, Die, Prio, Add, Remove, FastClose}
 use Rattle.link_script.specs.Places.{is_path, is_end, path_named, lacks, is_misplaced, is_out_of_order, settled_by, are_same, settle_one, is_repeated}
 use Rattle.link_script.specs.Reading.{in_place}
-use Rattle.link_script.specs.Scripts.{IsRule, SettleApart}
+use Rattle.link_script.specs.Scripts.{IsRule, SettleApart, HasRanges}
 use Rattle.link_script.specs.Writing.{seed_lines, checksum_lines, buffer_lines, path_lines, rule_lines}
 
 -- each line may stand after these and those before it
@@ -179,3 +180,61 @@ placed_rules paths (rule ∷ rules) seen some fit apart h =
       new = still_new seen rule rules h.new.1 apart.0;
     } in
     (placed seen (Rule rule) (or_from _ _ h.goes here) h.new.0, placed_rules paths rules (seen ++ Rule rule ∷ []) some fit.1 apart.1 more)
+
+all_new : (seen : List Line) (rules : List ScriptLine) → ((rule : ScriptLine) → is_repeated seen (Rule rule) ≡ false) → AllByRecursion (λ rule. is_repeated seen (Rule rule) ≡ false) rules
+all_new seen [] h = tt
+all_new seen (rule ∷ rules) h = (h rule, all_new seen rules h)
+
+all_apart : (rules : List ScriptLine) → AllPairs SettleApart rules → AreApart rules
+all_apart [] h = tt
+all_apart (rule ∷ rules) h =
+    (recursion_from_All (SettleApart rule) rules (λ k d lt. h 0 (suc k) d (omega arith) (omega arith)), all_apart rules (λ i j d lt l. h (suc i) (suc j) d (omega arith) (omega arith)))
+
+rules_go : (rules : List ScriptLine) → list_any is_end (rule_lines rules) ≡ false
+rules_go [] = refl
+rules_go (rule ∷ rules) = or_from _ _ refl (rules_go rules)
+
+rules_count : (rules : List ScriptLine) → count_by is_path (rule_lines rules) ≡ 0
+rules_count [] = refl
+rules_count (rule ∷ rules) = omega (arith, sum_by-append (λ l. cond (is_path l) 1 0) (Rule rule ∷ []) (rule_lines rules), rules_count rules)
+
+-- ---- all
+
+-- the lines behind the first
+abbrev pub later_lines : Script → List Line
+later_lines script = seed_lines script.seed ++ (checksum_lines script.checksum ++ (buffer_lines script.buffer ++ (path_lines 0 script.paths ++ (rule_lines script.lines ++ End ∷ []))))
+
+settings_first : (script : Script) (lines : List Line) → seed_lines script.seed ++ (checksum_lines script.checksum ++ (buffer_lines script.buffer ++ lines)) ≡ all_settings script ++ lines
+unfolding all_settings
+settings_first script lines = sym (simp append_assoc)
+
+before_settings : (script : Script) → Before ((Header ∷ []) ++ all_settings script) 0
+unfolding all_settings
+before_settings script =
+    before_append (Header ∷ []) (all_settings script) 0 0 0 before_header
+    (before_append (seed_lines script.seed) (checksum_lines script.checksum ++ buffer_lines script.buffer) 0 0 0 (before_seed script.seed) (before_append (checksum_lines script.checksum) (buffer_lines script.buffer) 0 0 0 (before_checksum script.checksum) (before_buffer script.buffer) refl) refl) refl
+
+end_placed : (seen : List Line) (paths : ℕ) (rules : List ScriptLine) → 0 < paths → list_any is_end seen ≡ false → count_by is_path seen ≡ paths → Placed (seen ++ rule_lines rules) (End ∷ [])
+end_placed seen paths rules some goes count =
+    let all = seen ++ rule_lines rules in
+    let none : count_by is_path all ≡ paths = omega (arith, sum_by-append (λ l. cond (is_path l) 1 0) seen (rule_lines rules), count, rules_count rules) in
+    let open_still : list_any is_end all ≡ false = list_any-append is_end seen (rule_lines rules) ∙ or_from _ _ goes (rules_go rules) in
+    let here : eqb (count_by is_path all) 0 ≡ false = ne_eqb (count_by is_path all) 0 (λ z. omega arith) in
+    (placed all End (or_from _ _ open_still here) (not_repeated all End refl), tt)
+
+pub placed_all : (script : Script) → HasRanges script → Placed (Header ∷ []) (later_lines script)
+placed_all script h =
+    let s = all_settings script in
+    let p = path_lines 0 script.paths in
+    let r = rule_lines script.lines in
+    let n = length script.paths in
+    let first = before_settings script in
+    let second = before_append ((Header ∷ []) ++ s) p 0 n n first (before_paths 0 script.paths) (omega arith) in
+    let seen : List Line = ((Header ∷ []) ++ s) ++ p in
+    let ready : Ready seen n script.lines = record { goes = second.goes; count = second.count; new = all_new seen script.lines second.apart } in
+    let rules = placed_rules n script.lines seen h.some_path (recursion_from_All (IsRule n) script.lines h.lines) (all_apart script.lines h.apart) ready in
+    let end = end_placed seen n script.lines h.some_path second.goes second.count in
+    subst (Placed (Header ∷ [])) (sym (settings_first script (p ++ (r ++ End ∷ []))))
+    (placed_append (Header ∷ []) s (p ++ (r ++ End ∷ [])) (placed_settings script)
+        (placed_append ((Header ∷ []) ++ s) p (r ++ End ∷ []) (placed_paths 0 script.paths ((Header ∷ []) ++ s) first)
+        (placed_append seen r (End ∷ []) rules end)))
