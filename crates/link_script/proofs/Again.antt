@@ -9,7 +9,7 @@ use Rattle.link_script.specs.declared.fault.ScriptKind.{ScriptKind}
 use Rattle.link_script.specs.declared.limits.Limits.{Limits}
 use Rattle.link_script.specs.declared.limits.TheConstants.{SEED, BUFFER, PATH, MSS, DELAY, SEGMENT, LATENESS, TICK, ADDRESS_ID}
 use Rattle.link_script.specs.declared.line.Line.{Line}
-use Rattle.link_script.specs.declared.line.Line.TheVariants.{Header, Seed, Checksum, Buffer, Path, Rule, End}
+use Rattle.link_script.specs.declared.line.Line.TheVariants.{Header, Seed, Checksum, Buffer, Path, Event, End}
 use Rattle.link_script.specs.declared.script.PathLine.{PathLine}
 use Rattle.link_script.specs.declared.script.ScriptLine.{ScriptLine}
 use Rattle.link_script.specs.declared.script.ScriptLine.TheVariants.{Drop, Strip, Alter, Dup, Late, StripAll, Die, Prio, Add, Remove, FastClose}
@@ -17,9 +17,9 @@ use Rattle.link_script.specs.declared.segment.Segment.{Segment}
 use Rattle.link_script.specs.declared.word.Keyword.TheVariants as first
 use Rattle.link_script.specs.Lines.{seed_line, checksum_line, buffer_line, path_options, may_have, path_of, path_line, segment, drop_line, strip_line, alter_line, dup_line, late_line, strip_all_line, die_line, prio_line, add_line, remove_line, fast_close_line, end_line, line_after, line_of}
 use Rattle.link_script.specs.Numbers.{within}
-use Rattle.link_script.specs.Scripts.{IsWithin, IsPath, IsRule}
+use Rattle.link_script.specs.Scripts.{IsWithin, IsPath, IsEvent}
 use Rattle.link_script.specs.Words.{fixed, keyword, direction, direction_word, side, side_word, switch, switch_word}
-use Rattle.link_script.specs.Writing.{join_words, backup_words, path_words, rule_words, line_words}
+use Rattle.link_script.specs.Writing.{join_words, backup_words, path_words, event_words, line_words}
 use Rattle.link_script.proofs.Ranges.{most_paths, IsLine}
 use Rattle.link_script.proofs.Spelled.{IsPlain, ArePlain, plain_number, number_again, later_path}
 
@@ -72,32 +72,32 @@ segment_again : (path : ℕ) (from : Side) (number : ℕ) → path < most_paths 
 unfolding segment
 segment_again path from number h n = rw (direction_again from, path_again path h, again SEGMENT number (omega arith) n) refl
 
-rule_again : (rule : ScriptLine) → IsRule most_paths rule → line_of (rule_words rule) ≡ Ok (Rule rule)
+event_again : (event : ScriptLine) → IsEvent most_paths event → line_of (event_words event) ≡ Ok (Event event)
 unfolding line_of keyword drop_line strip_line alter_line dup_line late_line strip_all_line die_line prio_line add_line fixed remove_line fast_close_line
-rule_again (Drop path from number) h = rw (segment_again path from number h.0 h.1) refl
-rule_again (Strip path from number) h = rw (segment_again path from number h.0 h.1) refl
-rule_again (Alter path from number) h = rw (segment_again path from number h.0 h.1) refl
-rule_again (Dup path from number ticks) h = rw (segment_again path from number h.0 h.1, again LATENESS ticks (omega arith) h.2) refl
-rule_again (Late path from number ticks) h = rw (segment_again path from number h.0 h.1, again LATENESS ticks (omega arith) h.2) refl
-rule_again (StripAll path from tick) h = rw (direction_again from, path_again path h.0, again TICK tick (omega arith) h.1) refl
-rule_again (Die path tick) h = rw (path_again path h.0, again TICK tick (omega arith) h.1) refl
-rule_again (Prio path which tick on) h = rw (side_again which, switch_again on, path_again path h.0, again TICK tick (omega arith) h.1) refl
-rule_again (Add id tick) h = rw (again ADDRESS_ID id (omega arith) h.0, again TICK tick (omega arith) h.1) refl
-rule_again (Remove which id tick) h = rw (side_again which, again ADDRESS_ID id (omega arith) h.0, again TICK tick (omega arith) h.1) refl
-rule_again (FastClose which tick) h = rw (side_again which, again TICK tick (omega arith) h) refl
+event_again (Drop path from number) h = rw (segment_again path from number h.0 h.1) refl
+event_again (Strip path from number) h = rw (segment_again path from number h.0 h.1) refl
+event_again (Alter path from number) h = rw (segment_again path from number h.0 h.1) refl
+event_again (Dup path from number ticks) h = rw (segment_again path from number h.0 h.1, again LATENESS ticks (omega arith) h.2) refl
+event_again (Late path from number ticks) h = rw (segment_again path from number h.0 h.1, again LATENESS ticks (omega arith) h.2) refl
+event_again (StripAll path from tick) h = rw (direction_again from, path_again path h.0, again TICK tick (omega arith) h.1) refl
+event_again (Die path tick) h = rw (path_again path h.0, again TICK tick (omega arith) h.1) refl
+event_again (Prio path which tick on) h = rw (side_again which, switch_again on, path_again path h.0, again TICK tick (omega arith) h.1) refl
+event_again (Add id tick) h = rw (again ADDRESS_ID id (omega arith) h.0, again TICK tick (omega arith) h.1) refl
+event_again (Remove which id tick) h = rw (side_again which, again ADDRESS_ID id (omega arith) h.0, again TICK tick (omega arith) h.1) refl
+event_again (FastClose which tick) h = rw (side_again which, again TICK tick (omega arith) h) refl
 
-plain_rule : (rule : ScriptLine) → IsRule most_paths rule → ArePlain (rule_words rule)
-plain_rule (Drop path from number) h = (refl, (plain_path path h.0, (plain_direction from, (plain_within SEGMENT number (omega arith) h.1, tt))))
-plain_rule (Strip path from number) h = (refl, (plain_path path h.0, (plain_direction from, (plain_within SEGMENT number (omega arith) h.1, tt))))
-plain_rule (Alter path from number) h = (refl, (plain_path path h.0, (plain_direction from, (plain_within SEGMENT number (omega arith) h.1, tt))))
-plain_rule (Dup path from number ticks) h = (refl, (plain_path path h.0, (plain_direction from, (plain_within SEGMENT number (omega arith) h.1, (plain_within LATENESS ticks (omega arith) h.2, tt)))))
-plain_rule (Late path from number ticks) h = (refl, (plain_path path h.0, (plain_direction from, (plain_within SEGMENT number (omega arith) h.1, (plain_within LATENESS ticks (omega arith) h.2, tt)))))
-plain_rule (StripAll path from tick) h = (refl, (plain_path path h.0, (plain_direction from, (plain_within TICK tick (omega arith) h.1, tt))))
-plain_rule (Die path tick) h = (refl, (plain_path path h.0, (plain_within TICK tick (omega arith) h.1, tt)))
-plain_rule (Prio path which tick on) h = (refl, (plain_path path h.0, (plain_side which, (plain_within TICK tick (omega arith) h.1, (plain_switch on, tt)))))
-plain_rule (Add id tick) h = (refl, (refl, (plain_within ADDRESS_ID id (omega arith) h.0, (plain_within TICK tick (omega arith) h.1, tt))))
-plain_rule (Remove which id tick) h = (refl, (plain_side which, (plain_within ADDRESS_ID id (omega arith) h.0, (plain_within TICK tick (omega arith) h.1, tt))))
-plain_rule (FastClose which tick) h = (refl, (plain_side which, (plain_within TICK tick (omega arith) h, tt)))
+plain_event : (event : ScriptLine) → IsEvent most_paths event → ArePlain (event_words event)
+plain_event (Drop path from number) h = (refl, (plain_path path h.0, (plain_direction from, (plain_within SEGMENT number (omega arith) h.1, tt))))
+plain_event (Strip path from number) h = (refl, (plain_path path h.0, (plain_direction from, (plain_within SEGMENT number (omega arith) h.1, tt))))
+plain_event (Alter path from number) h = (refl, (plain_path path h.0, (plain_direction from, (plain_within SEGMENT number (omega arith) h.1, tt))))
+plain_event (Dup path from number ticks) h = (refl, (plain_path path h.0, (plain_direction from, (plain_within SEGMENT number (omega arith) h.1, (plain_within LATENESS ticks (omega arith) h.2, tt)))))
+plain_event (Late path from number ticks) h = (refl, (plain_path path h.0, (plain_direction from, (plain_within SEGMENT number (omega arith) h.1, (plain_within LATENESS ticks (omega arith) h.2, tt)))))
+plain_event (StripAll path from tick) h = (refl, (plain_path path h.0, (plain_direction from, (plain_within TICK tick (omega arith) h.1, tt))))
+plain_event (Die path tick) h = (refl, (plain_path path h.0, (plain_within TICK tick (omega arith) h.1, tt)))
+plain_event (Prio path which tick on) h = (refl, (plain_path path h.0, (plain_side which, (plain_within TICK tick (omega arith) h.1, (plain_switch on, tt)))))
+plain_event (Add id tick) h = (refl, (refl, (plain_within ADDRESS_ID id (omega arith) h.0, (plain_within TICK tick (omega arith) h.1, tt))))
+plain_event (Remove which id tick) h = (refl, (plain_side which, (plain_within ADDRESS_ID id (omega arith) h.0, (plain_within TICK tick (omega arith) h.1, tt))))
+plain_event (FastClose which tick) h = (refl, (plain_side which, (plain_within TICK tick (omega arith) h, tt)))
 
 -- ---- the lines of paths
 
@@ -161,7 +161,7 @@ line_again (Seed n) h later = rw (again SEED n (omega arith) h) refl
 line_again (Checksum on) h later = rw (switch_again on) refl
 line_again (Buffer octets) h later = rw (again BUFFER octets (omega arith) h) refl
 line_again (Path index path) h later = path_line_again index path h
-line_again (Rule rule) h later = rule_again rule h
+line_again (Event event) h later = event_again event h
 line_again End h later = refl
 
 pub plain_line : (line : Line) → IsLine line → ArePlain (line_words line)
@@ -170,5 +170,5 @@ plain_line (Seed n) h = (refl, (plain_within SEED n (omega arith) h, tt))
 plain_line (Checksum on) h = (refl, (plain_switch on, tt))
 plain_line (Buffer octets) h = (refl, (plain_within BUFFER octets (omega arith) h, tt))
 plain_line (Path index path) h = plain_path_words index path h
-plain_line (Rule rule) h = plain_rule rule h
+plain_line (Event event) h = plain_event event h
 plain_line End h = (refl, tt)

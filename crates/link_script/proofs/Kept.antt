@@ -10,15 +10,15 @@ use Rattle.std.proofs.lemmas.List.Quantifiers.{all_pairs_push}
 use Rattle.std.proofs.lemmas.List.Sums.{fold-append, sum_by-append}
 use Rattle.link_script.specs.declared.limits.TheConstants.{MAX_LINES, SEED, BUFFER, DEFAULT_SEED, DEFAULT_BUFFER}
 use Rattle.link_script.specs.declared.line.Line.{Line}
-use Rattle.link_script.specs.declared.line.Line.TheVariants.{Header, Seed, Checksum, Buffer, Path, Rule, End}
+use Rattle.link_script.specs.declared.line.Line.TheVariants.{Header, Seed, Checksum, Buffer, Path, Event, End}
 use Rattle.link_script.specs.declared.script.PathLine.{PathLine}
 use Rattle.link_script.specs.declared.script.Script.{Script}
 use Rattle.link_script.specs.declared.script.ScriptLine.{ScriptLine}
 use Rattle.link_script.specs.declared.script.ScriptLine.TheVariants.{Drop, Strip, Alter, Dup, Late, StripAll, Die, Prio, Add, Remove, FastClose}
 use Rattle.link_script.specs.Places.{is_path, is_end, path_named, lacks, is_misplaced, settle_one}
 use Rattle.link_script.specs.Reading.{blank, with_line, script_of}
-use Rattle.link_script.specs.Scripts.{IsWithin, IsPath, OpensPlainly, IsRule, SettleApart}
-use Rattle.link_script.specs.Writing.{seed_lines, checksum_lines, buffer_lines, path_lines, rule_lines, lines_of}
+use Rattle.link_script.specs.Scripts.{IsWithin, IsPath, OpensPlainly, IsEvent, SettleApart}
+use Rattle.link_script.specs.Writing.{seed_lines, checksum_lines, buffer_lines, path_lines, event_lines, lines_of}
 use Rattle.link_script.proofs.Ranges.{most_paths, IsLine}
 
 -- ---- paths
@@ -41,12 +41,12 @@ paths_more index path paths k h at = record {
 
 -- ---- lines
 
-pub record RulesKept (paths : ℕ) (rules : List ScriptLine) : Type 0 where
-  pub ranges : All (IsRule paths) rules
-  pub apart : AllPairs SettleApart rules
+pub record EventsKept (paths : ℕ) (events : List ScriptLine) : Type 0 where
+  pub ranges : All (IsEvent paths) events
+  pub apart : AllPairs SettleApart events
 
 -- a line that has its ranges speaks of a path that is there, where it isn't misplaced
-named : (limit paths : ℕ) (rule : ScriptLine) → IsRule limit rule → lacks paths (path_named rule) ≡ false → IsRule paths rule
+named : (limit paths : ℕ) (event : ScriptLine) → IsEvent limit event → lacks paths (path_named event) ≡ false → IsEvent paths event
 named limit paths (Drop path from number) h m = (leb-false paths path m, h.1)
 named limit paths (Strip path from number) h m = (leb-false paths path m, h.1)
 named limit paths (Alter path from number) h m = (leb-false paths path m, h.1)
@@ -60,7 +60,7 @@ named limit paths (Remove side id tick) h m = h
 named limit paths (FastClose side tick) h m = h
 
 -- more paths are no harm
-pub wider : (paths more : ℕ) (rule : ScriptLine) → paths ≤ more → IsRule paths rule → IsRule more rule
+pub wider : (paths more : ℕ) (event : ScriptLine) → paths ≤ more → IsEvent paths event → IsEvent more event
 wider paths more (Drop path from number) le h = (omega (arith, h.0), h.1)
 wider paths more (Strip path from number) le h = (omega (arith, h.0), h.1)
 wider paths more (Alter path from number) le h = (omega (arith, h.0), h.1)
@@ -73,19 +73,19 @@ wider paths more (Add id tick) le h = h
 wider paths more (Remove side id tick) le h = h
 wider paths more (FastClose side tick) le h = h
 
-each_apart : (rules : List ScriptLine) (rule : ScriptLine) → list_any (λ r. settle_one (Rule r) (Rule rule)) rules ≡ false → (k : ℕ) (d : ScriptLine) → k < length rules → SettleApart (get_or rules k d) rule
-each_apart [] rule h k d lt = absurd (omega arith)
-each_apart (r ∷ rules) rule h zero d lt = (or_parts _ _ h).0
-each_apart (r ∷ rules) rule h (suc k) d lt = each_apart rules rule (or_parts _ _ h).1 k d (omega arith)
+each_apart : (events : List ScriptLine) (event : ScriptLine) → list_any (λ r. settle_one (Event r) (Event event)) events ≡ false → (k : ℕ) (d : ScriptLine) → k < length events → SettleApart (get_or events k d) event
+each_apart [] event h k d lt = absurd (omega arith)
+each_apart (r ∷ events) event h zero d lt = (or_parts _ _ h).0
+each_apart (r ∷ events) event h (suc k) d lt = each_apart events event (or_parts _ _ h).1 k d (omega arith)
 
-rules_more : (paths : ℕ) (rules : List ScriptLine) (rule : ScriptLine) → RulesKept paths rules → IsRule paths rule → list_any (λ r. settle_one (Rule r) (Rule rule)) rules ≡ false → RulesKept paths (rules ++ rule ∷ [])
-rules_more paths rules rule k h new = record {
-  ranges = All-push (IsRule paths) rules rule k.ranges h;
-  apart = all_pairs_push SettleApart rules rule k.apart (each_apart rules rule new);
+events_more : (paths : ℕ) (events : List ScriptLine) (event : ScriptLine) → EventsKept paths events → IsEvent paths event → list_any (λ r. settle_one (Event r) (Event event)) events ≡ false → EventsKept paths (events ++ event ∷ [])
+events_more paths events event k h new = record {
+  ranges = All-push (IsEvent paths) events event k.ranges h;
+  apart = all_pairs_push SettleApart events event k.apart (each_apart events event new);
 }
 
-rules_wider : (paths : ℕ) (rules : List ScriptLine) → RulesKept paths rules → RulesKept (paths + 1) rules
-rules_wider paths rules k = record { ranges = All-weaker (IsRule paths) (IsRule (paths + 1)) (λ rule. wider paths (paths + 1) rule (omega arith)) rules k.ranges; apart = k.apart }
+events_wider : (paths : ℕ) (events : List ScriptLine) → EventsKept paths events → EventsKept (paths + 1) events
+events_wider paths events k = record { ranges = All-weaker (IsEvent paths) (IsEvent (paths + 1)) (λ event. wider paths (paths + 1) event (omega arith)) events k.ranges; apart = k.apart }
 
 -- ---- a script
 
@@ -93,35 +93,35 @@ pub record Kept (script : Script) : Type 0 where
   pub seed : IsWithin SEED script.seed
   pub buffer : IsWithin BUFFER script.buffer
   pub paths : PathsKept script.paths
-  pub rules : RulesKept (length script.paths) script.lines
+  pub events : EventsKept (length script.paths) script.lines
 
 pub kept_blank : Kept blank
 kept_blank = record {
   seed = record { least = omega arith; most = omega arith };
   buffer = record { least = omega arith; most = omega arith };
   paths = record { few = omega arith; ranges = All-nil IsPath; first = tt };
-  rules = record { ranges = All-nil (IsRule 0); apart = λ i j d lt l. absurd (omega arith) };
+  events = record { ranges = All-nil (IsEvent 0); apart = λ i j d lt l. absurd (omega arith) };
 }
 
 -- what a script doesn't settle yet
 abbrev pub IsNew : Script → Line → Type 0
-IsNew script line = list_any (λ r. settle_one (Rule r) line) script.lines ≡ false
+IsNew script line = list_any (λ r. settle_one (Event r) line) script.lines ≡ false
 
 pub kept_more : (script : Script) (line : Line) → Kept script → IsLine line → is_misplaced (length script.paths) line ≡ false → IsNew script line → Kept (with_line script line)
 kept_more script Header k h m new = k
-kept_more script (Seed n) k h m new = record { seed = h; buffer = k.buffer; paths = k.paths; rules = k.rules }
-kept_more script (Checksum on) k h m new = record { seed = k.seed; buffer = k.buffer; paths = k.paths; rules = k.rules }
-kept_more script (Buffer octets) k h m new = record { seed = k.seed; buffer = h; paths = k.paths; rules = k.rules }
+kept_more script (Seed n) k h m new = record { seed = h; buffer = k.buffer; paths = k.paths; events = k.events }
+kept_more script (Checksum on) k h m new = record { seed = k.seed; buffer = k.buffer; paths = k.paths; events = k.events }
+kept_more script (Buffer octets) k h m new = record { seed = k.seed; buffer = h; paths = k.paths; events = k.events }
 kept_more script (Path index path) k h m new = record {
   seed = k.seed;
   buffer = k.buffer;
   paths = paths_more index path script.paths k.paths h (eqb-true _ _ (not-false _ m));
-  rules = subst (λ (n : ℕ). RulesKept n script.lines) (sym (length_push script.paths path)) (rules_wider (length script.paths) script.lines k.rules);
+  events = subst (λ (n : ℕ). EventsKept n script.lines) (sym (length_push script.paths path)) (events_wider (length script.paths) script.lines k.events);
 }
-kept_more script (Rule rule) k h m new = record {
+kept_more script (Event event) k h m new = record {
   seed = k.seed;
   buffer = k.buffer;
   paths = k.paths;
-  rules = rules_more (length script.paths) script.lines rule k.rules (named most_paths (length script.paths) rule h m) new;
+  events = events_more (length script.paths) script.lines event k.events (named most_paths (length script.paths) event h m) new;
 }
 kept_more script End k h m new = k

@@ -9,7 +9,7 @@ use Rattle.std.proofs.lemmas.List.Folds.{list_any-append}
 use Rattle.std.proofs.lemmas.List.Sums.{sum_by-append}
 use Rattle.link_script.specs.declared.fault.ScriptKind.{ScriptKind}
 use Rattle.link_script.specs.declared.line.Line.{Line}
-use Rattle.link_script.specs.declared.line.Line.TheVariants.{Header, Seed, Checksum, Buffer, Path, Rule, End}
+use Rattle.link_script.specs.declared.line.Line.TheVariants.{Header, Seed, Checksum, Buffer, Path, Event, End}
 use Rattle.link_script.specs.declared.place.Subject.{Subject}
 use Rattle.link_script.specs.declared.script.PathLine.{PathLine}
 use Rattle.link_script.specs.declared.script.Script.{Script}
@@ -17,8 +17,8 @@ use Rattle.link_script.specs.declared.script.ScriptLine.{ScriptLine}
 use Rattle.link_script.specs.declared.script.ScriptLine.TheVariants.{Drop, Strip, Alter, Dup, Late, StripAll, Die, Prio, Add, Remove, FastClose}
 use Rattle.link_script.specs.Places.{is_path, is_end, path_named, lacks, is_misplaced, is_out_of_order, settled_by, are_same, settle_one, is_repeated}
 use Rattle.link_script.specs.Reading.{in_place}
-use Rattle.link_script.specs.Scripts.{IsRule, SettleApart, HasRanges}
-use Rattle.link_script.specs.Writing.{seed_lines, checksum_lines, buffer_lines, path_lines, rule_lines}
+use Rattle.link_script.specs.Scripts.{IsEvent, SettleApart, HasRanges}
+use Rattle.link_script.specs.Writing.{seed_lines, checksum_lines, buffer_lines, path_lines, event_lines}
 
 -- each line may stand after these and those before it
 abbrev pub Placed : List Line → List Line → Type 0
@@ -35,53 +35,53 @@ placed seen line o r = rw (o, r) refl
 
 -- ---- what stands before
 
--- a line that settles nothing that a rule may settle
+-- a line that settles nothing that a event may settle
 abbrev IsApart : Line → Type 0
-IsApart line = (rule : ScriptLine) → settle_one line (Rule rule) ≡ false
+IsApart line = (event : ScriptLine) → settle_one line (Event event) ≡ false
 
--- no end yet, so many paths, and no rule
+-- no end yet, so many paths, and no event
 pub record Before (seen : List Line) (paths : ℕ) : Type 0 where
   pub goes : list_any is_end seen ≡ false
   pub count : count_by is_path seen ≡ paths
-  pub apart : (rule : ScriptLine) → is_repeated seen (Rule rule) ≡ false
+  pub apart : (event : ScriptLine) → is_repeated seen (Event event) ≡ false
 
 pub before_append : (xs ys : List Line) (a b n : ℕ) → Before xs a → Before ys b → a + b ≡ n → Before (xs ++ ys) n
 before_append xs ys a b n p q e = record {
   goes = list_any-append is_end xs ys ∙ or_from _ _ p.goes q.goes;
   count = omega (arith, sum_by-append (λ l. cond (is_path l) 1 0) xs ys, p.count, q.count);
-  apart = λ rule. list_any-append (λ l. settle_one l (Rule rule)) xs ys ∙ or_from _ _ (p.apart rule) (q.apart rule);
+  apart = λ event. list_any-append (λ l. settle_one l (Event event)) xs ys ∙ or_from _ _ (p.apart event) (q.apart event);
 }
 
 none_before : Before [] 0
-none_before = record { goes = refl; count = refl; apart = λ rule. refl }
+none_before = record { goes = refl; count = refl; apart = λ event. refl }
 
 one_before : (line : Line) (paths : ℕ) → is_end line ≡ false → count_by is_path (line ∷ []) ≡ paths → IsApart line → Before (line ∷ []) paths
 one_before line paths goes count apart = record {
   goes = or_from _ _ goes refl;
   count = count;
-  apart = λ rule. or_from _ _ (apart rule) refl;
+  apart = λ event. or_from _ _ (apart event) refl;
 }
 
 -- ---- settings
 
 seed_apart : (n : ℕ) → IsApart (Seed n)
 seed_apart n (Drop path from number) = refl
-seed_apart n rule = refl
+seed_apart n event = refl
 
 checksum_apart : (on : Bool) → IsApart (Checksum on)
 checksum_apart on (Drop path from number) = refl
-checksum_apart on rule = refl
+checksum_apart on event = refl
 
 buffer_apart : (octets : ℕ) → IsApart (Buffer octets)
 buffer_apart octets (Drop path from number) = refl
-buffer_apart octets rule = refl
+buffer_apart octets event = refl
 
 either_before : (b : Bool) (line : Line) → Before (line ∷ []) 0 → Before (cond b [] (line ∷ [])) 0
 either_before true line h = none_before
 either_before false line h = h
 
 pub before_header : Before (Header ∷ []) 0
-before_header = one_before Header 0 refl refl (λ rule. refl)
+before_header = one_before Header 0 refl refl (λ event. refl)
 
 pub before_seed : (n : ℕ) → Before (seed_lines n) 0
 before_seed n = either_before (eqb n 1) (Seed n) (one_before (Seed n) 0 refl refl (seed_apart n))
@@ -129,18 +129,18 @@ not_repeated (first ∷ seen) line h =
 pub before_paths : (index : ℕ) (paths : List PathLine) → Before (path_lines index paths) (length paths)
 before_paths index [] = none_before
 before_paths index (path ∷ paths) =
-    before_append (Path index path ∷ []) (path_lines (suc index) paths) 1 (length paths) (suc (length paths)) (one_before (Path index path) 1 refl refl (λ rule. refl)) (before_paths (suc index) paths) (omega arith)
+    before_append (Path index path ∷ []) (path_lines (suc index) paths) 1 (length paths) (suc (length paths)) (one_before (Path index path) 1 refl refl (λ event. refl)) (before_paths (suc index) paths) (omega arith)
 
 pub placed_paths : (index : ℕ) (paths : List PathLine) (seen : List Line) → Before seen index → Placed seen (path_lines index paths)
 placed_paths index [] seen h = tt
 placed_paths index (path ∷ paths) seen h =
     let next : not (eqb index (count_by is_path seen)) ≡ false = not_from_true _ (eq-eqb index (count_by is_path seen) (sym h.count)) in
-    let more = before_append seen (Path index path ∷ []) index 1 (suc index) h (one_before (Path index path) 1 refl refl (λ rule. refl)) (omega arith) in
+    let more = before_append seen (Path index path ∷ []) index 1 (suc index) h (one_before (Path index path) 1 refl refl (λ event. refl)) (omega arith) in
     (placed seen (Path index path) (or_from _ _ h.goes next) (not_repeated seen (Path index path) refl), placed_paths (suc index) paths (seen ++ Path index path ∷ []) more)
 
--- ---- rules
+-- ---- events
 
-there : (paths : ℕ) (rule : ScriptLine) → 0 < paths → IsRule paths rule → lacks paths (path_named rule) ≡ false
+there : (paths : ℕ) (event : ScriptLine) → 0 < paths → IsEvent paths event → lacks paths (path_named event) ≡ false
 there paths (Drop path from number) some h = lt-leb paths path h.0
 there paths (Strip path from number) some h = lt-leb paths path h.0
 there paths (Alter path from number) some h = lt-leb paths path h.0
@@ -153,56 +153,56 @@ there paths (Add id tick) some h = ne_eqb paths 0 (λ z. omega arith)
 there paths (Remove side id tick) some h = ne_eqb paths 0 (λ z. omega arith)
 there paths (FastClose side tick) some h = ne_eqb paths 0 (λ z. omega arith)
 
--- what stands before a rule
-record Ready (seen : List Line) (paths : ℕ) (rules : List ScriptLine) : Type 0 where
+-- what stands before a event
+record Ready (seen : List Line) (paths : ℕ) (events : List ScriptLine) : Type 0 where
   goes : list_any is_end seen ≡ false
   count : count_by is_path seen ≡ paths
-  new : AllByRecursion (λ rule. is_repeated seen (Rule rule) ≡ false) rules
+  new : AllByRecursion (λ event. is_repeated seen (Event event) ≡ false) events
 
--- each rule is apart from those behind it
+-- each event is apart from those behind it
 abbrev AreApart : List ScriptLine → Type 0
 AreApart [] = Unit {0}
-AreApart (rule ∷ rules) = AllByRecursion (SettleApart rule) rules × AreApart rules
+AreApart (event ∷ events) = AllByRecursion (SettleApart event) events × AreApart events
 
-still_new : (seen : List Line) (rule : ScriptLine) (rules : List ScriptLine) → AllByRecursion (λ r. is_repeated seen (Rule r) ≡ false) rules → AllByRecursion (SettleApart rule) rules
-    → AllByRecursion (λ r. is_repeated (seen ++ Rule rule ∷ []) (Rule r) ≡ false) rules
-still_new seen rule [] h apart = tt
-still_new seen rule (r ∷ rules) h apart =
-    (list_any-append (λ l. settle_one l (Rule r)) seen (Rule rule ∷ []) ∙ or_from _ _ h.0 (or_from _ _ apart.0 refl), still_new seen rule rules h.1 apart.1)
+still_new : (seen : List Line) (event : ScriptLine) (events : List ScriptLine) → AllByRecursion (λ r. is_repeated seen (Event r) ≡ false) events → AllByRecursion (SettleApart event) events
+    → AllByRecursion (λ r. is_repeated (seen ++ Event event ∷ []) (Event r) ≡ false) events
+still_new seen event [] h apart = tt
+still_new seen event (r ∷ events) h apart =
+    (list_any-append (λ l. settle_one l (Event r)) seen (Event event ∷ []) ∙ or_from _ _ h.0 (or_from _ _ apart.0 refl), still_new seen event events h.1 apart.1)
 
-placed_rules : (paths : ℕ) (rules : List ScriptLine) (seen : List Line) → 0 < paths → AllByRecursion (IsRule paths) rules → AreApart rules → Ready seen paths rules → Placed seen (rule_lines rules)
-placed_rules paths [] seen some fit apart h = tt
-placed_rules paths (rule ∷ rules) seen some fit apart h =
-    let here : lacks (count_by is_path seen) (path_named rule) ≡ false = ap (λ (n : ℕ). lacks n (path_named rule)) h.count ∙ there paths rule some fit.0 in
-    let more : Ready (seen ++ Rule rule ∷ []) paths rules = record {
-      goes = list_any-append is_end seen (Rule rule ∷ []) ∙ or_from _ _ h.goes refl;
-      count = omega (arith, sum_by-append (λ l. cond (is_path l) 1 0) seen (Rule rule ∷ []), h.count);
-      new = still_new seen rule rules h.new.1 apart.0;
+placed_events : (paths : ℕ) (events : List ScriptLine) (seen : List Line) → 0 < paths → AllByRecursion (IsEvent paths) events → AreApart events → Ready seen paths events → Placed seen (event_lines events)
+placed_events paths [] seen some fit apart h = tt
+placed_events paths (event ∷ events) seen some fit apart h =
+    let here : lacks (count_by is_path seen) (path_named event) ≡ false = ap (λ (n : ℕ). lacks n (path_named event)) h.count ∙ there paths event some fit.0 in
+    let more : Ready (seen ++ Event event ∷ []) paths events = record {
+      goes = list_any-append is_end seen (Event event ∷ []) ∙ or_from _ _ h.goes refl;
+      count = omega (arith, sum_by-append (λ l. cond (is_path l) 1 0) seen (Event event ∷ []), h.count);
+      new = still_new seen event events h.new.1 apart.0;
     } in
-    (placed seen (Rule rule) (or_from _ _ h.goes here) h.new.0, placed_rules paths rules (seen ++ Rule rule ∷ []) some fit.1 apart.1 more)
+    (placed seen (Event event) (or_from _ _ h.goes here) h.new.0, placed_events paths events (seen ++ Event event ∷ []) some fit.1 apart.1 more)
 
-all_new : (seen : List Line) (rules : List ScriptLine) → ((rule : ScriptLine) → is_repeated seen (Rule rule) ≡ false) → AllByRecursion (λ rule. is_repeated seen (Rule rule) ≡ false) rules
+all_new : (seen : List Line) (events : List ScriptLine) → ((event : ScriptLine) → is_repeated seen (Event event) ≡ false) → AllByRecursion (λ event. is_repeated seen (Event event) ≡ false) events
 all_new seen [] h = tt
-all_new seen (rule ∷ rules) h = (h rule, all_new seen rules h)
+all_new seen (event ∷ events) h = (h event, all_new seen events h)
 
-all_apart : (rules : List ScriptLine) → AllPairs SettleApart rules → AreApart rules
+all_apart : (events : List ScriptLine) → AllPairs SettleApart events → AreApart events
 all_apart [] h = tt
-all_apart (rule ∷ rules) h =
-    (recursion_from_All (SettleApart rule) rules (λ k d lt. h 0 (suc k) d (omega arith) (omega arith)), all_apart rules (λ i j d lt l. h (suc i) (suc j) d (omega arith) (omega arith)))
+all_apart (event ∷ events) h =
+    (recursion_from_All (SettleApart event) events (λ k d lt. h 0 (suc k) d (omega arith) (omega arith)), all_apart events (λ i j d lt l. h (suc i) (suc j) d (omega arith) (omega arith)))
 
-rules_go : (rules : List ScriptLine) → list_any is_end (rule_lines rules) ≡ false
-rules_go [] = refl
-rules_go (rule ∷ rules) = or_from _ _ refl (rules_go rules)
+events_go : (events : List ScriptLine) → list_any is_end (event_lines events) ≡ false
+events_go [] = refl
+events_go (event ∷ events) = or_from _ _ refl (events_go events)
 
-rules_count : (rules : List ScriptLine) → count_by is_path (rule_lines rules) ≡ 0
-rules_count [] = refl
-rules_count (rule ∷ rules) = omega (arith, sum_by-append (λ l. cond (is_path l) 1 0) (Rule rule ∷ []) (rule_lines rules), rules_count rules)
+events_count : (events : List ScriptLine) → count_by is_path (event_lines events) ≡ 0
+events_count [] = refl
+events_count (event ∷ events) = omega (arith, sum_by-append (λ l. cond (is_path l) 1 0) (Event event ∷ []) (event_lines events), events_count events)
 
 -- ---- all
 
 -- the lines behind the first
 abbrev pub later_lines : Script → List Line
-later_lines script = seed_lines script.seed ++ (checksum_lines script.checksum ++ (buffer_lines script.buffer ++ (path_lines 0 script.paths ++ (rule_lines script.lines ++ End ∷ []))))
+later_lines script = seed_lines script.seed ++ (checksum_lines script.checksum ++ (buffer_lines script.buffer ++ (path_lines 0 script.paths ++ (event_lines script.lines ++ End ∷ []))))
 
 settings_first : (script : Script) (lines : List Line) → seed_lines script.seed ++ (checksum_lines script.checksum ++ (buffer_lines script.buffer ++ lines)) ≡ all_settings script ++ lines
 unfolding all_settings
@@ -214,11 +214,11 @@ before_settings script =
     before_append (Header ∷ []) (all_settings script) 0 0 0 before_header
     (before_append (seed_lines script.seed) (checksum_lines script.checksum ++ buffer_lines script.buffer) 0 0 0 (before_seed script.seed) (before_append (checksum_lines script.checksum) (buffer_lines script.buffer) 0 0 0 (before_checksum script.checksum) (before_buffer script.buffer) refl) refl) refl
 
-end_placed : (seen : List Line) (paths : ℕ) (rules : List ScriptLine) → 0 < paths → list_any is_end seen ≡ false → count_by is_path seen ≡ paths → Placed (seen ++ rule_lines rules) (End ∷ [])
-end_placed seen paths rules some goes count =
-    let all = seen ++ rule_lines rules in
-    let none : count_by is_path all ≡ paths = omega (arith, sum_by-append (λ l. cond (is_path l) 1 0) seen (rule_lines rules), count, rules_count rules) in
-    let open_still : list_any is_end all ≡ false = list_any-append is_end seen (rule_lines rules) ∙ or_from _ _ goes (rules_go rules) in
+end_placed : (seen : List Line) (paths : ℕ) (events : List ScriptLine) → 0 < paths → list_any is_end seen ≡ false → count_by is_path seen ≡ paths → Placed (seen ++ event_lines events) (End ∷ [])
+end_placed seen paths events some goes count =
+    let all = seen ++ event_lines events in
+    let none : count_by is_path all ≡ paths = omega (arith, sum_by-append (λ l. cond (is_path l) 1 0) seen (event_lines events), count, events_count events) in
+    let open_still : list_any is_end all ≡ false = list_any-append is_end seen (event_lines events) ∙ or_from _ _ goes (events_go events) in
     let here : eqb (count_by is_path all) 0 ≡ false = ne_eqb (count_by is_path all) 0 (λ z. omega arith) in
     (placed all End (or_from _ _ open_still here) (not_repeated all End refl), tt)
 
@@ -226,15 +226,15 @@ pub placed_all : (script : Script) → HasRanges script → Placed (Header ∷ [
 placed_all script h =
     let s = all_settings script in
     let p = path_lines 0 script.paths in
-    let r = rule_lines script.lines in
+    let r = event_lines script.lines in
     let n = length script.paths in
     let first = before_settings script in
     let second = before_append ((Header ∷ []) ++ s) p 0 n n first (before_paths 0 script.paths) (omega arith) in
     let seen : List Line = ((Header ∷ []) ++ s) ++ p in
     let ready : Ready seen n script.lines = record { goes = second.goes; count = second.count; new = all_new seen script.lines second.apart } in
-    let rules = placed_rules n script.lines seen h.some_path (recursion_from_All (IsRule n) script.lines h.lines) (all_apart script.lines h.apart) ready in
+    let events = placed_events n script.lines seen h.some_path (recursion_from_All (IsEvent n) script.lines h.lines) (all_apart script.lines h.apart) ready in
     let end = end_placed seen n script.lines h.some_path second.goes second.count in
     subst (Placed (Header ∷ [])) (sym (settings_first script (p ++ (r ++ End ∷ []))))
     (placed_append (Header ∷ []) s (p ++ (r ++ End ∷ [])) (placed_settings script)
-        (placed_append ((Header ∷ []) ++ s) p (r ++ End ∷ []) (placed_paths 0 script.paths ((Header ∷ []) ++ s) first)
-        (placed_append seen r (End ∷ []) rules end)))
+    (placed_append ((Header ∷ []) ++ s) p (r ++ End ∷ []) (placed_paths 0 script.paths ((Header ∷ []) ++ s) first)
+    (placed_append seen r (End ∷ []) events end)))

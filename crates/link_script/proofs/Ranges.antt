@@ -15,7 +15,7 @@ use Rattle.link_script.specs.declared.word.Keyword.{Keyword}
 use Rattle.link_script.specs.declared.word.Keyword.TheVariants as first
 use Rattle.link_script.specs.Lines.{seed_line, checksum_line, buffer_line, path_options, may_have, path_of, path_line, segment, drop_line, strip_line, alter_line, dup_line, late_line, strip_all_line, die_line, prio_line, add_line, remove_line, fast_close_line, end_line, line_after, line_of}
 use Rattle.link_script.specs.Numbers.{is_numeral, is_within, within}
-use Rattle.link_script.specs.Scripts.{IsWithin, IsPath, IsRule}
+use Rattle.link_script.specs.Scripts.{IsWithin, IsPath, IsEvent}
 use Rattle.link_script.specs.Steps.{◌>>=◌}
 use Rattle.link_script.specs.Words.{fixed, keyword, direction, side, switch}
 
@@ -30,7 +30,7 @@ IsLine (line.Seed n) = IsWithin SEED n
 IsLine (line.Checksum on) = Unit {0}
 IsLine (line.Buffer octets) = IsWithin BUFFER octets
 IsLine (line.Path index path) = (index < most_paths) × IsPath path × (index ≡ 0 → (path.join ≡ 0) × (path.backup ≡ false))
-IsLine (line.Rule rule) = IsRule most_paths rule
+IsLine (line.Event event) = IsEvent most_paths event
 IsLine line.End = Unit {0}
 
 abbrev Holds : {A : Type 0} → Result A ScriptKind → (A → Type 0) → Type 0

@@ -10,7 +10,7 @@ use Rattle.std.proofs.lemmas.List.Sums.{fold-append}
 use Rattle.link_script.specs.declared.fault.ScriptFault.{ScriptFault}
 use Rattle.link_script.specs.declared.limits.TheConstants.{MAX_LINES}
 use Rattle.link_script.specs.declared.line.Line.{Line}
-use Rattle.link_script.specs.declared.line.Line.TheVariants.{Header, Seed, Checksum, Buffer, Path, Rule, End}
+use Rattle.link_script.specs.declared.line.Line.TheVariants.{Header, Seed, Checksum, Buffer, Path, Event, End}
 use Rattle.link_script.specs.declared.script.PathLine.{PathLine}
 use Rattle.link_script.specs.declared.script.Script.{Script}
 use Rattle.link_script.specs.declared.script.ScriptLine.{ScriptLine}
@@ -18,9 +18,9 @@ use Rattle.link_script.specs.declared.script.ScriptLine.TheVariants.{Drop}
 use Rattle.link_script.specs.Lines.{line_of}
 use Rattle.link_script.specs.Places.{is_end}
 use Rattle.link_script.specs.Reading.{in_place, later_line, seen_after, read_on, blank, with_line, script_of, reading}
-use Rattle.link_script.specs.Scripts.{IsPath, IsRule, OpensPlainly, HasRanges}
+use Rattle.link_script.specs.Scripts.{IsPath, IsEvent, OpensPlainly, HasRanges}
 use Rattle.link_script.specs.Words.{text_lines, words_of, is_passed_over}
-use Rattle.link_script.specs.Writing.{spaced, line_words, line_text, rule_words, ended, seed_lines, checksum_lines, buffer_lines, path_lines, rule_lines, lines_of, text_of}
+use Rattle.link_script.specs.Writing.{spaced, line_words, line_text, event_words, ended, seed_lines, checksum_lines, buffer_lines, path_lines, event_lines, lines_of, text_of}
 use Rattle.link_script.proofs.Again.{line_again, plain_line}
 use Rattle.link_script.proofs.Kept.{wider}
 use Rattle.link_script.proofs.Placed.{Placed, later_lines, placed_all}
@@ -36,13 +36,13 @@ begins [] = false
 begins ([] ∷ words) = false
 begins ((octet ∷ word) ∷ words) = not (octet == 35)
 
-begins_rule : (rule : ScriptLine) → begins (rule_words rule) ≡ true
-begins_rule (Drop path from number) = refl
-begins_rule rule = refl
+begins_event : (event : ScriptLine) → begins (event_words event) ≡ true
+begins_event (Drop path from number) = refl
+begins_event event = refl
 
 begins_line : (line : Line) → begins (line_words line) ≡ true
 begins_line Header = refl
-begins_line (Rule rule) = begins_rule rule
+begins_line (Event event) = begins_event event
 begins_line line = refl
 
 not_passed_over : (words : List (List ℕ)) → begins words ≡ true → is_passed_over (spaced words) ≡ false
@@ -110,18 +110,18 @@ all_paths_later [] few h plain = tt
 all_paths_later (path ∷ paths) few h plain =
     (((omega arith, h.0, λ z. plain), λ e. absurd cc), paths_later 1 paths (omega arith) (omega arith) h.1)
 
-rules_later : (paths : ℕ) (rules : List ScriptLine) → paths ≤ most_paths → AllByRecursion (IsRule paths) rules → AllByRecursion IsLater (rule_lines rules)
-rules_later paths [] le h = tt
-rules_later paths (rule ∷ rules) le h = ((wider paths most_paths rule le h.0, λ e. absurd cc), rules_later paths rules le h.1)
+events_later : (paths : ℕ) (events : List ScriptLine) → paths ≤ most_paths → AllByRecursion (IsEvent paths) events → AllByRecursion IsLater (event_lines events)
+events_later paths [] le h = tt
+events_later paths (event ∷ events) le h = ((wider paths most_paths event le h.0, λ e. absurd cc), events_later paths events le h.1)
 
 all_later : (script : Script) → HasRanges script → AllByRecursion IsLater (later_lines script)
 all_later script h =
     each_append IsLater (seed_lines script.seed) _ (either_line (eqb script.seed 1) (Seed script.seed) (h.seed, λ e. absurd cc))
     (each_append IsLater (checksum_lines script.checksum) _ (checksum_later script.checksum)
-        (each_append IsLater (buffer_lines script.buffer) _ (either_line (eqb script.buffer 65536) (Buffer script.buffer) (h.buffer, λ e. absurd cc))
-        (each_append IsLater (path_lines 0 script.paths) _ (all_paths_later script.paths h.few_paths (recursion_from_All IsPath script.paths h.paths) h.first_path)
-            (each_append IsLater (rule_lines script.lines) _ (rules_later (length script.paths) script.lines h.few_paths (recursion_from_All (IsRule (length script.paths)) script.lines h.lines))
-            ((tt, λ e. absurd cc), tt)))))
+    (each_append IsLater (buffer_lines script.buffer) _ (either_line (eqb script.buffer 65536) (Buffer script.buffer) (h.buffer, λ e. absurd cc))
+    (each_append IsLater (path_lines 0 script.paths) _ (all_paths_later script.paths h.few_paths (recursion_from_All IsPath script.paths h.paths) h.first_path)
+    (each_append IsLater (event_lines script.lines) _ (events_later (length script.paths) script.lines h.few_paths (recursion_from_All (IsEvent (length script.paths)) script.lines h.lines))
+    ((tt, λ e. absurd cc), tt)))))
 
 -- ---- what the lines say together
 
@@ -131,9 +131,9 @@ made seed checksum buffer paths lines = record { seed = seed; checksum = checksu
 seed_said : (n : ℕ) → fold with_line blank (seed_lines n) ≡ made n false 65536 [] []
 seed_said n = by (eqb n 1) refl
   where
-  by : (b : Bool) → eqb n 1 ≡ b → fold with_line blank (cond b [] (Seed n ∷ [])) ≡ made n false 65536 [] []
-  by true e = ap (λ (k : ℕ). made k false 65536 [] []) (sym (eqb-true n 1 e))
-  by false e = refl
+    by : (b : Bool) → eqb n 1 ≡ b → fold with_line blank (cond b [] (Seed n ∷ [])) ≡ made n false 65536 [] []
+    by true e = ap (λ (k : ℕ). made k false 65536 [] []) (sym (eqb-true n 1 e))
+    by false e = refl
 
 checksum_said : (n : ℕ) (on : Bool) → fold with_line (made n false 65536 [] []) (checksum_lines on) ≡ made n on 65536 [] []
 checksum_said n true = refl
@@ -142,24 +142,24 @@ checksum_said n false = refl
 buffer_said : (n : ℕ) (on : Bool) (octets : ℕ) → fold with_line (made n on 65536 [] []) (buffer_lines octets) ≡ made n on octets [] []
 buffer_said n on octets = by (eqb octets 65536) refl
   where
-  by : (b : Bool) → eqb octets 65536 ≡ b → fold with_line (made n on 65536 [] []) (cond b [] (Buffer octets ∷ [])) ≡ made n on octets [] []
-  by true e = ap (λ (k : ℕ). made n on k [] []) (sym (eqb-true octets 65536 e))
-  by false e = refl
+    by : (b : Bool) → eqb octets 65536 ≡ b → fold with_line (made n on 65536 [] []) (cond b [] (Buffer octets ∷ [])) ≡ made n on octets [] []
+    by true e = ap (λ (k : ℕ). made n on k [] []) (sym (eqb-true octets 65536 e))
+    by false e = refl
 
 paths_said : (n : ℕ) (on : Bool) (octets index : ℕ) (before paths : List PathLine) → fold with_line (made n on octets before []) (path_lines index paths) ≡ made n on octets (before ++ paths) []
 paths_said n on octets index before [] = ap (λ (paths : List PathLine). made n on octets paths []) (sym (append-nil before))
 paths_said n on octets index before (path ∷ paths) =
     paths_said n on octets (suc index) (before ++ path ∷ []) paths ∙ ap (λ (paths : List PathLine). made n on octets paths []) (append_assoc before (path ∷ []) paths)
 
-rules_said : (n : ℕ) (on : Bool) (octets : ℕ) (paths : List PathLine) (before rules : List ScriptLine) → fold with_line (made n on octets paths before) (rule_lines rules) ≡ made n on octets paths (before ++ rules)
-rules_said n on octets paths before [] = ap (made n on octets paths) (sym (append-nil before))
-rules_said n on octets paths before (rule ∷ rules) =
-    rules_said n on octets paths (before ++ rule ∷ []) rules ∙ ap (made n on octets paths) (append_assoc before (rule ∷ []) rules)
+events_said : (n : ℕ) (on : Bool) (octets : ℕ) (paths : List PathLine) (before events : List ScriptLine) → fold with_line (made n on octets paths before) (event_lines events) ≡ made n on octets paths (before ++ events)
+events_said n on octets paths before [] = ap (made n on octets paths) (sym (append-nil before))
+events_said n on octets paths before (event ∷ events) =
+    events_said n on octets paths (before ++ event ∷ []) events ∙ ap (made n on octets paths) (append_assoc before (event ∷ []) events)
 
 said_again : (script : Script) → script_of (lines_of script) ≡ script
 said_again script =
     let s = script in
-    rw (fold-append with_line blank (seed_lines s.seed), seed_said s.seed, fold-append with_line _ (checksum_lines s.checksum), checksum_said s.seed s.checksum, fold-append with_line _ (buffer_lines s.buffer), buffer_said s.seed s.checksum s.buffer, fold-append with_line _ (path_lines 0 s.paths), paths_said s.seed s.checksum s.buffer 0 [] s.paths, fold-append with_line _ (rule_lines s.lines), rules_said s.seed s.checksum s.buffer s.paths [] s.lines) refl
+    rw (fold-append with_line blank (seed_lines s.seed), seed_said s.seed, fold-append with_line _ (checksum_lines s.checksum), checksum_said s.seed s.checksum, fold-append with_line _ (buffer_lines s.buffer), buffer_said s.seed s.checksum s.buffer, fold-append with_line _ (path_lines 0 s.paths), paths_said s.seed s.checksum s.buffer 0 [] s.paths, fold-append with_line _ (event_lines s.lines), events_said s.seed s.checksum s.buffer s.paths [] s.lines) refl
 
 -- ---- the text
 
@@ -168,7 +168,7 @@ ends_last lines = list_any-append is_end lines (End ∷ []) ∙ or_right (list_a
 
 script_ends : (script : Script) → list_any is_end (lines_of script) ≡ true
 script_ends script =
-    let front = Header ∷ (seed_lines script.seed ++ (checksum_lines script.checksum ++ (buffer_lines script.buffer ++ (path_lines 0 script.paths ++ rule_lines script.lines)))) in
+    let front = Header ∷ (seed_lines script.seed ++ (checksum_lines script.checksum ++ (buffer_lines script.buffer ++ (path_lines 0 script.paths ++ event_lines script.lines)))) in
     let grouped : front ++ End ∷ [] ≡ lines_of script = simp append_assoc in
     ap (list_any is_end) (sym grouped) ∙ ends_last front
 

@@ -1,6 +1,6 @@
 -- A text that is read has a script with its ranges.
 use Rattle.std.proofs.Common.{◌≡◌, ℕ, zero, suc, ◌+◌, ◌-◌, ◌<◌, ◌≤◌, Bool, true, false, ◌||◌, ◌⊎◌, not, cond, eqb, ltb, List, [], ◌∷◌, ◌++◌, length, All, Result, Ok, Err, refl, sym, ap, subst, ◌∙◌, arith, inl, inr}
-use Rattle.std.specs.Prelude.{count_by, nat_lt, fold, codes, ◌==◌}
+use Rattle.std.specs.Prelude.{count_by, nat_lt, fold, codes, ◌==◌, IfOk}
 use Rattle.std.specs.List.{list_any, flat_map}
 use Rattle.std.specs.Str.{bytes_eq}
 use Rattle.std.proofs.lemmas.Bool.{or_parts, or_from, or_cases, both_ways, ltb-false, eqb-false, false≢true, cond_both}
@@ -13,17 +13,17 @@ use Rattle.link_script.specs.declared.fault.ScriptKind.{ScriptKind}
 use Rattle.link_script.specs.declared.fault.ScriptKind.TheVariants as kind
 use Rattle.link_script.specs.declared.limits.TheConstants.{MAX_LINES}
 use Rattle.link_script.specs.declared.line.Line.{Line}
-use Rattle.link_script.specs.declared.line.Line.TheVariants.{Header, Seed, Checksum, Buffer, Path, Rule, End}
+use Rattle.link_script.specs.declared.line.Line.TheVariants.{Header, Seed, Checksum, Buffer, Path, Event, End}
 use Rattle.link_script.specs.declared.script.PathLine.{PathLine}
 use Rattle.link_script.specs.declared.script.Script.{Script}
 use Rattle.link_script.specs.declared.script.ScriptLine.{ScriptLine}
 use Rattle.link_script.specs.Lines.{line_of}
 use Rattle.link_script.specs.Places.{is_path, is_end, is_misplaced, is_out_of_order, settle_one, is_repeated}
-use Rattle.link_script.specs.Reading.{first_line, in_place, later_line, next_line, at_line, seen_after, read_on, blank, with_line, script_of, reading}
+use Rattle.link_script.specs.Reading.{Gives, first_line, in_place, later_line, next_line, at_line, seen_after, read_on, blank, with_line, script_of, reading}
 use Rattle.link_script.specs.Scripts.{IsScript, HasRanges}
 use Rattle.link_script.specs.Steps.{◌>>=◌}
 use Rattle.link_script.specs.Words.{text_lines, words_of, is_passed_over}
-use Rattle.link_script.specs.Writing.{seed_lines, checksum_lines, buffer_lines, path_lines, rule_lines, lines_of}
+use Rattle.link_script.specs.Writing.{seed_lines, checksum_lines, buffer_lines, path_lines, event_lines, lines_of}
 use Rattle.link_script.proofs.Ranges.{most_paths, IsLine, line_is}
 use Rattle.link_script.proofs.Kept.{Kept, kept_blank, IsNew, kept_more}
 
@@ -43,9 +43,9 @@ length-lines_of script =
     let c = checksum_lines script.checksum in
     let b = buffer_lines script.buffer in
     let p = path_lines 0 script.paths in
-    let r = rule_lines script.lines in
+    let r = event_lines script.lines in
     let last : List Line = End ∷ [] in
-    omega (arith, length-append s (c ++ (b ++ (p ++ (r ++ last)))), length-append c (b ++ (p ++ (r ++ last))), length-append b (p ++ (r ++ last)), length-append p (r ++ last), length-append r last, length-path_lines 0 script.paths, length-map script.lines (λ rule. Rule rule))
+    omega (arith, length-append s (c ++ (b ++ (p ++ (r ++ last)))), length-append c (b ++ (p ++ (r ++ last))), length-append b (p ++ (r ++ last)), length-append p (r ++ last), length-append r last, length-path_lines 0 script.paths, length-map script.lines (λ event. Event event))
 
 at_most_one : (b : Bool) (line : Line) → length (cond b [] (line ∷ [])) ≤ 1
 at_most_one true line = omega arith
@@ -61,7 +61,7 @@ size-with_line script (Seed n) = omega (arith, at_most_one (eqb n 1) (Seed n))
 size-with_line script (Checksum on) = omega (arith, at_most_one' on (Checksum true))
 size-with_line script (Buffer octets) = omega (arith, at_most_one (eqb octets 65536) (Buffer octets))
 size-with_line script (Path index path) = omega (arith, length_push script.paths path)
-size-with_line script (Rule rule) = omega (arith, length_push script.lines rule)
+size-with_line script (Event event) = omega (arith, length_push script.lines event)
 size-with_line script End = omega arith
 
 -- ---- what holds of the lines read so far, and of the script that they make
@@ -84,7 +84,7 @@ count_line script (Seed n) = omega arith
 count_line script (Checksum on) = omega arith
 count_line script (Buffer octets) = omega arith
 count_line script (Path index path) = omega (arith, length_push script.paths path)
-count_line script (Rule rule) = omega arith
+count_line script (Event event) = omega arith
 count_line script End = omega arith
 
 new_line : (script : Script) (line next : Line) → IsNew script next → settle_one line next ≡ false → IsNew (with_line script line) next
@@ -93,8 +93,8 @@ new_line script (Seed n) next new apart = new
 new_line script (Checksum on) next new apart = new
 new_line script (Buffer octets) next new apart = new
 new_line script (Path index path) next new apart = new
-new_line script (Rule rule) next new apart =
-    list_any-append (λ r. settle_one (Rule r) next) script.lines (rule ∷ []) ∙ or_from _ _ new (or_from _ _ apart refl)
+new_line script (Event event) next new apart =
+    list_any-append (λ r. settle_one (Event r) next) script.lines (event ∷ []) ∙ or_from _ _ new (or_from _ _ apart refl)
 new_line script End next new apart = new
 
 -- only `end` closes a script
@@ -104,7 +104,7 @@ closing script (Seed k) n m e room = absurd (false≢true e)
 closing script (Checksum on) n m e room = absurd (false≢true e)
 closing script (Buffer octets) n m e room = absurd (false≢true e)
 closing script (Path index path) n m e room = absurd (false≢true e)
-closing script (Rule rule) n m e room = absurd (false≢true e)
+closing script (Event event) n m e room = absurd (false≢true e)
 closing script End n m e room = let some = eqb-false _ _ m in (omega arith, room)
 
 last_of : (seen : List Line) (line : Line) → list_any is_end seen ≡ false → list_any is_end (seen ++ line ∷ []) ≡ true → is_end line ≡ true
@@ -128,8 +128,8 @@ sound_more number first seen script line h low fits order repeated =
       few = omega (arith, h.few);
       count = count_push all line ∙ ap (λ (n : ℕ). n + cond (is_path line) 1 0) h.count ∙ count_line script line;
       told = λ next new.
-        let parts = or_parts _ _ (sym (list_any-append (λ l. settle_one l next) all (line ∷ [])) ∙ new) in
-        new_line script line next (h.told next parts.0) (or_parts _ _ parts.1).0;
+          let parts = or_parts _ _ (sym (list_any-append (λ l. settle_one l next) all (line ∷ [])) ∙ new) in
+          new_line script line next (h.told next parts.0) (or_parts _ _ parts.1).0;
       room = omega (arith, size-with_line script line, h.room);
       closed = λ e. closing script line _ placed (last_of all line free.0 e) (omega (arith, h.room));
     }
@@ -163,9 +163,9 @@ placed_ok seen line next e =
 first_ok : (text : List ℕ) (line : Line) → first_line text ≡ Ok line → Header ≡ line
 first_ok text line e = is_header (bytes_eq text (codes "mptcp-script 1")) e
   where
-  is_header : (b : Bool) → cond b (ok_line Header) (Err kind.Header) ≡ Ok line → Header ≡ line
-  is_header true h = cc
-  is_header false h = absurd cc
+    is_header : (b : Bool) → cond b (ok_line Header) (Err kind.Header) ≡ Ok line → Header ≡ line
+    is_header true h = cc
+    is_header false h = absurd cc
 
 script_push : (seen : List Line) (line : Line) → script_of (seen ++ line ∷ []) ≡ with_line (script_of seen) line
 script_push seen line = fold-append with_line blank seen (line ∷ [])
@@ -220,18 +220,18 @@ sound_step number seen text now h e =
     elim (over_or_read (is_passed_over text) seen now _ few.1) [
       | inl same ↦ subst P same (sound_over number seen (script_of seen) h low)
       | inr read ↦
-        let one = bind_ok (at_line number (next_line seen text)) (λ line. ok_lines (seen ++ line ∷ [])) now read in
-        let same : ok_lines (seen ++ one.0 ∷ []) ≡ ok_lines now = one.2 in
-        subst P (cc) (sound_next number seen text one.0 h low (at_ok number (next_line seen text) one.0 one.1))
+          let one = bind_ok (at_line number (next_line seen text)) (λ line. ok_lines (seen ++ line ∷ [])) now read in
+          let same : ok_lines (seen ++ one.0 ∷ []) ≡ ok_lines now = one.2 in
+          subst P (cc) (sound_next number seen text one.0 h low (at_ok number (next_line seen text) one.0 one.1))
     ]
 
 sound_end : (number : ℕ) (seen all : List Line) → Sound number seen (script_of seen) → read_on number seen [] ≡ Ok all → (m : ℕ) × Sound m all (script_of all) × (list_any is_end all ≡ true)
 unfolding read_on
 sound_end number seen all h e = whole (list_any is_end seen) refl e
   where
-  whole : (b : Bool) → list_any is_end seen ≡ b → cond b (ok_lines seen) (Err (fault.Line number kind.Missing)) ≡ Ok all → (m : ℕ) × Sound m all (script_of all) × (list_any is_end all ≡ true)
-  whole true at same = let one : ok_lines seen ≡ ok_lines all = same in subst (λ (lines : List Line). (m : ℕ) × Sound m lines (script_of lines) × (list_any is_end lines ≡ true)) (cc) (number, h, at)
-  whole false at same = absurd cc
+    whole : (b : Bool) → list_any is_end seen ≡ b → cond b (ok_lines seen) (Err (fault.Line number kind.Missing)) ≡ Ok all → (m : ℕ) × Sound m all (script_of all) × (list_any is_end all ≡ true)
+    whole true at same = let one : ok_lines seen ≡ ok_lines all = same in subst (λ (lines : List Line). (m : ℕ) × Sound m lines (script_of lines) × (list_any is_end lines ≡ true)) (cc) (number, h, at)
+    whole false at same = absurd cc
 
 sound_all : (texts : List (List ℕ)) (number : ℕ) (seen all : List Line) → Sound number seen (script_of seen) → read_on number seen texts ≡ Ok all → (m : ℕ) × Sound m all (script_of all) × (list_any is_end all ≡ true)
 unfolding read_on
@@ -261,8 +261,8 @@ ranges_of number all script h ended =
       few_paths = h.kept.paths.few;
       paths = h.kept.paths.ranges;
       first_path = h.kept.paths.first;
-      lines = h.kept.rules.ranges;
-      apart = h.kept.rules.apart;
+      lines = h.kept.events.ranges;
+      apart = h.kept.events.apart;
       few_lines = omega (arith, length-lines_of script, end.1, h.few, h.low);
     }
 
@@ -277,3 +277,7 @@ read_has_ranges text script e =
     let all = sound_all (text_lines text) 1 [] one.0 sound_none one.1 in
     let same : ok_script (script_of one.0) ≡ ok_script script = one.2 in
     subst HasRanges (cc) (ranges_of all.0 one.0 (script_of one.0) all.1 all.2)
+
+pub is_read : (text : List ℕ) (r : Result Script ScriptFault) → Gives (λ script. script) r (reading text) → IfOk r HasRanges
+is_read text (Ok script) h = read_has_ranges text script h
+is_read text (Err fault) h = tt

@@ -1,6 +1,7 @@
+pub mod Faults
 pub mod Numbers
-pub mod Steps
 pub mod Words
+pub mod Steps
 pub mod Lines
 pub mod Places
 pub mod Reading

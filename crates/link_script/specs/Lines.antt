@@ -85,21 +85,21 @@ segment path from number = do
 unfoldable pub drop_line : List (List ℕ) → Result Line ScriptKind
 drop_line (path ∷ from ∷ number ∷ []) = do
   s ← segment path from number
-  Ok (line.Rule (Drop s.path s.from s.number))
+  Ok (line.Event (Drop s.path s.from s.number))
 drop_line words = Err Word
 
 -- strip I DIR N
 unfoldable pub strip_line : List (List ℕ) → Result Line ScriptKind
 strip_line (path ∷ from ∷ number ∷ []) = do
   s ← segment path from number
-  Ok (line.Rule (Strip s.path s.from s.number))
+  Ok (line.Event (Strip s.path s.from s.number))
 strip_line words = Err Word
 
 -- alter I DIR N
 unfoldable pub alter_line : List (List ℕ) → Result Line ScriptKind
 alter_line (path ∷ from ∷ number ∷ []) = do
   s ← segment path from number
-  Ok (line.Rule (Alter s.path s.from s.number))
+  Ok (line.Event (Alter s.path s.from s.number))
 alter_line words = Err Word
 
 -- dup I DIR N TICKS
@@ -107,7 +107,7 @@ unfoldable pub dup_line : List (List ℕ) → Result Line ScriptKind
 dup_line (path ∷ from ∷ number ∷ ticks ∷ []) = do
   s ← segment path from number
   t ← within LATENESS ticks
-  Ok (line.Rule (Dup s.path s.from s.number t))
+  Ok (line.Event (Dup s.path s.from s.number t))
 dup_line words = Err Word
 
 -- late I DIR N TICKS
@@ -115,7 +115,7 @@ unfoldable pub late_line : List (List ℕ) → Result Line ScriptKind
 late_line (path ∷ from ∷ number ∷ ticks ∷ []) = do
   s ← segment path from number
   t ← within LATENESS ticks
-  Ok (line.Rule (Late s.path s.from s.number t))
+  Ok (line.Event (Late s.path s.from s.number t))
 late_line words = Err Word
 
 -- strip-all I DIR TICK
@@ -124,7 +124,7 @@ strip_all_line (path ∷ from ∷ tick ∷ []) = do
   d ← direction from
   index ← within PATH path
   t ← within TICK tick
-  Ok (line.Rule (StripAll index d t))
+  Ok (line.Event (StripAll index d t))
 strip_all_line words = Err Word
 
 -- die I TICK
@@ -132,7 +132,7 @@ unfoldable pub die_line : List (List ℕ) → Result Line ScriptKind
 die_line (path ∷ tick ∷ []) = do
   index ← within PATH path
   t ← within TICK tick
-  Ok (line.Rule (Die index t))
+  Ok (line.Event (Die index t))
 die_line words = Err Word
 
 -- prio I SIDE TICK on | off
@@ -142,7 +142,7 @@ prio_line (path ∷ which ∷ tick ∷ word ∷ []) = do
   on ← switch word
   index ← within PATH path
   t ← within TICK tick
-  Ok (line.Rule (Prio index s t on))
+  Ok (line.Event (Prio index s t on))
 prio_line words = Err Word
 
 -- add b ID TICK
@@ -151,7 +151,7 @@ add_line (which ∷ id ∷ tick ∷ []) = do
   _ ← fixed (codes "b") which
   n ← within ADDRESS_ID id
   t ← within TICK tick
-  Ok (line.Rule (Add n t))
+  Ok (line.Event (Add n t))
 add_line words = Err Word
 
 -- remove SIDE ID TICK
@@ -160,7 +160,7 @@ remove_line (which ∷ id ∷ tick ∷ []) = do
   s ← side which
   n ← within ADDRESS_ID id
   t ← within TICK tick
-  Ok (line.Rule (Remove s n t))
+  Ok (line.Event (Remove s n t))
 remove_line words = Err Word
 
 -- fastclose SIDE TICK
@@ -168,7 +168,7 @@ unfoldable pub fast_close_line : List (List ℕ) → Result Line ScriptKind
 fast_close_line (which ∷ tick ∷ []) = do
   s ← side which
   t ← within TICK tick
-  Ok (line.Rule (FastClose s t))
+  Ok (line.Event (FastClose s t))
 fast_close_line words = Err Word
 
 -- end

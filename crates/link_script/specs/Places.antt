@@ -4,7 +4,7 @@ use Rattle.std.specs.List.{list_any}
 use Rattle.outside_kit.specs.declared.side.Side.{Side}
 use Rattle.outside_kit.specs.declared.side.Side.TheVariants.{A, B}
 use Rattle.link_script.specs.declared.line.Line.{Line}
-use Rattle.link_script.specs.declared.line.Line.TheVariants.{Header, Seed, Checksum, Buffer, Path, Rule, End}
+use Rattle.link_script.specs.declared.line.Line.TheVariants.{Header, Seed, Checksum, Buffer, Path, Event, End}
 use Rattle.link_script.specs.declared.place.Subject.{Subject}
 use Rattle.link_script.specs.declared.place.Subject.TheVariants as settles
 use Rattle.link_script.specs.declared.script.ScriptLine.{ScriptLine}
@@ -45,7 +45,7 @@ is_misplaced paths (Seed n) = nat_lt 0 paths
 is_misplaced paths (Checksum on) = nat_lt 0 paths
 is_misplaced paths (Buffer octets) = nat_lt 0 paths
 is_misplaced paths (Path index path) = not (index == paths)
-is_misplaced paths (Rule rule) = lacks paths (path_named rule)
+is_misplaced paths (Event event) = lacks paths (path_named event)
 is_misplaced paths End = paths == 0
 
 -- nothing stands after the end
@@ -53,24 +53,24 @@ abbrev pub is_out_of_order : List Line → Line → Bool
 is_out_of_order seen line = list_any is_end seen || is_misplaced (count_by is_path seen) line
 
 -- what a line settles, so that no second line may settle it again
-abbrev pub settled_by_rule : ScriptLine → Option Subject
-settled_by_rule (Drop path from number) = Some (settles.Arrival (record { path = path; from = from; number = number }))
-settled_by_rule (Dup path from number ticks) = Some (settles.Arrival (record { path = path; from = from; number = number }))
-settled_by_rule (Late path from number ticks) = Some (settles.Arrival (record { path = path; from = from; number = number }))
-settled_by_rule (Strip path from number) = Some (settles.Options (record { path = path; from = from; number = number }))
-settled_by_rule (Alter path from number) = Some (settles.Payload (record { path = path; from = from; number = number }))
-settled_by_rule (StripAll path from tick) = Some (settles.AllOptions path from)
-settled_by_rule (Die path tick) = Some (settles.Death path)
-settled_by_rule (FastClose side tick) = Some (settles.FastClose side)
-settled_by_rule (Prio path side tick on) = None
-settled_by_rule (Add id tick) = None
-settled_by_rule (Remove side id tick) = None
+abbrev pub settled_by_event : ScriptLine → Option Subject
+settled_by_event (Drop path from number) = Some (settles.Arrival (record { path = path; from = from; number = number }))
+settled_by_event (Dup path from number ticks) = Some (settles.Arrival (record { path = path; from = from; number = number }))
+settled_by_event (Late path from number ticks) = Some (settles.Arrival (record { path = path; from = from; number = number }))
+settled_by_event (Strip path from number) = Some (settles.Options (record { path = path; from = from; number = number }))
+settled_by_event (Alter path from number) = Some (settles.Payload (record { path = path; from = from; number = number }))
+settled_by_event (StripAll path from tick) = Some (settles.AllOptions path from)
+settled_by_event (Die path tick) = Some (settles.Death path)
+settled_by_event (FastClose side tick) = Some (settles.FastClose side)
+settled_by_event (Prio path side tick on) = None
+settled_by_event (Add id tick) = None
+settled_by_event (Remove side id tick) = None
 
 abbrev pub settled_by : Line → Option Subject
 settled_by (Seed n) = Some settles.Seed
 settled_by (Checksum on) = Some settles.Checksum
 settled_by (Buffer octets) = Some settles.Buffer
-settled_by (Rule rule) = settled_by_rule rule
+settled_by (Event event) = settled_by_event event
 settled_by line = None
 
 abbrev pub same_side : Side → Side → Bool

@@ -9,7 +9,7 @@ use Rattle.link_script.specs.declared.fault.ScriptKind.{ScriptKind}
 use Rattle.link_script.specs.declared.fault.ScriptKind.TheVariants as kind
 use Rattle.link_script.specs.declared.limits.TheConstants.{MAX_LINES, DEFAULT_SEED, DEFAULT_BUFFER}
 use Rattle.link_script.specs.declared.line.Line.{Line}
-use Rattle.link_script.specs.declared.line.Line.TheVariants.{Header, Seed, Checksum, Buffer, Path, Rule, End}
+use Rattle.link_script.specs.declared.line.Line.TheVariants.{Header, Seed, Checksum, Buffer, Path, Event, End}
 use Rattle.link_script.specs.declared.script.Script.{Script}
 use Rattle.link_script.specs.Lines.{line_of}
 use Rattle.link_script.specs.Places.{is_end, is_out_of_order, is_repeated}
@@ -72,7 +72,7 @@ with_line script (Seed n) = record script { seed = n }
 with_line script (Checksum on) = record script { checksum = on }
 with_line script (Buffer octets) = record script { buffer = octets }
 with_line script (Path index path) = record script { paths = script.paths ++ path ∷ [] }
-with_line script (Rule rule) = record script { lines = script.lines ++ rule ∷ [] }
+with_line script (Event event) = record script { lines = script.lines ++ event ∷ [] }
 with_line script End = script
 
 abbrev pub script_of : List Line → Script

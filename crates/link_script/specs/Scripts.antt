@@ -3,7 +3,7 @@ use Rattle.std.specs.Prelude.{◌≡◌, ℕ, ◌+◌, ◌<◌, ◌≤◌, Bool,
 use Rattle.std.specs.List.{AllPairs}
 use Rattle.link_script.specs.declared.limits.Limits.{Limits}
 use Rattle.link_script.specs.declared.limits.TheConstants.{MAX_LINES, SEED, BUFFER, PATH, MSS, DELAY, SEGMENT, LATENESS, TICK, ADDRESS_ID}
-use Rattle.link_script.specs.declared.line.Line.TheVariants.{Rule}
+use Rattle.link_script.specs.declared.line.Line.TheVariants.{Event}
 use Rattle.link_script.specs.declared.script.PathLine.{PathLine}
 use Rattle.link_script.specs.declared.script.Script.{Script}
 use Rattle.link_script.specs.declared.script.ScriptLine.{ScriptLine}
@@ -31,22 +31,22 @@ OpensPlainly [] = Unit {0}
 OpensPlainly (path ∷ paths) = (path.join ≡ 0) × (path.backup ≡ false)
 
 -- a line that speaks of one of so many paths
-abbrev pub IsRule : ℕ → ScriptLine → Type 0
-IsRule paths (Drop path from number) = (path < paths) × IsWithin SEGMENT number
-IsRule paths (Strip path from number) = (path < paths) × IsWithin SEGMENT number
-IsRule paths (Alter path from number) = (path < paths) × IsWithin SEGMENT number
-IsRule paths (Dup path from number ticks) = (path < paths) × IsWithin SEGMENT number × IsWithin LATENESS ticks
-IsRule paths (Late path from number ticks) = (path < paths) × IsWithin SEGMENT number × IsWithin LATENESS ticks
-IsRule paths (StripAll path from tick) = (path < paths) × IsWithin TICK tick
-IsRule paths (Die path tick) = (path < paths) × IsWithin TICK tick
-IsRule paths (Prio path side tick on) = (path < paths) × IsWithin TICK tick
-IsRule paths (Add id tick) = IsWithin ADDRESS_ID id × IsWithin TICK tick
-IsRule paths (Remove side id tick) = IsWithin ADDRESS_ID id × IsWithin TICK tick
-IsRule paths (FastClose side tick) = IsWithin TICK tick
+abbrev pub IsEvent : ℕ → ScriptLine → Type 0
+IsEvent paths (Drop path from number) = (path < paths) × IsWithin SEGMENT number
+IsEvent paths (Strip path from number) = (path < paths) × IsWithin SEGMENT number
+IsEvent paths (Alter path from number) = (path < paths) × IsWithin SEGMENT number
+IsEvent paths (Dup path from number ticks) = (path < paths) × IsWithin SEGMENT number × IsWithin LATENESS ticks
+IsEvent paths (Late path from number ticks) = (path < paths) × IsWithin SEGMENT number × IsWithin LATENESS ticks
+IsEvent paths (StripAll path from tick) = (path < paths) × IsWithin TICK tick
+IsEvent paths (Die path tick) = (path < paths) × IsWithin TICK tick
+IsEvent paths (Prio path side tick on) = (path < paths) × IsWithin TICK tick
+IsEvent paths (Add id tick) = IsWithin ADDRESS_ID id × IsWithin TICK tick
+IsEvent paths (Remove side id tick) = IsWithin ADDRESS_ID id × IsWithin TICK tick
+IsEvent paths (FastClose side tick) = IsWithin TICK tick
 
 -- no two lines settle one thing
 abbrev pub SettleApart : ScriptLine → ScriptLine → Type 0
-SettleApart a b = settle_one (Rule a) (Rule b) ≡ false
+SettleApart a b = settle_one (Event a) (Event b) ≡ false
 
 pub record HasRanges (script : Script) : Type 0 where
   pub seed : IsWithin SEED script.seed
@@ -55,6 +55,6 @@ pub record HasRanges (script : Script) : Type 0 where
   pub few_paths : length script.paths ≤ PATH.most + 1
   pub paths : All IsPath script.paths
   pub first_path : OpensPlainly script.paths
-  pub lines : All (IsRule (length script.paths)) script.lines
+  pub lines : All (IsEvent (length script.paths)) script.lines
   pub apart : AllPairs SettleApart script.lines
   pub few_lines : length (lines_of script) ≤ MAX_LINES

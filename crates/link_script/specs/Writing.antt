@@ -5,7 +5,7 @@ use Rattle.std.specs.List.{flat_map, join_with_byte}
 use Rattle.outside_kit.specs.declared.side.Side.{Side}
 use Rattle.link_script.specs.declared.limits.TheConstants.{DEFAULT_SEED, DEFAULT_BUFFER}
 use Rattle.link_script.specs.declared.line.Line.{Line}
-use Rattle.link_script.specs.declared.line.Line.TheVariants.{Header, Seed, Checksum, Buffer, Path, Rule, End}
+use Rattle.link_script.specs.declared.line.Line.TheVariants.{Header, Seed, Checksum, Buffer, Path, Event, End}
 use Rattle.link_script.specs.declared.script.PathLine.{PathLine}
 use Rattle.link_script.specs.declared.script.Script.{Script}
 use Rattle.link_script.specs.declared.script.ScriptLine.{ScriptLine}
@@ -26,18 +26,18 @@ backup_words backup = if backup then codes "backup" ∷ [] else []
 abbrev pub path_words : PathLine → List (List ℕ)
 path_words path = codes "mss" ∷ decimal path.mss ∷ codes "delay" ∷ decimal path.delay ∷ (join_words path.join ++ backup_words path.backup)
 
-abbrev pub rule_words : ScriptLine → List (List ℕ)
-rule_words (Drop path from number) = codes "drop" ∷ decimal path ∷ direction_word from ∷ decimal number ∷ []
-rule_words (Strip path from number) = codes "strip" ∷ decimal path ∷ direction_word from ∷ decimal number ∷ []
-rule_words (Alter path from number) = codes "alter" ∷ decimal path ∷ direction_word from ∷ decimal number ∷ []
-rule_words (Dup path from number ticks) = codes "dup" ∷ decimal path ∷ direction_word from ∷ decimal number ∷ decimal ticks ∷ []
-rule_words (Late path from number ticks) = codes "late" ∷ decimal path ∷ direction_word from ∷ decimal number ∷ decimal ticks ∷ []
-rule_words (StripAll path from tick) = codes "strip-all" ∷ decimal path ∷ direction_word from ∷ decimal tick ∷ []
-rule_words (Die path tick) = codes "die" ∷ decimal path ∷ decimal tick ∷ []
-rule_words (Prio path side tick on) = codes "prio" ∷ decimal path ∷ side_word side ∷ decimal tick ∷ switch_word on ∷ []
-rule_words (Add id tick) = codes "add" ∷ codes "b" ∷ decimal id ∷ decimal tick ∷ []
-rule_words (Remove side id tick) = codes "remove" ∷ side_word side ∷ decimal id ∷ decimal tick ∷ []
-rule_words (FastClose side tick) = codes "fastclose" ∷ side_word side ∷ decimal tick ∷ []
+abbrev pub event_words : ScriptLine → List (List ℕ)
+event_words (Drop path from number) = codes "drop" ∷ decimal path ∷ direction_word from ∷ decimal number ∷ []
+event_words (Strip path from number) = codes "strip" ∷ decimal path ∷ direction_word from ∷ decimal number ∷ []
+event_words (Alter path from number) = codes "alter" ∷ decimal path ∷ direction_word from ∷ decimal number ∷ []
+event_words (Dup path from number ticks) = codes "dup" ∷ decimal path ∷ direction_word from ∷ decimal number ∷ decimal ticks ∷ []
+event_words (Late path from number ticks) = codes "late" ∷ decimal path ∷ direction_word from ∷ decimal number ∷ decimal ticks ∷ []
+event_words (StripAll path from tick) = codes "strip-all" ∷ decimal path ∷ direction_word from ∷ decimal tick ∷ []
+event_words (Die path tick) = codes "die" ∷ decimal path ∷ decimal tick ∷ []
+event_words (Prio path side tick on) = codes "prio" ∷ decimal path ∷ side_word side ∷ decimal tick ∷ switch_word on ∷ []
+event_words (Add id tick) = codes "add" ∷ codes "b" ∷ decimal id ∷ decimal tick ∷ []
+event_words (Remove side id tick) = codes "remove" ∷ side_word side ∷ decimal id ∷ decimal tick ∷ []
+event_words (FastClose side tick) = codes "fastclose" ∷ side_word side ∷ decimal tick ∷ []
 
 abbrev pub line_words : Line → List (List ℕ)
 line_words Header = codes "mptcp-script" ∷ codes "1" ∷ []
@@ -45,14 +45,14 @@ line_words (Seed n) = codes "seed" ∷ decimal n ∷ []
 line_words (Checksum on) = codes "checksum" ∷ switch_word on ∷ []
 line_words (Buffer octets) = codes "buffer" ∷ decimal octets ∷ []
 line_words (Path index path) = codes "path" ∷ decimal index ∷ path_words path
-line_words (Rule rule) = rule_words rule
+line_words (Event event) = event_words event
 line_words End = codes "end" ∷ []
 
 abbrev pub path_text : PathLine → List ℕ
 path_text path = spaced (path_words path)
 
-abbrev pub rule_text : ScriptLine → List ℕ
-rule_text rule = spaced (rule_words rule)
+abbrev pub event_text : ScriptLine → List ℕ
+event_text event = spaced (event_words event)
 
 abbrev pub line_text : Line → List ℕ
 line_text line = spaced (line_words line)
@@ -75,11 +75,11 @@ abbrev pub path_lines : ℕ → List PathLine → List Line
 path_lines index [] = []
 path_lines index (path ∷ paths) = Path index path ∷ path_lines (suc index) paths
 
-abbrev pub rule_lines : List ScriptLine → List Line
-rule_lines rules = map (λ rule. Rule rule) rules
+abbrev pub event_lines : List ScriptLine → List Line
+event_lines events = map (λ event. Event event) events
 
 abbrev pub lines_of : Script → List Line
-lines_of script = Header ∷ (seed_lines script.seed ++ (checksum_lines script.checksum ++ (buffer_lines script.buffer ++ (path_lines 0 script.paths ++ (rule_lines script.lines ++ End ∷ [])))))
+lines_of script = Header ∷ (seed_lines script.seed ++ (checksum_lines script.checksum ++ (buffer_lines script.buffer ++ (path_lines 0 script.paths ++ (event_lines script.lines ++ End ∷ [])))))
 
 unfoldable pub text_of : Script → List ℕ
 text_of script = flat_map ended (lines_of script)

@@ -1,10 +1,10 @@
-//! The script of a run.
+//! The script of a run: what a connection is to do, and what its links do to its segments. A text says a script line
+//! by line; `parse` reads it, and `text` writes the one text of a script. Nothing is run here.
 #![tactic(auto)]
 
-mod event;
 mod fault;
-mod law;
-mod limits;
+mod laws;
+pub mod limits;
 mod line;
 mod lists;
 mod number;
@@ -13,10 +13,13 @@ mod place;
 mod reading;
 mod script;
 mod segment;
+mod tick;
 mod word;
 mod writing;
 
 pub use fault::{ScriptFault, ScriptKind};
-pub use limits::Limits;
+pub use laws::{scripts_have_their_ranges, written_is_read_again};
 pub use lists::{PathLines, ScriptLines};
+pub use reading::parse;
 pub use script::{PathLine, Script, ScriptLine};
+pub use writing::text;

@@ -3,13 +3,13 @@
 ghost use Rattle.std.specs.Prelude.{◌≡◌, map};
 ghost use Rattle.link_script.specs.Lines.{seed_line, checksum_line, buffer_line, end_line, line_of};
 
-use crate::event::{read_add, read_die, read_fast_close, read_prio, read_remove, read_strip_all};
 use crate::fault::ScriptKind;
 use crate::limits::{BUFFER, SEED};
 use crate::number::read_number;
 use crate::path::read_path;
 use crate::script::{PathLine, ScriptLine};
 use crate::segment::{read_alter, read_drop, read_dup, read_late, read_strip};
+use crate::tick::{read_add, read_die, read_fast_close, read_prio, read_remove, read_strip_all};
 use crate::word::{Keyword, read_switch};
 
 /// What a line says.
@@ -20,7 +20,7 @@ pub enum Line {
     Checksum(bool),
     Buffer(u64),
     Path { index: u64, line: PathLine },
-    Rule(ScriptLine),
+    Event(ScriptLine),
     End,
 }
 

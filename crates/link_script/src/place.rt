@@ -2,7 +2,7 @@
 
 ghost use Rattle.std.specs.Prelude.{◌≡◌, count_by};
 ghost use Rattle.std.specs.List.{list_any};
-ghost use Rattle.link_script.specs.Places.{is_path, is_end, is_misplaced, is_out_of_order, settled_by_rule, settled_by, is_same, settle_one, is_repeated};
+ghost use Rattle.link_script.specs.Places.{is_path, is_end, is_misplaced, is_out_of_order, settled_by_event, settled_by, is_same, settle_one, is_repeated};
 
 use crate::line::Line;
 use crate::script::ScriptLine;
@@ -60,7 +60,7 @@ fn is_misplaced(paths: usize, line: &Line) -> bool
         Line::Header => true,
         Line::Seed(_) | Line::Checksum(_) | Line::Buffer(_) => paths > 0,
         Line::Path { index, .. } => index != paths as u64,
-        Line::Rule(rule) => match rule.path() {
+        Line::Event(event) => match event.path() {
             Some(path) => path as usize >= paths,
             None => paths == 0,
         },
@@ -75,10 +75,10 @@ pub fn is_out_of_order(seen: &[Line], line: &Line) -> bool
     has_ended(seen) || is_misplaced(count_paths(seen), line)
 }
 
-fn settled_by_rule(rule: &ScriptLine) -> Option<Subject>
-    ensures { result ≡ settled_by_rule rule.now }
+fn settled_by_event(event: &ScriptLine) -> Option<Subject>
+    ensures { result ≡ settled_by_event event.now }
 {
-    match *rule {
+    match *event {
         ScriptLine::Drop { path, from, number }
         | ScriptLine::Dup {
             path,
@@ -112,7 +112,7 @@ fn settled_by(line: &Line) -> Option<Subject>
         Line::Seed(_) => Some(Subject::Seed),
         Line::Checksum(_) => Some(Subject::Checksum),
         Line::Buffer(_) => Some(Subject::Buffer),
-        Line::Rule(rule) => settled_by_rule(rule),
+        Line::Event(event) => settled_by_event(event),
         Line::Header | Line::Path { .. } | Line::End => None,
     }
 }

@@ -3,6 +3,7 @@
 ghost use Rattle.std.specs.Prelude.{◌≡◌, ◌≤◌, [], map, OnOk, IfOk};
 ghost use Rattle.link_script.specs.declared.limits.TheConstants.{MAX_LINES};
 ghost use Rattle.link_script.specs.Words.{text_lines};
+ghost use Rattle.link_script.specs.Scripts.{HasRanges};
 ghost use Rattle.link_script.specs.Reading.{Gives, first_line, in_place, later_line, next_line, at_line, seen_after, read_on, blank, with_line, script_of, reading};
 
 use crate::fault::{ScriptFault, ScriptKind};
@@ -130,7 +131,7 @@ fn add(script: &mut Script, line: &Line) -> Result<(), AllocError>
         Line::Checksum(on) => script.checksum = on,
         Line::Buffer(octets) => script.buffer = octets,
         Line::Path { line, .. } => script.paths.push(line)?,
-        Line::Rule(rule) => script.lines.push(rule)?,
+        Line::Event(event) => script.lines.push(event)?,
     }
     Ok(())
 }
@@ -146,11 +147,22 @@ fn assemble(alloc: Global, lines: &[Line]) -> Result<Script, AllocError>
     Ok(script)
 }
 
-/// Reads a script.
 #[tactic(auto, unfolding(crate::specs::Reading::reading))]
-pub fn parse(alloc: Global, bytes: &[u8]) -> Result<Script, ScriptFault>
-    ensures exact { Gives (λ script. script) result (reading bytes.now) }
+fn read_script(alloc: Global, bytes: &[u8]) -> Result<Script, ScriptFault>
+    ensures { Gives (λ script. script) result (reading bytes.now) }
 {
     let lines = read_lines(alloc, bytes)?;
     Ok(assemble(alloc, &lines)?)
+}
+
+/// Reads a script, or says which line is refused first, and why.
+///
+/// Lines end with LF, and a last line may lack it. Empty lines and lines that begin with `#` are passed over, and are
+/// counted like the others. Every octet is allowed, and every text is answered.
+pub fn parse(alloc: Global, bytes: &[u8]) -> Result<Script, ScriptFault>
+    // The script that the text says or its first fault, unless memory ran out.
+    ensures exact { Gives (λ script. script) result (reading bytes.now) }
+    ensures ranges { IfOk result HasRanges }
+{
+    read_script(alloc, bytes)
 }

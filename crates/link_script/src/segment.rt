@@ -38,7 +38,7 @@ pub fn read_drop(words: &[&[u8]]) -> Result<Line, ScriptKind>
         return Err(ScriptKind::Word);
     };
     let Segment { path, from, number } = read_segment(path, from, number)?;
-    Ok(Line::Rule(ScriptLine::Drop { path, from, number }))
+    Ok(Line::Event(ScriptLine::Drop { path, from, number }))
 }
 
 /// `strip I DIR N`
@@ -50,7 +50,7 @@ pub fn read_strip(words: &[&[u8]]) -> Result<Line, ScriptKind>
         return Err(ScriptKind::Word);
     };
     let Segment { path, from, number } = read_segment(path, from, number)?;
-    Ok(Line::Rule(ScriptLine::Strip { path, from, number }))
+    Ok(Line::Event(ScriptLine::Strip { path, from, number }))
 }
 
 /// `alter I DIR N`
@@ -62,7 +62,7 @@ pub fn read_alter(words: &[&[u8]]) -> Result<Line, ScriptKind>
         return Err(ScriptKind::Word);
     };
     let Segment { path, from, number } = read_segment(path, from, number)?;
-    Ok(Line::Rule(ScriptLine::Alter { path, from, number }))
+    Ok(Line::Event(ScriptLine::Alter { path, from, number }))
 }
 
 /// `dup I DIR N TICKS`
@@ -75,7 +75,7 @@ pub fn read_dup(words: &[&[u8]]) -> Result<Line, ScriptKind>
     };
     let Segment { path, from, number } = read_segment(path, from, number)?;
     let ticks = read_number(ticks, LATENESS)? as u32;
-    Ok(Line::Rule(ScriptLine::Dup {
+    Ok(Line::Event(ScriptLine::Dup {
         path,
         from,
         number,
@@ -93,7 +93,7 @@ pub fn read_late(words: &[&[u8]]) -> Result<Line, ScriptKind>
     };
     let Segment { path, from, number } = read_segment(path, from, number)?;
     let ticks = read_number(ticks, LATENESS)? as u32;
-    Ok(Line::Rule(ScriptLine::Late {
+    Ok(Line::Event(ScriptLine::Late {
         path,
         from,
         number,

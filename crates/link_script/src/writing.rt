@@ -1,9 +1,11 @@
 //! Writes a script.
 
-ghost use Rattle.std.specs.Prelude.{◌≡◌, ◌++◌, Some, OnOk, IfOk, string_bytes};
+ghost use Rattle.std.specs.Prelude.{◌≡◌, ◌++◌, Some, Ok, OnOk, IfOk, string_bytes};
 ghost use Rattle.std.specs.List.{flat_map};
+ghost use Rattle.link_script.specs.Reading.{reading};
+ghost use Rattle.link_script.specs.Scripts.{IsScript};
 ghost use Rattle.link_script.specs.Words.{direction_word, side_word, switch_word};
-ghost use Rattle.link_script.specs.Writing.{path_text, rule_text, line_text, ended, seed_lines, checksum_lines, buffer_lines, path_lines, rule_lines, text_of};
+ghost use Rattle.link_script.specs.Writing.{path_text, event_text, line_text, ended, seed_lines, checksum_lines, buffer_lines, path_lines, event_lines, text_of};
 
 use crate::limits::{DEFAULT_BUFFER, DEFAULT_SEED};
 use crate::line::Line;
@@ -58,7 +60,7 @@ impl fmt::Display for PathLine {
 
 /// The line of a script.
 impl fmt::Display for ScriptLine {
-    ghost output = { λ rule. Some (rule_text rule) };
+    ghost output = { λ event. Some (event_text event) };
 
     fn fmt<W: fmt::Write>(&self, f: &mut fmt::Formatter<W>) -> fmt::Result {
         match *self {
@@ -119,7 +121,7 @@ impl fmt::Display for Line {
             Line::Checksum(on) => write!(f, "checksum {}", switch_text(*on)),
             Line::Buffer(octets) => write!(f, "buffer {octets}"),
             Line::Path { index, line } => write!(f, "path {index} {line}"),
-            Line::Rule(rule) => write!(f, "{rule}"),
+            Line::Event(event) => write!(f, "{event}"),
             Line::End => write!(f, "end"),
         }
     }
@@ -169,17 +171,16 @@ fn put_paths(text: &mut String, paths: &[PathLine]) -> Result<(), AllocError>
     Ok(())
 }
 
-fn put_rules(text: &mut String, rules: &[ScriptLine]) -> Result<(), AllocError>
-    ensures { OnOk result (string_bytes text.new ≡ string_bytes text.old ++ flat_map ended (rule_lines rules.now)) }
+fn put_events(text: &mut String, events: &[ScriptLine]) -> Result<(), AllocError>
+    ensures { OnOk result (string_bytes text.new ≡ string_bytes text.old ++ flat_map ended (event_lines events.now)) }
 {
-    for rule in rules {
-        put(text, &Line::Rule(*rule))?;
+    for event in events {
+        put(text, &Line::Event(*event))?;
     }
     Ok(())
 }
 
-/// Writes a script.
-pub fn text(alloc: Global, script: &Script) -> Result<Vec<u8>, AllocError>
+fn write_script(alloc: Global, script: &Script) -> Result<Vec<u8>, AllocError>
     ensures { IfOk result (λ text. text.items ≡ text_of script.now) }
 {
     let mut text = String::new(alloc);
@@ -188,7 +189,17 @@ pub fn text(alloc: Global, script: &Script) -> Result<Vec<u8>, AllocError>
     put_checksum(&mut text, script.checksum)?;
     put_buffer(&mut text, script.buffer)?;
     put_paths(&mut text, script.paths.as_slice())?;
-    put_rules(&mut text, script.lines.as_slice())?;
+    put_events(&mut text, script.lines.as_slice())?;
     put(&mut text, &Line::End)?;
     Ok(text.into_bytes())
+}
+
+/// Writes the one text of a script: each line ends with LF, numbers have no leading zeros, and what is so by default
+/// is left out.
+pub fn text(alloc: Global, script: &Script) -> Result<Vec<u8>, AllocError>
+    ensures exact { IfOk result (λ text. text.items ≡ text_of script.now) }
+    // Where some text says the script, this one does.
+    ensures again { IsScript script.now → IfOk result (λ text. reading text.items ≡ Ok script.now) }
+{
+    write_script(alloc, script)
 }

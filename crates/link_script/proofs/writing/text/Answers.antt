@@ -1,6 +1,10 @@
-use Rattle.link_script.proofs.Texts.{parts_of_text}
+use Rattle.std.proofs.Common.{Ok, ◌≡◌, ◌∙◌, ap}
+use Rattle.std.proofs.lemmas.Result.{IfOk-weaker}
+use Rattle.link_script.specs.Reading.{reading}
+use Rattle.link_script.proofs.RoundTrip.{text_again}
+use Rattle.link_script.proofs.Sound.{read_has_ranges}
 use Rattle.link_script.proofs.writing.text.Goals as goal
 
-pub returns : goal.returns
-returns c =
-    rw (c.into_bytes.ensures.value, c.in_ok-put-2.ensures, c.in_ok-put_rules.ensures, c.as_slice-2.ensures, c.in_ok-put_paths.ensures, c.as_slice.ensures, c.in_ok-put_buffer.ensures, c.in_ok-put_checksum.ensures, c.in_ok-put_seed.ensures, c.in_ok-put.ensures, c.new-text.ensures.bytes) (parts_of_text c.args.script.now)
+pub returns-clause-again : goal.returns-clause-again
+returns-clause-again c = λ said.
+    IfOk-weaker c.write_script.result _ _ (λ text same. ap reading same ∙ text_again c.args.script.now (read_has_ranges said.0 c.args.script.now said.1)) c.write_script.ensures

@@ -21,7 +21,7 @@ pub fn read_strip_all(words: &[&[u8]]) -> Result<Line, ScriptKind>
     let from = read_direction(from)?;
     let path = read_number(path, PATH)? as u8;
     let tick = read_number(tick, TICK)?;
-    Ok(Line::Rule(ScriptLine::StripAll { path, from, tick }))
+    Ok(Line::Event(ScriptLine::StripAll { path, from, tick }))
 }
 
 /// `die I TICK`
@@ -34,7 +34,7 @@ pub fn read_die(words: &[&[u8]]) -> Result<Line, ScriptKind>
     };
     let path = read_number(path, PATH)? as u8;
     let tick = read_number(tick, TICK)?;
-    Ok(Line::Rule(ScriptLine::Die { path, tick }))
+    Ok(Line::Event(ScriptLine::Die { path, tick }))
 }
 
 /// `prio I SIDE TICK on` or `off`
@@ -49,7 +49,7 @@ pub fn read_prio(words: &[&[u8]]) -> Result<Line, ScriptKind>
     let on = read_switch(on)?;
     let path = read_number(path, PATH)? as u8;
     let tick = read_number(tick, TICK)?;
-    Ok(Line::Rule(ScriptLine::Prio {
+    Ok(Line::Event(ScriptLine::Prio {
         path,
         side,
         tick,
@@ -68,7 +68,7 @@ pub fn read_add(words: &[&[u8]]) -> Result<Line, ScriptKind>
     expect_word(side, b"b")?;
     let id = read_number(id, ADDRESS_ID)? as u8;
     let tick = read_number(tick, TICK)?;
-    Ok(Line::Rule(ScriptLine::Add { id, tick }))
+    Ok(Line::Event(ScriptLine::Add { id, tick }))
 }
 
 /// `remove SIDE ID TICK`
@@ -82,7 +82,7 @@ pub fn read_remove(words: &[&[u8]]) -> Result<Line, ScriptKind>
     let side = read_side(side)?;
     let id = read_number(id, ADDRESS_ID)? as u8;
     let tick = read_number(tick, TICK)?;
-    Ok(Line::Rule(ScriptLine::Remove { side, id, tick }))
+    Ok(Line::Event(ScriptLine::Remove { side, id, tick }))
 }
 
 /// `fastclose SIDE TICK`
@@ -95,5 +95,5 @@ pub fn read_fast_close(words: &[&[u8]]) -> Result<Line, ScriptKind>
     };
     let side = read_side(side)?;
     let tick = read_number(tick, TICK)?;
-    Ok(Line::Rule(ScriptLine::FastClose { side, tick }))
+    Ok(Line::Event(ScriptLine::FastClose { side, tick }))
 }
