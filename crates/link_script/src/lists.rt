@@ -21,14 +21,36 @@ impl Model for PathLines {
     ghost view = { λ p. p.lines.items };
 }
 
-impl PathLines {
-    /// Makes the list of a vector, and takes no memory.
-    pub fn from_vec(lines: Vec<PathLine>) -> Self
-        ensures { result ≡ lines.items }
-    {
+/// Takes no memory.
+impl From<Vec<PathLine>> for PathLines {
+    ghost from_gives = { λ lines list. list ≡ lines.items };
+
+    fn from(lines: Vec<PathLine>) -> Self {
         PathLines { lines }
     }
+}
 
+impl PartialEq for PathLines {
+    ghost use Rattle.link_script.specs.contracts.script.PathLinePartialEq.TheImpl.Laws.{laws-law};
+    ghost use Rattle.std.specs.Cmp.Lexicographic.{pointwise, lists_per};
+
+    ghost eq = { pointwise ⟦<PathLine as PartialEq>⟧.eq };
+
+    ghost laws = { lists_per laws-law };
+
+    fn eq(&self, other: &Self) -> bool {
+        self.lines == other.lines
+    }
+}
+
+impl Eq for PathLines {
+    ghost use Rattle.link_script.specs.contracts.script.PathLineEq.TheImpl.Laws.{laws-law};
+    ghost use Rattle.std.specs.Cmp.Lexicographic.{lists_equiv};
+
+    ghost laws = { lists_equiv laws-law };
+}
+
+impl PathLines {
     /// Adds a line at the end.
     pub fn push(&mut self, line: PathLine) -> Result<(), AllocError>
         ensures ok { OnOk result (self.new ≡ self.old ++ line ∷ []) }
@@ -68,14 +90,36 @@ impl Model for ScriptLines {
     ghost view = { λ p. p.lines.items };
 }
 
-impl ScriptLines {
-    /// Makes the list of a vector, and takes no memory.
-    pub fn from_vec(lines: Vec<ScriptLine>) -> Self
-        ensures { result ≡ lines.items }
-    {
+/// Takes no memory.
+impl From<Vec<ScriptLine>> for ScriptLines {
+    ghost from_gives = { λ lines list. list ≡ lines.items };
+
+    fn from(lines: Vec<ScriptLine>) -> Self {
         ScriptLines { lines }
     }
+}
 
+impl PartialEq for ScriptLines {
+    ghost use Rattle.link_script.specs.contracts.script.ScriptLinePartialEq.TheImpl.Laws.{laws-law};
+    ghost use Rattle.std.specs.Cmp.Lexicographic.{pointwise, lists_per};
+
+    ghost eq = { pointwise ⟦<ScriptLine as PartialEq>⟧.eq };
+
+    ghost laws = { lists_per laws-law };
+
+    fn eq(&self, other: &Self) -> bool {
+        self.lines == other.lines
+    }
+}
+
+impl Eq for ScriptLines {
+    ghost use Rattle.link_script.specs.contracts.script.ScriptLineEq.TheImpl.Laws.{laws-law};
+    ghost use Rattle.std.specs.Cmp.Lexicographic.{lists_equiv};
+
+    ghost laws = { lists_equiv laws-law };
+}
+
+impl ScriptLines {
     /// Adds a line at the end.
     pub fn push(&mut self, line: ScriptLine) -> Result<(), AllocError>
         ensures ok { OnOk result (self.new ≡ self.old ++ line ∷ []) }

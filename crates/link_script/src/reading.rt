@@ -116,8 +116,8 @@ fn blank(alloc: Global) -> Script
         seed: DEFAULT_SEED,
         checksum: false,
         buffer: DEFAULT_BUFFER,
-        paths: PathLines::from_vec(Vec::new(alloc)),
-        lines: ScriptLines::from_vec(Vec::new(alloc)),
+        paths: PathLines::from(Vec::new(alloc)),
+        lines: ScriptLines::from(Vec::new(alloc)),
     }
 }
 

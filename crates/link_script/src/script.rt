@@ -4,7 +4,7 @@ use crate::lists::{PathLines, ScriptLines};
 use outside_kit::Side;
 
 /// How a connection is to run: its settings, its paths, and what happens on them.
-#[derive(Debug, Drop)]
+#[derive(Debug, Drop, PartialEq, Eq)]
 pub struct Script {
     /// From this number keys, nonces and initial sequence numbers are drawn.
     pub seed: u64,
