@@ -1,5 +1,5 @@
 -- A word of digits is text, and `parse` reads it.
-use Rattle.std.proofs.Common.{◌≡◌, ℕ, ◌<◌, ◌≤◌, ◌^◌, Bool, true, false, ◌&&◌, List, length, Option, Some, None, Result, Ok, Err, sym, ap, subst, ◌∙◌, refl, arith, rules}
+use Rattle.std.proofs.Common.{◌≡◌, ℕ, ◌<◌, ◌^◌, true, ◌&&◌, List, length, Result, Ok, Err, refl, rules}
 use Rattle.std.specs.Prelude.{nat_lt, nat_le, MatchResult, IsOk}
 use Rattle.std.specs.Borrow.{Bor}
 use Rattle.std.specs.List.{list_all}
@@ -12,7 +12,7 @@ use Rattle.std.proofs.lemmas.Bool.{and_parts, ltb-true}
 use Rattle.std.proofs.lemmas.Str.{IsUtf8-from_ascii}
 use Rattle.std.proofs.lemmas.Str.Parse.{IsNumeralModel, numerals_by_value, parse_digits}
 use Rattle.std.proofs.lemmas.Fmt.{IsAscii-from_digits}
-use Rattle.link_script.specs.declared.limits.TheConstants.{MAX_DIGITS}
+use Rattle.link_script.specs.Ranges.{most_digits}
 use Rattle.link_script.specs.Numbers.{is_numeral}
 
 abbrev pub AreDigits : List ℕ → Type 0
@@ -24,8 +24,8 @@ digits = numerals_by_value _ (search rules)
 -- what a numeral is
 pub numeral_parts : (word : List ℕ) → is_numeral word ≡ true → (0 < length word) × AreDigits word
 numeral_parts word h =
-    let whole = and_parts (nat_lt 0 (length word) && nat_le (length word) MAX_DIGITS) (list_all is_ascii_digit word) h in
-    let front = and_parts (nat_lt 0 (length word)) (nat_le (length word) MAX_DIGITS) whole.0 in
+    let whole = and_parts (nat_lt 0 (length word) && nat_le (length word) most_digits) (list_all is_ascii_digit word) h in
+    let front = and_parts (nat_lt 0 (length word)) (nat_le (length word) most_digits) whole.0 in
     (ltb-true 0 (length word) front.0, whole.1)
 
 -- a numeral is text, so `from_utf8` gives it

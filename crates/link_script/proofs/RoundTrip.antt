@@ -1,32 +1,30 @@
 -- The text of a script says that script.
-use Rattle.std.proofs.Common.{◌≡◌, ℕ, zero, suc, ◌+◌, ◌^◌, ◌<◌, ◌≤◌, Bool, true, false, ◌||◌, not, cond, eqb, ltb, List, [], ◌∷◌, ◌++◌, length, map, All, Result, Ok, Err, refl, sym, ap, subst, ◌∙◌, append_assoc, arith}
+use Rattle.std.proofs.Common.{◌≡◌, ℕ, suc, ◌+◌, ◌<◌, ◌≤◌, Bool, true, false, not, cond, eqb, List, [], ◌∷◌, ◌++◌, length, map, Result, Ok, refl, sym, ap, ◌∙◌, append_assoc, arith}
 use Rattle.std.specs.Prelude.{nat_lt, fold, ◌==◌}
 use Rattle.std.specs.List.{list_any, flat_map, AllByRecursion}
 use Rattle.std.proofs.lemmas.Bool.{le-ltb, eqb-true, not-true, or_right}
-use Rattle.std.proofs.lemmas.List.{length-append, append-nil}
+use Rattle.std.proofs.lemmas.List.{append-nil}
 use Rattle.std.proofs.lemmas.List.Elements.{recursion_from_All}
 use Rattle.std.proofs.lemmas.List.Folds.{list_any-append}
 use Rattle.std.proofs.lemmas.List.Sums.{fold-append}
 use Rattle.link_script.specs.declared.fault.ScriptFault.{ScriptFault}
-use Rattle.link_script.specs.declared.limits.TheConstants.{MAX_LINES}
+use Rattle.link_script.specs.Ranges.{most_lines}
 use Rattle.link_script.specs.declared.line.Line.{Line}
-use Rattle.link_script.specs.declared.line.Line.TheVariants.{Header, Seed, Checksum, Buffer, Path, Event, End}
+use Rattle.link_script.specs.declared.line.Line.TheVariants.{Header, Seed, Buffer, Event, End}
 use Rattle.link_script.specs.declared.script.PathLine.{PathLine}
 use Rattle.link_script.specs.declared.script.Script.{Script}
 use Rattle.link_script.specs.declared.script.ScriptLine.{ScriptLine}
 use Rattle.link_script.specs.declared.script.ScriptLine.TheVariants.{Drop}
-use Rattle.link_script.specs.Lines.{line_of}
 use Rattle.link_script.specs.Places.{is_end}
 use Rattle.link_script.specs.Reading.{in_place, later_line, seen_after, read_on, blank, with_line, script_of, reading}
 use Rattle.link_script.specs.Scripts.{IsPath, IsEvent, OpensPlainly, HasRanges}
 use Rattle.link_script.specs.Words.{text_lines, words_of, is_passed_over}
 use Rattle.link_script.specs.Writing.{spaced, line_words, line_text, event_words, ended, seed_lines, checksum_lines, buffer_lines, path_lines, event_lines, lines_of, text_of}
-use Rattle.link_script.proofs.Again.{line_again, plain_line}
-use Rattle.link_script.proofs.Kept.{wider}
-use Rattle.link_script.proofs.Placed.{Placed, later_lines, placed_all}
-use Rattle.link_script.proofs.Ranges.{most_paths, IsLine}
-use Rattle.link_script.proofs.Sound.{length-lines_of}
-use Rattle.link_script.proofs.Spelled.{ArePlain, lines_again, words_again}
+use Rattle.link_script.proofs.WrittenLines.{line_again, plain_line}
+use Rattle.link_script.proofs.ScriptRanges.{wider}
+use Rattle.link_script.proofs.WrittenPlaces.{Placed, later_lines, placed_all}
+use Rattle.link_script.proofs.LineRanges.{most_paths, IsLine}
+use Rattle.link_script.proofs.WrittenWords.{ArePlain, lines_again, words_again}
 
 -- ---- a written line among the lines of a text
 
@@ -59,10 +57,10 @@ cut_words (word ∷ words) h plain = words_again word words plain
 abbrev IsLater : Line → Type 0
 IsLater line = IsLine line × (line ≡ Header → ⊥)
 
-line_taken : (number : ℕ) (first : Line) (seen : List Line) (line : Line) → number ≤ MAX_LINES → IsLater line → in_place (first ∷ seen) line ≡ Ok line → seen_after number (first ∷ seen) (line_text line) ≡ Ok ((first ∷ seen) ++ line ∷ [])
+line_taken : (number : ℕ) (first : Line) (seen : List Line) (line : Line) → number ≤ most_lines → IsLater line → in_place (first ∷ seen) line ≡ Ok line → seen_after number (first ∷ seen) (line_text line) ≡ Ok ((first ∷ seen) ++ line ∷ [])
 unfolding seen_after later_line
 line_taken number first seen line few h place =
-    let counted : nat_lt MAX_LINES number ≡ false = le-ltb MAX_LINES number few in
+    let counted : nat_lt most_lines number ≡ false = le-ltb most_lines number few in
     let shown = not_passed_over (line_words line) (begins_line line) in
     let cut = cut_words (line_words line) (begins_line line) (plain_line line h.0) in
     rw (counted, shown, cut, line_again line h.0 h.1, place) refl
@@ -72,7 +70,7 @@ line_taken number first seen line few h place =
 abbrev ok_lines : List Line → Result (List Line) ScriptFault
 ok_lines lines = Ok lines
 
-read_lines : (lines : List Line) (number : ℕ) (first : Line) (seen : List Line) → AllByRecursion IsLater lines → Placed (first ∷ seen) lines → number + length lines ≤ MAX_LINES + 1
+read_lines : (lines : List Line) (number : ℕ) (first : Line) (seen : List Line) → AllByRecursion IsLater lines → Placed (first ∷ seen) lines → number + length lines ≤ most_lines + 1
     → list_any is_end (first ∷ (seen ++ lines)) ≡ true → read_on number (first ∷ seen) (map line_text lines) ≡ Ok (first ∷ (seen ++ lines))
 unfolding read_on
 read_lines [] number first seen h placed few ended =
@@ -185,6 +183,6 @@ unfolding reading text_of
 text_again script h =
     let later = all_later script h in
     let cut : text_lines (flat_map ended (lines_of script)) ≡ line_text Header ∷ map line_text (later_lines script) = lines_again (lines_of script) (plain_line Header tt, plain_lines (later_lines script) later) in
-    let few : 2 + length (later_lines script) ≤ MAX_LINES + 1 = omega (arith, h.few_lines) in
+    let few : 2 + length (later_lines script) ≤ most_lines + 1 = omega (arith, h.few_lines) in
     let read = read_lines (later_lines script) 2 Header [] later (placed_all script h) few (script_ends script) in
     rw (cut, first_taken (map line_text (later_lines script)), read) (ap (λ (s : Script). Ok s) (said_again script))

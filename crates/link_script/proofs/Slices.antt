@@ -1,5 +1,5 @@
 -- A slice of words that is known by its length.
-use Rattle.std.proofs.Common.{◌≡◌, ℕ, ◌<◌, List, [], ◌∷◌, length, get_or, map, refl, arith}
+use Rattle.std.proofs.Common.{◌≡◌, ℕ, List, [], ◌∷◌, length, get_or, map, refl, arith}
 use Rattle.std.specs.Borrow.{Bor}
 
 abbrev pub words_in : List (Bor (List ℕ)) → List (List ℕ)

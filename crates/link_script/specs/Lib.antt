@@ -1,4 +1,5 @@
 pub mod Faults
+pub mod Ranges
 pub mod Numbers
 pub mod Words
 pub mod Steps

@@ -2,10 +2,9 @@
 use Rattle.std.specs.Prelude.{ℕ, Bool, true, false, not, List, [], ◌∷◌, Result, Ok, Err, is_ok, if◌then◌else◌, codes}
 use Rattle.link_script.specs.declared.fault.ScriptKind.{ScriptKind}
 use Rattle.link_script.specs.declared.fault.ScriptKind.TheVariants.{Word}
-use Rattle.link_script.specs.declared.limits.TheConstants.{SEED, BUFFER, PATH, FIRST_PATH, MSS, DELAY, SEGMENT, LATENESS, TICK, ADDRESS_ID}
+use Rattle.link_script.specs.Ranges.{seeds, buffers, path_numbers, first_path_number, segment_sizes, delays, segment_numbers, latenesses, run_ticks, address_ids}
 use Rattle.link_script.specs.declared.line.Line.{Line}
 use Rattle.link_script.specs.declared.line.Line.TheVariants as line
-use Rattle.link_script.specs.declared.script.PathLine.{PathLine}
 use Rattle.link_script.specs.declared.script.ScriptLine.TheVariants.{Drop, Strip, Alter, Dup, Late, StripAll, Die, Prio, Add, Remove, FastClose}
 use Rattle.link_script.specs.declared.segment.Segment.{Segment}
 use Rattle.link_script.specs.declared.word.Keyword.{Keyword}
@@ -17,7 +16,7 @@ use Rattle.link_script.specs.Words.{fixed, keyword, direction, side, switch}
 -- seed N
 unfoldable pub seed_line : List (List ℕ) → Result Line ScriptKind
 seed_line (seed ∷ []) = do
-  n ← within SEED seed
+  n ← within seeds seed
   Ok (line.Seed n)
 seed_line words = Err Word
 
@@ -31,11 +30,11 @@ checksum_line words = Err Word
 -- buffer N
 unfoldable pub buffer_line : List (List ℕ) → Result Line ScriptKind
 buffer_line (octets ∷ []) = do
-  n ← within BUFFER octets
+  n ← within buffers octets
   Ok (line.Buffer n)
 buffer_line words = Err Word
 
--- [join TICK] [backup], as the word of the tick, and whether the path is a backup
+-- [join run_ticks] [backup], as the word of the tick, and whether the path is a backup
 unfoldable pub path_options : List (List ℕ) → Result (List ℕ × Bool) ScriptKind
 path_options [] = Ok (codes "0", false)
 path_options (a ∷ []) = do
@@ -53,15 +52,15 @@ path_options words = Err Word
 -- path 0 has no options
 abbrev pub may_have : List ℕ → List (List ℕ) → Bool
 may_have path [] = true
-may_have path (option ∷ options) = not (is_ok (within FIRST_PATH path))
+may_have path (option ∷ options) = not (is_ok (within first_path_number path))
 
 -- the numbers of a path
 unfoldable pub path_of : List ℕ → List ℕ → List ℕ → List ℕ → Bool → Result Line ScriptKind
 path_of path mss delay join backup = do
-  index ← within PATH path
-  octets ← within MSS mss
-  ticks ← within DELAY delay
-  tick ← within TICK join
+  index ← within path_numbers path
+  octets ← within segment_sizes mss
+  ticks ← within delays delay
+  tick ← within run_ticks join
   Ok (line.Path index (record { mss = octets; delay = ticks; join = tick; backup = backup }))
 
 -- path I mss N delay N, and the options
@@ -77,8 +76,8 @@ path_line words = Err Word
 unfoldable pub segment : List ℕ → List ℕ → List ℕ → Result Segment ScriptKind
 segment path from number = do
   side ← direction from
-  index ← within PATH path
-  n ← within SEGMENT number
+  index ← within path_numbers path
+  n ← within segment_numbers number
   Ok (record { path = index; from = side; number = n })
 
 -- drop I DIR N
@@ -106,7 +105,7 @@ alter_line words = Err Word
 unfoldable pub dup_line : List (List ℕ) → Result Line ScriptKind
 dup_line (path ∷ from ∷ number ∷ ticks ∷ []) = do
   s ← segment path from number
-  t ← within LATENESS ticks
+  t ← within latenesses ticks
   Ok (line.Event (Dup s.path s.from s.number t))
 dup_line words = Err Word
 
@@ -114,60 +113,60 @@ dup_line words = Err Word
 unfoldable pub late_line : List (List ℕ) → Result Line ScriptKind
 late_line (path ∷ from ∷ number ∷ ticks ∷ []) = do
   s ← segment path from number
-  t ← within LATENESS ticks
+  t ← within latenesses ticks
   Ok (line.Event (Late s.path s.from s.number t))
 late_line words = Err Word
 
--- strip-all I DIR TICK
+-- strip-all I DIR run_ticks
 unfoldable pub strip_all_line : List (List ℕ) → Result Line ScriptKind
 strip_all_line (path ∷ from ∷ tick ∷ []) = do
   d ← direction from
-  index ← within PATH path
-  t ← within TICK tick
+  index ← within path_numbers path
+  t ← within run_ticks tick
   Ok (line.Event (StripAll index d t))
 strip_all_line words = Err Word
 
--- die I TICK
+-- die I run_ticks
 unfoldable pub die_line : List (List ℕ) → Result Line ScriptKind
 die_line (path ∷ tick ∷ []) = do
-  index ← within PATH path
-  t ← within TICK tick
+  index ← within path_numbers path
+  t ← within run_ticks tick
   Ok (line.Event (Die index t))
 die_line words = Err Word
 
--- prio I SIDE TICK on | off
+-- prio I SIDE run_ticks on | off
 unfoldable pub prio_line : List (List ℕ) → Result Line ScriptKind
 prio_line (path ∷ which ∷ tick ∷ word ∷ []) = do
   s ← side which
   on ← switch word
-  index ← within PATH path
-  t ← within TICK tick
+  index ← within path_numbers path
+  t ← within run_ticks tick
   Ok (line.Event (Prio index s t on))
 prio_line words = Err Word
 
--- add b ID TICK
+-- add b ID run_ticks
 unfoldable pub add_line : List (List ℕ) → Result Line ScriptKind
 add_line (which ∷ id ∷ tick ∷ []) = do
   _ ← fixed (codes "b") which
-  n ← within ADDRESS_ID id
-  t ← within TICK tick
+  n ← within address_ids id
+  t ← within run_ticks tick
   Ok (line.Event (Add n t))
 add_line words = Err Word
 
--- remove SIDE ID TICK
+-- remove SIDE ID run_ticks
 unfoldable pub remove_line : List (List ℕ) → Result Line ScriptKind
 remove_line (which ∷ id ∷ tick ∷ []) = do
   s ← side which
-  n ← within ADDRESS_ID id
-  t ← within TICK tick
+  n ← within address_ids id
+  t ← within run_ticks tick
   Ok (line.Event (Remove s n t))
 remove_line words = Err Word
 
--- fastclose SIDE TICK
+-- fastclose SIDE run_ticks
 unfoldable pub fast_close_line : List (List ℕ) → Result Line ScriptKind
 fast_close_line (which ∷ tick ∷ []) = do
   s ← side which
-  t ← within TICK tick
+  t ← within run_ticks tick
   Ok (line.Event (FastClose s t))
 fast_close_line words = Err Word
 

@@ -1,13 +1,12 @@
 -- A text as a script: the lines from the first on, and what they say together.
-use Rattle.std.specs.Prelude.{◌≡◌, ℕ, suc, Bool, false, List, [], ◌∷◌, ◌++◌, Option, Some, None, Result, Ok, Err, nat_lt, fold, if◌then◌else◌, codes}
+use Rattle.std.specs.Prelude.{◌≡◌, ℕ, suc, false, List, [], ◌∷◌, ◌++◌, Result, Ok, Err, nat_lt, fold, if◌then◌else◌, codes}
 use Rattle.std.specs.List.{list_any}
-use Rattle.std.specs.Option.{option_to_list}
 use Rattle.std.specs.Str.{bytes_eq}
 use Rattle.link_script.specs.declared.fault.ScriptFault.{ScriptFault}
 use Rattle.link_script.specs.declared.fault.ScriptFault.TheVariants as fault
 use Rattle.link_script.specs.declared.fault.ScriptKind.{ScriptKind}
 use Rattle.link_script.specs.declared.fault.ScriptKind.TheVariants as kind
-use Rattle.link_script.specs.declared.limits.TheConstants.{MAX_LINES, DEFAULT_SEED, DEFAULT_BUFFER}
+use Rattle.link_script.specs.Ranges.{most_lines, default_seed, default_buffer}
 use Rattle.link_script.specs.declared.line.Line.{Line}
 use Rattle.link_script.specs.declared.line.Line.TheVariants.{Header, Seed, Checksum, Buffer, Path, Event, End}
 use Rattle.link_script.specs.declared.script.Script.{Script}
@@ -52,7 +51,7 @@ at_line number (Err kind) = Err (fault.Line number kind)
 -- the lines read so far, after the line with this number
 unfoldable pub seen_after : ℕ → List Line → List ℕ → Result (List Line) ScriptFault
 seen_after number seen text =
-    if nat_lt MAX_LINES number then Err (fault.Line number kind.TooMany)
+    if nat_lt most_lines number then Err (fault.Line number kind.TooMany)
     else (if is_passed_over text then Ok seen
     else (at_line number (next_line seen text) >>= λ line. Ok (seen ++ line ∷ [])))
 
@@ -63,7 +62,7 @@ read_on number seen (text ∷ texts) = seen_after number seen text >>= λ now. r
 
 -- a script without a line
 abbrev pub blank : Script
-blank = record { seed = DEFAULT_SEED; checksum = false; buffer = DEFAULT_BUFFER; paths = []; lines = [] }
+blank = record { seed = default_seed; checksum = false; buffer = default_buffer; paths = []; lines = [] }
 
 -- what a line adds
 abbrev pub with_line : Script → Line → Script

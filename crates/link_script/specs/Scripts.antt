@@ -1,8 +1,8 @@
 -- What every script keeps to, whatever its text is.
-use Rattle.std.specs.Prelude.{◌≡◌, ℕ, ◌+◌, ◌<◌, ◌≤◌, Bool, false, List, [], ◌∷◌, length, Result, Ok, All}
+use Rattle.std.specs.Prelude.{◌≡◌, ℕ, ◌+◌, ◌<◌, ◌≤◌, false, List, [], ◌∷◌, length, Ok, All}
 use Rattle.std.specs.List.{AllPairs}
 use Rattle.link_script.specs.declared.limits.Limits.{Limits}
-use Rattle.link_script.specs.declared.limits.TheConstants.{MAX_LINES, SEED, BUFFER, PATH, MSS, DELAY, SEGMENT, LATENESS, TICK, ADDRESS_ID}
+use Rattle.link_script.specs.Ranges.{most_lines, seeds, buffers, path_numbers, segment_sizes, delays, segment_numbers, latenesses, run_ticks, address_ids}
 use Rattle.link_script.specs.declared.line.Line.TheVariants.{Event}
 use Rattle.link_script.specs.declared.script.PathLine.{PathLine}
 use Rattle.link_script.specs.declared.script.Script.{Script}
@@ -21,9 +21,9 @@ pub record IsWithin (limits : Limits) (n : ℕ) : Type 0 where
   pub most : n ≤ limits.most
 
 pub record IsPath (path : PathLine) : Type 0 where
-  pub mss : IsWithin MSS path.mss
-  pub delay : IsWithin DELAY path.delay
-  pub join : IsWithin TICK path.join
+  pub mss : IsWithin segment_sizes path.mss
+  pub delay : IsWithin delays path.delay
+  pub join : IsWithin run_ticks path.join
 
 -- the path that opens the connection joins nothing, and is no backup
 abbrev pub OpensPlainly : List PathLine → Type 0
@@ -32,29 +32,29 @@ OpensPlainly (path ∷ paths) = (path.join ≡ 0) × (path.backup ≡ false)
 
 -- a line that speaks of one of so many paths
 abbrev pub IsEvent : ℕ → ScriptLine → Type 0
-IsEvent paths (Drop path from number) = (path < paths) × IsWithin SEGMENT number
-IsEvent paths (Strip path from number) = (path < paths) × IsWithin SEGMENT number
-IsEvent paths (Alter path from number) = (path < paths) × IsWithin SEGMENT number
-IsEvent paths (Dup path from number ticks) = (path < paths) × IsWithin SEGMENT number × IsWithin LATENESS ticks
-IsEvent paths (Late path from number ticks) = (path < paths) × IsWithin SEGMENT number × IsWithin LATENESS ticks
-IsEvent paths (StripAll path from tick) = (path < paths) × IsWithin TICK tick
-IsEvent paths (Die path tick) = (path < paths) × IsWithin TICK tick
-IsEvent paths (Prio path side tick on) = (path < paths) × IsWithin TICK tick
-IsEvent paths (Add id tick) = IsWithin ADDRESS_ID id × IsWithin TICK tick
-IsEvent paths (Remove side id tick) = IsWithin ADDRESS_ID id × IsWithin TICK tick
-IsEvent paths (FastClose side tick) = IsWithin TICK tick
+IsEvent paths (Drop path from number) = (path < paths) × IsWithin segment_numbers number
+IsEvent paths (Strip path from number) = (path < paths) × IsWithin segment_numbers number
+IsEvent paths (Alter path from number) = (path < paths) × IsWithin segment_numbers number
+IsEvent paths (Dup path from number ticks) = (path < paths) × IsWithin segment_numbers number × IsWithin latenesses ticks
+IsEvent paths (Late path from number ticks) = (path < paths) × IsWithin segment_numbers number × IsWithin latenesses ticks
+IsEvent paths (StripAll path from tick) = (path < paths) × IsWithin run_ticks tick
+IsEvent paths (Die path tick) = (path < paths) × IsWithin run_ticks tick
+IsEvent paths (Prio path side tick on) = (path < paths) × IsWithin run_ticks tick
+IsEvent paths (Add id tick) = IsWithin address_ids id × IsWithin run_ticks tick
+IsEvent paths (Remove side id tick) = IsWithin address_ids id × IsWithin run_ticks tick
+IsEvent paths (FastClose side tick) = IsWithin run_ticks tick
 
 -- no two lines settle one thing
 abbrev pub SettleApart : ScriptLine → ScriptLine → Type 0
 SettleApart a b = settle_one (Event a) (Event b) ≡ false
 
 pub record HasRanges (script : Script) : Type 0 where
-  pub seed : IsWithin SEED script.seed
-  pub buffer : IsWithin BUFFER script.buffer
+  pub seed : IsWithin seeds script.seed
+  pub buffer : IsWithin buffers script.buffer
   pub some_path : 0 < length script.paths
-  pub few_paths : length script.paths ≤ PATH.most + 1
+  pub few_paths : length script.paths ≤ path_numbers.most + 1
   pub paths : All IsPath script.paths
   pub first_path : OpensPlainly script.paths
   pub lines : All (IsEvent (length script.paths)) script.lines
   pub apart : AllPairs SettleApart script.lines
-  pub few_lines : length (lines_of script) ≤ MAX_LINES
+  pub few_lines : length (lines_of script) ≤ most_lines

@@ -1,9 +1,8 @@
 -- The one text of a script: its lines, of which those that say a default are left out.
-use Rattle.std.specs.Prelude.{ℕ, suc, Bool, true, false, List, [], ◌∷◌, ◌++◌, map, ◌==◌, if◌then◌else◌, codes}
+use Rattle.std.specs.Prelude.{ℕ, suc, Bool, true, List, [], ◌∷◌, ◌++◌, map, ◌==◌, if◌then◌else◌, codes}
 use Rattle.std.specs.Fmt.{decimal}
 use Rattle.std.specs.List.{flat_map, join_with_byte}
-use Rattle.outside_kit.specs.declared.side.Side.{Side}
-use Rattle.link_script.specs.declared.limits.TheConstants.{DEFAULT_SEED, DEFAULT_BUFFER}
+use Rattle.link_script.specs.Ranges.{default_seed, default_buffer}
 use Rattle.link_script.specs.declared.line.Line.{Line}
 use Rattle.link_script.specs.declared.line.Line.TheVariants.{Header, Seed, Checksum, Buffer, Path, Event, End}
 use Rattle.link_script.specs.declared.script.PathLine.{PathLine}
@@ -62,13 +61,13 @@ abbrev pub ended : Line → List ℕ
 ended line = line_text line ++ 10 ∷ []
 
 abbrev pub seed_lines : ℕ → List Line
-seed_lines n = if n == DEFAULT_SEED then [] else Seed n ∷ []
+seed_lines n = if n == default_seed then [] else Seed n ∷ []
 
 abbrev pub checksum_lines : Bool → List Line
 checksum_lines on = if on then Checksum true ∷ [] else []
 
 abbrev pub buffer_lines : ℕ → List Line
-buffer_lines octets = if octets == DEFAULT_BUFFER then [] else Buffer octets ∷ []
+buffer_lines octets = if octets == default_buffer then [] else Buffer octets ∷ []
 
 -- the paths, of which the first has this number
 abbrev pub path_lines : ℕ → List PathLine → List Line

@@ -1,7 +1,7 @@
 //! Reads a script.
 
 ghost use Rattle.std.specs.Prelude.{◌≡◌, ◌≤◌, [], map, OnOk, IfOk};
-ghost use Rattle.link_script.specs.declared.limits.TheConstants.{MAX_LINES};
+ghost use Rattle.link_script.specs.Ranges.{most_lines};
 ghost use Rattle.link_script.specs.Words.{text_lines};
 ghost use Rattle.link_script.specs.Scripts.{HasRanges};
 ghost use Rattle.link_script.specs.Reading.{Gives, first_line, in_place, later_line, next_line, at_line, seen_after, read_on, blank, with_line, script_of, reading};
@@ -76,7 +76,7 @@ fn take_line(
     text: &[u8],
 ) -> Result<(), ScriptFault>
     ensures exact { Gives (λ _. seen.new.items) result (seen_after number seen.old.items text.now) }
-    ensures few { OnOk result (number ≤ MAX_LINES) }
+    ensures few { OnOk result (number ≤ most_lines) }
 {
     if number > MAX_LINES {
         let kind = ScriptKind::TooMany;

@@ -1,5 +1,5 @@
 use Rattle.link_script.proofs.RoundTrip.{text_again}
-use Rattle.link_script.proofs.Sound.{read_has_ranges}
+use Rattle.link_script.proofs.ReadRanges.{read_has_ranges}
 use Rattle.link_script.proofs.laws.written_is_read_again.Goals as goal
 
 pub returns : goal.returns

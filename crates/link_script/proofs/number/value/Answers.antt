@@ -1,6 +1,5 @@
-use Rattle.std.specs.Str.{IsUtf8}
 use Rattle.std.specs.Str.Parse.{ParsesUnsigned}
-use Rattle.std.proofs.Common.{ℕ, List, ◌≡◌, subst}
+use Rattle.std.proofs.Common.{ℕ, List, subst}
 use Rattle.std.proofs.lemmas.Result.{MatchResult-at_ok}
 use Rattle.link_script.proofs.Numerals.{text_of_numeral, parsed}
 use Rattle.link_script.proofs.number.value.Goals as goal

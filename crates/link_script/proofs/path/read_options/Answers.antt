@@ -1,7 +1,6 @@
 use Rattle.std.proofs.Common.{refl, arith}
 use Rattle.std.proofs.lemmas.Result.{err_from_is_err_and}
 use Rattle.link_script.specs.Lines.{path_options}
-use Rattle.link_script.specs.Steps.{Shows}
 use Rattle.link_script.proofs.Slices.{two_words, three_words}
 use Rattle.link_script.proofs.path.read_options.Goals as goal
 

@@ -1,4 +1,4 @@
-use Rattle.link_script.proofs.Sound.{is_read}
+use Rattle.link_script.proofs.ReadRanges.{is_read}
 use Rattle.link_script.proofs.reading.parse.Goals as goal
 
 pub returns-clause-ranges : goal.returns-clause-ranges

@@ -2,7 +2,7 @@ use Rattle.std.proofs.Common.{sym, ap, ◌∙◌, arith}
 use Rattle.std.specs.List.{list_any}
 use Rattle.std.proofs.lemmas.Result.{err_from_is_err_and}
 use Rattle.link_script.specs.Places.{is_end}
-use Rattle.link_script.proofs.Turns.{goes_on, stops, misses, ends}
+use Rattle.link_script.proofs.ReadTurns.{goes_on, stops, misses, ends}
 use Rattle.link_script.proofs.reading.read_lines.Goals as goal
 
 pub returns-in_err-take_line : goal.returns-in_err-take_line

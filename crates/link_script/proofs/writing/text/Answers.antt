@@ -1,8 +1,8 @@
-use Rattle.std.proofs.Common.{Ok, ◌≡◌, ◌∙◌, ap}
+use Rattle.std.proofs.Common.{◌∙◌, ap}
 use Rattle.std.proofs.lemmas.Result.{IfOk-weaker}
 use Rattle.link_script.specs.Reading.{reading}
 use Rattle.link_script.proofs.RoundTrip.{text_again}
-use Rattle.link_script.proofs.Sound.{read_has_ranges}
+use Rattle.link_script.proofs.ReadRanges.{read_has_ranges}
 use Rattle.link_script.proofs.writing.text.Goals as goal
 
 pub returns-clause-again : goal.returns-clause-again

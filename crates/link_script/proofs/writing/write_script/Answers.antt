@@ -1,4 +1,4 @@
-use Rattle.link_script.proofs.Texts.{parts_of_text}
+use Rattle.link_script.proofs.WrittenText.{parts_of_text}
 use Rattle.link_script.proofs.writing.write_script.Goals as goal
 
 pub returns : goal.returns

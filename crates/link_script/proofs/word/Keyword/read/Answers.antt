@@ -1,4 +1,4 @@
-use Rattle.std.proofs.Common.{rules, ◌≡◌, ap, ◌∙◌, sym, Option}
+use Rattle.std.proofs.Common.{rules, ap, ◌∙◌, sym, Option}
 use borrow.Author.Tests.{tests}
 use Rattle.std.specs.Option.{ok_or}
 use Rattle.std.specs.Str.{bytes_eq}

@@ -1,25 +1,21 @@
 -- What the lines read so far say keeps its ranges.
-use Rattle.std.proofs.Common.{◌≡◌, ◌≢◌, ℕ, zero, suc, ◌+◌, ◌-◌, ◌<◌, ◌≤◌, Bool, true, false, ◌||◌, not, cond, eqb, leb, List, [], ◌∷◌, ◌++◌, length, get_or, All, Result, Ok, Err, Option, Some, None, refl, sym, ap, subst, ◌∙◌, arith}
-use Rattle.std.specs.Prelude.{count_by, nat_lt, fold}
+use Rattle.std.proofs.Common.{◌≡◌, ℕ, zero, suc, ◌+◌, ◌<◌, ◌≤◌, false, List, [], ◌∷◌, ◌++◌, length, get_or, All, refl, sym, subst, ◌∙◌, arith}
 use Rattle.std.specs.List.{list_any, AllPairs}
-use Rattle.std.proofs.lemmas.Bool.{or_parts, or_from, leb-false, eqb-true, eqb-false, not-true, not-false, false≢true}
-use Rattle.std.proofs.lemmas.List.{length-append, length-map, length_push}
+use Rattle.std.proofs.lemmas.Bool.{or_parts, leb-false, eqb-true, not-false}
+use Rattle.std.proofs.lemmas.List.{length_push}
 use Rattle.std.proofs.lemmas.List.Elements.{All-push, All-weaker, All-nil}
-use Rattle.std.proofs.lemmas.List.Folds.{list_any-append}
 use Rattle.std.proofs.lemmas.List.Quantifiers.{all_pairs_push}
-use Rattle.std.proofs.lemmas.List.Sums.{fold-append, sum_by-append}
-use Rattle.link_script.specs.declared.limits.TheConstants.{MAX_LINES, SEED, BUFFER, DEFAULT_SEED, DEFAULT_BUFFER}
+use Rattle.link_script.specs.Ranges.{seeds, buffers}
 use Rattle.link_script.specs.declared.line.Line.{Line}
 use Rattle.link_script.specs.declared.line.Line.TheVariants.{Header, Seed, Checksum, Buffer, Path, Event, End}
 use Rattle.link_script.specs.declared.script.PathLine.{PathLine}
 use Rattle.link_script.specs.declared.script.Script.{Script}
 use Rattle.link_script.specs.declared.script.ScriptLine.{ScriptLine}
 use Rattle.link_script.specs.declared.script.ScriptLine.TheVariants.{Drop, Strip, Alter, Dup, Late, StripAll, Die, Prio, Add, Remove, FastClose}
-use Rattle.link_script.specs.Places.{is_path, is_end, path_named, lacks, is_misplaced, settle_one}
-use Rattle.link_script.specs.Reading.{blank, with_line, script_of}
+use Rattle.link_script.specs.Places.{path_named, lacks, is_misplaced, settle_one}
+use Rattle.link_script.specs.Reading.{blank, with_line}
 use Rattle.link_script.specs.Scripts.{IsWithin, IsPath, OpensPlainly, IsEvent, SettleApart}
-use Rattle.link_script.specs.Writing.{seed_lines, checksum_lines, buffer_lines, path_lines, event_lines, lines_of}
-use Rattle.link_script.proofs.Ranges.{most_paths, IsLine}
+use Rattle.link_script.proofs.LineRanges.{most_paths, IsLine}
 
 -- ---- paths
 
@@ -90,8 +86,8 @@ events_wider paths events k = record { ranges = All-weaker (IsEvent paths) (IsEv
 -- ---- a script
 
 pub record Kept (script : Script) : Type 0 where
-  pub seed : IsWithin SEED script.seed
-  pub buffer : IsWithin BUFFER script.buffer
+  pub seed : IsWithin seeds script.seed
+  pub buffer : IsWithin buffers script.buffer
   pub paths : PathsKept script.paths
   pub events : EventsKept (length script.paths) script.lines
 

@@ -1,18 +1,15 @@
 -- A line as it is written: its words, and how it is cut again.
-use Rattle.std.proofs.Common.{◌≡◌, ℕ, zero, suc, ◌+◌, ◌*◌, ◌^◌, ◌<◌, ◌≤◌, Bool, true, false, ◌&&◌, not, cond, eqb, ltb, leb, List, [], ◌∷◌, ◌++◌, length, map, Result, Ok, Err, refl, sym, ap, ◌∙◌, append_assoc, arith}
-use Rattle.std.specs.Prelude.{nat_lt, nat_le, ◌==◌, is_ok}
+use Rattle.std.proofs.Common.{◌≡◌, ℕ, ◌^◌, ◌<◌, Bool, true, false, ◌&&◌, not, leb, List, [], ◌∷◌, ◌++◌, length, map, Ok, refl, ap, ◌∙◌, append_assoc, arith}
+use Rattle.std.specs.Prelude.{◌==◌, is_ok}
 use Rattle.std.specs.Char.{is_ascii_digit}
 use Rattle.std.specs.Fmt.{decimal}
-use Rattle.std.specs.List.{list_all, slice_split, onto_first, AllByRecursion, flat_map}
-use Rattle.std.specs.Str.Parse.{digits_value}
-use Rattle.std.proofs.lemmas.Bool.{and_parts, and_from, not-true, le-leb, lt-ltb, leb-true, lt-leb}
+use Rattle.std.specs.List.{list_all, AllByRecursion, flat_map}
+use Rattle.std.proofs.lemmas.Bool.{and_parts, and_from, not-true, le-leb, lt-ltb, lt-leb}
 use Rattle.std.proofs.lemmas.Bool.Decides.{nat_tests}
 use Rattle.std.proofs.lemmas.Fmt.{digits_decimal, digits_value-decimal, decimal_nonempty, length-decimal-le}
 use Rattle.std.proofs.lemmas.List.Folds.{list_all-append}
-use Rattle.link_script.specs.declared.fault.ScriptKind.{ScriptKind}
-use Rattle.link_script.specs.declared.fault.ScriptKind.TheVariants.{Number}
 use Rattle.link_script.specs.declared.limits.Limits.{Limits}
-use Rattle.link_script.specs.declared.limits.TheConstants.{MAX_DIGITS, FIRST_PATH}
+use Rattle.link_script.specs.Ranges.{most_digits, first_path_number}
 use Rattle.link_script.specs.declared.line.Line.{Line}
 use Rattle.link_script.specs.Numbers.{is_numeral, is_within, within}
 use Rattle.link_script.specs.Scripts.{IsWithin}
@@ -46,7 +43,7 @@ plain_number n h = plain_digits (decimal n) (digits_decimal digits n h)
 
 numeral_again : (n : ℕ) → n < 2 ^ 64 → is_numeral (decimal n) ≡ true
 numeral_again n h =
-    and_from _ _ (and_from _ _ (lt-ltb 0 (length (decimal n)) (decimal_nonempty n h)) (le-leb (length (decimal n)) MAX_DIGITS (length-decimal-le 20 n (omega arith) (omega arith) h))) (digits_decimal digits n h)
+    and_from _ _ (and_from _ _ (lt-ltb 0 (length (decimal n)) (decimal_nonempty n h)) (le-leb (length (decimal n)) most_digits (length-decimal-le 20 n (omega arith) (omega arith) h))) (digits_decimal digits n h)
 
 -- a number that is written is read again
 pub number_again : (limits : Limits) (n : ℕ) → IsWithin limits n → n < 2 ^ 64 → within limits (decimal n) ≡ Ok n
@@ -55,7 +52,7 @@ number_again limits n h small =
     let inside : is_within limits n ≡ true = and_from _ _ (le-leb limits.least n h.least) (le-leb n limits.most h.most) in
     rw (numeral_again n small, digits_value-decimal digits n small, inside) refl
 
-pub later_path : (n : ℕ) → 0 < n → n < 2 ^ 64 → not (is_ok (within FIRST_PATH (decimal n))) ≡ true
+pub later_path : (n : ℕ) → 0 < n → n < 2 ^ 64 → not (is_ok (within first_path_number (decimal n))) ≡ true
 unfolding within
 later_path n some small =
     let low : leb 0 n ≡ true = le-leb 0 n (omega arith) in

@@ -1,9 +1,9 @@
 -- A text that is read has a script with its ranges.
-use Rattle.std.proofs.Common.{◌≡◌, ℕ, zero, suc, ◌+◌, ◌-◌, ◌<◌, ◌≤◌, Bool, true, false, ◌||◌, ◌⊎◌, not, cond, eqb, ltb, List, [], ◌∷◌, ◌++◌, length, All, Result, Ok, Err, refl, sym, ap, subst, ◌∙◌, arith, inl, inr}
-use Rattle.std.specs.Prelude.{count_by, nat_lt, fold, codes, ◌==◌, IfOk}
-use Rattle.std.specs.List.{list_any, flat_map}
+use Rattle.std.proofs.Common.{◌≡◌, ℕ, suc, ◌+◌, ◌-◌, ◌<◌, ◌≤◌, Bool, true, false, ◌||◌, ◌⊎◌, cond, eqb, List, [], ◌∷◌, ◌++◌, length, Result, Ok, Err, refl, sym, ap, subst, ◌∙◌, arith, inl, inr}
+use Rattle.std.specs.Prelude.{count_by, nat_lt, codes, IfOk}
+use Rattle.std.specs.List.{list_any}
 use Rattle.std.specs.Str.{bytes_eq}
-use Rattle.std.proofs.lemmas.Bool.{or_parts, or_from, or_cases, both_ways, ltb-false, eqb-false, false≢true, cond_both}
+use Rattle.std.proofs.lemmas.Bool.{or_parts, or_from, or_cases, both_ways, ltb-false, eqb-false, false≢true}
 use Rattle.std.proofs.lemmas.List.{length-append, length-map, length_push}
 use Rattle.std.proofs.lemmas.List.Folds.{list_any-append}
 use Rattle.std.proofs.lemmas.List.Sums.{fold-append, sum_by-append}
@@ -11,21 +11,20 @@ use Rattle.link_script.specs.declared.fault.ScriptFault.{ScriptFault}
 use Rattle.link_script.specs.declared.fault.ScriptFault.TheVariants as fault
 use Rattle.link_script.specs.declared.fault.ScriptKind.{ScriptKind}
 use Rattle.link_script.specs.declared.fault.ScriptKind.TheVariants as kind
-use Rattle.link_script.specs.declared.limits.TheConstants.{MAX_LINES}
+use Rattle.link_script.specs.Ranges.{most_lines}
 use Rattle.link_script.specs.declared.line.Line.{Line}
 use Rattle.link_script.specs.declared.line.Line.TheVariants.{Header, Seed, Checksum, Buffer, Path, Event, End}
 use Rattle.link_script.specs.declared.script.PathLine.{PathLine}
 use Rattle.link_script.specs.declared.script.Script.{Script}
-use Rattle.link_script.specs.declared.script.ScriptLine.{ScriptLine}
 use Rattle.link_script.specs.Lines.{line_of}
 use Rattle.link_script.specs.Places.{is_path, is_end, is_misplaced, is_out_of_order, settle_one, is_repeated}
 use Rattle.link_script.specs.Reading.{Gives, first_line, in_place, later_line, next_line, at_line, seen_after, read_on, blank, with_line, script_of, reading}
-use Rattle.link_script.specs.Scripts.{IsScript, HasRanges}
+use Rattle.link_script.specs.Scripts.{HasRanges}
 use Rattle.link_script.specs.Steps.{◌>>=◌}
 use Rattle.link_script.specs.Words.{text_lines, words_of, is_passed_over}
 use Rattle.link_script.specs.Writing.{seed_lines, checksum_lines, buffer_lines, path_lines, event_lines, lines_of}
-use Rattle.link_script.proofs.Ranges.{most_paths, IsLine, line_is}
-use Rattle.link_script.proofs.Kept.{Kept, kept_blank, IsNew, kept_more}
+use Rattle.link_script.proofs.LineRanges.{IsLine, line_is}
+use Rattle.link_script.proofs.ScriptRanges.{Kept, kept_blank, IsNew, kept_more}
 
 -- ---- how many lines a script takes
 
@@ -68,7 +67,7 @@ size-with_line script End = omega arith
 
 pub record Sound (number : ℕ) (seen : List Line) (script : Script) : Type 0 where
   pub kept : Kept script
-  pub low : number ≤ MAX_LINES + 1
+  pub low : number ≤ most_lines + 1
   pub few : length seen < number
   pub count : count_by is_path seen ≡ length script.paths
   pub told : (line : Line) → is_repeated seen line ≡ false → IsNew script line
@@ -115,7 +114,7 @@ last_of seen line none e =
       | inr at ↦ elim (or_cases (is_end line) false at) [ inl it ↦ it | inr never ↦ absurd (false≢true never) ]
     ]
 
-sound_more : (number : ℕ) (first : Line) (seen : List Line) (script : Script) (line : Line) → Sound number (first ∷ seen) script → number ≤ MAX_LINES → IsLine line
+sound_more : (number : ℕ) (first : Line) (seen : List Line) (script : Script) (line : Line) → Sound number (first ∷ seen) script → number ≤ most_lines → IsLine line
     → is_out_of_order (first ∷ seen) line ≡ false → is_repeated (first ∷ seen) line ≡ false → Sound (suc number) ((first ∷ seen) ++ line ∷ []) (with_line script line)
 sound_more number first seen script line h low fits order repeated =
     let all : List Line = first ∷ seen in
@@ -171,7 +170,7 @@ script_push : (seen : List Line) (line : Line) → script_of (seen ++ line ∷ [
 script_push seen line = fold-append with_line blank seen (line ∷ [])
 
 -- a line that is passed over
-sound_over : (number : ℕ) (seen : List Line) (script : Script) → Sound number seen script → number ≤ MAX_LINES → Sound (suc number) seen script
+sound_over : (number : ℕ) (seen : List Line) (script : Script) → Sound number seen script → number ≤ most_lines → Sound (suc number) seen script
 sound_over number seen script h low = record {
   kept = h.kept;
   low = omega arith;
@@ -182,7 +181,7 @@ sound_over number seen script h low = record {
   closed = h.closed;
 }
 
-sound_header : (number : ℕ) → Sound number [] blank → number ≤ MAX_LINES → Sound (suc number) (Header ∷ []) blank
+sound_header : (number : ℕ) → Sound number [] blank → number ≤ most_lines → Sound (suc number) (Header ∷ []) blank
 sound_header number h low = record {
   kept = kept_blank;
   low = omega arith;
@@ -193,7 +192,7 @@ sound_header number h low = record {
   closed = λ e. absurd (false≢true e);
 }
 
-sound_next : (number : ℕ) (seen : List Line) (text : List ℕ) (line : Line) → Sound number seen (script_of seen) → number ≤ MAX_LINES → next_line seen text ≡ Ok line → Sound (suc number) (seen ++ line ∷ []) (script_of (seen ++ line ∷ []))
+sound_next : (number : ℕ) (seen : List Line) (text : List ℕ) (line : Line) → Sound number seen (script_of seen) → number ≤ most_lines → next_line seen text ≡ Ok line → Sound (suc number) (seen ++ line ∷ []) (script_of (seen ++ line ∷ []))
 unfolding later_line
 sound_next number [] text line h low e =
     subst (λ (l : Line). Sound (suc number) (l ∷ []) (script_of (l ∷ []))) (first_ok text line e) (sound_header number h low)
@@ -214,8 +213,8 @@ over_or_read false seen now r e = inr e
 sound_step : (number : ℕ) (seen : List Line) (text : List ℕ) (now : List Line) → Sound number seen (script_of seen) → seen_after number seen text ≡ Ok now → Sound (suc number) now (script_of now)
 unfolding seen_after
 sound_step number seen text now h e =
-    let few = not_refused (nat_lt MAX_LINES number) (fault.Line number kind.TooMany) _ now e in
-    let low = ltb-false MAX_LINES number few.0 in
+    let few = not_refused (nat_lt most_lines number) (fault.Line number kind.TooMany) _ now e in
+    let low = ltb-false most_lines number few.0 in
     let P : List Line → Type 0 = λ lines. Sound (suc number) lines (script_of lines) in
     elim (over_or_read (is_passed_over text) seen now _ few.1) [
       | inl same ↦ subst P same (sound_over number seen (script_of seen) h low)

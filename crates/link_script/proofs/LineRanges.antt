@@ -1,13 +1,13 @@
 -- What a line says has its ranges.
-use Rattle.std.proofs.Common.{◌≡◌, ℕ, ◌+◌, ◌<◌, ◌≤◌, Bool, true, false, ◌&&◌, not, cond, List, [], ◌∷◌, Result, Ok, Err, refl, sym, ap, subst, ◌∙◌, arith}
+use Rattle.std.proofs.Common.{◌≡◌, ℕ, ◌+◌, ◌<◌, Bool, true, false, ◌&&◌, cond, List, [], ◌∷◌, Result, Ok, Err, refl, sym, ap, ◌∙◌, arith}
 use Rattle.std.specs.Prelude.{IfOk, nat_le, is_ok, codes}
 use Rattle.std.specs.Str.Parse.{digits_value}
-use Rattle.std.proofs.lemmas.Bool.{and_parts, and_from, leb-true, le-leb, not-true, both_ways}
+use Rattle.std.proofs.lemmas.Bool.{and_parts, leb-true, not-true, both_ways}
 use Rattle.std.proofs.lemmas.Result.{IfOk-at_ok}
 use Rattle.link_script.specs.declared.fault.ScriptKind.{ScriptKind}
 use Rattle.link_script.specs.declared.fault.ScriptKind.TheVariants.{Word, Number}
 use Rattle.link_script.specs.declared.limits.Limits.{Limits}
-use Rattle.link_script.specs.declared.limits.TheConstants.{SEED, BUFFER, PATH, FIRST_PATH, MSS, DELAY, SEGMENT, LATENESS, TICK, ADDRESS_ID}
+use Rattle.link_script.specs.Ranges.{seeds, buffers, path_numbers, first_path_number, segment_sizes, delays, segment_numbers, latenesses, run_ticks, address_ids}
 use Rattle.link_script.specs.declared.line.Line.{Line}
 use Rattle.link_script.specs.declared.line.Line.TheVariants as line
 use Rattle.link_script.specs.declared.segment.Segment.{Segment}
@@ -21,14 +21,14 @@ use Rattle.link_script.specs.Words.{fixed, keyword, direction, side, switch}
 
 -- how many paths a script has at most
 abbrev pub most_paths : ℕ
-most_paths = PATH.most + 1
+most_paths = path_numbers.most + 1
 
 -- a line by itself
 abbrev pub IsLine : Line → Type 0
 IsLine line.Header = Unit {0}
-IsLine (line.Seed n) = IsWithin SEED n
+IsLine (line.Seed n) = IsWithin seeds n
 IsLine (line.Checksum on) = Unit {0}
-IsLine (line.Buffer octets) = IsWithin BUFFER octets
+IsLine (line.Buffer octets) = IsWithin buffers octets
 IsLine (line.Path index path) = (index < most_paths) × IsPath path × (index ≡ 0 → (path.join ≡ 0) × (path.backup ≡ false))
 IsLine (line.Event event) = IsEvent most_paths event
 IsLine line.End = Unit {0}
@@ -60,15 +60,15 @@ value_within limits word =
 in_limits : (limits : Limits) (word : List ℕ) (n : ℕ) → within limits word ≡ Ok n → IsWithin limits n
 in_limits limits word n e = (IfOk-at_ok (λ n. (is_numeral word ≡ true) × (digits_value 10 word ≡ n) × IsWithin limits n) e (value_within limits word)).2
 
-path_below : (word : List ℕ) (n : ℕ) → within PATH word ≡ Ok n → n < most_paths
-path_below word n e = let w = in_limits PATH word n e in omega (arith, w.most)
+path_below : (word : List ℕ) (n : ℕ) → within path_numbers word ≡ Ok n → n < most_paths
+path_below word n e = let w = in_limits path_numbers word n e in omega (arith, w.most)
 
 -- ---- settings
 
 seed_holds : (words : List (List ℕ)) → Holds (seed_line words) IsLine
 unfolding seed_line
 seed_holds [] = tt
-seed_holds (n ∷ []) = after (within SEED n) _ _ (λ x e. in_limits SEED n x e)
+seed_holds (n ∷ []) = after (within seeds n) _ _ (λ x e. in_limits seeds n x e)
 seed_holds (n ∷ m ∷ words) = tt
 
 checksum_holds : (words : List (List ℕ)) → Holds (checksum_line words) IsLine
@@ -80,7 +80,7 @@ checksum_holds (on ∷ m ∷ words) = tt
 buffer_holds : (words : List (List ℕ)) → Holds (buffer_line words) IsLine
 unfolding buffer_line
 buffer_holds [] = tt
-buffer_holds (n ∷ []) = after (within BUFFER n) _ _ (λ x e. in_limits BUFFER n x e)
+buffer_holds (n ∷ []) = after (within buffers n) _ _ (λ x e. in_limits buffers n x e)
 buffer_holds (n ∷ m ∷ words) = tt
 
 end_holds : (words : List (List ℕ)) → Holds (end_line words) IsLine
@@ -91,10 +91,10 @@ end_holds (m ∷ words) = tt
 -- ---- paths
 
 -- a path that is path 0 where it may be
-first_again : (word : List ℕ) → within PATH word ≡ Ok 0 → is_ok (within FIRST_PATH word) ≡ true
+first_again : (word : List ℕ) → within path_numbers word ≡ Ok 0 → is_ok (within first_path_number word) ≡ true
 unfolding within
 first_again word e =
-    let known = IfOk-at_ok (λ n. (is_numeral word ≡ true) × (digits_value 10 word ≡ n) × IsWithin PATH n) e (value_within PATH word) in
+    let known = IfOk-at_ok (λ n. (is_numeral word ≡ true) × (digits_value 10 word ≡ n) × IsWithin path_numbers n) e (value_within path_numbers word) in
     rw (known.0, known.1) refl
 
 abbrev done : ℕ → Result ℕ ScriptKind
@@ -102,24 +102,24 @@ done n = Ok n
 
 -- path 0 has no options, so it joins nothing
 no_options : (path : List ℕ) (options : List (List ℕ)) (option : List ℕ × Bool) (index tick : ℕ) → path_options options ≡ Ok option → may_have path options ≡ true
-    → within PATH path ≡ Ok index → within TICK option.0 ≡ Ok tick → index ≡ 0 → (tick ≡ 0) × (option.1 ≡ false)
+    → within path_numbers path ≡ Ok index → within run_ticks option.0 ≡ Ok tick → index ≡ 0 → (tick ≡ 0) × (option.1 ≡ false)
 unfolding path_options within
 no_options path [] option index tick o m i t z =
     let same : (codes "0", false) ≡ option = cc in
-    let zero : done 0 ≡ done tick = ap (λ (p : List ℕ × Bool). within TICK p.0) same ∙ t in
+    let zero : done 0 ≡ done tick = ap (λ (p : List ℕ × Bool). within run_ticks p.0) same ∙ t in
     (cc, sym (ap (λ (p : List ℕ × Bool). p.1) same))
 no_options path (x ∷ options) option index tick o m i t z =
     absurd (both_ways _ (not-true _ m) (first_again path (i ∙ ap done z)))
 
-path_of_holds : (path mss delay join : List ℕ) (backup : Bool) → ((index tick : ℕ) → within PATH path ≡ Ok index → within TICK join ≡ Ok tick → index ≡ 0 → (tick ≡ 0) × (backup ≡ false))
+path_of_holds : (path mss delay join : List ℕ) (backup : Bool) → ((index tick : ℕ) → within path_numbers path ≡ Ok index → within run_ticks join ≡ Ok tick → index ≡ 0 → (tick ≡ 0) × (backup ≡ false))
     → Holds (path_of path mss delay join backup) IsLine
 unfolding path_of
 path_of_holds path mss delay join backup plain =
-    after (within PATH path) _ _ (λ index i.
-    after (within MSS mss) _ _ (λ octets o.
-    after (within DELAY delay) _ _ (λ ticks d.
-    after (within TICK join) _ _ (λ tick j.
-    (path_below path index i, record { mss = in_limits MSS mss octets o; delay = in_limits DELAY delay ticks d; join = in_limits TICK join tick j }, plain index tick i j)))))
+    after (within path_numbers path) _ _ (λ index i.
+    after (within segment_sizes mss) _ _ (λ octets o.
+    after (within delays delay) _ _ (λ ticks d.
+    after (within run_ticks join) _ _ (λ tick j.
+    (path_below path index i, record { mss = in_limits segment_sizes mss octets o; delay = in_limits delays delay ticks d; join = in_limits run_ticks join tick j }, plain index tick i j)))))
 
 path_holds : (words : List (List ℕ)) → Holds (path_line words) IsLine
 unfolding path_line
@@ -138,15 +138,15 @@ path_holds (path ∷ a ∷ mss ∷ b ∷ delay ∷ options) =
 -- ---- segments
 
 abbrev IsSegment : Segment → Type 0
-IsSegment s = (s.path < most_paths) × IsWithin SEGMENT s.number
+IsSegment s = (s.path < most_paths) × IsWithin segment_numbers s.number
 
 segment_holds : (path from number : List ℕ) → Holds (segment path from number) IsSegment
 unfolding segment
 segment_holds path from number =
     after (direction from) _ _ (λ side f.
-    after (within PATH path) _ _ (λ index i.
-    after (within SEGMENT number) _ _ (λ n k.
-    (path_below path index i, in_limits SEGMENT number n k))))
+    after (within path_numbers path) _ _ (λ index i.
+    after (within segment_numbers number) _ _ (λ n k.
+    (path_below path index i, in_limits segment_numbers number n k))))
 
 segment_is : (path from number : List ℕ) (s : Segment) → segment path from number ≡ Ok s → IsSegment s
 segment_is path from number s e = IfOk-at_ok IsSegment e (segment_holds path from number)
@@ -183,7 +183,7 @@ dup_holds (path ∷ from ∷ []) = tt
 dup_holds (path ∷ from ∷ number ∷ []) = tt
 dup_holds (path ∷ from ∷ number ∷ ticks ∷ []) =
     after (segment path from number) _ _ (λ s e. let at = segment_is path from number s e in
-    after (within LATENESS ticks) _ _ (λ t l. (at.0, at.1, in_limits LATENESS ticks t l)))
+    after (within latenesses ticks) _ _ (λ t l. (at.0, at.1, in_limits latenesses ticks t l)))
 dup_holds (path ∷ from ∷ number ∷ ticks ∷ m ∷ words) = tt
 
 late_holds : (words : List (List ℕ)) → Holds (late_line words) IsLine
@@ -194,7 +194,7 @@ late_holds (path ∷ from ∷ []) = tt
 late_holds (path ∷ from ∷ number ∷ []) = tt
 late_holds (path ∷ from ∷ number ∷ ticks ∷ []) =
     after (segment path from number) _ _ (λ s e. let at = segment_is path from number s e in
-    after (within LATENESS ticks) _ _ (λ t l. (at.0, at.1, in_limits LATENESS ticks t l)))
+    after (within latenesses ticks) _ _ (λ t l. (at.0, at.1, in_limits latenesses ticks t l)))
 late_holds (path ∷ from ∷ number ∷ ticks ∷ m ∷ words) = tt
 
 -- ---- ticks
@@ -206,9 +206,9 @@ strip_all_holds (path ∷ []) = tt
 strip_all_holds (path ∷ from ∷ []) = tt
 strip_all_holds (path ∷ from ∷ tick ∷ []) =
     after (direction from) _ _ (λ side f.
-    after (within PATH path) _ _ (λ index i.
-    after (within TICK tick) _ _ (λ t k.
-    (path_below path index i, in_limits TICK tick t k))))
+    after (within path_numbers path) _ _ (λ index i.
+    after (within run_ticks tick) _ _ (λ t k.
+    (path_below path index i, in_limits run_ticks tick t k))))
 strip_all_holds (path ∷ from ∷ tick ∷ m ∷ words) = tt
 
 die_holds : (words : List (List ℕ)) → Holds (die_line words) IsLine
@@ -216,9 +216,9 @@ unfolding die_line
 die_holds [] = tt
 die_holds (path ∷ []) = tt
 die_holds (path ∷ tick ∷ []) =
-    after (within PATH path) _ _ (λ index i.
-    after (within TICK tick) _ _ (λ t k.
-    (path_below path index i, in_limits TICK tick t k)))
+    after (within path_numbers path) _ _ (λ index i.
+    after (within run_ticks tick) _ _ (λ t k.
+    (path_below path index i, in_limits run_ticks tick t k)))
 die_holds (path ∷ tick ∷ m ∷ words) = tt
 
 prio_holds : (words : List (List ℕ)) → Holds (prio_line words) IsLine
@@ -230,9 +230,9 @@ prio_holds (path ∷ which ∷ tick ∷ []) = tt
 prio_holds (path ∷ which ∷ tick ∷ on ∷ []) =
     after (side which) _ _ (λ s f.
     after (switch on) _ _ (λ b g.
-    after (within PATH path) _ _ (λ index i.
-    after (within TICK tick) _ _ (λ t k.
-    (path_below path index i, in_limits TICK tick t k)))))
+    after (within path_numbers path) _ _ (λ index i.
+    after (within run_ticks tick) _ _ (λ t k.
+    (path_below path index i, in_limits run_ticks tick t k)))))
 prio_holds (path ∷ which ∷ tick ∷ on ∷ m ∷ words) = tt
 
 add_holds : (words : List (List ℕ)) → Holds (add_line words) IsLine
@@ -242,9 +242,9 @@ add_holds (which ∷ []) = tt
 add_holds (which ∷ id ∷ []) = tt
 add_holds (which ∷ id ∷ tick ∷ []) =
     after (fixed (codes "b") which) _ _ (λ x f.
-    after (within ADDRESS_ID id) _ _ (λ n i.
-    after (within TICK tick) _ _ (λ t k.
-    (in_limits ADDRESS_ID id n i, in_limits TICK tick t k))))
+    after (within address_ids id) _ _ (λ n i.
+    after (within run_ticks tick) _ _ (λ t k.
+    (in_limits address_ids id n i, in_limits run_ticks tick t k))))
 add_holds (which ∷ id ∷ tick ∷ m ∷ words) = tt
 
 remove_holds : (words : List (List ℕ)) → Holds (remove_line words) IsLine
@@ -254,9 +254,9 @@ remove_holds (which ∷ []) = tt
 remove_holds (which ∷ id ∷ []) = tt
 remove_holds (which ∷ id ∷ tick ∷ []) =
     after (side which) _ _ (λ s f.
-    after (within ADDRESS_ID id) _ _ (λ n i.
-    after (within TICK tick) _ _ (λ t k.
-    (in_limits ADDRESS_ID id n i, in_limits TICK tick t k))))
+    after (within address_ids id) _ _ (λ n i.
+    after (within run_ticks tick) _ _ (λ t k.
+    (in_limits address_ids id n i, in_limits run_ticks tick t k))))
 remove_holds (which ∷ id ∷ tick ∷ m ∷ words) = tt
 
 fast_close_holds : (words : List (List ℕ)) → Holds (fast_close_line words) IsLine
@@ -265,8 +265,8 @@ fast_close_holds [] = tt
 fast_close_holds (which ∷ []) = tt
 fast_close_holds (which ∷ tick ∷ []) =
     after (side which) _ _ (λ s f.
-    after (within TICK tick) _ _ (λ t k.
-    in_limits TICK tick t k))
+    after (within run_ticks tick) _ _ (λ t k.
+    in_limits run_ticks tick t k))
 fast_close_holds (which ∷ tick ∷ m ∷ words) = tt
 
 -- ---- any line
