@@ -9,7 +9,6 @@ use Rattle.link_script.specs.declared.fault.ScriptKind.{ScriptKind}
 use Rattle.link_script.specs.declared.fault.ScriptKind.TheVariants.{Word}
 use Rattle.link_script.specs.declared.word.Keyword.{Keyword}
 use Rattle.link_script.specs.declared.word.Keyword.TheVariants.{Seed, Checksum, Buffer, Path, Drop, Strip, Alter, Dup, Late, StripAll, Die, Prio, Add, Remove, FastClose, End}
-use Rattle.link_script.specs.declared.word.TheConstants.Keyword.{ALL}
 
 -- a line ends with LF, and what stands after the last LF is a line where it isn't empty
 abbrev pub text_lines : List ℕ → List (List ℕ)
@@ -33,6 +32,7 @@ chosen spelled choices word = ok_or (find (λ choice. bytes_eq (spelled choice) 
 unfoldable pub fixed : List ℕ → List ℕ → Result (Unit {0}) ScriptKind
 fixed expected word = if bytes_eq word expected then Ok tt else Err Word
 
+-- the first word of a line, which says what the line is
 abbrev pub keyword_word : Keyword → List ℕ
 keyword_word Seed = codes "seed"
 keyword_word Checksum = codes "checksum"
@@ -51,9 +51,11 @@ keyword_word Remove = codes "remove"
 keyword_word FastClose = codes "fastclose"
 keyword_word End = codes "end"
 
--- the first word of a line
+abbrev pub keywords : List Keyword
+keywords = Seed ∷ Checksum ∷ Buffer ∷ Path ∷ Drop ∷ Strip ∷ Alter ∷ Dup ∷ Late ∷ StripAll ∷ Die ∷ Prio ∷ Add ∷ Remove ∷ FastClose ∷ End ∷ []
+
 unfoldable pub keyword : List ℕ → Result Keyword ScriptKind
-keyword word = chosen keyword_word ALL word
+keyword word = chosen keyword_word keywords word
 
 -- the side from which a segment comes
 abbrev pub direction_word : Side → List ℕ
@@ -63,6 +65,7 @@ direction_word B = codes "ba"
 unfoldable pub direction : List ℕ → Result Side ScriptKind
 direction word = chosen direction_word (A ∷ B ∷ []) word
 
+-- a side by itself
 abbrev pub side_word : Side → List ℕ
 side_word A = codes "a"
 side_word B = codes "b"

@@ -1,5 +1,7 @@
-//! The script of a run: what a connection is to do, and what its links do to its segments. A text says a script line
-//! by line; `parse` reads it, and `text` writes the one text of a script. Nothing is run here.
+//! The script of a run: the settings and paths of a connection, and what happens to its segments, paths and sides.
+//!
+//! A text says a script line by line. `parse` reads it, or tells the first line that is refused and why; `text` writes
+//! the one text of a script. Nothing is run here.
 #![tactic(auto)]
 
 mod fault;

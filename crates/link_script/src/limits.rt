@@ -19,7 +19,7 @@ impl Limits {
     }
 }
 
-/// How many lines a script has at most, those that are passed over among them.
+/// How many lines the text of a script has at most, those that are passed over among them.
 pub const MAX_LINES: u64 = 4096;
 
 /// How many digits a number has at most, leading zeros among them.
@@ -31,6 +31,7 @@ pub const SEED: Limits = Limits {
     most: u64::MAX,
 };
 
+/// The seed of a script that tells none.
 pub const DEFAULT_SEED: u64 = 1;
 
 /// Octets of a send buffer, and of a receive buffer.
@@ -39,6 +40,7 @@ pub const BUFFER: Limits = Limits {
     most: 1_048_576,
 };
 
+/// The octets of each buffer of a script that tells none.
 pub const DEFAULT_BUFFER: u64 = 65_536;
 
 /// The number of a path.

@@ -16,7 +16,7 @@ use crate::word::{is_passed_over, split_line, split_words};
 use std::alloc::{AllocError, Global};
 
 /// The first line of a script.
-pub const HEADER: &[u8] = b"mptcp-script 1";
+const HEADER: &[u8] = b"mptcp-script 1";
 
 fn read_first(text: &[u8]) -> Result<Line, ScriptKind>
     ensures { result ≡ first_line text.now }

@@ -6,9 +6,9 @@ use outside_kit::Side;
 /// How a connection is to run: its settings, its paths, and what happens on them.
 #[derive(Debug, Drop, PartialEq, Eq)]
 pub struct Script {
-    /// From this number keys, nonces and initial sequence numbers are drawn.
+    /// The number from which keys, nonces and initial sequence numbers are drawn.
     pub seed: u64,
-    /// Whether A asks for checksums of the data (RFC 8684, section 3.3).
+    /// Whether A asks for checksums of the data (RFC 8684, section 3.1).
     pub checksum: bool,
     /// Octets that each side buffers of what it sends, and of what it receives.
     pub buffer: u64,
@@ -25,16 +25,16 @@ pub struct PathLine {
     pub mss: u16,
     /// Ticks that a segment takes from one end to the other.
     pub delay: u32,
-    /// The tick from which A joins the path to the connection.
+    /// The tick from which A joins the path to the connection (RFC 8684, section 3.2); 0 at path 0, which opens it.
     pub join: u64,
-    /// Whether the path carries data only where no other path can (RFC 8684, section 3.3.8).
+    /// Whether the path is a backup: it carries data only where no other path can (RFC 8684, section 3.2).
     pub backup: bool,
 }
 
-/// What happens to one segment of a link, to one direction of it, to a path or to a side.
+/// What happens to one segment, to one direction of a link, to a path or to a side.
 ///
-/// `path` is the number of a path. `from` is the side that sends, and `number` counts the segments
-/// that the path's link takes from it, the first being 1. A `tick` is one of the run.
+/// `path` is the number of a path. `from` is the side that sends, and `number` counts the segments that the link of
+/// the path takes from it, the first being 1. `tick` is a tick of the run, and `ticks` is how many pass.
 #[derive(Clone, Copy, Debug, PartialEq, Eq)]
 pub enum ScriptLine {
     /// The segment doesn't arrive.
@@ -75,30 +75,30 @@ pub enum ScriptLine {
         from: Side,
         tick: u64,
     },
-    /// The link loses all that is under way, and both ends of the path die.
+    /// All that is under way on the link is lost, and both ends of the path die.
     Die {
         path: u8,
         tick: u64,
     },
-    /// The side tells its peer to use the path as a backup, or no longer so.
+    /// The side asks its peer to use the path as a backup, or no longer so (RFC 8684, section 3.3.8).
     Prio {
         path: u8,
         side: Side,
         tick: u64,
         on: bool,
     },
-    /// B announces an address under this identifier.
+    /// B announces an address with this identifier (RFC 8684, section 3.4.1).
     Add {
         id: u8,
         tick: u64,
     },
-    /// The side withdraws the address with this identifier.
+    /// The side withdraws the address with this identifier (RFC 8684, section 3.4.2).
     Remove {
         side: Side,
         id: u8,
         tick: u64,
     },
-    /// The side closes the whole connection at once.
+    /// The side closes the whole connection at once (RFC 8684, section 3.5).
     FastClose {
         side: Side,
         tick: u64,
