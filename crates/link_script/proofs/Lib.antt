@@ -1,0 +1,12 @@
+pub mod Numerals
+pub mod Cuts
+pub mod Slices
+pub mod ReadTurns
+pub mod WrittenText
+pub mod LineRanges
+pub mod ScriptRanges
+pub mod ReadRanges
+pub mod WrittenWords
+pub mod WrittenLines
+pub mod WrittenPlaces
+pub mod RoundTrip

@@ -1,0 +1,298 @@
+-- What a line says has its ranges.
+use Rattle.std.proofs.Common.{◌≡◌, ℕ, ◌+◌, ◌<◌, Bool, true, false, ◌&&◌, cond, List, [], ◌∷◌, Result, Ok, Err, refl, sym, ap, ◌∙◌, arith}
+use Rattle.std.specs.Prelude.{IfOk, nat_le, is_ok, codes}
+use Rattle.std.specs.Str.Parse.{digits_value}
+use Rattle.std.proofs.lemmas.Bool.{and_parts, leb-true, not-true, both_ways}
+use Rattle.std.proofs.lemmas.Result.{IfOk-at_ok}
+use Rattle.link_script.specs.declared.fault.ScriptKind.{ScriptKind}
+use Rattle.link_script.specs.declared.fault.ScriptKind.TheVariants.{Word, Number}
+use Rattle.link_script.specs.declared.limits.Limits.{Limits}
+use Rattle.link_script.specs.Ranges.{seeds, buffers, path_numbers, first_path_number, segment_sizes, delays, segment_numbers, latenesses, run_ticks, address_ids}
+use Rattle.link_script.specs.declared.line.Line.{Line}
+use Rattle.link_script.specs.declared.line.Line.TheVariants as line
+use Rattle.link_script.specs.declared.segment.Segment.{Segment}
+use Rattle.link_script.specs.declared.word.Keyword.{Keyword}
+use Rattle.link_script.specs.declared.word.Keyword.TheVariants as first
+use Rattle.link_script.specs.Lines.{seed_line, checksum_line, buffer_line, path_options, may_have, path_of, path_line, segment, drop_line, strip_line, alter_line, dup_line, late_line, strip_all_line, die_line, prio_line, add_line, remove_line, fast_close_line, end_line, line_after, line_of}
+use Rattle.link_script.specs.Numbers.{is_numeral, is_within, within}
+use Rattle.link_script.specs.Scripts.{IsWithin, IsPath, IsEvent}
+use Rattle.link_script.specs.Steps.{◌>>=◌}
+use Rattle.link_script.specs.Words.{fixed, keyword, direction, side, switch}
+
+-- how many paths a script has at most
+abbrev pub most_paths : ℕ
+most_paths = path_numbers.most + 1
+
+-- a line by itself
+abbrev pub IsLine : Line → Type 0
+IsLine line.Header = Unit {0}
+IsLine (line.Seed n) = IsWithin seeds n
+IsLine (line.Checksum on) = Unit {0}
+IsLine (line.Buffer octets) = IsWithin buffers octets
+IsLine (line.Path index path) = (index < most_paths) × IsPath path × (index ≡ 0 → (path.join ≡ 0) × (path.backup ≡ false))
+IsLine (line.Event event) = IsEvent most_paths event
+IsLine line.End = Unit {0}
+
+abbrev Holds : {A : Type 0} → Result A ScriptKind → (A → Type 0) → Type 0
+Holds r P = IfOk r P
+
+-- what holds after a step
+after : {A B : Type 0} (r : Result A ScriptKind) (f : A → Result B ScriptKind) (P : B → Type 0) → ((x : A) → r ≡ Ok x → Holds (f x) P) → Holds (r >>= f) P
+after (Ok x) f P h = h x refl
+after (Err e) f P h = tt
+
+-- what holds after a test
+passed : {A : Type 0} (b : Bool) (r : Result A ScriptKind) (e : ScriptKind) (P : A → Type 0) → (b ≡ true → Holds r P) → Holds (cond b r (Err e)) P
+passed true r e P h = h refl
+passed false r e P h = tt
+
+-- ---- numbers
+
+value_within : (limits : Limits) (word : List ℕ) → Holds (within limits word) (λ n. (is_numeral word ≡ true) × (digits_value 10 word ≡ n) × IsWithin limits n)
+unfolding within
+value_within limits word =
+    let n = digits_value 10 word in
+    passed (is_numeral word && is_within limits n) (Ok n) Number _ (λ e.
+    let whole = and_parts (is_numeral word) (is_within limits n) e in
+    let ends = and_parts (nat_le limits.least n) (nat_le n limits.most) whole.1 in
+    (whole.0, refl, record { least = leb-true limits.least n ends.0; most = leb-true n limits.most ends.1 }))
+
+in_limits : (limits : Limits) (word : List ℕ) (n : ℕ) → within limits word ≡ Ok n → IsWithin limits n
+in_limits limits word n e = (IfOk-at_ok (λ n. (is_numeral word ≡ true) × (digits_value 10 word ≡ n) × IsWithin limits n) e (value_within limits word)).2
+
+path_below : (word : List ℕ) (n : ℕ) → within path_numbers word ≡ Ok n → n < most_paths
+path_below word n e = let w = in_limits path_numbers word n e in omega (arith, w.most)
+
+-- ---- settings
+
+seed_holds : (words : List (List ℕ)) → Holds (seed_line words) IsLine
+unfolding seed_line
+seed_holds [] = tt
+seed_holds (n ∷ []) = after (within seeds n) _ _ (λ x e. in_limits seeds n x e)
+seed_holds (n ∷ m ∷ words) = tt
+
+checksum_holds : (words : List (List ℕ)) → Holds (checksum_line words) IsLine
+unfolding checksum_line
+checksum_holds [] = tt
+checksum_holds (on ∷ []) = after (switch on) _ _ (λ x e. tt)
+checksum_holds (on ∷ m ∷ words) = tt
+
+buffer_holds : (words : List (List ℕ)) → Holds (buffer_line words) IsLine
+unfolding buffer_line
+buffer_holds [] = tt
+buffer_holds (n ∷ []) = after (within buffers n) _ _ (λ x e. in_limits buffers n x e)
+buffer_holds (n ∷ m ∷ words) = tt
+
+end_holds : (words : List (List ℕ)) → Holds (end_line words) IsLine
+unfolding end_line
+end_holds [] = tt
+end_holds (m ∷ words) = tt
+
+-- ---- paths
+
+-- a path that is path 0 where it may be
+first_again : (word : List ℕ) → within path_numbers word ≡ Ok 0 → is_ok (within first_path_number word) ≡ true
+unfolding within
+first_again word e =
+    let known = IfOk-at_ok (λ n. (is_numeral word ≡ true) × (digits_value 10 word ≡ n) × IsWithin path_numbers n) e (value_within path_numbers word) in
+    rw (known.0, known.1) refl
+
+abbrev done : ℕ → Result ℕ ScriptKind
+done n = Ok n
+
+-- path 0 has no options, so it joins nothing
+no_options : (path : List ℕ) (options : List (List ℕ)) (option : List ℕ × Bool) (index tick : ℕ) → path_options options ≡ Ok option → may_have path options ≡ true
+    → within path_numbers path ≡ Ok index → within run_ticks option.0 ≡ Ok tick → index ≡ 0 → (tick ≡ 0) × (option.1 ≡ false)
+unfolding path_options within
+no_options path [] option index tick o m i t z =
+    let same : (codes "0", false) ≡ option = cc in
+    let zero : done 0 ≡ done tick = ap (λ (p : List ℕ × Bool). within run_ticks p.0) same ∙ t in
+    (cc, sym (ap (λ (p : List ℕ × Bool). p.1) same))
+no_options path (x ∷ options) option index tick o m i t z =
+    absurd (both_ways _ (not-true _ m) (first_again path (i ∙ ap done z)))
+
+path_of_holds : (path mss delay join : List ℕ) (backup : Bool) → ((index tick : ℕ) → within path_numbers path ≡ Ok index → within run_ticks join ≡ Ok tick → index ≡ 0 → (tick ≡ 0) × (backup ≡ false))
+    → Holds (path_of path mss delay join backup) IsLine
+unfolding path_of
+path_of_holds path mss delay join backup plain =
+    after (within path_numbers path) _ _ (λ index i.
+    after (within segment_sizes mss) _ _ (λ octets o.
+    after (within delays delay) _ _ (λ ticks d.
+    after (within run_ticks join) _ _ (λ tick j.
+    (path_below path index i, record { mss = in_limits segment_sizes mss octets o; delay = in_limits delays delay ticks d; join = in_limits run_ticks join tick j }, plain index tick i j)))))
+
+path_holds : (words : List (List ℕ)) → Holds (path_line words) IsLine
+unfolding path_line
+path_holds [] = tt
+path_holds (path ∷ []) = tt
+path_holds (path ∷ a ∷ []) = tt
+path_holds (path ∷ a ∷ mss ∷ []) = tt
+path_holds (path ∷ a ∷ mss ∷ b ∷ []) = tt
+path_holds (path ∷ a ∷ mss ∷ b ∷ delay ∷ options) =
+    after (fixed (codes "mss") a) _ _ (λ x e.
+    after (fixed (codes "delay") b) _ _ (λ y f.
+    after (path_options options) _ _ (λ option o.
+    passed (may_have path options) (path_of path mss delay option.0 option.1) Word IsLine (λ m.
+    path_of_holds path mss delay option.0 option.1 (λ index tick. no_options path options option index tick o m)))))
+
+-- ---- segments
+
+abbrev IsSegment : Segment → Type 0
+IsSegment s = (s.path < most_paths) × IsWithin segment_numbers s.number
+
+segment_holds : (path from number : List ℕ) → Holds (segment path from number) IsSegment
+unfolding segment
+segment_holds path from number =
+    after (direction from) _ _ (λ side f.
+    after (within path_numbers path) _ _ (λ index i.
+    after (within segment_numbers number) _ _ (λ n k.
+    (path_below path index i, in_limits segment_numbers number n k))))
+
+segment_is : (path from number : List ℕ) (s : Segment) → segment path from number ≡ Ok s → IsSegment s
+segment_is path from number s e = IfOk-at_ok IsSegment e (segment_holds path from number)
+
+drop_holds : (words : List (List ℕ)) → Holds (drop_line words) IsLine
+unfolding drop_line
+drop_holds [] = tt
+drop_holds (path ∷ []) = tt
+drop_holds (path ∷ from ∷ []) = tt
+drop_holds (path ∷ from ∷ number ∷ []) = after (segment path from number) _ _ (λ s e. segment_is path from number s e)
+drop_holds (path ∷ from ∷ number ∷ m ∷ words) = tt
+
+strip_holds : (words : List (List ℕ)) → Holds (strip_line words) IsLine
+unfolding strip_line
+strip_holds [] = tt
+strip_holds (path ∷ []) = tt
+strip_holds (path ∷ from ∷ []) = tt
+strip_holds (path ∷ from ∷ number ∷ []) = after (segment path from number) _ _ (λ s e. segment_is path from number s e)
+strip_holds (path ∷ from ∷ number ∷ m ∷ words) = tt
+
+alter_holds : (words : List (List ℕ)) → Holds (alter_line words) IsLine
+unfolding alter_line
+alter_holds [] = tt
+alter_holds (path ∷ []) = tt
+alter_holds (path ∷ from ∷ []) = tt
+alter_holds (path ∷ from ∷ number ∷ []) = after (segment path from number) _ _ (λ s e. segment_is path from number s e)
+alter_holds (path ∷ from ∷ number ∷ m ∷ words) = tt
+
+dup_holds : (words : List (List ℕ)) → Holds (dup_line words) IsLine
+unfolding dup_line
+dup_holds [] = tt
+dup_holds (path ∷ []) = tt
+dup_holds (path ∷ from ∷ []) = tt
+dup_holds (path ∷ from ∷ number ∷ []) = tt
+dup_holds (path ∷ from ∷ number ∷ ticks ∷ []) =
+    after (segment path from number) _ _ (λ s e. let at = segment_is path from number s e in
+    after (within latenesses ticks) _ _ (λ t l. (at.0, at.1, in_limits latenesses ticks t l)))
+dup_holds (path ∷ from ∷ number ∷ ticks ∷ m ∷ words) = tt
+
+late_holds : (words : List (List ℕ)) → Holds (late_line words) IsLine
+unfolding late_line
+late_holds [] = tt
+late_holds (path ∷ []) = tt
+late_holds (path ∷ from ∷ []) = tt
+late_holds (path ∷ from ∷ number ∷ []) = tt
+late_holds (path ∷ from ∷ number ∷ ticks ∷ []) =
+    after (segment path from number) _ _ (λ s e. let at = segment_is path from number s e in
+    after (within latenesses ticks) _ _ (λ t l. (at.0, at.1, in_limits latenesses ticks t l)))
+late_holds (path ∷ from ∷ number ∷ ticks ∷ m ∷ words) = tt
+
+-- ---- ticks
+
+strip_all_holds : (words : List (List ℕ)) → Holds (strip_all_line words) IsLine
+unfolding strip_all_line
+strip_all_holds [] = tt
+strip_all_holds (path ∷ []) = tt
+strip_all_holds (path ∷ from ∷ []) = tt
+strip_all_holds (path ∷ from ∷ tick ∷ []) =
+    after (direction from) _ _ (λ side f.
+    after (within path_numbers path) _ _ (λ index i.
+    after (within run_ticks tick) _ _ (λ t k.
+    (path_below path index i, in_limits run_ticks tick t k))))
+strip_all_holds (path ∷ from ∷ tick ∷ m ∷ words) = tt
+
+die_holds : (words : List (List ℕ)) → Holds (die_line words) IsLine
+unfolding die_line
+die_holds [] = tt
+die_holds (path ∷ []) = tt
+die_holds (path ∷ tick ∷ []) =
+    after (within path_numbers path) _ _ (λ index i.
+    after (within run_ticks tick) _ _ (λ t k.
+    (path_below path index i, in_limits run_ticks tick t k)))
+die_holds (path ∷ tick ∷ m ∷ words) = tt
+
+prio_holds : (words : List (List ℕ)) → Holds (prio_line words) IsLine
+unfolding prio_line
+prio_holds [] = tt
+prio_holds (path ∷ []) = tt
+prio_holds (path ∷ which ∷ []) = tt
+prio_holds (path ∷ which ∷ tick ∷ []) = tt
+prio_holds (path ∷ which ∷ tick ∷ on ∷ []) =
+    after (side which) _ _ (λ s f.
+    after (switch on) _ _ (λ b g.
+    after (within path_numbers path) _ _ (λ index i.
+    after (within run_ticks tick) _ _ (λ t k.
+    (path_below path index i, in_limits run_ticks tick t k)))))
+prio_holds (path ∷ which ∷ tick ∷ on ∷ m ∷ words) = tt
+
+add_holds : (words : List (List ℕ)) → Holds (add_line words) IsLine
+unfolding add_line
+add_holds [] = tt
+add_holds (which ∷ []) = tt
+add_holds (which ∷ id ∷ []) = tt
+add_holds (which ∷ id ∷ tick ∷ []) =
+    after (fixed (codes "b") which) _ _ (λ x f.
+    after (within address_ids id) _ _ (λ n i.
+    after (within run_ticks tick) _ _ (λ t k.
+    (in_limits address_ids id n i, in_limits run_ticks tick t k))))
+add_holds (which ∷ id ∷ tick ∷ m ∷ words) = tt
+
+remove_holds : (words : List (List ℕ)) → Holds (remove_line words) IsLine
+unfolding remove_line
+remove_holds [] = tt
+remove_holds (which ∷ []) = tt
+remove_holds (which ∷ id ∷ []) = tt
+remove_holds (which ∷ id ∷ tick ∷ []) =
+    after (side which) _ _ (λ s f.
+    after (within address_ids id) _ _ (λ n i.
+    after (within run_ticks tick) _ _ (λ t k.
+    (in_limits address_ids id n i, in_limits run_ticks tick t k))))
+remove_holds (which ∷ id ∷ tick ∷ m ∷ words) = tt
+
+fast_close_holds : (words : List (List ℕ)) → Holds (fast_close_line words) IsLine
+unfolding fast_close_line
+fast_close_holds [] = tt
+fast_close_holds (which ∷ []) = tt
+fast_close_holds (which ∷ tick ∷ []) =
+    after (side which) _ _ (λ s f.
+    after (within run_ticks tick) _ _ (λ t k.
+    in_limits run_ticks tick t k))
+fast_close_holds (which ∷ tick ∷ m ∷ words) = tt
+
+-- ---- any line
+
+after_keyword : (which : Keyword) (words : List (List ℕ)) → Holds (line_after which words) IsLine
+after_keyword first.Seed words = seed_holds words
+after_keyword first.Checksum words = checksum_holds words
+after_keyword first.Buffer words = buffer_holds words
+after_keyword first.Path words = path_holds words
+after_keyword first.Drop words = drop_holds words
+after_keyword first.Strip words = strip_holds words
+after_keyword first.Alter words = alter_holds words
+after_keyword first.Dup words = dup_holds words
+after_keyword first.Late words = late_holds words
+after_keyword first.StripAll words = strip_all_holds words
+after_keyword first.Die words = die_holds words
+after_keyword first.Prio words = prio_holds words
+after_keyword first.Add words = add_holds words
+after_keyword first.Remove words = remove_holds words
+after_keyword first.FastClose words = fast_close_holds words
+after_keyword first.End words = end_holds words
+
+line_holds : (words : List (List ℕ)) → Holds (line_of words) IsLine
+unfolding line_of
+line_holds [] = tt
+line_holds (word ∷ words) = after (keyword word) _ _ (λ which e. after_keyword which words)
+
+pub line_is : (words : List (List ℕ)) (line : Line) → line_of words ≡ Ok line → IsLine line
+line_is words line e = IfOk-at_ok IsLine e (line_holds words)

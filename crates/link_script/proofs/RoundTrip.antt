@@ -1,0 +1,188 @@
+-- The text of a script says that script.
+use Rattle.std.proofs.Common.{◌≡◌, ℕ, suc, ◌+◌, ◌<◌, ◌≤◌, Bool, true, false, not, cond, eqb, List, [], ◌∷◌, ◌++◌, length, map, Result, Ok, refl, sym, ap, ◌∙◌, append_assoc, arith}
+use Rattle.std.specs.Prelude.{nat_lt, fold, ◌==◌}
+use Rattle.std.specs.List.{list_any, flat_map, AllByRecursion}
+use Rattle.std.proofs.lemmas.Bool.{le-ltb, eqb-true, not-true, or_right}
+use Rattle.std.proofs.lemmas.List.{append-nil}
+use Rattle.std.proofs.lemmas.List.Elements.{recursion_from_All}
+use Rattle.std.proofs.lemmas.List.Folds.{list_any-append}
+use Rattle.std.proofs.lemmas.List.Sums.{fold-append}
+use Rattle.link_script.specs.declared.fault.ScriptFault.{ScriptFault}
+use Rattle.link_script.specs.Ranges.{most_lines}
+use Rattle.link_script.specs.declared.line.Line.{Line}
+use Rattle.link_script.specs.declared.line.Line.TheVariants.{Header, Seed, Buffer, Event, End}
+use Rattle.link_script.specs.declared.script.PathLine.{PathLine}
+use Rattle.link_script.specs.declared.script.Script.{Script}
+use Rattle.link_script.specs.declared.script.ScriptLine.{ScriptLine}
+use Rattle.link_script.specs.declared.script.ScriptLine.TheVariants.{Drop}
+use Rattle.link_script.specs.Places.{is_end}
+use Rattle.link_script.specs.Reading.{in_place, later_line, seen_after, read_on, blank, with_line, script_of, reading}
+use Rattle.link_script.specs.Scripts.{IsPath, IsEvent, OpensPlainly, HasRanges}
+use Rattle.link_script.specs.Words.{text_lines, words_of, is_passed_over}
+use Rattle.link_script.specs.Writing.{spaced, line_words, line_text, event_words, ended, seed_lines, checksum_lines, buffer_lines, path_lines, event_lines, lines_of, text_of}
+use Rattle.link_script.proofs.WrittenLines.{line_again, plain_line}
+use Rattle.link_script.proofs.ScriptRanges.{wider}
+use Rattle.link_script.proofs.WrittenPlaces.{Placed, later_lines, placed_all}
+use Rattle.link_script.proofs.LineRanges.{most_paths, IsLine}
+use Rattle.link_script.proofs.WrittenWords.{ArePlain, lines_again, words_again}
+
+-- ---- a written line among the lines of a text
+
+-- words that begin with an octet other than '#'
+abbrev begins : List (List ℕ) → Bool
+begins [] = false
+begins ([] ∷ words) = false
+begins ((octet ∷ word) ∷ words) = not (octet == 35)
+
+begins_event : (event : ScriptLine) → begins (event_words event) ≡ true
+begins_event (Drop path from number) = refl
+begins_event event = refl
+
+begins_line : (line : Line) → begins (line_words line) ≡ true
+begins_line Header = refl
+begins_line (Event event) = begins_event event
+begins_line line = refl
+
+not_passed_over : (words : List (List ℕ)) → begins words ≡ true → is_passed_over (spaced words) ≡ false
+not_passed_over [] h = absurd cc
+not_passed_over ([] ∷ words) h = absurd cc
+not_passed_over ((octet ∷ word) ∷ []) h = not-true _ h
+not_passed_over ((octet ∷ word) ∷ next ∷ words) h = not-true _ h
+
+cut_words : (words : List (List ℕ)) → begins words ≡ true → ArePlain words → words_of (spaced words) ≡ words
+cut_words [] h plain = absurd cc
+cut_words (word ∷ words) h plain = words_again word words plain
+
+-- a line that may be written behind the first
+abbrev IsLater : Line → Type 0
+IsLater line = IsLine line × (line ≡ Header → ⊥)
+
+line_taken : (number : ℕ) (first : Line) (seen : List Line) (line : Line) → number ≤ most_lines → IsLater line → in_place (first ∷ seen) line ≡ Ok line → seen_after number (first ∷ seen) (line_text line) ≡ Ok ((first ∷ seen) ++ line ∷ [])
+unfolding seen_after later_line
+line_taken number first seen line few h place =
+    let counted : nat_lt most_lines number ≡ false = le-ltb most_lines number few in
+    let shown = not_passed_over (line_words line) (begins_line line) in
+    let cut = cut_words (line_words line) (begins_line line) (plain_line line h.0) in
+    rw (counted, shown, cut, line_again line h.0 h.1, place) refl
+
+-- ---- all written lines
+
+abbrev ok_lines : List Line → Result (List Line) ScriptFault
+ok_lines lines = Ok lines
+
+read_lines : (lines : List Line) (number : ℕ) (first : Line) (seen : List Line) → AllByRecursion IsLater lines → Placed (first ∷ seen) lines → number + length lines ≤ most_lines + 1
+    → list_any is_end (first ∷ (seen ++ lines)) ≡ true → read_on number (first ∷ seen) (map line_text lines) ≡ Ok (first ∷ (seen ++ lines))
+unfolding read_on
+read_lines [] number first seen h placed few ended =
+    let same : first ∷ seen ≡ first ∷ (seen ++ []) = ap (λ (lines : List Line). first ∷ lines) (sym (append-nil seen)) in
+    let last : list_any is_end (first ∷ seen) ≡ true = ap (list_any is_end) same ∙ ended in
+    rw last (ap ok_lines same)
+read_lines (line ∷ lines) number first seen h placed few ended =
+    let taken = line_taken number first seen line (omega arith) h.0 placed.0 in
+    let grouped : first ∷ ((seen ++ line ∷ []) ++ lines) ≡ first ∷ (seen ++ line ∷ lines) = ap (λ (lines : List Line). first ∷ lines) (append_assoc seen (line ∷ []) lines) in
+    let more = read_lines lines (suc number) first (seen ++ line ∷ []) h.1 placed.1 (omega arith) (ap (list_any is_end) grouped ∙ ended) in
+    rw taken (more ∙ ap ok_lines grouped)
+
+-- ---- the written lines have their ranges
+
+each_append : (P : Line → Type 0) (xs ys : List Line) → AllByRecursion P xs → AllByRecursion P ys → AllByRecursion P (xs ++ ys)
+each_append P [] ys p q = q
+each_append P (x ∷ xs) ys p q = (p.0, each_append P xs ys p.1 q)
+
+either_line : (b : Bool) (line : Line) → IsLater line → AllByRecursion IsLater (cond b [] (line ∷ []))
+either_line true line h = tt
+either_line false line h = (h, tt)
+
+checksum_later : (on : Bool) → AllByRecursion IsLater (checksum_lines on)
+checksum_later true = ((tt, λ e. absurd cc), tt)
+checksum_later false = tt
+
+-- paths behind path 0
+paths_later : (index : ℕ) (paths : List PathLine) → 0 < index → index + length paths ≤ most_paths → AllByRecursion IsPath paths → AllByRecursion IsLater (path_lines index paths)
+paths_later index [] some few h = tt
+paths_later index (path ∷ paths) some few h =
+    (((omega arith, h.0, λ z. absurd (omega arith)), λ e. absurd cc), paths_later (suc index) paths (omega arith) (omega arith) h.1)
+
+all_paths_later : (paths : List PathLine) → length paths ≤ most_paths → AllByRecursion IsPath paths → OpensPlainly paths → AllByRecursion IsLater (path_lines 0 paths)
+all_paths_later [] few h plain = tt
+all_paths_later (path ∷ paths) few h plain =
+    (((omega arith, h.0, λ z. plain), λ e. absurd cc), paths_later 1 paths (omega arith) (omega arith) h.1)
+
+events_later : (paths : ℕ) (events : List ScriptLine) → paths ≤ most_paths → AllByRecursion (IsEvent paths) events → AllByRecursion IsLater (event_lines events)
+events_later paths [] le h = tt
+events_later paths (event ∷ events) le h = ((wider paths most_paths event le h.0, λ e. absurd cc), events_later paths events le h.1)
+
+all_later : (script : Script) → HasRanges script → AllByRecursion IsLater (later_lines script)
+all_later script h =
+    each_append IsLater (seed_lines script.seed) _ (either_line (eqb script.seed 1) (Seed script.seed) (h.seed, λ e. absurd cc))
+    (each_append IsLater (checksum_lines script.checksum) _ (checksum_later script.checksum)
+    (each_append IsLater (buffer_lines script.buffer) _ (either_line (eqb script.buffer 65536) (Buffer script.buffer) (h.buffer, λ e. absurd cc))
+    (each_append IsLater (path_lines 0 script.paths) _ (all_paths_later script.paths h.few_paths (recursion_from_All IsPath script.paths h.paths) h.first_path)
+    (each_append IsLater (event_lines script.lines) _ (events_later (length script.paths) script.lines h.few_paths (recursion_from_All (IsEvent (length script.paths)) script.lines h.lines))
+    ((tt, λ e. absurd cc), tt)))))
+
+-- ---- what the lines say together
+
+abbrev made : ℕ → Bool → ℕ → List PathLine → List ScriptLine → Script
+made seed checksum buffer paths lines = record { seed = seed; checksum = checksum; buffer = buffer; paths = paths; lines = lines }
+
+seed_said : (n : ℕ) → fold with_line blank (seed_lines n) ≡ made n false 65536 [] []
+seed_said n = by (eqb n 1) refl
+  where
+    by : (b : Bool) → eqb n 1 ≡ b → fold with_line blank (cond b [] (Seed n ∷ [])) ≡ made n false 65536 [] []
+    by true e = ap (λ (k : ℕ). made k false 65536 [] []) (sym (eqb-true n 1 e))
+    by false e = refl
+
+checksum_said : (n : ℕ) (on : Bool) → fold with_line (made n false 65536 [] []) (checksum_lines on) ≡ made n on 65536 [] []
+checksum_said n true = refl
+checksum_said n false = refl
+
+buffer_said : (n : ℕ) (on : Bool) (octets : ℕ) → fold with_line (made n on 65536 [] []) (buffer_lines octets) ≡ made n on octets [] []
+buffer_said n on octets = by (eqb octets 65536) refl
+  where
+    by : (b : Bool) → eqb octets 65536 ≡ b → fold with_line (made n on 65536 [] []) (cond b [] (Buffer octets ∷ [])) ≡ made n on octets [] []
+    by true e = ap (λ (k : ℕ). made n on k [] []) (sym (eqb-true octets 65536 e))
+    by false e = refl
+
+paths_said : (n : ℕ) (on : Bool) (octets index : ℕ) (before paths : List PathLine) → fold with_line (made n on octets before []) (path_lines index paths) ≡ made n on octets (before ++ paths) []
+paths_said n on octets index before [] = ap (λ (paths : List PathLine). made n on octets paths []) (sym (append-nil before))
+paths_said n on octets index before (path ∷ paths) =
+    paths_said n on octets (suc index) (before ++ path ∷ []) paths ∙ ap (λ (paths : List PathLine). made n on octets paths []) (append_assoc before (path ∷ []) paths)
+
+events_said : (n : ℕ) (on : Bool) (octets : ℕ) (paths : List PathLine) (before events : List ScriptLine) → fold with_line (made n on octets paths before) (event_lines events) ≡ made n on octets paths (before ++ events)
+events_said n on octets paths before [] = ap (made n on octets paths) (sym (append-nil before))
+events_said n on octets paths before (event ∷ events) =
+    events_said n on octets paths (before ++ event ∷ []) events ∙ ap (made n on octets paths) (append_assoc before (event ∷ []) events)
+
+said_again : (script : Script) → script_of (lines_of script) ≡ script
+said_again script =
+    let s = script in
+    rw (fold-append with_line blank (seed_lines s.seed), seed_said s.seed, fold-append with_line _ (checksum_lines s.checksum), checksum_said s.seed s.checksum, fold-append with_line _ (buffer_lines s.buffer), buffer_said s.seed s.checksum s.buffer, fold-append with_line _ (path_lines 0 s.paths), paths_said s.seed s.checksum s.buffer 0 [] s.paths, fold-append with_line _ (event_lines s.lines), events_said s.seed s.checksum s.buffer s.paths [] s.lines) refl
+
+-- ---- the text
+
+ends_last : (lines : List Line) → list_any is_end (lines ++ End ∷ []) ≡ true
+ends_last lines = list_any-append is_end lines (End ∷ []) ∙ or_right (list_any is_end lines) true refl
+
+script_ends : (script : Script) → list_any is_end (lines_of script) ≡ true
+script_ends script =
+    let front = Header ∷ (seed_lines script.seed ++ (checksum_lines script.checksum ++ (buffer_lines script.buffer ++ (path_lines 0 script.paths ++ event_lines script.lines)))) in
+    let grouped : front ++ End ∷ [] ≡ lines_of script = simp append_assoc in
+    ap (list_any is_end) (sym grouped) ∙ ends_last front
+
+plain_lines : (lines : List Line) → AllByRecursion IsLater lines → AllByRecursion (λ line. ArePlain (line_words line)) lines
+plain_lines [] h = tt
+plain_lines (line ∷ lines) h = (plain_line line h.0.0, plain_lines lines h.1)
+
+first_taken : (lines : List (List ℕ)) → read_on 1 [] (line_text Header ∷ lines) ≡ read_on 2 (Header ∷ []) lines
+unfolding read_on seen_after
+first_taken lines = refl
+
+pub text_again : (script : Script) → HasRanges script → reading (text_of script) ≡ Ok script
+unfolding reading text_of
+text_again script h =
+    let later = all_later script h in
+    let cut : text_lines (flat_map ended (lines_of script)) ≡ line_text Header ∷ map line_text (later_lines script) = lines_again (lines_of script) (plain_line Header tt, plain_lines (later_lines script) later) in
+    let few : 2 + length (later_lines script) ≤ most_lines + 1 = omega (arith, h.few_lines) in
+    let read = read_lines (later_lines script) 2 Header [] later (placed_all script h) few (script_ends script) in
+    rw (cut, first_taken (map line_text (later_lines script)), read) (ap (λ (s : Script). Ok s) (said_again script))

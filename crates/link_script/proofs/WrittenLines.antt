@@ -1,0 +1,171 @@
+-- A line that is written is read again.
+use Rattle.std.proofs.Common.{◌≡◌, ℕ, ◌^◌, ◌<◌, Bool, true, false, cond, eqb, List, [], ◌∷◌, ◌++◌, Ok, refl, arith}
+use Rattle.std.specs.Prelude.{codes}
+use Rattle.std.specs.Fmt.{decimal}
+use Rattle.std.proofs.lemmas.Bool.{eqb-true, eq-eqb, true≢false, false≢true}
+use Rattle.outside_kit.specs.declared.side.Side.{Side}
+use Rattle.outside_kit.specs.declared.side.Side.TheVariants.{A, B}
+use Rattle.link_script.specs.declared.limits.Limits.{Limits}
+use Rattle.link_script.specs.Ranges.{seeds, buffers, path_numbers, segment_sizes, delays, segment_numbers, latenesses, run_ticks, address_ids}
+use Rattle.link_script.specs.declared.line.Line.{Line}
+use Rattle.link_script.specs.declared.line.Line.TheVariants.{Header, Seed, Checksum, Buffer, Path, Event, End}
+use Rattle.link_script.specs.declared.script.PathLine.{PathLine}
+use Rattle.link_script.specs.declared.script.ScriptLine.{ScriptLine}
+use Rattle.link_script.specs.declared.script.ScriptLine.TheVariants.{Drop, Strip, Alter, Dup, Late, StripAll, Die, Prio, Add, Remove, FastClose}
+use Rattle.link_script.specs.Lines.{seed_line, checksum_line, buffer_line, path_options, may_have, path_of, path_line, segment, drop_line, strip_line, alter_line, dup_line, late_line, strip_all_line, die_line, prio_line, add_line, remove_line, fast_close_line, end_line, line_of}
+use Rattle.link_script.specs.Numbers.{within}
+use Rattle.link_script.specs.Scripts.{IsWithin, IsPath, IsEvent}
+use Rattle.link_script.specs.Words.{fixed, keyword, direction, direction_word, side, side_word, switch, switch_word}
+use Rattle.link_script.specs.Writing.{backup_words, event_words, line_words}
+use Rattle.link_script.proofs.LineRanges.{most_paths, IsLine}
+use Rattle.link_script.proofs.WrittenWords.{IsPlain, ArePlain, plain_number, number_again, later_path}
+
+-- ---- words
+
+direction_again : (from : Side) → direction (direction_word from) ≡ Ok from
+unfolding direction
+direction_again A = refl
+direction_again B = refl
+
+side_again : (which : Side) → side (side_word which) ≡ Ok which
+unfolding side
+side_again A = refl
+side_again B = refl
+
+switch_again : (on : Bool) → switch (switch_word on) ≡ Ok on
+unfolding switch
+switch_again true = refl
+switch_again false = refl
+
+plain_direction : (from : Side) → IsPlain (direction_word from)
+plain_direction A = refl
+plain_direction B = refl
+
+plain_side : (which : Side) → IsPlain (side_word which)
+plain_side A = refl
+plain_side B = refl
+
+plain_switch : (on : Bool) → IsPlain (switch_word on)
+plain_switch true = refl
+plain_switch false = refl
+
+-- ---- numbers
+
+path_again : (n : ℕ) → n < most_paths → within path_numbers (decimal n) ≡ Ok n
+path_again n h = number_again path_numbers n (record { least = omega arith; most = omega arith }) (omega arith)
+
+again : (limits : Limits) (n : ℕ) → limits.most < 2 ^ 64 → IsWithin limits n → within limits (decimal n) ≡ Ok n
+again limits n small h = number_again limits n h (omega (arith, h.most))
+
+plain_within : (limits : Limits) (n : ℕ) → limits.most < 2 ^ 64 → IsWithin limits n → IsPlain (decimal n)
+plain_within limits n small h = plain_number n (omega (arith, h.most))
+
+plain_path : (n : ℕ) → n < most_paths → IsPlain (decimal n)
+plain_path n h = plain_number n (omega arith)
+
+-- ---- the lines of segments and ticks
+
+segment_again : (path : ℕ) (from : Side) (number : ℕ) → path < most_paths → IsWithin segment_numbers number → segment (decimal path) (direction_word from) (decimal number) ≡ Ok (record { path = path; from = from; number = number })
+unfolding segment
+segment_again path from number h n = rw (direction_again from, path_again path h, again segment_numbers number (omega arith) n) refl
+
+event_again : (event : ScriptLine) → IsEvent most_paths event → line_of (event_words event) ≡ Ok (Event event)
+unfolding line_of keyword drop_line strip_line alter_line dup_line late_line strip_all_line die_line prio_line add_line fixed remove_line fast_close_line
+event_again (Drop path from number) h = rw (segment_again path from number h.0 h.1) refl
+event_again (Strip path from number) h = rw (segment_again path from number h.0 h.1) refl
+event_again (Alter path from number) h = rw (segment_again path from number h.0 h.1) refl
+event_again (Dup path from number ticks) h = rw (segment_again path from number h.0 h.1, again latenesses ticks (omega arith) h.2) refl
+event_again (Late path from number ticks) h = rw (segment_again path from number h.0 h.1, again latenesses ticks (omega arith) h.2) refl
+event_again (StripAll path from tick) h = rw (direction_again from, path_again path h.0, again run_ticks tick (omega arith) h.1) refl
+event_again (Die path tick) h = rw (path_again path h.0, again run_ticks tick (omega arith) h.1) refl
+event_again (Prio path which tick on) h = rw (side_again which, switch_again on, path_again path h.0, again run_ticks tick (omega arith) h.1) refl
+event_again (Add id tick) h = rw (again address_ids id (omega arith) h.0, again run_ticks tick (omega arith) h.1) refl
+event_again (Remove which id tick) h = rw (side_again which, again address_ids id (omega arith) h.0, again run_ticks tick (omega arith) h.1) refl
+event_again (FastClose which tick) h = rw (side_again which, again run_ticks tick (omega arith) h) refl
+
+plain_event : (event : ScriptLine) → IsEvent most_paths event → ArePlain (event_words event)
+plain_event (Drop path from number) h = (refl, (plain_path path h.0, (plain_direction from, (plain_within segment_numbers number (omega arith) h.1, tt))))
+plain_event (Strip path from number) h = (refl, (plain_path path h.0, (plain_direction from, (plain_within segment_numbers number (omega arith) h.1, tt))))
+plain_event (Alter path from number) h = (refl, (plain_path path h.0, (plain_direction from, (plain_within segment_numbers number (omega arith) h.1, tt))))
+plain_event (Dup path from number ticks) h = (refl, (plain_path path h.0, (plain_direction from, (plain_within segment_numbers number (omega arith) h.1, (plain_within latenesses ticks (omega arith) h.2, tt)))))
+plain_event (Late path from number ticks) h = (refl, (plain_path path h.0, (plain_direction from, (plain_within segment_numbers number (omega arith) h.1, (plain_within latenesses ticks (omega arith) h.2, tt)))))
+plain_event (StripAll path from tick) h = (refl, (plain_path path h.0, (plain_direction from, (plain_within run_ticks tick (omega arith) h.1, tt))))
+plain_event (Die path tick) h = (refl, (plain_path path h.0, (plain_within run_ticks tick (omega arith) h.1, tt)))
+plain_event (Prio path which tick on) h = (refl, (plain_path path h.0, (plain_side which, (plain_within run_ticks tick (omega arith) h.1, (plain_switch on, tt)))))
+plain_event (Add id tick) h = (refl, (refl, (plain_within address_ids id (omega arith) h.0, (plain_within run_ticks tick (omega arith) h.1, tt))))
+plain_event (Remove which id tick) h = (refl, (plain_side which, (plain_within address_ids id (omega arith) h.0, (plain_within run_ticks tick (omega arith) h.1, tt))))
+plain_event (FastClose which tick) h = (refl, (plain_side which, (plain_within run_ticks tick (omega arith) h, tt)))
+
+-- ---- the lines of paths
+
+-- the options of a path, by whether it joins later and whether it is a backup
+abbrev option_words : Bool → Bool → ℕ → List (List ℕ)
+option_words now backup tick = cond now [] (codes "join" ∷ decimal tick ∷ []) ++ backup_words backup
+
+abbrev option_tick : Bool → ℕ → List ℕ
+option_tick now tick = cond now (codes "0") (decimal tick)
+
+options_again : (now backup : Bool) (tick : ℕ) → path_options (option_words now backup tick) ≡ Ok (option_tick now tick, backup)
+unfolding path_options fixed
+options_again true true tick = refl
+options_again true false tick = refl
+options_again false true tick = refl
+options_again false false tick = refl
+
+positive : (n : ℕ) → (n ≡ 0 → ⊥) → 0 < n
+positive n h = omega (arith, h)
+
+options_allowed : (now backup : Bool) (index tick : ℕ) → index < most_paths → (index ≡ 0 → (now ≡ true) × (backup ≡ false)) → may_have (decimal index) (option_words now backup tick) ≡ true
+options_allowed true true index tick lt h = later_path index (positive index (λ z. true≢false (h z).1)) (omega arith)
+options_allowed true false index tick lt h = refl
+options_allowed false true index tick lt h = later_path index (positive index (λ z. false≢true (h z).0)) (omega arith)
+options_allowed false false index tick lt h = later_path index (positive index (λ z. false≢true (h z).0)) (omega arith)
+
+path_of_again : (index : ℕ) (path : PathLine) (join : List ℕ) → index < most_paths → IsPath path → within run_ticks join ≡ Ok path.join
+    → path_of (decimal index) (decimal path.mss) (decimal path.delay) join path.backup ≡ Ok (Path index path)
+unfolding path_of
+path_of_again index path join lt h j = rw (path_again index lt, again segment_sizes path.mss (omega arith) h.mss, again delays path.delay (omega arith) h.delay, j) refl
+
+tick_again : (now : Bool) (tick : ℕ) → eqb tick 0 ≡ now → IsWithin run_ticks tick → within run_ticks (option_tick now tick) ≡ Ok tick
+unfolding within
+tick_again true tick e h = rw (eqb-true tick 0 e) refl
+tick_again false tick e h = again run_ticks tick (omega arith) h
+
+path_line_again : (index : ℕ) (path : PathLine) → IsLine (Path index path) → line_of (line_words (Path index path)) ≡ Ok (Path index path)
+unfolding line_of keyword path_line fixed
+path_line_again index path h =
+    let now = eqb path.join 0 in
+    let allowed = options_allowed now path.backup index path.join h.0 (λ z. (eq-eqb path.join 0 (h.2 z).0, (h.2 z).1)) in
+    let last = path_of_again index path (option_tick now path.join) h.0 h.1 (tick_again now path.join refl h.1.join) in
+    rw (options_again now path.backup path.join, allowed) last
+
+plain_options : (now backup : Bool) (tick : ℕ) → tick < 2 ^ 64 → ArePlain (option_words now backup tick)
+plain_options true true tick h = (refl, tt)
+plain_options true false tick h = tt
+plain_options false true tick h = (refl, (plain_number tick h, (refl, tt)))
+plain_options false false tick h = (refl, (plain_number tick h, tt))
+
+plain_path_words : (index : ℕ) (path : PathLine) → IsLine (Path index path) → ArePlain (line_words (Path index path))
+plain_path_words index path h =
+    (refl, (plain_path index h.0, (refl, (plain_within segment_sizes path.mss (omega arith) h.1.mss, (refl, (plain_within delays path.delay (omega arith) h.1.delay, plain_options (eqb path.join 0) path.backup path.join (omega (arith, h.1.join.most))))))))
+
+-- ---- any line
+
+pub line_again : (line : Line) → IsLine line → (line ≡ Header → ⊥) → line_of (line_words line) ≡ Ok line
+unfolding line_of keyword seed_line checksum_line buffer_line end_line
+line_again Header h later = absurd (later refl)
+line_again (Seed n) h later = rw (again seeds n (omega arith) h) refl
+line_again (Checksum on) h later = rw (switch_again on) refl
+line_again (Buffer octets) h later = rw (again buffers octets (omega arith) h) refl
+line_again (Path index path) h later = path_line_again index path h
+line_again (Event event) h later = event_again event h
+line_again End h later = refl
+
+pub plain_line : (line : Line) → IsLine line → ArePlain (line_words line)
+plain_line Header h = (refl, (refl, tt))
+plain_line (Seed n) h = (refl, (plain_within seeds n (omega arith) h, tt))
+plain_line (Checksum on) h = (refl, (plain_switch on, tt))
+plain_line (Buffer octets) h = (refl, (plain_within buffers octets (omega arith) h, tt))
+plain_line (Path index path) h = plain_path_words index path h
+plain_line (Event event) h = plain_event event h
+plain_line End h = (refl, tt)

@@ -1,0 +1,10 @@
+pub mod Faults
+pub mod Ranges
+pub mod Numbers
+pub mod Words
+pub mod Steps
+pub mod Lines
+pub mod Places
+pub mod Reading
+pub mod Writing
+pub mod Scripts

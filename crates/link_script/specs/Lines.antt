@@ -1,0 +1,200 @@
+-- One line of a script by its words. What is wrong with the words comes before what is wrong with a number.
+use Rattle.std.specs.Prelude.{ℕ, Bool, true, false, not, List, [], ◌∷◌, Result, Ok, Err, is_ok, if◌then◌else◌, codes}
+use Rattle.link_script.specs.declared.fault.ScriptKind.{ScriptKind}
+use Rattle.link_script.specs.declared.fault.ScriptKind.TheVariants.{Word}
+use Rattle.link_script.specs.Ranges.{seeds, buffers, path_numbers, first_path_number, segment_sizes, delays, segment_numbers, latenesses, run_ticks, address_ids}
+use Rattle.link_script.specs.declared.line.Line.{Line}
+use Rattle.link_script.specs.declared.line.Line.TheVariants as line
+use Rattle.link_script.specs.declared.script.ScriptLine.TheVariants.{Drop, Strip, Alter, Dup, Late, StripAll, Die, Prio, Add, Remove, FastClose}
+use Rattle.link_script.specs.declared.segment.Segment.{Segment}
+use Rattle.link_script.specs.declared.word.Keyword.{Keyword}
+use Rattle.link_script.specs.declared.word.Keyword.TheVariants as first
+use Rattle.link_script.specs.Numbers.{within}
+use Rattle.link_script.specs.Steps.{◌>>=◌}
+use Rattle.link_script.specs.Words.{fixed, keyword, direction, side, switch}
+
+-- seed N
+unfoldable pub seed_line : List (List ℕ) → Result Line ScriptKind
+seed_line (seed ∷ []) = do
+  n ← within seeds seed
+  Ok (line.Seed n)
+seed_line words = Err Word
+
+-- checksum on | off
+unfoldable pub checksum_line : List (List ℕ) → Result Line ScriptKind
+checksum_line (word ∷ []) = do
+  on ← switch word
+  Ok (line.Checksum on)
+checksum_line words = Err Word
+
+-- buffer N
+unfoldable pub buffer_line : List (List ℕ) → Result Line ScriptKind
+buffer_line (octets ∷ []) = do
+  n ← within buffers octets
+  Ok (line.Buffer n)
+buffer_line words = Err Word
+
+-- [join run_ticks] [backup], as the word of the tick, and whether the path is a backup
+unfoldable pub path_options : List (List ℕ) → Result (List ℕ × Bool) ScriptKind
+path_options [] = Ok (codes "0", false)
+path_options (a ∷ []) = do
+  _ ← fixed (codes "backup") a
+  Ok (codes "0", true)
+path_options (a ∷ tick ∷ []) = do
+  _ ← fixed (codes "join") a
+  Ok (tick, false)
+path_options (a ∷ tick ∷ b ∷ []) = do
+  _ ← fixed (codes "join") a
+  _ ← fixed (codes "backup") b
+  Ok (tick, true)
+path_options words = Err Word
+
+-- path 0 has no options
+abbrev pub may_have : List ℕ → List (List ℕ) → Bool
+may_have path [] = true
+may_have path (option ∷ options) = not (is_ok (within first_path_number path))
+
+-- the numbers of a path
+unfoldable pub path_of : List ℕ → List ℕ → List ℕ → List ℕ → Bool → Result Line ScriptKind
+path_of path mss delay join backup = do
+  index ← within path_numbers path
+  octets ← within segment_sizes mss
+  ticks ← within delays delay
+  tick ← within run_ticks join
+  Ok (line.Path index (record { mss = octets; delay = ticks; join = tick; backup = backup }))
+
+-- path I mss N delay N, and the options
+unfoldable pub path_line : List (List ℕ) → Result Line ScriptKind
+path_line (path ∷ a ∷ mss ∷ b ∷ delay ∷ options) = do
+  _ ← fixed (codes "mss") a
+  _ ← fixed (codes "delay") b
+  option ← path_options options
+  if may_have path options then path_of path mss delay option.0 option.1 else Err Word
+path_line words = Err Word
+
+-- I DIR N
+unfoldable pub segment : List ℕ → List ℕ → List ℕ → Result Segment ScriptKind
+segment path from number = do
+  side ← direction from
+  index ← within path_numbers path
+  n ← within segment_numbers number
+  Ok (record { path = index; from = side; number = n })
+
+-- drop I DIR N
+unfoldable pub drop_line : List (List ℕ) → Result Line ScriptKind
+drop_line (path ∷ from ∷ number ∷ []) = do
+  s ← segment path from number
+  Ok (line.Event (Drop s.path s.from s.number))
+drop_line words = Err Word
+
+-- strip I DIR N
+unfoldable pub strip_line : List (List ℕ) → Result Line ScriptKind
+strip_line (path ∷ from ∷ number ∷ []) = do
+  s ← segment path from number
+  Ok (line.Event (Strip s.path s.from s.number))
+strip_line words = Err Word
+
+-- alter I DIR N
+unfoldable pub alter_line : List (List ℕ) → Result Line ScriptKind
+alter_line (path ∷ from ∷ number ∷ []) = do
+  s ← segment path from number
+  Ok (line.Event (Alter s.path s.from s.number))
+alter_line words = Err Word
+
+-- dup I DIR N TICKS
+unfoldable pub dup_line : List (List ℕ) → Result Line ScriptKind
+dup_line (path ∷ from ∷ number ∷ ticks ∷ []) = do
+  s ← segment path from number
+  t ← within latenesses ticks
+  Ok (line.Event (Dup s.path s.from s.number t))
+dup_line words = Err Word
+
+-- late I DIR N TICKS
+unfoldable pub late_line : List (List ℕ) → Result Line ScriptKind
+late_line (path ∷ from ∷ number ∷ ticks ∷ []) = do
+  s ← segment path from number
+  t ← within latenesses ticks
+  Ok (line.Event (Late s.path s.from s.number t))
+late_line words = Err Word
+
+-- strip-all I DIR run_ticks
+unfoldable pub strip_all_line : List (List ℕ) → Result Line ScriptKind
+strip_all_line (path ∷ from ∷ tick ∷ []) = do
+  d ← direction from
+  index ← within path_numbers path
+  t ← within run_ticks tick
+  Ok (line.Event (StripAll index d t))
+strip_all_line words = Err Word
+
+-- die I run_ticks
+unfoldable pub die_line : List (List ℕ) → Result Line ScriptKind
+die_line (path ∷ tick ∷ []) = do
+  index ← within path_numbers path
+  t ← within run_ticks tick
+  Ok (line.Event (Die index t))
+die_line words = Err Word
+
+-- prio I SIDE run_ticks on | off
+unfoldable pub prio_line : List (List ℕ) → Result Line ScriptKind
+prio_line (path ∷ which ∷ tick ∷ word ∷ []) = do
+  s ← side which
+  on ← switch word
+  index ← within path_numbers path
+  t ← within run_ticks tick
+  Ok (line.Event (Prio index s t on))
+prio_line words = Err Word
+
+-- add b ID run_ticks
+unfoldable pub add_line : List (List ℕ) → Result Line ScriptKind
+add_line (which ∷ id ∷ tick ∷ []) = do
+  _ ← fixed (codes "b") which
+  n ← within address_ids id
+  t ← within run_ticks tick
+  Ok (line.Event (Add n t))
+add_line words = Err Word
+
+-- remove SIDE ID run_ticks
+unfoldable pub remove_line : List (List ℕ) → Result Line ScriptKind
+remove_line (which ∷ id ∷ tick ∷ []) = do
+  s ← side which
+  n ← within address_ids id
+  t ← within run_ticks tick
+  Ok (line.Event (Remove s n t))
+remove_line words = Err Word
+
+-- fastclose SIDE run_ticks
+unfoldable pub fast_close_line : List (List ℕ) → Result Line ScriptKind
+fast_close_line (which ∷ tick ∷ []) = do
+  s ← side which
+  t ← within run_ticks tick
+  Ok (line.Event (FastClose s t))
+fast_close_line words = Err Word
+
+-- end
+unfoldable pub end_line : List (List ℕ) → Result Line ScriptKind
+end_line [] = Ok line.End
+end_line words = Err Word
+
+-- the words after the first
+abbrev pub line_after : Keyword → List (List ℕ) → Result Line ScriptKind
+line_after first.Seed words = seed_line words
+line_after first.Checksum words = checksum_line words
+line_after first.Buffer words = buffer_line words
+line_after first.Path words = path_line words
+line_after first.Drop words = drop_line words
+line_after first.Strip words = strip_line words
+line_after first.Alter words = alter_line words
+line_after first.Dup words = dup_line words
+line_after first.Late words = late_line words
+line_after first.StripAll words = strip_all_line words
+line_after first.Die words = die_line words
+line_after first.Prio words = prio_line words
+line_after first.Add words = add_line words
+line_after first.Remove words = remove_line words
+line_after first.FastClose words = fast_close_line words
+line_after first.End words = end_line words
+
+-- any line but the first
+unfoldable pub line_of : List (List ℕ) → Result Line ScriptKind
+line_of [] = Err Word
+line_of (word ∷ words) = keyword word >>= λ which. line_after which words

@@ -1,0 +1,53 @@
+-- The ranges of the numbers in a script, how many of each thing there may be, and what is so by default.
+use Rattle.std.specs.Prelude.{ℕ, ◌-◌, ◌^◌}
+use Rattle.link_script.specs.declared.limits.Limits.{Limits}
+
+abbrev pub most_lines : ℕ
+most_lines = 4096
+
+abbrev pub most_digits : ℕ
+most_digits = 20
+
+abbrev pub default_seed : ℕ
+default_seed = 1
+
+abbrev pub default_buffer : ℕ
+default_buffer = 65536
+
+abbrev pub seeds : Limits
+seeds = record { least = 0; most = 2 ^ 64 - 1 }
+
+-- octets of a buffer
+abbrev pub buffers : Limits
+buffers = record { least = 4096; most = 1048576 }
+
+-- numbers of paths
+abbrev pub path_numbers : Limits
+path_numbers = record { least = 0; most = 7 }
+
+abbrev pub first_path_number : Limits
+first_path_number = record { least = 0; most = 0 }
+
+-- octets of a maximum segment size
+abbrev pub segment_sizes : Limits
+segment_sizes = record { least = 200; most = 1460 }
+
+-- ticks from one end of a link to the other
+abbrev pub delays : Limits
+delays = record { least = 1; most = 200 }
+
+-- numbers of segments in one direction
+abbrev pub segment_numbers : Limits
+segment_numbers = record { least = 1; most = 1000000 }
+
+-- ticks by which a segment is late
+abbrev pub latenesses : Limits
+latenesses = record { least = 0; most = 100000 }
+
+-- ticks of a run of 65,536 rounds of 100 ticks
+abbrev pub run_ticks : Limits
+run_ticks = record { least = 0; most = 6553599 }
+
+-- identifiers of addresses
+abbrev pub address_ids : Limits
+address_ids = record { least = 0; most = 255 }

@@ -1,0 +1,60 @@
+-- What every script keeps to, whatever its text is.
+use Rattle.std.specs.Prelude.{◌≡◌, ℕ, ◌+◌, ◌<◌, ◌≤◌, false, List, [], ◌∷◌, length, Ok, All}
+use Rattle.std.specs.List.{AllPairs}
+use Rattle.link_script.specs.declared.limits.Limits.{Limits}
+use Rattle.link_script.specs.Ranges.{most_lines, seeds, buffers, path_numbers, segment_sizes, delays, segment_numbers, latenesses, run_ticks, address_ids}
+use Rattle.link_script.specs.declared.line.Line.TheVariants.{Event}
+use Rattle.link_script.specs.declared.script.PathLine.{PathLine}
+use Rattle.link_script.specs.declared.script.Script.{Script}
+use Rattle.link_script.specs.declared.script.ScriptLine.{ScriptLine}
+use Rattle.link_script.specs.declared.script.ScriptLine.TheVariants.{Drop, Strip, Alter, Dup, Late, StripAll, Die, Prio, Add, Remove, FastClose}
+use Rattle.link_script.specs.Places.{settle_one}
+use Rattle.link_script.specs.Reading.{reading}
+use Rattle.link_script.specs.Writing.{lines_of}
+
+-- some text says it
+abbrev pub IsScript : Script → Type 0
+IsScript script = (text : List ℕ) × (reading text ≡ Ok script)
+
+pub record IsWithin (limits : Limits) (n : ℕ) : Type 0 where
+  pub least : limits.least ≤ n
+  pub most : n ≤ limits.most
+
+pub record IsPath (path : PathLine) : Type 0 where
+  pub mss : IsWithin segment_sizes path.mss
+  pub delay : IsWithin delays path.delay
+  pub join : IsWithin run_ticks path.join
+
+-- the path that opens the connection joins nothing, and is no backup
+abbrev pub OpensPlainly : List PathLine → Type 0
+OpensPlainly [] = Unit {0}
+OpensPlainly (path ∷ paths) = (path.join ≡ 0) × (path.backup ≡ false)
+
+-- a line that speaks of one of so many paths
+abbrev pub IsEvent : ℕ → ScriptLine → Type 0
+IsEvent paths (Drop path from number) = (path < paths) × IsWithin segment_numbers number
+IsEvent paths (Strip path from number) = (path < paths) × IsWithin segment_numbers number
+IsEvent paths (Alter path from number) = (path < paths) × IsWithin segment_numbers number
+IsEvent paths (Dup path from number ticks) = (path < paths) × IsWithin segment_numbers number × IsWithin latenesses ticks
+IsEvent paths (Late path from number ticks) = (path < paths) × IsWithin segment_numbers number × IsWithin latenesses ticks
+IsEvent paths (StripAll path from tick) = (path < paths) × IsWithin run_ticks tick
+IsEvent paths (Die path tick) = (path < paths) × IsWithin run_ticks tick
+IsEvent paths (Prio path side tick on) = (path < paths) × IsWithin run_ticks tick
+IsEvent paths (Add id tick) = IsWithin address_ids id × IsWithin run_ticks tick
+IsEvent paths (Remove side id tick) = IsWithin address_ids id × IsWithin run_ticks tick
+IsEvent paths (FastClose side tick) = IsWithin run_ticks tick
+
+-- no two lines settle one thing
+abbrev pub SettleApart : ScriptLine → ScriptLine → Type 0
+SettleApart a b = settle_one (Event a) (Event b) ≡ false
+
+pub record HasRanges (script : Script) : Type 0 where
+  pub seed : IsWithin seeds script.seed
+  pub buffer : IsWithin buffers script.buffer
+  pub some_path : 0 < length script.paths
+  pub few_paths : length script.paths ≤ path_numbers.most + 1
+  pub paths : All IsPath script.paths
+  pub first_path : OpensPlainly script.paths
+  pub lines : All (IsEvent (length script.paths)) script.lines
+  pub apart : AllPairs SettleApart script.lines
+  pub few_lines : length (lines_of script) ≤ most_lines

@@ -1,0 +1,84 @@
+-- The one text of a script: its lines, of which those that say a default are left out.
+use Rattle.std.specs.Prelude.{ℕ, suc, Bool, true, List, [], ◌∷◌, ◌++◌, map, ◌==◌, if◌then◌else◌, codes}
+use Rattle.std.specs.Fmt.{decimal}
+use Rattle.std.specs.List.{flat_map, join_with_byte}
+use Rattle.link_script.specs.Ranges.{default_seed, default_buffer}
+use Rattle.link_script.specs.declared.line.Line.{Line}
+use Rattle.link_script.specs.declared.line.Line.TheVariants.{Header, Seed, Checksum, Buffer, Path, Event, End}
+use Rattle.link_script.specs.declared.script.PathLine.{PathLine}
+use Rattle.link_script.specs.declared.script.Script.{Script}
+use Rattle.link_script.specs.declared.script.ScriptLine.{ScriptLine}
+use Rattle.link_script.specs.declared.script.ScriptLine.TheVariants.{Drop, Strip, Alter, Dup, Late, StripAll, Die, Prio, Add, Remove, FastClose}
+use Rattle.link_script.specs.Words.{direction_word, side_word, switch_word}
+
+-- words with a space between each two
+abbrev pub spaced : List (List ℕ) → List ℕ
+spaced words = join_with_byte 32 words
+
+abbrev pub join_words : ℕ → List (List ℕ)
+join_words tick = if tick == 0 then [] else codes "join" ∷ decimal tick ∷ []
+
+abbrev pub backup_words : Bool → List (List ℕ)
+backup_words backup = if backup then codes "backup" ∷ [] else []
+
+-- what stands after the number of a path
+abbrev pub path_words : PathLine → List (List ℕ)
+path_words path = codes "mss" ∷ decimal path.mss ∷ codes "delay" ∷ decimal path.delay ∷ (join_words path.join ++ backup_words path.backup)
+
+abbrev pub event_words : ScriptLine → List (List ℕ)
+event_words (Drop path from number) = codes "drop" ∷ decimal path ∷ direction_word from ∷ decimal number ∷ []
+event_words (Strip path from number) = codes "strip" ∷ decimal path ∷ direction_word from ∷ decimal number ∷ []
+event_words (Alter path from number) = codes "alter" ∷ decimal path ∷ direction_word from ∷ decimal number ∷ []
+event_words (Dup path from number ticks) = codes "dup" ∷ decimal path ∷ direction_word from ∷ decimal number ∷ decimal ticks ∷ []
+event_words (Late path from number ticks) = codes "late" ∷ decimal path ∷ direction_word from ∷ decimal number ∷ decimal ticks ∷ []
+event_words (StripAll path from tick) = codes "strip-all" ∷ decimal path ∷ direction_word from ∷ decimal tick ∷ []
+event_words (Die path tick) = codes "die" ∷ decimal path ∷ decimal tick ∷ []
+event_words (Prio path side tick on) = codes "prio" ∷ decimal path ∷ side_word side ∷ decimal tick ∷ switch_word on ∷ []
+event_words (Add id tick) = codes "add" ∷ codes "b" ∷ decimal id ∷ decimal tick ∷ []
+event_words (Remove side id tick) = codes "remove" ∷ side_word side ∷ decimal id ∷ decimal tick ∷ []
+event_words (FastClose side tick) = codes "fastclose" ∷ side_word side ∷ decimal tick ∷ []
+
+abbrev pub line_words : Line → List (List ℕ)
+line_words Header = codes "mptcp-script" ∷ codes "1" ∷ []
+line_words (Seed n) = codes "seed" ∷ decimal n ∷ []
+line_words (Checksum on) = codes "checksum" ∷ switch_word on ∷ []
+line_words (Buffer octets) = codes "buffer" ∷ decimal octets ∷ []
+line_words (Path index path) = codes "path" ∷ decimal index ∷ path_words path
+line_words (Event event) = event_words event
+line_words End = codes "end" ∷ []
+
+abbrev pub path_text : PathLine → List ℕ
+path_text path = spaced (path_words path)
+
+abbrev pub event_text : ScriptLine → List ℕ
+event_text event = spaced (event_words event)
+
+abbrev pub line_text : Line → List ℕ
+line_text line = spaced (line_words line)
+
+-- a line with its LF
+abbrev pub ended : Line → List ℕ
+ended line = line_text line ++ 10 ∷ []
+
+abbrev pub seed_lines : ℕ → List Line
+seed_lines n = if n == default_seed then [] else Seed n ∷ []
+
+abbrev pub checksum_lines : Bool → List Line
+checksum_lines on = if on then Checksum true ∷ [] else []
+
+abbrev pub buffer_lines : ℕ → List Line
+buffer_lines octets = if octets == default_buffer then [] else Buffer octets ∷ []
+
+-- the paths, of which the first has this number
+abbrev pub path_lines : ℕ → List PathLine → List Line
+path_lines index [] = []
+path_lines index (path ∷ paths) = Path index path ∷ path_lines (suc index) paths
+
+abbrev pub event_lines : List ScriptLine → List Line
+event_lines events = map (λ event. Event event) events
+
+abbrev pub lines_of : Script → List Line
+lines_of script = Header ∷ (seed_lines script.seed ++ (checksum_lines script.checksum ++ (buffer_lines script.buffer ++ (path_lines 0 script.paths ++ (event_lines script.lines ++ End ∷ [])))))
+
+unfoldable pub text_of : Script → List ℕ
+text_of script = flat_map ended (lines_of script)

@@ -1,0 +1,97 @@
+//! One line of a script.
+
+ghost use Rattle.std.specs.Prelude.{◌≡◌, map};
+ghost use Rattle.link_script.specs.Lines.{seed_line, checksum_line, buffer_line, end_line, line_of};
+
+use crate::fault::ScriptKind;
+use crate::limits::{BUFFER, SEED};
+use crate::number::read_number;
+use crate::path::read_path;
+use crate::script::{PathLine, ScriptLine};
+use crate::segment::{read_alter, read_drop, read_dup, read_late, read_strip};
+use crate::tick::{read_add, read_die, read_fast_close, read_prio, read_remove, read_strip_all};
+use crate::word::{Keyword, read_switch};
+
+/// What a line says.
+#[derive(Clone, Copy, Debug, PartialEq, Eq)]
+pub enum Line {
+    Header,
+    Seed(u64),
+    Checksum(bool),
+    Buffer(u64),
+    Path { index: u64, line: PathLine },
+    Event(ScriptLine),
+    End,
+}
+
+/// `seed N`
+#[tactic(auto, unfolding(crate::specs::Lines::seed_line))]
+fn read_seed(words: &[&[u8]]) -> Result<Line, ScriptKind>
+    ensures { result ≡ seed_line (map (λ word. word.now) words.now) }
+{
+    let [seed] = words else {
+        return Err(ScriptKind::Word);
+    };
+    Ok(Line::Seed(read_number(seed, SEED)?))
+}
+
+/// `checksum on` or `off`
+#[tactic(auto, unfolding(crate::specs::Lines::checksum_line))]
+fn read_checksum(words: &[&[u8]]) -> Result<Line, ScriptKind>
+    ensures { result ≡ checksum_line (map (λ word. word.now) words.now) }
+{
+    let [on] = words else {
+        return Err(ScriptKind::Word);
+    };
+    Ok(Line::Checksum(read_switch(on)?))
+}
+
+/// `buffer N`
+#[tactic(auto, unfolding(crate::specs::Lines::buffer_line))]
+fn read_buffer(words: &[&[u8]]) -> Result<Line, ScriptKind>
+    ensures { result ≡ buffer_line (map (λ word. word.now) words.now) }
+{
+    let [octets] = words else {
+        return Err(ScriptKind::Word);
+    };
+    Ok(Line::Buffer(read_number(octets, BUFFER)?))
+}
+
+/// `end`
+#[tactic(auto, unfolding(crate::specs::Lines::end_line))]
+fn read_end(words: &[&[u8]]) -> Result<Line, ScriptKind>
+    ensures { result ≡ end_line (map (λ word. word.now) words.now) }
+{
+    match words {
+        [] => Ok(Line::End),
+        _ => Err(ScriptKind::Word),
+    }
+}
+
+/// Reads any line but the first.
+#[tactic(auto, unfolding(crate::specs::Lines::line_of))]
+pub fn read_line(words: &[&[u8]]) -> Result<Line, ScriptKind>
+    ensures { result ≡ line_of (map (λ word. word.now) words.now) }
+{
+    let [first, rest @ ..] = words else {
+        return Err(ScriptKind::Word);
+    };
+    match Keyword::read(first)? {
+        Keyword::Seed => read_seed(rest),
+        Keyword::Checksum => read_checksum(rest),
+        Keyword::Buffer => read_buffer(rest),
+        Keyword::Path => read_path(rest),
+        Keyword::Drop => read_drop(rest),
+        Keyword::Strip => read_strip(rest),
+        Keyword::Alter => read_alter(rest),
+        Keyword::Dup => read_dup(rest),
+        Keyword::Late => read_late(rest),
+        Keyword::StripAll => read_strip_all(rest),
+        Keyword::Die => read_die(rest),
+        Keyword::Prio => read_prio(rest),
+        Keyword::Add => read_add(rest),
+        Keyword::Remove => read_remove(rest),
+        Keyword::FastClose => read_fast_close(rest),
+        Keyword::End => read_end(rest),
+    }
+}

@@ -1,0 +1,168 @@
+//! Reads a script.
+
+ghost use Rattle.std.specs.Prelude.{◌≡◌, ◌≤◌, [], map, OnOk, IfOk};
+ghost use Rattle.link_script.specs.Ranges.{most_lines};
+ghost use Rattle.link_script.specs.Words.{text_lines};
+ghost use Rattle.link_script.specs.Scripts.{HasRanges};
+ghost use Rattle.link_script.specs.Reading.{Gives, first_line, in_place, later_line, next_line, at_line, seen_after, read_on, blank, with_line, script_of, reading};
+
+use crate::fault::{ScriptFault, ScriptKind};
+use crate::limits::{DEFAULT_BUFFER, DEFAULT_SEED, MAX_LINES};
+use crate::line::{Line, read_line};
+use crate::lists::{PathLines, ScriptLines};
+use crate::place::{has_ended, is_out_of_order, is_repeated};
+use crate::script::Script;
+use crate::word::{is_passed_over, split_line, split_words};
+use std::alloc::{AllocError, Global};
+
+/// The first line of a script.
+const HEADER: &[u8] = b"mptcp-script 1";
+
+fn read_first(text: &[u8]) -> Result<Line, ScriptKind>
+    ensures { result ≡ first_line text.now }
+{
+    if text == HEADER {
+        Ok(Line::Header)
+    } else {
+        Err(ScriptKind::Header)
+    }
+}
+
+/// Whether a line may stand after these lines.
+fn place(seen: &[Line], line: Line) -> Result<Line, ScriptKind>
+    ensures { result ≡ in_place seen.now line }
+{
+    if is_out_of_order(seen, &line) {
+        return Err(ScriptKind::Order);
+    }
+    if is_repeated(seen, &line) {
+        return Err(ScriptKind::Repeated);
+    }
+    Ok(line)
+}
+
+#[tactic(auto, unfolding(crate::specs::Reading::later_line))]
+fn read_later(seen: &[Line], words: &[&[u8]]) -> Result<Line, ScriptKind>
+    ensures { result ≡ later_line seen.now (map (λ word. word.now) words.now) }
+{
+    place(seen, read_line(words)?)
+}
+
+/// The line with this number, after these lines.
+fn read_numbered(
+    alloc: Global,
+    number: u64,
+    seen: &[Line],
+    text: &[u8],
+) -> Result<Line, ScriptFault>
+    ensures { Gives (λ line. line) result (at_line number (next_line seen.now text.now)) }
+{
+    let outcome = match seen {
+        [] => read_first(text),
+        _ => read_later(seen, &split_words(alloc, text)?),
+    };
+    match outcome {
+        Ok(line) => Ok(line),
+        Err(kind) => Err(ScriptFault::Line { line: number, kind }),
+    }
+}
+
+/// Adds the line with this number to the lines before it, unless it is passed over.
+#[tactic(auto, unfolding(crate::specs::Reading::seen_after))]
+fn take_line(
+    alloc: Global,
+    number: u64,
+    seen: &mut Vec<Line>,
+    text: &[u8],
+) -> Result<(), ScriptFault>
+    ensures exact { Gives (λ _. seen.new.items) result (seen_after number seen.old.items text.now) }
+    ensures few { OnOk result (number ≤ most_lines) }
+{
+    if number > MAX_LINES {
+        let kind = ScriptKind::TooMany;
+        return Err(ScriptFault::Line { line: number, kind });
+    }
+    if !is_passed_over(text) {
+        let line = read_numbered(alloc, number, seen, text)?;
+        seen.push(line)?;
+    }
+    Ok(())
+}
+
+/// Reads all lines.
+fn read_lines(alloc: Global, text: &[u8]) -> Result<Vec<Line>, ScriptFault>
+    ensures { Gives (λ lines. lines.items) result (read_on 1 [] (text_lines text.now)) }
+{
+    let mut seen = Vec::new(alloc);
+    let mut number = 1;
+    let mut rest = text;
+    while !rest.is_empty() {
+        let (line, after) = split_line(rest);
+        take_line(alloc, number, &mut seen, line)?;
+        number += 1;
+        rest = after;
+    }
+    if !has_ended(&seen) {
+        let kind = ScriptKind::Missing;
+        return Err(ScriptFault::Line { line: number, kind });
+    }
+    Ok(seen)
+}
+
+fn blank(alloc: Global) -> Script
+    ensures { result ≡ blank }
+{
+    Script {
+        seed: DEFAULT_SEED,
+        checksum: false,
+        buffer: DEFAULT_BUFFER,
+        paths: PathLines::from(Vec::new(alloc)),
+        lines: ScriptLines::from(Vec::new(alloc)),
+    }
+}
+
+/// Adds what a line says.
+fn add(script: &mut Script, line: &Line) -> Result<(), AllocError>
+    ensures { OnOk result (script.new ≡ with_line script.old line.now) }
+{
+    match *line {
+        Line::Header | Line::End => {}
+        Line::Seed(seed) => script.seed = seed,
+        Line::Checksum(on) => script.checksum = on,
+        Line::Buffer(octets) => script.buffer = octets,
+        Line::Path { line, .. } => script.paths.push(line)?,
+        Line::Event(event) => script.lines.push(event)?,
+    }
+    Ok(())
+}
+
+/// What the lines say together.
+fn assemble(alloc: Global, lines: &[Line]) -> Result<Script, AllocError>
+    ensures { IfOk result (λ script. script ≡ script_of lines.now) }
+{
+    let mut script = blank(alloc);
+    for line in lines {
+        add(&mut script, line)?;
+    }
+    Ok(script)
+}
+
+#[tactic(auto, unfolding(crate::specs::Reading::reading))]
+fn read_script(alloc: Global, bytes: &[u8]) -> Result<Script, ScriptFault>
+    ensures { Gives (λ script. script) result (reading bytes.now) }
+{
+    let lines = read_lines(alloc, bytes)?;
+    Ok(assemble(alloc, &lines)?)
+}
+
+/// Reads a script, or says which line is refused first, and why.
+///
+/// Lines end with LF, and a last line may lack it. Empty lines and lines that begin with `#` are passed over, and are
+/// counted like the others. Every octet is allowed, and every text is answered.
+pub fn parse(alloc: Global, bytes: &[u8]) -> Result<Script, ScriptFault>
+    // The script that the text says or its first fault, unless memory ran out.
+    ensures exact { Gives (λ script. script) result (reading bytes.now) }
+    ensures ranges { IfOk result HasRanges }
+{
+    read_script(alloc, bytes)
+}

@@ -1,0 +1,130 @@
+//! What a script says.
+
+use crate::lists::{PathLines, ScriptLines};
+use outside_kit::Side;
+
+/// How a connection is to run: its settings, its paths, and what happens on them.
+#[derive(Debug, Drop, PartialEq, Eq)]
+pub struct Script {
+    /// The number from which keys, nonces and initial sequence numbers are drawn.
+    pub seed: u64,
+    /// Whether A asks for checksums of the data (RFC 8684, section 3.1).
+    pub checksum: bool,
+    /// Octets that each side buffers of what it sends, and of what it receives.
+    pub buffer: u64,
+    /// The paths, path 0 first.
+    pub paths: PathLines,
+    /// What happens on the paths, in the order of the text.
+    pub lines: ScriptLines,
+}
+
+/// One path.
+#[derive(Clone, Copy, Debug, PartialEq, Eq)]
+pub struct PathLine {
+    /// Octets of the maximum segment size that both ends announce.
+    pub mss: u16,
+    /// Ticks that a segment takes from one end to the other.
+    pub delay: u32,
+    /// The tick from which A joins the path to the connection (RFC 8684, section 3.2); 0 at path 0, which opens it.
+    pub join: u64,
+    /// Whether the path is a backup: it carries data only where no other path can (RFC 8684, section 3.2).
+    pub backup: bool,
+}
+
+/// What happens to one segment, to one direction of a link, to a path or to a side.
+///
+/// `path` is the number of a path. `from` is the side that sends, and `number` counts the segments that the link of
+/// the path takes from it, the first being 1. `tick` is a tick of the run, and `ticks` is how many pass.
+#[derive(Clone, Copy, Debug, PartialEq, Eq)]
+pub enum ScriptLine {
+    /// The segment doesn't arrive.
+    Drop {
+        path: u8,
+        from: Side,
+        number: u32,
+    },
+    /// The segment arrives without its Multipath TCP options.
+    Strip {
+        path: u8,
+        from: Side,
+        number: u32,
+    },
+    /// The segment arrives with the lowest bit of its first payload octet turned.
+    Alter {
+        path: u8,
+        from: Side,
+        number: u32,
+    },
+    /// The segment arrives twice, the second time so many ticks after the first.
+    Dup {
+        path: u8,
+        from: Side,
+        number: u32,
+        ticks: u32,
+    },
+    /// The segment arrives so many ticks late.
+    Late {
+        path: u8,
+        from: Side,
+        number: u32,
+        ticks: u32,
+    },
+    /// Each segment that is sent at the tick or later arrives without its Multipath TCP options.
+    StripAll {
+        path: u8,
+        from: Side,
+        tick: u64,
+    },
+    /// All that is under way on the link is lost, and both ends of the path die.
+    Die {
+        path: u8,
+        tick: u64,
+    },
+    /// The side asks its peer to use the path as a backup, or no longer so (RFC 8684, section 3.3.8).
+    Prio {
+        path: u8,
+        side: Side,
+        tick: u64,
+        on: bool,
+    },
+    /// B announces an address with this identifier (RFC 8684, section 3.4.1).
+    Add {
+        id: u8,
+        tick: u64,
+    },
+    /// The side withdraws the address with this identifier (RFC 8684, section 3.4.2).
+    Remove {
+        side: Side,
+        id: u8,
+        tick: u64,
+    },
+    /// The side closes the whole connection at once (RFC 8684, section 3.5).
+    FastClose {
+        side: Side,
+        tick: u64,
+    },
+}
+
+impl ScriptLine {
+    ghost use Rattle.std.specs.Prelude.{◌≡◌};
+    ghost use Rattle.link_script.specs.Places.{path_named};
+
+    /// The path that the line names.
+    pub fn path(&self) -> Option<u8>
+        ensures { result ≡ path_named self.now }
+    {
+        match *self {
+            ScriptLine::Drop { path, .. }
+            | ScriptLine::Strip { path, .. }
+            | ScriptLine::Alter { path, .. }
+            | ScriptLine::Dup { path, .. }
+            | ScriptLine::Late { path, .. }
+            | ScriptLine::StripAll { path, .. }
+            | ScriptLine::Die { path, .. }
+            | ScriptLine::Prio { path, .. } => Some(path),
+            ScriptLine::Add { .. } | ScriptLine::Remove { .. } | ScriptLine::FastClose { .. } => {
+                None
+            }
+        }
+    }
+}

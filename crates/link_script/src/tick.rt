@@ -1,0 +1,99 @@
+//! The lines that speak of a tick of the run.
+
+ghost use Rattle.std.specs.Prelude.{◌≡◌, map};
+ghost use Rattle.link_script.specs.Lines.{strip_all_line, die_line, prio_line, add_line, remove_line, fast_close_line};
+
+use crate::fault::ScriptKind;
+use crate::limits::{ADDRESS_ID, PATH, TICK};
+use crate::line::Line;
+use crate::number::read_number;
+use crate::script::ScriptLine;
+use crate::word::{expect_word, read_direction, read_side, read_switch};
+
+/// `strip-all I DIR TICK`
+#[tactic(auto, unfolding(crate::specs::Lines::strip_all_line))]
+pub fn read_strip_all(words: &[&[u8]]) -> Result<Line, ScriptKind>
+    ensures { result ≡ strip_all_line (map (λ word. word.now) words.now) }
+{
+    let [path, from, tick] = words else {
+        return Err(ScriptKind::Word);
+    };
+    let from = read_direction(from)?;
+    let path = read_number(path, PATH)? as u8;
+    let tick = read_number(tick, TICK)?;
+    Ok(Line::Event(ScriptLine::StripAll { path, from, tick }))
+}
+
+/// `die I TICK`
+#[tactic(auto, unfolding(crate::specs::Lines::die_line))]
+pub fn read_die(words: &[&[u8]]) -> Result<Line, ScriptKind>
+    ensures { result ≡ die_line (map (λ word. word.now) words.now) }
+{
+    let [path, tick] = words else {
+        return Err(ScriptKind::Word);
+    };
+    let path = read_number(path, PATH)? as u8;
+    let tick = read_number(tick, TICK)?;
+    Ok(Line::Event(ScriptLine::Die { path, tick }))
+}
+
+/// `prio I SIDE TICK on` or `off`
+#[tactic(auto, unfolding(crate::specs::Lines::prio_line))]
+pub fn read_prio(words: &[&[u8]]) -> Result<Line, ScriptKind>
+    ensures { result ≡ prio_line (map (λ word. word.now) words.now) }
+{
+    let [path, side, tick, on] = words else {
+        return Err(ScriptKind::Word);
+    };
+    let side = read_side(side)?;
+    let on = read_switch(on)?;
+    let path = read_number(path, PATH)? as u8;
+    let tick = read_number(tick, TICK)?;
+    Ok(Line::Event(ScriptLine::Prio {
+        path,
+        side,
+        tick,
+        on,
+    }))
+}
+
+/// `add b ID TICK`
+#[tactic(auto, unfolding(crate::specs::Lines::add_line))]
+pub fn read_add(words: &[&[u8]]) -> Result<Line, ScriptKind>
+    ensures { result ≡ add_line (map (λ word. word.now) words.now) }
+{
+    let [side, id, tick] = words else {
+        return Err(ScriptKind::Word);
+    };
+    expect_word(side, b"b")?;
+    let id = read_number(id, ADDRESS_ID)? as u8;
+    let tick = read_number(tick, TICK)?;
+    Ok(Line::Event(ScriptLine::Add { id, tick }))
+}
+
+/// `remove SIDE ID TICK`
+#[tactic(auto, unfolding(crate::specs::Lines::remove_line))]
+pub fn read_remove(words: &[&[u8]]) -> Result<Line, ScriptKind>
+    ensures { result ≡ remove_line (map (λ word. word.now) words.now) }
+{
+    let [side, id, tick] = words else {
+        return Err(ScriptKind::Word);
+    };
+    let side = read_side(side)?;
+    let id = read_number(id, ADDRESS_ID)? as u8;
+    let tick = read_number(tick, TICK)?;
+    Ok(Line::Event(ScriptLine::Remove { side, id, tick }))
+}
+
+/// `fastclose SIDE TICK`
+#[tactic(auto, unfolding(crate::specs::Lines::fast_close_line))]
+pub fn read_fast_close(words: &[&[u8]]) -> Result<Line, ScriptKind>
+    ensures { result ≡ fast_close_line (map (λ word. word.now) words.now) }
+{
+    let [side, tick] = words else {
+        return Err(ScriptKind::Word);
+    };
+    let side = read_side(side)?;
+    let tick = read_number(tick, TICK)?;
+    Ok(Line::Event(ScriptLine::FastClose { side, tick }))
+}

@@ -1,0 +1,160 @@
+//! The fixed words of a script, and how a text is cut into lines and words.
+
+ghost use Rattle.std.specs.Prelude.{◌≡◌, ◌==◌, ◌<◌, ◌∷◌, length, map, position, IfOk};
+ghost use Rattle.link_script.specs.Words.{fixed, keyword_word, keyword, direction, side, switch, text_lines, words_of, is_passed_over};
+
+use crate::fault::ScriptKind;
+use outside_kit::Side;
+use std::alloc::{AllocError, Global};
+
+/// The first word of a line, which says what the line is.
+#[derive(Clone, Copy, Debug, PartialEq, Eq)]
+pub enum Keyword {
+    Seed,
+    Checksum,
+    Buffer,
+    Path,
+    Drop,
+    Strip,
+    Alter,
+    Dup,
+    Late,
+    StripAll,
+    Die,
+    Prio,
+    Add,
+    Remove,
+    FastClose,
+    End,
+}
+
+impl Keyword {
+    pub const ALL: [Keyword; 16] = [
+        Keyword::Seed,
+        Keyword::Checksum,
+        Keyword::Buffer,
+        Keyword::Path,
+        Keyword::Drop,
+        Keyword::Strip,
+        Keyword::Alter,
+        Keyword::Dup,
+        Keyword::Late,
+        Keyword::StripAll,
+        Keyword::Die,
+        Keyword::Prio,
+        Keyword::Add,
+        Keyword::Remove,
+        Keyword::FastClose,
+        Keyword::End,
+    ];
+
+    pub fn word(&self) -> &'static [u8]
+        ensures { result.now ≡ keyword_word self.now }
+    {
+        match self {
+            Keyword::Seed => b"seed",
+            Keyword::Checksum => b"checksum",
+            Keyword::Buffer => b"buffer",
+            Keyword::Path => b"path",
+            Keyword::Drop => b"drop",
+            Keyword::Strip => b"strip",
+            Keyword::Alter => b"alter",
+            Keyword::Dup => b"dup",
+            Keyword::Late => b"late",
+            Keyword::StripAll => b"strip-all",
+            Keyword::Die => b"die",
+            Keyword::Prio => b"prio",
+            Keyword::Add => b"add",
+            Keyword::Remove => b"remove",
+            Keyword::FastClose => b"fastclose",
+            Keyword::End => b"end",
+        }
+    }
+
+    pub fn read(word: &[u8]) -> Result<Keyword, ScriptKind>
+        ensures { result ≡ keyword word.now }
+    {
+        Keyword::ALL
+            .iter()
+            .copied()
+            .find(|keyword| keyword.word() == word)
+            .ok_or(ScriptKind::Word)
+    }
+}
+
+/// A word that can't be another.
+#[tactic(auto, unfolding(crate::specs::Words::fixed))]
+pub fn expect_word(word: &[u8], expected: &[u8]) -> Result<(), ScriptKind>
+    ensures { result ≡ fixed expected.now word.now }
+{
+    if word == expected {
+        Ok(())
+    } else {
+        Err(ScriptKind::Word)
+    }
+}
+
+#[tactic(auto, unfolding(crate::specs::Words::direction))]
+pub fn read_direction(word: &[u8]) -> Result<Side, ScriptKind>
+    ensures { result ≡ direction word.now }
+{
+    match word {
+        b"ab" => Ok(Side::A),
+        b"ba" => Ok(Side::B),
+        _ => Err(ScriptKind::Word),
+    }
+}
+
+#[tactic(auto, unfolding(crate::specs::Words::side))]
+pub fn read_side(word: &[u8]) -> Result<Side, ScriptKind>
+    ensures { result ≡ side word.now }
+{
+    match word {
+        b"a" => Ok(Side::A),
+        b"b" => Ok(Side::B),
+        _ => Err(ScriptKind::Word),
+    }
+}
+
+#[tactic(auto, unfolding(crate::specs::Words::switch))]
+pub fn read_switch(word: &[u8]) -> Result<bool, ScriptKind>
+    ensures { result ≡ switch word.now }
+{
+    match word {
+        b"on" => Ok(true),
+        b"off" => Ok(false),
+        _ => Err(ScriptKind::Word),
+    }
+}
+
+pub fn is_passed_over(line: &[u8]) -> bool
+    ensures { result ≡ is_passed_over line.now }
+{
+    matches!(line, [] | [b'#', ..])
+}
+
+/// The place of the first LF.
+fn line_end(text: &[u8]) -> Option<usize>
+    ensures { result ≡ position (λ octet. octet == 10) text.now }
+{
+    text.iter().position(|octet| *octet == b'\n')
+}
+
+/// Cuts the first line off a text: the octets before the first LF, and those after it.
+pub fn split_line(text: &[u8]) -> (&[u8], &[u8])
+    requires { 0 < length text.now }
+    ensures line { text_lines text.now ≡ result.0.now ∷ text_lines result.1.now }
+    ensures shorter { length result.1.now < length text.now }
+{
+    match line_end(text) {
+        Some(end) => (&text[..end], &text[end + 1..]),
+        None => (text, &[]),
+    }
+}
+
+/// The words of a line: its parts between spaces.
+pub fn split_words(alloc: Global, line: &[u8]) -> Result<Vec<&[u8]>, AllocError>
+    ensures { IfOk result (λ words. map (λ w. w.now) words.items ≡ words_of line.now) }
+{
+    line.split(|octet| *octet == b' ').collect(alloc)
+}
