@@ -114,11 +114,12 @@ fn refuses_script(
 
 #[test]
 fn long_inputs_are_refused(rt: HostRuntime) -> Result<(), Fail> {
-    let long = vec![in rt.alloc(); 0; 16_777_217]?;
+    let zeros = vec![in rt.alloc(); 0; 16_777_217]?;
+    let long = zeros.as_slice();
     let too_long = |input| Status::TooLong { input };
     refuses(&rt, [SCRIPT, b"hello", b"x"], too_long(Named::FileB))?;
-    refuses(&rt, [SCRIPT, &long, b"x"], too_long(Named::FileA))?;
-    refuses(&rt, [&long[..65_537], &long, b""], too_long(Named::Script))
+    refuses(&rt, [SCRIPT, long, b"x"], too_long(Named::FileA))?;
+    refuses(&rt, [long, long, b""], too_long(Named::Script))
 }
 
 #[test]
