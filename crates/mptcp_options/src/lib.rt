@@ -1,0 +1,18 @@
+//! The options of Multipath TCP, both ways: the octets of a TCP option of kind 30 read as a value, and a value
+//! written as its octets (RFC 8684, section 3). Reading takes no memory and lends what has no fixed length.
+#![tactic(auto)]
+
+mod address;
+mod capable;
+mod dss;
+mod fields;
+mod join;
+mod option;
+mod reading;
+mod signals;
+
+pub use capable::CapableKeys;
+pub use dss::{DataNumber, DssMap};
+pub use join::JoinForm;
+pub use option::{KIND, MpOption, Read};
+pub use reading::read;
