@@ -1,7 +1,7 @@
 -- ADD_ADDR (RFC 8684, section 3.4.1): subtype 3, with the echo flag E 0x01 in its octet, the address id, an address
 -- of 4 or 16 octets, perhaps a port, and where it is no echo an HMAC of 8. REMOVE_ADDR (section 3.4.2): subtype 4,
 -- and the address ids from the fourth octet on.
-use Rattle.std.specs.Prelude.{◌≡◌, ℕ, ◌+◌, ◌<◌, ◌≤◌, ◌^◌, Bool, not, if◌then◌else◌, Option, Some, None, is_some, List, [], ◌∷◌, ◌++◌, length, take, drop}
+use Rattle.std.specs.Prelude.{◌≡◌, ℕ, ◌+◌, ◌<◌, ◌≤◌, ◌^◌, Bool, not, if◌then◌else◌, Option, Some, None, is_some, List, [], ◌∷◌, ◌++◌, length, take, drop, bit_or}
 use Rattle.std.specs.Int.{w16, w64}
 use Rattle.key_material.specs.declared.address.Address.{Address}
 use Rattle.key_material.specs.declared.address.Address.TheVariants.{V4, V6}
@@ -11,7 +11,7 @@ use Rattle.mptcp_options.specs.Octets.{AreOctets, octet, number_at, is_set, flag
 -- the octets after kind and length
 abbrev pub add_addr_body : Bool → ℕ → Address → Option ℕ → Option ℕ → List ℕ
 add_addr_body echo id address port hmac =
-    (0x30 + flag_if echo 0x01) ∷ id ∷ octets_of address ++ optional w16 port ++ optional w64 hmac
+    bit_or 0x30 (flag_if echo 0x01) ∷ id ∷ octets_of address ++ optional w16 port ++ optional w64 hmac
 
 abbrev pub remove_addr_body : List ℕ → List ℕ
 remove_addr_body ids = 0x40 ∷ ids

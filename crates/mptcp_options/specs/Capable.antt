@@ -1,6 +1,6 @@
 -- MP_CAPABLE (RFC 8684, section 3.1): subtype 0 and version 1, then the flags A 0x80, B 0x40, C 0x20 and H 0x01,
 -- then keys, and with data their length and checksum.
-use Rattle.std.specs.Prelude.{◌≡◌, ℕ, ◌+◌, ◌<◌, ◌^◌, Bool, ◌==◌, if◌then◌else◌, Option, Some, None, is_some, List, [], ◌∷◌, ◌++◌, length}
+use Rattle.std.specs.Prelude.{◌≡◌, ℕ, ◌<◌, ◌^◌, Bool, ◌==◌, if◌then◌else◌, Option, Some, None, is_some, List, [], ◌∷◌, ◌++◌, length, bit_or}
 use Rattle.std.specs.Int.{w16, w64, to_be_bytes}
 use Rattle.mptcp_options.specs.declared.capable.CapableKeys.{CapableKeys}
 use Rattle.mptcp_options.specs.declared.capable.CapableKeys.TheVariants.{NoKey, Sender, Both, WithData}
@@ -17,7 +17,7 @@ keys_text (WithData sender receiver data_length checksum) =
 
 -- the octets after kind and length; B is 0 and H is 1
 abbrev pub capable_body : Bool → Bool → CapableKeys → List ℕ
-capable_body flag_a flag_c keys = 0x01 ∷ (flag_if flag_a 0x80 + flag_if flag_c 0x20 + 0x01) ∷ keys_text keys
+capable_body flag_a flag_c keys = 0x01 ∷ bit_or (bit_or (flag_if flag_a 0x80) (flag_if flag_c 0x20)) 0x01 ∷ keys_text keys
 
 -- ---- as it is read
 

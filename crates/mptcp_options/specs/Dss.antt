@@ -1,6 +1,6 @@
 -- DSS (RFC 8684, section 3.3): subtype 2, then the flags F 0x10, m 0x08, M 0x04, a 0x02 and A 0x01; with A the Data
 -- ACK, of 8 octets with a, else 4; with M the mapping, whose data number has 8 octets with m, else 4.
-use Rattle.std.specs.Prelude.{◌≡◌, ℕ, ◌+◌, ◌<◌, ◌^◌, Bool, true, false, ◌&&◌, ◌==◌, if◌then◌else◌, Option, Some, None, is_some, IfSome, IfNone, List, [], ◌∷◌, ◌++◌, length}
+use Rattle.std.specs.Prelude.{◌≡◌, ℕ, ◌+◌, ◌<◌, ◌^◌, Bool, true, false, ◌&&◌, ◌==◌, if◌then◌else◌, Option, Some, None, is_some, IfSome, IfNone, List, [], ◌∷◌, ◌++◌, length, bit_or}
 use Rattle.std.specs.Int.{w16, w32, w64, to_be_bytes}
 use Rattle.mptcp_options.specs.declared.dss.DataNumber.{DataNumber}
 use Rattle.mptcp_options.specs.declared.dss.DataNumber.TheVariants.{Whole, Low}
@@ -23,7 +23,7 @@ ack_text (Some ack) = data_number_text ack
 
 abbrev pub ack_flags : Option DataNumber → ℕ
 ack_flags None = 0
-ack_flags (Some ack) = flag_if (is_whole ack) 0x02 + 0x01
+ack_flags (Some ack) = bit_or (flag_if (is_whole ack) 0x02) 0x01
 
 abbrev pub mapping_text : Option DssMap → List ℕ
 mapping_text None = []
@@ -32,12 +32,12 @@ mapping_text (Some m) =
 
 abbrev pub mapping_flags : Option DssMap → ℕ
 mapping_flags None = 0
-mapping_flags (Some m) = flag_if (is_whole m.number) 0x08 + 0x04
+mapping_flags (Some m) = bit_or (flag_if (is_whole m.number) 0x08) 0x04
 
 -- the octets after kind and length
 abbrev pub dss_body : Option DataNumber → Option DssMap → Bool → List ℕ
 dss_body ack mapping fin =
-    0x20 ∷ (flag_if fin 0x10 + mapping_flags mapping + ack_flags ack) ∷ ack_text ack ++ mapping_text mapping
+    0x20 ∷ bit_or (bit_or (flag_if fin 0x10) (mapping_flags mapping)) (ack_flags ack) ∷ ack_text ack ++ mapping_text mapping
 
 -- ---- as it is read, where flags is the fourth octet
 

@@ -1,5 +1,5 @@
 -- MP_JOIN (RFC 8684, section 3.2): subtype 1, with flag B 0x01 in its octet on SYN and SYN/ACK.
-use Rattle.std.specs.Prelude.{◌≡◌, ℕ, ◌+◌, ◌<◌, ◌^◌, ◌==◌, if◌then◌else◌, List, [], ◌∷◌, ◌++◌, length, take, drop}
+use Rattle.std.specs.Prelude.{◌≡◌, ℕ, ◌<◌, ◌^◌, ◌==◌, if◌then◌else◌, List, [], ◌∷◌, ◌++◌, length, take, drop, bit_or}
 use Rattle.std.specs.Int.{w32, w64, to_be_bytes}
 use Rattle.mptcp_options.specs.declared.join.JoinForm.{JoinForm}
 use Rattle.mptcp_options.specs.declared.join.JoinForm.TheVariants.{Syn, Answer, Third}
@@ -7,8 +7,8 @@ use Rattle.mptcp_options.specs.Octets.{AreOctets, octet, number_at, is_set, flag
 
 -- the octets after kind and length
 abbrev pub join_body : JoinForm → List ℕ
-join_body (Syn backup id token nonce) = (0x10 + flag_if backup 0x01) ∷ id ∷ to_be_bytes w32 token ++ to_be_bytes w32 nonce
-join_body (Answer backup id hmac nonce) = (0x10 + flag_if backup 0x01) ∷ id ∷ to_be_bytes w64 hmac ++ to_be_bytes w32 nonce
+join_body (Syn backup id token nonce) = bit_or 0x10 (flag_if backup 0x01) ∷ id ∷ to_be_bytes w32 token ++ to_be_bytes w32 nonce
+join_body (Answer backup id hmac nonce) = bit_or 0x10 (flag_if backup 0x01) ∷ id ∷ to_be_bytes w64 hmac ++ to_be_bytes w32 nonce
 join_body (Third hmac) = 0x10 ∷ 0 ∷ hmac
 
 -- the form as it is read: the length tells it

@@ -1,5 +1,5 @@
 -- The options of one form: MP_PRIO (RFC 8684, section 3.3.8), MP_FAIL (3.7), MP_FASTCLOSE (3.5) and MP_TCPRST (3.6).
-use Rattle.std.specs.Prelude.{ℕ, ◌+◌, Bool, List, [], ◌∷◌}
+use Rattle.std.specs.Prelude.{ℕ, Bool, List, [], ◌∷◌, bit_or}
 use Rattle.std.specs.Int.{w64, to_be_bytes}
 use Rattle.mptcp_options.specs.Octets.{octet, number_at, is_set, flag_if}
 
@@ -7,7 +7,7 @@ use Rattle.mptcp_options.specs.Octets.{octet, number_at, is_set, flag_if}
 
 -- subtype 5, with flag B 0x01 in its octet
 abbrev pub prio_body : Bool → List ℕ
-prio_body backup = (0x50 + flag_if backup 0x01) ∷ []
+prio_body backup = bit_or 0x50 (flag_if backup 0x01) ∷ []
 
 -- subtype 6
 abbrev pub fail_body : ℕ → List ℕ
@@ -19,7 +19,7 @@ fast_close_body key = 0x70 ∷ 0 ∷ to_be_bytes w64 key
 
 -- subtype 8, with flag T 0x01 in its octet
 abbrev pub reset_body : Bool → ℕ → List ℕ
-reset_body transient reason = (0x80 + flag_if transient 0x01) ∷ reason ∷ []
+reset_body transient reason = bit_or 0x80 (flag_if transient 0x01) ∷ reason ∷ []
 
 -- ---- as they are read
 

@@ -1,11 +1,13 @@
 ghost use Rattle.std.specs.Prelude.{◌≡◌, ◌+◌, ◌≤◌, length, Bool};
 ghost use Rattle.mptcp_options.specs.Octets.{is_among};
 ghost use Rattle.mptcp_options.specs.Value.{meaning_of, LendsIds};
-ghost use Rattle.mptcp_options.specs.Address.{is_echo, is_ipv4, has_port, add_addr_lengths, port_place, hmac_place, address_at, port_at, hmac_at};
+ghost use Rattle.mptcp_options.specs.Address.{is_echo, is_ipv4, has_port, add_addr_lengths, port_place, hmac_place, address_at, port_at, hmac_at, add_addr_body, remove_addr_body};
 ghost use Rattle.mptcp_options.specs.Meaning.{IsFramed, subtype, option_meaning};
 
+use crate::body::{Body, flag_if, joined, optional_u16, optional_u64};
 use crate::fields::{u16_at, u64_at};
 use crate::option::{MpOption, Read};
+use crate::subtype::{ADD_ADDR, REMOVE_ADDR};
 use key_material::Address;
 
 /// The flag E in the subtype's octet.
@@ -111,4 +113,28 @@ pub fn read_remove_addr(option: &[u8]) -> Read<'_>
         return Read::Malformed;
     }
     Read::Known(MpOption::Remove { ids: &option[3..] })
+}
+
+pub fn add_addr_body(
+    echo: bool,
+    id: u8,
+    address: &Address,
+    port: Option<u16>,
+    hmac: Option<u64>,
+) -> Body
+    ensures { result.items ≡ add_addr_body echo id address.now port hmac }
+{
+    joined(&[
+        &[ADD_ADDR << 4 | flag_if(echo, ECHO), id],
+        address.octets(),
+        optional_u16(port).as_slice(),
+        optional_u64(hmac).as_slice(),
+    ])
+}
+
+pub fn remove_addr_body(ids: &[u8]) -> Body
+    requires { length ids.now ≤ 37 }
+    ensures { result.items ≡ remove_addr_body ids.now }
+{
+    joined(&[&[REMOVE_ADDR << 4], ids])
 }

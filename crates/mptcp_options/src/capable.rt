@@ -1,10 +1,12 @@
 ghost use Rattle.std.specs.Prelude.{◌≡◌, ◌≤◌, length};
 ghost use Rattle.mptcp_options.specs.Value.{meaning_of, LendsIds};
-ghost use Rattle.mptcp_options.specs.Capable.{keys_if_long};
+ghost use Rattle.mptcp_options.specs.Capable.{keys_if_long, capable_body};
 ghost use Rattle.mptcp_options.specs.Meaning.{IsFramed, subtype, option_meaning};
 
+use crate::body::{Body, flag_if, joined};
 use crate::fields::{u16_at, u64_at};
 use crate::option::{MpOption, Read};
+use crate::subtype::MP_CAPABLE;
 
 /// The version of the protocol, in the lower half of the subtype's octet.
 const VERSION: u8 = 1;
@@ -93,5 +95,41 @@ pub fn read_capable(option: &[u8], checksum: bool) -> Read<'_>
             keys,
         }),
         None => Read::Malformed,
+    }
+}
+
+pub fn capable_body(flag_a: bool, flag_c: bool, keys: &CapableKeys) -> Body
+    ensures { result.items ≡ capable_body flag_a flag_c keys.now }
+{
+    let head = [
+        MP_CAPABLE << 4 | VERSION,
+        flag_if(flag_a, FLAG_A) | flag_if(flag_c, FLAG_C) | FLAG_H,
+    ];
+    match keys {
+        CapableKeys::NoKey => joined(&[&head]),
+        CapableKeys::Sender { sender } => joined(&[&head, &sender.to_be_bytes()]),
+        CapableKeys::Both { sender, receiver } => {
+            joined(&[&head, &sender.to_be_bytes(), &receiver.to_be_bytes()])
+        }
+        CapableKeys::WithData {
+            sender,
+            receiver,
+            length,
+            checksum,
+        } => {
+            let sender = sender.to_be_bytes();
+            let receiver = receiver.to_be_bytes();
+            let length = length.to_be_bytes();
+            match checksum {
+                None => joined(&[&head, &sender, &receiver, &length]),
+                Some(checksum) => joined(&[
+                    &head,
+                    &sender,
+                    &receiver,
+                    &length,
+                    &checksum.to_be_bytes(),
+                ]),
+            }
+        }
     }
 }

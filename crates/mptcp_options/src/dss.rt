@@ -1,11 +1,13 @@
 ghost use Rattle.std.specs.Prelude.{◌≡◌, ◌+◌, ◌≤◌, length};
 ghost use Rattle.mptcp_options.specs.Octets.{octet};
 ghost use Rattle.mptcp_options.specs.Value.{meaning_of, LendsIds};
-ghost use Rattle.mptcp_options.specs.Dss.{has_ack, has_mapping, data_number_length, data_number_at, mapping_place, relative_place, dss_end, dss_length, ack_at, mapping_at, fin_at};
+ghost use Rattle.mptcp_options.specs.Dss.{has_ack, has_mapping, data_number_length, data_number_at, mapping_place, relative_place, dss_end, dss_length, ack_at, mapping_at, fin_at, data_number_text, is_whole, ack_text, ack_flags, mapping_text, mapping_flags, dss_body};
 ghost use Rattle.mptcp_options.specs.Meaning.{IsFramed, subtype, option_meaning};
 
+use crate::body::{Body, flag_if, joined, optional_u16};
 use crate::fields::{u16_at, u32_at, u64_at};
 use crate::option::{MpOption, Read};
+use crate::subtype::DSS;
 
 /// The mapping ends with the DATA_FIN.
 const FLAG_F: u8 = 0x10;
@@ -171,4 +173,74 @@ pub fn read_dss(option: &[u8], checksum: bool) -> Read<'_>
         mapping: mapping_at(option, checksum),
         fin: has_mapping(flags) && flags & FLAG_F != 0,
     })
+}
+
+fn is_whole(number: &DataNumber) -> bool
+    ensures { result ≡ is_whole number.now }
+{
+    matches!(number, DataNumber::Whole(_))
+}
+
+fn data_number_text(number: &DataNumber) -> Body
+    ensures text { result.items ≡ data_number_text number.now }
+    ensures few { length result.items ≤ 8 }
+{
+    match number {
+        DataNumber::Whole(number) => joined(&[&number.to_be_bytes()]),
+        DataNumber::Low(number) => joined(&[&number.to_be_bytes()]),
+    }
+}
+
+fn ack_text(ack: &Option<DataNumber>) -> Body
+    ensures text { result.items ≡ ack_text ack.now }
+    ensures few { length result.items ≤ 8 }
+{
+    match ack {
+        None => Body::new(),
+        Some(number) => data_number_text(number),
+    }
+}
+
+fn ack_flags(ack: &Option<DataNumber>) -> u8
+    ensures { result ≡ ack_flags ack.now }
+{
+    match ack {
+        None => 0,
+        Some(number) => flag_if(is_whole(number), FLAG_WIDE_ACK) | FLAG_ACK,
+    }
+}
+
+fn mapping_text(mapping: &Option<DssMap>) -> Body
+    ensures text { result.items ≡ mapping_text mapping.now }
+    ensures few { length result.items ≤ 16 }
+{
+    match mapping {
+        None => Body::new(),
+        Some(map) => joined(&[
+            data_number_text(&map.number).as_slice(),
+            &map.relative.to_be_bytes(),
+            &map.length.to_be_bytes(),
+            optional_u16(map.checksum).as_slice(),
+        ]),
+    }
+}
+
+fn mapping_flags(mapping: &Option<DssMap>) -> u8
+    ensures { result ≡ mapping_flags mapping.now }
+{
+    match mapping {
+        None => 0,
+        Some(map) => flag_if(is_whole(&map.number), FLAG_WIDE_NUMBER) | FLAG_MAPPING,
+    }
+}
+
+pub fn dss_body(ack: &Option<DataNumber>, mapping: &Option<DssMap>, fin: bool) -> Body
+    ensures { result.items ≡ dss_body ack.now mapping.now fin }
+{
+    let flags = flag_if(fin, FLAG_F) | mapping_flags(mapping) | ack_flags(ack);
+    joined(&[
+        &[DSS << 4, flags],
+        ack_text(ack).as_slice(),
+        mapping_text(mapping).as_slice(),
+    ])
 }

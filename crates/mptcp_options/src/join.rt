@@ -1,9 +1,12 @@
 ghost use Rattle.std.specs.Prelude.{◌≡◌, Bool};
 ghost use Rattle.mptcp_options.specs.Value.{meaning_of, LendsIds};
+ghost use Rattle.mptcp_options.specs.Join.{join_body};
 ghost use Rattle.mptcp_options.specs.Meaning.{IsFramed, subtype, option_meaning};
 
+use crate::body::{Body, flag_if, joined};
 use crate::fields::{u32_at, u64_at};
 use crate::option::{MpOption, Read};
+use crate::subtype::MP_JOIN;
 
 /// The flag B in the subtype's octet.
 const BACKUP: u8 = 0x01;
@@ -60,5 +63,33 @@ pub fn read_join(option: &[u8]) -> Read<'_>
             },
         }),
         _ => Read::Malformed,
+    }
+}
+
+pub fn join_body(form: &JoinForm) -> Body
+    ensures { result.items ≡ join_body form.now }
+{
+    match form {
+        JoinForm::Syn {
+            backup,
+            id,
+            token,
+            nonce,
+        } => joined(&[
+            &[MP_JOIN << 4 | flag_if(*backup, BACKUP), *id],
+            &token.to_be_bytes(),
+            &nonce.to_be_bytes(),
+        ]),
+        JoinForm::Answer {
+            backup,
+            id,
+            hmac,
+            nonce,
+        } => joined(&[
+            &[MP_JOIN << 4 | flag_if(*backup, BACKUP), *id],
+            &hmac.to_be_bytes(),
+            &nonce.to_be_bytes(),
+        ]),
+        JoinForm::Third { hmac } => joined(&[&[MP_JOIN << 4, 0], hmac]),
     }
 }

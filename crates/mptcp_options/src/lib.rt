@@ -3,6 +3,7 @@
 #![tactic(auto)]
 
 mod address;
+mod body;
 mod capable;
 mod dss;
 mod fields;
@@ -10,9 +11,12 @@ mod join;
 mod option;
 mod reading;
 mod signals;
+mod subtype;
+mod writing;
 
 pub use capable::CapableKeys;
 pub use dss::{DataNumber, DssMap};
 pub use join::JoinForm;
 pub use option::{KIND, MpOption, Read};
 pub use reading::read;
+pub use writing::write;

@@ -7,6 +7,7 @@ use crate::capable::read_capable;
 use crate::dss::read_dss;
 use crate::join::read_join;
 use crate::option::{KIND, Read};
+use crate::subtype;
 use crate::signals::{read_fail, read_fast_close, read_prio, read_reset};
 
 /// What the octets of one TCP option say, kind and length among them, where checksums are used or not. An option
@@ -50,15 +51,15 @@ fn read_framed<'a>(option: &'a [u8], checksum: bool) -> Read<'a>
     ensures lent { LendsIds option.entry result }
 {
     match option[2] >> 4 {
-        0 => read_capable(option, checksum),
-        1 => read_join(option),
-        2 => read_dss(option, checksum),
-        3 => read_add_addr(option),
-        4 => read_remove_addr(option),
-        5 => read_prio(option),
-        6 => read_fail(option),
-        7 => read_fast_close(option),
-        8 => read_reset(option),
+        subtype::MP_CAPABLE => read_capable(option, checksum),
+        subtype::MP_JOIN => read_join(option),
+        subtype::DSS => read_dss(option, checksum),
+        subtype::ADD_ADDR => read_add_addr(option),
+        subtype::REMOVE_ADDR => read_remove_addr(option),
+        subtype::MP_PRIO => read_prio(option),
+        subtype::MP_FAIL => read_fail(option),
+        subtype::MP_FASTCLOSE => read_fast_close(option),
+        subtype::MP_TCPRST => read_reset(option),
         _ => Read::Unknown,
     }
 }
