@@ -8,11 +8,11 @@ use Rattle.mptcp_options.specs.Meaning.{IsFramed, subtype, has_length_of_table, 
 use Rattle.mptcp_options.proofs.MeaningByTable.{known_if, by_length}
 
 module _ (octets : List ℕ) (framed : IsFramed octets) where
-  add_addr_length : subtype octets ≡ 3 → has_length_of_table octets ≡ (is_among (length octets) (add_addr_lengths (is_echo octets)))
+  pub add_addr_length : subtype octets ≡ 3 → has_length_of_table octets ≡ (is_among (length octets) (add_addr_lengths (is_echo octets)))
   unfolding has_length_of_table
   add_addr_length e = rw e refl
 
-  add_addr_value : subtype octets ≡ 3 → value_at octets ≡ AddAddr (is_echo octets) (octet octets 3) (address_at octets) (port_at octets) (hmac_at octets)
+  pub add_addr_value : subtype octets ≡ 3 → value_at octets ≡ AddAddr (is_echo octets) (octet octets 3) (address_at octets) (port_at octets) (hmac_at octets)
   unfolding value_at
   add_addr_value e = rw e refl
 
@@ -20,11 +20,11 @@ module _ (octets : List ℕ) (framed : IsFramed octets) where
       → option_meaning octets checksum ≡ known_if (is_among (length octets) (add_addr_lengths (is_echo octets))) (AddAddr (is_echo octets) (octet octets 3) (address_at octets) (port_at octets) (hmac_at octets))
   option_meaning_add_addr e = by_length octets framed 3 e refl refl refl _ _ (add_addr_length e) (add_addr_value e)
 
-  remove_addr_length : subtype octets ≡ 4 → has_length_of_table octets ≡ (nat_le 4 (length octets))
+  pub remove_addr_length : subtype octets ≡ 4 → has_length_of_table octets ≡ (nat_le 4 (length octets))
   unfolding has_length_of_table
   remove_addr_length e = rw e refl
 
-  remove_addr_value : subtype octets ≡ 4 → value_at octets ≡ RemoveAddr (ids_at octets)
+  pub remove_addr_value : subtype octets ≡ 4 → value_at octets ≡ RemoveAddr (ids_at octets)
   unfolding value_at
   remove_addr_value e = rw e refl
 

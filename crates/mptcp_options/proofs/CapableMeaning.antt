@@ -17,7 +17,7 @@ without_checksum : (n : ℕ) → not (nat_lt 20 n && n == 24) && is_among n (4 �
 without_checksum n = grind (arith, nat_tests)
 
 -- the test of `keys_if_long`
-abbrev length_fits : List ℕ → Bool → Bool
+abbrev pub length_fits : List ℕ → Bool → Bool
 length_fits octets checksum = is_among (length octets) (4 ∷ 12 ∷ 20 ∷ (if checksum then 24 else 22) ∷ [])
 
 known_of : (long a c : Bool) (at keys : CapableKeys) → Some keys ≡ (if long then Some at else None)
@@ -31,7 +31,7 @@ malformed_of true a c at e = cc
 malformed_of false a c at e = refl
 
 module _ (octets : List ℕ) (framed : IsFramed octets) (is_capable : subtype octets ≡ 0) where
-  foreign : is_foreign octets ≡ not (version octets == 1)
+  pub foreign : is_foreign octets ≡ not (version octets == 1)
   unfolding is_foreign
   foreign = rw is_capable refl
 
@@ -39,7 +39,7 @@ module _ (octets : List ℕ) (framed : IsFramed octets) (is_capable : subtype oc
   unfolding has_no_flags
   flagless = rw is_capable refl
 
-  unusable : is_unusable octets ≡ (not (is_set (octet octets 3) 0x01) || is_set (octet octets 3) 0x40)
+  pub unusable : is_unusable octets ≡ (not (is_set (octet octets 3) 0x01) || is_set (octet octets 3) 0x40)
   unfolding is_unusable
   unusable = rw is_capable refl
 
@@ -48,6 +48,10 @@ module _ (octets : List ℕ) (framed : IsFramed octets) (is_capable : subtype oc
   unfolding differs_in_checksum has_length_of_table
   fits true = rw is_capable (with_checksum (length octets))
   fits false = rw is_capable (without_checksum (length octets))
+
+  pub capable_length : has_length_of_table octets ≡ is_among (length octets) (4 ∷ 12 ∷ 20 ∷ 22 ∷ 24 ∷ [])
+  unfolding has_length_of_table
+  capable_length = rw is_capable refl
 
   value : value_at octets ≡ Capable (reads_flag_a octets) (reads_flag_c octets) (keys_at octets)
   unfolding value_at
@@ -74,7 +78,7 @@ module _ (octets : List ℕ) (framed : IsFramed octets) (is_capable : subtype oc
       capable_unusable checksum flags =
           rw (not_of_another_kind octets framed, not_misframed octets framed, foreign, flagless, unusable, eq-eqb (version octets) 1 first, ne_eqb (length octets) 3 no_three, flags) refl
 
-      capable_usable : (checksum : Bool) → (not (is_set (octet octets 3) 0x01) || is_set (octet octets 3) 0x40) ≡ false
+      pub capable_usable : (checksum : Bool) → (not (is_set (octet octets 3) 0x01) || is_set (octet octets 3) 0x40) ≡ false
           → option_meaning octets checksum ≡ known_if (length_fits octets checksum)
           (Capable (reads_flag_a octets) (reads_flag_c octets) (keys_at octets))
       unfolding option_meaning

@@ -10,11 +10,11 @@ use Rattle.mptcp_options.specs.Meaning.{IsFramed, subtype, has_length_of_table, 
 use Rattle.mptcp_options.proofs.MeaningByTable.{known_if, by_length}
 
 module _ (octets : List ℕ) (framed : IsFramed octets) where
-  join_length : subtype octets ≡ 1 → has_length_of_table octets ≡ (is_among (length octets) (12 ∷ 16 ∷ 24 ∷ []))
+  pub join_length : subtype octets ≡ 1 → has_length_of_table octets ≡ (is_among (length octets) (12 ∷ 16 ∷ 24 ∷ []))
   unfolding has_length_of_table
   join_length e = rw e refl
 
-  join_value : subtype octets ≡ 1 → value_at octets ≡ Join (form_at octets)
+  pub join_value : subtype octets ≡ 1 → value_at octets ≡ Join (form_at octets)
   unfolding value_at
   join_value e = rw e refl
 

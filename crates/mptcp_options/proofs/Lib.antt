@@ -1,3 +1,8 @@
+mod Cells
+mod Among
+mod OctetTests
+mod NumbersAgain
+mod TextAgain
 mod Framing
 mod MeaningByTable
 mod JoinMeaning
@@ -5,3 +10,8 @@ mod AddressMeaning
 mod SignalMeaning
 mod DssMeaning
 mod CapableMeaning
+mod KnownValue
+mod SignalText
+mod JoinText
+mod AddressText
+mod CapableText

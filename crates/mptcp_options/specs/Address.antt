@@ -6,7 +6,8 @@ use Rattle.std.specs.Int.{w16, w64}
 use Rattle.key_material.specs.declared.address.Address.{Address}
 use Rattle.key_material.specs.declared.address.Address.TheVariants.{V4, V6}
 use Rattle.key_material.specs.Address.{octets_of}
-use Rattle.mptcp_options.specs.Octets.{AreOctets, octet, number_at, is_set, flag_if, is_among, optional, IsBelow}
+use Rattle.key_material.specs.Octets.{AreOctets}
+use Rattle.mptcp_options.specs.Octets.{octet, number_at, is_set, flag_if, is_among, optional, IsBelow}
 
 -- the octets after kind and length
 abbrev pub add_addr_body : Bool → ℕ → Address → Option ℕ → Option ℕ → List ℕ

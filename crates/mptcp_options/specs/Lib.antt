@@ -7,3 +7,5 @@ pub mod Address
 pub mod Signals
 pub mod Text
 pub mod Meaning
+pub mod Ignored
+pub mod Laws

@@ -3,10 +3,6 @@
 use Rattle.std.specs.Prelude.{ℕ, ◌<◌, Bool, false, not, ◌||◌, ◌==◌, if◌then◌else◌, Option, Some, None, IfSome, List, [], ◌∷◌, take, drop, slice_index, bit_and}
 use Rattle.std.specs.Int.{Width, byte_len, from_be_bytes, to_be_bytes}
 
--- each element is an octet
-pub record AreOctets (octets : List ℕ) : Type 0 where
-  pub each : (place : ℕ) → slice_index octets place < 256
-
 -- the octet at a place
 abbrev pub octet : List ℕ → ℕ → ℕ
 octet octets place = slice_index octets place

@@ -1,6 +1,6 @@
 -- The octets of an option: kind 30, its length, and its body, which begins with the subtype.
 use Rattle.std.specs.Prelude.{ℕ, ◌+◌, ◌<◌, ◌^◌, Bool, List, ◌∷◌, length}
-use Rattle.mptcp_options.specs.Octets.{AreOctets}
+use Rattle.key_material.specs.Octets.{AreOctets}
 use Rattle.mptcp_options.specs.Value.{OptionValue, Capable, Join, Dss, AddAddr, RemoveAddr, Prio, Fail, FastClose, Reset}
 use Rattle.mptcp_options.specs.Capable.{capable_body, KeysHaveForm, KeysFit}
 use Rattle.mptcp_options.specs.Join.{join_body, FormFits}
