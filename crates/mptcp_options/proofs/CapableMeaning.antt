@@ -35,7 +35,7 @@ module _ (octets : List ℕ) (framed : IsFramed octets) (is_capable : subtype oc
   unfolding is_foreign
   foreign = rw is_capable refl
 
-  flagless : has_no_flags octets ≡ (length octets == 3)
+  pub flagless : has_no_flags octets ≡ (length octets == 3)
   unfolding has_no_flags
   flagless = rw is_capable refl
 
@@ -53,9 +53,9 @@ module _ (octets : List ℕ) (framed : IsFramed octets) (is_capable : subtype oc
   unfolding has_length_of_table
   capable_length = rw is_capable refl
 
-  value : value_at octets ≡ Capable (reads_flag_a octets) (reads_flag_c octets) (keys_at octets)
+  pub capable_value : value_at octets ≡ Capable (reads_flag_a octets) (reads_flag_c octets) (keys_at octets)
   unfolding value_at
-  value = rw is_capable refl
+  capable_value = rw is_capable refl
 
   pub capable_foreign : (checksum : Bool) → version octets ≢ 1 → option_meaning octets checksum ≡ Unknown
   unfolding option_meaning
@@ -84,7 +84,7 @@ module _ (octets : List ℕ) (framed : IsFramed octets) (is_capable : subtype oc
       unfolding option_meaning
       capable_usable checksum flags =
           rw (not_of_another_kind octets framed, not_misframed octets framed, foreign, flagless, unusable, eq-eqb (version octets) 1 first, ne_eqb (length octets) 3 no_three, flags)
-          (by_two_tests (has_length_of_table octets) (differs_in_checksum octets checksum) (value_at octets) ∙ rw (fits checksum, value) refl)
+          (by_two_tests (has_length_of_table octets) (differs_in_checksum octets checksum) (value_at octets) ∙ rw (fits checksum, capable_value) refl)
 
       flags_usable : bit_and (octet octets 3) 0x01 ≢ 0 → bit_and (octet octets 3) 0x40 ≡ 0
           → (not (is_set (octet octets 3) 0x01) || is_set (octet octets 3) 0x40) ≡ false

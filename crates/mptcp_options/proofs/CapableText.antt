@@ -139,9 +139,6 @@ module _ (octets : List ℕ) (framed : IsFramed octets) (are : AreOctets octets)
     with_keys keys =
         text_again octets framed _ (four_again octets framed four _ _ _ (rw capable_third version_again) (rw capable_fourth flags_again) keys)
 
-    key_at : ℕ → List ℕ
-    key_at place = to_be_bytes w64 (number_at w64 octets place)
-
     keys_4 : length octets ≡ 4 → keys_text (keys_at octets) ≡ drop 4 octets
     keys_4 n = rw n (sym (drop_all 4 octets (omega arith)))
 

@@ -29,19 +29,19 @@ one_length true true n end = mapped_with n end
 one_length true false n end = mapped_without n end
 
 module _ (octets : List ℕ) (framed : IsFramed octets) (is_dss : subtype octets ≡ 2) where
-  fits : (checksum : Bool) → not (differs_in_checksum octets checksum) && has_length_of_table octets
+  pub fits : (checksum : Bool) → not (differs_in_checksum octets checksum) && has_length_of_table octets
       ≡ (length octets == dss_length (octet octets 3) checksum)
   unfolding differs_in_checksum has_length_of_table
   fits true = rw is_dss (one_length (has_mapping (octet octets 3)) true (length octets) (dss_end (octet octets 3)))
   fits false = rw is_dss (one_length (has_mapping (octet octets 3)) false (length octets) (dss_end (octet octets 3)))
 
-  value : value_at octets ≡ Dss (ack_at octets) (mapping_at octets) (fin_at octets)
+  pub dss_value : value_at octets ≡ Dss (ack_at octets) (mapping_at octets) (fin_at octets)
   unfolding value_at
-  value = rw is_dss refl
+  dss_value = rw is_dss refl
 
   option_meaning_dss : (checksum : Bool) → option_meaning octets checksum
       ≡ known_if (length octets == dss_length (octet octets 3) checksum) (Dss (ack_at octets) (mapping_at octets) (fin_at octets))
-  option_meaning_dss checksum = rw (by_table octets framed 2 is_dss refl refl checksum, fits checksum, value) refl
+  option_meaning_dss checksum = rw (by_table octets framed 2 is_dss refl refl checksum, fits checksum, dss_value) refl
 
   pub dss_known : (checksum : Bool) → length octets ≡ dss_length (octet octets 3) checksum
       → option_meaning octets checksum ≡ Known (Dss (ack_at octets) (mapping_at octets) (fin_at octets))
@@ -51,7 +51,7 @@ module _ (octets : List ℕ) (framed : IsFramed octets) (is_dss : subtype octets
       → option_meaning octets checksum ≡ Malformed
   dss_malformed checksum n = rw (option_meaning_dss checksum, ne_eqb (length octets) (dss_length (octet octets 3) checksum) n) refl
 
-  at_least_4 : (flags : ℕ) (checksum : Bool) → 4 ≤ dss_length flags checksum
+  pub at_least_4 : (flags : ℕ) (checksum : Bool) → 4 ≤ dss_length flags checksum
   at_least_4 flags checksum = grind arith
 
   -- the flags are there

@@ -15,3 +15,5 @@ mod SignalText
 mod JoinText
 mod AddressText
 mod CapableText
+mod DssText
+mod OptionLaws

@@ -65,4 +65,3 @@ module _ (octets : List ℕ) (framed : IsFramed octets) where
 
     pub zero_again : 0 ≡ bit_and (octet octets 3) 0
     zero_again = nothing_read (octet octets 3) fourth_below
-

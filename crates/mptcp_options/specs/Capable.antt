@@ -28,7 +28,7 @@ keys_at octets =
     else (if length octets == 12 then Sender (number_at w64 octets 4)
     else (if length octets == 20 then Both (number_at w64 octets 4) (number_at w64 octets 12)
     else WithData (number_at w64 octets 4) (number_at w64 octets 12) (number_at w16 octets 20)
-        (if length octets == 24 then Some (number_at w16 octets 22) else None)))
+    (if length octets == 24 then Some (number_at w16 octets 22) else None)))
 
 -- the keys, if there are so many octets: with data, two more where checksums are used
 abbrev pub keys_if_long : List ℕ → Bool → Option CapableKeys

@@ -40,7 +40,7 @@ value_at octets =
     else (if subtype octets == 1 then Join (form_at octets)
     else (if subtype octets == 2 then Dss (ack_at octets) (mapping_at octets) (fin_at octets)
     else (if subtype octets == 3
-        then AddAddr (is_echo octets) (octet octets 3) (address_at octets) (port_at octets) (hmac_at octets)
+    then AddAddr (is_echo octets) (octet octets 3) (address_at octets) (port_at octets) (hmac_at octets)
     else (if subtype octets == 4 then RemoveAddr (ids_at octets)
     else (if subtype octets == 5 then Prio (has_low_flag octets)
     else (if subtype octets == 6 then Fail (number_at_4 octets)

@@ -29,9 +29,14 @@ pub enum CapableKeys {
     /// A SYN: 4 octets, no key.
     NoKey,
     /// A SYN/ACK: 12 octets, the sender's key.
-    Sender { sender: u64 },
+    Sender {
+        sender: u64,
+    },
     /// The ACK that ends the handshake: 20 octets, the sender's key and the receiver's.
-    Both { sender: u64, receiver: u64 },
+    Both {
+        sender: u64,
+        receiver: u64,
+    },
     /// The first segment with data: 22 octets, both keys and the data-level length, which counts octets; with a
     /// checksum, where checksums are used, 24.
     WithData {

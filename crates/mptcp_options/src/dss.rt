@@ -139,11 +139,7 @@ fn mapping_at(option: &[u8], checksum: bool) -> Option<DssMap>
     let relative = relative_place(flags);
     let end = dss_end(flags);
     Some(DssMap {
-        number: data_number_at(
-            flags & FLAG_WIDE_NUMBER != 0,
-            option,
-            mapping_place(flags),
-        ),
+        number: data_number_at(flags & FLAG_WIDE_NUMBER != 0, option, mapping_place(flags)),
         relative: u32_at(option, relative),
         length: u16_at(option, relative + 4),
         checksum: if option.len() == end {

@@ -30,7 +30,9 @@ pub enum JoinForm {
         nonce: u32,
     },
     /// The third ACK: 24 octets, the first 160 bits of the sender's HMAC.
-    Third { hmac: [u8; 20] },
+    Third {
+        hmac: [u8; 20],
+    },
 }
 
 #[tactic(auto, using(crate::proofs::JoinMeaning::join_forms))]

@@ -8,6 +8,7 @@ mod capable;
 mod dss;
 mod fields;
 mod join;
+mod laws;
 mod option;
 mod reading;
 mod signals;
@@ -17,6 +18,10 @@ mod writing;
 pub use capable::CapableKeys;
 pub use dss::{DataNumber, DssMap};
 pub use join::JoinForm;
+pub use laws::{known_is_written, octets_tell_the_option, written_is_read};
 pub use option::{KIND, MpOption, Read};
 pub use reading::read;
 pub use writing::write;
+
+#[cfg(test)]
+mod tests;

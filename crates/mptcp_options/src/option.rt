@@ -17,7 +17,9 @@ pub enum MpOption<'a> {
         keys: CapableKeys,
     },
     /// MP_JOIN, which adds a subflow (section 3.2).
-    Join { form: JoinForm },
+    Join {
+        form: JoinForm,
+    },
     /// DSS, the data sequence signal (section 3.3): the Data ACK, the mapping, and whether the mapping ends with
     /// the DATA_FIN (flag F).
     Dss {
@@ -34,16 +36,27 @@ pub enum MpOption<'a> {
         hmac: Option<u64>,
     },
     /// REMOVE_ADDR, which takes announced addresses back (section 3.4.2): their ids, lent.
-    Remove { ids: &'a [u8] },
+    Remove {
+        ids: &'a [u8],
+    },
     /// MP_PRIO, which makes the subflow a backup or a regular one (section 3.3.8).
-    Prio { backup: bool },
+    Prio {
+        backup: bool,
+    },
     /// MP_FAIL, which tells a wrong checksum (section 3.7): the data number that the failed mapping begins with.
-    Fail { number: u64 },
+    Fail {
+        number: u64,
+    },
     /// MP_FASTCLOSE, which ends the connection at once (section 3.5): the receiver's key.
-    FastClose { key: u64 },
+    FastClose {
+        key: u64,
+    },
     /// MP_TCPRST, which says why a subflow is reset (section 3.6): whether the fault may pass (flag T), and the
     /// reason.
-    Reset { transient: bool, reason: u8 },
+    Reset {
+        transient: bool,
+        reason: u8,
+    },
 }
 
 /// What the octets of an option say.

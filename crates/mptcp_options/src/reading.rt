@@ -7,8 +7,8 @@ use crate::capable::read_capable;
 use crate::dss::read_dss;
 use crate::join::read_join;
 use crate::option::{KIND, Read};
-use crate::subtype;
 use crate::signals::{read_fail, read_fast_close, read_prio, read_reset};
+use crate::subtype;
 
 /// What the octets of one TCP option say, kind and length among them, where checksums are used or not. An option
 /// of another kind is `Unknown`, and so is what this version of the protocol doesn't have; one whose octets have no

@@ -7,5 +7,8 @@ use Rattle.mptcp_options.proofs.body.joined.Goals as goal
 pub put-requires : goal.put-requires
 put-requires c =
     let octets = λ (piece : Bor (List ℕ)). piece.now in
-    omega (arith, ap length c.loop-piece.invariant,
-    length-flat_map-take octets c.args.pieces.now c.loop-piece.piece-index (record { ref_ptr = (0, 0); now = [] }) (omega arith))
+    omega (
+      arith,
+      ap length c.loop-piece.invariant,
+      length-flat_map-take octets c.args.pieces.now c.loop-piece.piece-index (record { ref_ptr = (0, 0); now = [] }) (omega arith),
+    )
