@@ -2,7 +2,7 @@
 use Rattle.std.proofs.Common.{◌≡◌, ℕ, ◌-◌, Bool, nat_le, List, length, take, drop, refl, arith}
 use Rattle.std.proofs.lemmas.Grind.{common_steps}
 use Rattle.mptcp_options.specs.Octets.{octet, is_among}
-use Rattle.mptcp_options.specs.Value.{AddAddr, RemoveAddr, Known, Malformed}
+use Rattle.mptcp_options.specs.Value.{AddAddr, RemoveAddr}
 use Rattle.mptcp_options.specs.Address.{is_echo, add_addr_lengths, address_at, port_at, hmac_at, ids_at}
 use Rattle.mptcp_options.specs.Meaning.{IsFramed, subtype, has_length_of_table, value_at, option_meaning}
 use Rattle.mptcp_options.proofs.MeaningByTable.{known_if, by_length}

@@ -1,6 +1,6 @@
 -- ADD_ADDR and REMOVE_ADDR, written and read.
-use Rattle.std.proofs.Common.{◌≡◌, ℕ, suc, ◌+◌, ◌<◌, ◌≤◌, ◌*◌, ◌^◌, Bool, true, false, not, ◌||◌, ◌==◌, nat_le, if◌then◌else◌, Option, Some, None, is_some, List, [], ◌∷◌, ◌++◌, length, take, drop, refl, ap, sym, subst, ◌∙◌, append_assoc, arith}
-use Rattle.std.specs.Int.{w16, w64, to_be_bytes, from_be_bytes}
+use Rattle.std.proofs.Common.{◌≡◌, ℕ, ◌+◌, ◌≤◌, Bool, true, false, nat_le, if◌then◌else◌, Option, Some, None, List, [], ◌∷◌, ◌++◌, length, take, drop, refl, ap, sym, subst, ◌∙◌, append_assoc, arith}
+use Rattle.std.specs.Int.{w16, w64}
 use Rattle.std.proofs.lemmas.List.{drop_all}
 use Rattle.std.proofs.Math.Seq.{drop-cons}
 use Rattle.std.proofs.lemmas.Bool.{le-leb, leb-true}
@@ -8,16 +8,16 @@ use Rattle.key_material.specs.Octets.{AreOctets}
 use Rattle.key_material.specs.Address.{octets_of}
 use Rattle.key_material.specs.declared.address.Address.{Address}
 use Rattle.key_material.specs.declared.address.Address.TheVariants.{V4, V6}
-use Rattle.mptcp_options.specs.Octets.{octet, number_at, is_set, flag_if, is_among, optional}
-use Rattle.mptcp_options.specs.Address.{is_echo, is_ipv4, has_port, add_addr_lengths, port_place, hmac_place, address_at, port_at, hmac_at, ids_at, add_addr_body, AddAddrHasForm, AddressFits, AddAddrFits, IdsHaveForm}
-use Rattle.mptcp_options.specs.Value.{OptionValue, AddAddr, RemoveAddr, Meaning, Known}
+use Rattle.mptcp_options.specs.Octets.{octet, is_among, optional}
+use Rattle.mptcp_options.specs.Address.{is_echo, is_ipv4, has_port, add_addr_lengths, address_at, port_at, hmac_at, ids_at, AddAddrHasForm, AddressFits, AddAddrFits, IdsHaveForm}
+use Rattle.mptcp_options.specs.Value.{AddAddr, RemoveAddr, Known}
 use Rattle.mptcp_options.specs.Text.{option_text}
 use Rattle.mptcp_options.specs.Meaning.{IsFramed, subtype, is_of_another_kind, is_misframed, is_foreign, has_no_flags, is_unusable, has_length_of_table, differs_in_checksum, value_at, option_meaning}
 use Rattle.mptcp_options.specs.Ignored.{third_mask, fourth_mask, cleared}
 use Rattle.mptcp_options.proofs.Among.{first_or, no_more}
 use Rattle.mptcp_options.proofs.Cells.{first_cells, cells, again, again-16, again-64}
 use Rattle.mptcp_options.proofs.NumbersAgain.{written_again_16, written_again_64, last_field, then_rest}
-use Rattle.mptcp_options.proofs.TextAgain.{framed_body, text_again, four_again, subtype_again, flag_again, octet_again}
+use Rattle.mptcp_options.proofs.TextAgain.{text_again, four_again, subtype_again, flag_again, octet_again}
 use Rattle.mptcp_options.proofs.AddressMeaning.{add_addr_length, remove_addr_length, option_meaning_remove_addr}
 
 -- ---- what is written is read

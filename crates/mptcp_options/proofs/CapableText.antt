@@ -1,15 +1,15 @@
 -- MP_CAPABLE, written and read.
-use Rattle.std.proofs.Common.{◌≡◌, ◌≢◌, ℕ, suc, ◌+◌, ◌*◌, ◌/◌, ◌<◌, ◌≤◌, ◌^◌, Bool, true, false, not, ◌&&◌, ◌||◌, ◌==◌, if◌then◌else◌, Option, Some, None, is_some, List, [], ◌∷◌, ◌++◌, length, take, drop, bit_and, bit_or, refl, ap, sym, ◌∙◌, arith}
+use Rattle.std.proofs.Common.{◌≡◌, ℕ, ◌≤◌, Bool, true, false, not, ◌||◌, ◌==◌, Some, None, List, [], ◌∷◌, ◌++◌, length, drop, bit_and, bit_or, refl, ap, sym, ◌∙◌, arith}
 use Rattle.std.specs.Int.{w16, w64, to_be_bytes, from_be_bytes}
 use Rattle.std.proofs.lemmas.List.{drop_all}
-use Rattle.std.proofs.lemmas.Bool.{eqb-true, not-false, or_parts, ne_eqb}
+use Rattle.std.proofs.lemmas.Bool.{eqb-true, not-false, or_parts}
 use Rattle.std.proofs.lemmas.Nat.{from_be_bytes-to_be_bytes_2, from_be_bytes-to_be_bytes_8}
 use Rattle.key_material.specs.Octets.{AreOctets}
 use Rattle.mptcp_options.specs.declared.capable.CapableKeys.{CapableKeys}
 use Rattle.mptcp_options.specs.declared.capable.CapableKeys.TheVariants.{NoKey, Sender, Both, WithData}
-use Rattle.mptcp_options.specs.Octets.{octet, number_at, is_set, flag_if, is_among, optional}
-use Rattle.mptcp_options.specs.Capable.{keys_text, capable_body, keys_at, reads_flag_a, reads_flag_c, KeysHaveForm, KeysFit}
-use Rattle.mptcp_options.specs.Value.{OptionValue, Capable, Meaning, Known}
+use Rattle.mptcp_options.specs.Octets.{octet, number_at, is_set, flag_if}
+use Rattle.mptcp_options.specs.Capable.{keys_text, keys_at, reads_flag_a, reads_flag_c, KeysHaveForm, KeysFit}
+use Rattle.mptcp_options.specs.Value.{Capable, Known}
 use Rattle.mptcp_options.specs.Text.{option_text}
 use Rattle.mptcp_options.specs.Meaning.{IsFramed, subtype, version, is_foreign, is_unusable, has_length_of_table, option_meaning}
 use Rattle.mptcp_options.specs.Ignored.{third_mask, fourth_mask, cleared}
@@ -17,7 +17,7 @@ use Rattle.mptcp_options.proofs.OctetTests.{whole_octet, halves, capable_flags}
 use Rattle.mptcp_options.proofs.Among.{first_or, no_more}
 use Rattle.mptcp_options.proofs.Cells.{again, again-16}
 use Rattle.mptcp_options.proofs.NumbersAgain.{written_again_16, written_again_64, last_field, then_rest}
-use Rattle.mptcp_options.proofs.TextAgain.{framed_body, text_again, four_again}
+use Rattle.mptcp_options.proofs.TextAgain.{text_again, four_again}
 use Rattle.mptcp_options.proofs.MeaningByTable.{known_if}
 use Rattle.mptcp_options.proofs.CapableMeaning.{length_fits, capable_usable, foreign, unusable, capable_length}
 

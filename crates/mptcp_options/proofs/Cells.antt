@@ -1,5 +1,5 @@
 -- A list of known length as its cells, and optional numbers written and read.
-use Rattle.std.proofs.Common.{◌≡◌, ℕ, zero, suc, ◌<◌, ◌^◌, Option, Some, None, List, [], ◌∷◌, length, get_or, drop, refl, ap, arith}
+use Rattle.std.proofs.Common.{◌≡◌, ℕ, zero, suc, ◌^◌, Option, Some, None, List, [], ◌∷◌, length, get_or, drop, refl, ap, arith}
 use Rattle.std.specs.Int.{Width, w16, w64, to_be_bytes, from_be_bytes}
 use Rattle.std.proofs.lemmas.Nat.{from_be_bytes-to_be_bytes_2, from_be_bytes-to_be_bytes_8}
 use Rattle.mptcp_options.specs.Octets.{IsBelow}

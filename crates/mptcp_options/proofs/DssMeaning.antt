@@ -1,10 +1,10 @@
 -- What octets of a DSS mean: flags and the use of checksums give the one length that they may have.
-use Rattle.std.proofs.Common.{◌≡◌, ◌≢◌, ℕ, ◌+◌, ◌<◌, ◌≤◌, Bool, true, false, not, ◌&&◌, ◌||◌, ◌==◌, if◌then◌else◌, List, [], ◌∷◌, length, refl, arith}
-use Rattle.std.proofs.lemmas.Bool.{eq-eqb, ne_eqb}
+use Rattle.std.proofs.Common.{◌≡◌, ◌≢◌, ℕ, ◌+◌, ◌<◌, ◌≤◌, Bool, true, false, not, ◌&&◌, ◌||◌, ◌==◌, if◌then◌else◌, List, [], ◌∷◌, length, refl, sym, ◌∙◌, arith}
+use Rattle.std.proofs.lemmas.Bool.{eq-eqb, eqb-true, ne_eqb}
 use Rattle.std.proofs.lemmas.Bool.Decides.{nat_tests}
 use Rattle.mptcp_options.specs.Octets.{octet, is_among}
 use Rattle.mptcp_options.specs.Value.{Dss, Known, Malformed}
-use Rattle.mptcp_options.specs.Dss.{has_mapping, dss_end, dss_length, dss_lengths, ack_at, mapping_at, fin_at}
+use Rattle.mptcp_options.specs.Dss.{has_mapping, dss_end, dss_length, ack_at, mapping_at, fin_at}
 use Rattle.mptcp_options.specs.Meaning.{IsFramed, subtype, has_length_of_table, differs_in_checksum, value_at, option_meaning}
 use Rattle.mptcp_options.proofs.MeaningByTable.{known_if, by_table}
 
@@ -29,11 +29,18 @@ one_length true true n end = mapped_with n end
 one_length true false n end = mapped_without n end
 
 module _ (octets : List ℕ) (framed : IsFramed octets) (is_dss : subtype octets ≡ 2) where
-  pub fits : (checksum : Bool) → not (differs_in_checksum octets checksum) && has_length_of_table octets
+  fits : (checksum : Bool) → not (differs_in_checksum octets checksum) && has_length_of_table octets
       ≡ (length octets == dss_length (octet octets 3) checksum)
   unfolding differs_in_checksum has_length_of_table
   fits true = rw is_dss (one_length (has_mapping (octet octets 3)) true (length octets) (dss_end (octet octets 3)))
   fits false = rw is_dss (one_length (has_mapping (octet octets 3)) false (length octets) (dss_end (octet octets 3)))
+
+  -- the length of octets that the last rules pass
+  pub length_is : (checksum : Bool) → differs_in_checksum octets checksum ≡ false → has_length_of_table octets ≡ true
+      → length octets ≡ dss_length (octet octets 3) checksum
+  length_is checksum summed long =
+      let one : not (differs_in_checksum octets checksum) && has_length_of_table octets ≡ true = rw (summed, long) refl in
+      eqb-true (length octets) (dss_length (octet octets 3) checksum) (sym (fits checksum) ∙ one)
 
   pub dss_value : value_at octets ≡ Dss (ack_at octets) (mapping_at octets) (fin_at octets)
   unfolding value_at

@@ -1,29 +1,29 @@
 -- DSS, written and read.
-use Rattle.std.proofs.Common.{◌≡◌, ◌≢◌, ℕ, suc, ◌+◌, ◌*◌, ◌/◌, ◌<◌, ◌≤◌, ◌^◌, Bool, true, false, not, ◌&&◌, ◌||◌, ◌==◌, if◌then◌else◌, Option, Some, None, is_some, IfSome, List, [], ◌∷◌, ◌++◌, length, take, drop, bit_and, bit_or, refl, ap, sym, ◌∙◌, append_assoc, arith}
+use Rattle.std.proofs.Common.{◌≡◌, ℕ, ◌+◌, ◌≤◌, Bool, true, false, ◌&&◌, ◌==◌, if◌then◌else◌, Option, Some, None, is_some, IfSome, List, ◌++◌, length, take, drop, bit_and, bit_or, refl, ap, sym, ◌∙◌, append_assoc, arith}
 use Rattle.std.specs.Int.{w16, w32, w64, to_be_bytes, from_be_bytes}
 use Rattle.std.proofs.lemmas.List.{drop_all}
-use Rattle.std.proofs.lemmas.Bool.{eqb-true, eq-eqb, ne_eqb, and_from, not_from_false, not-false}
+use Rattle.std.proofs.lemmas.Bool.{eq-eqb, ne_eqb}
 use Rattle.std.proofs.lemmas.Nat.{from_be_bytes-to_be_bytes_2, from_be_bytes-to_be_bytes_4, from_be_bytes-to_be_bytes_8}
 use Rattle.key_material.specs.Octets.{AreOctets}
 use Rattle.mptcp_options.specs.declared.dss.DataNumber.{DataNumber}
 use Rattle.mptcp_options.specs.declared.dss.DataNumber.TheVariants.{Whole, Low}
 use Rattle.mptcp_options.specs.declared.dss.DssMap.{DssMap}
 use Rattle.mptcp_options.specs.Octets.{octet, number_at, is_set, flag_if, optional}
-use Rattle.mptcp_options.specs.Dss.{data_number_text, is_whole, ack_text, ack_flags, mapping_text, mapping_flags, dss_body, has_ack, has_mapping, data_number_length, data_number_at, mapping_place, relative_place, dss_end, dss_length, ack_at, mapping_at, fin_at, DssHasForm, DssFits, DataNumberFits, MappingFits}
-use Rattle.mptcp_options.specs.Value.{OptionValue, Dss, Meaning, Known}
+use Rattle.mptcp_options.specs.Dss.{data_number_text, ack_text, ack_flags, mapping_text, mapping_flags, has_ack, has_mapping, data_number_length, data_number_at, mapping_place, dss_length, ack_at, mapping_at, fin_at, DssHasForm, DssFits, DataNumberFits, MappingFits}
+use Rattle.mptcp_options.specs.Value.{Dss, Known}
 use Rattle.mptcp_options.specs.Text.{option_text}
 use Rattle.mptcp_options.specs.Meaning.{IsFramed, subtype, is_of_another_kind, is_misframed, is_foreign, has_no_flags, is_unusable, has_length_of_table, differs_in_checksum, value_at, option_meaning}
 use Rattle.mptcp_options.specs.Ignored.{third_mask, fourth_mask, dss_mask, cleared}
 use Rattle.mptcp_options.proofs.OctetTests.{dss_flags}
 use Rattle.mptcp_options.proofs.Cells.{again, again-16}
 use Rattle.mptcp_options.proofs.NumbersAgain.{written_again_16, written_again_32, written_again_64, last_field, then_rest}
-use Rattle.mptcp_options.proofs.TextAgain.{framed_body, text_again, four_again, subtype_again}
-use Rattle.mptcp_options.proofs.DssMeaning.{fits, at_least_4}
+use Rattle.mptcp_options.proofs.TextAgain.{text_again, four_again, subtype_again}
+use Rattle.mptcp_options.proofs.DssMeaning.{length_is, at_least_4}
 
 -- ---- what is written is read
 
 -- a mapping of these fields
-abbrev mapping_of : DataNumber → ℕ → ℕ → Option ℕ → DssMap
+abbrev pub mapping_of : DataNumber → ℕ → ℕ → Option ℕ → DssMap
 mapping_of number relative octets sum = record { number = number; relative = relative; length = octets; checksum = sum }
 
 -- numbers, written and read
@@ -126,10 +126,10 @@ module _ (octets : List ℕ) (are : AreOctets octets) where
   number_part false place inside = written_again_32 octets are place inside
 
   -- a Data ACK, if there is one, as the flags tell
-  abbrev ack_if : Bool → Bool → Option DataNumber
+  abbrev pub ack_if : Bool → Bool → Option DataNumber
   ack_if has wide = if has then Some (data_number_at wide octets 4) else None
 
-  abbrev ack_end : Bool → Bool → ℕ
+  abbrev pub ack_end : Bool → Bool → ℕ
   ack_end has wide = if has then 4 + data_number_length wide else 4
 
   ack_part : (has wide : Bool) (rest : List ℕ) → ack_end has wide ≤ length octets → rest ≡ drop (ack_end has wide) octets
@@ -145,10 +145,10 @@ module _ (octets : List ℕ) (are : AreOctets octets) where
   ack_flags_again true false = refl
 
   -- a mapping from a place on, if there is one, as the flags tell
-  abbrev end_of : Bool → Bool → ℕ → ℕ
+  abbrev pub end_of : Bool → Bool → ℕ → ℕ
   end_of has wide place = if has then place + data_number_length wide + 6 else place
 
-  abbrev mapping_if : Bool → Bool → ℕ → Option DssMap
+  abbrev pub mapping_if : Bool → Bool → ℕ → Option DssMap
   mapping_if has wide place = if has then Some (mapping_of (data_number_at wide octets place)
       (number_at w32 octets (place + data_number_length wide)) (number_at w16 octets (place + data_number_length wide + 4))
       (if length octets == end_of has wide place then None else Some (number_at w16 octets (end_of has wide place)))) else None
@@ -215,9 +215,7 @@ module _ (octets : List ℕ) (framed : IsFramed octets) (are : AreOctets octets)
       → cleared octets ≡ option_text (Dss (ack_at octets) (mapping_at octets) (fin_at octets))
   unfolding option_text
   text_again-dss checksum summed has =
-      let one : not (differs_in_checksum octets checksum) && has_length_of_table octets ≡ true = rw (summed, has) refl in
-      let long : length octets ≡ dss_length (octet octets 3) checksum =
-      eqb-true (length octets) (dss_length (octet octets 3) checksum) (sym (fits octets framed e checksum) ∙ one) in
+      let long = length_is octets framed e checksum summed has in
       let four : 4 ≤ length octets = rw long (at_least_4 octets framed e (octet octets 3) checksum) in
       text_again octets framed _ (four_again octets framed four _ _ _ (rw dss_third (subtype_again octets framed are 2 e))
       (rw dss_fourth flags_again) (fields_again checksum long))

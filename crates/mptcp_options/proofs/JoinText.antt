@@ -1,14 +1,14 @@
 -- MP_JOIN, written and read.
-use Rattle.std.proofs.Common.{◌≡◌, ℕ, ◌+◌, ◌<◌, ◌≤◌, ◌*◌, ◌^◌, Bool, true, false, ◌||◌, ◌==◌, List, [], ◌∷◌, ◌++◌, length, take, drop, refl, ap, sym, ◌∙◌, arith}
-use Rattle.std.specs.Int.{w32, w64, to_be_bytes, from_be_bytes}
-use Rattle.std.proofs.lemmas.List.{take_all, drop_all}
+use Rattle.std.proofs.Common.{◌≡◌, ℕ, ◌<◌, ◌^◌, Bool, true, false, List, [], ◌∷◌, length, take, drop, refl, ap, sym, ◌∙◌, arith}
+use Rattle.std.specs.Int.{w32, w64, to_be_bytes}
+use Rattle.std.proofs.lemmas.List.{take_all}
 use Rattle.std.proofs.lemmas.Nat.{from_be_bytes-to_be_bytes_4, from_be_bytes-to_be_bytes_8}
 use Rattle.key_material.specs.Octets.{AreOctets}
 use Rattle.mptcp_options.specs.declared.join.JoinForm.{JoinForm}
 use Rattle.mptcp_options.specs.declared.join.JoinForm.TheVariants.{Syn, Answer, Third}
-use Rattle.mptcp_options.specs.Octets.{octet, number_at, is_set, flag_if, is_among}
+use Rattle.mptcp_options.specs.Octets.{octet, number_at, is_set}
 use Rattle.mptcp_options.specs.Join.{join_body, form_at, FormFits}
-use Rattle.mptcp_options.specs.Value.{OptionValue, Join, Meaning, Known}
+use Rattle.mptcp_options.specs.Value.{Join, Known}
 use Rattle.mptcp_options.specs.Text.{option_text}
 use Rattle.mptcp_options.specs.Meaning.{IsFramed, subtype, is_of_another_kind, is_misframed, is_foreign, has_no_flags, is_unusable, has_length_of_table, differs_in_checksum, value_at, option_meaning}
 use Rattle.mptcp_options.specs.Ignored.{third_mask, fourth_mask, cleared}

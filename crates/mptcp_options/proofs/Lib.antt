@@ -16,4 +16,5 @@ mod JoinText
 mod AddressText
 mod CapableText
 mod DssText
+mod KnownFits
 mod OptionLaws

@@ -1,11 +1,12 @@
 -- Fields of an option, both ways: a number that is read of octets writes them again, and fields one after another are
 -- what stands there.
-use Rattle.std.proofs.Common.{◌≡◌, ℕ, ◌+◌, ◌-◌, ◌<◌, ◌≤◌, ◌^◌, List, [], ◌++◌, length, take, drop, refl, sym, ap, ◌∙◌, arith}
-use Rattle.std.specs.Int.{w16, w32, w64, to_be_bytes, from_be_bytes}
+use Rattle.std.proofs.Common.{◌≡◌, ℕ, ◌+◌, ◌<◌, ◌≤◌, ◌^◌, List, ◌++◌, length, take, drop, refl, arith}
+use Rattle.std.specs.Int.{w16, w32, w64, to_be_bytes}
 use Rattle.std.proofs.lemmas.List.{length-take, length-drop, take-append-drop, take_all, drop-drop}
 use Rattle.std.proofs.lemmas.Nat.{be_bytes_2, be_bytes_4, be_bytes_8}
 use Rattle.key_material.specs.Octets.{AreOctets}
 use Rattle.key_material.proofs.Octets.{AreOctets-take, AreOctets-drop}
+use Rattle.key_material.proofs.Bounds.{from_be_bytes_2_below, from_be_bytes_4_below, from_be_bytes_8_below}
 use Rattle.mptcp_options.specs.Octets.{number_at}
 
 module _ (octets : List ℕ) (are : AreOctets octets) where
@@ -26,6 +27,17 @@ module _ (octets : List ℕ) (are : AreOctets octets) where
   written_again_64 place inside =
       be_bytes_8 (take 8 (drop place octets)) _ (simp (length-take, length-drop) (omega arith))
       (AreOctets-take 8 _ (AreOctets-drop place octets are)).each refl
+
+-- a number that is read fits its field
+module _ (octets : List ℕ) (are : AreOctets octets) (place : ℕ) where
+  pub fits_16 : number_at w16 octets place < 2 ^ 16
+  fits_16 = from_be_bytes_2_below (take 2 (drop place octets)) (AreOctets-take 2 _ (AreOctets-drop place octets are))
+
+  pub fits_32 : number_at w32 octets place < 2 ^ 32
+  fits_32 = from_be_bytes_4_below (take 4 (drop place octets)) (AreOctets-take 4 _ (AreOctets-drop place octets are))
+
+  pub fits_64 : number_at w64 octets place < 2 ^ 64
+  fits_64 = from_be_bytes_8_below (take 8 (drop place octets)) (AreOctets-take 8 _ (AreOctets-drop place octets are))
 
 -- a field, and all that follows it
 pub field_and_rest : (octets : List ℕ) (place n next : ℕ) → next ≡ place + n

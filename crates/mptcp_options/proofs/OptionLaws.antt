@@ -1,19 +1,20 @@
 -- The laws of options, over all of them.
-use Rattle.std.proofs.Common.{◌≡◌, ℕ, zero, suc, ◌<◌, ◌≤◌, Bool, true, false, not, ◌&&◌, ◌==◌, nat_lt, List, length, refl, sym, ap, ◌∙◌, arith}
-use Rattle.std.proofs.lemmas.Bool.{not-false, or_parts, ltb-false, ne_eqb, eqb-false}
+use Rattle.std.proofs.Common.{◌≡◌, ℕ, zero, suc, ◌≤◌, Bool, true, false, not, ◌&&◌, ◌==◌, nat_lt, List, length, refl, sym, ap, subst, ◌∙◌, arith}
+use Rattle.std.proofs.lemmas.Bool.{not-false, or_parts, leb-true, ltb-false, eqb-false}
 use Rattle.key_material.specs.Octets.{AreOctets}
-use Rattle.mptcp_options.specs.Octets.{octet}
-use Rattle.mptcp_options.specs.Value.{OptionValue, Capable, Join, Dss, AddAddr, RemoveAddr, Prio, Fail, FastClose, Reset, Known}
+use Rattle.mptcp_options.specs.Value.{OptionValue, Capable, Join, Dss, AddAddr, RemoveAddr, Prio, Fail, FastClose, Reset}
 use Rattle.mptcp_options.specs.Text.{option_text, HasForm, Fits}
-use Rattle.mptcp_options.specs.Meaning.{IsFramed, subtype, is_capable, version, is_foreign, has_no_flags, is_unusable, has_length_of_table, differs_in_checksum, value_at, option_meaning}
+use Rattle.mptcp_options.specs.Meaning.{IsFramed, subtype, is_capable, version, is_foreign, has_length_of_table, value_at}
 use Rattle.mptcp_options.specs.Ignored.{cleared}
-use Rattle.mptcp_options.specs.Laws.{WrittenIsRead, OctetsTellTheOption, KnownIsWritten}
+use Rattle.mptcp_options.specs.Laws.{WrittenIsRead, OctetsTellTheOption, KnownIsWritten, KnownMayBeWritten}
+use Rattle.mptcp_options.proofs.NumbersAgain.{fits_64}
+use Rattle.mptcp_options.proofs.KnownFits.{keys_fit, form_fits, dss_fits, add_addr_fits, ids_fit}
 use Rattle.mptcp_options.proofs.Framing.{IsFramed-from_tests}
 use Rattle.mptcp_options.proofs.KnownValue.{Passes, passes}
-use Rattle.mptcp_options.proofs.CapableMeaning.{capable_value, flagless}
-use Rattle.mptcp_options.proofs.JoinMeaning.{join_value}
-use Rattle.mptcp_options.proofs.DssMeaning.{dss_value}
-use Rattle.mptcp_options.proofs.AddressMeaning.{add_addr_value, remove_addr_value}
+use Rattle.mptcp_options.proofs.CapableMeaning.{capable_length, capable_value, flagless}
+use Rattle.mptcp_options.proofs.JoinMeaning.{join_length, join_value}
+use Rattle.mptcp_options.proofs.DssMeaning.{dss_value, length_is}
+use Rattle.mptcp_options.proofs.AddressMeaning.{add_addr_length, add_addr_value, remove_addr_length, remove_addr_value}
 use Rattle.mptcp_options.proofs.SignalMeaning.{prio_value, fail_value, fast_close_value, reset_value}
 use Rattle.mptcp_options.proofs.CapableText.{read_again-capable, text_again-capable}
 use Rattle.mptcp_options.proofs.JoinText.{read_again-join, text_again-join}
@@ -69,6 +70,34 @@ module _ (octets : List ℕ) (checksum : Bool) (option : OptionValue) (are : Are
       text_again-reset octets framed are long e ∙ ap option_text (sym (reset_value octets framed e))
   by_subtype (suc (suc (suc (suc (suc (suc (suc (suc (suc k))))))))) below e = absurd (omega arith)
 
+  -- an option that may be written
+  abbrev MayBeWritten : OptionValue → Type 0
+  MayBeWritten o = HasForm checksum o × Fits o
+
+  as_value : (read : OptionValue) → value_at octets ≡ read → MayBeWritten read → MayBeWritten (value_at octets)
+  as_value read e may = subst MayBeWritten (sym e) may
+
+  form_by_subtype : (k : ℕ) → k ≤ 8 → subtype octets ≡ k → length octets ≤ 40 → MayBeWritten (value_at octets)
+  form_by_subtype zero below e few =
+      as_value _ (capable_value octets framed e) (keys_fit octets are e checksum pass.summed (sym (capable_length octets framed e) ∙ long))
+  form_by_subtype (suc zero) below e few =
+      as_value _ (join_value octets framed e) (tt, form_fits octets are (sym (join_length octets framed e) ∙ long))
+  form_by_subtype (suc (suc zero)) below e few =
+      as_value _ (dss_value octets framed e) (dss_fits octets are checksum (length_is octets framed e checksum pass.summed long))
+  form_by_subtype (suc (suc (suc zero))) below e few =
+      as_value _ (add_addr_value octets framed e) (add_addr_fits octets are (sym (add_addr_length octets framed e) ∙ long))
+  form_by_subtype (suc (suc (suc (suc zero)))) below e few =
+      as_value _ (remove_addr_value octets framed e)
+      (ids_fit octets are (leb-true 4 (length octets) (sym (remove_addr_length octets framed e) ∙ long)) few)
+  form_by_subtype (suc (suc (suc (suc (suc zero))))) below e few = as_value _ (prio_value octets framed e) (tt, tt)
+  form_by_subtype (suc (suc (suc (suc (suc (suc zero)))))) below e few =
+      as_value _ (fail_value octets framed e) (tt, fits_64 octets are 4)
+  form_by_subtype (suc (suc (suc (suc (suc (suc (suc zero))))))) below e few =
+      as_value _ (fast_close_value octets framed e) (tt, fits_64 octets are 4)
+  form_by_subtype (suc (suc (suc (suc (suc (suc (suc (suc zero)))))))) below e few =
+      as_value _ (reset_value octets framed e) (tt, are.each 3)
+  form_by_subtype (suc (suc (suc (suc (suc (suc (suc (suc (suc k))))))))) below e few = absurd (omega arith)
+
 -- a subtype that there is
 subtype_at_most_8 : (octets : List ℕ) → is_foreign octets ≡ false → subtype octets ≤ 8
 unfolding is_foreign
@@ -83,3 +112,12 @@ text_again octets checksum option are known =
     by_subtype octets checksum option are pass framed (not-false (has_length_of_table octets) pass.long)
     (subtype octets) (subtype_at_most_8 octets pass.ours) refl
     ∙ ap option_text pass.value
+
+-- what is known may be written
+pub may_be_written : KnownMayBeWritten
+may_be_written octets checksum option are few known =
+    let pass = passes octets checksum option known in
+    let framed = IsFramed-from_tests octets pass.own_kind pass.framed in
+    subst (λ o. HasForm checksum o × Fits o) pass.value
+    (form_by_subtype octets checksum option are pass framed (not-false (has_length_of_table octets) pass.long)
+    (subtype octets) (subtype_at_most_8 octets pass.ours) refl few)

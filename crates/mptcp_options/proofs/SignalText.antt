@@ -1,10 +1,10 @@
 -- The options of one form, written and read.
-use Rattle.std.proofs.Common.{◌≡◌, ℕ, ◌+◌, ◌<◌, ◌≤◌, ◌*◌, ◌^◌, Bool, true, false, not, List, [], ◌∷◌, length, drop, refl, ap, sym, ◌∙◌, arith}
+use Rattle.std.proofs.Common.{◌≡◌, ℕ, ◌<◌, ◌*◌, ◌^◌, Bool, true, false, List, [], ◌∷◌, length, refl, ap, sym, ◌∙◌, arith}
 use Rattle.std.proofs.lemmas.Nat.{from_be_bytes-to_be_bytes_8}
-use Rattle.std.proofs.lemmas.Bool.{eqb-true, not-false}
+use Rattle.std.proofs.lemmas.Bool.{eqb-true}
 use Rattle.key_material.specs.Octets.{AreOctets}
 use Rattle.mptcp_options.specs.Octets.{octet}
-use Rattle.mptcp_options.specs.Value.{OptionValue, Prio, Fail, FastClose, Reset, Meaning, Known}
+use Rattle.mptcp_options.specs.Value.{Prio, Fail, FastClose, Reset, Known}
 use Rattle.mptcp_options.specs.Signals.{has_low_flag, number_at_4}
 use Rattle.mptcp_options.specs.Text.{option_text}
 use Rattle.mptcp_options.specs.Meaning.{IsFramed, subtype, is_of_another_kind, is_misframed, is_foreign, has_no_flags, is_unusable, has_length_of_table, differs_in_checksum, value_at, option_meaning}

@@ -1,5 +1,5 @@
 -- MP_JOIN (RFC 8684, section 3.2): subtype 1, with flag B 0x01 in its octet on SYN and SYN/ACK.
-use Rattle.std.specs.Prelude.{◌≡◌, ℕ, ◌<◌, ◌^◌, ◌==◌, if◌then◌else◌, List, [], ◌∷◌, ◌++◌, length, take, drop, bit_or}
+use Rattle.std.specs.Prelude.{◌≡◌, ℕ, ◌<◌, ◌^◌, ◌==◌, if◌then◌else◌, List, ◌∷◌, ◌++◌, length, take, drop, bit_or}
 use Rattle.std.specs.Int.{w32, w64, to_be_bytes}
 use Rattle.mptcp_options.specs.declared.join.JoinForm.{JoinForm}
 use Rattle.mptcp_options.specs.declared.join.JoinForm.TheVariants.{Syn, Answer, Third}

@@ -1,5 +1,5 @@
 -- The laws of options: writing and reading agree.
-use Rattle.std.specs.Prelude.{◌≡◌, Bool, List, ℕ}
+use Rattle.std.specs.Prelude.{◌≡◌, ◌≤◌, Bool, List, ℕ, length}
 use Rattle.key_material.specs.Octets.{AreOctets}
 use Rattle.mptcp_options.specs.Value.{OptionValue, Known}
 use Rattle.mptcp_options.specs.Text.{option_text, HasForm, Fits}
@@ -21,3 +21,8 @@ OctetsTellTheOption = (first second : OptionValue) (checksum_of_first checksum_o
 abbrev pub KnownIsWritten : Type 0
 KnownIsWritten = (octets : List ℕ) (checksum : Bool) (option : OptionValue) → AreOctets octets
     → option_meaning octets checksum ≡ Known option → cleared octets ≡ option_text option
+
+-- what is read as an option, of no more octets than a segment can have, may be written
+abbrev pub KnownMayBeWritten : Type 0
+KnownMayBeWritten = (octets : List ℕ) (checksum : Bool) (option : OptionValue) → AreOctets octets → length octets ≤ 40
+    → option_meaning octets checksum ≡ Known option → HasForm checksum option × Fits option

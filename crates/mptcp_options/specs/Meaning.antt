@@ -16,7 +16,13 @@ subtype octets = octet octets 2 / 16
 abbrev pub version : List ℕ → ℕ
 version octets = bit_and (octet octets 2) 0x0F
 
--- The table of lengths by subtype, in octets of the whole option. Of a DSS and an ADD_ADDR flags decide.
+-- The table of lengths by subtype, in octets of the whole option:
+--   0 MP_CAPABLE    4 no key, 12 the sender's, 20 both, 22 both with data, 24 the same with a checksum
+--   1 MP_JOIN       12 SYN, 16 SYN/ACK, 24 third ACK
+--   2 DSS           what its flags say, and where there is a mapping two more with a checksum
+--   3 ADD_ADDR      IPv4 16, with a port 18; IPv6 28, with a port 30; an echo, without HMAC, 8 less
+--   4 REMOVE_ADDR   3 and the ids, of which there is at least one
+--   5 MP_PRIO 3, 6 MP_FAIL 12, 7 MP_FASTCLOSE 12, 8 MP_TCPRST 4
 abbrev pub lengths : List ℕ → List ℕ
 lengths octets =
     if subtype octets == 0 then 4 ∷ 12 ∷ 20 ∷ 22 ∷ 24 ∷ []
@@ -28,7 +34,7 @@ lengths octets =
     else (if subtype octets == 7 then 12 ∷ []
     else 4 ∷ []))))))
 
--- a REMOVE_ADDR, of subtype 4, has at least one id after the third octet
+-- the length is one of the table's
 unfoldable pub has_length_of_table : List ℕ → Bool
 has_length_of_table octets =
     if subtype octets == 4 then nat_le 4 (length octets) else is_among (length octets) (lengths octets)

@@ -24,7 +24,7 @@ body_of (Reset transient reason) = reset_body transient reason
 unfoldable pub option_text : OptionValue → List ℕ
 option_text option = 0x1E ∷ (length (body_of option) + 2) ∷ body_of option
 
--- an option that may be written: it has the form of its row
+-- an option that may be written: it has a form of its subtype
 abbrev pub HasForm : Bool → OptionValue → Type 0
 HasForm checksum (Capable flag_a flag_c keys) = KeysHaveForm checksum keys
 HasForm checksum (Dss ack mapping fin) = DssHasForm checksum mapping fin

@@ -1,7 +1,8 @@
 ghost use Rattle.std.specs.Prelude.{◌≡◌, ◌+◌, ◌≤◌, length, Bool};
 ghost use Rattle.mptcp_options.specs.Octets.{is_among};
 ghost use Rattle.mptcp_options.specs.Value.{meaning_of, LendsIds};
-ghost use Rattle.mptcp_options.specs.Address.{is_echo, is_ipv4, has_port, add_addr_lengths, port_place, hmac_place, address_at, port_at, hmac_at, add_addr_body, remove_addr_body};
+ghost use Rattle.mptcp_options.specs.Address.{is_echo, is_ipv4, has_port, add_addr_lengths, port_place, hmac_place};
+ghost use Rattle.mptcp_options.specs.Address.{address_at, port_at, hmac_at, add_addr_body, remove_addr_body};
 ghost use Rattle.mptcp_options.specs.Meaning.{IsFramed, subtype, option_meaning};
 
 use crate::body::{Body, flag_if, joined, optional_u16, optional_u64};
@@ -30,24 +31,28 @@ fn has_length_of_form(option: &[u8], echo: bool) -> bool
     }
 }
 
+/// Whether the length is one with an address of four octets.
 fn is_ipv4(option: &[u8]) -> bool
     ensures { result ≡ is_ipv4 option.now }
 {
     matches!(option.len(), 8 | 10 | 16 | 18)
 }
 
+/// Whether the length is one with a port.
 fn has_port(option: &[u8]) -> bool
     ensures { result ≡ has_port option.now }
 {
     matches!(option.len(), 10 | 22 | 18 | 30)
 }
 
+/// Where the address ends.
 fn port_place(option: &[u8]) -> usize
     ensures { result ≡ port_place option.now }
 {
     if is_ipv4(option) { 8 } else { 20 }
 }
 
+/// Where the HMAC begins, or an echo ends.
 fn hmac_place(option: &[u8]) -> usize
     ensures { result ≡ hmac_place option.now }
 {

@@ -1,7 +1,9 @@
 ghost use Rattle.std.specs.Prelude.{◌≡◌, ◌+◌, ◌≤◌, length};
 ghost use Rattle.mptcp_options.specs.Octets.{octet};
 ghost use Rattle.mptcp_options.specs.Value.{meaning_of, LendsIds};
-ghost use Rattle.mptcp_options.specs.Dss.{has_ack, has_mapping, data_number_length, data_number_at, mapping_place, relative_place, dss_end, dss_length, ack_at, mapping_at, fin_at, data_number_text, is_whole, ack_text, ack_flags, mapping_text, mapping_flags, dss_body};
+ghost use Rattle.mptcp_options.specs.Dss.{has_ack, has_mapping, mapping_place, relative_place, dss_end, dss_length};
+ghost use Rattle.mptcp_options.specs.Dss.{data_number_length, data_number_at, ack_at, mapping_at, fin_at};
+ghost use Rattle.mptcp_options.specs.Dss.{data_number_text, is_whole, ack_text, ack_flags, mapping_text, mapping_flags, dss_body};
 ghost use Rattle.mptcp_options.specs.Meaning.{IsFramed, subtype, option_meaning};
 
 use crate::body::{Body, flag_if, joined, optional_u16};
@@ -93,6 +95,7 @@ fn dss_end(flags: u8) -> usize
     }
 }
 
+/// The one length that fits the flags and the use of checksums.
 fn dss_length(flags: u8, checksum: bool) -> usize
     ensures { result ≡ dss_length flags checksum }
 {

@@ -1,4 +1,4 @@
-ghost use Rattle.mptcp_options.specs.Laws.{WrittenIsRead, OctetsTellTheOption, KnownIsWritten};
+ghost use Rattle.mptcp_options.specs.Laws.{WrittenIsRead, OctetsTellTheOption, KnownIsWritten, KnownMayBeWritten};
 
 /// What is written is read as the same option, where checksums are used and where they are not.
 pub fn written_is_read()
@@ -14,4 +14,9 @@ pub fn octets_tell_the_option()
 /// text with these bits cleared are never read as one.
 pub fn known_is_written()
     ensures { KnownIsWritten }
+{}
+
+/// What is read as an option, of at most 40 octets, meets the condition of `write`.
+pub fn known_may_be_written()
+    ensures { KnownMayBeWritten }
 {}

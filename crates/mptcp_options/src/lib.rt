@@ -18,7 +18,7 @@ mod writing;
 pub use capable::CapableKeys;
 pub use dss::{DataNumber, DssMap};
 pub use join::JoinForm;
-pub use laws::{known_is_written, octets_tell_the_option, written_is_read};
+pub use laws::{known_is_written, known_may_be_written, octets_tell_the_option, written_is_read};
 pub use option::{KIND, MpOption, Read};
 pub use reading::read;
 pub use writing::write;

@@ -52,7 +52,8 @@ pub enum MpOption<'a> {
         key: u64,
     },
     /// MP_TCPRST, which says why a subflow is reset (section 3.6): whether the fault may pass (flag T), and the
-    /// reason.
+    /// reason, of which 0 is unspecified, 1 a fault of Multipath TCP, 2 lack of resources, 3 prohibited, 4 too much
+    /// outstanding data, 5 unacceptable performance and 6 interference of a middlebox.
     Reset {
         transient: bool,
         reason: u8,
@@ -64,9 +65,9 @@ pub enum MpOption<'a> {
 pub enum Read<'a> {
     /// This option.
     Known(MpOption<'a>),
-    /// An option that this version of the protocol does not have, or that asks for what we don't offer: it is
-    /// passed over as if it were absent.
+    /// An option of another kind, of a subtype or version that there isn't, or an MP_CAPABLE that offers no
+    /// HMAC-SHA256 or wants an extension: it is passed over as if it were absent.
     Unknown,
-    /// An option of this protocol out of form.
+    /// An option of this protocol that has no form of its subtype.
     Malformed,
 }

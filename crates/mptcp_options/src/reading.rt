@@ -10,9 +10,9 @@ use crate::option::{KIND, Read};
 use crate::signals::{read_fail, read_fast_close, read_prio, read_reset};
 use crate::subtype;
 
-/// What the octets of one TCP option say, kind and length among them, where checksums are used or not. An option
-/// of another kind is `Unknown`, and so is what this version of the protocol doesn't have; one whose octets have no
-/// form of their subtype is `Malformed` (RFC 8684, section 3). The ids of a `Remove` are lent from the input.
+/// What the octets of one TCP option say, kind and length among them, where `checksum` tells whether checksums are
+/// used (RFC 8684, section 3). Each list of octets has an answer; no octets at all are `Malformed`. The ids of a
+/// `Remove` are no copy: they stand in the input, from its fourth octet on.
 #[tactic(auto, using(crate::proofs::Framing::framing))]
 pub fn read<'a>(option: &'a [u8], checksum: bool) -> Read<'a>
     ensures meaning { meaning_of result ≡ option_meaning option.now checksum }
@@ -44,6 +44,7 @@ fn is_misframed(option: &[u8]) -> bool
     option.len() < 3 || usize::from(option[1]) != option.len()
 }
 
+/// An option of kind 30 with its length in the second octet, by its subtype.
 #[tactic(auto, using(crate::proofs::MeaningByTable::foreign_subtype))]
 fn read_framed<'a>(option: &'a [u8], checksum: bool) -> Read<'a>
     requires { IsFramed option.now }

@@ -17,8 +17,9 @@ use std::alloc::AllocError;
 const LONGEST: usize = 40;
 
 /// Appends the octets of an option, or changes nothing where there is no memory for them. The option has the form
-/// of its row (RFC 8684, section 3): a checksum stands exactly where checksums are used, flag F only with a
-/// mapping, 1 to 37 ids in a `Remove`, and an HMAC exactly where an ADD_ADDR is no echo. Reserved bits are 0.
+/// of its subtype (RFC 8684, section 3): a checksum stands exactly where checksums are used, which `checksum` tells,
+/// flag F only with a mapping, 1 to 37 ids in a `Remove`, and an HMAC exactly where an ADD_ADDR is no echo. Reserved
+/// bits are written 0, and numbers as wide as they stand.
 pub fn write(option: &MpOption<'_>, checksum: bool, out: &mut Text) -> Result<(), AllocError>
     requires { HasForm checksum (value_of option.now) }
     ensures ok { OnOk result (out.new ≡ out.old ++ option_text (value_of option.now)) }

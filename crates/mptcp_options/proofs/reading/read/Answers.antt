@@ -1,4 +1,4 @@
-use Rattle.std.proofs.Common.{sym, ◌∙◌}
+use Rattle.std.proofs.Common.{sym}
 use Rattle.mptcp_options.proofs.Framing.{IsFramed-from_tests}
 use Rattle.mptcp_options.proofs.reading.read.Goals as goal
 
