@@ -17,4 +17,4 @@ mod AddressText
 mod CapableText
 mod DssText
 mod KnownFits
-mod OptionLaws
+pub mod OptionLaws
