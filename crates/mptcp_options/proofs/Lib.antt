@@ -1,0 +1,20 @@
+mod Cells
+mod Among
+mod OctetTests
+mod NumbersAgain
+mod TextAgain
+mod Framing
+mod MeaningByTable
+mod JoinMeaning
+mod AddressMeaning
+mod SignalMeaning
+mod DssMeaning
+mod CapableMeaning
+mod KnownValue
+mod SignalText
+mod JoinText
+mod AddressText
+mod CapableText
+mod DssText
+mod KnownFits
+pub mod OptionLaws
