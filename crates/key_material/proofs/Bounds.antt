@@ -9,14 +9,16 @@ use Rattle.key_material.specs.JoinHmac.{hmac_of_a, hmac_of_b, join_a160_of, join
 use Rattle.key_material.specs.AddressHmac.{address_hmac, add_addr64_of}
 use Rattle.key_material.specs.Drawing.{drawn_word}
 use Rattle.rand_chacha.specs.Block.{block_word}
-use Rattle.key_material.proofs.DigestOctets.{AreOctets, AreOctets-take, AreOctets-drop, IsDigest, IsDigest-key_digest, IsDigest-hmac_of}
+use Rattle.key_material.specs.Octets.{AreOctets}
+use Rattle.key_material.proofs.Octets.{AreOctets-take, AreOctets-drop}
+use Rattle.key_material.proofs.DigestOctets.{IsDigest, IsDigest-key_digest, IsDigest-hmac_of}
 
 from_be_bytes_4_below : (octets : List ℕ) → AreOctets octets → from_be_bytes w32 octets < 2 ^ 32
-from_be_bytes_4_below octets are = omega (arith, are.at 0, are.at 1, are.at 2, are.at 3)
+from_be_bytes_4_below octets are = omega (arith, are.each 0, are.each 1, are.each 2, are.each 3)
 
 from_be_bytes_8_below : (octets : List ℕ) → AreOctets octets → from_be_bytes w64 octets < 2 ^ 64
 from_be_bytes_8_below octets are =
-    omega (arith, are.at 0, are.at 1, are.at 2, are.at 3, are.at 4, are.at 5, are.at 6, are.at 7)
+    omega (arith, are.each 0, are.each 1, are.each 2, are.each 3, are.each 4, are.each 5, are.each 6, are.each 7)
 
 pub token_of_below : (key : ℕ) → token_of key < 2 ^ 32
 token_of_below key = from_be_bytes_4_below (take 4 (key_digest key)) (AreOctets-take 4 _ (IsDigest-key_digest key).octets)

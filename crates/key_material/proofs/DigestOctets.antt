@@ -6,40 +6,10 @@ use Rattle.std.proofs.lemmas.List.{length-take, length-drop}
 use Rattle.std.proofs.lemmas.Nat.{be_bytes_4, be_bytes_8}
 use Rattle.sha2.specs.Sha256.{sha256, digest_bytes}
 use Rattle.sha2.proofs.Facts256.{length-sha256}
+use Rattle.key_material.specs.Octets.{AreOctets}
 use Rattle.key_material.specs.KeyDigest.{key_digest}
 use Rattle.key_material.specs.Hmac.{hmac_of}
-
--- each element is an octet
-pub record AreOctets (xs : List ℕ) : Type 0 where
-  pub at : (i : ℕ) → get_or xs i 0 < 256
-
-AreOctets-none : AreOctets []
-AreOctets-none = record { at = λ i. omega arith }
-
-AreOctets-cons : (x : ℕ) (xs : List ℕ) → x < 256 → AreOctets xs → AreOctets (x ∷ xs)
-AreOctets-cons x xs below rest = record { at = at_place } where
-  at_place : (i : ℕ) → get_or (x ∷ xs) i 0 < 256
-  at_place zero = below
-  at_place (suc i) = rest.at i
-
-AreOctets-tail : (x : ℕ) (xs : List ℕ) → AreOctets (x ∷ xs) → AreOctets xs
-AreOctets-tail x xs octets = record { at = λ i. octets.at (suc i) }
-
-AreOctets-append : (xs ys : List ℕ) → AreOctets xs → AreOctets ys → AreOctets (xs ++ ys)
-AreOctets-append [] ys front back = back
-AreOctets-append (x ∷ xs) ys front back =
-    AreOctets-cons x (xs ++ ys) (front.at 0) (AreOctets-append xs ys (AreOctets-tail x xs front) back)
-
-pub AreOctets-take : (n : ℕ) (xs : List ℕ) → AreOctets xs → AreOctets (take n xs)
-AreOctets-take zero xs octets = AreOctets-none
-AreOctets-take (suc n) [] octets = AreOctets-none
-AreOctets-take (suc n) (x ∷ xs) octets =
-    AreOctets-cons x (take n xs) (octets.at 0) (AreOctets-take n xs (AreOctets-tail x xs octets))
-
-pub AreOctets-drop : (n : ℕ) (xs : List ℕ) → AreOctets xs → AreOctets (drop n xs)
-AreOctets-drop zero xs octets = octets
-AreOctets-drop (suc n) [] octets = AreOctets-none
-AreOctets-drop (suc n) (x ∷ xs) octets = AreOctets-drop n xs (AreOctets-tail x xs octets)
+use Rattle.key_material.proofs.Octets.{AreOctets-none, AreOctets-cons, AreOctets-append, AreOctets-take, AreOctets-drop}
 
 AreOctets-word : (n : ℕ) → AreOctets (to_be_bytes w32 n)
 AreOctets-word n =
@@ -72,12 +42,12 @@ IsDigest-hmac_of key message = IsDigest-sha256 _
 module _ (digest : List ℕ) (is_digest : IsDigest digest) where
   pub first_4 : to_be_bytes w32 (from_be_bytes w32 (take 4 digest)) ≡ take 4 digest
   first_4 = be_bytes_4 (take 4 digest) _ (simp length-take (omega (arith, is_digest.long)))
-      (AreOctets-take 4 digest is_digest.octets).at refl
+      (AreOctets-take 4 digest is_digest.octets).each refl
 
   pub first_8 : to_be_bytes w64 (from_be_bytes w64 (take 8 digest)) ≡ take 8 digest
   first_8 = be_bytes_8 (take 8 digest) _ (simp length-take (omega (arith, is_digest.long)))
-      (AreOctets-take 8 digest is_digest.octets).at refl
+      (AreOctets-take 8 digest is_digest.octets).each refl
 
   pub last_8 : to_be_bytes w64 (from_be_bytes w64 (drop 24 digest)) ≡ drop 24 digest
   last_8 = be_bytes_8 (drop 24 digest) _ (simp length-drop (omega (arith, is_digest.long)))
-      (AreOctets-drop 24 digest is_digest.octets).at refl
+      (AreOctets-drop 24 digest is_digest.octets).each refl

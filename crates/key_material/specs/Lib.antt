@@ -1,3 +1,4 @@
+pub mod Octets
 pub mod Address
 pub mod KeyDigest
 pub mod Hmac

@@ -1,4 +1,4 @@
-ghost use Rattle.std.specs.Prelude.{◌≡◌};
+ghost use Rattle.std.specs.Prelude.{◌≡◌, ◌≤◌, length};
 
 /// An address that a side announces: its octets in network order.
 #[derive(Clone, Copy, Debug, PartialEq, Eq)]
@@ -12,7 +12,8 @@ impl Address {
 
     /// The 4 or 16 octets of the address, in network order.
     pub fn octets(&self) -> &[u8]
-        ensures { result.now ≡ octets_of self.now }
+        ensures octets { result.now ≡ octets_of self.now }
+        ensures few { length result.now ≤ 16 }
     {
         match self {
             Address::V4(octets) => octets,

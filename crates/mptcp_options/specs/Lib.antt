@@ -1,0 +1,11 @@
+pub mod Octets
+pub mod Value
+pub mod Capable
+pub mod Join
+pub mod Dss
+pub mod Address
+pub mod Signals
+pub mod Text
+pub mod Meaning
+pub mod Ignored
+pub mod Laws
