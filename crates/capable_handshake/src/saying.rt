@@ -14,48 +14,47 @@ pub fn syn_option(checksum: bool) -> MpOption<'static>
     }
 }
 
-/// The MP_CAPABLE of the server's SYN/ACK; `checksum` tells whether the server requires checksums, `own` is its key.
-pub fn syn_ack_option(checksum: bool, own: u64) -> MpOption<'static>
-    ensures { result ≡ syn_ack_option checksum own }
+/// The MP_CAPABLE of the server's SYN/ACK; `checksum` tells whether the server requires checksums, `sender` is the
+/// server's key.
+pub fn syn_ack_option(checksum: bool, sender: u64) -> MpOption<'static>
+    ensures { result ≡ syn_ack_option checksum sender }
 {
     MpOption::Capable {
         flag_a: checksum,
         flag_c: false,
-        keys: CapableKeys::Sender { sender: own },
+        keys: CapableKeys::Sender { sender },
     }
 }
 
 /// The MP_CAPABLE of the client's ACK that ends the handshake; `checksum` tells whether the connection uses checksums,
-/// `own` is the client's key and `peer` the server's.
-pub fn ack_option(checksum: bool, own: u64, peer: u64) -> MpOption<'static>
-    ensures { result ≡ ack_option checksum own peer }
+/// `sender` is the client's key and `receiver` the server's.
+pub fn ack_option(checksum: bool, sender: u64, receiver: u64) -> MpOption<'static>
+    ensures { result ≡ ack_option checksum sender receiver }
 {
     MpOption::Capable {
         flag_a: checksum,
         flag_c: false,
-        keys: CapableKeys::Both {
-            sender: own,
-            receiver: peer,
-        },
+        keys: CapableKeys::Both { sender, receiver },
     }
 }
 
-/// The MP_CAPABLE of the client's first segment with data, of so many octets; `own` is the client's key and `peer` the
-/// server's. The checksum of the mapping is there where the connection uses checksums, which flag A tells.
+/// The MP_CAPABLE of the client's first segment with data; `sender` is the client's key, `receiver` the server's, and
+/// `length` counts the octets of data. The checksum of the mapping stands there where the connection uses checksums,
+/// and flag A with it.
 pub fn first_data_option(
-    own: u64,
-    peer: u64,
+    sender: u64,
+    receiver: u64,
     length: u16,
     checksum: Option<u16>,
 ) -> MpOption<'static>
-    ensures { result ≡ first_data_option own peer length checksum }
+    ensures { result ≡ first_data_option sender receiver length checksum }
 {
     MpOption::Capable {
         flag_a: checksum.is_some(),
         flag_c: false,
         keys: CapableKeys::WithData {
-            sender: own,
-            receiver: peer,
+            sender,
+            receiver,
             length,
             checksum,
         },

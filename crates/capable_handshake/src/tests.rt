@@ -3,20 +3,27 @@ use mptcp_options::{MpOption, Read, read};
 use std::process::Abort;
 
 const CLIENT: u64 = 0x0102030405060708;
+
 const SERVER: u64 = 0x1112131415161718;
 
 // The options of one handshake, written out by hand from the figure of RFC 8684, section 3.1: version 1 and flag H;
 // the server alone requires checksums, so flag A is 0 on the SYN and 1 on what follows.
 const SYN: &[u8] = b"\x1e\x04\x01\x01";
+
 const SYN_ACK: &[u8] = b"\x1e\x0c\x01\x81\x11\x12\x13\x14\x15\x16\x17\x18";
+
 const ACK: &[u8] =
     b"\x1e\x14\x01\x81\x01\x02\x03\x04\x05\x06\x07\x08\x11\x12\x13\x14\x15\x16\x17\x18";
+
 const FIRST_DATA: &[u8] =
     b"\x1e\x18\x01\x81\x01\x02\x03\x04\x05\x06\x07\x08\x11\x12\x13\x14\x15\x16\x17\x18\x05\x78\xab\xcd";
+
 /// The first segment with data where no side requires checksums.
 const WITHOUT_CHECKSUM: &[u8] =
     b"\x1e\x16\x01\x01\x01\x02\x03\x04\x05\x06\x07\x08\x11\x12\x13\x14\x15\x16\x17\x18\x05\x78";
+
 const PRIO: &[u8] = b"\x1e\x03\x50";
+
 const NO_OPTION: &[u8] = b"";
 
 const ABSENT: CapableFault = CapableFault::NoOption;
@@ -63,7 +70,10 @@ fn an_own_requirement_counts(rt: HostRuntime) {
 fn another_key_is_no_own_key(rt: HostRuntime) {
     let differ = CapableFault::KeysDiffer { own: CLIENT };
     assert_eq!(rt; server_keys(CLIENT, heard(ACK).as_ref()), Err(differ));
-    assert_eq!(rt; server_keys(CLIENT, heard(FIRST_DATA).as_ref()), Err(differ));
+    assert_eq!(rt;
+        server_keys(CLIENT, heard(FIRST_DATA).as_ref()),
+        Err(differ)
+    );
 }
 
 #[test]
