@@ -1,9 +1,9 @@
 -- What is written as a piece is read as that piece.
-use Rattle.std.proofs.Common.{◌≡◌, refl, sym, ◌∙◌, ap, ℕ, ◌+◌, ◌^◌, ◌<◌, ◌≤◌, List, [], ◌∷◌, length, take, map, Option, Some, None, MatchOption, option_copied, slice_get, Bor, arith, ◌-◌, ◌==◌, nat_le, if◌then◌else◌}
+use Rattle.std.proofs.Common.{◌≡◌, refl, sym, ◌∙◌, ap, ℕ, ◌+◌, ◌^◌, ◌<◌, ◌≤◌, List, [], ◌∷◌, length, take, Option, Some, None, MatchOption, option_copied, slice_get, Bor, arith, ◌-◌, ◌==◌, nat_le, if◌then◌else◌}
 use Rattle.std.proofs.lemmas.Nat.{from_be_bytes-to_be_bytes_2, from_be_bytes-to_be_bytes_4, from_be_bytes-to_be_bytes_8}
 use Rattle.std.specs.Ptr.{Ptr, as_ptr}
 use Rattle.segment_wire.specs.declared.head.Head.{Head}
-use Rattle.segment_wire.specs.Segment.{Segment, CanWrite, CanCarry}
+use Rattle.segment_wire.specs.Segment.{CanWrite, CanCarry}
 use Rattle.segment_wire.specs.Options.{option_octets}
 use Rattle.segment_wire.specs.OptionFront.{octets_alone}
 use Rattle.mptcp_run.specs.declared.dss.Dss.{Dss}

@@ -1,9 +1,8 @@
 -- Parting a text at an octet, and the digits of a number.
-use Rattle.std.proofs.Common.{◌≡◌, refl, sym, ◌∙◌, ap, ℕ, ◌+◌, ◌≤◌, ◌==◌, Bool, true, false, nat_lt, List, [], length, take, drop, Option, Some, None, cond, arith, position, ◌*◌, ◌<◌, ◌∷◌, ◌++◌, ◌-◌, get_or}
+use Rattle.std.proofs.Common.{◌≡◌, refl, sym, ◌∙◌, ap, ℕ, ◌+◌, ◌≤◌, ◌==◌, Bool, true, false, nat_lt, List, [], length, take, drop, Some, None, cond, arith, position, ◌*◌, ◌<◌, ◌∷◌, ◌++◌, ◌-◌, get_or}
 use Rattle.std.proofs.lemmas.List.{take_all, drop_all, take_more}
 use Rattle.std.specs.Str.Parse.{digits_value, digits_value_after}
 use Rattle.std.specs.Char.{digit_value}
-use Rattle.std.proofs.lemmas.Grind.{common_steps}
 use Rattle.std.specs.List.{position_or_len}
 use Rattle.std.proofs.lemmas.List.Folds.{list_all_at}
 use Rattle.std.proofs.lemmas.Bool.{false≢true}

@@ -1,21 +1,18 @@
 -- What is sent and logged after each piece.
-use Rattle.std.proofs.Common.{◌≡◌, refl, sym, ◌∙◌, ap, ℕ, ◌+◌, ◌-◌, ◌*◌, ◌<◌, ◌≤◌, zero, suc, min, List, [], ◌∷◌, ◌++◌, length, take, drop, map, append_assoc, arith, subst, Option}
+use Rattle.std.proofs.Common.{◌≡◌, refl, sym, ◌∙◌, ap, ℕ, ◌+◌, ◌-◌, ◌*◌, ◌<◌, ◌≤◌, zero, suc, min, List, [], ◌∷◌, ◌++◌, length, take, drop, map, append_assoc, arith, subst}
 use Rattle.std.specs.Int.{div_ceil}
 use Rattle.std.specs.List.{concat, range_with_len}
 use Rattle.std.proofs.Math.Nat.{mul-le-mul_left}
 use Rattle.std.proofs.Math.Seq.{take-add}
-use Rattle.std.proofs.lemmas.Grind.{common_steps, div_ceil_times}
+use Rattle.std.proofs.lemmas.Grind.{div_ceil_times}
 use Rattle.std.proofs.lemmas.List.{append-nil, length-take, length-drop}
 use Rattle.std.proofs.lemmas.List.FromFn.{map-range_with_len_more}
 use Rattle.std.proofs.lemmas.List.Folds.{concat-append}
 use Rattle.pipe_model.specs.declared.pipe.Pipe.{Pipe}
 use Rattle.pipe_model.specs.Prefix.{IsPrefix}
-use Rattle.outside_kit.specs.Outside.{HoldsAfter}
-use Rattle.mptcp_run.specs.Ports.{HoldsPrefix}
 use Rattle.segment_wire.specs.Segment.{segment_text}
-use Rattle.mptcp_run.specs.Segments.{addresses, data_segment, segment_line, piece_at, piece_count, piece_line, first_lines, all_lines}
-use Rattle.mptcp_run.specs.Sending.{IsSending, IsClosed, next_piece, next_octets, after_piece}
-use Rattle.mptcp_run.proofs.PortsLemmas.{HoldsAfter-then, HoldsPrefix-then, HoldsPrefix-longer}
+use Rattle.mptcp_run.specs.Segments.{addresses, data_segment, segment_line, piece_at, piece_line, first_lines}
+use Rattle.mptcp_run.specs.Sending.{IsClosed, next_piece, next_octets, after_piece}
 
 -- one piece more has one line more
 pub first_lines-more : (size : ℕ) (file : List ℕ) (n : ℕ) → first_lines size file (n + 1) ≡ first_lines size file n ++ piece_line size file n

@@ -5,7 +5,7 @@ use Rattle.outside_kit.specs.Outside.{HasRisen}
 use Rattle.mptcp_run.specs.declared.status.Named.{Named}
 use Rattle.mptcp_run.specs.declared.status.Named.TheVariants as input
 use Rattle.mptcp_run.specs.declared.status.Status.{Status}
-use Rattle.mptcp_run.specs.declared.status.Status.TheVariants.{Delivered, Usage, Script, Load, Put, TooLong, Memory}
+use Rattle.mptcp_run.specs.declared.status.Status.TheVariants.{Load, Put, TooLong, Memory}
 
 -- how many octets an input may have; what B sends isn't read yet
 abbrev pub limit_of : Named → ℕ

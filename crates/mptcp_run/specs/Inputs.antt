@@ -4,7 +4,7 @@ use Rattle.outside_kit.specs.Outside.{HasRisen}
 use Rattle.mptcp_run.specs.declared.status.Named.{Named}
 use Rattle.mptcp_run.specs.declared.status.Named.TheVariants as input
 use Rattle.mptcp_run.specs.declared.status.Status.{Status}
-use Rattle.mptcp_run.specs.declared.status.Status.TheVariants.{Delivered, Usage, Script, Load, Put, TooLong, Memory}
+use Rattle.mptcp_run.specs.declared.status.Status.TheVariants.{Script, Load, TooLong, Memory}
 use Rattle.mptcp_run.specs.Causes.{limit_of}
 use Rattle.mptcp_run.specs.Words.{Names}
 use Rattle.mptcp_run.specs.Script.{script_meaning, refused}

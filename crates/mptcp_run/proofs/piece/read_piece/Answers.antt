@@ -1,5 +1,4 @@
-use Rattle.std.proofs.Common.{◌≡◌, ◌∙◌, ap, rules, Ok}
-use Rattle.segment_wire.specs.Segment.{CanWrite, Segment}
+use Rattle.std.proofs.Common.{◌≡◌, ◌∙◌, ap}
 use Rattle.segment_wire.specs.Reading.{segment_of}
 use Rattle.mptcp_run.specs.Segments.{data_segment, piece_of}
 use Rattle.mptcp_run.proofs.Pieces.{piece_of-data_segment, CanWrite-data_segment}

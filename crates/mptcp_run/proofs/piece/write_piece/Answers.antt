@@ -1,7 +1,6 @@
 use Rattle.std.proofs.Common.{◌≡◌, ◌∙◌, ap, length}
 use Rattle.mptcp_run.specs.Dss.{dss_octets}
 use Rattle.mptcp_run.specs.Segments.{dss_at}
-use Rattle.segment_wire.specs.Segment.{CanCarry}
 use Rattle.mptcp_run.proofs.Pieces.{data_segment-made, carried}
 use Rattle.mptcp_run.proofs.piece.write_piece.Goals as goal
 

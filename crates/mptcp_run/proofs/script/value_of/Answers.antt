@@ -1,6 +1,4 @@
-use Rattle.std.proofs.Common.{◌≡◌, ◌+◌, ◌-◌, ◌*◌, get_or, take, arith}
-use Rattle.std.specs.Str.Parse.{digits_value}
-use Rattle.std.specs.Char.{digit_value}
+use Rattle.std.proofs.Common.{arith}
 use Rattle.mptcp_run.proofs.Scripts.{digits_value-take_more, digit_value-at}
 use Rattle.mptcp_run.proofs.script.value_of.Goals as goal
 

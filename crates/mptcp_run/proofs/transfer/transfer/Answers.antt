@@ -1,4 +1,4 @@
-use Rattle.std.proofs.Common.{◌≡◌, ◌++◌, ap, refl, List, ℕ, codes}
+use Rattle.std.proofs.Common.{◌≡◌, ◌++◌, ap, codes}
 use Rattle.std.proofs.lemmas.Result.{on_ok_weaker, on_err_weaker}
 use Rattle.pipe_model.specs.declared.pipe.Pipe.{Pipe}
 use Rattle.mptcp_run.specs.Segments.{all_lines, log_text}
