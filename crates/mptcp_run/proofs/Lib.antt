@@ -1,4 +1,5 @@
-mod Pieces
+mod Carried
+mod HeardAgain
 mod PortsLemmas
+mod ScriptLemmas
 mod SendingLemmas
-mod Scripts

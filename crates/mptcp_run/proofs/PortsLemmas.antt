@@ -45,6 +45,11 @@ HoldsPrefix-longer (Some held) b text whole h within = record {
   told_is = h.told_is;
 }
 
+-- where the port is the same before, a front of a text is a front of a longer one
+pub HoldsPrefix-grows : (a b c : Option (List ℕ)) (text more : List ℕ) → b ≡ a → HoldsPrefix b c text → HoldsPrefix a c (text ++ more)
+HoldsPrefix-grows a b c text more e h =
+    HoldsPrefix-longer a c text (text ++ more) (subst (λ (told : Option (List ℕ)). HoldsPrefix told c text) e h) (record { rest = more; whole_is = refl })
+
 pub HoldsAfter-nothing : (a : Option (List ℕ)) (text : List ℕ) → text ≡ [] → HoldsAfter a a (λ held. held ++ text)
 HoldsAfter-nothing None text e = tt
 HoldsAfter-nothing (Some held) text e = ap (λ xs. Some xs) (sym (append-nil held) ∙ ap (λ xs. held ++ xs) (sym e))

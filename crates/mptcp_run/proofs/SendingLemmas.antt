@@ -9,18 +9,19 @@ use Rattle.std.proofs.lemmas.List.{append-nil, length-take, length-drop}
 use Rattle.std.proofs.lemmas.List.FromFn.{map-range_with_len_more}
 use Rattle.std.proofs.lemmas.List.Folds.{concat-append}
 use Rattle.pipe_model.specs.declared.pipe.Pipe.{Pipe}
+use Rattle.mptcp_run.specs.declared.connection.Connection.{Connection}
 use Rattle.pipe_model.specs.Prefix.{IsPrefix}
 use Rattle.segment_wire.specs.Segment.{segment_text}
-use Rattle.mptcp_run.specs.Segments.{addresses, data_segment, segment_line, piece_at, piece_line, first_lines}
+use Rattle.mptcp_run.specs.Segments.{from_a, data_segment, segment_line, piece_at, piece_line, first_lines}
 use Rattle.mptcp_run.specs.Sending.{IsClosed, next_piece, next_octets, after_piece}
 
 -- one piece more has one line more
-pub first_lines-more : (size : ℕ) (file : List ℕ) (n : ℕ) → first_lines size file (n + 1) ≡ first_lines size file n ++ piece_line size file n
+pub first_lines-more : (c : Connection) (size : ℕ) (file : List ℕ) (n : ℕ) → first_lines c size file (n + 1) ≡ first_lines c size file n ++ piece_line c size file n
 unfolding first_lines
-first_lines-more size file n =
-    ap concat (map-range_with_len_more (piece_line size file) 0 n n (omega arith))
-    ∙ concat-append (map (piece_line size file) (range_with_len 0 n)) (piece_line size file n ∷ [])
-    ∙ ap (λ xs. concat (map (piece_line size file) (range_with_len 0 n)) ++ xs) (append-nil (piece_line size file n))
+first_lines-more c size file n =
+    ap concat (map-range_with_len_more (piece_line c size file) 0 n n (omega arith))
+    ∙ concat-append (map (piece_line c size file) (range_with_len 0 n)) (piece_line c size file n ∷ [])
+    ∙ ap (λ xs. concat (map (piece_line c size file) (range_with_len 0 n)) ++ xs) (append-nil (piece_line c size file n))
 
 IsPrefix-refl : (xs : List ℕ) → IsPrefix xs xs
 IsPrefix-refl xs = record { rest = []; whole_is = sym (append-nil xs) }
@@ -31,16 +32,16 @@ IsPrefix-more xs ys more zs h e = record {
   whole_is = e ∙ ap (λ ws. ws ++ more) h.whole_is ∙ append_assoc xs h.rest more;
 }
 
-lines_within : (size : ℕ) (file : List ℕ) (n k : ℕ) → IsPrefix (first_lines size file n) (first_lines size file (n + k))
-lines_within size file n zero = subst (λ (m : ℕ). IsPrefix (first_lines size file n) (first_lines size file m)) (omega arith) (IsPrefix-refl (first_lines size file n))
-lines_within size file n (suc k) =
-    IsPrefix-more (first_lines size file n) (first_lines size file (n + k)) (piece_line size file (n + k)) _ (lines_within size file n k)
-    (ap (first_lines size file) (let e : n + suc k ≡ n + k + 1 = omega arith in e) ∙ first_lines-more size file (n + k))
+lines_within : (c : Connection) (size : ℕ) (file : List ℕ) (n k : ℕ) → IsPrefix (first_lines c size file n) (first_lines c size file (n + k))
+lines_within c size file n zero = subst (λ (m : ℕ). IsPrefix (first_lines c size file n) (first_lines c size file m)) (omega arith) (IsPrefix-refl (first_lines c size file n))
+lines_within c size file n (suc k) =
+    IsPrefix-more (first_lines c size file n) (first_lines c size file (n + k)) (piece_line c size file (n + k)) _ (lines_within c size file n k)
+    (ap (first_lines c size file) (let e : n + suc k ≡ n + k + 1 = omega arith in e) ∙ first_lines-more c size file (n + k))
 
 -- the lines of the first pieces are a front of those of more pieces
-pub first_lines-IsPrefix : (size : ℕ) (file : List ℕ) (n m : ℕ) → n ≤ m → IsPrefix (first_lines size file n) (first_lines size file m)
-first_lines-IsPrefix size file n m h =
-    subst (λ (k : ℕ). IsPrefix (first_lines size file n) (first_lines size file k)) (let e : n + (m - n) ≡ m = omega arith in e) (lines_within size file n (m - n))
+pub first_lines-IsPrefix : (c : Connection) (size : ℕ) (file : List ℕ) (n m : ℕ) → n ≤ m → IsPrefix (first_lines c size file n) (first_lines c size file m)
+first_lines-IsPrefix c size file n m h =
+    subst (λ (k : ℕ). IsPrefix (first_lines c size file n) (first_lines c size file k)) (let e : n + (m - n) ≡ m = omega arith in e) (lines_within c size file n (m - n))
 
 -- each piece begins before the end of the file
 pub begins_within : (index len size : ℕ) → 1 ≤ size → index < div_ceil len size → index * size < len
@@ -92,11 +93,11 @@ at_piece-more start pipe new size index h k e f =
     ∙ ap (λ (n : ℕ). let q : Pipe = record start { read = n; acked = n } in q) (read_more size index start.written)
 
 -- the line of the next piece
-pub next_line_is : (start pipe : Pipe) (size index : ℕ) → 1 ≤ size → index < div_ceil (length start.written) size → pipe ≡ at_piece start size index
-    → segment_line (next_octets pipe size) ≡ piece_line size start.written index
-next_line_is start pipe size index h k e =
+pub next_line_is : (c : Connection) (start pipe : Pipe) (size index : ℕ) → 1 ≤ size → index < div_ceil (length start.written) size → pipe ≡ at_piece start size index
+    → segment_line (next_octets c pipe size) ≡ piece_line c size start.written index
+next_line_is c start pipe size index h k e =
     let s = stands start pipe size index h k e in
-    ap (λ (p : ℕ × List ℕ). segment_line (segment_text addresses (data_segment p.0 p.1)))
+    ap (λ (p : ℕ × List ℕ). segment_line (segment_text from_a (data_segment c p.0 p.1)))
     (let f : (pipe.read, next_piece pipe size) ≡ (index * size, piece_at size start.written index) = cc (read_is start pipe size index s, piece_is start pipe size index s) in f)
 
 -- what was read, and the next piece
@@ -108,11 +109,11 @@ next_read_is start pipe size index h k e =
     ∙ ap (λ n. take n start.written) (let f : index * size + size ≡ (index + 1) * size = omega arith in f)
 
 -- the lines of the pieces that were sent, and the next line
-pub next_lines_are : (start pipe : Pipe) (size index : ℕ) → 1 ≤ size → index < div_ceil (length start.written) size → pipe ≡ at_piece start size index
-    → first_lines size start.written index ++ segment_line (next_octets pipe size) ≡ first_lines size start.written (index + 1)
-next_lines_are start pipe size index h k e =
-    ap (λ xs. first_lines size start.written index ++ xs) (next_line_is start pipe size index h k e) ∙ sym (first_lines-more size start.written index)
+pub next_lines_are : (c : Connection) (start pipe : Pipe) (size index : ℕ) → 1 ≤ size → index < div_ceil (length start.written) size → pipe ≡ at_piece start size index
+    → first_lines c size start.written index ++ segment_line (next_octets c pipe size) ≡ first_lines c size start.written (index + 1)
+next_lines_are c start pipe size index h k e =
+    ap (λ xs. first_lines c size start.written index ++ xs) (next_line_is c start pipe size index h k e) ∙ sym (first_lines-more c size start.written index)
 
-pub first_lines-none : (size : ℕ) (file : List ℕ) → first_lines size file 0 ≡ []
+pub first_lines-none : (c : Connection) (size : ℕ) (file : List ℕ) → first_lines c size file 0 ≡ []
 unfolding first_lines
-first_lines-none size file = refl
+first_lines-none c size file = refl

@@ -1,5 +1,6 @@
 -- What a run reads: which contents are within their limits, and which refusal each fault of them is.
-use Rattle.std.specs.Prelude.{◌≡◌, ℕ, ◌<◌, ◌≤◌, List, length, Option, IfSome}
+use Rattle.std.specs.Prelude.{◌≡◌, ℕ, Err, ◌<◌, ◌≤◌, List, length, Option, IfSome}
+use Rattle.link_script.specs.declared.fault.ScriptFault.TheVariants.{Line}
 use Rattle.outside_kit.specs.Outside.{HasRisen}
 use Rattle.mptcp_run.specs.declared.status.Named.{Named}
 use Rattle.mptcp_run.specs.declared.status.Named.TheVariants as input
@@ -7,7 +8,7 @@ use Rattle.mptcp_run.specs.declared.status.Status.{Status}
 use Rattle.mptcp_run.specs.declared.status.Status.TheVariants.{Script, Load, TooLong, Memory}
 use Rattle.mptcp_run.specs.Causes.{limit_of}
 use Rattle.mptcp_run.specs.Words.{Names}
-use Rattle.mptcp_run.specs.Script.{script_meaning, refused}
+use Rattle.mptcp_run.specs.Script.{connection_in}
 
 abbrev pub name_of : Named → Names → List ℕ
 name_of input.Script names = names.script
@@ -33,6 +34,6 @@ IsInputFault content names old new (TooLong named) =
     IfSome (content (name_of named names)) (λ told. limit_of named < length told) × AreWithinBefore content names named
 -- all contents are within their limits, and this is the first line that the script's grammar refuses
 IsInputFault content names old new (Script line kind) =
-    IfSome (content names.script) (λ told. script_meaning told ≡ refused line kind) × ((named : Named) → IsWithin content names named)
+    IfSome (content names.script) (λ told. connection_in told ≡ Err (Line line kind)) × ((named : Named) → IsWithin content names named)
 IsInputFault content names old new Memory = Unit {0}
 IsInputFault content names old new _ = ⊥

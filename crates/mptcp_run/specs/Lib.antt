@@ -1,7 +1,7 @@
 pub mod Causes
-pub mod Dss
+pub mod Drawn
+pub mod Hearing
 pub mod Inputs
-pub mod PathLine
 pub mod Ports
 pub mod Script
 pub mod Segments

@@ -1,38 +1,61 @@
--- The script of a run: exactly three lines, of which the second describes path 0.
-use Rattle.std.specs.Prelude.{ℕ, ◌==◌, if◌then◌else◌, List, length, codes, Result, Ok, Err, ok_or}
+-- What a run takes from its script.
+use Rattle.std.specs.Prelude.{ℕ, Bool, ◌+◌, ◌&&◌, ◌||◌, not, ◌==◌, List, [], ◌∷◌, codes, Result, Ok, Err, Option, Some, None, position}
+use Rattle.std.specs.List.{before_first, after_first, list_all, slice_split}
 use Rattle.std.specs.Str.{bytes_eq}
 use Rattle.std.specs.Borrow.{Bor}
-use Rattle.mptcp_run.specs.declared.script.PathLine.{PathLine}
-use Rattle.mptcp_run.specs.declared.script.Refusal.{Refusal}
-use Rattle.mptcp_run.specs.declared.status.ScriptKind.{ScriptKind}
-use Rattle.mptcp_run.specs.declared.status.ScriptKind.TheVariants.{Header, Word, Missing}
-use Rattle.mptcp_run.specs.PathLine.{parted_at, path_in}
+use Rattle.link_script.specs.declared.fault.ScriptFault.{ScriptFault}
+use Rattle.link_script.specs.declared.fault.ScriptFault.TheVariants as fault
+use Rattle.link_script.specs.declared.fault.ScriptKind.TheVariants as kind
+use Rattle.link_script.specs.declared.script.PathLine.{PathLine}
+use Rattle.link_script.specs.declared.script.Script.{Script}
+use Rattle.link_script.specs.Reading.{reading}
+use Rattle.link_script.specs.Steps.{◌>>=◌}
+use Rattle.link_script.specs.Words.{is_passed_over}
+use Rattle.mptcp_run.specs.declared.connection.Connection.{Connection}
+use Rattle.mptcp_run.specs.declared.connection.Settings.{Settings}
+use Rattle.mptcp_run.specs.Drawn.{drawn_connection}
 
-infixl 10 ◌>>=◌
-abbrev pub ◌>>=◌ : {A B : Type 0} → Result A Refusal → (A → Result B Refusal) → Result B Refusal
-(Ok x) >>= f = f x
-(Err e) >>= f = Err e
-
-abbrev pub refused : {A : Type 0} → ℕ → ScriptKind → Result A Refusal
-refused line kind = Err (record { line = line; kind = kind })
-
--- The next line, which has this number, and what follows it. A line ends with LF, and a last one without LF counts.
-abbrev pub next_line : ℕ → List ℕ → Result (List ℕ × List ℕ) Refusal
-next_line number text = if length text == 0 then refused number Missing else Ok (parted_at 10 text)
-
--- what a script says, or its first line that isn't the one of its place
-unfoldable pub script_meaning : List ℕ → Result PathLine Refusal
-script_meaning text = do
-  header ← next_line 1 text
-  path ← (if bytes_eq header.0 (codes "mptcp-script 1") then next_line 2 header.1 else refused 1 Header)
-  described ← ok_or (path_in path.0) (record { line = 2; kind = Word })
-  end ← next_line 3 path.1
-  if bytes_eq end.0 (codes "end") then (if length end.1 == 0 then Ok described else refused 4 Word) else refused 3 Word
+-- what stands before the first such octet, and what stands after it
+abbrev pub parted_at : ℕ → List ℕ → List ℕ × List ℕ
+parted_at separator text = (before_first (λ octet. octet == separator) text, after_first (λ octet. octet == separator) text)
 
 -- two lent parts by what they hold
 abbrev pub parts_of : Bor (List ℕ) × Bor (List ℕ) → List ℕ × List ℕ
 parts_of parts = (parts.0.now, parts.1.now)
 
-abbrev pub line_of : Result (Bor (List ℕ) × Bor (List ℕ)) Refusal → Result (List ℕ × List ℕ) Refusal
-line_of (Ok parts) = Ok (parts_of parts)
-line_of (Err refusal) = Err refusal
+-- every line that begins with one of these words is run
+abbrev pub is_run_word : List ℕ → Bool
+is_run_word word = bytes_eq word (codes "mptcp-script") || bytes_eq word (codes "seed") || bytes_eq word (codes "buffer") || bytes_eq word (codes "end")
+
+-- digits that write 0
+abbrev pub is_zero : List ℕ → Bool
+is_zero digits = list_all (λ digit. digit == 48) digits
+
+-- A line of a script isn't run yet, unless it is empty, a comment, the first line, or one of `seed`, `buffer`, path 0 or
+-- `end`.
+abbrev pub is_held_back : List ℕ → Bool
+is_held_back line =
+    let words = parted_at 32 line in
+    not (is_passed_over line || is_run_word words.0 || (bytes_eq words.0 (codes "path") && is_zero (parted_at 32 words.1).0))
+
+-- the script, where no line of its text is held back; lines count from 1
+abbrev pub unless_held_back : Option ℕ → Script → Result Script ScriptFault
+unless_held_back None script = Ok script
+unless_held_back (Some place) script = Err (fault.Line (place + 1) kind.Word)
+
+-- the script that a text says, or the first line that the grammar refuses, or else the first one that isn't run yet
+unfoldable pub script_meaning : List ℕ → Result Script ScriptFault
+script_meaning text = reading text >>= unless_held_back (position is_held_back (slice_split (λ octet. octet == 10) text))
+
+-- the segment size of path 0
+abbrev pub first_mss : List PathLine → ℕ
+first_mss [] = 0
+first_mss (path ∷ paths) = path.mss
+
+-- what the script tells of both ends
+abbrev pub settings_of : Script → Settings
+settings_of script = record { mss = first_mss script.paths; buffer = script.buffer }
+
+-- the connection that a script's text tells of, its ends drawn from the seed, or the first line that is refused
+unfoldable pub connection_in : List ℕ → Result Connection ScriptFault
+connection_in text = script_meaning text >>= λ script. Ok (drawn_connection script.seed (settings_of script))

@@ -1,65 +1,129 @@
--- The segments that carry a file over path 0, which counts as open: the initial numbers of both directions are 0.
-use Rattle.std.specs.Prelude.{ℕ, ◌+◌, ◌-◌, ◌*◌, ◌%◌, ◌^◌, true, false, List, [], ◌∷◌, ◌++◌, length, take, drop, map, codes, slice_get, Option, Some, None, nat_le, ◌==◌, if◌then◌else◌}
-use Rattle.std.specs.Int.{div_ceil}
+-- The segments of path 0: the three that open it (RFC 8684, section 3.1), and those that carry a file.
+use Rattle.std.specs.Prelude.{ℕ, ◌+◌, ◌-◌, ◌*◌, ◌/◌, ◌^◌, min, true, false, ◌==◌, if◌then◌else◌, List, [], ◌∷◌, ◌++◌, length, take, drop, map, codes, Some, None}
+use Rattle.std.specs.Int.{w16, to_be_bytes, div_ceil}
 use Rattle.std.specs.List.{concat, range_with_len}
 use Rattle.hex.specs.Hex.{encode_lower}
 use Rattle.segment_wire.specs.declared.head.Addresses.{Addresses}
+use Rattle.segment_wire.specs.declared.head.Head.{Head}
 use Rattle.segment_wire.specs.Segment.{Segment, segment_text}
-use Rattle.mptcp_run.specs.declared.dss.Dss.{Dss}
-use Rattle.mptcp_run.specs.Dss.{dss_octets, dss_in}
-use Rattle.mptcp_run.specs.declared.piece.Piece.{Piece}
-use Rattle.segment_wire.specs.Options.{option_octets}
+use Rattle.mptcp_options.specs.declared.dss.DataNumber.TheVariants.{Whole}
+use Rattle.mptcp_options.specs.Value.{OptionValue, Dss, value_of}
+use Rattle.mptcp_options.specs.Text.{option_text}
+use Rattle.capable_handshake.specs.Said.{syn_option, syn_ack_option, ack_option, first_data_option}
+use Rattle.key_material.specs.KeyDigest.{idsn_of}
+use Rattle.seq_units.specs.Number.{number_of}
+use Rattle.mptcp_run.specs.declared.connection.End.{End}
+use Rattle.mptcp_run.specs.declared.connection.Settings.{Settings}
+use Rattle.mptcp_run.specs.declared.connection.Connection.{Connection}
 
 -- A is 10.0.0.1 and B is 10.0.0.2 on path 0
-abbrev pub addresses : Addresses
-addresses = record { source = 10 ∷ 0 ∷ 0 ∷ 1 ∷ []; destination = 10 ∷ 0 ∷ 0 ∷ 2 ∷ [] }
+abbrev pub from_a : Addresses
+from_a = record { source = 10 ∷ 0 ∷ 0 ∷ 1 ∷ []; destination = 10 ∷ 0 ∷ 0 ∷ 2 ∷ [] }
 
--- The byte at place k has data number k + 1 and relative number k + 1; nothing of B's stream was received.
-abbrev pub dss_at : ℕ → ℕ → Dss
-dss_at place length = record { data_ack = 1; number = place + 1; relative = place + 1; length = length }
+abbrev pub from_b : Addresses
+from_b = record { source = 10 ∷ 0 ∷ 0 ∷ 2 ∷ []; destination = 10 ∷ 0 ∷ 0 ∷ 1 ∷ [] }
 
--- the segment that carries this payload, whose first byte is at this place
-abbrev pub data_segment : ℕ → List ℕ → Segment
-data_segment place payload = record {
+-- the number of a subflow's position, counted from its SYN
+abbrev pub subflow_number : End → ℕ → ℕ
+subflow_number end position = number_of (2 ^ 32) end.iss position
+
+-- the window of a SYN isn't scaled
+abbrev pub syn_window : Settings → ℕ
+syn_window settings = min 65535 settings.buffer
+
+-- and all others are, by a shift of 5 (RFC 7323, section 2.2)
+abbrev pub scaled_window : Settings → ℕ
+scaled_window settings = settings.buffer / 32
+
+-- MSS, a window scale of 5, one octet of padding, and the option of Multipath TCP
+abbrev pub syn_options : ℕ → OptionValue → List ℕ
+syn_options mss option = 2 ∷ 4 ∷ to_be_bytes w16 mss ++ (3 ∷ 3 ∷ 5 ∷ 1 ∷ []) ++ option_text option
+
+-- A opens, and says no key yet
+abbrev pub syn : End → Settings → Segment
+syn a settings = record {
   head = record {
     source_port = 40000;
     destination_port = 5001;
-    seq = (place + 1) % 2 ^ 32;
-    ack = 1;
-    syn = false;
+    seq = a.iss;
+    ack = 0;
+    syn = true;
+    fin = false;
+    rst = false;
+    ack_set = false;
+    window = syn_window settings;
+  };
+  options = syn_options settings.mss (value_of (syn_option false));
+  payload = [];
+}
+
+-- B answers with its key, and acknowledges up to this number
+abbrev pub syn_ack : ℕ → End → Settings → Segment
+syn_ack ack b settings = record {
+  head = record {
+    source_port = 5001;
+    destination_port = 40000;
+    seq = b.iss;
+    ack = ack;
+    syn = true;
     fin = false;
     rst = false;
     ack_set = true;
-    window = 2048;
+    window = syn_window settings;
   };
-  options = dss_octets (dss_at place (length payload));
+  options = syn_options settings.mss (value_of (syn_ack_option false b.key));
+  payload = [];
+}
+
+-- the header of what A sends once the path is open, its first octet at this position
+abbrev pub head_at : Connection → ℕ → Head
+head_at c position = record {
+  source_port = 40000;
+  destination_port = 5001;
+  seq = subflow_number c.a position;
+  ack = subflow_number c.b 1;
+  syn = false;
+  fin = false;
+  rst = false;
+  ack_set = true;
+  window = scaled_window c.settings;
+}
+
+-- A answers with both keys
+abbrev pub third_ack : Connection → Segment
+third_ack c = record {
+  head = head_at c 1;
+  options = option_text (value_of (ack_option false c.a.key c.b.key));
+  payload = [];
+}
+
+-- The first piece comes with both keys, and stands for place 0. Each later one has a mapping, and the Data ACK of B's
+-- first data number, since B sends no data.
+abbrev pub data_option : Connection → ℕ → ℕ → OptionValue
+data_option c place length =
+    if place == 0 then value_of (first_data_option c.a.key c.b.key length None)
+    else Dss (Some (Whole (number_of (2 ^ 64) (idsn_of c.b.key) 1)))
+    (Some (record { number = Whole (number_of (2 ^ 64) (idsn_of c.a.key) (place + 1)); relative = place + 1; length = length; checksum = None }))
+    false
+
+-- the segment that carries this payload, whose first octet is at this place of the stream
+abbrev pub data_segment : Connection → ℕ → List ℕ → Segment
+data_segment c place payload = record {
+  head = head_at c (place + 1);
+  options = option_text (data_option c place (length payload)) ++ (0 ∷ 0 ∷ []);
   payload = payload;
 }
 
--- the first option of a header, kinds 0 and 1 left out
-abbrev pub first_option : List ℕ → Option (List ℕ)
-first_option options = slice_get (option_octets options) 0
-
-infixl 10 ◌>>=◌
-abbrev pub ◌>>=◌ : {A B : Type 0} → Option A → (A → Option B) → Option B
-None >>= f = None
-(Some x) >>= f = f x
-
--- the place and the payload that a segment brings, where its first option maps all of the payload
-unfoldable pub piece_of : Segment → Option (ℕ × List ℕ)
-piece_of segment = do
-  option ← first_option segment.options
-  dss ← dss_in option
-  place ← (if nat_le 1 dss.number then Some (dss.number - 1) else None)
-  if length segment.payload == dss.length then Some (place, segment.payload) else None
-
-abbrev pub shown_piece : Option Piece → Option (ℕ × List ℕ)
-shown_piece None = None
-shown_piece (Some piece) = Some (piece.place, piece.payload.now)
+-- ---- the log
 
 -- the octets of a segment in the log
 abbrev pub segment_line : List ℕ → List ℕ
 segment_line octets = codes "segment " ++ (encode_lower octets ++ (10 ∷ []))
+
+-- the lines of the segments that open path 0
+abbrev pub opening_lines : Connection → List ℕ
+opening_lines c =
+    segment_line (segment_text from_a (syn c.a c.settings)) ++ (segment_line (segment_text from_b (syn_ack (subflow_number c.a 1) c.b c.settings)) ++ segment_line (segment_text from_a (third_ack c)))
 
 -- a file is cut into pieces of this size, the last one shorter
 abbrev pub piece_at : ℕ → List ℕ → ℕ → List ℕ
@@ -69,17 +133,25 @@ abbrev pub piece_count : ℕ → List ℕ → ℕ
 piece_count size file = div_ceil (length file) size
 
 -- the line of the segment that carries a piece
-abbrev pub piece_line : ℕ → List ℕ → ℕ → List ℕ
-piece_line size file index = segment_line (segment_text addresses (data_segment (index * size) (piece_at size file index)))
+abbrev pub piece_line : Connection → ℕ → List ℕ → ℕ → List ℕ
+piece_line c size file index = segment_line (segment_text from_a (data_segment c (index * size) (piece_at size file index)))
 
 -- the lines of the first segments of a file
-unfoldable pub first_lines : ℕ → List ℕ → ℕ → List ℕ
-first_lines size file count = concat (map (piece_line size file) (range_with_len 0 count))
+unfoldable pub first_lines : Connection → ℕ → List ℕ → ℕ → List ℕ
+first_lines c size file count = concat (map (piece_line c size file) (range_with_len 0 count))
 
 -- the lines of all segments of a file
-abbrev pub all_lines : ℕ → List ℕ → List ℕ
-all_lines size file = first_lines size file (piece_count size file)
+abbrev pub all_lines : Connection → ℕ → List ℕ → List ℕ
+all_lines c size file = first_lines c size file (piece_count size file)
 
--- what a run puts to the log that sends a file in pieces of this size
-abbrev pub log_text : ℕ → List ℕ → List ℕ
-log_text size file = all_lines size file ++ codes "outcome delivered\n"
+-- how many octets of the file each segment carries, but for the last
+abbrev pub payload_of : Settings → ℕ
+payload_of settings = settings.mss - 28
+
+-- what is put to the log once the path is open: the segments of the file, and the outcome
+abbrev pub sending_text : Connection → List ℕ → List ℕ
+sending_text c file = all_lines c (payload_of c.settings) file ++ codes "outcome delivered\n"
+
+-- what a run puts to the log that opens path 0 and sends a file
+abbrev pub log_text : Connection → List ℕ → List ℕ
+log_text c file = opening_lines c ++ sending_text c file

@@ -1,12 +1,11 @@
 -- The exit status of each end of a run, and the line that tells it.
 use Rattle.std.specs.Prelude.{ℕ, List, [], ◌++◌, codes}
 use Rattle.std.specs.Fmt.{decimal}
+use Rattle.link_script.specs.Faults.{kind_word}
 use Rattle.outside_kit.specs.declared.port.Port.{Port}
 use Rattle.outside_kit.specs.declared.port.Port.TheVariants.{ReadByA, ReadByB, Log}
 use Rattle.mptcp_run.specs.declared.status.Named.{Named}
 use Rattle.mptcp_run.specs.declared.status.Named.TheVariants as input
-use Rattle.mptcp_run.specs.declared.status.ScriptKind.{ScriptKind}
-use Rattle.mptcp_run.specs.declared.status.ScriptKind.TheVariants as kind
 use Rattle.mptcp_run.specs.declared.status.Status.{Status}
 use Rattle.mptcp_run.specs.declared.status.Status.TheVariants.{Delivered, Usage, Script, Load, Put, TooLong, Memory}
 
@@ -18,11 +17,6 @@ code_of (Load input) = 6
 code_of (Put port) = 7
 code_of (TooLong input) = 8
 code_of Memory = 9
-
-abbrev pub kind_word : ScriptKind → List ℕ
-kind_word kind.Header = codes "header"
-kind_word kind.Word = codes "word"
-kind_word kind.Missing = codes "missing"
 
 abbrev pub input_word : Named → List ℕ
 input_word input.Script = codes "script"

@@ -1,37 +1,33 @@
 -- What a run is to do, and how far it came.
-use Rattle.std.specs.Prelude.{ℕ, ◌-◌, ◌≤◌, List, length, Option, Some, None, IsSomeAnd, IsOk}
+use Rattle.std.specs.Prelude.{ℕ, ◌≤◌, List, length, Option, Some, None, IsSomeAnd, IsOk}
 use Rattle.std.specs.Result.{result_ok}
-use Rattle.mptcp_run.specs.declared.script.PathLine.{PathLine}
+use Rattle.mptcp_run.specs.declared.connection.Connection.{Connection}
 use Rattle.mptcp_run.specs.declared.status.Status.{Status}
 use Rattle.mptcp_run.specs.declared.status.Status.TheVariants.{Delivered, Usage, Script, Load, Put, TooLong, Memory}
 use Rattle.mptcp_run.specs.declared.status.Named.{Named}
 use Rattle.mptcp_run.specs.Causes.{limit_of}
 use Rattle.mptcp_run.specs.Inputs.{name_of}
 use Rattle.mptcp_run.specs.Words.{Names, names_in}
-use Rattle.mptcp_run.specs.Script.{script_meaning}
+use Rattle.mptcp_run.specs.Script.{connection_in}
 
 infixl 10 ◌>>=◌
 abbrev pub ◌>>=◌ : {A B : Type 0} → Option A → (A → Option B) → Option B
 None >>= f = None
 (Some x) >>= f = f x
 
--- the path of the script, and the file that A sends
+-- the connection that the script tells of, and the file that A sends
 pub record Task : Type 0 where
-  pub path : PathLine
+  pub connection : Connection
   pub file_a : List ℕ
 
 -- the task of a command line, where the words have their form, the contents are told and the script is valid
 abbrev pub task_of : (List ℕ → Option (List ℕ)) → List (List ℕ) → Option Task
 task_of content words = do
   names ← names_in words
-  script ← content names.script
-  path ← result_ok (script_meaning script)
+  told ← content names.script
+  connection ← result_ok (connection_in told)
   file_a ← content names.file_a
-  Some (record { path = path; file_a = file_a })
-
--- how many octets of the file each segment carries, but for the last
-abbrev pub payload_of : PathLine → ℕ
-payload_of path = path.mss - 28
+  Some (record { connection = connection; file_a = file_a })
 
 -- nothing was bound or put yet
 abbrev pub IsRefusal : Status → Type 0
@@ -63,4 +59,4 @@ IsCutOff _ = ⊥
 -- the contents of the three inputs are told and within their limits, and the script is valid
 pub record IsValid (content : List ℕ → Option (List ℕ)) (names : Names) : Type 0 where
   pub within : (input : Named) → IsSomeAnd (content (name_of input names)) (λ told. length told ≤ limit_of input)
-  pub script : IsSomeAnd (content names.script) (λ told. IsOk (script_meaning told))
+  pub script : IsSomeAnd (content names.script) (λ told. IsOk (connection_in told))

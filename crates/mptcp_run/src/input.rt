@@ -3,22 +3,25 @@
 ghost use Rattle.std.specs.Prelude.{◌≡◌, ◌≤◌, ℕ, List, [], Option, IfOk, IfErr, IfSome, OnOk, vec_len};
 ghost use Rattle.outside_kit.specs.declared.port.Port.{Port};
 ghost use Rattle.mptcp_run.specs.declared.status.Named.{Named};
-ghost use Rattle.mptcp_run.specs.Script.{script_meaning};
+ghost use Rattle.mptcp_run.specs.Script.{connection_in};
+ghost use Rattle.mptcp_run.specs.Drawn.{FitsFields};
 ghost use Rattle.mptcp_run.specs.Words.{names_of};
 ghost use Rattle.mptcp_run.specs.Inputs.{IsWithin, IsInputFault};
 
+use crate::connection::Connection;
 use crate::device::load;
-use crate::script::{PathLine, read_script};
+use crate::script::read_connection;
 use crate::status::{Named, Status};
 use crate::words::Command;
+use link_script::ScriptFault;
 use outside_kit::Outside;
 use std::alloc::Global;
 
 /// The inputs of a run, all within their limits.
 #[derive(Debug, Drop)]
 pub struct Input {
-    /// The path of the script.
-    pub path: PathLine,
+    /// The connection that the script tells of.
+    pub connection: Connection,
     /// What A sends: at most 16,777,216 octets.
     pub file_a: Vec<u8>,
 }
@@ -29,9 +32,9 @@ pub fn load_input<O: Outside>(
     outside: &mut O,
     command: &Command<'_>,
 ) -> Result<Input, Status>
-    ensures script { IfOk result (λ input. IfSome (O.content outside.old command.now.script.now) (λ told. script_meaning told ≡ Ok input.path)) }
+    ensures script { IfOk result (λ input. IfSome (O.content outside.old command.now.script.now) (λ told. connection_in told ≡ Ok input.connection)) }
     ensures file_a { IfOk result (λ input. IfSome (O.content outside.old command.now.file_a.now) (λ told. input.file_a.items ≡ told)) }
-    ensures mss { IfOk result (λ input. (200 ≤ input.path.mss) × (input.path.mss ≤ 1460)) }
+    ensures fits { IfOk result (λ input. FitsFields input.connection) }
     ensures within { IfOk result (λ input. vec_len input.file_a ≤ 16777216) }
     ensures all_within { OnOk result ((named : Named) → IsWithin (O.content outside.old) (names_of command.now) named) }
     ensures fault { IfErr result (IsInputFault (O.content outside.old) (names_of command.now) (O.load_faults outside.old) (O.load_faults outside.new)) }
@@ -42,11 +45,9 @@ pub fn load_input<O: Outside>(
     let script = load(alloc, outside, Named::Script, command.script)?;
     let file_a = load(alloc, outside, Named::FileA, command.file_a)?;
     let _ = load(alloc, outside, Named::FileB, command.file_b)?;
-    match read_script(&script) {
-        Ok(path) => Ok(Input { path, file_a }),
-        Err(refusal) => Err(Status::Script {
-            line: refusal.line,
-            kind: refusal.kind,
-        }),
+    match read_connection(alloc, &script) {
+        Ok(connection) => Ok(Input { connection, file_a }),
+        Err(ScriptFault::Line { line, kind }) => Err(Status::Script { line, kind }),
+        Err(ScriptFault::Memory) => Err(Status::Memory),
     }
 }

@@ -1,17 +1,24 @@
 //! The top call: from the words of a command line to the two files that were sent and the log of the run.
 #![tactic(auto)]
 
+mod connection;
+mod data;
 mod device;
-mod dss;
+mod handshake;
+mod hearing;
 mod input;
-mod piece;
+mod log;
+mod opening;
+mod saying;
 mod script;
 mod status;
-#[cfg(test)]
-mod tests;
 mod top_call;
 mod transfer;
 mod words;
 
-pub use status::{Mode4, Named, ScriptKind, Status, fault_text};
+pub use link_script::ScriptKind;
+pub use status::{Mode4, Named, Status, fault_text};
 pub use top_call::run;
+
+#[cfg(test)]
+mod tests;

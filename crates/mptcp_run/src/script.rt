@@ -1,80 +1,89 @@
-ghost use Rattle.std.specs.Prelude.{◌≡◌, ◌==◌, ◌-◌, ◌^◌, ◌≤◌, min, true, position, IfOk, IfSome};
-ghost use Rattle.std.specs.List.{list_all};
-ghost use Rattle.std.specs.Str.Parse.{digits_value};
-ghost use Rattle.mptcp_run.specs.PathLine.{parted_at, path_in, number_within, are_digits, is_digit};
-ghost use Rattle.mptcp_run.specs.Script.{next_line, script_meaning, parts_of, line_of};
+//! The script of a run: what `link_script` reads, as far as it is run.
 
-use crate::status::ScriptKind;
+ghost use Rattle.std.specs.Prelude.{◌≡◌, ◌==◌, ◌≤◌, ◌^◌, length, position, IfOk, IfSome};
+ghost use Rattle.std.specs.List.{list_all, slice_split};
+ghost use Rattle.link_script.specs.Words.{is_passed_over};
+ghost use Rattle.link_script.specs.Reading.{Gives};
+ghost use Rattle.link_script.specs.Scripts.{HasRanges};
+ghost use Rattle.mptcp_run.specs.Script.{parted_at, parts_of, is_run_word, is_zero, is_held_back, script_meaning, settings_of, connection_in};
+ghost use Rattle.mptcp_run.specs.Drawn.{FitsFields};
 
-/// The path that a script describes.
-#[derive(Clone, Copy, Debug, PartialEq, Eq)]
-pub struct PathLine {
-    /// The greatest segment size: 200 to 1,460 octets.
-    pub mss: u16,
-    /// How long a segment is on its way: 1 to 200 ticks.
-    pub delay: u16,
+use crate::connection::{Connection, Settings};
+use link_script::{Script, ScriptFault, ScriptKind, parse};
+use std::alloc::Global;
+
+/// The connection that a script tells of, its ends drawn from the seed, or the first line that is refused.
+#[tactic(auto, unfolding(crate::specs::Script::connection_in))]
+pub fn read_connection(alloc: Global, text: &[u8]) -> Result<Connection, ScriptFault>
+    requires { length text.now ≤ 65536 }
+    ensures meaning { Gives (λ connection. connection) result (connection_in text.now) }
+    ensures fits { IfOk result FitsFields }
+{
+    let script = read_script(alloc, text)?;
+    Ok(Connection::drawn(script.seed, settings_of(&script)))
 }
 
-impl PathLine {
-    ghost use Rattle.mptcp_run.specs.Task.{payload_of};
-
-    /// How many octets of a file a segment carries.
-    pub fn payload(&self) -> usize
-        requires { 28 ≤ self.now.mss }
-        ensures { result ≡ payload_of self.now }
-    {
-        usize::from(self.mss) - 28
-    }
-}
-
-/// The first line that isn't the one of its place.
-#[derive(Clone, Copy, Debug, PartialEq, Eq)]
-pub struct Refusal {
-    /// Its number, counted from 1.
-    pub line: u64,
-    pub kind: ScriptKind,
-}
-
-impl Refusal {
-    fn new(line: u64, kind: ScriptKind) -> Self
-        ensures { result ≡ record { line = line; kind = kind } }
-    {
-        Refusal { line, kind }
-    }
-}
-
-/// Reads a script of exactly three lines: the header, path 0, and the end.
+/// Reads a script, or says which line is refused first: a line that isn't run yet is a wrong word, where all lines
+/// are read.
 #[tactic(auto, unfolding(crate::specs::Script::script_meaning))]
-pub fn read_script(text: &[u8]) -> Result<PathLine, Refusal>
-    ensures meaning { result ≡ script_meaning text.now }
-    ensures mss { IfOk result (λ path. (200 ≤ path.mss) × (path.mss ≤ 1460)) }
+fn read_script(alloc: Global, text: &[u8]) -> Result<Script, ScriptFault>
+    requires { length text.now ≤ 65536 }
+    ensures meaning { Gives (λ script. script) result (script_meaning text.now) }
+    ensures ranges { IfOk result HasRanges }
 {
-    let (header, rest) = line_at(text, 1)?;
-    if header != b"mptcp-script 1".as_slice() {
-        return Err(Refusal::new(1, ScriptKind::Header));
+    let script = parse(alloc, text)?;
+    match held_back_place(text) {
+        None => Ok(script),
+        Some(place) => Err(ScriptFault::Line {
+            line: place as u64 + 1,
+            kind: ScriptKind::Word,
+        }),
     }
-    let (path, rest) = line_at(rest, 2)?;
-    let Some(path) = path_of(path) else {
-        return Err(Refusal::new(2, ScriptKind::Word));
-    };
-    let (end, rest) = line_at(rest, 3)?;
-    if end != b"end".as_slice() {
-        return Err(Refusal::new(3, ScriptKind::Word));
-    }
-    if !rest.is_empty() {
-        return Err(Refusal::new(4, ScriptKind::Word));
-    }
-    Ok(path)
 }
 
-/// The next line of a text, and what follows it; the line has this number.
-fn line_at(text: &[u8], line: u64) -> Result<(&[u8], &[u8]), Refusal>
-    ensures { line_of result ≡ next_line line text.now }
+/// The place of the first line that isn't run yet, counted from 0.
+fn held_back_place(text: &[u8]) -> Option<usize>
+    ensures place { result ≡ position is_held_back (slice_split (λ octet. octet == 10) text.now) }
+    ensures within { IfSome result (λ place. place ≤ length text.now) }
 {
-    if text.is_empty() {
-        return Err(Refusal::new(line, ScriptKind::Missing));
+    text.split(|octet| *octet == b'\n')
+        .position(|line| is_held_back(line))
+}
+
+/// Whether a line of a script isn't run yet: it is no empty line, no comment, not the first line, and not of `seed`,
+/// `buffer`, path 0 or `end`.
+fn is_held_back(line: &[u8]) -> bool
+    ensures { result ≡ is_held_back line.now }
+{
+    let (word, rest) = split_at_first(line, b' ');
+    let (number, _) = split_at_first(rest, b' ');
+    !(is_passed_over(line) || is_run_word(word) || word == b"path".as_slice() && is_zero(number))
+}
+
+fn is_passed_over(line: &[u8]) -> bool
+    ensures { result ≡ is_passed_over line.now }
+{
+    match line {
+        [] => true,
+        [first, ..] => *first == b'#',
     }
-    Ok(split_at_first(text, b'\n'))
+}
+
+/// Whether every line that begins with this word is run.
+fn is_run_word(word: &[u8]) -> bool
+    ensures { result ≡ is_run_word word.now }
+{
+    word == b"mptcp-script".as_slice()
+        || word == b"seed".as_slice()
+        || word == b"buffer".as_slice()
+        || word == b"end".as_slice()
+}
+
+/// Whether the digits write 0.
+fn is_zero(digits: &[u8]) -> bool
+    ensures { result ≡ is_zero digits.now }
+{
+    digits.iter().all(|digit| *digit == b'0')
 }
 
 /// What stands before the first such octet, and what stands after it.
@@ -94,59 +103,18 @@ fn first_place(text: &[u8], separator: u8) -> Option<usize>
     text.iter().position(|octet| *octet == separator)
 }
 
-/// The line `path 0 mss N delay N`.
-#[tactic(auto, unfolding(crate::specs::PathLine::path_in))]
-fn path_of(line: &[u8]) -> Option<PathLine>
-    ensures meaning { result ≡ path_in line.now }
-    ensures mss { IfSome result (λ path. (200 ≤ path.mss) × (path.mss ≤ 1460)) }
+/// What the script tells of both ends.
+fn settings_of(script: &Script) -> Settings
+    requires { HasRanges script.now }
+    ensures settings { result ≡ settings_of script.now }
+    ensures mss { (200 ≤ result.mss) × (result.mss ≤ 1460) }
+    ensures buffer { result.buffer ≤ 2 ^ 20 }
 {
-    let rest = line.strip_prefix(b"path 0 mss ")?;
-    let (mss, rest) = split_at_first(rest, b' ');
-    let delay = rest.strip_prefix(b"delay ")?;
-    Some(PathLine {
-        mss: number_of(mss, 200, 1_460)?,
-        delay: number_of(delay, 1, 200)?,
-    })
-}
-
-/// A number of 1 to 20 digits within these bounds.
-fn number_of(digits: &[u8], least: u16, greatest: u16) -> Option<u16>
-    ensures meaning { result ≡ number_within least greatest digits.now }
-    ensures within { IfSome result (λ number. (least ≤ number) × (number ≤ greatest)) }
-{
-    if !are_digits(digits) {
-        return None;
+    match script.paths.as_slice() {
+        [path, ..] => Settings {
+            mss: path.mss,
+            buffer: script.buffer as u32,
+        },
+        [] => unreachable!(),
     }
-    let number = value_of(digits);
-    if number < u64::from(least) || number > u64::from(greatest) {
-        return None;
-    }
-    Some(number as u16)
-}
-
-/// Whether these are 1 to 20 decimal digits.
-fn are_digits(text: &[u8]) -> bool
-    ensures { result ≡ are_digits text.now }
-{
-    !text.is_empty() && text.len() <= 20 && has_only_digits(text)
-}
-
-fn has_only_digits(text: &[u8]) -> bool
-    ensures { result ≡ list_all is_digit text.now }
-{
-    text.iter().all(|octet| b'0' <= *octet && *octet <= b'9')
-}
-
-/// The number that decimal digits write, or the greatest one of 64 bits where it is greater.
-fn value_of(digits: &[u8]) -> u64
-    requires { are_digits digits.now ≡ true }
-    ensures { result ≡ min (digits_value 10 digits.now) (2 ^ 64 - 1) }
-{
-    let mut value = 0u64;
-    for digit in digits {
-        value = value
-            .saturating_mul(10)
-            .saturating_add(u64::from(digit - b'0'));
-    }
-    value
 }

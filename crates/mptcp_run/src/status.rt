@@ -1,6 +1,7 @@
 ghost use Rattle.std.specs.Prelude.{◌≡◌, IfOk, string_bytes};
-ghost use Rattle.mptcp_run.specs.Status.{code_of, fault_line, kind_word, input_word, port_word};
+ghost use Rattle.mptcp_run.specs.Status.{code_of, fault_line, input_word, port_word};
 
+use link_script::ScriptKind;
 use outside_kit::Port;
 use std::alloc::{AllocError, Global};
 
@@ -17,17 +18,6 @@ pub enum Named {
     Script,
     FileA,
     FileB,
-}
-
-/// Why a line of a script is refused.
-#[derive(Clone, Copy, Debug, PartialEq, Eq)]
-pub enum ScriptKind {
-    /// The first line isn't `mptcp-script 1`.
-    Header,
-    /// A line isn't the one of its place.
-    Word,
-    /// There are too few lines.
-    Missing,
 }
 
 /// How a run has ended.
@@ -62,19 +52,6 @@ impl Status {
             Status::Put { .. } => 7,
             Status::TooLong { .. } => 8,
             Status::Memory => 9,
-        }
-    }
-}
-
-impl ScriptKind {
-    /// The word of the kind in a fault's line.
-    fn word(self) -> &'static str
-        ensures { result.now ≡ kind_word self }
-    {
-        match self {
-            ScriptKind::Header => "header",
-            ScriptKind::Word => "word",
-            ScriptKind::Missing => "missing",
         }
     }
 }

@@ -6,10 +6,18 @@ use std::test::Fail;
 
 const SCRIPT: &[u8] = b"mptcp-script 1\npath 0 mss 1400 delay 10\nend\n";
 
-// The header, the option and the payload of the one segment that carries `hello`.
-const HELLO_LINE: &str =
-    "segment 9c4013890000000100000001c0100800f1e100001e1a200f000000000000000100000000000000010000000100050000\
-68656c6c6f\n";
+// The SYN, the SYN/ACK and the third ACK of seed 1: keys 7c0ad3c59311ece1 and 484fc878855a777d, first numbers 02101fe6
+// and 6a443a32.
+const OPENING_LINES: &str = "\
+segment 9c40138902101fe6000000008002ffff6b8f000002040578030305011e040101\n\
+segment 13899c406a443a3202101fe7a012ffff9957000002040578030305011e0c0101484fc878855a777d\n\
+segment 9c40138902101fe76a443a33a0100800d10c00001e1401017c0ad3c59311ece1484fc878855a777d\n\
+";
+
+// The one segment that carries `hello`, with both keys.
+const HELLO_LINE: &str = "\
+segment 9c40138902101fe76a443a33b01008007d2a00001e1601017c0ad3c59311ece1484fc878855a777d0005000068656c6c6f\n\
+";
 
 fn file(alloc: Global, name: &str, content: &[u8]) -> Result<NamedFile, AllocError> {
     Ok(NamedFile {
@@ -58,21 +66,23 @@ fn hello_is_delivered(rt: HostRuntime) -> Result<(), Fail> {
     assert_eq!(rt; run_on(rt.alloc(), &mut outside)?, Status::Delivered);
     assert_eq!(rt; outside.port(Port::ReadByB), b"hello".as_slice());
     assert!(rt; outside.port(Port::ReadByA).is_empty());
-    let log = format!(in rt.alloc(); "{HELLO_LINE}outcome delivered\n")?;
+    let log = format!(in rt.alloc(); "{OPENING_LINES}{HELLO_LINE}outcome delivered\n")?;
     assert_eq!(rt; outside.port(Port::Log), log.as_bytes());
     Ok(())
 }
 
 #[test]
-fn an_empty_file_has_no_segment(rt: HostRuntime) -> Result<(), Fail> {
+fn an_empty_file_has_no_data_segment(rt: HostRuntime) -> Result<(), Fail> {
     let mut outside = outside(rt.alloc(), [SCRIPT, b"", b""], None)?;
     assert_eq!(rt; run_on(rt.alloc(), &mut outside)?, Status::Delivered);
     assert!(rt; outside.port(Port::ReadByB).is_empty());
-    assert_eq!(rt; outside.port(Port::Log), b"outcome delivered\n".as_slice());
+    let log = format!(in rt.alloc(); "{OPENING_LINES}outcome delivered\n")?;
+    assert_eq!(rt; outside.port(Port::Log), log.as_bytes());
     Ok(())
 }
 
-// At MSS 1400 a segment carries 1,372 octets: 48 octets of header and options, and the payload, two digits each.
+// At MSS 1400 a segment carries 1,372 octets. Two digits stand for each octet: the SYN has 32, the SYN/ACK and the third
+// ACK 40, the first data segment 44 before its payload, and each later one 48.
 #[test]
 fn a_longer_file_is_cut_into_pieces(rt: HostRuntime) -> Result<(), Fail> {
     let content = [7; 1373];
@@ -85,7 +95,7 @@ fn a_longer_file_is_cut_into_pieces(rt: HostRuntime) -> Result<(), Fail> {
     }
     assert_eq!(rt;
         lengths.as_slice(),
-        [8 + 2 * 1420, 8 + 2 * 49, 17, 0].as_slice()
+        [8 + 64, 8 + 80, 8 + 80, 8 + 2 * 1416, 8 + 2 * 49, 17, 0].as_slice()
     );
     Ok(())
 }
@@ -123,61 +133,138 @@ fn long_inputs_are_refused(rt: HostRuntime) -> Result<(), Fail> {
 }
 
 #[test]
-fn scripts_with_too_few_lines_are_refused(rt: HostRuntime) -> Result<(), Fail> {
+fn scripts_that_are_refused(rt: HostRuntime) -> Result<(), Fail> {
     refuses_script(&rt, b"", 1, ScriptKind::Missing)?;
-    refuses_script(&rt, b"mptcp-script 1", 2, ScriptKind::Missing)?;
-    refuses_script(
-        &rt,
-        b"mptcp-script 1\npath 0 mss 1400 delay 10\n",
-        3,
-        ScriptKind::Missing,
-    )
-}
-
-#[test]
-fn scripts_with_another_line_are_refused(rt: HostRuntime) -> Result<(), Fail> {
     refuses_script(&rt, b"mptcp-script 2\n", 1, ScriptKind::Header)?;
-    refuses_script(&rt, b"mptcp-script 1\n\nend\n", 2, ScriptKind::Word)?;
     refuses_script(
         &rt,
-        b"mptcp-script 1\npath 0 mss 1400 delay 10\nEnd",
+        b"mptcp-script 1\n\npath 0 mss 199 delay 10\nend",
+        3,
+        ScriptKind::Number,
+    )?;
+    refuses_script(
+        &rt,
+        b"mptcp-script 1\n# a comment\npath 0 mss 200 delay 200\n",
+        4,
+        ScriptKind::Missing,
+    )?;
+    refuses_script(
+        &rt,
+        b"mptcp-script 1\nseed 1\nseed 1\n",
+        3,
+        ScriptKind::Repeated,
+    )
+}
+
+// A line that isn't run yet is a wrong word, but only where the grammar refuses no line.
+#[test]
+fn lines_that_are_not_run_yet(rt: HostRuntime) -> Result<(), Fail> {
+    refuses_script(
+        &rt,
+        b"mptcp-script 1\n# on\nchecksum on\npath 0 mss 1400 delay 10\nend\n",
         3,
         ScriptKind::Word,
     )?;
     refuses_script(
         &rt,
-        b"mptcp-script 1\npath 0 mss 200 delay 200\nend\n\n",
-        4,
+        b"mptcp-script 1\nseed 7\npath 00 mss 1400 delay 10\n\npath 1 mss 1400 delay 10\nend",
+        5,
         ScriptKind::Word,
+    )?;
+    refuses_script(
+        &rt,
+        b"mptcp-script 1\npath 0 mss 1400 delay 10\ndrop 0 ab 1\ndie 0 5\nend",
+        3,
+        ScriptKind::Word,
+    )?;
+    refuses_script(
+        &rt,
+        b"mptcp-script 1\nchecksum off\npath 0 mss 1400 delay 10\nend\nend",
+        5,
+        ScriptKind::Order,
+    )
+}
+
+/// The log of a run with an empty FILE_A.
+fn log_of(rt: &(impl Abort + AllocGlobal), script: &[u8]) -> Result<Vec<u8>, Fail> {
+    let mut outside = outside(rt.alloc(), [script, b"", b""], None)?;
+    assert_eq!(rt; run_on(rt.alloc(), &mut outside)?, Status::Delivered);
+    Ok(Vec::from_slice(rt.alloc(), outside.port(Port::Log))?)
+}
+
+/// The log has these lines, and then the outcome.
+fn opens_by(rt: &(impl Abort + AllocGlobal), script: &[u8], lines: &str) -> Result<(), Fail> {
+    let log = format!(in rt.alloc(); "{lines}outcome delivered\n")?;
+    assert_eq!(rt; log_of(rt, script)?.as_slice(), log.as_bytes());
+    Ok(())
+}
+
+#[test]
+fn the_least_seed(rt: HostRuntime) -> Result<(), Fail> {
+    opens_by(
+        &rt,
+        b"mptcp-script 1\nseed 0\npath 0 mss 1400 delay 10\nend\n",
+        "\
+segment 9c401389d6df3fef000000008002ffff76b6000002040578030305011e040101\n\
+segment 13899c40b7b9c5d0d6df3ff0a012ffffe74e000002040578030305011e0c0101e56a5d4028bd8653\n\
+segment 9c401389d6df3ff0b7b9c5d1a0100800069200001e140101ade0b876903df1a0e56a5d4028bd8653\n\
+",
     )
 }
 
 #[test]
-fn paths_out_of_range_are_refused(rt: HostRuntime) -> Result<(), Fail> {
-    refuses_script(
+fn the_greatest_seed(rt: HostRuntime) -> Result<(), Fail> {
+    opens_by(
         &rt,
-        b"mptcp-script 1\npath 0 mss 199 delay 10\nend",
-        2,
-        ScriptKind::Word,
-    )?;
-    refuses_script(
-        &rt,
-        b"mptcp-script 1\npath 0 mss 1461 delay 10\nend",
-        2,
-        ScriptKind::Word,
-    )?;
-    refuses_script(
-        &rt,
-        b"mptcp-script 1\npath 0 mss 200 delay 0\nend",
-        2,
-        ScriptKind::Word,
-    )?;
-    refuses_script(
-        &rt,
-        b"mptcp-script 1\npath 0 mss 200 delay 201\nend",
-        2,
-        ScriptKind::Word,
+        b"mptcp-script 1\nseed 18446744073709551615\npath 0 mss 1400 delay 10\nend\n",
+        "\
+segment 9c401389d12b088a000000008002ffffb3cf000002040578030305011e040101\n\
+segment 13899c406b0b3998d12b088ba012ffff92fa000002040578030305011e0c0101fc8a42243836e52a\n\
+segment 9c401389d12b088b6b0b3999a01008004d2900001e1401016beea23feb4153dafc8a42243836e52a\n\
+",
     )
+}
+
+// The window of a SYN isn't scaled and is at most 65,535; all others are divided by 32.
+#[test]
+fn the_least_buffer(rt: HostRuntime) -> Result<(), Fail> {
+    opens_by(
+        &rt,
+        b"mptcp-script 1\nbuffer 4096\npath 0 mss 1400 delay 10\nend\n",
+        "\
+segment 9c40138902101fe600000000800210005b8f000002040578030305011e040101\n\
+segment 13899c406a443a3202101fe7a01210008957000002040578030305011e0c0101484fc878855a777d\n\
+segment 9c40138902101fe76a443a33a0100080d88c00001e1401017c0ad3c59311ece1484fc878855a777d\n\
+",
+    )
+}
+
+#[test]
+fn the_greatest_buffer(rt: HostRuntime) -> Result<(), Fail> {
+    opens_by(
+        &rt,
+        b"mptcp-script 1\nbuffer 1048576\npath 0 mss 1400 delay 10\nend\n",
+        "\
+segment 9c40138902101fe6000000008002ffff6b8f000002040578030305011e040101\n\
+segment 13899c406a443a3202101fe7a012ffff9957000002040578030305011e0c0101484fc878855a777d\n\
+segment 9c40138902101fe76a443a33a0108000590c00001e1401017c0ad3c59311ece1484fc878855a777d\n\
+",
+    )
+}
+
+// The third ACK of seed 1.
+const THIRD_ACK: &[u8] =
+    b"\x9c\x40\x13\x89\x02\x10\x1f\xe7\x6a\x44\x3a\x33\xa0\x10\x08\x00\xd1\x0c\x00\x00\x1e\x14\x01\x01\x7c\x0a\xd3\xc5\x93\x11\xec\xe1\x48\x4f\xc8\x78\x85\x5a\x77\x7d";
+
+#[test]
+fn keys_are_read_back(rt: HostRuntime) -> Result<(), Fail> {
+    let own = 0x484f_c878_855a_777d;
+    assert_eq!(rt;
+        opening::hear_third_ack(own, THIRD_ACK),
+        Some(0x7c0a_d3c5_9311_ece1)
+    );
+    assert_eq!(rt; opening::hear_third_ack(own + 1, THIRD_ACK), None);
+    Ok(())
 }
 
 /// These words are no command line.
@@ -200,152 +287,104 @@ fn wrong_words_are_refused(rt: HostRuntime) -> Result<(), Fail> {
 }
 
 /// A call of the outside fails while `hello` is sent, and keeps so many octets: the status, what B's reader has, and
-/// what the log holds after the segment's line, where that was put.
+/// the parts that the log holds.
 fn fails_at(
     rt: &(impl Abort + AllocGlobal),
     fail: FailAt,
     status: Status,
     read: &[u8],
-    line: &str,
-    rest: &str,
+    log: [&str; 3],
 ) -> Result<(), Fail> {
     let mut outside = outside(rt.alloc(), [SCRIPT, b"hello", b""], Some(fail))?;
     assert_eq!(rt; run_on(rt.alloc(), &mut outside)?, status);
     assert_eq!(rt; outside.port(Port::ReadByB), read);
     assert!(rt; outside.port(Port::ReadByA).is_empty());
-    let log = format!(in rt.alloc(); "{line}{rest}")?;
+    let [first, second, third] = log;
+    let log = format!(in rt.alloc(); "{first}{second}{third}")?;
     assert_eq!(rt; outside.port(Port::Log), log.as_bytes());
     Ok(())
 }
 
-// Three loads, two binds, and the puts of the payload, of its segment's line and of the outcome.
+// Three loads.
 #[test]
-fn each_call_of_the_outside_may_fail(rt: HostRuntime) -> Result<(), Fail> {
+fn each_load_may_fail(rt: HostRuntime) -> Result<(), Fail> {
     let fail = |call| FailAt { call, kept: 0 };
-    fails_at(
-        &rt,
-        fail(1),
-        Status::Load {
-            input: Named::Script,
-        },
-        b"",
-        "",
-        "",
-    )?;
-    fails_at(
-        &rt,
-        fail(2),
-        Status::Load {
-            input: Named::FileA,
-        },
-        b"",
-        "",
-        "",
-    )?;
-    fails_at(
-        &rt,
-        fail(3),
-        Status::Load {
-            input: Named::FileB,
-        },
-        b"",
-        "",
-        "",
-    )?;
-    fails_at(
-        &rt,
-        fail(4),
-        Status::Put {
-            port: Port::ReadByB,
-        },
-        b"",
-        "",
-        "",
-    )?;
-    fails_at(
-        &rt,
-        fail(5),
-        Status::Put {
-            port: Port::ReadByA,
-        },
-        b"",
-        "",
-        "",
-    )?;
-    fails_at(
-        &rt,
-        fail(6),
-        Status::Put {
-            port: Port::ReadByB,
-        },
-        b"",
-        "",
-        "",
-    )?;
+    let load = |input| Status::Load { input };
+    fails_at(&rt, fail(1), load(Named::Script), b"", ["", "", ""])?;
+    fails_at(&rt, fail(2), load(Named::FileA), b"", ["", "", ""])?;
+    fails_at(&rt, fail(3), load(Named::FileB), b"", ["", "", ""])
+}
+
+// Two binds, and the puts of the lines that open path 0, of the payload, of its segment's line and of the outcome.
+#[test]
+fn each_bind_and_put_may_fail(rt: HostRuntime) -> Result<(), Fail> {
+    let fail = |call| FailAt { call, kept: 0 };
+    let put = |port| Status::Put { port };
+    fails_at(&rt, fail(4), put(Port::ReadByB), b"", ["", "", ""])?;
+    fails_at(&rt, fail(5), put(Port::ReadByA), b"", ["", "", ""])?;
+    fails_at(&rt, fail(6), put(Port::Log), b"", ["", "", ""])?;
     fails_at(
         &rt,
         fail(7),
-        Status::Put { port: Port::Log },
-        b"hello",
-        "",
-        "",
+        put(Port::ReadByB),
+        b"",
+        [OPENING_LINES, "", ""],
     )?;
     fails_at(
         &rt,
         fail(8),
-        Status::Put { port: Port::Log },
+        put(Port::Log),
         b"hello",
-        HELLO_LINE,
-        "",
-    )?;
+        [OPENING_LINES, "", ""],
+    )
+}
+
+#[test]
+fn the_last_put_may_fail(rt: HostRuntime) -> Result<(), Fail> {
+    let fail = |call| FailAt { call, kept: 0 };
+    let log = |outcome| [OPENING_LINES, HELLO_LINE, outcome];
     fails_at(
         &rt,
         fail(9),
+        Status::Put { port: Port::Log },
+        b"hello",
+        log(""),
+    )?;
+    fails_at(
+        &rt,
+        fail(10),
         Status::Delivered,
         b"hello",
-        HELLO_LINE,
-        "outcome delivered\n",
+        log("outcome delivered\n"),
     )
 }
 
 #[test]
 fn a_put_that_fails_may_keep_a_front(rt: HostRuntime) -> Result<(), Fail> {
     let fail = |call| FailAt { call, kept: 3 };
-    fails_at(
-        &rt,
-        fail(5),
-        Status::Put {
-            port: Port::ReadByA,
-        },
-        b"",
-        "",
-        "",
-    )?;
-    fails_at(
-        &rt,
-        fail(6),
-        Status::Put {
-            port: Port::ReadByB,
-        },
-        b"hel",
-        "",
-        "",
-    )?;
+    let put = |port| Status::Put { port };
+    fails_at(&rt, fail(5), put(Port::ReadByA), b"", ["", "", ""])?;
+    fails_at(&rt, fail(6), put(Port::Log), b"", ["seg", "", ""])?;
     fails_at(
         &rt,
         fail(7),
-        Status::Put { port: Port::Log },
-        b"hello",
-        "",
-        "seg",
+        put(Port::ReadByB),
+        b"hel",
+        [OPENING_LINES, "", ""],
     )?;
     fails_at(
         &rt,
         fail(8),
-        Status::Put { port: Port::Log },
+        put(Port::Log),
         b"hello",
-        HELLO_LINE,
-        "out",
+        [OPENING_LINES, "seg", ""],
+    )?;
+    fails_at(
+        &rt,
+        fail(9),
+        put(Port::Log),
+        b"hello",
+        [OPENING_LINES, HELLO_LINE, "out"],
     )
 }
 
@@ -377,6 +416,12 @@ fn each_status_has_its_code_and_line(rt: HostRuntime) -> Result<(), Fail> {
         script(ScriptKind::Missing),
         5,
         "mptcp_sim: script line 12: missing",
+    )?;
+    says(
+        &rt,
+        script(ScriptKind::TooMany),
+        5,
+        "mptcp_sim: script line 12: too-many",
     )?;
     says(
         &rt,

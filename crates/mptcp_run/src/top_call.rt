@@ -1,19 +1,22 @@
 //! The top call.
 
-ghost use Rattle.std.specs.Prelude.{◌≡◌, ◌-◌, ◌≤◌, ◌<◌, ◌++◌, ◌↔◌, ◌⊎◌, ◌^◌, ℕ, List, [], length, map, Option, Some, None, IsNone, IsSomeAnd, IsOk, IfOk, IfErr, IfSome, OnOk, OnErr, vec_len, string_bytes};
+ghost use Rattle.std.specs.Prelude.{◌≡◌, ◌≤◌, ◌<◌, ◌++◌, ◌↔◌, ◌⊎◌, ◌^◌, ℕ, List, [], length, map, Option, Some, None, Err, IsNone, IsSomeAnd, IsOk, IfOk, IfErr, IfSome, OnOk, OnErr, vec_len, string_bytes};
 ghost use Rattle.outside_kit.specs.declared.port.Port.{Port};
 ghost use Rattle.outside_kit.specs.Outside.{HasRisen, HoldsAfter};
 ghost use Rattle.mptcp_run.specs.declared.status.Named.{Named};
-ghost use Rattle.mptcp_run.specs.declared.status.ScriptKind.{ScriptKind};
+ghost use Rattle.link_script.specs.declared.fault.ScriptKind.{ScriptKind};
+ghost use Rattle.link_script.specs.declared.fault.ScriptFault.TheVariants.{Line};
+ghost use Rattle.mptcp_run.specs.Drawn.{FitsFields};
 ghost use Rattle.mptcp_run.specs.Words.{names_in};
 ghost use Rattle.mptcp_run.specs.Causes.{limit_of};
 ghost use Rattle.mptcp_run.specs.Inputs.{name_of, IsWithin, AreWithinBefore};
-ghost use Rattle.mptcp_run.specs.Script.{script_meaning, refused};
+ghost use Rattle.mptcp_run.specs.Script.{connection_in};
 ghost use Rattle.mptcp_run.specs.Segments.{log_text};
 ghost use Rattle.mptcp_run.specs.Ports.{NeverFall, IsPortsFault, HoldsPrefix, HoldsBound};
-ghost use Rattle.mptcp_run.specs.Task.{task_of, payload_of, IsRefusal, HasLoaded, HasBegun, IsCutOff, IsValid};
+ghost use Rattle.mptcp_run.specs.Task.{task_of, IsRefusal, HasLoaded, HasBegun, IsCutOff, IsValid};
 
 use crate::device::bind;
+use crate::handshake::open_path;
 use crate::input::{Input, load_input};
 use crate::status::Status;
 use crate::transfer::transfer;
@@ -36,36 +39,37 @@ fn bind_readers<O: Outside>(outside: &mut O, command: &Command<'_>) -> Result<()
     bind(outside, Port::ReadByA, command.read_by_a)
 }
 
-/// Binds the readers' ports and sends the file.
+/// Binds the readers' ports, opens path 0 and sends the file.
 fn send<O: Outside>(
     alloc: Global,
     outside: &mut O,
     command: &Command<'_>,
     input: Input,
 ) -> Result<(), Status>
-    requires least { 200 ≤ input.path.mss }
-    requires greatest { input.path.mss ≤ 1460 }
+    requires fits { FitsFields input.connection }
     requires limit { vec_len input.file_a ≤ 16777216 }
 
     ensures read_by_b { OnOk result (HoldsAfter (O.holds outside.old Port.ReadByB) (O.holds outside.new Port.ReadByB) (λ _. input.file_a.items)) }
     ensures read_by_a { OnOk result (HoldsAfter (O.holds outside.old Port.ReadByA) (O.holds outside.new Port.ReadByA) (λ _. [])) }
-    ensures log { OnOk result (HoldsAfter (O.holds outside.old Port.Log) (O.holds outside.new Port.Log) (λ held. held ++ log_text (payload_of input.path) input.file_a.items)) }
+    ensures log { OnOk result (HoldsAfter (O.holds outside.old Port.Log) (O.holds outside.new Port.Log) (λ held. held ++ log_text input.connection input.file_a.items)) }
 
     ensures read_by_b_front { OnErr result (HoldsBound (O.holds outside.old Port.ReadByB) (O.holds outside.new Port.ReadByB) input.file_a.items) }
     ensures read_by_a_front { OnErr result (HoldsBound (O.holds outside.old Port.ReadByA) (O.holds outside.new Port.ReadByA) []) }
-    ensures log_front { OnErr result (HoldsPrefix (O.holds outside.old Port.Log) (O.holds outside.new Port.Log) (log_text (payload_of input.path) input.file_a.items)) }
+    ensures log_front { OnErr result (HoldsPrefix (O.holds outside.old Port.Log) (O.holds outside.new Port.Log) (log_text input.connection input.file_a.items)) }
 
     ensures fault { IfErr result (IsPortsFault (O.port_faults outside.old) (O.port_faults outside.new)) }
     ensures counted { NeverFall (O.port_faults outside.old) (O.port_faults outside.new) }
     ensures load_counts { O.load_faults outside.new ≡ O.load_faults outside.old }
 {
     bind_readers(outside, command)?;
-    transfer(alloc, outside, input.path.payload(), input.file_a)
+    let opened = open_path(alloc, outside, &input.connection)?;
+    transfer(alloc, outside, &opened, input.file_a)
 }
 
 /// Sends FILE_A from A to B as the words say: `--mode serial SCRIPT FILE_A FILE_B READ_BY_B READ_BY_A`.
 ///
-/// What B's reader reads is put to `ReadByB`, the octets of each segment and the outcome to `Log`. `outside` is
+/// Path 0 opens before the readers read. What B's reader reads is put to `ReadByB`, the octets of each segment and the
+/// outcome to `Log`. `outside` is
 /// told what it holds before and after, as far as it tells it; no thread is started, and `gate` isn't passed.
 pub fn run<O: Outside, G: Gate + Sync>(
     alloc: Global,
@@ -79,7 +83,7 @@ pub fn run<O: Outside, G: Gate + Sync>(
     ensures too_long { (input : Named) → result ≡ Status.TooLong input → IfSome (names_in (map string_bytes words.now)) (λ names.
         IfSome (O.content outside.old (name_of input names)) (λ told. limit_of input < length told)) }
     ensures script { (line : ℕ) (kind : ScriptKind) → result ≡ Status.Script line kind → IfSome (names_in (map string_bytes words.now)) (λ names.
-        IfSome (O.content outside.old names.script) (λ told. script_meaning told ≡ refused line kind)) }
+        IfSome (O.content outside.old names.script) (λ told. connection_in told ≡ Err (Line line kind))) }
     ensures put { (port : Port) → result ≡ Status.Put port → HasRisen (O.port_faults outside.old port) (O.port_faults outside.new port) }
 
     // An answer comes only where no earlier one does: what is loaded before is within its limits, and the script valid.
@@ -88,7 +92,7 @@ pub fn run<O: Outside, G: Gate + Sync>(
     ensures all_loaded { HasLoaded result → IfSome (names_in (map string_bytes words.now)) (λ names.
         (input : Named) → IsWithin (O.content outside.old) names input) }
     ensures valid { HasBegun result → IfSome (names_in (map string_bytes words.now)) (λ names.
-        IfSome (O.content outside.old names.script) (λ told. IsOk (script_meaning told))) }
+        IfSome (O.content outside.old names.script) (λ told. IsOk (connection_in told))) }
     ensures complete { IsSomeAnd (names_in (map string_bytes words.now)) (IsValid (O.content outside.old))
         → ¬ HasRisen (O.load_faults outside.old) (O.load_faults outside.new)
         → ((port : Port) → ¬ HasRisen (O.port_faults outside.old port) (O.port_faults outside.new port))
@@ -101,7 +105,7 @@ pub fn run<O: Outside, G: Gate + Sync>(
     ensures delivered_to_a { result ≡ Status.Delivered →
         HoldsAfter (O.holds outside.old Port.ReadByA) (O.holds outside.new Port.ReadByA) (λ _. []) }
     ensures delivered_log { result ≡ Status.Delivered → IfSome (task_of (O.content outside.old) (map string_bytes words.now)) (λ task.
-        HoldsAfter (O.holds outside.old Port.Log) (O.holds outside.new Port.Log) (λ held. held ++ log_text (payload_of task.path) task.file_a)) }
+        HoldsAfter (O.holds outside.old Port.Log) (O.holds outside.new Port.Log) (λ held. held ++ log_text task.connection task.file_a)) }
 
     // Refused: nothing was bound or put, and for wrong words nothing was loaded.
     ensures untouched { IsRefusal result → (port : Port) → (O.holds outside.new port ≡ O.holds outside.old port)
@@ -113,7 +117,7 @@ pub fn run<O: Outside, G: Gate + Sync>(
         HoldsBound (O.holds outside.old Port.ReadByB) (O.holds outside.new Port.ReadByB) task.file_a) }
     ensures cut_off_a { IsCutOff result → HoldsBound (O.holds outside.old Port.ReadByA) (O.holds outside.new Port.ReadByA) [] }
     ensures cut_off_log { IsCutOff result → IfSome (task_of (O.content outside.old) (map string_bytes words.now)) (λ task.
-        HoldsPrefix (O.holds outside.old Port.Log) (O.holds outside.new Port.Log) (log_text (payload_of task.path) task.file_a)) }
+        HoldsPrefix (O.holds outside.old Port.Log) (O.holds outside.new Port.Log) (log_text task.connection task.file_a)) }
 {
     let Some(command) = command_of(words) else {
         return Status::Usage;

@@ -4,13 +4,16 @@
 ghost use Rattle.std.specs.Prelude.{◌≡◌, ◌+◌, ◌^◌, ◌<◌, ◌≤◌, ◌++◌, List, [], true, false, length, take, drop, IfOk, IfErr, OnOk, OnErr, None, vec_len, string_bytes};
 ghost use Rattle.outside_kit.specs.Outside.{HoldsAfter, HoldsFront};
 ghost use Rattle.pipe_model.specs.Pipe.{opening, refusal, after, TakesMemory};
-ghost use Rattle.segment_wire.specs.Segment.{segment_text};
+ghost use Rattle.segment_wire.specs.Segment.{CanWrite};
 ghost use Rattle.mptcp_run.specs.Ports.{NeverFall, IsPortsFault, HoldsPrefix};
-ghost use Rattle.mptcp_run.specs.Segments.{addresses, data_segment, segment_line, all_lines, log_text};
-ghost use Rattle.mptcp_run.specs.Sending.{IsSending, next_piece, next_octets, after_piece, IsClosed};
+ghost use Rattle.mptcp_run.specs.Segments.{data_segment, segment_line, all_lines, sending_text};
+ghost use Rattle.mptcp_run.specs.Sending.{IsSending, next_piece, next_octets, after_piece, IsClosed, IsOpened};
 
+use crate::connection::{Connection, Opened};
+use crate::data::hear_data;
 use crate::device::put;
-use crate::piece::{read_piece, write_piece};
+use crate::log::segment_line;
+use crate::saying::write_data;
 use crate::status::Status;
 use outside_kit::{Outside, Port};
 use pipe_model::{Pipe, PipeFault, PipeStep, Text, pipe_step};
@@ -46,66 +49,63 @@ fn closed_pipe(alloc: Global, file: Vec<u8>) -> Result<Pipe, Status>
     Ok(pipe)
 }
 
-/// The octets of the segment that carries the next piece.
-fn piece_octets(alloc: Global, pipe: &Pipe, size: usize) -> Result<Vec<u8>, Status>
+/// The next piece of the stream: so many octets, or all that are left.
+fn next_piece(pipe: &Pipe, size: usize) -> &[u8]
     requires { IsSending pipe.now size }
-    ensures ok { IfOk result (λ octets. octets.items ≡ next_octets pipe.now size) }
-    ensures memory { IfErr result (λ status. status ≡ Status.Memory) }
+    ensures { result.now ≡ next_piece pipe.now size }
 {
     let unread = &pipe.written.as_bytes()[pipe.read as usize..];
-    let piece = if size < unread.len() {
+    if size < unread.len() {
         &unread[..size]
     } else {
         unread
-    };
-    match write_piece(alloc, pipe.read, piece) {
+    }
+}
+
+/// The octets of the segment that carries the next piece.
+fn piece_octets(
+    alloc: Global,
+    pipe: &Pipe,
+    connection: &Connection,
+    size: usize,
+) -> Result<Vec<u8>, Status>
+    requires sending { IsSending pipe.now size }
+    requires buffer { connection.now.settings.buffer ≤ 2 ^ 20 }
+    ensures ok { IfOk result (λ octets. octets.items ≡ next_octets connection.now pipe.now size) }
+    ensures readable { OnOk result (CanWrite (data_segment connection.now pipe.now.read (next_piece pipe.now size))) }
+    ensures memory { IfErr result (λ status. status ≡ Status.Memory) }
+{
+    match write_data(alloc, connection, pipe.read, next_piece(pipe, size)) {
         Ok(octets) => Ok(octets),
         Err(AllocError) => Err(Status::Memory),
     }
 }
 
 /// Takes the piece from the octets of its segment: B acknowledges it, and its reader reads it.
-fn receive<'a>(pipe: &mut Pipe, octets: &'a [u8], size: usize) -> Result<&'a [u8], Status>
+fn receive<'a>(
+    pipe: &mut Pipe,
+    opened: &Opened,
+    octets: &'a [u8],
+    size: usize,
+) -> Result<&'a [u8], Status>
     requires sending { IsSending pipe.old size }
-    requires octets { octets.now ≡ next_octets pipe.old size }
+    requires opened { IsOpened opened.now }
+    requires octets { octets.now ≡ next_octets opened.now.sender pipe.old size }
+    requires readable { CanWrite (data_segment opened.now.sender pipe.old.read (next_piece pipe.old size)) }
     ensures ok { IfOk result (λ payload. payload.now ≡ next_piece pipe.old size) }
     ensures after { OnOk result (pipe.new ≡ after_piece pipe.old (next_piece pipe.old size)) }
     ensures memory { IfErr result (λ status. status ≡ Status.Memory) }
 {
-    match read_piece(octets) {
-        Some(piece) if piece.place == pipe.read => {
-            let to = piece.place + piece.payload.len() as u64;
+    match hear_data(opened.key, pipe.read, octets) {
+        Some(payload) => {
+            let to = pipe.read + payload.len() as u64;
             step(pipe, &PipeStep::Ack { to, received: to })?;
-            step(
-                pipe,
-                &PipeStep::Read {
-                    count: piece.payload.len() as u64,
-                },
-            )?;
-            Ok(piece.payload)
+            let count = payload.len() as u64;
+            step(pipe, &PipeStep::Read { count })?;
+            Ok(payload)
         }
-        _ => unreachable!(),
+        None => unreachable!(),
     }
-}
-
-/// The line of a segment in the log.
-fn segment_line(alloc: Global, octets: &[u8]) -> Result<String, Status>
-    ensures ok { IfOk result (λ line. string_bytes line ≡ segment_line octets.now) }
-    ensures memory { IfErr result (λ status. status ≡ Status.Memory) }
-{
-    match spell_line(alloc, octets) {
-        Ok(line) => Ok(line),
-        Err(AllocError) => Err(Status::Memory),
-    }
-}
-
-fn spell_line(alloc: Global, octets: &[u8]) -> Result<String, AllocError>
-    ensures { IfOk result (λ line. string_bytes line ≡ segment_line octets.now) }
-{
-    let mut line = String::from_str(alloc, "segment ")?;
-    line.push_str(hex::encode(alloc, octets)?.as_str())?;
-    line.push('\n')?;
-    Ok(line)
 }
 
 /// Sends the next piece, and puts it to B's reader and its segment to the log.
@@ -113,24 +113,26 @@ fn send_piece<O: Outside>(
     alloc: Global,
     outside: &mut O,
     pipe: &mut Pipe,
+    opened: &Opened,
     size: usize,
 ) -> Result<(), Status>
-    requires { IsSending pipe.old size }
+    requires sending { IsSending pipe.old size }
+    requires opened { IsOpened opened.now }
     ensures after { OnOk result (pipe.new ≡ after_piece pipe.old (next_piece pipe.old size)) }
 
     ensures read_by_b { OnOk result (HoldsAfter (O.holds outside.old Port.ReadByB) (O.holds outside.new Port.ReadByB) (λ held. held ++ next_piece pipe.old size)) }
-    ensures log { OnOk result (HoldsAfter (O.holds outside.old Port.Log) (O.holds outside.new Port.Log) (λ held. held ++ segment_line (next_octets pipe.old size))) }
+    ensures log { OnOk result (HoldsAfter (O.holds outside.old Port.Log) (O.holds outside.new Port.Log) (λ held. held ++ segment_line (next_octets opened.now.sender pipe.old size))) }
     ensures read_front { OnErr result (HoldsPrefix (O.holds outside.old Port.ReadByB) (O.holds outside.new Port.ReadByB) (next_piece pipe.old size)) }
-    ensures log_front { OnErr result (HoldsPrefix (O.holds outside.old Port.Log) (O.holds outside.new Port.Log) (segment_line (next_octets pipe.old size))) }
+    ensures log_front { OnErr result (HoldsPrefix (O.holds outside.old Port.Log) (O.holds outside.new Port.Log) (segment_line (next_octets opened.now.sender pipe.old size))) }
 
     ensures fault { IfErr result (IsPortsFault (O.port_faults outside.old) (O.port_faults outside.new)) }
     ensures counted { NeverFall (O.port_faults outside.old) (O.port_faults outside.new) }
     ensures read_by_a { O.holds outside.new Port.ReadByA ≡ O.holds outside.old Port.ReadByA }
     ensures load_counts { O.load_faults outside.new ≡ O.load_faults outside.old }
 {
-    let octets = piece_octets(alloc, pipe, size)?;
+    let octets = piece_octets(alloc, pipe, &opened.sender, size)?;
     let line = segment_line(alloc, &octets)?;
-    let payload = receive(pipe, &octets, size)?;
+    let payload = receive(pipe, opened, &octets, size)?;
     put(outside, Port::ReadByB, payload)?;
     put(outside, Port::Log, line.as_bytes())
 }
@@ -140,15 +142,17 @@ fn send_pieces<O: Outside>(
     alloc: Global,
     outside: &mut O,
     pipe: &mut Pipe,
+    opened: &Opened,
     size: usize,
 ) -> Result<(), Status>
-    requires { IsClosed pipe.old size }
+    requires closed { IsClosed pipe.old size }
+    requires opened { IsOpened opened.now }
     ensures after { OnOk result (pipe.new ≡ record pipe.old { read = length pipe.old.written; acked = length pipe.old.written }) }
 
     ensures read_by_b { OnOk result (HoldsAfter (O.holds outside.old Port.ReadByB) (O.holds outside.new Port.ReadByB) (λ held. held ++ pipe.old.written)) }
-    ensures log { OnOk result (HoldsAfter (O.holds outside.old Port.Log) (O.holds outside.new Port.Log) (λ held. held ++ all_lines size pipe.old.written)) }
+    ensures log { OnOk result (HoldsAfter (O.holds outside.old Port.Log) (O.holds outside.new Port.Log) (λ held. held ++ all_lines opened.now.sender size pipe.old.written)) }
     ensures read_front { OnErr result (HoldsPrefix (O.holds outside.old Port.ReadByB) (O.holds outside.new Port.ReadByB) pipe.old.written) }
-    ensures log_front { OnErr result (HoldsPrefix (O.holds outside.old Port.Log) (O.holds outside.new Port.Log) (all_lines size pipe.old.written)) }
+    ensures log_front { OnErr result (HoldsPrefix (O.holds outside.old Port.Log) (O.holds outside.new Port.Log) (all_lines opened.now.sender size pipe.old.written)) }
 
     ensures fault { IfErr result (IsPortsFault (O.port_faults outside.old) (O.port_faults outside.new)) }
     ensures counted { NeverFall (O.port_faults outside.old) (O.port_faults outside.new) }
@@ -157,34 +161,36 @@ fn send_pieces<O: Outside>(
 {
     let count = pipe.written.len().div_ceil(size);
     for _index in 0..count {
-        send_piece(alloc, outside, pipe, size)?;
+        send_piece(alloc, outside, pipe, opened, size)?;
     }
     Ok(())
 }
 
-/// Sends the file in pieces of this size, and puts what B's reader reads, the line of each segment, and the outcome.
+/// Sends the file in pieces, and puts what B's reader reads, the line of each segment, and the outcome.
 pub fn transfer<O: Outside>(
     alloc: Global,
     outside: &mut O,
-    size: usize,
+    opened: &Opened,
     file: Vec<u8>,
 ) -> Result<(), Status>
-    requires least { 1 ≤ size }
-    requires greatest { size ≤ 1432 }
+    requires opened { IsOpened opened.now }
+    requires least { 200 ≤ opened.now.sender.settings.mss }
+    requires greatest { opened.now.sender.settings.mss ≤ 1460 }
     requires limit { vec_len file ≤ 16777216 }
 
     ensures read_by_b { OnOk result (HoldsAfter (O.holds outside.old Port.ReadByB) (O.holds outside.new Port.ReadByB) (λ held. held ++ file.items)) }
-    ensures log { OnOk result (HoldsAfter (O.holds outside.old Port.Log) (O.holds outside.new Port.Log) (λ held. held ++ log_text size file.items)) }
+    ensures log { OnOk result (HoldsAfter (O.holds outside.old Port.Log) (O.holds outside.new Port.Log) (λ held. held ++ sending_text opened.now.sender file.items)) }
     ensures read_front { OnErr result (HoldsPrefix (O.holds outside.old Port.ReadByB) (O.holds outside.new Port.ReadByB) file.items) }
-    ensures log_front { OnErr result (HoldsPrefix (O.holds outside.old Port.Log) (O.holds outside.new Port.Log) (log_text size file.items)) }
+    ensures log_front { OnErr result (HoldsPrefix (O.holds outside.old Port.Log) (O.holds outside.new Port.Log) (sending_text opened.now.sender file.items)) }
 
     ensures fault { IfErr result (IsPortsFault (O.port_faults outside.old) (O.port_faults outside.new)) }
     ensures counted { NeverFall (O.port_faults outside.old) (O.port_faults outside.new) }
     ensures read_by_a { O.holds outside.new Port.ReadByA ≡ O.holds outside.old Port.ReadByA }
     ensures load_counts { O.load_faults outside.new ≡ O.load_faults outside.old }
 {
+    let size = opened.sender.settings.payload();
     let mut pipe = closed_pipe(alloc, file)?;
-    send_pieces(alloc, outside, &mut pipe, size)?;
+    send_pieces(alloc, outside, &mut pipe, opened, size)?;
     step(&mut pipe, &PipeStep::TellEnd)?;
     put(outside, Port::Log, b"outcome delivered\n")
 }

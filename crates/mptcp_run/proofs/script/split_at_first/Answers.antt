@@ -1,7 +1,7 @@
 use Rattle.std.proofs.Common.{sym, ◌∙◌}
 use Rattle.std.proofs.Common.{arith}
 use Rattle.std.proofs.lemmas.Grind.{common_steps}
-use Rattle.mptcp_run.proofs.Scripts.{parted_at-found, parted_at-whole}
+use Rattle.mptcp_run.proofs.ScriptLemmas.{parted_at-found, parted_at-whole}
 use Rattle.mptcp_run.proofs.script.split_at_first.Goals as goal
 
 pub returns-in-Some : goal.returns-in-Some

@@ -1,4 +1,10 @@
-use Rattle.mptcp_run.proofs.PortsLemmas.{HoldsBound-longer, HoldsPrefix-unchanged, OnErr-holds}
+use Rattle.std.proofs.Common.{◌≡◌, ap, subst, List, ℕ, Option}
+use Rattle.std.proofs.lemmas.Result.{on_err_weaker}
+use Rattle.outside_kit.specs.declared.port.Port.TheVariants.{Log}
+use Rattle.mptcp_run.specs.declared.connection.Connection.{Connection}
+use Rattle.mptcp_run.specs.Ports.{HoldsPrefix}
+use Rattle.mptcp_run.specs.Segments.{opening_lines, sending_text, log_text}
+use Rattle.mptcp_run.proofs.PortsLemmas.{HoldsBound-longer, HoldsPrefix-unchanged, HoldsPrefix-then, HoldsPrefix-grows, OnErr-holds}
 use Rattle.mptcp_run.proofs.top_call.send.Goals as goal
 
 pub returns-in_err-bind_readers-clause-read_by_b_front :
@@ -10,3 +16,18 @@ pub returns-in_err-bind_readers-clause-log_front :
     goal.returns-in_err-bind_readers-clause-log_front
 returns-in_err-bind_readers-clause-log_front g c =
     OnErr-holds _ _ (HoldsPrefix-unchanged _ _ _ c.bind_readers.ensures.log)
+
+pub returns-in_err-opened-clause-log_front : goal.returns-in_err-opened-clause-log_front
+returns-in_err-opened-clause-log_front g c =
+    OnErr-holds _ _ (HoldsPrefix-grows _ _ _ (opening_lines c.args.input.connection) (sending_text c.args.input.connection c.args.input.file_a.items)
+    c.in_ok-bind_readers.ensures.log c.in_err-opened.ensures.log_front)
+
+pub returns-clause-log_front : goal.returns-clause-log_front
+returns-clause-log_front g c =
+    let same : sending_text c.in_ok-opened.opened.sender c.args.input.file_a.items ≡ sending_text c.args.input.connection c.args.input.file_a.items =
+    ap (λ (n : Connection). sending_text n c.args.input.file_a.items) c.in_ok-opened.ensures.sender in
+    on_err_weaker c.transfer.result
+    (λ sent. subst (λ (told : Option (List ℕ)). HoldsPrefix told (g.O.Outside.holds c.transfer.new.outside Log) (log_text c.args.input.connection c.args.input.file_a.items)) c.in_ok-bind_readers.ensures.log
+    (HoldsPrefix-then _ _ _ (opening_lines c.args.input.connection) (sending_text c.args.input.connection c.args.input.file_a.items) c.in_ok-opened.ensures.log
+    (subst (λ (xs : List ℕ). HoldsPrefix (g.O.Outside.holds c.open_path.new.outside Log) (g.O.Outside.holds c.transfer.new.outside Log) xs) same sent)))
+    c.transfer.ensures.log_front

@@ -14,7 +14,7 @@ invariant-loop-index g l = record {
   read_by_b : HoldsAfter (g.O.Outside.holds l.initial.outside ReadByB) (g.O.Outside.holds l.outside ReadByB)
       (λ held. held ++ take (l._index * l.size) l.initial.pipe.written);
   log : HoldsAfter (g.O.Outside.holds l.initial.outside Log) (g.O.Outside.holds l.outside Log)
-      (λ held. held ++ first_lines l.size l.initial.pipe.written l._index);
+      (λ held. held ++ first_lines l.opened.sender l.size l.initial.pipe.written l._index);
   counted : NeverFall (g.O.Outside.port_faults l.initial.outside) (g.O.Outside.port_faults l.outside);
   read_by_a : g.O.Outside.holds l.outside ReadByA ≡ g.O.Outside.holds l.initial.outside ReadByA;
   load_counts : g.O.Outside.load_faults l.outside ≡ g.O.Outside.load_faults l.initial.outside;

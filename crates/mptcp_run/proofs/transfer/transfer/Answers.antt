@@ -1,18 +1,20 @@
-use Rattle.std.proofs.Common.{◌≡◌, ◌++◌, ap, codes}
+use Rattle.std.proofs.Common.{◌≡◌, ◌∙◌, ◌++◌, ap, ℕ, codes}
 use Rattle.std.proofs.lemmas.Result.{on_ok_weaker, on_err_weaker}
 use Rattle.pipe_model.specs.declared.pipe.Pipe.{Pipe}
-use Rattle.mptcp_run.specs.Segments.{all_lines, log_text}
+use Rattle.mptcp_run.specs.Segments.{all_lines, payload_of, sending_text}
 use Rattle.mptcp_run.proofs.PortsLemmas.{HoldsAfter-append, HoldsPrefix-grown, IsPrefix-same}
 use Rattle.mptcp_run.proofs.transfer.transfer.Goals as goal
 
 pub returns-clause-log : goal.returns-clause-log
 returns-clause-log g c =
-    let whole : all_lines c.args.size c.in_ok-pipe.pipe.written ++ codes "outcome delivered\n" ≡ log_text c.args.size c.args.file.items =
-    ap (λ (p : Pipe). all_lines c.args.size p.written ++ codes "outcome delivered\n") c.in_ok-pipe.ensures.ok in
+    let whole : all_lines c.args.opened.now.sender c.payload-size.result c.in_ok-pipe.pipe.written ++ codes "outcome delivered\n" ≡ sending_text c.args.opened.now.sender c.args.file.items =
+    ap (λ (n : ℕ). all_lines c.args.opened.now.sender n c.in_ok-pipe.pipe.written ++ codes "outcome delivered\n") c.payload-size.ensures
+    ∙ ap (λ (p : Pipe). all_lines c.args.opened.now.sender (payload_of c.args.opened.now.sender.settings) p.written ++ codes "outcome delivered\n") c.in_ok-pipe.ensures.ok in
     on_ok_weaker c.put.result (λ put. HoldsAfter-append _ _ _ _ _ _ c.in_ok-send_pieces.ensures.log put whole) c.put.ensures.ok
 
 pub returns-clause-log_front : goal.returns-clause-log_front
 returns-clause-log_front g c =
-    let whole : all_lines c.args.size c.in_ok-pipe.pipe.written ++ codes "outcome delivered\n" ≡ log_text c.args.size c.args.file.items =
-    ap (λ (p : Pipe). all_lines c.args.size p.written ++ codes "outcome delivered\n") c.in_ok-pipe.ensures.ok in
+    let whole : all_lines c.args.opened.now.sender c.payload-size.result c.in_ok-pipe.pipe.written ++ codes "outcome delivered\n" ≡ sending_text c.args.opened.now.sender c.args.file.items =
+    ap (λ (n : ℕ). all_lines c.args.opened.now.sender n c.in_ok-pipe.pipe.written ++ codes "outcome delivered\n") c.payload-size.ensures
+    ∙ ap (λ (p : Pipe). all_lines c.args.opened.now.sender (payload_of c.args.opened.now.sender.settings) p.written ++ codes "outcome delivered\n") c.in_ok-pipe.ensures.ok in
     on_err_weaker c.put.result (λ put. HoldsPrefix-grown _ _ _ _ _ _ c.in_ok-send_pieces.ensures.log put (IsPrefix-same _ _ whole)) c.put.ensures.err
