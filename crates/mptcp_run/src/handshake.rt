@@ -1,10 +1,10 @@
 //! The three-way handshake that opens path 0 (RFC 8684, section 3.1): each segment is written at one end, heard at the
 //! other, and noted for the log.
 
-ghost use Rattle.std.specs.Prelude.{◌≡◌, ◌≢◌, ◌+◌, ◌^◌, ◌<◌, ◌≤◌, ◌++◌, ℕ, IfOk, IfErr, OnOk, OnErr, string_bytes};
+ghost use Rattle.std.specs.Prelude.{◌≡◌, ◌≢◌, ◌+◌, ◌^◌, ◌<◌, ◌≤◌, ◌++◌, IfOk, IfErr, OnOk, OnErr, string_bytes};
 ghost use Rattle.outside_kit.specs.Outside.{HoldsAfter};
 ghost use Rattle.outside_kit.specs.declared.port.Port.{Port};
-ghost use Rattle.segment_wire.specs.Segment.{CanWrite, segment_text};
+ghost use Rattle.segment_wire.specs.Segment.{segment_text};
 ghost use Rattle.mptcp_run.specs.Ports.{NeverFall, IsPortsFault, HoldsPrefix};
 ghost use Rattle.mptcp_run.specs.Segments.{from_a, from_b, subflow_number, syn, syn_ack, third_ack, segment_line, opening_lines};
 

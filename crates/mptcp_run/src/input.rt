@@ -1,6 +1,6 @@
 //! What a run reads before it begins.
 
-ghost use Rattle.std.specs.Prelude.{◌≡◌, ◌≤◌, ℕ, List, [], Option, IfOk, IfErr, IfSome, OnOk, vec_len};
+ghost use Rattle.std.specs.Prelude.{◌≡◌, ◌≤◌, IfOk, IfErr, IfSome, OnOk, vec_len};
 ghost use Rattle.outside_kit.specs.declared.port.Port.{Port};
 ghost use Rattle.mptcp_run.specs.declared.status.Named.{Named};
 ghost use Rattle.mptcp_run.specs.Script.{connection_in};

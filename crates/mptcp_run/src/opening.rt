@@ -1,16 +1,14 @@
-//! What each end takes from the segments that open path 0 (RFC 8684, section 3.1), and from those that carry data.
+//! What each end takes from the segments that open path 0 (RFC 8684, section 3.1).
 
-ghost use Rattle.std.specs.Prelude.{◌≡◌, ◌+◌, ◌^◌, ◌<◌, ◌≤◌, ℕ, List, length, Some, option_copied};
-ghost use Rattle.key_material.specs.KeyDigest.{idsn_of};
+ghost use Rattle.std.specs.Prelude.{◌≡◌, ◌^◌, ◌<◌, ℕ, Some};
 ghost use Rattle.seq_units.specs.Number.{number_of};
 ghost use Rattle.segment_wire.specs.Segment.{CanWrite, segment_text};
-ghost use Rattle.mptcp_options.specs.Value.{value_of};
 ghost use Rattle.mptcp_run.specs.declared.connection.End.{End};
 ghost use Rattle.mptcp_run.specs.declared.connection.Settings.{Settings};
 ghost use Rattle.mptcp_run.specs.declared.connection.Connection.{Connection};
 ghost use Rattle.mptcp_run.specs.Hearing.{heard_value, syn_heard, syn_ack_heard};
 ghost use Rattle.capable_handshake.specs.Heard.{keys_on_ack};
-ghost use Rattle.mptcp_run.specs.Segments.{from_a, from_b, subflow_number, syn, syn_ack, third_ack, data_segment};
+ghost use Rattle.mptcp_run.specs.Segments.{from_a, from_b, subflow_number, syn, syn_ack, third_ack};
 
 use crate::connection::End;
 use crate::hearing::{Heard, hear};

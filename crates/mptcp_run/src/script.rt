@@ -1,7 +1,7 @@
 //! The script of a run: what `link_script` reads, as far as it is run.
 
 ghost use Rattle.std.specs.Prelude.{◌≡◌, ◌==◌, ◌≤◌, ◌^◌, length, position, IfOk, IfSome};
-ghost use Rattle.std.specs.List.{list_all, slice_split};
+ghost use Rattle.std.specs.List.{slice_split};
 ghost use Rattle.link_script.specs.Words.{is_passed_over};
 ghost use Rattle.link_script.specs.Reading.{Gives};
 ghost use Rattle.link_script.specs.Scripts.{HasRanges};

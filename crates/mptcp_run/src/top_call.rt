@@ -1,6 +1,6 @@
 //! The top call.
 
-ghost use Rattle.std.specs.Prelude.{◌≡◌, ◌≤◌, ◌<◌, ◌++◌, ◌↔◌, ◌⊎◌, ◌^◌, ℕ, List, [], length, map, Option, Some, None, Err, IsNone, IsSomeAnd, IsOk, IfOk, IfErr, IfSome, OnOk, OnErr, vec_len, string_bytes};
+ghost use Rattle.std.specs.Prelude.{◌≡◌, ◌≤◌, ◌<◌, ◌++◌, ◌↔◌, ◌⊎◌, ℕ, [], length, map, Err, IsNone, IsSomeAnd, IsOk, IfErr, IfSome, OnOk, OnErr, vec_len, string_bytes};
 ghost use Rattle.outside_kit.specs.declared.port.Port.{Port};
 ghost use Rattle.outside_kit.specs.Outside.{HasRisen, HoldsAfter};
 ghost use Rattle.mptcp_run.specs.declared.status.Named.{Named};
@@ -69,8 +69,8 @@ fn send<O: Outside>(
 /// Sends FILE_A from A to B as the words say: `--mode serial SCRIPT FILE_A FILE_B READ_BY_B READ_BY_A`.
 ///
 /// Path 0 opens before the readers read. What B's reader reads is put to `ReadByB`, the octets of each segment and the
-/// outcome to `Log`. `outside` is
-/// told what it holds before and after, as far as it tells it; no thread is started, and `gate` isn't passed.
+/// outcome to `Log`. The promises on what `outside` holds are kept as far as it tells it. No thread is started, and
+/// `gate` isn't passed.
 pub fn run<O: Outside, G: Gate + Sync>(
     alloc: Global,
     words: &[String],

@@ -1,8 +1,8 @@
 //! Sends a file from A to B over the open path: each piece goes out as the octets of a segment, and what B reads is
 //! taken from what was parsed.
 
-ghost use Rattle.std.specs.Prelude.{◌≡◌, ◌+◌, ◌^◌, ◌<◌, ◌≤◌, ◌++◌, List, [], true, false, length, take, drop, IfOk, IfErr, OnOk, OnErr, None, vec_len, string_bytes};
-ghost use Rattle.outside_kit.specs.Outside.{HoldsAfter, HoldsFront};
+ghost use Rattle.std.specs.Prelude.{◌≡◌, ◌+◌, ◌^◌, ◌<◌, ◌≤◌, ◌++◌, true, length, IfOk, IfErr, OnOk, OnErr, None, vec_len};
+ghost use Rattle.outside_kit.specs.Outside.{HoldsAfter};
 ghost use Rattle.pipe_model.specs.Pipe.{opening, refusal, after, TakesMemory};
 ghost use Rattle.segment_wire.specs.Segment.{CanWrite};
 ghost use Rattle.mptcp_run.specs.Ports.{NeverFall, IsPortsFault, HoldsPrefix};

@@ -65,9 +65,17 @@ after_call memory = record memory { calls = one_more memory.calls }
 abbrev pub after_failed_load : Memory → Memory
 after_failed_load memory = record memory { calls = one_more memory.calls; load_faults = one_more memory.load_faults }
 
--- a port whose bind or put failed, with this at the end of what it held
-abbrev pub after_failure : List ℕ → StoredPort → StoredPort
-after_failure kept port = record { held = port.held ++ kept; faults = one_more port.faults }
+-- a port that was bound holds nothing
+abbrev pub emptied : StoredPort → StoredPort
+emptied port = record port { held = [] }
+
+-- a port with this at the end of what it held
+abbrev pub grown : List ℕ → StoredPort → StoredPort
+grown piece port = record port { held = port.held ++ piece }
+
+-- a port of which one more bind or put has failed
+abbrev pub after_fault : StoredPort → StoredPort
+after_fault port = record port { faults = one_more port.faults }
 
 -- an outside with these files, and nothing in its ports yet
 abbrev pub new_memory : List StoredFile → List FailAt → Memory

@@ -1,6 +1,6 @@
-ghost use Rattle.outside_kit.specs.Memory.{content_named, kept_at, stored};
+ghost use Rattle.outside_kit.specs.Memory.{content_named, kept_at, stored, emptied, grown, after_fault};
 ghost use Rattle.outside_kit.specs.Outside.{HasRisen};
-ghost use Rattle.std.specs.Prelude.{◌≡◌, ◌≢◌, ◌≤◌, ◌<◌, ◌^◌, ◌↔◌, ◌⊎◌, ◌++◌, ℕ, List, [], length, map, Option, Some, None, take, IsSome, IsNone, IfOk, IfSome, OnOk, OnErr, vec_len, option_copied, IsTrue, IsErrOf, IsSomeAnd};
+ghost use Rattle.std.specs.Prelude.{◌≡◌, ◌≢◌, ◌≤◌, ◌<◌, ◌↔◌, ◌⊎◌, [], length, map, Option, Some, None, take, IsSome, IsNone, IfOk, IfSome, OnOk, OnErr, vec_len, option_copied, IsTrue, IsErrOf, IsSomeAnd};
 
 use crate::files::{FailAt, NamedFile};
 use crate::outside::{LoadFault, Outside, PutFault};
@@ -65,7 +65,7 @@ impl MemoryPort {
     }
 
     fn put(&mut self, piece: &[u8]) -> Result<(), PutFault>
-        ensures ok { OnOk result (self.new ≡ record self.old { held = self.old.held ++ piece.now }) }
+        ensures ok { OnOk result (self.new ≡ grown piece.now self.old) }
         ensures err { OnErr result (self.new ≡ self.old) }
         ensures memory { result ≢ Err PutFault.Failed }
     {
@@ -77,9 +77,8 @@ impl MemoryPort {
 
     /// A put fails with these octets put all the same, or is refused for want of memory.
     fn fail(&mut self, kept: &[u8]) -> PutFault
-        ensures failed { result ≡ PutFault.Failed → self.new.held ≡ self.old.held ++ kept.now }
+        ensures failed { result ≡ PutFault.Failed → self.new ≡ after_fault (grown kept.now self.old) }
         ensures risen { result ≡ PutFault.Failed → HasRisen self.old.faults self.new.faults }
-        ensures counted { self.old.faults ≤ self.new.faults }
         ensures memory { result ≡ PutFault.Memory → self.new ≡ self.old }
     {
         match self.held.extend_from_slice(kept) {
@@ -161,6 +160,7 @@ fn copy_within(alloc: Global, content: &[u8], limit: u64) -> Result<Vec<u8>, Loa
     ensures whole { IfOk result (λ bytes. bytes.items ≡ content.now) }
     ensures within { OnOk result (length content.now ≤ limit) }
     ensures too_long { result ≡ Err LoadFault.TooLong → limit < length content.now }
+    ensures fits { result ≡ Err LoadFault.Memory → length content.now ≤ limit }
     ensures failed { result ≢ Err LoadFault.Failed }
 {
     if content.len() as u64 > limit {
@@ -174,8 +174,8 @@ fn copy_within(alloc: Global, content: &[u8], limit: u64) -> Result<Vec<u8>, Loa
 
 /// Binds a port, unless the call is to fail.
 fn bind_port(port: &mut MemoryPort, fails: bool) -> Result<(), PutFault>
-    ensures ok { OnOk result (port.new.held ≡ []) }
-    ensures err { OnErr result (port.new.held ≡ port.old.held) }
+    ensures ok { OnOk result (port.new ≡ emptied port.old) }
+    ensures err { OnErr result (port.new ≡ after_fault port.old) }
     ensures counted { port.old.faults ≤ port.new.faults }
     ensures failed { result ≡ Err PutFault.Failed → HasRisen port.old.faults port.new.faults }
     ensures cause { IsErrOf result PutFault.Failed ↔ IsTrue fails }
@@ -191,13 +191,12 @@ fn bind_port(port: &mut MemoryPort, fails: bool) -> Result<(), PutFault>
 
 /// Puts a piece to a port, or the front of it where the call is to fail.
 fn put_port(port: &mut MemoryPort, kept: Option<u64>, piece: &[u8]) -> Result<(), PutFault>
-    ensures ok { OnOk result (port.new.held ≡ port.old.held ++ piece.now) }
-    ensures err { OnErr result ((count : ℕ) × (port.new.held ≡ port.old.held ++ take count piece.now)) }
+    ensures ok { OnOk result (port.new ≡ grown piece.now port.old) }
+    ensures allowed { OnOk result (kept ≡ None) }
+    ensures cause { result ≡ Err PutFault.Failed → IsSomeAnd kept (λ count. port.new ≡ after_fault (grown (take count piece.now) port.old)) }
+    ensures memory { result ≡ Err PutFault.Memory → port.new ≡ port.old }
     ensures counted { port.old.faults ≤ port.new.faults }
     ensures failed { result ≡ Err PutFault.Failed → HasRisen port.old.faults port.new.faults }
-    ensures allowed { OnOk result (kept ≡ None) }
-    ensures cause { result ≡ Err PutFault.Failed → IsSomeAnd kept (λ count. port.new.held ≡ port.old.held ++ take count piece.now) }
-    ensures memory { result ≡ Err PutFault.Memory → port.new.held ≡ port.old.held }
 {
     match kept {
         None => port.put(piece),
@@ -217,7 +216,7 @@ fn front(piece: &[u8], count: u64) -> &[u8]
 }
 
 impl Outside for MemoryOutside {
-    ghost use Rattle.outside_kit.specs.Memory.{content_named, port_of, kept_next, one_more, with_port};
+    ghost use Rattle.outside_kit.specs.Memory.{content_named, port_of, kept_next, with_port, emptied, grown, after_fault, after_call, after_failed_load};
     ghost use Rattle.outside_kit.specs.declared.port.Port.{Port};
 
     ghost content = { λ outside name. content_named outside.files name };
@@ -234,12 +233,13 @@ impl Outside for MemoryOutside {
         ensures within { IfOk result (λ bytes. vec_len bytes ≤ limit) }
         ensures too_long { result ≡ Err LoadFault.TooLong →
             IfSome (content_named self.old.files name.now) (λ told. limit < length told) }
+        ensures fits { result ≡ Err LoadFault.Memory →
+            IfSome (content_named self.old.files name.now) (λ told. length told ≤ limit) }
         ensures fails { result ≡ Err LoadFault.Failed ↔
             (IsSome (kept_next self.old) ⊎ IsNone (content_named self.old.files name.now)) }
-        ensures counted { self.old.load_faults ≤ self.new.load_faults }
         ensures failed { result ≡ Err LoadFault.Failed → HasRisen self.old.load_faults self.new.load_faults }
-        ensures calls { self.new.calls ≡ one_more self.old.calls }
-        ensures same { self.new ≡ record self.old { calls = self.new.calls; load_faults = self.new.load_faults } }
+        ensures after_failed { result ≡ Err LoadFault.Failed → self.new ≡ after_failed_load self.old }
+        ensures after { result ≢ Err LoadFault.Failed → self.new ≡ after_call self.old }
     {
         let fails = self.start_call().is_some();
         match content_of(&self.files, name) {
@@ -253,15 +253,13 @@ impl Outside for MemoryOutside {
 
     /// As [`Outside::bind`] says. It fails exactly where this call is to fail.
     fn bind(&mut self, port: Port, _name: &str) -> Result<(), PutFault>
-        ensures empty { OnOk result ((port_of port self.new).held ≡ []) }
-        ensures err { OnErr result ((port_of port self.new).held ≡ (port_of port self.old).held) }
+        ensures ok { OnOk result (self.new ≡ with_port port (emptied (port_of port self.old)) (after_call self.old)) }
+        ensures err { OnErr result (self.new ≡ with_port port (after_fault (port_of port self.old)) (after_call self.old)) }
         ensures fails { result ≡ Err PutFault.Failed ↔ IsSome (kept_next self.old) }
         ensures memory { result ≢ Err PutFault.Memory }
         ensures counted { (port_of port self.old).faults ≤ (port_of port self.new).faults }
         ensures failed { result ≡ Err PutFault.Failed →
             HasRisen (port_of port self.old).faults (port_of port self.new).faults }
-        ensures calls { self.new.calls ≡ one_more self.old.calls }
-        ensures same { self.new ≡ with_port port (port_of port self.new) (record self.old { calls = self.new.calls }) }
     {
         let fails = self.start_call().is_some();
         match port {
@@ -274,16 +272,14 @@ impl Outside for MemoryOutside {
     /// As [`Outside::put`] says. It fails where this call is to fail, and then keeps as much of the piece as that
     /// call is to keep.
     fn put(&mut self, port: Port, piece: &[u8]) -> Result<(), PutFault>
-        ensures ok { OnOk result ((port_of port self.new).held ≡ (port_of port self.old).held ++ piece.now) }
+        ensures ok { OnOk result (self.new ≡ with_port port (grown piece.now (port_of port self.old)) (after_call self.old)) }
         ensures allowed { OnOk result (kept_next self.old ≡ None) }
         ensures kept { result ≡ Err PutFault.Failed → IsSomeAnd (kept_next self.old) (λ count.
-            (port_of port self.new).held ≡ (port_of port self.old).held ++ take count piece.now) }
-        ensures memory { result ≡ Err PutFault.Memory → (port_of port self.new).held ≡ (port_of port self.old).held }
+            self.new ≡ with_port port (after_fault (grown (take count piece.now) (port_of port self.old))) (after_call self.old)) }
+        ensures memory { result ≡ Err PutFault.Memory → self.new ≡ after_call self.old }
         ensures counted { (port_of port self.old).faults ≤ (port_of port self.new).faults }
         ensures failed { result ≡ Err PutFault.Failed →
             HasRisen (port_of port self.old).faults (port_of port self.new).faults }
-        ensures calls { self.new.calls ≡ one_more self.old.calls }
-        ensures same { self.new ≡ with_port port (port_of port self.new) (record self.old { calls = self.new.calls }) }
     {
         let kept = self.start_call();
         match port {

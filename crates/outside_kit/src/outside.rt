@@ -1,4 +1,4 @@
-ghost use Rattle.std.specs.Prelude.{◌≡◌, ◌≢◌, ◌≤◌, ◌<◌, ◌^◌, ◌++◌, ℕ, List, [], length, Option, Some, take, IsSome, IfOk, IfSome, OnOk, OnErr, vec_len};
+ghost use Rattle.std.specs.Prelude.{◌≡◌, ◌≢◌, ◌≤◌, ◌<◌, ◌^◌, ◌++◌, ℕ, List, [], length, Option, IsSome, IfOk, IfSome, OnOk, OnErr, vec_len};
 ghost use Rattle.outside_kit.specs.declared.port.Port.{Port};
 ghost use Rattle.outside_kit.specs.Outside.{HasRisen, HoldsAfter, HoldsFront};
 
@@ -47,11 +47,13 @@ pub trait Outside {
     fn load(&mut self, alloc: Global, name: &str, limit: u64) -> Result<Vec<u8>, LoadFault>
         requires { limit < 2 ^ 32 }
 
-        // The content is whole and within the limit, and is called too long only where it is.
+        // The content is whole and within the limit. Unless the device fails, it is called too long exactly where it is.
         ensures whole { IfOk result (λ bytes. IfSome (content self.old name.now) (λ told. bytes.items ≡ told)) }
         ensures within { IfOk result (λ bytes. vec_len bytes ≤ limit) }
         ensures too_long { result ≡ Err LoadFault.TooLong →
             IfSome (content self.old name.now) (λ told. limit < length told) }
+        ensures fits { result ≡ Err LoadFault.Memory →
+            IfSome (content self.old name.now) (λ told. length told ≤ limit) }
 
         // The count of loads never falls, and a fault of the device has raised it.
         ensures counted { load_faults self.old ≤ load_faults self.new }
