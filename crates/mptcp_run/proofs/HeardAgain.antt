@@ -1,5 +1,5 @@
 -- What is said is heard.
-use Rattle.std.proofs.Common.{◌≡◌, refl, sym, ◌∙◌, ap, ℕ, ◌+◌, ◌<◌, ◌≤◌, ◌^◌, true, false, List, [], ◌∷◌, ◌++◌, length, arith, ◌-◌, ◌&&◌, nat_le, Bool, Option, Some, None, option_map, option_copied, Bor, ◌==◌, if◌then◌else◌}
+use Rattle.std.proofs.Common.{◌≡◌, ◌≢◌, refl, sym, ◌∙◌, ap, ℕ, ◌+◌, ◌<◌, ◌≤◌, ◌^◌, true, false, List, [], ◌∷◌, ◌++◌, length, arith, ◌-◌, ◌&&◌, nat_le, Bool, Option, Some, None, option_map, option_and_then, option_copied, Bor, ◌==◌, if◌then◌else◌}
 use Rattle.mptcp_options.specs.declared.option.MpOption.{MpOption}
 use Rattle.capable_handshake.specs.Heard.{value_heard, keys_on_ack}
 use Rattle.std.specs.Int.{w16, to_be_bytes}
@@ -18,7 +18,7 @@ use Rattle.seq_units.specs.Number.{number_of, below, IsNear}
 use Rattle.std.specs.Prelude.{pos, ◌-ℤ◌}
 use Rattle.std.proofs.lemmas.Int.{ints}
 use Rattle.seq_units.proofs.ReadBack.{position_near-number_of_64}
-use Rattle.mptcp_run.specs.Hearing.{HeardValue, first_known, heard_in, syn_heard, syn_ack_heard, ◌>>=◌, place_named, mapped_by, place_and_length, data_heard}
+use Rattle.mptcp_run.specs.Hearing.{HeardValue, first_known, heard_in, syn_heard, syn_ack_heard, sender_to, ◌>>=◌, place_named, mapped_by, place_and_length, data_heard}
 use Rattle.mptcp_run.specs.Segments.{subflow_number, syn_options, syn, syn_ack, third_ack, data_option, data_segment}
 
 mss_passed : (mss : ℕ) → option_meaning (2 ∷ 4 ∷ to_be_bytes w16 mss) false ≡ Unknown
@@ -74,6 +74,18 @@ heard_third c fits fits_b =
 pub value_heard-copied : (given : Option (Bor MpOption)) (option : Option MpOption) → option_copied given ≡ option → value_heard given ≡ option_map value_of option
 value_heard-copied None option e = ap (option_map value_of) e
 value_heard-copied (Some given) option e = ap (option_map value_of) e
+
+-- ---- the keys of the third ACK
+
+pub sender_to-own : (own peer : ℕ) (keys : Option (ℕ × ℕ)) → keys ≡ Some (peer, own) → option_and_then (sender_to own) keys ≡ Some peer
+sender_to-own own peer keys e = ap (option_and_then (sender_to own)) e ∙ grind arith
+
+sender_to-another : (own peer second : ℕ) → second ≢ own → sender_to own (peer, second) ≡ None
+sender_to-another own peer second other = grind arith
+
+pub sender_to-none : (own : ℕ) (keys : Option (ℕ × ℕ)) → ((peer : ℕ) → keys ≡ Some (peer, own) → ⊥) → option_and_then (sender_to own) keys ≡ None
+sender_to-none own None h = refl
+sender_to-none own (Some (peer, second)) h = sender_to-another own peer second (λ e. h peer (ap (λ (n : ℕ). Some (peer, n)) e))
 
 -- ---- data
 

@@ -1,6 +1,7 @@
 -- What an end takes from a segment.
 use Rattle.std.specs.Prelude.{ℕ, ◌+◌, ◌-◌, ◌^◌, ◌==◌, ◌&&◌, nat_le, length, false, if◌then◌else◌, List, [], ◌∷◌, Option, Some, None, option_map, option_and_then}
-use Rattle.capable_handshake.specs.Heard.{flag_on_syn, key_and_flag_on_syn_ack}
+use Rattle.std.specs.Result.{result_ok}
+use Rattle.capable_handshake.specs.Heard.{flag_on_syn, key_and_flag_on_syn_ack, keys_on_ack}
 use Rattle.seq_units.specs.Number.{number_of, position_near, below}
 use Rattle.key_material.specs.KeyDigest.{idsn_of}
 use Rattle.mptcp_options.specs.declared.capable.CapableKeys.TheVariants.{WithData}
@@ -10,6 +11,8 @@ use Rattle.mptcp_options.specs.declared.dss.DssMap.{DssMap}
 use Rattle.mptcp_run.specs.declared.connection.End.{End}
 use Rattle.segment_wire.specs.Options.{option_octets}
 use Rattle.segment_wire.specs.Segment.{Segment}
+use Rattle.segment_wire.specs.Reading.{segment_meaning}
+use Rattle.segment_wire.specs.declared.head.Addresses.{Addresses}
 use Rattle.mptcp_options.specs.Value.{OptionValue, Capable, Dss, Meaning, Known, Unknown, Malformed, value_of}
 use Rattle.mptcp_options.specs.Meaning.{option_meaning}
 use Rattle.mptcp_run.specs.declared.hearing.Heard.{Heard}
@@ -40,6 +43,10 @@ heard_value heard = record { seq = heard.seq; option = option_map value_of heard
 abbrev pub shown : Option Heard → Option HeardValue
 shown heard = option_map heard_value heard
 
+-- what is heard in octets that went between these addresses, where they are a segment
+abbrev pub heard_between : Addresses → List ℕ → Option HeardValue
+heard_between addresses octets = option_map heard_in (result_ok (segment_meaning addresses octets))
+
 -- ---- the steps of the ends
 
 -- a SYN that asks for no checksums is acknowledged up to the number behind its own
@@ -50,6 +57,14 @@ syn_heard heard = option_and_then (λ flag_a. if flag_a then None else Some (num
 abbrev pub syn_ack_heard : HeardValue → Option End
 syn_ack_heard heard =
     option_and_then (λ (key, flag_a). if flag_a then None else Some (record { key = key; iss = heard.seq })) (key_and_flag_on_syn_ack heard.option)
+
+-- the sender's key, where the receiver's is this one
+abbrev pub sender_to : ℕ → ℕ × ℕ → Option ℕ
+sender_to own (sender, receiver) = if receiver == own then Some sender else None
+
+-- an ACK with both keys tells A's, where the second one is B's own
+abbrev pub third_ack_heard : ℕ → HeardValue → Option ℕ
+third_ack_heard own heard = option_and_then (sender_to own) (keys_on_ack heard.option)
 
 -- ---- data
 

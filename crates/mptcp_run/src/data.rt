@@ -1,10 +1,10 @@
 //! What B takes from a data segment of A.
 
-ghost use Rattle.std.specs.Prelude.{◌≡◌, ◌+◌, ◌^◌, ◌<◌, ◌≤◌, ℕ, List, length, Some, option_copied};
+ghost use Rattle.std.specs.Prelude.{◌≡◌, ◌+◌, ◌^◌, ◌<◌, ◌≤◌, ℕ, List, length, Some, option_and_then, option_copied};
 ghost use Rattle.segment_wire.specs.Segment.{CanWrite, segment_text};
 ghost use Rattle.mptcp_options.specs.Value.{value_of};
 ghost use Rattle.mptcp_run.specs.declared.connection.Connection.{Connection};
-ghost use Rattle.mptcp_run.specs.Hearing.{heard_value, place_named, mapped_by, place_and_length, data_heard};
+ghost use Rattle.mptcp_run.specs.Hearing.{heard_value, heard_between, place_named, mapped_by, place_and_length, data_heard};
 ghost use Rattle.mptcp_run.specs.Segments.{from_a, data_segment};
 
 use crate::hearing::{Heard, hear};
@@ -17,7 +17,9 @@ use seq_units::{Seq64, near64};
 /// expects.
 pub fn hear_data<'a>(key: u64, next: u64, octets: &'a [u8]) -> Option<&'a [u8]>
     requires { next < 2 ^ 31 }
-    ensures { (c : Connection) (payload : List ℕ) → c.a.key ≡ key → c.b.key < 2 ^ 64 → length payload ≤ 1432
+    ensures exact { option_copied result ≡ option_and_then (data_heard key next) (heard_between from_a octets.now) }
+    // A's own segment of the next place is heard.
+    ensures said { (c : Connection) (payload : List ℕ) → c.a.key ≡ key → c.b.key < 2 ^ 64 → length payload ≤ 1432
         → CanWrite (data_segment c next payload) → octets.now ≡ segment_text from_a (data_segment c next payload)
         → option_copied result ≡ Some payload }
 {

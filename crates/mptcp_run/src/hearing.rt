@@ -5,7 +5,7 @@ ghost use Rattle.segment_wire.specs.Options.{option_octets};
 ghost use Rattle.segment_wire.specs.Reading.{segment_of};
 ghost use Rattle.segment_wire.specs.Segment.{Segment, CanWrite, segment_text};
 ghost use Rattle.mptcp_options.specs.Value.{value_of};
-ghost use Rattle.mptcp_run.specs.Hearing.{first_known, heard_in, shown};
+ghost use Rattle.mptcp_run.specs.Hearing.{first_known, heard_in, heard_between, shown};
 
 use mptcp_options::{MpOption, Read, read};
 use segment_wire::{Addresses, SegmentRef, parse};
@@ -22,7 +22,9 @@ pub struct Heard<'a> {
 
 /// What these octets say between these addresses, or None where they are no segment.
 pub fn hear<'a>(octets: &'a [u8], addresses: &Addresses) -> Option<Heard<'a>>
-    ensures { (segment : Segment) → CanWrite segment → octets.now ≡ segment_text addresses.now segment
+    ensures exact { shown result ≡ heard_between addresses.now octets.now }
+    // What is written between the same addresses is heard.
+    ensures written { (segment : Segment) → CanWrite segment → octets.now ≡ segment_text addresses.now segment
         → shown result ≡ Some (heard_in segment) }
 {
     match parse(octets, addresses) {

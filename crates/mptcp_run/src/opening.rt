@@ -1,13 +1,12 @@
 //! What each end takes from the segments that open path 0 (RFC 8684, section 3.1).
 
-ghost use Rattle.std.specs.Prelude.{◌≡◌, ◌^◌, ◌<◌, ℕ, Some};
+ghost use Rattle.std.specs.Prelude.{◌≡◌, ◌^◌, ◌<◌, ℕ, Some, option_and_then};
 ghost use Rattle.seq_units.specs.Number.{number_of};
 ghost use Rattle.segment_wire.specs.Segment.{CanWrite, segment_text};
 ghost use Rattle.mptcp_run.specs.declared.connection.End.{End};
 ghost use Rattle.mptcp_run.specs.declared.connection.Settings.{Settings};
 ghost use Rattle.mptcp_run.specs.declared.connection.Connection.{Connection};
-ghost use Rattle.mptcp_run.specs.Hearing.{heard_value, syn_heard, syn_ack_heard};
-ghost use Rattle.capable_handshake.specs.Heard.{keys_on_ack};
+ghost use Rattle.mptcp_run.specs.Hearing.{heard_value, heard_between, syn_heard, syn_ack_heard, third_ack_heard};
 ghost use Rattle.mptcp_run.specs.Segments.{from_a, from_b, subflow_number, syn, syn_ack, third_ack};
 
 use crate::connection::End;
@@ -20,7 +19,9 @@ use seq_units::{Seq32, number32};
 /// checksums.
 #[tactic(auto, using(crate::proofs::HeardAgain::heard_syn))]
 pub fn hear_syn(octets: &[u8]) -> Option<u32>
-    ensures { (a : End) (settings : Settings) → CanWrite (syn a settings) → octets.now ≡ segment_text from_a (syn a settings)
+    ensures exact { result ≡ option_and_then syn_heard (heard_between from_a octets.now) }
+    // A's own SYN is heard.
+    ensures said { (a : End) (settings : Settings) → CanWrite (syn a settings) → octets.now ≡ segment_text from_a (syn a settings)
         → result ≡ Some (subflow_number a 1) }
 {
     syn_step(&hear(octets, &FROM_A)?)
@@ -45,7 +46,9 @@ fn next_number(number: u32) -> u32
 
 /// A's step at the SYN/ACK: what B says of itself.
 pub fn hear_syn_ack(octets: &[u8]) -> Option<End>
-    ensures { (ack : ℕ) (b : End) (settings : Settings) → b.key < 2 ^ 64 → CanWrite (syn_ack ack b settings)
+    ensures exact { result ≡ option_and_then syn_ack_heard (heard_between from_b octets.now) }
+    // B's own SYN/ACK is heard.
+    ensures said { (ack : ℕ) (b : End) (settings : Settings) → b.key < 2 ^ 64 → CanWrite (syn_ack ack b settings)
         → octets.now ≡ segment_text from_b (syn_ack ack b settings) → result ≡ Some b }
 {
     syn_ack_step(&hear(octets, &FROM_B)?)
@@ -65,14 +68,16 @@ fn syn_ack_step(heard: &Heard<'_>) -> Option<End>
 
 /// B's step at the third ACK: A's key, where B's own is the second one.
 pub fn hear_third_ack(own: u64, octets: &[u8]) -> Option<u64>
-    ensures { (c : Connection) → c.a.key < 2 ^ 64 → c.b.key ≡ own → CanWrite (third_ack c)
+    ensures exact { result ≡ option_and_then (third_ack_heard own) (heard_between from_a octets.now) }
+    // A's own third ACK is heard.
+    ensures said { (c : Connection) → c.a.key < 2 ^ 64 → c.b.key ≡ own → CanWrite (third_ack c)
         → octets.now ≡ segment_text from_a (third_ack c) → result ≡ Some c.a.key }
 {
     third_step(own, &hear(octets, &FROM_A)?)
 }
 
 fn third_step(own: u64, heard: &Heard<'_>) -> Option<u64>
-    ensures { (peer : ℕ) → keys_on_ack (heard_value heard.now).option ≡ Some (peer, own) → result ≡ Some peer }
+    ensures { result ≡ third_ack_heard own (heard_value heard.now) }
 {
     match server_keys(own, heard.option.as_ref()) {
         Ok(peer) => Some(peer),

@@ -1,5 +1,5 @@
 use super::*;
-use outside_kit::{FailAt, MemoryOutside, NamedFile, OpenGate, Port};
+use outside_kit::{FailAt, LoadFault, MemoryOutside, NamedFile, OpenGate, Outside, Port, PutFault};
 use std::alloc::{AllocError, Global};
 use std::process::Abort;
 use std::test::Fail;
@@ -52,7 +52,7 @@ fn words(alloc: Global, texts: &[&str]) -> Result<Vec<String>, AllocError> {
     Ok(words)
 }
 
-fn run_on(alloc: Global, outside: &mut MemoryOutside) -> Result<Status, AllocError> {
+fn run_on<O: Outside>(alloc: Global, outside: &mut O) -> Result<Status, AllocError> {
     let words = words(
         alloc,
         &["--mode", "serial", "script", "a", "b", "to-b", "to-a"],
@@ -97,6 +97,62 @@ fn a_longer_file_is_cut_into_pieces(rt: HostRuntime) -> Result<(), Fail> {
         lengths.as_slice(),
         [8 + 64, 8 + 80, 8 + 80, 8 + 2 * 1416, 8 + 2 * 49, 17, 0].as_slice()
     );
+    Ok(())
+}
+
+/// An outside with a script and empty files, which notes whether the readers' ports are bound under their own names.
+#[derive(Debug, Drop)]
+struct Names {
+    read_by_b: bool,
+    read_by_a: bool,
+}
+
+impl Outside for Names {
+    ghost use Rattle.std.specs.Prelude.{None};
+
+    ghost content = { λ _ _. None };
+
+    ghost holds = { λ _ _. None };
+
+    ghost load_faults = { λ _. 0 };
+
+    ghost port_faults = { λ _ _. 0 };
+
+    fn load(&mut self, alloc: Global, name: &str, limit: u64) -> Result<Vec<u8>, LoadFault> {
+        let content = if name == "script" { SCRIPT } else { &[] };
+        if content.len() as u64 > limit {
+            return Err(LoadFault::TooLong);
+        }
+        match Vec::from_slice(alloc, content) {
+            Ok(bytes) => Ok(bytes),
+            Err(_) => Err(LoadFault::Memory),
+        }
+    }
+
+    fn bind(&mut self, port: Port, name: &str) -> Result<(), PutFault> {
+        match port {
+            Port::ReadByB => self.read_by_b = name == "to-b",
+            Port::ReadByA => self.read_by_a = name == "to-a",
+            Port::Log => {}
+        }
+        Ok(())
+    }
+
+    fn put(&mut self, _port: Port, _piece: &[u8]) -> Result<(), PutFault> {
+        Ok(())
+    }
+}
+
+// No clause tells under which name a port is kept.
+#[test]
+fn ports_are_bound_under_their_own_names(rt: HostRuntime) -> Result<(), Fail> {
+    let mut outside = Names {
+        read_by_b: false,
+        read_by_a: false,
+    };
+    assert_eq!(rt; run_on(rt.alloc(), &mut outside)?, Status::Delivered);
+    assert!(rt; outside.read_by_b);
+    assert!(rt; outside.read_by_a);
     Ok(())
 }
 

@@ -4,9 +4,9 @@ use Rattle.mptcp_run.specs.Segments.{data_segment}
 use Rattle.mptcp_run.proofs.HeardAgain.{heard_data}
 use Rattle.mptcp_run.proofs.data.hear_data.Goals as goal
 
-pub returns : goal.returns
-returns c connection payload key fits_b few can octets =
-    let heard = c.in_ok-hear.ensures (data_segment connection c.args.next payload) can octets in
+pub returns-clause-said : goal.returns-clause-said
+returns-clause-said c connection payload key fits_b few can octets =
+    let heard = c.in_ok-hear.ensures.written (data_segment connection c.args.next payload) can octets in
     let same : heard_value c.in_ok-hear.field-0 ≡ heard_in (data_segment connection c.args.next payload) = cc heard in
     let fits_a : connection.a.key < 2 ^ 64 = subst (λ (n : ℕ). n < 2 ^ 64) (sym key) c.ranges.key.fits in
     c.data_step.ensures

@@ -1,14 +1,15 @@
-use Rattle.std.proofs.Common.{◌∙◌, ap}
+use Rattle.std.proofs.Common.{◌∙◌, ap, sym, refl}
 use Rattle.capable_handshake.specs.Heard.{keys_on_ack}
-use Rattle.mptcp_run.proofs.HeardAgain.{value_heard-copied}
+use Rattle.mptcp_run.proofs.HeardAgain.{value_heard-copied, sender_to-own, sender_to-none}
 use Rattle.mptcp_run.proofs.opening.third_step.Goals as goal
 
 pub returns-in-Ok : goal.returns-in-Ok
-returns-in-Ok c peer keys =
-    let same = value_heard-copied c.as_ref.result c.args.heard.now.option c.as_ref.ensures.value in
-    let is = (c.in-Ok.ensures.confirmed peer).1 (ap keys_on_ack same ∙ keys) in cc is
+returns-in-Ok c =
+    let same = ap keys_on_ack (value_heard-copied c.as_ref.result c.args.heard.now.option c.as_ref.ensures.value) in
+    let told = (c.in-Ok.ensures.confirmed c.in-Ok.peer).0 refl in
+    sym (sender_to-own c.args.own c.in-Ok.peer _ (sym same ∙ told))
 
 pub returns-in-Err : goal.returns-in-Err
-returns-in-Err c peer keys =
-    let same = value_heard-copied c.as_ref.result c.args.heard.now.option c.as_ref.ensures.value in
-    let is = (c.in-Err.ensures.confirmed peer).1 (ap keys_on_ack same ∙ keys) in cc is
+returns-in-Err c =
+    let same = ap keys_on_ack (value_heard-copied c.as_ref.result c.args.heard.now.option c.as_ref.ensures.value) in
+    sym (sender_to-none c.args.own _ (λ peer keys. let is = (c.in-Err.ensures.confirmed peer).1 (same ∙ keys) in cc is))
