@@ -1,6 +1,6 @@
 //! The real outside: files by their names, and standard output for the log.
 
-ghost use Rattle.std.specs.Prelude.{◌≡◌, ◌≤◌, None};
+ghost use Rattle.std.specs.Prelude.{◌≡◌, ◌≤◌, None, IsSome, OnOk};
 ghost use Rattle.outside_kit.specs.Outside.{HasRisen};
 
 use outside_kit::{LoadFault, Outside, Port, PutFault};
@@ -77,6 +77,7 @@ fn bind_file<R: Files>(
     count: &mut u64,
     name: &str,
 ) -> Result<(), PutFault>
+    ensures bound { OnOk result (IsSome file.new) }
     ensures counted { count.old ≤ count.new }
     ensures failed { result ≡ Err PutFault.Failed → HasRisen count.old count.new }
 {
@@ -91,6 +92,7 @@ fn bind_file<R: Files>(
 
 /// Writes a piece at the end of a port's file. A port that isn't bound has none, and fails.
 fn put_file<F: Write>(file: &mut Option<F>, count: &mut u64, piece: &[u8]) -> Result<(), PutFault>
+    ensures bound { OnOk result (IsSome file.old) }
     ensures counted { count.old ≤ count.new }
     ensures failed { result ≡ Err PutFault.Failed → HasRisen count.old count.new }
 {
