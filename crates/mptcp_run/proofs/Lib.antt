@@ -1,5 +1,3 @@
-mod Carried
-mod HeardAgain
 mod PortsLemmas
 mod ScriptLemmas
 mod SendingLemmas

@@ -1,10 +1,8 @@
 pub mod Causes
-pub mod Drawn
-pub mod Hearing
 pub mod Inputs
+pub mod Log
 pub mod Ports
 pub mod Script
-pub mod Segments
 pub mod Sending
 pub mod Status
 pub mod Task

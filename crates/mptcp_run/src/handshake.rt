@@ -6,16 +6,27 @@ ghost use Rattle.outside_kit.specs.Outside.{HoldsAfter};
 ghost use Rattle.outside_kit.specs.declared.port.Port.{Port};
 ghost use Rattle.segment_wire.specs.Segment.{segment_text};
 ghost use Rattle.mptcp_run.specs.Ports.{NeverFall, IsPortsFault, HoldsPrefix};
-ghost use Rattle.mptcp_run.specs.Segments.{from_a, from_b, subflow_number, syn, syn_ack, third_ack, segment_line, opening_lines};
+ghost use Rattle.path_segments.specs.Segments.{from_a, from_b, subflow_number, syn, syn_ack, third_ack};
+ghost use Rattle.mptcp_run.specs.Log.{segment_line, opening_lines};
 
-use crate::connection::{Connection, End, Opened};
 use crate::device::put;
 use crate::log::push_line;
-use crate::opening::{hear_syn, hear_syn_ack, hear_third_ack};
-use crate::saying::{write_syn, write_syn_ack, write_third_ack};
 use crate::status::Status;
 use outside_kit::{Outside, Port};
+use path_segments::{
+    Connection, End, hear_syn, hear_syn_ack, hear_third_ack, write_syn, write_syn_ack,
+    write_third_ack,
+};
 use std::alloc::{AllocError, Global};
+
+/// What the ends know once path 0 is open.
+#[derive(Clone, Copy, Debug, PartialEq, Eq)]
+pub struct Opened {
+    /// What A knows of both.
+    pub sender: Connection,
+    /// A's key, as B heard it.
+    pub key: u64,
+}
 
 /// Path 0, once it is open.
 #[derive(Drop)]

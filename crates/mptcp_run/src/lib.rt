@@ -1,15 +1,10 @@
 //! The top call: from the words of a command line to the two files that were sent and the log of the run.
 #![tactic(auto)]
 
-mod connection;
-mod data;
 mod device;
 mod handshake;
-mod hearing;
 mod input;
 mod log;
-mod opening;
-mod saying;
 mod script;
 mod status;
 mod top_call;

@@ -1,7 +1,7 @@
 //! The lines of a log.
 
 ghost use Rattle.std.specs.Prelude.{◌≡◌, ◌++◌, IfOk, IfErr, OnOk, string_bytes};
-ghost use Rattle.mptcp_run.specs.Segments.{segment_line};
+ghost use Rattle.mptcp_run.specs.Log.{segment_line};
 
 use crate::status::Status;
 use std::alloc::{AllocError, Global};

@@ -308,21 +308,6 @@ segment 9c40138902101fe76a443a33a0108000590c00001e1401017c0ad3c59311ece1484fc878
     )
 }
 
-// The third ACK of seed 1.
-const THIRD_ACK: &[u8] =
-    b"\x9c\x40\x13\x89\x02\x10\x1f\xe7\x6a\x44\x3a\x33\xa0\x10\x08\x00\xd1\x0c\x00\x00\x1e\x14\x01\x01\x7c\x0a\xd3\xc5\x93\x11\xec\xe1\x48\x4f\xc8\x78\x85\x5a\x77\x7d";
-
-#[test]
-fn keys_are_read_back(rt: HostRuntime) -> Result<(), Fail> {
-    let own = 0x484f_c878_855a_777d;
-    assert_eq!(rt;
-        opening::hear_third_ack(own, THIRD_ACK),
-        Some(0x7c0a_d3c5_9311_ece1)
-    );
-    assert_eq!(rt; opening::hear_third_ack(own + 1, THIRD_ACK), None);
-    Ok(())
-}
-
 /// These words are no command line.
 fn refuses_words(rt: &(impl Abort + AllocGlobal), texts: &[&str]) -> Result<(), Fail> {
     let mut outside = outside(rt.alloc(), [SCRIPT, b"", b""], None)?;

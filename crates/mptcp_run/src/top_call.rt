@@ -6,12 +6,12 @@ ghost use Rattle.outside_kit.specs.Outside.{HasRisen, HoldsAfter};
 ghost use Rattle.mptcp_run.specs.declared.status.Named.{Named};
 ghost use Rattle.link_script.specs.declared.fault.ScriptKind.{ScriptKind};
 ghost use Rattle.link_script.specs.declared.fault.ScriptFault.TheVariants.{Line};
-ghost use Rattle.mptcp_run.specs.Drawn.{FitsFields};
+ghost use Rattle.path_segments.specs.Drawn.{FitsFields};
 ghost use Rattle.mptcp_run.specs.Words.{names_in};
 ghost use Rattle.mptcp_run.specs.Causes.{limit_of};
 ghost use Rattle.mptcp_run.specs.Inputs.{name_of, IsWithin, AreWithinBefore};
 ghost use Rattle.mptcp_run.specs.Script.{connection_in};
-ghost use Rattle.mptcp_run.specs.Segments.{log_text};
+ghost use Rattle.mptcp_run.specs.Log.{log_text};
 ghost use Rattle.mptcp_run.specs.Ports.{NeverFall, IsPortsFault, HoldsPrefix, HoldsBound};
 ghost use Rattle.mptcp_run.specs.Task.{task_of, IsRefusal, HasLoaded, HasBegun, IsCutOff, IsValid};
 

@@ -6,16 +6,16 @@ ghost use Rattle.outside_kit.specs.Outside.{HoldsAfter};
 ghost use Rattle.pipe_model.specs.Pipe.{opening, refusal, after, TakesMemory};
 ghost use Rattle.segment_wire.specs.Segment.{CanWrite};
 ghost use Rattle.mptcp_run.specs.Ports.{NeverFall, IsPortsFault, HoldsPrefix};
-ghost use Rattle.mptcp_run.specs.Segments.{data_segment, segment_line, all_lines, sending_text};
+ghost use Rattle.path_segments.specs.Segments.{data_segment};
+ghost use Rattle.mptcp_run.specs.Log.{segment_line, all_lines, sending_text};
 ghost use Rattle.mptcp_run.specs.Sending.{IsSending, next_piece, next_octets, after_piece, IsClosed, IsOpened};
 
-use crate::connection::{Connection, Opened};
-use crate::data::hear_data;
 use crate::device::put;
+use crate::handshake::Opened;
 use crate::log::segment_line;
-use crate::saying::write_data;
 use crate::status::Status;
 use outside_kit::{Outside, Port};
+use path_segments::{Connection, hear_data, write_data};
 use pipe_model::{Pipe, PipeFault, PipeStep, Text, pipe_step};
 use std::alloc::{AllocError, Global};
 

@@ -1,9 +1,9 @@
 use Rattle.std.proofs.Common.{◌≡◌, ap, subst, List, ℕ, Option}
 use Rattle.std.proofs.lemmas.Result.{on_err_weaker}
 use Rattle.outside_kit.specs.declared.port.Port.TheVariants.{Log}
-use Rattle.mptcp_run.specs.declared.connection.Connection.{Connection}
+use Rattle.path_segments.specs.declared.connection.Connection.{Connection}
 use Rattle.mptcp_run.specs.Ports.{HoldsPrefix}
-use Rattle.mptcp_run.specs.Segments.{opening_lines, sending_text, log_text}
+use Rattle.mptcp_run.specs.Log.{opening_lines, sending_text, log_text}
 use Rattle.mptcp_run.proofs.PortsLemmas.{HoldsBound-longer, HoldsPrefix-unchanged, HoldsPrefix-then, HoldsPrefix-grows, OnErr-holds}
 use Rattle.mptcp_run.proofs.top_call.send.Goals as goal
 

@@ -1,7 +1,7 @@
 use Rattle.std.proofs.Common.{◌≡◌, ◌∙◌, refl, ap, ◌<◌, length, ◌+◌, ◌*◌, sym, subst, take, List, ℕ, arith}
 use Rattle.std.specs.Int.{div_ceil}
 use Rattle.pipe_model.specs.Prefix.{IsPrefix}
-use Rattle.mptcp_run.specs.Segments.{all_lines}
+use Rattle.mptcp_run.specs.Log.{all_lines}
 use Rattle.mptcp_run.proofs.PortsLemmas.{HoldsAfter-nothing, HoldsAfter-append, HoldsPrefix-grown, IsPrefix-take, OnErr-holds}
 use Rattle.mptcp_run.proofs.SendingLemmas.{at_piece-none, at_piece-more, next_read_is, next_lines_are, first_lines-none, first_lines-IsPrefix}
 use Rattle.mptcp_run.proofs.transfer.send_pieces.Goals as goal

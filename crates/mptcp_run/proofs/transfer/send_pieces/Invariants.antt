@@ -2,7 +2,7 @@ use Rattle.std.proofs.Common.{◌≡◌, ◌*◌, ◌++◌, min, length, take}
 use Rattle.outside_kit.specs.declared.port.Port.TheVariants.{ReadByA, ReadByB, Log}
 use Rattle.outside_kit.specs.Outside.{HoldsAfter}
 use Rattle.mptcp_run.specs.Ports.{NeverFall}
-use Rattle.mptcp_run.specs.Segments.{first_lines}
+use Rattle.mptcp_run.specs.Log.{first_lines}
 use Rattle.mptcp_run.proofs.transfer.send_pieces.Given as goal
 
 abbrev pub invariant-loop-index : goal.invariant-loop-index

@@ -1,7 +1,7 @@
 use Rattle.std.proofs.Common.{◌∙◌, ap, sym, refl}
 use Rattle.capable_handshake.specs.Heard.{keys_on_ack}
-use Rattle.mptcp_run.proofs.HeardAgain.{value_heard-copied, sender_to-own, sender_to-none}
-use Rattle.mptcp_run.proofs.opening.third_step.Goals as goal
+use Rattle.path_segments.proofs.HeardAgain.{value_heard-copied, sender_to-own, sender_to-none}
+use Rattle.path_segments.proofs.opening.third_step.Goals as goal
 
 pub returns-in-Ok : goal.returns-in-Ok
 returns-in-Ok c =

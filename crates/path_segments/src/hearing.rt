@@ -5,7 +5,7 @@ ghost use Rattle.segment_wire.specs.Options.{option_octets};
 ghost use Rattle.segment_wire.specs.Reading.{segment_of};
 ghost use Rattle.segment_wire.specs.Segment.{Segment, CanWrite, segment_text};
 ghost use Rattle.mptcp_options.specs.Value.{value_of};
-ghost use Rattle.mptcp_run.specs.Hearing.{first_known, heard_in, heard_between, shown};
+ghost use Rattle.path_segments.specs.Hearing.{first_known, heard_in, heard_between, shown};
 
 use mptcp_options::{MpOption, Read, read};
 use segment_wire::{Addresses, SegmentRef, parse};

@@ -3,11 +3,11 @@
 ghost use Rattle.std.specs.Prelude.{◌≡◌, ◌^◌, ◌<◌, ℕ, Some, option_and_then};
 ghost use Rattle.seq_units.specs.Number.{number_of};
 ghost use Rattle.segment_wire.specs.Segment.{CanWrite, segment_text};
-ghost use Rattle.mptcp_run.specs.declared.connection.End.{End};
-ghost use Rattle.mptcp_run.specs.declared.connection.Settings.{Settings};
-ghost use Rattle.mptcp_run.specs.declared.connection.Connection.{Connection};
-ghost use Rattle.mptcp_run.specs.Hearing.{heard_value, heard_between, syn_heard, syn_ack_heard, third_ack_heard};
-ghost use Rattle.mptcp_run.specs.Segments.{from_a, from_b, subflow_number, syn, syn_ack, third_ack};
+ghost use Rattle.path_segments.specs.declared.connection.End.{End};
+ghost use Rattle.path_segments.specs.declared.connection.Settings.{Settings};
+ghost use Rattle.path_segments.specs.declared.connection.Connection.{Connection};
+ghost use Rattle.path_segments.specs.Hearing.{heard_value, heard_between, syn_heard, syn_ack_heard, third_ack_heard};
+ghost use Rattle.path_segments.specs.Segments.{from_a, from_b, subflow_number, syn, syn_ack, third_ack};
 
 use crate::connection::End;
 use crate::hearing::{Heard, hear};
@@ -15,8 +15,8 @@ use crate::saying::{FROM_A, FROM_B};
 use capable_handshake::{client_answer, server_keys, server_syn};
 use seq_units::{Seq32, number32};
 
-/// B's step at the SYN: the number up to which it acknowledges, or None where this is no SYN of a connection without
-/// checksums.
+/// B's step at the SYN: the number up to which it acknowledges, or None where the octets are no SYN of a connection
+/// without checksums.
 #[tactic(auto, using(crate::proofs::HeardAgain::heard_syn))]
 pub fn hear_syn(octets: &[u8]) -> Option<u32>
     ensures exact { result ≡ option_and_then syn_heard (heard_between from_a octets.now) }
@@ -44,7 +44,7 @@ fn next_number(number: u32) -> u32
     next
 }
 
-/// A's step at the SYN/ACK: what B says of itself.
+/// A's step at the SYN/ACK: what B says of itself, or None where the octets are no SYN/ACK without checksums.
 pub fn hear_syn_ack(octets: &[u8]) -> Option<End>
     ensures exact { result ≡ option_and_then syn_ack_heard (heard_between from_b octets.now) }
     // B's own SYN/ACK is heard.
@@ -66,7 +66,7 @@ fn syn_ack_step(heard: &Heard<'_>) -> Option<End>
     }
 }
 
-/// B's step at the third ACK: A's key, where B's own is the second one.
+/// B's step at the third ACK: A's key, or None where the octets don't have both keys, B's own as the second one.
 pub fn hear_third_ack(own: u64, octets: &[u8]) -> Option<u64>
     ensures exact { result ≡ option_and_then (third_ack_heard own) (heard_between from_a octets.now) }
     // A's own third ACK is heard.

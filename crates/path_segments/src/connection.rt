@@ -1,7 +1,7 @@
-//! What the ends of a connection know when path 0 is open.
+//! The ends of a connection, drawn from a seed.
 
 ghost use Rattle.std.specs.Prelude.{◌≡◌, ◌+◌, ◌^◌, ◌<◌};
-ghost use Rattle.mptcp_run.specs.Drawn.{key_of, end_of_a, end_of_b, drawn_connection};
+ghost use Rattle.path_segments.specs.Drawn.{key_of, end_of_a, end_of_b, drawn_connection};
 
 use key_material::drawn;
 
@@ -76,13 +76,4 @@ impl Connection {
             settings,
         }
     }
-}
-
-/// What the ends know once path 0 is open.
-#[derive(Clone, Copy, Debug, PartialEq, Eq)]
-pub struct Opened {
-    /// What A knows of both.
-    pub sender: Connection,
-    /// A's key, as B heard it.
-    pub key: u64,
 }

@@ -5,10 +5,10 @@ use Rattle.mptcp_options.specs.Value.{OptionValue, Dss, value_of}
 use Rattle.mptcp_options.specs.Text.{option_text}
 use Rattle.capable_handshake.specs.Said.{syn_option, syn_ack_option, ack_option, first_data_option}
 use Rattle.mptcp_options.specs.declared.dss.DataNumber.TheVariants.{Whole}
-use Rattle.mptcp_run.specs.declared.connection.Connection.{Connection}
+use Rattle.path_segments.specs.declared.connection.Connection.{Connection}
 use Rattle.key_material.specs.KeyDigest.{idsn_of}
 use Rattle.seq_units.specs.Number.{number_of}
-use Rattle.mptcp_run.specs.Segments.{syn_options, data_option}
+use Rattle.path_segments.specs.Segments.{syn_options, data_option}
 
 syn_carried : (mss : ℕ) → CanCarry (syn_options mss (value_of (syn_option false))) []
 unfolding option_text

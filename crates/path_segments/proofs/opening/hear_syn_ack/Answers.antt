@@ -1,8 +1,8 @@
 use Rattle.std.proofs.Common.{◌≡◌, ◌∙◌, ap}
-use Rattle.mptcp_run.specs.Hearing.{heard_value, heard_in, syn_ack_heard}
-use Rattle.mptcp_run.specs.Segments.{syn_ack}
-use Rattle.mptcp_run.proofs.HeardAgain.{heard_syn_ack}
-use Rattle.mptcp_run.proofs.opening.hear_syn_ack.Goals as goal
+use Rattle.path_segments.specs.Hearing.{heard_value, heard_in, syn_ack_heard}
+use Rattle.path_segments.specs.Segments.{syn_ack}
+use Rattle.path_segments.proofs.HeardAgain.{heard_syn_ack}
+use Rattle.path_segments.proofs.opening.hear_syn_ack.Goals as goal
 
 pub returns-clause-said : goal.returns-clause-said
 returns-clause-said c ack b settings fits can octets =

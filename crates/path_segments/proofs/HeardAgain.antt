@@ -10,16 +10,16 @@ use Rattle.mptcp_options.specs.Meaning.{option_meaning, is_of_another_kind}
 use Rattle.mptcp_options.proofs.OptionLaws.{read_again}
 use Rattle.capable_handshake.specs.Said.{syn_option, syn_ack_option, ack_option, first_data_option}
 use Rattle.mptcp_options.specs.declared.dss.DataNumber.TheVariants.{Whole}
-use Rattle.mptcp_run.specs.declared.connection.End.{End}
-use Rattle.mptcp_run.specs.declared.connection.Settings.{Settings}
-use Rattle.mptcp_run.specs.declared.connection.Connection.{Connection}
+use Rattle.path_segments.specs.declared.connection.End.{End}
+use Rattle.path_segments.specs.declared.connection.Settings.{Settings}
+use Rattle.path_segments.specs.declared.connection.Connection.{Connection}
 use Rattle.key_material.specs.KeyDigest.{idsn_of}
 use Rattle.seq_units.specs.Number.{number_of, below, IsNear}
 use Rattle.std.specs.Prelude.{pos, ◌-ℤ◌}
 use Rattle.std.proofs.lemmas.Int.{ints}
 use Rattle.seq_units.proofs.ReadBack.{position_near-number_of_64}
-use Rattle.mptcp_run.specs.Hearing.{HeardValue, first_known, heard_in, syn_heard, syn_ack_heard, sender_to, ◌>>=◌, place_named, mapped_by, place_and_length, data_heard}
-use Rattle.mptcp_run.specs.Segments.{subflow_number, syn_options, syn, syn_ack, third_ack, data_option, data_segment}
+use Rattle.path_segments.specs.Hearing.{HeardValue, first_known, heard_in, syn_heard, syn_ack_heard, sender_to, ◌>>=◌, place_named, mapped_by, place_and_length, data_heard}
+use Rattle.path_segments.specs.Segments.{subflow_number, syn_options, syn, syn_ack, third_ack, data_option, data_segment}
 
 mss_passed : (mss : ℕ) → option_meaning (2 ∷ 4 ∷ to_be_bytes w16 mss) false ≡ Unknown
 unfolding option_meaning is_of_another_kind

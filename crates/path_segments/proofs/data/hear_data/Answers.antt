@@ -1,8 +1,8 @@
 use Rattle.std.proofs.Common.{◌≡◌, ◌∙◌, ap, sym, subst, ◌<◌, ◌^◌, ℕ}
-use Rattle.mptcp_run.specs.Hearing.{heard_value, heard_in, data_heard}
-use Rattle.mptcp_run.specs.Segments.{data_segment}
-use Rattle.mptcp_run.proofs.HeardAgain.{heard_data}
-use Rattle.mptcp_run.proofs.data.hear_data.Goals as goal
+use Rattle.path_segments.specs.Hearing.{heard_value, heard_in, data_heard}
+use Rattle.path_segments.specs.Segments.{data_segment}
+use Rattle.path_segments.proofs.HeardAgain.{heard_data}
+use Rattle.path_segments.proofs.data.hear_data.Goals as goal
 
 pub returns-clause-said : goal.returns-clause-said
 returns-clause-said c connection payload key fits_b few can octets =

@@ -1,8 +1,8 @@
 use Rattle.std.proofs.Common.{◌≡◌, ◌∙◌, ap, sym, Some, subst, ◌<◌, ◌^◌, ℕ}
-use Rattle.mptcp_run.specs.Hearing.{heard_value, heard_in, third_ack_heard}
-use Rattle.mptcp_run.specs.Segments.{third_ack}
-use Rattle.mptcp_run.proofs.HeardAgain.{heard_third, sender_to-own}
-use Rattle.mptcp_run.proofs.opening.hear_third_ack.Goals as goal
+use Rattle.path_segments.specs.Hearing.{heard_value, heard_in, third_ack_heard}
+use Rattle.path_segments.specs.Segments.{third_ack}
+use Rattle.path_segments.proofs.HeardAgain.{heard_third, sender_to-own}
+use Rattle.path_segments.proofs.opening.hear_third_ack.Goals as goal
 
 pub returns-clause-said : goal.returns-clause-said
 returns-clause-said c connection fits own can octets =

@@ -4,7 +4,7 @@ ghost use Rattle.std.specs.Prelude.{◌≡◌, ◌+◌, ◌^◌, ◌<◌, ◌≤
 ghost use Rattle.segment_wire.specs.Segment.{CanWrite, segment_text};
 ghost use Rattle.mptcp_options.specs.Value.{value_of};
 ghost use Rattle.mptcp_options.specs.Text.{HasForm, option_text};
-ghost use Rattle.mptcp_run.specs.Segments.{from_a, from_b, subflow_number, syn_window, scaled_window, syn_options, syn, syn_ack, head_at, third_ack, data_option, data_segment, payload_of};
+ghost use Rattle.path_segments.specs.Segments.{from_a, from_b, subflow_number, syn_window, scaled_window, syn_options, syn, syn_ack, head_at, third_ack, data_option, data_segment, payload_of};
 ghost use Rattle.key_material.specs.KeyDigest.{idsn_of};
 ghost use Rattle.seq_units.specs.Number.{number_of};
 
@@ -53,7 +53,7 @@ impl Settings {
         self.buffer.min(65_535) as u16
     }
 
-    /// How many octets of a file a segment carries.
+    /// How many octets of a file a segment carries: the MSS less the 28 of the longest option.
     pub fn payload(&self) -> usize
         requires { 28 ≤ self.now.mss }
         ensures { result ≡ payload_of self.now }
@@ -83,7 +83,11 @@ fn syn_options(alloc: Global, mss: u16, option: &MpOption<'_>) -> Result<Text, A
     Ok(options)
 }
 
-/// A's SYN.
+/// The octets of A's SYN: the MSS, a window scale of 5, and MP_CAPABLE without a key (RFC 8684, section 3.1).
+///
+/// # Errors
+///
+/// Only where there is no memory for the octets, as for the other segments.
 #[tactic(auto, using(crate::proofs::Carried::carried_syn))]
 pub fn write_syn(alloc: Global, a: &End, settings: &Settings) -> Result<Vec<u8>, AllocError>
     ensures text { IfOk result (λ octets. octets.items ≡ segment_text from_a (syn a.now settings.now)) }
@@ -104,7 +108,7 @@ pub fn write_syn(alloc: Global, a: &End, settings: &Settings) -> Result<Vec<u8>,
     write(alloc, &head, &FROM_A, options.as_bytes(), &[])
 }
 
-/// B's SYN/ACK, which acknowledges up to this number.
+/// The octets of B's SYN/ACK, which acknowledges up to the number `ack`: the options of the SYN, with B's key.
 #[tactic(auto, using(crate::proofs::Carried::carried_syn_ack))]
 pub fn write_syn_ack(
     alloc: Global,
@@ -180,7 +184,7 @@ fn data_number(key: u64, position: u64) -> u64
     number
 }
 
-/// A's ACK, which opens the path.
+/// The octets of A's ACK, which opens the path: MP_CAPABLE with A's key and B's.
 #[tactic(auto, using(crate::proofs::Carried::carried_third))]
 pub fn write_third_ack(alloc: Global, connection: &Connection) -> Result<Vec<u8>, AllocError>
     requires { connection.now.settings.buffer ≤ 2 ^ 20 }
@@ -193,7 +197,8 @@ pub fn write_third_ack(alloc: Global, connection: &Connection) -> Result<Vec<u8>
     write(alloc, &connection.head(1), &FROM_A, options.as_bytes(), &[])
 }
 
-/// A's segment that carries this payload from the place on.
+/// The octets of A's segment that carries this payload, its first octet at `place` of the stream, counted from 0: both
+/// keys at place 0, and a DSS with a mapping behind it (RFC 8684, section 3.3).
 #[tactic(auto, using(crate::proofs::Carried::carried_data))]
 pub fn write_data(
     alloc: Global,

@@ -2,8 +2,8 @@ use Rattle.std.proofs.Common.{◌≡◌}
 use Rattle.segment_wire.specs.OptionFront.{octets_alone, options_left}
 use Rattle.segment_wire.specs.Options.{option_octets}
 use Rattle.segment_wire.specs.Reading.{segment_of}
-use Rattle.mptcp_run.specs.Hearing.{first_known}
-use Rattle.mptcp_run.proofs.hearing.known_option.Given as goal
+use Rattle.path_segments.specs.Hearing.{first_known}
+use Rattle.path_segments.proofs.hearing.known_option.Given as goal
 
 abbrev pub invariant-loop-option : goal.invariant-loop-option
 invariant-loop-option l =

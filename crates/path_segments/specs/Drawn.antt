@@ -1,9 +1,9 @@
 -- What is drawn from the seed of a script: the keys and the initial sequence numbers of path 0.
 use Rattle.std.specs.Prelude.{ℕ, ◌+◌, ◌*◌, ◌^◌, ◌<◌, ◌≤◌}
 use Rattle.key_material.specs.Drawing.{drawn_word}
-use Rattle.mptcp_run.specs.declared.connection.End.{End}
-use Rattle.mptcp_run.specs.declared.connection.Settings.{Settings}
-use Rattle.mptcp_run.specs.declared.connection.Connection.{Connection}
+use Rattle.path_segments.specs.declared.connection.End.{End}
+use Rattle.path_segments.specs.declared.connection.Settings.{Settings}
+use Rattle.path_segments.specs.declared.connection.Connection.{Connection}
 
 -- two words of stream 0 are a key, the high half first
 abbrev pub key_of : ℕ → ℕ → ℕ

@@ -1,20 +1,18 @@
 -- The segments of path 0: the three that open it (RFC 8684, section 3.1), and those that carry a file.
-use Rattle.std.specs.Prelude.{ℕ, ◌+◌, ◌-◌, ◌*◌, ◌/◌, ◌^◌, min, true, false, ◌==◌, if◌then◌else◌, List, [], ◌∷◌, ◌++◌, length, take, drop, map, codes, Some, None}
-use Rattle.std.specs.Int.{w16, to_be_bytes, div_ceil}
-use Rattle.std.specs.List.{concat, range_with_len}
-use Rattle.hex.specs.Hex.{encode_lower}
+use Rattle.std.specs.Prelude.{ℕ, ◌+◌, ◌-◌, ◌/◌, ◌^◌, min, true, false, ◌==◌, if◌then◌else◌, List, [], ◌∷◌, ◌++◌, length, Some, None}
+use Rattle.std.specs.Int.{w16, to_be_bytes}
 use Rattle.segment_wire.specs.declared.head.Addresses.{Addresses}
 use Rattle.segment_wire.specs.declared.head.Head.{Head}
-use Rattle.segment_wire.specs.Segment.{Segment, segment_text}
+use Rattle.segment_wire.specs.Segment.{Segment}
 use Rattle.mptcp_options.specs.declared.dss.DataNumber.TheVariants.{Whole}
 use Rattle.mptcp_options.specs.Value.{OptionValue, Dss, value_of}
 use Rattle.mptcp_options.specs.Text.{option_text}
 use Rattle.capable_handshake.specs.Said.{syn_option, syn_ack_option, ack_option, first_data_option}
 use Rattle.key_material.specs.KeyDigest.{idsn_of}
 use Rattle.seq_units.specs.Number.{number_of}
-use Rattle.mptcp_run.specs.declared.connection.End.{End}
-use Rattle.mptcp_run.specs.declared.connection.Settings.{Settings}
-use Rattle.mptcp_run.specs.declared.connection.Connection.{Connection}
+use Rattle.path_segments.specs.declared.connection.End.{End}
+use Rattle.path_segments.specs.declared.connection.Settings.{Settings}
+use Rattle.path_segments.specs.declared.connection.Connection.{Connection}
 
 -- A is 10.0.0.1 and B is 10.0.0.2 on path 0
 abbrev pub from_a : Addresses
@@ -114,44 +112,6 @@ data_segment c place payload = record {
   payload = payload;
 }
 
--- ---- the log
-
--- the octets of a segment in the log
-abbrev pub segment_line : List ℕ → List ℕ
-segment_line octets = codes "segment " ++ (encode_lower octets ++ (10 ∷ []))
-
--- the lines of the segments that open path 0
-abbrev pub opening_lines : Connection → List ℕ
-opening_lines c =
-    segment_line (segment_text from_a (syn c.a c.settings)) ++ (segment_line (segment_text from_b (syn_ack (subflow_number c.a 1) c.b c.settings)) ++ segment_line (segment_text from_a (third_ack c)))
-
--- a file is cut into pieces of this size, the last one shorter
-abbrev pub piece_at : ℕ → List ℕ → ℕ → List ℕ
-piece_at size file index = take size (drop (index * size) file)
-
-abbrev pub piece_count : ℕ → List ℕ → ℕ
-piece_count size file = div_ceil (length file) size
-
--- the line of the segment that carries a piece
-abbrev pub piece_line : Connection → ℕ → List ℕ → ℕ → List ℕ
-piece_line c size file index = segment_line (segment_text from_a (data_segment c (index * size) (piece_at size file index)))
-
--- the lines of the first segments of a file
-unfoldable pub first_lines : Connection → ℕ → List ℕ → ℕ → List ℕ
-first_lines c size file count = concat (map (piece_line c size file) (range_with_len 0 count))
-
--- the lines of all segments of a file
-abbrev pub all_lines : Connection → ℕ → List ℕ → List ℕ
-all_lines c size file = first_lines c size file (piece_count size file)
-
 -- how many octets of the file each segment carries, but for the last
 abbrev pub payload_of : Settings → ℕ
 payload_of settings = settings.mss - 28
-
--- what is put to the log once the path is open: the segments of the file, and the outcome
-abbrev pub sending_text : Connection → List ℕ → List ℕ
-sending_text c file = all_lines c (payload_of c.settings) file ++ codes "outcome delivered\n"
-
--- what a run puts to the log that opens path 0 and sends a file
-abbrev pub log_text : Connection → List ℕ → List ℕ
-log_text c file = opening_lines c ++ sending_text c file

@@ -8,14 +8,14 @@ use Rattle.mptcp_options.specs.declared.capable.CapableKeys.TheVariants.{WithDat
 use Rattle.mptcp_options.specs.declared.dss.DataNumber.{DataNumber}
 use Rattle.mptcp_options.specs.declared.dss.DataNumber.TheVariants.{Whole, Low}
 use Rattle.mptcp_options.specs.declared.dss.DssMap.{DssMap}
-use Rattle.mptcp_run.specs.declared.connection.End.{End}
+use Rattle.path_segments.specs.declared.connection.End.{End}
 use Rattle.segment_wire.specs.Options.{option_octets}
 use Rattle.segment_wire.specs.Segment.{Segment}
 use Rattle.segment_wire.specs.Reading.{segment_meaning}
 use Rattle.segment_wire.specs.declared.head.Addresses.{Addresses}
 use Rattle.mptcp_options.specs.Value.{OptionValue, Capable, Dss, Meaning, Known, Unknown, Malformed, value_of}
 use Rattle.mptcp_options.specs.Meaning.{option_meaning}
-use Rattle.mptcp_run.specs.declared.hearing.Heard.{Heard}
+use Rattle.path_segments.specs.declared.hearing.Heard.{Heard}
 
 -- the option that is meant, or what else there is
 abbrev pub known_or : Meaning → Option OptionValue → Option OptionValue

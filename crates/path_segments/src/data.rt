@@ -3,9 +3,9 @@
 ghost use Rattle.std.specs.Prelude.{◌≡◌, ◌+◌, ◌^◌, ◌<◌, ◌≤◌, ℕ, List, length, Some, option_and_then, option_copied};
 ghost use Rattle.segment_wire.specs.Segment.{CanWrite, segment_text};
 ghost use Rattle.mptcp_options.specs.Value.{value_of};
-ghost use Rattle.mptcp_run.specs.declared.connection.Connection.{Connection};
-ghost use Rattle.mptcp_run.specs.Hearing.{heard_value, heard_between, place_named, mapped_by, place_and_length, data_heard};
-ghost use Rattle.mptcp_run.specs.Segments.{from_a, data_segment};
+ghost use Rattle.path_segments.specs.declared.connection.Connection.{Connection};
+ghost use Rattle.path_segments.specs.Hearing.{heard_value, heard_between, place_named, mapped_by, place_and_length, data_heard};
+ghost use Rattle.path_segments.specs.Segments.{from_a, data_segment};
 
 use crate::hearing::{Heard, hear};
 use crate::saying::FROM_A;
@@ -13,8 +13,8 @@ use key_material::idsn;
 use mptcp_options::{CapableKeys, DataNumber, DssMap, MpOption};
 use seq_units::{Seq64, near64};
 
-/// The payload of A's segment, where it is the next of the stream: A has this key, and `next` is the place that B
-/// expects.
+/// The payload of A's segment, where its option maps all of it to the place `next` of the stream, counted from 0; `key`
+/// is A's. None where it doesn't, or where the octets are no segment.
 pub fn hear_data<'a>(key: u64, next: u64, octets: &'a [u8]) -> Option<&'a [u8]>
     requires { next < 2 ^ 31 }
     ensures exact { option_copied result ≡ option_and_then (data_heard key next) (heard_between from_a octets.now) }
