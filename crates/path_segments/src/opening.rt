@@ -1,4 +1,4 @@
-//! What each end takes from the segments that open path 0 (RFC 8684, section 3.1).
+//! What each end takes from the segments that open path 0 (RFC 8684, section 3.1). The option alone tells the step.
 
 ghost use Rattle.std.specs.Prelude.{◌≡◌, ◌^◌, ◌<◌, ℕ, Some, option_and_then};
 ghost use Rattle.seq_units.specs.Number.{number_of};
@@ -15,8 +15,8 @@ use crate::saying::{FROM_A, FROM_B};
 use capable_handshake::{client_answer, server_keys, server_syn};
 use seq_units::{Seq32, number32};
 
-/// B's step at the SYN: the number up to which it acknowledges, or None where the octets are no SYN of a connection
-/// without checksums.
+/// B's step at the SYN: the number up to which it acknowledges, or None where the octets are no segment with the option
+/// of a SYN that asks for no checksums.
 #[tactic(auto, using(crate::proofs::HeardAgain::heard_syn))]
 pub fn hear_syn(octets: &[u8]) -> Option<u32>
     ensures exact { result ≡ option_and_then syn_heard (heard_between from_a octets.now) }
@@ -44,7 +44,8 @@ fn next_number(number: u32) -> u32
     next
 }
 
-/// A's step at the SYN/ACK: what B says of itself, or None where the octets are no SYN/ACK without checksums.
+/// A's step at the SYN/ACK: what B says of itself, or None where the octets are no segment with the option of a SYN/ACK
+/// that asks for no checksums.
 pub fn hear_syn_ack(octets: &[u8]) -> Option<End>
     ensures exact { result ≡ option_and_then syn_ack_heard (heard_between from_b octets.now) }
     // B's own SYN/ACK is heard.
@@ -66,7 +67,8 @@ fn syn_ack_step(heard: &Heard<'_>) -> Option<End>
     }
 }
 
-/// B's step at the third ACK: A's key, or None where the octets don't have both keys, B's own as the second one.
+/// B's step at the third ACK: A's key, or None where the octets are no segment with both keys, of which the second is
+/// B's own.
 pub fn hear_third_ack(own: u64, octets: &[u8]) -> Option<u64>
     ensures exact { result ≡ option_and_then (third_ack_heard own) (heard_between from_a octets.now) }
     // A's own third ACK is heard.
