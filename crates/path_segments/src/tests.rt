@@ -73,14 +73,15 @@ fn data_is_sent(rt: HostRuntime) -> Result<(), Fail> {
     let drawn = Connection::drawn(1, settings());
     let first = write_data(rt.alloc(), &drawn, 0, b"hello")?;
     assert_eq!(rt; first.as_slice(), FIRST_DATA);
-    assert_eq!(rt; hear_data(KEY_OF_A, 0, &first), Some(b"hello".as_slice()));
+    assert!(rt;
+        matches!(hear_data(KEY_OF_A, 0, &first), Some(payload) if payload == b"hello".as_slice())
+    );
     let later = write_data(rt.alloc(), &drawn, 1372, b"world")?;
     assert_eq!(rt; later.as_slice(), LATER_DATA);
-    assert_eq!(rt;
-        hear_data(KEY_OF_A, 1372, &later),
-        Some(b"world".as_slice())
+    assert!(rt;
+        matches!(hear_data(KEY_OF_A, 1372, &later), Some(payload) if payload == b"world".as_slice())
     );
-    assert_eq!(rt; hear_data(KEY_OF_A, 0, &later), None);
+    assert!(rt; hear_data(KEY_OF_A, 0, &later).is_none());
     Ok(())
 }
 
@@ -91,5 +92,5 @@ fn other_segments_are_not_heard(rt: HostRuntime) {
     assert_eq!(rt; hear_syn(THIRD_ACK), None);
     assert_eq!(rt; hear_syn_ack(SYN), None);
     assert_eq!(rt; hear_third_ack(KEY_OF_B, SYN), None);
-    assert_eq!(rt; hear_data(KEY_OF_A, 0, THIRD_ACK), None);
+    assert!(rt; hear_data(KEY_OF_A, 0, THIRD_ACK).is_none());
 }
