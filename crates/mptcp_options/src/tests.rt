@@ -1,10 +1,10 @@
 ghost use Rattle.mptcp_options.specs.Value.{value_of};
 ghost use Rattle.mptcp_options.specs.Text.{HasForm};
+ghost use Rattle.mptcp_options.specs.Capable.{KeysHaveForm};
 
 use super::*;
 use key_material::Address;
 use pipe_model::Text;
-use std::alloc::{AllocError, Global};
 use std::process::Abort;
 use std::test::Fail;
 
@@ -191,17 +191,23 @@ const DSS_FLAGS: [(u8, usize, usize, Option<DataNumber>, Option<DataNumber>); 16
     ),
 ];
 
+/// A DSS of this length with these flags, in octets that count from 0, and what comes after it.
+fn counting_dss(length: u8, flags: u8) -> [u8; 40] {
+    let mut octets = COUNTING;
+    octets[0] = 0x1E;
+    octets[1] = length;
+    octets[2] = 0x20;
+    octets[3] = flags;
+    octets
+}
+
 #[test]
 fn every_flag_of_a_dss(rt: HostRuntime) {
     for (flags, off, on, wanted_ack, wanted_number) in DSS_FLAGS {
         for (length, checksum) in [(off, false), (on, true)] {
             for fin_flag in [0, 0x10] {
                 assert!(rt; length <= 40);
-                let mut octets = COUNTING;
-                octets[0] = 0x1E;
-                octets[1] = length as u8;
-                octets[2] = 0x20;
-                octets[3] = flags | fin_flag;
+                let octets = counting_dss(length as u8, flags | fin_flag);
                 match read(&octets[..length], checksum) {
                     Read::Known(MpOption::Dss { ack, mapping, fin }) => {
                         assert_eq!(rt; ack, wanted_ack, "Data ACK of {flags}");
@@ -222,11 +228,7 @@ fn every_flag_of_a_dss(rt: HostRuntime) {
         }
         if wanted_number.is_some() {
             assert!(rt; off <= 40);
-            let mut octets = COUNTING;
-            octets[0] = 0x1E;
-            octets[1] = off as u8;
-            octets[2] = 0x20;
-            octets[3] = flags;
+            let octets = counting_dss(off as u8, flags);
             assert_eq!(rt;
                 read(&octets[..off], true),
                 Read::Malformed,
@@ -255,354 +257,353 @@ fn unusable_options(rt: HostRuntime) {
     }
 }
 
+/// The option is written as these octets, after what stands before it, and they are read as the option.
 fn both_ways(
-    rt: &impl Abort,
-    alloc: Global,
+    rt: &(impl Abort + AllocGlobal),
     option: &MpOption<'_>,
     checksum: bool,
     octets: &[u8],
-) -> Result<(), AllocError>
+) -> Result<(), Fail>
     requires { HasForm checksum (value_of option.now) }
 {
-    let mut out = Text::of(alloc, b"before")?;
+    let mut out = Text::of(rt.alloc(), b"before")?;
     write(option, checksum, &mut out)?;
     assert_eq!(rt; out.as_bytes().strip_prefix(b"before"), Some(octets));
     assert_eq!(rt; read(octets, checksum), Read::Known(*option));
     Ok(())
 }
 
+const SENDER: u64 = 0x0102030405060708;
+
+const RECEIVER: u64 = 0x1112131415161718;
+
+fn keys_both_ways(
+    rt: &(impl Abort + AllocGlobal),
+    flag_a: bool,
+    flag_c: bool,
+    keys: CapableKeys,
+    checksum: bool,
+    octets: &[u8],
+) -> Result<(), Fail>
+    requires { KeysHaveForm checksum keys }
+{
+    let option = MpOption::Capable {
+        flag_a,
+        flag_c,
+        keys,
+    };
+    both_ways(rt, &option, checksum, octets)
+}
+
+/// Both keys and the length 0x0578; checksums are used where there is one.
+fn keys_with_data_both_ways(
+    rt: &(impl Abort + AllocGlobal),
+    flag_a: bool,
+    checksum: Option<u16>,
+    octets: &[u8],
+) -> Result<(), Fail> {
+    let keys = CapableKeys::WithData {
+        sender: SENDER,
+        receiver: RECEIVER,
+        length: 0x0578,
+        checksum,
+    };
+    keys_both_ways(rt, flag_a, false, keys, checksum.is_some(), octets)
+}
+
 /// The octets here and below are written out by hand from the figures of RFC 8684, section 3.
 #[test]
 fn capable_both_ways(rt: HostRuntime) -> Result<(), Fail> {
-    let alloc = rt.alloc();
-    let sender: u64 = 0x0102030405060708;
-    let receiver: u64 = 0x1112131415161718;
-    both_ways(
+    let no_key = CapableKeys::NoKey;
+    let one_key = CapableKeys::Sender { sender: SENDER };
+    let both_keys = CapableKeys::Both {
+        sender: SENDER,
+        receiver: RECEIVER,
+    };
+    keys_both_ways(&rt, false, false, no_key, false, b"\x1e\x04\x01\x01")?;
+    keys_both_ways(
         &rt,
-        alloc,
-        &MpOption::Capable {
-            flag_a: false,
-            flag_c: false,
-            keys: CapableKeys::NoKey,
-        },
+        true,
         false,
-        b"\x1e\x04\x01\x01",
-    )?;
-    both_ways(
-        &rt,
-        alloc,
-        &MpOption::Capable {
-            flag_a: true,
-            flag_c: false,
-            keys: CapableKeys::Sender { sender },
-        },
+        one_key,
         true,
         b"\x1e\x0c\x01\x81\x01\x02\x03\x04\x05\x06\x07\x08",
     )?;
-    both_ways(
+    keys_both_ways(
         &rt,
-        alloc,
-        &MpOption::Capable {
-            flag_a: false,
-            flag_c: true,
-            keys: CapableKeys::Both { sender, receiver },
-        },
+        false,
+        true,
+        both_keys,
         false,
         b"\x1e\x14\x01\x21\x01\x02\x03\x04\x05\x06\x07\x08\x11\x12\x13\x14\x15\x16\x17\x18",
     )?;
-    both_ways(
+    keys_with_data_both_ways(
         &rt,
-        alloc,
-        &MpOption::Capable {
-            flag_a: false,
-            flag_c: false,
-            keys: CapableKeys::WithData {
-                sender,
-                receiver,
-                length: 0x0578,
-                checksum: None,
-            },
-        },
         false,
+        None,
         b"\x1e\x16\x01\x01\x01\x02\x03\x04\x05\x06\x07\x08\x11\x12\x13\x14\x15\x16\x17\x18\x05\x78",
     )?;
-    both_ways(
+    keys_with_data_both_ways(
         &rt,
-        alloc,
-        &MpOption::Capable {
-            flag_a: true,
-            flag_c: false,
-            keys: CapableKeys::WithData {
-                sender,
-                receiver,
-                length: 0x0578,
-                checksum: Some(0xABCD),
-            },
-        },
         true,
+        Some(0xABCD),
         b"\x1e\x18\x01\x81\x01\x02\x03\x04\x05\x06\x07\x08\x11\x12\x13\x14\x15\x16\x17\x18\x05\x78\xab\xcd",
-    )?;
-    Ok(())
+    )
+}
+
+fn form_both_ways(
+    rt: &(impl Abort + AllocGlobal),
+    form: JoinForm,
+    checksum: bool,
+    octets: &[u8],
+) -> Result<(), Fail> {
+    both_ways(rt, &MpOption::Join { form }, checksum, octets)
 }
 
 #[test]
 fn join_both_ways(rt: HostRuntime) -> Result<(), Fail> {
-    let alloc = rt.alloc();
     let nonce = 0x31323334;
-    both_ways(
+    form_both_ways(
         &rt,
-        alloc,
-        &MpOption::Join {
-            form: JoinForm::Syn {
-                backup: true,
-                id: 2,
-                token: 0x2A2B2C2D,
-                nonce,
-            },
+        JoinForm::Syn {
+            backup: true,
+            id: 2,
+            token: 0x2A2B2C2D,
+            nonce,
         },
         false,
         b"\x1e\x0c\x11\x02\x2a\x2b\x2c\x2d\x31\x32\x33\x34",
     )?;
-    both_ways(
+    form_both_ways(
         &rt,
-        alloc,
-        &MpOption::Join {
-            form: JoinForm::Answer {
-                backup: false,
-                id: 3,
-                hmac: 0x4142434445464748,
-                nonce,
-            },
+        JoinForm::Answer {
+            backup: false,
+            id: 3,
+            hmac: 0x4142434445464748,
+            nonce,
         },
         true,
         b"\x1e\x10\x10\x03\x41\x42\x43\x44\x45\x46\x47\x48\x31\x32\x33\x34",
     )?;
-    both_ways(
+    form_both_ways(
         &rt,
-        alloc,
-        &MpOption::Join {
-            form: JoinForm::Third {
-                hmac: *b"abcdefghijklmnopqrst",
-            },
+        JoinForm::Third {
+            hmac: *b"abcdefghijklmnopqrst",
         },
         false,
         b"\x1e\x18\x10\x00\x61\x62\x63\x64\x65\x66\x67\x68\x69\x6a\x6b\x6c\x6d\x6e\x6f\x70\x71\x72\x73\x74",
-    )?;
-    Ok(())
+    )
 }
 
-/// The first two are a Data ACK of four octets alone, and both numbers of eight octets without checksum.
-#[test]
-fn dss_both_ways(rt: HostRuntime) -> Result<(), Fail> {
-    let alloc = rt.alloc();
-    both_ways(
-        &rt,
-        alloc,
-        &MpOption::Dss {
-            ack: Some(DataNumber::Low(0x0A0B0C0D)),
-            mapping: None,
-            fin: false,
-        },
-        false,
-        b"\x1e\x08\x20\x01\x0a\x0b\x0c\x0d",
-    )?;
-    both_ways(
-        &rt,
-        alloc,
-        &MpOption::Dss {
-            ack: Some(DataNumber::Whole(0x0102030405060708)),
-            mapping: Some(DssMap {
-                number: DataNumber::Whole(0x1112131415161718),
-                relative: 0x21222324,
-                length: 0x0578,
-                checksum: None,
-            }),
-            fin: false,
+/// A DSS without a mapping.
+fn ack_both_ways(
+    rt: &(impl Abort + AllocGlobal),
+    ack: Option<DataNumber>,
+    checksum: bool,
+    octets: &[u8],
+) -> Result<(), Fail> {
+    let option = MpOption::Dss {
+        ack,
+        mapping: None,
+        fin: false,
+    };
+    both_ways(rt, &option, checksum, octets)
+}
+
+/// A DSS with this mapping; checksums are used where it has one.
+fn mapping_both_ways(
+    rt: &(impl Abort + AllocGlobal),
+    ack: Option<DataNumber>,
+    map: DssMap,
+    fin: bool,
+    octets: &[u8],
+) -> Result<(), Fail> {
+    let option = MpOption::Dss {
+        ack,
+        mapping: Some(map),
+        fin,
+    };
+    both_ways(rt, &option, map.checksum.is_some(), octets)
+}
+
+/// Both numbers have eight octets, without checksum and with one.
+fn whole_numbers_both_ways(rt: &(impl Abort + AllocGlobal)) -> Result<(), Fail> {
+    let ack = Some(DataNumber::Whole(0x0102030405060708));
+    let number = DataNumber::Whole(0x1112131415161718);
+    mapping_both_ways(
+        rt,
+        ack,
+        DssMap {
+            number,
+            relative: 0x21222324,
+            length: 0x0578,
+            checksum: None,
         },
         false,
         b"\x1e\x1a\x20\x0f\x01\x02\x03\x04\x05\x06\x07\x08\x11\x12\x13\x14\x15\x16\x17\x18\x21\x22\x23\x24\x05\x78",
     )?;
-    both_ways(
-        &rt,
-        alloc,
-        &MpOption::Dss {
-            ack: Some(DataNumber::Whole(0x0102030405060708)),
-            mapping: Some(DssMap {
-                number: DataNumber::Whole(0x1112131415161718),
-                relative: 0,
-                length: 1,
-                checksum: Some(0xABCD),
-            }),
-            fin: true,
+    mapping_both_ways(
+        rt,
+        ack,
+        DssMap {
+            number,
+            relative: 0,
+            length: 1,
+            checksum: Some(0xABCD),
         },
         true,
         b"\x1e\x1c\x20\x1f\x01\x02\x03\x04\x05\x06\x07\x08\x11\x12\x13\x14\x15\x16\x17\x18\x00\x00\x00\x00\x00\x01\xab\xcd",
-    )?;
-    both_ways(
-        &rt,
-        alloc,
-        &MpOption::Dss {
-            ack: None,
-            mapping: Some(DssMap {
-                number: DataNumber::Low(0x0A0B0C0D),
-                relative: 0x21222324,
-                length: 0,
-                checksum: None,
-            }),
-            fin: false,
+    )
+}
+
+/// A number of four octets: the Data ACK alone, and the mapping's alone.
+fn low_numbers_both_ways(rt: &(impl Abort + AllocGlobal)) -> Result<(), Fail> {
+    let low = DataNumber::Low(0x0A0B0C0D);
+    ack_both_ways(rt, Some(low), false, b"\x1e\x08\x20\x01\x0a\x0b\x0c\x0d")?;
+    mapping_both_ways(
+        rt,
+        None,
+        DssMap {
+            number: low,
+            relative: 0x21222324,
+            length: 0,
+            checksum: None,
         },
         false,
         b"\x1e\x0e\x20\x04\x0a\x0b\x0c\x0d\x21\x22\x23\x24\x00\x00",
-    )?;
-    both_ways(
-        &rt,
-        alloc,
-        &MpOption::Dss {
-            ack: None,
-            mapping: None,
-            fin: false,
-        },
-        true,
-        b"\x1e\x04\x20\x00",
-    )?;
+    )
+}
+
+#[test]
+fn dss_both_ways(rt: HostRuntime) -> Result<(), Fail> {
+    low_numbers_both_ways(&rt)?;
+    whole_numbers_both_ways(&rt)?;
+    ack_both_ways(&rt, None, true, b"\x1e\x04\x20\x00")?;
     let bare =
         b"\x1e\x1a\x20\x0f\x01\x02\x03\x04\x05\x06\x07\x08\x11\x12\x13\x14\x15\x16\x17\x18\x21\x22\x23\x24\x05\x78";
     assert_eq!(rt; read(bare, true), Read::Malformed);
     Ok(())
 }
 
-#[test]
-fn addresses_both_ways(rt: HostRuntime) -> Result<(), Fail> {
-    let alloc = rt.alloc();
+/// An ADD_ADDR that is no echo, where checksums are not used.
+fn announced_both_ways(
+    rt: &(impl Abort + AllocGlobal),
+    id: u8,
+    address: Address,
+    port: Option<u16>,
+    octets: &[u8],
+) -> Result<(), Fail> {
+    let option = MpOption::AddAddr {
+        echo: false,
+        id,
+        address,
+        port,
+        hmac: Some(0x4142434445464748),
+    };
+    both_ways(rt, &option, false, octets)
+}
+
+fn echo_both_ways(
+    rt: &(impl Abort + AllocGlobal),
+    id: u8,
+    address: Address,
+    port: Option<u16>,
+    checksum: bool,
+    octets: &[u8],
+) -> Result<(), Fail> {
+    let option = MpOption::AddAddr {
+        echo: true,
+        id,
+        address,
+        port,
+        hmac: None,
+    };
+    both_ways(rt, &option, checksum, octets)
+}
+
+fn four_octets_both_ways(rt: &(impl Abort + AllocGlobal)) -> Result<(), Fail> {
     let four = Address::V4([10, 0, 5, 2]);
-    let six = Address::V6(*b"0123456789abcdef");
-    both_ways(
-        &rt,
-        alloc,
-        &MpOption::AddAddr {
-            echo: false,
-            id: 5,
-            address: four,
-            port: None,
-            hmac: Some(0x4142434445464748),
-        },
-        false,
+    announced_both_ways(
+        rt,
+        5,
+        four,
+        None,
         b"\x1e\x10\x30\x05\x0a\x00\x05\x02\x41\x42\x43\x44\x45\x46\x47\x48",
     )?;
-    both_ways(
-        &rt,
-        alloc,
-        &MpOption::AddAddr {
-            echo: false,
-            id: 5,
-            address: four,
-            port: Some(5001),
-            hmac: Some(0x4142434445464748),
-        },
-        false,
+    announced_both_ways(
+        rt,
+        5,
+        four,
+        Some(5001),
         b"\x1e\x12\x30\x05\x0a\x00\x05\x02\x13\x89\x41\x42\x43\x44\x45\x46\x47\x48",
     )?;
-    both_ways(
-        &rt,
-        alloc,
-        &MpOption::AddAddr {
-            echo: true,
-            id: 5,
-            address: four,
-            port: None,
-            hmac: None,
-        },
-        true,
-        b"\x1e\x08\x31\x05\x0a\x00\x05\x02",
-    )?;
-    both_ways(
-        &rt,
-        alloc,
-        &MpOption::AddAddr {
-            echo: true,
-            id: 5,
-            address: four,
-            port: Some(5001),
-            hmac: None,
-        },
+    echo_both_ways(rt, 5, four, None, true, b"\x1e\x08\x31\x05\x0a\x00\x05\x02")?;
+    echo_both_ways(
+        rt,
+        5,
+        four,
+        Some(5001),
         false,
         b"\x1e\x0a\x31\x05\x0a\x00\x05\x02\x13\x89",
-    )?;
-    both_ways(
-        &rt,
-        alloc,
-        &MpOption::AddAddr {
-            echo: false,
-            id: 6,
-            address: six,
-            port: None,
-            hmac: Some(0x4142434445464748),
-        },
-        false,
+    )
+}
+
+fn sixteen_octets_both_ways(rt: &(impl Abort + AllocGlobal)) -> Result<(), Fail> {
+    let six = Address::V6(*b"0123456789abcdef");
+    announced_both_ways(
+        rt,
+        6,
+        six,
+        None,
         b"\x1e\x1c\x30\x06\x30\x31\x32\x33\x34\x35\x36\x37\x38\x39\x61\x62\x63\x64\x65\x66\x41\x42\x43\x44\x45\x46\x47\x48",
     )?;
-    both_ways(
-        &rt,
-        alloc,
-        &MpOption::AddAddr {
-            echo: false,
-            id: 6,
-            address: six,
-            port: Some(5001),
-            hmac: Some(0x4142434445464748),
-        },
-        false,
+    announced_both_ways(
+        rt,
+        6,
+        six,
+        Some(5001),
         b"\x1e\x1e\x30\x06\x30\x31\x32\x33\x34\x35\x36\x37\x38\x39\x61\x62\x63\x64\x65\x66\x13\x89\x41\x42\x43\x44\x45\x46\x47\x48",
     )?;
-    both_ways(
-        &rt,
-        alloc,
-        &MpOption::AddAddr {
-            echo: true,
-            id: 6,
-            address: six,
-            port: None,
-            hmac: None,
-        },
+    echo_both_ways(
+        rt,
+        6,
+        six,
+        None,
         false,
         b"\x1e\x14\x31\x06\x30\x31\x32\x33\x34\x35\x36\x37\x38\x39\x61\x62\x63\x64\x65\x66",
     )?;
-    both_ways(
-        &rt,
-        alloc,
-        &MpOption::AddAddr {
-            echo: true,
-            id: 6,
-            address: six,
-            port: Some(5001),
-            hmac: None,
-        },
+    echo_both_ways(
+        rt,
+        6,
+        six,
+        Some(5001),
         false,
         b"\x1e\x16\x31\x06\x30\x31\x32\x33\x34\x35\x36\x37\x38\x39\x61\x62\x63\x64\x65\x66\x13\x89",
-    )?;
+    )
+}
+
+#[test]
+fn addresses_both_ways(rt: HostRuntime) -> Result<(), Fail> {
+    four_octets_both_ways(&rt)?;
+    sixteen_octets_both_ways(&rt)?;
     both_ways(
         &rt,
-        alloc,
         &MpOption::Remove { ids: &[5, 7, 0] },
         false,
         b"\x1e\x06\x40\x05\x07\x00",
-    )?;
-    Ok(())
+    )
 }
 
 #[test]
 fn signals_both_ways(rt: HostRuntime) -> Result<(), Fail> {
-    let alloc = rt.alloc();
     both_ways(
         &rt,
-        alloc,
         &MpOption::Prio { backup: true },
         false,
         b"\x1e\x03\x51",
     )?;
     both_ways(
         &rt,
-        alloc,
         &MpOption::Fail {
             number: 0x0102030405060708,
         },
@@ -611,7 +612,6 @@ fn signals_both_ways(rt: HostRuntime) -> Result<(), Fail> {
     )?;
     both_ways(
         &rt,
-        alloc,
         &MpOption::FastClose {
             key: 0x1112131415161718,
         },
@@ -620,13 +620,11 @@ fn signals_both_ways(rt: HostRuntime) -> Result<(), Fail> {
     )?;
     both_ways(
         &rt,
-        alloc,
         &MpOption::Reset {
             transient: true,
             reason: 3,
         },
         false,
         b"\x1e\x04\x81\x03",
-    )?;
-    Ok(())
+    )
 }
