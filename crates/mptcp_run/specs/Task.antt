@@ -1,7 +1,8 @@
 -- What a run is to do, and how far it came.
-use Rattle.std.specs.Prelude.{ℕ, ◌≤◌, List, length, Option, Some, None, IsSomeAnd, IsOk}
+use Rattle.std.specs.Prelude.{ℕ, ◌≤◌, List, length, Option, Some, IsSomeAnd, IsOk}
 use Rattle.std.specs.Result.{result_ok}
 use Rattle.path_segments.specs.declared.connection.Connection.{Connection}
+use Rattle.path_segments.specs.Hearing.{◌>>=◌}
 use Rattle.mptcp_run.specs.declared.status.Status.{Status}
 use Rattle.mptcp_run.specs.declared.status.Status.TheVariants.{Delivered, Usage, Script, Load, Put, TooLong, Memory}
 use Rattle.mptcp_run.specs.declared.status.Named.{Named}
@@ -9,11 +10,6 @@ use Rattle.mptcp_run.specs.Causes.{limit_of}
 use Rattle.mptcp_run.specs.Inputs.{name_of}
 use Rattle.mptcp_run.specs.Words.{Names, names_in}
 use Rattle.mptcp_run.specs.Script.{connection_in}
-
-infixl 10 ◌>>=◌
-abbrev pub ◌>>=◌ : {A B : Type 0} → Option A → (A → Option B) → Option B
-None >>= f = None
-(Some x) >>= f = f x
 
 -- the connection that the script tells of, and the file that A sends
 pub record Task : Type 0 where

@@ -13,8 +13,9 @@ use key_material::idsn;
 use mptcp_options::{CapableKeys, DataNumber, DssMap, MpOption};
 use seq_units::{Seq64, near64};
 
-/// The payload of A's segment, where its option maps all of it to the place `next` of the stream, counted from 0; `key`
-/// is A's. None where it doesn't, or where the octets are no segment.
+/// The payload of A's segment, where its option maps all of it to the place `next` of the stream, counted from 0 and
+/// below 2^31; `key` is A's. None where it doesn't, where its data number has four octets, and where the octets are no
+/// segment.
 pub fn hear_data<'a>(key: u64, next: u64, octets: &'a [u8]) -> Option<&'a [u8]>
     requires { next < 2 ^ 31 }
     ensures exact { option_copied result ≡ option_and_then (data_heard key next) (heard_between from_a octets.now) }

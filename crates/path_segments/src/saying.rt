@@ -53,7 +53,8 @@ impl Settings {
         self.buffer.min(65_535) as u16
     }
 
-    /// How many octets of a file a segment carries: the MSS less the 28 of the longest option.
+    /// How many octets of a file a segment carries: the MSS, which is at least 28, less the 28 octets of the longest
+    /// option.
     pub fn payload(&self) -> usize
         requires { 28 ≤ self.now.mss }
         ensures { result ≡ payload_of self.now }
@@ -87,7 +88,7 @@ fn syn_options(alloc: Global, mss: u16, option: &MpOption<'_>) -> Result<Text, A
 ///
 /// # Errors
 ///
-/// Only where there is no memory for the octets, as for the other segments.
+/// Only where there is no memory for the octets.
 #[tactic(auto, using(crate::proofs::Carried::carried_syn))]
 pub fn write_syn(alloc: Global, a: &End, settings: &Settings) -> Result<Vec<u8>, AllocError>
     ensures text { IfOk result (λ octets. octets.items ≡ segment_text from_a (syn a.now settings.now)) }
@@ -108,7 +109,12 @@ pub fn write_syn(alloc: Global, a: &End, settings: &Settings) -> Result<Vec<u8>,
     write(alloc, &head, &FROM_A, options.as_bytes(), &[])
 }
 
-/// The octets of B's SYN/ACK, which acknowledges up to the number `ack`: the options of the SYN, with B's key.
+/// The octets of B's SYN/ACK, which acknowledges up to the number `ack`: the options of the SYN, with B's key (RFC 8684,
+/// section 3.1).
+///
+/// # Errors
+///
+/// Only where there is no memory for the octets.
 #[tactic(auto, using(crate::proofs::Carried::carried_syn_ack))]
 pub fn write_syn_ack(
     alloc: Global,
@@ -184,7 +190,12 @@ fn data_number(key: u64, position: u64) -> u64
     number
 }
 
-/// The octets of A's ACK, which opens the path: MP_CAPABLE with A's key and B's.
+/// The octets of A's ACK, which opens the path: MP_CAPABLE with A's key and B's (RFC 8684, section 3.1). The buffer is at
+/// most 1,048,576 octets.
+///
+/// # Errors
+///
+/// Only where there is no memory for the octets.
 #[tactic(auto, using(crate::proofs::Carried::carried_third))]
 pub fn write_third_ack(alloc: Global, connection: &Connection) -> Result<Vec<u8>, AllocError>
     requires { connection.now.settings.buffer ≤ 2 ^ 20 }
@@ -198,7 +209,12 @@ pub fn write_third_ack(alloc: Global, connection: &Connection) -> Result<Vec<u8>
 }
 
 /// The octets of A's segment that carries this payload, its first octet at `place` of the stream, counted from 0: both
-/// keys at place 0, and a DSS with a mapping behind it (RFC 8684, section 3.3).
+/// keys at place 0, and a DSS with a mapping behind it (RFC 8684, sections 3.1 and 3.3). The payload has at most 1,432
+/// octets, the place is below 2^31, and the buffer is at most 1,048,576 octets.
+///
+/// # Errors
+///
+/// Only where there is no memory for the octets.
 #[tactic(auto, using(crate::proofs::Carried::carried_data))]
 pub fn write_data(
     alloc: Global,
