@@ -47,9 +47,13 @@ fixed_header checksum head options_len = ports_and_numbers head ++ control_field
 abbrev pub octets_with : ℕ → Segment → List ℕ
 octets_with checksum segment = fixed_header checksum segment.head (length segment.options) ++ (segment.options ++ segment.payload)
 
+-- the checksum field of a segment
+abbrev pub checksum_field : Addresses → Segment → ℕ
+checksum_field addresses segment = checksum_of addresses (octets_with 0 segment)
+
 -- what is written
 unfoldable pub segment_text : Addresses → Segment → List ℕ
-segment_text addresses segment = octets_with (checksum_of addresses (octets_with 0 segment)) segment
+segment_text addresses segment = octets_with (checksum_field addresses segment) segment
 
 -- the numbers are within their fields
 pub record IsHead (head : Head) : Type 0 where

@@ -15,4 +15,4 @@ pub use head::{Addresses, Head};
 pub use laws::{different_segments_differ, read_is_written_again, written_is_read_again};
 pub use options::PlainOptions;
 pub use reading::{SegmentFault, SegmentRef, parse};
-pub use writing::write;
+pub use writing::{checksum_field, write};

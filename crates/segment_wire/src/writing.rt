@@ -1,9 +1,9 @@
 //! Writing a segment.
 
-ghost use Rattle.std.specs.Prelude.{◌≡◌, ◌≤◌, ◌++◌, IfOk, OnOk};
-ghost use Rattle.segment_wire.specs.Segment.{CanCarry, CanWrite, IsHead, segment_text, octets_with, fixed_header, ports_and_numbers, control_fields, control_bits};
+ghost use Rattle.std.specs.Prelude.{◌≡◌, ◌≤◌, IfOk, OnOk};
+ghost use Rattle.segment_wire.specs.Segment.{CanCarry, CanWrite, IsHead, segment_text, checksum_field, octets_with, fixed_header, control_bits};
 
-use crate::checksum::covered_sum;
+use crate::checksum::covered_sum_of_parts;
 use crate::head::{ACK, Addresses, FIN, FIXED_HEADER_LEN, Head, RST, SYN};
 use std::alloc::{AllocError, Global};
 
@@ -14,6 +14,7 @@ use std::alloc::{AllocError, Global};
 /// # Errors
 ///
 /// Only where there is no memory for the octets.
+#[tactic(auto, unfolding(crate::specs::Segment::segment_text))]
 pub fn write(
     alloc: Global,
     head: &Head,
@@ -26,67 +27,74 @@ pub fn write(
     // They can be read again.
     ensures readable { OnOk result (CanWrite (record { head = head.now; options = options.now; payload = payload.now })) }
 {
-    let mut octets = before_checksum(alloc, *head, options, payload)?;
-    let checksum = 0xffff - covered_sum(addresses, &octets);
-    let [high, low] = checksum.to_be_bytes();
-    octets[16] = high;
-    octets[17] = low;
-    Ok(octets)
+    let checksum = checksum_field(head, addresses, options, payload);
+    put_together(alloc, checksum, *head, options, payload)
 }
 
-// The octets with a checksum of 0.
-fn before_checksum(
+/// The checksum field of the octets that [`write`] makes of these, without making them. Takes no memory.
+pub fn checksum_field(head: &Head, addresses: &Addresses, options: &[u8], payload: &[u8]) -> u16
+    requires { CanCarry options.now payload.now }
+    ensures { result ≡ checksum_field addresses.now (record { head = head.now; options = options.now; payload = payload.now }) }
+{
+    let header = fixed_header(0, head, options.len());
+    0xffff - covered_sum_of_parts(addresses, &header, options, payload)
+}
+
+// The octets with this checksum.
+fn put_together(
     alloc: Global,
+    checksum: u16,
     head: Head,
     options: &[u8],
     payload: &[u8],
 ) -> Result<Vec<u8>, AllocError>
     requires { CanCarry options.now payload.now }
-    ensures text { IfOk result (λ octets. octets.items ≡ octets_with 0 (record { head = head; options = options.now; payload = payload.now })) }
+    ensures text { IfOk result (λ octets. octets.items ≡ octets_with checksum (record { head = head; options = options.now; payload = payload.now })) }
     ensures fits { IsHead head }
 {
     let mut octets = Vec::with_capacity(alloc, FIXED_HEADER_LEN + options.len() + payload.len())?;
-    put_header(&mut octets, &head, options.len())?;
+    octets.extend_from_slice(&fixed_header(checksum, &head, options.len()))?;
     octets.extend_from_slice(options)?;
     octets.extend_from_slice(payload)?;
     Ok(octets)
 }
 
-// The fixed header with a checksum of 0, before so many octets of options.
+// The fixed header with this checksum, before so many octets of options.
 #[tactic(auto, unfolding(crate::specs::Segment::fixed_header))]
-fn put_header(octets: &mut Vec<u8>, head: &Head, options_len: usize) -> Result<(), AllocError>
+fn fixed_header(checksum: u16, head: &Head, options_len: usize) -> [u8; 20]
     requires { options_len ≤ 40 }
-    ensures { OnOk result (octets.new.items ≡ octets.old.items ++ fixed_header 0 head.now options_len) }
+    ensures { result ≡ fixed_header checksum head.now options_len }
 {
-    put_ports_and_numbers(octets, head)?;
-    put_control_fields(octets, head, options_len)?;
-    Ok(())
-}
-
-fn put_ports_and_numbers(octets: &mut Vec<u8>, head: &Head) -> Result<(), AllocError>
-    ensures { OnOk result (octets.new.items ≡ octets.old.items ++ ports_and_numbers head.now) }
-{
-    octets.extend_from_slice(&head.source_port.to_be_bytes())?;
-    octets.extend_from_slice(&head.destination_port.to_be_bytes())?;
-    octets.extend_from_slice(&head.seq.to_be_bytes())?;
-    octets.extend_from_slice(&head.ack.to_be_bytes())?;
-    Ok(())
-}
-
-fn put_control_fields(
-    octets: &mut Vec<u8>,
-    head: &Head,
-    options_len: usize,
-) -> Result<(), AllocError>
-    requires { options_len ≤ 40 }
-    ensures { OnOk result (octets.new.items ≡ octets.old.items ++ control_fields 0 head.now options_len) }
-{
+    let [source_0, source_1] = head.source_port.to_be_bytes();
+    let [destination_0, destination_1] = head.destination_port.to_be_bytes();
+    let [seq_0, seq_1, seq_2, seq_3] = head.seq.to_be_bytes();
+    let [ack_0, ack_1, ack_2, ack_3] = head.ack.to_be_bytes();
     let data_offset = 5 + options_len as u8 / 4;
-    octets.extend_from_slice(&[data_offset << 4, control_bits(head)])?;
-    octets.extend_from_slice(&head.window.to_be_bytes())?;
-    // the checksum and the urgent pointer
-    octets.extend_from_slice(&[0; 4])?;
-    Ok(())
+    let [window_0, window_1] = head.window.to_be_bytes();
+    let [checksum_0, checksum_1] = checksum.to_be_bytes();
+    [
+        source_0,
+        source_1,
+        destination_0,
+        destination_1,
+        seq_0,
+        seq_1,
+        seq_2,
+        seq_3,
+        ack_0,
+        ack_1,
+        ack_2,
+        ack_3,
+        data_offset << 4,
+        control_bits(head),
+        window_0,
+        window_1,
+        checksum_0,
+        checksum_1,
+        // the urgent pointer
+        0,
+        0,
+    ]
 }
 
 fn control_bits(head: &Head) -> u8
