@@ -8,8 +8,9 @@ use Rattle.key_material.specs.Octets.{AreOctets}
 use Rattle.key_material.specs.Address.{octets_of}
 use Rattle.key_material.specs.declared.address.Address.{Address}
 use Rattle.key_material.specs.declared.address.Address.TheVariants.{V4, V6}
-use Rattle.mptcp_options.specs.Octets.{octet, is_among, optional}
-use Rattle.mptcp_options.specs.Address.{is_echo, is_ipv4, has_port, add_addr_lengths, address_at, port_at, hmac_at, ids_at, AddAddrHasForm, AddressFits, AddAddrFits, IdsHaveForm}
+use Rattle.pipe_model.specs.Octets.{octet}
+use Rattle.mptcp_options.specs.Octets.{is_among, optional}
+use Rattle.mptcp_options.specs.Address.{is_echo, is_ipv4, has_port, has_hmac, add_addr_lengths, address_at, port_at, hmac_at, ids_at, AddAddrHasForm, AddressFits, AddAddrFits, IdsHaveForm}
 use Rattle.mptcp_options.specs.Value.{AddAddr, RemoveAddr, Known}
 use Rattle.mptcp_options.specs.Text.{option_text}
 use Rattle.mptcp_options.specs.Meaning.{IsFramed, subtype, is_of_another_kind, is_misframed, is_foreign, has_no_flags, is_unusable, has_length_of_table, differs_in_checksum, value_at, option_meaning}
@@ -99,7 +100,7 @@ abbrev port_octets : Bool → ℕ
 port_octets port = if port then 2 else 0
 
 abbrev hmac_octets : Bool → ℕ
-hmac_octets echo = if echo then 0 else 8
+hmac_octets hmac = if hmac then 8 else 0
 
 address_end : (ipv4 : Bool) → (if ipv4 then 8 else 20) ≡ 4 + address_octets ipv4
 address_end true = refl
@@ -117,23 +118,23 @@ module _ (octets : List ℕ) (framed : IsFramed octets) (are : AreOctets octets)
   port_part true true family some inside = rw (some, family) (written_again_16 octets are 8 inside)
   port_part false true family some inside = rw (some, family) (written_again_16 octets are 20 inside)
 
-  hmac_part : (ipv4 port echo : Bool) → is_ipv4 octets ≡ ipv4 → has_port octets ≡ port → is_echo octets ≡ echo
-      → length octets ≡ (if ipv4 then 8 else 20) + port_octets port + hmac_octets echo
+  hmac_part : (ipv4 port hmac : Bool) → is_ipv4 octets ≡ ipv4 → has_port octets ≡ port → has_hmac octets ≡ hmac
+      → length octets ≡ (if ipv4 then 8 else 20) + port_octets port + hmac_octets hmac
       → optional w64 (hmac_at octets) ≡ drop ((if ipv4 then 8 else 20) + port_octets port) octets
-  hmac_part ipv4 port true family has echoes long = rw echoes (sym (drop_all _ octets (omega arith)))
-  hmac_part ipv4 port false family has echoes long =
+  hmac_part ipv4 port false family has none long = rw none (sym (drop_all _ octets (omega arith)))
+  hmac_part ipv4 port true family has some long =
       let place = (if ipv4 then 8 else 20) + port_octets port in
-      rw (echoes, family, has) (written_again_64 octets are place (omega arith) ∙ last_field octets place 8 long)
+      rw (some, family, has) (written_again_64 octets are place (omega arith) ∙ last_field octets place 8 long)
 
-  parts : (ipv4 port echo : Bool) → is_ipv4 octets ≡ ipv4 → has_port octets ≡ port → is_echo octets ≡ echo
-      → length octets ≡ (if ipv4 then 8 else 20) + port_octets port + hmac_octets echo
+  parts : (ipv4 port hmac : Bool) → is_ipv4 octets ≡ ipv4 → has_port octets ≡ port → has_hmac octets ≡ hmac
+      → length octets ≡ (if ipv4 then 8 else 20) + port_octets port + hmac_octets hmac
       → octets_of (address_at octets) ++ optional w16 (port_at octets) ++ optional w64 (hmac_at octets) ≡ drop 4 octets
-  parts ipv4 port echo family has echoes long =
+  parts ipv4 port hmac family has keyed long =
       append_assoc (octets_of (address_at octets)) (optional w16 (port_at octets)) (optional w64 (hmac_at octets))
       ∙ then_rest (octets_of (address_at octets)) _ octets 4 (address_octets ipv4) (if ipv4 then 8 else 20) (address_end ipv4)
       (address_part ipv4 family)
       (then_rest (optional w16 (port_at octets)) _ octets (if ipv4 then 8 else 20) (port_octets port) _ refl
-      (port_part ipv4 port family has (omega arith)) (hmac_part ipv4 port echo family has echoes long))
+      (port_part ipv4 port family has (omega arith)) (hmac_part ipv4 port hmac family has keyed long))
 
   module _ (e : subtype octets ≡ 3) where
     add_addr_third : third_mask octets ≡ 0xF1
@@ -144,40 +145,40 @@ module _ (octets : List ℕ) (framed : IsFramed octets) (are : AreOctets octets)
     unfolding fourth_mask
     add_addr_fourth = rw e refl
 
-    by_parts : (ipv4 port echo : Bool) → is_ipv4 octets ≡ ipv4 → has_port octets ≡ port → is_echo octets ≡ echo
-        → 4 ≤ length octets → length octets ≡ (if ipv4 then 8 else 20) + port_octets port + hmac_octets echo
+    by_parts : (ipv4 port hmac : Bool) → is_ipv4 octets ≡ ipv4 → has_port octets ≡ port → has_hmac octets ≡ hmac
+        → 4 ≤ length octets → length octets ≡ (if ipv4 then 8 else 20) + port_octets port + hmac_octets hmac
         → cleared octets ≡ option_text (AddAddr (is_echo octets) (octet octets 3) (address_at octets) (port_at octets) (hmac_at octets))
     unfolding option_text
-    by_parts ipv4 port echo family has echoes four long =
+    by_parts ipv4 port hmac family has keyed four long =
         text_again octets framed _ (four_again octets framed four _ _ _
         (rw add_addr_third (flag_again octets framed are 3 e)) (rw add_addr_fourth (octet_again octets framed are))
-        (parts ipv4 port echo family has echoes long))
+        (parts ipv4 port hmac family has keyed long))
 
-    by_length : (ipv4 port echo : Bool) (n : ℕ) → is_echo octets ≡ echo
-        → is_among n (8 ∷ 10 ∷ 16 ∷ 18 ∷ []) ≡ ipv4 → is_among n (10 ∷ 22 ∷ 18 ∷ 30 ∷ []) ≡ port → nat_le 4 n ≡ true
-        → n ≡ (if ipv4 then 8 else 20) + port_octets port + hmac_octets echo → length octets ≡ n
+    by_length : (ipv4 port hmac : Bool) (n : ℕ) → is_among n (8 ∷ 10 ∷ 16 ∷ 18 ∷ []) ≡ ipv4
+        → is_among n (10 ∷ 18 ∷ 22 ∷ 30 ∷ []) ≡ port → is_among n (16 ∷ 18 ∷ 28 ∷ 30 ∷ []) ≡ hmac → nat_le 4 n ≡ true
+        → n ≡ (if ipv4 then 8 else 20) + port_octets port + hmac_octets hmac → length octets ≡ n
         → cleared octets ≡ option_text (AddAddr (is_echo octets) (octet octets 3) (address_at octets) (port_at octets) (hmac_at octets))
-    by_length ipv4 port echo n echoes family has four long is_n =
-        by_parts ipv4 port echo (rw is_n family) (rw is_n has) echoes (rw is_n (leb-true 4 n four)) (rw is_n long)
+    by_length ipv4 port hmac n family has keyed four long is_n =
+        by_parts ipv4 port hmac (rw is_n family) (rw is_n has) (rw is_n keyed) (rw is_n (leb-true 4 n four)) (rw is_n long)
 
-    by_echo : (echo : Bool) → is_echo octets ≡ echo → is_among (length octets) (add_addr_lengths echo) ≡ true
+    by_echo : (echo : Bool) → is_among (length octets) (add_addr_lengths echo) ≡ true
         → cleared octets ≡ option_text (AddAddr (is_echo octets) (octet octets 3) (address_at octets) (port_at octets) (hmac_at octets))
-    by_echo true echoes among =
+    by_echo true among =
         let n = length octets in
-        first_or n 8 (10 ∷ 20 ∷ 22 ∷ []) among (by_length true false true 8 echoes refl refl refl refl)
-        (λ among. first_or n 10 (20 ∷ 22 ∷ []) among (by_length true true true 10 echoes refl refl refl refl)
-        (λ among. first_or n 20 (22 ∷ []) among (by_length false false true 20 echoes refl refl refl refl)
-        (λ among. first_or n 22 [] among (by_length false true true 22 echoes refl refl refl refl) (no_more n))))
-    by_echo false echoes among =
+        first_or n 8 (10 ∷ 20 ∷ 22 ∷ []) among (by_length true false false 8 refl refl refl refl refl)
+        (λ among. first_or n 10 (20 ∷ 22 ∷ []) among (by_length true true false 10 refl refl refl refl refl)
+        (λ among. first_or n 20 (22 ∷ []) among (by_length false false false 20 refl refl refl refl refl)
+        (λ among. first_or n 22 [] among (by_length false true false 22 refl refl refl refl refl) (no_more n))))
+    by_echo false among =
         let n = length octets in
-        first_or n 16 (18 ∷ 28 ∷ 30 ∷ []) among (by_length true false false 16 echoes refl refl refl refl)
-        (λ among. first_or n 18 (28 ∷ 30 ∷ []) among (by_length true true false 18 echoes refl refl refl refl)
-        (λ among. first_or n 28 (30 ∷ []) among (by_length false false false 28 echoes refl refl refl refl)
-        (λ among. first_or n 30 [] among (by_length false true false 30 echoes refl refl refl refl) (no_more n))))
+        first_or n 16 (18 ∷ 28 ∷ 30 ∷ []) among (by_length true false true 16 refl refl refl refl refl)
+        (λ among. first_or n 18 (28 ∷ 30 ∷ []) among (by_length true true true 18 refl refl refl refl refl)
+        (λ among. first_or n 28 (30 ∷ []) among (by_length false false true 28 refl refl refl refl refl)
+        (λ among. first_or n 30 [] among (by_length false true true 30 refl refl refl refl refl) (no_more n))))
 
     pub text_again-add_addr : has_length_of_table octets ≡ true
         → cleared octets ≡ option_text (AddAddr (is_echo octets) (octet octets 3) (address_at octets) (port_at octets) (hmac_at octets))
-    text_again-add_addr long = by_echo (is_echo octets) refl (sym (add_addr_length octets framed e) ∙ long)
+    text_again-add_addr long = by_echo (is_echo octets) (sym (add_addr_length octets framed e) ∙ long)
 
   module _ (e : subtype octets ≡ 4) where
     remove_addr_third : third_mask octets ≡ 0xF0

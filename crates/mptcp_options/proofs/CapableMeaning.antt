@@ -3,7 +3,8 @@ use Rattle.std.proofs.Common.{◌≡◌, ◌≢◌, ℕ, bit_and, Bool, true, fa
 use Rattle.std.proofs.lemmas.Bool.{eq-eqb, ne_eqb}
 use Rattle.std.proofs.lemmas.Bool.Decides.{nat_tests}
 use Rattle.mptcp_options.specs.declared.capable.CapableKeys.{CapableKeys}
-use Rattle.mptcp_options.specs.Octets.{octet, is_set, is_among}
+use Rattle.pipe_model.specs.Octets.{octet, is_set}
+use Rattle.mptcp_options.specs.Octets.{is_among}
 use Rattle.mptcp_options.specs.Value.{Capable, Known, Unknown, Malformed}
 use Rattle.mptcp_options.specs.Capable.{keys_at, keys_if_long, reads_flag_a, reads_flag_c}
 use Rattle.mptcp_options.specs.Meaning.{IsFramed, subtype, version, is_foreign, has_no_flags, is_unusable, has_length_of_table, differs_in_checksum, value_at, option_meaning}

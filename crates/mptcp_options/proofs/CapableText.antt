@@ -5,9 +5,11 @@ use Rattle.std.proofs.lemmas.List.{drop_all}
 use Rattle.std.proofs.lemmas.Bool.{eqb-true, not-false, or_parts}
 use Rattle.std.proofs.lemmas.Nat.{from_be_bytes-to_be_bytes_2, from_be_bytes-to_be_bytes_8}
 use Rattle.key_material.specs.Octets.{AreOctets}
+use Rattle.key_material.proofs.Octets.{each_octet}
 use Rattle.mptcp_options.specs.declared.capable.CapableKeys.{CapableKeys}
 use Rattle.mptcp_options.specs.declared.capable.CapableKeys.TheVariants.{NoKey, Sender, Both, WithData}
-use Rattle.mptcp_options.specs.Octets.{octet, number_at, is_set, flag_if}
+use Rattle.pipe_model.specs.Octets.{octet, number_at, is_set}
+use Rattle.mptcp_options.specs.Octets.{flag_if}
 use Rattle.mptcp_options.specs.Capable.{keys_text, keys_at, reads_flag_a, reads_flag_c, KeysHaveForm, KeysFit}
 use Rattle.mptcp_options.specs.Value.{Capable, Known}
 use Rattle.mptcp_options.specs.Text.{option_text}
@@ -119,10 +121,10 @@ module _ (octets : List ℕ) (framed : IsFramed octets) (are : AreOctets octets)
     first_version : octet octets 2 ≡ 0x01
     first_version =
         let v : bit_and (octet octets 2) 0x0F ≡ 1 = eqb-true (version octets) 1 (not-false (version octets == 1) (sym (foreign octets framed e) ∙ ours)) in
-        omega (arith, halves (octet octets 2) (are.each 2), v)
+        omega (arith, halves (octet octets 2) (each_octet octets are 2), v)
 
     version_again : 0x01 ≡ bit_and (octet octets 2) 0xFF
-    version_again = sym first_version ∙ whole_octet (octet octets 2) (are.each 2)
+    version_again = sym first_version ∙ whole_octet (octet octets 2) (each_octet octets are 2)
 
     flag_h : is_set (octet octets 3) 0x01 ≡ true
     flag_h = not-false (is_set (octet octets 3) 0x01)
@@ -131,7 +133,7 @@ module _ (octets : List ℕ) (framed : IsFramed octets) (are : AreOctets octets)
     flags_again : bit_or (bit_or (flag_if (reads_flag_a octets) 0x80) (flag_if (reads_flag_c octets) 0x20)) 0x01 ≡ bit_and (octet octets 3) 0xA1
     flags_again =
         ap (λ h. bit_or (bit_or (flag_if (reads_flag_a octets) 0x80) (flag_if (reads_flag_c octets) 0x20)) (flag_if h 0x01)) (sym flag_h)
-        ∙ capable_flags (octet octets 3) (are.each 3)
+        ∙ capable_flags (octet octets 3) (each_octet octets are 3)
 
     with_keys : keys_text (keys_at octets) ≡ drop 4 octets
         → cleared octets ≡ option_text (Capable (reads_flag_a octets) (reads_flag_c octets) (keys_at octets))

@@ -5,10 +5,12 @@ use Rattle.std.proofs.lemmas.List.{drop_all}
 use Rattle.std.proofs.lemmas.Bool.{eq-eqb, ne_eqb}
 use Rattle.std.proofs.lemmas.Nat.{from_be_bytes-to_be_bytes_2, from_be_bytes-to_be_bytes_4, from_be_bytes-to_be_bytes_8}
 use Rattle.key_material.specs.Octets.{AreOctets}
+use Rattle.key_material.proofs.Octets.{each_octet}
 use Rattle.mptcp_options.specs.declared.dss.DataNumber.{DataNumber}
 use Rattle.mptcp_options.specs.declared.dss.DataNumber.TheVariants.{Whole, Low}
 use Rattle.mptcp_options.specs.declared.dss.DssMap.{DssMap}
-use Rattle.mptcp_options.specs.Octets.{octet, number_at, is_set, flag_if, optional}
+use Rattle.pipe_model.specs.Octets.{octet, number_at, is_set}
+use Rattle.mptcp_options.specs.Octets.{flag_if, optional}
 use Rattle.mptcp_options.specs.Dss.{data_number_text, ack_text, ack_flags, mapping_text, mapping_flags, has_ack, has_mapping, data_number_length, data_number_at, mapping_place, dss_length, ack_at, mapping_at, fin_at, DssHasForm, DssFits, DataNumberFits, MappingFits}
 use Rattle.mptcp_options.specs.Value.{Dss, Known}
 use Rattle.mptcp_options.specs.Text.{option_text}
@@ -201,7 +203,7 @@ module _ (octets : List ℕ) (framed : IsFramed octets) (are : AreOctets octets)
       let flags = octet octets 3 in
       same_flags _ _ _ _ _ (mapping_flags_again octets are (has_mapping flags) (is_set flags 0x08) (mapping_place flags))
       (ack_flags_again octets are (has_ack flags) (is_set flags 0x02))
-      ∙ dss_flags flags (are.each 3)
+      ∙ dss_flags flags (each_octet octets are 3)
 
   fields_again : (checksum : Bool) → length octets ≡ dss_length (octet octets 3) checksum
       → ack_text (ack_at octets) ++ mapping_text (mapping_at octets) ≡ drop 4 octets

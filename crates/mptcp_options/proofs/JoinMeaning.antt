@@ -3,7 +3,8 @@ use Rattle.std.proofs.Common.{◌≡◌, ◌≢◌, ℕ, Bool, List, [], ◌∷�
 use Rattle.std.proofs.lemmas.Bool.{ne_eqb}
 use Rattle.std.specs.Int.{w32, w64}
 use Rattle.mptcp_options.specs.declared.join.JoinForm.TheVariants.{Syn, Answer, Third}
-use Rattle.mptcp_options.specs.Octets.{octet, number_at, is_set, is_among}
+use Rattle.pipe_model.specs.Octets.{octet, number_at, is_set}
+use Rattle.mptcp_options.specs.Octets.{is_among}
 use Rattle.mptcp_options.specs.Value.{Join, Known, Malformed}
 use Rattle.mptcp_options.specs.Join.{form_at}
 use Rattle.mptcp_options.specs.Meaning.{IsFramed, subtype, has_length_of_table, value_at, option_meaning}

@@ -1,16 +1,17 @@
 -- What is read as an option may be written: it has a form of its subtype, and fields that fit.
-use Rattle.std.proofs.Common.{◌≡◌, ℕ, ◌+◌, ◌≤◌, ◌^◌, Bool, true, false, not, ◌&&◌, ◌==◌, if◌then◌else◌, Option, Some, None, is_some, IfSome, List, [], ◌∷◌, length, take, drop, refl, sym, ◌∙◌, arith}
+use Rattle.std.proofs.Common.{◌≡◌, ℕ, ◌+◌, ◌≤◌, ◌^◌, Bool, true, false, ◌&&◌, ◌==◌, if◌then◌else◌, Option, Some, None, is_some, IfSome, List, [], ◌∷◌, length, take, drop, refl, sym, ◌∙◌, arith}
 use Rattle.std.specs.Int.{w16, w64}
 use Rattle.std.proofs.lemmas.List.{length-take, length-drop}
 use Rattle.std.proofs.lemmas.Bool.{eq-eqb, ne_eqb, true≢false}
 use Rattle.key_material.specs.Octets.{AreOctets}
-use Rattle.key_material.proofs.Octets.{AreOctets-take, AreOctets-drop}
+use Rattle.key_material.proofs.Octets.{each_octet, AreOctets-take, AreOctets-drop}
 use Rattle.key_material.specs.declared.address.Address.TheVariants.{V4, V6}
-use Rattle.mptcp_options.specs.Octets.{octet, number_at, is_set, is_among, IsBelow}
+use Rattle.pipe_model.specs.Octets.{octet, number_at, is_set}
+use Rattle.mptcp_options.specs.Octets.{is_among, IsBelow}
 use Rattle.mptcp_options.specs.Capable.{keys_at, KeysHaveForm, KeysFit}
 use Rattle.mptcp_options.specs.Join.{form_at, FormFits}
 use Rattle.mptcp_options.specs.Dss.{has_ack, has_mapping, data_number_at, dss_length, mapping_place, ack_at, mapping_at, fin_at, DssHasForm, DssFits, DataNumberFits, MappingFits}
-use Rattle.mptcp_options.specs.Address.{is_echo, has_port, add_addr_lengths, address_at, port_at, hmac_at, ids_at, hmac_place, port_place, AddAddrHasForm, AddAddrFits, AddressFits, IdsHaveForm}
+use Rattle.mptcp_options.specs.Address.{is_echo, has_port, has_hmac, add_addr_lengths, address_at, port_at, hmac_at, ids_at, hmac_place, port_place, AddAddrHasForm, AddAddrFits, AddressFits, IdsHaveForm}
 use Rattle.mptcp_options.specs.Meaning.{subtype, differs_in_checksum}
 use Rattle.mptcp_options.proofs.DssText.{end_of, mapping_if}
 use Rattle.mptcp_options.proofs.Among.{first_or, no_more}
@@ -55,8 +56,8 @@ module _ (octets : List ℕ) (are : AreOctets octets) where
   pub form_fits : is_among (length octets) (12 ∷ 16 ∷ 24 ∷ []) ≡ true → FormFits (form_at octets)
   form_fits among =
       let n = length octets in
-      first_or n 12 (16 ∷ 24 ∷ []) among (λ is_12. rw is_12 (are.each 3, fits_32 octets are 4, fits_32 octets are 8))
-      (λ among. first_or n 16 (24 ∷ []) among (λ is_16. rw is_16 (are.each 3, fits_64 octets are 4, fits_32 octets are 12))
+      first_or n 12 (16 ∷ 24 ∷ []) among (λ is_12. rw is_12 (each_octet octets are 3, fits_32 octets are 4, fits_32 octets are 8))
+      (λ among. first_or n 16 (24 ∷ []) among (λ is_16. rw is_16 (each_octet octets are 3, fits_64 octets are 4, fits_32 octets are 12))
       (λ among. first_or n 24 [] among (λ is_24. rw is_24 (AreOctets-take 20 _ (AreOctets-drop 4 octets are), simp (length-take, length-drop) (omega arith)))
       (no_more n)))
 
@@ -105,14 +106,24 @@ module _ (octets : List ℕ) (are : AreOctets octets) where
 
   -- ---- ADD_ADDR and REMOVE_ADDR
 
-  hmac_form : (echo : Bool) (place : ℕ)
-      → is_some (if◌then◌else◌ {A = Option ℕ} echo None (Some (number_at w64 octets place))) ≡ not echo
-  hmac_form true place = refl
-  hmac_form false place = refl
+  hmac_fits : (has : Bool) (place : ℕ) → IsBelow (2 ^ 64) (if has then Some (number_at w64 octets place) else None)
+  hmac_fits true place = fits_64 octets are place
+  hmac_fits false place = tt
 
-  hmac_fits : (echo : Bool) (place : ℕ) → IsBelow (2 ^ 64) (if echo then None else Some (number_at w64 octets place))
-  hmac_fits true place = tt
-  hmac_fits false place = fits_64 octets are place
+  -- an HMAC stands exactly where it is no echo
+  hmac_form : (echo : Bool) → is_among (length octets) (add_addr_lengths echo) ≡ true → AddAddrHasForm echo (hmac_at octets)
+  hmac_form true among =
+      let n = length octets in
+      first_or n 8 (10 ∷ 20 ∷ 22 ∷ []) among (λ is_8. rw is_8 refl)
+      (λ among. first_or n 10 (20 ∷ 22 ∷ []) among (λ is_10. rw is_10 refl)
+      (λ among. first_or n 20 (22 ∷ []) among (λ is_20. rw is_20 refl)
+      (λ among. first_or n 22 [] among (λ is_22. rw is_22 refl) (no_more n))))
+  hmac_form false among =
+      let n = length octets in
+      first_or n 16 (18 ∷ 28 ∷ 30 ∷ []) among (λ is_16. rw is_16 refl)
+      (λ among. first_or n 18 (28 ∷ 30 ∷ []) among (λ is_18. rw is_18 refl)
+      (λ among. first_or n 28 (30 ∷ []) among (λ is_28. rw is_28 refl)
+      (λ among. first_or n 30 [] among (λ is_30. rw is_30 refl) (no_more n))))
 
   port_fits : (has : Bool) (place : ℕ) → IsBelow (2 ^ 16) (if has then Some (number_at w16 octets place) else None)
   port_fits true place = fits_16 octets are place
@@ -142,12 +153,12 @@ module _ (octets : List ℕ) (are : AreOctets octets) where
       → AddAddrHasForm (is_echo octets) (hmac_at octets)
       × AddAddrFits (octet octets 3) (address_at octets) (port_at octets) (hmac_at octets)
   add_addr_fits among = (
-    hmac_form (is_echo octets) (hmac_place octets),
+    hmac_form (is_echo octets) among,
     (
-      are.each 3,
+      each_octet octets are 3,
       address_fits (is_echo octets) among,
       port_fits (has_port octets) (port_place octets),
-      hmac_fits (is_echo octets) (hmac_place octets),
+      hmac_fits (has_hmac octets) (hmac_place octets),
     ),
   )
 

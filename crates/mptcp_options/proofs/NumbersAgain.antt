@@ -5,28 +5,28 @@ use Rattle.std.specs.Int.{w16, w32, w64, to_be_bytes}
 use Rattle.std.proofs.lemmas.List.{length-take, length-drop, take-append-drop, take_all, drop-drop}
 use Rattle.std.proofs.lemmas.Nat.{be_bytes_2, be_bytes_4, be_bytes_8}
 use Rattle.key_material.specs.Octets.{AreOctets}
-use Rattle.key_material.proofs.Octets.{AreOctets-take, AreOctets-drop}
+use Rattle.key_material.proofs.Octets.{each_octet, AreOctets-take, AreOctets-drop}
 use Rattle.key_material.proofs.Bounds.{from_be_bytes_2_below, from_be_bytes_4_below, from_be_bytes_8_below}
-use Rattle.mptcp_options.specs.Octets.{number_at}
+use Rattle.pipe_model.specs.Octets.{number_at}
 
 module _ (octets : List ℕ) (are : AreOctets octets) where
   pub written_again_16 : (place : ℕ) → place + 2 ≤ length octets
       → to_be_bytes w16 (number_at w16 octets place) ≡ take 2 (drop place octets)
   written_again_16 place inside =
       be_bytes_2 (take 2 (drop place octets)) _ (simp (length-take, length-drop) (omega arith))
-      (AreOctets-take 2 _ (AreOctets-drop place octets are)).each refl
+      (each_octet _ (AreOctets-take 2 _ (AreOctets-drop place octets are))) refl
 
   pub written_again_32 : (place : ℕ) → place + 4 ≤ length octets
       → to_be_bytes w32 (number_at w32 octets place) ≡ take 4 (drop place octets)
   written_again_32 place inside =
       be_bytes_4 (take 4 (drop place octets)) _ (simp (length-take, length-drop) (omega arith))
-      (AreOctets-take 4 _ (AreOctets-drop place octets are)).each refl
+      (each_octet _ (AreOctets-take 4 _ (AreOctets-drop place octets are))) refl
 
   pub written_again_64 : (place : ℕ) → place + 8 ≤ length octets
       → to_be_bytes w64 (number_at w64 octets place) ≡ take 8 (drop place octets)
   written_again_64 place inside =
       be_bytes_8 (take 8 (drop place octets)) _ (simp (length-take, length-drop) (omega arith))
-      (AreOctets-take 8 _ (AreOctets-drop place octets are)).each refl
+      (each_octet _ (AreOctets-take 8 _ (AreOctets-drop place octets are))) refl
 
 -- a number that is read fits its field
 module _ (octets : List ℕ) (are : AreOctets octets) (place : ℕ) where

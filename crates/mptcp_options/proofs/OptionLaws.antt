@@ -2,6 +2,7 @@
 use Rattle.std.proofs.Common.{◌≡◌, ℕ, zero, suc, ◌≤◌, Bool, true, false, not, ◌&&◌, ◌==◌, nat_lt, List, length, refl, sym, ap, subst, ◌∙◌, arith}
 use Rattle.std.proofs.lemmas.Bool.{not-false, or_parts, leb-true, ltb-false, eqb-false}
 use Rattle.key_material.specs.Octets.{AreOctets}
+use Rattle.key_material.proofs.Octets.{each_octet}
 use Rattle.mptcp_options.specs.Value.{OptionValue, Capable, Join, Dss, AddAddr, RemoveAddr, Prio, Fail, FastClose, Reset}
 use Rattle.mptcp_options.specs.Text.{option_text, HasForm, Fits}
 use Rattle.mptcp_options.specs.Meaning.{IsFramed, subtype, is_capable, version, is_foreign, has_length_of_table, value_at}
@@ -95,7 +96,7 @@ module _ (octets : List ℕ) (checksum : Bool) (option : OptionValue) (are : Are
   form_by_subtype (suc (suc (suc (suc (suc (suc (suc zero))))))) below e few =
       as_value _ (fast_close_value octets framed e) (tt, fits_64 octets are 4)
   form_by_subtype (suc (suc (suc (suc (suc (suc (suc (suc zero)))))))) below e few =
-      as_value _ (reset_value octets framed e) (tt, are.each 3)
+      as_value _ (reset_value octets framed e) (tt, each_octet octets are 3)
   form_by_subtype (suc (suc (suc (suc (suc (suc (suc (suc (suc k))))))))) below e few = absurd (omega arith)
 
 -- a subtype that there is

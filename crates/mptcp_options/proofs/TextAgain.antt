@@ -3,7 +3,9 @@ use Rattle.std.proofs.Common.{◌≡◌, ℕ, ◌+◌, ◌*◌, ◌<◌, ◌≤�
 use Rattle.std.proofs.Math.Seq.{drop-cons}
 use Rattle.std.proofs.lemmas.List.{length-drop, drop_all}
 use Rattle.key_material.specs.Octets.{AreOctets}
-use Rattle.mptcp_options.specs.Octets.{octet, is_set, flag_if}
+use Rattle.key_material.proofs.Octets.{each_octet}
+use Rattle.pipe_model.specs.Octets.{octet, is_set}
+use Rattle.mptcp_options.specs.Octets.{flag_if}
 use Rattle.mptcp_options.specs.Meaning.{IsFramed, subtype}
 use Rattle.mptcp_options.specs.Ignored.{third_mask, fourth_mask, masked, cleared}
 use Rattle.mptcp_options.proofs.OctetTests.{whole_octet, subtype_alone, subtype_and_flag, nothing_read}
@@ -45,10 +47,10 @@ module _ (octets : List ℕ) (framed : IsFramed octets) where
 
   module _ (are : AreOctets octets) where
     third_below : octet octets 2 < 256
-    third_below = are.each 2
+    third_below = each_octet octets are 2
 
     fourth_below : octet octets 3 < 256
-    fourth_below = are.each 3
+    fourth_below = each_octet octets are 3
 
     -- a third octet of which the subtype alone is read, or the lowest flag too
     pub subtype_again : (k : ℕ) → subtype octets ≡ k → k * 16 ≡ bit_and (octet octets 2) 0xF0

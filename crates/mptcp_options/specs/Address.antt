@@ -1,13 +1,14 @@
 -- ADD_ADDR (RFC 8684, section 3.4.1): subtype 3, with the echo flag E 0x01 in its octet, the address id, an address
 -- of 4 or 16 octets, perhaps a port, and where it is no echo an HMAC of 8. REMOVE_ADDR (section 3.4.2): subtype 4,
 -- and the address ids from the fourth octet on.
-use Rattle.std.specs.Prelude.{◌≡◌, ℕ, ◌+◌, ◌<◌, ◌≤◌, ◌^◌, Bool, not, if◌then◌else◌, Option, Some, None, is_some, List, [], ◌∷◌, ◌++◌, length, take, drop, bit_or}
+use Rattle.std.specs.Prelude.{◌≡◌, ℕ, ◌+◌, ◌<◌, ◌≤◌, ◌^◌, Bool, true, false, not, if◌then◌else◌, Option, Some, None, is_some, List, [], ◌∷◌, ◌++◌, length, map, filter, take, drop, bit_or}
 use Rattle.std.specs.Int.{w16, w64}
 use Rattle.key_material.specs.declared.address.Address.{Address}
 use Rattle.key_material.specs.declared.address.Address.TheVariants.{V4, V6}
 use Rattle.key_material.specs.Address.{octets_of}
 use Rattle.key_material.specs.Octets.{AreOctets}
-use Rattle.mptcp_options.specs.Octets.{octet, number_at, is_set, flag_if, is_among, optional, IsBelow}
+use Rattle.pipe_model.specs.Octets.{octet, number_at, is_set}
+use Rattle.mptcp_options.specs.Octets.{flag_if, is_among, optional, IsBelow}
 
 -- the octets after kind and length
 abbrev pub add_addr_body : Bool → ℕ → Address → Option ℕ → Option ℕ → List ℕ
@@ -17,20 +18,54 @@ add_addr_body echo id address port hmac =
 abbrev pub remove_addr_body : List ℕ → List ℕ
 remove_addr_body ids = 0x40 ∷ ids
 
--- ---- ADD_ADDR as it is read: the length tells the address's family and whether there is a port
+-- ---- ADD_ADDR as it is read: the length tells the form
 
+-- a form: how many octets the whole option has; whether the address is IPv4, of 4 octets, or else IPv6, of 16;
+-- whether a port of 2 follows it, and an HMAC of 8; and whether it is an echo, with flag E set
+pub record AddAddrForm : Type 0 where
+  pub octets : ℕ
+  pub ipv4 : Bool
+  pub port : Bool
+  pub hmac : Bool
+  pub echo : Bool
+
+abbrev form : ℕ → Bool → Bool → Bool → Bool → AddAddrForm
+form octets ipv4 port hmac echo = record { octets = octets; ipv4 = ipv4; port = port; hmac = hmac; echo = echo }
+
+abbrev pub add_addr_forms : List AddAddrForm
+add_addr_forms =
+    -- octets IPv4  port  HMAC  echo
+    form 8 true false false true
+    ∷ form 10 true true false true
+    ∷ form 16 true false true false
+    ∷ form 18 true true true false
+    ∷ form 20 false false false true
+    ∷ form 22 false true false true
+    ∷ form 28 false false true false
+    ∷ form 30 false true true false
+    ∷ []
+
+-- how many octets those forms have that pass a test
+abbrev pub lengths_where : (AddAddrForm → Bool) → List ℕ
+lengths_where test = map (λ (f : AddAddrForm). f.octets) (filter test add_addr_forms)
+
+-- the flag E of the octets
 abbrev pub is_echo : List ℕ → Bool
 is_echo octets = is_set (octet octets 2) 0x01
 
--- IPv4 without and with a port, then IPv6 likewise; an echo has no HMAC
+-- how many octets an echo has, or else an announcement
 abbrev pub add_addr_lengths : Bool → List ℕ
-add_addr_lengths echo = if echo then 8 ∷ 10 ∷ 20 ∷ 22 ∷ [] else 16 ∷ 18 ∷ 28 ∷ 30 ∷ []
+add_addr_lengths true = lengths_where (λ (f : AddAddrForm). f.echo)
+add_addr_lengths false = lengths_where (λ (f : AddAddrForm). not f.echo)
 
 abbrev pub is_ipv4 : List ℕ → Bool
-is_ipv4 octets = is_among (length octets) (8 ∷ 10 ∷ 16 ∷ 18 ∷ [])
+is_ipv4 octets = is_among (length octets) (lengths_where (λ (f : AddAddrForm). f.ipv4))
 
 abbrev pub has_port : List ℕ → Bool
-has_port octets = is_among (length octets) (10 ∷ 22 ∷ 18 ∷ 30 ∷ [])
+has_port octets = is_among (length octets) (lengths_where (λ (f : AddAddrForm). f.port))
+
+abbrev pub has_hmac : List ℕ → Bool
+has_hmac octets = is_among (length octets) (lengths_where (λ (f : AddAddrForm). f.hmac))
 
 -- where the address ends
 abbrev pub port_place : List ℕ → ℕ
@@ -47,7 +82,7 @@ abbrev pub port_at : List ℕ → Option ℕ
 port_at octets = if has_port octets then Some (number_at w16 octets (port_place octets)) else None
 
 abbrev pub hmac_at : List ℕ → Option ℕ
-hmac_at octets = if is_echo octets then None else Some (number_at w64 octets (hmac_place octets))
+hmac_at octets = if has_hmac octets then Some (number_at w64 octets (hmac_place octets)) else None
 
 -- ---- REMOVE_ADDR as it is read
 

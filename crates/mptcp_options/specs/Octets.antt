@@ -1,19 +1,6 @@
--- The octets of an option: what stands at a place of them, counted from 0 at the kind, and flags. Numbers are in
--- network order.
-use Rattle.std.specs.Prelude.{ℕ, ◌<◌, Bool, false, not, ◌||◌, ◌==◌, if◌then◌else◌, Option, Some, None, IfSome, List, [], ◌∷◌, take, drop, slice_index, bit_and}
-use Rattle.std.specs.Int.{Width, byte_len, from_be_bytes, to_be_bytes}
-
--- the octet at a place
-abbrev pub octet : List ℕ → ℕ → ℕ
-octet octets place = slice_index octets place
-
--- the number that begins at a place
-abbrev pub number_at : Width → List ℕ → ℕ → ℕ
-number_at w octets place = from_be_bytes w (take (byte_len w) (drop place octets))
-
--- an octet has a flag
-abbrev pub is_set : ℕ → ℕ → Bool
-is_set flags flag = not (bit_and flags flag == 0)
+-- Flags, numbers that may be absent, and tables, as the options of Multipath TCP have them.
+use Rattle.std.specs.Prelude.{ℕ, ◌<◌, Bool, false, ◌||◌, ◌==◌, if◌then◌else◌, Option, Some, None, IfSome, List, [], ◌∷◌}
+use Rattle.std.specs.Int.{Width, to_be_bytes}
 
 -- what a flag adds to its octet
 abbrev pub flag_if : Bool → ℕ → ℕ

@@ -1,7 +1,7 @@
-ghost use Rattle.std.specs.Prelude.{◌≡◌, ◌+◌, ◌≤◌, length, Bool};
+ghost use Rattle.std.specs.Prelude.{◌≡◌, ◌+◌, ◌≤◌, length, Bool, if◌then◌else◌};
 ghost use Rattle.mptcp_options.specs.Octets.{is_among};
 ghost use Rattle.mptcp_options.specs.Value.{meaning_of, LendsIds};
-ghost use Rattle.mptcp_options.specs.Address.{is_echo, is_ipv4, has_port, add_addr_lengths, port_place, hmac_place};
+ghost use Rattle.mptcp_options.specs.Address.{is_echo, is_ipv4, has_port, has_hmac, add_addr_lengths, port_place, hmac_place};
 ghost use Rattle.mptcp_options.specs.Address.{address_at, port_at, hmac_at, add_addr_body, remove_addr_body};
 ghost use Rattle.mptcp_options.specs.Meaning.{IsFramed, subtype, option_meaning};
 
@@ -42,7 +42,14 @@ fn is_ipv4(option: &[u8]) -> bool
 fn has_port(option: &[u8]) -> bool
     ensures { result ≡ has_port option.now }
 {
-    matches!(option.len(), 10 | 22 | 18 | 30)
+    matches!(option.len(), 10 | 18 | 22 | 30)
+}
+
+/// Whether the length is one with an HMAC.
+fn has_hmac(option: &[u8]) -> bool
+    ensures { result ≡ has_hmac option.now }
+{
+    matches!(option.len(), 16 | 18 | 28 | 30)
 }
 
 /// Where the address ends.
@@ -82,6 +89,13 @@ fn port_at(option: &[u8]) -> Option<u16>
     has_port(option).then(|| u16_at(option, port_place(option)))
 }
 
+fn hmac_at(option: &[u8]) -> Option<u64>
+    requires { hmac_place option.now + (if has_hmac option.now then 8 else 0) ≤ length option.now }
+    ensures { result ≡ hmac_at option.now }
+{
+    has_hmac(option).then(|| u64_at(option, hmac_place(option)))
+}
+
 #[tactic(auto, using(crate::proofs::AddressMeaning::option_meaning_add_addr))]
 pub fn read_add_addr(option: &[u8]) -> Read<'_>
     requires framed { IsFramed option.now }
@@ -93,17 +107,12 @@ pub fn read_add_addr(option: &[u8]) -> Read<'_>
     if !has_length_of_form(option, echo) {
         return Read::Malformed;
     }
-    let hmac = if echo {
-        None
-    } else {
-        Some(u64_at(option, hmac_place(option)))
-    };
     Read::Known(MpOption::AddAddr {
         echo,
         id: option[3],
         address: address_at(option),
         port: port_at(option),
-        hmac,
+        hmac: hmac_at(option),
     })
 }
 

@@ -21,7 +21,4 @@ pub use join::JoinForm;
 pub use laws::{known_is_written, known_may_be_written, octets_tell_the_option, written_is_read};
 pub use option::{KIND, MpOption, Read};
 pub use reading::read;
-pub use writing::write;
-
-#[cfg(test)]
-mod tests;
+pub use writing::{OptionOctets, octets_of, write};

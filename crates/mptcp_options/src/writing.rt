@@ -13,8 +13,8 @@ use arrayvec::ArrayVec;
 use pipe_model::Text;
 use std::alloc::AllocError;
 
-/// The options of a segment have at most 40 octets (RFC 9293, section 3.1).
-const LONGEST: usize = 40;
+/// The octets of one option: the options of a segment have at most 40 (RFC 9293, section 3.1).
+pub type OptionOctets = ArrayVec<u8, 40>;
 
 /// Appends the octets of an option, or changes nothing where there is no memory for them. The option has the form
 /// of its subtype (RFC 8684, section 3): a checksum stands exactly where checksums are used, which `checksum` tells,
@@ -28,9 +28,10 @@ pub fn write(option: &MpOption<'_>, checksum: bool, out: &mut Text) -> Result<()
     out.append(octets_of(option, checksum).as_slice())
 }
 
-/// Kind, length, which counts both, and body.
+/// The octets that [`write`] appends, by themselves, where the option has the form of its subtype as there: kind,
+/// length, which counts both, and body. Takes no memory.
 #[tactic(auto, unfolding(crate::specs::Text::option_text))]
-fn octets_of(option: &MpOption<'_>, checksum: bool) -> ArrayVec<u8, LONGEST>
+pub fn octets_of(option: &MpOption<'_>, checksum: bool) -> OptionOctets
     requires { HasForm checksum (value_of option.now) }
     ensures { result.items ≡ option_text (value_of option.now) }
 {
