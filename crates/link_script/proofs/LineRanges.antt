@@ -13,7 +13,7 @@ use Rattle.link_script.specs.declared.line.Line.TheVariants as line
 use Rattle.link_script.specs.declared.segment.Segment.{Segment}
 use Rattle.link_script.specs.declared.word.Keyword.{Keyword}
 use Rattle.link_script.specs.declared.word.Keyword.TheVariants as first
-use Rattle.link_script.specs.Lines.{seed_line, checksum_line, buffer_line, path_options, may_have, path_of, path_line, segment, drop_line, strip_line, alter_line, dup_line, late_line, strip_all_line, die_line, prio_line, add_line, remove_line, fast_close_line, end_line, line_after, line_of}
+use Rattle.link_script.specs.Lines.{seed_line, checksum_line, short_line, buffer_line, path_options, may_have, path_of, path_line, segment, drop_line, strip_line, alter_line, dup_line, late_line, strip_all_line, die_line, prio_line, add_line, remove_line, fast_close_line, end_line, line_after, line_of}
 use Rattle.link_script.specs.Numbers.{is_numeral, is_within, within}
 use Rattle.link_script.specs.Scripts.{IsWithin, IsPath, IsEvent}
 use Rattle.link_script.specs.Steps.{◌>>=◌}
@@ -28,6 +28,7 @@ abbrev pub IsLine : Line → Type 0
 IsLine line.Header = Unit {0}
 IsLine (line.Seed n) = IsWithin seeds n
 IsLine (line.Checksum on) = Unit {0}
+IsLine (line.Short on) = Unit {0}
 IsLine (line.Buffer octets) = IsWithin buffers octets
 IsLine (line.Path index path) = (index < most_paths) × IsPath path × (index ≡ 0 → (path.join ≡ 0) × (path.backup ≡ false))
 IsLine (line.Event event) = IsEvent most_paths event
@@ -76,6 +77,12 @@ unfolding checksum_line
 checksum_holds [] = tt
 checksum_holds (on ∷ []) = after (switch on) _ _ (λ x e. tt)
 checksum_holds (on ∷ m ∷ words) = tt
+
+short_holds : (words : List (List ℕ)) → Holds (short_line words) IsLine
+unfolding short_line
+short_holds [] = tt
+short_holds (on ∷ []) = after (switch on) _ _ (λ x e. tt)
+short_holds (on ∷ m ∷ words) = tt
 
 buffer_holds : (words : List (List ℕ)) → Holds (buffer_line words) IsLine
 unfolding buffer_line
@@ -274,6 +281,7 @@ fast_close_holds (which ∷ tick ∷ m ∷ words) = tt
 after_keyword : (which : Keyword) (words : List (List ℕ)) → Holds (line_after which words) IsLine
 after_keyword first.Seed words = seed_holds words
 after_keyword first.Checksum words = checksum_holds words
+after_keyword first.Short words = short_holds words
 after_keyword first.Buffer words = buffer_holds words
 after_keyword first.Path words = path_holds words
 after_keyword first.Drop words = drop_holds words

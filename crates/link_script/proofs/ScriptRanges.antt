@@ -7,7 +7,7 @@ use Rattle.std.proofs.lemmas.List.Elements.{All-push, All-weaker, All-nil}
 use Rattle.std.proofs.lemmas.List.Quantifiers.{all_pairs_push}
 use Rattle.link_script.specs.Ranges.{seeds, buffers}
 use Rattle.link_script.specs.declared.line.Line.{Line}
-use Rattle.link_script.specs.declared.line.Line.TheVariants.{Header, Seed, Checksum, Buffer, Path, Event, End}
+use Rattle.link_script.specs.declared.line.Line.TheVariants.{Header, Seed, Checksum, Short, Buffer, Path, Event, End}
 use Rattle.link_script.specs.declared.script.PathLine.{PathLine}
 use Rattle.link_script.specs.declared.script.Script.{Script}
 use Rattle.link_script.specs.declared.script.ScriptLine.{ScriptLine}
@@ -107,6 +107,7 @@ pub kept_more : (script : Script) (line : Line) → Kept script → IsLine line 
 kept_more script Header k h m new = k
 kept_more script (Seed n) k h m new = record { seed = h; buffer = k.buffer; paths = k.paths; events = k.events }
 kept_more script (Checksum on) k h m new = record { seed = k.seed; buffer = k.buffer; paths = k.paths; events = k.events }
+kept_more script (Short on) k h m new = record { seed = k.seed; buffer = k.buffer; paths = k.paths; events = k.events }
 kept_more script (Buffer octets) k h m new = record { seed = k.seed; buffer = h; paths = k.paths; events = k.events }
 kept_more script (Path index path) k h m new = record {
   seed = k.seed;

@@ -8,11 +8,11 @@ use Rattle.outside_kit.specs.declared.side.Side.TheVariants.{A, B}
 use Rattle.link_script.specs.declared.limits.Limits.{Limits}
 use Rattle.link_script.specs.Ranges.{seeds, buffers, path_numbers, segment_sizes, delays, segment_numbers, latenesses, run_ticks, address_ids}
 use Rattle.link_script.specs.declared.line.Line.{Line}
-use Rattle.link_script.specs.declared.line.Line.TheVariants.{Header, Seed, Checksum, Buffer, Path, Event, End}
+use Rattle.link_script.specs.declared.line.Line.TheVariants.{Header, Seed, Checksum, Short, Buffer, Path, Event, End}
 use Rattle.link_script.specs.declared.script.PathLine.{PathLine}
 use Rattle.link_script.specs.declared.script.ScriptLine.{ScriptLine}
 use Rattle.link_script.specs.declared.script.ScriptLine.TheVariants.{Drop, Strip, Alter, Dup, Late, StripAll, Die, Prio, Add, Remove, FastClose}
-use Rattle.link_script.specs.Lines.{seed_line, checksum_line, buffer_line, path_options, may_have, path_of, path_line, segment, drop_line, strip_line, alter_line, dup_line, late_line, strip_all_line, die_line, prio_line, add_line, remove_line, fast_close_line, end_line, line_of}
+use Rattle.link_script.specs.Lines.{seed_line, checksum_line, short_line, buffer_line, path_options, may_have, path_of, path_line, segment, drop_line, strip_line, alter_line, dup_line, late_line, strip_all_line, die_line, prio_line, add_line, remove_line, fast_close_line, end_line, line_of}
 use Rattle.link_script.specs.Numbers.{within}
 use Rattle.link_script.specs.Scripts.{IsWithin, IsPath, IsEvent}
 use Rattle.link_script.specs.Words.{fixed, keyword, direction, direction_word, side, side_word, switch, switch_word}
@@ -152,10 +152,11 @@ plain_path_words index path h =
 -- ---- any line
 
 pub line_again : (line : Line) → IsLine line → (line ≡ Header → ⊥) → line_of (line_words line) ≡ Ok line
-unfolding line_of keyword seed_line checksum_line buffer_line end_line
+unfolding line_of keyword seed_line checksum_line short_line buffer_line end_line
 line_again Header h later = absurd (later refl)
 line_again (Seed n) h later = rw (again seeds n (omega arith) h) refl
 line_again (Checksum on) h later = rw (switch_again on) refl
+line_again (Short on) h later = rw (switch_again on) refl
 line_again (Buffer octets) h later = rw (again buffers octets (omega arith) h) refl
 line_again (Path index path) h later = path_line_again index path h
 line_again (Event event) h later = event_again event h
@@ -165,6 +166,7 @@ pub plain_line : (line : Line) → IsLine line → ArePlain (line_words line)
 plain_line Header h = (refl, (refl, tt))
 plain_line (Seed n) h = (refl, (plain_within seeds n (omega arith) h, tt))
 plain_line (Checksum on) h = (refl, (plain_switch on, tt))
+plain_line (Short on) h = (refl, (plain_switch on, tt))
 plain_line (Buffer octets) h = (refl, (plain_within buffers octets (omega arith) h, tt))
 plain_line (Path index path) h = plain_path_words index path h
 plain_line (Event event) h = plain_event event h

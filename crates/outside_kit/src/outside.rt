@@ -1,6 +1,6 @@
 ghost use Rattle.std.specs.Prelude.{◌≡◌, ◌≢◌, ◌≤◌, ◌<◌, ◌^◌, ◌++◌, ℕ, List, [], length, Option, IsSome, IfOk, IfSome, OnOk, OnErr, vec_len};
 ghost use Rattle.outside_kit.specs.declared.port.Port.{Port};
-ghost use Rattle.outside_kit.specs.Outside.{HasRisen, HoldsAfter, HoldsFront};
+ghost use Rattle.outside_kit.specs.Outside.{HasRisen, HoldsAfter, HoldsPrefix};
 
 use crate::port::Port;
 use std::alloc::Global;
@@ -78,10 +78,10 @@ pub trait Outside {
         ensures other_counts { (other : Port) → other ≢ port → port_faults self.new other ≡ port_faults self.old other }
         ensures load_counts { load_faults self.new ≡ load_faults self.old };
 
-    /// Puts the piece at the end of what the port holds. Where it can't, the port has a front of the piece.
+    /// Puts the piece at the end of what the port holds. Where it can't, the port has a prefix of the piece.
     fn put(&mut self, port: Port, piece: &[u8]) -> Result<(), PutFault>
         ensures ok { OnOk result (HoldsAfter (holds self.old port) (holds self.new port) (λ held. held ++ piece.now)) }
-        ensures err { OnErr result (HoldsFront (holds self.old port) (holds self.new port) piece.now) }
+        ensures err { OnErr result (HoldsPrefix (holds self.old port) (holds self.new port) piece.now) }
 
         ensures counted { port_faults self.old port ≤ port_faults self.new port }
         ensures failed { result ≡ Err PutFault.Failed →
