@@ -10,18 +10,20 @@ use Rattle.key_material.specs.AddressHmac.{address_hmac, add_addr64_of}
 use Rattle.key_material.specs.Drawing.{drawn_word}
 use Rattle.rand_chacha.specs.Block.{block_word}
 use Rattle.key_material.specs.Octets.{AreOctets}
-use Rattle.key_material.proofs.Octets.{AreOctets-take, AreOctets-drop}
+use Rattle.key_material.proofs.Octets.{each_octet, AreOctets-take, AreOctets-drop}
 use Rattle.key_material.proofs.DigestOctets.{IsDigest, IsDigest-key_digest, IsDigest-hmac_of}
 
 pub from_be_bytes_2_below : (octets : List ℕ) → AreOctets octets → from_be_bytes w16 octets < 2 ^ 16
-from_be_bytes_2_below octets are = omega (arith, are.each 0, are.each 1)
+from_be_bytes_2_below octets are =
+    let each = each_octet octets are in omega (arith, each 0, each 1)
 
 pub from_be_bytes_4_below : (octets : List ℕ) → AreOctets octets → from_be_bytes w32 octets < 2 ^ 32
-from_be_bytes_4_below octets are = omega (arith, are.each 0, are.each 1, are.each 2, are.each 3)
+from_be_bytes_4_below octets are =
+    let each = each_octet octets are in omega (arith, each 0, each 1, each 2, each 3)
 
 pub from_be_bytes_8_below : (octets : List ℕ) → AreOctets octets → from_be_bytes w64 octets < 2 ^ 64
 from_be_bytes_8_below octets are =
-    omega (arith, are.each 0, are.each 1, are.each 2, are.each 3, are.each 4, are.each 5, are.each 6, are.each 7)
+    let each = each_octet octets are in omega (arith, each 0, each 1, each 2, each 3, each 4, each 5, each 6, each 7)
 
 pub token_of_below : (key : ℕ) → token_of key < 2 ^ 32
 token_of_below key = from_be_bytes_4_below (take 4 (key_digest key)) (AreOctets-take 4 _ (IsDigest-key_digest key).octets)

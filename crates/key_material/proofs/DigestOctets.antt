@@ -9,18 +9,13 @@ use Rattle.sha2.proofs.Facts256.{length-sha256}
 use Rattle.key_material.specs.Octets.{AreOctets}
 use Rattle.key_material.specs.KeyDigest.{key_digest}
 use Rattle.key_material.specs.Hmac.{hmac_of}
-use Rattle.key_material.proofs.Octets.{AreOctets-none, AreOctets-cons, AreOctets-append, AreOctets-take, AreOctets-drop}
-
-AreOctets-word : (n : ℕ) → AreOctets (to_be_bytes w32 n)
-AreOctets-word n =
-    AreOctets-cons _ _ (omega arith) (AreOctets-cons _ _ (omega arith)
-    (AreOctets-cons _ _ (omega arith) (AreOctets-cons _ _ (omega arith) AreOctets-none)))
+use Rattle.key_material.proofs.Octets.{each_octet, AreOctets-none, AreOctets-append, AreOctets-to_be_bytes, AreOctets-take, AreOctets-drop}
 
 AreOctets-digest_bytes : (h : List ℕ) (n : ℕ) → AreOctets (digest_bytes h n)
 unfolding digest_bytes
 AreOctets-digest_bytes h zero = AreOctets-none
 AreOctets-digest_bytes h (suc n) =
-    AreOctets-append (digest_bytes h n) (to_be_bytes w32 (slice_index h n)) (AreOctets-digest_bytes h n) (AreOctets-word (slice_index h n))
+    AreOctets-append (digest_bytes h n) (to_be_bytes w32 (slice_index h n)) (AreOctets-digest_bytes h n) (AreOctets-to_be_bytes w32 (slice_index h n))
 
 -- 32 octets
 pub record IsDigest (xs : List ℕ) : Type 0 where
@@ -42,12 +37,12 @@ IsDigest-hmac_of key message = IsDigest-sha256 _
 module _ (digest : List ℕ) (is_digest : IsDigest digest) where
   pub first_4 : to_be_bytes w32 (from_be_bytes w32 (take 4 digest)) ≡ take 4 digest
   first_4 = be_bytes_4 (take 4 digest) _ (simp length-take (omega (arith, is_digest.long)))
-      (AreOctets-take 4 digest is_digest.octets).each refl
+      (each_octet _ (AreOctets-take 4 digest is_digest.octets)) refl
 
   pub first_8 : to_be_bytes w64 (from_be_bytes w64 (take 8 digest)) ≡ take 8 digest
   first_8 = be_bytes_8 (take 8 digest) _ (simp length-take (omega (arith, is_digest.long)))
-      (AreOctets-take 8 digest is_digest.octets).each refl
+      (each_octet _ (AreOctets-take 8 digest is_digest.octets)) refl
 
   pub last_8 : to_be_bytes w64 (from_be_bytes w64 (drop 24 digest)) ≡ drop 24 digest
   last_8 = be_bytes_8 (drop 24 digest) _ (simp length-drop (omega (arith, is_digest.long)))
-      (AreOctets-drop 24 digest is_digest.octets).each refl
+      (each_octet _ (AreOctets-drop 24 digest is_digest.octets)) refl

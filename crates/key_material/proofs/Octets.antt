@@ -1,31 +1,46 @@
 -- Lists of octets: parts of them, and lists put together of them.
-use Rattle.std.proofs.Common.{ℕ, zero, suc, ◌<◌, List, [], ◌∷◌, ◌++◌, get_or, take, drop, arith}
+use Rattle.std.proofs.Common.{ℕ, zero, suc, ◌<◌, List, [], ◌∷◌, ◌++◌, length, get_or, take, drop, inl, inr, arith}
+use Rattle.std.specs.Int.{Width, byte_len, byte_at, bytes_high_first, to_be_bytes}
+use Rattle.std.proofs.lemmas.Bool.{cases_lt}
+use Rattle.std.proofs.lemmas.List.{get_or_past}
+use Rattle.std.proofs.lemmas.List.Elements.{All-nil, All-cons, All-append, All-take, All-drop, All-get_or}
 use Rattle.key_material.specs.Octets.{AreOctets}
 
+abbrev IsOctet : ℕ → Type 0
+IsOctet x = x < 256
+
+-- what stands at a place is an octet; past the end it is 0
+pub each_octet : (octets : List ℕ) → AreOctets octets → (place : ℕ) → get_or octets place 0 < 256
+each_octet octets are place =
+    elim (cases_lt place (length octets)) [
+      | inl within ↦ All-get_or IsOctet octets place 0 within are
+      | inr past ↦ omega (arith, get_or_past octets place 0 past)
+    ]
+
 pub AreOctets-none : AreOctets []
-AreOctets-none = record { each = λ i. omega arith }
+AreOctets-none = All-nil IsOctet
 
 pub AreOctets-cons : (x : ℕ) (xs : List ℕ) → x < 256 → AreOctets xs → AreOctets (x ∷ xs)
-AreOctets-cons x xs below rest = record { each = at_place } where
-  at_place : (i : ℕ) → get_or (x ∷ xs) i 0 < 256
-  at_place zero = below
-  at_place (suc i) = rest.each i
-
-pub AreOctets-tail : (x : ℕ) (xs : List ℕ) → AreOctets (x ∷ xs) → AreOctets xs
-AreOctets-tail x xs octets = record { each = λ i. octets.each (suc i) }
+AreOctets-cons x xs below are = All-cons IsOctet x xs below are
 
 pub AreOctets-append : (xs ys : List ℕ) → AreOctets xs → AreOctets ys → AreOctets (xs ++ ys)
-AreOctets-append [] ys front back = back
-AreOctets-append (x ∷ xs) ys front back =
-    AreOctets-cons x (xs ++ ys) (front.each 0) (AreOctets-append xs ys (AreOctets-tail x xs front) back)
+AreOctets-append xs ys first second = All-append IsOctet xs ys first second
 
 pub AreOctets-take : (n : ℕ) (xs : List ℕ) → AreOctets xs → AreOctets (take n xs)
-AreOctets-take zero xs octets = AreOctets-none
-AreOctets-take (suc n) [] octets = AreOctets-none
-AreOctets-take (suc n) (x ∷ xs) octets =
-    AreOctets-cons x (take n xs) (octets.each 0) (AreOctets-take n xs (AreOctets-tail x xs octets))
+AreOctets-take n xs are = All-take IsOctet n xs are
 
 pub AreOctets-drop : (n : ℕ) (xs : List ℕ) → AreOctets xs → AreOctets (drop n xs)
-AreOctets-drop zero xs octets = octets
-AreOctets-drop (suc n) [] octets = AreOctets-none
-AreOctets-drop (suc n) (x ∷ xs) octets = AreOctets-drop n xs (AreOctets-tail x xs octets)
+AreOctets-drop n xs are = All-drop IsOctet n xs are
+
+byte_at-below : (k n : ℕ) → byte_at k n < 256
+byte_at-below zero n = omega arith
+byte_at-below (suc k) n = omega arith
+
+bytes_high_first-octets : (k n : ℕ) → AreOctets (bytes_high_first k n)
+bytes_high_first-octets zero n = AreOctets-none
+bytes_high_first-octets (suc k) n =
+    AreOctets-cons (byte_at k n) (bytes_high_first k n) (byte_at-below k n) (bytes_high_first-octets k n)
+
+-- a number's octets, the highest first
+pub AreOctets-to_be_bytes : (w : Width) (n : ℕ) → AreOctets (to_be_bytes w n)
+AreOctets-to_be_bytes w n = bytes_high_first-octets (byte_len w) n

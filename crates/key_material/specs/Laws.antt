@@ -8,19 +8,19 @@ use Rattle.key_material.specs.Hmac.{hmac_of}
 use Rattle.key_material.specs.JoinHmac.{hmac_of_a, hmac_of_b, join_a160_of, join_b64_of}
 use Rattle.key_material.specs.AddressHmac.{address_hmac, add_addr64_of}
 
--- the front and the rest of a message, from any place, have the HMAC of the message
+-- a prefix of a message and the rest, cut at any place, have the HMAC of the message
 abbrev pub MessageMayBeCutAnywhere : Type 0
 MessageMayBeCutAnywhere = (key message : List ℕ) (place : ℕ)
     → hmac_of key (flat_map (λ piece. piece) (take place message ∷ drop place message ∷ [])) ≡ hmac_of key message
 
--- the octets of a key's token and initial data sequence number are the front and the end of its digest
+-- the octets of a key's token and initial data sequence number are a prefix and the end of its digest
 abbrev pub KeyDigestIsCut : Type 0
 KeyDigestIsCut = (key : ℕ) → (to_be_bytes w32 (token_of key) ≡ take 4 (key_digest key))
     × (to_be_bytes w64 (idsn_of key) ≡ drop 24 (key_digest key))
 
--- the octets of a join's HMACs are fronts of B's and of A's
-abbrev pub JoinHmacsAreFronts : Type 0
-JoinHmacsAreFronts = (key_a key_b nonce_a nonce_b : ℕ)
+-- the octets of a join's HMACs are prefixes of B's and of A's
+abbrev pub JoinHmacsArePrefixes : Type 0
+JoinHmacsArePrefixes = (key_a key_b nonce_a nonce_b : ℕ)
     → (to_be_bytes w64 (join_b64_of key_a key_b nonce_a nonce_b) ≡ take 8 (hmac_of_b key_a key_b nonce_a nonce_b))
     × (join_a160_of key_a key_b nonce_a nonce_b ≡ take 20 (hmac_of_a key_a key_b nonce_a nonce_b))
 

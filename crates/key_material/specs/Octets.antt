@@ -1,6 +1,6 @@
 -- Lists of octets.
-use Rattle.std.specs.Prelude.{ℕ, ◌<◌, List, slice_index}
+use Rattle.std.specs.Prelude.{ℕ, ◌<◌, List, All}
 
 -- each element is an octet
-pub record AreOctets (octets : List ℕ) : Type 0 where
-  pub each : (place : ℕ) → slice_index octets place < 256
+abbrev pub AreOctets : List ℕ → Type 0
+AreOctets octets = All (λ x. x < 256) octets

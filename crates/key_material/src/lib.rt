@@ -18,6 +18,3 @@ pub use join_hmac::{join_a160, join_b64};
 pub use key_digest::{idsn, token};
 pub use keyed_hash::{hmac, hmac_of_pieces};
 pub use laws::{message_may_be_cut_anywhere, truncations_are_of_one_digest};
-
-#[cfg(test)]
-mod tests;

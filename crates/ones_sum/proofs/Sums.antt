@@ -7,11 +7,11 @@ pub word_sum-cons : (high low : ℕ) (rest : List ℕ) → word_sum (high ∷ lo
 word_sum-cons high low rest = sum_by-cons (λ x. x) (256 * high + low) (words rest)
 
 -- data may be cut at any even place
-pub word_sum-append : (front back : List ℕ) → length front % 2 ≡ 0 → word_sum (front ++ back) ≡ word_sum front + word_sum back
-word_sum-append [] back even = omega arith
-word_sum-append (high ∷ []) back even = absurd (omega arith)
-word_sum-append (high ∷ low ∷ rest) back even =
-    omega (arith, word_sum-cons high low (rest ++ back), word_sum-cons high low rest, word_sum-append rest back (omega arith))
+pub word_sum-append : (prefix others : List ℕ) → length prefix % 2 ≡ 0 → word_sum (prefix ++ others) ≡ word_sum prefix + word_sum others
+word_sum-append [] others even = omega arith
+word_sum-append (high ∷ []) others even = absurd (omega arith)
+word_sum-append (high ∷ low ∷ rest) others even =
+    omega (arith, word_sum-cons high low (rest ++ others), word_sum-cons high low rest, word_sum-append rest others (omega arith))
 
 pub word_sum-bound : (octets : List ℕ) → ((i : ℕ) → get_or octets i 0 < 256) → word_sum octets ≤ 65535 * length octets
 word_sum-bound [] small = omega arith

@@ -9,6 +9,3 @@ mod words;
 
 pub use laws::{complement_completes, folds_are_end_around, parts_add_up, turned_bit_shows};
 pub use words::{fold, sum, sum_more};
-
-#[cfg(test)]
-mod tests;

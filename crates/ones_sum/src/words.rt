@@ -5,35 +5,35 @@ ghost use Rattle.ones_sum.specs.Words.{word_sum, folded};
 
 /// The sum of the 16-bit words of at most 2^32 octets, as a plain number. An odd last octet is the high half of a
 /// word whose low half is 0 (RFC 1071, section 2).
-pub fn sum(bytes: &[u8]) -> u64
-    requires { length bytes.now ≤ 2 ^ 32 }
-    ensures value { result ≡ word_sum bytes.now }
-    ensures bounded { result ≤ 65535 * length bytes.now }
+pub fn sum(octets: &[u8]) -> u64
+    requires { length octets.now ≤ 2 ^ 32 }
+    ensures value { result ≡ word_sum octets.now }
+    ensures bounded { result ≤ 65535 * length octets.now }
 {
-    sum_more(0, bytes)
+    sum_more(0, octets)
 }
 
 /// The sum `so_far`, and the words of at most 2^32 more octets. Where `so_far` is the sum of an even number of
 /// octets, the result is the sum of those and these.
-pub fn sum_more(so_far: u64, bytes: &[u8]) -> u64
+pub fn sum_more(so_far: u64, octets: &[u8]) -> u64
     requires low { so_far < 2 ^ 62 }
-    requires few { length bytes.now ≤ 2 ^ 32 }
-    ensures adds { result ≡ so_far + word_sum bytes.now }
+    requires few { length octets.now ≤ 2 ^ 32 }
+    ensures adds { result ≡ so_far + word_sum octets.now }
     ensures goes_on { (before : List ℕ) → length before % 2 ≡ 0 → so_far ≡ word_sum before
-        → result ≡ word_sum (before ++ bytes.now) }
-    ensures bounded { result ≤ so_far + 65535 * length bytes.now }
+        → result ≡ word_sum (before ++ octets.now) }
+    ensures bounded { result ≤ so_far + 65535 * length octets.now }
 {
-    added(so_far, bytes)
+    added(so_far, octets)
 }
 
 // Word after word.
-fn added(so_far: u64, bytes: &[u8]) -> u64
+fn added(so_far: u64, octets: &[u8]) -> u64
     requires low { so_far < 2 ^ 62 }
-    requires few { length bytes.now ≤ 2 ^ 32 }
-    ensures { result ≡ so_far + word_sum bytes.now }
+    requires few { length octets.now ≤ 2 ^ 32 }
+    ensures { result ≡ so_far + word_sum octets.now }
 {
     let mut total = so_far;
-    let mut rest = bytes;
+    let mut rest = octets;
     while let [high, low, others @ ..] = rest {
         total += u64::from(u16::from_be_bytes([*high, *low]));
         rest = others;

@@ -31,9 +31,9 @@ written-after_steps (step ∷ steps) p =
     ∙ ap (λ xs. xs ++ written_by steps (next step p)) (written-next step p)
     ∙ append_assoc p.written _ (written_by steps (next step p))
 
--- What is read at any moment is a front of what is written then.
+-- What is read at any moment is a prefix of what is written then.
 pub record HasRead (p q : Pipe) (piece : List ℕ) : Type 0 where
-  pub front : take q.read q.written ≡ take p.read p.written ++ piece
+  pub prefix : take q.read q.written ≡ take p.read p.written ++ piece
   pub within : q.read ≤ length q.written
 
 within_if_allowed : (told : Bool) (count : ℕ) (p : Pipe) → p.told_end ≡ told → is_none (refusal (Read count) p) ≡ true → p.read + count ≤ length p.written
@@ -41,25 +41,25 @@ within_if_allowed told count p e h = grind arith
 
 read-after : (step : PipeStep) (p : Pipe) → is_none (refusal step p) ≡ true → p.read ≤ length p.written → HasRead p (after step p) (piece_of step p)
 read-after (Write bytes) p allowed within =
-    record { front = take-append-le p.read p.written bytes within ∙ sym (append-nil (take p.read p.written)); within = grind (arith, common_steps) }
-read-after Close p allowed within = record { front = sym (append-nil (take p.read p.written)); within = within }
+    record { prefix = take-append-le p.read p.written bytes within ∙ sym (append-nil (take p.read p.written)); within = grind (arith, common_steps) }
+read-after Close p allowed within = record { prefix = sym (append-nil (take p.read p.written)); within = within }
 read-after (Read count) p allowed within =
-    record { front = take-add p.read count p.written; within = within_if_allowed _ count p refl allowed }
-read-after (Ack to received) p allowed within = record { front = sym (append-nil (take p.read p.written)); within = within }
-read-after TellEnd p allowed within = record { front = sym (append-nil (take p.read p.written)); within = within }
+    record { prefix = take-add p.read count p.written; within = within_if_allowed _ count p refl allowed }
+read-after (Ack to received) p allowed within = record { prefix = sym (append-nil (take p.read p.written)); within = within }
+read-after TellEnd p allowed within = record { prefix = sym (append-nil (take p.read p.written)); within = within }
 
 read-next_at : (step : PipeStep) (p : Pipe) (b : Bool) → is_none (refusal step p) ≡ b → p.read ≤ length p.written
     → HasRead p (if b then after step p else p) (if b then piece_of step p else [])
 read-next_at step p true e within = read-after step p e within
-read-next_at step p false e within = record { front = sym (append-nil (take p.read p.written)); within = within }
+read-next_at step p false e within = record { prefix = sym (append-nil (take p.read p.written)); within = within }
 
 pub read-after_steps : (steps : List PipeStep) (p : Pipe) → p.read ≤ length p.written → HasRead p (after_steps steps p) (read_by steps p)
-read-after_steps [] p within = record { front = sym (append-nil (take p.read p.written)); within = within }
+read-after_steps [] p within = record { prefix = sym (append-nil (take p.read p.written)); within = within }
 read-after_steps (step ∷ steps) p within =
     let one = read-next_at step p (is_none (refusal step p)) refl within in
     let others = read-after_steps steps (next step p) one.within in
     record {
-      front = others.front ∙ ap (λ xs. xs ++ read_by steps (next step p)) one.front
+      prefix = others.prefix ∙ ap (λ xs. xs ++ read_by steps (next step p)) one.prefix
           ∙ append_assoc (take p.read p.written) _ (read_by steps (next step p));
       within = others.within;
     }
@@ -67,11 +67,11 @@ read-after_steps (step ∷ steps) p within =
 pub read_by-IsPrefix : (steps : List PipeStep) → IsPrefix (read_by steps opening) (written_by steps opening)
 read_by-IsPrefix steps =
     let q : Pipe = after_steps steps opening in
-    let front : take q.read q.written ≡ read_by steps opening = (read-after_steps steps opening (omega arith)).front in
+    let prefix : take q.read q.written ≡ read_by steps opening = (read-after_steps steps opening (omega arith)).prefix in
     let whole : q.written ≡ written_by steps opening = written-after_steps steps opening in
     record {
       rest = drop q.read q.written;
-      whole_is = sym whole ∙ sym (take-append-drop q.read q.written) ∙ ap (λ xs. xs ++ drop q.read q.written) front;
+      whole_is = sym whole ∙ sym (take-append-drop q.read q.written) ∙ ap (λ xs. xs ++ drop q.read q.written) prefix;
     }
 
 -- The acknowledged bytes had been received, and these had been written.
@@ -161,6 +161,6 @@ told-after_steps steps told = told-after_steps_from steps opening (λ e. absurd 
 pub read_by-whole : (steps : List PipeStep) → (after_steps steps opening).told_end ≡ true → read_by steps opening ≡ written_by steps opening
 read_by-whole steps told =
     let q : Pipe = after_steps steps opening in
-    let front : take q.read q.written ≡ read_by steps opening = (read-after_steps steps opening (omega arith)).front in
+    let prefix : take q.read q.written ≡ read_by steps opening = (read-after_steps steps opening (omega arith)).prefix in
     let all : q.read ≡ length q.written = (told-after_steps steps told).whole in
-    sym front ∙ ap (λ n. take n q.written) all ∙ take-length q.written ∙ written-after_steps steps opening
+    sym prefix ∙ ap (λ n. take n q.written) all ∙ take-length q.written ∙ written-after_steps steps opening

@@ -1,3 +1,5 @@
+pub mod Faults
+pub mod Octets
 pub mod Pipe
 pub mod Prefix
 pub mod Runs

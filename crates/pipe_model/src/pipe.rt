@@ -1,9 +1,11 @@
-ghost use Rattle.std.specs.Prelude.{◌≡◌, OnOk, OnErr, IfErr};
+ghost use Rattle.std.specs.Prelude.{◌≡◌, Some, OnOk, OnErr, IfErr};
+ghost use Rattle.pipe_model.specs.Faults.{fault_words};
 ghost use Rattle.pipe_model.specs.Pipe.{opening, refusal, after, IsCause};
 
 use crate::text::Text;
 use std::alloc::{AllocError, Global};
-use thiserror::Error;
+use std::error::Error;
+use std::fmt;
 
 /// One direction of a connection: all bytes that its writer gave, and how far its reader is.
 #[derive(Debug, Drop, PartialEq)]
@@ -51,19 +53,44 @@ pub enum PipeStep {
 }
 
 /// Why a step can't happen.
-#[derive(Clone, Copy, Debug, PartialEq, Eq, Error)]
+#[derive(Clone, Copy, Debug, PartialEq, Eq)]
 pub enum PipeFault {
-    #[error("the writer has closed the stream")]
+    /// The writer has closed the stream.
     Closed,
-    #[error("the reader was told the end")]
+    /// The reader was told the end.
     Told,
-    #[error("there are not so many bytes")]
+    /// There are not so many bytes.
     Past,
-    #[error("the stream has not ended at the reader")]
+    /// The stream has not ended at the reader.
     NotAll,
-    #[error("out of memory")]
+    /// Out of memory.
     Memory,
 }
+
+impl PipeFault {
+    /// The fault in words, for messages.
+    pub fn words(self) -> &'static str
+        ensures { result.now ≡ fault_words self }
+    {
+        match self {
+            PipeFault::Closed => "the writer has closed the stream",
+            PipeFault::Told => "the reader was told the end",
+            PipeFault::Past => "there are not so many bytes",
+            PipeFault::NotAll => "the stream has not ended at the reader",
+            PipeFault::Memory => "out of memory",
+        }
+    }
+}
+
+impl fmt::Display for PipeFault {
+    ghost output = { λ fault. Some (fault_words fault) };
+
+    fn fmt<W: fmt::Write>(&self, f: &mut fmt::Formatter<W>) -> fmt::Result {
+        f.write_str(self.words())
+    }
+}
+
+impl Error for PipeFault {}
 
 impl From<AllocError> for PipeFault {
     ghost use Rattle.pipe_model.specs.declared.pipe.PipeFault.TheVariants.{Memory};

@@ -14,6 +14,3 @@ pub use mapping::Mapping;
 pub use nearest::{POSITION_LIMIT, near32, near64};
 pub use number::{Pos, Seq32, Seq64, number32, number64};
 pub use widening::widen;
-
-#[cfg(test)]
-mod tests;

@@ -3,7 +3,7 @@ use Rattle.ones_sum.specs.Words.{word_sum}
 use Rattle.ones_sum.proofs.words.added.Given as goal
 
 abbrev pub invariant-loop-rest : goal.invariant-loop-rest
-invariant-loop-rest l = l.total + word_sum l.rest ≡ l.so_far + word_sum l.bytes
+invariant-loop-rest l = l.total + word_sum l.rest ≡ l.so_far + word_sum l.octets
 
 abbrev pub decreases-loop-rest : goal.decreases-loop-rest
 decreases-loop-rest l = length l.rest
