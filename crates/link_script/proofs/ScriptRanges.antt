@@ -14,7 +14,7 @@ use Rattle.link_script.specs.declared.script.ScriptLine.{ScriptLine}
 use Rattle.link_script.specs.declared.script.ScriptLine.TheVariants.{Drop, Strip, Alter, Dup, Late, StripAll, Die, Prio, Add, Remove, FastClose}
 use Rattle.link_script.specs.Places.{path_named, lacks, is_misplaced, settle_one}
 use Rattle.link_script.specs.Reading.{blank, with_line}
-use Rattle.link_script.specs.Scripts.{IsWithin, IsPath, OpensPlainly, IsEvent, SettleApart}
+use Rattle.link_script.specs.Scripts.{IsInRange, IsPath, OpensPlainly, IsEvent, SettleApart}
 use Rattle.link_script.proofs.LineRanges.{most_paths, IsLine}
 
 -- ---- paths
@@ -86,8 +86,8 @@ events_wider paths events k = record { ranges = All-weaker (IsEvent paths) (IsEv
 -- ---- a script
 
 pub record Kept (script : Script) : Type 0 where
-  pub seed : IsWithin seeds script.seed
-  pub buffer : IsWithin buffers script.buffer
+  pub seed : IsInRange seeds script.seed
+  pub buffer : IsInRange buffers script.buffer
   pub paths : PathsKept script.paths
   pub events : EventsKept (length script.paths) script.lines
 

@@ -79,7 +79,11 @@ fn respond(alloc: Global, line: &str) -> Result<String, AllocError> {
         Some(Case::Text(script)) => answer(alloc, line, &with_line_ends(alloc, script)?),
         Some(Case::Lines(lines)) => {
             let between = with_line_ends(alloc, lines)?;
-            answer(alloc, line, &format!(in alloc; "mptcp-script 1\n{between}\nend\n")?)
+            answer(
+                alloc,
+                line,
+                &format!(in alloc; "mptcp-script 1\n{between}\nend\n")?,
+            )
         }
         None => format!(in alloc; "no case: {line}"),
     }
