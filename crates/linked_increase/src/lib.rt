@@ -15,6 +15,6 @@ mod tests;
 pub use increase::{ALPHA_SCALE, MAX_ACKED, MAX_MSS, alpha, growth};
 pub use laws::{
     alpha_is_at_least_exact, growth_is_as_fast_as_exact, growth_is_no_faster_than_alone,
-    leader_leads, sum_rounds_down,
+    leader_leads, numbers_of_the_increase, sum_rounds_down,
 };
 pub use rows::{MAX_ROWS, MAX_RTT, MAX_WINDOW, Row, Rows};

@@ -1,14 +1,17 @@
 -- What each event makes of a congestion window (RFC 5681, sections 3.1 and 3.2).
-use Rattle.std.specs.Prelude.{ℕ, ◌+◌, ◌*◌, ◌/◌, ◌<◌, ◌≤◌, min, max, Bool, true, false, nat_lt, nat_le, if◌then◌else◌}
+use Rattle.std.specs.Prelude.{ℕ, ◌+◌, ◌*◌, ◌/◌, ◌^◌, ◌<◌, ◌≤◌, min, max, Bool, true, false, nat_lt, nat_le, if◌then◌else◌}
 use Rattle.reno_window.specs.Window.{Window}
 
 -- at most 2^20 octets
 abbrev pub capped : ℕ → ℕ
 capped octets = min 1048576 octets
 
--- section 3.1: four segments of at most 1095 octets, or three
+-- section 3.1: IW is 4 SMSS where SMSS <= 1095, 3 SMSS where 1095 < SMSS <= 2190, and 2 SMSS where SMSS > 2190
+abbrev pub segments_at_first : ℕ → ℕ
+segments_at_first mss = if nat_le mss 1095 then 4 else (if nat_le mss 2190 then 3 else 2)
+
 abbrev pub initial_window : ℕ → ℕ
-initial_window mss = if nat_le mss 1095 then 4 * mss else 3 * mss
+initial_window mss = segments_at_first mss * mss
 
 -- ssthresh begins as high as a window gets
 abbrev pub opening : ℕ → Window
@@ -55,13 +58,13 @@ after_expiry flight again w = record w {
 }
 
 -- a window holds a segment, and is no greater than the cap
-pub record IsWithin (mss window : ℕ) : Type 0 where
+pub record IsCongestionWindow (mss window : ℕ) : Type 0 where
   pub least : mss ≤ window
   pub greatest : window ≤ 1048576
 
--- what holds of every window: segments of a size that the profile has, and a threshold of at least two of them
+-- what holds of every window: segments of a size that the MSS option can tell, and a threshold of at least two of them
 pub record IsSound (mss window ssthresh : ℕ) : Type 0 where
   pub some : 0 < mss
-  pub small : mss ≤ 1460
-  pub within : IsWithin mss window
+  pub small : mss < 2 ^ 16
+  pub within : IsCongestionWindow mss window
   pub threshold : 2 * mss ≤ ssthresh

@@ -13,4 +13,4 @@ mod window;
 pub use laws::{
     expiries_hold_the_threshold, recovery_halves_the_flight, slow_start_adds_a_segment,
 };
-pub use window::{MAX_MSS, MAX_WINDOW, Reno};
+pub use window::{MAX_WINDOW, Reno};

@@ -14,7 +14,7 @@ fn recovering(flight: u32) -> Reno {
 }
 
 fn opens_at(rt: &impl Abort, mss: u16, window: u32) {
-    assert!(rt; mss > 0 && mss <= MAX_MSS);
+    assert!(rt; mss > 0);
     assert_eq!(rt;
         state(&Reno::new(mss)),
         (window, 1_048_576, false),
@@ -23,8 +23,15 @@ fn opens_at(rt: &impl Abort, mss: u16, window: u32) {
 }
 
 #[test]
-fn opens_with_three_or_four_segments(rt: HostRuntime) {
-    for (mss, window) in [(200, 800), (1_095, 4_380), (1_096, 3_288), (1_460, 4_380)] {
+fn opens_with_two_to_four_segments(rt: HostRuntime) {
+    for (mss, window) in [
+        (200, 800),
+        (1_095, 4_380),
+        (1_096, 3_288),
+        (1_460, 4_380),
+        (2_190, 6_570),
+        (2_191, 4_382),
+    ] {
         opens_at(&rt, mss, window);
     }
 }

@@ -1,13 +1,11 @@
 //! The congestion window and what each event makes of it.
 ghost use Rattle.std.specs.Prelude.{◌≡◌, ◌<◌, ◌≤◌, ◌*◌, ◌-◌, ◌^◌};
+ghost use Rattle.reno_window.specs.Rules.{segments_at_first};
 
 use std::marker::Model;
 
-/// The greatest congestion window.
+/// The greatest congestion window, in octets: 2^20.
 pub const MAX_WINDOW: u32 = 1_048_576;
-
-/// The greatest segment size.
-pub const MAX_MSS: u16 = 1_460;
 
 /// The congestion window of one sender (RFC 5681).
 #[derive(Clone, Copy, Debug, PartialEq, Eq)]
@@ -36,20 +34,32 @@ impl Model for Reno {
     ghost inverse = { λ w. record { mss = w.mss; window = w.window; ssthresh = w.ssthresh; in_fast_recovery = w.in_fast_recovery } };
 }
 
-impl Reno {
-    ghost use Rattle.reno_window.specs.Rules.{IsWithin, opening, grown, ssthresh_after_loss, after_ack, after_third_duplicate, after_more_duplicate, after_expiry};
+/// How many segments of so many octets the first window has.
+fn segments_at_first(mss: u16) -> u32
+    ensures { result ≡ segments_at_first mss }
+{
+    if mss <= 1_095 {
+        4
+    } else if mss <= 2_190 {
+        3
+    } else {
+        2
+    }
+}
 
-    /// The window of a connection that begins, at a segment size of `mss` octets: three or four segments
-    /// (section 3.1).
+impl Reno {
+    ghost use Rattle.reno_window.specs.Rules.{IsCongestionWindow, opening, grown, ssthresh_after_loss, after_ack, after_third_duplicate, after_more_duplicate, after_expiry};
+
+    /// The window of a connection that begins, at a segment size of `mss` octets, which is not 0: four segments of at
+    /// most 1,095 octets, three of at most 2,190, or two greater ones (section 3.1).
     pub fn new(mss: u16) -> Self
-        requires some { 0 < mss }
-        requires small { mss ≤ 1460 }
+        requires { 0 < mss }
         ensures { result ≡ opening mss }
     {
         let smss = u32::from(mss);
         Reno {
             mss: smss,
-            window: if smss <= 1_095 { 4 * smss } else { 3 * smss },
+            window: segments_at_first(mss) * smss,
             ssthresh: MAX_WINDOW,
             in_fast_recovery: false,
         }
@@ -125,7 +135,7 @@ impl Reno {
     /// cwnd, the congestion window, from one segment to [`MAX_WINDOW`].
     pub fn window(&self) -> u32
         ensures value { result ≡ self.now.window }
-        ensures within { IsWithin self.now.mss result }
+        ensures within { IsCongestionWindow self.now.mss result }
     {
         self.window
     }

@@ -1,7 +1,8 @@
 //! The smoothed round-trip time and its variation (RFC 6298, section 2).
 ghost use Rattle.std.specs.Prelude.{◌≡◌, ◌≤◌};
 
-/// The longest round-trip time that a sample tells, in ticks. A longer one counts as this.
+/// The longest round-trip time that a sample may tell, in ticks: one minute. A caller that measured a longer one
+/// passes this.
 pub const MAX_SAMPLE: u32 = 60_000;
 
 /// The least retransmission timeout: one second (RFC 6298, rule 2.4).
@@ -13,7 +14,8 @@ pub const MAX_RTO: u32 = 60_000;
 /// The granularity G of the clock, in ticks.
 pub const CLOCK_GRANULARITY: u32 = 1;
 
-/// What the samples so far say about the round-trip time. Both means are kept exactly in fractions of a tick.
+/// What the samples so far say about the round-trip time. Both means are whole numbers of fractions of a tick: each
+/// sample rounds them up, by less than one such fraction.
 #[derive(Clone, Copy, Debug, PartialEq, Eq)]
 pub struct Estimate {
     /// SRTT, the smoothed round-trip time, in eighths of a tick.

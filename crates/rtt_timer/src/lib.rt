@@ -15,5 +15,5 @@ mod tests;
 mod timer;
 
 pub use estimate::{CLOCK_GRANULARITY, Estimate, MAX_RTO, MAX_SAMPLE, MIN_RTO};
-pub use laws::{expiries_double, means_round_up};
+pub use laws::{expiries_double, means_round_up, numbers_of_the_timer};
 pub use timer::{INITIAL_RTO, Rtt};

@@ -1,5 +1,5 @@
 -- Options one after the other, for callers that put them together.
-use Rattle.std.proofs.Common.{◌≡◌, ℕ, ◌+◌, ◌<◌, ◌≤◌, List, [], ◌∷◌, ◌++◌, length, get_or, take, drop, map, refl, sym, ap, ◌∙◌, arith, length-append}
+use Rattle.std.proofs.Common.{◌≡◌, ℕ, ◌≤◌, List, [], ◌∷◌, ◌++◌, length, get_or, take, drop, map, refl, ap, ◌∙◌, arith, length-append}
 use Rattle.std.proofs.lemmas.List.{get_or_append_left, take_at, drop_at}
 use Rattle.segment_wire.specs.Options.{are_whole, plain_options, option_octets}
 use Rattle.segment_wire.proofs.Fronts.{later, are_whole-option, plain_options-option}

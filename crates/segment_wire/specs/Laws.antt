@@ -1,5 +1,6 @@
 -- What holds of the text and the meaning of segments, for all addresses, segments and octets.
-use Rattle.std.specs.Prelude.{◌≡◌, ℕ, ◌*◌, ◌/◌, ◌%◌, ◌<◌, List, length, All, slice_index, slice_set, bit_and, Ok}
+use Rattle.std.specs.Prelude.{◌≡◌, ℕ, ◌*◌, ◌/◌, ◌%◌, List, length, slice_index, slice_set, bit_and, Ok}
+use Rattle.ones_sum.specs.Words.{AreOctets}
 use Rattle.segment_wire.specs.declared.head.Addresses.{Addresses}
 use Rattle.segment_wire.specs.Checksum.{checksum_of}
 use Rattle.segment_wire.specs.Segment.{Segment, CanWrite, segment_text}
@@ -37,5 +38,5 @@ summed_anew addresses octets = with_checksum (checksum_of addresses (with_checks
 
 -- what is read can be written, and gives the octets that were read but for the ignored bits and the checksum
 abbrev pub IsWrittenAgain : Type 0
-IsWrittenAgain = (addresses : Addresses) (octets : List ℕ) (segment : Segment) → All (λ x. x < 256) octets → segment_meaning addresses octets ≡ Ok segment
+IsWrittenAgain = (addresses : Addresses) (octets : List ℕ) (segment : Segment) → AreOctets octets → segment_meaning addresses octets ≡ Ok segment
     → CanWrite segment × (segment_text addresses segment ≡ summed_anew addresses (without_ignored octets))

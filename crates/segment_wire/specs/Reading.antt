@@ -1,11 +1,11 @@
 -- What octets mean as a segment, or the first fault in them (RFC 9293, section 3.1).
-use Rattle.std.specs.Prelude.{ℕ, ◌+◌, ◌*◌, ◌/◌, List, length, drop, slice_index, slice_range, Bool, not, ◌||◌, nat_lt, ◌==◌, if◌then◌else◌, bit_and, Result, Ok, Err, ◌≡◌}
-use Rattle.std.specs.Int.{Width, w16, w32, byte_len, from_be_bytes}
+use Rattle.std.specs.Prelude.{ℕ, ◌*◌, ◌/◌, List, length, drop, slice_index, slice_range, Bool, not, ◌||◌, nat_lt, if◌then◌else◌, Result, Ok, Err, ◌≡◌}
+use Rattle.std.specs.Int.{w16, w32}
 use Rattle.std.specs.Borrow.{Bor, u8 as octet}
 use Rattle.std.specs.Ptr.{Ptr, as_ptr, ptr_add}
+use Rattle.pipe_model.specs.Octets.{number_at, is_set}
 use Rattle.segment_wire.specs.declared.head.Head.{Head}
 use Rattle.segment_wire.specs.declared.head.Addresses.{Addresses}
-use Rattle.segment_wire.specs.declared.head.TheConstants.{FIN, SYN, RST, ACK}
 use Rattle.segment_wire.specs.declared.reading.SegmentFault.{SegmentFault}
 use Rattle.segment_wire.specs.declared.reading.SegmentFault.TheVariants.{Short, DataOffset, OptionLength, Checksum}
 use Rattle.segment_wire.specs.declared.reading.SegmentRef.{SegmentRef}
@@ -13,26 +13,22 @@ use Rattle.segment_wire.specs.Options.{are_whole}
 use Rattle.segment_wire.specs.Checksum.{is_checksum_right}
 use Rattle.segment_wire.specs.Segment.{Segment}
 
--- the number that stands at a place, its highest octet first
-abbrev pub number_at : Width → ℕ → List ℕ → ℕ
-number_at w place octets = from_be_bytes w (slice_range octets place (place + byte_len w))
-
--- one of the control bits
-abbrev pub is_set : ℕ → List ℕ → Bool
-is_set bit octets = not (bit_and (slice_index octets 13) bit == 0)
+-- one of the control bits: FIN 0x01, SYN 0x02, RST 0x04, ACK 0x10
+abbrev pub has_control_bit : List ℕ → ℕ → Bool
+has_control_bit octets bit = is_set (slice_index octets 13) bit
 
 -- The fields that are read. Reserved bits, CWR, ECE, URG, PSH and the urgent pointer are ignored.
 unfoldable pub head_in : List ℕ → Head
 head_in octets = record {
-  source_port = number_at w16 0 octets;
-  destination_port = number_at w16 2 octets;
-  seq = number_at w32 4 octets;
-  ack = number_at w32 8 octets;
-  syn = is_set SYN octets;
-  fin = is_set FIN octets;
-  rst = is_set RST octets;
-  ack_set = is_set ACK octets;
-  window = number_at w16 14 octets;
+  source_port = number_at w16 octets 0;
+  destination_port = number_at w16 octets 2;
+  seq = number_at w32 octets 4;
+  ack = number_at w32 octets 8;
+  syn = has_control_bit octets 0x02;
+  fin = has_control_bit octets 0x01;
+  rst = has_control_bit octets 0x04;
+  ack_set = has_control_bit octets 0x10;
+  window = number_at w16 octets 14;
 }
 
 -- how many octets the header has: the data offset counts words of four

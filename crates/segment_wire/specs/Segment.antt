@@ -3,7 +3,6 @@ use Rattle.std.specs.Prelude.{◌≡◌, ℕ, ◌+◌, ◌*◌, ◌/◌, ◌%◌
 use Rattle.std.specs.Int.{w16, w32, to_be_bytes}
 use Rattle.segment_wire.specs.declared.head.Head.{Head}
 use Rattle.segment_wire.specs.declared.head.Addresses.{Addresses}
-use Rattle.segment_wire.specs.declared.head.TheConstants.{FIN, SYN, RST, ACK}
 use Rattle.segment_wire.specs.Options.{are_whole}
 use Rattle.segment_wire.specs.Checksum.{checksum_of}
 
@@ -13,13 +12,14 @@ pub record Segment : Type 0 where
   pub options : List ℕ
   pub payload : List ℕ
 
--- the octet of the control bits: CWR, ECE, URG and PSH are 0
+-- The octet of the control bits (RFC 9293, section 3.1): FIN 0x01, SYN 0x02, RST 0x04 and ACK 0x10. CWR, ECE, URG and
+-- PSH are 0.
 abbrev pub control_bits : Head → ℕ
 control_bits head =
-    let ack = if head.ack_set then ACK else 0 in
-    let rst = if head.rst then RST else 0 in
-    let syn = if head.syn then SYN else 0 in
-    let fin = if head.fin then FIN else 0 in
+    let ack = if head.ack_set then 0x10 else 0 in
+    let rst = if head.rst then 0x04 else 0 in
+    let syn = if head.syn then 0x02 else 0 in
+    let fin = if head.fin then 0x01 else 0 in
     bit_or (bit_or (bit_or ack rst) syn) fin
 
 -- the ports and the numbers

@@ -18,6 +18,3 @@ pub use laws::{different_segments_differ, read_is_written_again, written_is_read
 pub use options::PlainOptions;
 pub use reading::{SegmentFault, SegmentRef, parse};
 pub use writing::write;
-
-#[cfg(test)]
-mod tests;

@@ -4,7 +4,8 @@ ghost use Rattle.std.specs.Prelude.{◌≡◌, ◌+◌, ◌≤◌, length, IfOk,
 ghost use Rattle.std.specs.Int.{w16, w32};
 ghost use Rattle.std.specs.Ptr.{as_ptr};
 ghost use Rattle.segment_wire.specs.Segment.{Segment, CanWrite, segment_text};
-ghost use Rattle.segment_wire.specs.Reading.{number_at, head_in, segment_meaning, segment_of, shown, options_place, payload_place, StandsIn};
+ghost use Rattle.pipe_model.specs.Octets.{number_at};
+ghost use Rattle.segment_wire.specs.Reading.{head_in, segment_meaning, segment_of, shown, options_place, payload_place, StandsIn};
 ghost use Rattle.segment_wire.specs.Options.{option_octets, placed_options};
 ghost use Rattle.segment_wire.specs.OptionFront.{options_left, octets_alone};
 
@@ -115,19 +116,14 @@ fn head_in(bytes: &[u8]) -> Head
 
 fn u16_at(bytes: &[u8], place: usize) -> u16
     requires { place + 2 ≤ length bytes.now }
-    ensures { result ≡ number_at w16 place bytes.now }
+    ensures { result ≡ number_at w16 bytes.now place }
 {
-    u16::from_be_bytes([bytes[place], bytes[place + 1]])
+    u16::from_be_bytes(*bytes[place..].first_chunk().unwrap())
 }
 
 fn u32_at(bytes: &[u8], place: usize) -> u32
     requires { place + 4 ≤ length bytes.now }
-    ensures { result ≡ number_at w32 place bytes.now }
+    ensures { result ≡ number_at w32 bytes.now place }
 {
-    u32::from_be_bytes([
-        bytes[place],
-        bytes[place + 1],
-        bytes[place + 2],
-        bytes[place + 3],
-    ])
+    u32::from_be_bytes(*bytes[place..].first_chunk().unwrap())
 }
