@@ -13,9 +13,9 @@ use Rattle.link_script.specs.declared.line.Line.TheVariants as line
 use Rattle.link_script.specs.declared.segment.Segment.{Segment}
 use Rattle.link_script.specs.declared.word.Keyword.{Keyword}
 use Rattle.link_script.specs.declared.word.Keyword.TheVariants as first
-use Rattle.link_script.specs.Lines.{seed_line, checksum_line, buffer_line, path_options, may_have, path_of, path_line, segment, drop_line, strip_line, alter_line, dup_line, late_line, strip_all_line, die_line, prio_line, add_line, remove_line, fast_close_line, end_line, line_after, line_of}
+use Rattle.link_script.specs.Lines.{seed_line, checksum_line, short_line, buffer_line, path_options, may_have, path_of, path_line, segment, drop_line, strip_line, alter_line, dup_line, late_line, strip_all_line, die_line, prio_line, add_line, remove_line, fast_close_line, end_line, line_after, line_of}
 use Rattle.link_script.specs.Numbers.{is_numeral, is_within, within}
-use Rattle.link_script.specs.Scripts.{IsWithin, IsPath, IsEvent}
+use Rattle.link_script.specs.Scripts.{IsInRange, IsPath, IsEvent}
 use Rattle.link_script.specs.Steps.{◌>>=◌}
 use Rattle.link_script.specs.Words.{fixed, keyword, direction, side, switch}
 
@@ -26,9 +26,10 @@ most_paths = path_numbers.most + 1
 -- a line by itself
 abbrev pub IsLine : Line → Type 0
 IsLine line.Header = Unit {0}
-IsLine (line.Seed n) = IsWithin seeds n
+IsLine (line.Seed n) = IsInRange seeds n
 IsLine (line.Checksum on) = Unit {0}
-IsLine (line.Buffer octets) = IsWithin buffers octets
+IsLine (line.Short on) = Unit {0}
+IsLine (line.Buffer octets) = IsInRange buffers octets
 IsLine (line.Path index path) = (index < most_paths) × IsPath path × (index ≡ 0 → (path.join ≡ 0) × (path.backup ≡ false))
 IsLine (line.Event event) = IsEvent most_paths event
 IsLine line.End = Unit {0}
@@ -48,7 +49,7 @@ passed false r e P h = tt
 
 -- ---- numbers
 
-value_within : (limits : Limits) (word : List ℕ) → Holds (within limits word) (λ n. (is_numeral word ≡ true) × (digits_value 10 word ≡ n) × IsWithin limits n)
+value_within : (limits : Limits) (word : List ℕ) → Holds (within limits word) (λ n. (is_numeral word ≡ true) × (digits_value 10 word ≡ n) × IsInRange limits n)
 unfolding within
 value_within limits word =
     let n = digits_value 10 word in
@@ -57,8 +58,8 @@ value_within limits word =
     let ends = and_parts (nat_le limits.least n) (nat_le n limits.most) whole.1 in
     (whole.0, refl, record { least = leb-true limits.least n ends.0; most = leb-true n limits.most ends.1 }))
 
-in_limits : (limits : Limits) (word : List ℕ) (n : ℕ) → within limits word ≡ Ok n → IsWithin limits n
-in_limits limits word n e = (IfOk-at_ok (λ n. (is_numeral word ≡ true) × (digits_value 10 word ≡ n) × IsWithin limits n) e (value_within limits word)).2
+in_limits : (limits : Limits) (word : List ℕ) (n : ℕ) → within limits word ≡ Ok n → IsInRange limits n
+in_limits limits word n e = (IfOk-at_ok (λ n. (is_numeral word ≡ true) × (digits_value 10 word ≡ n) × IsInRange limits n) e (value_within limits word)).2
 
 path_below : (word : List ℕ) (n : ℕ) → within path_numbers word ≡ Ok n → n < most_paths
 path_below word n e = let w = in_limits path_numbers word n e in omega (arith, w.most)
@@ -77,6 +78,12 @@ checksum_holds [] = tt
 checksum_holds (on ∷ []) = after (switch on) _ _ (λ x e. tt)
 checksum_holds (on ∷ m ∷ words) = tt
 
+short_holds : (words : List (List ℕ)) → Holds (short_line words) IsLine
+unfolding short_line
+short_holds [] = tt
+short_holds (on ∷ []) = after (switch on) _ _ (λ x e. tt)
+short_holds (on ∷ m ∷ words) = tt
+
 buffer_holds : (words : List (List ℕ)) → Holds (buffer_line words) IsLine
 unfolding buffer_line
 buffer_holds [] = tt
@@ -94,7 +101,7 @@ end_holds (m ∷ words) = tt
 first_again : (word : List ℕ) → within path_numbers word ≡ Ok 0 → is_ok (within first_path_number word) ≡ true
 unfolding within
 first_again word e =
-    let known = IfOk-at_ok (λ n. (is_numeral word ≡ true) × (digits_value 10 word ≡ n) × IsWithin path_numbers n) e (value_within path_numbers word) in
+    let known = IfOk-at_ok (λ n. (is_numeral word ≡ true) × (digits_value 10 word ≡ n) × IsInRange path_numbers n) e (value_within path_numbers word) in
     rw (known.0, known.1) refl
 
 abbrev done : ℕ → Result ℕ ScriptKind
@@ -138,7 +145,7 @@ path_holds (path ∷ a ∷ mss ∷ b ∷ delay ∷ options) =
 -- ---- segments
 
 abbrev IsSegment : Segment → Type 0
-IsSegment s = (s.path < most_paths) × IsWithin segment_numbers s.number
+IsSegment s = (s.path < most_paths) × IsInRange segment_numbers s.number
 
 segment_holds : (path from number : List ℕ) → Holds (segment path from number) IsSegment
 unfolding segment
@@ -274,6 +281,7 @@ fast_close_holds (which ∷ tick ∷ m ∷ words) = tt
 after_keyword : (which : Keyword) (words : List (List ℕ)) → Holds (line_after which words) IsLine
 after_keyword first.Seed words = seed_holds words
 after_keyword first.Checksum words = checksum_holds words
+after_keyword first.Short words = short_holds words
 after_keyword first.Buffer words = buffer_holds words
 after_keyword first.Path words = path_holds words
 after_keyword first.Drop words = drop_holds words

@@ -13,7 +13,7 @@ use Rattle.link_script.specs.declared.fault.ScriptKind.{ScriptKind}
 use Rattle.link_script.specs.declared.fault.ScriptKind.TheVariants as kind
 use Rattle.link_script.specs.Ranges.{most_lines}
 use Rattle.link_script.specs.declared.line.Line.{Line}
-use Rattle.link_script.specs.declared.line.Line.TheVariants.{Header, Seed, Checksum, Buffer, Path, Event, End}
+use Rattle.link_script.specs.declared.line.Line.TheVariants.{Header, Seed, Checksum, Short, Buffer, Path, Event, End}
 use Rattle.link_script.specs.declared.script.PathLine.{PathLine}
 use Rattle.link_script.specs.declared.script.Script.{Script}
 use Rattle.link_script.specs.Lines.{line_of}
@@ -22,7 +22,7 @@ use Rattle.link_script.specs.Reading.{Gives, first_line, in_place, later_line, n
 use Rattle.link_script.specs.Scripts.{HasRanges}
 use Rattle.link_script.specs.Steps.{◌>>=◌}
 use Rattle.link_script.specs.Words.{text_lines, words_of, is_passed_over}
-use Rattle.link_script.specs.Writing.{seed_lines, checksum_lines, buffer_lines, path_lines, event_lines, lines_of}
+use Rattle.link_script.specs.Writing.{seed_lines, checksum_lines, short_lines, buffer_lines, path_lines, event_lines, lines_of}
 use Rattle.link_script.proofs.LineRanges.{IsLine, line_is}
 use Rattle.link_script.proofs.ScriptRanges.{Kept, kept_blank, IsNew, kept_more}
 
@@ -34,17 +34,18 @@ length-path_lines index (path ∷ paths) = ap suc (length-path_lines (suc index)
 
 -- the lines between the first and the last
 abbrev pub size : Script → ℕ
-size script = length (seed_lines script.seed) + length (checksum_lines script.checksum) + length (buffer_lines script.buffer) + length script.paths + length script.lines
+size script = length (seed_lines script.seed) + length (checksum_lines script.checksum) + length (short_lines script.short) + length (buffer_lines script.buffer) + length script.paths + length script.lines
 
 pub length-lines_of : (script : Script) → length (lines_of script) ≡ size script + 2
 length-lines_of script =
     let s = seed_lines script.seed in
     let c = checksum_lines script.checksum in
+    let t = short_lines script.short in
     let b = buffer_lines script.buffer in
     let p = path_lines 0 script.paths in
     let r = event_lines script.lines in
     let last : List Line = End ∷ [] in
-    omega (arith, length-append s (c ++ (b ++ (p ++ (r ++ last)))), length-append c (b ++ (p ++ (r ++ last))), length-append b (p ++ (r ++ last)), length-append p (r ++ last), length-append r last, length-path_lines 0 script.paths, length-map script.lines (λ event. Event event))
+    omega (arith, length-append s (c ++ (t ++ (b ++ (p ++ (r ++ last))))), length-append c (t ++ (b ++ (p ++ (r ++ last)))), length-append t (b ++ (p ++ (r ++ last))), length-append b (p ++ (r ++ last)), length-append p (r ++ last), length-append r last, length-path_lines 0 script.paths, length-map script.lines (λ event. Event event))
 
 at_most_one : (b : Bool) (line : Line) → length (cond b [] (line ∷ [])) ≤ 1
 at_most_one true line = omega arith
@@ -58,6 +59,7 @@ size-with_line : (script : Script) (line : Line) → size (with_line script line
 size-with_line script Header = omega arith
 size-with_line script (Seed n) = omega (arith, at_most_one (eqb n 1) (Seed n))
 size-with_line script (Checksum on) = omega (arith, at_most_one' on (Checksum true))
+size-with_line script (Short on) = omega (arith, at_most_one' on (Short true))
 size-with_line script (Buffer octets) = omega (arith, at_most_one (eqb octets 65536) (Buffer octets))
 size-with_line script (Path index path) = omega (arith, length_push script.paths path)
 size-with_line script (Event event) = omega (arith, length_push script.lines event)
@@ -81,6 +83,7 @@ count_line : (script : Script) (line : Line) → length script.paths + cond (is_
 count_line script Header = omega arith
 count_line script (Seed n) = omega arith
 count_line script (Checksum on) = omega arith
+count_line script (Short on) = omega arith
 count_line script (Buffer octets) = omega arith
 count_line script (Path index path) = omega (arith, length_push script.paths path)
 count_line script (Event event) = omega arith
@@ -90,6 +93,7 @@ new_line : (script : Script) (line next : Line) → IsNew script next → settle
 new_line script Header next new apart = new
 new_line script (Seed n) next new apart = new
 new_line script (Checksum on) next new apart = new
+new_line script (Short on) next new apart = new
 new_line script (Buffer octets) next new apart = new
 new_line script (Path index path) next new apart = new
 new_line script (Event event) next new apart =
@@ -101,6 +105,7 @@ closing : (script : Script) (line : Line) (n : ℕ) → is_misplaced (length scr
 closing script Header n m e room = absurd (false≢true e)
 closing script (Seed k) n m e room = absurd (false≢true e)
 closing script (Checksum on) n m e room = absurd (false≢true e)
+closing script (Short on) n m e room = absurd (false≢true e)
 closing script (Buffer octets) n m e room = absurd (false≢true e)
 closing script (Path index path) n m e room = absurd (false≢true e)
 closing script (Event event) n m e room = absurd (false≢true e)

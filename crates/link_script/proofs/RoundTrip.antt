@@ -19,7 +19,7 @@ use Rattle.link_script.specs.Places.{is_end}
 use Rattle.link_script.specs.Reading.{in_place, later_line, seen_after, read_on, blank, with_line, script_of, reading}
 use Rattle.link_script.specs.Scripts.{IsPath, IsEvent, OpensPlainly, HasRanges}
 use Rattle.link_script.specs.Words.{text_lines, words_of, is_passed_over}
-use Rattle.link_script.specs.Writing.{spaced, line_words, line_text, event_words, ended, seed_lines, checksum_lines, buffer_lines, path_lines, event_lines, lines_of, text_of}
+use Rattle.link_script.specs.Writing.{spaced, line_words, line_text, event_words, ended, seed_lines, checksum_lines, short_lines, buffer_lines, path_lines, event_lines, lines_of, text_of}
 use Rattle.link_script.proofs.WrittenLines.{line_again, plain_line}
 use Rattle.link_script.proofs.ScriptRanges.{wider}
 use Rattle.link_script.proofs.WrittenPlaces.{Placed, later_lines, placed_all}
@@ -93,6 +93,10 @@ either_line : (b : Bool) (line : Line) → IsLater line → AllByRecursion IsLat
 either_line true line h = tt
 either_line false line h = (h, tt)
 
+short_later : (on : Bool) → AllByRecursion IsLater (short_lines on)
+short_later true = ((tt, λ e. absurd cc), tt)
+short_later false = tt
+
 checksum_later : (on : Bool) → AllByRecursion IsLater (checksum_lines on)
 checksum_later true = ((tt, λ e. absurd cc), tt)
 checksum_later false = tt
@@ -116,48 +120,53 @@ all_later : (script : Script) → HasRanges script → AllByRecursion IsLater (l
 all_later script h =
     each_append IsLater (seed_lines script.seed) _ (either_line (eqb script.seed 1) (Seed script.seed) (h.seed, λ e. absurd cc))
     (each_append IsLater (checksum_lines script.checksum) _ (checksum_later script.checksum)
+    (each_append IsLater (short_lines script.short) _ (short_later script.short)
     (each_append IsLater (buffer_lines script.buffer) _ (either_line (eqb script.buffer 65536) (Buffer script.buffer) (h.buffer, λ e. absurd cc))
     (each_append IsLater (path_lines 0 script.paths) _ (all_paths_later script.paths h.few_paths (recursion_from_All IsPath script.paths h.paths) h.first_path)
     (each_append IsLater (event_lines script.lines) _ (events_later (length script.paths) script.lines h.few_paths (recursion_from_All (IsEvent (length script.paths)) script.lines h.lines))
-    ((tt, λ e. absurd cc), tt)))))
+    ((tt, λ e. absurd cc), tt))))))
 
 -- ---- what the lines say together
 
-abbrev made : ℕ → Bool → ℕ → List PathLine → List ScriptLine → Script
-made seed checksum buffer paths lines = record { seed = seed; checksum = checksum; buffer = buffer; paths = paths; lines = lines }
+abbrev made : ℕ → Bool → Bool → ℕ → List PathLine → List ScriptLine → Script
+made seed checksum short buffer paths lines = record { seed = seed; checksum = checksum; short = short; buffer = buffer; paths = paths; lines = lines }
 
-seed_said : (n : ℕ) → fold with_line blank (seed_lines n) ≡ made n false 65536 [] []
+seed_said : (n : ℕ) → fold with_line blank (seed_lines n) ≡ made n false false 65536 [] []
 seed_said n = by (eqb n 1) refl
   where
-    by : (b : Bool) → eqb n 1 ≡ b → fold with_line blank (cond b [] (Seed n ∷ [])) ≡ made n false 65536 [] []
-    by true e = ap (λ (k : ℕ). made k false 65536 [] []) (sym (eqb-true n 1 e))
+    by : (b : Bool) → eqb n 1 ≡ b → fold with_line blank (cond b [] (Seed n ∷ [])) ≡ made n false false 65536 [] []
+    by true e = ap (λ (k : ℕ). made k false false 65536 [] []) (sym (eqb-true n 1 e))
     by false e = refl
 
-checksum_said : (n : ℕ) (on : Bool) → fold with_line (made n false 65536 [] []) (checksum_lines on) ≡ made n on 65536 [] []
+checksum_said : (n : ℕ) (on : Bool) → fold with_line (made n false false 65536 [] []) (checksum_lines on) ≡ made n on false 65536 [] []
 checksum_said n true = refl
 checksum_said n false = refl
 
-buffer_said : (n : ℕ) (on : Bool) (octets : ℕ) → fold with_line (made n on 65536 [] []) (buffer_lines octets) ≡ made n on octets [] []
-buffer_said n on octets = by (eqb octets 65536) refl
+short_said : (n : ℕ) (on low : Bool) → fold with_line (made n on false 65536 [] []) (short_lines low) ≡ made n on low 65536 [] []
+short_said n on true = refl
+short_said n on false = refl
+
+buffer_said : (n : ℕ) (on low : Bool) (octets : ℕ) → fold with_line (made n on low 65536 [] []) (buffer_lines octets) ≡ made n on low octets [] []
+buffer_said n on low octets = by (eqb octets 65536) refl
   where
-    by : (b : Bool) → eqb octets 65536 ≡ b → fold with_line (made n on 65536 [] []) (cond b [] (Buffer octets ∷ [])) ≡ made n on octets [] []
-    by true e = ap (λ (k : ℕ). made n on k [] []) (sym (eqb-true octets 65536 e))
+    by : (b : Bool) → eqb octets 65536 ≡ b → fold with_line (made n on low 65536 [] []) (cond b [] (Buffer octets ∷ [])) ≡ made n on low octets [] []
+    by true e = ap (λ (k : ℕ). made n on low k [] []) (sym (eqb-true octets 65536 e))
     by false e = refl
 
-paths_said : (n : ℕ) (on : Bool) (octets index : ℕ) (before paths : List PathLine) → fold with_line (made n on octets before []) (path_lines index paths) ≡ made n on octets (before ++ paths) []
-paths_said n on octets index before [] = ap (λ (paths : List PathLine). made n on octets paths []) (sym (append-nil before))
-paths_said n on octets index before (path ∷ paths) =
-    paths_said n on octets (suc index) (before ++ path ∷ []) paths ∙ ap (λ (paths : List PathLine). made n on octets paths []) (append_assoc before (path ∷ []) paths)
+paths_said : (n : ℕ) (on low : Bool) (octets index : ℕ) (before paths : List PathLine) → fold with_line (made n on low octets before []) (path_lines index paths) ≡ made n on low octets (before ++ paths) []
+paths_said n on low octets index before [] = ap (λ (paths : List PathLine). made n on low octets paths []) (sym (append-nil before))
+paths_said n on low octets index before (path ∷ paths) =
+    paths_said n on low octets (suc index) (before ++ path ∷ []) paths ∙ ap (λ (paths : List PathLine). made n on low octets paths []) (append_assoc before (path ∷ []) paths)
 
-events_said : (n : ℕ) (on : Bool) (octets : ℕ) (paths : List PathLine) (before events : List ScriptLine) → fold with_line (made n on octets paths before) (event_lines events) ≡ made n on octets paths (before ++ events)
-events_said n on octets paths before [] = ap (made n on octets paths) (sym (append-nil before))
-events_said n on octets paths before (event ∷ events) =
-    events_said n on octets paths (before ++ event ∷ []) events ∙ ap (made n on octets paths) (append_assoc before (event ∷ []) events)
+events_said : (n : ℕ) (on low : Bool) (octets : ℕ) (paths : List PathLine) (before events : List ScriptLine) → fold with_line (made n on low octets paths before) (event_lines events) ≡ made n on low octets paths (before ++ events)
+events_said n on low octets paths before [] = ap (made n on low octets paths) (sym (append-nil before))
+events_said n on low octets paths before (event ∷ events) =
+    events_said n on low octets paths (before ++ event ∷ []) events ∙ ap (made n on low octets paths) (append_assoc before (event ∷ []) events)
 
 said_again : (script : Script) → script_of (lines_of script) ≡ script
 said_again script =
     let s = script in
-    rw (fold-append with_line blank (seed_lines s.seed), seed_said s.seed, fold-append with_line _ (checksum_lines s.checksum), checksum_said s.seed s.checksum, fold-append with_line _ (buffer_lines s.buffer), buffer_said s.seed s.checksum s.buffer, fold-append with_line _ (path_lines 0 s.paths), paths_said s.seed s.checksum s.buffer 0 [] s.paths, fold-append with_line _ (event_lines s.lines), events_said s.seed s.checksum s.buffer s.paths [] s.lines) refl
+    rw (fold-append with_line blank (seed_lines s.seed), seed_said s.seed, fold-append with_line _ (checksum_lines s.checksum), checksum_said s.seed s.checksum, fold-append with_line _ (short_lines s.short), short_said s.seed s.checksum s.short, fold-append with_line _ (buffer_lines s.buffer), buffer_said s.seed s.checksum s.short s.buffer, fold-append with_line _ (path_lines 0 s.paths), paths_said s.seed s.checksum s.short s.buffer 0 [] s.paths, fold-append with_line _ (event_lines s.lines), events_said s.seed s.checksum s.short s.buffer s.paths [] s.lines) refl
 
 -- ---- the text
 
@@ -166,7 +175,7 @@ ends_last lines = list_any-append is_end lines (End ∷ []) ∙ or_right (list_a
 
 script_ends : (script : Script) → list_any is_end (lines_of script) ≡ true
 script_ends script =
-    let front = Header ∷ (seed_lines script.seed ++ (checksum_lines script.checksum ++ (buffer_lines script.buffer ++ (path_lines 0 script.paths ++ event_lines script.lines)))) in
+    let front = Header ∷ (seed_lines script.seed ++ (checksum_lines script.checksum ++ (short_lines script.short ++ (buffer_lines script.buffer ++ (path_lines 0 script.paths ++ event_lines script.lines))))) in
     let grouped : front ++ End ∷ [] ≡ lines_of script = simp append_assoc in
     ap (list_any is_end) (sym grouped) ∙ ends_last front
 

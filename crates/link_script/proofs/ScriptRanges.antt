@@ -7,14 +7,14 @@ use Rattle.std.proofs.lemmas.List.Elements.{All-push, All-weaker, All-nil}
 use Rattle.std.proofs.lemmas.List.Quantifiers.{all_pairs_push}
 use Rattle.link_script.specs.Ranges.{seeds, buffers}
 use Rattle.link_script.specs.declared.line.Line.{Line}
-use Rattle.link_script.specs.declared.line.Line.TheVariants.{Header, Seed, Checksum, Buffer, Path, Event, End}
+use Rattle.link_script.specs.declared.line.Line.TheVariants.{Header, Seed, Checksum, Short, Buffer, Path, Event, End}
 use Rattle.link_script.specs.declared.script.PathLine.{PathLine}
 use Rattle.link_script.specs.declared.script.Script.{Script}
 use Rattle.link_script.specs.declared.script.ScriptLine.{ScriptLine}
 use Rattle.link_script.specs.declared.script.ScriptLine.TheVariants.{Drop, Strip, Alter, Dup, Late, StripAll, Die, Prio, Add, Remove, FastClose}
 use Rattle.link_script.specs.Places.{path_named, lacks, is_misplaced, settle_one}
 use Rattle.link_script.specs.Reading.{blank, with_line}
-use Rattle.link_script.specs.Scripts.{IsWithin, IsPath, OpensPlainly, IsEvent, SettleApart}
+use Rattle.link_script.specs.Scripts.{IsInRange, IsPath, OpensPlainly, IsEvent, SettleApart}
 use Rattle.link_script.proofs.LineRanges.{most_paths, IsLine}
 
 -- ---- paths
@@ -86,8 +86,8 @@ events_wider paths events k = record { ranges = All-weaker (IsEvent paths) (IsEv
 -- ---- a script
 
 pub record Kept (script : Script) : Type 0 where
-  pub seed : IsWithin seeds script.seed
-  pub buffer : IsWithin buffers script.buffer
+  pub seed : IsInRange seeds script.seed
+  pub buffer : IsInRange buffers script.buffer
   pub paths : PathsKept script.paths
   pub events : EventsKept (length script.paths) script.lines
 
@@ -107,6 +107,7 @@ pub kept_more : (script : Script) (line : Line) → Kept script → IsLine line 
 kept_more script Header k h m new = k
 kept_more script (Seed n) k h m new = record { seed = h; buffer = k.buffer; paths = k.paths; events = k.events }
 kept_more script (Checksum on) k h m new = record { seed = k.seed; buffer = k.buffer; paths = k.paths; events = k.events }
+kept_more script (Short on) k h m new = record { seed = k.seed; buffer = k.buffer; paths = k.paths; events = k.events }
 kept_more script (Buffer octets) k h m new = record { seed = k.seed; buffer = h; paths = k.paths; events = k.events }
 kept_more script (Path index path) k h m new = record {
   seed = k.seed;

@@ -8,13 +8,13 @@ use Rattle.outside_kit.specs.declared.side.Side.TheVariants.{A, B}
 use Rattle.link_script.specs.declared.limits.Limits.{Limits}
 use Rattle.link_script.specs.Ranges.{seeds, buffers, path_numbers, segment_sizes, delays, segment_numbers, latenesses, run_ticks, address_ids}
 use Rattle.link_script.specs.declared.line.Line.{Line}
-use Rattle.link_script.specs.declared.line.Line.TheVariants.{Header, Seed, Checksum, Buffer, Path, Event, End}
+use Rattle.link_script.specs.declared.line.Line.TheVariants.{Header, Seed, Checksum, Short, Buffer, Path, Event, End}
 use Rattle.link_script.specs.declared.script.PathLine.{PathLine}
 use Rattle.link_script.specs.declared.script.ScriptLine.{ScriptLine}
 use Rattle.link_script.specs.declared.script.ScriptLine.TheVariants.{Drop, Strip, Alter, Dup, Late, StripAll, Die, Prio, Add, Remove, FastClose}
-use Rattle.link_script.specs.Lines.{seed_line, checksum_line, buffer_line, path_options, may_have, path_of, path_line, segment, drop_line, strip_line, alter_line, dup_line, late_line, strip_all_line, die_line, prio_line, add_line, remove_line, fast_close_line, end_line, line_of}
+use Rattle.link_script.specs.Lines.{seed_line, checksum_line, short_line, buffer_line, path_options, may_have, path_of, path_line, segment, drop_line, strip_line, alter_line, dup_line, late_line, strip_all_line, die_line, prio_line, add_line, remove_line, fast_close_line, end_line, line_of}
 use Rattle.link_script.specs.Numbers.{within}
-use Rattle.link_script.specs.Scripts.{IsWithin, IsPath, IsEvent}
+use Rattle.link_script.specs.Scripts.{IsInRange, IsPath, IsEvent}
 use Rattle.link_script.specs.Words.{fixed, keyword, direction, direction_word, side, side_word, switch, switch_word}
 use Rattle.link_script.specs.Writing.{backup_words, event_words, line_words}
 use Rattle.link_script.proofs.LineRanges.{most_paths, IsLine}
@@ -54,10 +54,10 @@ plain_switch false = refl
 path_again : (n : ℕ) → n < most_paths → within path_numbers (decimal n) ≡ Ok n
 path_again n h = number_again path_numbers n (record { least = omega arith; most = omega arith }) (omega arith)
 
-again : (limits : Limits) (n : ℕ) → limits.most < 2 ^ 64 → IsWithin limits n → within limits (decimal n) ≡ Ok n
+again : (limits : Limits) (n : ℕ) → limits.most < 2 ^ 64 → IsInRange limits n → within limits (decimal n) ≡ Ok n
 again limits n small h = number_again limits n h (omega (arith, h.most))
 
-plain_within : (limits : Limits) (n : ℕ) → limits.most < 2 ^ 64 → IsWithin limits n → IsPlain (decimal n)
+plain_within : (limits : Limits) (n : ℕ) → limits.most < 2 ^ 64 → IsInRange limits n → IsPlain (decimal n)
 plain_within limits n small h = plain_number n (omega (arith, h.most))
 
 plain_path : (n : ℕ) → n < most_paths → IsPlain (decimal n)
@@ -65,7 +65,7 @@ plain_path n h = plain_number n (omega arith)
 
 -- ---- the lines of segments and ticks
 
-segment_again : (path : ℕ) (from : Side) (number : ℕ) → path < most_paths → IsWithin segment_numbers number → segment (decimal path) (direction_word from) (decimal number) ≡ Ok (record { path = path; from = from; number = number })
+segment_again : (path : ℕ) (from : Side) (number : ℕ) → path < most_paths → IsInRange segment_numbers number → segment (decimal path) (direction_word from) (decimal number) ≡ Ok (record { path = path; from = from; number = number })
 unfolding segment
 segment_again path from number h n = rw (direction_again from, path_again path h, again segment_numbers number (omega arith) n) refl
 
@@ -126,7 +126,7 @@ path_of_again : (index : ℕ) (path : PathLine) (join : List ℕ) → index < mo
 unfolding path_of
 path_of_again index path join lt h j = rw (path_again index lt, again segment_sizes path.mss (omega arith) h.mss, again delays path.delay (omega arith) h.delay, j) refl
 
-tick_again : (now : Bool) (tick : ℕ) → eqb tick 0 ≡ now → IsWithin run_ticks tick → within run_ticks (option_tick now tick) ≡ Ok tick
+tick_again : (now : Bool) (tick : ℕ) → eqb tick 0 ≡ now → IsInRange run_ticks tick → within run_ticks (option_tick now tick) ≡ Ok tick
 unfolding within
 tick_again true tick e h = rw (eqb-true tick 0 e) refl
 tick_again false tick e h = again run_ticks tick (omega arith) h
@@ -152,10 +152,11 @@ plain_path_words index path h =
 -- ---- any line
 
 pub line_again : (line : Line) → IsLine line → (line ≡ Header → ⊥) → line_of (line_words line) ≡ Ok line
-unfolding line_of keyword seed_line checksum_line buffer_line end_line
+unfolding line_of keyword seed_line checksum_line short_line buffer_line end_line
 line_again Header h later = absurd (later refl)
 line_again (Seed n) h later = rw (again seeds n (omega arith) h) refl
 line_again (Checksum on) h later = rw (switch_again on) refl
+line_again (Short on) h later = rw (switch_again on) refl
 line_again (Buffer octets) h later = rw (again buffers octets (omega arith) h) refl
 line_again (Path index path) h later = path_line_again index path h
 line_again (Event event) h later = event_again event h
@@ -165,6 +166,7 @@ pub plain_line : (line : Line) → IsLine line → ArePlain (line_words line)
 plain_line Header h = (refl, (refl, tt))
 plain_line (Seed n) h = (refl, (plain_within seeds n (omega arith) h, tt))
 plain_line (Checksum on) h = (refl, (plain_switch on, tt))
+plain_line (Short on) h = (refl, (plain_switch on, tt))
 plain_line (Buffer octets) h = (refl, (plain_within buffers octets (omega arith) h, tt))
 plain_line (Path index path) h = plain_path_words index path h
 plain_line (Event event) h = plain_event event h

@@ -8,7 +8,7 @@ use Rattle.std.proofs.lemmas.List.Elements.{recursion_from_All}
 use Rattle.std.proofs.lemmas.List.Folds.{list_any-append}
 use Rattle.std.proofs.lemmas.List.Sums.{sum_by-append}
 use Rattle.link_script.specs.declared.line.Line.{Line}
-use Rattle.link_script.specs.declared.line.Line.TheVariants.{Header, Seed, Checksum, Buffer, Path, Event, End}
+use Rattle.link_script.specs.declared.line.Line.TheVariants.{Header, Seed, Checksum, Short, Buffer, Path, Event, End}
 use Rattle.link_script.specs.declared.place.Subject.{Subject}
 use Rattle.link_script.specs.declared.script.PathLine.{PathLine}
 use Rattle.link_script.specs.declared.script.Script.{Script}
@@ -17,7 +17,7 @@ use Rattle.link_script.specs.declared.script.ScriptLine.TheVariants.{Drop, Strip
 use Rattle.link_script.specs.Places.{is_path, is_end, path_named, lacks, is_out_of_order, settled_by, are_same, settle_one, is_repeated}
 use Rattle.link_script.specs.Reading.{in_place}
 use Rattle.link_script.specs.Scripts.{IsEvent, SettleApart, HasRanges}
-use Rattle.link_script.specs.Writing.{seed_lines, checksum_lines, buffer_lines, path_lines, event_lines}
+use Rattle.link_script.specs.Writing.{seed_lines, checksum_lines, short_lines, buffer_lines, path_lines, event_lines}
 
 -- each line may stand after these and those before it
 abbrev pub Placed : List Line → List Line → Type 0
@@ -71,6 +71,10 @@ checksum_apart : (on : Bool) → IsApart (Checksum on)
 checksum_apart on (Drop path from number) = refl
 checksum_apart on event = refl
 
+short_apart : (on : Bool) → IsApart (Short on)
+short_apart on (Drop path from number) = refl
+short_apart on event = refl
+
 buffer_apart : (octets : ℕ) → IsApart (Buffer octets)
 buffer_apart octets (Drop path from number) = refl
 buffer_apart octets event = refl
@@ -89,29 +93,41 @@ pub before_checksum : (on : Bool) → Before (checksum_lines on) 0
 before_checksum true = one_before (Checksum true) 0 refl refl (checksum_apart true)
 before_checksum false = none_before
 
+pub before_short : (on : Bool) → Before (short_lines on) 0
+before_short true = one_before (Short true) 0 refl refl (short_apart true)
+before_short false = none_before
+
 pub before_buffer : (octets : ℕ) → Before (buffer_lines octets) 0
 before_buffer octets = either_before (eqb octets 65536) (Buffer octets) (one_before (Buffer octets) 0 refl refl (buffer_apart octets))
 
 -- the settings behind the first line
-abbrev settings : Bool → Bool → Bool → ℕ → ℕ → List Line
-settings a b c n octets = cond a [] (Seed n ∷ []) ++ (cond b (Checksum true ∷ []) [] ++ cond c [] (Buffer octets ∷ []))
+abbrev settings : Bool → Bool → Bool → Bool → ℕ → ℕ → List Line
+settings a b c d n octets = cond a [] (Seed n ∷ []) ++ (cond b (Checksum true ∷ []) [] ++ (cond c (Short true ∷ []) [] ++ cond d [] (Buffer octets ∷ [])))
 
-settings_placed : (a b c : Bool) (n octets : ℕ) → Placed (Header ∷ []) (settings a b c n octets)
-settings_placed true true true n octets = (refl, tt)
-settings_placed true true false n octets = (refl, (refl, tt))
-settings_placed true false true n octets = tt
-settings_placed true false false n octets = (refl, tt)
-settings_placed false true true n octets = (refl, (refl, tt))
-settings_placed false true false n octets = (refl, (refl, (refl, tt)))
-settings_placed false false true n octets = (refl, tt)
-settings_placed false false false n octets = (refl, (refl, tt))
+settings_placed : (a b c d : Bool) (n octets : ℕ) → Placed (Header ∷ []) (settings a b c d n octets)
+settings_placed true true true true n octets = (refl, (refl, tt))
+settings_placed true true true false n octets = (refl, (refl, (refl, tt)))
+settings_placed true true false true n octets = (refl, tt)
+settings_placed true true false false n octets = (refl, (refl, tt))
+settings_placed true false true true n octets = (refl, tt)
+settings_placed true false true false n octets = (refl, (refl, tt))
+settings_placed true false false true n octets = tt
+settings_placed true false false false n octets = (refl, tt)
+settings_placed false true true true n octets = (refl, (refl, (refl, tt)))
+settings_placed false true true false n octets = (refl, (refl, (refl, (refl, tt))))
+settings_placed false true false true n octets = (refl, (refl, tt))
+settings_placed false true false false n octets = (refl, (refl, (refl, tt)))
+settings_placed false false true true n octets = (refl, (refl, tt))
+settings_placed false false true false n octets = (refl, (refl, (refl, tt)))
+settings_placed false false false true n octets = (refl, tt)
+settings_placed false false false false n octets = (refl, (refl, tt))
 
 pub all_settings : Script → List Line
-all_settings script = seed_lines script.seed ++ (checksum_lines script.checksum ++ buffer_lines script.buffer)
+all_settings script = seed_lines script.seed ++ (checksum_lines script.checksum ++ (short_lines script.short ++ buffer_lines script.buffer))
 
 pub placed_settings : (script : Script) → Placed (Header ∷ []) (all_settings script)
 unfolding all_settings
-placed_settings script = settings_placed (eqb script.seed 1) script.checksum (eqb script.buffer 65536) script.seed script.buffer
+placed_settings script = settings_placed (eqb script.seed 1) script.checksum script.short (eqb script.buffer 65536) script.seed script.buffer
 
 -- ---- paths
 
@@ -201,9 +217,9 @@ events_count (event ∷ events) = omega (arith, sum_by-append (λ l. cond (is_pa
 
 -- the lines behind the first
 abbrev pub later_lines : Script → List Line
-later_lines script = seed_lines script.seed ++ (checksum_lines script.checksum ++ (buffer_lines script.buffer ++ (path_lines 0 script.paths ++ (event_lines script.lines ++ End ∷ []))))
+later_lines script = seed_lines script.seed ++ (checksum_lines script.checksum ++ (short_lines script.short ++ (buffer_lines script.buffer ++ (path_lines 0 script.paths ++ (event_lines script.lines ++ End ∷ [])))))
 
-settings_first : (script : Script) (lines : List Line) → seed_lines script.seed ++ (checksum_lines script.checksum ++ (buffer_lines script.buffer ++ lines)) ≡ all_settings script ++ lines
+settings_first : (script : Script) (lines : List Line) → seed_lines script.seed ++ (checksum_lines script.checksum ++ (short_lines script.short ++ (buffer_lines script.buffer ++ lines))) ≡ all_settings script ++ lines
 unfolding all_settings
 settings_first script lines = sym (simp append_assoc)
 
@@ -211,7 +227,9 @@ before_settings : (script : Script) → Before ((Header ∷ []) ++ all_settings 
 unfolding all_settings
 before_settings script =
     before_append (Header ∷ []) (all_settings script) 0 0 0 before_header
-    (before_append (seed_lines script.seed) (checksum_lines script.checksum ++ buffer_lines script.buffer) 0 0 0 (before_seed script.seed) (before_append (checksum_lines script.checksum) (buffer_lines script.buffer) 0 0 0 (before_checksum script.checksum) (before_buffer script.buffer) refl) refl) refl
+    (before_append (seed_lines script.seed) (checksum_lines script.checksum ++ (short_lines script.short ++ buffer_lines script.buffer)) 0 0 0 (before_seed script.seed)
+    (before_append (checksum_lines script.checksum) (short_lines script.short ++ buffer_lines script.buffer) 0 0 0 (before_checksum script.checksum)
+    (before_append (short_lines script.short) (buffer_lines script.buffer) 0 0 0 (before_short script.short) (before_buffer script.buffer) refl) refl) refl) refl
 
 end_placed : (seen : List Line) (paths : ℕ) (events : List ScriptLine) → 0 < paths → list_any is_end seen ≡ false → count_by is_path seen ≡ paths → Placed (seen ++ event_lines events) (End ∷ [])
 end_placed seen paths events some goes count =

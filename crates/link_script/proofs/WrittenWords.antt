@@ -12,7 +12,7 @@ use Rattle.link_script.specs.declared.limits.Limits.{Limits}
 use Rattle.link_script.specs.Ranges.{most_digits, first_path_number}
 use Rattle.link_script.specs.declared.line.Line.{Line}
 use Rattle.link_script.specs.Numbers.{is_numeral, is_within, within}
-use Rattle.link_script.specs.Scripts.{IsWithin}
+use Rattle.link_script.specs.Scripts.{IsInRange}
 use Rattle.link_script.specs.Words.{text_lines, words_of}
 use Rattle.link_script.specs.Writing.{spaced, line_words, line_text, ended}
 use Rattle.link_script.proofs.Numerals.{digits}
@@ -46,7 +46,7 @@ numeral_again n h =
     and_from _ _ (and_from _ _ (lt-ltb 0 (length (decimal n)) (decimal_nonempty n h)) (le-leb (length (decimal n)) most_digits (length-decimal-le 20 n (omega arith) (omega arith) h))) (digits_decimal digits n h)
 
 -- a number that is written is read again
-pub number_again : (limits : Limits) (n : ℕ) → IsWithin limits n → n < 2 ^ 64 → within limits (decimal n) ≡ Ok n
+pub number_again : (limits : Limits) (n : ℕ) → IsInRange limits n → n < 2 ^ 64 → within limits (decimal n) ≡ Ok n
 unfolding within
 number_again limits n h small =
     let inside : is_within limits n ≡ true = and_from _ _ (le-leb limits.least n h.least) (le-leb n limits.most h.most) in

@@ -27,6 +27,13 @@ checksum_line (word ∷ []) = do
   Ok (line.Checksum on)
 checksum_line words = Err Word
 
+-- short on | off
+unfoldable pub short_line : List (List ℕ) → Result Line ScriptKind
+short_line (word ∷ []) = do
+  on ← switch word
+  Ok (line.Short on)
+short_line words = Err Word
+
 -- buffer N
 unfoldable pub buffer_line : List (List ℕ) → Result Line ScriptKind
 buffer_line (octets ∷ []) = do
@@ -34,7 +41,7 @@ buffer_line (octets ∷ []) = do
   Ok (line.Buffer n)
 buffer_line words = Err Word
 
--- [join run_ticks] [backup], as the word of the tick, and whether the path is a backup
+-- [join TICK] [backup], as the word of the tick, and whether the path is a backup
 unfoldable pub path_options : List (List ℕ) → Result (List ℕ × Bool) ScriptKind
 path_options [] = Ok (codes "0", false)
 path_options (a ∷ []) = do
@@ -117,7 +124,7 @@ late_line (path ∷ from ∷ number ∷ ticks ∷ []) = do
   Ok (line.Event (Late s.path s.from s.number t))
 late_line words = Err Word
 
--- strip-all I DIR run_ticks
+-- strip-all I DIR TICK
 unfoldable pub strip_all_line : List (List ℕ) → Result Line ScriptKind
 strip_all_line (path ∷ from ∷ tick ∷ []) = do
   d ← direction from
@@ -126,7 +133,7 @@ strip_all_line (path ∷ from ∷ tick ∷ []) = do
   Ok (line.Event (StripAll index d t))
 strip_all_line words = Err Word
 
--- die I run_ticks
+-- die I TICK
 unfoldable pub die_line : List (List ℕ) → Result Line ScriptKind
 die_line (path ∷ tick ∷ []) = do
   index ← within path_numbers path
@@ -134,7 +141,7 @@ die_line (path ∷ tick ∷ []) = do
   Ok (line.Event (Die index t))
 die_line words = Err Word
 
--- prio I SIDE run_ticks on | off
+-- prio I SIDE TICK on | off
 unfoldable pub prio_line : List (List ℕ) → Result Line ScriptKind
 prio_line (path ∷ which ∷ tick ∷ word ∷ []) = do
   s ← side which
@@ -144,7 +151,7 @@ prio_line (path ∷ which ∷ tick ∷ word ∷ []) = do
   Ok (line.Event (Prio index s t on))
 prio_line words = Err Word
 
--- add b ID run_ticks
+-- add b ID TICK
 unfoldable pub add_line : List (List ℕ) → Result Line ScriptKind
 add_line (which ∷ id ∷ tick ∷ []) = do
   _ ← fixed (codes "b") which
@@ -153,7 +160,7 @@ add_line (which ∷ id ∷ tick ∷ []) = do
   Ok (line.Event (Add n t))
 add_line words = Err Word
 
--- remove SIDE ID run_ticks
+-- remove SIDE ID TICK
 unfoldable pub remove_line : List (List ℕ) → Result Line ScriptKind
 remove_line (which ∷ id ∷ tick ∷ []) = do
   s ← side which
@@ -162,7 +169,7 @@ remove_line (which ∷ id ∷ tick ∷ []) = do
   Ok (line.Event (Remove s n t))
 remove_line words = Err Word
 
--- fastclose SIDE run_ticks
+-- fastclose SIDE TICK
 unfoldable pub fast_close_line : List (List ℕ) → Result Line ScriptKind
 fast_close_line (which ∷ tick ∷ []) = do
   s ← side which
@@ -179,6 +186,7 @@ end_line words = Err Word
 abbrev pub line_after : Keyword → List (List ℕ) → Result Line ScriptKind
 line_after first.Seed words = seed_line words
 line_after first.Checksum words = checksum_line words
+line_after first.Short words = short_line words
 line_after first.Buffer words = buffer_line words
 line_after first.Path words = path_line words
 line_after first.Drop words = drop_line words

@@ -4,7 +4,7 @@ use Rattle.std.specs.List.{list_any}
 use Rattle.outside_kit.specs.declared.side.Side.{Side}
 use Rattle.outside_kit.specs.declared.side.Side.TheVariants.{A, B}
 use Rattle.link_script.specs.declared.line.Line.{Line}
-use Rattle.link_script.specs.declared.line.Line.TheVariants.{Header, Seed, Checksum, Buffer, Path, Event, End}
+use Rattle.link_script.specs.declared.line.Line.TheVariants.{Header, Seed, Checksum, Short, Buffer, Path, Event, End}
 use Rattle.link_script.specs.declared.place.Subject.{Subject}
 use Rattle.link_script.specs.declared.place.Subject.TheVariants as settles
 use Rattle.link_script.specs.declared.script.ScriptLine.{ScriptLine}
@@ -43,6 +43,7 @@ abbrev pub is_misplaced : ℕ → Line → Bool
 is_misplaced paths Header = true
 is_misplaced paths (Seed n) = nat_lt 0 paths
 is_misplaced paths (Checksum on) = nat_lt 0 paths
+is_misplaced paths (Short on) = nat_lt 0 paths
 is_misplaced paths (Buffer octets) = nat_lt 0 paths
 is_misplaced paths (Path index path) = not (index == paths)
 is_misplaced paths (Event event) = lacks paths (path_named event)
@@ -69,6 +70,7 @@ settled_by_event (Remove side id tick) = None
 abbrev pub settled_by : Line → Option Subject
 settled_by (Seed n) = Some settles.Seed
 settled_by (Checksum on) = Some settles.Checksum
+settled_by (Short on) = Some settles.Short
 settled_by (Buffer octets) = Some settles.Buffer
 settled_by (Event event) = settled_by_event event
 settled_by line = None
@@ -84,6 +86,7 @@ same_segment a b = a.path == b.path && same_side a.from b.from && a.number == b.
 abbrev pub is_same : Subject → Subject → Bool
 is_same settles.Seed settles.Seed = true
 is_same settles.Checksum settles.Checksum = true
+is_same settles.Short settles.Short = true
 is_same settles.Buffer settles.Buffer = true
 is_same (settles.Arrival a) (settles.Arrival b) = same_segment a b
 is_same (settles.Options a) (settles.Options b) = same_segment a b

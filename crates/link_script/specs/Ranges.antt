@@ -23,7 +23,7 @@ buffers = record { least = 4096; most = 1048576 }
 
 -- numbers of paths
 abbrev pub path_numbers : Limits
-path_numbers = record { least = 0; most = 7 }
+path_numbers = record { least = 0; most = 15 }
 
 abbrev pub first_path_number : Limits
 first_path_number = record { least = 0; most = 0 }

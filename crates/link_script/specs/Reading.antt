@@ -8,18 +8,19 @@ use Rattle.link_script.specs.declared.fault.ScriptKind.{ScriptKind}
 use Rattle.link_script.specs.declared.fault.ScriptKind.TheVariants as kind
 use Rattle.link_script.specs.Ranges.{most_lines, default_seed, default_buffer}
 use Rattle.link_script.specs.declared.line.Line.{Line}
-use Rattle.link_script.specs.declared.line.Line.TheVariants.{Header, Seed, Checksum, Buffer, Path, Event, End}
+use Rattle.link_script.specs.declared.line.Line.TheVariants.{Header, Seed, Checksum, Short, Buffer, Path, Event, End}
 use Rattle.link_script.specs.declared.script.Script.{Script}
 use Rattle.link_script.specs.Lines.{line_of}
 use Rattle.link_script.specs.Places.{is_end, is_out_of_order, is_repeated}
 use Rattle.link_script.specs.Steps.{◌>>=◌}
 use Rattle.link_script.specs.Words.{text_lines, words_of, is_passed_over}
 
--- What a function returned, seen by view, is what reading gives, unless memory ran out.
+-- A fault that a function returned is the one that reading gives; of want of memory nothing is said.
 abbrev pub Fails : {Y : Type 0} → ScriptFault → Result Y ScriptFault → Type 0
 Fails fault.Memory read = Unit {0}
 Fails (fault.Line line kind) read = read ≡ Err (fault.Line line kind)
 
+-- What a function returned is what reading gives: the value, seen by view, or the fault, unless memory ran out.
 abbrev pub Gives : {X Y : Type 0} → (X → Y) → Result X ScriptFault → Result Y ScriptFault → Type 0
 Gives view (Ok x) read = read ≡ Ok (view x)
 Gives view (Err fault) read = Fails fault read
@@ -62,13 +63,14 @@ read_on number seen (text ∷ texts) = seen_after number seen text >>= λ now. r
 
 -- a script without a line
 abbrev pub blank : Script
-blank = record { seed = default_seed; checksum = false; buffer = default_buffer; paths = []; lines = [] }
+blank = record { seed = default_seed; checksum = false; short = false; buffer = default_buffer; paths = []; lines = [] }
 
 -- what a line adds
 abbrev pub with_line : Script → Line → Script
 with_line script Header = script
 with_line script (Seed n) = record script { seed = n }
 with_line script (Checksum on) = record script { checksum = on }
+with_line script (Short on) = record script { short = on }
 with_line script (Buffer octets) = record script { buffer = octets }
 with_line script (Path index path) = record script { paths = script.paths ++ path ∷ [] }
 with_line script (Event event) = record script { lines = script.lines ++ event ∷ [] }

@@ -16,14 +16,14 @@ use Rattle.link_script.specs.Writing.{lines_of}
 abbrev pub IsScript : Script → Type 0
 IsScript script = (text : List ℕ) × (reading text ≡ Ok script)
 
-pub record IsWithin (limits : Limits) (n : ℕ) : Type 0 where
+pub record IsInRange (limits : Limits) (n : ℕ) : Type 0 where
   pub least : limits.least ≤ n
   pub most : n ≤ limits.most
 
 pub record IsPath (path : PathLine) : Type 0 where
-  pub mss : IsWithin segment_sizes path.mss
-  pub delay : IsWithin delays path.delay
-  pub join : IsWithin run_ticks path.join
+  pub mss : IsInRange segment_sizes path.mss
+  pub delay : IsInRange delays path.delay
+  pub join : IsInRange run_ticks path.join
 
 -- the path that opens the connection joins nothing, and is no backup
 abbrev pub OpensPlainly : List PathLine → Type 0
@@ -32,25 +32,25 @@ OpensPlainly (path ∷ paths) = (path.join ≡ 0) × (path.backup ≡ false)
 
 -- a line that speaks of one of so many paths
 abbrev pub IsEvent : ℕ → ScriptLine → Type 0
-IsEvent paths (Drop path from number) = (path < paths) × IsWithin segment_numbers number
-IsEvent paths (Strip path from number) = (path < paths) × IsWithin segment_numbers number
-IsEvent paths (Alter path from number) = (path < paths) × IsWithin segment_numbers number
-IsEvent paths (Dup path from number ticks) = (path < paths) × IsWithin segment_numbers number × IsWithin latenesses ticks
-IsEvent paths (Late path from number ticks) = (path < paths) × IsWithin segment_numbers number × IsWithin latenesses ticks
-IsEvent paths (StripAll path from tick) = (path < paths) × IsWithin run_ticks tick
-IsEvent paths (Die path tick) = (path < paths) × IsWithin run_ticks tick
-IsEvent paths (Prio path side tick on) = (path < paths) × IsWithin run_ticks tick
-IsEvent paths (Add id tick) = IsWithin address_ids id × IsWithin run_ticks tick
-IsEvent paths (Remove side id tick) = IsWithin address_ids id × IsWithin run_ticks tick
-IsEvent paths (FastClose side tick) = IsWithin run_ticks tick
+IsEvent paths (Drop path from number) = (path < paths) × IsInRange segment_numbers number
+IsEvent paths (Strip path from number) = (path < paths) × IsInRange segment_numbers number
+IsEvent paths (Alter path from number) = (path < paths) × IsInRange segment_numbers number
+IsEvent paths (Dup path from number ticks) = (path < paths) × IsInRange segment_numbers number × IsInRange latenesses ticks
+IsEvent paths (Late path from number ticks) = (path < paths) × IsInRange segment_numbers number × IsInRange latenesses ticks
+IsEvent paths (StripAll path from tick) = (path < paths) × IsInRange run_ticks tick
+IsEvent paths (Die path tick) = (path < paths) × IsInRange run_ticks tick
+IsEvent paths (Prio path side tick on) = (path < paths) × IsInRange run_ticks tick
+IsEvent paths (Add id tick) = IsInRange address_ids id × IsInRange run_ticks tick
+IsEvent paths (Remove side id tick) = IsInRange address_ids id × IsInRange run_ticks tick
+IsEvent paths (FastClose side tick) = IsInRange run_ticks tick
 
 -- no two lines settle one thing
 abbrev pub SettleApart : ScriptLine → ScriptLine → Type 0
 SettleApart a b = settle_one (Event a) (Event b) ≡ false
 
 pub record HasRanges (script : Script) : Type 0 where
-  pub seed : IsWithin seeds script.seed
-  pub buffer : IsWithin buffers script.buffer
+  pub seed : IsInRange seeds script.seed
+  pub buffer : IsInRange buffers script.buffer
   pub some_path : 0 < length script.paths
   pub few_paths : length script.paths ≤ path_numbers.most + 1
   pub paths : All IsPath script.paths

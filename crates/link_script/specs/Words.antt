@@ -8,7 +8,7 @@ use Rattle.outside_kit.specs.declared.side.Side.TheVariants.{A, B}
 use Rattle.link_script.specs.declared.fault.ScriptKind.{ScriptKind}
 use Rattle.link_script.specs.declared.fault.ScriptKind.TheVariants.{Word}
 use Rattle.link_script.specs.declared.word.Keyword.{Keyword}
-use Rattle.link_script.specs.declared.word.Keyword.TheVariants.{Seed, Checksum, Buffer, Path, Drop, Strip, Alter, Dup, Late, StripAll, Die, Prio, Add, Remove, FastClose, End}
+use Rattle.link_script.specs.declared.word.Keyword.TheVariants.{Seed, Checksum, Short, Buffer, Path, Drop, Strip, Alter, Dup, Late, StripAll, Die, Prio, Add, Remove, FastClose, End}
 
 -- a line ends with LF, and what stands after the last LF is a line where it isn't empty
 abbrev pub text_lines : List ℕ → List (List ℕ)
@@ -36,6 +36,7 @@ fixed expected word = if bytes_eq word expected then Ok tt else Err Word
 abbrev pub keyword_word : Keyword → List ℕ
 keyword_word Seed = codes "seed"
 keyword_word Checksum = codes "checksum"
+keyword_word Short = codes "short"
 keyword_word Buffer = codes "buffer"
 keyword_word Path = codes "path"
 keyword_word Drop = codes "drop"
@@ -52,7 +53,7 @@ keyword_word FastClose = codes "fastclose"
 keyword_word End = codes "end"
 
 abbrev pub keywords : List Keyword
-keywords = Seed ∷ Checksum ∷ Buffer ∷ Path ∷ Drop ∷ Strip ∷ Alter ∷ Dup ∷ Late ∷ StripAll ∷ Die ∷ Prio ∷ Add ∷ Remove ∷ FastClose ∷ End ∷ []
+keywords = Seed ∷ Checksum ∷ Short ∷ Buffer ∷ Path ∷ Drop ∷ Strip ∷ Alter ∷ Dup ∷ Late ∷ StripAll ∷ Die ∷ Prio ∷ Add ∷ Remove ∷ FastClose ∷ End ∷ []
 
 unfoldable pub keyword : List ℕ → Result Keyword ScriptKind
 keyword word = chosen keyword_word keywords word

@@ -4,7 +4,7 @@ use Rattle.std.specs.Fmt.{decimal}
 use Rattle.std.specs.List.{flat_map, join_with_byte}
 use Rattle.link_script.specs.Ranges.{default_seed, default_buffer}
 use Rattle.link_script.specs.declared.line.Line.{Line}
-use Rattle.link_script.specs.declared.line.Line.TheVariants.{Header, Seed, Checksum, Buffer, Path, Event, End}
+use Rattle.link_script.specs.declared.line.Line.TheVariants.{Header, Seed, Checksum, Short, Buffer, Path, Event, End}
 use Rattle.link_script.specs.declared.script.PathLine.{PathLine}
 use Rattle.link_script.specs.declared.script.Script.{Script}
 use Rattle.link_script.specs.declared.script.ScriptLine.{ScriptLine}
@@ -42,6 +42,7 @@ abbrev pub line_words : Line → List (List ℕ)
 line_words Header = codes "mptcp-script" ∷ codes "1" ∷ []
 line_words (Seed n) = codes "seed" ∷ decimal n ∷ []
 line_words (Checksum on) = codes "checksum" ∷ switch_word on ∷ []
+line_words (Short on) = codes "short" ∷ switch_word on ∷ []
 line_words (Buffer octets) = codes "buffer" ∷ decimal octets ∷ []
 line_words (Path index path) = codes "path" ∷ decimal index ∷ path_words path
 line_words (Event event) = event_words event
@@ -66,6 +67,9 @@ seed_lines n = if n == default_seed then [] else Seed n ∷ []
 abbrev pub checksum_lines : Bool → List Line
 checksum_lines on = if on then Checksum true ∷ [] else []
 
+abbrev pub short_lines : Bool → List Line
+short_lines on = if on then Short true ∷ [] else []
+
 abbrev pub buffer_lines : ℕ → List Line
 buffer_lines octets = if octets == default_buffer then [] else Buffer octets ∷ []
 
@@ -78,7 +82,7 @@ abbrev pub event_lines : List ScriptLine → List Line
 event_lines events = map (λ event. Event event) events
 
 abbrev pub lines_of : Script → List Line
-lines_of script = Header ∷ (seed_lines script.seed ++ (checksum_lines script.checksum ++ (buffer_lines script.buffer ++ (path_lines 0 script.paths ++ (event_lines script.lines ++ End ∷ [])))))
+lines_of script = Header ∷ (seed_lines script.seed ++ (checksum_lines script.checksum ++ (short_lines script.short ++ (buffer_lines script.buffer ++ (path_lines 0 script.paths ++ (event_lines script.lines ++ End ∷ []))))))
 
 unfoldable pub text_of : Script → List ℕ
 text_of script = flat_map ended (lines_of script)

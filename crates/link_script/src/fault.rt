@@ -2,11 +2,11 @@
 
 ghost use Rattle.std.specs.Prelude.{◌≡◌, Some};
 ghost use Rattle.link_script.specs.declared.fault.ScriptFault.TheVariants.{Memory};
-ghost use Rattle.link_script.specs.Faults.{kind_word};
+ghost use Rattle.link_script.specs.Faults.{kind_word, fault_words};
 
 use std::alloc::{AllocError, AllocFailed};
+use std::error::Error;
 use std::fmt;
-use thiserror::Error;
 
 /// What is wrong with a line. Of several kinds a line has the first in this order.
 #[derive(Clone, Copy, Debug, PartialEq, Eq)]
@@ -53,14 +53,26 @@ impl fmt::Display for ScriptKind {
 }
 
 /// Why a text was not read as a script.
-#[derive(Clone, Copy, Debug, PartialEq, Eq, Error)]
+#[derive(Clone, Copy, Debug, PartialEq, Eq)]
 pub enum ScriptFault {
     /// The first line that is refused, counted from 1 over all lines, and why.
-    #[error("line {line}: {kind}")]
     Line { line: u64, kind: ScriptKind },
-    #[error("out of memory")]
+    /// Out of memory.
     Memory,
 }
+
+impl fmt::Display for ScriptFault {
+    ghost output = { λ fault. Some (fault_words fault) };
+
+    fn fmt<W: fmt::Write>(&self, f: &mut fmt::Formatter<W>) -> fmt::Result {
+        match self {
+            ScriptFault::Line { line, kind } => write!(f, "line {line}: {kind}"),
+            ScriptFault::Memory => f.write_str("out of memory"),
+        }
+    }
+}
+
+impl Error for ScriptFault {}
 
 impl From<AllocError> for ScriptFault {
     ghost from_gives = { λ _ fault. fault ≡ Memory };

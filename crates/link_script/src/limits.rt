@@ -20,13 +20,13 @@ impl Limits {
 }
 
 /// How many lines the text of a script has at most, those that are passed over among them.
-pub const MAX_LINES: u64 = 4096;
+pub const MOST_LINES: u64 = 4096;
 
 /// How many digits a number has at most, leading zeros among them.
-pub const MAX_DIGITS: usize = 20;
+pub const MOST_DIGITS: usize = 20;
 
 /// The seed of keys, nonces and initial sequence numbers.
-pub const SEED: Limits = Limits {
+pub const SEEDS: Limits = Limits {
     least: 0,
     most: u64::MAX,
 };
@@ -35,7 +35,7 @@ pub const SEED: Limits = Limits {
 pub const DEFAULT_SEED: u64 = 1;
 
 /// Octets of a send buffer, and of a receive buffer.
-pub const BUFFER: Limits = Limits {
+pub const BUFFERS: Limits = Limits {
     least: 4096,
     most: 1_048_576,
 };
@@ -44,43 +44,43 @@ pub const BUFFER: Limits = Limits {
 pub const DEFAULT_BUFFER: u64 = 65_536;
 
 /// The number of a path.
-pub const PATH: Limits = Limits { least: 0, most: 7 };
+pub const PATH_NUMBERS: Limits = Limits { least: 0, most: 15 };
 
 /// The number of the path that opens the connection.
-pub const FIRST_PATH: Limits = Limits { least: 0, most: 0 };
+pub const FIRST_PATH_NUMBER: Limits = Limits { least: 0, most: 0 };
 
 /// Octets of a maximum segment size.
-pub const MSS: Limits = Limits {
+pub const SEGMENT_SIZES: Limits = Limits {
     least: 200,
     most: 1460,
 };
 
 /// Ticks that a segment takes from one end of a link to the other.
-pub const DELAY: Limits = Limits {
+pub const DELAYS: Limits = Limits {
     least: 1,
     most: 200,
 };
 
 /// The number of a segment among those that a link takes in one direction, counted from 1.
-pub const SEGMENT: Limits = Limits {
+pub const SEGMENT_NUMBERS: Limits = Limits {
     least: 1,
     most: 1_000_000,
 };
 
 /// Ticks by which a segment is late, or its second copy later than the first.
-pub const LATENESS: Limits = Limits {
+pub const LATENESSES: Limits = Limits {
     least: 0,
     most: 100_000,
 };
 
 /// A tick of the longest run, which has 65,536 rounds of 100 ticks.
-pub const TICK: Limits = Limits {
+pub const RUN_TICKS: Limits = Limits {
     least: 0,
     most: 6_553_599,
 };
 
 /// The identifier of an address (RFC 8684, section 3.4.1).
-pub const ADDRESS_ID: Limits = Limits {
+pub const ADDRESS_IDS: Limits = Limits {
     least: 0,
     most: 255,
 };

@@ -1,10 +1,10 @@
 //! One line of a script.
 
 ghost use Rattle.std.specs.Prelude.{◌≡◌, map};
-ghost use Rattle.link_script.specs.Lines.{seed_line, checksum_line, buffer_line, end_line, line_of};
+ghost use Rattle.link_script.specs.Lines.{seed_line, checksum_line, short_line, buffer_line, end_line, line_of};
 
 use crate::fault::ScriptKind;
-use crate::limits::{BUFFER, SEED};
+use crate::limits::{BUFFERS, SEEDS};
 use crate::number::read_number;
 use crate::path::read_path;
 use crate::script::{PathLine, ScriptLine};
@@ -18,6 +18,7 @@ pub enum Line {
     Header,
     Seed(u64),
     Checksum(bool),
+    Short(bool),
     Buffer(u64),
     Path { index: u64, line: PathLine },
     Event(ScriptLine),
@@ -32,7 +33,7 @@ fn read_seed(words: &[&[u8]]) -> Result<Line, ScriptKind>
     let [seed] = words else {
         return Err(ScriptKind::Word);
     };
-    Ok(Line::Seed(read_number(seed, SEED)?))
+    Ok(Line::Seed(read_number(seed, SEEDS)?))
 }
 
 /// `checksum on` or `off`
@@ -46,6 +47,17 @@ fn read_checksum(words: &[&[u8]]) -> Result<Line, ScriptKind>
     Ok(Line::Checksum(read_switch(on)?))
 }
 
+/// `short on` or `off`
+#[tactic(auto, unfolding(crate::specs::Lines::short_line))]
+fn read_short(words: &[&[u8]]) -> Result<Line, ScriptKind>
+    ensures { result ≡ short_line (map (λ word. word.now) words.now) }
+{
+    let [on] = words else {
+        return Err(ScriptKind::Word);
+    };
+    Ok(Line::Short(read_switch(on)?))
+}
+
 /// `buffer N`
 #[tactic(auto, unfolding(crate::specs::Lines::buffer_line))]
 fn read_buffer(words: &[&[u8]]) -> Result<Line, ScriptKind>
@@ -54,7 +66,7 @@ fn read_buffer(words: &[&[u8]]) -> Result<Line, ScriptKind>
     let [octets] = words else {
         return Err(ScriptKind::Word);
     };
-    Ok(Line::Buffer(read_number(octets, BUFFER)?))
+    Ok(Line::Buffer(read_number(octets, BUFFERS)?))
 }
 
 /// `end`
@@ -79,6 +91,7 @@ pub fn read_line(words: &[&[u8]]) -> Result<Line, ScriptKind>
     match Keyword::read(first)? {
         Keyword::Seed => read_seed(rest),
         Keyword::Checksum => read_checksum(rest),
+        Keyword::Short => read_short(rest),
         Keyword::Buffer => read_buffer(rest),
         Keyword::Path => read_path(rest),
         Keyword::Drop => read_drop(rest),

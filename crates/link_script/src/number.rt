@@ -8,7 +8,7 @@ ghost use Rattle.std.specs.Str.Parse.{digits_value};
 ghost use Rattle.link_script.specs.Numbers.{is_numeral, within};
 
 use crate::fault::ScriptKind;
-use crate::limits::{Limits, MAX_DIGITS};
+use crate::limits::{Limits, MOST_DIGITS};
 use std::str;
 
 fn are_digits(word: &[u8]) -> bool
@@ -20,7 +20,7 @@ fn are_digits(word: &[u8]) -> bool
 fn is_numeral(word: &[u8]) -> bool
     ensures { result ≡ is_numeral word.now }
 {
-    !word.is_empty() && word.len() <= MAX_DIGITS && are_digits(word)
+    !word.is_empty() && word.len() <= MOST_DIGITS && are_digits(word)
 }
 
 /// The number that the digits write, if it is below 2^64.

@@ -5,7 +5,7 @@ ghost use Rattle.link_script.specs.Lines.{may_have, path_options, path_of, path_
 ghost use Rattle.link_script.specs.Steps.{Shows};
 
 use crate::fault::ScriptKind;
-use crate::limits::{DELAY, FIRST_PATH, MSS, PATH, TICK};
+use crate::limits::{DELAYS, FIRST_PATH_NUMBER, PATH_NUMBERS, RUN_TICKS, SEGMENT_SIZES};
 use crate::line::Line;
 use crate::number::read_number;
 use crate::script::PathLine;
@@ -15,7 +15,7 @@ use crate::word::expect_word;
 fn may_have(path: &[u8], options: &[&[u8]]) -> bool
     ensures { result ≡ may_have path.now (map (λ word. word.now) options.now) }
 {
-    options.is_empty() || read_number(path, FIRST_PATH).is_err()
+    options.is_empty() || read_number(path, FIRST_PATH_NUMBER).is_err()
 }
 
 /// `[join TICK] [backup]`: the word of the tick, and whether the path is a backup.
@@ -53,10 +53,10 @@ fn read_numbers(
 ) -> Result<Line, ScriptKind>
     ensures { result ≡ path_of path.now mss.now delay.now join.now backup }
 {
-    let index = read_number(path, PATH)?;
-    let mss = read_number(mss, MSS)? as u16;
-    let delay = read_number(delay, DELAY)? as u32;
-    let join = read_number(join, TICK)?;
+    let index = read_number(path, PATH_NUMBERS)?;
+    let mss = read_number(mss, SEGMENT_SIZES)? as u16;
+    let delay = read_number(delay, DELAYS)? as u32;
+    let join = read_number(join, RUN_TICKS)?;
     let line = PathLine {
         mss,
         delay,

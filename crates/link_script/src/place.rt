@@ -14,6 +14,7 @@ use outside_kit::Side;
 pub enum Subject {
     Seed,
     Checksum,
+    Short,
     Buffer,
     /// When a segment arrives, and how often.
     Arrival(Segment),
@@ -58,7 +59,7 @@ fn is_misplaced(paths: usize, line: &Line) -> bool
 {
     match *line {
         Line::Header => true,
-        Line::Seed(_) | Line::Checksum(_) | Line::Buffer(_) => paths > 0,
+        Line::Seed(_) | Line::Checksum(_) | Line::Short(_) | Line::Buffer(_) => paths > 0,
         Line::Path { index, .. } => index != paths as u64,
         Line::Event(event) => match event.path() {
             Some(path) => path as usize >= paths,
@@ -111,6 +112,7 @@ fn settled_by(line: &Line) -> Option<Subject>
     match line {
         Line::Seed(_) => Some(Subject::Seed),
         Line::Checksum(_) => Some(Subject::Checksum),
+        Line::Short(_) => Some(Subject::Short),
         Line::Buffer(_) => Some(Subject::Buffer),
         Line::Event(event) => settled_by_event(event),
         Line::Header | Line::Path { .. } | Line::End => None,

@@ -7,7 +7,7 @@ ghost use Rattle.link_script.specs.Scripts.{HasRanges};
 ghost use Rattle.link_script.specs.Reading.{Gives, first_line, in_place, later_line, next_line, at_line, seen_after, read_on, blank, with_line, script_of, reading};
 
 use crate::fault::{ScriptFault, ScriptKind};
-use crate::limits::{DEFAULT_BUFFER, DEFAULT_SEED, MAX_LINES};
+use crate::limits::{DEFAULT_BUFFER, DEFAULT_SEED, MOST_LINES};
 use crate::line::{Line, read_line};
 use crate::lists::{PathLines, ScriptLines};
 use crate::place::{has_ended, is_out_of_order, is_repeated};
@@ -15,7 +15,7 @@ use crate::script::Script;
 use crate::word::{is_passed_over, split_line, split_words};
 use std::alloc::{AllocError, Global};
 
-/// The first line of a script.
+/// The first line of a script that is neither empty nor a comment.
 const HEADER: &[u8] = b"mptcp-script 1";
 
 fn read_first(text: &[u8]) -> Result<Line, ScriptKind>
@@ -78,7 +78,7 @@ fn take_line(
     ensures exact { Gives (λ _. seen.new.items) result (seen_after number seen.old.items text.now) }
     ensures few { OnOk result (number ≤ most_lines) }
 {
-    if number > MAX_LINES {
+    if number > MOST_LINES {
         let kind = ScriptKind::TooMany;
         return Err(ScriptFault::Line { line: number, kind });
     }
@@ -115,6 +115,7 @@ fn blank(alloc: Global) -> Script
     Script {
         seed: DEFAULT_SEED,
         checksum: false,
+        short: false,
         buffer: DEFAULT_BUFFER,
         paths: PathLines::from(Vec::new(alloc)),
         lines: ScriptLines::from(Vec::new(alloc)),
@@ -129,6 +130,7 @@ fn add(script: &mut Script, line: &Line) -> Result<(), AllocError>
         Line::Header | Line::End => {}
         Line::Seed(seed) => script.seed = seed,
         Line::Checksum(on) => script.checksum = on,
+        Line::Short(on) => script.short = on,
         Line::Buffer(octets) => script.buffer = octets,
         Line::Path { line, .. } => script.paths.push(line)?,
         Line::Event(event) => script.lines.push(event)?,

@@ -8,8 +8,11 @@ use outside_kit::Side;
 pub struct Script {
     /// The number from which keys, nonces and initial sequence numbers are drawn.
     pub seed: u64,
-    /// Whether A asks for checksums of the data (RFC 8684, section 3.1).
+    /// Whether both sides ask for checksums of the data (RFC 8684, section 3.1).
     pub checksum: bool,
+    /// Whether both sides write data sequence numbers and Data ACKs with four octets (RFC 8684, section 3.3.1), else
+    /// with eight.
+    pub short: bool,
     /// Octets that each side buffers of what it sends, and of what it receives.
     pub buffer: u64,
     /// The paths, path 0 first.

@@ -4,7 +4,7 @@ ghost use Rattle.std.specs.Prelude.{◌≡◌, map};
 ghost use Rattle.link_script.specs.Lines.{segment, drop_line, strip_line, alter_line, dup_line, late_line};
 
 use crate::fault::ScriptKind;
-use crate::limits::{LATENESS, PATH, SEGMENT};
+use crate::limits::{LATENESSES, PATH_NUMBERS, SEGMENT_NUMBERS};
 use crate::line::Line;
 use crate::number::read_number;
 use crate::script::ScriptLine;
@@ -24,8 +24,8 @@ fn read_segment(path: &[u8], from: &[u8], number: &[u8]) -> Result<Segment, Scri
     ensures { result ≡ segment path.now from.now number.now }
 {
     let from = read_direction(from)?;
-    let path = read_number(path, PATH)? as u8;
-    let number = read_number(number, SEGMENT)? as u32;
+    let path = read_number(path, PATH_NUMBERS)? as u8;
+    let number = read_number(number, SEGMENT_NUMBERS)? as u32;
     Ok(Segment { path, from, number })
 }
 
@@ -74,7 +74,7 @@ pub fn read_dup(words: &[&[u8]]) -> Result<Line, ScriptKind>
         return Err(ScriptKind::Word);
     };
     let Segment { path, from, number } = read_segment(path, from, number)?;
-    let ticks = read_number(ticks, LATENESS)? as u32;
+    let ticks = read_number(ticks, LATENESSES)? as u32;
     Ok(Line::Event(ScriptLine::Dup {
         path,
         from,
@@ -92,7 +92,7 @@ pub fn read_late(words: &[&[u8]]) -> Result<Line, ScriptKind>
         return Err(ScriptKind::Word);
     };
     let Segment { path, from, number } = read_segment(path, from, number)?;
-    let ticks = read_number(ticks, LATENESS)? as u32;
+    let ticks = read_number(ticks, LATENESSES)? as u32;
     Ok(Line::Event(ScriptLine::Late {
         path,
         from,

@@ -3,137 +3,11 @@ use outside_kit::Side;
 use std::alloc::{AllocError, Global};
 use std::test::*;
 
-/// What `parse` is to say of lines between the first line and `end`: `ok`, or the line and the kind of its fault.
-/// A `;` stands between two lines.
-const LINES: &str = "\
-ok: path 0 mss 200 delay 1
-ok: path 0 mss 1460 delay 200
-2 number: path 0 mss 199 delay 1
-2 number: path 0 mss 1461 delay 1
-2 number: path 0 mss 200 delay 0
-2 number: path 0 mss 200 delay 201
-ok: path 0 mss 200 delay 1;path 1 mss 200 delay 1 join 0
-ok: path 0 mss 200 delay 1;path 1 mss 200 delay 1 join 6553599 backup
-3 number: path 0 mss 200 delay 1;path 1 mss 200 delay 1 join 6553600
-3 number: path 0 mss 200 delay 1;path 8 mss 200 delay 1
-3 word: path 0 mss 200 delay 1;path 1 mss 200 delay 1 backup join 5
-3 word: path 0 mss 200 delay 1;path 1 mss 200 delay 1 join
-2 word: path 0 mss 200 delay 1 join 0
-2 word: path 00 mss x delay 1 backup
-2 word: path 0 mss 200 delay
-2 word: path 0 Mss 200 delay 1
-ok: seed 0;path 0 mss 200 delay 1
-ok: seed 18446744073709551615;path 0 mss 200 delay 1
-2 number: seed 18446744073709551616;path 0 mss 200 delay 1
-2 number: seed -1;path 0 mss 200 delay 1
-2 number: seed +1;path 0 mss 200 delay 1
-2 number: seed ;path 0 mss 200 delay 1
-ok: seed 00000000000000000007;path 0 mss 200 delay 1
-2 number: seed 000000000000000000007;path 0 mss 200 delay 1
-2 word: seed  7;path 0 mss 200 delay 1
-2 word: seed 7 ;path 0 mss 200 delay 1
-ok: checksum on;path 0 mss 200 delay 1
-ok: checksum off;path 0 mss 200 delay 1
-2 word: checksum yes;path 0 mss 200 delay 1
-ok: buffer 4096;path 0 mss 200 delay 1
-ok: buffer 1048576;path 0 mss 200 delay 1
-2 number: buffer 4095;path 0 mss 200 delay 1
-2 number: buffer 1048577;path 0 mss 200 delay 1
-ok: path 0 mss 200 delay 1;drop 0 ab 1;drop 0 ba 1000000
-3 number: path 0 mss 200 delay 1;drop 0 ab 0
-3 number: path 0 mss 200 delay 1;drop 0 ab 1000001
-3 number: path 0 mss 200 delay 1;drop 8 ab 1
-3 word: path 0 mss 200 delay 1;drop 0 a 1
-ok: path 0 mss 200 delay 1;strip 0 ab 1;strip 0 ba 1000000
-3 number: path 0 mss 200 delay 1;strip 0 ab 0
-3 number: path 0 mss 200 delay 1;strip 0 ab 1000001
-ok: path 0 mss 200 delay 1;alter 0 ab 1;alter 0 ba 1000000
-3 number: path 0 mss 200 delay 1;alter 0 ab 0
-3 number: path 0 mss 200 delay 1;alter 0 ab 1000001
-ok: path 0 mss 200 delay 1;dup 0 ab 1 0;dup 0 ba 1000000 100000
-3 number: path 0 mss 200 delay 1;dup 0 ab 0 0
-3 number: path 0 mss 200 delay 1;dup 0 ab 1000001 0
-3 number: path 0 mss 200 delay 1;dup 0 ab 1 100001
-ok: path 0 mss 200 delay 1;late 0 ab 1 0;late 0 ba 1000000 100000
-3 number: path 0 mss 200 delay 1;late 0 ab 0 0
-3 number: path 0 mss 200 delay 1;late 0 ab 1000001 0
-3 number: path 0 mss 200 delay 1;late 0 ab 1 100001
-ok: path 0 mss 200 delay 1;strip-all 0 ab 0;strip-all 0 ba 6553599
-3 number: path 0 mss 200 delay 1;strip-all 0 ab 6553600
-ok: path 0 mss 200 delay 1;die 0 0
-ok: path 0 mss 200 delay 1;die 0 6553599
-3 number: path 0 mss 200 delay 1;die 0 6553600
-ok: path 0 mss 200 delay 1;prio 0 a 0 on;prio 0 b 6553599 off
-3 number: path 0 mss 200 delay 1;prio 0 a 6553600 on
-3 word: path 0 mss 200 delay 1;prio 0 ab 0 on
-ok: path 0 mss 200 delay 1;add b 0 0;add b 255 6553599
-3 number: path 0 mss 200 delay 1;add b 256 0
-3 number: path 0 mss 200 delay 1;add b 0 6553600
-3 word: path 0 mss 200 delay 1;add a 0 0
-ok: path 0 mss 200 delay 1;remove a 0 0;remove b 255 6553599
-3 number: path 0 mss 200 delay 1;remove a 256 0
-3 number: path 0 mss 200 delay 1;remove a 0 6553600
-ok: path 0 mss 200 delay 1;fastclose a 0;fastclose b 6553599
-3 number: path 0 mss 200 delay 1;fastclose a 6553600
-3 word: path 0 mss 200 delay 1;end 1
-3 word: path 0 mss 200 delay 1;mptcp-script 1
-3 word: path 0 mss 200 delay 1;short on
-3 order: path 0 mss 200 delay 1;seed 7
-3 order: path 0 mss 200 delay 1;checksum on
-3 order: path 0 mss 200 delay 1;buffer 4096
-2 order: path 1 mss 200 delay 1
-3 order: path 0 mss 200 delay 1;path 0 mss 200 delay 1
-3 order: path 0 mss 200 delay 1;path 2 mss 200 delay 1
-2 order: drop 0 ab 1;path 0 mss 200 delay 1
-2 order: add b 1 1;path 0 mss 200 delay 1
-3 order: path 0 mss 200 delay 1;die 1 5
-ok: path 0 mss 200 delay 1;die 0 5;path 1 mss 200 delay 1
-2 order: end
-4 order: path 0 mss 200 delay 1;end;path 1 mss 200 delay 1
-4 order: path 0 mss 200 delay 1;end
-4 word: path 0 mss 200 delay 1;end;ende
-4 number: path 0 mss 200 delay 1;end;die 0 x
-3 repeated: seed 1;seed 1;path 0 mss 200 delay 1
-3 repeated: checksum off;checksum on;path 0 mss 200 delay 1
-3 repeated: buffer 4096;buffer 4096;path 0 mss 200 delay 1
-4 repeated: path 0 mss 200 delay 1;die 0 1;die 0 2
-4 repeated: path 0 mss 200 delay 1;strip-all 0 ab 1;strip-all 0 ab 2
-4 repeated: path 0 mss 200 delay 1;fastclose a 1;fastclose a 2
-4 repeated: path 0 mss 200 delay 1;drop 0 ab 1;late 0 ab 1 5
-4 repeated: path 0 mss 200 delay 1;late 0 ab 1 5;dup 0 ab 1 5
-4 repeated: path 0 mss 200 delay 1;dup 0 ab 1 5;drop 0 ab 1
-4 repeated: path 0 mss 200 delay 1;strip 0 ab 1;strip 0 ab 1
-4 repeated: path 0 mss 200 delay 1;alter 0 ab 1;alter 0 ab 1
-ok: path 0 mss 200 delay 1;drop 0 ab 1;strip 0 ab 1;alter 0 ab 1;drop 0 ba 1;drop 0 ab 2
-ok: path 0 mss 200 delay 1;add b 1 1;add b 1 1;remove a 1 1;remove a 1 1;prio 0 a 1 on;prio 0 a 1 on
-ok: # first;;path 0 mss 200 delay 1;#;;# last
-5 number: # first;;path 0 mss 200 delay 1;die 0 -1
-";
-
-/// The same of whole texts.
-const TEXTS: [(&str, &str); 10] = [
-    ("", "1 missing"),
-    ("\n# no script\n", "3 missing"),
-    ("mptcp-script 2\n", "1 header"),
-    ("\n#\nmptcp-script  1\nend\n", "3 header"),
-    (
-        "mptcp-script 1\r\npath 0 mss 1400 delay 10\r\nend\r\n",
-        "1 header",
-    ),
-    ("mptcp-script 1\npath 0 mss 1400 delay 10\n", "3 missing"),
-    ("mptcp-script 1\npath 0 mss 1400 delay 10\n\n", "4 missing"),
-    ("mptcp-script 1\npath 0 mss 1400 delay 10\nend", "ok"),
-    ("mptcp-script 1\npath 0 mss 1400 delay 10\nend\n\n#", "ok"),
-    (
-        "\n#\n\nmptcp-script 1\n#\npath 0 mss 1400 delay 10\nend\n",
-        "ok",
-    ),
-];
-
 /// Three paths, of which one joins later and one is a backup, and all kinds of trouble.
 const REALISTIC: &str = "mptcp-script 1
 seed 7
 checksum on
+short on
 buffer 262144
 path 0 mss 1400 delay 20
 path 1 mss 1200 delay 35 join 200
@@ -154,28 +28,6 @@ fn verdict(alloc: Global, text: &str) -> Result<String, AllocError> {
         Err(ScriptFault::Line { line, kind }) => format!(in alloc; "{line} {kind}"),
         Err(ScriptFault::Memory) => Err(AllocError),
     }
-}
-
-#[test]
-fn verdicts(rt: HostRuntime) -> Result<(), Fail> {
-    for case in LINES.lines() {
-        let (want, lines) = case.split_once(": ").ok_or("a case has two parts")?;
-        let mut text = String::from_str(rt.alloc(), "mptcp-script 1\n")?;
-        for line in lines.split(';') {
-            text.push_str(line)?;
-            text.push('\n')?;
-        }
-        text.push_str("end\n")?;
-        assert_eq!(rt;
-            verdict(rt.alloc(), text.as_str())?.as_str(),
-            want,
-            "{case}"
-        );
-    }
-    for (text, want) in TEXTS {
-        assert_eq!(rt; verdict(rt.alloc(), text)?.as_str(), want, "{text:?}");
-    }
-    Ok(())
 }
 
 /// A text of so many lines: the first line, path 0, empty lines, and `end` last.
@@ -207,7 +59,7 @@ fn both_ways(rt: HostRuntime) -> Result<(), Fail> {
         assert_eq!(rt; text(rt.alloc(), &read)?.as_slice(), script.as_bytes());
     }
     let said_twice =
-        "mptcp-script 1\nseed 01\nchecksum off\nbuffer 65536\npath 0 mss 1400 delay 10\nend";
+        "mptcp-script 1\nseed 01\nchecksum off\nshort off\nbuffer 65536\npath 0 mss 1400 delay 10\nend";
     let read = parse(rt.alloc(), said_twice.as_bytes())?;
     assert_eq!(rt; text(rt.alloc(), &read)?.as_slice(), PLAIN.as_bytes());
     Ok(())
@@ -264,6 +116,7 @@ fn realistic(rt: HostRuntime) -> Result<(), Fail> {
     let want = Script {
         seed: 7,
         checksum: true,
+        short: true,
         buffer: 262_144,
         paths,
         lines,

@@ -4,7 +4,7 @@ ghost use Rattle.std.specs.Prelude.{◌≡◌, map};
 ghost use Rattle.link_script.specs.Lines.{strip_all_line, die_line, prio_line, add_line, remove_line, fast_close_line};
 
 use crate::fault::ScriptKind;
-use crate::limits::{ADDRESS_ID, PATH, TICK};
+use crate::limits::{ADDRESS_IDS, PATH_NUMBERS, RUN_TICKS};
 use crate::line::Line;
 use crate::number::read_number;
 use crate::script::ScriptLine;
@@ -19,8 +19,8 @@ pub fn read_strip_all(words: &[&[u8]]) -> Result<Line, ScriptKind>
         return Err(ScriptKind::Word);
     };
     let from = read_direction(from)?;
-    let path = read_number(path, PATH)? as u8;
-    let tick = read_number(tick, TICK)?;
+    let path = read_number(path, PATH_NUMBERS)? as u8;
+    let tick = read_number(tick, RUN_TICKS)?;
     Ok(Line::Event(ScriptLine::StripAll { path, from, tick }))
 }
 
@@ -32,8 +32,8 @@ pub fn read_die(words: &[&[u8]]) -> Result<Line, ScriptKind>
     let [path, tick] = words else {
         return Err(ScriptKind::Word);
     };
-    let path = read_number(path, PATH)? as u8;
-    let tick = read_number(tick, TICK)?;
+    let path = read_number(path, PATH_NUMBERS)? as u8;
+    let tick = read_number(tick, RUN_TICKS)?;
     Ok(Line::Event(ScriptLine::Die { path, tick }))
 }
 
@@ -47,8 +47,8 @@ pub fn read_prio(words: &[&[u8]]) -> Result<Line, ScriptKind>
     };
     let side = read_side(side)?;
     let on = read_switch(on)?;
-    let path = read_number(path, PATH)? as u8;
-    let tick = read_number(tick, TICK)?;
+    let path = read_number(path, PATH_NUMBERS)? as u8;
+    let tick = read_number(tick, RUN_TICKS)?;
     Ok(Line::Event(ScriptLine::Prio {
         path,
         side,
@@ -66,8 +66,8 @@ pub fn read_add(words: &[&[u8]]) -> Result<Line, ScriptKind>
         return Err(ScriptKind::Word);
     };
     expect_word(side, b"b")?;
-    let id = read_number(id, ADDRESS_ID)? as u8;
-    let tick = read_number(tick, TICK)?;
+    let id = read_number(id, ADDRESS_IDS)? as u8;
+    let tick = read_number(tick, RUN_TICKS)?;
     Ok(Line::Event(ScriptLine::Add { id, tick }))
 }
 
@@ -80,8 +80,8 @@ pub fn read_remove(words: &[&[u8]]) -> Result<Line, ScriptKind>
         return Err(ScriptKind::Word);
     };
     let side = read_side(side)?;
-    let id = read_number(id, ADDRESS_ID)? as u8;
-    let tick = read_number(tick, TICK)?;
+    let id = read_number(id, ADDRESS_IDS)? as u8;
+    let tick = read_number(tick, RUN_TICKS)?;
     Ok(Line::Event(ScriptLine::Remove { side, id, tick }))
 }
 
@@ -94,6 +94,6 @@ pub fn read_fast_close(words: &[&[u8]]) -> Result<Line, ScriptKind>
         return Err(ScriptKind::Word);
     };
     let side = read_side(side)?;
-    let tick = read_number(tick, TICK)?;
+    let tick = read_number(tick, RUN_TICKS)?;
     Ok(Line::Event(ScriptLine::FastClose { side, tick }))
 }

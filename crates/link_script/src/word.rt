@@ -12,6 +12,7 @@ use std::alloc::{AllocError, Global};
 pub enum Keyword {
     Seed,
     Checksum,
+    Short,
     Buffer,
     Path,
     Drop,
@@ -29,9 +30,10 @@ pub enum Keyword {
 }
 
 impl Keyword {
-    pub const ALL: [Keyword; 16] = [
+    pub const ALL: [Keyword; 17] = [
         Keyword::Seed,
         Keyword::Checksum,
+        Keyword::Short,
         Keyword::Buffer,
         Keyword::Path,
         Keyword::Drop,
@@ -54,6 +56,7 @@ impl Keyword {
         match self {
             Keyword::Seed => b"seed",
             Keyword::Checksum => b"checksum",
+            Keyword::Short => b"short",
             Keyword::Buffer => b"buffer",
             Keyword::Path => b"path",
             Keyword::Drop => b"drop",

@@ -5,7 +5,7 @@ ghost use Rattle.std.specs.List.{flat_map};
 ghost use Rattle.link_script.specs.Reading.{reading};
 ghost use Rattle.link_script.specs.Scripts.{IsScript};
 ghost use Rattle.link_script.specs.Words.{direction_word, side_word, switch_word};
-ghost use Rattle.link_script.specs.Writing.{path_text, event_text, line_text, ended, seed_lines, checksum_lines, buffer_lines, path_lines, event_lines, text_of};
+ghost use Rattle.link_script.specs.Writing.{path_text, event_text, line_text, ended, seed_lines, checksum_lines, short_lines, buffer_lines, path_lines, event_lines, text_of};
 
 use crate::limits::{DEFAULT_BUFFER, DEFAULT_SEED};
 use crate::line::Line;
@@ -119,6 +119,7 @@ impl fmt::Display for Line {
             Line::Header => write!(f, "mptcp-script 1"),
             Line::Seed(seed) => write!(f, "seed {seed}"),
             Line::Checksum(on) => write!(f, "checksum {}", switch_text(*on)),
+            Line::Short(on) => write!(f, "short {}", switch_text(*on)),
             Line::Buffer(octets) => write!(f, "buffer {octets}"),
             Line::Path { index, line } => write!(f, "path {index} {line}"),
             Line::Event(event) => write!(f, "{event}"),
@@ -149,6 +150,15 @@ fn put_checksum(text: &mut String, checksum: bool) -> Result<(), AllocError>
         return Ok(());
     }
     put(text, &Line::Checksum(true))
+}
+
+fn put_short(text: &mut String, short: bool) -> Result<(), AllocError>
+    ensures { OnOk result (string_bytes text.new ≡ string_bytes text.old ++ flat_map ended (short_lines short)) }
+{
+    if !short {
+        return Ok(());
+    }
+    put(text, &Line::Short(true))
 }
 
 fn put_buffer(text: &mut String, buffer: u64) -> Result<(), AllocError>
@@ -187,6 +197,7 @@ fn write_script(alloc: Global, script: &Script) -> Result<Vec<u8>, AllocError>
     put(&mut text, &Line::Header)?;
     put_seed(&mut text, script.seed)?;
     put_checksum(&mut text, script.checksum)?;
+    put_short(&mut text, script.short)?;
     put_buffer(&mut text, script.buffer)?;
     put_paths(&mut text, script.paths.as_slice())?;
     put_events(&mut text, script.lines.as_slice())?;

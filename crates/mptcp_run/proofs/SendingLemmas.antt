@@ -39,7 +39,7 @@ lines_within c size file n (suc k) =
     IsPrefix-more (first_lines c size file n) (first_lines c size file (n + k)) (piece_line c size file (n + k)) _ (lines_within c size file n k)
     (ap (first_lines c size file) (let e : n + suc k ≡ n + k + 1 = omega arith in e) ∙ first_lines-more c size file (n + k))
 
--- the lines of the first pieces are a front of those of more pieces
+-- the lines of the first pieces are a prefix of those of more pieces
 pub first_lines-IsPrefix : (c : Connection) (size : ℕ) (file : List ℕ) (n m : ℕ) → n ≤ m → IsPrefix (first_lines c size file n) (first_lines c size file m)
 first_lines-IsPrefix c size file n m h =
     subst (λ (k : ℕ). IsPrefix (first_lines c size file n) (first_lines c size file k)) (let e : n + (m - n) ≡ m = omega arith in e) (lines_within c size file n (m - n))

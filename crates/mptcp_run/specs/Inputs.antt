@@ -16,24 +16,24 @@ name_of input.FileA names = names.file_a
 name_of input.FileB names = names.file_b
 
 -- the content of this input, where it is told, is within its limit
-abbrev pub IsWithin : (List ℕ → Option (List ℕ)) → Names → Named → Type 0
-IsWithin content names named = IfSome (content (name_of named names)) (λ told. length told ≤ limit_of named)
+abbrev pub IsWithinLimit : (List ℕ → Option (List ℕ)) → Names → Named → Type 0
+IsWithinLimit content names named = IfSome (content (name_of named names)) (λ told. length told ≤ limit_of named)
 
 -- the inputs that are loaded before this one are within their limits
-abbrev pub AreWithinBefore : (List ℕ → Option (List ℕ)) → Names → Named → Type 0
-AreWithinBefore content names input.Script = Unit {0}
-AreWithinBefore content names input.FileA = IsWithin content names input.Script
-AreWithinBefore content names input.FileB = IsWithin content names input.Script × IsWithin content names input.FileA
+abbrev pub AreWithinLimitsBefore : (List ℕ → Option (List ℕ)) → Names → Named → Type 0
+AreWithinLimitsBefore content names input.Script = Unit {0}
+AreWithinLimitsBefore content names input.FileA = IsWithinLimit content names input.Script
+AreWithinLimitsBefore content names input.FileB = IsWithinLimit content names input.Script × IsWithinLimit content names input.FileA
 
 -- the inputs end a run with this status
 abbrev pub IsInputFault : (List ℕ → Option (List ℕ)) → Names → ℕ → ℕ → Status → Type 0
 -- the device failed, and counted it; what was loaded before is within its limits
-IsInputFault content names old new (Load named) = HasRisen old new × AreWithinBefore content names named
+IsInputFault content names old new (Load named) = HasRisen old new × AreWithinLimitsBefore content names named
 -- the content is longer than its limit, and the first such one
 IsInputFault content names old new (TooLong named) =
-    IfSome (content (name_of named names)) (λ told. limit_of named < length told) × AreWithinBefore content names named
+    IfSome (content (name_of named names)) (λ told. limit_of named < length told) × AreWithinLimitsBefore content names named
 -- all contents are within their limits, and this is the first line that the script's grammar refuses
 IsInputFault content names old new (Script line kind) =
-    IfSome (content names.script) (λ told. connection_in told ≡ Err (Line line kind)) × ((named : Named) → IsWithin content names named)
+    IfSome (content names.script) (λ told. connection_in told ≡ Err (Line line kind)) × ((named : Named) → IsWithinLimit content names named)
 IsInputFault content names old new Memory = Unit {0}
 IsInputFault content names old new _ = ⊥

@@ -1,5 +1,5 @@
 -- What a run is to do, and how far it came.
-use Rattle.std.specs.Prelude.{ℕ, ◌≤◌, List, length, Option, Some, IsSomeAnd, IsOk}
+use Rattle.std.specs.Prelude.{ℕ, ◌≤◌, List, length, Option, Some, IfSome, IsSomeAnd, IsOk}
 use Rattle.std.specs.Result.{result_ok}
 use Rattle.path_segments.specs.declared.connection.Connection.{Connection}
 use Rattle.path_segments.specs.Hearing.{◌>>=◌}
@@ -7,7 +7,7 @@ use Rattle.mptcp_run.specs.declared.status.Status.{Status}
 use Rattle.mptcp_run.specs.declared.status.Status.TheVariants.{Delivered, Usage, Script, Load, Put, TooLong, Memory}
 use Rattle.mptcp_run.specs.declared.status.Named.{Named}
 use Rattle.mptcp_run.specs.Causes.{limit_of}
-use Rattle.mptcp_run.specs.Inputs.{name_of}
+use Rattle.mptcp_run.specs.Inputs.{name_of, IsWithinLimit}
 use Rattle.mptcp_run.specs.Words.{Names, names_in}
 use Rattle.mptcp_run.specs.Script.{connection_in}
 
@@ -51,6 +51,11 @@ abbrev pub IsCutOff : Status → Type 0
 IsCutOff (Put port) = Unit {0}
 IsCutOff Memory = Unit {0}
 IsCutOff _ = ⊥
+
+-- the contents of the three inputs, where they are told, are within their limits, and the script is valid
+pub record MayBegin (content : List ℕ → Option (List ℕ)) (names : Names) : Type 0 where
+  pub within : (input : Named) → IsWithinLimit content names input
+  pub script : IfSome (content names.script) (λ told. IsOk (connection_in told))
 
 -- the contents of the three inputs are told and within their limits, and the script is valid
 pub record IsValid (content : List ℕ → Option (List ℕ)) (names : Names) : Type 0 where

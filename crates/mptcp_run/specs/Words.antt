@@ -1,4 +1,4 @@
--- The words of a command line: how the run is made, and five names.
+-- The words of a command line: the mode of the run, and five names.
 use Rattle.std.specs.Prelude.{ℕ, Bool, ◌&&◌, ◌||◌, not, ◌==◌, if◌then◌else◌, List, [], ◌∷◌, length, codes, Option, Some, None, option_map}
 use Rattle.std.specs.Str.{bytes_eq}
 use Rattle.mptcp_run.specs.declared.words.Command.{Command}

@@ -1,8 +1,7 @@
 //! The calls of an outside, each fault of which is the status that names it.
 
 ghost use Rattle.std.specs.Prelude.{◌≡◌, ◌≢◌, ◌≤◌, ◌<◌, ◌++◌, ℕ, List, [], IfOk, IfErr, IfSome, OnOk, OnErr, vec_len};
-ghost use Rattle.outside_kit.specs.Outside.{HoldsAfter};
-ghost use Rattle.mptcp_run.specs.Ports.{HoldsPrefix};
+ghost use Rattle.outside_kit.specs.Outside.{HoldsAfter, HoldsPrefix};
 ghost use Rattle.outside_kit.specs.declared.port.Port.{Port};
 ghost use Rattle.mptcp_run.specs.Causes.{limit_of, IsLoadFault, IsPutFault};
 

@@ -2,10 +2,10 @@
 //! other, and noted for the log.
 
 ghost use Rattle.std.specs.Prelude.{◌≡◌, ◌≢◌, ◌+◌, ◌^◌, ◌<◌, ◌≤◌, ◌++◌, IfOk, IfErr, OnOk, OnErr, string_bytes};
-ghost use Rattle.outside_kit.specs.Outside.{HoldsAfter};
+ghost use Rattle.outside_kit.specs.Outside.{HoldsAfter, HoldsPrefix};
 ghost use Rattle.outside_kit.specs.declared.port.Port.{Port};
 ghost use Rattle.segment_wire.specs.Segment.{segment_text};
-ghost use Rattle.mptcp_run.specs.Ports.{NeverFall, IsPortsFault, HoldsPrefix};
+ghost use Rattle.mptcp_run.specs.Ports.{NeverFall, IsPortsFault};
 ghost use Rattle.path_segments.specs.Segments.{from_a, from_b, subflow_number, syn, syn_ack, third_ack};
 ghost use Rattle.mptcp_run.specs.Log.{segment_line, opening_lines};
 
@@ -130,7 +130,7 @@ pub fn open_path<O: Outside>(
     ensures sender { IfOk result (λ opened. opened.sender ≡ drawn.now) }
     ensures key { IfOk result (λ opened. opened.key ≡ drawn.now.a.key) }
     ensures log { OnOk result (HoldsAfter (O.holds outside.old Port.Log) (O.holds outside.new Port.Log) (λ held. held ++ opening_lines drawn.now)) }
-    ensures log_front { OnErr result (HoldsPrefix (O.holds outside.old Port.Log) (O.holds outside.new Port.Log) (opening_lines drawn.now)) }
+    ensures log_prefix { OnErr result (HoldsPrefix (O.holds outside.old Port.Log) (O.holds outside.new Port.Log) (opening_lines drawn.now)) }
     ensures fault { IfErr result (IsPortsFault (O.port_faults outside.old) (O.port_faults outside.new)) }
     ensures counted { NeverFall (O.port_faults outside.old) (O.port_faults outside.new) }
     ensures other_ports { (other : Port) → other ≢ Port.Log → O.holds outside.new other ≡ O.holds outside.old other }

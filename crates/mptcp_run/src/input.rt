@@ -6,7 +6,7 @@ ghost use Rattle.mptcp_run.specs.declared.status.Named.{Named};
 ghost use Rattle.mptcp_run.specs.Script.{connection_in};
 ghost use Rattle.path_segments.specs.Drawn.{FitsFields};
 ghost use Rattle.mptcp_run.specs.Words.{names_of};
-ghost use Rattle.mptcp_run.specs.Inputs.{IsWithin, IsInputFault};
+ghost use Rattle.mptcp_run.specs.Inputs.{IsWithinLimit, IsInputFault};
 
 use crate::device::load;
 use crate::script::read_connection;
@@ -36,7 +36,7 @@ pub fn load_input<O: Outside>(
     ensures file_a { IfOk result (λ input. IfSome (O.content outside.old command.now.file_a.now) (λ told. input.file_a.items ≡ told)) }
     ensures fits { IfOk result (λ input. FitsFields input.connection) }
     ensures within { IfOk result (λ input. vec_len input.file_a ≤ 16777216) }
-    ensures all_within { OnOk result ((named : Named) → IsWithin (O.content outside.old) (names_of command.now) named) }
+    ensures all_within { OnOk result ((named : Named) → IsWithinLimit (O.content outside.old) (names_of command.now) named) }
     ensures fault { IfErr result (IsInputFault (O.content outside.old) (names_of command.now) (O.load_faults outside.old) (O.load_faults outside.new)) }
     ensures counted { O.load_faults outside.old ≤ O.load_faults outside.new }
     ensures same_ports { (port : Port) → O.holds outside.new port ≡ O.holds outside.old port }

@@ -1,4 +1,4 @@
-//! The top call: from the words of a command line to the two files that were sent and the log of the run.
+//! The top call: from the words of a command line to what the two readers read and the log of the run.
 #![tactic(auto)]
 
 mod device;
@@ -12,7 +12,7 @@ mod transfer;
 mod words;
 
 pub use link_script::ScriptKind;
-pub use status::{Mode4, Named, Status, fault_text};
+pub use status::{Named, Status, fault_text};
 pub use top_call::run;
 
 #[cfg(test)]

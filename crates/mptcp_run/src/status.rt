@@ -5,13 +5,6 @@ use link_script::ScriptKind;
 use outside_kit::Port;
 use std::alloc::{AllocError, Global};
 
-/// How a run is made.
-#[derive(Clone, Copy, Debug, PartialEq, Eq)]
-pub enum Mode4 {
-    /// In rounds in which the actors take whole turns, one after another.
-    Serial,
-}
-
 /// An input of a run.
 #[derive(Clone, Copy, Debug, PartialEq, Eq)]
 pub enum Named {
@@ -23,7 +16,7 @@ pub enum Named {
 /// How a run has ended.
 #[derive(Clone, Copy, Debug, PartialEq, Eq)]
 pub enum Status {
-    /// Both readers were told the end.
+    /// B's reader has read FILE_A to its end, and A's reader nothing, which is all that B sends.
     Delivered,
     /// The words break the form of the command line.
     Usage,

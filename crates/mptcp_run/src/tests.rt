@@ -401,7 +401,7 @@ fn the_last_put_may_fail(rt: HostRuntime) -> Result<(), Fail> {
 }
 
 #[test]
-fn a_put_that_fails_may_keep_a_front(rt: HostRuntime) -> Result<(), Fail> {
+fn a_put_that_fails_may_keep_a_prefix(rt: HostRuntime) -> Result<(), Fail> {
     let fail = |call| FailAt { call, kept: 3 };
     let put = |port| Status::Put { port };
     fails_at(&rt, fail(5), put(Port::ReadByA), b"", ["", "", ""])?;

@@ -2,18 +2,18 @@
 
 ghost use Rattle.std.specs.Prelude.{◌≡◌, ◌≤◌, ◌<◌, ◌++◌, ◌↔◌, ◌⊎◌, ℕ, [], length, map, Err, IsNone, IsSomeAnd, IsOk, IfErr, IfSome, OnOk, OnErr, vec_len, string_bytes};
 ghost use Rattle.outside_kit.specs.declared.port.Port.{Port};
-ghost use Rattle.outside_kit.specs.Outside.{HasRisen, HoldsAfter};
+ghost use Rattle.outside_kit.specs.Outside.{HasRisen, HoldsAfter, HoldsPrefix};
 ghost use Rattle.mptcp_run.specs.declared.status.Named.{Named};
 ghost use Rattle.link_script.specs.declared.fault.ScriptKind.{ScriptKind};
 ghost use Rattle.link_script.specs.declared.fault.ScriptFault.TheVariants.{Line};
 ghost use Rattle.path_segments.specs.Drawn.{FitsFields};
 ghost use Rattle.mptcp_run.specs.Words.{names_in};
 ghost use Rattle.mptcp_run.specs.Causes.{limit_of};
-ghost use Rattle.mptcp_run.specs.Inputs.{name_of, IsWithin, AreWithinBefore};
+ghost use Rattle.mptcp_run.specs.Inputs.{name_of, IsWithinLimit, AreWithinLimitsBefore};
 ghost use Rattle.mptcp_run.specs.Script.{connection_in};
 ghost use Rattle.mptcp_run.specs.Log.{log_text};
-ghost use Rattle.mptcp_run.specs.Ports.{NeverFall, IsPortsFault, HoldsPrefix, HoldsBound};
-ghost use Rattle.mptcp_run.specs.Task.{task_of, IsRefusal, HasLoaded, HasBegun, IsCutOff, IsValid};
+ghost use Rattle.mptcp_run.specs.Ports.{NeverFall, IsUntouched, IsPortsFault, HoldsBound};
+ghost use Rattle.mptcp_run.specs.Task.{task_of, IsRefusal, HasLoaded, HasBegun, IsCutOff, IsValid, MayBegin};
 
 use crate::device::bind;
 use crate::handshake::open_path;
@@ -28,8 +28,8 @@ use std::alloc::Global;
 fn bind_readers<O: Outside>(outside: &mut O, command: &Command<'_>) -> Result<(), Status>
     ensures read_by_b { OnOk result (HoldsAfter (O.holds outside.old Port.ReadByB) (O.holds outside.new Port.ReadByB) (λ _. [])) }
     ensures read_by_a { OnOk result (HoldsAfter (O.holds outside.old Port.ReadByA) (O.holds outside.new Port.ReadByA) (λ _. [])) }
-    ensures read_by_b_front { OnErr result (HoldsBound (O.holds outside.old Port.ReadByB) (O.holds outside.new Port.ReadByB) []) }
-    ensures read_by_a_front { OnErr result (HoldsBound (O.holds outside.old Port.ReadByA) (O.holds outside.new Port.ReadByA) []) }
+    ensures read_by_b_prefix { OnErr result (HoldsBound (O.holds outside.old Port.ReadByB) (O.holds outside.new Port.ReadByB) []) }
+    ensures read_by_a_prefix { OnErr result (HoldsBound (O.holds outside.old Port.ReadByA) (O.holds outside.new Port.ReadByA) []) }
     ensures log { O.holds outside.new Port.Log ≡ O.holds outside.old Port.Log }
     ensures fault { IfErr result (IsPortsFault (O.port_faults outside.old) (O.port_faults outside.new)) }
     ensures counted { NeverFall (O.port_faults outside.old) (O.port_faults outside.new) }
@@ -53,9 +53,9 @@ fn send<O: Outside>(
     ensures read_by_a { OnOk result (HoldsAfter (O.holds outside.old Port.ReadByA) (O.holds outside.new Port.ReadByA) (λ _. [])) }
     ensures log { OnOk result (HoldsAfter (O.holds outside.old Port.Log) (O.holds outside.new Port.Log) (λ held. held ++ log_text input.connection input.file_a.items)) }
 
-    ensures read_by_b_front { OnErr result (HoldsBound (O.holds outside.old Port.ReadByB) (O.holds outside.new Port.ReadByB) input.file_a.items) }
-    ensures read_by_a_front { OnErr result (HoldsBound (O.holds outside.old Port.ReadByA) (O.holds outside.new Port.ReadByA) []) }
-    ensures log_front { OnErr result (HoldsPrefix (O.holds outside.old Port.Log) (O.holds outside.new Port.Log) (log_text input.connection input.file_a.items)) }
+    ensures read_by_b_prefix { OnErr result (HoldsBound (O.holds outside.old Port.ReadByB) (O.holds outside.new Port.ReadByB) input.file_a.items) }
+    ensures read_by_a_prefix { OnErr result (HoldsBound (O.holds outside.old Port.ReadByA) (O.holds outside.new Port.ReadByA) []) }
+    ensures log_prefix { OnErr result (HoldsPrefix (O.holds outside.old Port.Log) (O.holds outside.new Port.Log) (log_text input.connection input.file_a.items)) }
 
     ensures fault { IfErr result (IsPortsFault (O.port_faults outside.old) (O.port_faults outside.new)) }
     ensures counted { NeverFall (O.port_faults outside.old) (O.port_faults outside.new) }
@@ -88,15 +88,19 @@ pub fn run<O: Outside, G: Gate + Sync>(
 
     // An answer comes only where no earlier one does: what is loaded before is within its limits, and the script valid.
     ensures loaded_before { (input : Named) → (result ≡ Status.Load input) ⊎ (result ≡ Status.TooLong input) →
-        IfSome (names_in (map string_bytes words.now)) (λ names. AreWithinBefore (O.content outside.old) names input) }
+        IfSome (names_in (map string_bytes words.now)) (λ names. AreWithinLimitsBefore (O.content outside.old) names input) }
     ensures all_loaded { HasLoaded result → IfSome (names_in (map string_bytes words.now)) (λ names.
-        (input : Named) → IsWithin (O.content outside.old) names input) }
+        (input : Named) → IsWithinLimit (O.content outside.old) names input) }
     ensures valid { HasBegun result → IfSome (names_in (map string_bytes words.now)) (λ names.
         IfSome (O.content outside.old names.script) (λ told. IsOk (connection_in told))) }
     ensures complete { IsSomeAnd (names_in (map string_bytes words.now)) (IsValid (O.content outside.old))
         → ¬ HasRisen (O.load_faults outside.old) (O.load_faults outside.new)
         → ((port : Port) → ¬ HasRisen (O.port_faults outside.old port) (O.port_faults outside.new port))
         → (result ≡ Status.Delivered) ⊎ (result ≡ Status.Memory) }
+
+    // Out of memory: nothing was bound or put, or else all was loaded within its limits and the script is valid.
+    ensures memory { result ≡ Status.Memory → IsUntouched (O.holds outside.old) (O.holds outside.new) (O.port_faults outside.old) (O.port_faults outside.new)
+        ⊎ IfSome (names_in (map string_bytes words.now)) (MayBegin (O.content outside.old)) }
 
     // Delivered: B's reader has FILE_A, A's reader has nothing, and the log has grown by the lines of the segments and
     // the outcome.
@@ -108,11 +112,10 @@ pub fn run<O: Outside, G: Gate + Sync>(
         HoldsAfter (O.holds outside.old Port.Log) (O.holds outside.new Port.Log) (λ held. held ++ log_text task.connection task.file_a)) }
 
     // Refused: nothing was bound or put, and for wrong words nothing was loaded.
-    ensures untouched { IsRefusal result → (port : Port) → (O.holds outside.new port ≡ O.holds outside.old port)
-        × (O.port_faults outside.new port ≡ O.port_faults outside.old port) }
+    ensures untouched { IsRefusal result → IsUntouched (O.holds outside.old) (O.holds outside.new) (O.port_faults outside.old) (O.port_faults outside.new) }
     ensures unloaded { result ≡ Status.Usage → O.load_faults outside.new ≡ O.load_faults outside.old }
 
-    // Cut off: each reader's port is as it was or holds a front of its text, and the log has grown by a front of its own.
+    // Cut off: each reader's port is as it was or holds a prefix of its text, and the log has grown by a prefix of its own.
     ensures cut_off_b { IsCutOff result → IfSome (task_of (O.content outside.old) (map string_bytes words.now)) (λ task.
         HoldsBound (O.holds outside.old Port.ReadByB) (O.holds outside.new Port.ReadByB) task.file_a) }
     ensures cut_off_a { IsCutOff result → HoldsBound (O.holds outside.old Port.ReadByA) (O.holds outside.new Port.ReadByA) [] }

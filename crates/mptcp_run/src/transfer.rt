@@ -2,10 +2,10 @@
 //! taken from what was parsed.
 
 ghost use Rattle.std.specs.Prelude.{◌≡◌, ◌+◌, ◌^◌, ◌<◌, ◌≤◌, ◌++◌, true, length, IfOk, IfErr, OnOk, OnErr, None, vec_len};
-ghost use Rattle.outside_kit.specs.Outside.{HoldsAfter};
+ghost use Rattle.outside_kit.specs.Outside.{HoldsAfter, HoldsPrefix};
 ghost use Rattle.pipe_model.specs.Pipe.{opening, refusal, after, TakesMemory};
 ghost use Rattle.segment_wire.specs.Segment.{CanWrite};
-ghost use Rattle.mptcp_run.specs.Ports.{NeverFall, IsPortsFault, HoldsPrefix};
+ghost use Rattle.mptcp_run.specs.Ports.{NeverFall, IsPortsFault};
 ghost use Rattle.path_segments.specs.Segments.{data_segment};
 ghost use Rattle.mptcp_run.specs.Log.{segment_line, all_lines, sending_text};
 ghost use Rattle.mptcp_run.specs.Sending.{IsSending, next_piece, next_octets, after_piece, IsClosed, IsOpened};
@@ -122,8 +122,8 @@ fn send_piece<O: Outside>(
 
     ensures read_by_b { OnOk result (HoldsAfter (O.holds outside.old Port.ReadByB) (O.holds outside.new Port.ReadByB) (λ held. held ++ next_piece pipe.old size)) }
     ensures log { OnOk result (HoldsAfter (O.holds outside.old Port.Log) (O.holds outside.new Port.Log) (λ held. held ++ segment_line (next_octets opened.now.sender pipe.old size))) }
-    ensures read_front { OnErr result (HoldsPrefix (O.holds outside.old Port.ReadByB) (O.holds outside.new Port.ReadByB) (next_piece pipe.old size)) }
-    ensures log_front { OnErr result (HoldsPrefix (O.holds outside.old Port.Log) (O.holds outside.new Port.Log) (segment_line (next_octets opened.now.sender pipe.old size))) }
+    ensures read_prefix { OnErr result (HoldsPrefix (O.holds outside.old Port.ReadByB) (O.holds outside.new Port.ReadByB) (next_piece pipe.old size)) }
+    ensures log_prefix { OnErr result (HoldsPrefix (O.holds outside.old Port.Log) (O.holds outside.new Port.Log) (segment_line (next_octets opened.now.sender pipe.old size))) }
 
     ensures fault { IfErr result (IsPortsFault (O.port_faults outside.old) (O.port_faults outside.new)) }
     ensures counted { NeverFall (O.port_faults outside.old) (O.port_faults outside.new) }
@@ -151,8 +151,8 @@ fn send_pieces<O: Outside>(
 
     ensures read_by_b { OnOk result (HoldsAfter (O.holds outside.old Port.ReadByB) (O.holds outside.new Port.ReadByB) (λ held. held ++ pipe.old.written)) }
     ensures log { OnOk result (HoldsAfter (O.holds outside.old Port.Log) (O.holds outside.new Port.Log) (λ held. held ++ all_lines opened.now.sender size pipe.old.written)) }
-    ensures read_front { OnErr result (HoldsPrefix (O.holds outside.old Port.ReadByB) (O.holds outside.new Port.ReadByB) pipe.old.written) }
-    ensures log_front { OnErr result (HoldsPrefix (O.holds outside.old Port.Log) (O.holds outside.new Port.Log) (all_lines opened.now.sender size pipe.old.written)) }
+    ensures read_prefix { OnErr result (HoldsPrefix (O.holds outside.old Port.ReadByB) (O.holds outside.new Port.ReadByB) pipe.old.written) }
+    ensures log_prefix { OnErr result (HoldsPrefix (O.holds outside.old Port.Log) (O.holds outside.new Port.Log) (all_lines opened.now.sender size pipe.old.written)) }
 
     ensures fault { IfErr result (IsPortsFault (O.port_faults outside.old) (O.port_faults outside.new)) }
     ensures counted { NeverFall (O.port_faults outside.old) (O.port_faults outside.new) }
@@ -180,8 +180,8 @@ pub fn transfer<O: Outside>(
 
     ensures read_by_b { OnOk result (HoldsAfter (O.holds outside.old Port.ReadByB) (O.holds outside.new Port.ReadByB) (λ held. held ++ file.items)) }
     ensures log { OnOk result (HoldsAfter (O.holds outside.old Port.Log) (O.holds outside.new Port.Log) (λ held. held ++ sending_text opened.now.sender file.items)) }
-    ensures read_front { OnErr result (HoldsPrefix (O.holds outside.old Port.ReadByB) (O.holds outside.new Port.ReadByB) file.items) }
-    ensures log_front { OnErr result (HoldsPrefix (O.holds outside.old Port.Log) (O.holds outside.new Port.Log) (sending_text opened.now.sender file.items)) }
+    ensures read_prefix { OnErr result (HoldsPrefix (O.holds outside.old Port.ReadByB) (O.holds outside.new Port.ReadByB) file.items) }
+    ensures log_prefix { OnErr result (HoldsPrefix (O.holds outside.old Port.Log) (O.holds outside.new Port.Log) (sending_text opened.now.sender file.items)) }
 
     ensures fault { IfErr result (IsPortsFault (O.port_faults outside.old) (O.port_faults outside.new)) }
     ensures counted { NeverFall (O.port_faults outside.old) (O.port_faults outside.new) }

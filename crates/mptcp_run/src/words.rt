@@ -1,13 +1,10 @@
-ghost use Rattle.std.specs.Prelude.{◌≡◌, ◌&&◌, map, string_bytes, codes, is_some};
+ghost use Rattle.std.specs.Prelude.{◌≡◌, ◌&&◌, map, string_bytes, codes};
 ghost use Rattle.std.specs.Str.{bytes_eq};
 ghost use Rattle.mptcp_run.specs.Words.{names_in, shown_names};
 
-use crate::status::Mode4;
-
-/// What a command line says: how the run is made, and the names of what it reads and writes.
+/// What a command line says: the names of what the run reads and writes.
 #[derive(Clone, Copy, Debug)]
 pub struct Command<'a> {
-    pub mode: Mode4,
     pub script: &'a str,
     pub file_a: &'a str,
     pub file_b: &'a str,
@@ -22,8 +19,10 @@ pub fn command_of(words: &[String]) -> Option<Command<'_>>
     let [option, mode, script, file_a, file_b, read_by_b, read_by_a] = words else {
         return None;
     };
+    if !is_serial(option.as_str(), mode.as_str()) {
+        return None;
+    }
     let command = Command {
-        mode: mode_of(option.as_str(), mode.as_str())?,
         script: script.as_str(),
         file_a: file_a.as_str(),
         file_b: file_b.as_str(),
@@ -33,11 +32,11 @@ pub fn command_of(words: &[String]) -> Option<Command<'_>>
     command.is_given().then_some(command)
 }
 
-/// The mode that two words give.
-fn mode_of(option: &str, mode: &str) -> Option<Mode4>
-    ensures { is_some result ≡ (bytes_eq option.now (codes "--mode") && bytes_eq mode.now (codes "serial")) }
+/// Whether two words ask for the mode `serial`.
+fn is_serial(option: &str, mode: &str) -> bool
+    ensures { result ≡ (bytes_eq option.now (codes "--mode") && bytes_eq mode.now (codes "serial")) }
 {
-    (option == "--mode" && mode == "serial").then_some(Mode4::Serial)
+    option == "--mode" && mode == "serial"
 }
 
 impl Command<'_> {

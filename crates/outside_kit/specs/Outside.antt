@@ -9,6 +9,6 @@ HasRisen old new = (old < new) ⊎ ((old ≡ 2 ^ 64 - 1) × (new ≡ 2 ^ 64 - 1)
 abbrev pub HoldsAfter : Option (List ℕ) → Option (List ℕ) → (List ℕ → List ℕ) → Type 0
 HoldsAfter old new change = IfSome old (λ held. new ≡ Some (change held))
 
--- where a port told what it held, it tells that it holds this and a front of the piece
-abbrev pub HoldsFront : Option (List ℕ) → Option (List ℕ) → List ℕ → Type 0
-HoldsFront old new piece = IfSome old (λ held. (count : ℕ) × (new ≡ Some (held ++ take count piece)))
+-- where a port told what it held, it tells that it holds this and a prefix of the piece
+abbrev pub HoldsPrefix : Option (List ℕ) → Option (List ℕ) → List ℕ → Type 0
+HoldsPrefix old new piece = IfSome old (λ held. (count : ℕ) × (new ≡ Some (held ++ take count piece)))

@@ -189,7 +189,7 @@ fn bind_port(port: &mut MemoryPort, fails: bool) -> Result<(), PutFault>
     Ok(())
 }
 
-/// Puts a piece to a port, or the front of it where the call is to fail.
+/// Puts a piece to a port, or a prefix of it where the call is to fail.
 fn put_port(port: &mut MemoryPort, kept: Option<u64>, piece: &[u8]) -> Result<(), PutFault>
     ensures ok { OnOk result (port.new ≡ grown piece.now port.old) }
     ensures allowed { OnOk result (kept ≡ None) }
@@ -200,12 +200,12 @@ fn put_port(port: &mut MemoryPort, kept: Option<u64>, piece: &[u8]) -> Result<()
 {
     match kept {
         None => port.put(piece),
-        Some(count) => Err(port.fail(front(piece, count))),
+        Some(count) => Err(port.fail(prefix(piece, count))),
     }
 }
 
 /// The first `count` octets of the piece, or all of it where it is shorter.
-fn front(piece: &[u8], count: u64) -> &[u8]
+fn prefix(piece: &[u8], count: u64) -> &[u8]
     ensures { result.now ≡ take count piece.now }
 {
     if count < piece.len() as u64 {
@@ -332,7 +332,7 @@ mod tests {
         Ok(())
     }
 
-    // Calls of all kinds are counted together from 1, and a put that fails keeps the front that it is told to.
+    // Calls of all kinds are counted together from 1, and a put that fails keeps the prefix that it is told to.
     #[test]
     fn calls_fail_by_their_number(rt: HostRuntime) -> Result<(), Fail> {
         let failing = [1, 2, 3, 5].map(|call| FailAt { call, kept: 3 });

@@ -1,30 +1,77 @@
-ghost use Rattle.std.specs.Prelude.{◌≡◌, ◌≢◌, ◌≤◌, ◌<◌, ◌^◌, ◌++◌, ℕ, List, [], length, Option, IsSome, IfOk, IfSome, OnOk, OnErr, vec_len};
+ghost use Rattle.std.specs.Prelude.{◌≡◌, ◌≢◌, ◌≤◌, ◌<◌, ◌^◌, ◌++◌, ℕ, List, [], length, Option, Some, IsSome, IfOk, IfSome, OnOk, OnErr, vec_len};
 ghost use Rattle.outside_kit.specs.declared.port.Port.{Port};
-ghost use Rattle.outside_kit.specs.Outside.{HasRisen, HoldsAfter, HoldsFront};
+ghost use Rattle.outside_kit.specs.Faults.{load_words, put_words};
+ghost use Rattle.outside_kit.specs.Outside.{HasRisen, HoldsAfter, HoldsPrefix};
 
 use crate::port::Port;
 use std::alloc::Global;
-use thiserror::Error;
+use std::error::Error;
+use std::fmt;
 
 /// Why a content wasn't loaded.
-#[derive(Clone, Copy, Debug, PartialEq, Eq, Error)]
+#[derive(Clone, Copy, Debug, PartialEq, Eq)]
 pub enum LoadFault {
-    #[error("the device failed")]
+    /// The device failed.
     Failed,
-    #[error("the content is longer than the limit")]
+    /// The content is longer than the limit.
     TooLong,
-    #[error("out of memory")]
+    /// Out of memory.
     Memory,
 }
 
+impl LoadFault {
+    /// The fault in words, for messages.
+    pub fn words(self) -> &'static str
+        ensures { result.now ≡ load_words self }
+    {
+        match self {
+            LoadFault::Failed => "the device failed",
+            LoadFault::TooLong => "the content is longer than the limit",
+            LoadFault::Memory => "out of memory",
+        }
+    }
+}
+
+impl fmt::Display for LoadFault {
+    ghost output = { λ fault. Some (load_words fault) };
+
+    fn fmt<W: fmt::Write>(&self, f: &mut fmt::Formatter<W>) -> fmt::Result {
+        f.write_str(self.words())
+    }
+}
+
+impl Error for LoadFault {}
+
 /// Why a port wasn't bound, or a piece wasn't put.
-#[derive(Clone, Copy, Debug, PartialEq, Eq, Error)]
+#[derive(Clone, Copy, Debug, PartialEq, Eq)]
 pub enum PutFault {
-    #[error("the device failed")]
+    /// The device failed.
     Failed,
-    #[error("out of memory")]
+    /// Out of memory.
     Memory,
 }
+
+impl PutFault {
+    /// The fault in words, for messages.
+    pub fn words(self) -> &'static str
+        ensures { result.now ≡ put_words self }
+    {
+        match self {
+            PutFault::Failed => "the device failed",
+            PutFault::Memory => "out of memory",
+        }
+    }
+}
+
+impl fmt::Display for PutFault {
+    ghost output = { λ fault. Some (put_words fault) };
+
+    fn fmt<W: fmt::Write>(&self, f: &mut fmt::Formatter<W>) -> fmt::Result {
+        f.write_str(self.words())
+    }
+}
+
+impl Error for PutFault {}
 
 /// Named contents to read, and three ports to write.
 ///
@@ -78,10 +125,10 @@ pub trait Outside {
         ensures other_counts { (other : Port) → other ≢ port → port_faults self.new other ≡ port_faults self.old other }
         ensures load_counts { load_faults self.new ≡ load_faults self.old };
 
-    /// Puts the piece at the end of what the port holds. Where it can't, the port has a front of the piece.
+    /// Puts the piece at the end of what the port holds. Where it can't, the port has a prefix of the piece.
     fn put(&mut self, port: Port, piece: &[u8]) -> Result<(), PutFault>
         ensures ok { OnOk result (HoldsAfter (holds self.old port) (holds self.new port) (λ held. held ++ piece.now)) }
-        ensures err { OnErr result (HoldsFront (holds self.old port) (holds self.new port) piece.now) }
+        ensures err { OnErr result (HoldsPrefix (holds self.old port) (holds self.new port) piece.now) }
 
         ensures counted { port_faults self.old port ≤ port_faults self.new port }
         ensures failed { result ≡ Err PutFault.Failed →

@@ -5,3 +5,5 @@ pub mod Again
 pub mod Rewritten
 pub mod Iterating
 pub mod Appended
+pub mod Changed
+pub mod Readable

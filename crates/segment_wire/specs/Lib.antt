@@ -3,4 +3,5 @@ pub mod OptionFront
 pub mod Checksum
 pub mod Segment
 pub mod Reading
+pub mod Changes
 pub mod Laws

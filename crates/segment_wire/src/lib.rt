@@ -4,6 +4,7 @@
 //! than MSS and window scale are handed on as they stand.
 #![tactic(auto)]
 
+mod changes;
 mod checksum;
 mod head;
 mod laws;
@@ -11,6 +12,7 @@ pub mod options;
 mod reading;
 mod writing;
 
+pub use changes::{alter, strip};
 pub use head::{Addresses, Head};
 pub use laws::{different_segments_differ, read_is_written_again, written_is_read_again};
 pub use options::PlainOptions;

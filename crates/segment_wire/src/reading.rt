@@ -31,7 +31,7 @@ pub enum SegmentFault {
 pub struct SegmentRef<'a> {
     /// The fields of the fixed header.
     pub head: Head,
-    options: &'a [u8],
+    pub(crate) options: &'a [u8],
     payload: &'a [u8],
 }
 

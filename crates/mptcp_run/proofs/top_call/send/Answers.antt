@@ -2,32 +2,32 @@ use Rattle.std.proofs.Common.{◌≡◌, ap, subst, List, ℕ, Option}
 use Rattle.std.proofs.lemmas.Result.{on_err_weaker}
 use Rattle.outside_kit.specs.declared.port.Port.TheVariants.{Log}
 use Rattle.path_segments.specs.declared.connection.Connection.{Connection}
-use Rattle.mptcp_run.specs.Ports.{HoldsPrefix}
+use Rattle.outside_kit.specs.Outside.{HoldsPrefix}
 use Rattle.mptcp_run.specs.Log.{opening_lines, sending_text, log_text}
 use Rattle.mptcp_run.proofs.PortsLemmas.{HoldsBound-longer, HoldsPrefix-unchanged, HoldsPrefix-then, HoldsPrefix-grows, OnErr-holds}
 use Rattle.mptcp_run.proofs.top_call.send.Goals as goal
 
-pub returns-in_err-bind_readers-clause-read_by_b_front :
-    goal.returns-in_err-bind_readers-clause-read_by_b_front
-returns-in_err-bind_readers-clause-read_by_b_front g c =
-    OnErr-holds _ _ (HoldsBound-longer _ _ _ c.in_err-bind_readers.ensures.read_by_b_front)
+pub returns-in_err-bind_readers-clause-read_by_b_prefix :
+    goal.returns-in_err-bind_readers-clause-read_by_b_prefix
+returns-in_err-bind_readers-clause-read_by_b_prefix g c =
+    OnErr-holds _ _ (HoldsBound-longer _ _ _ c.in_err-bind_readers.ensures.read_by_b_prefix)
 
-pub returns-in_err-bind_readers-clause-log_front :
-    goal.returns-in_err-bind_readers-clause-log_front
-returns-in_err-bind_readers-clause-log_front g c =
+pub returns-in_err-bind_readers-clause-log_prefix :
+    goal.returns-in_err-bind_readers-clause-log_prefix
+returns-in_err-bind_readers-clause-log_prefix g c =
     OnErr-holds _ _ (HoldsPrefix-unchanged _ _ _ c.bind_readers.ensures.log)
 
-pub returns-in_err-opened-clause-log_front : goal.returns-in_err-opened-clause-log_front
-returns-in_err-opened-clause-log_front g c =
+pub returns-in_err-opened-clause-log_prefix : goal.returns-in_err-opened-clause-log_prefix
+returns-in_err-opened-clause-log_prefix g c =
     OnErr-holds _ _ (HoldsPrefix-grows _ _ _ (opening_lines c.args.input.connection) (sending_text c.args.input.connection c.args.input.file_a.items)
-    c.in_ok-bind_readers.ensures.log c.in_err-opened.ensures.log_front)
+    c.in_ok-bind_readers.ensures.log c.in_err-opened.ensures.log_prefix)
 
-pub returns-clause-log_front : goal.returns-clause-log_front
-returns-clause-log_front g c =
+pub returns-clause-log_prefix : goal.returns-clause-log_prefix
+returns-clause-log_prefix g c =
     let same : sending_text c.in_ok-opened.opened.sender c.args.input.file_a.items ≡ sending_text c.args.input.connection c.args.input.file_a.items =
     ap (λ (n : Connection). sending_text n c.args.input.file_a.items) c.in_ok-opened.ensures.sender in
     on_err_weaker c.transfer.result
     (λ sent. subst (λ (told : Option (List ℕ)). HoldsPrefix told (g.O.Outside.holds c.transfer.new.outside Log) (log_text c.args.input.connection c.args.input.file_a.items)) c.in_ok-bind_readers.ensures.log
     (HoldsPrefix-then _ _ _ (opening_lines c.args.input.connection) (sending_text c.args.input.connection c.args.input.file_a.items) c.in_ok-opened.ensures.log
     (subst (λ (xs : List ℕ). HoldsPrefix (g.O.Outside.holds c.open_path.new.outside Log) (g.O.Outside.holds c.transfer.new.outside Log) xs) same sent)))
-    c.transfer.ensures.log_front
+    c.transfer.ensures.log_prefix

@@ -16,22 +16,22 @@ loop-index-init g c = record {
   load_counts = refl;
 }
 
-pub returns-in_err-send_piece-clause-read_front : goal.returns-in_err-send_piece-clause-read_front
-returns-in_err-send_piece-clause-read_front g c =
+pub returns-in_err-send_piece-clause-read_prefix : goal.returns-in_err-send_piece-clause-read_prefix
+returns-in_err-send_piece-clause-read_prefix g c =
     let sent = c.loop-index.invariant in
     let inside : c.loop-index._index < div_ceil (length c.args.pipe.now.written) c.args.size =
     subst (λ (n : ℕ). c.loop-index._index < n) (c.div_ceil-count.ensures ∙ ap (λ n. div_ceil n c.args.size) c.len.ensures) c.loop-index-test.true in
     let whole = next_read_is c.args.pipe.now c.loop-index.pipe c.args.size c.loop-index._index c.requires.closed.least inside sent.pipe in
-    OnErr-holds _ _ (HoldsPrefix-grown _ _ _ _ _ _ sent.read_by_b c.in_err-send_piece.ensures.read_front
+    OnErr-holds _ _ (HoldsPrefix-grown _ _ _ _ _ _ sent.read_by_b c.in_err-send_piece.ensures.read_prefix
     (subst (λ (xs : List ℕ). IsPrefix xs c.args.pipe.now.written) (sym whole) (IsPrefix-take _ c.args.pipe.now.written)))
 
-pub returns-in_err-send_piece-clause-log_front : goal.returns-in_err-send_piece-clause-log_front
-returns-in_err-send_piece-clause-log_front g c =
+pub returns-in_err-send_piece-clause-log_prefix : goal.returns-in_err-send_piece-clause-log_prefix
+returns-in_err-send_piece-clause-log_prefix g c =
     let sent = c.loop-index.invariant in
     let inside : c.loop-index._index < div_ceil (length c.args.pipe.now.written) c.args.size =
     subst (λ (n : ℕ). c.loop-index._index < n) (c.div_ceil-count.ensures ∙ ap (λ n. div_ceil n c.args.size) c.len.ensures) c.loop-index-test.true in
     let whole = next_lines_are c.args.opened.now.sender c.args.pipe.now c.loop-index.pipe c.args.size c.loop-index._index c.requires.closed.least inside sent.pipe in
-    OnErr-holds _ _ (HoldsPrefix-grown _ _ _ _ _ _ sent.log c.in_err-send_piece.ensures.log_front
+    OnErr-holds _ _ (HoldsPrefix-grown _ _ _ _ _ _ sent.log c.in_err-send_piece.ensures.log_prefix
     (subst (λ (xs : List ℕ). IsPrefix xs (all_lines c.args.opened.now.sender c.args.size c.args.pipe.now.written)) (sym whole)
     (first_lines-IsPrefix c.args.opened.now.sender c.args.size c.args.pipe.now.written (c.loop-index._index + 1) (div_ceil (length c.args.pipe.now.written) c.args.size) (omega (arith, inside)))))
 

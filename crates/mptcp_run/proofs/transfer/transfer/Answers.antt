@@ -13,8 +13,8 @@ returns-clause-log g c =
     ∙ ap (λ (p : Pipe). all_lines c.args.opened.now.sender (payload_of c.args.opened.now.sender.settings) p.written ++ codes "outcome delivered\n") c.in_ok-pipe.ensures.ok in
     on_ok_weaker c.put.result (λ put. HoldsAfter-append _ _ _ _ _ _ c.in_ok-send_pieces.ensures.log put whole) c.put.ensures.ok
 
-pub returns-clause-log_front : goal.returns-clause-log_front
-returns-clause-log_front g c =
+pub returns-clause-log_prefix : goal.returns-clause-log_prefix
+returns-clause-log_prefix g c =
     let whole : all_lines c.args.opened.now.sender c.payload-size.result c.in_ok-pipe.pipe.written ++ codes "outcome delivered\n" ≡ sending_text c.args.opened.now.sender c.args.file.items =
     ap (λ (n : ℕ). all_lines c.args.opened.now.sender n c.in_ok-pipe.pipe.written ++ codes "outcome delivered\n") c.payload-size.ensures
     ∙ ap (λ (p : Pipe). all_lines c.args.opened.now.sender (payload_of c.args.opened.now.sender.settings) p.written ++ codes "outcome delivered\n") c.in_ok-pipe.ensures.ok in

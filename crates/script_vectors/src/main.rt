@@ -1,0 +1,98 @@
+//! Cases of scripts: reads one a line from standard input, and prints what `link_script` answers.
+//!
+//! A line that begins with `#` is printed as it stands. Any other line is a case, in which `;` stands for LF: after
+//! the word `text` a whole script, after the word `lines` what stands between the first line and `end`. It is printed
+//! again behind the answer, which is `ok`, or the first refused line and the kind of its fault. The script that an
+//! accepted text says is written by `text`, and printed on a line of its own.
+#![tactic(auto)]
+
+use link_script::{ScriptFault, parse, text};
+use std::alloc::{AllocError, Global};
+use std::io;
+
+/// What a case asks.
+enum Case<'a> {
+    /// A line to be printed as it stands.
+    Comment,
+    /// A whole script.
+    Text(&'a str),
+    /// What stands between the first line of a script and its last.
+    Lines(&'a str),
+}
+
+impl<'a> Case<'a> {
+    /// The case that a line of standard input tells, if it is in form.
+    fn read(line: &'a str) -> Option<Self> {
+        if line.starts_with("#") {
+            return Some(Case::Comment);
+        }
+        match line.split_once(" ") {
+            Some(("text", script)) => Some(Case::Text(script)),
+            Some(("lines", lines)) => Some(Case::Lines(lines)),
+            _ => None,
+        }
+    }
+}
+
+/// A text with LF for each `;`.
+fn with_line_ends(alloc: Global, case: &str) -> Result<String, AllocError> {
+    let mut script = String::new(alloc);
+    for (place, line) in case.split(';').enumerate() {
+        if place > 0 {
+            script.push('\n')?;
+        }
+        script.push_str(line)?;
+    }
+    Ok(script)
+}
+
+/// A text with `;` for each LF but the last.
+fn without_line_ends(alloc: Global, script: &[u8]) -> Result<String, AllocError> {
+    let mut case = String::new(alloc);
+    for (place, line) in String::from_utf8_lossy(alloc, script)?.lines().enumerate() {
+        if place > 0 {
+            case.push(';')?;
+        }
+        case.push_str(line)?;
+    }
+    Ok(case)
+}
+
+/// What `parse` answers to a script, and `text` to what it says.
+fn answer(alloc: Global, line: &str, script: &str) -> Result<String, AllocError> {
+    match parse(alloc, script.as_bytes()) {
+        Ok(read) => {
+            let written = without_line_ends(alloc, &text(alloc, &read)?)?;
+            format!(in alloc; "ok: {line}\n    {written}")
+        }
+        Err(ScriptFault::Line { line: number, kind }) => {
+            format!(in alloc; "{number} {kind}: {line}")
+        }
+        Err(ScriptFault::Memory) => Err(AllocError),
+    }
+}
+
+/// What is printed for a line of standard input.
+fn respond(alloc: Global, line: &str) -> Result<String, AllocError> {
+    match Case::read(line) {
+        Some(Case::Comment) => String::from_str(alloc, line),
+        Some(Case::Text(script)) => answer(alloc, line, &with_line_ends(alloc, script)?),
+        Some(Case::Lines(lines)) => {
+            let between = with_line_ends(alloc, lines)?;
+            answer(
+                alloc,
+                line,
+                &format!(in alloc; "mptcp-script 1\n{between}\nend\n")?,
+            )
+        }
+        None => format!(in alloc; "no case: {line}"),
+    }
+}
+
+fn main(rt: HostRuntime) -> io::Result<()> {
+    for line in rt.lines(rt.alloc()) {
+        let printed = respond(rt.alloc(), line?.as_str())?;
+        println!(rt; "{printed}")?;
+    }
+    Ok(())
+}
