@@ -1,3 +1,4 @@
+pub mod Faults
 pub mod Heard
 pub mod Said
 pub mod Laws
