@@ -1,0 +1,85 @@
+//! The fields of a case.
+
+use std::alloc::{AllocError, Global};
+use std::str::FromStr;
+
+/// Why a line has no answer.
+#[derive(Clone, Copy, Debug, PartialEq, Eq)]
+pub enum CaseFault {
+    /// The line is no case: an unknown name, a field too few, or one out of its form or range.
+    Form,
+    /// Out of memory.
+    Memory,
+}
+
+impl From<AllocError> for CaseFault {
+    fn from(_: AllocError) -> Self {
+        CaseFault::Memory
+    }
+}
+
+/// The word at a place of the fields.
+pub fn word_at<'a>(fields: &[&'a str], place: usize) -> Result<&'a str, CaseFault> {
+    match fields.get(place) {
+        Some(word) => Ok(*word),
+        None => Err(CaseFault::Form),
+    }
+}
+
+/// The octets at a place of the fields: two hexadecimal digits each, or `-` for none.
+pub fn octets_at(alloc: Global, fields: &[&str], place: usize) -> Result<Vec<u8>, CaseFault> {
+    let word = word_at(fields, place)?;
+    if word == "-" {
+        return Ok(Vec::new(alloc));
+    }
+    match hex::decode(alloc, word) {
+        Ok(octets) => Ok(octets),
+        Err(hex::FromHexError::OutOfMemory) => Err(CaseFault::Memory),
+        Err(_) => Err(CaseFault::Form),
+    }
+}
+
+/// The hexadecimal digits of octets, or `-` where there are none.
+pub fn digits(alloc: Global, octets: &[u8]) -> Result<String, AllocError> {
+    if octets.is_empty() {
+        return format!(in alloc; "-");
+    }
+    hex::encode(alloc, octets)
+}
+
+/// Four octets at a place of the fields.
+pub fn four_at(alloc: Global, fields: &[&str], place: usize) -> Result<[u8; 4], CaseFault> {
+    let octets = octets_at(alloc, fields, place)?;
+    match octets.as_slice() {
+        [first, second, third, fourth] => Ok([*first, *second, *third, *fourth]),
+        _ => Err(CaseFault::Form),
+    }
+}
+
+pub fn u64_at(fields: &[&str], place: usize) -> Result<u64, CaseFault> {
+    match u64::from_str(word_at(fields, place)?) {
+        Ok(number) => Ok(number),
+        Err(_) => Err(CaseFault::Form),
+    }
+}
+
+pub fn u32_at(fields: &[&str], place: usize) -> Result<u32, CaseFault> {
+    match u32::from_str(word_at(fields, place)?) {
+        Ok(number) => Ok(number),
+        Err(_) => Err(CaseFault::Form),
+    }
+}
+
+pub fn u16_at(fields: &[&str], place: usize) -> Result<u16, CaseFault> {
+    match u16::from_str(word_at(fields, place)?) {
+        Ok(number) => Ok(number),
+        Err(_) => Err(CaseFault::Form),
+    }
+}
+
+pub fn u8_at(fields: &[&str], place: usize) -> Result<u8, CaseFault> {
+    match u8::from_str(word_at(fields, place)?) {
+        Ok(number) => Ok(number),
+        Err(_) => Err(CaseFault::Form),
+    }
+}

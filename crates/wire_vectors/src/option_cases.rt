@@ -1,0 +1,40 @@
+//! `option OCTETS`: what `mptcp_options::read` answers, and for an option that is known the octets that `write` makes
+//! of it. Where that depends on whether checksums are used, first the answer without them, and behind ` / ` with them.
+
+ghost use Rattle.std.specs.Prelude.{◌≤◌, length};
+
+use crate::case::{CaseFault, digits, octets_at};
+use mptcp_options::{Read, read, write};
+use pipe_model::Text;
+use std::alloc::{AllocError, Global};
+
+/// The most octets that the options of a segment have.
+const LONGEST: usize = 40;
+
+pub fn option(alloc: Global, fields: &[&str]) -> Result<String, CaseFault> {
+    let octets = octets_at(alloc, fields, 0)?;
+    if octets.len() > LONGEST {
+        return Err(CaseFault::Form);
+    }
+    let without = read_and_written(alloc, octets.as_slice(), false)?;
+    let with = read_and_written(alloc, octets.as_slice(), true)?;
+    if without == with {
+        return Ok(without);
+    }
+    Ok(format!(in alloc; "{without} / {with}")?)
+}
+
+fn read_and_written(alloc: Global, octets: &[u8], checksum: bool) -> Result<String, AllocError>
+    requires { length octets.now ≤ 40 }
+{
+    match read(octets, checksum) {
+        Read::Known(option) => {
+            let mut text = Text::new(alloc);
+            write(&option, checksum, &mut text)?;
+            let again = digits(alloc, text.as_bytes())?;
+            format!(in alloc; "{option:?} {again}")
+        }
+        Read::Unknown => format!(in alloc; "Unknown"),
+        Read::Malformed => format!(in alloc; "Malformed"),
+    }
+}
