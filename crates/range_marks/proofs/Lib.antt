@@ -1,0 +1,5 @@
+pub mod SideBySide
+pub mod Told
+pub mod Cutting
+pub mod Parts
+pub mod MarkLaws
