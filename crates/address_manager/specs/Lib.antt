@@ -1,0 +1,4 @@
+pub mod IdSet
+pub mod SameAddress
+pub mod Addresses
+pub mod Steps

@@ -1,0 +1,2 @@
+pub mod DataFin
+pub mod Closing

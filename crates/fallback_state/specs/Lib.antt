@@ -1,0 +1,4 @@
+pub mod Fall
+pub mod Modes
+pub mod Table
+pub mod Laws
