@@ -1,6 +1,6 @@
 -- What ports hold over several puts.
 use Rattle.std.proofs.Common.{◌≡◌, refl, sym, ◌∙◌, ap, ℕ, ◌+◌, min, length, List, [], ◌++◌, take, drop, Option, Some, None, append_assoc, subst, inl, inr, ◌∷◌, Result, Ok, Err, OnErr, IfSome, arith}
-use Rattle.std.proofs.Math.Seq.{take-append-add, take-nil}
+use Rattle.std.proofs.Math.Seq.{take-append-add, take-nil, take-length}
 use Rattle.std.proofs.lemmas.List.{append-nil, take-append-drop, take-append-le, take_min}
 use Rattle.pipe_model.specs.Prefix.{IsPrefix}
 use Rattle.outside_kit.specs.Outside.{HoldsAfter, HoldsPrefix}
@@ -78,3 +78,8 @@ HoldsPrefix-unchanged (Some held) b text e = (0, e ∙ ap (λ xs. Some xs) (sym 
 pub IfSome-each : {T : Type 0} (o : Option T) (P : T → Type 0) → ((x : T) → P x) → IfSome o P
 IfSome-each None P h = tt
 IfSome-each (Some x) P h = h x
+
+-- a text that was put whole is a prefix of itself
+pub HoldsPrefix-whole : (a b c : Option (List ℕ)) (text : List ℕ) → HoldsAfter a b (λ held. held ++ text) → c ≡ b → HoldsPrefix a c text
+HoldsPrefix-whole None b c text h e = tt
+HoldsPrefix-whole (Some held) b c text h e = (length text, e ∙ h ∙ ap (λ xs. Some (held ++ xs)) (sym (take-length text)))
