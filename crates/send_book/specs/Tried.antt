@@ -1,0 +1,14 @@
+-- A set of paths, as a truth value for each path from path 0 on.
+use Rattle.std.specs.Prelude.{ℕ, zero, suc, Bool, true, false, List, [], ◌∷◌, replicate, slice_index_or}
+
+abbrev pub no_paths : List Bool
+no_paths = replicate 16 false
+
+abbrev pub contains : ℕ → List Bool → Bool
+contains path paths = slice_index_or paths path false
+
+abbrev pub insert : ℕ → List Bool → List Bool
+insert zero [] = true ∷ []
+insert zero (first ∷ paths) = true ∷ paths
+insert (suc path) [] = false ∷ insert path []
+insert (suc path) (first ∷ paths) = first ∷ insert path paths
