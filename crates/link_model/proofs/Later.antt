@@ -1,0 +1,36 @@
+-- Copies arrive later than they are sent.
+use Rattle.std.proofs.Common.{◌≡◌, refl, ℕ, ◌+◌, ◌<◌, ◌≤◌, Bool, true, false, cond, List, [], ◌∷◌, arith}
+use Rattle.std.specs.List.{AllByRecursion}
+use Rattle.outside_kit.specs.declared.side.Side.{Side}
+use Rattle.outside_kit.specs.declared.side.Side.TheVariants.{A, B}
+use Rattle.link_model.specs.declared.fate.Fate.{Fate}
+use Rattle.link_model.specs.declared.fate.Fate.TheVariants.{OnTime, Lost, Late, Twice}
+use Rattle.link_model.specs.declared.flight.Flight.{Flight}
+use Rattle.link_model.specs.State.{LinkState}
+use Rattle.link_model.specs.Steps.{comes_before, with_flight, with_flights, arrivals, after_send}
+
+all_with : {C : Type 0} (P : Flight C → Type 0) (f : Flight C) (flights : List (Flight C)) → P f → AllByRecursion P flights → AllByRecursion P (with_flight f flights)
+all_with P f [] here all = (here, tt)
+all_with P f (g ∷ flights) here all = by (comes_before f g) (all_with P f flights here all.1)
+  where
+    by : (b : Bool) → AllByRecursion P (with_flight f flights) → AllByRecursion P (cond b (f ∷ g ∷ flights) (g ∷ with_flight f flights))
+    by true rest = (here, all)
+    by false rest = (all.0, rest)
+
+all_launched : {C : Type 0} (P : Flight C → Type 0) (now : ℕ) (to : Side) (number : ℕ) (carried : C) (ticks : List ℕ) (flights : List (Flight C))
+    → ((f : Flight C) → now < f.tick → P f) → AllByRecursion (λ tick. now < tick) ticks → AllByRecursion P flights
+    → AllByRecursion P (with_flights to number carried ticks flights)
+all_launched P now to number carried [] flights later low all = all
+all_launched P now to number carried (tick ∷ ticks) flights later low all =
+    all_launched P now to number carried ticks _ later low.1 (all_with P _ flights (later _ low.0) all)
+
+arrive_later : (fate : Fate) (now delay : ℕ) → 1 ≤ delay → AllByRecursion (λ tick. now < tick) (arrivals fate (now + delay))
+arrive_later OnTime now delay some = (omega (arith, some), tt)
+arrive_later Lost now delay some = tt
+arrive_later (Late ticks) now delay some = (omega (arith, some), tt)
+arrive_later (Twice ticks) now delay some = (omega (arith, some), (omega (arith, some), tt))
+
+pub sent_later : {C : Type 0} (P : Flight C → Type 0) (strip alter : Side → C → C) (from : Side) (carried : C) (now : ℕ) (link : LinkState C) → 1 ≤ link.delay
+    → AllByRecursion P link.under_way → ((f : Flight C) → now < f.tick → P f) → AllByRecursion P (after_send strip alter from carried now link).under_way
+sent_later P strip alter A carried now link some all later = all_launched P now B _ _ (arrivals _ _) link.under_way later (arrive_later _ now link.delay some) all
+sent_later P strip alter B carried now link some all later = all_launched P now A _ _ (arrivals _ _) link.under_way later (arrive_later _ now link.delay some) all

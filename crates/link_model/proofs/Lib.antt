@@ -1,0 +1,8 @@
+mod Fates
+mod Found
+mod Ranges
+mod Placing
+pub mod Order
+pub mod Later
+pub mod Shown
+pub mod Plain

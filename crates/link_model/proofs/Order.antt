@@ -1,0 +1,128 @@
+-- Copies are kept in the order of their arrival.
+use Rattle.std.proofs.Common.{◌≡◌, ◌∙◌, refl, sym, ap, ℕ, zero, suc, ◌+◌, ◌<◌, ◌≤◌, ◌⊎◌, inl, inr, Bool, true, false, cond, ltb, eqb, List, [], ◌∷◌, ◌++◌, length, take, drop, remove, Option, Some, None, arith}
+use Rattle.std.specs.Prelude.{nat_lt, ◌==◌, ◌&&◌, ◌||◌, position}
+use Rattle.std.specs.List.{AllByRecursion}
+use Rattle.std.proofs.lemmas.Bool.{cases_lt}
+use Rattle.outside_kit.specs.declared.side.Side.{Side}
+use Rattle.outside_kit.specs.declared.side.Side.TheVariants.{A, B}
+use Rattle.link_model.specs.declared.flight.Flight.{Flight}
+use Rattle.link_model.specs.declared.flight.Due.{Due}
+use Rattle.link_model.specs.Fate.{fate_of, is_stripped, is_altered}
+use Rattle.link_model.specs.State.{LinkState}
+use Rattle.link_model.specs.Steps.{rank, comes_before, with_flight, with_flights, arrivals, changed, peer, next_number, after_send, after_delivery, after_cut, without, is_due}
+use Rattle.link_model.specs.Laws.{IsFirst, AreInOrder}
+
+-- ---- the order by three numbers
+
+abbrev before : ℕ → ℕ → ℕ → ℕ → ℕ → ℕ → Bool
+before a b c x y z = nat_lt a x || (a == x && (nat_lt b y || (b == y && nat_lt c z)))
+
+abbrev Less : ℕ → ℕ → ℕ → ℕ → ℕ → ℕ → Type 0
+Less a b c x y z = (a < x) ⊎ ((a ≡ x) × ((b < y) ⊎ ((b ≡ y) × (c < z))))
+
+less_second : (b c y z : ℕ) → (nat_lt b y || (b == y && nat_lt c z)) ≡ true → (b < y) ⊎ (y ≤ b) → (b < y) ⊎ ((b ≡ y) × (c < z))
+less_second b c y z h (inl low) = inl low
+less_second b c y z h (inr high) = inr (grind (arith, h, high), grind (arith, h, high))
+
+less_first : (a b c x y z : ℕ) → before a b c x y z ≡ true → (a < x) ⊎ (x ≤ a) → Less a b c x y z
+less_first a b c x y z h (inl low) = inl low
+less_first a b c x y z h (inr high) =
+    let same : a ≡ x = grind (arith, h, high) in
+    let rest : (nat_lt b y || (b == y && nat_lt c z)) ≡ true = grind (arith, h, high) in
+    inr (same, less_second b c y z rest (cases_lt b y))
+
+less_is : (a b c x y z : ℕ) → before a b c x y z ≡ true → Less a b c x y z
+less_is a b c x y z h = less_first a b c x y z h (cases_lt a x)
+
+-- two orders of three numbers that can't both be
+crossed : (a b c x y z k l m : ℕ) → Less a b c x y z → Less k l m a b c → Less k l m x y z
+crossed a b c x y z k l m (inl f) (inl g) = inl (omega (arith, f, g))
+crossed a b c x y z k l m (inl f) (inr g) = inl (omega (arith, f, g.0))
+crossed a b c x y z k l m (inr f) (inl g) = inl (omega (arith, f.0, g))
+crossed a b c x y z k l m (inr f) (inr g) = inr (omega (arith, f.0, g.0), within f.1 g.1)
+  where
+    within : (b < y) ⊎ ((b ≡ y) × (c < z)) → (l < b) ⊎ ((l ≡ b) × (m < c)) → (l < y) ⊎ ((l ≡ y) × (m < z))
+    within (inl p) (inl q) = inl (omega (arith, p, q))
+    within (inl p) (inr q) = inl (omega (arith, p, q.0))
+    within (inr p) (inl q) = inl (omega (arith, p.0, q))
+    within (inr p) (inr q) = inr (omega (arith, p.0, q.0), omega (arith, p.1, q.1))
+
+less_before : (a b c x y z : ℕ) → Less a b c x y z → before a b c x y z ≡ true
+less_before a b c x y z (inl low) = grind (arith, low)
+less_before a b c x y z (inr (same, inl low)) = grind (arith, same, low)
+less_before a b c x y z (inr (same, inr (equal, low))) = grind (arith, same, equal, low)
+
+-- what doesn't come before a later one doesn't come before an earlier one
+before_later : (a b c x y z k l m : ℕ) → before a b c x y z ≡ true → before k l m x y z ≡ false → before k l m a b c ≡ false
+before_later a b c x y z k l m first not = by _ refl
+  where
+    by : (t : Bool) → before k l m a b c ≡ t → t ≡ false
+    by false e = refl
+    by true e =
+        let no : true ≡ false = sym (less_before k l m x y z (crossed a b c x y z k l m (less_is a b c x y z first) (less_is k l m a b c e))) ∙ not in
+        no
+
+pub before_once : (a b c x y z : ℕ) → before a b c x y z ≡ true → before x y z a b c ≡ false
+before_once a b c x y z first = before_later a b c x y z x y z first (itself x y z)
+  where
+    itself : (x y z : ℕ) → before x y z x y z ≡ false
+    itself x y z = grind arith
+
+-- ---- copies
+
+first_with : {C : Type 0} (h f : Flight C) (flights : List (Flight C)) → comes_before f h ≡ false → IsFirst h flights → IsFirst h (with_flight f flights)
+first_with h f [] not first = (not, tt)
+first_with h f (g ∷ flights) not first = by (comes_before f g) (first_with h f flights not first.1)
+  where
+    by : (b : Bool) → IsFirst h (with_flight f flights) → IsFirst h (cond b (f ∷ g ∷ flights) (g ∷ with_flight f flights))
+    by true rest = (not, first)
+    by false rest = (first.0, rest)
+
+pub first_before : {C : Type 0} (f g : Flight C) (flights : List (Flight C)) → comes_before f g ≡ true → IsFirst g flights → IsFirst f flights
+first_before f g [] low first = tt
+first_before f g (h ∷ flights) low first =
+    (before_later f.tick (rank f.to) f.number g.tick (rank g.to) g.number h.tick (rank h.to) h.number low first.0, first_before f g flights low first.1)
+
+pub in_order_with : {C : Type 0} (f : Flight C) (flights : List (Flight C)) → AreInOrder flights → AreInOrder (with_flight f flights)
+in_order_with f [] order = (tt, tt)
+in_order_with f (g ∷ flights) order = by (comes_before f g) refl (in_order_with f flights order.1)
+  where
+    by : (b : Bool) → comes_before f g ≡ b → AreInOrder (with_flight f flights) → AreInOrder (cond b (f ∷ g ∷ flights) (g ∷ with_flight f flights))
+    by true e rest = ((before_once f.tick (rank f.to) f.number g.tick (rank g.to) g.number e, first_before f g flights e order.0), order)
+    by false e rest = (first_with g f flights e order.0, rest)
+
+in_order_all : {C : Type 0} (to : Side) (number : ℕ) (carried : C) (ticks : List ℕ) (flights : List (Flight C)) → AreInOrder flights
+    → AreInOrder (with_flights to number carried ticks flights)
+in_order_all to number carried [] flights order = order
+in_order_all to number carried (tick ∷ ticks) flights order = in_order_all to number carried ticks _ (in_order_with _ flights order)
+
+pub in_order_sent : {C : Type 0} (strip alter : Side → C → C) (from : Side) (carried : C) (now : ℕ) (link : LinkState C) → AreInOrder link.under_way
+    → AreInOrder (after_send strip alter from carried now link).under_way
+in_order_sent strip alter A carried now link order = in_order_all B _ _ (arrivals _ _) link.under_way order
+in_order_sent strip alter B carried now link order = in_order_all A _ _ (arrivals _ _) link.under_way order
+
+first_removed : {C : Type 0} (h : Flight C) (flights : List (Flight C)) (i : ℕ) → IsFirst h flights → IsFirst h (remove flights i)
+first_removed h [] zero first = tt
+first_removed h [] (suc i) first = tt
+first_removed h (f ∷ flights) zero first = first.1
+first_removed h (f ∷ flights) (suc i) first = (first.0, first_removed h flights i first.1)
+
+in_order_removed : {C : Type 0} (flights : List (Flight C)) (i : ℕ) → AreInOrder flights → AreInOrder (remove flights i)
+in_order_removed [] zero order = tt
+in_order_removed [] (suc i) order = tt
+in_order_removed (f ∷ flights) zero order = order.1
+in_order_removed (f ∷ flights) (suc i) order = (first_removed f flights i order.0, in_order_removed flights i order.1)
+
+pub in_order_delivered : {C : Type 0} (due : Due) (link : LinkState C) → AreInOrder link.under_way → AreInOrder (after_delivery due link).under_way
+in_order_delivered due link order = by (position (is_due due) link.under_way)
+  where
+    by : (o : Option ℕ) → AreInOrder (without o link.under_way)
+    by None = order
+    by (Some i) = in_order_removed link.under_way i order
+
+pub before_is : (a b c x y z : ℕ) → a ≤ x → b ≡ y → c < z → before a b c x y z ≡ true
+before_is a b c x y z tick rank number = by (cases_lt a x)
+  where
+    by : (a < x) ⊎ (x ≤ a) → before a b c x y z ≡ true
+    by (inl low) = less_before a b c x y z (inl low)
+    by (inr high) = less_before a b c x y z (inr (omega (arith, tick, high), inr (rank, number)))

@@ -1,0 +1,110 @@
+-- A direction of which no line speaks: its copies are in order of sending, each due a delay after it was sent.
+use Rattle.std.proofs.Common.{◌≡◌, ◌∙◌, refl, sym, ap, ℕ, zero, suc, ◌+◌, ◌<◌, ◌≤◌, Bool, true, false, ◌&&◌, cond, List, [], ◌∷◌, ◌++◌, filter, Option, Some, None, subst, arith}
+use Rattle.std.specs.List.{AllByRecursion}
+use Rattle.outside_kit.specs.declared.side.Side.{Side}
+use Rattle.outside_kit.specs.declared.side.Side.TheVariants.{A, B}
+use Rattle.link_script.specs.declared.script.ScriptLine.{ScriptLine}
+use Rattle.link_script.specs.declared.script.ScriptLine.TheVariants.{Drop, Strip, Alter, Dup, Late, StripAll, Die, Prio, Add, Remove, FastClose}
+use Rattle.link_script.specs.Places.{same_side}
+use Rattle.link_model.specs.declared.fate.Fate.{Fate}
+use Rattle.link_model.specs.declared.fate.Fate.TheVariants as fate
+use Rattle.link_model.specs.declared.flight.Flight.{Flight}
+use Rattle.link_model.specs.Fate.{is_named, fate_told, told_if, told_or, fate_of, is_stripped, is_altered}
+use Rattle.link_model.specs.State.{LinkState}
+use Rattle.link_model.specs.Steps.{rank, comes_before, with_flight, with_flights, arrivals, changed, peer, next_number, after_send}
+use Rattle.link_model.specs.Laws.{IsFirst, AreInOrder, moves, going_to, WereSentBefore, plain_flight}
+use Rattle.link_model.proofs.Order.{first_before, before_is, before_once}
+
+told_nothing : (b named : Bool) (f : Fate) → b ≡ false → told_if (b && named) f ≡ None
+told_nothing b named f e = ap (λ (t : Bool). told_if (t && named) f) e
+
+none_told : (from : Side) (number : ℕ) (line : ScriptLine) → moves from line ≡ false → fate_told from number line ≡ None
+none_told from number (Drop path side named) e = told_nothing (same_side side from) _ fate.Lost e
+none_told from number (Late path side named ticks) e = told_nothing (same_side side from) _ (fate.Late ticks) e
+none_told from number (Dup path side named ticks) e = told_nothing (same_side side from) _ (fate.Twice ticks) e
+none_told from number line e = refl
+
+pub on_time : (from : Side) (number : ℕ) (lines : List ScriptLine) → AllByRecursion (λ line. moves from line ≡ false) lines → fate_of from number lines ≡ fate.OnTime
+on_time from number [] plain = refl
+on_time from number (line ∷ lines) plain =
+    ap (λ (t : Option Fate). told_or t (fate_of from number lines)) (none_told from number line plain.0) ∙ on_time from number lines plain.1
+
+side_is : (a b : Side) → same_side a b ≡ true → a ≡ b
+side_is A A e = refl
+side_is B B e = refl
+side_is A B e = absurd cc
+side_is B A e = absurd cc
+
+same_as_itself : (a : Side) → same_side a a ≡ true
+same_as_itself A = refl
+same_as_itself B = refl
+
+-- a copy with these numbers arrives before that one
+sent_before : {C : Type 0} (k f : Flight C) → k.to ≡ f.to → k.tick ≤ f.tick → k.number < f.number → comes_before k f ≡ true
+sent_before k f to tick number = before_is k.tick (rank k.to) k.number f.tick (rank f.to) f.number tick (ap rank to) number
+
+none_going : {C : Type 0} (f : Flight C) (flights : List (Flight C)) → IsFirst f flights → WereSentBefore f.number f.tick (going_to f.to flights) → going_to f.to flights ≡ []
+none_going f [] first sent = refl
+none_going f (k ∷ flights) first sent = by (same_side k.to f.to) refl sent (none_going f flights first.1)
+  where
+    by : (b : Bool) → same_side k.to f.to ≡ b → WereSentBefore f.number f.tick (cond b (k ∷ going_to f.to flights) (going_to f.to flights))
+        → (WereSentBefore f.number f.tick (going_to f.to flights) → going_to f.to flights ≡ []) → cond b (k ∷ going_to f.to flights) (going_to f.to flights) ≡ []
+    by true e sent rest =
+        let earlier : true ≡ false = sym (sent_before k f (side_is k.to f.to e) sent.0.0 sent.0.1) ∙ first.0 in
+        absurd cc
+    by false e sent rest = rest sent
+
+goes_last : {C : Type 0} (f : Flight C) (flights : List (Flight C)) → AreInOrder flights → WereSentBefore f.number f.tick (going_to f.to flights)
+    → going_to f.to (with_flight f flights) ≡ going_to f.to flights ++ f ∷ []
+goes_last f [] order sent = ap (λ (b : Bool). cond b (f ∷ []) []) (same_as_itself f.to)
+goes_last f (g ∷ flights) order sent = by (comes_before f g) refl (same_side g.to f.to) refl (goes_last f flights order.1)
+  where
+    rest_sent : (b : Bool) → WereSentBefore f.number f.tick (cond b (g ∷ going_to f.to flights) (going_to f.to flights)) → WereSentBefore f.number f.tick (going_to f.to flights)
+    rest_sent true sent = sent.1
+    rest_sent false sent = sent
+
+    more : (t : Bool) → going_to f.to (with_flight f flights) ≡ going_to f.to flights ++ f ∷ []
+        → cond t (g ∷ going_to f.to (with_flight f flights)) (going_to f.to (with_flight f flights)) ≡ cond t (g ∷ going_to f.to flights) (going_to f.to flights) ++ f ∷ []
+    more true e = ap (λ rest. g ∷ rest) e
+    more false e = e
+
+    by : (b : Bool) → comes_before f g ≡ b → (t : Bool) → same_side g.to f.to ≡ t
+        → (WereSentBefore f.number f.tick (going_to f.to flights) → going_to f.to (with_flight f flights) ≡ going_to f.to flights ++ f ∷ [])
+        → going_to f.to (cond b (f ∷ g ∷ flights) (g ∷ with_flight f flights)) ≡ going_to f.to (g ∷ flights) ++ f ∷ []
+    by true e t s rest =
+        let none : going_to f.to (g ∷ flights) ≡ [] = none_going f (g ∷ flights) (before_once f.tick (rank f.to) f.number g.tick (rank g.to) g.number e, first_before f g flights e order.0) sent in
+        ap (λ (b : Bool). cond b (f ∷ going_to f.to (g ∷ flights)) (going_to f.to (g ∷ flights))) (same_as_itself f.to)
+        ∙ ap (λ gs. f ∷ gs) none ∙ ap (λ gs. gs ++ f ∷ []) (sym none)
+    by false e t s rest = more (same_side g.to f.to) (rest (rest_sent (same_side g.to f.to) sent))
+
+-- the next segment of such a direction is one copy behind the others of it
+pub sent_last : {C : Type 0} (strip alter : Side → C → C) (from : Side) (carried : C) (now : ℕ) (link : LinkState C)
+    → AllByRecursion (λ line. moves from line ≡ false) link.lines → AreInOrder link.under_way
+    → WereSentBefore (next_number from link) (now + link.delay) (going_to (peer from) link.under_way)
+    → going_to (peer from) (after_send strip alter from carried now link).under_way
+    ≡ going_to (peer from) link.under_way ++ plain_flight strip alter from carried now link ∷ []
+sent_last strip alter A carried now link plain order sent =
+    rw (on_time A (next_number A link) link.lines plain) (goes_last (plain_flight strip alter A carried now link) link.under_way order sent)
+sent_last strip alter B carried now link plain order sent =
+    rw (on_time B (next_number B link) link.lines plain) (goes_last (plain_flight strip alter B carried now link) link.under_way order sent)
+
+all_push : {X : Type 0} (P : X → Type 0) (xs : List X) (x : X) → AllByRecursion P xs → P x → AllByRecursion P (xs ++ x ∷ [])
+all_push P [] x all here = (here, tt)
+all_push P (y ∷ xs) x all here = (all.0, all_push P xs x all.1 here)
+
+still_before : {C : Type 0} (number more tick later : ℕ) (flights : List (Flight C)) → number ≤ more → tick ≤ later → WereSentBefore number tick flights → WereSentBefore more later flights
+still_before number more tick later [] n t sent = tt
+still_before number more tick later (f ∷ flights) n t sent =
+    ((omega (arith, sent.0.0, t), omega (arith, sent.0.1, n)), still_before number more tick later flights n t sent.1)
+
+-- and so it goes on
+pub sent_before_next : {C : Type 0} (strip alter : Side → C → C) (from : Side) (carried : C) (now later : ℕ) (link : LinkState C)
+    → AllByRecursion (λ line. moves from line ≡ false) link.lines → AreInOrder link.under_way → now ≤ later
+    → WereSentBefore (next_number from link) (now + link.delay) (going_to (peer from) link.under_way)
+    → WereSentBefore (next_number from (after_send strip alter from carried now link)) (later + link.delay) (going_to (peer from) (after_send strip alter from carried now link).under_way)
+sent_before_next strip alter A carried now later link plain order low sent =
+    subst (WereSentBefore (next_number A link + 1) (later + link.delay)) (sym (sent_last strip alter A carried now link plain order sent))
+    (all_push _ _ (plain_flight strip alter A carried now link) (still_before (next_number A link) (next_number A link + 1) (now + link.delay) (later + link.delay) _ (omega arith) (omega (arith, low)) sent) (omega (arith, low), omega arith))
+sent_before_next strip alter B carried now later link plain order low sent =
+    subst (WereSentBefore (next_number B link + 1) (later + link.delay)) (sym (sent_last strip alter B carried now link plain order sent))
+    (all_push _ _ (plain_flight strip alter B carried now link) (still_before (next_number B link) (next_number B link + 1) (now + link.delay) (later + link.delay) _ (omega arith) (omega (arith, low)) sent) (omega (arith, low), omega arith))

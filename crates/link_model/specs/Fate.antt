@@ -1,0 +1,57 @@
+-- What the lines of a link's script say of the segment of one number from one side. Segments count from 1 in each
+-- direction.
+use Rattle.std.specs.Prelude.{ℕ, Bool, false, ◌&&◌, ◌==◌, nat_le, if◌then◌else◌, List, [], ◌∷◌, Option, Some, None}
+use Rattle.std.specs.List.{list_any}
+use Rattle.outside_kit.specs.declared.side.Side.{Side}
+use Rattle.link_script.specs.declared.script.ScriptLine.{ScriptLine}
+use Rattle.link_script.specs.declared.script.ScriptLine.TheVariants.{Drop, Strip, Alter, Dup, Late, StripAll, Die, Prio, Add, Remove, FastClose}
+use Rattle.link_script.specs.Places.{same_side}
+use Rattle.link_model.specs.declared.fate.Fate.{Fate}
+use Rattle.link_model.specs.declared.fate.Fate.TheVariants as fate
+
+-- a line that names this side and number speaks of this segment
+abbrev pub is_named : Side → ℕ → Side → ℕ → Bool
+is_named from number side named = same_side side from && named == number
+
+abbrev pub told_if : Bool → Fate → Option Fate
+told_if named f = if named then Some f else None
+
+-- what a line says of the segment's arrival
+abbrev pub fate_told : Side → ℕ → ScriptLine → Option Fate
+fate_told from number (Drop path side named) = told_if (is_named from number side named) fate.Lost
+fate_told from number (Late path side named ticks) = told_if (is_named from number side named) (fate.Late ticks)
+fate_told from number (Dup path side named ticks) = told_if (is_named from number side named) (fate.Twice ticks)
+fate_told from number line = None
+
+-- the ticks that a fate tells
+abbrev pub ticks_of : Fate → ℕ
+ticks_of fate.OnTime = 0
+ticks_of fate.Lost = 0
+ticks_of (fate.Late ticks) = ticks
+ticks_of (fate.Twice ticks) = ticks
+
+abbrev pub told_or : Option Fate → Fate → Fate
+told_or (Some f) other = f
+told_or None other = other
+
+-- the first line that speaks of its arrival decides, and without one it comes on time
+abbrev pub fate_of : Side → ℕ → List ScriptLine → Fate
+fate_of from number [] = fate.OnTime
+fate_of from number (line ∷ lines) = told_or (fate_told from number line) (fate_of from number lines)
+
+-- a line by which a segment that is handed over at this tick loses its Multipath TCP options
+abbrev pub is_stripped_by : Side → ℕ → ℕ → ScriptLine → Bool
+is_stripped_by from number now (Strip path side named) = is_named from number side named
+is_stripped_by from number now (StripAll path side tick) = same_side side from && nat_le tick now
+is_stripped_by from number now line = false
+
+abbrev pub is_stripped : Side → ℕ → ℕ → List ScriptLine → Bool
+is_stripped from number now lines = list_any (is_stripped_by from number now) lines
+
+-- a line by which the segment's payload is altered
+abbrev pub is_altered_by : Side → ℕ → ScriptLine → Bool
+is_altered_by from number (Alter path side named) = is_named from number side named
+is_altered_by from number line = false
+
+abbrev pub is_altered : Side → ℕ → List ScriptLine → Bool
+is_altered from number lines = list_any (is_altered_by from number) lines

@@ -1,0 +1,65 @@
+-- What holds of every link, whatever its segments carry and whatever is changed of that on its way. The clauses speak of
+-- octets, as the link carries them; the lemmas hold for everything that can be carried.
+use Rattle.std.specs.Prelude.{◌≡◌, ℕ, ◌+◌, ◌<◌, ◌≤◌, Bool, true, false, List, [], ◌∷◌, ◌++◌, map, filter}
+use Rattle.std.specs.List.{AllByRecursion}
+use Rattle.outside_kit.specs.declared.side.Side.{Side}
+use Rattle.link_script.specs.declared.script.ScriptLine.{ScriptLine}
+use Rattle.link_script.specs.declared.script.ScriptLine.TheVariants.{Drop, Dup, Late}
+use Rattle.link_script.specs.Places.{same_side}
+use Rattle.link_model.specs.declared.flight.Flight.{Flight}
+use Rattle.link_model.specs.State.{LinkState}
+use Rattle.link_model.specs.Steps.{peer, next_number, comes_before, changed}
+use Rattle.link_model.specs.Fate.{is_stripped, is_altered}
+
+-- ---- the order of arrival
+
+-- no copy of these arrives before this one
+abbrev pub IsFirst : {C : Type 0} → Flight C → List (Flight C) → Type 0
+IsFirst f flights = AllByRecursion (λ g. comes_before g f ≡ false) flights
+
+-- copies in the order of their arrival
+abbrev pub AreInOrder : {C : Type 0} → List (Flight C) → Type 0
+AreInOrder [] = Unit {0}
+AreInOrder (f ∷ flights) = IsFirst f flights × AreInOrder flights
+
+-- ---- a direction of which no line speaks
+
+-- a line by which a segment from this side is lost, late or repeated
+abbrev pub moves : Side → ScriptLine → Bool
+moves from (Drop path side number) = same_side side from
+moves from (Dup path side number ticks) = same_side side from
+moves from (Late path side number ticks) = same_side side from
+moves from line = false
+
+-- the copies that go to a side, in the order of their arrival
+abbrev pub going_to : {C : Type 0} → Side → List (Flight C) → List (Flight C)
+going_to to flights = filter (λ f. same_side f.to to) flights
+
+-- each of these copies was sent before the segment of this number, which would arrive at this tick
+abbrev pub WereSentBefore : {C : Type 0} → ℕ → ℕ → List (Flight C) → Type 0
+WereSentBefore number tick flights = AllByRecursion (λ f. (f.tick ≤ tick) × (f.number < number)) flights
+
+-- the one copy of the next segment from a side, which is due a delay after it is sent at this tick
+abbrev pub plain_flight : {C : Type 0} → (Side → C → C) → (Side → C → C) → Side → C → ℕ → LinkState C → Flight C
+plain_flight strip alter from carried now link = record {
+  tick = now + link.delay;
+  to = peer from;
+  number = next_number from link;
+  carried = changed (strip from) (alter from) (is_stripped from (next_number from link) now link.lines) (is_altered from (next_number from link) link.lines) carried;
+}
+
+-- ---- what is carried
+
+-- the copies with something else in the place of what they carry
+abbrev pub shown_flight : {C D : Type 0} → (C → D) → Flight C → Flight D
+shown_flight show f = record { tick = f.tick; to = f.to; number = f.number; carried = show f.carried }
+
+abbrev pub shown : {C D : Type 0} → (C → D) → LinkState C → LinkState D
+shown show link = record {
+  path = link.path;
+  delay = link.delay;
+  lines = link.lines;
+  from_a = link.from_a;
+  from_b = link.from_b;
+  under_way = map (shown_flight show) link.under_way;
+}

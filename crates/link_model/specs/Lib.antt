@@ -1,0 +1,5 @@
+pub mod Fate
+pub mod State
+pub mod Steps
+pub mod Octets
+pub mod Laws

@@ -1,0 +1,118 @@
+//! What the lines of a script say of one segment.
+
+ghost use Rattle.std.specs.Prelude.{◌≡◌, Option};
+ghost use Rattle.std.specs.List.{list_any};
+ghost use Rattle.link_model.specs.Fate.{is_named, fate_told, fate_of, is_stripped_by, is_stripped, is_altered_by, is_altered};
+
+use link_script::ScriptLine;
+use outside_kit::Side;
+
+/// When a segment arrives, and how often. Ticks are milliseconds.
+#[derive(Clone, Copy, Debug, PartialEq, Eq)]
+pub enum Fate {
+    /// Once, after the delay of the link.
+    OnTime,
+    /// It doesn't.
+    Lost,
+    /// Once, so many ticks later.
+    Late {
+        /// The ticks beyond the delay.
+        ticks: u32,
+    },
+    /// After the delay, and once more so many ticks after that.
+    Twice {
+        /// The ticks from the first arrival to the second.
+        ticks: u32,
+    },
+}
+
+fn is_named(from: Side, number: u64, side: Side, named: u32) -> bool
+    ensures { result ≡ is_named from number side named }
+{
+    side == from && u64::from(named) == number
+}
+
+/// What a line says of the arrival of the segment of this number from this side.
+fn fate_told(line: &ScriptLine, from: Side, number: u64) -> Option<Fate>
+    ensures { result ≡ fate_told from number line.now }
+{
+    match *line {
+        ScriptLine::Drop {
+            from: side,
+            number: named,
+            ..
+        } if is_named(from, number, side, named) => Some(Fate::Lost),
+        ScriptLine::Late {
+            from: side,
+            number: named,
+            ticks,
+            ..
+        } if is_named(from, number, side, named) => Some(Fate::Late { ticks }),
+        ScriptLine::Dup {
+            from: side,
+            number: named,
+            ticks,
+            ..
+        } if is_named(from, number, side, named) => Some(Fate::Twice { ticks }),
+        _ => None,
+    }
+}
+
+/// When the segment of this number from this side arrives, by the first of these lines that says so.
+pub fn fate_of(lines: &[ScriptLine], from: Side, number: u64) -> Fate
+    ensures { result ≡ fate_of from number lines.now }
+{
+    for line in lines {
+        if let Some(fate) = fate_told(line, from, number) {
+            return fate;
+        }
+    }
+    Fate::OnTime
+}
+
+fn is_stripped_by(line: &ScriptLine, from: Side, number: u64, now: u64) -> bool
+    ensures { result ≡ is_stripped_by from number now line.now }
+{
+    match *line {
+        ScriptLine::Strip {
+            from: side,
+            number: named,
+            ..
+        } => is_named(from, number, side, named),
+        ScriptLine::StripAll {
+            from: side,
+            tick,
+            ..
+        } => side == from && tick <= now,
+        _ => false,
+    }
+}
+
+/// Whether the segment of this number, handed over by this side at this tick, loses its Multipath TCP options.
+pub fn is_stripped(lines: &[ScriptLine], from: Side, number: u64, now: u64) -> bool
+    ensures { result ≡ is_stripped from number now lines.now }
+{
+    lines
+        .iter()
+        .any(|line| is_stripped_by(line, from, number, now))
+}
+
+fn is_altered_by(line: &ScriptLine, from: Side, number: u64) -> bool
+    ensures { result ≡ is_altered_by from number line.now }
+{
+    match *line {
+        ScriptLine::Alter {
+            from: side,
+            number: named,
+            ..
+        } => is_named(from, number, side, named),
+        _ => false,
+    }
+}
+
+/// Whether the segment of this number from this side arrives with another payload.
+pub fn is_altered(lines: &[ScriptLine], from: Side, number: u64) -> bool
+    ensures { result ≡ is_altered from number lines.now }
+{
+    lines.iter().any(|line| is_altered_by(line, from, number))
+}
