@@ -164,8 +164,7 @@ pub(crate) fn octets_under_way(pieces: &VecDeque<Piece>) -> u64
     octets
 }
 
-/// Since when an acknowledgement of this position measures the round trip, by the last piece that it covers whole:
-/// `None` where it covers none, and `Some(None)` where that one was not sent exactly once.
+/// How the last of the pieces that end at or before this position was sent; `None` where there is none.
 pub(crate) fn last_covered(pieces: &VecDeque<Piece>, pos: Pos) -> Option<Sending>
     ensures { result ≡ option_map sending_of (last_covered pos (map piece_record pieces.now.items)) }
 {
