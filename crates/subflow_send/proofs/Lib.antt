@@ -1,0 +1,4 @@
+pub mod PieceLoops
+pub mod RecordLaws
+pub mod Whole
+pub mod Covering

@@ -1,0 +1,5 @@
+pub mod Sendings
+pub mod Records
+pub mod Rules
+pub mod Pieces
+pub mod Laws
