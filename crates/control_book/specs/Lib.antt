@@ -1,0 +1,7 @@
+pub mod Registry
+pub mod Control
+pub mod Calls
+pub mod Replies
+pub mod Steps
+pub mod OpeningStays
+pub mod Laws
