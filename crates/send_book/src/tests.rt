@@ -1,4 +1,5 @@
-ghost use Rattle.std.specs.Prelude.{◌≡◌, ◌<◌, ◌≤◌, IfOk};
+ghost use Rattle.std.specs.Prelude.{◌+◌, ◌^◌, ◌<◌, ◌≤◌};
+ghost use Rattle.send_book.specs.Steps.{CanAsk};
 
 use crate::{SendBook, SendCall, SendReply, Span, Why};
 use pipe_model::Text;
@@ -20,81 +21,65 @@ fn refused(why: Why, end: Option<u64>) -> SendReply {
     SendReply::NoGrant { why, end }
 }
 
-fn written(alloc: Global) -> Result<SendBook, AllocError> {
-    let mut book = SendBook::new(alloc, 100);
-    let bytes = Text::of(alloc, b"abcdefgh")?;
-    book.apply(&SendCall::Write { bytes })?;
-    book.apply(&SendCall::AckIn {
-        next: 0,
-        window: 100,
-    })?;
-    Ok(book)
+/// Asks the book. What it answers is looked at by the tests, so nothing is told of it here.
+fn ask(book: &mut SendBook, call: SendCall) -> Result<SendReply, AllocError>
+    requires { CanAsk call }
+{
+    book.apply(&call)
 }
 
 fn grant(book: &mut SendBook, path: u8, max: u32) -> Result<SendReply, AllocError>
     requires path { path < 16 }
     requires max { 1 ≤ max }
 {
-    book.apply(&SendCall::Grant {
-        path,
-        max,
-        standby: false,
-    })
+    ask(
+        book,
+        SendCall::Grant {
+            path,
+            max,
+            standby: false,
+        },
+    )
 }
 
-// The first half of a list of calls that was worked by hand: a path dies, and its bytes go to another one.
-#[test]
-fn returned_bytes_go_to_another_path(rt: HostRuntime) -> Result<(), Fail> {
-    let mut book = written(rt.alloc())?;
-    assert!(rt; grant(&mut book, 0, 5)? == granted(rt.alloc(), 0, b"abcde")?);
-    assert!(rt; grant(&mut book, 1, 5)? == granted(rt.alloc(), 5, b"fgh")?);
-    assert!(rt; grant(&mut book, 0, 5)? == refused(Why::NothingFree, None));
-    assert!(rt; book.apply(&SendCall::Return { path: 0 })? == SendReply::Returned(5));
-    assert!(rt; grant(&mut book, 0, 5)? == refused(Why::NothingFree, None));
-    assert!(rt; grant(&mut book, 1, 3)? == granted(rt.alloc(), 0, b"abc")?);
-    Ok(())
+fn ack_in(book: &mut SendBook, next: u64, window: u64) -> Result<SendReply, AllocError>
+    requires { next + window < 2 ^ 63 }
+{
+    ask(book, SendCall::AckIn { next, window })
 }
 
-// The other half, to the end of the stream.
+fn acked(bytes: u64, fin: bool) -> SendReply {
+    SendReply::Acked { bytes, fin }
+}
+
+/// A book with eight bytes, of which the peer takes 100.
+fn written(alloc: Global) -> Result<SendBook, AllocError> {
+    let mut book = SendBook::new(alloc, 100);
+    let bytes = Text::of(alloc, b"abcdefgh")?;
+    ask(&mut book, SendCall::Write { bytes })?;
+    ack_in(&mut book, 0, 100)?;
+    Ok(book)
+}
+
+// A list of calls that was worked by hand: a path gives back what it holds, another one is given it, and the stream comes
+// to its end.
 #[test]
 fn a_stream_comes_to_its_end(rt: HostRuntime) -> Result<(), Fail> {
-    let mut book = written(rt.alloc())?;
-    grant(&mut book, 0, 8)?;
-    let four = SendReply::Acked {
-        bytes: 4,
-        fin: false,
-    };
-    assert!(rt;
-        book.apply(&SendCall::AckIn {
-            next: 4,
-            window: 100
-        })? == four
-    );
-    let future = SendReply::AckFuture { written: 8 };
-    assert!(rt;
-        book.apply(&SendCall::AckIn {
-            next: 9,
-            window: 100
-        })? == future
-    );
-    assert!(rt; book.apply(&SendCall::Close)? == SendReply::Closed);
-    assert!(rt;
-        book.apply(&SendCall::AckIn {
-            next: 8,
-            window: 100
-        })? == four
-    );
+    let alloc = rt.alloc();
+    let mut book = written(alloc)?;
+    assert!(rt; grant(&mut book, 0, 5)? == granted(alloc, 0, b"abcde")?);
+    assert!(rt; grant(&mut book, 1, 5)? == granted(alloc, 5, b"fgh")?);
+    assert!(rt; grant(&mut book, 0, 5)? == refused(Why::NothingFree, None));
+    assert!(rt; ask(&mut book, SendCall::Return { path: 0 })? == SendReply::Returned(5));
+    assert!(rt; grant(&mut book, 0, 5)? == refused(Why::NothingFree, None));
+    assert!(rt; grant(&mut book, 1, 3)? == granted(alloc, 0, b"abc")?);
+    assert!(rt; ack_in(&mut book, 4, 100)? == acked(4, false));
+    assert!(rt; grant(&mut book, 1, 5)? == granted(alloc, 4, b"e")?);
+    assert!(rt; ack_in(&mut book, 9, 100)? == SendReply::AckFuture { written: 8 });
+    assert!(rt; ask(&mut book, SendCall::Close)? == SendReply::Closed);
+    assert!(rt; ack_in(&mut book, 8, 100)? == acked(4, false));
     assert!(rt; grant(&mut book, 0, 5)? == refused(Why::Ended, Some(8)));
-    let fin = SendReply::Acked {
-        bytes: 0,
-        fin: true,
-    };
-    assert!(rt;
-        book.apply(&SendCall::AckIn {
-            next: 9,
-            window: 100
-        })? == fin
-    );
+    assert!(rt; ack_in(&mut book, 9, 100)? == acked(0, true));
     Ok(())
 }
 
@@ -102,9 +87,9 @@ fn a_stream_comes_to_its_end(rt: HostRuntime) -> Result<(), Fail> {
 fn a_grant_ends_at_the_edge(rt: HostRuntime) -> Result<(), Fail> {
     let mut book = SendBook::new(rt.alloc(), 6);
     let bytes = Text::of(rt.alloc(), b"abcdefgh")?;
-    assert!(rt; book.apply(&SendCall::Write { bytes })? == SendReply::Taken(6));
+    assert!(rt; ask(&mut book, SendCall::Write { bytes })? == SendReply::Taken(6));
     assert!(rt; grant(&mut book, 0, 5)? == refused(Why::WindowShut, None));
-    book.apply(&SendCall::AckIn { next: 0, window: 2 })?;
+    ack_in(&mut book, 0, 2)?;
     assert!(rt; grant(&mut book, 0, 5)? == granted(rt.alloc(), 0, b"ab")?);
     assert!(rt; grant(&mut book, 0, 5)? == refused(Why::WindowShut, None));
     let standby = SendCall::Grant {
@@ -112,7 +97,7 @@ fn a_grant_ends_at_the_edge(rt: HostRuntime) -> Result<(), Fail> {
         max: 5,
         standby: true,
     };
-    assert!(rt; book.apply(&standby)? == refused(Why::Backup, None));
+    assert!(rt; ask(&mut book, standby)? == refused(Why::Backup, None));
     Ok(())
 }
 
@@ -121,18 +106,16 @@ fn one_path_alone_sends(rt: HostRuntime) -> Result<(), Fail> {
     let mut book = written(rt.alloc())?;
     grant(&mut book, 1, 2)?;
     grant(&mut book, 0, 3)?;
-    assert!(rt; book.apply(&SendCall::GoInfinite { path: 0 })? == SendReply::Scattered);
-    book.apply(&SendCall::AckIn {
-        next: 2,
-        window: 100,
-    })?;
-    assert!(rt; book.apply(&SendCall::GoInfinite { path: 0 })? == SendReply::Infinite { from: 2 });
+    assert!(rt; ask(&mut book, SendCall::GoInfinite { path: 0 })? == SendReply::Scattered);
+    ack_in(&mut book, 2, 100)?;
+    let infinite = ask(&mut book, SendCall::GoInfinite { path: 0 })?;
+    assert!(rt; infinite == SendReply::Infinite { from: 2 });
     assert!(rt; grant(&mut book, 1, 2)? == refused(Why::NothingFree, None));
     assert!(rt; grant(&mut book, 0, 2)? == granted(rt.alloc(), 5, b"fg")?);
-    assert!(rt; book.apply(&SendCall::GoIdentity)? == SendReply::Noted);
-    assert!(rt; book.apply(&SendCall::Abort)? == SendReply::Noted);
+    assert!(rt; ask(&mut book, SendCall::GoIdentity)? == SendReply::Noted);
+    assert!(rt; ask(&mut book, SendCall::Abort)? == SendReply::Noted);
     assert!(rt; grant(&mut book, 0, 2)? == refused(Why::Ended, None));
-    assert!(rt; book.apply(&SendCall::Close)? == SendReply::Shut);
+    assert!(rt; ask(&mut book, SendCall::Close)? == SendReply::Shut);
     Ok(())
 }
 
@@ -170,42 +153,38 @@ fn given_in_turn(book: &mut SendBook, first: u8, second: u8, third: u8) -> Resul
     Ok(all)
 }
 
-// 16 MiB in rounds of a full buffer: three paths are given it in turn, one of them gives back what it held, and the
-// other two are given that.
+/// One round: a full buffer is written, the paths are given it in turn, one of them gives back what it held, the other
+/// two are given that, and all is acknowledged. The answers that tell how many bytes were written, given, given again and
+/// acknowledged.
+fn round(book: &mut SendBook, bytes: Text, start: u64) -> Result<[u64; 4], AllocError>
+    requires { start < 2 ^ 32 }
+{
+    let written = count_of(ask(book, SendCall::Write { bytes })?);
+    ack_in(book, start, BUFFER)?;
+    let given = given_in_turn(book, 0, 1, 2)?;
+    let back = count_of(ask(book, SendCall::Return { path: 1 })?);
+    let again = given_in_turn(book, 0, 2, 0)?;
+    let acked = count_of(ack_in(book, start + BUFFER, BUFFER)?);
+    Ok([written, given, back.abs_diff(again), acked])
+}
+
+/// The number that a reply tells.
+fn count_of(reply: SendReply) -> u64 {
+    match reply {
+        SendReply::Taken(count) | SendReply::Returned(count) => count,
+        SendReply::Acked { bytes, .. } => bytes,
+        _ => 0,
+    }
+}
+
+// 16 MiB in rounds of a full buffer over three paths, in pieces of 1,372.
 #[test]
 fn a_full_buffer_goes_over_three_paths(rt: HostRuntime) -> Result<(), Fail> {
     let mut book = SendBook::new(rt.alloc(), BUFFER);
-    let mut bytes = Vec::new(rt.alloc());
-    for _ in 0..BUFFER {
-        bytes.push(7_u8)?;
-    }
-    let full = Text::from(bytes);
-    for round in 0..16_u64 {
-        let start = round * BUFFER;
-        let bytes = full.copy()?;
-        assert!(rt; book.apply(&SendCall::Write { bytes })? == SendReply::Taken(BUFFER));
-        book.apply(&SendCall::AckIn {
-            next: start,
-            window: BUFFER,
-        })?;
-        assert_eq!(rt; given_in_turn(&mut book, 0, 1, 2)?, BUFFER);
-        let back = book.apply(&SendCall::Return { path: 1 })?;
-        let SendReply::Returned(count) = back else {
-            assert!(rt; false, "nothing was returned");
-            return Ok(());
-        };
-        assert_eq!(rt; given_in_turn(&mut book, 0, 2, 0)?, count);
-        let all = SendReply::Acked {
-            bytes: BUFFER,
-            fin: false,
-        };
-        let end = start + BUFFER;
-        assert!(rt;
-            book.apply(&SendCall::AckIn {
-                next: end,
-                window: BUFFER
-            })? == all
-        );
+    let full = Text::from(vec![in rt.alloc(); 7; BUFFER as usize]?);
+    for number in 0..16_u64 {
+        let counts = round(&mut book, full.copy()?, number * BUFFER)?;
+        assert_eq!(rt; counts, [BUFFER, BUFFER, 0, BUFFER]);
     }
     Ok(())
 }
