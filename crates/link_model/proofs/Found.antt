@@ -1,9 +1,14 @@
 -- The first copy that passes a test, by its place.
-use Rattle.std.proofs.Common.{◌≡◌, ◌∙◌, refl, sym, ap, ℕ, zero, suc, ◌<◌, ◌≤◌, Bool, true, false, cond, ltb, List, [], ◌∷◌, length, get_or, Option, Some, None, IsSome, IfSome, is_some, subst, arith}
+use Rattle.std.proofs.Common.{◌≡◌, ◌∙◌, refl, sym, ap, ℕ, zero, suc, ◌<◌, ◌≤◌, Bool, true, false, cond, ltb, eqb, List, [], ◌∷◌, length, get_or, Option, Some, None, IsSome, IfSome, is_some, subst, arith}
 use Rattle.std.proofs.lemmas.List.Folds.{find_at}
 use Rattle.std.proofs.lemmas.List.Quantifiers.{position-Some}
 use Rattle.std.proofs.lemmas.Option.{slice_get_past, none-some}
-use Rattle.std.specs.Prelude.{find, position}
+use Rattle.std.specs.Prelude.{find, position, ◌&&◌}
+use Rattle.outside_kit.specs.declared.side.Side.{Side}
+use Rattle.outside_kit.specs.declared.side.Side.TheVariants.{A, B}
+use Rattle.link_script.specs.Places.{same_side}
+use Rattle.link_model.specs.declared.flight.Flight.{Flight}
+use Rattle.link_model.specs.Steps.{next_due, due_of, is_due}
 use Rattle.std.specs.List.{position_or_len}
 
 pub past_all : {X : Type 0} (p : X → Bool) (xs : List X) (b : Bool) → ltb (position_or_len p xs) (length xs) ≡ b → cond b (Some (position_or_len p xs)) None ≡ None
@@ -32,3 +37,12 @@ none_is_not_some o none some = let no : false ≡ true = sym (ap is_some none) �
 
 pub IfSome-is : {X : Type 0} (o : Option X) (x : X) (P : X → Type 0) → o ≡ Some x → P x → IfSome o P
 IfSome-is {X = X} o x P is h = subst (λ (y : Option X). IfSome y P) (sym is) h
+
+itself : (a b : ℕ) (s : Side) → (eqb a a && (same_side s s && eqb b b)) ≡ true
+itself a b A = grind arith
+itself a b B = grind arith
+
+-- the earliest arrival is under way
+pub next_is_under_way : {C : Type 0} (flights : List (Flight C)) → IfSome (next_due flights) (λ due. IsSome (find (is_due due) flights))
+next_is_under_way [] = tt
+next_is_under_way (f ∷ flights) = ap (λ (b : Bool). is_some (cond b (Some f) (find (is_due (due_of f)) flights))) (itself f.tick f.number f.to)

@@ -34,6 +34,14 @@ fn due(tick: u64, to: Side, copy: u64) -> Option<Due> {
     Some(Due { tick, to, copy })
 }
 
+/// Hands a segment to the link, which has taken few, and answers its number.
+fn hand(link: &mut Link, from: Side, octets: &[u8], now: u32) -> Result<u64, Fail> {
+    if link.taken(from) > 100 {
+        return Err("too many segments".into());
+    }
+    Ok(link.send(from, octets, u64::from(now))?)
+}
+
 // Five copies under way: the first altered, the second lost, the third late, the fourth twice, and one of B without its
 // options. At one tick the copy to B comes first. The link then dies with one copy under way.
 #[test]
@@ -42,10 +50,10 @@ fn copies_arrive_by_the_script(rt: HostRuntime) -> Result<(), Fail> {
     let (data, syn) = (octets(alloc, DATA)?, octets(alloc, SYN)?);
     let mut link = Link::new(alloc, &parse(alloc, SCRIPT)?, 0)?;
     assert_eq!(rt; link.due(), None);
-    for number in 1..5 {
-        assert_eq!(rt; link.send(Side::A, &data, number - 1)?, number);
+    for now in 0..4 {
+        assert_eq!(rt; hand(&mut link, Side::A, &data, now)?, u64::from(now) + 1);
     }
-    assert_eq!(rt; link.send(Side::B, &syn, 3)?, 1);
+    assert_eq!(rt; hand(&mut link, Side::B, &syn, 3)?, 1);
     for (arrival, want) in [
         (due(10, Side::B, 1), ALTERED),
         (due(13, Side::B, 4), DATA),
@@ -61,7 +69,7 @@ fn copies_arrive_by_the_script(rt: HostRuntime) -> Result<(), Fail> {
         );
     }
     assert_eq!(rt; link.due(), None);
-    link.send(Side::A, &data, 20)?;
+    hand(&mut link, Side::A, &data, 20)?;
     link.cut();
     assert_eq!(rt; link.due(), None);
     Ok(())
