@@ -9,10 +9,10 @@ use Rattle.std.proofs.lemmas.List.{append-nil, length-take, length-drop}
 use Rattle.std.proofs.lemmas.List.FromFn.{map-range_with_len_more}
 use Rattle.std.proofs.lemmas.List.Folds.{concat-append}
 use Rattle.pipe_model.specs.declared.pipe.Pipe.{Pipe}
-use Rattle.path_segments.specs.declared.connection.Connection.{Connection}
+use Rattle.straight_segments.specs.declared.connection.Connection.{Connection}
 use Rattle.pipe_model.specs.Prefix.{IsPrefix}
 use Rattle.segment_wire.specs.Segment.{segment_text}
-use Rattle.path_segments.specs.Segments.{from_a, data_segment}
+use Rattle.straight_segments.specs.Segments.{from_a, data_segment}
 use Rattle.mptcp_run.specs.Log.{segment_line, piece_at, piece_line, first_lines}
 use Rattle.mptcp_run.specs.Sending.{IsClosed, next_piece, next_octets, after_piece}
 

@@ -4,8 +4,8 @@ use Rattle.std.specs.Int.{div_ceil}
 use Rattle.std.specs.List.{concat, range_with_len}
 use Rattle.hex.specs.Hex.{encode_lower}
 use Rattle.segment_wire.specs.Segment.{segment_text}
-use Rattle.path_segments.specs.declared.connection.Connection.{Connection}
-use Rattle.path_segments.specs.Segments.{from_a, from_b, subflow_number, syn, syn_ack, third_ack, data_segment, payload_of}
+use Rattle.straight_segments.specs.declared.connection.Connection.{Connection}
+use Rattle.straight_segments.specs.Segments.{from_a, from_b, subflow_number, syn, syn_ack, third_ack, data_segment, payload_of}
 
 -- the octets of a segment in the log
 abbrev pub segment_line : List ℕ → List ℕ

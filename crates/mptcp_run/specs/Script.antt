@@ -11,9 +11,9 @@ use Rattle.link_script.specs.declared.script.Script.{Script}
 use Rattle.link_script.specs.Reading.{reading}
 use Rattle.link_script.specs.Steps.{◌>>=◌}
 use Rattle.link_script.specs.Words.{is_passed_over}
-use Rattle.path_segments.specs.declared.connection.Connection.{Connection}
-use Rattle.path_segments.specs.declared.connection.Settings.{Settings}
-use Rattle.path_segments.specs.Drawn.{drawn_connection}
+use Rattle.straight_segments.specs.declared.connection.Connection.{Connection}
+use Rattle.straight_segments.specs.declared.connection.Settings.{Settings}
+use Rattle.straight_segments.specs.Drawn.{drawn_connection}
 
 -- what stands before the first such octet, and what stands after it
 abbrev pub parted_at : ℕ → List ℕ → List ℕ × List ℕ

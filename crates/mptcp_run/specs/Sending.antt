@@ -2,9 +2,9 @@
 use Rattle.std.specs.Prelude.{◌≡◌, ℕ, ◌+◌, ◌^◌, ◌<◌, ◌≤◌, false, List, length, take, drop}
 use Rattle.pipe_model.specs.declared.pipe.Pipe.{Pipe}
 use Rattle.segment_wire.specs.Segment.{segment_text}
-use Rattle.path_segments.specs.declared.connection.Connection.{Connection}
+use Rattle.straight_segments.specs.declared.connection.Connection.{Connection}
 use Rattle.mptcp_run.specs.declared.handshake.Opened.{Opened}
-use Rattle.path_segments.specs.Segments.{from_a, data_segment}
+use Rattle.straight_segments.specs.Segments.{from_a, data_segment}
 
 -- the whole file was written, some of it isn't read yet, and it is sent in pieces of this size
 pub record IsSending (pipe : Pipe) (size : ℕ) : Type 0 where

@@ -1,8 +1,8 @@
 -- What a run is to do, and how far it came.
 use Rattle.std.specs.Prelude.{ℕ, ◌≤◌, List, length, Option, Some, IfSome, IsSomeAnd, IsOk}
 use Rattle.std.specs.Result.{result_ok}
-use Rattle.path_segments.specs.declared.connection.Connection.{Connection}
-use Rattle.path_segments.specs.Hearing.{◌>>=◌}
+use Rattle.straight_segments.specs.declared.connection.Connection.{Connection}
+use Rattle.straight_segments.specs.Hearing.{◌>>=◌}
 use Rattle.mptcp_run.specs.declared.status.Status.{Status}
 use Rattle.mptcp_run.specs.declared.status.Status.TheVariants.{Delivered, Usage, Script, Load, Put, TooLong, Memory}
 use Rattle.mptcp_run.specs.declared.status.Named.{Named}

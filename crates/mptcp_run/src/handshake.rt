@@ -6,18 +6,18 @@ ghost use Rattle.outside_kit.specs.Outside.{HoldsAfter, HoldsPrefix};
 ghost use Rattle.outside_kit.specs.declared.port.Port.{Port};
 ghost use Rattle.segment_wire.specs.Segment.{segment_text};
 ghost use Rattle.mptcp_run.specs.Ports.{NeverFall, IsPortsFault};
-ghost use Rattle.path_segments.specs.Segments.{from_a, from_b, subflow_number, syn, syn_ack, third_ack};
+ghost use Rattle.straight_segments.specs.Segments.{from_a, from_b, subflow_number, syn, syn_ack, third_ack};
 ghost use Rattle.mptcp_run.specs.Log.{segment_line, opening_lines};
 
 use crate::device::put;
 use crate::log::push_line;
 use crate::status::Status;
 use outside_kit::{Outside, Port};
-use path_segments::{
+use std::alloc::{AllocError, Global};
+use straight_segments::{
     Connection, End, hear_syn, hear_syn_ack, hear_third_ack, write_syn, write_syn_ack,
     write_third_ack,
 };
-use std::alloc::{AllocError, Global};
 
 /// What the ends know once path 0 is open.
 #[derive(Clone, Copy, Debug, PartialEq, Eq)]

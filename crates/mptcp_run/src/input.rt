@@ -4,7 +4,7 @@ ghost use Rattle.std.specs.Prelude.{◌≡◌, ◌≤◌, IfOk, IfErr, IfSome, O
 ghost use Rattle.outside_kit.specs.declared.port.Port.{Port};
 ghost use Rattle.mptcp_run.specs.declared.status.Named.{Named};
 ghost use Rattle.mptcp_run.specs.Script.{connection_in};
-ghost use Rattle.path_segments.specs.Drawn.{FitsFields};
+ghost use Rattle.straight_segments.specs.Drawn.{FitsFields};
 ghost use Rattle.mptcp_run.specs.Words.{names_of};
 ghost use Rattle.mptcp_run.specs.Inputs.{IsWithinLimit, IsInputFault};
 
@@ -14,8 +14,8 @@ use crate::status::{Named, Status};
 use crate::words::Command;
 use link_script::ScriptFault;
 use outside_kit::Outside;
-use path_segments::Connection;
 use std::alloc::Global;
+use straight_segments::Connection;
 
 /// The inputs of a run, all within their limits.
 #[derive(Debug, Drop)]

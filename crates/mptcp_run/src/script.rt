@@ -6,11 +6,11 @@ ghost use Rattle.link_script.specs.Words.{is_passed_over};
 ghost use Rattle.link_script.specs.Reading.{Gives};
 ghost use Rattle.link_script.specs.Scripts.{HasRanges};
 ghost use Rattle.mptcp_run.specs.Script.{parted_at, parts_of, is_run_word, is_zero, is_held_back, script_meaning, settings_of, connection_in};
-ghost use Rattle.path_segments.specs.Drawn.{FitsFields};
+ghost use Rattle.straight_segments.specs.Drawn.{FitsFields};
 
 use link_script::{Script, ScriptFault, ScriptKind, parse};
-use path_segments::{Connection, Settings};
 use std::alloc::Global;
+use straight_segments::{Connection, Settings};
 
 /// The connection that a script tells of, its ends drawn from the seed, or the first line that is refused.
 #[tactic(auto, unfolding(crate::specs::Script::connection_in))]

@@ -6,7 +6,7 @@ ghost use Rattle.outside_kit.specs.Outside.{HasRisen, HoldsAfter, HoldsPrefix};
 ghost use Rattle.mptcp_run.specs.declared.status.Named.{Named};
 ghost use Rattle.link_script.specs.declared.fault.ScriptKind.{ScriptKind};
 ghost use Rattle.link_script.specs.declared.fault.ScriptFault.TheVariants.{Line};
-ghost use Rattle.path_segments.specs.Drawn.{FitsFields};
+ghost use Rattle.straight_segments.specs.Drawn.{FitsFields};
 ghost use Rattle.mptcp_run.specs.Words.{names_in};
 ghost use Rattle.mptcp_run.specs.Causes.{limit_of};
 ghost use Rattle.mptcp_run.specs.Inputs.{name_of, IsWithinLimit, AreWithinLimitsBefore};

@@ -6,7 +6,7 @@ ghost use Rattle.outside_kit.specs.Outside.{HoldsAfter, HoldsPrefix};
 ghost use Rattle.pipe_model.specs.Pipe.{opening, refusal, after, TakesMemory};
 ghost use Rattle.segment_wire.specs.Segment.{CanWrite};
 ghost use Rattle.mptcp_run.specs.Ports.{NeverFall, IsPortsFault};
-ghost use Rattle.path_segments.specs.Segments.{data_segment};
+ghost use Rattle.straight_segments.specs.Segments.{data_segment};
 ghost use Rattle.mptcp_run.specs.Log.{segment_line, all_lines, sending_text};
 ghost use Rattle.mptcp_run.specs.Sending.{IsSending, next_piece, next_octets, after_piece, IsClosed, IsOpened};
 
@@ -15,9 +15,9 @@ use crate::handshake::Opened;
 use crate::log::segment_line;
 use crate::status::Status;
 use outside_kit::{Outside, Port};
-use path_segments::{Connection, hear_data, write_data};
 use pipe_model::{Pipe, PipeFault, PipeStep, Text, pipe_step};
 use std::alloc::{AllocError, Global};
+use straight_segments::{Connection, hear_data, write_data};
 
 /// Makes a step that the pipe allows.
 fn step(pipe: &mut Pipe, step: &PipeStep) -> Result<(), Status>

@@ -1,53 +1,58 @@
--- The options of the segments of path 0 can be carried.
-use Rattle.std.proofs.Common.{◌≡◌, refl, sym, subst, ℕ, ◌+◌, ◌≤◌, true, false, List, [], ◌∷◌, ◌++◌, length, arith, ◌==◌, ◌^◌, if◌then◌else◌, Some, None}
+-- The options of a segment that can be said are options that a segment can carry.
+use Rattle.std.proofs.Common.{◌≡◌, refl, ◌∙◌, ap, ℕ, zero, suc, ◌+◌, true, Option, Some, None, List, [], ◌∷◌, ◌++◌, length, append_assoc, length-append, arith}
+use Rattle.std.specs.Prelude.{replicate}
+use Rattle.std.proofs.lemmas.List.{length-replicate}
+use Rattle.segment_wire.specs.Options.{are_whole}
 use Rattle.segment_wire.specs.Segment.{CanCarry}
-use Rattle.mptcp_options.specs.Value.{OptionValue, Dss, value_of}
+use Rattle.segment_wire.proofs.Appended.{IsOption, are_whole-append}
+use Rattle.mptcp_options.specs.Value.{OptionValue}
 use Rattle.mptcp_options.specs.Text.{option_text}
-use Rattle.capable_handshake.specs.Said.{syn_option, syn_ack_option, ack_option, first_data_option}
-use Rattle.mptcp_options.specs.declared.dss.DataNumber.TheVariants.{Whole}
-use Rattle.path_segments.specs.declared.connection.Connection.{Connection}
-use Rattle.key_material.specs.KeyDigest.{idsn_of}
-use Rattle.seq_units.specs.Number.{number_of}
-use Rattle.path_segments.specs.Segments.{syn_options, data_option}
+use Rattle.path_segments.specs.declared.spelling.Side.{Side}
+use Rattle.path_segments.specs.declared.spelling.Spelling.{Spelling}
+use Rattle.path_segments.specs.Options.{PlainOption, said_option}
+use Rattle.path_segments.specs.Spelled.{PlainSegment, syn_text, options_text, padding, padded, unpadded_options, CanSay}
 
-syn_carried : (mss : ℕ) → CanCarry (syn_options mss (value_of (syn_option false))) []
+pub option_text-IsOption : (option : OptionValue) → IsOption (option_text option)
 unfolding option_text
-syn_carried mss = record { room = omega arith; padded = refl; whole = refl; fits = omega arith }
+option_text-IsOption option = record { kind = omega arith; len = omega arith; low = omega arith }
 
-pub carried_syn : (mss : ℕ) (options : List ℕ) → options ≡ syn_options mss (value_of (syn_option false)) → CanCarry options []
-carried_syn mss options e = subst (λ (xs : List ℕ). CanCarry xs []) (sym e) (syn_carried mss)
+whole-zeros : (n : ℕ) → are_whole (replicate n 0) ≡ true
+whole-zeros zero = refl
+whole-zeros (suc n) = refl
 
-syn_ack_carried : (mss key : ℕ) → CanCarry (syn_options mss (value_of (syn_ack_option false key))) []
-unfolding option_text
-syn_ack_carried mss key = record { room = omega arith; padded = refl; whole = refl; fits = omega arith }
+module _ (spelling : Spelling) (from : Side) where
+  whole-options : (options : List PlainOption) (rest : List ℕ)
+      → are_whole (options_text spelling from options ++ rest) ≡ are_whole rest
+  whole-options [] rest = refl
+  whole-options (o ∷ options) rest =
+      ap are_whole (append_assoc (option_text (said_option spelling from o)) (options_text spelling from options) rest)
+      ∙ are_whole-append (option_text (said_option spelling from o)) (options_text spelling from options ++ rest) (option_text-IsOption (said_option spelling from o))
+      ∙ whole-options options rest
 
-pub carried_syn_ack : (mss key : ℕ) (options : List ℕ) → options ≡ syn_options mss (value_of (syn_ack_option false key)) → CanCarry options []
-carried_syn_ack mss key options e = subst (λ (xs : List ℕ). CanCarry xs []) (sym e) (syn_ack_carried mss key)
+  whole-syn : (mss : Option ℕ) (rest : List ℕ) → are_whole (syn_text mss ++ rest) ≡ are_whole rest
+  whole-syn None rest = refl
+  whole-syn (Some mss) rest = refl
 
-third_carried : (a b : ℕ) → CanCarry (option_text (value_of (ack_option false a b))) []
-unfolding option_text
-third_carried a b = record { room = omega arith; padded = refl; whole = refl; fits = omega arith }
+  module _ (s : PlainSegment) where
+    whole-padded : are_whole (padded (unpadded_options spelling from s)) ≡ true
+    whole-padded =
+        let zeros : List ℕ = replicate (padding (length (unpadded_options spelling from s))) 0 in
+        ap are_whole (append_assoc (syn_text s.mss) (options_text spelling from s.options) zeros)
+        ∙ whole-syn s.mss (options_text spelling from s.options ++ zeros)
+        ∙ whole-options s.options zeros
+        ∙ whole-zeros (padding (length (unpadded_options spelling from s)))
 
-pub carried_third : (a b : ℕ) (options : List ℕ) → options ≡ option_text (value_of (ack_option false a b)) → CanCarry options []
-carried_third a b options e = subst (λ (xs : List ℕ). CanCarry xs []) (sym e) (third_carried a b)
+    length-padded : length (padded (unpadded_options spelling from s))
+        ≡ length (unpadded_options spelling from s) + padding (length (unpadded_options spelling from s))
+    length-padded =
+        length-append (unpadded_options spelling from s) (replicate (padding (length (unpadded_options spelling from s))) 0)
+        ∙ ap (λ (n : ℕ). length (unpadded_options spelling from s) + n) (length-replicate (padding (length (unpadded_options spelling from s))) 0)
 
-first_carried : (a b len : ℕ) (payload : List ℕ) → length payload ≤ 1432 → CanCarry (option_text (value_of (first_data_option a b len None)) ++ (0 ∷ 0 ∷ [])) payload
-unfolding option_text
-first_carried a b len payload few = record { room = omega arith; padded = refl; whole = refl; fits = omega arith }
-
-later_carried : (ack number relative len : ℕ) (payload : List ℕ) → length payload ≤ 1432
-    → CanCarry (option_text (Dss (Some (Whole ack)) (Some (record { number = Whole number; relative = relative; length = len; checksum = None })) false) ++ (0 ∷ 0 ∷ [])) payload
-unfolding option_text
-later_carried ack number relative len payload few = record { room = omega arith; padded = refl; whole = refl; fits = omega arith }
-
-data_carried : (c : Connection) (place len : ℕ) (payload : List ℕ) → length payload ≤ 1432 → CanCarry (option_text (data_option c place len) ++ (0 ∷ 0 ∷ [])) payload
-data_carried c place len payload few =
-    let first : OptionValue = value_of (first_data_option c.a.key c.b.key len None) in
-    let later : OptionValue = Dss (Some (Whole (number_of (2 ^ 64) (idsn_of c.b.key) 1)))
-    (Some (record { number = Whole (number_of (2 ^ 64) (idsn_of c.a.key) (place + 1)); relative = place + 1; length = len; checksum = None })) false in
-    elim (place == 0) as (λ b. CanCarry (option_text (if b then first else later) ++ (0 ∷ 0 ∷ [])) payload)
-    [ true ↦ first_carried c.a.key c.b.key len payload few | false ↦ later_carried _ _ (place + 1) len payload few ]
-
-pub carried_data : (c : Connection) (place len : ℕ) (payload options : List ℕ) → length payload ≤ 1432
-    → options ≡ option_text (data_option c place len) ++ (0 ∷ 0 ∷ []) → CanCarry options payload
-carried_data c place len payload options few e = subst (λ (xs : List ℕ). CanCarry xs payload) (sym e) (data_carried c place len payload few)
+    pub carried : CanSay spelling from s → (options payload : List ℕ) → options ≡ padded (unpadded_options spelling from s)
+        → payload ≡ s.payload → CanCarry options payload
+    carried can options payload is_padded is_payload = rw (is_padded, is_payload) (record {
+      room = omega (arith, length-padded, can.room);
+      padded = omega (arith, length-padded);
+      whole = whole-padded;
+      fits = omega (arith, length-padded, can.room, can.fits);
+    })

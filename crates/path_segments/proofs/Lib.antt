@@ -1,2 +1,8 @@
 mod Carried
-mod HeardAgain
+mod ChangedSegments
+mod Differing
+mod ListsAgain
+mod NumbersAgain
+mod OptionsAgain
+mod SaidOptions
+mod SegmentsAgain

@@ -1,3 +1,7 @@
-pub mod Drawn
-pub mod Segments
-pub mod Hearing
+pub mod Spelling
+pub mod Options
+pub mod Spelled
+pub mod Heard
+pub mod HeardLent
+pub mod HeardSegments
+pub mod Laws

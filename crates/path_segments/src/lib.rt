@@ -1,19 +1,33 @@
-//! The segments of path 0: the three that open it and those that carry a file from A to B, each as the octets that one
-//! end says, and as what the other end hears in them (RFC 8684, sections 3.1 and 3.3).
+//! The segments of a path as values, and their octets: positions and places where octets have wrapped numbers, a window
+//! in octets, options over places (RFC 9293, section 3.1; RFC 8684, section 3).
 //!
-//! The ends are drawn from a seed. No checksums of the data are used, and B sends no data.
+//! A `Spelling` has what both ends need to say a segment. `write` makes the octets in one allocation, and `sum` tells
+//! their checksum field without making them.
 #![tactic(auto)]
 
-mod connection;
-mod data;
+mod expected;
+mod heard;
 mod hearing;
-mod opening;
-mod saying;
+mod laws;
+mod listening;
+mod sayable;
+mod segment;
+mod spelling;
+mod wire;
+mod writing;
 
-pub use connection::{Connection, End, Settings};
-pub use data::hear_data;
-pub use opening::{hear_syn, hear_syn_ack, hear_third_ack};
-pub use saying::{write_data, write_syn, write_syn_ack, write_third_ack};
+pub use expected::Expected;
+pub use heard::{HeardOptions, HeardSegment};
+pub use hearing::{HeardMapping, HeardOption};
+pub use laws::{
+    altered_is_said, octets_tell_the_segment, stripped_is_heard_without_options,
+    written_is_heard_as_meant,
+};
+pub use listening::hear;
+pub use sayable::can_say;
+pub use segment::{PathMapping, PathOption, PathSegment, SaidSegment};
+pub use spelling::{EndNumbers, Side, Spelling};
+pub use writing::{sum, write};
 
 #[cfg(test)]
 mod tests;

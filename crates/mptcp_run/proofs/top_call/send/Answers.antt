@@ -1,7 +1,7 @@
 use Rattle.std.proofs.Common.{◌≡◌, ap, subst, List, ℕ, Option}
 use Rattle.std.proofs.lemmas.Result.{on_err_weaker}
 use Rattle.outside_kit.specs.declared.port.Port.TheVariants.{Log}
-use Rattle.path_segments.specs.declared.connection.Connection.{Connection}
+use Rattle.straight_segments.specs.declared.connection.Connection.{Connection}
 use Rattle.outside_kit.specs.Outside.{HoldsPrefix}
 use Rattle.mptcp_run.specs.Log.{opening_lines, sending_text, log_text}
 use Rattle.mptcp_run.proofs.PortsLemmas.{HoldsBound-longer, HoldsPrefix-unchanged, HoldsPrefix-then, HoldsPrefix-grows, OnErr-holds}

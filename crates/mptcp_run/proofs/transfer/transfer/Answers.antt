@@ -1,7 +1,7 @@
 use Rattle.std.proofs.Common.{◌≡◌, ◌∙◌, ◌++◌, ap, sym, ℕ, codes}
 use Rattle.std.proofs.lemmas.Result.{on_ok_weaker, on_err_weaker}
 use Rattle.pipe_model.specs.declared.pipe.Pipe.{Pipe}
-use Rattle.path_segments.specs.Segments.{payload_of}
+use Rattle.straight_segments.specs.Segments.{payload_of}
 use Rattle.mptcp_run.specs.Log.{all_lines, sending_text}
 use Rattle.mptcp_run.proofs.PortsLemmas.{HoldsAfter-append, HoldsPrefix-grown, HoldsPrefix-longer, IsPrefix-same, OnErr-holds}
 use Rattle.mptcp_run.proofs.transfer.transfer.Goals as goal
