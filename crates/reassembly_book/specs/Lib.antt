@@ -1,0 +1,5 @@
+pub mod Kept
+pub mod Laws
+pub mod OpeningStays
+pub mod State
+pub mod Steps

@@ -1,0 +1,71 @@
+use pipe_model::Text;
+
+/// What a reassembly book can be asked.
+#[derive(Debug, Drop, PartialEq)]
+pub enum ReassemblyCall {
+    /// These bytes have arrived for the places from `at` on. `at` and their number add up to at most 2^62.
+    Place {
+        /// The place of the first byte.
+        at: u64,
+        /// The bytes.
+        bytes: Text,
+    },
+    /// The stream ends before the place `at`, at most 2^62.
+    Fin {
+        /// How many bytes there are in all.
+        at: u64,
+    },
+    /// The application takes the next bytes.
+    Read {
+        /// The most bytes that it takes, at least 1.
+        max: u32,
+    },
+    /// What is to be acknowledged, and how much more is taken.
+    AckOut,
+    /// The connection is aborted.
+    Abort {
+        /// Whether the peer aborted it.
+        by_peer: bool,
+    },
+}
+
+/// What a reassembly book answers.
+#[derive(Debug, Drop, PartialEq)]
+pub enum ReassemblyReply {
+    /// So many places were empty and have their byte now.
+    Placed(u64),
+    /// A byte is at or past the edge of what is taken.
+    Beyond {
+        /// The edge.
+        edge: u64,
+    },
+    /// The end is known.
+    FinSet,
+    /// A byte and an end, or two ends, don't agree.
+    FinClash {
+        /// The end that is known, or the place after the last byte.
+        fin: u64,
+        /// The place that was told.
+        at: u64,
+    },
+    /// The next bytes.
+    Bytes(Text),
+    /// All bytes were read, and no more follow.
+    End,
+    /// The next byte has not arrived.
+    NoneYet,
+    /// The connection is aborted.
+    Aborted {
+        /// Whether the peer aborted it first.
+        by_peer: bool,
+    },
+    /// What is to be acknowledged.
+    Ack {
+        /// The next place that is wanted, or one past the last byte where the end is reached.
+        next: u64,
+        /// How many bytes are taken from the next wanted one on.
+        window: u64,
+    },
+    /// The call was noted.
+    Noted,
+}
