@@ -25,6 +25,3 @@ pub use lists::{PathLines, ScriptLines};
 pub use reading::parse;
 pub use script::{PathLine, Script, ScriptLine};
 pub use writing::text;
-
-#[cfg(test)]
-mod tests;

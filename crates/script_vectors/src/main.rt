@@ -1,9 +1,10 @@
 //! Cases of scripts: reads one a line from standard input, and prints what `link_script` answers.
 //!
 //! A line that begins with `#` is printed as it stands. Any other line is a case, in which `;` stands for LF: after
-//! the word `text` a whole script, after the word `lines` what stands between the first line and `end`. It is printed
-//! again behind the answer, which is `ok`, or the first refused line and the kind of its fault. The script that an
-//! accepted text says is written by `text`, and printed on a line of its own.
+//! the word `text` a whole script, after the word `lines` what stands between the first line and `end`, and after
+//! `long` and a number what stands behind so many empty lines and the lines before them. It is printed again behind the
+//! answer, which is `ok`, or the first refused line and the kind of its fault. The script that an accepted text says is
+//! written by `text`, and printed on a line of its own.
 #![tactic(auto)]
 
 use link_script::{ScriptFault, parse, text};
@@ -18,6 +19,8 @@ enum Case<'a> {
     Text(&'a str),
     /// What stands between the first line of a script and its last.
     Lines(&'a str),
+    /// So many empty lines behind the line of path 0, and what stands behind them.
+    Long(u16, &'a str),
 }
 
 impl<'a> Case<'a> {
@@ -29,6 +32,10 @@ impl<'a> Case<'a> {
         match line.split_once(" ") {
             Some(("text", script)) => Some(Case::Text(script)),
             Some(("lines", lines)) => Some(Case::Lines(lines)),
+            Some(("long", rest)) => {
+                let (count, last) = rest.split_once(" ")?;
+                Some(Case::Long(count.parse().ok()?, last))
+            }
             _ => None,
         }
     }
@@ -58,6 +65,16 @@ fn without_line_ends(alloc: Global, script: &[u8]) -> Result<String, AllocError>
     Ok(case)
 }
 
+/// A script with so many empty lines behind the line of path 0.
+fn long_script(alloc: Global, count: u16, last: &str) -> Result<String, AllocError> {
+    let mut script = String::from_str(alloc, "mptcp-script 1\npath 0 mss 1400 delay 10\n")?;
+    for _ in 0..count {
+        script.push('\n')?;
+    }
+    script.push_str(&with_line_ends(alloc, last)?)?;
+    Ok(script)
+}
+
 /// What `parse` answers to a script, and `text` to what it says.
 fn answer(alloc: Global, line: &str, script: &str) -> Result<String, AllocError> {
     match parse(alloc, script.as_bytes()) {
@@ -85,6 +102,7 @@ fn respond(alloc: Global, line: &str) -> Result<String, AllocError> {
                 &format!(in alloc; "mptcp-script 1\n{between}\nend\n")?,
             )
         }
+        Some(Case::Long(count, last)) => answer(alloc, line, &long_script(alloc, count, last)?),
         None => format!(in alloc; "no case: {line}"),
     }
 }
