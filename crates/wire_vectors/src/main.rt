@@ -6,13 +6,12 @@
 //! none; numbers are decimal. The head of each file says the cases that it answers.
 #![tactic(auto)]
 
-mod case;
 mod key_cases;
 mod number_cases;
 mod option_cases;
 mod segment_cases;
 
-use case::CaseFault;
+use case_fields::CaseFault;
 use std::alloc::{AllocError, Global};
 use std::io::{self, BufRead, BufReader, BufWriter, Write};
 

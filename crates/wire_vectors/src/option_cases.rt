@@ -3,7 +3,7 @@
 
 ghost use Rattle.std.specs.Prelude.{◌≤◌, length};
 
-use crate::case::{CaseFault, digits, octets_at};
+use case_fields::{CaseFault, digits, octets_at};
 use mptcp_options::{Read, read, write};
 use pipe_model::Text;
 use std::alloc::{AllocError, Global};

@@ -1,4 +1,6 @@
-//! The fields of a case.
+//! The fields of a case: a line of words with one blank between them, as the programs read it that print what the calls
+//! of other crates answer.
+#![tactic(auto)]
 
 use std::alloc::{AllocError, Global};
 use std::str::FromStr;
@@ -18,7 +20,7 @@ impl From<AllocError> for CaseFault {
     }
 }
 
-/// The word at a place of the fields.
+/// The word at a place of the fields, counted from 0.
 pub fn word_at<'a>(fields: &[&'a str], place: usize) -> Result<&'a str, CaseFault> {
     match fields.get(place) {
         Some(word) => Ok(*word),
@@ -56,30 +58,22 @@ pub fn four_at(alloc: Global, fields: &[&str], place: usize) -> Result<[u8; 4], 
     }
 }
 
-pub fn u64_at(fields: &[&str], place: usize) -> Result<u64, CaseFault> {
-    match u64::from_str(word_at(fields, place)?) {
+/// The number at a place of the fields, in the range of its type.
+pub fn number_at<N: FromStr>(fields: &[&str], place: usize) -> Result<N, CaseFault>
+where
+    N::Err: Drop,
+{
+    match N::from_str(word_at(fields, place)?) {
         Ok(number) => Ok(number),
         Err(_) => Err(CaseFault::Form),
     }
 }
 
-pub fn u32_at(fields: &[&str], place: usize) -> Result<u32, CaseFault> {
-    match u32::from_str(word_at(fields, place)?) {
-        Ok(number) => Ok(number),
-        Err(_) => Err(CaseFault::Form),
-    }
-}
-
-pub fn u16_at(fields: &[&str], place: usize) -> Result<u16, CaseFault> {
-    match u16::from_str(word_at(fields, place)?) {
-        Ok(number) => Ok(number),
-        Err(_) => Err(CaseFault::Form),
-    }
-}
-
-pub fn u8_at(fields: &[&str], place: usize) -> Result<u8, CaseFault> {
-    match u8::from_str(word_at(fields, place)?) {
-        Ok(number) => Ok(number),
-        Err(_) => Err(CaseFault::Form),
+/// A truth value at a place of the fields: 0 or 1.
+pub fn truth_at(fields: &[&str], place: usize) -> Result<bool, CaseFault> {
+    match word_at(fields, place)? {
+        "0" => Ok(false),
+        "1" => Ok(true),
+        _ => Err(CaseFault::Form),
     }
 }
