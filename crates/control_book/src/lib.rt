@@ -18,6 +18,3 @@ pub use laws::{
     resets_are_told_again, rows_can_be_linked,
 };
 pub use registry::{PathState, Phase};
-
-#[cfg(test)]
-mod tests;

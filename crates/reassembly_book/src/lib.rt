@@ -8,8 +8,6 @@ mod beyond;
 mod book;
 mod call;
 mod laws;
-#[cfg(test)]
-mod tests;
 
 pub use book::ReassemblyBook;
 pub use call::{ReassemblyCall, ReassemblyReply};

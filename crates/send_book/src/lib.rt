@@ -12,8 +12,6 @@ mod kept;
 mod laws;
 mod mark;
 mod runs;
-#[cfg(test)]
-mod tests;
 mod tried;
 
 pub use book::{SendBook, marks_tile};
