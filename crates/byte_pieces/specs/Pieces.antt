@@ -1,5 +1,5 @@
 -- The representation: pieces of bytes that came side by side, in order.
-use Rattle.std.specs.Prelude.{ℕ, ◌≡◌, ◌==◌, ◌+◌, ◌-◌, ◌^◌, ◌<◌, ◌≤◌, max, nat_le, nat_lt, if◌then◌else◌, Option, Some, None, List, [], ◌∷◌, ◌++◌, suc, length, take, drop, replicate, map}
+use Rattle.std.specs.Prelude.{ℕ, ◌==◌, ◌+◌, ◌-◌, ◌<◌, ◌≤◌, max, nat_le, nat_lt, if◌then◌else◌, Option, Some, None, List, [], ◌∷◌, ◌++◌, suc, length, take, drop, replicate, map}
 use Rattle.byte_pieces.specs.declared.piece.Piece.{Piece}
 
 -- the position after a piece
@@ -23,6 +23,14 @@ AreOrdered from to (p ∷ ps) = (from ≤ p.at) × (0 < length p.bytes) × AreOr
 abbrev pub piece_of : ℕ → List ℕ → List Piece
 piece_of at [] = []
 piece_of at (byte ∷ bytes) = record { at = at; bytes = byte ∷ bytes } ∷ []
+
+-- a piece without its bytes below a position
+abbrev pub cut_front : ℕ → Piece → Piece
+cut_front to p = record { at = max p.at to; bytes = drop (to - p.at) p.bytes }
+
+-- a piece without its bytes at or past a position
+abbrev pub cut_end : ℕ → Piece → Piece
+cut_end to p = record { at = p.at; bytes = take (to - p.at) p.bytes }
 
 -- those of the bytes from this position on that stand in no piece
 abbrev pub fresh : ℕ → List ℕ → List Piece → List Piece
@@ -49,26 +57,32 @@ abbrev pub pieces_from : ℕ → List Piece → List Piece
 pieces_from to [] = []
 pieces_from to (p ∷ ps) =
     if nat_le (end_of p) to then pieces_from to ps
-    else record { at = max p.at to; bytes = drop (to - p.at) p.bytes } ∷ ps
+    else cut_front to p ∷ ps
 
 -- what lies below a position
 abbrev pub pieces_below : ℕ → List Piece → List Piece
 pieces_below to [] = []
 pieces_below to (p ∷ ps) =
-    if nat_lt p.at to then record { at = p.at; bytes = take (to - p.at) p.bytes } ∷ pieces_below to ps
+    if nat_lt p.at to then cut_end to p ∷ pieces_below to ps
     else []
+
+-- the last piece without its bytes at or past a position
+abbrev pub last_cut : ℕ → List Piece → List Piece
+last_cut to [] = []
+last_cut to (p ∷ []) = cut_end to p ∷ []
+last_cut to (p ∷ q ∷ ps) = p ∷ last_cut to (q ∷ ps)
 
 -- the bytes of the pieces that lie side by side from this position on
 abbrev pub side_by_side : ℕ → List Piece → List (List ℕ)
 side_by_side at [] = []
 side_by_side at (p ∷ ps) = if p.at == at then p.bytes ∷ side_by_side (end_of p) ps else []
 
--- each piece ends at or before 2^62
-abbrev pub AreBounded : List Piece → Type 0
-AreBounded [] = Unit {0}
-AreBounded (p ∷ ps) = (end_of p ≤ 2 ^ 62) × AreBounded ps
+-- each piece ends at or before a position
+abbrev pub AreBounded : ℕ → List Piece → Type 0
+AreBounded to [] = Unit {0}
+AreBounded to (p ∷ ps) = (end_of p ≤ to) × AreBounded to ps
 
--- how many pieces lie side by side from this position on, and where the last of them ends
+-- where the pieces that lie side by side from this position on end
 abbrev pub side_by_side_end : ℕ → List Piece → ℕ
 side_by_side_end at [] = at
 side_by_side_end at (p ∷ ps) = if p.at == at then side_by_side_end (end_of p) ps else at

@@ -1,8 +1,9 @@
 //! What the calls do to the pieces that are kept.
-ghost use Rattle.std.specs.Prelude.{◌≡◌, ℕ, ◌+◌, ◌^◌, ◌<◌, ◌≤◌, ◌++◌, ◌∷◌, length, sum_by, IfOk, OnOk, OnErr};
+ghost use Rattle.std.specs.Prelude.{◌≡◌, ◌+◌, ◌^◌, ◌<◌, ◌≤◌, ◌++◌, ◌∷◌, length, sum_by, IfOk, OnOk};
 ghost use Rattle.std.specs.List.{insert};
+ghost use Rattle.std.specs.List.Sorted.{IsNonDecreasingBy};
 ghost use Rattle.std.specs.VecDeque.{deque_len, deque_capacity};
-ghost use Rattle.byte_pieces.specs.Pieces.{AreBounded, piece_len, piece_of, fresh, begun_before, with_piece, with_pieces, pieces_from, pieces_below};
+ghost use Rattle.byte_pieces.specs.Pieces.{AreOrdered, piece_len, piece_of, fresh, begun_before, with_piece, with_pieces, pieces_from, pieces_below, last_cut};
 
 use crate::piece::Piece;
 use bytes::Bytes;
@@ -35,21 +36,25 @@ pub(crate) fn fresh_parts(
     at: u64,
     bytes: &[u8],
 ) -> Result<VecDeque<Piece>, AllocError>
-    requires { AreBounded pieces.now.items }
+    requires { AreOrdered 0 (2 ^ 62) pieces.now.items }
     ensures { IfOk result (λ parts. parts.items ≡ fresh at bytes.now pieces.now.items) }
 {
     let mut parts = VecDeque::new(alloc);
-    let mut at = at;
+    let mut next = at;
     let mut rest = bytes;
-    for index in 0..pieces.len() {
+    let first = begun_before(pieces, at).saturating_sub(1);
+    for index in first..pieces.len() {
+        if rest.is_empty() {
+            return Ok(parts);
+        }
         let piece = &pieces[index];
-        let gap = rest.len().min(piece.at.saturating_sub(at) as usize);
-        let known = rest.len().min(piece.end().saturating_sub(at) as usize);
-        push_part(alloc, &mut parts, at, &rest[..gap])?;
+        let gap = rest.len().min(piece.at.saturating_sub(next) as usize);
+        let known = rest.len().min(piece.end().saturating_sub(next) as usize);
+        push_part(alloc, &mut parts, next, &rest[..gap])?;
         rest = &rest[known..];
-        at = at.max(piece.end());
+        next = next.max(piece.end());
     }
-    push_part(alloc, &mut parts, at, rest)?;
+    push_part(alloc, &mut parts, next, rest)?;
     Ok(parts)
 }
 
@@ -65,17 +70,13 @@ pub(crate) fn count_bytes(pieces: &VecDeque<Piece>) -> u64
     count
 }
 
-/// How many pieces begin before this position.
+/// How many pieces begin before this position, found by halving.
 fn begun_before(pieces: &VecDeque<Piece>, at: u64) -> usize
+    requires { IsNonDecreasingBy (λ p. p.at) pieces.now.items }
     ensures value { result ≡ begun_before at pieces.now.items }
     ensures within { result ≤ deque_len pieces.now }
 {
-    for index in 0..pieces.len() {
-        if at <= pieces[index].at {
-            return index;
-        }
-    }
-    pieces.len()
+    pieces.partition_point(|piece| piece.at < at)
 }
 
 /// Puts a piece before the one at this index, for which there is room.
@@ -94,8 +95,10 @@ fn insert_at(pieces: &mut VecDeque<Piece>, index: usize, piece: Piece)
 
 /// Puts a piece where it belongs, for which there is room.
 fn put_piece(pieces: &mut VecDeque<Piece>, piece: Piece)
-    requires { deque_len pieces.old < deque_capacity pieces.old }
+    requires order { IsNonDecreasingBy (λ p. p.at) pieces.old.items }
+    requires room { deque_len pieces.old < deque_capacity pieces.old }
     ensures items { pieces.new.items ≡ with_piece piece pieces.old.items }
+    ensures order { IsNonDecreasingBy (λ p. p.at) pieces.new.items }
     ensures len { deque_len pieces.new ≡ deque_len pieces.old + 1 }
     ensures capacity { deque_capacity pieces.old ≤ deque_capacity pieces.new }
 {
@@ -105,7 +108,8 @@ fn put_piece(pieces: &mut VecDeque<Piece>, piece: Piece)
 
 /// Puts pieces where they belong, for all of which there is room.
 pub(crate) fn put_pieces(pieces: &mut VecDeque<Piece>, mut parts: VecDeque<Piece>)
-    requires { deque_len pieces.old + deque_len parts ≤ deque_capacity pieces.old }
+    requires order { IsNonDecreasingBy (λ p. p.at) pieces.old.items }
+    requires room { deque_len pieces.old + deque_len parts ≤ deque_capacity pieces.old }
     ensures { pieces.new.items ≡ with_pieces parts.items pieces.old.items }
 {
     while let Some(part) = parts.pop_front() {
@@ -118,25 +122,17 @@ pub(crate) fn drop_pieces(pieces: &mut VecDeque<Piece>, to: u64)
     ensures { pieces.new.items ≡ pieces_from to pieces.old.items }
 {
     while let Some(first) = pieces.front() {
-        if to < first.at || to - first.at < first.bytes.len() as u64 {
-            cut_first(pieces, to);
+        if first.ends_past(to) {
+            pieces[0].cut_front(to);
             return;
         }
         pieces.pop_front();
     }
 }
 
-/// Leaves out the bytes of the first piece that lie below this position.
-fn cut_first(pieces: &mut VecDeque<Piece>, to: u64)
-    requires some { 0 < length pieces.old.items }
-{
-    let cut = to.saturating_sub(pieces[0].at);
-    pieces[0].bytes.advance(cut as usize);
-    pieces[0].at += cut;
-}
-
 /// Leaves out the bytes at or past this position.
 pub(crate) fn cut_pieces(pieces: &mut VecDeque<Piece>, to: u64)
+    requires { AreOrdered 0 (2 ^ 62) pieces.old.items }
     ensures { pieces.new.items ≡ pieces_below to pieces.old.items }
 {
     let begun = begun_before(pieces, to);
@@ -145,10 +141,11 @@ pub(crate) fn cut_pieces(pieces: &mut VecDeque<Piece>, to: u64)
 }
 
 /// Leaves out the bytes of the last piece that lie at or past this position.
-fn cut_last(pieces: &mut VecDeque<Piece>, to: u64) {
+fn cut_last(pieces: &mut VecDeque<Piece>, to: u64)
+    ensures { pieces.new.items ≡ last_cut to pieces.old.items }
+{
     let len = pieces.len();
     if len > 0 {
-        let kept = to.saturating_sub(pieces[len - 1].at);
-        pieces[len - 1].bytes.truncate(kept as usize);
+        pieces[len - 1].cut_end(to);
     }
 }

@@ -1,5 +1,5 @@
 //! Bytes that are lent part by part.
-ghost use Rattle.std.specs.Prelude.{◌≡◌, ◌≤◌, drop};
+ghost use Rattle.std.specs.Prelude.{◌≡◌, ◌^◌};
 ghost use Rattle.std.specs.Iterator.{YieldsFirstBy, item_count};
 ghost use Rattle.byte_pieces.specs.Pieces.{AreBounded, side_by_side};
 
@@ -23,18 +23,18 @@ impl<'a> Model for Parts<'a> {
 
     ghost Value = { List (List ℕ) };
 
-    ghost use Rattle.std.specs.Prelude.{◌≤◌, length, drop};
+    ghost use Rattle.std.specs.Prelude.{◌^◌, drop};
     ghost use Rattle.byte_pieces.specs.Pieces.{AreBounded, side_by_side};
 
     ghost view = { λ parts. side_by_side parts.at (drop parts.index parts.pieces.now.items) };
 
-    ghost invariant = { λ parts. AreBounded (drop parts.index parts.pieces.now.items) };
+    ghost invariant = { λ parts. AreBounded (2 ^ 62) (drop parts.index parts.pieces.now.items) };
 }
 
 impl<'a> Parts<'a> {
     /// The pieces that lie side by side from this position on.
     pub(crate) fn of(pieces: &'a VecDeque<Piece>, at: u64) -> Self
-        requires { AreBounded pieces.now.items }
+        requires { AreBounded (2 ^ 62) pieces.now.items }
         ensures { result ≡ side_by_side at pieces.now.items }
     {
         Parts {
