@@ -1,5 +1,5 @@
 -- What lists of calls promise.
-use Rattle.std.specs.Prelude.{ℕ, ◌≡◌, ◌+◌, ◌-◌, ◌<◌, ◌≤◌, ◌↔◌, ◌⊎◌, true, nat_lt, if◌then◌else◌, Option, Some, None, List, [], ◌∷◌, length, take, drop}
+use Rattle.std.specs.Prelude.{ℕ, ◌≡◌, ◌+◌, ◌-◌, ◌<◌, ◌≤◌, ◌↔◌, ◌⊎◌, ◌&&◌, true, nat_le, nat_lt, if◌then◌else◌, Option, Some, None, List, [], ◌∷◌, length, take, drop, slice_get}
 use Rattle.subflow_recv.specs.Receiving.{Receiving, filled, window_end, is_outside, after_accept, after_advance, after_forget_from, octet_at}
 
 -- what can happen to a side to which parts of one list of octets come
@@ -40,6 +40,21 @@ after_payloads (p ∷ ps) v = after_payloads ps (after_accept p.0 p.1 v)
 abbrev pub KeptOctetsStay : Type 0
 KeptOctetsStay = (payloads : List (ℕ × List ℕ)) (v : Receiving) (pos octet : ℕ)
     → octet_at pos v ≡ Some octet → octet_at pos (after_payloads payloads v) ≡ Some octet
+
+-- the octet that a payload has for a position, if it has one; its first octet stands at `at`
+abbrev pub payload_octet : ℕ → ℕ → List ℕ → Option ℕ
+payload_octet pos at payload = if nat_lt pos at then None else slice_get payload (pos - at)
+
+-- the first one, or else the second
+abbrev pub first_of : Option ℕ → Option ℕ → Option ℕ
+first_of None other = other
+first_of (Some octet) other = Some octet
+
+-- a position in the window keeps its octet, or else takes that of the payload; no other position changes
+abbrev pub WhatComesFirstIsKept : Type 0
+WhatComesFirstIsKept = (v : Receiving) (at : ℕ) (payload : List ℕ) (pos : ℕ)
+    → octet_at pos (after_accept at payload v)
+    ≡ (if nat_le v.edge pos && nat_lt pos (window_end v) then first_of (octet_at pos v) (payload_octet pos at payload) else octet_at pos v)
 
 -- at or past the position nothing is kept, and all before it is as it was
 abbrev pub ForgottenOctetsAreGone : Type 0

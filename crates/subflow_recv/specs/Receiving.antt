@@ -1,5 +1,5 @@
 -- The receiving side of a subflow by position, and what each call makes of it (RFC 9293, sections 3.4 and 3.10.7.4).
-use Rattle.std.specs.Prelude.{ℕ, zero, suc, ◌+◌, ◌-◌, ◌||◌, Bool, nat_le, nat_lt, if◌then◌else◌, Option, Some, None, List, [], ◌∷◌, length, take, drop}
+use Rattle.std.specs.Prelude.{ℕ, zero, suc, ◌+◌, ◌-◌, ◌||◌, Bool, nat_le, nat_lt, if◌then◌else◌, Option, None, List, [], ◌∷◌, length, take, drop}
 use Rattle.subflow_recv.specs.declared.acceptance.Acceptance.{Acceptance}
 use Rattle.subflow_recv.specs.declared.acceptance.Acceptance.TheVariants.{Kept, Outside}
 -- octets by their places, what comes where nothing is kept, the octets in order, the first places alone, how many are kept
@@ -26,13 +26,13 @@ abbrev pub is_outside : ℕ → List ℕ → Receiving → Bool
 is_outside pos payload v =
     nat_le (length payload) 0 || (nat_le (pos + length payload) v.edge || nat_le (window_end v) pos)
 
--- the octets of this payload that are in the window, by their places from the edge on
-abbrev pub in_window : ℕ → List ℕ → Receiving → List (Option ℕ)
-in_window pos payload v = drop v.edge (by_place pos (take (window_end v - pos) payload))
+-- those of the octets from this position on that stand where none is kept are kept
+abbrev pub with_octets : ℕ → List ℕ → Receiving → Receiving
+with_octets pos octets v = record v { places = merged v.places (drop v.edge (by_place pos octets)) }
 
--- those that stand where no octet is kept are kept
+-- what lies past the window is left out
 abbrev pub after_accept : ℕ → List ℕ → Receiving → Receiving
-after_accept pos payload v = record v { places = merged v.places (in_window pos payload v) }
+after_accept pos payload v = with_octets pos (take (window_end v - pos) payload) v
 
 -- how many octets are kept that were not kept before
 abbrev pub newly_kept : ℕ → List ℕ → Receiving → ℕ

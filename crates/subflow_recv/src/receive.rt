@@ -1,4 +1,4 @@
-ghost use Rattle.std.specs.Prelude.{◌≡◌, ◌+◌, ◌^◌, ◌<◌, ◌≤◌, length, All, IfOk, OnOk, OnErr};
+ghost use Rattle.std.specs.Prelude.{◌≡◌, ◌+◌, ◌-◌, ◌^◌, ◌<◌, ◌≤◌, length, take, All, IfOk, OnOk, OnErr};
 ghost use Rattle.std.specs.List.{concat};
 
 use crate::acceptance::Acceptance;
@@ -22,7 +22,7 @@ impl Model for SubflowRecv {
 
     ghost Value = { Receiving };
 
-    ghost use Rattle.std.specs.Prelude.{◌≤◌, length};
+    ghost use Rattle.std.specs.Prelude.{◌<◌, ◌≤◌, length};
 
     ghost view = { λ side. record { edge = side.kept.from; window = side.window; places = side.kept.places } };
 
@@ -30,7 +30,7 @@ impl Model for SubflowRecv {
 }
 
 impl SubflowRecv {
-    ghost use Rattle.subflow_recv.specs.Receiving.{filled, opening, window_end, acceptance_of, after_accept, after_advance, after_forget_from};
+    ghost use Rattle.subflow_recv.specs.Receiving.{filled, kept_count, opening, window_end, is_outside, with_octets, acceptance_of, after_accept, after_advance, after_forget_from};
 
     /// A side to which nothing has come: the edge is position 0, that of the peer's SYN. From the edge on `window`
     /// positions are in the window, at least one. Takes no memory.
@@ -84,19 +84,36 @@ impl SubflowRecv {
         if self.is_outside(pos, payload) {
             return Ok(Acceptance::Outside);
         }
-        let room = self.window_end() - pos;
-        let count = self.keep(pos, &payload[..payload.len().min(room as usize)])?;
+        let count = self.keep(pos, self.before_window_end(pos, payload))?;
         Ok(Acceptance::Kept(count))
     }
 
     /// Whether no octet of the payload is in the window.
-    fn is_outside(&self, pos: Pos, payload: &[u8]) -> bool {
+    fn is_outside(&self, pos: Pos, payload: &[u8]) -> bool
+        requires { pos + length payload.now ≤ 2 ^ 62 }
+        ensures { result ≡ is_outside pos payload.now self.now }
+    {
         payload.is_empty() || pos + payload.len() as u64 <= self.edge() || self.window_end() <= pos
     }
 
-    /// Keeps octets that don't lie past the window, and counts the new ones.
-    fn keep(&mut self, pos: Pos, octets: &[u8]) -> Result<u64, AllocError> {
-        self.kept.put(pos, octets)
+    /// The octets of the payload that don't lie past the window.
+    fn before_window_end<'a>(&self, pos: Pos, payload: &'a [u8]) -> &'a [u8]
+        ensures { result.now ≡ take (window_end self.now - pos) payload.now }
+    {
+        let room = self.window_end().saturating_sub(pos);
+        &payload[..payload.len().min(room as usize)]
+    }
+
+    /// Keeps those of the octets that stand at a position without one, none of them past the window, and counts them.
+    fn keep(&mut self, pos: Pos, octets: &[u8]) -> Result<u64, AllocError>
+        requires bound { pos + length octets.now ≤ 2 ^ 62 }
+        requires within { pos + length octets.now ≤ window_end self.old }
+        ensures ok { OnOk result (self.new ≡ with_octets pos octets.now self.old) }
+        ensures count { IfOk result (λ count. count ≡ kept_count self.new.places - kept_count self.old.places) }
+        ensures err { OnErr result (self.new ≡ self.old) }
+    {
+        let count = self.kept.put(pos, octets)?;
+        Ok(count)
     }
 
     /// The octets in order, from the edge on up to the first position without one, lent part by part. No part is empty.
@@ -114,6 +131,7 @@ impl SubflowRecv {
         requires within { to ≤ self.old.edge + length (filled self.old.places) }
         ensures { self.new ≡ after_advance to self.old }
     {
+        let _top = self.kept.top();
         self.kept.drop_front(to);
     }
 

@@ -6,7 +6,10 @@ use std::test::Fail;
 fn a_window_of_four(rt: HostRuntime) -> Result<(), Fail> {
     let mut side = SubflowRecv::new(rt.alloc(), 4);
     side.pass();
-    assert_eq!(rt; (side.edge(), side.window_end(), side.held_end()), (1, 5, 1));
+    assert_eq!(rt;
+        (side.edge(), side.window_end(), side.held_end()),
+        (1, 5, 1)
+    );
     assert_eq!(rt; side.accept(3, b"cdefg")?, Acceptance::Kept(2));
     assert_eq!(rt; side.accept(5, b"e")?, Acceptance::Outside);
     assert_eq!(rt; side.accept(0, b"?")?, Acceptance::Outside);
