@@ -15,6 +15,7 @@ fn assert_in_order(rt: &impl Abort, kept: &BytePieces, parts: [&[u8]; 4]) {
 fn bytes_in_any_order(rt: HostRuntime) -> Result<(), Fail> {
     let mut kept = BytePieces::new(rt.alloc(), 10);
     assert_eq!(rt; kept.put(14, b"ef")?, 2);
+    assert_eq!(rt; kept.gap_len(), 4);
     assert_eq!(rt; kept.put(8, b"xxab")?, 2);
     assert_eq!(rt; kept.count_new(11, b"BCDEFG"), 3);
     assert_eq!(rt; kept.put(11, b"BCDEFG")?, 3);
