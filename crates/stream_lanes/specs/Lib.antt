@@ -1,6 +1,9 @@
 pub mod Duo
 pub mod Example
+pub mod Holding
 pub mod Lane
+pub mod Marks
 pub mod Moves
 pub mod Streams
+pub mod View
 pub mod Words

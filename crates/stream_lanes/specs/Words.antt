@@ -1,20 +1,21 @@
 -- Words on lists, whose items are numbered.
-use Rattle.std.specs.Prelude.{ℕ, suc, ◌≡◌, List, [], ◌∷◌, Option, Some, IfSome, slice_get}
+use Rattle.std.specs.Prelude.{ℕ, ◌≡◌, ◌+◌, List, Option, Some, slice_get}
 
 -- P holds of each item
-abbrev pub Every : {X : Type 0} → (X → Type 0) → List X → Type 0
-Every P [] = Unit {0}
-Every P (x ∷ xs) = P x × Every P xs
+pub record Every {X : Type 0} (P : X → Type 0) (xs : List X) : Type 0 where
+  pub each : (i : ℕ) (x : X) → slice_get xs i ≡ Some x → P x
 
--- P holds of each item and its number, where the first item has the number n
-abbrev pub From : {X : Type 0} → (ℕ → X → Type 0) → ℕ → List X → Type 0
-From P n [] = Unit {0}
-From P n (x ∷ xs) = P n x × From P (suc n) xs
+-- P holds of each item and its number, where the first item has the number `first`
+pub record From {X : Type 0} (P : ℕ → X → Type 0) (first : ℕ) (xs : List X) : Type 0 where
+  pub each : (i n : ℕ) (x : X) → n ≡ first + i → slice_get xs i ≡ Some x → P n x
 
--- P holds of each place that is filled and what is there, where the first place is n
-abbrev pub Cells : {X : Type 0} → (ℕ → X → Type 0) → ℕ → List (Option X) → Type 0
-Cells P n places = From (λ k place. IfSome place (P k)) n places
+-- P holds of each place that is filled and what is there, where the first place is `first`
+pub record Cells {X : Type 0} (P : ℕ → X → Type 0) (first : ℕ) (places : List (Option X)) : Type 0 where
+  pub each : (i n : ℕ) (x : X) → n ≡ first + i → slice_get places i ≡ Some (Some x) → P n x
 
 -- P holds of one of the items
-abbrev pub Has : {X : Type 0} → (X → Type 0) → List X → Type 0
-Has {X} P xs = (i : ℕ) × (x : X) × (slice_get xs i ≡ Some x) × P x
+pub record Has {X : Type 0} (P : X → Type 0) (xs : List X) : Type 0 where
+  pub at : ℕ
+  pub item : X
+  pub there : slice_get xs at ≡ Some item
+  pub holds : P item
