@@ -273,3 +273,24 @@ grant_is_next path n from ms e below new within none = ⊎_elim early (λ not_ea
         let same : get_or ms n there.0 ≡ there.0 = get_or_from_slice_get ms n there.0 there.0 there.1 in
         let free : is_free_for path (Free no_paths) ≡ true = ap not none in
         absurd (both_ways _ (sym (ap (is_free_for path) (same ∙ is_new)) ∙ fails) free)
+
+-- what is acknowledged is spent for every path
+pub acked_spent : (path n : ℕ) (ms : List ByteMark) → AreAcked n ms → n ≤ spent_count path ms
+acked_spent path n [] h = omega (arith, h)
+acked_spent path zero (m ∷ ms) h = omega arith
+acked_spent path (suc n) (m ∷ ms) h =
+    omega (arith, sum_by-cons (λ (x : ByteMark). cond (spent path (Some x)) 1 0) m ms, ap (λ b. cond {A = ℕ} b 1 0) (is_spent m h.0), acked_spent path n ms h.1)
+  where
+    is_spent : (m : ByteMark) → is_acked m ≡ true → spent path (Some m) ≡ true
+    is_spent Acked e = refl
+    is_spent (Held holder tried) e = cc
+    is_spent (Free tried) e = cc
+
+-- a byte among the acknowledged ones is not new
+pub acked_is_spent : (n place : ℕ) (ms : List ByteMark) (m : ByteMark) → AreAcked n ms → place < n → slice_get ms place ≡ Some m → m ≡ Free no_paths → ⊥
+acked_is_spent n place [] m h below e new = cc
+acked_is_spent zero place (x ∷ ms) m h below e new = absurd (omega (arith, below))
+acked_is_spent (suc n) zero (x ∷ ms) m h below e new =
+    let same : x ≡ Free no_paths = (let s : x ≡ m = cc in s ∙ new) in
+    both_ways _ (ap is_acked same) h.0
+acked_is_spent (suc n) (suc place) (x ∷ ms) m h below e new = acked_is_spent n place ms m h.1 (omega (arith, below)) e new

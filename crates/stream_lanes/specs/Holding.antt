@@ -127,7 +127,7 @@ HasPlace sent place = Has (λ c. c.place ≡ place) sent
 pub record PlaceHolds (v : View) (sent : List Cell) (edge at : ℕ) (bytes : List ℕ) : Type 0 where
   pub each : From (IsSent (HasPlace sent) v) at bytes
   pub within : edge + length bytes ≤ length sent
-  pub identity : v.alone ≡ true → at ≡ edge
+  pub identity : v.alone ≡ true → 1 ≤ length bytes → at ≡ edge
 
 abbrev pub AskHolds : View → List Cell → Bool → ℕ → Ask → Type 0
 AskHolds v sent opened edge Nothing = Unit {0}

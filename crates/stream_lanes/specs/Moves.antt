@@ -76,7 +76,7 @@ is_whole None p = false
 is_whole (Some e) p = max (place_after 0 p.sent) (min p.heard e) == e
 
 abbrev pub may_finish : Lane → Bool
-may_finish p = if p.sender_plain then is_whole p.known_end p else p.fin_acked
+may_finish p = p.opened && (if p.sender_plain then is_whole p.known_end p else p.fin_acked)
 
 abbrev pub piece_of : Bool → Lane → Mapping → DataCopy
 piece_of mapped p m = record {
