@@ -6,3 +6,5 @@ pub mod Ending
 pub mod MarkLists
 pub mod Moving
 pub mod Placing
+pub mod Sends
+pub mod Views
