@@ -58,7 +58,7 @@ module _ {Q : ℕ → Type 0} {v u : View} (l : Later Q v u) where
   pub arrived_later : {granted granted' : ℕ → Type 0} (b : Arriving) → ((place : ℕ) → granted place → granted' place)
       → ArrivedHolds granted v b → ArrivedHolds granted' u b
   arrived_later b g h = record {
-    read = omega (arith, h.read, ap length l.written, grown v.written l.more);
+    top = omega (arith, h.top, ap length l.written, grown v.written l.more);
     cells = Cells-map (sent_later g) h.cells;
     end = IfSome-map b.known_end (λ e is. l.end e is) h.end;
     before = λ place below. g place (h.before place below);

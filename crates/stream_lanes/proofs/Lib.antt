@@ -1,3 +1,4 @@
+pub mod Arrivals
 pub mod Bytes
 pub mod Later
 pub mod Lists
@@ -6,5 +7,6 @@ pub mod Ending
 pub mod MarkLists
 pub mod Moving
 pub mod Placing
+pub mod Reading
 pub mod Sends
 pub mod Views

@@ -61,7 +61,7 @@ row_below {P} bound first bytes below within row = at (length bytes) refl
 
 pub received_written : {granted : ℕ → Type 0} (v : View) (b : Arriving) → ArrivedHolds granted v b → received b ≤ length v.written
 received_written v b h =
-    row_below (length v.written) b.read (filled b.places) (λ n x sent. slice_get_within v.written n x sent.written) h.read (From-filled h.cells)
+    row_below (length v.written) b.read (filled b.places) (λ n x sent. slice_get_within v.written n x sent.written) (omega (arith, h.top)) (From-filled h.cells)
 
 pub view_fits : (f : Flags) (s : Sending) (b : Arriving) → ((view_of f s b).fallen ≡ true → (view_of f s b).alone ≡ true)
     → received b ≤ length s.written → SendHolds s (view_of f s b) → ViewFits (view_of f s b)

@@ -2,7 +2,7 @@
 use Rattle.std.specs.Prelude.{ℕ, ◌≡◌, ◌+◌, ◌<◌, ◌≤◌, Bool, true, false, Option, Some, IfSome, List, [], length, take, slice_get}
 use Rattle.send_book.specs.declared.mark.ByteMark.{ByteMark}
 use Rattle.send_book.specs.State.{Sending, acked_len}
-use Rattle.reassembly_book.specs.State.{Arriving}
+use Rattle.reassembly_book.specs.State.{Arriving, top}
 use Rattle.stream_lanes.specs.Words.{Every, From, Cells, Has}
 use Rattle.stream_lanes.specs.Marks.{spent, spent_count, AreAcked, AreNew}
 use Rattle.stream_lanes.specs.Lane.{Cell, Mapping, DataCopy, AckCopy, Told, Ask, Lane}
@@ -33,7 +33,7 @@ pub record IsSent (granted : ℕ → Type 0) (v : View) (place byte : ℕ) : Typ
 
 -- The reassembly book: each byte in it was sent, and an end is that of the stream.
 pub record ArrivedHolds (granted : ℕ → Type 0) (v : View) (b : Arriving) : Type 0 where
-  pub read : b.read ≤ length v.written
+  pub top : top b ≤ length v.written
   pub cells : Cells (IsSent granted v) b.read b.places
   pub end : IfSome b.known_end (IsEnd v.end)
   pub before : (place : ℕ) → place < b.read → granted place
