@@ -7,6 +7,8 @@ pub mod Ending
 pub mod MarkLists
 pub mod Moving
 pub mod Placing
+pub mod Granting
 pub mod Reading
+pub mod Replies
 pub mod Sends
 pub mod Views

@@ -242,6 +242,14 @@ grant_first path max standby b span e =
         let first : position (is_free_for path) b.marks ≡ Some from = owned (is_for path b.owner) from is in
         first ∙ ap Some (begins from _ h)
 
+-- a place that passes is one of the list
+pub position_within : {X : Type 0} (test : X → Bool) (xs : List X) (from : ℕ) → position test xs ≡ Some from → from < length xs
+position_within test xs from e = at (nat_lt (position_or_len test xs) (length xs)) refl e
+  where
+    at : (b : Bool) → nat_lt (position_or_len test xs) (length xs) ≡ b → cond b (Some (position_or_len test xs)) None ≡ Some from → from < length xs
+    at true is h = let same : position_or_len test xs ≡ from = cc in omega (arith, same, ltb-true _ _ is)
+    at false is h = cc
+
 -- where the bytes below n are spent and the others new, that is byte n
 pub grant_is_next : (path n from : ℕ) (ms : List ByteMark) → position (is_free_for path) ms ≡ Some from
     → ((place : ℕ) → place < n → spent path (slice_get ms place) ≡ true) → AreNew n ms → from < length ms → contains path no_paths ≡ false → from ≡ n

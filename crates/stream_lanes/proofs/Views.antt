@@ -5,6 +5,7 @@ use Rattle.std.proofs.lemmas.Option.{slice_get_within, same_Some}
 use Rattle.std.specs.List.{slice_get}
 use Rattle.send_book.specs.State.{Sending, acked_len}
 use Rattle.reassembly_book.specs.State.{Arriving, filled, received}
+use Rattle.reassembly_book.specs.Steps.{edge}
 use Rattle.stream_lanes.specs.Words.{Every, From, Cells, Has}
 use Rattle.stream_lanes.specs.Moves.{Flags}
 use Rattle.stream_lanes.specs.View.{View, view_of, all_in, end_of, IsEnd}
@@ -90,3 +91,7 @@ flags_fit f s b = record {
   sender = λ is. ap (λ x. x || f.receiver) is;
   receiver = λ is. or_right f.sender f.receiver is;
 }
+
+-- no more has arrived than is taken
+pub received_room : {granted : ℕ → Type 0} (v : View) (b : Arriving) → v.room ≡ edge b → ArrivedHolds granted v b → received b ≤ edge b
+received_room v b room h = row_below (edge b) b.read (filled b.places) (λ n x sent. omega (arith, sent.room, room)) (omega arith) (From-filled h.cells)
