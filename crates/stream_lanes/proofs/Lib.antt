@@ -3,6 +3,8 @@ pub mod Bytes
 pub mod Later
 pub mod Lists
 pub mod Local
+pub mod Directions
+pub mod Duos
 pub mod Ending
 pub mod MarkLists
 pub mod Moving
