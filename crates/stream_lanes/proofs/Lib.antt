@@ -8,7 +8,9 @@ pub mod Duos
 pub mod Ending
 pub mod MarkLists
 pub mod Moving
+pub mod Pipes
 pub mod Placing
+pub mod Promises
 pub mod Granting
 pub mod Reading
 pub mod Replies

@@ -1,0 +1,170 @@
+-- What is promised of a connection over every list of events.
+use Rattle.std.specs.Prelude.{ℕ, ◌≡◌, ◌+◌, ◌-◌, ◌^◌, ◌<◌, ◌≤◌, Bool, true, false, ◌||◌, if◌then◌else◌, Option, Some, None, List, [], length, slice_get}
+use Rattle.pipe_model.specs.declared.pipe.Pipe.{Pipe}
+use Rattle.pipe_model.specs.declared.pipe.PipeStep.{PipeStep}
+use Rattle.pipe_model.specs.declared.pipe.PipeStep.TheVariants.{Ack as AckStep}
+use Rattle.pipe_model.specs.Pipe.{refusal, after as after_step}
+use Rattle.pipe_model.specs.Prefix.{IsPrefix}
+use Rattle.send_book.specs.declared.call.SendCall.TheVariants.{AckIn}
+use Rattle.send_book.specs.declared.call.SendReply.{SendReply}
+use Rattle.send_book.specs.declared.call.SendReply.TheVariants.{AckFuture}
+use Rattle.send_book.specs.State.{acked_len}
+use Rattle.send_book.specs.Laws.{IsAckedAt}
+use Rattle.send_book.specs.Steps.{reply_to as send_reply}
+use Rattle.reassembly_book.specs.declared.call.ReassemblyCall.TheVariants.{Place, Fin}
+use Rattle.reassembly_book.specs.declared.call.ReassemblyReply.{ReassemblyReply}
+use Rattle.reassembly_book.specs.declared.call.ReassemblyReply.TheVariants.{Beyond, FinClash}
+use Rattle.reassembly_book.specs.State.{received}
+use Rattle.reassembly_book.specs.Steps.{reply_to as arrival_reply}
+use Rattle.stream_lanes.specs.Words.{Every, From}
+use Rattle.stream_lanes.specs.Lane.{Cell, Mapping, DataCopy, AckCopy, Ask, Lane}
+use Rattle.stream_lanes.specs.Lane.Ask.{AskGrant, AskAckIn, AskPlace, AskFin, AskAckOut}
+use Rattle.stream_lanes.specs.Moves.{Move, clashes}
+use Rattle.stream_lanes.specs.Moves.Move.{Open, Learn}
+use Rattle.stream_lanes.specs.Streams.{Direction, StreamEvent}
+use Rattle.stream_lanes.specs.Streams.StreamEvent.{Write, Moves, Asks}
+use Rattle.stream_lanes.specs.Duo.{Modes, Duo, Event, after_event, after_events, opening}
+use Rattle.stream_lanes.specs.Duo.Event.{ToB, ToA, FallA}
+
+-- P holds of a connection at every moment, whatever happens to it
+abbrev pub Always : (Duo → Type 0) → Type 0
+Always P = (paths buffer capacity : ℕ) (events : List Event) → P (after_events events (opening paths buffer capacity))
+
+-- P holds of both directions
+abbrev pub BothWays : (Direction → Type 0) → Duo → Type 0
+BothWays P w = P w.ab × P w.ba
+
+-- what the reader got is a prefix of what the writer wrote
+abbrev pub ReadsAPrefix : Direction → Type 0
+ReadsAPrefix d = IsPrefix d.reader.out d.send.written
+
+-- every acknowledged byte was received, and no more was received than was written
+pub record AcknowledgesReceivedBytes (d : Direction) : Type 0 where
+  pub each : (place : ℕ) → IsAckedAt place d.send → place < received d.arrived
+  pub count : acked_len d.send.marks ≤ received d.arrived
+  pub written : received d.arrived ≤ length d.send.written
+  -- where DATA_FIN is acknowledged, the stream is closed and all of it was received
+  pub fin : d.send.fin ≡ true → (d.send.closed ≡ true) × (received d.arrived ≡ length d.send.written)
+
+-- a reader that was told the end has all bytes of a closed stream
+abbrev pub EndsAtTheWhole : Direction → Type 0
+EndsAtTheWhole d = d.reader.told ≡ true → (d.send.closed ≡ true) × (d.reader.out ≡ d.send.written)
+
+-- nothing is read or written after the end was told
+pub record NothingCame (d later : Direction) : Type 0 where
+  pub read : later.reader ≡ d.reader
+  pub written : later.send.written ≡ d.send.written
+
+abbrev pub NothingFollowsTheEnd : Duo → Type 0
+NothingFollowsTheEnd w = (more : List Event) → (w.ab.reader.told ≡ true → NothingCame w.ab (after_events more w).ab)
+    × (w.ba.reader.told ≡ true → NothingCame w.ba (after_events more w).ba)
+
+-- a reader that was told of an abort is never told the end
+abbrev pub AbortedIsNoEnd : Duo → Type 0
+AbortedIsNoEnd w = (more : List Event) → (w.ab.reader.stopped ≡ true → (after_events more w).ab.reader.told ≡ false)
+    × (w.ba.reader.stopped ≡ true → (after_events more w).ba.reader.told ≡ false)
+
+-- a direction as a pipe
+abbrev pub pipe_of : Direction → Pipe
+pipe_of d = record {
+  written = d.send.written;
+  closed = d.send.closed;
+  read = d.arrived.read;
+  acked = acked_len d.send.marks;
+  told_end = d.reader.told;
+}
+
+-- a step tells as received what was received
+abbrev pub TellsReceived : ℕ → PipeStep → Type 0
+TellsReceived count (AckStep to received) = received ≡ count
+TellsReceived count _ = Unit {0}
+
+-- one step that the pipe allows
+pub record IsStep (count : ℕ) (p q : Pipe) : Type 0 where
+  pub step : PipeStep
+  pub allowed : refusal step p ≡ None
+  pub becomes : q ≡ after_step step p
+  pub tells : TellsReceived count step
+
+pub data StepsOrStays (count : ℕ) (p q : Pipe) : Type 0 where
+  stays : q ≡ p → StepsOrStays count p q
+  steps : IsStep count p q → StepsOrStays count p q
+
+abbrev pub IsOneStepOrNone : Direction → Direction → Type 0
+IsOneStepOrNone d later = StepsOrStays (received d.arrived) (pipe_of d) (pipe_of later)
+
+-- each event is on each pipe one step or none
+abbrev pub EachEventIsOneStep : Duo → Type 0
+EachEventIsOneStep w = (event : Event) → IsOneStepOrNone w.ab (after_event event w).ab × IsOneStepOrNone w.ba (after_event event w).ba
+
+-- the answers that would say that the two sides don't agree
+abbrev pub is_ack_future : SendReply → Bool
+is_ack_future (AckFuture written) = true
+is_ack_future _ = false
+
+abbrev pub is_beyond_or_clash : ReassemblyReply → Bool
+is_beyond_or_clash (Beyond edge) = true
+is_beyond_or_clash (FinClash fin at) = true
+is_beyond_or_clash _ = false
+
+abbrev pub ask_refused : Ask → Direction → Bool
+ask_refused (AskAckIn next window) d = is_ack_future (send_reply d.send (AckIn next window))
+ask_refused (AskPlace at bytes) d = is_beyond_or_clash (arrival_reply d.arrived (Place at bytes))
+ask_refused (AskFin at) d = is_beyond_or_clash (arrival_reply d.arrived (Fin at))
+ask_refused _ d = false
+
+abbrev pub mapping_clashes : Option Mapping → Lane → Bool
+mapping_clashes None p = false
+mapping_clashes (Some m) p = clashes m p.maps
+
+abbrev pub copy_clashes : Option DataCopy → Lane → Bool
+copy_clashes None p = false
+copy_clashes (Some d) p = mapping_clashes d.mapping p
+
+abbrev pub move_refused : Move → Lane → Bool
+move_refused (Learn copy) p = copy_clashes (slice_get p.datas copy) p
+move_refused _ p = false
+
+abbrev pub lane_refused : (Lane → Bool) → Option Lane → Bool
+lane_refused test None = false
+lane_refused test (Some p) = test p
+
+-- the event is answered by Beyond, FinClash or AckFuture, or its mapping clashes with one that was learned
+abbrev pub is_refused : StreamEvent → Direction → Bool
+is_refused (Moves path move) d = lane_refused (move_refused move) (slice_get d.lanes path)
+is_refused (Asks path) d = lane_refused (λ p. ask_refused p.asking d) (slice_get d.lanes path)
+is_refused _ d = false
+
+abbrev pub NothingIsRefused : Direction → Type 0
+NothingIsRefused d = (event : StreamEvent) → is_refused event d ≡ false
+
+-- All positions and places of a lane lie at or below a number, or one past it for what comes after a FIN.
+pub record MappingIsShort (n : ℕ) (m : Mapping) : Type 0 where
+  pub positions : m.pos + m.len ≤ n
+  pub places : (j : ℕ) → j < m.len → m.place + j < n
+
+pub record LaneIsShort (n : ℕ) (p : Lane) : Type 0 where
+  pub sent : length p.sent ≤ n
+  pub cells : Every (λ c. c.place < n) p.sent
+  pub pieces : Every (MappingIsShort n) p.pieces
+  pub datas : Every (λ d. d.pos + length d.bytes ≤ n) p.datas
+  pub data_fins : Every (λ e. e ≤ n) p.data_fins
+  pub fins : Every (λ pos. pos ≤ n) p.fins
+  pub acks : Every (λ a. (a.sub ≤ n + 1) × (a.next ≤ n + 1)) p.acks
+  pub edge : p.edge ≤ n
+  pub maps : Every (MappingIsShort n) p.maps
+  pub latest : p.latest.next ≤ n + 1
+
+-- a path has no more bytes than were written, since each was granted to it once
+abbrev pub PathsAreShort : Direction → Type 0
+PathsAreShort d = Every (LaneIsShort (length d.send.written)) d.lanes
+
+-- Only path 0 carried bytes, and the byte at each of its positions has that number as its place.
+pub record IsPlain (d : Direction) : Type 0 where
+  pub only : (path : ℕ) (p : Lane) → (path ≡ 0 → ⊥) → slice_get d.lanes path ≡ Some p → p.sent ≡ []
+  pub right : (p : Lane) → slice_get d.lanes 0 ≡ Some p → From (λ pos c. c.place ≡ pos) 0 p.sent
+
+pub record FallsAreRight (w : Duo) : Type 0 where
+  pub a : w.modes.plain_a ≡ true → (w.modes.begun ≡ false) × (w.modes.answered ≡ false)
+  pub b : w.modes.plain_b ≡ true → w.modes.answered ≡ false
+  pub plain : (w.modes.plain_a || w.modes.plain_b) ≡ true → BothWays IsPlain w
