@@ -49,7 +49,7 @@ direction_later f g d go fallen h =
     }
 
 -- a side that fell is one that answered no join, and neither did the other
-fallen_ab : (m : Modes) → ModesHold m → (m.plain_a || m.plain_b) ≡ true → not m.answered ≡ true
+pub fallen_ab : (m : Modes) → ModesHold m → (m.plain_a || m.plain_b) ≡ true → not m.answered ≡ true
 fallen_ab m h is = ⊎_elim (λ a. at m.answered refl (h.a a)) (λ b. ap not (h.b b)) (or_cases m.plain_a m.plain_b is)
   where
     at : (c : Bool) → m.answered ≡ c → m.begun ≡ false → not m.answered ≡ true

@@ -5,12 +5,14 @@ pub mod Lists
 pub mod Local
 pub mod Directions
 pub mod Duos
+pub mod Ended
 pub mod Ending
 pub mod MarkLists
 pub mod Moving
 pub mod Pipes
 pub mod Placing
 pub mod Promises
+pub mod Refusals
 pub mod Granting
 pub mod Reading
 pub mod Replies
