@@ -1,26 +1,23 @@
 -- What each call of a reassembly book makes of it, of its view and of its reader.
-use Rattle.std.proofs.Common.{◌≡◌, refl, sym, ◌∙◌, ap, subst, ℕ, zero, suc, ◌+◌, ◌-◌, ◌<◌, ◌≤◌, min, max, Bool, true, false, ◌&&◌, ◌||◌, ◌==◌, nat_lt, if◌then◌else◌, is_some, ◌⊎◌, ⊎_elim, inl, inr, List, [], ◌∷◌, ◌++◌, length, take, drop, map, replicate, Option, Some, None, arith}
-use Rattle.std.proofs.lemmas.Grind.{common_steps}
-use Rattle.std.proofs.lemmas.Bool.{cases_lt, eqb-true, or_parts, and_parts, false≢true, le-ltb, eq-eqb, and_right}
-use Rattle.std.proofs.lemmas.List.{append-nil, length-drop, length-take, length-map, length-append, length-replicate}
+use Rattle.std.proofs.Common.{◌≡◌, refl, sym, ap, subst, ℕ, zero, suc, ◌+◌, ◌<◌, ◌≤◌, max, Bool, true, false, nat_lt, if◌then◌else◌, is_some, List, [], ◌∷◌, length, take, drop, map, replicate, Option, Some, None, arith}
+use Rattle.std.proofs.lemmas.Bool.{le-ltb, eq-eqb, and_right}
+use Rattle.std.proofs.lemmas.List.{append-nil, length-drop, length-map, length-append, length-replicate}
 use Rattle.std.proofs.lemmas.Option.{slice_get_within}
-use Rattle.std.proofs.Math.Seq.{take-add}
 use Rattle.std.specs.List.{slice_get}
 use Rattle.std.specs.Option.{IfSome}
-use Rattle.send_book.specs.State.{Sending, acked_len}
-use Rattle.reassembly_book.specs.declared.call.ReassemblyCall.{ReassemblyCall}
-use Rattle.reassembly_book.specs.declared.call.ReassemblyCall.TheVariants.{Place, Fin, Read, AckOut, Abort}
+use Rattle.send_book.specs.State.{Sending}
+use Rattle.reassembly_book.specs.declared.call.ReassemblyCall.TheVariants.{Place, Fin, AckOut, Abort}
 use Rattle.reassembly_book.specs.State.{Arriving, filled, received, top}
-use Rattle.reassembly_book.specs.Steps.{after_call, reply_to, by_place, merged, edge, is_taken, places_after, fin_clash, reaches_past, clash, is_end, bytes_reply, reading, after_reading, first_abort}
-use Rattle.stream_lanes.specs.Words.{Every, From, Cells, Has}
+use Rattle.reassembly_book.specs.Steps.{after_call, by_place, merged, edge, is_taken, places_after, fin_clash, reaches_past, clash, first_abort}
+use Rattle.stream_lanes.specs.Words.{From}
 use Rattle.stream_lanes.specs.Moves.{Flags}
-use Rattle.stream_lanes.specs.Streams.{Reader, takes_read, is_done}
-use Rattle.stream_lanes.specs.View.{View, view_of, all_in, end_of, IsEnd}
-use Rattle.stream_lanes.specs.Holding.{IsAll, SendHolds, IsSent, ArrivedHolds, ReaderHolds}
-use Rattle.stream_lanes.proofs.Lists.{Cells-map, Cells-drop, in_drop}
-use Rattle.stream_lanes.proofs.Bytes.{Cells-merged, Cells-by_place, From-filled}
-use Rattle.stream_lanes.proofs.Later.{Later, Anyone, sent_later, arrived_later}
-use Rattle.stream_lanes.proofs.Views.{AllIn, all_in_is, all_in_one, is_end as is_end_of, end_is, row_below, received_written}
+use Rattle.stream_lanes.specs.Streams.{Reader}
+use Rattle.stream_lanes.specs.View.{View, view_of, all_in, IsEnd}
+use Rattle.stream_lanes.specs.Holding.{SendHolds, IsSent, ArrivedHolds, ReaderHolds}
+use Rattle.stream_lanes.proofs.Lists.{Cells-map}
+use Rattle.stream_lanes.proofs.Bytes.{Cells-merged, Cells-by_place}
+use Rattle.stream_lanes.proofs.Later.{Later, Anyone}
+use Rattle.stream_lanes.proofs.Views.{AllIn, all_in_is, all_in_one, is_end as is_end_of, row_below, received_written}
 use Rattle.stream_lanes.proofs.Views.AllIn.{missing, complete}
 
 -- a call of the reassembly book: its view went on, and all holds
@@ -84,9 +81,19 @@ module _ (f : Flags) (s : Sending) (b c : Arriving) (room : edge b ≤ edge c) (
   went_on =
       let both = reach (all_in_is s.closed s.written (received b)) in
       record {
-        more = []; written = sym (append-nil s.written); spent = λ path place is. is; news = λ path q first alone n reach new. new;
-        end = λ e is. is; acked = omega arith; confirmed = omega arith; room = room; received = more; next = both.0; edge = both.1;
-        alone = λ is. is; fallen = λ is. is;
+        more = [];
+        written = sym (append-nil s.written);
+        spent = λ path place is. is;
+        news = λ path q first alone n reach new. new;
+        end = λ e is. is;
+        acked = omega arith;
+        confirmed = omega arith;
+        room = room;
+        received = more;
+        next = both.0;
+        edge = both.1;
+        alone = λ is. is;
+        fallen = λ is. is;
       }
 
   pub sends_on : SendHolds s (view_of f s b) → SendHolds s (view_of f s c)
@@ -127,7 +134,9 @@ module _ (granted : ℕ → Type 0) (f : Flags) (s : Sending) (b : Arriving) (se
   pub same_step : (r : Reader) → ReaderHolds (view_of f s b) b r → ReceiveStep granted f s b b r
   same_step r reader = record {
     later = went_on f s b b (omega arith) (omega arith) within;
-    send = send; arrived = arrived; reader = reader;
+    send = send;
+    arrived = arrived;
+    reader = reader;
   }
 
   receive_if : (taken : Bool) (c : Arriving) (r : Reader) → ReaderHolds (view_of f s b) b r → (taken ≡ true → ReceiveStep granted f s b c r) → ReceiveStep granted f s b (if taken then c else b) r
@@ -146,8 +155,14 @@ module _ (granted : ℕ → Type 0) (f : Flags) (s : Sending) (b : Arriving) (se
           let first : at < length s.written = slice_get_within s.written at x (row.each 0 at x (omega arith) refl).written in
           let last : at + length (x ∷ bytes) ≤ length s.written =
           row_below (length s.written) at (x ∷ bytes) (λ n y sent. slice_get_within s.written n y sent.written) (omega (arith, first)) row in
-          omega (arith, length-drop b.read (by_place at (x ∷ bytes)), length-append (replicate at None) (map Some (x ∷ bytes)), length-replicate {A = Option ℕ} at None,
-          length-map (x ∷ bytes) Some, last)
+          omega (
+            arith,
+            length-drop b.read (by_place at (x ∷ bytes)),
+            length-append (replicate at None) (map Some (x ∷ bytes)),
+            length-replicate {A = Option ℕ} at None,
+            length-map (x ∷ bytes) Some,
+            last,
+          )
 
       holds : ArrivedHolds granted (view_of f s b) c
       holds = record {
@@ -170,7 +185,8 @@ module _ (granted : ℕ → Type 0) (f : Flags) (s : Sending) (b : Arriving) (se
         arrived = record {
           top = holds.top;
           cells = Cells-map (λ place byte sent. record { written = sent.written; room = sent.room; recorded = sent.recorded }) holds.cells;
-          end = holds.end; before = holds.before;
+          end = holds.end;
+          before = holds.before;
         };
         reader = record { out = reader.out; told = reader.told; once = reader.once };
       }

@@ -1,16 +1,16 @@
 -- Bytes by position and by place: what came, what is filled, what a record has.
-use Rattle.std.proofs.Common.{◌≡◌, refl, sym, ◌∙◌, ap, subst, ℕ, zero, suc, ◌+◌, ◌-◌, ◌<◌, ◌≤◌, min, ⊎_elim, ◌⊎◌, inl, inr, List, [], ◌∷◌, ◌++◌, length, take, drop, map, replicate, Option, Some, None, arith}
+use Rattle.std.proofs.Common.{◌≡◌, refl, ◌∙◌, ap, subst, ℕ, zero, suc, ◌+◌, ◌-◌, ◌<◌, ◌≤◌, ⊎_elim, ◌⊎◌, inl, inr, List, [], ◌∷◌, ◌++◌, length, take, drop, map, replicate, Option, Some, None, arith}
 use Rattle.std.proofs.lemmas.Grind.{common_steps}
-use Rattle.std.proofs.lemmas.List.{length-take, length-drop, map-append, length-map}
+use Rattle.std.proofs.lemmas.List.{length-take, map-append, length-map}
 use Rattle.std.proofs.lemmas.Option.{slice_get_within}
 use Rattle.std.specs.List.{slice_get}
 use Rattle.reassembly_book.specs.State.{filled}
 use Rattle.reassembly_book.specs.Steps.{by_place, merged}
-use Rattle.stream_lanes.specs.Words.{Every, From, Cells, Has}
+use Rattle.stream_lanes.specs.Words.{From, Cells}
 use Rattle.stream_lanes.specs.Lane.{Cell, Mapping, DataCopy}
 use Rattle.stream_lanes.specs.Moves.{bytes_of, places_of, cells_from, place_after}
 use Rattle.stream_lanes.specs.Holding.{IsByteOf, IsRight, IsHonest, HasPlace}
-use Rattle.stream_lanes.proofs.Lists.{in_append, in_more, in_drop, in_take, in_map, From-map, IfSome-map, Every-map}
+use Rattle.stream_lanes.proofs.Lists.{in_more, in_drop, in_take, in_map, From-map, IfSome-map}
 
 -- what is at a place after a merge was there before, or came
 in_merged : (xs ys : List (Option ℕ)) (i x : ℕ) → slice_get (merged xs ys) i ≡ Some (Some x)

@@ -1,37 +1,33 @@
 -- Every event of a direction keeps what holds of it.
-use Rattle.std.proofs.Common.{◌≡◌, refl, sym, ◌∙◌, ap, subst, ℕ, zero, suc, ◌+◌, ◌-◌, ◌<◌, ◌≤◌, Bool, true, false, ◌&&◌, ◌||◌, ◌==◌, if◌then◌else◌, ◌⊎◌, ⊎_elim, List, [], ◌∷◌, ◌++◌, length, take, map, Option, Some, None, Result, Ok, Err, set, arith}
+use Rattle.std.proofs.Common.{◌≡◌, refl, sym, ◌∙◌, ap, subst, ℕ, zero, suc, ◌-◌, ◌<◌, ◌≤◌, Bool, true, false, ◌&&◌, ◌||◌, ◌==◌, if◌then◌else◌, ⊎_elim, [], ◌∷◌, ◌++◌, length, take, Option, Some, None, Result, Ok, Err, set, arith}
 use Rattle.std.proofs.lemmas.Bool.{cases_lt, cases_eq}
 use Rattle.std.proofs.lemmas.List.{take-append-le}
 use Rattle.std.proofs.lemmas.Option.{slice_get_within}
 use Rattle.std.specs.List.{slice_get}
 use Rattle.send_book.specs.declared.call.Span.{Span}
 use Rattle.send_book.specs.declared.call.Why.{Why}
-use Rattle.send_book.specs.declared.call.SendCall.{SendCall}
 use Rattle.send_book.specs.declared.call.SendCall.TheVariants.{Grant, AckIn, Write as WriteBytes, Close as CloseBook, Return as ReturnBytes, GoIdentity as GoIdentityBook, GoInfinite as GoInfiniteBook, Abort as AbortBook}
 use Rattle.send_book.specs.declared.call.SendReply.{SendReply}
-use Rattle.send_book.specs.declared.call.SendReply.TheVariants.{AckFuture}
 use Rattle.send_book.specs.declared.call.SendReply.TheVariants.{Acked as AckedBytes}
 use Rattle.send_book.specs.State.{Sending}
 use Rattle.send_book.specs.Steps.{after_call as after_send, reply_to as send_reply, decision, reply_by}
-use Rattle.reassembly_book.specs.declared.call.ReassemblyCall.{ReassemblyCall}
 use Rattle.reassembly_book.specs.declared.call.ReassemblyCall.TheVariants.{Place, Fin, AckOut, Read as ReadBytes, Abort as AbortReading}
 use Rattle.reassembly_book.specs.declared.call.ReassemblyReply.{ReassemblyReply}
-use Rattle.reassembly_book.specs.declared.call.ReassemblyReply.TheVariants.{Placed, FinSet, Ack}
-use Rattle.reassembly_book.specs.State.{Arriving, filled, received, top}
+use Rattle.reassembly_book.specs.declared.call.ReassemblyReply.TheVariants.{Placed, FinSet}
+use Rattle.reassembly_book.specs.State.{Arriving, filled, received}
 use Rattle.reassembly_book.specs.Steps.{after_call as after_arrival, reply_to as arrival_reply, edge}
-use Rattle.stream_lanes.specs.Words.{Every, From, Cells, Has}
-use Rattle.stream_lanes.specs.Lane.{Cell, DataCopy, AckCopy, Mapping, Ask, Lane}
+use Rattle.stream_lanes.specs.Words.{From}
+use Rattle.stream_lanes.specs.Lane.{DataCopy, AckCopy, Mapping, Ask, Lane}
 use Rattle.stream_lanes.specs.Lane.Ask.{Nothing, AskGrant, AskAckIn, AskPlace, AskFin, AskAckOut}
 use Rattle.stream_lanes.specs.Moves.{Flags, Move, moved, takes_grant, takes_ack, takes_placed, takes_fin, takes_ack_out, hears, sends_piece, keeps, learns_mapping, learns, hears_data_fin, hears_fin, places, clashes, lies_in, in_order, may_finish, ack_copy}
 use Rattle.stream_lanes.specs.Moves.Move.{Open, LookAtSender, LookAtReceiver, WantGrant, HearAck, SendPiece, SendDataFin, SendFin, Hear, Learn, HearDataFin, HearFin, WantPlace, WantPlacePlain, WantFin, WantAckOut, SendAck}
 use Rattle.stream_lanes.specs.Streams.{Reader, Direction, StreamEvent, after, asks, asks_at, moves, reads, is_done, takes_read}
 use Rattle.stream_lanes.specs.Streams.StreamEvent.{Write, Close, Return, GoIdentity, GoInfinite, AbortSend, Read, AbortRead, Moves, Asks}
-use Rattle.stream_lanes.specs.View.{View, view_of, IsEnd}
-use Rattle.stream_lanes.specs.Holding.{SendHolds, IsSent, ArrivedHolds, ReaderHolds, AloneHolds, HasPlace, PlaceHolds, AskHolds, LaneHolds, IsGranted, DirectionHolds}
-use Rattle.stream_lanes.proofs.Lists.{Cells-map, From-map, From-both, From-put, Has-map, Has-more, Has-put, item_at}
+use Rattle.stream_lanes.specs.View.{View, view_of}
+use Rattle.stream_lanes.specs.Holding.{IsSent, ReaderHolds, HasPlace, AskHolds, LaneHolds, IsGranted, DirectionHolds}
+use Rattle.stream_lanes.proofs.Lists.{Cells-map, From-map, From-put, Has-more, Has-put, item_at}
 use Rattle.stream_lanes.proofs.Bytes.{From-filled}
-use Rattle.stream_lanes.proofs.Later.{Later, Anyone, But, arrived_later, lane_later}
-use Rattle.stream_lanes.proofs.Local.{ViewFits, FlagsFit}
+use Rattle.stream_lanes.proofs.Later.{Later, Anyone, arrived_later, lane_later}
 use Rattle.stream_lanes.proofs.Moving.{moved_held}
 use Rattle.stream_lanes.proofs.Views.{view_fits, flags_fit, received_written, received_room}
 use Rattle.stream_lanes.proofs.Sends.{SendStep, unseen, write_step, close_step, return_step, go_infinite_step, ack_step, grant_step}
@@ -139,8 +135,8 @@ module _ (f : Flags) (d : Direction) (h : DirectionHolds f d) (fallen : (view_of
   arrived_granted place below = ⊎_elim
       (λ old. h.arrived.before place old)
       (λ new.
-          let there = item_at (filled d.arrived.places) (place - d.arrived.read) (omega (arith, new, below)) in
-          ((From-filled h.arrived.cells).each (place - d.arrived.read) place there.0 (omega (arith, new)) there.1).recorded)
+      let there = item_at (filled d.arrived.places) (place - d.arrived.read) (omega (arith, new, below)) in
+      ((From-filled h.arrived.cells).each (place - d.arrived.read) place there.0 (omega (arith, new)) there.1).recorded)
       (cases_lt place d.arrived.read)
 
   -- as long as no join was answered, path 0 has what was received
@@ -154,15 +150,15 @@ module _ (f : Flags) (d : Direction) (h : DirectionHolds f d) (fallen : (view_of
           let holds = other.alone alone in
           ⊎_elim
           (λ zero_is.
-              let same : Some g.item ≡ Some p = sym g.there ∙ ap (slice_get d.lanes) (zero_is ∙ sym first) ∙ there in
-              let item : g.item ≡ p = cc in
-              let pos : c.item.place ≡ c.at = holds.identity.each c.at c.at c.item (omega arith) c.there in
-              let inside : c.at < length g.item.sent = slice_get_within g.item.sent c.at c.item c.there in
-              subst (λ q. place < length q.sent) item (omega (arith, c.holds, pos, inside)))
+          let same : Some g.item ≡ Some p = sym g.there ∙ ap (slice_get d.lanes) (zero_is ∙ sym first) ∙ there in
+          let item : g.item ≡ p = cc in
+          let pos : c.item.place ≡ c.at = holds.identity.each c.at c.at c.item (omega arith) c.there in
+          let inside : c.at < length g.item.sent = slice_get_within g.item.sent c.at c.item c.there in
+          subst (λ q. place < length q.sent) item (omega (arith, c.holds, pos, inside)))
           (λ other_path.
-              let none : g.item.sent ≡ [] = holds.others other_path in
-              let inside : c.at < length g.item.sent = slice_get_within g.item.sent c.at c.item c.there in
-              absurd (omega (arith, inside, ap length none)))
+          let none : g.item.sent ≡ [] = holds.others other_path in
+          let inside : c.at < length g.item.sent = slice_get_within g.item.sent c.at c.item c.there in
+          absurd (omega (arith, inside, ap length none)))
           (cases_eq g.at 0)
 
       at : (n : ℕ) → received d.arrived ≡ n → received d.arrived ≤ length p.sent
@@ -275,7 +271,10 @@ module _ (f : Flags) (d : Direction) (h : DirectionHolds f d) (fallen : (view_of
       (ack_held f d.send d.arrived h.send next window path p step (reach path p there) (lane_at path p there))
   lane_asks path p there (AskPlace at bytes) ask =
       let row : From (IsSent (IsGranted d.lanes) (view_of f d.send d.arrived)) at bytes = From-map (λ place byte sent. record {
-        written = sent.written; room = sent.room; recorded = record { at = path; item = p; there = there; holds = sent.recorded } }) ask.each in
+        written = sent.written;
+        room = sent.room;
+        recorded = record { at = path; item = p; there = there; holds = sent.recorded };
+      }) ask.each in
       let step = place_step (IsGranted d.lanes) f d.send d.arrived h.send h.arrived at bytes d.reader row h.reader in
       lane_receives path p (takes_placed (length bytes) (arrival_reply d.arrived (Place at bytes)) p) (after_arrival d.arrived (Place at bytes)) there step
       (same_places p (takes_placed (length bytes) (arrival_reply d.arrived (Place at bytes)) p) (placed_sent (length bytes) (arrival_reply d.arrived (Place at bytes)) p))

@@ -1,19 +1,17 @@
 -- Every list of events keeps what holds of a connection.
-use Rattle.std.proofs.Common.{◌≡◌, refl, sym, ◌∙◌, ap, subst, ℕ, ◌+◌, ◌≤◌, Bool, true, false, not, ◌&&◌, ◌||◌, if◌then◌else◌, ⊎_elim, List, [], ◌∷◌, ◌++◌, length, take, replicate, Option, Some, None, arith}
-use Rattle.std.proofs.lemmas.Bool.{or_cases, or_left, or_right, and_parts, cases_Bool, false≢true, both_ways, not-true}
+use Rattle.std.proofs.Common.{◌≡◌, refl, sym, ap, subst, ℕ, Bool, true, false, not, ◌&&◌, ◌||◌, if◌then◌else◌, ⊎_elim, List, [], ◌∷◌, arith}
+use Rattle.std.proofs.lemmas.Bool.{or_cases, or_left, or_right, and_parts, false≢true, both_ways, not-true}
 use Rattle.std.proofs.lemmas.List.{append-nil}
-use Rattle.std.specs.List.{slice_get}
 use Rattle.send_book.specs.State.{Sending}
 use Rattle.reassembly_book.specs.State.{Arriving}
-use Rattle.stream_lanes.specs.Words.{Every, From, Cells, Has}
-use Rattle.stream_lanes.specs.Lane.{Lane, new_lane}
+use Rattle.stream_lanes.specs.Lane.{new_lane}
 use Rattle.stream_lanes.specs.Moves.{Flags}
 use Rattle.stream_lanes.specs.Streams.{Direction, opening_direction}
 use Rattle.stream_lanes.specs.Duo.{Modes, Duo, Event, falls_a, falls_b, begins_join, sends_join, hears_join, flags_ab, flags_ba, after_event, after_events, opening}
 use Rattle.stream_lanes.specs.Duo.Event.{ToB, ToA, FallA, FallB, BeginJoin, SendJoin, HearJoin}
-use Rattle.stream_lanes.specs.View.{View, view_of, IsEnd}
-use Rattle.stream_lanes.specs.Holding.{SendHolds, ArrivedHolds, ReaderHolds, IsGranted, LaneHolds, DirectionHolds, ModesHold, Holds}
-use Rattle.stream_lanes.proofs.Lists.{Every-nil, From-map, in_replicate}
+use Rattle.stream_lanes.specs.View.{view_of}
+use Rattle.stream_lanes.specs.Holding.{LaneHolds, DirectionHolds, ModesHold, Holds}
+use Rattle.stream_lanes.proofs.Lists.{Every-nil, in_replicate}
 use Rattle.stream_lanes.proofs.Later.{Later, Anyone, arrived_later}
 use Rattle.stream_lanes.proofs.Directions.{after_held, lanes_later}
 
@@ -26,8 +24,17 @@ pub record FlagsGo (f g : Flags) : Type 0 where
 -- the view under other flags
 flags_later : (f g : Flags) (s : Sending) (b : Arriving) → FlagsGo f g → Later Anyone (view_of f s b) (view_of g s b)
 flags_later f g s b go = record {
-  more = []; written = sym (append-nil s.written); spent = λ path place is. is; news = λ path q first alone n reach new. new;
-  end = λ e is. is; acked = omega arith; confirmed = omega arith; room = omega arith; received = omega arith; next = omega arith; edge = omega arith;
+  more = [];
+  written = sym (append-nil s.written);
+  spent = λ path place is. is;
+  news = λ path q first alone n reach new. new;
+  end = λ e is. is;
+  acked = omega arith;
+  confirmed = omega arith;
+  room = omega arith;
+  received = omega arith;
+  next = omega arith;
+  edge = omega arith;
   alone = λ is. unanswered f.answered refl is;
   fallen = λ is. ⊎_elim (λ sends. or_left g.sender g.receiver (go.sender sends)) (λ receives. or_right g.sender g.receiver (go.receiver receives)) (or_cases f.sender f.receiver is);
 }
@@ -148,7 +155,12 @@ new_lane_held f buffer capacity path = record {
   alone = λ _. record { identity = record { each = λ i n x n_is e. cc }; others = λ _. refl; untouched = λ _ place mark above e. cc };
   modes = record { joined = λ is. absurd (false≢true is); sender = λ is. absurd (false≢true is); receiver = λ is. absurd (false≢true is) };
   bytes = record {
-    granted = Every-nil _; honest = Every-nil _; within = omega arith; came = record { each = λ i n x n_is e. cc }; right = Every-nil _; acked = Every-nil _;
+    granted = Every-nil _;
+    honest = Every-nil _;
+    within = omega arith;
+    came = record { each = λ i n x n_is e. cc };
+    right = Every-nil _;
+    acked = Every-nil _;
   };
   ends = record { told = tt; named = Every-nil _ };
   fins = Every-nil _;

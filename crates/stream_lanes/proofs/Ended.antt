@@ -1,5 +1,5 @@
 -- After the end, or an abort, a reader's state stays; and nothing is written to a closed stream.
-use Rattle.std.proofs.Common.{◌≡◌, refl, sym, ◌∙◌, ap, subst, ℕ, Bool, true, false, ◌||◌, if◌then◌else◌, List, [], ◌∷◌, Option, Some, None, Result, Ok, Err, length}
+use Rattle.std.proofs.Common.{◌≡◌, refl, ◌∙◌, ap, ℕ, Bool, true, false, ◌||◌, if◌then◌else◌, List, [], ◌∷◌, Option, Some, None, Result, Ok, Err}
 use Rattle.std.proofs.lemmas.Bool.{both_ways}
 use Rattle.std.specs.List.{slice_get}
 use Rattle.send_book.specs.declared.call.Span.{Span}
@@ -11,7 +11,7 @@ use Rattle.send_book.specs.Steps.{after_call, decision, given_by, is_future, is_
 use Rattle.stream_lanes.specs.Lane.{Ask, Lane}
 use Rattle.stream_lanes.specs.Lane.Ask.{Nothing, AskGrant, AskAckIn, AskPlace, AskFin, AskAckOut}
 use Rattle.stream_lanes.specs.Moves.{Flags, Move}
-use Rattle.stream_lanes.specs.Streams.{Reader, Direction, StreamEvent, after, asks, asks_at, moves, reads, is_done}
+use Rattle.stream_lanes.specs.Streams.{Direction, StreamEvent, after, asks, asks_at, moves, reads, is_done}
 use Rattle.stream_lanes.specs.Streams.StreamEvent.{Write, Close, Return, GoIdentity, GoInfinite, AbortSend, Read, AbortRead, Moves, Asks}
 use Rattle.stream_lanes.specs.Duo.{Duo, Event, after_event, after_events}
 use Rattle.stream_lanes.specs.Duo.Event.{ToB, ToA, FallA, FallB, BeginJoin, SendJoin, HearJoin}

@@ -1,16 +1,14 @@
 -- FINs and acknowledgements that a lane sends.
-use Rattle.std.proofs.Common.{◌≡◌, refl, sym, ◌∙◌, ap, subst, ℕ, zero, suc, ◌+◌, ◌-◌, ◌<◌, ◌≤◌, min, max, Bool, true, false, ◌&&◌, ◌==◌, if◌then◌else◌, ◌⊎◌, ⊎_elim, inl, inr, List, [], ◌∷◌, ◌++◌, length, Option, Some, None, arith}
-use Rattle.std.proofs.lemmas.Bool.{and_parts, eqb-true, cases_lt, cases_eq, cases_Bool}
-use Rattle.std.proofs.lemmas.Option.{slice_get_within, same_Some}
-use Rattle.std.specs.List.{slice_get}
+use Rattle.std.proofs.Common.{◌≡◌, refl, ◌∙◌, subst, ℕ, zero, suc, ◌+◌, ◌<◌, ◌≤◌, min, max, Bool, true, false, ◌&&◌, if◌then◌else◌, ⊎_elim, List, [], ◌∷◌, ◌++◌, length, Option, Some, None, arith}
+use Rattle.std.proofs.lemmas.Bool.{and_parts, eqb-true, cases_lt, cases_eq}
+use Rattle.std.proofs.lemmas.Option.{slice_get_within}
 use Rattle.std.specs.Option.{IfSome}
-use Rattle.stream_lanes.specs.Words.{Every, From, Cells, Has}
-use Rattle.stream_lanes.specs.Marks.{spent, spent_count, AreAcked, AreNew}
-use Rattle.stream_lanes.specs.Lane.{Cell, AckCopy, Ask, Lane}
+use Rattle.stream_lanes.specs.Marks.{spent_count}
+use Rattle.stream_lanes.specs.Lane.{Cell, Lane}
 use Rattle.stream_lanes.specs.Lane.Ask.{AskFin}
-use Rattle.stream_lanes.specs.Moves.{place_after, is_whole, may_finish, sub_next, ack_copy}
+use Rattle.stream_lanes.specs.Moves.{place_after, is_whole, may_finish, ack_copy}
 use Rattle.stream_lanes.specs.View.{View, IsEnd}
-use Rattle.stream_lanes.specs.Holding.{IsAll, CellFits, RecordHolds, AloneHolds, IsFin, IsAck, IsAckCopy, LaneHolds}
+use Rattle.stream_lanes.specs.Holding.{IsAll, RecordHolds, AloneHolds, IsFin, LaneHolds}
 use Rattle.stream_lanes.proofs.Lists.{Every-push, item_at}
 use Rattle.stream_lanes.proofs.Bytes.{place_after-identity}
 use Rattle.stream_lanes.proofs.MarkLists.{acked_spent, acked_is_spent}
@@ -37,9 +35,9 @@ module _ (v : View) (path : ℕ) (fits : ViewFits v) where
       let below : length sent ≤ length v.written = alone_within sent r a in
       let same : e ≡ length sent = ⊎_elim
       (λ less.
-          let there = item_at v.marks (length sent) (omega (arith, less, e_is, fits.size)) in
-          absurd (acked_is_spent v.acked (length sent) v.marks there.0 fits.first (omega (arith, less, all.2)) there.1
-          (a.untouched first (length sent) there.0 (omega arith) there.1)))
+      let there = item_at v.marks (length sent) (omega (arith, less, e_is, fits.size)) in
+      absurd (acked_is_spent v.acked (length sent) v.marks there.0 fits.first (omega (arith, less, all.2)) there.1
+      (a.untouched first (length sent) there.0 (omega arith) there.1)))
       (λ more. omega (arith, more, e_is, below))
       (cases_lt (length sent) e) in
       subst (IsEnd v.end) same all.1
@@ -81,9 +79,15 @@ module _ (v : View) (path : ℕ) (fits : ViewFits v) where
   send_fin_held p h = held_if v path (may_finish p) p (record p { fins = p.fins ++ length p.sent ∷ [] }) (λ may.
       let both = and_parts p.opened (if p.sender_plain then is_whole p.known_end p else p.fin_acked) may in
       record {
-        record_of = h.record_of; alone = h.alone; modes = h.modes; bytes = h.bytes; ends = h.ends;
+        record_of = h.record_of;
+        alone = h.alone;
+        modes = h.modes;
+        bytes = h.bytes;
+        ends = h.ends;
         fins = Every-push (length p.sent) h.fins (by_mode p.sender_plain refl both.0 both.1);
-        heard = h.heard; receiver = h.receiver; ask = h.ask;
+        heard = h.heard;
+        receiver = h.receiver;
+        ask = h.ask;
       }) h
     where
       by_mode : (plain : Bool) → p.sender_plain ≡ plain → p.opened ≡ true → (if plain then is_whole p.known_end p else p.fin_acked) ≡ true
@@ -118,14 +122,25 @@ module _ (v : View) (path : ℕ) (fits : ViewFits v) where
 
       sends : p.due ≡ false → LaneHolds v path (record p { acks = p.acks ++ ack_copy next window sub p ∷ [] })
       sends idle = record {
-        record_of = h.record_of; alone = h.alone; modes = h.modes;
+        record_of = h.record_of;
+        alone = h.alone;
+        modes = h.modes;
         bytes = record {
-          granted = h.bytes.granted; honest = h.bytes.honest; within = h.bytes.within; came = h.bytes.came; right = h.bytes.right;
+          granted = h.bytes.granted;
+          honest = h.bytes.honest;
+          within = h.bytes.within;
+          came = h.bytes.came;
+          right = h.bytes.right;
           acked = Every-push (ack_copy next window sub p) h.bytes.acked (omega (arith, h.bytes.within, fin_bound p.fin_in));
         };
-        ends = h.ends; fins = h.fins; heard = h.heard;
+        ends = h.ends;
+        fins = h.fins;
+        heard = h.heard;
         receiver = record {
-          told = h.receiver.told; passed = h.receiver.passed; fin = h.receiver.fin; fresh = h.receiver.fresh;
+          told = h.receiver.told;
+          passed = h.receiver.passed;
+          fin = h.receiver.fin;
+          fresh = h.receiver.fresh;
           copies = Every-push (ack_copy next window sub p) h.receiver.copies (record {
             stream = record { covers = omega (arith, h.receiver.told.covers); reaches = omega (arith, h.receiver.told.reaches) };
             subflow = λ alone.

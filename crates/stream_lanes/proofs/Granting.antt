@@ -1,6 +1,6 @@
 -- What a lane makes of the reply to its grant.
-use Rattle.std.proofs.Common.{◌≡◌, refl, sym, ◌∙◌, ap, subst, ℕ, zero, suc, ◌+◌, ◌-◌, ◌<◌, ◌≤◌, Bool, true, false, not, ◌&&◌, if◌then◌else◌, ◌⊎◌, ⊎_elim, List, [], ◌∷◌, ◌++◌, length, take, drop, map, Option, Some, None, Result, Ok, Err, position, arith}
-use Rattle.std.proofs.lemmas.Bool.{cases_lt, both_ways, and_parts}
+use Rattle.std.proofs.Common.{◌≡◌, refl, sym, ◌∙◌, ap, subst, ℕ, ◌+◌, ◌-◌, ◌<◌, ◌≤◌, Bool, true, false, not, ◌&&◌, if◌then◌else◌, List, ◌++◌, length, drop, Some, None, Result, Ok, Err, position, arith}
+use Rattle.std.proofs.lemmas.Bool.{and_parts}
 use Rattle.std.proofs.lemmas.List.{length-append, length-take, length-drop, map-append, length-map}
 use Rattle.std.proofs.lemmas.Option.{slice_get_within}
 use Rattle.std.specs.List.{slice_get}
@@ -11,25 +11,23 @@ use Rattle.send_book.specs.declared.call.SendCall.TheVariants.{Grant}
 use Rattle.send_book.specs.declared.mark.ByteMark.{ByteMark}
 use Rattle.send_book.specs.Tried.{no_paths, contains}
 use Rattle.send_book.specs.Marks.{is_free_for, given}
-use Rattle.send_book.specs.State.{Sending, acked_len}
+use Rattle.send_book.specs.State.{Sending}
 use Rattle.send_book.specs.Steps.{after_call, reply_to, decision, given_by, reply_by, change_part, part_of}
-use Rattle.send_book.specs.Steps.{end_of as told_end}
 use Rattle.send_book.proofs.Lists.{slice_get-changed_inside, slice_get-append_right}
 use Rattle.send_book.proofs.Decisions.{MayTake, decision-MayTake}
 use Rattle.send_book.proofs.Grants.{spent-given}
 use Rattle.reassembly_book.specs.State.{Arriving, received}
 use Rattle.reassembly_book.specs.Steps.{edge}
-use Rattle.stream_lanes.specs.Words.{Every, From, Cells, Has}
-use Rattle.stream_lanes.specs.Marks.{spent, spent_count, AreAcked, AreNew}
-use Rattle.stream_lanes.specs.Lane.{Cell, Mapping, Ask, Lane}
-use Rattle.stream_lanes.specs.Lane.Ask.{Nothing}
+use Rattle.stream_lanes.specs.Words.{Every}
+use Rattle.stream_lanes.specs.Marks.{spent, spent_count, AreNew}
+use Rattle.stream_lanes.specs.Lane.{Cell, Mapping, Lane}
 use Rattle.stream_lanes.specs.Moves.{Flags, takes_grant, later_end, cells_from, places_of}
-use Rattle.stream_lanes.specs.View.{View, view_of, all_in, end_of, IsEnd}
+use Rattle.stream_lanes.specs.View.{view_of, end_of, IsEnd}
 use Rattle.stream_lanes.specs.Holding.{SendHolds, CellFits, RecordHolds, AloneHolds, IsFin, IsRight, LaneHolds}
 use Rattle.stream_lanes.proofs.Lists.{Every-map, Every-append, Every-push, From-append, Cells-map, in_drop, in_take, item_at}
 use Rattle.stream_lanes.proofs.Bytes.{byte_more, right_more, honest_more, length-cells_from, in_cells_from, places-cells_from}
 use Rattle.stream_lanes.proofs.MarkLists.{count_within, grant_counts, grant_first, grant_is_next, position_within, AreNew-given}
-use Rattle.stream_lanes.proofs.Later.{Later, But, record_later, modes_later, ends_later, fin_later, heard_later, receiver_later}
+use Rattle.stream_lanes.proofs.Later.{But, record_later, modes_later, ends_later, fin_later, heard_later, receiver_later}
 use Rattle.stream_lanes.proofs.Views.{AllIn, all_in_is, is_end}
 use Rattle.stream_lanes.proofs.Views.AllIn.{missing, complete}
 use Rattle.stream_lanes.proofs.Sends.{SendStep}
@@ -38,9 +36,15 @@ module _ (f : Flags) (s : Sending) (b : Arriving) (path : ℕ) (p : Lane) (send 
   -- nothing was granted: the end that was told is that of the stream
   refused_held : (why : Why) → LaneHolds (view_of f s b) path (takes_grant (reply_by (Err why) s) p)
   refused_held why = record {
-    record_of = h.record_of; alone = h.alone; modes = h.modes; bytes = h.bytes;
+    record_of = h.record_of;
+    alone = h.alone;
+    modes = h.modes;
+    bytes = h.bytes;
     ends = record { told = told (s.closed && not s.aborted) refl; named = h.ends.named };
-    fins = h.fins; heard = h.heard; receiver = h.receiver; ask = tt;
+    fins = h.fins;
+    heard = h.heard;
+    receiver = h.receiver;
+    ask = tt;
   }
     where
       told : (c : Bool) → (s.closed && not s.aborted) ≡ c → IfSome (later_end (if c then Some (length s.written) else None) p.known_end) (IsEnd (end_of s))
@@ -156,7 +160,7 @@ module _ (f : Flags) (s : Sending) (b : Arriving) (path : ℕ) (p : Lane) (send 
           let first : path ≡ 0 = h.modes.joined opened is in
           let new : AreNew (length p.sent) s.marks = before.untouched first in
           let next : span.from ≡ length p.sent = grant_is_next path (length p.sent) span.from s.marks (grant_first path max standby s span decided) (spent_before before) new
-              (first_inside (grant_first path max standby s span decided)) (none_tried first) in
+          (first_inside (grant_first path max standby s span decided)) (none_tried first) in
           record {
             identity = From-append before.identity (record {
               each = λ i pos c pos_is e. let there = in_cells_from span.from piece i c e in omega (arith, there.0, next, pos_is);

@@ -1,17 +1,13 @@
 -- The books went on from one view to another: what held of a lane then holds now.
-use Rattle.std.proofs.Common.{◌≡◌, refl, sym, ◌∙◌, ap, subst, ℕ, ◌+◌, ◌<◌, ◌≤◌, Bool, true, false, List, ◌++◌, length, Some, arith}
+use Rattle.std.proofs.Common.{◌≡◌, ◌∙◌, ap, ℕ, ◌≤◌, Bool, true, List, ◌++◌, length, Some, arith}
 use Rattle.std.proofs.lemmas.Grind.{common_steps}
 use Rattle.std.specs.List.{slice_get}
-use Rattle.send_book.specs.declared.mark.ByteMark.{ByteMark}
-use Rattle.send_book.specs.State.{Sending}
 use Rattle.reassembly_book.specs.State.{Arriving}
-use Rattle.stream_lanes.specs.Words.{Every, From, Cells, Has}
 use Rattle.stream_lanes.specs.Marks.{spent, spent_count, AreNew}
 use Rattle.stream_lanes.specs.Lane.{Cell, AckCopy, Told, Ask, Lane}
 use Rattle.stream_lanes.specs.Lane.Ask.{Nothing, AskGrant, AskAckIn, AskPlace, AskFin, AskAckOut}
-use Rattle.stream_lanes.specs.Streams.{Reader}
 use Rattle.stream_lanes.specs.View.{View, IsEnd}
-use Rattle.stream_lanes.specs.Holding.{IsAll, IsSent, ArrivedHolds, CellFits, RecordHolds, AloneHolds, ModeHolds, EndsHold, IsFin, HeardHolds, IsAck, IsAckCopy, ReceiverHolds, HasPlace, PlaceHolds, AskHolds, LaneHolds}
+use Rattle.stream_lanes.specs.Holding.{IsAll, IsSent, ArrivedHolds, RecordHolds, AloneHolds, ModeHolds, EndsHold, IsFin, HeardHolds, IsAck, ReceiverHolds, PlaceHolds, AskHolds, LaneHolds}
 use Rattle.stream_lanes.proofs.Lists.{Every-map, From-map, Cells-map, IfSome-map, in_more}
 use Rattle.stream_lanes.proofs.MarkLists.{count_grows}
 

@@ -1,22 +1,17 @@
 -- Each move of a lane by itself keeps what holds of it.
-use Rattle.std.proofs.Common.{◌≡◌, refl, sym, ◌∙◌, ap, subst, ℕ, zero, suc, ◌+◌, ◌-◌, ◌<◌, ◌≤◌, min, max, Bool, true, false, not, ◌&&◌, ◌||◌, ◌==◌, if◌then◌else◌, nat_le, ◌⊎◌, ⊎_elim, inl, inr, List, [], ◌∷◌, ◌++◌, length, take, drop, Option, Some, None, arith}
-use Rattle.std.proofs.lemmas.Grind.{common_steps}
-use Rattle.std.proofs.lemmas.Bool.{and_parts, or_cases, leb-true, eqb-true, cases_lt, cases_eq, both_ways, true≢false}
-use Rattle.std.proofs.lemmas.Option.{slice_get_within}
+use Rattle.std.proofs.Common.{◌≡◌, refl, subst, ℕ, ◌+◌, ◌≤◌, max, Bool, true, false, ◌||◌, ◌==◌, if◌then◌else◌, ◌⊎◌, ⊎_elim, [], ◌∷◌, ◌++◌, length, Option, Some, None}
+use Rattle.std.proofs.lemmas.Bool.{or_cases, eqb-true, both_ways}
 use Rattle.std.specs.Option.{IfSome}
 use Rattle.std.specs.List.{slice_get}
-use Rattle.reassembly_book.specs.State.{filled}
-use Rattle.stream_lanes.specs.Words.{Every, From, Cells, Has}
-use Rattle.stream_lanes.specs.Marks.{spent, spent_count, AreAcked, AreNew}
-use Rattle.stream_lanes.specs.Lane.{Cell, Mapping, DataCopy, AckCopy, Told, Ask, Lane}
+use Rattle.stream_lanes.specs.Words.{Every}
+use Rattle.stream_lanes.specs.Marks.{AreAcked}
+use Rattle.stream_lanes.specs.Lane.{Mapping, DataCopy, AckCopy, Ask, Lane}
 use Rattle.stream_lanes.specs.Lane.Ask.{Nothing, AskGrant, AskAckIn, AskPlace, AskFin, AskAckOut}
-use Rattle.stream_lanes.specs.Moves.{Flags, Move, moved, bytes_of, places_of, place_after, known, is_whole, may_finish, piece_of, clashes, hears, sends_piece, keeps, learns_mapping, learns, hears_data_fin, hears_fin, in_order, lies_in, places, sub_next, ack_copy}
-use Rattle.stream_lanes.specs.Moves.Move.{Open, LookAtSender, LookAtReceiver, WantGrant, HearAck, SendPiece, SendDataFin, SendFin, Hear, Learn, HearDataFin, HearFin, WantPlace, WantPlacePlain, WantFin, WantAckOut, SendAck}
+use Rattle.stream_lanes.specs.Moves.{Flags, known, piece_of, clashes, hears, sends_piece, keeps, learns_mapping, learns, hears_data_fin, hears_fin}
 use Rattle.stream_lanes.specs.View.{View, IsEnd}
-use Rattle.stream_lanes.specs.Holding.{IsAll, IsSent, CellFits, RecordHolds, AloneHolds, ModeHolds, BytesHold, EndsHold, IsFin, HeardHolds, IsAck, IsAckCopy, ReceiverHolds, HasPlace, PlaceHolds, AskHolds, LaneHolds, IsByteOf, IsRight, IsHonest}
-use Rattle.stream_lanes.proofs.Lists.{Every-nil, Every-append, Every-push, in_map, in_one, item_at, in_take}
-use Rattle.stream_lanes.proofs.Bytes.{Cells-merged, Cells-by_place, From-filled, From-take, byte_within, part_is_honest, part_within, place_after-identity, has_place}
-use Rattle.stream_lanes.proofs.MarkLists.{acked_spent, acked_is_spent}
+use Rattle.stream_lanes.specs.Holding.{IsAll, IsAck, IsAckCopy, AskHolds, LaneHolds, IsRight}
+use Rattle.stream_lanes.proofs.Lists.{Every-nil, Every-append, Every-push, in_one}
+use Rattle.stream_lanes.proofs.Bytes.{Cells-merged, Cells-by_place, From-take, part_is_honest, part_within}
 
 -- What holds of a view by itself.
 pub record ViewFits (v : View) : Type 0 where
@@ -42,18 +37,31 @@ module _ (v : View) (path : ℕ) where
 
   pub with_ask : (p : Lane) (a : Ask) → AskHolds v p.sent p.opened p.edge a → LaneHolds v path p → LaneHolds v path (record p { asking = a })
   with_ask p a fits h = record {
-    record_of = h.record_of; alone = h.alone; modes = h.modes; bytes = h.bytes; ends = h.ends; fins = h.fins; heard = h.heard;
-    receiver = h.receiver; ask = fits;
+    record_of = h.record_of;
+    alone = h.alone;
+    modes = h.modes;
+    bytes = h.bytes;
+    ends = h.ends;
+    fins = h.fins;
+    heard = h.heard;
+    receiver = h.receiver;
+    ask = fits;
   }
 
   pub open_held : (f : Flags) (p : Lane) → FlagsFit f v → LaneHolds v path p → LaneHolds v path (if f.answered || path == 0 then record p { opened = true } else p)
   open_held f p flags h = held_if (f.answered || path == 0) p (record p { opened = true }) (λ c. record {
-    record_of = h.record_of; alone = h.alone;
+    record_of = h.record_of;
+    alone = h.alone;
     modes = record {
       joined = λ _ alone. ⊎_elim (λ answered. absurd (both_ways _ (flags.answered answered) alone)) (λ zero. eqb-true path 0 zero) (or_cases f.answered (path == 0) c);
-      sender = h.modes.sender; receiver = h.modes.receiver;
+      sender = h.modes.sender;
+      receiver = h.modes.receiver;
     };
-    bytes = h.bytes; ends = h.ends; fins = h.fins; heard = h.heard; receiver = h.receiver;
+    bytes = h.bytes;
+    ends = h.ends;
+    fins = h.fins;
+    heard = h.heard;
+    receiver = h.receiver;
     ask = opened_ask p.asking h.ask;
   }) h
     where
@@ -67,16 +75,28 @@ module _ (v : View) (path : ℕ) where
 
   pub look_at_sender_held : (f : Flags) (p : Lane) → FlagsFit f v → LaneHolds v path p → LaneHolds v path (record p { sender_plain = f.sender })
   look_at_sender_held f p flags h = record {
-    record_of = h.record_of; alone = h.alone;
+    record_of = h.record_of;
+    alone = h.alone;
     modes = record { joined = h.modes.joined; sender = flags.sender; receiver = h.modes.receiver };
-    bytes = h.bytes; ends = h.ends; fins = h.fins; heard = h.heard; receiver = h.receiver; ask = h.ask;
+    bytes = h.bytes;
+    ends = h.ends;
+    fins = h.fins;
+    heard = h.heard;
+    receiver = h.receiver;
+    ask = h.ask;
   }
 
   pub look_at_receiver_held : (f : Flags) (p : Lane) → FlagsFit f v → LaneHolds v path p → LaneHolds v path (record p { receiver_plain = f.receiver })
   look_at_receiver_held f p flags h = record {
-    record_of = h.record_of; alone = h.alone;
+    record_of = h.record_of;
+    alone = h.alone;
     modes = record { joined = h.modes.joined; sender = h.modes.sender; receiver = flags.receiver };
-    bytes = h.bytes; ends = h.ends; fins = h.fins; heard = h.heard; receiver = h.receiver; ask = h.ask;
+    bytes = h.bytes;
+    ends = h.ends;
+    fins = h.fins;
+    heard = h.heard;
+    receiver = h.receiver;
+    ask = h.ask;
   }
 
   pub hear_ack_held : (o : Option AckCopy) (copy : ℕ) (p : Lane) → ViewFits v → slice_get p.acks copy ≡ o → LaneHolds v path p → LaneHolds v path (hears o p)
@@ -94,7 +114,9 @@ module _ (v : View) (path : ℕ) where
   pub send_piece_held : (mapped : Bool) (o : Option Mapping) (piece : ℕ) (p : Lane) → slice_get p.pieces piece ≡ o → LaneHolds v path p → LaneHolds v path (sends_piece mapped o p)
   send_piece_held mapped None piece p is h = h
   send_piece_held mapped (Some m) piece p is h = record {
-    record_of = h.record_of; alone = h.alone; modes = h.modes;
+    record_of = h.record_of;
+    alone = h.alone;
+    modes = h.modes;
     bytes = record {
       granted = h.bytes.granted;
       honest = Every-push (piece_of mapped p m) h.bytes.honest (record {
@@ -102,9 +124,16 @@ module _ (v : View) (path : ℕ) where
         bytes = part_is_honest p.sent m right;
         mapping = by_mapping mapped;
       });
-      within = h.bytes.within; came = h.bytes.came; right = h.bytes.right; acked = h.bytes.acked;
+      within = h.bytes.within;
+      came = h.bytes.came;
+      right = h.bytes.right;
+      acked = h.bytes.acked;
     };
-    ends = h.ends; fins = h.fins; heard = h.heard; receiver = h.receiver; ask = h.ask;
+    ends = h.ends;
+    fins = h.fins;
+    heard = h.heard;
+    receiver = h.receiver;
+    ask = h.ask;
   }
     where
       right : IsRight p.sent m
@@ -116,9 +145,15 @@ module _ (v : View) (path : ℕ) where
 
   pub send_data_fin_held : (o : Option ℕ) (p : Lane) → p.known_end ≡ o → LaneHolds v path p → LaneHolds v path (record p { data_fins = p.data_fins ++ known o })
   send_data_fin_held o p is h = record {
-    record_of = h.record_of; alone = h.alone; modes = h.modes; bytes = h.bytes;
+    record_of = h.record_of;
+    alone = h.alone;
+    modes = h.modes;
+    bytes = h.bytes;
     ends = record { told = h.ends.told; named = Every-append h.ends.named (names o (subst (λ k. IfSome k (IsEnd v.end)) is h.ends.told)) };
-    fins = h.fins; heard = h.heard; receiver = h.receiver; ask = h.ask;
+    fins = h.fins;
+    heard = h.heard;
+    receiver = h.receiver;
+    ask = h.ask;
   }
     where
       names : (o : Option ℕ) → IfSome o (IsEnd v.end) → Every (IsEnd v.end) (known o)
@@ -128,13 +163,22 @@ module _ (v : View) (path : ℕ) where
   pub hear_held : (count : ℕ) (o : Option DataCopy) (copy : ℕ) (p : Lane) → slice_get p.datas copy ≡ o → LaneHolds v path p → LaneHolds v path (keeps count o p)
   hear_held count None copy p is h = h
   hear_held count (Some d) copy p is h = record {
-    record_of = h.record_of; alone = h.alone; modes = h.modes;
+    record_of = h.record_of;
+    alone = h.alone;
+    modes = h.modes;
     bytes = record {
-      granted = h.bytes.granted; honest = h.bytes.honest; within = h.bytes.within;
+      granted = h.bytes.granted;
+      honest = h.bytes.honest;
+      within = h.bytes.within;
       came = Cells-merged h.bytes.came (Cells-by_place p.edge (From-take count (h.bytes.honest.each copy d is).bytes));
-      right = h.bytes.right; acked = h.bytes.acked;
+      right = h.bytes.right;
+      acked = h.bytes.acked;
     };
-    ends = h.ends; fins = h.fins; heard = h.heard; receiver = h.receiver; ask = h.ask;
+    ends = h.ends;
+    fins = h.fins;
+    heard = h.heard;
+    receiver = h.receiver;
+    ask = h.ask;
   }
 
   pub learn_held : (o : Option DataCopy) (copy : ℕ) (p : Lane) → slice_get p.datas copy ≡ o → LaneHolds v path p → LaneHolds v path (learns o p)
@@ -148,12 +192,22 @@ module _ (v : View) (path : ℕ) where
           by_clash : (c : Bool) → LaneHolds v path (if c then p else record p { maps = p.maps ++ m ∷ [] })
           by_clash true = h
           by_clash false = record {
-            record_of = h.record_of; alone = h.alone; modes = h.modes;
+            record_of = h.record_of;
+            alone = h.alone;
+            modes = h.modes;
             bytes = record {
-              granted = h.bytes.granted; honest = h.bytes.honest; within = h.bytes.within; came = h.bytes.came;
-              right = Every-push m h.bytes.right right; acked = h.bytes.acked;
+              granted = h.bytes.granted;
+              honest = h.bytes.honest;
+              within = h.bytes.within;
+              came = h.bytes.came;
+              right = Every-push m h.bytes.right right;
+              acked = h.bytes.acked;
             };
-            ends = h.ends; fins = h.fins; heard = h.heard; receiver = h.receiver; ask = h.ask;
+            ends = h.ends;
+            fins = h.fins;
+            heard = h.heard;
+            receiver = h.receiver;
+            ask = h.ask;
           }
 
   pub hear_data_fin_held : (o : Option ℕ) (copy : ℕ) (p : Lane) → slice_get p.data_fins copy ≡ o → LaneHolds v path p → LaneHolds v path (hears_data_fin o p)
@@ -165,11 +219,19 @@ module _ (v : View) (path : ℕ) where
   hear_fin_held (Some pos) copy p is h = held_if (pos == p.edge) p (record p { fin_in = true }) (λ here.
       let at : pos ≡ p.edge = eqb-true pos p.edge here in
       record {
-        record_of = h.record_of; alone = h.alone; modes = h.modes; bytes = h.bytes; ends = h.ends; fins = h.fins; heard = h.heard;
+        record_of = h.record_of;
+        alone = h.alone;
+        modes = h.modes;
+        bytes = h.bytes;
+        ends = h.ends;
+        fins = h.fins;
+        heard = h.heard;
         receiver = record {
-          told = h.receiver.told; passed = h.receiver.passed;
+          told = h.receiver.told;
+          passed = h.receiver.passed;
           fin = λ alone _. subst (IsEnd v.end) at ((h.fins.each copy pos is).ends alone);
-          fresh = h.receiver.fresh; copies = h.receiver.copies;
+          fresh = h.receiver.fresh;
+          copies = h.receiver.copies;
         };
         ask = h.ask;
       }) h

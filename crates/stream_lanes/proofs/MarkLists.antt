@@ -1,10 +1,9 @@
 -- Lists of marks: which bytes are spent, which are acknowledged, which are new, under what the calls of a send book do.
-use Rattle.std.proofs.Common.{◌≡◌, refl, sym, ◌∙◌, ap, subst, ℕ, zero, suc, ◌+◌, ◌-◌, ◌<◌, ◌≤◌, min, max, Bool, true, false, not, cond, nat_lt, ◌==◌, ◌⊎◌, ⊎_elim, inl, inr, List, [], ◌∷◌, ◌++◌, length, get_or, take, drop, map, replicate, count_by, Option, Some, None, Result, Ok, Err, position, if◌then◌else◌, append_assoc, arith}
-use Rattle.std.proofs.lemmas.Grind.{common_steps}
-use Rattle.std.proofs.lemmas.Bool.{cases_lt, both_ways, true≢false, ltb-true}
-use Rattle.std.proofs.lemmas.List.{length-take, length-drop, map-append, take-append-drop, drop-drop, length-append, length-map, length-replicate}
+use Rattle.std.proofs.Common.{◌≡◌, refl, sym, ◌∙◌, ap, subst, ℕ, zero, suc, ◌+◌, ◌-◌, ◌<◌, ◌≤◌, min, max, Bool, true, false, not, cond, nat_lt, ◌==◌, ⊎_elim, List, [], ◌∷◌, ◌++◌, length, get_or, take, drop, map, replicate, Option, Some, None, Result, Ok, Err, position, if◌then◌else◌, arith}
+use Rattle.std.proofs.lemmas.Bool.{cases_lt, both_ways, ltb-true}
+use Rattle.std.proofs.lemmas.List.{length-take, length-drop, map-append, take-append-drop, drop-drop, length-replicate}
 use Rattle.std.proofs.lemmas.List.Sums.{sum_by-append, sum_by-cons, fails_before_first, passes_at_first}
-use Rattle.std.proofs.lemmas.Option.{slice_get_within, slice_get_past, get_or_from_slice_get}
+use Rattle.std.proofs.lemmas.Option.{slice_get_within, get_or_from_slice_get}
 use Rattle.std.specs.List.{slice_get, position_or_len}
 use Rattle.send_book.specs.declared.call.Span.{Span}
 use Rattle.send_book.specs.declared.call.Why.{Why}
@@ -14,9 +13,9 @@ use Rattle.send_book.specs.declared.mark.ByteMark.TheVariants.{Acked, Held, Free
 use Rattle.send_book.specs.Tried.{no_paths, contains}
 use Rattle.send_book.specs.Marks.{is_acked, is_free_for, given, returned}
 use Rattle.send_book.specs.State.{Sending, acked_len}
-use Rattle.send_book.specs.Steps.{part_of, change_part, decision, first_free, is_for, span_from, span_at, run_len}
-use Rattle.send_book.proofs.Lists.{slice_get-append_left, slice_get-append_right, slice_get-drop, slice_get-take, slice_get-changed_below, slice_get-changed_above}
-use Rattle.send_book.proofs.Decisions.{MayTake, decision-MayTake}
+use Rattle.send_book.specs.Steps.{change_part, decision, first_free, is_for, span_at, run_len}
+use Rattle.send_book.proofs.Lists.{slice_get-changed_above}
+use Rattle.send_book.proofs.Decisions.{MayTake}
 use Rattle.send_book.proofs.Grants.{spent-given, spent-not_free}
 use Rattle.stream_lanes.specs.Marks.{spent, spent_count, AreAcked, AreNew}
 use Rattle.stream_lanes.proofs.Lists.{in_append, in_drop, in_take, in_map, in_replicate, item_at}
@@ -74,10 +73,15 @@ run_counts : (path : ℕ) (ms : List ByteMark) → ((i : ℕ) (m : ByteMark) →
 run_counts path [] free = (refl, refl)
 run_counts path (m ∷ ms) free =
     let rest = run_counts path ms (λ i x e. free (suc i) x e) in
-    let first = one_counts path m (free 0 m refl) in
-    (omega (arith, sum_by-cons (λ (x : ByteMark). cond (spent path (Some x)) 1 0) m ms, ap (λ b. cond {A = ℕ} b 1 0) first.0, rest.0),
-        omega (arith, sum_by-cons (λ (x : ByteMark). cond (spent path (Some x)) 1 0) (given path m) (map (given path) ms),
-        ap (λ b. cond {A = ℕ} b 1 0) first.1, rest.1))
+    let first = one_counts path m (free 0 m refl) in (
+      omega (arith, sum_by-cons (λ (x : ByteMark). cond (spent path (Some x)) 1 0) m ms, ap (λ b. cond {A = ℕ} b 1 0) first.0, rest.0),
+      omega (
+        arith,
+        sum_by-cons (λ (x : ByteMark). cond (spent path (Some x)) 1 0) (given path m) (map (given path) ms),
+        ap (λ b. cond {A = ℕ} b 1 0) first.1,
+        rest.1,
+      ),
+    )
 
 -- a grant spends as many bytes as it has
 pub grant_counts : (path max : ℕ) (b : Sending) (span : Span) → MayTake path max b span
@@ -88,15 +92,23 @@ grant_counts path max b span m =
     let part : List ByteMark = take n (drop span.from b.marks) in
     let whole : span.to ≡ span.from + n = omega (arith, m.whole) in
     let run = run_counts path part (λ i x e.
-        let inside = in_take n (drop span.from b.marks) i x e in
-        let below : i < n = inside.1 in
-        m.free (span.from + i) x (omega arith) (omega (arith, below, m.whole)) (in_drop span.from b.marks i (span.from + i) x refl inside.0)) in
+    let inside = in_take n (drop span.from b.marks) i x e in
+    let below : i < n = inside.1 in
+    m.free (span.from + i) x (omega arith) (omega (arith, below, m.whole)) (in_drop span.from b.marks i (span.from + i) x refl inside.0)) in
     let size : length part ≡ n = omega (arith, length-take n (drop span.from b.marks), length-drop span.from b.marks, m.within, m.whole) in
     let old : spent_count path b.marks ≡ spent_count path (take span.from b.marks ++ (part ++ drop span.to b.marks)) =
     ap (spent_count path) (sym (three_parts span.from n span.to b.marks whole)) in
-    omega (arith, run.0, run.1, size, old,
-    sum_by-append f (take span.from b.marks) (part ++ drop span.to b.marks), sum_by-append f part (drop span.to b.marks),
-    sum_by-append f (take span.from b.marks) (map (given path) part ++ drop span.to b.marks), sum_by-append f (map (given path) part) (drop span.to b.marks))
+    omega (
+      arith,
+      run.0,
+      run.1,
+      size,
+      old,
+      sum_by-append f (take span.from b.marks) (part ++ drop span.to b.marks),
+      sum_by-append f part (drop span.to b.marks),
+      sum_by-append f (take span.from b.marks) (map (given path) part ++ drop span.to b.marks),
+      sum_by-append f (map (given path) part) (drop span.to b.marks),
+    )
 
 -- the acknowledged bytes, counted
 pub AreAcked-count : (n : ℕ) (ms : List ByteMark) → AreAcked n ms → acked_len ms ≡ n
@@ -201,15 +213,15 @@ pub AreNew-acked : (n next c : ℕ) (ms : List ByteMark) → c ≡ min next (len
     → AreNew n ms → AreNew n (replicate c Acked ++ drop next ms)
 AreNew-acked n next c ms c_is later h place mark above e = ⊎_elim
     (λ left.
-        let below : place < c = subst (λ m. place < m) (length-replicate c Acked) (slice_get_within (replicate c Acked) place mark left) in
-        absurd (omega (arith, below, c_is, later place above (omega (arith, below, c_is)))))
+    let below : place < c = subst (λ m. place < m) (length-replicate c Acked) (slice_get_within (replicate c Acked) place mark left) in
+    absurd (omega (arith, below, c_is, later place above (omega (arith, below, c_is)))))
     (λ right.
-        let past : c ≤ place = subst (λ m. m ≤ place) (length-replicate c Acked) right.0 in
-        let size : length (replicate c Acked) ≡ c = length-replicate c Acked in
-        let there : slice_get ms (next + (place - length (replicate c Acked))) ≡ Some mark =
-        in_drop next ms (place - length (replicate c Acked)) (next + (place - length (replicate c Acked))) mark refl right.1 in
-        let inside : next + (place - length (replicate c Acked)) < length ms = slice_get_within ms _ mark there in
-        h (next + (place - length (replicate c Acked))) mark (omega (arith, above, past, size, c_is, inside)) there)
+    let past : c ≤ place = subst (λ m. m ≤ place) (length-replicate c Acked) right.0 in
+    let size : length (replicate c Acked) ≡ c = length-replicate c Acked in
+    let there : slice_get ms (next + (place - length (replicate c Acked))) ≡ Some mark =
+    in_drop next ms (place - length (replicate c Acked)) (next + (place - length (replicate c Acked))) mark refl right.1 in
+    let inside : next + (place - length (replicate c Acked)) < length ms = slice_get_within ms _ mark there in
+    h (next + (place - length (replicate c Acked))) mark (omega (arith, above, past, size, c_is, inside)) there)
     (in_append (replicate c Acked) (drop next ms) place mark e)
 
 pub AreNew-given : (path n : ℕ) (span : Span) (ms : List ByteMark) → n ≤ span.to → span.from ≤ span.to → span.to ≤ length ms

@@ -1,5 +1,5 @@
 -- Every move of a lane keeps what holds of it.
-use Rattle.std.proofs.Common.{◌≡◌, refl, ℕ}
+use Rattle.std.proofs.Common.{refl, ℕ}
 use Rattle.stream_lanes.specs.Lane.{Lane}
 use Rattle.stream_lanes.specs.Lane.Ask.{AskGrant, AskAckOut}
 use Rattle.std.specs.List.{slice_get}

@@ -1,37 +1,34 @@
 -- Each event is on each pipe one step or none.
-use Rattle.std.proofs.Common.{◌≡◌, refl, sym, ◌∙◌, ap, subst, ℕ, zero, suc, ◌+◌, ◌-◌, ◌<◌, ◌≤◌, min, max, Bool, true, false, ◌&&◌, ◌||◌, ◌==◌, nat_lt, if◌then◌else◌, is_some, ⊎_elim, List, [], ◌∷◌, ◌++◌, length, take, drop, map, replicate, set, Option, Some, None, Result, Ok, Err, arith}
+use Rattle.std.proofs.Common.{◌≡◌, refl, sym, ◌∙◌, ap, subst, ℕ, ◌+◌, ◌≤◌, min, max, Bool, true, false, ◌&&◌, ◌||◌, ◌==◌, nat_lt, if◌then◌else◌, is_some, List, [], ◌∷◌, ◌++◌, length, take, drop, map, replicate, Option, Some, None, Result, Ok, Err, arith}
 use Rattle.std.proofs.lemmas.Bool.{or_parts, and_from, eqb-true, eq-eqb, le-ltb, or_from}
 use Rattle.std.proofs.lemmas.List.{length-take}
 use Rattle.std.specs.List.{slice_get}
 use Rattle.std.specs.Option.{IfSome}
 use Rattle.pipe_model.specs.declared.pipe.Pipe.{Pipe}
-use Rattle.pipe_model.specs.declared.pipe.PipeStep.{PipeStep}
 use Rattle.pipe_model.specs.declared.pipe.PipeStep.TheVariants.{Write as WriteStep, Close as CloseStep, Read as ReadStep, Ack as AckStep, TellEnd}
 use Rattle.pipe_model.specs.declared.pipe.PipeFault.TheVariants.{Closed, Told, Past, NotAll}
 use Rattle.send_book.specs.declared.call.Span.{Span}
 use Rattle.send_book.specs.declared.call.Why.{Why}
-use Rattle.send_book.specs.declared.call.SendCall.TheVariants.{Grant, AckIn}
-use Rattle.send_book.specs.declared.call.SendCall.TheVariants.{Write as WriteBytes, Return as ReturnBytes, GoInfinite as GoInfiniteBook}
 use Rattle.send_book.specs.declared.mark.ByteMark.{ByteMark}
 use Rattle.send_book.specs.declared.mark.ByteMark.TheVariants.{Acked, Free}
 use Rattle.send_book.specs.Tried.{no_paths}
 use Rattle.send_book.specs.Marks.{returned, given}
-use Rattle.send_book.specs.State.{Sending, acked_len}
-use Rattle.send_book.specs.Steps.{taken, is_future, fin_after, is_gathered, decision, given_by, reply_by, change_part}
-use Rattle.send_book.proofs.Decisions.{MayTake, decision-MayTake}
+use Rattle.send_book.specs.State.{acked_len}
+use Rattle.send_book.specs.Steps.{taken, is_future, fin_after, is_gathered, decision, given_by, change_part}
+use Rattle.send_book.proofs.Decisions.{decision-MayTake}
 use Rattle.reassembly_book.specs.declared.call.ReassemblyReply.TheVariants.{End, NoneYet}
-use Rattle.reassembly_book.specs.State.{Arriving, filled, received}
+use Rattle.reassembly_book.specs.State.{filled, received}
 use Rattle.reassembly_book.specs.Steps.{is_taken, places_after, fin_clash, is_end, bytes_reply, reading, after_reading}
 use Rattle.stream_lanes.specs.Lane.{Ask, Lane}
 use Rattle.stream_lanes.specs.Lane.Ask.{Nothing, AskGrant, AskAckIn, AskPlace, AskFin, AskAckOut}
 use Rattle.stream_lanes.specs.Moves.{Flags, Move}
-use Rattle.stream_lanes.specs.Streams.{Reader, Direction, StreamEvent, after, asks, asks_at, moves, reads, is_done, takes_read}
+use Rattle.stream_lanes.specs.Streams.{Direction, StreamEvent, after, asks, asks_at, moves, reads, is_done, takes_read}
 use Rattle.stream_lanes.specs.Streams.StreamEvent.{Write, Close, Return, GoIdentity, GoInfinite, AbortSend, Read, AbortRead, Moves, Asks}
-use Rattle.stream_lanes.specs.View.{View, view_of, end_of, IsEnd}
-use Rattle.stream_lanes.specs.Holding.{SendHolds, ArrivedHolds, IsGranted, AskHolds, IsAck, DirectionHolds}
-use Rattle.stream_lanes.specs.Laws.{pipe_of, TellsReceived, IsStep, StepsOrStays, IsOneStepOrNone}
+use Rattle.stream_lanes.specs.View.{view_of, end_of, IsEnd}
+use Rattle.stream_lanes.specs.Holding.{AskHolds, IsAck, DirectionHolds}
+use Rattle.stream_lanes.specs.Laws.{pipe_of, IsOneStepOrNone}
 use Rattle.stream_lanes.specs.Laws.StepsOrStays.{stays, steps}
-use Rattle.stream_lanes.proofs.MarkLists.{AreAcked-count, AreAcked-within, AreAcked-written, AreAcked-returned, AreAcked-given, AreAcked-acked}
+use Rattle.stream_lanes.proofs.MarkLists.{AreAcked-count, AreAcked-written, AreAcked-returned, AreAcked-given, AreAcked-acked}
 use Rattle.stream_lanes.proofs.Views.{AllIn, all_in_is, is_end as is_end_of, received_written}
 use Rattle.stream_lanes.proofs.Views.AllIn.{missing, complete}
 
@@ -76,8 +73,12 @@ module _ (f : Flags) (d : Direction) (h : DirectionHolds f d) where
   counted marks n n_is are = are ∙ n_is
 
   write_moves : (bytes : List ℕ) (shut : Bool) → (d.send.closed || d.send.aborted) ≡ shut
-      → IsOneStepOrNone d (record d { send = if shut then d.send else record d.send {
-        written = d.send.written ++ take (taken bytes d.send) bytes; marks = d.send.marks ++ replicate (taken bytes d.send) (Free no_paths) } })
+      → IsOneStepOrNone d (record d {
+        send = if shut then d.send else record d.send {
+          written = d.send.written ++ take (taken bytes d.send) bytes;
+          marks = d.send.marks ++ replicate (taken bytes d.send) (Free no_paths);
+        };
+      })
   write_moves bytes true is = stays refl
   write_moves bytes false is = steps (record {
     step = WriteStep (take (taken bytes d.send) bytes);
@@ -108,8 +109,14 @@ module _ (f : Flags) (d : Direction) (h : DirectionHolds f d) where
       (AreAcked-count (acked_len d.send.marks) _ (AreAcked-given path (acked_len d.send.marks) span d.send.marks (omega (arith, m.whole)) h.send.first)))
 
   ack_moves : (next window : ℕ) (lanes : List Lane) → IsAck (view_of f d.send d.arrived) next window → (future : Bool)
-      → IsOneStepOrNone d (record d { send = if future then d.send else record d.send {
-        marks = replicate (min next (length d.send.marks)) Acked ++ drop next d.send.marks; edge = max d.send.edge (next + window); fin = fin_after next d.send }; lanes = lanes })
+      → IsOneStepOrNone d (record d {
+        send = if future then d.send else record d.send {
+          marks = replicate (min next (length d.send.marks)) Acked ++ drop next d.send.marks;
+          edge = max d.send.edge (next + window);
+          fin = fin_after next d.send;
+        };
+        lanes = lanes;
+      })
   ack_moves next window lanes ack true = stays refl
   ack_moves next window lanes ack false = steps (record {
     step = AckStep (acked_len marks) (received d.arrived);

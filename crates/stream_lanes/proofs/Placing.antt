@@ -1,15 +1,15 @@
 -- What a receiver's end is about to place: bytes of the record, at the places that they have there.
-use Rattle.std.proofs.Common.{◌≡◌, refl, sym, ◌∙◌, ap, subst, ℕ, zero, suc, ◌+◌, ◌-◌, ◌<◌, ◌≤◌, Bool, true, false, if◌then◌else◌, nat_le, List, [], ◌∷◌, length, take, map, Option, Some, None, arith}
+use Rattle.std.proofs.Common.{◌≡◌, refl, sym, ◌∙◌, ap, subst, ℕ, zero, suc, ◌+◌, ◌-◌, ◌<◌, ◌≤◌, true, if◌then◌else◌, nat_le, List, length, Option, Some, None, arith}
 use Rattle.std.proofs.lemmas.Bool.{and_parts, leb-true}
 use Rattle.std.proofs.lemmas.Option.{slice_get-map, same_Some, slice_get_within}
 use Rattle.std.specs.Option.{option_map}
 use Rattle.std.specs.List.{slice_get}
-use Rattle.stream_lanes.specs.Words.{Every, From, Cells, Has}
-use Rattle.stream_lanes.specs.Lane.{Cell, Mapping, Ask, Lane}
+use Rattle.stream_lanes.specs.Words.{From}
+use Rattle.stream_lanes.specs.Lane.{Cell, Mapping, Lane}
 use Rattle.stream_lanes.specs.Lane.Ask.{AskPlace}
 use Rattle.stream_lanes.specs.Moves.{places_of, in_order, lies_in, places}
 use Rattle.stream_lanes.specs.View.{View}
-use Rattle.stream_lanes.specs.Holding.{IsSent, CellFits, RecordHolds, AloneHolds, HasPlace, PlaceHolds, LaneHolds, IsByteOf, IsRight}
+use Rattle.stream_lanes.specs.Holding.{IsSent, CellFits, RecordHolds, HasPlace, PlaceHolds, LaneHolds, IsByteOf, IsRight}
 use Rattle.stream_lanes.proofs.Lists.{in_map, item_at}
 use Rattle.stream_lanes.proofs.Bytes.{From-filled, From-take, byte_within}
 use Rattle.stream_lanes.proofs.Local.{ViewFits, held_if, with_ask}

@@ -1,27 +1,24 @@
 -- The promises, from what holds of a connection.
-use Rattle.std.proofs.Common.{◌≡◌, refl, sym, ◌∙◌, ap, subst, ℕ, zero, suc, ◌+◌, ◌-◌, ◌<◌, ◌≤◌, Bool, true, false, not, ◌||◌, if◌then◌else◌, ⊎_elim, List, [], ◌∷◌, ◌++◌, length, take, drop, Option, Some, None, arith}
-use Rattle.std.proofs.lemmas.Bool.{or_left, or_right, or_cases, not-true, true≢false}
-use Rattle.std.proofs.lemmas.List.{take-append-drop, take_all, length-map}
-use Rattle.std.proofs.lemmas.Option.{slice_get_within, slice_get-map, same_Some}
+use Rattle.std.proofs.Common.{◌≡◌, refl, sym, ◌∙◌, ap, ℕ, zero, suc, ◌+◌, ◌<◌, ◌≤◌, true, not, List, [], ◌∷◌, ◌++◌, length, drop, Some, arith}
+use Rattle.std.proofs.lemmas.Bool.{or_left, or_right, not-true, true≢false}
+use Rattle.std.proofs.lemmas.List.{take-append-drop, take_all}
+use Rattle.std.proofs.lemmas.Option.{slice_get_within, same_Some}
 use Rattle.std.specs.List.{slice_get}
-use Rattle.std.specs.Option.{IfSome, option_map}
 use Rattle.send_book.specs.declared.mark.ByteMark.{ByteMark}
 use Rattle.send_book.specs.declared.mark.ByteMark.TheVariants.{Acked}
 use Rattle.send_book.specs.Marks.{is_acked}
-use Rattle.send_book.specs.State.{Sending, acked_len}
-use Rattle.send_book.specs.Laws.{IsAckedAt}
-use Rattle.reassembly_book.specs.State.{Arriving, received}
-use Rattle.stream_lanes.specs.Words.{Every, From}
-use Rattle.stream_lanes.specs.Marks.{AreAcked, spent_count}
-use Rattle.stream_lanes.specs.Lane.{Cell, Mapping, DataCopy, AckCopy, Lane}
-use Rattle.stream_lanes.specs.Moves.{Flags, places_of}
-use Rattle.stream_lanes.specs.Streams.{Reader, Direction, is_done}
-use Rattle.stream_lanes.specs.Duo.{Duo, Event, flags_ab, flags_ba, after_event, after_events, opening}
+use Rattle.send_book.specs.State.{acked_len}
+use Rattle.reassembly_book.specs.State.{received}
+use Rattle.stream_lanes.specs.Marks.{AreAcked}
+use Rattle.stream_lanes.specs.Lane.{Cell, Mapping, Lane}
+use Rattle.stream_lanes.specs.Moves.{Flags}
+use Rattle.stream_lanes.specs.Streams.{Reader, Direction}
+use Rattle.stream_lanes.specs.Duo.{Duo, flags_ab, flags_ba, after_events, opening}
 use Rattle.stream_lanes.specs.Duo.Event.{ToB, ToA, FallA, FallB, BeginJoin, SendJoin, HearJoin}
-use Rattle.stream_lanes.specs.View.{View, view_of, all_in, IsEnd}
+use Rattle.stream_lanes.specs.View.{view_of}
 use Rattle.stream_lanes.specs.Holding.{CellFits, IsRight, LaneHolds, DirectionHolds, Holds}
-use Rattle.stream_lanes.specs.Laws.{Always, BothWays, ReadsAPrefix, AcknowledgesReceivedBytes, EndsAtTheWhole, NothingCame, NothingFollowsTheEnd, AbortedIsNoEnd, StepsOrStays, EachEventIsOneStep, NothingIsRefused, MappingIsShort, LaneIsShort, PathsAreShort, IsPlain, FallsAreRight}
-use Rattle.stream_lanes.specs.Laws.StepsOrStays.{stays, steps}
+use Rattle.stream_lanes.specs.Laws.{Always, BothWays, ReadsAPrefix, AcknowledgesReceivedBytes, EndsAtTheWhole, NothingFollowsTheEnd, AbortedIsNoEnd, EachEventIsOneStep, NothingIsRefused, MappingIsShort, LaneIsShort, PathsAreShort, IsPlain, FallsAreRight}
+use Rattle.stream_lanes.specs.Laws.StepsOrStays.{stays}
 use Rattle.stream_lanes.proofs.Lists.{Every-map, in_map}
 use Rattle.stream_lanes.proofs.MarkLists.{count_within}
 use Rattle.stream_lanes.proofs.Views.{is_end, all_in_bound, received_written}
@@ -75,16 +72,18 @@ ends_at_the_whole paths buffer capacity events = both ends_whole (after_events e
 pub nothing_follows_the_end : Always NothingFollowsTheEnd
 nothing_follows_the_end paths buffer capacity events more =
     let w : Duo = after_events events (opening paths buffer capacity) in
-    let whole = ends_at_the_whole paths buffer capacity events in
-    (λ told. record { read = done_ab more w (or_left w.ab.reader.told w.ab.reader.stopped told); written = shut_ab more w (whole.0 told).0 },
-        λ told. record { read = done_ba more w (or_left w.ba.reader.told w.ba.reader.stopped told); written = shut_ba more w (whole.1 told).0 })
+    let whole = ends_at_the_whole paths buffer capacity events in (
+      λ told. record { read = done_ab more w (or_left w.ab.reader.told w.ab.reader.stopped told); written = shut_ab more w (whole.0 told).0 },
+      λ told. record { read = done_ba more w (or_left w.ba.reader.told w.ba.reader.stopped told); written = shut_ba more w (whole.1 told).0 },
+    )
 
 pub aborted_is_no_end : Always AbortedIsNoEnd
 aborted_is_no_end paths buffer capacity events more =
     let w : Duo = after_events events (opening paths buffer capacity) in
-    let h : Holds w = all_held paths buffer capacity events in
-    (λ stopped. ap (λ (r : Reader). r.told) (done_ab more w (or_right w.ab.reader.told w.ab.reader.stopped stopped)) ∙ h.ab.reader.once stopped,
-        λ stopped. ap (λ (r : Reader). r.told) (done_ba more w (or_right w.ba.reader.told w.ba.reader.stopped stopped)) ∙ h.ba.reader.once stopped)
+    let h : Holds w = all_held paths buffer capacity events in (
+      λ stopped. ap (λ (r : Reader). r.told) (done_ab more w (or_right w.ab.reader.told w.ab.reader.stopped stopped)) ∙ h.ab.reader.once stopped,
+      λ stopped. ap (λ (r : Reader). r.told) (done_ba more w (or_right w.ba.reader.told w.ba.reader.stopped stopped)) ∙ h.ba.reader.once stopped,
+    )
 
 pub each_event_is_one_step : Always EachEventIsOneStep
 each_event_is_one_step paths buffer capacity events event = at (after_events events (opening paths buffer capacity)) (all_held paths buffer capacity events) event

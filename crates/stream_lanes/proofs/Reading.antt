@@ -1,21 +1,18 @@
 -- What a read makes of a reassembly book, of its view and of its reader.
-use Rattle.std.proofs.Common.{◌≡◌, refl, sym, ◌∙◌, ap, subst, ℕ, zero, suc, ◌+◌, ◌-◌, ◌<◌, ◌≤◌, min, Bool, true, false, ◌||◌, ◌==◌, if◌then◌else◌, is_some, ◌⊎◌, ⊎_elim, List, [], ◌∷◌, ◌++◌, length, take, drop, Option, Some, None, arith}
+use Rattle.std.proofs.Common.{◌≡◌, refl, sym, ◌∙◌, ap, subst, ℕ, ◌+◌, ◌-◌, ◌<◌, ◌≤◌, min, Bool, true, false, if◌then◌else◌, is_some, ⊎_elim, List, [], ◌∷◌, ◌++◌, length, take, drop, Option, Some, None, arith}
 use Rattle.std.proofs.lemmas.Bool.{cases_lt, eqb-true, or_parts, false≢true}
 use Rattle.std.proofs.lemmas.List.{append-nil, length-drop, length-take, take_min}
-use Rattle.std.proofs.lemmas.Option.{slice_get_within}
 use Rattle.std.proofs.Math.Seq.{take-add}
-use Rattle.std.specs.List.{slice_get}
 use Rattle.std.specs.Option.{IfSome}
 use Rattle.send_book.specs.State.{Sending}
 use Rattle.reassembly_book.specs.declared.call.ReassemblyCall.TheVariants.{Read}
-use Rattle.reassembly_book.specs.declared.call.ReassemblyReply.{ReassemblyReply}
 use Rattle.reassembly_book.specs.declared.call.ReassemblyReply.TheVariants.{End, NoneYet}
-use Rattle.reassembly_book.specs.State.{Arriving, filled, received, top}
+use Rattle.reassembly_book.specs.State.{Arriving, filled, received}
 use Rattle.reassembly_book.specs.Steps.{after_call, reply_to, is_end, bytes_reply, reading, after_reading}
-use Rattle.stream_lanes.specs.Words.{Every, From, Cells, Has}
+use Rattle.stream_lanes.specs.Words.{From}
 use Rattle.stream_lanes.specs.Moves.{Flags}
 use Rattle.stream_lanes.specs.Streams.{Reader, takes_read, is_done}
-use Rattle.stream_lanes.specs.View.{View, view_of, IsEnd}
+use Rattle.stream_lanes.specs.View.{view_of, IsEnd}
 use Rattle.stream_lanes.specs.Holding.{SendHolds, IsSent, ArrivedHolds, ReaderHolds}
 use Rattle.stream_lanes.proofs.Lists.{Cells-map, Cells-drop, From-map, item_at}
 use Rattle.stream_lanes.proofs.Bytes.{From-filled}

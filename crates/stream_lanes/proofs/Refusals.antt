@@ -1,26 +1,24 @@
 -- No book and no list of mappings refuses what a lane asks or learns.
-use Rattle.std.proofs.Common.{◌≡◌, refl, sym, ◌∙◌, ap, subst, ℕ, zero, suc, ◌+◌, ◌-◌, ◌<◌, ◌≤◌, min, max, Bool, true, false, not, ◌&&◌, ◌||◌, ◌==◌, nat_lt, if◌then◌else◌, is_some, ⊎_elim, List, [], ◌∷◌, length, Option, Some, None, count_by, arith}
-use Rattle.std.proofs.lemmas.Bool.{le-ltb, ltb-true, eq-eqb, or_from, and_right, and_left, cases_lt}
+use Rattle.std.proofs.Common.{◌≡◌, refl, sym, ◌∙◌, ap, ℕ, suc, ◌+◌, ◌-◌, ◌<◌, ◌≤◌, min, max, Bool, true, false, not, ◌&&◌, ◌==◌, nat_lt, if◌then◌else◌, List, [], ◌∷◌, length, Option, Some, None, arith}
+use Rattle.std.proofs.lemmas.Bool.{le-ltb, ltb-true, eq-eqb, or_from}
 use Rattle.std.proofs.lemmas.Option.{same_Some}
 use Rattle.std.specs.Option.{IfSome}
 use Rattle.std.specs.List.{slice_get}
-use Rattle.send_book.specs.declared.call.SendReply.{SendReply}
 use Rattle.send_book.specs.declared.call.SendReply.TheVariants.{AckFuture}
 use Rattle.send_book.specs.declared.call.SendReply.TheVariants.{Acked as AckedBytes}
 use Rattle.send_book.specs.State.{Sending, acked_len}
 use Rattle.send_book.specs.Steps.{is_future, fin_after}
-use Rattle.reassembly_book.specs.declared.call.ReassemblyReply.{ReassemblyReply}
 use Rattle.reassembly_book.specs.declared.call.ReassemblyReply.TheVariants.{Beyond}
 use Rattle.reassembly_book.specs.State.{Arriving, received}
-use Rattle.reassembly_book.specs.Steps.{edge, reaches_past, clash, placed_reply, fin_clash, fin_reply_by}
-use Rattle.stream_lanes.specs.Words.{Every, From, Has}
+use Rattle.reassembly_book.specs.Steps.{edge, clash, placed_reply, fin_reply_by}
+use Rattle.stream_lanes.specs.Words.{From}
 use Rattle.stream_lanes.specs.Lane.{Cell, Mapping, DataCopy, Ask, Lane}
 use Rattle.stream_lanes.specs.Lane.Ask.{Nothing, AskGrant, AskAckIn, AskPlace, AskFin, AskAckOut}
 use Rattle.stream_lanes.specs.Moves.{Flags, Move, disagree, clashes, places_of}
-use Rattle.stream_lanes.specs.Moves.Move.{Open, LookAtSender, LookAtReceiver, WantGrant, HearAck, SendPiece, SendDataFin, SendFin, Hear, Learn, HearDataFin, HearFin, WantPlace, WantPlacePlain, WantFin, WantAckOut, SendAck}
+use Rattle.stream_lanes.specs.Moves.Move.{Learn}
 use Rattle.stream_lanes.specs.Streams.{Direction, StreamEvent}
-use Rattle.stream_lanes.specs.Streams.StreamEvent.{Write, Close, Return, GoIdentity, GoInfinite, AbortSend, Read, AbortRead, Moves, Asks}
-use Rattle.stream_lanes.specs.View.{View, view_of, all_in, IsEnd}
+use Rattle.stream_lanes.specs.Streams.StreamEvent.{Moves, Asks}
+use Rattle.stream_lanes.specs.View.{View, view_of}
 use Rattle.stream_lanes.specs.Holding.{IsSent, IsAck, AskHolds, IsGranted, IsRight, LaneHolds, DirectionHolds}
 use Rattle.stream_lanes.specs.Laws.{is_ack_future, is_beyond_or_clash, ask_refused, mapping_clashes, copy_clashes, move_refused, lane_refused, is_refused}
 use Rattle.stream_lanes.proofs.Lists.{From-map}
@@ -77,7 +75,10 @@ module _ (f : Flags) (d : Direction) (h : DirectionHolds f d) where
       (not_future f d.send d.arrived next window (received_written (view_of f d.send d.arrived) d.arrived h.arrived) ask)
   ask_taken path p there (AskPlace at bytes) ask =
       let row : From (IsSent (IsGranted d.lanes) (view_of f d.send d.arrived)) at bytes = From-map (λ place byte sent. record {
-        written = sent.written; room = sent.room; recorded = record { at = path; item = p; there = there; holds = sent.recorded } }) ask.each in
+        written = sent.written;
+        room = sent.room;
+        recorded = record { at = path; item = p; there = there; holds = sent.recorded };
+      }) ask.each in
       ap (λ (c : Bool). is_beyond_or_clash (if c then Beyond (edge d.arrived) else placed_reply (clash d.arrived.known_end at bytes) at bytes d.arrived))
       (not_beyond (IsGranted d.lanes) f d.send d.arrived h.send h.arrived at bytes row)
       ∙ ap (λ o. is_beyond_or_clash (placed_reply o at bytes d.arrived)) (not_clash (IsGranted d.lanes) f d.send d.arrived h.send h.arrived at bytes row d.arrived.known_end h.arrived.end)

@@ -1,12 +1,10 @@
 -- What a lane makes of the replies to its acknowledgement, to its bytes, to an end and to AckOut.
-use Rattle.std.proofs.Common.{◌≡◌, refl, sym, ◌∙◌, ap, subst, ℕ, zero, suc, ◌+◌, ◌-◌, ◌<◌, ◌≤◌, min, max, Bool, true, false, ◌&&◌, ◌||◌, ◌==◌, nat_lt, if◌then◌else◌, is_some, ◌⊎◌, ⊎_elim, List, [], ◌∷◌, ◌++◌, length, take, drop, map, replicate, Option, Some, None, count_by, arith}
+use Rattle.std.proofs.Common.{◌≡◌, refl, sym, ◌∙◌, ap, subst, ℕ, zero, suc, ◌+◌, ◌-◌, ◌<◌, ◌≤◌, min, max, Bool, true, false, ◌==◌, if◌then◌else◌, is_some, ⊎_elim, List, [], ◌∷◌, ◌++◌, length, drop, map, replicate, Option, Some, None, count_by, arith}
 use Rattle.std.proofs.lemmas.Bool.{cases_lt, eqb-true, or_cases, ltb-false, true≢false}
-use Rattle.std.proofs.lemmas.List.{length-replicate}
 use Rattle.std.proofs.lemmas.Option.{slice_get_within}
 use Rattle.std.specs.List.{slice_get}
 use Rattle.std.specs.Option.{IfSome}
 use Rattle.send_book.specs.declared.call.SendCall.TheVariants.{AckIn}
-use Rattle.send_book.specs.declared.call.SendReply.{SendReply}
 use Rattle.send_book.specs.declared.call.SendReply.TheVariants.{AckFuture}
 use Rattle.send_book.specs.declared.call.SendReply.TheVariants.{Acked as AckedBytes}
 use Rattle.send_book.specs.State.{Sending, acked_len}
@@ -14,30 +12,31 @@ use Rattle.send_book.specs.declared.mark.ByteMark.TheVariants.{Acked}
 use Rattle.send_book.specs.Steps.{after_call as after_send, reply_to as send_reply, is_future, fin_after}
 use Rattle.send_book.proofs.Lists.{slice_get-drop}
 use Rattle.reassembly_book.specs.declared.call.ReassemblyCall.TheVariants.{Place, Fin, AckOut}
-use Rattle.reassembly_book.specs.declared.call.ReassemblyReply.{ReassemblyReply}
-use Rattle.reassembly_book.specs.declared.call.ReassemblyReply.TheVariants.{Placed, Beyond, FinClash}
+use Rattle.reassembly_book.specs.declared.call.ReassemblyReply.TheVariants.{Placed, Beyond}
 use Rattle.reassembly_book.specs.State.{Arriving, filled, received}
-use Rattle.reassembly_book.specs.Steps.{after_call as after_arrival, reply_to as arrival_reply, by_place, merged, edge, reaches_past, clash, is_taken, placed_reply, places_after, fin_clash, fin_reply_by, is_end, next_wanted, window}
-use Rattle.stream_lanes.specs.Words.{Every, From, Cells, Has}
-use Rattle.stream_lanes.specs.Lane.{Cell, Told, Ask, Lane}
+use Rattle.reassembly_book.specs.Steps.{after_call as after_arrival, reply_to as arrival_reply, by_place, merged, edge, reaches_past, clash, placed_reply, places_after, fin_clash, fin_reply_by, is_end}
+use Rattle.stream_lanes.specs.Words.{From}
+use Rattle.stream_lanes.specs.Lane.{Lane}
 use Rattle.stream_lanes.specs.Lane.Ask.{Nothing}
 use Rattle.stream_lanes.specs.Moves.{Flags, takes_ack, takes_placed, takes_fin, takes_ack_out}
 use Rattle.stream_lanes.specs.Streams.{Reader}
-use Rattle.stream_lanes.specs.View.{View, view_of, all_in, end_of, IsEnd}
-use Rattle.stream_lanes.specs.Holding.{IsAll, SendHolds, IsSent, ArrivedHolds, HasPlace, PlaceHolds, ReceiverHolds, AskHolds, LaneHolds}
-use Rattle.stream_lanes.proofs.Lists.{Cells-drop, Every-map, in_drop, item_at}
+use Rattle.stream_lanes.specs.View.{view_of, all_in, end_of, IsEnd}
+use Rattle.stream_lanes.specs.Holding.{SendHolds, IsSent, ArrivedHolds, PlaceHolds, LaneHolds}
+use Rattle.stream_lanes.proofs.Lists.{Cells-drop, item_at}
 use Rattle.stream_lanes.proofs.MarkLists.{AreAcked-count, AreAcked-acked, AreAcked-within}
-use Rattle.stream_lanes.proofs.Later.{Later, Anyone, lane_later, receiver_later}
+use Rattle.stream_lanes.proofs.Later.{Anyone, lane_later}
 use Rattle.stream_lanes.proofs.Local.{with_ask}
-use Rattle.stream_lanes.proofs.Views.{AllIn, all_in_is, all_in_one, is_end as is_end_of}
-use Rattle.stream_lanes.proofs.Views.AllIn.{missing, complete}
+use Rattle.stream_lanes.proofs.Views.{all_in_one, is_end as is_end_of}
 use Rattle.stream_lanes.proofs.Sends.{SendStep}
 use Rattle.stream_lanes.proofs.Arrivals.{ReceiveStep, not_beyond, not_clash}
 
 -- what was acknowledged counts as confirmed
 module _ (f : Flags) (s : Sending) (b : Arriving) (send : SendHolds s (view_of f s b)) (next window : ℕ) (path : ℕ) (p : Lane) where
   confirmed_next : is_future next s ≡ false → next ≤ (view_of f (record s {
-    marks = replicate (min next (length s.marks)) Acked ++ drop next s.marks; edge = max s.edge (next + window); fin = fin_after next s }) b).confirmed
+    marks = replicate (min next (length s.marks)) Acked ++ drop next s.marks;
+    edge = max s.edge (next + window);
+    fin = fin_after next s;
+  }) b).confirmed
   confirmed_next past = by_close s.closed refl (ltb-false _ _ past)
     where
       c : ℕ
@@ -72,12 +71,18 @@ module _ (f : Flags) (s : Sending) (b : Arriving) (send : SendHolds s (view_of f
       by_future false is step =
           let now = lane_later step.later path p tt reach h in
           record {
-            record_of = now.record_of; alone = now.alone; modes = now.modes; bytes = now.bytes; ends = now.ends; fins = now.fins;
+            record_of = now.record_of;
+            alone = now.alone;
+            modes = now.modes;
+            bytes = now.bytes;
+            ends = now.ends;
+            fins = now.fins;
             heard = record {
               below = omega (arith, now.heard.below, confirmed_next is);
               fin = λ acked. ⊎_elim (λ old. now.heard.fin old) (λ new. step.holds.fin new) (or_cases p.fin_acked (fin_after next s) acked);
             };
-            receiver = now.receiver; ask = tt;
+            receiver = now.receiver;
+            ask = tt;
           }
 
 -- as many places as are filled from the first one on
@@ -143,10 +148,10 @@ placed_reach b at bytes joins = ⊎_elim (λ less. omega (arith, less)) (λ more
         full i below = ⊎_elim
             (λ old. let there = filled_item b.places i old in (there.0, merged_left b.places (drop b.read (by_place at bytes)) i there.0 there.1))
             (λ new.
-                let there = item_at bytes (b.read + i - at) (omega (arith, new, below, joins)) in
-                let placed : slice_get (by_place at bytes) (b.read + i) ≡ Some (Some there.0) =
-                by_place_item at bytes (b.read + i - at) (b.read + i) there.0 (omega (arith, new, joins)) there.1 in
-                merged_right b.places (drop b.read (by_place at bytes)) i there.0 (slice_get-drop b.read (by_place at bytes) i (b.read + i) refl ∙ placed))
+            let there = item_at bytes (b.read + i - at) (omega (arith, new, below, joins)) in
+            let placed : slice_get (by_place at bytes) (b.read + i) ≡ Some (Some there.0) =
+            by_place_item at bytes (b.read + i - at) (b.read + i) there.0 (omega (arith, new, joins)) there.1 in
+            merged_right b.places (drop b.read (by_place at bytes)) i there.0 (slice_get-drop b.read (by_place at bytes) i (b.read + i) refl ∙ placed))
             (cases_lt i (length (filled b.places)))
 
 module _ (granted : ℕ → Type 0) (f : Flags) (s : Sending) (b : Arriving) (send : SendHolds s (view_of f s b)) (arrived : ArrivedHolds granted (view_of f s b) b)
@@ -156,11 +161,12 @@ module _ (granted : ℕ → Type 0) (f : Flags) (s : Sending) (b : Arriving) (se
       → (new : ℕ) × (arrival_reply b (Place at bytes) ≡ Placed new) × (after_arrival b (Place at bytes) ≡ record b { places = places_after at bytes b })
   placed_answer at bytes row =
       let beyond : reaches_past (edge b) at bytes ≡ false = not_beyond granted f s b send arrived at bytes row in
-      let clash_is : clash b.known_end at bytes ≡ None = not_clash granted f s b send arrived at bytes row b.known_end arrived.end in
-      (count_by is_some (places_after at bytes b) - count_by is_some b.places,
-          ap (λ (c : Bool). if c then Beyond (edge b) else placed_reply (clash b.known_end at bytes) at bytes b) beyond ∙ ap (λ o. placed_reply o at bytes b) clash_is,
-          ap (λ (c : Bool). if (if c then false else (if is_some (clash b.known_end at bytes) then false else true)) then record b { places = places_after at bytes b } else b) beyond
-          ∙ ap (λ o. if (if is_some o then false else true) then record b { places = places_after at bytes b } else b) clash_is)
+      let clash_is : clash b.known_end at bytes ≡ None = not_clash granted f s b send arrived at bytes row b.known_end arrived.end in (
+        count_by is_some (places_after at bytes b) - count_by is_some b.places,
+        ap (λ (c : Bool). if c then Beyond (edge b) else placed_reply (clash b.known_end at bytes) at bytes b) beyond ∙ ap (λ o. placed_reply o at bytes b) clash_is,
+        ap (λ (c : Bool). if (if c then false else (if is_some (clash b.known_end at bytes) then false else true)) then record b { places = places_after at bytes b } else b) beyond
+            ∙ ap (λ o. if (if is_some o then false else true) then record b { places = places_after at bytes b } else b) clash_is,
+      )
 
   pub place_held : (at : ℕ) (bytes : List ℕ) (r : Reader) → From (IsSent granted (view_of f s b)) at bytes → PlaceHolds (view_of f s b) p.sent p.edge at bytes
       → ReceiveStep granted f s b (after_arrival b (Place at bytes)) r
@@ -193,12 +199,20 @@ module _ (granted : ℕ → Type 0) (f : Flags) (s : Sending) (b : Arriving) (se
       takes : (new : ℕ) → received (after_arrival b (Place at bytes)) ≡ b.read + length (filled (merged b.places (drop b.read (by_place at bytes))))
           → LaneHolds (view_of f s (after_arrival b (Place at bytes))) path (takes_placed (length bytes) (Placed new) p)
       takes new same = record {
-        record_of = now.record_of; alone = now.alone; modes = now.modes;
+        record_of = now.record_of;
+        alone = now.alone;
+        modes = now.modes;
         bytes = record {
-          granted = h.bytes.granted; honest = h.bytes.honest; within = ask.within; came = Cells-drop (length bytes) h.bytes.came;
-          right = h.bytes.right; acked = h.bytes.acked;
+          granted = h.bytes.granted;
+          honest = h.bytes.honest;
+          within = ask.within;
+          came = Cells-drop (length bytes) h.bytes.came;
+          right = h.bytes.right;
+          acked = h.bytes.acked;
         };
-        ends = now.ends; fins = now.fins; heard = now.heard;
+        ends = now.ends;
+        fins = now.fins;
+        heard = now.heard;
         receiver = record {
           told = now.receiver.told;
           passed = λ alone. passed bytes refl alone same;
@@ -219,9 +233,17 @@ module _ (granted : ℕ → Type 0) (f : Flags) (s : Sending) (b : Arriving) (se
       by_clash : (o : Option ℕ) → LaneHolds (view_of f s (after_arrival b (Fin at))) path (takes_fin (fin_reply_by o at) p)
       by_clash (Some fin) = with_ask (view_of f s (after_arrival b (Fin at))) path p Nothing tt now
       by_clash None = record {
-        record_of = now.record_of; alone = now.alone; modes = now.modes; bytes = now.bytes; ends = now.ends; fins = now.fins; heard = now.heard;
+        record_of = now.record_of;
+        alone = now.alone;
+        modes = now.modes;
+        bytes = now.bytes;
+        ends = now.ends;
+        fins = now.fins;
+        heard = now.heard;
         receiver = record {
-          told = now.receiver.told; passed = now.receiver.passed; fin = now.receiver.fin;
+          told = now.receiver.told;
+          passed = now.receiver.passed;
+          fin = now.receiver.fin;
           fresh = λ alone is. absurd (true≢false is);
           copies = now.receiver.copies;
         };
@@ -230,10 +252,17 @@ module _ (granted : ℕ → Type 0) (f : Flags) (s : Sending) (b : Arriving) (se
 
   pub ack_out_held : received b ≤ edge b → LaneHolds (view_of f s b) path (takes_ack_out (arrival_reply b AckOut) p)
   ack_out_held room = record {
-    record_of = h.record_of; alone = h.alone; modes = h.modes; bytes = h.bytes; ends = h.ends; fins = h.fins; heard = h.heard;
+    record_of = h.record_of;
+    alone = h.alone;
+    modes = h.modes;
+    bytes = h.bytes;
+    ends = h.ends;
+    fins = h.fins;
+    heard = h.heard;
     receiver = record {
       told = record { covers = omega (arith, wanted b.known_end arrived.end); reaches = omega (arith, wanted b.known_end arrived.end, room) };
-      passed = h.receiver.passed; fin = h.receiver.fin;
+      passed = h.receiver.passed;
+      fin = h.receiver.fin;
       fresh = λ alone _. omega (arith, h.receiver.passed alone, room);
       copies = h.receiver.copies;
     };

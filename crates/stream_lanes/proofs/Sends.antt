@@ -1,13 +1,11 @@
 -- What each call of a send book makes of it and of its view.
-use Rattle.std.proofs.Common.{◌≡◌, refl, sym, ◌∙◌, ap, subst, ℕ, zero, suc, ◌+◌, ◌-◌, ◌<◌, ◌≤◌, min, max, Bool, true, false, not, ◌&&◌, ◌||◌, ◌==◌, nat_lt, if◌then◌else◌, ◌⊎◌, ⊎_elim, inl, inr, List, [], ◌∷◌, ◌++◌, length, take, drop, map, replicate, Option, Some, None, Result, Ok, Err, arith}
-use Rattle.std.proofs.lemmas.Grind.{common_steps}
+use Rattle.std.proofs.Common.{◌≡◌, refl, sym, ◌∙◌, ap, subst, ℕ, ◌+◌, ◌-◌, ◌<◌, ◌≤◌, min, max, Bool, true, false, ◌||◌, nat_lt, if◌then◌else◌, ⊎_elim, List, [], ◌++◌, length, take, drop, map, replicate, Option, Some, None, Result, Ok, Err, arith}
 use Rattle.std.proofs.lemmas.Bool.{or_parts, or_cases, ltb-true, ltb-false}
 use Rattle.std.proofs.lemmas.List.{length-append, length-take, length-drop, length-replicate, length-map, append-nil}
 use Rattle.std.specs.List.{slice_get}
 use Rattle.send_book.specs.declared.call.Span.{Span}
 use Rattle.send_book.specs.declared.call.Why.{Why}
-use Rattle.send_book.specs.declared.call.SendCall.{SendCall}
-use Rattle.send_book.specs.declared.call.SendCall.TheVariants.{Write, Close, Grant, AckIn, Return, GoIdentity, GoInfinite, Abort}
+use Rattle.send_book.specs.declared.call.SendCall.TheVariants.{Write, Close, Grant, AckIn, Return, GoInfinite}
 use Rattle.send_book.specs.declared.mark.ByteMark.{ByteMark}
 use Rattle.send_book.specs.declared.mark.ByteMark.TheVariants.{Acked, Free}
 use Rattle.send_book.specs.Tried.{no_paths}
@@ -17,13 +15,13 @@ use Rattle.send_book.specs.Steps.{after_call, taken, is_future, fin_after, is_ga
 use Rattle.send_book.proofs.Decisions.{MayTake, decision-MayTake}
 use Rattle.send_book.proofs.Grants.{stays-after_call, spent-stays}
 use Rattle.reassembly_book.specs.State.{Arriving, received}
-use Rattle.stream_lanes.specs.Marks.{spent, spent_count, AreAcked, AreNew}
+use Rattle.stream_lanes.specs.Marks.{spent, AreAcked}
 use Rattle.stream_lanes.specs.Moves.{Flags}
-use Rattle.stream_lanes.specs.View.{View, view_of, all_in, end_of, IsEnd}
+use Rattle.stream_lanes.specs.View.{view_of, all_in, IsEnd}
 use Rattle.stream_lanes.specs.Holding.{IsAll, SendHolds, IsAck}
 use Rattle.stream_lanes.proofs.Later.{Later, Anyone, But}
 use Rattle.stream_lanes.proofs.MarkLists.{AreAcked-count, AreAcked-within, AreAcked-written, AreAcked-returned, AreAcked-given, AreAcked-acked, AreNew-written, AreNew-returned, AreNew-acked}
-use Rattle.stream_lanes.proofs.Views.{AllIn, all_in_is, all_in_one, is_end, end_is}
+use Rattle.stream_lanes.proofs.Views.{AllIn, all_in_is, all_in_one, end_is}
 use Rattle.stream_lanes.proofs.Views.AllIn.{missing, complete}
 
 -- a call of the send book: its view went on, and it holds
@@ -36,9 +34,19 @@ module _ (f : Flags) (s : Sending) (b : Arriving) (h : SendHolds s (view_of f s 
   pub unseen : {Q : ℕ → Type 0} (aborted : Bool) (owner : Option ℕ) → SendStep Q f s (record s { aborted = aborted; owner = owner }) b
   unseen aborted owner = record {
     later = record {
-      more = []; written = sym (append-nil s.written); spent = λ path place is. is; news = λ path q first alone n reach new. new;
-      end = λ e is. is; acked = omega arith; confirmed = omega arith; room = omega arith; received = omega arith; next = omega arith; edge = omega arith;
-      alone = λ is. is; fallen = λ is. is;
+      more = [];
+      written = sym (append-nil s.written);
+      spent = λ path place is. is;
+      news = λ path q first alone n reach new. new;
+      end = λ e is. is;
+      acked = omega arith;
+      confirmed = omega arith;
+      room = omega arith;
+      received = omega arith;
+      next = omega arith;
+      edge = omega arith;
+      alone = λ is. is;
+      fallen = λ is. is;
     };
     holds = record { whole = h.whole; first = h.first; acked = h.acked; edge = h.edge; fin = h.fin };
   }
@@ -77,16 +85,19 @@ module _ (f : Flags) (s : Sending) (b : Arriving) (h : SendHolds s (view_of f s 
       writes : (s.closed || s.aborted) ≡ false → SendStep Anyone f s t b
       writes may = record {
         later = record {
-          more = take n bytes; written = refl;
+          more = take n bytes;
+          written = refl;
           spent = λ path place is. grown path place is;
           news = λ path q first alone k reach new. AreNew-written k n s.marks new;
           end = λ e is. not_closed s.closed (length s.written) (length t.written) e (or_parts s.closed s.aborted may).0 is;
           acked = omega (arith, counted.0);
           confirmed = omega (arith, counted.0, none_in s.closed s.written (acked_len s.marks) (or_parts s.closed s.aborted may).0);
-          room = omega arith; received = omega arith;
+          room = omega arith;
+          received = omega arith;
           next = omega (arith, none_in s.closed s.written (received b) (or_parts s.closed s.aborted may).0);
           edge = omega (arith, none_in s.closed s.written (received b) (or_parts s.closed s.aborted may).0);
-          alone = λ is. is; fallen = λ is. is;
+          alone = λ is. is;
+          fallen = λ is. is;
         };
         holds = record {
           whole = omega (arith, length-append s.marks (replicate n (Free no_paths)), length-replicate n (Free no_paths), length-append s.written (take n bytes), length-take n bytes, h.whole);
@@ -116,13 +127,24 @@ module _ (f : Flags) (s : Sending) (b : Arriving) (h : SendHolds s (view_of f s 
       closes : SendStep Anyone f s (record s { closed = true }) b
       closes = record {
         later = record {
-          more = []; written = sym (append-nil s.written); spent = λ path place is. is; news = λ path q first alone n reach new. new;
-          end = ends s.closed; acked = omega arith; confirmed = omega (arith, grows s.closed (acked_len s.marks)); room = omega arith; received = omega arith;
-          next = omega (arith, grows s.closed (received b)); edge = omega (arith, grows s.closed (received b));
-          alone = λ is. is; fallen = λ is. is;
+          more = [];
+          written = sym (append-nil s.written);
+          spent = λ path place is. is;
+          news = λ path q first alone n reach new. new;
+          end = ends s.closed;
+          acked = omega arith;
+          confirmed = omega (arith, grows s.closed (acked_len s.marks));
+          room = omega arith;
+          received = omega arith;
+          next = omega (arith, grows s.closed (received b));
+          edge = omega (arith, grows s.closed (received b));
+          alone = λ is. is;
+          fallen = λ is. is;
         };
         holds = record {
-          whole = h.whole; first = h.first; acked = h.acked;
+          whole = h.whole;
+          first = h.first;
+          acked = h.acked;
           edge = omega (arith, h.edge, grows s.closed (received b));
           fin = λ is. let all = h.fin is in (all.0, ends s.closed all.0 all.1, all.2);
         };
@@ -131,15 +153,25 @@ module _ (f : Flags) (s : Sending) (b : Arriving) (h : SendHolds s (view_of f s 
   pub return_step : (path : ℕ) → SendStep Anyone f s (after_call s (Return path)) b
   return_step path = record {
     later = record {
-      more = []; written = sym (append-nil s.written);
+      more = [];
+      written = sym (append-nil s.written);
       spent = λ k place is. stays-after_call (spent k) (spent-stays k) place (Return path) s is;
       news = λ k q first alone n reach new. AreNew-returned path n s.marks new;
-      end = λ e is. is; acked = omega (arith, counted.0);
-      confirmed = omega (arith, same_confirmed, counted.0); room = omega arith; received = omega arith; next = omega arith; edge = omega arith;
-      alone = λ is. is; fallen = λ is. is;
+      end = λ e is. is;
+      acked = omega (arith, counted.0);
+      confirmed = omega (arith, same_confirmed, counted.0);
+      room = omega arith;
+      received = omega arith;
+      next = omega arith;
+      edge = omega arith;
+      alone = λ is. is;
+      fallen = λ is. is;
     };
     holds = record {
-      whole = length-map s.marks (returned path) ∙ h.whole; first = counted.1; acked = omega (arith, counted.0, h.acked); edge = h.edge;
+      whole = length-map s.marks (returned path) ∙ h.whole;
+      first = counted.1;
+      acked = omega (arith, counted.0, h.acked);
+      edge = h.edge;
       fin = λ is. let all = h.fin is in (all.0, all.1, omega (arith, all.2, counted.0));
     };
   }
@@ -193,11 +225,19 @@ module _ (f : Flags) (s : Sending) (b : Arriving) (h : SendHolds s (view_of f s 
       acknowledges : is_future next s ≡ false → SendStep Anyone f s (record s { marks = marks; edge = max s.edge (next + window); fin = fin_after next s }) b
       acknowledges past = record {
         later = record {
-          more = []; written = sym (append-nil s.written);
+          more = [];
+          written = sym (append-nil s.written);
           spent = grown;
           news = λ k q first alone n reach new. AreNew-acked n next c s.marks refl (λ place above inside. kept place n reach above inside (all_in_is s.closed s.written (received b))) new;
-          end = λ e is. is; acked = omega (arith, count); confirmed = confirms (all_in_is s.closed s.written (acked_len s.marks));
-          room = omega arith; received = omega arith; next = omega arith; edge = omega arith; alone = λ is. is; fallen = λ is. is;
+          end = λ e is. is;
+          acked = omega (arith, count);
+          confirmed = confirms (all_in_is s.closed s.written (acked_len s.marks));
+          room = omega arith;
+          received = omega arith;
+          next = omega arith;
+          edge = omega arith;
+          alone = λ is. is;
+          fallen = λ is. is;
         };
         holds = record {
           whole = size ∙ h.whole;
@@ -232,14 +272,25 @@ module _ (f : Flags) (s : Sending) (b : Arriving) (h : SendHolds s (view_of f s 
       grants : (span : Span) → decision path max standby s ≡ Ok span → MayTake path max s span → SendStep (But path) f s (record s { marks = change_part (given path) span s.marks }) b
       grants span decided m = record {
         later = record {
-          more = []; written = sym (append-nil s.written);
+          more = [];
+          written = sym (append-nil s.written);
           spent = grown;
           news = λ k q first alone n reach new. absurd (q (first ∙ sym (joined alone)));
-          end = λ e is. is; acked = omega (arith, counted.0); confirmed = omega (arith, ap (all_in s.closed s.written) counted.0, counted.0);
-          room = omega arith; received = omega arith; next = omega arith; edge = omega arith; alone = λ is. is; fallen = λ is. is;
+          end = λ e is. is;
+          acked = omega (arith, counted.0);
+          confirmed = omega (arith, ap (all_in s.closed s.written) counted.0, counted.0);
+          room = omega arith;
+          received = omega arith;
+          next = omega arith;
+          edge = omega arith;
+          alone = λ is. is;
+          fallen = λ is. is;
         };
         holds = record {
-          whole = same_size ∙ h.whole; first = counted.1; acked = omega (arith, counted.0, h.acked); edge = h.edge;
+          whole = same_size ∙ h.whole;
+          first = counted.1;
+          acked = omega (arith, counted.0, h.acked);
+          edge = h.edge;
           fin = λ is. let all = h.fin is in (all.0, all.1, omega (arith, all.2, counted.0));
         };
       }
@@ -254,9 +305,18 @@ module _ (f : Flags) (s : Sending) (b : Arriving) (h : SendHolds s (view_of f s 
           counted = same_acked marks (AreAcked-given path (acked_len s.marks) span s.marks (omega (arith, m.whole)) h.first)
 
           same_size : length marks ≡ length s.marks
-          same_size = omega (arith, length-append (take span.from s.marks) (map (given path) part ++ drop span.to s.marks),
-              length-append (map (given path) part) (drop span.to s.marks), length-map part (given path), length-take (span.to - span.from) (drop span.from s.marks),
-              length-take span.from s.marks, length-drop span.from s.marks, length-drop span.to s.marks, m.within, m.whole)
+          same_size = omega (
+            arith,
+            length-append (take span.from s.marks) (map (given path) part ++ drop span.to s.marks),
+            length-append (map (given path) part) (drop span.to s.marks),
+            length-map part (given path),
+            length-take (span.to - span.from) (drop span.from s.marks),
+            length-take span.from s.marks,
+            length-drop span.from s.marks,
+            length-drop span.to s.marks,
+            m.within,
+            m.whole,
+          )
 
           grown : (k place : ℕ) → spent k (slice_get s.marks place) ≡ true → spent k (slice_get marks place) ≡ true
           grown k place is =

@@ -1,15 +1,14 @@
 -- What holds of the view of two books, and numbers of theirs.
-use Rattle.std.proofs.Common.{◌≡◌, refl, sym, ◌∙◌, ap, subst, ℕ, zero, suc, ◌+◌, ◌-◌, ◌<◌, ◌≤◌, Bool, true, false, not, ◌&&◌, ◌||◌, ◌==◌, if◌then◌else◌, nat_eq, ◌⊎◌, ⊎_elim, inl, inr, List, length, Option, Some, None, arith}
-use Rattle.std.proofs.lemmas.Bool.{eqb-true, eqb-false, eq-eqb, ne_eqb, or_right}
+use Rattle.std.proofs.Common.{◌≡◌, refl, sym, ap, ℕ, zero, suc, ◌+◌, ◌<◌, ◌≤◌, Bool, true, false, not, ◌||◌, ◌==◌, if◌then◌else◌, ◌⊎◌, inl, inr, List, length, Some, None, arith}
+use Rattle.std.proofs.lemmas.Bool.{eqb-true, eq-eqb, or_right}
 use Rattle.std.proofs.lemmas.Option.{slice_get_within, same_Some}
-use Rattle.std.specs.List.{slice_get}
 use Rattle.send_book.specs.State.{Sending, acked_len}
 use Rattle.reassembly_book.specs.State.{Arriving, filled, received}
 use Rattle.reassembly_book.specs.Steps.{edge}
-use Rattle.stream_lanes.specs.Words.{Every, From, Cells, Has}
+use Rattle.stream_lanes.specs.Words.{From}
 use Rattle.stream_lanes.specs.Moves.{Flags}
 use Rattle.stream_lanes.specs.View.{View, view_of, all_in, end_of, IsEnd}
-use Rattle.stream_lanes.specs.Holding.{IsAll, SendHolds, IsSent, ArrivedHolds}
+use Rattle.stream_lanes.specs.Holding.{IsAll, SendHolds, ArrivedHolds}
 use Rattle.stream_lanes.proofs.Lists.{item_at}
 use Rattle.stream_lanes.proofs.Bytes.{From-filled}
 use Rattle.stream_lanes.proofs.Local.{ViewFits, FlagsFit}

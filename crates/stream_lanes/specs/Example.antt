@@ -2,11 +2,10 @@
 -- way, gives them back, and path 0 sends them.
 use Rattle.std.specs.Prelude.{ℕ, true, false, List, [], ◌∷◌, ◌++◌, codes}
 use Rattle.stream_lanes.specs.Moves.{Move}
-use Rattle.stream_lanes.specs.Moves.Move.{Open, LookAtSender, LookAtReceiver, WantGrant, HearAck, SendPiece, SendDataFin, SendFin, Hear, Learn, HearDataFin, HearFin, WantPlace, WantPlacePlain, WantFin, WantAckOut, SendAck}
-use Rattle.stream_lanes.specs.Streams.{Reader, StreamEvent}
-use Rattle.stream_lanes.specs.Streams.StreamEvent.{Write, Close, Return, GoIdentity, GoInfinite, AbortSend, Read, AbortRead, Moves, Asks}
+use Rattle.stream_lanes.specs.Moves.Move.{Open, WantGrant, HearAck, SendPiece, SendDataFin, SendFin, Hear, Learn, HearDataFin, HearFin, WantPlace, WantAckOut, SendAck}
+use Rattle.stream_lanes.specs.Streams.StreamEvent.{Write, Close, Return, Read, Moves, Asks}
 use Rattle.stream_lanes.specs.Duo.{Duo, Event, after_events, opening}
-use Rattle.stream_lanes.specs.Duo.Event.{ToB, ToA, FallA, FallB, BeginJoin, SendJoin, HearJoin}
+use Rattle.stream_lanes.specs.Duo.Event.{ToB, BeginJoin, SendJoin, HearJoin}
 
 -- "abcdefgh"
 abbrev pub text : List ℕ

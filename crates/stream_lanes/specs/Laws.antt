@@ -1,5 +1,5 @@
 -- What is promised of a connection over every list of events.
-use Rattle.std.specs.Prelude.{ℕ, ◌≡◌, ◌+◌, ◌-◌, ◌^◌, ◌<◌, ◌≤◌, Bool, true, false, ◌||◌, if◌then◌else◌, Option, Some, None, List, [], length, slice_get}
+use Rattle.std.specs.Prelude.{ℕ, ◌≡◌, ◌+◌, ◌<◌, ◌≤◌, Bool, true, false, ◌||◌, Option, Some, None, List, [], length, slice_get}
 use Rattle.pipe_model.specs.declared.pipe.Pipe.{Pipe}
 use Rattle.pipe_model.specs.declared.pipe.PipeStep.{PipeStep}
 use Rattle.pipe_model.specs.declared.pipe.PipeStep.TheVariants.{Ack as AckStep}
@@ -17,14 +17,13 @@ use Rattle.reassembly_book.specs.declared.call.ReassemblyReply.TheVariants.{Beyo
 use Rattle.reassembly_book.specs.State.{received}
 use Rattle.reassembly_book.specs.Steps.{reply_to as arrival_reply}
 use Rattle.stream_lanes.specs.Words.{Every, From}
-use Rattle.stream_lanes.specs.Lane.{Cell, Mapping, DataCopy, AckCopy, Ask, Lane}
-use Rattle.stream_lanes.specs.Lane.Ask.{AskGrant, AskAckIn, AskPlace, AskFin, AskAckOut}
+use Rattle.stream_lanes.specs.Lane.{Mapping, DataCopy, Ask, Lane}
+use Rattle.stream_lanes.specs.Lane.Ask.{AskAckIn, AskPlace, AskFin}
 use Rattle.stream_lanes.specs.Moves.{Move, clashes}
-use Rattle.stream_lanes.specs.Moves.Move.{Open, Learn}
+use Rattle.stream_lanes.specs.Moves.Move.{Learn}
 use Rattle.stream_lanes.specs.Streams.{Direction, StreamEvent}
-use Rattle.stream_lanes.specs.Streams.StreamEvent.{Write, Moves, Asks}
-use Rattle.stream_lanes.specs.Duo.{Modes, Duo, Event, after_event, after_events, opening}
-use Rattle.stream_lanes.specs.Duo.Event.{ToB, ToA, FallA}
+use Rattle.stream_lanes.specs.Streams.StreamEvent.{Moves, Asks}
+use Rattle.stream_lanes.specs.Duo.{Duo, Event, after_event, after_events, opening}
 
 -- P holds of a connection at every moment, whatever happens to it
 abbrev pub Always : (Duo → Type 0) → Type 0

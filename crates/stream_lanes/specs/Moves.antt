@@ -1,7 +1,6 @@
 -- What a lane does by itself, and what its ends make of a book's reply. A move names a copy by its number among those
 -- that were ever sent: one that is never named was lost, and one that is named twice came twice, late or out of order.
-use Rattle.std.specs.Prelude.{ℕ, suc, ◌+◌, ◌-◌, ◌≤◌, min, max, Bool, true, false, not, ◌&&◌, ◌||◌, ◌==◌, nat_lt, nat_le, if◌then◌else◌, Option, Some, None, List, [], ◌∷◌, ◌++◌, length, map, take, drop, slice_get}
-use Rattle.send_book.specs.declared.call.Span.{Span}
+use Rattle.std.specs.Prelude.{ℕ, suc, ◌+◌, ◌-◌, min, max, Bool, true, false, not, ◌&&◌, ◌||◌, ◌==◌, nat_lt, nat_le, if◌then◌else◌, Option, Some, None, List, [], ◌∷◌, ◌++◌, length, map, take, drop, slice_get}
 use Rattle.send_book.specs.declared.call.SendReply.{SendReply}
 use Rattle.send_book.specs.declared.call.SendReply.TheVariants.{Granted, NoGrant}
 use Rattle.send_book.specs.declared.call.SendReply.TheVariants.{Acked as AckedBytes}
@@ -9,7 +8,7 @@ use Rattle.reassembly_book.specs.declared.call.ReassemblyReply.{ReassemblyReply}
 use Rattle.reassembly_book.specs.declared.call.ReassemblyReply.TheVariants.{Placed, FinSet, Ack}
 use Rattle.reassembly_book.specs.State.{filled}
 use Rattle.reassembly_book.specs.Steps.{by_place, merged}
-use Rattle.stream_lanes.specs.Lane.{Cell, Mapping, DataCopy, AckCopy, Ask, Lane}
+use Rattle.stream_lanes.specs.Lane.{Cell, Mapping, DataCopy, AckCopy, Lane}
 use Rattle.stream_lanes.specs.Lane.Ask.{Nothing, AskGrant, AskAckIn, AskPlace, AskFin, AskAckOut}
 
 -- what the two sides know of each other, as far as this direction needs it: whether a join was answered, and whether the
