@@ -81,6 +81,7 @@ length_more xs ys = grind (arith, common_steps)
 
 pub right_more : (sent more : List Cell) (m : Mapping) → IsRight sent m → IsRight (sent ++ more) m
 right_more sent more m h = record {
+  some = h.some;
   within = omega (arith, h.within, length_more sent more);
   places = λ j below. place_more sent more (m.pos + j) (m.place + j) (h.places j below);
 }

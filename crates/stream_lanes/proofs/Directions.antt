@@ -1,5 +1,5 @@
 -- Every event of a direction keeps what holds of it.
-use Rattle.std.proofs.Common.{◌≡◌, refl, sym, ◌∙◌, ap, subst, ℕ, zero, suc, ◌-◌, ◌<◌, ◌≤◌, Bool, true, false, ◌&&◌, ◌||◌, ◌==◌, if◌then◌else◌, ⊎_elim, [], ◌∷◌, ◌++◌, length, take, Option, Some, None, Result, Ok, Err, set, arith}
+use Rattle.std.proofs.Common.{◌≡◌, refl, sym, ◌∙◌, ap, subst, ℕ, zero, suc, ◌-◌, ◌<◌, ◌≤◌, Bool, true, false, ◌&&◌, ◌||◌, ◌==◌, if◌then◌else◌, ⊎_elim, [], ◌∷◌, ◌++◌, length, take, Option, Some, None, Result, Ok, Err, set, arith, nat_lt}
 use Rattle.std.proofs.lemmas.Bool.{cases_lt, cases_eq}
 use Rattle.std.proofs.lemmas.List.{take-append-le}
 use Rattle.std.proofs.lemmas.Option.{slice_get_within}
@@ -45,7 +45,7 @@ moved_sent : (f : Flags) (path : ℕ) (move : Move) (p : Lane) → (moved f path
 moved_sent f path Open p = sent_if (f.answered || path == 0) p (record p { opened = true }) refl
 moved_sent f path LookAtSender p = refl
 moved_sent f path LookAtReceiver p = refl
-moved_sent f path (WantGrant max standby) p = sent_if p.opened p (record p { asking = AskGrant max standby }) refl
+moved_sent f path (WantGrant max standby) p = sent_if (p.opened && nat_lt 0 max) p (record p { asking = AskGrant max standby }) refl
 moved_sent f path (HearAck copy) p = at (slice_get p.acks copy)
   where
     at : (o : Option AckCopy) → (hears o p).sent ≡ p.sent
@@ -260,10 +260,10 @@ module _ (f : Flags) (d : Direction) (h : DirectionHolds f d) (fallen : (view_of
   lane_asks path p there Nothing ask = h
   lane_asks path p there (AskGrant max standby) ask =
       let lane : LaneHolds (view_of f d.send d.arrived) path p = lane_at path p there in
-      let step = grant_step f d.send d.arrived h.send path max standby (λ alone. lane.modes.joined ask alone) in
+      let step = grant_step f d.send d.arrived h.send path max standby (λ alone. lane.modes.joined ask.0 alone) in
       lane_sends path p (takes_grant (send_reply d.send (Grant path max standby)) p) (after_send d.send (Grant path max standby)) there (λ n apart. apart) step
       (granted_more (decision path max standby d.send) d.send p)
-      (grant_held f d.send d.arrived path p h.send room lane max standby ask step)
+      (grant_held f d.send d.arrived path p h.send room lane max standby ask.0 ask.1 step)
   lane_asks path p there (AskAckIn next window) ask =
       let step = ack_step f d.send d.arrived h.send next window within ask in
       lane_sends path p (takes_ack next (send_reply d.send (AckIn next window)) p) (after_send d.send (AckIn next window)) there (λ n apart. tt) step

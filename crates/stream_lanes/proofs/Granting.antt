@@ -51,10 +51,10 @@ module _ (f : Flags) (s : Sending) (b : Arriving) (path : ℕ) (p : Lane) (send 
       told true is = ap (λ (d : Bool). if d then Some (length s.written) else None) (and_parts s.closed (not s.aborted) is).0
       told false is = h.ends.told
 
-  granted_held : (max : ℕ) (standby : Bool) (span : Span) → p.opened ≡ true → decision path max standby s ≡ Ok span → MayTake path max s span
+  granted_held : (max : ℕ) (standby : Bool) (span : Span) → p.opened ≡ true → 1 ≤ max → decision path max standby s ≡ Ok span → MayTake path max s span
       → SendStep (But path) f s (record s { marks = change_part (given path) span s.marks }) b
       → LaneHolds (view_of f (record s { marks = change_part (given path) span s.marks }) b) path (takes_grant (reply_by (Ok span) s) p)
-  granted_held max standby span opened decided m step = record {
+  granted_held max standby span opened some decided m step = record {
     record_of = record { cells = Every-append old.cells new_cells; once = once };
     alone = alone;
     modes = modes_later step.later path p.opened p.sender_plain p.receiver_plain h.modes;
@@ -135,6 +135,7 @@ module _ (f : Flags) (s : Sending) (b : Arriving) (path : ℕ) (p : Lane) (send 
 
       new_right : IsRight (p.sent ++ cells) piece_mapping
       new_right = record {
+        some = omega (arith, size, whole, m.whole, m.some some);
         within = omega (arith, longer, size);
         places = λ j below.
             ap (λ qs. slice_get qs (length p.sent + j)) (map-append (λ (c : Cell). c.place) p.sent cells)
@@ -182,11 +183,11 @@ module _ (f : Flags) (s : Sending) (b : Arriving) (path : ℕ) (p : Lane) (send 
           none_tried : path ≡ 0 → contains path no_paths ≡ false
           none_tried first = ap (λ k. contains k no_paths) first
 
-  pub grant_held : (max : ℕ) (standby : Bool) → p.opened ≡ true → SendStep (But path) f s (after_call s (Grant path max standby)) b
+  pub grant_held : (max : ℕ) (standby : Bool) → p.opened ≡ true → 1 ≤ max → SendStep (But path) f s (after_call s (Grant path max standby)) b
       → LaneHolds (view_of f (after_call s (Grant path max standby)) b) path (takes_grant (reply_to s (Grant path max standby)) p)
-  grant_held max standby opened step = by_decision (decision path max standby s) refl step
+  grant_held max standby opened some step = by_decision (decision path max standby s) refl step
     where
       by_decision : (r : Result Span Why) → decision path max standby s ≡ r → SendStep (But path) f s (given_by path r s) b
           → LaneHolds (view_of f (given_by path r s) b) path (takes_grant (reply_by r s) p)
       by_decision (Err why) is step = refused_held why
-      by_decision (Ok span) is step = granted_held max standby span opened is (decision-MayTake path max standby s span is) step
+      by_decision (Ok span) is step = granted_held max standby span opened some is (decision-MayTake path max standby s span is) step

@@ -67,7 +67,7 @@ module _ (v : View) (path : ℕ) where
     where
       opened_ask : (a : Ask) → AskHolds v p.sent p.opened p.edge a → AskHolds v p.sent true p.edge a
       opened_ask Nothing fits = fits
-      opened_ask (AskGrant max standby) fits = refl
+      opened_ask (AskGrant max standby) fits = (refl, fits.1)
       opened_ask (AskAckIn next window) fits = fits
       opened_ask (AskPlace at bytes) fits = fits
       opened_ask (AskFin at) fits = fits

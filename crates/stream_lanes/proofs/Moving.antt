@@ -1,5 +1,6 @@
 -- Every move of a lane keeps what holds of it.
-use Rattle.std.proofs.Common.{refl, ℕ}
+use Rattle.std.proofs.lemmas.Bool.{and_parts, ltb-true}
+use Rattle.std.proofs.Common.{◌&&◌, nat_lt, refl, ℕ}
 use Rattle.stream_lanes.specs.Lane.{Lane}
 use Rattle.stream_lanes.specs.Lane.Ask.{AskGrant, AskAckOut}
 use Rattle.std.specs.List.{slice_get}
@@ -16,7 +17,9 @@ moved_held f v path Open p fits flags h = open_held v path f p flags h
 moved_held f v path LookAtSender p fits flags h = look_at_sender_held v path f p flags h
 moved_held f v path LookAtReceiver p fits flags h = look_at_receiver_held v path f p flags h
 moved_held f v path (WantGrant max standby) p fits flags h =
-    held_if v path p.opened p (record p { asking = AskGrant max standby }) (λ opened. with_ask v path p (AskGrant max standby) opened h) h
+    held_if v path (p.opened && nat_lt 0 max) p (record p { asking = AskGrant max standby }) (λ may.
+    let both = and_parts p.opened (nat_lt 0 max) may in
+    with_ask v path p (AskGrant max standby) (both.0, ltb-true 0 max both.1) h) h
 moved_held f v path (HearAck copy) p fits flags h = hear_ack_held v path (slice_get p.acks copy) copy p fits refl h
 moved_held f v path (SendPiece piece mapped) p fits flags h = send_piece_held v path mapped (slice_get p.pieces piece) piece p refl h
 moved_held f v path SendDataFin p fits flags h = send_data_fin_held v path p.known_end p refl h

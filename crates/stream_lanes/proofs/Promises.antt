@@ -1,5 +1,5 @@
 -- The promises, from what holds of a connection.
-use Rattle.std.proofs.Common.{◌≡◌, refl, sym, ◌∙◌, ap, ℕ, zero, suc, ◌+◌, ◌<◌, ◌≤◌, true, not, List, [], ◌∷◌, ◌++◌, length, drop, Some, arith}
+use Rattle.std.proofs.Common.{◌≡◌, refl, sym, ◌∙◌, ap, ℕ, zero, suc, ◌+◌, ◌<◌, ◌≤◌, true, not, List, [], ◌∷◌, ◌++◌, length, drop, Some, arith, ◌-◌, ◌^◌}
 use Rattle.std.proofs.lemmas.Bool.{or_left, or_right, not-true, true≢false}
 use Rattle.std.proofs.lemmas.List.{take-append-drop, take_all}
 use Rattle.std.proofs.lemmas.Option.{slice_get_within, same_Some}
@@ -17,9 +17,9 @@ use Rattle.stream_lanes.specs.Duo.{Duo, flags_ab, flags_ba, after_events, openin
 use Rattle.stream_lanes.specs.Duo.Event.{ToB, ToA, FallA, FallB, BeginJoin, SendJoin, HearJoin}
 use Rattle.stream_lanes.specs.View.{view_of}
 use Rattle.stream_lanes.specs.Holding.{CellFits, IsRight, LaneHolds, DirectionHolds, Holds}
-use Rattle.stream_lanes.specs.Laws.{Always, BothWays, ReadsAPrefix, AcknowledgesReceivedBytes, EndsAtTheWhole, NothingFollowsTheEnd, AbortedIsNoEnd, EachEventIsOneStep, NothingIsRefused, MappingIsShort, LaneIsShort, PathsAreShort, IsPlain, FallsAreRight}
+use Rattle.stream_lanes.specs.Laws.{Always, BothWays, ReadsAPrefix, AcknowledgesReceivedBytes, EndsAtTheWhole, NothingFollowsTheEnd, AbortedIsNoEnd, EachEventIsOneStep, NothingIsRefused, MappingIsShort, LaneIsShort, PathsAreShort, IsNear, TellsNear, ShortStreamsAreNear, IsPlain, FallsAreRight}
 use Rattle.stream_lanes.specs.Laws.StepsOrStays.{stays}
-use Rattle.stream_lanes.proofs.Lists.{Every-map, in_map}
+use Rattle.stream_lanes.proofs.Lists.{Every-map, IfSome-map, in_map}
 use Rattle.stream_lanes.proofs.MarkLists.{count_within}
 use Rattle.stream_lanes.proofs.Views.{is_end, all_in_bound, received_written}
 use Rattle.stream_lanes.proofs.Duos.{all_held, fallen_ab}
@@ -109,14 +109,12 @@ module _ (f : Flags) (d : Direction) (h : DirectionHolds f d) (path : ℕ) (p : 
   cell_below c fits = slice_get_within d.send.written c.place c.byte fits.byte
 
   mapping_short : (m : Mapping) → IsRight p.sent m → MappingIsShort (length d.send.written) m
-  mapping_short m right = record {
-    positions = omega (arith, right.within, short);
-    places = λ j below.
-        let there = in_map (λ (c : Cell). c.place) p.sent (m.pos + j) (m.place + j) (right.places j below) in
-        let place : there.0.place ≡ m.place + j = there.2 in
-        let inside : there.0.place < length d.send.written = cell_below there.0 (lane.record_of.cells.each (m.pos + j) there.0 there.1) in
-        omega (arith, place, inside);
-  }
+  mapping_short m right =
+      let last = right.places (m.len - 1) (omega (arith, right.some)) in
+      let there = in_map (λ (c : Cell). c.place) p.sent (m.pos + (m.len - 1)) (m.place + (m.len - 1)) last in
+      let place : there.0.place ≡ m.place + (m.len - 1) = there.2 in
+      let inside : there.0.place < length d.send.written = cell_below there.0 (lane.record_of.cells.each (m.pos + (m.len - 1)) there.0 there.1) in
+      record { positions = omega (arith, right.within, short); places = omega (arith, place, inside, right.some) }
 
   next_short : (next : ℕ) → next ≤ (view_of f d.send d.arrived).next → next ≤ length d.send.written + 1
   next_short next below = omega (arith, below, received_written (view_of f d.send d.arrived) d.arrived h.arrived, all_in_bound d.send.closed d.send.written (received d.arrived))
@@ -127,6 +125,7 @@ module _ (f : Flags) (d : Direction) (h : DirectionHolds f d) (path : ℕ) (p : 
     cells = Every-map cell_below lane.record_of.cells;
     pieces = Every-map mapping_short lane.bytes.granted;
     datas = Every-map (λ c honest. omega (arith, honest.within, short)) lane.bytes.honest;
+    mapped = Every-map (λ c honest. IfSome-map c.mapping mapping_short honest.mapping) lane.bytes.honest;
     data_fins = Every-map (λ e end. omega (arith, (is_end d.send e end).1)) lane.ends.named;
     fins = Every-map (λ pos fin. omega (arith, fin.last, short)) lane.fins;
     acks = record {
@@ -142,6 +141,25 @@ paths_short f d h = record { each = λ i p e. lane_short f d h i p (h.lanes.each
 
 pub paths_are_short : Always (BothWays PathsAreShort)
 paths_are_short paths buffer capacity events = both paths_short (after_events events (opening paths buffer capacity)) (all_held paths buffer capacity events)
+
+-- of a short stream all is near
+near : (length_of expected told : ℕ) → length_of < 2 ^ 31 - 2 → expected ≤ length_of + 2 → told ≤ length_of + 1 → IsNear expected told
+near length_of expected told short within below = (omega (arith, short, within, below), omega (arith, short, within, below))
+
+lane_near : (n expected : ℕ) (p : Lane) → n < 2 ^ 31 - 2 → expected ≤ n + 2 → LaneIsShort n p → TellsNear expected p
+lane_near n expected p short within h = record {
+  datas = Every-map (λ c below. near n expected c.pos short within (omega (arith, below))) h.datas;
+  mapped = Every-map (λ c all. IfSome-map c.mapping (λ m is. (near n expected m.pos short within (omega (arith, is.positions)), near n expected m.place short within (omega (arith, is.places)))) all) h.mapped;
+  data_fins = Every-map (λ e below. near n expected e short within (omega (arith, below))) h.data_fins;
+  fins = Every-map (λ pos below. near n expected pos short within (omega (arith, below))) h.fins;
+  acks = Every-map (λ a below. (near n expected a.sub short within below.0, near n expected a.next short within below.1)) h.acks;
+}
+
+all_near : (f : Flags) (d : Direction) → DirectionHolds f d → ShortStreamsAreNear d
+all_near f d h short expected within = Every-map (λ p is. lane_near (length d.send.written) expected p short within is) (paths_short f d h)
+
+pub short_streams_are_near : Always (BothWays ShortStreamsAreNear)
+short_streams_are_near paths buffer capacity events = both all_near (after_events events (opening paths buffer capacity)) (all_held paths buffer capacity events)
 
 -- plain TCP
 plain_direction : (f : Flags) (d : Direction) → not f.answered ≡ true → DirectionHolds f d → IsPlain d

@@ -2,10 +2,10 @@
 -- way, gives them back, and path 0 sends them.
 use Rattle.std.specs.Prelude.{ℕ, true, false, List, [], ◌∷◌, ◌++◌, codes}
 use Rattle.stream_lanes.specs.Moves.{Move}
-use Rattle.stream_lanes.specs.Moves.Move.{Open, WantGrant, HearAck, SendPiece, SendDataFin, SendFin, Hear, Learn, HearDataFin, HearFin, WantPlace, WantAckOut, SendAck}
-use Rattle.stream_lanes.specs.Streams.StreamEvent.{Write, Close, Return, Read, Moves, Asks}
+use Rattle.stream_lanes.specs.Moves.Move.{Open, LookAtSender, LookAtReceiver, WantGrant, HearAck, SendPiece, SendDataFin, SendFin, Hear, Learn, HearDataFin, HearFin, WantPlace, WantPlacePlain, WantFin, WantAckOut, SendAck}
+use Rattle.stream_lanes.specs.Streams.StreamEvent.{Write, Close, Return, GoIdentity, Read, Moves, Asks}
 use Rattle.stream_lanes.specs.Duo.{Duo, Event, after_events, opening}
-use Rattle.stream_lanes.specs.Duo.Event.{ToB, BeginJoin, SendJoin, HearJoin}
+use Rattle.stream_lanes.specs.Duo.Event.{ToB, FallA, FallB, BeginJoin, SendJoin, HearJoin}
 
 -- "abcdefgh"
 abbrev pub text : List ℕ
@@ -51,3 +51,19 @@ run_of_two_paths =
 
 abbrev pub after_the_run : Duo
 after_the_run = after_events run_of_two_paths (opening 2 16 8)
+
+-- A run in plain TCP: both sides fell back, no segment has an option, positions stand for places, acknowledgements of the
+-- subflow for those of the stream, and the FIN for the end.
+abbrev pub run_in_plain_tcp : List Event
+run_in_plain_tcp =
+    (on 0 Open ∷ acknowledges 0 0)
+    ++ ((FallA ∷ FallB ∷ on 0 LookAtSender ∷ on 0 LookAtReceiver ∷ ToB GoIdentity ∷ [])
+    ++ ((ToB (Write text) ∷ ToB Close ∷ on 0 (WantGrant 9 false) ∷ ask 0 ∷ on 0 (SendPiece 0 false) ∷ [])
+    ++ ((on 0 (Hear 0 9) ∷ on 0 (WantPlacePlain 9) ∷ ask 0 ∷ [])
+    ++ (acknowledges 0 1
+    ++ ((on 0 (WantGrant 9 false) ∷ ask 0 ∷ on 0 SendFin ∷ on 0 (HearFin 0) ∷ on 0 WantFin ∷ ask 0 ∷ [])
+    ++ (acknowledges 0 2
+    ++ (ToB (Read 100) ∷ ToB (Read 100) ∷ [])))))))
+
+abbrev pub after_the_plain_run : Duo
+after_the_plain_run = after_events run_in_plain_tcp (opening 1 16 8)

@@ -71,6 +71,7 @@ abbrev pub IsByteOf : List Cell → ℕ → ℕ → Type 0
 IsByteOf sent pos byte = slice_get (bytes_of sent) pos ≡ Some byte
 
 pub record IsRight (sent : List Cell) (m : Mapping) : Type 0 where
+  pub some : 1 ≤ m.len
   pub within : m.pos + m.len ≤ length sent
   pub places : (j : ℕ) → j < m.len → slice_get (places_of sent) (m.pos + j) ≡ Some (m.place + j)
 
@@ -131,7 +132,7 @@ pub record PlaceHolds (v : View) (sent : List Cell) (edge at : ℕ) (bytes : Lis
 
 abbrev pub AskHolds : View → List Cell → Bool → ℕ → Ask → Type 0
 AskHolds v sent opened edge Nothing = Unit {0}
-AskHolds v sent opened edge (AskGrant max standby) = opened ≡ true
+AskHolds v sent opened edge (AskGrant max standby) = (opened ≡ true) × (1 ≤ max)
 AskHolds v sent opened edge (AskAckIn next window) = IsAck v next window
 AskHolds v sent opened edge (AskPlace at bytes) = PlaceHolds v sent edge at bytes
 AskHolds v sent opened edge (AskFin at) = IsEnd v.end at

@@ -1,5 +1,5 @@
 -- What is promised of a connection over every list of events.
-use Rattle.std.specs.Prelude.{ℕ, ◌≡◌, ◌+◌, ◌<◌, ◌≤◌, Bool, true, false, ◌||◌, Option, Some, None, List, [], length, slice_get}
+use Rattle.std.specs.Prelude.{ℕ, ◌≡◌, ◌+◌, ◌<◌, ◌≤◌, Bool, true, false, ◌||◌, Option, Some, None, List, [], length, slice_get, IfSome, ◌^◌, ◌-◌}
 use Rattle.pipe_model.specs.declared.pipe.Pipe.{Pipe}
 use Rattle.pipe_model.specs.declared.pipe.PipeStep.{PipeStep}
 use Rattle.pipe_model.specs.declared.pipe.PipeStep.TheVariants.{Ack as AckStep}
@@ -137,16 +137,17 @@ is_refused _ d = false
 abbrev pub NothingIsRefused : Direction → Type 0
 NothingIsRefused d = (event : StreamEvent) → is_refused event d ≡ false
 
--- All positions and places of a lane lie at or below a number, or one past it for what comes after a FIN.
+-- All positions and places of a lane lie at or below a number, and what comes after a FIN one past it.
 pub record MappingIsShort (n : ℕ) (m : Mapping) : Type 0 where
   pub positions : m.pos + m.len ≤ n
-  pub places : (j : ℕ) → j < m.len → m.place + j < n
+  pub places : m.place + m.len ≤ n
 
 pub record LaneIsShort (n : ℕ) (p : Lane) : Type 0 where
   pub sent : length p.sent ≤ n
   pub cells : Every (λ c. c.place < n) p.sent
   pub pieces : Every (MappingIsShort n) p.pieces
-  pub datas : Every (λ d. d.pos + length d.bytes ≤ n) p.datas
+  pub datas : Every (λ c. c.pos + length c.bytes ≤ n) p.datas
+  pub mapped : Every (λ c. IfSome c.mapping (MappingIsShort n)) p.datas
   pub data_fins : Every (λ e. e ≤ n) p.data_fins
   pub fins : Every (λ pos. pos ≤ n) p.fins
   pub acks : Every (λ a. (a.sub ≤ n + 1) × (a.next ≤ n + 1)) p.acks
@@ -157,6 +158,23 @@ pub record LaneIsShort (n : ℕ) (p : Lane) : Type 0 where
 -- a path has no more bytes than were written, since each was granted to it once
 abbrev pub PathsAreShort : Direction → Type 0
 PathsAreShort d = Every (LaneIsShort (length d.send.written)) d.lanes
+
+-- a number of 32 bits means one position beside another where they are less than 2^31 apart (RFC 9293, section 3.4)
+abbrev pub IsNear : ℕ → ℕ → Type 0
+IsNear expected told = (told < expected + 2 ^ 31) × (expected < told + 2 ^ 31)
+
+-- all that is told on the lane is near a number
+pub record TellsNear (expected : ℕ) (p : Lane) : Type 0 where
+  pub datas : Every (λ c. IsNear expected c.pos) p.datas
+  pub mapped : Every (λ c. IfSome c.mapping (λ m. IsNear expected m.pos × IsNear expected m.place)) p.datas
+  pub data_fins : Every (IsNear expected) p.data_fins
+  pub fins : Every (IsNear expected) p.fins
+  pub acks : Every (λ a. IsNear expected a.sub × IsNear expected a.next) p.acks
+
+-- of a stream below 2^31 - 2 bytes every position and place that is told is near each one that may be expected: a
+-- position or place of the stream, or one of the two after it
+abbrev pub ShortStreamsAreNear : Direction → Type 0
+ShortStreamsAreNear d = length d.send.written < 2 ^ 31 - 2 → (expected : ℕ) → expected ≤ length d.send.written + 2 → Every (TellsNear expected) d.lanes
 
 -- Only path 0 carried bytes, and the byte at each of its positions has that number as its place.
 pub record IsPlain (d : Direction) : Type 0 where

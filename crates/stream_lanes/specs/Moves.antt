@@ -152,7 +152,7 @@ abbrev pub moved : Flags → ℕ → Move → Lane → Lane
 moved f path Open p = if f.answered || path == 0 then record p { opened = true } else p
 moved f path LookAtSender p = record p { sender_plain = f.sender }
 moved f path LookAtReceiver p = record p { receiver_plain = f.receiver }
-moved f path (WantGrant max standby) p = if p.opened then record p { asking = AskGrant max standby } else p
+moved f path (WantGrant max standby) p = if p.opened && nat_lt 0 max then record p { asking = AskGrant max standby } else p
 moved f path (HearAck copy) p = hears (slice_get p.acks copy) p
 moved f path (SendPiece piece mapped) p = sends_piece mapped (slice_get p.pieces piece) p
 moved f path SendDataFin p = record p { data_fins = p.data_fins ++ known p.known_end }

@@ -1,8 +1,8 @@
 ghost use Rattle.std.specs.Prelude.{◌≡◌, ◌<◌, ◌^◌, ◌-◌, ℕ, true, false};
 ghost use Rattle.send_book.specs.State.{acked_len};
 ghost use Rattle.stream_lanes.specs.Holding.{Holds};
-ghost use Rattle.stream_lanes.specs.Laws.{Always, BothWays, ReadsAPrefix, AcknowledgesReceivedBytes, EndsAtTheWhole, NothingFollowsTheEnd, AbortedIsNoEnd, EachEventIsOneStep, NothingIsRefused, PathsAreShort, FallsAreRight};
-ghost use Rattle.stream_lanes.specs.Example.{text, after_the_run};
+ghost use Rattle.stream_lanes.specs.Laws.{Always, BothWays, ReadsAPrefix, AcknowledgesReceivedBytes, EndsAtTheWhole, NothingFollowsTheEnd, AbortedIsNoEnd, EachEventIsOneStep, NothingIsRefused, PathsAreShort, ShortStreamsAreNear, FallsAreRight};
+ghost use Rattle.stream_lanes.specs.Example.{text, after_the_run, after_the_plain_run};
 
 /// A law: at every moment, in both directions, what the reader got is a prefix of what the writer wrote.
 pub fn readers_get_a_prefix()
@@ -37,10 +37,12 @@ pub fn nothing_is_refused()
     ensures { Always (BothWays NothingIsRefused) }
 {}
 
-/// A law: a path has no more bytes than were written, since each byte was granted to it once. So no position, and no
-/// place that is told, lies further than one past the length of the stream.
+/// A law: a path has no more bytes than were written, since each byte was granted to it once. So where fewer than
+/// 2^31 - 2 bytes were written, every position and place that is told is less than 2^31 away from each one that may
+/// be expected.
 pub fn paths_are_as_short_as_the_stream()
-    ensures { Always (BothWays PathsAreShort) }
+    ensures short { Always (BothWays PathsAreShort) }
+    ensures near { Always (BothWays ShortStreamsAreNear) }
 {}
 
 /// A law: a side that fell back to plain TCP has begun and answered no join; then only path 0 carried bytes, and each
@@ -59,4 +61,12 @@ pub fn a_run_delivers()
     ensures reader { after_the_run.ab.reader ≡ record { out = text; told = true; stopped = false } }
     ensures acknowledged { acked_len after_the_run.ab.send.marks ≡ 8 }
     ensures fin { after_the_run.ab.send.fin ≡ true }
+{}
+
+/// An example: a run in plain TCP on one path delivers the whole text too.
+pub fn a_plain_run_delivers()
+    ensures reader { after_the_plain_run.ab.reader ≡ record { out = text; told = true; stopped = false } }
+    ensures acknowledged { acked_len after_the_plain_run.ab.send.marks ≡ 8 }
+    ensures fin { after_the_plain_run.ab.send.fin ≡ true }
+    ensures fell { after_the_plain_run.modes.plain_a ≡ true }
 {}
