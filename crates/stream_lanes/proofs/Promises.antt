@@ -31,7 +31,7 @@ use Rattle.stream_lanes.proofs.Refusals.{never_refused}
 both : {P : Direction → Type 0} → ((f : Flags) (d : Direction) → DirectionHolds f d → P d) → (w : Duo) → Holds w → P w.ab × P w.ba
 both of w h = (of (flags_ab w.modes) w.ab h.ab, of (flags_ba w.modes) w.ba h.ba)
 
-reads_prefix : (f : Flags) (d : Direction) → DirectionHolds f d → ReadsAPrefix d
+pub reads_prefix : (f : Flags) (d : Direction) → DirectionHolds f d → ReadsAPrefix d
 reads_prefix f d h = record {
   rest = drop d.arrived.read d.send.written;
   whole_is = sym (take-append-drop d.arrived.read d.send.written) ∙ ap (λ xs. xs ++ drop d.arrived.read d.send.written) (sym h.reader.out);
@@ -47,7 +47,7 @@ acked_below (suc n) zero (m ∷ ms) are is = omega arith
 acked_below zero (suc place) (m ∷ ms) are is = absurd (omega (arith, acked_below zero place ms are.1 is))
 acked_below (suc n) (suc place) (m ∷ ms) are is = omega (arith, acked_below n place ms are.1 is)
 
-acknowledges : (f : Flags) (d : Direction) → DirectionHolds f d → AcknowledgesReceivedBytes d
+pub acknowledges : (f : Flags) (d : Direction) → DirectionHolds f d → AcknowledgesReceivedBytes d
 acknowledges f d h = record {
   each = λ place is. omega (arith, acked_below (acked_len d.send.marks) place d.send.marks h.send.first is, h.send.acked);
   count = h.send.acked;
@@ -61,7 +61,7 @@ acknowledges f d h = record {
 pub acknowledges_received_bytes : Always (BothWays AcknowledgesReceivedBytes)
 acknowledges_received_bytes paths buffer capacity events = both acknowledges (after_events events (opening paths buffer capacity)) (all_held paths buffer capacity events)
 
-ends_whole : (f : Flags) (d : Direction) → DirectionHolds f d → EndsAtTheWhole d
+pub ends_whole : (f : Flags) (d : Direction) → DirectionHolds f d → EndsAtTheWhole d
 ends_whole f d h told =
     let end = is_end d.send d.arrived.read (h.reader.told told) in
     (end.0, h.reader.out ∙ take_all d.arrived.read d.send.written (omega (arith, end.1)))
@@ -136,7 +136,7 @@ module _ (f : Flags) (d : Direction) (h : DirectionHolds f d) (path : ℕ) (p : 
     latest = next_short p.latest.next lane.receiver.told.covers;
   }
 
-paths_short : (f : Flags) (d : Direction) → DirectionHolds f d → PathsAreShort d
+pub paths_short : (f : Flags) (d : Direction) → DirectionHolds f d → PathsAreShort d
 paths_short f d h = record { each = λ i p e. lane_short f d h i p (h.lanes.each i i p (omega arith) e) }
 
 pub paths_are_short : Always (BothWays PathsAreShort)
@@ -155,14 +155,14 @@ lane_near n expected p short within h = record {
   acks = Every-map (λ a below. (near n expected a.sub short within below.0, near n expected a.next short within below.1)) h.acks;
 }
 
-all_near : (f : Flags) (d : Direction) → DirectionHolds f d → ShortStreamsAreNear d
+pub all_near : (f : Flags) (d : Direction) → DirectionHolds f d → ShortStreamsAreNear d
 all_near f d h short expected within = Every-map (λ p is. lane_near (length d.send.written) expected p short within is) (paths_short f d h)
 
 pub short_streams_are_near : Always (BothWays ShortStreamsAreNear)
 short_streams_are_near paths buffer capacity events = both all_near (after_events events (opening paths buffer capacity)) (all_held paths buffer capacity events)
 
 -- plain TCP
-plain_direction : (f : Flags) (d : Direction) → not f.answered ≡ true → DirectionHolds f d → IsPlain d
+pub plain_direction : (f : Flags) (d : Direction) → not f.answered ≡ true → DirectionHolds f d → IsPlain d
 plain_direction f d alone h = record {
   only = λ path p other there. ((h.lanes.each path path p (omega arith) there).alone alone).others other;
   right = λ p there. ((h.lanes.each 0 0 p (omega arith) there).alone alone).identity;

@@ -1,4 +1,4 @@
--- Words on lists, whose items are numbered.
+-- Words on lists, whose items are numbered. Each is a record, so that a lemma finds the predicate and the list by itself.
 use Rattle.std.specs.Prelude.{ℕ, ◌≡◌, ◌+◌, List, Option, Some, slice_get}
 
 -- P holds of each item
