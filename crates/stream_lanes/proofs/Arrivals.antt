@@ -84,6 +84,7 @@ module _ (f : Flags) (s : Sending) (b c : Arriving) (room : edge b ≤ edge c) (
         more = [];
         written = sym (append-nil s.written);
         spent = λ path place is. is;
+        untried = λ path q place is. is;
         news = λ path q first alone n reach new. new;
         end = λ e is. is;
         acked = omega arith;
@@ -99,7 +100,7 @@ module _ (f : Flags) (s : Sending) (b c : Arriving) (room : edge b ≤ edge c) (
   pub sends_on : SendHolds s (view_of f s b) → SendHolds s (view_of f s c)
   sends_on h =
       let both = reach (all_in_is s.closed s.written (received b)) in
-      record { whole = h.whole; first = h.first; acked = omega (arith, h.acked, more); edge = omega (arith, h.edge, both.1); fin = h.fin }
+      record { whole = h.whole; first = h.first; held = h.held; acked = omega (arith, h.acked, more); edge = omega (arith, h.edge, both.1); fin = h.fin }
 
 -- bytes that were sent are taken
 row_reaches : {granted : ℕ → Type 0} (v : View) (at : ℕ) (bytes : List ℕ) (bound : ℕ) → ((place byte : ℕ) → IsSent granted v place byte → place < bound)

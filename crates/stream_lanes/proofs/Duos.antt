@@ -27,6 +27,7 @@ flags_later f g s b go = record {
   more = [];
   written = sym (append-nil s.written);
   spent = λ path place is. is;
+  untried = λ path q place is. is;
   news = λ path q first alone n reach new. new;
   end = λ e is. is;
   acked = omega arith;
@@ -49,7 +50,7 @@ direction_later : (f g : Flags) (d : Direction) → FlagsGo f g → ((view_of f 
 direction_later f g d go fallen h =
     let l = flags_later f g d.send d.arrived go in
     record {
-      send = record { whole = h.send.whole; first = h.send.first; acked = h.send.acked; edge = h.send.edge; fin = h.send.fin };
+      send = record { whole = h.send.whole; first = h.send.first; held = h.send.held; acked = h.send.acked; edge = h.send.edge; fin = h.send.fin };
       arrived = arrived_later l d.arrived (λ place is. is) h.arrived;
       reader = record { out = h.reader.out; told = h.reader.told; once = h.reader.once };
       lanes = lanes_later f d h fallen l;
@@ -151,7 +152,7 @@ after_events_held (event ∷ events) w h = after_events_held events (after_event
 -- before the first event
 new_lane_held : (f : Flags) (buffer capacity path : ℕ) → LaneHolds (view_of f (opening_direction 0 buffer capacity).send (opening_direction 0 buffer capacity).arrived) path new_lane
 new_lane_held f buffer capacity path = record {
-  record_of = record { cells = Every-nil _; once = omega arith };
+  record_of = record { cells = Every-nil _; tried = λ place is. cc; once = omega arith };
   alone = λ _. record { identity = record { each = λ i n x n_is e. cc }; others = λ _. refl; untouched = λ _ place mark above e. cc };
   modes = record { joined = λ is. absurd (false≢true is); sender = λ is. absurd (false≢true is); receiver = λ is. absurd (false≢true is) };
   bytes = record {
@@ -177,7 +178,7 @@ new_lane_held f buffer capacity path = record {
 
 opening_direction_held : (f : Flags) (paths buffer capacity : ℕ) → DirectionHolds f (opening_direction paths buffer capacity)
 opening_direction_held f paths buffer capacity = record {
-  send = record { whole = refl; first = refl; acked = omega arith; edge = omega arith; fin = λ is. absurd (false≢true is) };
+  send = record { whole = refl; first = refl; held = Every-nil _; acked = omega arith; edge = omega arith; fin = λ is. absurd (false≢true is) };
   arrived = record { top = omega arith; cells = record { each = λ i n x n_is e. cc }; end = tt; before = λ place below. absurd (omega (arith, below)) };
   reader = record { out = refl; told = λ is. absurd (false≢true is); once = λ is. refl };
   lanes = record {

@@ -1,6 +1,6 @@
 -- What a lane makes of the reply to its grant.
-use Rattle.std.proofs.Common.{◌≡◌, refl, sym, ◌∙◌, ap, subst, ℕ, ◌+◌, ◌-◌, ◌<◌, ◌≤◌, Bool, true, false, not, ◌&&◌, if◌then◌else◌, List, ◌++◌, length, drop, Some, None, Result, Ok, Err, position, arith}
-use Rattle.std.proofs.lemmas.Bool.{and_parts}
+use Rattle.std.proofs.Common.{◌≡◌, refl, sym, ◌∙◌, ap, subst, ℕ, ◌+◌, ◌-◌, ◌<◌, ◌≤◌, Bool, true, false, not, ◌&&◌, if◌then◌else◌, List, ◌++◌, length, drop, Some, None, Result, Ok, Err, position, arith, inl, inr, ◌⊎◌, ⊎_elim}
+use Rattle.std.proofs.lemmas.Bool.{and_parts, cases_lt}
 use Rattle.std.proofs.lemmas.List.{length-append, length-take, length-drop, map-append, length-map}
 use Rattle.std.proofs.lemmas.Option.{slice_get_within}
 use Rattle.std.specs.List.{slice_get}
@@ -19,15 +19,15 @@ use Rattle.send_book.proofs.Grants.{spent-given}
 use Rattle.reassembly_book.specs.State.{Arriving, received}
 use Rattle.reassembly_book.specs.Steps.{edge}
 use Rattle.stream_lanes.specs.Words.{Every}
-use Rattle.stream_lanes.specs.Marks.{spent, spent_count, AreNew}
+use Rattle.stream_lanes.specs.Marks.{spent, spent_count, AreNew, tried}
 use Rattle.stream_lanes.specs.Lane.{Cell, Mapping, Lane}
 use Rattle.stream_lanes.specs.Moves.{Flags, takes_grant, later_end, cells_from, places_of}
 use Rattle.stream_lanes.specs.View.{view_of, end_of, IsEnd}
-use Rattle.stream_lanes.specs.Holding.{SendHolds, CellFits, RecordHolds, AloneHolds, IsFin, IsRight, LaneHolds}
-use Rattle.stream_lanes.proofs.Lists.{Every-map, Every-append, Every-push, From-append, Cells-map, in_drop, in_take, item_at}
-use Rattle.stream_lanes.proofs.Bytes.{byte_more, right_more, honest_more, length-cells_from, in_cells_from, places-cells_from}
-use Rattle.stream_lanes.proofs.MarkLists.{count_within, grant_counts, grant_first, grant_is_next, position_within, AreNew-given}
-use Rattle.stream_lanes.proofs.Later.{But, record_later, modes_later, ends_later, fin_later, heard_later, receiver_later}
+use Rattle.stream_lanes.specs.Holding.{SendHolds, CellFits, RecordHolds, AloneHolds, IsFin, IsRight, LaneHolds, HasPlace}
+use Rattle.stream_lanes.proofs.Lists.{Every-map, Every-append, Every-push, From-append, Cells-map, in_drop, in_take, item_at, Has-more}
+use Rattle.stream_lanes.proofs.Bytes.{byte_more, right_more, honest_more, length-cells_from, in_cells_from, places-cells_from, has_place}
+use Rattle.stream_lanes.proofs.MarkLists.{count_within, grant_counts, grant_first, grant_is_next, position_within, AreNew-given, given_outside}
+use Rattle.stream_lanes.proofs.Later.{But, record_later, modes_later, ends_later, fin_later, heard_later, receiver_later, cells_later}
 use Rattle.stream_lanes.proofs.Views.{AllIn, all_in_is, is_end}
 use Rattle.stream_lanes.proofs.Views.AllIn.{missing, complete}
 use Rattle.stream_lanes.proofs.Sends.{SendStep}
@@ -55,7 +55,7 @@ module _ (f : Flags) (s : Sending) (b : Arriving) (path : ℕ) (p : Lane) (send 
       → SendStep (But path) f s (record s { marks = change_part (given path) span s.marks }) b
       → LaneHolds (view_of f (record s { marks = change_part (given path) span s.marks }) b) path (takes_grant (reply_by (Ok span) s) p)
   granted_held max standby span opened some decided m step = record {
-    record_of = record { cells = Every-append old.cells new_cells; once = once };
+    record_of = record { cells = Every-append old new_cells; tried = tried_there; once = once };
     alone = alone;
     modes = modes_later step.later path p.opened p.sender_plain p.receiver_plain h.modes;
     bytes = record {
@@ -103,8 +103,23 @@ module _ (f : Flags) (s : Sending) (b : Arriving) (path : ℕ) (p : Lane) (send 
       piece_mapping : Mapping
       piece_mapping = record { pos = length p.sent; place = span.from; len = length piece }
 
-      old : RecordHolds path (view_of f (record s { marks = marks }) b) p.sent
-      old = record_later step.later path p.sent h.record_of
+      old : Every (CellFits path (view_of f (record s { marks = marks }) b)) p.sent
+      old = cells_later step.later path p.sent h.record_of.cells
+
+      -- a byte that the path tried is one of those granted before, or of these
+      tried_there : (place : ℕ) → tried path (slice_get marks place) ≡ true → HasPlace (p.sent ++ cells) place
+      tried_there place is = ⊎_elim (λ below. before (inl below)) (λ above. ⊎_elim here (λ over. before (inr over)) (cases_lt place span.to)) (cases_lt place span.from)
+        where
+          before : (place < span.from) ⊎ (span.to ≤ place) → HasPlace (p.sent ++ cells) place
+          before side = Has-more cells (h.record_of.tried place
+              (ap (tried path) (sym (given_outside path place span s.marks (omega (arith, m.whole)) m.within side)) ∙ is))
+
+          here : place < span.to → HasPlace (p.sent ++ cells) place
+          here under = ⊎_elim (λ below. before (inl below)) (λ above. has_place (p.sent ++ cells) (length p.sent + (place - span.from)) place
+              (ap (λ qs. slice_get qs (length p.sent + (place - span.from))) (map-append (λ (c : Cell). c.place) p.sent cells)
+              ∙ slice_get-append_right (places_of p.sent) (places_of cells) (place - span.from) (length p.sent + (place - span.from))
+              (ap (λ k. k + (place - span.from)) (sym (length-map p.sent (λ (c : Cell). c.place))))
+              ∙ places-cells_from span.from piece (place - span.from) place (omega (arith, above, under, size, whole)) (omega (arith, above)))) (cases_lt place span.from)
 
       once : length (p.sent ++ cells) ≤ spent_count path marks
       once = omega (arith, longer, counted, h.record_of.once)

@@ -3,19 +3,21 @@ use Rattle.std.proofs.Common.{◌≡◌, ◌∙◌, ap, ℕ, ◌≤◌, Bool, tr
 use Rattle.std.proofs.lemmas.Grind.{common_steps}
 use Rattle.std.specs.List.{slice_get}
 use Rattle.reassembly_book.specs.State.{Arriving}
-use Rattle.stream_lanes.specs.Marks.{spent, spent_count, AreNew}
+use Rattle.stream_lanes.specs.Marks.{spent, spent_count, AreNew, tried}
 use Rattle.stream_lanes.specs.Lane.{Cell, AckCopy, Told, Ask, Lane}
 use Rattle.stream_lanes.specs.Lane.Ask.{Nothing, AskGrant, AskAckIn, AskPlace, AskFin, AskAckOut}
 use Rattle.stream_lanes.specs.View.{View, IsEnd}
-use Rattle.stream_lanes.specs.Holding.{IsAll, IsSent, ArrivedHolds, RecordHolds, AloneHolds, ModeHolds, EndsHold, IsFin, HeardHolds, IsAck, ReceiverHolds, PlaceHolds, AskHolds, LaneHolds}
+use Rattle.stream_lanes.specs.Holding.{IsAll, IsSent, ArrivedHolds, RecordHolds, AloneHolds, ModeHolds, EndsHold, IsFin, HeardHolds, IsAck, ReceiverHolds, PlaceHolds, AskHolds, LaneHolds, CellFits}
 use Rattle.stream_lanes.proofs.Lists.{Every-map, From-map, Cells-map, IfSome-map, in_more}
 use Rattle.stream_lanes.proofs.MarkLists.{count_grows}
+use Rattle.stream_lanes.specs.Words.{Every}
 
 -- Q names the paths whose untried bytes stay untried
 pub record Later (Q : ℕ → Type 0) (v u : View) : Type 0 where
   pub more : List ℕ
   pub written : u.written ≡ v.written ++ more
   pub spent : (path place : ℕ) → spent path (slice_get v.marks place) ≡ true → spent path (slice_get u.marks place) ≡ true
+  pub untried : (path : ℕ) → Q path → (place : ℕ) → tried path (slice_get u.marks place) ≡ true → tried path (slice_get v.marks place) ≡ true
   pub news : (path : ℕ) → Q path → path ≡ 0 → u.alone ≡ true → (n : ℕ) → v.received ≤ n → AreNew n v.marks → AreNew n u.marks
   pub end : (e : ℕ) → IsEnd v.end e → IsEnd u.end e
   pub acked : v.acked ≤ u.acked
@@ -63,13 +65,17 @@ module _ {Q : ℕ → Type 0} {v u : View} (l : Later Q v u) where
       grown : (xs ys : List ℕ) → length xs ≤ length (xs ++ ys)
       grown xs ys = grind (arith, common_steps)
 
-  pub record_later : (path : ℕ) (sent : List Cell) → RecordHolds path v sent → RecordHolds path u sent
-  record_later path sent h = record {
-    cells = Every-map (λ c fits. record {
-      byte = written_later c.place c.byte fits.byte;
-      spent = l.spent path c.place fits.spent;
-      room = omega (arith, fits.room, l.room);
-    }) h.cells;
+  pub cells_later : (path : ℕ) (sent : List Cell) → Every (CellFits path v) sent → Every (CellFits path u) sent
+  cells_later path sent h = Every-map (λ c fits. record {
+    byte = written_later c.place c.byte fits.byte;
+    spent = l.spent path c.place fits.spent;
+    room = omega (arith, fits.room, l.room);
+  }) h
+
+  pub record_later : (path : ℕ) (sent : List Cell) → Q path → RecordHolds path v sent → RecordHolds path u sent
+  record_later path sent q h = record {
+    cells = cells_later path sent h.cells;
+    tried = λ place is. h.tried place (l.untried path q place is);
     once = omega (arith, h.once, count_later path);
   }
 
@@ -143,7 +149,7 @@ module _ {Q : ℕ → Type 0} {v u : View} (l : Later Q v u) where
   -- one lemma for every step of another actor
   pub lane_later : (path : ℕ) (p : Lane) → Q path → (v.alone ≡ true → path ≡ 0 → v.received ≤ length p.sent) → LaneHolds v path p → LaneHolds u path p
   lane_later path p q reach h = record {
-    record_of = record_later path p.sent h.record_of;
+    record_of = record_later path p.sent q h.record_of;
     alone = alone_later path p.sent q reach h.alone;
     modes = modes_later path p.opened p.sender_plain p.receiver_plain h.modes;
     bytes = h.bytes;

@@ -1,24 +1,28 @@
 -- Lists of marks: which bytes are spent, which are acknowledged, which are new, under what the calls of a send book do.
-use Rattle.std.proofs.Common.{◌≡◌, refl, sym, ◌∙◌, ap, subst, ℕ, zero, suc, ◌+◌, ◌-◌, ◌<◌, ◌≤◌, min, max, Bool, true, false, not, cond, nat_lt, ◌==◌, ⊎_elim, List, [], ◌∷◌, ◌++◌, length, get_or, take, drop, map, replicate, Option, Some, None, Result, Ok, Err, position, if◌then◌else◌, arith}
+use Rattle.std.proofs.Common.{◌≡◌, refl, sym, ◌∙◌, ap, subst, ℕ, zero, suc, ◌+◌, ◌-◌, ◌<◌, ◌≤◌, min, max, Bool, true, false, not, cond, nat_lt, ◌==◌, ⊎_elim, List, [], ◌∷◌, ◌++◌, length, get_or, take, drop, map, replicate, Option, Some, None, Result, Ok, Err, position, if◌then◌else◌, arith, ◌⊎◌}
 use Rattle.std.proofs.lemmas.Bool.{cases_lt, both_ways, ltb-true}
 use Rattle.std.proofs.lemmas.List.{length-take, length-drop, map-append, take-append-drop, drop-drop, length-replicate}
 use Rattle.std.proofs.lemmas.List.Sums.{sum_by-append, sum_by-cons, fails_before_first, passes_at_first}
-use Rattle.std.proofs.lemmas.Option.{slice_get_within, get_or_from_slice_get}
+use Rattle.std.proofs.lemmas.Option.{slice_get_within, get_or_from_slice_get, slice_get-map}
 use Rattle.std.specs.List.{slice_get, position_or_len}
 use Rattle.send_book.specs.declared.call.Span.{Span}
 use Rattle.send_book.specs.declared.call.Why.{Why}
 use Rattle.send_book.specs.declared.call.Why.TheVariants.{Ended, Backup, WindowShut}
 use Rattle.send_book.specs.declared.mark.ByteMark.{ByteMark}
 use Rattle.send_book.specs.declared.mark.ByteMark.TheVariants.{Acked, Held, Free}
-use Rattle.send_book.specs.Tried.{no_paths, contains}
-use Rattle.send_book.specs.Marks.{is_acked, is_free_for, given, returned}
+use Rattle.send_book.specs.Tried.{no_paths, contains, insert}
+use Rattle.send_book.specs.Marks.{is_acked, is_free_for, given, returned, has_tried, is_held_rightly}
 use Rattle.send_book.specs.State.{Sending, acked_len}
 use Rattle.send_book.specs.Steps.{change_part, decision, first_free, is_for, span_at, run_len}
-use Rattle.send_book.proofs.Lists.{slice_get-changed_above}
+use Rattle.send_book.proofs.Lists.{slice_get-changed_above, slice_get-changed_inside, slice_get-append_left, slice_get-append_right, slice_get-changed_below}
 use Rattle.send_book.proofs.Decisions.{MayTake}
 use Rattle.send_book.proofs.Grants.{spent-given, spent-not_free}
-use Rattle.stream_lanes.specs.Marks.{spent, spent_count, AreAcked, AreNew}
-use Rattle.stream_lanes.proofs.Lists.{in_append, in_drop, in_take, in_map, in_replicate, item_at}
+use Rattle.stream_lanes.specs.Marks.{spent, spent_count, AreAcked, AreNew, tried, IsHeldRightly}
+use Rattle.stream_lanes.proofs.Lists.{in_append, in_drop, in_take, in_map, in_replicate, item_at, Every-append}
+use Rattle.stream_lanes.specs.Words.{Every}
+use Rattle.send_book.proofs.PathSets.{contains-insert}
+use Rattle.std.specs.Option.{option_map}
+use Rattle.std.specs.Prelude.{slice_index_or}
 
 -- where each spent byte stays spent, as many are spent at least
 pub count_grows : (path : ℕ) (ms ns : List ByteMark)
@@ -314,3 +318,139 @@ acked_is_spent (suc n) zero (x ∷ ms) m h below e new =
     let same : x ≡ Free no_paths = (let s : x ≡ m = cc in s ∙ new) in
     both_ways _ (ap is_acked same) h.0
 acked_is_spent (suc n) (suc place) (x ∷ ms) m h below e new = acked_is_spent n place ms m h.1 (omega (arith, below)) e new
+
+-- which bytes a path has tried, under what the calls do
+none_in : (n path : ℕ) → slice_index_or (replicate n false) path false ≡ false
+none_in zero path = refl
+none_in (suc n) zero = refl
+none_in (suc n) (suc path) = none_in n path
+
+pub new_untried : (path : ℕ) → tried path (Some (Free no_paths)) ≡ false
+new_untried path = none_in 16 path
+
+pub tried-written : (path place count : ℕ) (ms : List ByteMark) → tried path (slice_get (ms ++ replicate count (Free no_paths)) place) ≡ true
+    → tried path (slice_get ms place) ≡ true
+tried-written path place count ms is = ⊎_elim
+    (λ below. ap (tried path) (sym (slice_get-append_left ms _ place below)) ∙ is)
+    (λ above. absurd (at (slice_get (replicate count (Free no_paths)) (place - length ms)) refl
+    (ap (tried path) (sym (slice_get-append_right ms _ (place - length ms) place (omega (arith, above)))) ∙ is)))
+    (cases_lt place (length ms))
+  where
+    at : (o : Option ByteMark) → slice_get (replicate count (Free no_paths)) (place - length ms) ≡ o → tried path o ≡ true → ⊥
+    at None there e = cc
+    at (Some mark) there e =
+        both_ways _ (ap (λ m. tried path (Some m)) (sym (in_replicate count (Free no_paths) _ mark there)) ∙ new_untried path) e
+
+returned_tried : (path k : ℕ) (m : ByteMark) → has_tried k (returned path m) ≡ has_tried k m
+returned_tried path k Acked = refl
+returned_tried path k (Held holder paths) = at (holder == path)
+  where
+    at : (b : Bool) → has_tried k (if b then Free paths else Held holder paths) ≡ contains k paths
+    at true = refl
+    at false = refl
+returned_tried path k (Free paths) = refl
+
+pub tried-returned : (path k place : ℕ) (ms : List ByteMark) → tried k (slice_get (map (returned path) ms) place) ≡ true → tried k (slice_get ms place) ≡ true
+tried-returned path k place ms is = at (slice_get ms place) (ap (tried k) (sym (slice_get-map (returned path) ms place)) ∙ is)
+  where
+    at : (o : Option ByteMark) → tried k (option_map (returned path) o) ≡ true → tried k o ≡ true
+    at None e = e
+    at (Some m) e = sym (returned_tried path k m) ∙ e
+
+pub tried-acked : (path place next c : ℕ) (ms : List ByteMark) → c ≡ min next (length ms) → tried path (slice_get (replicate c Acked ++ drop next ms) place) ≡ true
+    → tried path (slice_get ms place) ≡ true
+tried-acked path place next c ms c_is is = at (slice_get (replicate c Acked ++ drop next ms) place) refl is
+  where
+    at : (o : Option ByteMark) → slice_get (replicate c Acked ++ drop next ms) place ≡ o → tried path o ≡ true → tried path (slice_get ms place) ≡ true
+    at None there e = cc
+    at (Some m) there e = ⊎_elim
+        (λ left.
+            let acked : Acked ≡ m = in_replicate c Acked place m left in
+            absurd (both_ways _ (ap (has_tried path) (sym acked)) e))
+        (λ right.
+            let size : length (replicate c Acked) ≡ c = length-replicate c Acked in
+            let past : c ≤ place = subst (λ k. k ≤ place) size right.0 in
+            let inside = slice_get_within (drop next ms) _ m right.1 in
+            let here : next + (place - length (replicate c Acked)) ≡ place = omega (arith, past, size, c_is, inside, length-drop next ms) in
+            let old : slice_get ms place ≡ Some m = in_drop next ms (place - length (replicate c Acked)) place m (sym here) right.1 in
+            ap (tried path) old ∙ e)
+        (in_append (replicate c Acked) (drop next ms) place m there)
+
+contains-insert_other : (path k : ℕ) (paths : List Bool) → (k ≡ path → ⊥) → contains k (insert path paths) ≡ contains k paths
+contains-insert_other zero zero paths apart = absurd (apart refl)
+contains-insert_other zero (suc k) [] apart = refl
+contains-insert_other zero (suc k) (first ∷ paths) apart = refl
+contains-insert_other (suc path) zero [] apart = refl
+contains-insert_other (suc path) zero (first ∷ paths) apart = refl
+contains-insert_other (suc path) (suc k) [] apart = contains-insert_other path k [] (λ same. apart (omega (arith, same)))
+contains-insert_other (suc path) (suc k) (first ∷ paths) apart = contains-insert_other path k paths (λ same. apart (omega (arith, same)))
+
+given_tried : (path k : ℕ) (m : ByteMark) → (k ≡ path → ⊥) → has_tried k (given path m) ≡ has_tried k m
+given_tried path k Acked apart = refl
+given_tried path k (Held holder paths) apart = refl
+given_tried path k (Free paths) apart = contains-insert_other path k paths apart
+
+pub tried-given : (path k place : ℕ) (span : Span) (ms : List ByteMark) → span.from ≤ span.to → span.to ≤ length ms → (k ≡ path → ⊥)
+    → tried k (slice_get (change_part (given path) span ms) place) ≡ true → tried k (slice_get ms place) ≡ true
+tried-given path k place span ms order within apart is =
+    let whole : span.to ≡ span.from + (span.to - span.from) = omega (arith, order) in
+    ⊎_elim
+    (λ below. ap (tried k) (sym (slice_get-changed_below (given path) span.from _ span.to ms whole within place below)) ∙ is)
+    (λ above. ⊎_elim
+    (λ under. at (slice_get ms place) (ap (tried k) (sym (slice_get-changed_inside (given path) span.from _ span.to ms whole within place above under)) ∙ is))
+    (λ over. ap (tried k) (sym (slice_get-changed_above (given path) span.from _ span.to ms whole within place over)) ∙ is)
+    (cases_lt place span.to))
+    (cases_lt place span.from)
+  where
+    at : (o : Option ByteMark) → tried k (option_map (given path) o) ≡ true → tried k o ≡ true
+    at None e = e
+    at (Some m) e = sym (given_tried path k m apart) ∙ e
+
+-- outside the span a grant changes nothing
+pub given_outside : (path place : ℕ) (span : Span) (ms : List ByteMark) → span.from ≤ span.to → span.to ≤ length ms → (place < span.from) ⊎ (span.to ≤ place)
+    → slice_get (change_part (given path) span ms) place ≡ slice_get ms place
+given_outside path place span ms order within side =
+    let whole : span.to ≡ span.from + (span.to - span.from) = omega (arith, order) in
+    ⊎_elim (λ below. slice_get-changed_below (given path) span.from _ span.to ms whole within place below)
+    (λ over. slice_get-changed_above (given path) span.from _ span.to ms whole within place over) side
+
+-- holders
+pub held-written : (count : ℕ) (ms : List ByteMark) → Every IsHeldRightly ms → Every IsHeldRightly (ms ++ replicate count (Free no_paths))
+held-written count ms h = Every-append h (record { each = λ i m e. ap is_held_rightly (sym (in_replicate count (Free no_paths) i m e)) })
+
+returned_held : (path : ℕ) (m : ByteMark) → is_held_rightly m ≡ true → is_held_rightly (returned path m) ≡ true
+returned_held path Acked h = refl
+returned_held path (Held holder paths) h = at (holder == path)
+  where
+    at : (b : Bool) → is_held_rightly (if b then Free paths else Held holder paths) ≡ true
+    at true = refl
+    at false = h
+returned_held path (Free paths) h = refl
+
+given_held : (path : ℕ) (m : ByteMark) → is_held_rightly m ≡ true → is_held_rightly (given path m) ≡ true
+given_held path Acked h = refl
+given_held path (Held holder paths) h = h
+given_held path (Free paths) h = contains-insert path paths
+
+pub held-mapped : (change : ByteMark → ByteMark) (ms : List ByteMark) → ((m : ByteMark) → is_held_rightly m ≡ true → is_held_rightly (change m) ≡ true)
+    → Every IsHeldRightly ms → Every IsHeldRightly (map change ms)
+held-mapped change ms keeps h = record {
+  each = λ i m e.
+      let old = in_map change ms i m e in
+      subst IsHeldRightly old.2 (keeps old.0 (h.each i old.0 old.1));
+}
+
+pub held-returned : (path : ℕ) (ms : List ByteMark) → Every IsHeldRightly ms → Every IsHeldRightly (map (returned path) ms)
+held-returned path ms h = held-mapped (returned path) ms (returned_held path) h
+
+part-held : (n m : ℕ) (ms : List ByteMark) → Every IsHeldRightly ms → Every IsHeldRightly (take n (drop m ms))
+part-held n m ms h = record { each = λ i x e. h.each (m + i) x (in_drop m ms i (m + i) x refl (in_take n (drop m ms) i x e).0) }
+
+pub held-given : (path : ℕ) (span : Span) (ms : List ByteMark) → Every IsHeldRightly ms → Every IsHeldRightly (change_part (given path) span ms)
+held-given path span ms h = Every-append (record { each = λ i x e. h.each i x (in_take span.from ms i x e).0 })
+    (Every-append (held-mapped (given path) (take (span.to - span.from) (drop span.from ms)) (given_held path) (part-held (span.to - span.from) span.from ms h))
+    (record { each = λ i x e. h.each (span.to + i) x (in_drop span.to ms i (span.to + i) x refl e) }))
+
+pub held-acked : (next c : ℕ) (ms : List ByteMark) → Every IsHeldRightly ms → Every IsHeldRightly (replicate c Acked ++ drop next ms)
+held-acked next c ms h = Every-append (record { each = λ i m e. ap is_held_rightly (sym (in_replicate c Acked i m e)) })
+    (record { each = λ i x e. h.each (next + i) x (in_drop next ms i (next + i) x refl e) })

@@ -23,7 +23,7 @@ use Rattle.stream_lanes.proofs.Lists.{Every-map, IfSome-map, in_map}
 use Rattle.stream_lanes.proofs.MarkLists.{count_within}
 use Rattle.stream_lanes.proofs.Views.{is_end, all_in_bound, received_written}
 use Rattle.stream_lanes.proofs.Duos.{all_held, fallen_ab}
-use Rattle.stream_lanes.proofs.Ended.{done_ab, done_ba, shut_ab, shut_ba}
+use Rattle.stream_lanes.proofs.AfterTheEnd.{done_ab, done_ba, shut_ab, shut_ba}
 use Rattle.stream_lanes.proofs.Pipes.{event_moves}
 use Rattle.stream_lanes.proofs.Refusals.{never_refused}
 

@@ -20,7 +20,7 @@ use Rattle.stream_lanes.specs.Moves.{Flags}
 use Rattle.stream_lanes.specs.View.{view_of, all_in, IsEnd}
 use Rattle.stream_lanes.specs.Holding.{IsAll, SendHolds, IsAck}
 use Rattle.stream_lanes.proofs.Later.{Later, Anyone, But}
-use Rattle.stream_lanes.proofs.MarkLists.{AreAcked-count, AreAcked-within, AreAcked-written, AreAcked-returned, AreAcked-given, AreAcked-acked, AreNew-written, AreNew-returned, AreNew-acked}
+use Rattle.stream_lanes.proofs.MarkLists.{AreAcked-count, AreAcked-within, AreAcked-written, AreAcked-returned, AreAcked-given, AreAcked-acked, AreNew-written, AreNew-returned, AreNew-acked, tried-written, tried-returned, tried-acked, tried-given, held-written, held-returned, held-given, held-acked}
 use Rattle.stream_lanes.proofs.Views.{AllIn, all_in_is, all_in_one, end_is}
 use Rattle.stream_lanes.proofs.Views.AllIn.{missing, complete}
 
@@ -37,6 +37,7 @@ module _ (f : Flags) (s : Sending) (b : Arriving) (h : SendHolds s (view_of f s 
       more = [];
       written = sym (append-nil s.written);
       spent = λ path place is. is;
+      untried = λ path q place is. is;
       news = λ path q first alone n reach new. new;
       end = λ e is. is;
       acked = omega arith;
@@ -48,7 +49,7 @@ module _ (f : Flags) (s : Sending) (b : Arriving) (h : SendHolds s (view_of f s 
       alone = λ is. is;
       fallen = λ is. is;
     };
-    holds = record { whole = h.whole; first = h.first; acked = h.acked; edge = h.edge; fin = h.fin };
+    holds = record { whole = h.whole; first = h.first; held = h.held; acked = h.acked; edge = h.edge; fin = h.fin };
   }
 
   step_if : {Q : ℕ → Type 0} (c : Bool) (t u : Sending) → (c ≡ true → SendStep Q f s t b) → (c ≡ false → SendStep Q f s u b)
@@ -88,6 +89,7 @@ module _ (f : Flags) (s : Sending) (b : Arriving) (h : SendHolds s (view_of f s 
           more = take n bytes;
           written = refl;
           spent = λ path place is. grown path place is;
+          untried = λ path q place is. tried-written path place n s.marks is;
           news = λ path q first alone k reach new. AreNew-written k n s.marks new;
           end = λ e is. not_closed s.closed (length s.written) (length t.written) e (or_parts s.closed s.aborted may).0 is;
           acked = omega (arith, counted.0);
@@ -102,6 +104,7 @@ module _ (f : Flags) (s : Sending) (b : Arriving) (h : SendHolds s (view_of f s 
         holds = record {
           whole = omega (arith, length-append s.marks (replicate n (Free no_paths)), length-replicate n (Free no_paths), length-append s.written (take n bytes), length-take n bytes, h.whole);
           first = counted.1;
+          held = held-written n s.marks h.held;
           acked = omega (arith, counted.0, h.acked);
           edge = omega (arith, h.edge, none_in s.closed s.written (received b) (or_parts s.closed s.aborted may).0);
           fin = λ is. let all = h.fin is in
@@ -130,6 +133,7 @@ module _ (f : Flags) (s : Sending) (b : Arriving) (h : SendHolds s (view_of f s 
           more = [];
           written = sym (append-nil s.written);
           spent = λ path place is. is;
+          untried = λ path q place is. is;
           news = λ path q first alone n reach new. new;
           end = ends s.closed;
           acked = omega arith;
@@ -144,6 +148,7 @@ module _ (f : Flags) (s : Sending) (b : Arriving) (h : SendHolds s (view_of f s 
         holds = record {
           whole = h.whole;
           first = h.first;
+          held = h.held;
           acked = h.acked;
           edge = omega (arith, h.edge, grows s.closed (received b));
           fin = λ is. let all = h.fin is in (all.0, ends s.closed all.0 all.1, all.2);
@@ -156,6 +161,7 @@ module _ (f : Flags) (s : Sending) (b : Arriving) (h : SendHolds s (view_of f s 
       more = [];
       written = sym (append-nil s.written);
       spent = λ k place is. stays-after_call (spent k) (spent-stays k) place (Return path) s is;
+      untried = λ k q place is. tried-returned path k place s.marks is;
       news = λ k q first alone n reach new. AreNew-returned path n s.marks new;
       end = λ e is. is;
       acked = omega (arith, counted.0);
@@ -170,6 +176,7 @@ module _ (f : Flags) (s : Sending) (b : Arriving) (h : SendHolds s (view_of f s 
     holds = record {
       whole = length-map s.marks (returned path) ∙ h.whole;
       first = counted.1;
+      held = held-returned path s.marks h.held;
       acked = omega (arith, counted.0, h.acked);
       edge = h.edge;
       fin = λ is. let all = h.fin is in (all.0, all.1, omega (arith, all.2, counted.0));
@@ -228,6 +235,7 @@ module _ (f : Flags) (s : Sending) (b : Arriving) (h : SendHolds s (view_of f s 
           more = [];
           written = sym (append-nil s.written);
           spent = grown;
+          untried = λ k q place is. tried-acked k place next c s.marks refl is;
           news = λ k q first alone n reach new. AreNew-acked n next c s.marks refl (λ place above inside. kept place n reach above inside (all_in_is s.closed s.written (received b))) new;
           end = λ e is. is;
           acked = omega (arith, count);
@@ -242,6 +250,7 @@ module _ (f : Flags) (s : Sending) (b : Arriving) (h : SendHolds s (view_of f s 
         holds = record {
           whole = size ∙ h.whole;
           first = subst (λ n. AreAcked n marks) (sym count) are;
+          held = held-acked next c s.marks h.held;
           acked = omega (arith, count, h.acked, covered (all_in_is s.closed s.written (received b)));
           edge = omega (arith, h.edge, ack.reaches);
           fin = λ is. ⊎_elim
@@ -275,6 +284,7 @@ module _ (f : Flags) (s : Sending) (b : Arriving) (h : SendHolds s (view_of f s 
           more = [];
           written = sym (append-nil s.written);
           spent = grown;
+          untried = λ k q place is. tried-given path k place span s.marks (omega (arith, m.whole)) m.within q is;
           news = λ k q first alone n reach new. absurd (q (first ∙ sym (joined alone)));
           end = λ e is. is;
           acked = omega (arith, counted.0);
@@ -289,6 +299,7 @@ module _ (f : Flags) (s : Sending) (b : Arriving) (h : SendHolds s (view_of f s 
         holds = record {
           whole = same_size ∙ h.whole;
           first = counted.1;
+          held = held-given path span s.marks h.held;
           acked = omega (arith, counted.0, h.acked);
           edge = h.edge;
           fin = λ is. let all = h.fin is in (all.0, all.1, omega (arith, all.2, counted.0));

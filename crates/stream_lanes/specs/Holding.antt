@@ -4,7 +4,7 @@ use Rattle.send_book.specs.declared.mark.ByteMark.{ByteMark}
 use Rattle.send_book.specs.State.{Sending, acked_len}
 use Rattle.reassembly_book.specs.State.{Arriving, top}
 use Rattle.stream_lanes.specs.Words.{Every, From, Cells, Has}
-use Rattle.stream_lanes.specs.Marks.{spent, spent_count, AreAcked, AreNew}
+use Rattle.stream_lanes.specs.Marks.{spent, spent_count, AreAcked, AreNew, tried, IsHeldRightly}
 use Rattle.stream_lanes.specs.Lane.{Cell, Mapping, DataCopy, AckCopy, Told, Ask, Lane}
 use Rattle.stream_lanes.specs.Lane.Ask.{Nothing, AskGrant, AskAckIn, AskPlace, AskFin, AskAckOut}
 use Rattle.stream_lanes.specs.Moves.{Flags, bytes_of, places_of}
@@ -21,6 +21,7 @@ IsAll v = (e : ℕ) × IsEnd v.end e × (e ≤ v.acked)
 pub record SendHolds (b : Sending) (v : View) : Type 0 where
   pub whole : length b.marks ≡ length b.written
   pub first : AreAcked (acked_len b.marks) b.marks
+  pub held : Every IsHeldRightly b.marks
   pub acked : v.acked ≤ v.received
   pub edge : b.edge ≤ v.edge
   pub fin : b.fin ≡ true → IsAll v
@@ -44,8 +45,12 @@ pub record ReaderHolds (v : View) (b : Arriving) (r : Reader) : Type 0 where
   pub told : r.told ≡ true → IsEnd v.end b.read
   pub once : r.stopped ≡ true → r.told ≡ false
 
--- A path's record: each byte of it is the written one at its place, spent for the path, and taken by the receiver; it is
--- no longer than what was granted to the path once.
+-- a record has a byte with this place
+abbrev pub HasPlace : List Cell → ℕ → Type 0
+HasPlace sent place = Has (λ c. c.place ≡ place) sent
+
+-- A path's record: each byte of it is the written one at its place, spent for the path, and taken by the receiver; it has
+-- each byte that the path tried, and is no longer than what was granted to the path once.
 pub record CellFits (path : ℕ) (v : View) (c : Cell) : Type 0 where
   pub byte : slice_get v.written c.place ≡ Some c.byte
   pub spent : spent path (slice_get v.marks c.place) ≡ true
@@ -53,6 +58,7 @@ pub record CellFits (path : ℕ) (v : View) (c : Cell) : Type 0 where
 
 pub record RecordHolds (path : ℕ) (v : View) (sent : List Cell) : Type 0 where
   pub cells : Every (CellFits path v) sent
+  pub tried : (place : ℕ) → tried path (slice_get v.marks place) ≡ true → HasPlace sent place
   pub once : length sent ≤ spent_count path v.marks
 
 -- As long as no join was answered: only path 0 has bytes, each at its own position, and no byte after them was touched.
@@ -122,9 +128,6 @@ pub record ReceiverHolds (v : View) (edge : ℕ) (fin_in due : Bool) (latest : T
   pub copies : Every (IsAckCopy v) acks
 
 -- The pending ask: what is said of a copy is said of it.
-abbrev pub HasPlace : List Cell → ℕ → Type 0
-HasPlace sent place = Has (λ c. c.place ≡ place) sent
-
 pub record PlaceHolds (v : View) (sent : List Cell) (edge at : ℕ) (bytes : List ℕ) : Type 0 where
   pub each : From (IsSent (HasPlace sent) v) at bytes
   pub within : edge + length bytes ≤ length sent

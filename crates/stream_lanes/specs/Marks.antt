@@ -3,7 +3,7 @@ use Rattle.std.specs.Prelude.{ℕ, zero, suc, ◌≡◌, ◌≤◌, Bool, true, 
 use Rattle.send_book.specs.declared.mark.ByteMark.{ByteMark}
 use Rattle.send_book.specs.declared.mark.ByteMark.TheVariants.{Acked, Held, Free}
 use Rattle.send_book.specs.Tried.{no_paths, contains}
-use Rattle.send_book.specs.Marks.{is_acked}
+use Rattle.send_book.specs.Marks.{is_acked, has_tried, is_held_rightly}
 
 -- the byte is acknowledged, or this path has tried it: it is granted to the path no more
 abbrev pub spent : ℕ → Option ByteMark → Bool
@@ -14,6 +14,15 @@ spent path (Some (Free tried)) = contains path tried
 
 abbrev pub spent_count : ℕ → List ByteMark → ℕ
 spent_count path marks = count_by (λ m. spent path (Some m)) marks
+
+-- the byte isn't acknowledged, and this path has tried it
+abbrev pub tried : ℕ → Option ByteMark → Bool
+tried path None = false
+tried path (Some mark) = has_tried path mark
+
+-- the path that holds the byte is among those that tried it
+abbrev pub IsHeldRightly : ByteMark → Type 0
+IsHeldRightly mark = is_held_rightly mark ≡ true
 
 -- the first n bytes are acknowledged, and no other
 abbrev pub AreAcked : ℕ → List ByteMark → Type 0
