@@ -23,11 +23,11 @@ use Rattle.stream_lanes.specs.Marks.{spent, spent_count, AreNew, tried}
 use Rattle.stream_lanes.specs.Lane.{Cell, Mapping, Lane}
 use Rattle.stream_lanes.specs.Moves.{Flags, takes_grant, later_end, cells_from, places_of}
 use Rattle.stream_lanes.specs.View.{view_of, end_of, IsEnd}
-use Rattle.stream_lanes.specs.Holding.{SendHolds, CellFits, RecordHolds, AloneHolds, IsFin, IsRight, LaneHolds, HasPlace}
+use Rattle.stream_lanes.specs.Holding.{SendHolds, CellFits, AloneHolds, IsFin, IsRight, LaneHolds, HasPlace}
 use Rattle.stream_lanes.proofs.Lists.{Every-map, Every-append, Every-push, From-append, Cells-map, in_drop, in_take, item_at, Has-more}
 use Rattle.stream_lanes.proofs.Bytes.{byte_more, right_more, honest_more, length-cells_from, in_cells_from, places-cells_from, has_place}
 use Rattle.stream_lanes.proofs.MarkLists.{count_within, grant_counts, grant_first, grant_is_next, position_within, AreNew-given, given_outside}
-use Rattle.stream_lanes.proofs.Later.{But, record_later, modes_later, ends_later, fin_later, heard_later, receiver_later, cells_later}
+use Rattle.stream_lanes.proofs.Later.{But, modes_later, ends_later, fin_later, heard_later, receiver_later, cells_later}
 use Rattle.stream_lanes.proofs.Views.{AllIn, all_in_is, is_end}
 use Rattle.stream_lanes.proofs.Views.AllIn.{missing, complete}
 use Rattle.stream_lanes.proofs.Sends.{SendStep}

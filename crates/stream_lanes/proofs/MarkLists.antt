@@ -365,15 +365,15 @@ tried-acked path place next c ms c_is is = at (slice_get (replicate c Acked ++ d
     at None there e = cc
     at (Some m) there e = ⊎_elim
         (λ left.
-            let acked : Acked ≡ m = in_replicate c Acked place m left in
-            absurd (both_ways _ (ap (has_tried path) (sym acked)) e))
+        let acked : Acked ≡ m = in_replicate c Acked place m left in
+        absurd (both_ways _ (ap (has_tried path) (sym acked)) e))
         (λ right.
-            let size : length (replicate c Acked) ≡ c = length-replicate c Acked in
-            let past : c ≤ place = subst (λ k. k ≤ place) size right.0 in
-            let inside = slice_get_within (drop next ms) _ m right.1 in
-            let here : next + (place - length (replicate c Acked)) ≡ place = omega (arith, past, size, c_is, inside, length-drop next ms) in
-            let old : slice_get ms place ≡ Some m = in_drop next ms (place - length (replicate c Acked)) place m (sym here) right.1 in
-            ap (tried path) old ∙ e)
+        let size : length (replicate c Acked) ≡ c = length-replicate c Acked in
+        let past : c ≤ place = subst (λ k. k ≤ place) size right.0 in
+        let inside = slice_get_within (drop next ms) _ m right.1 in
+        let here : next + (place - length (replicate c Acked)) ≡ place = omega (arith, past, size, c_is, inside, length-drop next ms) in
+        let old : slice_get ms place ≡ Some m = in_drop next ms (place - length (replicate c Acked)) place m (sym here) right.1 in
+        ap (tried path) old ∙ e)
         (in_append (replicate c Acked) (drop next ms) place m there)
 
 contains-insert_other : (path k : ℕ) (paths : List Bool) → (k ≡ path → ⊥) → contains k (insert path paths) ≡ contains k paths

@@ -1,12 +1,12 @@
 -- The promises, from what holds of a connection.
-use Rattle.std.proofs.Common.{◌≡◌, refl, sym, ◌∙◌, ap, ℕ, zero, suc, ◌+◌, ◌<◌, ◌≤◌, true, not, List, [], ◌∷◌, ◌++◌, length, drop, Some, arith, ◌-◌, ◌^◌}
-use Rattle.std.proofs.lemmas.Bool.{or_left, or_right, not-true, true≢false}
+use Rattle.std.proofs.Common.{◌≡◌, refl, sym, ◌∙◌, ap, ℕ, zero, suc, ◌+◌, ◌<◌, ◌≤◌, true, not, List, [], ◌∷◌, ◌++◌, length, drop, Some, arith, ◌-◌, ◌^◌, replicate, take}
+use Rattle.std.proofs.lemmas.Bool.{or_left, or_right, not-true, true≢false, and_from}
 use Rattle.std.proofs.lemmas.List.{take-append-drop, take_all}
 use Rattle.std.proofs.lemmas.Option.{slice_get_within, same_Some}
-use Rattle.std.specs.List.{slice_get}
+use Rattle.std.specs.List.{slice_get, list_all}
 use Rattle.send_book.specs.declared.mark.ByteMark.{ByteMark}
-use Rattle.send_book.specs.declared.mark.ByteMark.TheVariants.{Acked}
-use Rattle.send_book.specs.Marks.{is_acked}
+use Rattle.send_book.specs.declared.mark.ByteMark.TheVariants.{Acked, Held, Free}
+use Rattle.send_book.specs.Marks.{is_acked, is_held_rightly}
 use Rattle.send_book.specs.State.{acked_len}
 use Rattle.reassembly_book.specs.State.{received}
 use Rattle.stream_lanes.specs.Marks.{AreAcked}
@@ -17,7 +17,7 @@ use Rattle.stream_lanes.specs.Duo.{Duo, flags_ab, flags_ba, after_events, openin
 use Rattle.stream_lanes.specs.Duo.Event.{ToB, ToA, FallA, FallB, BeginJoin, SendJoin, HearJoin}
 use Rattle.stream_lanes.specs.View.{view_of}
 use Rattle.stream_lanes.specs.Holding.{CellFits, IsRight, LaneHolds, DirectionHolds, Holds}
-use Rattle.stream_lanes.specs.Laws.{Always, BothWays, ReadsAPrefix, AcknowledgesReceivedBytes, EndsAtTheWhole, NothingFollowsTheEnd, AbortedIsNoEnd, EachEventIsOneStep, NothingIsRefused, MappingIsShort, LaneIsShort, PathsAreShort, IsNear, TellsNear, ShortStreamsAreNear, IsPlain, FallsAreRight}
+use Rattle.stream_lanes.specs.Laws.{Always, BothWays, ReadsAPrefix, AcknowledgesReceivedBytes, EndsAtTheWhole, NothingFollowsTheEnd, AbortedIsNoEnd, EachEventIsOneStep, NothingIsRefused, MappingIsShort, LaneIsShort, PathsAreShort, IsNear, TellsNear, ShortStreamsAreNear, IsPlain, FallsAreRight, RecordsAgree}
 use Rattle.stream_lanes.specs.Laws.StepsOrStays.{stays}
 use Rattle.stream_lanes.proofs.Lists.{Every-map, IfSome-map, in_map}
 use Rattle.stream_lanes.proofs.MarkLists.{count_within}
@@ -39,6 +39,37 @@ reads_prefix f d h = record {
 
 pub reads_a_prefix : Always (BothWays ReadsAPrefix)
 reads_a_prefix paths buffer capacity events = both reads_prefix (after_events events (opening paths buffer capacity)) (all_held paths buffer capacity events)
+
+-- the book's own words for its marks
+first_acked : (n : ℕ) (ms : List ByteMark) → AreAcked n ms → take n ms ≡ replicate n Acked
+first_acked zero ms are = refl
+first_acked (suc n) [] are = absurd (omega (arith, are))
+first_acked (suc n) (m ∷ ms) are =
+    let rest = first_acked n ms are.1 in
+    rw (is_the_acked m are.0) (ap (λ xs. Acked ∷ xs) rest)
+  where
+    is_the_acked : (m : ByteMark) → is_acked m ≡ true → m ≡ Acked
+    is_the_acked Acked e = refl
+    is_the_acked (Held path paths) e = cc
+    is_the_acked (Free paths) e = cc
+
+all_held_rightly : (ms : List ByteMark) → ((i : ℕ) (m : ByteMark) → slice_get ms i ≡ Some m → is_held_rightly m ≡ true) → list_all is_held_rightly ms ≡ true
+all_held_rightly [] each = refl
+all_held_rightly (m ∷ ms) each = and_from (is_held_rightly m) (list_all is_held_rightly ms) (each 0 m refl) (all_held_rightly ms (λ i x e. each (suc i) x e))
+
+pub records_fit : (f : Flags) (d : Direction) → DirectionHolds f d → RecordsAgree d
+records_fit f d h = record {
+  tile = record {
+    whole = h.send.whole;
+    acked_first = first_acked (acked_len d.send.marks) d.send.marks h.send.first;
+    held = all_held_rightly d.send.marks (λ i m e. h.send.held.each i m e);
+  };
+  bytes = λ path p there. Every-map (λ c fits. (fits.byte, fits.spent)) (h.lanes.each path path p (omega arith) there).record_of.cells;
+  all = λ path p there. (h.lanes.each path path p (omega arith) there).record_of.tried;
+}
+
+pub records_agree : Always (BothWays RecordsAgree)
+records_agree paths buffer capacity events = both records_fit (after_events events (opening paths buffer capacity)) (all_held paths buffer capacity events)
 
 acked_below : (n place : ℕ) (ms : List ByteMark) → AreAcked n ms → slice_get ms place ≡ Some Acked → place < n
 acked_below n place [] are is = cc

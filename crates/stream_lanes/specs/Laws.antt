@@ -8,7 +8,7 @@ use Rattle.pipe_model.specs.Prefix.{IsPrefix}
 use Rattle.send_book.specs.declared.call.SendCall.TheVariants.{AckIn}
 use Rattle.send_book.specs.declared.call.SendReply.{SendReply}
 use Rattle.send_book.specs.declared.call.SendReply.TheVariants.{AckFuture}
-use Rattle.send_book.specs.State.{acked_len}
+use Rattle.send_book.specs.State.{acked_len, Tile}
 use Rattle.send_book.specs.Laws.{IsAckedAt}
 use Rattle.send_book.specs.Steps.{reply_to as send_reply}
 use Rattle.reassembly_book.specs.declared.call.ReassemblyCall.TheVariants.{Place, Fin}
@@ -17,6 +17,8 @@ use Rattle.reassembly_book.specs.declared.call.ReassemblyReply.TheVariants.{Beyo
 use Rattle.reassembly_book.specs.State.{received}
 use Rattle.reassembly_book.specs.Steps.{reply_to as arrival_reply}
 use Rattle.stream_lanes.specs.Words.{Every, From}
+use Rattle.stream_lanes.specs.Marks.{spent, tried}
+use Rattle.stream_lanes.specs.Holding.{HasPlace}
 use Rattle.stream_lanes.specs.Lane.{Mapping, DataCopy, Ask, Lane}
 use Rattle.stream_lanes.specs.Lane.Ask.{AskAckIn, AskPlace, AskFin}
 use Rattle.stream_lanes.specs.Moves.{Move, clashes}
@@ -32,6 +34,15 @@ Always P = (paths buffer capacity : ℕ) (events : List Event) → P (after_even
 -- P holds of both directions
 abbrev pub BothWays : (Direction → Type 0) → Duo → Type 0
 BothWays P w = P w.ab × P w.ba
+
+-- The marks of a send book tile: one a byte, the acknowledged first, each holder among those that tried its byte. Each byte
+-- of a path's record is the written one at its place, and acknowledged or tried by the path; and the record has each byte
+-- that the path tried.
+pub record RecordsAgree (d : Direction) : Type 0 where
+  pub tile : Tile d.send
+  pub bytes : (path : ℕ) (p : Lane) → slice_get d.lanes path ≡ Some p
+      → Every (λ c. (slice_get d.send.written c.place ≡ Some c.byte) × (spent path (slice_get d.send.marks c.place) ≡ true)) p.sent
+  pub all : (path : ℕ) (p : Lane) → slice_get d.lanes path ≡ Some p → (place : ℕ) → tried path (slice_get d.send.marks place) ≡ true → HasPlace p.sent place
 
 -- what the reader got is a prefix of what the writer wrote
 abbrev pub ReadsAPrefix : Direction → Type 0

@@ -1,7 +1,7 @@
 ghost use Rattle.std.specs.Prelude.{◌≡◌, ◌<◌, ◌^◌, ◌-◌, ℕ, true, false};
 ghost use Rattle.send_book.specs.State.{acked_len};
 ghost use Rattle.stream_lanes.specs.Holding.{Holds};
-ghost use Rattle.stream_lanes.specs.Laws.{Always, BothWays, ReadsAPrefix, AcknowledgesReceivedBytes, EndsAtTheWhole, NothingFollowsTheEnd, AbortedIsNoEnd, EachEventIsOneStep, NothingIsRefused, PathsAreShort, ShortStreamsAreNear, FallsAreRight};
+ghost use Rattle.stream_lanes.specs.Laws.{Always, BothWays, ReadsAPrefix, AcknowledgesReceivedBytes, EndsAtTheWhole, NothingFollowsTheEnd, AbortedIsNoEnd, EachEventIsOneStep, NothingIsRefused, PathsAreShort, ShortStreamsAreNear, RecordsAgree, FallsAreRight};
 ghost use Rattle.stream_lanes.specs.Example.{text, after_the_run, after_the_plain_run};
 
 /// A law: at every moment, in both directions, what the reader got is a prefix of what the writer wrote.
@@ -35,6 +35,12 @@ pub fn each_event_is_one_pipe_step_or_none()
 /// A law: no book answers `Beyond`, `FinClash` or `AckFuture`, and no mapping clashes with one learned before.
 pub fn nothing_is_refused()
     ensures { Always (BothWays NothingIsRefused) }
+{}
+
+/// A law: at every moment the marks of a send book tile, and the records of the paths agree with them: each byte of a
+/// record is the written one at its place, and each byte that a path tried is in its record.
+pub fn records_agree_with_the_book()
+    ensures { Always (BothWays RecordsAgree) }
 {}
 
 /// A law: a path has no more bytes than were written, since each byte was granted to it once. So where fewer than

@@ -10,8 +10,8 @@
 mod laws;
 
 pub use laws::{
-    a_plain_run_delivers, a_run_delivers, acknowledged_bytes_were_received, an_aborted_reader_is_told_no_end,
-    each_event_is_one_pipe_step_or_none, falls_are_right, nothing_is_refused,
-    paths_are_as_short_as_the_stream, readers_get_a_prefix, the_end_is_told_at_the_whole,
-    what_holds_stays,
+    a_plain_run_delivers, a_run_delivers, acknowledged_bytes_were_received,
+    an_aborted_reader_is_told_no_end, each_event_is_one_pipe_step_or_none, falls_are_right,
+    nothing_is_refused, paths_are_as_short_as_the_stream, readers_get_a_prefix,
+    records_agree_with_the_book, the_end_is_told_at_the_whole, what_holds_stays,
 };
