@@ -25,11 +25,11 @@ use Rattle.send_book.proofs.Lists.{slice_get-append_left, slice_get-append_right
 use Rattle.send_book.proofs.Decisions.{MayTake, decision-MayTake}
 
 -- A test of the mark at a place, that a grant and a return keep and an acknowledgement meets.
-record Stays (test : Option ByteMark → Bool) : Type 0 where
-  past : test None ≡ false
-  acked : test (Some Acked) ≡ true
-  given : (path : ℕ) (o : Option ByteMark) → test o ≡ true → test (option_map (given path) o) ≡ true
-  returned : (path : ℕ) (o : Option ByteMark) → test o ≡ true → test (option_map (returned path) o) ≡ true
+pub record Stays (test : Option ByteMark → Bool) : Type 0 where
+  pub past : test None ≡ false
+  pub acked : test (Some Acked) ≡ true
+  pub given : (path : ℕ) (o : Option ByteMark) → test o ≡ true → test (option_map (given path) o) ≡ true
+  pub returned : (path : ℕ) (o : Option ByteMark) → test o ≡ true → test (option_map (returned path) o) ≡ true
 
 module _ (test : Option ByteMark → Bool) (stays : Stays test) (place : ℕ) where
   within : (marks : List ByteMark) → test (slice_get marks place) ≡ true → place < length marks
@@ -80,7 +80,7 @@ module _ (test : Option ByteMark → Bool) (stays : Stays test) (place : ℕ) wh
   same_marks true one other h k = h
   same_marks false one other h k = k
 
-  stays-after_call : (call : SendCall) (b : Sending) → test (slice_get b.marks place) ≡ true
+  pub stays-after_call : (call : SendCall) (b : Sending) → test (slice_get b.marks place) ≡ true
       → test (slice_get (after_call b call).marks place) ≡ true
   stays-after_call (Write bytes) b h = after_a_write _ _ _ b h
   stays-after_call Close b h = same_marks b.aborted b (record b { closed = true }) h h
@@ -130,7 +130,7 @@ acknowledged_stays calls b place acked =
     acked_there-Acked _ (stays-after_calls acked_there acked_there-stays place calls b (ap acked_there acked))
 
 -- acknowledged, or tried by this path
-abbrev spent : ℕ → Option ByteMark → Bool
+abbrev pub spent : ℕ → Option ByteMark → Bool
 spent path None = false
 spent path (Some Acked) = true
 spent path (Some (Held holder tried)) = contains path tried
@@ -141,7 +141,7 @@ spent-if : (path : ℕ) (b : Bool) (holder : ℕ) (tried : List Bool) → contai
 spent-if path true holder tried h = h
 spent-if path false holder tried h = h
 
-spent-stays : (path : ℕ) → Stays (spent path)
+pub spent-stays : (path : ℕ) → Stays (spent path)
 spent-stays path = record {
   past = refl;
   acked = refl;
@@ -158,13 +158,13 @@ spent-stays path = record {
 }
 
 -- what is spent is not free for the path
-spent-not_free : (path : ℕ) (mark : ByteMark) → spent path (Some mark) ≡ true → is_free_for path mark ≡ false
+pub spent-not_free : (path : ℕ) (mark : ByteMark) → spent path (Some mark) ≡ true → is_free_for path mark ≡ false
 spent-not_free path Acked h = refl
 spent-not_free path (Held holder tried) h = refl
 spent-not_free path (Free tried) h = rw h refl
 
 -- what is free for the path is spent once it is given
-spent-given : (path : ℕ) (mark : ByteMark) → is_free_for path mark ≡ true → spent path (Some (given path mark)) ≡ true
+pub spent-given : (path : ℕ) (mark : ByteMark) → is_free_for path mark ≡ true → spent path (Some (given path mark)) ≡ true
 spent-given path Acked h = cc
 spent-given path (Held holder tried) h = cc
 spent-given path (Free tried) h = contains-insert path tried

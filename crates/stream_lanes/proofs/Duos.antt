@@ -1,0 +1,198 @@
+-- Every list of events keeps what holds of a connection.
+use Rattle.std.proofs.Common.{◌≡◌, refl, sym, ap, subst, ℕ, Bool, true, false, not, ◌&&◌, ◌||◌, if◌then◌else◌, ⊎_elim, List, [], ◌∷◌, arith}
+use Rattle.std.proofs.lemmas.Bool.{or_cases, or_left, or_right, and_parts, false≢true, both_ways, not-true}
+use Rattle.std.proofs.lemmas.List.{append-nil}
+use Rattle.send_book.specs.State.{Sending}
+use Rattle.reassembly_book.specs.State.{Arriving}
+use Rattle.stream_lanes.specs.Lane.{new_lane}
+use Rattle.stream_lanes.specs.Moves.{Flags}
+use Rattle.stream_lanes.specs.Streams.{Direction, opening_direction}
+use Rattle.stream_lanes.specs.Duo.{Modes, Duo, Event, falls_a, falls_b, begins_join, sends_join, hears_join, flags_ab, flags_ba, after_event, after_events, opening}
+use Rattle.stream_lanes.specs.Duo.Event.{ToB, ToA, FallA, FallB, BeginJoin, SendJoin, HearJoin}
+use Rattle.stream_lanes.specs.View.{view_of}
+use Rattle.stream_lanes.specs.Holding.{LaneHolds, DirectionHolds, ModesHold, Holds}
+use Rattle.stream_lanes.proofs.Lists.{Every-nil, in_replicate}
+use Rattle.stream_lanes.proofs.Later.{Later, Anyone, arrived_later}
+use Rattle.stream_lanes.proofs.Directions.{after_held, lanes_later}
+
+-- what the modes may do as they go on: a join stays answered, and a side that fell stays so
+pub record FlagsGo (f g : Flags) : Type 0 where
+  pub answered : f.answered ≡ true → g.answered ≡ true
+  pub sender : f.sender ≡ true → g.sender ≡ true
+  pub receiver : f.receiver ≡ true → g.receiver ≡ true
+
+-- the view under other flags
+flags_later : (f g : Flags) (s : Sending) (b : Arriving) → FlagsGo f g → Later Anyone (view_of f s b) (view_of g s b)
+flags_later f g s b go = record {
+  more = [];
+  written = sym (append-nil s.written);
+  spent = λ path place is. is;
+  untried = λ path q place is. is;
+  news = λ path q first alone n reach new. new;
+  end = λ e is. is;
+  acked = omega arith;
+  confirmed = omega arith;
+  room = omega arith;
+  received = omega arith;
+  next = omega arith;
+  edge = omega arith;
+  alone = λ is. unanswered f.answered refl is;
+  fallen = λ is. ⊎_elim (λ sends. or_left g.sender g.receiver (go.sender sends)) (λ receives. or_right g.sender g.receiver (go.receiver receives)) (or_cases f.sender f.receiver is);
+}
+  where
+    unanswered : (c : Bool) → f.answered ≡ c → not g.answered ≡ true → not f.answered ≡ true
+    unanswered false same is = ap not same
+    unanswered true same is = absurd (both_ways _ (not-true g.answered is) (go.answered same))
+
+-- a direction when the modes go on
+direction_later : (f g : Flags) (d : Direction) → FlagsGo f g → ((view_of f d.send d.arrived).fallen ≡ true → (view_of f d.send d.arrived).alone ≡ true)
+    → DirectionHolds f d → DirectionHolds g d
+direction_later f g d go fallen h =
+    let l = flags_later f g d.send d.arrived go in
+    record {
+      send = record { whole = h.send.whole; first = h.send.first; held = h.send.held; acked = h.send.acked; edge = h.send.edge; fin = h.send.fin };
+      arrived = arrived_later l d.arrived (λ place is. is) h.arrived;
+      reader = record { out = h.reader.out; told = h.reader.told; once = h.reader.once };
+      lanes = lanes_later f d h fallen l;
+    }
+
+-- a side that fell is one that answered no join, and neither did the other
+pub fallen_ab : (m : Modes) → ModesHold m → (m.plain_a || m.plain_b) ≡ true → not m.answered ≡ true
+fallen_ab m h is = ⊎_elim (λ a. at m.answered refl (h.a a)) (λ b. ap not (h.b b)) (or_cases m.plain_a m.plain_b is)
+  where
+    at : (c : Bool) → m.answered ≡ c → m.begun ≡ false → not m.answered ≡ true
+    at false same none = ap not same
+    at true same none = absurd (both_ways _ none (h.answered same))
+
+fallen_ba : (m : Modes) → ModesHold m → (m.plain_b || m.plain_a) ≡ true → not m.answered ≡ true
+fallen_ba m h is = fallen_ab m h (⊎_elim (λ b. or_right m.plain_a m.plain_b b) (λ a. or_left m.plain_a m.plain_b a) (or_cases m.plain_b m.plain_a is))
+
+-- each rule of the modes
+record ModesGo (m n : Modes) : Type 0 where
+  holds : ModesHold n
+  ab : FlagsGo (flags_ab m) (flags_ab n)
+  ba : FlagsGo (flags_ba m) (flags_ba n)
+
+modes_stay : (m : Modes) → ModesHold m → ModesGo m m
+modes_stay m h = record {
+  holds = h;
+  ab = record { answered = λ is. is; sender = λ is. is; receiver = λ is. is };
+  ba = record { answered = λ is. is; sender = λ is. is; receiver = λ is. is };
+}
+
+go_if : (m : Modes) (c : Bool) (n o : Modes) → (c ≡ true → ModesGo m n) → (c ≡ false → ModesGo m o) → ModesGo m (if c then n else o)
+go_if m true n o at_true at_false = at_true refl
+go_if m false n o at_true at_false = at_false refl
+
+falls_a_goes : (m : Modes) → ModesHold m → ModesGo m (falls_a m)
+falls_a_goes m h = go_if m m.begun m (record m { plain_a = true }) (λ begun. modes_stay m h) (λ free. record {
+  holds = record { a = λ _. free; b = h.b; sent = h.sent; answered = h.answered };
+  ab = record { answered = λ is. is; sender = λ is. refl; receiver = λ is. is };
+  ba = record { answered = λ is. is; sender = λ is. is; receiver = λ is. refl };
+})
+
+falls_b_goes : (m : Modes) → ModesHold m → ModesGo m (falls_b m)
+falls_b_goes m h = go_if m m.answered m (record m { plain_b = true }) (λ answered. modes_stay m h) (λ free. record {
+  holds = record { a = h.a; b = λ _. free; sent = h.sent; answered = h.answered };
+  ab = record { answered = λ is. is; sender = λ is. is; receiver = λ is. refl };
+  ba = record { answered = λ is. is; sender = λ is. refl; receiver = λ is. is };
+})
+
+begins_goes : (m : Modes) → ModesHold m → ModesGo m (begins_join m)
+begins_goes m h = go_if m m.plain_a m (record m { begun = true }) (λ plain. modes_stay m h) (λ free. record {
+  holds = record { a = λ is. absurd (both_ways _ free is); b = h.b; sent = λ _. refl; answered = λ _. refl };
+  ab = record { answered = λ is. is; sender = λ is. is; receiver = λ is. is };
+  ba = record { answered = λ is. is; sender = λ is. is; receiver = λ is. is };
+})
+
+sends_goes : (m : Modes) → ModesHold m → ModesGo m (sends_join m)
+sends_goes m h = go_if m m.begun (record m { join_sent = true }) m (λ begun. record {
+  holds = record { a = h.a; b = h.b; sent = λ _. begun; answered = h.answered };
+  ab = record { answered = λ is. is; sender = λ is. is; receiver = λ is. is };
+  ba = record { answered = λ is. is; sender = λ is. is; receiver = λ is. is };
+}) (λ free. modes_stay m h)
+
+hears_goes : (m : Modes) → ModesHold m → ModesGo m (hears_join m)
+hears_goes m h = go_if m (m.join_sent && not m.plain_b) (record m { answered = true }) m (λ both.
+    let parts = and_parts m.join_sent (not m.plain_b) both in
+    record {
+      holds = record { a = h.a; b = λ is. absurd (both_ways _ (not-true m.plain_b parts.1) is); sent = h.sent; answered = λ _. h.sent parts.0 };
+      ab = record { answered = λ is. refl; sender = λ is. is; receiver = λ is. is };
+      ba = record { answered = λ is. refl; sender = λ is. is; receiver = λ is. is };
+    }) (λ free. modes_stay m h)
+
+with_modes : (w : Duo) (n : Modes) → Holds w → ModesGo w.modes n → Holds (record w { modes = n })
+with_modes w n h go = record {
+  modes = go.holds;
+  ab = direction_later (flags_ab w.modes) (flags_ab n) w.ab go.ab (fallen_ab w.modes h.modes) h.ab;
+  ba = direction_later (flags_ba w.modes) (flags_ba n) w.ba go.ba (fallen_ba w.modes h.modes) h.ba;
+}
+
+pub after_event_held : (event : Event) (w : Duo) → Holds w → Holds (after_event event w)
+after_event_held (ToB event) w h = record {
+  modes = h.modes;
+  ab = after_held (flags_ab w.modes) w.ab h.ab (fallen_ab w.modes h.modes) event;
+  ba = h.ba;
+}
+after_event_held (ToA event) w h = record {
+  modes = h.modes;
+  ab = h.ab;
+  ba = after_held (flags_ba w.modes) w.ba h.ba (fallen_ba w.modes h.modes) event;
+}
+after_event_held FallA w h = with_modes w (falls_a w.modes) h (falls_a_goes w.modes h.modes)
+after_event_held FallB w h = with_modes w (falls_b w.modes) h (falls_b_goes w.modes h.modes)
+after_event_held BeginJoin w h = with_modes w (begins_join w.modes) h (begins_goes w.modes h.modes)
+after_event_held SendJoin w h = with_modes w (sends_join w.modes) h (sends_goes w.modes h.modes)
+after_event_held HearJoin w h = with_modes w (hears_join w.modes) h (hears_goes w.modes h.modes)
+
+pub after_events_held : (events : List Event) (w : Duo) → Holds w → Holds (after_events events w)
+after_events_held [] w h = h
+after_events_held (event ∷ events) w h = after_events_held events (after_event event w) (after_event_held event w h)
+
+-- before the first event
+new_lane_held : (f : Flags) (buffer capacity path : ℕ) → LaneHolds (view_of f (opening_direction 0 buffer capacity).send (opening_direction 0 buffer capacity).arrived) path new_lane
+new_lane_held f buffer capacity path = record {
+  record_of = record { cells = Every-nil _; tried = λ place is. cc; once = omega arith };
+  alone = λ _. record { identity = record { each = λ i n x n_is e. cc }; others = λ _. refl; untouched = λ _ place mark above e. cc };
+  modes = record { joined = λ is. absurd (false≢true is); sender = λ is. absurd (false≢true is); receiver = λ is. absurd (false≢true is) };
+  bytes = record {
+    granted = Every-nil _;
+    honest = Every-nil _;
+    within = omega arith;
+    came = record { each = λ i n x n_is e. cc };
+    right = Every-nil _;
+    acked = Every-nil _;
+  };
+  ends = record { told = tt; named = Every-nil _ };
+  fins = Every-nil _;
+  heard = record { below = omega arith; fin = λ is. absurd (false≢true is) };
+  receiver = record {
+    told = record { covers = omega arith; reaches = omega arith };
+    passed = λ _. omega arith;
+    fin = λ _ is. absurd (false≢true is);
+    fresh = λ _ _. omega arith;
+    copies = Every-nil _;
+  };
+  ask = tt;
+}
+
+opening_direction_held : (f : Flags) (paths buffer capacity : ℕ) → DirectionHolds f (opening_direction paths buffer capacity)
+opening_direction_held f paths buffer capacity = record {
+  send = record { whole = refl; first = refl; held = Every-nil _; acked = omega arith; edge = omega arith; fin = λ is. absurd (false≢true is) };
+  arrived = record { top = omega arith; cells = record { each = λ i n x n_is e. cc }; end = tt; before = λ place below. absurd (omega (arith, below)) };
+  reader = record { out = refl; told = λ is. absurd (false≢true is); once = λ is. refl };
+  lanes = record {
+    each = λ i path p path_is e. subst (LaneHolds (view_of f (opening_direction 0 buffer capacity).send (opening_direction 0 buffer capacity).arrived) path) (in_replicate paths new_lane i p e)
+        (new_lane_held f buffer capacity path);
+  };
+}
+
+pub opening_held : (paths buffer capacity : ℕ) → Holds (opening paths buffer capacity)
+opening_held paths buffer capacity = record {
+  modes = record { a = λ is. absurd (false≢true is); b = λ is. refl; sent = λ is. absurd (false≢true is); answered = λ is. absurd (false≢true is) };
+  ab = opening_direction_held (flags_ab (opening paths buffer capacity).modes) paths buffer capacity;
+  ba = opening_direction_held (flags_ba (opening paths buffer capacity).modes) paths buffer capacity;
+}
+
+pub all_held : (paths buffer capacity : ℕ) (events : List Event) → Holds (after_events events (opening paths buffer capacity))
+all_held paths buffer capacity events = after_events_held events (opening paths buffer capacity) (opening_held paths buffer capacity)

@@ -1,0 +1,237 @@
+-- Each move of a lane by itself keeps what holds of it.
+use Rattle.std.proofs.Common.{◌≡◌, refl, subst, ℕ, ◌+◌, ◌≤◌, max, Bool, true, false, ◌||◌, ◌==◌, if◌then◌else◌, ◌⊎◌, ⊎_elim, [], ◌∷◌, ◌++◌, length, Option, Some, None}
+use Rattle.std.proofs.lemmas.Bool.{or_cases, eqb-true, both_ways}
+use Rattle.std.specs.Option.{IfSome}
+use Rattle.std.specs.List.{slice_get}
+use Rattle.stream_lanes.specs.Words.{Every}
+use Rattle.stream_lanes.specs.Marks.{AreAcked}
+use Rattle.stream_lanes.specs.Lane.{Mapping, DataCopy, AckCopy, Ask, Lane}
+use Rattle.stream_lanes.specs.Lane.Ask.{Nothing, AskGrant, AskAckIn, AskPlace, AskFin, AskAckOut}
+use Rattle.stream_lanes.specs.Moves.{Flags, known, piece_of, clashes, hears, sends_piece, keeps, learns_mapping, learns, hears_data_fin, hears_fin}
+use Rattle.stream_lanes.specs.View.{View, IsEnd}
+use Rattle.stream_lanes.specs.Holding.{IsAll, IsAck, IsAckCopy, AskHolds, LaneHolds, IsRight}
+use Rattle.stream_lanes.proofs.Lists.{Every-nil, Every-append, Every-push, in_one}
+use Rattle.stream_lanes.proofs.Bytes.{Cells-merged, Cells-by_place, From-take, part_is_honest, part_within}
+
+-- What holds of a view by itself.
+pub record ViewFits (v : View) : Type 0 where
+  pub size : length v.marks ≡ length v.written
+  pub first : AreAcked v.acked v.marks
+  pub end : (e : ℕ) → IsEnd v.end e → e ≡ length v.written
+  pub received : v.received ≤ length v.written
+  pub next : v.received ≤ v.next
+  pub room : v.room ≤ v.edge
+  pub whole : (e : ℕ) → IsEnd v.end e → e ≤ v.received → (v.next ≡ v.received + 1) × (v.edge ≡ v.room + 1)
+  pub confirmed : (v.confirmed ≤ v.acked) ⊎ IsAll v
+  pub fallen : v.fallen ≡ true → v.alone ≡ true
+
+pub record FlagsFit (f : Flags) (v : View) : Type 0 where
+  pub answered : f.answered ≡ true → v.alone ≡ false
+  pub sender : f.sender ≡ true → v.fallen ≡ true
+  pub receiver : f.receiver ≡ true → v.fallen ≡ true
+
+module _ (v : View) (path : ℕ) where
+  pub held_if : (c : Bool) (p q : Lane) → (c ≡ true → LaneHolds v path q) → LaneHolds v path p → LaneHolds v path (if c then q else p)
+  held_if true p q allowed h = allowed refl
+  held_if false p q allowed h = h
+
+  pub with_ask : (p : Lane) (a : Ask) → AskHolds v p.sent p.opened p.edge a → LaneHolds v path p → LaneHolds v path (record p { asking = a })
+  with_ask p a fits h = record {
+    record_of = h.record_of;
+    alone = h.alone;
+    modes = h.modes;
+    bytes = h.bytes;
+    ends = h.ends;
+    fins = h.fins;
+    heard = h.heard;
+    receiver = h.receiver;
+    ask = fits;
+  }
+
+  pub open_held : (f : Flags) (p : Lane) → FlagsFit f v → LaneHolds v path p → LaneHolds v path (if f.answered || path == 0 then record p { opened = true } else p)
+  open_held f p flags h = held_if (f.answered || path == 0) p (record p { opened = true }) (λ c. record {
+    record_of = h.record_of;
+    alone = h.alone;
+    modes = record {
+      joined = λ _ alone. ⊎_elim (λ answered. absurd (both_ways _ (flags.answered answered) alone)) (λ zero. eqb-true path 0 zero) (or_cases f.answered (path == 0) c);
+      sender = h.modes.sender;
+      receiver = h.modes.receiver;
+    };
+    bytes = h.bytes;
+    ends = h.ends;
+    fins = h.fins;
+    heard = h.heard;
+    receiver = h.receiver;
+    ask = opened_ask p.asking h.ask;
+  }) h
+    where
+      opened_ask : (a : Ask) → AskHolds v p.sent p.opened p.edge a → AskHolds v p.sent true p.edge a
+      opened_ask Nothing fits = fits
+      opened_ask (AskGrant max standby) fits = (refl, fits.1)
+      opened_ask (AskAckIn next window) fits = fits
+      opened_ask (AskPlace at bytes) fits = fits
+      opened_ask (AskFin at) fits = fits
+      opened_ask AskAckOut fits = fits
+
+  pub look_at_sender_held : (f : Flags) (p : Lane) → FlagsFit f v → LaneHolds v path p → LaneHolds v path (record p { sender_plain = f.sender })
+  look_at_sender_held f p flags h = record {
+    record_of = h.record_of;
+    alone = h.alone;
+    modes = record { joined = h.modes.joined; sender = flags.sender; receiver = h.modes.receiver };
+    bytes = h.bytes;
+    ends = h.ends;
+    fins = h.fins;
+    heard = h.heard;
+    receiver = h.receiver;
+    ask = h.ask;
+  }
+
+  pub look_at_receiver_held : (f : Flags) (p : Lane) → FlagsFit f v → LaneHolds v path p → LaneHolds v path (record p { receiver_plain = f.receiver })
+  look_at_receiver_held f p flags h = record {
+    record_of = h.record_of;
+    alone = h.alone;
+    modes = record { joined = h.modes.joined; sender = h.modes.sender; receiver = flags.receiver };
+    bytes = h.bytes;
+    ends = h.ends;
+    fins = h.fins;
+    heard = h.heard;
+    receiver = h.receiver;
+    ask = h.ask;
+  }
+
+  pub hear_ack_held : (o : Option AckCopy) (copy : ℕ) (p : Lane) → ViewFits v → slice_get p.acks copy ≡ o → LaneHolds v path p → LaneHolds v path (hears o p)
+  hear_ack_held None copy p fits is h = h
+  hear_ack_held (Some a) copy p fits is h =
+      with_ask p (AskAckIn (if p.sender_plain then a.sub else a.next) a.window) (by_mode p.sender_plain (λ plain. fits.fallen (h.modes.sender plain))) h
+    where
+      copy_fits : IsAckCopy v a
+      copy_fits = h.receiver.copies.each copy a is
+
+      by_mode : (plain : Bool) → (plain ≡ true → v.alone ≡ true) → IsAck v (if plain then a.sub else a.next) a.window
+      by_mode true alone = copy_fits.subflow (alone refl)
+      by_mode false alone = copy_fits.stream
+
+  pub send_piece_held : (mapped : Bool) (o : Option Mapping) (piece : ℕ) (p : Lane) → slice_get p.pieces piece ≡ o → LaneHolds v path p → LaneHolds v path (sends_piece mapped o p)
+  send_piece_held mapped None piece p is h = h
+  send_piece_held mapped (Some m) piece p is h = record {
+    record_of = h.record_of;
+    alone = h.alone;
+    modes = h.modes;
+    bytes = record {
+      granted = h.bytes.granted;
+      honest = Every-push (piece_of mapped p m) h.bytes.honest (record {
+        within = part_within p.sent m right;
+        bytes = part_is_honest p.sent m right;
+        mapping = by_mapping mapped;
+      });
+      within = h.bytes.within;
+      came = h.bytes.came;
+      right = h.bytes.right;
+      acked = h.bytes.acked;
+    };
+    ends = h.ends;
+    fins = h.fins;
+    heard = h.heard;
+    receiver = h.receiver;
+    ask = h.ask;
+  }
+    where
+      right : IsRight p.sent m
+      right = h.bytes.granted.each piece m is
+
+      by_mapping : (mapped : Bool) → IfSome (if mapped then Some m else None) (IsRight p.sent)
+      by_mapping true = right
+      by_mapping false = tt
+
+  pub send_data_fin_held : (o : Option ℕ) (p : Lane) → p.known_end ≡ o → LaneHolds v path p → LaneHolds v path (record p { data_fins = p.data_fins ++ known o })
+  send_data_fin_held o p is h = record {
+    record_of = h.record_of;
+    alone = h.alone;
+    modes = h.modes;
+    bytes = h.bytes;
+    ends = record { told = h.ends.told; named = Every-append h.ends.named (names o (subst (λ k. IfSome k (IsEnd v.end)) is h.ends.told)) };
+    fins = h.fins;
+    heard = h.heard;
+    receiver = h.receiver;
+    ask = h.ask;
+  }
+    where
+      names : (o : Option ℕ) → IfSome o (IsEnd v.end) → Every (IsEnd v.end) (known o)
+      names None told = Every-nil (IsEnd v.end)
+      names (Some e) told = record { each = λ i x is. let one = in_one e x i is in subst (IsEnd v.end) one.1 told }
+
+  pub hear_held : (count : ℕ) (o : Option DataCopy) (copy : ℕ) (p : Lane) → slice_get p.datas copy ≡ o → LaneHolds v path p → LaneHolds v path (keeps count o p)
+  hear_held count None copy p is h = h
+  hear_held count (Some d) copy p is h = record {
+    record_of = h.record_of;
+    alone = h.alone;
+    modes = h.modes;
+    bytes = record {
+      granted = h.bytes.granted;
+      honest = h.bytes.honest;
+      within = h.bytes.within;
+      came = Cells-merged h.bytes.came (Cells-by_place p.edge (From-take count (h.bytes.honest.each copy d is).bytes));
+      right = h.bytes.right;
+      acked = h.bytes.acked;
+    };
+    ends = h.ends;
+    fins = h.fins;
+    heard = h.heard;
+    receiver = h.receiver;
+    ask = h.ask;
+  }
+
+  pub learn_held : (o : Option DataCopy) (copy : ℕ) (p : Lane) → slice_get p.datas copy ≡ o → LaneHolds v path p → LaneHolds v path (learns o p)
+  learn_held None copy p is h = h
+  learn_held (Some d) copy p is h = by_mapping d.mapping (h.bytes.honest.each copy d is).mapping
+    where
+      by_mapping : (o : Option Mapping) → IfSome o (IsRight p.sent) → LaneHolds v path (learns_mapping o p)
+      by_mapping None right = h
+      by_mapping (Some m) right = by_clash (clashes m p.maps)
+        where
+          by_clash : (c : Bool) → LaneHolds v path (if c then p else record p { maps = p.maps ++ m ∷ [] })
+          by_clash true = h
+          by_clash false = record {
+            record_of = h.record_of;
+            alone = h.alone;
+            modes = h.modes;
+            bytes = record {
+              granted = h.bytes.granted;
+              honest = h.bytes.honest;
+              within = h.bytes.within;
+              came = h.bytes.came;
+              right = Every-push m h.bytes.right right;
+              acked = h.bytes.acked;
+            };
+            ends = h.ends;
+            fins = h.fins;
+            heard = h.heard;
+            receiver = h.receiver;
+            ask = h.ask;
+          }
+
+  pub hear_data_fin_held : (o : Option ℕ) (copy : ℕ) (p : Lane) → slice_get p.data_fins copy ≡ o → LaneHolds v path p → LaneHolds v path (hears_data_fin o p)
+  hear_data_fin_held None copy p is h = h
+  hear_data_fin_held (Some e) copy p is h = with_ask p (AskFin e) (h.ends.named.each copy e is) h
+
+  pub hear_fin_held : (o : Option ℕ) (copy : ℕ) (p : Lane) → slice_get p.fins copy ≡ o → LaneHolds v path p → LaneHolds v path (hears_fin o p)
+  hear_fin_held None copy p is h = h
+  hear_fin_held (Some pos) copy p is h = held_if (pos == p.edge) p (record p { fin_in = true }) (λ here.
+      let at : pos ≡ p.edge = eqb-true pos p.edge here in
+      record {
+        record_of = h.record_of;
+        alone = h.alone;
+        modes = h.modes;
+        bytes = h.bytes;
+        ends = h.ends;
+        fins = h.fins;
+        heard = h.heard;
+        receiver = record {
+          told = h.receiver.told;
+          passed = h.receiver.passed;
+          fin = λ alone _. subst (IsEnd v.end) at ((h.fins.each copy pos is).ends alone);
+          fresh = h.receiver.fresh;
+          copies = h.receiver.copies;
+        };
+        ask = h.ask;
+      }) h

@@ -1,0 +1,281 @@
+-- What a lane makes of the replies to its acknowledgement, to its bytes, to an end and to AckOut.
+use Rattle.std.proofs.Common.{◌≡◌, refl, sym, ◌∙◌, ap, subst, ℕ, zero, suc, ◌+◌, ◌-◌, ◌<◌, ◌≤◌, min, max, Bool, true, false, ◌==◌, if◌then◌else◌, is_some, ⊎_elim, List, [], ◌∷◌, ◌++◌, length, drop, map, replicate, Option, Some, None, count_by, arith}
+use Rattle.std.proofs.lemmas.Bool.{cases_lt, eqb-true, or_cases, ltb-false, true≢false}
+use Rattle.std.proofs.lemmas.Option.{slice_get_within}
+use Rattle.std.specs.List.{slice_get}
+use Rattle.std.specs.Option.{IfSome}
+use Rattle.send_book.specs.declared.call.SendCall.TheVariants.{AckIn}
+use Rattle.send_book.specs.declared.call.SendReply.TheVariants.{AckFuture}
+use Rattle.send_book.specs.declared.call.SendReply.TheVariants.{Acked as AckedBytes}
+use Rattle.send_book.specs.State.{Sending, acked_len}
+use Rattle.send_book.specs.declared.mark.ByteMark.TheVariants.{Acked}
+use Rattle.send_book.specs.Steps.{after_call as after_send, reply_to as send_reply, is_future, fin_after}
+use Rattle.send_book.proofs.Lists.{slice_get-drop}
+use Rattle.reassembly_book.specs.declared.call.ReassemblyCall.TheVariants.{Place, Fin, AckOut}
+use Rattle.reassembly_book.specs.declared.call.ReassemblyReply.TheVariants.{Placed, Beyond}
+use Rattle.reassembly_book.specs.State.{Arriving, filled, received}
+use Rattle.reassembly_book.specs.Steps.{after_call as after_arrival, reply_to as arrival_reply, by_place, merged, edge, reaches_past, clash, placed_reply, places_after, fin_clash, fin_reply_by, is_end}
+use Rattle.stream_lanes.specs.Words.{From}
+use Rattle.stream_lanes.specs.Lane.{Lane}
+use Rattle.stream_lanes.specs.Lane.Ask.{Nothing}
+use Rattle.stream_lanes.specs.Moves.{Flags, takes_ack, takes_placed, takes_fin, takes_ack_out}
+use Rattle.stream_lanes.specs.Streams.{Reader}
+use Rattle.stream_lanes.specs.View.{view_of, all_in, end_of, IsEnd}
+use Rattle.stream_lanes.specs.Holding.{SendHolds, IsSent, ArrivedHolds, PlaceHolds, LaneHolds}
+use Rattle.stream_lanes.proofs.Lists.{Cells-drop, item_at}
+use Rattle.stream_lanes.proofs.MarkLists.{AreAcked-count, AreAcked-acked, AreAcked-within}
+use Rattle.stream_lanes.proofs.Later.{Anyone, lane_later}
+use Rattle.stream_lanes.proofs.Local.{with_ask}
+use Rattle.stream_lanes.proofs.Views.{all_in_one, is_end as is_end_of}
+use Rattle.stream_lanes.proofs.Sends.{SendStep}
+use Rattle.stream_lanes.proofs.Arrivals.{ReceiveStep, not_beyond, not_clash}
+
+-- what was acknowledged counts as confirmed
+module _ (f : Flags) (s : Sending) (b : Arriving) (send : SendHolds s (view_of f s b)) (next window : ℕ) (path : ℕ) (p : Lane) where
+  confirmed_next : is_future next s ≡ false → next ≤ (view_of f (record s {
+    marks = replicate (min next (length s.marks)) Acked ++ drop next s.marks;
+    edge = max s.edge (next + window);
+    fin = fin_after next s;
+  }) b).confirmed
+  confirmed_next past = by_close s.closed refl (ltb-false _ _ past)
+    where
+      c : ℕ
+      c = min next (length s.marks)
+
+      count : acked_len (replicate (min next (length s.marks)) Acked ++ drop next s.marks) ≡ max (acked_len s.marks) c
+      count = AreAcked-count _ _ (AreAcked-acked (acked_len s.marks) next c (max (acked_len s.marks) c) s.marks refl refl send.first)
+
+      by_close : (d : Bool) → s.closed ≡ d → next ≤ length s.written + (if d then 1 else 0)
+          → next ≤ acked_len (replicate (min next (length s.marks)) Acked ++ drop next s.marks)
+          + all_in s.closed s.written (acked_len (replicate (min next (length s.marks)) Acked ++ drop next s.marks))
+      by_close false is less = omega (arith, count, less, send.whole)
+      by_close true is less = ⊎_elim
+          (λ past. omega (arith, count, past, send.whole))
+          (λ over. let one = all_in_one s.closed s.written (acked_len (replicate (min next (length s.marks)) Acked ++ drop next s.marks)) is
+          (omega (arith, count, over, send.whole, AreAcked-within (acked_len s.marks) s.marks send.first)) in
+          omega (arith, one, count, over, less, send.whole))
+          (cases_lt next (suc (length s.written)))
+
+  pub ack_held : SendStep Anyone f s (after_send s (AckIn next window)) b
+      → ((view_of f s b).alone ≡ true → path ≡ 0 → received b ≤ length p.sent) → LaneHolds (view_of f s b) path p
+      → LaneHolds (view_of f (after_send s (AckIn next window)) b) path (takes_ack next (send_reply s (AckIn next window)) p)
+  ack_held step reach h = by_future (is_future next s) refl step
+    where
+      t : Sending
+      t = record s { marks = replicate (min next (length s.marks)) Acked ++ drop next s.marks; edge = max s.edge (next + window); fin = fin_after next s }
+
+      by_future : (c : Bool) → is_future next s ≡ c → SendStep Anyone f s (if c then s else t) b
+          → LaneHolds (view_of f (if c then s else t) b) path
+          (takes_ack next (if c then AckFuture (length s.written) else AckedBytes (min next (length s.written) - acked_len s.marks) (fin_after next s)) p)
+      by_future true is step = with_ask (view_of f s b) path p Nothing tt h
+      by_future false is step =
+          let now = lane_later step.later path p tt reach h in
+          record {
+            record_of = now.record_of;
+            alone = now.alone;
+            modes = now.modes;
+            bytes = now.bytes;
+            ends = now.ends;
+            fins = now.fins;
+            heard = record {
+              below = omega (arith, now.heard.below, confirmed_next is);
+              fin = λ acked. ⊎_elim (λ old. now.heard.fin old) (λ new. step.holds.fin new) (or_cases p.fin_acked (fin_after next s) acked);
+            };
+            receiver = now.receiver;
+            ask = tt;
+          }
+
+-- as many places as are filled from the first one on
+filled_upto : (places : List (Option ℕ)) (n : ℕ) → ((i : ℕ) → i < n → (x : ℕ) × (slice_get places i ≡ Some (Some x))) → n ≤ length (filled places)
+filled_upto places zero full = omega arith
+filled_upto [] (suc n) full = let first = full 0 (omega arith) in absurd (none_there first.0 first.1)
+  where
+    none_there : (x : ℕ) → None ≡ Some (Some x) → ⊥
+    none_there x e = cc
+filled_upto (None ∷ places) (suc n) full = let first = full 0 (omega arith) in absurd (none_there first.0 first.1)
+  where
+    none_there : (x : ℕ) → ◌≡◌ {A = Option (Option ℕ)} (Some None) (Some (Some x)) → ⊥
+    none_there x e = cc
+filled_upto (Some y ∷ places) (suc n) full = omega (arith, filled_upto places n (λ i below. full (suc i) (omega (arith, below))))
+
+filled_item : (places : List (Option ℕ)) (i : ℕ) → i < length (filled places) → (x : ℕ) × (slice_get places i ≡ Some (Some x))
+filled_item [] i below = absurd (omega (arith, below))
+filled_item (None ∷ places) i below = absurd (omega (arith, below))
+filled_item (Some y ∷ places) zero below = (y, refl)
+filled_item (Some y ∷ places) (suc i) below = filled_item places i (omega (arith, below))
+
+merged_left : (xs ys : List (Option ℕ)) (i x : ℕ) → slice_get xs i ≡ Some (Some x) → slice_get (merged xs ys) i ≡ Some (Some x)
+merged_left [] ys i x e = cc
+merged_left (y ∷ xs) [] i x e = e
+merged_left (Some y ∷ xs) (z ∷ ys) zero x e = e
+merged_left (None ∷ xs) (z ∷ ys) zero x e = cc
+merged_left (Some y ∷ xs) (z ∷ ys) (suc i) x e = merged_left xs ys i x e
+merged_left (None ∷ xs) (z ∷ ys) (suc i) x e = merged_left xs ys i x e
+
+merged_right : (xs ys : List (Option ℕ)) (i x : ℕ) → slice_get ys i ≡ Some (Some x) → (y : ℕ) × (slice_get (merged xs ys) i ≡ Some (Some y))
+merged_right [] ys i x e = (x, e)
+merged_right (y ∷ xs) [] i x e = cc
+merged_right (Some y ∷ xs) (z ∷ ys) zero x e = (y, refl)
+merged_right (None ∷ xs) (z ∷ ys) zero x e = (x, e)
+merged_right (Some y ∷ xs) (z ∷ ys) (suc i) x e = merged_right xs ys i x e
+merged_right (None ∷ xs) (z ∷ ys) (suc i) x e = merged_right xs ys i x e
+
+map_item : (bytes : List ℕ) (i x : ℕ) → slice_get bytes i ≡ Some x → slice_get (map Some bytes) i ≡ Some (Some x)
+map_item [] i x e = cc
+map_item (y ∷ bytes) zero x e = ap Some e
+map_item (y ∷ bytes) (suc i) x e = map_item bytes i x e
+
+past_none : (at : ℕ) (rest : List (Option ℕ)) (i k : ℕ) → k ≡ at + i → slice_get (replicate at None ++ rest) k ≡ slice_get rest i
+past_none zero rest i k e = ap (slice_get rest) (omega (arith, e))
+past_none (suc at) rest i zero e = absurd (omega (arith, e))
+past_none (suc at) rest i (suc k) e = past_none at rest i k (omega (arith, e))
+
+by_place_item : (at : ℕ) (bytes : List ℕ) (i k x : ℕ) → k ≡ at + i → slice_get bytes i ≡ Some x → slice_get (by_place at bytes) k ≡ Some (Some x)
+by_place_item at [] i k x e is = cc
+by_place_item at (y ∷ bytes) i k x e is = past_none at (map Some (y ∷ bytes)) i k e ∙ map_item (y ∷ bytes) i x is
+
+-- bytes that join those that came without a gap are received
+placed_reach : (b : Arriving) (at : ℕ) (bytes : List ℕ) → at ≤ received b → at + length bytes ≤ b.read + length (filled (merged b.places (drop b.read (by_place at bytes))))
+placed_reach b at bytes joins = ⊎_elim (λ less. omega (arith, less)) (λ more. reaches more) (cases_lt (at + length bytes) b.read)
+  where
+    reaches : b.read ≤ at + length bytes → at + length bytes ≤ b.read + length (filled (merged b.places (drop b.read (by_place at bytes))))
+    reaches more =
+        let n : ℕ = at + length bytes - b.read in
+        let all = filled_upto (merged b.places (drop b.read (by_place at bytes))) n full in
+        omega (arith, all, more)
+      where
+        full : (i : ℕ) → i < at + length bytes - b.read → (x : ℕ) × (slice_get (merged b.places (drop b.read (by_place at bytes))) i ≡ Some (Some x))
+        full i below = ⊎_elim
+            (λ old. let there = filled_item b.places i old in (there.0, merged_left b.places (drop b.read (by_place at bytes)) i there.0 there.1))
+            (λ new.
+            let there = item_at bytes (b.read + i - at) (omega (arith, new, below, joins)) in
+            let placed : slice_get (by_place at bytes) (b.read + i) ≡ Some (Some there.0) =
+            by_place_item at bytes (b.read + i - at) (b.read + i) there.0 (omega (arith, new, joins)) there.1 in
+            merged_right b.places (drop b.read (by_place at bytes)) i there.0 (slice_get-drop b.read (by_place at bytes) i (b.read + i) refl ∙ placed))
+            (cases_lt i (length (filled b.places)))
+
+module _ (granted : ℕ → Type 0) (f : Flags) (s : Sending) (b : Arriving) (send : SendHolds s (view_of f s b)) (arrived : ArrivedHolds granted (view_of f s b) b)
+    (path : ℕ) (p : Lane) (reach : (view_of f s b).alone ≡ true → path ≡ 0 → received b ≤ length p.sent) (h : LaneHolds (view_of f s b) path p) where
+  -- the bytes are taken
+  placed_answer : (at : ℕ) (bytes : List ℕ) → From (IsSent granted (view_of f s b)) at bytes
+      → (new : ℕ) × (arrival_reply b (Place at bytes) ≡ Placed new) × (after_arrival b (Place at bytes) ≡ record b { places = places_after at bytes b })
+  placed_answer at bytes row =
+      let beyond : reaches_past (edge b) at bytes ≡ false = not_beyond granted f s b send arrived at bytes row in
+      let clash_is : clash b.known_end at bytes ≡ None = not_clash granted f s b send arrived at bytes row b.known_end arrived.end in (
+        count_by is_some (places_after at bytes b) - count_by is_some b.places,
+        ap (λ (c : Bool). if c then Beyond (edge b) else placed_reply (clash b.known_end at bytes) at bytes b) beyond ∙ ap (λ o. placed_reply o at bytes b) clash_is,
+        ap (λ (c : Bool). if (if c then false else (if is_some (clash b.known_end at bytes) then false else true)) then record b { places = places_after at bytes b } else b) beyond
+            ∙ ap (λ o. if (if is_some o then false else true) then record b { places = places_after at bytes b } else b) clash_is,
+      )
+
+  pub place_held : (at : ℕ) (bytes : List ℕ) (r : Reader) → From (IsSent granted (view_of f s b)) at bytes → PlaceHolds (view_of f s b) p.sent p.edge at bytes
+      → ReceiveStep granted f s b (after_arrival b (Place at bytes)) r
+      → LaneHolds (view_of f s (after_arrival b (Place at bytes))) path (takes_placed (length bytes) (arrival_reply b (Place at bytes)) p)
+  place_held at bytes r row ask step =
+      let answer = placed_answer at bytes row in
+      subst (λ reply. LaneHolds (view_of f s (after_arrival b (Place at bytes))) path (takes_placed (length bytes) reply p)) (sym answer.1)
+      (takes answer.0 (ap (λ (c : Arriving). received c) answer.2))
+    where
+      now : LaneHolds (view_of f s (after_arrival b (Place at bytes))) path p
+      now = lane_later step.later path p tt reach h
+
+      first_sent : (x : ℕ) (xs : List ℕ) → bytes ≡ x ∷ xs → at < length s.written
+      first_sent x xs is = slice_get_within s.written at x (row.each 0 at x (omega arith) (rw is refl)).written
+
+      ends : (bs : List ℕ) → bytes ≡ bs → (view_of f s b).alone ≡ true → IsEnd (end_of s) p.edge → IsEnd (end_of s) (p.edge + length bs)
+      ends [] is alone end = subst (IsEnd (end_of s)) (omega arith) end
+      ends (x ∷ xs) is alone end =
+          let at_edge : at ≡ p.edge = ask.identity alone (omega (arith, ap length is)) in
+          absurd (omega (arith, at_edge, first_sent x xs is, (is_end_of s p.edge end).1))
+
+      passed : (bs : List ℕ) → bytes ≡ bs → (view_of f s b).alone ≡ true
+          → received (after_arrival b (Place at bytes)) ≡ b.read + length (filled (merged b.places (drop b.read (by_place at bytes))))
+          → p.edge + length bs ≤ received (after_arrival b (Place at bytes))
+      passed [] is alone same = omega (arith, h.receiver.passed alone, step.later.received)
+      passed (x ∷ xs) is alone same =
+          let at_edge : at ≡ p.edge = ask.identity alone (omega (arith, ap length is)) in
+          omega (arith, same, at_edge, placed_reach b at bytes (omega (arith, at_edge, h.receiver.passed alone)), ap length is)
+
+      takes : (new : ℕ) → received (after_arrival b (Place at bytes)) ≡ b.read + length (filled (merged b.places (drop b.read (by_place at bytes))))
+          → LaneHolds (view_of f s (after_arrival b (Place at bytes))) path (takes_placed (length bytes) (Placed new) p)
+      takes new same = record {
+        record_of = now.record_of;
+        alone = now.alone;
+        modes = now.modes;
+        bytes = record {
+          granted = h.bytes.granted;
+          honest = h.bytes.honest;
+          within = ask.within;
+          came = Cells-drop (length bytes) h.bytes.came;
+          right = h.bytes.right;
+          acked = h.bytes.acked;
+        };
+        ends = now.ends;
+        fins = now.fins;
+        heard = now.heard;
+        receiver = record {
+          told = now.receiver.told;
+          passed = λ alone. passed bytes refl alone same;
+          fin = λ alone is. ends bytes refl alone (h.receiver.fin alone is);
+          fresh = λ alone is. absurd (true≢false is);
+          copies = now.receiver.copies;
+        };
+        ask = tt;
+      }
+
+  pub fin_held : (at : ℕ) (r : Reader) → ReceiveStep granted f s b (after_arrival b (Fin at)) r
+      → LaneHolds (view_of f s (after_arrival b (Fin at))) path (takes_fin (arrival_reply b (Fin at)) p)
+  fin_held at r step = by_clash (fin_clash b.known_end at b)
+    where
+      now : LaneHolds (view_of f s (after_arrival b (Fin at))) path p
+      now = lane_later step.later path p tt reach h
+
+      by_clash : (o : Option ℕ) → LaneHolds (view_of f s (after_arrival b (Fin at))) path (takes_fin (fin_reply_by o at) p)
+      by_clash (Some fin) = with_ask (view_of f s (after_arrival b (Fin at))) path p Nothing tt now
+      by_clash None = record {
+        record_of = now.record_of;
+        alone = now.alone;
+        modes = now.modes;
+        bytes = now.bytes;
+        ends = now.ends;
+        fins = now.fins;
+        heard = now.heard;
+        receiver = record {
+          told = now.receiver.told;
+          passed = now.receiver.passed;
+          fin = now.receiver.fin;
+          fresh = λ alone is. absurd (true≢false is);
+          copies = now.receiver.copies;
+        };
+        ask = tt;
+      }
+
+  pub ack_out_held : received b ≤ edge b → LaneHolds (view_of f s b) path (takes_ack_out (arrival_reply b AckOut) p)
+  ack_out_held room = record {
+    record_of = h.record_of;
+    alone = h.alone;
+    modes = h.modes;
+    bytes = h.bytes;
+    ends = h.ends;
+    fins = h.fins;
+    heard = h.heard;
+    receiver = record {
+      told = record { covers = omega (arith, wanted b.known_end arrived.end); reaches = omega (arith, wanted b.known_end arrived.end, room) };
+      passed = h.receiver.passed;
+      fin = h.receiver.fin;
+      fresh = λ alone _. omega (arith, h.receiver.passed alone, room);
+      copies = h.receiver.copies;
+    };
+    ask = tt;
+  }
+    where
+      wanted : (o : Option ℕ) → IfSome o (IsEnd (end_of s)) → (if is_end o (received b) then 1 else 0) ≤ all_in s.closed s.written (received b)
+      wanted None end = omega arith
+      wanted (Some e) end = by_end (e == received b) refl
+        where
+          by_end : (c : Bool) → (e == received b) ≡ c → (if c then 1 else 0) ≤ all_in s.closed s.written (received b)
+          by_end false is = omega arith
+          by_end true is =
+              let at = is_end_of s e end in
+              let one : all_in s.closed s.written (received b) ≡ 1 = all_in_one s.closed s.written (received b) at.0 (at.1 ∙ eqb-true e (received b) is) in
+              omega (arith, one)

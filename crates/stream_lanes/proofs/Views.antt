@@ -1,0 +1,96 @@
+-- What holds of the view of two books, and numbers of theirs.
+use Rattle.std.proofs.Common.{◌≡◌, refl, sym, ap, ℕ, zero, suc, ◌+◌, ◌<◌, ◌≤◌, Bool, true, false, not, ◌||◌, ◌==◌, if◌then◌else◌, ◌⊎◌, inl, inr, List, length, Some, None, arith}
+use Rattle.std.proofs.lemmas.Bool.{eqb-true, eq-eqb, or_right}
+use Rattle.std.proofs.lemmas.Option.{slice_get_within, same_Some}
+use Rattle.send_book.specs.State.{Sending, acked_len}
+use Rattle.reassembly_book.specs.State.{Arriving, filled, received}
+use Rattle.reassembly_book.specs.Steps.{edge}
+use Rattle.stream_lanes.specs.Words.{From}
+use Rattle.stream_lanes.specs.Moves.{Flags}
+use Rattle.stream_lanes.specs.View.{View, view_of, all_in, end_of, IsEnd}
+use Rattle.stream_lanes.specs.Holding.{IsAll, SendHolds, ArrivedHolds}
+use Rattle.stream_lanes.proofs.Lists.{item_at}
+use Rattle.stream_lanes.proofs.Bytes.{From-filled}
+use Rattle.stream_lanes.proofs.Local.{ViewFits, FlagsFit}
+
+-- the end of a stream: whether it has come
+pub data AllIn (closed : Bool) (written : List ℕ) (count : ℕ) : Type 0 where
+  missing : all_in closed written count ≡ 0 → AllIn closed written count
+  complete : closed ≡ true → length written ≡ count → all_in closed written count ≡ 1 → AllIn closed written count
+
+pub all_in_is : (closed : Bool) (written : List ℕ) (count : ℕ) → AllIn closed written count
+all_in_is false written count = missing refl
+all_in_is true written count = at (length written == count) refl
+  where
+    at : (b : Bool) → (length written == count) ≡ b → AllIn true written count
+    at true is = complete refl (eqb-true _ _ is) (ap (λ (b : Bool). if b then 1 else 0) is)
+    at false is = missing (ap (λ (b : Bool). if b then 1 else 0) is)
+
+pub all_in_one : (closed : Bool) (written : List ℕ) (count : ℕ) → closed ≡ true → length written ≡ count → all_in closed written count ≡ 1
+all_in_one true written count closed is = ap (λ (b : Bool). if b then 1 else 0) (eq-eqb (length written) count is)
+all_in_one false written count closed is = cc
+
+pub all_in_bound : (closed : Bool) (written : List ℕ) (count : ℕ) → all_in closed written count ≤ 1
+all_in_bound closed written count = at (all_in_is closed written count)
+  where
+    at : AllIn closed written count → all_in closed written count ≤ 1
+    at (missing is) = omega (arith, is)
+    at (complete closed size is) = omega (arith, is)
+
+-- an end is that of a closed stream
+pub is_end : (s : Sending) (e : ℕ) → IsEnd (end_of s) e → (s.closed ≡ true) × (length s.written ≡ e)
+is_end s e h = at s.closed refl h
+  where
+    at : (c : Bool) → s.closed ≡ c → (if c then Some (length s.written) else None) ≡ Some e → (s.closed ≡ true) × (length s.written ≡ e)
+    at true is h = (is, same_Some _ _ h)
+    at false is h = cc
+
+pub end_is : (s : Sending) → s.closed ≡ true → IsEnd (end_of s) (length s.written)
+end_is s closed = rw closed refl
+
+-- items in a row that all lie below a bound end at it or before
+pub row_below : {P : ℕ → ℕ → Type 0} (bound first : ℕ) (bytes : List ℕ) → ((n x : ℕ) → P n x → n < bound) → first ≤ bound → From P first bytes
+    → first + length bytes ≤ bound
+row_below {P} bound first bytes below within row = at (length bytes) refl
+  where
+    at : (n : ℕ) → length bytes ≡ n → first + length bytes ≤ bound
+    at zero is = omega (arith, within, is)
+    at (suc n) is =
+        let last = item_at bytes n (omega (arith, is)) in
+        omega (arith, below (first + n) last.0 (row.each n (first + n) last.0 refl last.1), is)
+
+pub received_written : {granted : ℕ → Type 0} (v : View) (b : Arriving) → ArrivedHolds granted v b → received b ≤ length v.written
+received_written v b h =
+    row_below (length v.written) b.read (filled b.places) (λ n x sent. slice_get_within v.written n x sent.written) (omega (arith, h.top)) (From-filled h.cells)
+
+pub view_fits : (f : Flags) (s : Sending) (b : Arriving) → ((view_of f s b).fallen ≡ true → (view_of f s b).alone ≡ true)
+    → received b ≤ length s.written → SendHolds s (view_of f s b) → ViewFits (view_of f s b)
+view_fits f s b fallen within h = record {
+  size = h.whole;
+  first = h.first;
+  end = λ e is. sym (is_end s e is).1;
+  received = within;
+  next = omega arith;
+  room = omega arith;
+  whole = λ e is below.
+      let end = is_end s e is in
+      let one : all_in s.closed s.written (received b) ≡ 1 = all_in_one s.closed s.written (received b) end.0 (omega (arith, end.1, below, within)) in
+      (omega (arith, one), omega (arith, one));
+  confirmed = confirmed (all_in_is s.closed s.written (acked_len s.marks));
+  fallen = fallen;
+}
+  where
+    confirmed : AllIn s.closed s.written (acked_len s.marks) → ((view_of f s b).confirmed ≤ acked_len s.marks) ⊎ IsAll (view_of f s b)
+    confirmed (missing is) = inl (omega (arith, is))
+    confirmed (complete closed size is) = inr (length s.written, end_is s closed, omega (arith, size))
+
+pub flags_fit : (f : Flags) (s : Sending) (b : Arriving) → FlagsFit f (view_of f s b)
+flags_fit f s b = record {
+  answered = λ is. ap not is;
+  sender = λ is. ap (λ x. x || f.receiver) is;
+  receiver = λ is. or_right f.sender f.receiver is;
+}
+
+-- no more has arrived than is taken
+pub received_room : {granted : ℕ → Type 0} (v : View) (b : Arriving) → v.room ≡ edge b → ArrivedHolds granted v b → received b ≤ edge b
+received_room v b room h = row_below (edge b) b.read (filled b.places) (λ n x sent. omega (arith, sent.room, room)) (omega arith) (From-filled h.cells)

@@ -1,0 +1,71 @@
+-- A run over two paths: the first segment of path 0 is lost, its repetition comes twice; path 1 dies with its bytes on the
+-- way, gives them back, and path 0 sends them.
+use Rattle.std.specs.Prelude.{ℕ, true, false, List, [], ◌∷◌, flat_map, codes}
+use Rattle.stream_lanes.specs.Moves.{Move}
+use Rattle.stream_lanes.specs.Moves.Move.{Open, LookAtSender, LookAtReceiver, WantGrant, HearAck, SendPiece, SendDataFin, SendFin, Hear, Learn, HearDataFin, HearFin, WantPlace, WantPlacePlain, WantFin, WantAckOut, SendAck}
+use Rattle.stream_lanes.specs.Streams.StreamEvent.{Write, Close, Return, GoIdentity, Read, Moves, Asks}
+use Rattle.stream_lanes.specs.Duo.{Duo, Event, after_events, opening}
+use Rattle.stream_lanes.specs.Duo.Event.{ToB, FallA, FallB, BeginJoin, SendJoin, HearJoin}
+
+-- "abcdefgh"
+abbrev pub text : List ℕ
+text = codes "abcdefgh"
+
+-- a move of a path, and its ask
+abbrev pub on : ℕ → Move → Event
+on path move = ToB (Moves path move)
+
+abbrev pub ask : ℕ → Event
+ask path = ToB (Asks path)
+
+-- the receiver's end asks what to acknowledge, says so, and the sender's end hears that acknowledgement
+abbrev pub acknowledges : ℕ → ℕ → List Event
+acknowledges path copy =
+    on path WantAckOut ∷ ask path ∷ on path (SendAck 100 100 100) ∷ on path (HearAck copy) ∷ ask path ∷ []
+
+-- it hears a copy, learns its mapping, and places four of its bytes
+abbrev pub takes_copy : ℕ → ℕ → ℕ → List Event
+takes_copy path copy mapping =
+    on path (Hear copy 4) ∷ on path (Learn copy) ∷ on path (WantPlace mapping 4) ∷ ask path ∷ []
+
+abbrev pub run_of_two_paths : List Event
+run_of_two_paths = flat_map (λ part. part) (
+    -- path 0 opens and hears the window; path 1 joins
+    (on 0 Open ∷ acknowledges 0 0)
+    ∷ (BeginJoin ∷ SendJoin ∷ HearJoin ∷ on 1 Open ∷ [])
+    -- path 0 is granted four bytes, whose first copy is lost, and path 1 the other four, whose only copy is lost
+    ∷ (ToB (Write text) ∷ ToB Close ∷ on 0 (WantGrant 4 false) ∷ ask 0 ∷ on 0 (SendPiece 0 true) ∷ [])
+    ∷ (on 1 (WantGrant 4 false) ∷ ask 1 ∷ on 1 (SendPiece 0 true) ∷ [])
+    -- the repetition comes twice
+    ∷ (on 0 (SendPiece 0 true) ∷ takes_copy 0 1 0)
+    ∷ takes_copy 0 1 0
+    ∷ acknowledges 0 1
+    -- path 1 dies and gives its bytes back, which path 0 sends
+    ∷ (ToB (Return 1) ∷ on 0 (WantGrant 9 false) ∷ ask 0 ∷ on 0 (SendPiece 1 true) ∷ ToB (Read 3) ∷ [])
+    ∷ takes_copy 0 2 2
+    ∷ acknowledges 0 2
+    -- the end is told
+    ∷ (on 0 (WantGrant 9 false) ∷ ask 0 ∷ on 0 SendDataFin ∷ on 0 (HearDataFin 0) ∷ ask 0 ∷ [])
+    ∷ acknowledges 0 3
+    ∷ (ToB (Read 100) ∷ ToB (Read 100) ∷ on 0 SendFin ∷ on 0 (HearFin 0) ∷ [])
+    ∷ [])
+
+abbrev pub after_the_run : Duo
+after_the_run = after_events run_of_two_paths (opening 2 16 8)
+
+-- A run in plain TCP: both sides fell back, no segment has an option, positions stand for places, acknowledgements of the
+-- subflow for those of the stream, and the FIN for the end.
+abbrev pub run_in_plain_tcp : List Event
+run_in_plain_tcp = flat_map (λ part. part) (
+    (on 0 Open ∷ acknowledges 0 0)
+    ∷ (FallA ∷ FallB ∷ on 0 LookAtSender ∷ on 0 LookAtReceiver ∷ ToB GoIdentity ∷ [])
+    ∷ (ToB (Write text) ∷ ToB Close ∷ on 0 (WantGrant 9 false) ∷ ask 0 ∷ on 0 (SendPiece 0 false) ∷ [])
+    ∷ (on 0 (Hear 0 9) ∷ on 0 (WantPlacePlain 9) ∷ ask 0 ∷ [])
+    ∷ acknowledges 0 1
+    ∷ (on 0 (WantGrant 9 false) ∷ ask 0 ∷ on 0 SendFin ∷ on 0 (HearFin 0) ∷ on 0 WantFin ∷ ask 0 ∷ [])
+    ∷ acknowledges 0 2
+    ∷ (ToB (Read 100) ∷ ToB (Read 100) ∷ [])
+    ∷ [])
+
+abbrev pub after_the_plain_run : Duo
+after_the_plain_run = after_events run_in_plain_tcp (opening 1 16 8)

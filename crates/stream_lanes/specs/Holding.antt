@@ -1,0 +1,175 @@
+-- What holds of a connection at every moment. Each group speaks of a lane's own fields and of the view of the books.
+use Rattle.std.specs.Prelude.{ℕ, ◌≡◌, ◌+◌, ◌<◌, ◌≤◌, Bool, true, false, Option, Some, IfSome, List, [], length, take, slice_get}
+use Rattle.send_book.specs.declared.mark.ByteMark.{ByteMark}
+use Rattle.send_book.specs.State.{Sending, acked_len}
+use Rattle.reassembly_book.specs.State.{Arriving, top}
+use Rattle.stream_lanes.specs.Words.{Every, From, Cells, Has}
+use Rattle.stream_lanes.specs.Marks.{spent, spent_count, AreAcked, AreNew, tried, IsHeldRightly}
+use Rattle.stream_lanes.specs.Lane.{Cell, Mapping, DataCopy, AckCopy, Told, Ask, Lane}
+use Rattle.stream_lanes.specs.Lane.Ask.{Nothing, AskGrant, AskAckIn, AskPlace, AskFin, AskAckOut}
+use Rattle.stream_lanes.specs.Moves.{Flags, bytes_of, places_of}
+use Rattle.stream_lanes.specs.Streams.{Reader, Direction}
+use Rattle.stream_lanes.specs.Duo.{Modes, Duo, flags_ab, flags_ba}
+use Rattle.stream_lanes.specs.View.{View, view_of, IsEnd}
+
+-- the stream is closed, and all of its bytes are acknowledged
+abbrev pub IsAll : View → Type 0
+IsAll v = (e : ℕ) × IsEnd v.end e × (e ≤ v.acked)
+
+-- The send book: one mark a byte, the acknowledged ones first; only received bytes are acknowledged; no more may be sent
+-- than the receiver takes.
+pub record SendHolds (b : Sending) (v : View) : Type 0 where
+  pub whole : length b.marks ≡ length b.written
+  pub first : AreAcked (acked_len b.marks) b.marks
+  pub held : Every IsHeldRightly b.marks
+  pub acked : v.acked ≤ v.received
+  pub edge : b.edge ≤ v.edge
+  pub fin : b.fin ≡ true → IsAll v
+
+-- a byte at a place: it was written there, the receiver takes it, and a path was granted it
+pub record IsSent (granted : ℕ → Type 0) (v : View) (place byte : ℕ) : Type 0 where
+  pub written : slice_get v.written place ≡ Some byte
+  pub room : place < v.room
+  pub recorded : granted place
+
+-- The reassembly book: each byte in it was sent, and an end is that of the stream.
+pub record ArrivedHolds (granted : ℕ → Type 0) (v : View) (b : Arriving) : Type 0 where
+  pub top : top b ≤ length v.written
+  pub cells : Cells (IsSent granted v) b.read b.places
+  pub end : IfSome b.known_end (IsEnd v.end)
+  pub before : (place : ℕ) → place < b.read → granted place
+
+-- The reader has the bytes up to where it is; the end was told at the end, and not after an abort.
+pub record ReaderHolds (v : View) (b : Arriving) (r : Reader) : Type 0 where
+  pub out : r.out ≡ take b.read v.written
+  pub told : r.told ≡ true → IsEnd v.end b.read
+  pub once : r.stopped ≡ true → r.told ≡ false
+
+-- a record has a byte with this place
+abbrev pub HasPlace : List Cell → ℕ → Type 0
+HasPlace sent place = Has (λ c. c.place ≡ place) sent
+
+-- A path's record: each byte of it is the written one at its place, spent for the path, and taken by the receiver; it has
+-- each byte that the path tried, and is no longer than what was granted to the path once.
+pub record CellFits (path : ℕ) (v : View) (c : Cell) : Type 0 where
+  pub byte : slice_get v.written c.place ≡ Some c.byte
+  pub spent : spent path (slice_get v.marks c.place) ≡ true
+  pub room : c.place < v.room
+
+pub record RecordHolds (path : ℕ) (v : View) (sent : List Cell) : Type 0 where
+  pub cells : Every (CellFits path v) sent
+  pub tried : (place : ℕ) → tried path (slice_get v.marks place) ≡ true → HasPlace sent place
+  pub once : length sent ≤ spent_count path v.marks
+
+-- As long as no join was answered: only path 0 has bytes, each at its own position, and no byte after them was touched.
+pub record AloneHolds (path : ℕ) (marks : List ByteMark) (sent : List Cell) : Type 0 where
+  pub identity : From (λ pos c. c.place ≡ pos) 0 sent
+  pub others : (path ≡ 0 → ⊥) → sent ≡ []
+  pub untouched : path ≡ 0 → AreNew (length sent) marks
+
+pub record ModeHolds (path : ℕ) (v : View) (opened sender_plain receiver_plain : Bool) : Type 0 where
+  pub joined : opened ≡ true → v.alone ≡ true → path ≡ 0
+  pub sender : sender_plain ≡ true → v.fallen ≡ true
+  pub receiver : receiver_plain ≡ true → v.fallen ≡ true
+
+-- Bytes and places: what is on the way and what the receiver's end keeps is the record's at its position.
+abbrev pub IsByteOf : List Cell → ℕ → ℕ → Type 0
+IsByteOf sent pos byte = slice_get (bytes_of sent) pos ≡ Some byte
+
+pub record IsRight (sent : List Cell) (m : Mapping) : Type 0 where
+  pub some : 1 ≤ m.len
+  pub within : m.pos + m.len ≤ length sent
+  pub places : (j : ℕ) → j < m.len → slice_get (places_of sent) (m.pos + j) ≡ Some (m.place + j)
+
+pub record IsHonest (sent : List Cell) (d : DataCopy) : Type 0 where
+  pub within : d.pos + length d.bytes ≤ length sent
+  pub bytes : From (IsByteOf sent) d.pos d.bytes
+  pub mapping : IfSome d.mapping (IsRight sent)
+
+pub record BytesHold (sent : List Cell) (pieces : List Mapping) (datas : List DataCopy) (edge : ℕ) (kept : List (Option ℕ)) (maps : List Mapping) (acks : List AckCopy) : Type 0 where
+  pub granted : Every (IsRight sent) pieces
+  pub honest : Every (IsHonest sent) datas
+  pub within : edge ≤ length sent
+  pub came : Cells (IsByteOf sent) edge kept
+  pub right : Every (IsRight sent) maps
+  pub acked : Every (λ a. a.sub ≤ length sent + 1) acks
+
+-- The end: who names it names the length of the closed stream.
+pub record EndsHold (end known : Option ℕ) (data_fins : List ℕ) : Type 0 where
+  pub told : IfSome known (IsEnd end)
+  pub named : Every (IsEnd end) data_fins
+
+-- a FIN stands after the record's last byte, nothing more is granted to its path, and in plain TCP it is the end
+pub record IsFin (path : ℕ) (v : View) (sent : List Cell) (pos : ℕ) : Type 0 where
+  pub last : pos ≡ length sent
+  pub left : (e : ℕ) × IsEnd v.end e × (e ≤ spent_count path v.marks)
+  pub ends : v.alone ≡ true → IsEnd v.end pos
+
+pub record HeardHolds (v : View) (heard : ℕ) (fin_acked : Bool) : Type 0 where
+  pub below : heard ≤ v.confirmed
+  pub fin : fin_acked ≡ true → IsAll v
+
+-- Acknowledgements: they cover received bytes, and the end where it was reached; with their window they reach no further
+-- than the receiver takes.
+pub record IsAck (v : View) (next window : ℕ) : Type 0 where
+  pub covers : next ≤ v.next
+  pub reaches : next + window ≤ v.edge
+
+-- until a join was answered, what the subflow acknowledges may stand for what the stream does
+pub record IsAckCopy (v : View) (a : AckCopy) : Type 0 where
+  pub stream : IsAck v a.next a.window
+  pub subflow : v.alone ≡ true → IsAck v a.sub a.window
+
+pub record ReceiverHolds (v : View) (edge : ℕ) (fin_in due : Bool) (latest : Told) (acks : List AckCopy) : Type 0 where
+  pub told : IsAck v latest.next latest.window
+  pub passed : v.alone ≡ true → edge ≤ v.received
+  pub fin : v.alone ≡ true → fin_in ≡ true → IsEnd v.end edge
+  pub fresh : v.alone ≡ true → due ≡ false → edge + latest.window ≤ v.room
+  pub copies : Every (IsAckCopy v) acks
+
+-- The pending ask: what is said of a copy is said of it.
+pub record PlaceHolds (v : View) (sent : List Cell) (edge at : ℕ) (bytes : List ℕ) : Type 0 where
+  pub each : From (IsSent (HasPlace sent) v) at bytes
+  pub within : edge + length bytes ≤ length sent
+  pub identity : v.alone ≡ true → 1 ≤ length bytes → at ≡ edge
+
+abbrev pub AskHolds : View → List Cell → Bool → ℕ → Ask → Type 0
+AskHolds v sent opened edge Nothing = Unit {0}
+AskHolds v sent opened edge (AskGrant max standby) = (opened ≡ true) × (1 ≤ max)
+AskHolds v sent opened edge (AskAckIn next window) = IsAck v next window
+AskHolds v sent opened edge (AskPlace at bytes) = PlaceHolds v sent edge at bytes
+AskHolds v sent opened edge (AskFin at) = IsEnd v.end at
+AskHolds v sent opened edge AskAckOut = Unit {0}
+
+pub record LaneHolds (v : View) (path : ℕ) (p : Lane) : Type 0 where
+  pub record_of : RecordHolds path v p.sent
+  pub alone : v.alone ≡ true → AloneHolds path v.marks p.sent
+  pub modes : ModeHolds path v p.opened p.sender_plain p.receiver_plain
+  pub bytes : BytesHold p.sent p.pieces p.datas p.edge p.kept p.maps p.acks
+  pub ends : EndsHold v.end p.known_end p.data_fins
+  pub fins : Every (IsFin path v p.sent) p.fins
+  pub heard : HeardHolds v p.heard p.fin_acked
+  pub receiver : ReceiverHolds v p.edge p.fin_in p.due p.latest p.acks
+  pub ask : AskHolds v p.sent p.opened p.edge p.asking
+
+-- some path was granted the byte at this place
+abbrev pub IsGranted : List Lane → ℕ → Type 0
+IsGranted lanes place = Has (λ p. HasPlace p.sent place) lanes
+
+pub record DirectionHolds (f : Flags) (d : Direction) : Type 0 where
+  pub send : SendHolds d.send (view_of f d.send d.arrived)
+  pub arrived : ArrivedHolds (IsGranted d.lanes) (view_of f d.send d.arrived) d.arrived
+  pub reader : ReaderHolds (view_of f d.send d.arrived) d.arrived d.reader
+  pub lanes : From (LaneHolds (view_of f d.send d.arrived)) 0 d.lanes
+
+-- A side that fell has begun and answered no join.
+pub record ModesHold (m : Modes) : Type 0 where
+  pub a : m.plain_a ≡ true → m.begun ≡ false
+  pub b : m.plain_b ≡ true → m.answered ≡ false
+  pub sent : m.join_sent ≡ true → m.begun ≡ true
+  pub answered : m.answered ≡ true → m.begun ≡ true
+
+pub record Holds (w : Duo) : Type 0 where
+  pub modes : ModesHold w.modes
+  pub ab : DirectionHolds (flags_ab w.modes) w.ab
+  pub ba : DirectionHolds (flags_ba w.modes) w.ba

@@ -1,0 +1,10 @@
+pub mod Duo
+pub mod Example
+pub mod Holding
+pub mod Lane
+pub mod Laws
+pub mod Marks
+pub mod Moves
+pub mod Streams
+pub mod View
+pub mod Words
