@@ -33,7 +33,7 @@ impl Model for BytePieces {
 }
 
 impl BytePieces {
-    ghost use Rattle.byte_pieces.specs.Places.{no_bytes, top, filled, kept_count, after_put, after_drop_front, after_cut_back};
+    ghost use Rattle.byte_pieces.specs.Places.{no_bytes, top, filled, gap_len, kept_count, after_put, after_drop_front, after_cut_back};
 
     /// No bytes, from this position on. Takes no memory.
     pub fn new(alloc: Global, from: u64) -> Self
@@ -95,6 +95,18 @@ impl BytePieces {
         let passed = bytes.len().min(self.from.saturating_sub(at) as usize);
         let first = self.from.max(at);
         count_fresh(&self.pieces, first, &bytes[passed..])
+    }
+
+    /// How many positions from the first one that counts on have no byte, up to the first one that has one. 0 where no byte is
+    /// kept.
+    pub fn gap_len(&self) -> u64
+        ensures value { result ≡ gap_len self.now.places }
+        ensures bound { self.now.from + result ≤ 2 ^ 62 }
+    {
+        match self.pieces.front() {
+            Some(first) => first.at - self.from,
+            None => 0,
+        }
     }
 
     /// The bytes before the first position without one, lent part by part in order. No part is empty.

@@ -5,6 +5,7 @@ use std::test::Fail;
 fn bytes_in_any_order(rt: HostRuntime) -> Result<(), Fail> {
     let mut kept = BytePieces::new(rt.alloc(), 10);
     assert_eq!(rt; kept.put(14, b"ef")?, 2);
+    assert_eq!(rt; (kept.gap_len(), kept.count_new(8, b"xxab")), (4, 2));
     assert_eq!(rt; kept.put(8, b"xxab")?, 2);
     assert_eq!(rt; kept.put(11, b"BCDEFG")?, 3);
     assert_eq!(rt;

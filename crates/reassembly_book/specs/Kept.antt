@@ -1,5 +1,5 @@
 -- What a reassembly book keeps: the bytes before the first gap, and those beyond it.
-use Rattle.std.specs.Prelude.{ℕ, ◌≡◌, ◌+◌, ◌^◌, ◌≤◌, Bool, Option, Some, List, [], ◌++◌, length, map}
+use Rattle.std.specs.Prelude.{ℕ, zero, suc, ◌≡◌, ◌+◌, ◌^◌, ◌≤◌, Bool, Option, Some, None, List, [], ◌∷◌, ◌++◌, length, map}
 use Rattle.byte_pieces.specs.Places.{PlacedBytes}
 use Rattle.reassembly_book.specs.State.{Arriving, filled, IsSound}
 
@@ -20,3 +20,10 @@ pub record IsKept (read : ℕ) (ring : List ℕ) (capacity : ℕ) (beyond : Plac
   pub sound : IsSound (shown read ring capacity beyond.places known_end aborted)
   -- places are at most 2^62
   pub bound : read + length ring + length beyond.places ≤ 2 ^ 62
+
+-- the first places, so many, have no byte
+abbrev pub IsFree : ℕ → List (Option ℕ) → Type 0
+IsFree zero places = Unit {0}
+IsFree (suc count) [] = Unit {0}
+IsFree (suc count) (None ∷ places) = IsFree count places
+IsFree (suc count) (Some byte ∷ places) = ⊥

@@ -1,4 +1,4 @@
-use Rattle.std.proofs.Common.{◌≡◌, ◌^◌, ◌+◌, ◌-◌, ◌<◌, ◌≤◌, min, [], drop, length, refl, ap, ◌∙◌, subst, sym, arith}
+use Rattle.std.proofs.Common.{◌≡◌, ◌^◌, ◌-◌, ◌≤◌, min, [], drop, length, refl, ap, ◌∙◌, subst, sym, arith}
 use Rattle.std.specs.List.{sum_by}
 use Rattle.std.proofs.lemmas.List.{nil_from_length}
 use Rattle.byte_pieces.specs.declared.piece.Piece.{Piece}
@@ -7,7 +7,7 @@ use Rattle.byte_pieces.proofs.Ordered.{ordered-bounded, bounded-at}
 use Rattle.byte_pieces.proofs.Loops.{ordered-rises}
 use Rattle.byte_pieces.proofs.Ordered.{is_zero}
 use Rattle.byte_pieces.proofs.Filling.{fresh-begun, sum-fresh}
-use Rattle.byte_pieces.proofs.Counting.{count, count-step, count-nothing, count-last}
+use Rattle.byte_pieces.proofs.Counting.{count-step, count-nothing, count-last}
 use Rattle.byte_pieces.proofs.changes.count_fresh.Goals as goal
 
 pub begun_before-requires : goal.begun_before-requires
@@ -26,7 +26,7 @@ end-requires-in-loop-index c =
 pub loop-index-init : goal.loop-index-init
 loop-index-init c =
     let same = ap (sum_by piece_len) (fresh-begun 0 (2 ^ 62) c.args.at c.args.bytes.now c.args.pieces.now.items c.saturating_sub-first.result c.requires.order
-      (c.saturating_sub-first.ensures ∙ ap (λ n. n - 1) c.begun_before.ensures.value)) in
+    (c.saturating_sub-first.ensures ∙ ap (λ n. n - 1) c.begun_before.ensures.value)) in
     omega (arith, same)
 
 pub returns-then-is_empty : goal.returns-then-is_empty
@@ -44,8 +44,8 @@ loop-index-preserved c =
 pub overflow_add-count : goal.overflow_add-count
 overflow_add-count c =
     let step = count-step c.loop-index.count c.loop-index.next c.min-gap.result (min (length c.loop-index.rest.now) (end_of c.index-piece.result.now - c.loop-index.next)) _
-      c.loop-index.index c.loop-index.rest.now _ c.index-piece.result.now c.args.pieces.now.items (omega arith) c.index-piece.ensures
-      (omega (arith, c.min-gap.ensures, c.saturating_sub.ensures)) refl refl refl in
+    c.loop-index.index c.loop-index.rest.now _ c.index-piece.result.now c.args.pieces.now.items (omega arith) c.index-piece.ensures
+    (omega (arith, c.min-gap.ensures, c.saturating_sub.ensures)) refl refl refl in
     omega (arith, step, c.loop-index.invariant, sum-fresh c.args.at c.args.bytes.now c.args.pieces.now.items, c.requires.few)
 
 pub overflow_add-result : goal.overflow_add-result
