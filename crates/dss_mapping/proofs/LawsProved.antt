@@ -1,67 +1,71 @@
 -- The laws, proved.
-use Rattle.std.proofs.Common.{◌≡◌, ◌≢◌, ℕ, ◌<◌, ◌≤◌, Bool, true, false, max, nat_lt, Option, Some, None, List, [], ◌∷◌, ◌++◌, All, find, filter, refl, sym, ap, ◌∙◌, ⊎_elim, arith}
-use Rattle.std.specs.Prelude.{cond, IfSome}
-use Rattle.std.specs.Option.{option_map, option_to_list}
+use Rattle.std.proofs.Common.{◌≡◌, ℕ, ◌<◌, ◌≤◌, Bool, true, false, max, nat_lt, cond, Option, Some, None, List, [], ◌∷◌, find, filter, refl, sym, ap, ◌∙◌, ⊎_elim, subst, arith}
+use Rattle.std.specs.Prelude.{IfSome}
+use Rattle.std.specs.Option.{option_or}
+use Rattle.std.specs.FinMap.{get, get-empty}
+use Rattle.std.specs.Ordering.{nat_cmp}
 use Rattle.std.proofs.lemmas.Bool.Decides.{nat_tests}
 use Rattle.std.proofs.lemmas.Bool.{cases_lt}
-use Rattle.std.proofs.lemmas.List.Elements.{All-head, All-tail, All-cons, All-nil}
 use Rattle.dss_mapping.specs.declared.kept.KeptMapping.{KeptMapping}
 use Rattle.dss_mapping.specs.declared.learn.Learn.TheVariants.{New, Same, Clash}
 use Rattle.dss_mapping.specs.declared.run.Run.{Run}
-use Rattle.dss_mapping.specs.Runs.{covers, place_in, meeting, clashes, infinite_run}
-use Rattle.dss_mapping.specs.Mappings.{run_of, all_runs}
-use Rattle.dss_mapping.specs.Laws.{Agrees, NoClashByOneRecord, PlacesOfTheRecord, LearningAgrees, InfiniteAgrees, ForgottenAreNotTold, OthersAreTold}
-use Rattle.dss_mapping.proofs.Finding.{found_holds, found_covers, clashes_within, all_with}
-
-clashes_differ : (told run : Run) → clashes told run ≡ true → place_in (meeting told run) run ≢ place_in (meeting told run) told
-clashes_differ told run e = grind (arith, nat_tests)
-
--- runs that agree with one record don't clash
-agreeing : (places : ℕ → ℕ) (told run : Run) → Agrees places told → Agrees places run → clashes told run ≢ true
-agreeing places told run a b = λ e.
-    let within : (meeting told run < run.to) × (meeting told run < told.to) = clashes_within told run e in
-    let here : place_in (meeting told run) run ≡ places (meeting told run) = b.each (meeting told run) (omega arith) within.0 in
-    let there : place_in (meeting told run) told ≡ places (meeting told run) = a.each (meeting told run) (omega arith) within.1 in
-    clashes_differ told run e (here ∙ sym there)
-
-none_found : (places : ℕ → ℕ) (told : Run) (runs : List Run) → Agrees places told → All (Agrees places) runs → find (clashes told) runs ≡ None
-none_found places told [] a all = refl
-none_found places told (run ∷ runs) a all =
-    by (clashes told run) (agreeing places told run a (All-head (Agrees places) run runs all)) (none_found places told runs a (All-tail (Agrees places) run runs all))
-  where
-    by : (b : Bool) → b ≢ true → find (clashes told) runs ≡ None → cond b (Some run) (find (clashes told) runs) ≡ None
-    by true differ rest = absurd (differ refl)
-    by false differ rest = rest
+use Rattle.dss_mapping.specs.Runs.{covers, place_in, infinite_run}
+use Rattle.dss_mapping.specs.Mappings.{run_of, place_at, tail_at}
+use Rattle.dss_mapping.specs.Laws.{Agrees, NoClashByOneRecord, OpeningAgrees, LearningAgrees, InfiniteAgrees, ForgettingAgrees, LearnedPlaces, ForgottenAreNotTold, OthersAreTold, PlacesStay}
+use Rattle.dss_mapping.proofs.PlacesOf.{within, below, behind, get-with_run}
 
 pub no_clash : NoClashByOneRecord
-no_clash places v told all a =
-    ap (option_map (λ run. Clash (meeting told run) (place_in (meeting told run) run) (place_in (meeting told run) told)))
-    (none_found places told (all_runs v) a all)
+no_clash places v told pos kept here all a answer =
+    let stands : IfSome (Some kept) (λ place. place ≡ places pos) = subst (λ o. IfSome o (λ place. place ≡ places pos)) answer.kept_is (all.each pos) in
+    answer.differ (stands ∙ sym (answer.here_is ∙ a.each pos answer.first answer.last))
 
-told_by : (places : ℕ → ℕ) (p : ℕ) (runs : List Run) (o : Option Run) → All (Agrees places) runs → find (covers p) runs ≡ o
-    → IfSome (option_map (place_in p) o) (λ place. place ≡ places p)
-told_by places p runs None all e = tt
-told_by places p runs (Some run) all e =
-    let within : (run.pos ≤ p) × (p < run.to) = found_covers p runs run e in
-    (found_holds (covers p) (Agrees places) runs run all e).each p within.0 within.1
+pub opening_agrees : OpeningAgrees
+opening_agrees places = record { each = λ p. rw (get-empty nat_cmp p) tt }
 
-pub places_of_the_record : PlacesOfTheRecord
-places_of_the_record places v p all = told_by places p (all_runs v) (find (covers p) (all_runs v)) all refl
+or_told : (b : Bool) (place : ℕ) (first second : Option ℕ) → option_or (cond b (Some place) first) second ≡ cond b (Some place) (option_or first second)
+or_told true place first second = refl
+or_told false place first second = refl
+
+pub learned_places : LearnedPlaces
+learned_places v kept p =
+    ap (λ o. option_or o (tail_at v.tail p)) (get-with_run (run_of kept) v.places p)
+    ∙ or_told (covers p (run_of kept)) (place_in p (run_of kept)) (get v.places p) (tail_at v.tail p)
+
+-- what a run tells agrees, where the run does
+told_agrees : (places : ℕ → ℕ) (run : Run) (p : ℕ) (o : Option ℕ) → Agrees places run → IfSome o (λ place. place ≡ places p)
+    → IfSome (cond (covers p run) (Some (place_in p run)) o) (λ place. place ≡ places p)
+told_agrees places run p o a rest = ⊎_elim
+    (λ h. rw (below run.pos p run.to h) rest)
+    (λ h. ⊎_elim (λ k. rw (within run.pos p run.to h k) (a.each p h k)) (λ k. rw (behind run.pos p run.to k) rest) (cases_lt p run.to))
+    (cases_lt p run.pos)
 
 pub learning_agrees : LearningAgrees
-learning_agrees places v kept New all own = all_with (Agrees places) v.runs (option_to_list v.tail) (run_of kept) all own
+learning_agrees places v kept New all own = record {
+  each = λ p. subst (λ o. IfSome o (λ place. place ≡ places p)) (sym (learned_places v kept p))
+      (told_agrees places (run_of kept) p (place_at v p) own (all.each p));
+}
 learning_agrees places v kept Same all own = all
 learning_agrees places v kept (Clash pos place told) all own = all
 
-firsts : (P : Run → Type 0) (runs others : List Run) (run : Run) → All P (runs ++ others) → P run → All P (runs ++ run ∷ [])
-firsts P [] others run all own = All-cons P run [] own (All-nil P)
-firsts P (first ∷ runs) others run all own =
-    All-cons P first (runs ++ run ∷ []) (All-head P first (runs ++ others) all) (firsts P runs others run (All-tail P first (runs ++ others) all) own)
+-- what holds by the mappings and by the infinite one holds by both
+or_agrees : (place : ℕ) (first former next : Option ℕ) → IfSome (option_or first former) (λ q. q ≡ place) → IfSome next (λ q. q ≡ place)
+    → IfSome (option_or first next) (λ q. q ≡ place)
+or_agrees place None former next all own = own
+or_agrees place (Some q) former next all own = all
 
 pub infinite_agrees : InfiniteAgrees
-infinite_agrees places v pos place New all own = firsts (Agrees places) v.runs (option_to_list v.tail) (infinite_run pos place) all own
+infinite_agrees places v pos place New all own = record {
+  each = λ p. or_agrees (places p) (get v.places p) (tail_at v.tail p) (tail_at (Some (infinite_run pos place)) p) (all.each p)
+      (told_agrees places (infinite_run pos place) p None own tt);
+}
 infinite_agrees places v pos place Same all own = all
 infinite_agrees places v pos place (Clash at kept told) all own = all
+
+pub forgetting_agrees : ForgettingAgrees
+forgetting_agrees places v pos all = record { each = all.each }
+
+pub places_stay : PlacesStay
+places_stay v pos p = refl
 
 below_is : (a b : ℕ) → a < b → nat_lt a b ≡ true
 below_is a b h = grind (arith, nat_tests)

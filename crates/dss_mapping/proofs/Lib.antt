@@ -1,2 +1,4 @@
-mod Finding
-mod LawsProved
+pub mod PlacesOf
+pub mod RunsInOrder
+pub mod Shown
+pub mod LawsProved

@@ -1,3 +1,5 @@
 pub mod Runs
+pub mod Places
 pub mod Mappings
+pub mod Kept
 pub mod Laws

@@ -1,53 +1,85 @@
--- What a side learned of a subflow's mappings: runs of positions, in the order in which they were learned, and a last run
--- without an end, where the peer told an infinite mapping (RFC 8684, sections 3.3.1 and 3.7); and the mappings that may be
--- asked for, which are those that were not let go.
-use Rattle.std.specs.Prelude.{ℕ, ◌≡◌, ◌+◌, ◌-◌, ◌^◌, ◌<◌, ◌≤◌, max, min, nat_lt, if◌then◌else◌, true, is_some, Option, Some, None, List, [], ◌∷◌, ◌++◌, filter, find}
-use Rattle.std.specs.Option.{option_map, option_to_list}
+-- What a side learned of a subflow's mappings: the places of its positions, by the mappings and by an infinite one (RFC
+-- 8684, sections 3.3.1 and 3.7), and the mappings that may be asked for, which are those that were not let go.
+use Rattle.std.specs.Prelude.{ℕ, ◌≡◌, ◌≢◌, ◌+◌, ◌-◌, ◌^◌, ◌<◌, ◌≤◌, max, min, nat_lt, if◌then◌else◌, Option, Some, None, IfSome, List, [], ◌∷◌, ◌++◌, filter, find}
+use Rattle.std.specs.Option.{option_or}
+use Rattle.std.specs.Coded.{Coded, code_by, coded×, coded_ℕ, coded_list, coded_option}
+use Rattle.std.specs.FinMap as map
 use Rattle.dss_mapping.specs.declared.kept.KeptMapping.{KeptMapping}
 use Rattle.dss_mapping.specs.declared.learn.Learn.{Learn}
 use Rattle.dss_mapping.specs.declared.learn.Learn.TheVariants.{New, Same, Clash}
 use Rattle.dss_mapping.specs.declared.run.Run.{Run}
-use Rattle.dss_mapping.specs.Runs.{covers, place_in, meeting, clashes, infinite_run}
+use Rattle.dss_mapping.specs.contracts.run.Run.{the_row as run_row}
+use Rattle.dss_mapping.specs.contracts.kept.KeptMapping.{the_row as kept_row}
+use Rattle.std.proofs.Common.{refl}
+use Rattle.dss_mapping.specs.Runs.{covers, place_in, infinite_run}
+use Rattle.dss_mapping.specs.Places.{Places, with_run}
 
 pub record Mappings : Type 0 where
-  pub runs : List Run
+  -- the places by the mappings that were learned
+  pub places : Places
+  -- the positions of the infinite mapping
   pub tail : Option Run
+  -- the mappings that may be asked for, in the order in which they were learned
   pub live : List KeptMapping
+  -- below this position no mapping is told
   pub forgotten : ℕ
 
+-- how it is stored
+abbrev pub mappings_code : Coded Mappings
+mappings_code =
+    code_by (Places × (Option Run × (List KeptMapping × ℕ)))
+    (coded× (map.code coded_ℕ coded_ℕ) (coded× (coded_option run_row.coded) (coded× (coded_list kept_row.coded) coded_ℕ)))
+    (λ v. (v.places, (v.tail, (v.live, v.forgotten)))) (λ p. record { places = p.0; tail = p.1.0; live = p.1.1.0; forgotten = p.1.1.1 }) (λ _. refl)
+
 abbrev pub no_mappings : Mappings
-no_mappings = record { runs = []; tail = None; live = []; forgotten = 0 }
+no_mappings = record { places = map.empty; tail = None; live = []; forgotten = 0 }
 
 -- the positions of a mapping, those from 2 ^ 64 - 1 on left out
 abbrev pub run_of : KeptMapping → Run
 run_of kept = record { pos = kept.pos; place = kept.place; to = min (kept.pos + kept.mapping.length) (2 ^ 64 - 1) }
 
-abbrev pub all_runs : Mappings → List Run
-all_runs v = v.runs ++ option_to_list v.tail
+-- the place of a position by the infinite mapping
+abbrev pub tail_at : Option Run → ℕ → Option ℕ
+tail_at None p = None
+tail_at (Some run) p = if covers p run then Some (place_in p run) else None
 
 -- the place of a position, where it has one
 abbrev pub place_at : Mappings → ℕ → Option ℕ
-place_at v p = option_map (place_in p) (find (covers p) (all_runs v))
+place_at v p = option_or (map.get v.places p) (tail_at v.tail p)
 
--- the first that gives a position of the told run another place
-abbrev pub clash_of : Run → Mappings → Option Learn
-clash_of told v =
-    option_map (λ run. Clash (meeting told run) (place_in (meeting told run) run) (place_in (meeting told run) told))
-    (find (clashes told) (all_runs v))
+-- no position of the told run below `to` has another place
+pub record Agree (told : Run) (to : ℕ) (v : Mappings) : Type 0 where
+  pub each : (p : ℕ) → told.pos ≤ p → p < to → IfSome (place_at v p) (λ place. place ≡ place_in p told)
 
--- every position of the told run has a place
-abbrev pub HasAll : Run → Mappings → Type 0
-HasAll told v = (p : ℕ) → told.pos ≤ p → p < told.to → is_some (find (covers p) (all_runs v)) ≡ true
+-- a position of the told run has no place
+pub record HasNew (told : Run) (v : Mappings) : Type 0 where
+  pub at : ℕ
+  pub first : told.pos ≤ at
+  pub last : at < told.to
+  pub none : place_at v at ≡ None
+
+-- each position of the told run has its place
+pub record HasAll (told : Run) (v : Mappings) : Type 0 where
+  pub each : (p : ℕ) → told.pos ≤ p → p < told.to → place_at v p ≡ Some (place_in p told)
+
+-- pos is the first position of the told run that has another place, which is `kept`
+pub record IsClash (told : Run) (v : Mappings) (pos kept here : ℕ) : Type 0 where
+  pub first : told.pos ≤ pos
+  pub last : pos < told.to
+  pub before : Agree told pos v
+  pub kept_is : place_at v pos ≡ Some kept
+  pub here_is : here ≡ place_in pos told
+  pub differ : kept ≢ here
 
 -- what is answered: a clash where there is one, and else whether each position had its place already
 abbrev pub IsAnswer : Run → Mappings → Learn → Type 0
-IsAnswer told v (Clash pos kept here) = clash_of told v ≡ Some (Clash pos kept here)
-IsAnswer told v Same = (clash_of told v ≡ None) × HasAll told v
-IsAnswer told v New = (clash_of told v ≡ None) × (HasAll told v → ⊥)
+IsAnswer told v (Clash pos kept here) = IsClash told v pos kept here
+IsAnswer told v Same = HasAll told v
+IsAnswer told v New = Agree told told.to v × HasNew told v
 
--- what stands after the answer: a new mapping is kept last
+-- what stands after the answer: a new mapping gives its positions their places, and is the last one
 abbrev pub after_learn : KeptMapping → Learn → Mappings → Mappings
-after_learn kept New v = record v { runs = v.runs ++ run_of kept ∷ []; live = v.live ++ kept ∷ [] }
+after_learn kept New v = record v { places = with_run (run_of kept) v.places; live = v.live ++ kept ∷ [] }
 after_learn kept Same v = v
 after_learn kept (Clash pos place here) v = v
 

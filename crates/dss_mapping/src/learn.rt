@@ -9,7 +9,7 @@ pub enum Learn {
     Same,
     /// A position has another place; all stays as it was.
     Clash {
-        /// The position.
+        /// The first such position.
         pos: Pos,
         /// The place that it has.
         kept: u64,

@@ -7,10 +7,12 @@ mod kept;
 mod laws;
 mod learn;
 mod mappings;
+mod ordered;
 mod run;
+mod stretch;
 
 pub use kept::KeptMapping;
-pub use laws::{forgetting_keeps_the_rest, one_record_never_clashes};
+pub use laws::{forgetting_keeps_the_rest, learning_gives_places, one_record_never_clashes};
 pub use learn::Learn;
 pub use mappings::Mappings;
 pub use run::Run;

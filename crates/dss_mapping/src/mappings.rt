@@ -1,45 +1,49 @@
-ghost use Rattle.std.specs.Prelude.{◌≡◌, ◌+◌, ◌^◌, ◌<◌, ◌≤◌, true, false, IfOk, OnErr, IfSome, All, find, filter, nat_lt};
-ghost use Rattle.std.specs.Option.{option_to_list};
-ghost use Rattle.dss_mapping.specs.Runs.{covers, meeting, clashes, infinite_run, IsSound};
+ghost use Rattle.std.specs.Prelude.{◌≡◌, ◌≢◌, ◌+◌, ◌-◌, ◌^◌, ◌<◌, ◌≤◌, IfOk, OnErr, IfSome, IsNone, find, filter, nat_lt};
+ghost use Rattle.dss_mapping.specs.Runs.{covers, infinite_run, IsSound};
 ghost use Rattle.dss_mapping.specs.Mappings.{run_of};
 ghost use Rattle.dss_mapping.specs.declared.learn.Learn.TheVariants.{New};
 
 use crate::kept::KeptMapping;
 use crate::learn::Learn;
+use crate::ordered::{place_at, put_in, stretch_at};
 use crate::run::Run;
+use crate::stretch::Stretch;
 use seq_units::{Mapping, Pos};
 use std::alloc::{AllocError, Global};
 use std::marker::Model;
 
-/// What a side learned of the mappings of one direction of a subflow. Contracts see the runs of positions that have a
-/// place, in the order in which they were learned, the run without an end, the mappings that were not let go, and the
-/// position below which they were.
+/// What a side learned of the mappings of one direction of a subflow. Contracts see which place each position has, by the
+/// mappings and by the infinite one, the mappings that were not let go, and the position below which they were.
 #[derive(Debug, Drop)]
 pub struct Mappings {
-    /// The positions of each mapping that was learned.
+    /// The positions that have a place by a mapping, in order. A run that is put in becomes one with those that it touches
+    /// or meets and whose distance between place and position it has.
     runs: Vec<Run>,
     /// The positions of the infinite mapping.
     tail: Option<Run>,
-    /// The mappings that may be asked for.
+    /// The mappings that may be asked for, in the order in which they were learned.
     live: Vec<KeptMapping>,
     /// Below this position no mapping is told.
     forgotten: Pos,
 }
 
 impl Model for Mappings {
-    ghost use Rattle.std.specs.Prelude.{All, IfSome};
-    ghost use Rattle.dss_mapping.specs.Runs.{IsSound};
-    ghost use Rattle.dss_mapping.specs.Mappings.{Mappings, all_runs};
+    ghost use Rattle.dss_mapping.specs.Mappings.{Mappings, mappings_code};
 
     ghost Value = { Mappings };
 
-    ghost view = { λ m. record { runs = m.runs.items; tail = m.tail; live = m.live.items; forgotten = m.forgotten } };
+    ghost coded = { mappings_code };
 
-    ghost invariant = { λ m. All IsSound (all_runs (record { runs = m.runs.items; tail = m.tail; live = m.live.items; forgotten = m.forgotten })) };
+    ghost use Rattle.dss_mapping.specs.Kept.{places_of, IsKept};
+
+    ghost view = { λ m. record { places = places_of m.runs.items; tail = m.tail; live = m.live.items; forgotten = m.forgotten } };
+
+    ghost invariant = { λ m. IsKept m.runs.items m.tail };
 }
 
 impl Mappings {
-    ghost use Rattle.dss_mapping.specs.Mappings.{no_mappings, all_runs, place_at, clash_of, HasAll, IsAnswer, after_learn, after_infinite, mapping_at, after_forget};
+    ghost use Rattle.dss_mapping.specs.Mappings.{no_mappings, place_at, Agree, IsAnswer, after_learn, after_infinite, mapping_at, after_forget};
+    ghost use Rattle.dss_mapping.specs.Kept.{IsStretch};
 
     /// No mapping, which takes no memory.
     pub fn new(alloc: Global) -> Self
@@ -54,8 +58,11 @@ impl Mappings {
     }
 
     /// Learns that the positions from `pos` on, so many as the mapping's length, have the places from `place` on. Positions
-    /// from 2^64 - 1 on are passed over. Where a position has another place already, or all have these, or there is no
-    /// memory, all stays as it was.
+    /// from 2^64 - 1 on are passed over. Where a position has another place already, the first such one is told; there,
+    /// where all have these, and without memory, all stays as it was.
+    ///
+    /// Positions whose places are known are kept as runs of one distance between place and position, in order. The call takes
+    /// a search by halves of the runs for each run that the mapping meets. A new one moves the runs behind it.
     pub fn learn(&mut self, pos: Pos, place: u64, mapping: &Mapping) -> Result<Learn, AllocError>
         requires { place + mapping.now.length ≤ 2 ^ 62 }
         ensures answer { IfOk result (λ answer. IsAnswer (run_of (record { pos = pos; place = place; mapping = mapping.now })) self.old answer) }
@@ -75,7 +82,8 @@ impl Mappings {
     }
 
     /// Learns that every position from `pos` on has its place, counted from `place`: the infinite mapping (RFC 8684,
-    /// section 3.7). Positions and places from 2^64 - 1 on are passed over. Takes no memory.
+    /// section 3.7). Positions and places from 2^64 - 1 on are passed over. Takes no memory, and a search by halves of the
+    /// runs for each run from `pos` on.
     pub fn infinite(&mut self, pos: Pos, place: u64) -> Learn
         requires { place ≤ 2 ^ 62 }
         ensures answer { IsAnswer (infinite_run pos place) self.old result }
@@ -89,16 +97,15 @@ impl Mappings {
         answer
     }
 
-    /// The place of a position, by the mappings and the infinite one.
+    /// The place of a position, by the mappings and the infinite one. Takes a search by halves of the runs.
     pub fn place_of(&self, pos: Pos) -> Option<u64>
         ensures { result ≡ place_at self.now pos }
     {
-        let run = self.run_at(pos)?;
-        Some(run.place_of(pos))
+        place_at(self.runs.as_slice(), self.tail, pos)
     }
 
     /// The mapping learned first of those that cover the position. `None` below the position up to which they were let go,
-    /// and where none covers it.
+    /// and where none covers it. Takes as long as there are mappings that were not let go.
     pub fn mapping_at(&self, pos: Pos) -> Option<KeptMapping>
         ensures { result ≡ mapping_at self.now pos }
     {
@@ -109,7 +116,7 @@ impl Mappings {
     }
 
     /// Lets go of the mappings that lie below this position, and tells none below it from now on. The places of positions
-    /// stay. Takes no memory.
+    /// stay. Takes no memory, and as long as there are mappings that were not let go.
     pub fn forget_below(&mut self, pos: Pos)
         ensures { self.new ≡ after_forget pos self.old }
     {
@@ -117,46 +124,18 @@ impl Mappings {
         self.forgotten = self.forgotten.max(pos);
     }
 
-    /// The first run that covers the position.
-    #[tactic(auto, using(crate::proofs::Finding::found_first, crate::proofs::Finding::found_behind))]
-    fn run_at(&self, pos: Pos) -> Option<Run>
-        ensures value { result ≡ find (covers pos) (all_runs self.now) }
-        ensures within { IfSome result (λ run. (run.pos ≤ pos) × (pos < run.to)) }
-        ensures sound { IfSome result IsSound }
-    {
-        match covering(self.runs.as_slice(), pos) {
-            Some(run) => Some(run),
-            None => tail_covering(self.tail, pos),
-        }
+    /// How many runs are kept.
+    #[cfg(test)]
+    pub(crate) fn run_count(&self) -> usize {
+        self.runs.len()
     }
 
-    /// The first run that gives a position of the told one another place.
-    #[tactic(auto, using(crate::proofs::Finding::found_first, crate::proofs::Finding::found_behind))]
-    fn clashing(&self, told: Run) -> Option<Run>
-        requires { IsSound told }
-        ensures value { result ≡ find (clashes told) (all_runs self.now) }
-        ensures within { IfSome result (λ run. (meeting told run < run.to) × (meeting told run < told.to)) }
-        ensures sound { IfSome result IsSound }
+    /// The positions from `at` on as far as they are alike.
+    fn stretch_at(&self, at: Pos) -> Stretch
+        requires { at < 2 ^ 64 - 1 }
+        ensures { IsStretch (place_at self.now) at result }
     {
-        match clashing(self.runs.as_slice(), told) {
-            Some(run) => Some(run),
-            None => tail_clashing(self.tail, told),
-        }
-    }
-
-    /// Whether each position of the run has a place.
-    fn has_all(&self, told: Run) -> bool
-        ensures yes { result ≡ true → HasAll told self.now }
-        ensures no { result ≡ false → HasAll told self.now → ⊥ }
-    {
-        let mut at = told.pos;
-        while at < told.to {
-            match self.run_at(at) {
-                Some(run) => at = run.to,
-                None => return false,
-            }
-        }
-        true
+        stretch_at(self.runs.as_slice(), self.tail, at)
     }
 
     /// What is answered where this run is told.
@@ -164,84 +143,47 @@ impl Mappings {
         requires { IsSound told }
         ensures { IsAnswer told self.now result }
     {
-        if let Some(run) = self.clashing(told) {
-            let pos = run.pos.max(told.pos);
-            return Learn::Clash {
-                pos,
-                kept: run.place_of(pos),
-                told: told.place_of(pos),
-            };
+        let mut at = told.pos;
+        let mut is_new = false;
+        while at < told.to {
+            let stretch = self.stretch_at(at);
+            let here = told.place_of(at);
+            if let Some(kept) = other_place(stretch.place, here) {
+                return Learn::Clash {
+                    pos: at,
+                    kept,
+                    told: here,
+                };
+            }
+            is_new |= stretch.place.is_none();
+            at = stretch.to;
         }
-        if self.has_all(told) {
-            return Learn::Same;
-        }
-        Learn::New
+        if is_new { Learn::New } else { Learn::Same }
     }
 
     /// Keeps the mapping as the last one.
-    #[tactic(auto, using(crate::proofs::Finding::all_pushed))]
     fn keep(&mut self, kept: KeptMapping) -> Result<(), AllocError>
-        requires { IsSound (run_of kept) }
+        requires some { (run_of kept).pos < (run_of kept).to }
+        requires sound { IsSound (run_of kept) }
+        requires agree { Agree (run_of kept) (run_of kept).to self.old }
         ensures ok { IfOk result (λ done. self.new ≡ after_learn kept New self.old) }
         ensures err { OnErr result (self.new ≡ self.old) }
     {
         self.live.push(kept)?;
-        if let Err(error) = self.runs.push(kept.run()) {
+        if let Err(error) = put_in(&mut self.runs, kept.run()) {
             self.live.pop();
-            return Err(error.into());
+            return Err(error);
         }
         Ok(())
     }
 }
 
-/// The first of these runs that covers the position.
-#[tactic(auto, using(crate::proofs::Finding::found_sound, crate::proofs::Finding::found_within))]
-fn covering(runs: &[Run], pos: Pos) -> Option<Run>
-    requires { All IsSound runs.now }
-    ensures value { result ≡ find (covers pos) runs.now }
-    ensures within { IfSome result (λ run. (run.pos ≤ pos) × (pos < run.to)) }
-    ensures sound { IfSome result IsSound }
+/// The place, if there is one, and it isn't this one.
+fn other_place(place: Option<u64>, here: u64) -> Option<u64>
+    ensures other { IfSome result (λ kept. (place ≡ Some kept) × (kept ≢ here)) }
+    ensures same { IsNone result → IfSome place (λ kept. kept ≡ here) }
 {
-    runs.iter().copied().find(|run| run.covers(pos))
-}
-
-/// The first of these runs that gives a position of the told one another place.
-#[tactic(auto, using(crate::proofs::Finding::found_sound, crate::proofs::Finding::found_meeting))]
-fn clashing(runs: &[Run], told: Run) -> Option<Run>
-    requires all { All IsSound runs.now }
-    requires sound { IsSound told }
-    ensures value { result ≡ find (clashes told) runs.now }
-    ensures within { IfSome result (λ run. (meeting told run < run.to) × (meeting told run < told.to)) }
-    ensures sound { IfSome result IsSound }
-{
-    runs.iter().copied().find(|run| run.clashes(told))
-}
-
-/// The infinite run, if it covers the position.
-fn tail_covering(tail: Option<Run>, pos: Pos) -> Option<Run>
-    requires { All IsSound (option_to_list tail) }
-    ensures value { result ≡ find (covers pos) (option_to_list tail) }
-    ensures within { IfSome result (λ run. (run.pos ≤ pos) × (pos < run.to)) }
-    ensures sound { IfSome result IsSound }
-{
-    match tail {
-        Some(run) if run.covers(pos) => Some(run),
-        _ => None,
-    }
-}
-
-/// The infinite run, if it gives a position of the told one another place.
-fn tail_clashing(tail: Option<Run>, told: Run) -> Option<Run>
-    requires all { All IsSound (option_to_list tail) }
-    requires sound { IsSound told }
-    ensures value { result ≡ find (clashes told) (option_to_list tail) }
-    ensures within { IfSome result (λ run. (meeting told run < run.to) × (meeting told run < told.to)) }
-    ensures sound { IfSome result IsSound }
-{
-    match tail {
-        Some(run) if run.clashes(told) => Some(run),
-        _ => None,
-    }
+    place.filter(|kept| *kept != here)
 }
 
 /// The first of these mappings that covers the position.

@@ -1,6 +1,7 @@
 //! Runs: positions side by side whose places lie side by side too.
-ghost use Rattle.std.specs.Prelude.{◌≡◌, ◌+◌, ◌-◌, ◌^◌, ◌<◌};
-ghost use Rattle.dss_mapping.specs.Runs.{covers, place_in, clashes, infinite_run, IsSound};
+ghost use Rattle.std.specs.Prelude.{◌≡◌, ◌+◌, ◌-◌, ◌^◌, ◌<◌, ◌≤◌, true};
+ghost use Rattle.dss_mapping.specs.Runs.{covers, place_in, infinite_run, IsSound};
+ghost use Rattle.dss_mapping.specs.Kept.{joins, lies_before, joined};
 
 use seq_units::Pos;
 
@@ -35,22 +36,46 @@ impl Run {
         self.pos <= pos && pos < self.to
     }
 
-    /// The place of a position of the run.
+    /// The place of a position of the run, or of the one after it.
     pub(crate) fn place_of(self, pos: Pos) -> u64
-        requires covered { pos < self.to }
+        requires covered { pos ≤ self.to }
         requires sound { IsSound self }
         ensures { result ≡ place_in pos self }
     {
         self.place + pos.saturating_sub(self.pos)
     }
 
-    /// Whether both have a position in common, with two places.
-    pub(crate) fn clashes(self, told: Run) -> bool
+    /// Whether they touch or have a position in common, and there the same place.
+    pub(crate) fn joins(self, other: Run) -> bool
         requires sound { IsSound self }
-        requires sound_told { IsSound told }
-        ensures { result ≡ clashes told self }
+        requires other { IsSound other }
+        ensures { result ≡ joins self other }
     {
-        let pos = self.pos.max(told.pos);
-        pos < self.to && pos < told.to && self.place_of(pos) != told.place_of(pos)
+        let pos = other.pos.max(self.pos);
+        pos <= other.to && pos <= self.to && other.place_of(pos) == self.place_of(pos)
+    }
+
+    /// Whether it ends before the told one begins, or there and with another distance between place and position.
+    pub(crate) fn lies_before(self, told: Run) -> bool
+        requires sound { IsSound self }
+        requires told { IsSound told }
+        ensures { result ≡ lies_before told self }
+    {
+        self.to <= told.pos && !told.joins(self)
+    }
+
+    /// The positions of both.
+    pub(crate) fn joined(self, other: Run) -> Run
+        requires sound { IsSound self }
+        requires other { IsSound other }
+        requires joins { joins self other ≡ true }
+        ensures value { result ≡ joined self other }
+        ensures sound { IsSound result }
+    {
+        Run {
+            pos: self.pos.min(other.pos),
+            place: self.place.min(other.place),
+            to: self.to.max(other.to),
+        }
     }
 }

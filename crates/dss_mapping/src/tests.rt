@@ -59,7 +59,7 @@ fn the_first_mapping_is_told(rt: HostRuntime) -> Result<(), Fail> {
     Ok(())
 }
 
-/// 4,096 mappings in an order that jumps about.
+/// 4,096 mappings in an order that jumps about, which become one run; one with another distance stays a run of its own.
 #[test]
 fn each_place_is_told(rt: HostRuntime) -> Result<(), Fail> {
     let mut mappings = Mappings::new(rt.alloc());
@@ -74,5 +74,8 @@ fn each_place_is_told(rt: HostRuntime) -> Result<(), Fail> {
         assert_eq!(rt; mappings.place_of(turn * 10 + 4), Some(turn * 10 + 703));
     }
     assert_eq!(rt; mappings.place_of(40_961), None);
+    assert_eq!(rt; mappings.run_count(), 1);
+    assert_eq!(rt; mappings.learn(40_961, 70_000, &mapping(10))?, Learn::New);
+    assert_eq!(rt; mappings.run_count(), 2);
     Ok(())
 }

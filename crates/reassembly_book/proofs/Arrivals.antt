@@ -1,18 +1,14 @@
 -- What was read and what is kept are the bytes that came first.
-use Rattle.std.proofs.Common.{◌≡◌, refl, sym, ◌∙◌, ap, ℕ, zero, suc, ◌+◌, ◌-◌, ◌<◌, ◌≤◌, min, Bool, true, false, ◌==◌, nat_lt, if◌then◌else◌, Option, Some, None, is_some, List, [], ◌∷◌, ◌++◌, length, take, drop, map, arith, append_assoc}
+use Rattle.std.proofs.Common.{◌≡◌, refl, sym, ◌∙◌, ap, ℕ, zero, suc, min, Bool, true, false, if◌then◌else◌, Option, Some, None, is_some, List, [], ◌∷◌, ◌++◌, length, take, drop, map, arith, append_assoc}
 use Rattle.std.proofs.lemmas.Grind.{common_steps}
 use Rattle.std.proofs.lemmas.List.{append-nil, map-append}
+use Rattle.byte_pieces.proofs.Filling.{merged-nil}
 use Rattle.reassembly_book.specs.declared.call.ReassemblyCall.{ReassemblyCall}
 use Rattle.reassembly_book.specs.declared.call.ReassemblyCall.TheVariants.{Place, Fin, Read, AckOut, Abort}
-use Rattle.reassembly_book.specs.declared.call.ReassemblyReply.{ReassemblyReply}
-use Rattle.reassembly_book.specs.declared.call.ReassemblyReply.TheVariants.{Beyond, Bytes, End, NoneYet}
+use Rattle.reassembly_book.specs.declared.call.ReassemblyReply.TheVariants.{Beyond, End, NoneYet}
 use Rattle.reassembly_book.specs.State.{Arriving, filled, opened}
-use Rattle.reassembly_book.specs.Steps.{by_place, merged, edge, reaches_past, clash, placed_reply, place_reply, is_taken, places_after, fin_clash, fin_reply_by, is_end, bytes_reply, reading, after_reading, reply_to, after_call}
+use Rattle.reassembly_book.specs.Steps.{by_place, merged, edge, reaches_past, clash, placed_reply, is_taken, places_after, fin_clash, fin_reply_by, is_end, bytes_reply, reading, after_reading, reply_to, after_call}
 use Rattle.reassembly_book.specs.Laws.{after_calls, bytes_of, read_by, joined, came_by}
-
-pub merged-nil : (places : List (Option ℕ)) → merged places [] ≡ places
-merged-nil [] = refl
-merged-nil (place ∷ places) = refl
 
 -- what is filled stays, and the rest is merged with the rest
 pub merged-filled : (bytes : List ℕ) (places others : List (Option ℕ))

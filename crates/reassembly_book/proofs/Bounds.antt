@@ -1,5 +1,5 @@
 -- The known end, the window, and what lies below them.
-use Rattle.std.proofs.Common.{◌≡◌, refl, sym, ◌∙◌, ap, subst, ℕ, zero, suc, ◌+◌, ◌-◌, ◌<◌, ◌≤◌, min, max, Bool, true, false, ◌&&◌, ◌==◌, nat_lt, if◌then◌else◌, Option, Some, None, is_some, IfSome, List, [], ◌∷◌, ◌++◌, length, take, drop, replicate, map, arith}
+use Rattle.std.proofs.Common.{◌≡◌, refl, sym, ap, subst, ℕ, zero, suc, ◌+◌, ◌≤◌, min, max, Bool, true, false, ◌&&◌, ◌==◌, nat_lt, if◌then◌else◌, Option, Some, None, is_some, IfSome, List, [], ◌∷◌, length, take, drop, arith}
 use Rattle.std.proofs.lemmas.Grind.{common_steps}
 use Rattle.std.proofs.lemmas.Bool.{eqb-true, ltb-false, lt-ltb, eq-eqb}
 use Rattle.std.proofs.lemmas.List.{length-drop, length-take}
@@ -7,7 +7,7 @@ use Rattle.reassembly_book.specs.declared.call.ReassemblyCall.{ReassemblyCall}
 use Rattle.reassembly_book.specs.declared.call.ReassemblyCall.TheVariants.{Place, Fin, Read, AckOut, Abort}
 use Rattle.reassembly_book.specs.declared.call.ReassemblyReply.TheVariants.{Bytes, End, NoneYet}
 use Rattle.reassembly_book.specs.State.{Arriving, filled, received, top, opened, IsSound}
-use Rattle.reassembly_book.specs.Steps.{by_place, merged, edge, reaches_past, clash, is_taken, places_after, fin_clash, is_end, bytes_reply, reading, after_reading, next_wanted, window, reply_to, after_call}
+use Rattle.reassembly_book.specs.Steps.{by_place, merged, edge, reaches_past, clash, is_taken, places_after, fin_clash, is_end, bytes_reply, reading, after_reading, reply_to, after_call}
 use Rattle.reassembly_book.specs.Laws.{after_calls, read_by, told_edge}
 use Rattle.reassembly_book.proofs.Arrivals.{read_by-len}
 

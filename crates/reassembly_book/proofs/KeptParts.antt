@@ -1,12 +1,14 @@
 -- The places that a book shows, from what it keeps.
-use Rattle.std.proofs.Common.{◌≡◌, refl, sym, ◌∙◌, ap, subst, ℕ, zero, suc, ◌+◌, ◌-◌, ◌^◌, ◌<◌, ◌≤◌, min, max, Bool, true, false, nat_lt, is_some, if◌then◌else◌, Option, Some, None, List, [], ◌∷◌, ◌++◌, length, length-append, take, drop, map, count_by, arith}
+use Rattle.std.proofs.Common.{◌≡◌, refl, sym, ◌∙◌, ap, subst, ℕ, zero, suc, ◌+◌, ◌-◌, ◌^◌, ◌<◌, ◌≤◌, min, Bool, true, false, nat_lt, is_some, if◌then◌else◌, Option, Some, List, [], ◌∷◌, ◌++◌, length, length-append, take, drop, map, count_by, arith}
 use Rattle.std.proofs.lemmas.Bool.{ltb-false, lt-ltb}
 use Rattle.std.proofs.lemmas.List.{append-nil, length-drop}
 use Rattle.reassembly_book.specs.declared.call.ReassemblyCall.TheVariants.{Place}
+use Rattle.byte_pieces.specs.Places.{PlacedBytes}
 use Rattle.reassembly_book.specs.State.{Arriving, IsSound, filled, received, top}
 use Rattle.reassembly_book.specs.Steps.{by_place, merged, places_after, with_places, edge, reaches_past, clash, is_taken, after_reading}
 use Rattle.reassembly_book.specs.Kept.{shown, IsKept}
-use Rattle.reassembly_book.proofs.Arrivals.{merged-filled, merged-nil}
+use Rattle.byte_pieces.proofs.Filling.{merged-nil}
+use Rattle.reassembly_book.proofs.Arrivals.{merged-filled}
 use Rattle.reassembly_book.proofs.Bounds.{not_both, length-merged, sound-after_call, sound-reading}
 use Rattle.reassembly_book.proofs.Merging.{count-ring, by_place-le}
 
@@ -26,14 +28,14 @@ drop-shown (suc n) [] places within = absurd (omega (arith, within))
 drop-shown (suc n) (byte ∷ ring) places within = drop-shown n ring places (omega (arith, within))
 
 -- how far bytes have arrived without a gap is at most 2^62
-pub received-bound : (read : ℕ) (ring : List ℕ) (capacity : ℕ) (beyond : List (Option ℕ)) (known_end : Option ℕ) (aborted : Option Bool)
+pub received-bound : (read : ℕ) (ring : List ℕ) (capacity : ℕ) (beyond : PlacedBytes) (known_end : Option ℕ) (aborted : Option Bool)
     → IsKept read ring capacity beyond known_end aborted → read + length ring ≤ 2 ^ 62
 received-bound read ring capacity beyond known_end aborted is = omega (arith, is.bound)
 
-pub received-shown : (read : ℕ) (ring : List ℕ) (capacity : ℕ) (beyond : List (Option ℕ)) (known_end : Option ℕ) (aborted : Option Bool)
-    → IsKept read ring capacity beyond known_end aborted → received (shown read ring capacity beyond known_end aborted) ≡ read + length ring
+pub received-shown : (read : ℕ) (ring : List ℕ) (capacity : ℕ) (beyond : PlacedBytes) (known_end : Option ℕ) (aborted : Option Bool)
+    → IsKept read ring capacity beyond known_end aborted → received (shown read ring capacity beyond.places known_end aborted) ≡ read + length ring
 received-shown read ring capacity beyond known_end aborted is =
-    ap (λ bytes. read + length bytes) (filled-shown ring beyond is.gap)
+    ap (λ bytes. read + length bytes) (filled-shown ring beyond.places is.gap)
 
 pub length-some : (bytes : List ℕ) → length (map Some bytes) ≡ length bytes
 length-some [] = refl
@@ -59,12 +61,13 @@ consumed-shown n read ring capacity beyond known_end aborted gap within =
     let least : min n (length (filled (map Some ring ++ beyond))) ≡ n = omega (arith, ap length (filled-shown ring beyond gap), within) in
     rw (least, drop-shown n ring beyond within) refl
 
-pub consumed-kept : (n read : ℕ) (ring : List ℕ) (capacity : ℕ) (beyond : List (Option ℕ)) (known_end : Option ℕ) (aborted : Option Bool)
+pub consumed-kept : (n read : ℕ) (ring : List ℕ) (capacity : ℕ) (beyond : PlacedBytes) (known_end : Option ℕ) (aborted : Option Bool)
     → IsKept read ring capacity beyond known_end aborted → n ≤ length ring
     → IsKept (read + n) (drop n ring) capacity beyond known_end aborted
 consumed-kept n read ring capacity beyond known_end aborted is within = record {
+  from = omega (arith, is.from, length-drop n ring, within);
   gap = is.gap;
-  sound = subst IsSound (sym (consumed-shown n read ring capacity beyond known_end aborted is.gap within)) (sound-reading n _ is.sound);
+  sound = subst IsSound (sym (consumed-shown n read ring capacity beyond.places known_end aborted is.gap within)) (sound-reading n _ is.sound);
   bound = omega (arith, is.bound, length-drop n ring, within);
 }
 
@@ -132,58 +135,57 @@ places-shown at read bytes ring capacity beyond known_end aborted =
     merged-filled ring beyond (drop read (by_place at bytes))
     ∙ ap (λ others. map Some ring ++ merged beyond others) (drop-drop (length ring) read (by_place at bytes))
 
-pub put-shown : (at read lead : ℕ) (bytes rest ring more : List ℕ) (capacity later : ℕ) (beyond after : List (Option ℕ)) (known_end : Option ℕ) (aborted : Option Bool)
-    → map Some more ++ after ≡ map Some ring ++ merged beyond (by_place lead rest) → later ≡ capacity
-    → by_place lead rest ≡ drop (read + length ring) (by_place at bytes)
+pub put-shown : (at read : ℕ) (bytes ring more : List ℕ) (capacity later : ℕ) (beyond after : List (Option ℕ)) (known_end : Option ℕ) (aborted : Option Bool)
+    → map Some more ++ after ≡ map Some ring ++ merged beyond (drop (read + length ring) (by_place at bytes)) → later ≡ capacity
     → shown read more later after known_end aborted
     ≡ with_places (places_after at bytes (shown read ring capacity beyond known_end aborted)) (shown read ring capacity beyond known_end aborted)
-put-shown at read lead bytes rest ring more capacity later beyond after known_end aborted e f g =
-    rw (f, e ∙ ap (λ others. map Some ring ++ merged beyond others) g ∙ sym (places-shown at read bytes ring capacity beyond known_end aborted)) refl
+put-shown at read bytes ring more capacity later beyond after known_end aborted e f =
+    rw (f, e ∙ sym (places-shown at read bytes ring capacity beyond known_end aborted)) refl
 
 pub none-put : (at : ℕ) (bytes : List ℕ) (b : Arriving) → length bytes ≡ 0 → b ≡ with_places (places_after at bytes b) b
 none-put at [] b e = ap (λ places. with_places places b) (sym (merged-nil b.places) ∙ ap (merged b.places) (sym (drop-none b.read)))
 none-put at (byte ∷ bytes) b e = absurd (omega (arith, e))
 
 -- a book that has taken bytes is one that may be
-pub put-kept : (at read lead : ℕ) (bytes rest ring more : List ℕ) (capacity later : ℕ) (beyond after : List (Option ℕ)) (known_end : Option ℕ) (aborted : Option Bool)
-    → IsKept read ring capacity beyond known_end aborted → is_taken at bytes (shown read ring capacity beyond known_end aborted) ≡ true
-    → map Some more ++ after ≡ map Some ring ++ merged beyond (by_place lead rest) → later ≡ capacity
-    → by_place lead rest ≡ drop (read + length ring) (by_place at bytes)
-    → lead + length rest + (read + length ring) ≤ 2 ^ 62 → filled after ≡ []
+pub put-kept : (at read : ℕ) (bytes ring more : List ℕ) (capacity later : ℕ) (beyond after : PlacedBytes) (known_end : Option ℕ) (aborted : Option Bool)
+    → IsKept read ring capacity beyond known_end aborted → is_taken at bytes (shown read ring capacity beyond.places known_end aborted) ≡ true
+    → map Some more ++ after.places ≡ map Some ring ++ merged beyond.places (drop (read + length ring) (by_place at bytes)) → later ≡ capacity
+    → after.from + length ring ≡ beyond.from + length more → at + length bytes ≤ 2 ^ 62 → filled after.places ≡ []
     → IsKept read more later after known_end aborted
-put-kept at read lead bytes rest ring more capacity later beyond after known_end aborted is taken e f g bound gap =
-    let b : Arriving = shown read ring capacity beyond known_end aborted in
+put-kept at read bytes ring more capacity later beyond after known_end aborted is taken e f from bound gap =
+    let b : Arriving = shown read ring capacity beyond.places known_end aborted in
+    let others : List (Option ℕ) = drop (read + length ring) (by_place at bytes) in
     record {
+      from = omega (arith, from, is.from);
       gap = gap;
-      sound = subst IsSound (sym (put-shown at read lead bytes rest ring more capacity later beyond after known_end aborted e f g))
-          (subst (λ c. IsSound (if c then with_places (places_after at bytes (shown read ring capacity beyond known_end aborted)) (shown read ring capacity beyond known_end aborted) else shown read ring capacity beyond known_end aborted)) taken
-          (sound-after_call (Place at bytes) (shown read ring capacity beyond known_end aborted) is.sound));
+      sound = subst IsSound (sym (put-shown at read bytes ring more capacity later beyond.places after.places known_end aborted e f))
+          (subst (λ c. IsSound (if c then with_places (places_after at bytes b) b else b)) taken (sound-after_call (Place at bytes) b is.sound));
       bound = omega (
         arith,
         ap length e,
-        length-append (map Some more) after,
-        length-append (map Some ring) (merged beyond (by_place lead rest)),
+        length-append (map Some more) after.places,
+        length-append (map Some ring) (merged beyond.places others),
         length-some more,
         length-some ring,
-        length-merged beyond (by_place lead rest),
-        by_place-le lead rest,
+        length-merged beyond.places others,
+        length-drop (read + length ring) (by_place at bytes),
+        by_place-le at bytes,
         bound,
         is.bound,
       );
     }
 
-pub count-shown : (at read lead fresh : ℕ) (bytes rest ring : List ℕ) (capacity : ℕ) (beyond : List (Option ℕ)) (known_end : Option ℕ) (aborted : Option Bool) (b : Arriving)
-    → shown read ring capacity beyond known_end aborted ≡ b → by_place lead rest ≡ drop (read + length ring) (by_place at bytes)
-    → fresh + count_by is_some beyond ≡ count_by is_some (merged beyond (by_place lead rest))
+pub count-shown : (at read fresh : ℕ) (bytes ring : List ℕ) (capacity : ℕ) (beyond : List (Option ℕ)) (known_end : Option ℕ) (aborted : Option Bool) (b : Arriving)
+    → shown read ring capacity beyond known_end aborted ≡ b
+    → fresh + count_by is_some beyond ≡ count_by is_some (merged beyond (drop (read + length ring) (by_place at bytes)))
     → fresh ≡ count_by is_some (places_after at bytes b) - count_by is_some b.places
-count-shown at read lead fresh bytes rest ring capacity beyond known_end aborted b e g h =
+count-shown at read fresh bytes ring capacity beyond known_end aborted b e h =
     let count = ap (count_by is_some) (places-shown at read bytes ring capacity beyond known_end aborted) in
-    let same = ap (λ others. count_by is_some (merged beyond others)) g in
     subst (λ b. fresh ≡ count_by is_some (places_after at bytes b) - count_by is_some b.places) e
-    (omega (arith, count, same, h, count-ring ring beyond, count-ring ring (merged beyond (drop (read + length ring) (by_place at bytes)))))
+    (omega (arith, count, h, count-ring ring beyond, count-ring ring (merged beyond (drop (read + length ring) (by_place at bytes)))))
 
-pub received-now : (read : ℕ) (ring : List ℕ) (capacity : ℕ) (beyond : List (Option ℕ)) (known_end : Option ℕ) (aborted : Option Bool) (b : Arriving)
-    → IsKept read ring capacity beyond known_end aborted → shown read ring capacity beyond known_end aborted ≡ b → received b ≡ read + length ring
+pub received-now : (read : ℕ) (ring : List ℕ) (capacity : ℕ) (beyond : PlacedBytes) (known_end : Option ℕ) (aborted : Option Bool) (b : Arriving)
+    → IsKept read ring capacity beyond known_end aborted → shown read ring capacity beyond.places known_end aborted ≡ b → received b ≡ read + length ring
 received-now read ring capacity beyond known_end aborted b is e =
     ap received (sym e) ∙ received-shown read ring capacity beyond known_end aborted is
 
@@ -196,7 +198,7 @@ taken-room at bytes b taken some =
     open_is true known e = cc
     open_is false known e = refl
 
-pub ring-fits : (read : ℕ) (ring : List ℕ) (capacity : ℕ) (beyond : List (Option ℕ)) (known_end : Option ℕ) (aborted : Option Bool)
+pub ring-fits : (read : ℕ) (ring : List ℕ) (capacity : ℕ) (beyond : PlacedBytes) (known_end : Option ℕ) (aborted : Option Bool)
     → IsKept read ring capacity beyond known_end aborted → length ring ≤ capacity
 ring-fits read ring capacity beyond known_end aborted is =
-    omega (arith, is.sound.fits, length-append (map Some ring) beyond, length-some ring)
+    omega (arith, is.sound.fits, length-append (map Some ring) beyond.places, length-some ring)

@@ -1,5 +1,6 @@
 -- A reassembly book by what it means: how many bytes were read, and for each place from there on the byte that came.
-use Rattle.std.specs.Prelude.{ℕ, ◌≡◌, ◌+◌, ◌≤◌, Bool, Option, Some, None, IfSome, List, [], ◌∷◌, length}
+use Rattle.std.specs.Prelude.{ℕ, ◌+◌, ◌≤◌, Bool, Option, None, IfSome, List, [], length}
+pub use Rattle.byte_pieces.specs.Places.{filled}
 
 pub record Arriving : Type 0 where
   -- how many bytes were read
@@ -20,12 +21,6 @@ opened capacity = record { read = 0; places = []; known_end = None; capacity = c
 -- what a book was opened with
 abbrev pub opening : Arriving → Arriving
 opening b = opened b.capacity
-
--- the bytes before the first place without one
-abbrev pub filled : List (Option ℕ) → List ℕ
-filled [] = []
-filled (None ∷ places) = []
-filled (Some byte ∷ places) = byte ∷ filled places
 
 -- how many bytes have arrived without a gap
 abbrev pub received : Arriving → ℕ

@@ -1,23 +1,12 @@
 -- What a reassembly book answers to each call, and what the call makes of it.
-use Rattle.std.specs.Prelude.{ℕ, ◌+◌, ◌-◌, ◌^◌, ◌≤◌, min, Bool, true, false, ◌&&◌, ◌==◌, nat_lt, if◌then◌else◌, Option, Some, None, is_some, List, [], ◌∷◌, ◌++◌, length, take, drop, replicate, map, count_by}
+use Rattle.std.specs.Prelude.{ℕ, ◌+◌, ◌-◌, ◌^◌, ◌≤◌, min, Bool, true, false, ◌&&◌, ◌==◌, nat_lt, if◌then◌else◌, Option, Some, None, is_some, List, [], ◌∷◌, length, take, drop, count_by}
 use Rattle.reassembly_book.specs.declared.call.ReassemblyCall.{ReassemblyCall}
 use Rattle.reassembly_book.specs.declared.call.ReassemblyCall.TheVariants.{Place, Fin, Read, AckOut, Abort}
 use Rattle.reassembly_book.specs.declared.call.ReassemblyReply.{ReassemblyReply}
 use Rattle.reassembly_book.specs.declared.call.ReassemblyReply.TheVariants.{Placed, Beyond, FinSet, FinClash, Bytes, End, NoneYet, Ack, Noted}
 use Rattle.reassembly_book.specs.declared.call.ReassemblyReply.TheVariants.{Aborted as WasAborted}
+pub use Rattle.byte_pieces.specs.Places.{by_place, merged}
 use Rattle.reassembly_book.specs.State.{Arriving, filled, received, top}
-
--- bytes by their places, from place 0 on
-abbrev pub by_place : ℕ → List ℕ → List (Option ℕ)
-by_place at [] = []
-by_place at (byte ∷ bytes) = replicate at None ++ map Some (byte ∷ bytes)
-
--- a place that is empty takes its byte, and a filled one keeps its own
-abbrev pub merged : List (Option ℕ) → List (Option ℕ) → List (Option ℕ)
-merged [] others = others
-merged (place ∷ places) [] = place ∷ places
-merged (Some byte ∷ places) (other ∷ others) = Some byte ∷ merged places others
-merged (None ∷ places) (other ∷ others) = other ∷ merged places others
 
 -- Place: a byte is at or past this place
 abbrev pub reaches_past : ℕ → ℕ → List ℕ → Bool

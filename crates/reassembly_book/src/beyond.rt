@@ -1,128 +1,114 @@
-//! The places beyond the first gap, in order, each with its byte where it has one.
-ghost use Rattle.std.specs.Prelude.{◌≡◌, ◌+◌, ◌-◌, ◌^◌, ◌<◌, ◌≤◌, Some, None, [], ◌∷◌, ◌++◌, length, drop, replicate, map, count_by, is_some, OnOk, OnErr};
+//! The bytes beyond the first gap, and how they come into the ring when it closes.
+ghost use Rattle.std.specs.Prelude.{◌≡◌, ◌+◌, ◌-◌, ◌^◌, ◌<◌, ◌≤◌, Some, [], ◌++◌, length, drop, max, map, OnOk, OnErr};
 ghost use Rattle.circular_buffer.specs.Buffer.{buffer};
-ghost use Rattle.reassembly_book.specs.State.{filled};
-ghost use Rattle.reassembly_book.specs.Steps.{by_place, merged};
+ghost use Rattle.byte_pieces.specs.Places.{by_place, merged, filled, after_drop_front};
+ghost use Rattle.reassembly_book.specs.Kept.{IsFree};
 
+use byte_pieces::BytePieces;
 use circular_buffer::HeapCircularBuffer;
 use std::alloc::AllocError;
 
-fn count_filled(places: &[Option<u8>]) -> usize
-    ensures { result ≡ count_by is_some places.now }
+// Puts the bytes before the first gap into the ring, part by part.
+fn move_parts(ring: &mut HeapCircularBuffer<u8>, beyond: &BytePieces)
+    requires { length ring.old.items + length (filled beyond.now.places) ≤ ring.old.capacity }
+    ensures { ring.new ≡ buffer (ring.old.items ++ filled beyond.now.places) ring.old.capacity }
 {
-    places.iter().filter(|place| place.is_some()).count()
-}
-
-/// How many of these bytes stand at a place from `lead` on that has none.
-pub(crate) fn count_fresh(places: &[Option<u8>], lead: usize, bytes: &[u8]) -> usize
-    requires { lead + length bytes.now < 2 ^ 64 }
-    ensures { result + count_by is_some places.now ≡ count_by is_some (merged places.now (by_place lead bytes.now)) }
-{
-    let from = lead.min(places.len());
-    let to = (lead + bytes.len()).min(places.len());
-    bytes.len() - count_filled(&places[from..to])
-}
-
-// Puts the byte there, if there is none.
-fn fill_place(places: &mut [Option<u8>], index: usize, byte: u8)
-    requires { index < length places.old }
-    ensures { places.new ≡ merged places.old (by_place index (byte ∷ [])) }
-{
-    if places[index].is_none() {
-        places[index] = Some(byte);
+    for part in beyond.in_order() {
+        ring.fill_from_slice(part);
     }
-}
-
-// Puts the bytes at the places from `lead` on, where there is none.
-fn fill(places: &mut [Option<u8>], lead: usize, bytes: &[u8])
-    requires { lead + length bytes.now ≤ length places.old }
-    ensures { places.new ≡ merged places.old (by_place lead bytes.now) }
-{
-    let mut index = lead;
-    for byte in bytes {
-        fill_place(places, index, *byte);
-        index += 1;
-    }
-}
-
-// Puts the bytes of the first places, up to the first empty one, into the ring, and counts them.
-fn move_filled(ring: &mut HeapCircularBuffer<u8>, places: &[Option<u8>]) -> usize
-    requires { length ring.old.items + length places.now ≤ ring.old.capacity }
-    ensures count { result ≡ length (filled places.now) }
-    ensures ring { ring.new ≡ buffer (ring.old.items ++ filled places.now) ring.old.capacity }
-{
-    let mut count = 0;
-    for place in places {
-        let Some(byte) = place else {
-            return count;
-        };
-        ring.push_back(*byte);
-        count += 1;
-    }
-    count
-}
-
-fn remove_first(places: &mut Vec<Option<u8>>, count: usize)
-    requires { count ≤ length places.old.items }
-    ensures { places.new.items ≡ drop count places.old.items }
-{
-    places.drain(..count);
 }
 
 // Leaves the places from the first empty one on, and puts the bytes before it into the ring.
-fn close_gap(ring: &mut HeapCircularBuffer<u8>, beyond: &mut Vec<Option<u8>>)
-    requires { length ring.old.items + length beyond.old.items ≤ ring.old.capacity }
-    ensures ring { ring.new ≡ buffer (ring.old.items ++ filled beyond.old.items) ring.old.capacity }
-    ensures rest { beyond.new.items ≡ drop (length (filled beyond.old.items)) beyond.old.items }
+fn close_gap(ring: &mut HeapCircularBuffer<u8>, beyond: &mut BytePieces)
+    requires { length ring.old.items + length beyond.old.places ≤ ring.old.capacity }
+    ensures ring { ring.new ≡ buffer (ring.old.items ++ filled beyond.old.places) ring.old.capacity }
+    ensures rest { beyond.new ≡ after_drop_front (beyond.old.from + length (filled beyond.old.places)) beyond.old }
 {
-    let closed = move_filled(ring, beyond);
-    remove_first(beyond, closed);
+    move_parts(ring, beyond);
+    let end = beyond.in_order_end();
+    beyond.drop_front(end);
 }
 
-// Makes room for so many places.
-fn reach(beyond: &mut Vec<Option<u8>>, len: usize) -> Result<(), AllocError>
-    ensures ok { OnOk result (beyond.new.items ≡ beyond.old.items ++ replicate (len - length beyond.old.items) None) }
-    ensures err { OnErr result (beyond.new.items ≡ beyond.old.items) }
+// Puts the bytes that aren't before the gap into the ring. The first of them closes it.
+fn append(ring: &mut HeapCircularBuffer<u8>, beyond: &mut BytePieces, at: u64, bytes: &[u8])
+    requires begun { at ≤ beyond.old.from }
+    requires places { at + length bytes.now ≤ 2 ^ 62 }
+    requires room { length ring.old.items + at + length bytes.now ≤ beyond.old.from + ring.old.capacity }
+    requires fits { length ring.old.items ≤ ring.old.capacity }
+    ensures ring { ring.new ≡ buffer (ring.old.items ++ drop (beyond.old.from - at) bytes.now) ring.old.capacity }
+    ensures rest { beyond.new ≡ after_drop_front (max beyond.old.from (at + length bytes.now)) beyond.old }
 {
-    beyond.resize(beyond.len().max(len), None)
+    let known = bytes.len().min((beyond.from() - at) as usize);
+    ring.fill_from_slice(&bytes[known..]);
+    let end = beyond.from().max(at + bytes.len() as u64);
+    beyond.drop_front(end);
 }
 
-// Puts the bytes at the places from `lead` on, where there is none, or changes nothing where there is no memory.
-fn fill_in(beyond: &mut Vec<Option<u8>>, lead: usize, bytes: &[u8]) -> Result<(), AllocError>
-    requires { lead + length bytes.now ≤ 2 ^ 62 }
-    ensures ok { OnOk result (beyond.new.items ≡ merged beyond.old.items (by_place lead bytes.now)) }
-    ensures err { OnErr result (beyond.new.items ≡ beyond.old.items) }
+// How many of the bytes stand before the first one that is kept beyond the gap.
+fn count_direct(beyond: &BytePieces, at: u64, bytes: &[u8]) -> usize
+    requires begun { at ≤ beyond.now.from }
+    requires gap { filled beyond.now.places ≡ [] }
+    ensures within { result ≤ length bytes.now }
+    ensures free { IsFree (at + result - beyond.now.from) beyond.now.places }
+    ensures rest { result < length bytes.now → beyond.now.from ≤ at + result }
 {
-    if bytes.is_empty() {
-        return Ok(());
+    let gap = beyond.gap_len();
+    if gap == 0 {
+        return bytes.len();
     }
-    reach(beyond, lead + bytes.len())?;
-    fill(beyond, lead, bytes);
+    let first = beyond.from() + gap;
+    bytes.len().min((first - at) as usize)
+}
+
+// Puts bytes that begin at the gap or before it into the ring, and those behind them that were kept. Those that stand
+// before the first kept one go straight into it.
+fn fill_gap(
+    ring: &mut HeapCircularBuffer<u8>,
+    beyond: &mut BytePieces,
+    at: u64,
+    bytes: &[u8],
+) -> Result<(), AllocError>
+    requires begun { at ≤ beyond.old.from }
+    requires gap { filled beyond.old.places ≡ [] }
+    requires places { at + length bytes.now ≤ 2 ^ 62 }
+    requires fits { length ring.old.items + length beyond.old.places ≤ ring.old.capacity }
+    requires room { length ring.old.items + at + length bytes.now ≤ beyond.old.from + ring.old.capacity }
+    ensures places { OnOk result (map Some ring.new.items ++ beyond.new.places
+        ≡ map Some ring.old.items ++ merged beyond.old.places (drop beyond.old.from (by_place at bytes.now))) }
+    ensures from { OnOk result (beyond.new.from + length ring.old.items ≡ beyond.old.from + length ring.new.items) }
+    ensures gap { OnOk result (filled beyond.new.places ≡ []) }
+    ensures capacity { ring.new.capacity ≡ ring.old.capacity }
+    ensures err { OnErr result ((ring.new ≡ ring.old) × (beyond.new ≡ beyond.old)) }
+{
+    let direct = count_direct(beyond, at, bytes);
+    beyond.put(at + direct as u64, &bytes[direct..])?;
+    append(ring, beyond, at, &bytes[..direct]);
+    close_gap(ring, beyond);
     Ok(())
 }
 
-/// Puts the bytes at the places from `lead` on, where there is none, and those before the first gap into the ring.
+/// Puts the bytes at the places from `at` on, where there is none, and those before the first gap into the ring. Each byte
+/// is copied once, and one that was kept beyond the gap moves into the ring when the gap closes.
 pub(crate) fn take_in(
     ring: &mut HeapCircularBuffer<u8>,
-    beyond: &mut Vec<Option<u8>>,
-    lead: usize,
+    beyond: &mut BytePieces,
+    at: u64,
     bytes: &[u8],
 ) -> Result<(), AllocError>
-    requires gap { filled beyond.old.items ≡ [] }
-    requires places { lead + length bytes.now ≤ 2 ^ 62 }
-    requires fits { length ring.old.items + length beyond.old.items ≤ ring.old.capacity }
-    requires room { length ring.old.items + lead + length bytes.now ≤ ring.old.capacity }
-    ensures places { OnOk result (map Some ring.new.items ++ beyond.new.items
-        ≡ map Some ring.old.items ++ merged beyond.old.items (by_place lead bytes.now)) }
-    ensures gap { filled beyond.new.items ≡ [] }
+    requires gap { filled beyond.old.places ≡ [] }
+    requires places { at + length bytes.now ≤ 2 ^ 62 }
+    requires fits { length ring.old.items + length beyond.old.places ≤ ring.old.capacity }
+    requires room { length ring.old.items + at + length bytes.now ≤ beyond.old.from + ring.old.capacity }
+    ensures places { OnOk result (map Some ring.new.items ++ beyond.new.places
+        ≡ map Some ring.old.items ++ merged beyond.old.places (drop beyond.old.from (by_place at bytes.now))) }
+    ensures from { OnOk result (beyond.new.from + length ring.old.items ≡ beyond.old.from + length ring.new.items) }
+    ensures gap { OnOk result (filled beyond.new.places ≡ []) }
     ensures capacity { ring.new.capacity ≡ ring.old.capacity }
-    ensures err { OnErr result ((ring.new ≡ ring.old) × (beyond.new.items ≡ beyond.old.items)) }
+    ensures err { OnErr result ((ring.new ≡ ring.old) × (beyond.new ≡ beyond.old)) }
 {
-    if lead == 0 && beyond.is_empty() {
-        ring.fill_from_slice(bytes);
-        return Ok(());
+    if at <= beyond.from() {
+        return fill_gap(ring, beyond, at, bytes);
     }
-    fill_in(beyond, lead, bytes)?;
-    close_gap(ring, beyond);
+    beyond.put(at, bytes)?;
     Ok(())
 }

@@ -1,7 +1,8 @@
 ghost use Rattle.std.specs.Prelude.{◌≡◌, ◌+◌, ◌-◌, ◌^◌, ◌≤◌, ◌↔◌, [], true, length, take, drop, max, count_by, is_some, IfOk, OnOk, OnErr};
 
-use crate::beyond::{count_fresh, take_in};
+use crate::beyond::take_in;
 use crate::call::{ReassemblyCall, ReassemblyReply};
+use byte_pieces::BytePieces;
 use circular_buffer::HeapCircularBuffer;
 use pipe_model::Text;
 use stamped_book::Book;
@@ -16,8 +17,8 @@ pub struct ReassemblyBook {
     read: u64,
     /// The bytes from there on up to the first gap.
     ring: HeapCircularBuffer<u8>,
-    /// The places from there on, each with its byte where it has one. The first has none.
-    beyond: Vec<Option<u8>>,
+    /// The bytes beyond the gap, in pieces. They count from the gap on.
+    beyond: BytePieces,
     /// How many bytes there are in all, where that is known.
     known_end: Option<u64>,
     /// Whether the peer was the first to abort, where one did.
@@ -31,9 +32,9 @@ impl Model for ReassemblyBook {
 
     ghost use Rattle.reassembly_book.specs.Kept.{shown, IsKept};
 
-    ghost view = { λ b. shown b.read b.ring.items b.ring.capacity b.beyond.items b.known_end b.aborted };
+    ghost view = { λ b. shown b.read b.ring.items b.ring.capacity b.beyond.places b.known_end b.aborted };
 
-    ghost invariant = { λ b. IsKept b.read b.ring.items b.ring.capacity b.beyond.items b.known_end b.aborted };
+    ghost invariant = { λ b. IsKept b.read b.ring.items b.ring.capacity b.beyond b.known_end b.aborted };
 }
 
 impl ReassemblyBook {
@@ -51,7 +52,7 @@ impl ReassemblyBook {
             alloc,
             read: 0,
             ring: HeapCircularBuffer::with_capacity(alloc, capacity as usize)?,
-            beyond: Vec::new(alloc),
+            beyond: BytePieces::new(alloc, 0),
             known_end: None,
             aborted: None,
         })
@@ -86,7 +87,7 @@ impl ReassemblyBook {
         ensures value { result ≡ received self.now }
         ensures bound { result ≤ 2 ^ 62 }
     {
-        self.read + self.ring.len() as u64
+        self.beyond.from()
     }
 
     fn edge(&self) -> u64
@@ -99,7 +100,7 @@ impl ReassemblyBook {
     fn top(&self) -> u64
         ensures { result ≡ top self.now }
     {
-        self.received() + self.beyond.as_slice().len() as u64
+        self.beyond.top()
     }
 
     // Why the bytes aren't taken, where they aren't.
@@ -121,26 +122,12 @@ impl ReassemblyBook {
         }
     }
 
-    // How many places beyond the first gap are before these bytes, and the bytes that aren't before it.
-    fn aligned<'a>(&self, at: u64, bytes: &'a [u8]) -> (usize, &'a [u8])
-        requires { at + length bytes.now ≤ 2 ^ 62 }
-        ensures value { by_place result.0 result.1.now ≡ drop (received self.now) (by_place at bytes.now) }
-        ensures least { result.0 + received self.now ≤ max at (received self.now) }
-        ensures within { result.0 + length result.1.now + received self.now ≤ max (at + length bytes.now) (received self.now) }
-    {
-        let received = self.received();
-        let lead = at.saturating_sub(received) as usize;
-        let known = (received.saturating_sub(at) as usize).min(bytes.len());
-        (lead, &bytes[known..])
-    }
-
     // How many of the bytes are new.
     fn count_new(&self, at: u64, bytes: &[u8]) -> u64
         requires { at + length bytes.now ≤ 2 ^ 62 }
         ensures { result ≡ count_by is_some (places_after at bytes.now self.now) - count_by is_some self.now.places }
     {
-        let (lead, rest) = self.aligned(at, bytes);
-        count_fresh(&self.beyond, lead, rest) as u64
+        self.beyond.count_new(at, bytes)
     }
 
     fn place_reply(&self, at: u64, bytes: &Text) -> ReassemblyReply
@@ -169,8 +156,7 @@ impl ReassemblyBook {
         if bytes.is_empty() {
             return Ok(());
         }
-        let (lead, rest) = self.aligned(at, bytes);
-        take_in(&mut self.ring, &mut self.beyond, lead, rest)?;
+        take_in(&mut self.ring, &mut self.beyond, at, bytes)?;
         Ok(())
     }
 

@@ -1,19 +1,11 @@
-use Rattle.std.proofs.Common.{◌≡◌, ◌∙◌, sym, ap, ◌+◌, ◌-◌, ◌≤◌, ◌<◌, length, arith}
-use Rattle.reassembly_book.specs.State.{filled}
-use Rattle.reassembly_book.specs.Steps.{by_place, merged}
-use Rattle.reassembly_book.proofs.Bounds.{length-merged}
-use Rattle.reassembly_book.proofs.Merging.{by_place-le, taken-whole, filled-rest}
+use Rattle.std.proofs.Common.{◌∙◌, refl, sym, ap, ◌-◌, ◌<◌, arith}
+use Rattle.byte_pieces.specs.Places.{merged, filled}
+use Rattle.reassembly_book.proofs.Merging.{past-gap, gap-stays}
 use Rattle.reassembly_book.proofs.beyond.take_in.Goals as goal
 
-pub close_gap-requires : goal.close_gap-requires
-close_gap-requires c =
-    let others = by_place c.args.lead c.args.bytes.now in
-    omega (arith, ap length c.in_ok-fill_in.ensures.ok, length-merged c.args.beyond.now.items others, by_place-le c.args.lead c.args.bytes.now, c.requires.fits, c.requires.room)
-
-pub returns-clause-places : goal.returns-clause-places
-returns-clause-places c =
-    taken-whole c.args.ring.now.items c.close_gap.new.ring.items c.fill_in.new.beyond.items c.close_gap.new.beyond.items _
-    (ap (λ ring. ring.items) c.close_gap.ensures.ring) c.close_gap.ensures.rest c.in_ok-fill_in.ensures.ok
-
 pub returns-clause-gap : goal.returns-clause-gap
-returns-clause-gap c = ap filled c.close_gap.ensures.rest ∙ filled-rest c.fill_in.new.beyond.items
+returns-clause-gap c =
+    let past : c.args.beyond.now.from < c.args.at = omega (arith, c.from.ensures.value, c.if-at-from.false) in
+    let placed = past-gap c.args.at c.args.beyond.now.from (c.args.at - c.args.beyond.now.from) c.args.bytes.now (λ some. omega (arith, past)) refl in
+    ap (λ v. filled v.places) c.in_ok-put.ensures.ok ∙ ap (λ others. filled (merged c.args.beyond.now.places others)) (sym placed)
+    ∙ gap-stays (c.args.at - c.args.beyond.now.from) c.args.bytes.now c.args.beyond.now.places c.requires.gap (omega (arith, past))

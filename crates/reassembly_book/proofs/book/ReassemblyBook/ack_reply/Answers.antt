@@ -1,4 +1,4 @@
-use Rattle.std.proofs.Common.{◌≡◌, subst, ◌≤◌, arith}
+use Rattle.std.proofs.Common.{subst, arith}
 use Rattle.reassembly_book.specs.State.{IsSound}
 use Rattle.reassembly_book.proofs.Merging.{filled-le}
 use Rattle.reassembly_book.proofs.book.ReassemblyBook.ack_reply.Goals as goal

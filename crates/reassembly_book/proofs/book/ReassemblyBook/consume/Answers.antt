@@ -1,5 +1,4 @@
-use Rattle.std.proofs.Common.{◌≡◌, ◌∙◌, sym, ap, subst, ◌+◌, ◌-◌, ◌≤◌, length, drop, arith}
-use Rattle.reassembly_book.specs.Kept.{shown, IsKept}
+use Rattle.std.proofs.Common.{◌≡◌, ◌∙◌, ap, ◌-◌, ◌≤◌, length, drop, arith}
 use Rattle.reassembly_book.specs.Steps.{after_reading}
 use Rattle.reassembly_book.proofs.KeptParts.{waiting-shown, consumed-shown, consumed-kept}
 use Rattle.reassembly_book.proofs.book.ReassemblyBook.consume.Goals as goal

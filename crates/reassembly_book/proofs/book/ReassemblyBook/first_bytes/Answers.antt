@@ -1,4 +1,4 @@
-use Rattle.std.proofs.Common.{◌≡◌, ◌∙◌, sym, ap, take, ◌++◌, ◌-◌, length, arith}
+use Rattle.std.proofs.Common.{◌∙◌, sym, ap, take, ◌++◌, arith}
 use Rattle.reassembly_book.proofs.KeptParts.{waiting-shown, two-parts}
 use Rattle.reassembly_book.proofs.book.ReassemblyBook.first_bytes.Goals as goal
 

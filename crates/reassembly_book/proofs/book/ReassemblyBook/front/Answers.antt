@@ -1,4 +1,4 @@
-use Rattle.std.proofs.Common.{◌≡◌, ◌∙◌, sym, ap, ◌<◌, length, arith}
+use Rattle.std.proofs.Common.{◌≡◌, ◌∙◌, sym, ◌<◌, length, arith}
 use Rattle.reassembly_book.proofs.KeptParts.{waiting-shown, first-part, second-part, whole-part, none-part, some-part}
 use Rattle.reassembly_book.proofs.book.ReassemblyBook.front.Goals as goal
 

@@ -1,4 +1,4 @@
-use Rattle.std.proofs.Common.{◌≡◌, ◌∙◌, sym, ap, length}
+use Rattle.std.proofs.Common.{◌∙◌, sym, ap, length}
 use Rattle.reassembly_book.proofs.KeptParts.{waiting-shown}
 use Rattle.reassembly_book.proofs.book.ReassemblyBook.waiting.Goals as goal
 
