@@ -11,9 +11,9 @@ use Rattle.std.proofs.lemmas.List.Folds.{concat-append}
 use Rattle.pipe_model.specs.declared.pipe.Pipe.{Pipe}
 use Rattle.straight_segments.specs.declared.connection.Connection.{Connection}
 use Rattle.pipe_model.specs.Prefix.{IsPrefix}
-use Rattle.segment_wire.specs.Segment.{segment_text}
-use Rattle.straight_segments.specs.Segments.{from_a, data_segment}
-use Rattle.mptcp_run.specs.Log.{segment_line, piece_at, piece_line, first_lines}
+use Rattle.path_segments.specs.declared.spelling.Side.TheVariants.{A}
+use Rattle.straight_segments.specs.Segments.{data_segment}
+use Rattle.mptcp_run.specs.Log.{segment_line, said_line, piece_at, piece_line, first_lines}
 use Rattle.mptcp_run.specs.Sending.{IsClosed, next_piece, next_octets, after_piece}
 
 -- one piece more has one line more
@@ -98,7 +98,7 @@ pub next_line_is : (c : Connection) (start pipe : Pipe) (size index : ℕ) → 1
     → segment_line (next_octets c pipe size) ≡ piece_line c size start.written index
 next_line_is c start pipe size index h k e =
     let s = stands start pipe size index h k e in
-    ap (λ (p : ℕ × List ℕ). segment_line (segment_text from_a (data_segment c p.0 p.1)))
+    ap (λ (p : ℕ × List ℕ). said_line c A (data_segment c p.0 p.1))
     (let f : (pipe.read, next_piece pipe size) ≡ (index * size, piece_at size start.written index) = cc (read_is start pipe size index s, piece_is start pipe size index s) in f)
 
 -- what was read, and the next piece
