@@ -79,6 +79,19 @@ fn piece_octets(
     }
 }
 
+/// The piece that B hears in the octets of its segment.
+fn heard_piece<'a>(pipe: &Pipe, opened: &Opened, octets: &'a [u8], size: usize) -> &'a [u8]
+    requires sending { IsSending pipe.now size }
+    requires opened { IsOpened opened.now }
+    requires octets { octets.now ≡ next_octets opened.now.sender pipe.now size }
+    ensures { result.now ≡ next_piece pipe.now size }
+{
+    match hear_data(&opened.receiver, pipe.read, octets) {
+        Some(payload) => payload,
+        None => unreachable!(),
+    }
+}
+
 /// Takes the piece from the octets of its segment: B acknowledges it, and its reader reads it.
 fn receive<'a>(
     pipe: &mut Pipe,
@@ -93,16 +106,12 @@ fn receive<'a>(
     ensures after { OnOk result (pipe.new ≡ after_piece pipe.old (next_piece pipe.old size)) }
     ensures memory { IfErr result (λ status. status ≡ Status.Memory) }
 {
-    match hear_data(&opened.receiver, pipe.read, octets) {
-        Some(payload) => {
-            let to = pipe.read + payload.len() as u64;
-            step(pipe, &PipeStep::Ack { to, received: to })?;
-            let count = payload.len() as u64;
-            step(pipe, &PipeStep::Read { count })?;
-            Ok(payload)
-        }
-        None => unreachable!(),
-    }
+    let payload = heard_piece(pipe, opened, octets, size);
+    let to = pipe.read + payload.len() as u64;
+    step(pipe, &PipeStep::Ack { to, received: to })?;
+    let count = payload.len() as u64;
+    step(pipe, &PipeStep::Read { count })?;
+    Ok(payload)
 }
 
 /// Sends the next piece, and puts it to B's reader and its segment to the log.
