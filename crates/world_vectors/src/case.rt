@@ -6,7 +6,7 @@ use outside_kit::{FailAt, MemoryOutside, NamedFile};
 use std::alloc::{AllocError, Global};
 
 /// Why a line has no answer.
-#[derive(Clone, Copy, Debug, PartialEq, Eq)]
+#[derive(Clone, Copy)]
 pub enum CaseFault {
     /// The line is no case.
     Form,
@@ -21,7 +21,7 @@ impl From<AllocError> for CaseFault {
 }
 
 /// The fields of a case.
-#[derive(Clone, Copy, Debug)]
+#[derive(Clone, Copy)]
 pub struct Case<'a> {
     script: &'a str,
     file_a: &'a str,

@@ -13,7 +13,7 @@ mod names;
 use case::{Case, CaseFault};
 use mptcp_run::{Status, run};
 use names::Names;
-use outside_kit::{OpenGate, Outside, Port};
+use outside_kit::{MemoryOutside, OpenGate, Outside, Port};
 use std::alloc::{AllocError, Global};
 use std::io;
 
@@ -26,38 +26,58 @@ fn run_on<O: Outside>(alloc: Global, outside: &mut O) -> Result<Status, AllocErr
     Ok(run(alloc, &words, outside, &OpenGate))
 }
 
-/// The hexadecimal digits of octets, or `-` where there are none.
-fn digits(alloc: Global, octets: &[u8]) -> Result<String, AllocError> {
-    if octets.is_empty() {
-        return format!(in alloc; "-");
+/// Puts what a reader's port holds, as hexadecimal digits.
+fn put_port(alloc: Global, text: &mut String, name: &str, held: &[u8]) -> Result<(), AllocError> {
+    text.push_str(name)?;
+    if held.is_empty() {
+        return text.push('-');
     }
-    hex::encode(alloc, octets)
+    text.push_str(hex::encode(alloc, held)?.as_str())
 }
 
-/// The lines of a log, each on a line of its own, with `;` for its LF.
-fn lines(alloc: Global, log: &[u8]) -> Result<String, AllocError> {
-    let mut lines = String::new(alloc);
+/// Puts the lines of a log, each on a line of its own, with `;` for its LF.
+fn put_log(alloc: Global, text: &mut String, log: &[u8]) -> Result<(), AllocError> {
+    text.push_str("\n  log")?;
     for (place, line) in String::from_utf8_lossy(alloc, log)?.split('\n').enumerate() {
         if place > 0 {
-            lines.push(';')?;
+            text.push(';')?;
         }
         if !line.is_empty() {
-            lines.push_str("\n    ")?;
-            lines.push_str(line)?;
+            text.push_str("\n    ")?;
+            text.push_str(line)?;
         }
     }
-    Ok(lines)
+    Ok(())
 }
 
-/// How a case ends, and what each port holds then.
+/// The case, how it ended, and what each port holds.
+fn report(
+    alloc: Global,
+    line: &str,
+    status: Status,
+    outside: &MemoryOutside,
+) -> Result<String, AllocError> {
+    let mut text = format!(in alloc; "{line}\n  {status:?}")?;
+    put_port(
+        alloc,
+        &mut text,
+        "\n  read-by-b ",
+        outside.port(Port::ReadByB),
+    )?;
+    put_port(
+        alloc,
+        &mut text,
+        "\n  read-by-a ",
+        outside.port(Port::ReadByA),
+    )?;
+    put_log(alloc, &mut text, outside.port(Port::Log))?;
+    Ok(text)
+}
+
 fn answer(alloc: Global, line: &str) -> Result<String, CaseFault> {
     let mut outside = Case::read(line)?.outside(alloc)?;
     let status = run_on(alloc, &mut outside)?;
-    let read_by_b = digits(alloc, outside.port(Port::ReadByB))?;
-    let read_by_a = digits(alloc, outside.port(Port::ReadByA))?;
-    let log = lines(alloc, outside.port(Port::Log))?;
-    let read = format!(in alloc; "  read-by-b {read_by_b}\n  read-by-a {read_by_a}")?;
-    Ok(format!(in alloc; "{line}\n  {status:?}\n{read}\n  log{log}")?)
+    Ok(report(alloc, line, status, &outside)?)
 }
 
 /// Whether the readers' ports are bound under their own names.
