@@ -1,5 +1,5 @@
 -- What is said is heard.
-use Rattle.std.proofs.Common.{◌≡◌, ◌≢◌, refl, sym, ◌∙◌, ap, subst, ℕ, ◌+◌, ◌<◌, ◌≤◌, ◌^◌, ◌==◌, ◌&&◌, Bool, true, false, is_some, if◌then◌else◌, Option, Some, None, option_map, option_and_then, option_copied, Bor, List, [], ◌∷◌, length, map, ◌-◌, arith}
+use Rattle.std.proofs.Common.{◌≡◌, ◌≢◌, refl, sym, ◌∙◌, ap, ℕ, ◌+◌, ◌<◌, ◌≤◌, ◌^◌, ◌==◌, Bool, true, false, is_some, if◌then◌else◌, Option, Some, None, option_map, option_and_then, option_copied, Bor, List, [], ◌∷◌, length, map, ◌-◌, arith}
 use Rattle.std.specs.Prelude.{IfSome, pos, ◌-ℤ◌}
 use Rattle.std.proofs.lemmas.Int.{ints}
 use Rattle.seq_units.specs.Number.{IsNear}

@@ -1,19 +1,17 @@
 -- The segments of path 0 can be said.
-use Rattle.std.proofs.Common.{◌≡◌, refl, subst, sym, ℕ, ◌+◌, ◌<◌, ◌≤◌, ◌^◌, ◌==◌, Bool, true, false, if◌then◌else◌, Some, None, List, [], ◌∷◌, length, arith}
+use Rattle.std.proofs.Common.{refl, ℕ, ◌+◌, ◌<◌, ◌≤◌, ◌^◌, ◌==◌, true, false, if◌then◌else◌, Some, None, List, [], ◌∷◌, length, arith}
 use Rattle.std.proofs.lemmas.List.Elements.{All-nil, All-cons}
 use Rattle.std.specs.Prelude.{All}
 use Rattle.mptcp_options.specs.Text.{option_text}
 use Rattle.mptcp_options.specs.declared.capable.CapableKeys.TheVariants.{NoKey, Sender, Both, WithData}
 use Rattle.path_segments.specs.declared.segment.PathOption.TheVariants.{Dss}
 use Rattle.path_segments.specs.declared.segment.PathMapping.TheVariants.{Bytes}
-use Rattle.path_segments.specs.declared.spelling.Side.{Side}
 use Rattle.path_segments.specs.declared.spelling.Side.TheVariants.{A, B}
-use Rattle.path_segments.specs.declared.spelling.Spelling.{Spelling}
 use Rattle.path_segments.specs.Options.{PlainOption}
 use Rattle.path_segments.specs.Spelled.{PlainSegment, CanSay, CanSayOption}
 use Rattle.straight_segments.specs.declared.connection.Connection.{Connection}
 use Rattle.straight_segments.specs.Drawn.{FitsFields}
-use Rattle.straight_segments.specs.Segments.{spelling_of, capable, segment_with, syn, syn_ack, third_ack, data_option, data_segment}
+use Rattle.straight_segments.specs.Segments.{spelling_of, capable, segment_with, syn, syn_ack, third_ack, data_segment}
 
 pub just : {X : Type 0} (P : X → Type 0) (x : X) → P x → All P (x ∷ [])
 just P x h = All-cons P x [] h (All-nil P)

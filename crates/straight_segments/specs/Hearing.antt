@@ -1,5 +1,5 @@
 -- What an end takes from the octets of a segment that it expects at a position.
-use Rattle.std.specs.Prelude.{ℕ, ◌+◌, ◌-◌, Bool, true, false, not, ◌==◌, ◌&&◌, if◌then◌else◌, List, [], ◌∷◌, length, Option, Some, None, option_map, option_and_then}
+use Rattle.std.specs.Prelude.{ℕ, ◌+◌, ◌-◌, Bool, false, not, ◌==◌, ◌&&◌, if◌then◌else◌, List, ◌∷◌, length, Option, Some, None, option_and_then}
 use Rattle.capable_handshake.specs.Heard.{flag_on_syn, key_and_flag_on_syn_ack, keys_on_ack}
 use Rattle.mptcp_options.specs.declared.capable.CapableKeys.TheVariants.{WithData}
 use Rattle.mptcp_options.specs.Value as wire
