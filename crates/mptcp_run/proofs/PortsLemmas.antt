@@ -1,5 +1,5 @@
 -- What ports hold over several puts.
-use Rattle.std.proofs.Common.{◌≡◌, refl, sym, ◌∙◌, ap, ℕ, ◌+◌, min, length, List, [], ◌++◌, take, drop, Option, Some, None, append_assoc, subst, inl, inr, ◌∷◌, Result, Ok, Err, OnErr, IfSome, arith}
+use Rattle.std.proofs.Common.{◌≡◌, refl, sym, ◌∙◌, ap, ℕ, ◌+◌, min, length, List, [], ◌++◌, take, drop, Option, Some, None, append_assoc, subst, inl, inr, Result, Ok, Err, OnErr, IfSome, arith}
 use Rattle.std.proofs.Math.Seq.{take-append-add, take-nil, take-length}
 use Rattle.std.proofs.lemmas.List.{append-nil, take-append-drop, take-append-le, take_min}
 use Rattle.pipe_model.specs.Prefix.{IsPrefix}

@@ -132,7 +132,7 @@ next_piece-few pipe size sending = let greatest = sending.greatest in simp (leng
 pub heard_next : (sender receiver : Connection) (pipe : Pipe) (size : ℕ) (octets : List ℕ) (heard : Option (List ℕ)) → IsSending pipe size
     → receiver ≡ sender → FitsFields sender → octets ≡ next_octets sender pipe size
     → ((payload : List ℕ) → FitsFields receiver → 1 ≤ length payload → length payload ≤ 1432
-        → octets ≡ spelled_text (spelling_of receiver) A (data_segment receiver pipe.read payload) → heard ≡ Some payload)
+    → octets ≡ spelled_text (spelling_of receiver) A (data_segment receiver pipe.read payload) → heard ≡ Some payload)
     → heard ≡ Some (next_piece pipe size)
 heard_next sender receiver pipe size octets heard sending same fits e said =
     said (next_piece pipe size) (subst FitsFields (sym same) fits) (next_piece-some pipe size sending) (next_piece-few pipe size sending)

@@ -1,5 +1,5 @@
 -- A pipe from which a file is sent piece by piece, each read as soon as it was acknowledged.
-use Rattle.std.specs.Prelude.{◌≡◌, ℕ, ◌+◌, ◌^◌, ◌<◌, ◌≤◌, false, List, length, take, drop}
+use Rattle.std.specs.Prelude.{◌≡◌, ℕ, ◌+◌, ◌<◌, ◌≤◌, false, List, length, take, drop}
 use Rattle.pipe_model.specs.declared.pipe.Pipe.{Pipe}
 use Rattle.path_segments.specs.declared.spelling.Side.TheVariants.{A}
 use Rattle.path_segments.specs.Spelled.{spelled_text}

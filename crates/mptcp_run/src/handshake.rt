@@ -38,11 +38,7 @@ struct Opening {
 }
 
 /// A's SYN goes to B.
-fn exchange_syn(
-    alloc: Global,
-    lines: &mut String,
-    drawn: &Connection,
-) -> Result<(), AllocError>
+fn exchange_syn(alloc: Global, lines: &mut String, drawn: &Connection) -> Result<(), AllocError>
     requires { FitsFields drawn.now }
     ensures { OnOk result (string_bytes lines.new ≡ string_bytes lines.old ++ said_line drawn.now A (syn drawn.now)) }
 {

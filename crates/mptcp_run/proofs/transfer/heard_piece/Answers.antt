@@ -1,4 +1,3 @@
-use Rattle.std.proofs.Common.{◌≡◌, Some, None, option_copied}
 use Rattle.mptcp_run.proofs.SendingLemmas.{heard_next, next_piece-heard}
 use Rattle.mptcp_run.proofs.transfer.heard_piece.Goals as goal
 
