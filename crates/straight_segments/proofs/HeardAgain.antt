@@ -82,14 +82,14 @@ module _ (c : Connection) (fits : FitsFields c) (from : Side) (syn : Bool) (posi
 
 module _ (c : Connection) (fits : FitsFields c) where
   syn_is : heard_at c A 0 (spelled_text (spelling_of c) A (syn c)) ≡ Some (meant (syn c))
-  syn_is = again c fits A true 0 None (capable NoKey) [] (says_syn c fits) (omega arith) tt tt tt
+  syn_is = again c fits A true 0 None (capable NoKey) [] (says_syn c fits.buffer) (omega arith) tt tt tt
 
   syn_ack_is : heard_at c B 0 (spelled_text (spelling_of c) B (syn_ack c)) ≡ Some (meant (syn_ack c))
-  syn_ack_is = again c fits B true 0 (Some 1) (capable (Sender c.b.key)) [] (says_syn_ack c fits) (omega arith) near_start fits.key_of_b tt
+  syn_ack_is = again c fits B true 0 (Some 1) (capable (Sender c.b.key)) [] (says_syn_ack c fits.buffer) (omega arith) near_start fits.key_of_b tt
 
   third_ack_is : heard_at c A 1 (spelled_text (spelling_of c) A (third_ack c)) ≡ Some (meant (third_ack c))
   third_ack_is =
-      again c fits A false 1 (Some 1) (capable (Both c.a.key c.b.key)) [] (says_third_ack c fits) (omega arith) near_start (fits.key_of_a, fits.key_of_b) tt
+      again c fits A false 1 (Some 1) (capable (Both c.a.key c.b.key)) [] (says_third_ack c fits.buffer) (omega arith) near_start (fits.key_of_a, fits.key_of_b) tt
 
   module _ (octets : List ℕ) where
     pub syn_again : octets ≡ spelled_text (spelling_of c) A (syn c) → syn_heard c octets ≡ true
@@ -134,7 +134,7 @@ module _ (c : Connection) (fits : FitsFields c) (place : ℕ) (low : place + 1 <
 
   data_is : heard_at c A (place + 1) (spelled_text (spelling_of c) A (data_segment c place payload)) ≡ Some (meant (data_segment c place payload))
   data_is =
-      again c fits A false (place + 1) (Some 1) (data_option c place (length payload)) payload (says_data c fits place low payload few) low near_start
+      again c fits A false (place + 1) (Some 1) (data_option c place (length payload)) payload (says_data c fits.buffer place low payload few) low near_start
       (option_fits (place == 0)) (option_fresh (place == 0))
 
   place_again : (first : Bool) → (place == 0) ≡ first → place_and_length (map meant_option ((if first then capable (WithData c.a.key c.b.key (length payload) None)

@@ -10,18 +10,17 @@ use Rattle.path_segments.specs.declared.spelling.Side.TheVariants.{A, B}
 use Rattle.path_segments.specs.Options.{PlainOption}
 use Rattle.path_segments.specs.Spelled.{PlainSegment, CanSay, CanSayOption}
 use Rattle.straight_segments.specs.declared.connection.Connection.{Connection}
-use Rattle.straight_segments.specs.Drawn.{FitsFields}
 use Rattle.straight_segments.specs.Segments.{spelling_of, capable, segment_with, syn, syn_ack, third_ack, data_segment}
 
 pub just : {X : Type 0} (P : X → Type 0) (x : X) → P x → All P (x ∷ [])
 just P x h = All-cons P x [] h (All-nil P)
 
-module _ (c : Connection) (fits : FitsFields c) where
+module _ (c : Connection) (small : c.settings.buffer ≤ 2 ^ 20) where
   pub says_syn : CanSay (spelling_of c) A (syn c)
   unfolding option_text
   says_syn = record {
     path = omega arith;
-    window = fits.buffer;
+    window = small;
     options = just (CanSayOption (spelling_of c) A) (capable NoKey) (record { below = tt; form = tt });
     room = omega arith;
     fits = omega arith;
@@ -31,7 +30,7 @@ module _ (c : Connection) (fits : FitsFields c) where
   unfolding option_text
   says_syn_ack = record {
     path = omega arith;
-    window = fits.buffer;
+    window = small;
     options = just (CanSayOption (spelling_of c) B) (capable (Sender c.b.key)) (record { below = tt; form = tt });
     room = omega arith;
     fits = omega arith;
@@ -41,7 +40,7 @@ module _ (c : Connection) (fits : FitsFields c) where
   unfolding option_text
   says_third_ack = record {
     path = omega arith;
-    window = fits.buffer;
+    window = small;
     options = just (CanSayOption (spelling_of c) A) (capable (Both c.a.key c.b.key)) (record { below = tt; form = tt });
     room = omega arith;
     fits = omega arith;
@@ -55,7 +54,7 @@ module _ (c : Connection) (fits : FitsFields c) where
     unfolding option_text
     says_first = record {
       path = omega arith;
-      window = fits.buffer;
+      window = small;
       options = just (CanSayOption (spelling_of c) A) (capable (WithData c.a.key c.b.key (length payload) None)) (record { below = tt; form = refl });
       room = omega arith;
       fits = omega arith;
@@ -65,7 +64,7 @@ module _ (c : Connection) (fits : FitsFields c) where
     unfolding option_text
     says_later = record {
       path = omega arith;
-      window = fits.buffer;
+      window = small;
       options = just (CanSayOption (spelling_of c) A) (Dss (Some 0) (Some (Bytes place (place + 1) (length payload) false None)))
           (record { below = (omega arith, (omega arith, omega arith)); form = (refl, tt) });
       room = omega arith;

@@ -1,4 +1,5 @@
-//! What each end takes from the segments that open path 0 (RFC 8684, section 3.1).
+//! What each end takes from the segments that open path 0 (RFC 8684, section 3.1). The ends count from the initial numbers
+//! of the connection; of its keys B's own alone is looked at, at the third ACK, since no such segment has a data number.
 
 ghost use Rattle.std.specs.Prelude.{◌≡◌, true, Some, option_map, option_and_then};
 ghost use Rattle.capable_handshake.specs.Heard.{flag_on_syn, key_and_flag_on_syn_ack, keys_on_ack};

@@ -4,7 +4,6 @@ ghost use Rattle.std.specs.Prelude.{◌≡◌, ◌+◌, ◌^◌, ◌<◌, ◌≤
 ghost use Rattle.path_segments.specs.declared.spelling.Side.TheVariants.{A, B};
 ghost use Rattle.path_segments.specs.Options.{plain_option};
 ghost use Rattle.path_segments.specs.Spelled.{plain, spelled_text};
-ghost use Rattle.straight_segments.specs.Drawn.{FitsFields};
 ghost use Rattle.straight_segments.specs.Segments.{end_numbers, spelling_of, capable, segment_with, syn, syn_ack, third_ack, data_option, data_segment, payload_of};
 
 use crate::connection::{Connection, End, Settings};
@@ -115,13 +114,13 @@ impl Connection {
     }
 }
 
-/// The octets of A's SYN: MP_CAPABLE without a key (RFC 8684, section 3.1).
+/// The octets of A's SYN: MP_CAPABLE without a key (RFC 8684, section 3.1). The buffer is at most 1,048,576 octets.
 ///
 /// # Errors
 ///
 /// Only where there is no memory for the octets.
 pub fn write_syn(alloc: Global, connection: &Connection) -> Result<Vec<u8>, AllocError>
-    requires { FitsFields connection.now }
+    requires { connection.now.settings.buffer ≤ 2 ^ 20 }
     ensures { IfOk result (λ octets. octets.items ≡ spelled_text (spelling_of connection.now) A (syn connection.now)) }
 {
     let options = [capable(CapableKeys::NoKey)];
@@ -129,13 +128,13 @@ pub fn write_syn(alloc: Global, connection: &Connection) -> Result<Vec<u8>, Allo
     write(alloc, &connection.spelling(), Side::A, &segment)
 }
 
-/// The octets of B's SYN/ACK: MP_CAPABLE with B's key (RFC 8684, section 3.1).
+/// The octets of B's SYN/ACK: MP_CAPABLE with B's key (RFC 8684, section 3.1). The buffer is at most 1,048,576 octets.
 ///
 /// # Errors
 ///
 /// Only where there is no memory for the octets.
 pub fn write_syn_ack(alloc: Global, connection: &Connection) -> Result<Vec<u8>, AllocError>
-    requires { FitsFields connection.now }
+    requires { connection.now.settings.buffer ≤ 2 ^ 20 }
     ensures { IfOk result (λ octets. octets.items ≡ spelled_text (spelling_of connection.now) B (syn_ack connection.now)) }
 {
     let sender = connection.b.key;
@@ -144,13 +143,14 @@ pub fn write_syn_ack(alloc: Global, connection: &Connection) -> Result<Vec<u8>, 
     write(alloc, &connection.spelling(), Side::B, &segment)
 }
 
-/// The octets of A's ACK, which opens the path: MP_CAPABLE with A's key and B's (RFC 8684, section 3.1).
+/// The octets of A's ACK, which opens the path: MP_CAPABLE with A's key and B's (RFC 8684, section 3.1). The buffer is at
+/// most 1,048,576 octets.
 ///
 /// # Errors
 ///
 /// Only where there is no memory for the octets.
 pub fn write_third_ack(alloc: Global, connection: &Connection) -> Result<Vec<u8>, AllocError>
-    requires { FitsFields connection.now }
+    requires { connection.now.settings.buffer ≤ 2 ^ 20 }
     ensures { IfOk result (λ octets. octets.items ≡ spelled_text (spelling_of connection.now) A (third_ack connection.now)) }
 {
     let options = [capable(CapableKeys::Both {
@@ -165,7 +165,7 @@ pub fn write_third_ack(alloc: Global, connection: &Connection) -> Result<Vec<u8>
 
 /// The octets of A's segment that carries this payload, its first octet at `place` of the stream, counted from 0: both
 /// keys at place 0, and a DSS with a mapping behind it (RFC 8684, sections 3.1 and 3.3). The payload has at most 1,432
-/// octets, and the place is below 2^62 - 1.
+/// octets, the place is below 2^62 - 1, and the buffer is at most 1,048,576 octets.
 ///
 /// # Errors
 ///
@@ -176,7 +176,7 @@ pub fn write_data(
     place: u64,
     payload: &[u8],
 ) -> Result<Vec<u8>, AllocError>
-    requires fits { FitsFields connection.now }
+    requires buffer { connection.now.settings.buffer ≤ 2 ^ 20 }
     requires place { place + 1 < 2 ^ 62 }
     requires payload { length payload.now ≤ 1432 }
     ensures { IfOk result (λ octets. octets.items ≡ spelled_text (spelling_of connection.now) A (data_segment connection.now place payload.now)) }
