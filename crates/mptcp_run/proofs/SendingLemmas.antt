@@ -137,6 +137,3 @@ pub heard_next : (sender receiver : Connection) (pipe : Pipe) (size : ℕ) (octe
 heard_next sender receiver pipe size octets heard sending same fits e said =
     said (next_piece pipe size) (subst FitsFields (sym same) fits) (next_piece-some pipe size sending) (next_piece-few pipe size sending)
     (e ∙ ap (λ (c : Connection). next_octets c pipe size) (sym same))
-
-pub next_piece-heard : (payload piece : List ℕ) → Some payload ≡ Some piece → payload ≡ piece
-next_piece-heard payload piece e = cc (e)

@@ -80,6 +80,7 @@ fn piece_octets(
 }
 
 /// The piece that B hears in the octets of its segment.
+#[tactic(auto, using(crate::proofs::SendingLemmas::heard_next))]
 fn heard_piece<'a>(pipe: &Pipe, opened: &Opened, octets: &'a [u8], size: usize) -> &'a [u8]
     requires sending { IsSending pipe.now size }
     requires opened { IsOpened opened.now }

@@ -15,6 +15,7 @@ use path_segments::{HeardSegment, PathMapping, PathOption, Side};
 
 /// The payload of A's segment, where its first option maps all of it to this place of the stream, counted from 0 and
 /// below 2^62 - 1. None where it doesn't, and where the octets are no segment there.
+#[tactic(auto, using(crate::proofs::HeardAgain::data_again))]
 pub fn hear_data<'a>(connection: &Connection, place: u64, octets: &'a [u8]) -> Option<&'a [u8]>
     requires { place + 1 < 2 ^ 62 }
     ensures exact { option_copied result ≡ data_heard connection.now place octets.now }

@@ -18,6 +18,7 @@ use path_segments::Side;
 
 /// B's step at the SYN: whether the octets are a segment at position 0 with the option of a SYN that asks for no
 /// checksums. B acknowledges it up to position 1.
+#[tactic(auto, using(crate::proofs::HeardAgain::syn_again))]
 pub fn hear_syn(connection: &Connection, octets: &[u8]) -> bool
     ensures exact { result ≡ syn_heard connection.now octets.now }
     // A's own SYN is heard.
@@ -35,6 +36,7 @@ fn is_plain_syn(option: Option<MpOption<'_>>) -> bool
 
 /// A's step at the SYN/ACK: B's key, or None where the octets are no segment at position 0 with the option of a SYN/ACK
 /// that asks for no checksums.
+#[tactic(auto, using(crate::proofs::HeardAgain::syn_ack_again))]
 pub fn hear_syn_ack(connection: &Connection, octets: &[u8]) -> Option<u64>
     ensures exact { result ≡ syn_ack_heard connection.now octets.now }
     // B's own SYN/ACK is heard.
@@ -55,6 +57,7 @@ fn key_without_checksums(option: Option<MpOption<'_>>) -> Option<u64>
 
 /// B's step at the third ACK: A's key, or None where the octets are no segment at position 1 with both keys, of which
 /// the second is B's own.
+#[tactic(auto, using(crate::proofs::HeardAgain::third_ack_again))]
 pub fn hear_third_ack(connection: &Connection, octets: &[u8]) -> Option<u64>
     ensures exact { result ≡ third_ack_heard connection.now octets.now }
     // A's own third ACK is heard.
