@@ -1,5 +1,5 @@
 -- What ports hold over several puts.
-use Rattle.std.proofs.Common.{◌≡◌, refl, sym, ◌∙◌, ap, ℕ, ◌+◌, min, length, List, [], ◌++◌, take, drop, Option, Some, None, append_assoc, subst, inl, inr, ◌∷◌, Result, Ok, Err, OnErr, IfSome, arith}
+use Rattle.std.proofs.Common.{◌≡◌, refl, sym, ◌∙◌, ap, ℕ, ◌+◌, min, length, List, [], ◌++◌, take, drop, Option, Some, None, append_assoc, subst, inl, inr, Result, Ok, Err, OnErr, IfSome, arith}
 use Rattle.std.proofs.Math.Seq.{take-append-add, take-nil, take-length}
 use Rattle.std.proofs.lemmas.List.{append-nil, take-append-drop, take-append-le, take_min}
 use Rattle.pipe_model.specs.Prefix.{IsPrefix}
@@ -83,3 +83,8 @@ IfSome-each (Some x) P h = h x
 pub HoldsPrefix-whole : (a b c : Option (List ℕ)) (text : List ℕ) → HoldsAfter a b (λ held. held ++ text) → c ≡ b → HoldsPrefix a c text
 HoldsPrefix-whole None b c text h e = tt
 HoldsPrefix-whole (Some held) b c text h e = (length text, e ∙ h ∙ ap (λ xs. Some (held ++ xs)) (sym (take-length text)))
+
+-- a port that was bound, and stays so, holds no octet of a text
+pub HoldsBound-emptied : (a b c : Option (List ℕ)) → HoldsAfter a b (λ _. []) → c ≡ b → HoldsBound a c []
+HoldsBound-emptied None b c h e = tt
+HoldsBound-emptied (Some held) b c h e = inr (0, e ∙ h)

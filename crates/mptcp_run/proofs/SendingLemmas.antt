@@ -1,5 +1,5 @@
 -- What is sent and logged after each piece.
-use Rattle.std.proofs.Common.{◌≡◌, refl, sym, ◌∙◌, ap, ℕ, ◌+◌, ◌-◌, ◌*◌, ◌<◌, ◌≤◌, zero, suc, min, List, [], ◌∷◌, ◌++◌, length, take, drop, map, append_assoc, arith, subst}
+use Rattle.std.proofs.Common.{◌≡◌, refl, sym, ◌∙◌, ap, ℕ, ◌+◌, ◌-◌, ◌*◌, ◌<◌, ◌≤◌, zero, suc, min, List, [], ◌∷◌, ◌++◌, length, take, drop, map, append_assoc, arith, subst, Option, Some}
 use Rattle.std.specs.Int.{div_ceil}
 use Rattle.std.specs.List.{concat, range_with_len}
 use Rattle.std.proofs.Math.Nat.{mul-le-mul_left}
@@ -11,10 +11,12 @@ use Rattle.std.proofs.lemmas.List.Folds.{concat-append}
 use Rattle.pipe_model.specs.declared.pipe.Pipe.{Pipe}
 use Rattle.straight_segments.specs.declared.connection.Connection.{Connection}
 use Rattle.pipe_model.specs.Prefix.{IsPrefix}
-use Rattle.segment_wire.specs.Segment.{segment_text}
-use Rattle.straight_segments.specs.Segments.{from_a, data_segment}
-use Rattle.mptcp_run.specs.Log.{segment_line, piece_at, piece_line, first_lines}
-use Rattle.mptcp_run.specs.Sending.{IsClosed, next_piece, next_octets, after_piece}
+use Rattle.path_segments.specs.declared.spelling.Side.TheVariants.{A}
+use Rattle.path_segments.specs.Spelled.{spelled_text}
+use Rattle.straight_segments.specs.Drawn.{FitsFields}
+use Rattle.straight_segments.specs.Segments.{spelling_of, data_segment}
+use Rattle.mptcp_run.specs.Log.{segment_line, said_line, piece_at, piece_line, first_lines}
+use Rattle.mptcp_run.specs.Sending.{IsClosed, IsSending, next_piece, next_octets, after_piece}
 
 -- one piece more has one line more
 pub first_lines-more : (c : Connection) (size : ℕ) (file : List ℕ) (n : ℕ) → first_lines c size file (n + 1) ≡ first_lines c size file n ++ piece_line c size file n
@@ -98,7 +100,7 @@ pub next_line_is : (c : Connection) (start pipe : Pipe) (size index : ℕ) → 1
     → segment_line (next_octets c pipe size) ≡ piece_line c size start.written index
 next_line_is c start pipe size index h k e =
     let s = stands start pipe size index h k e in
-    ap (λ (p : ℕ × List ℕ). segment_line (segment_text from_a (data_segment c p.0 p.1)))
+    ap (λ (p : ℕ × List ℕ). said_line c A (data_segment c p.0 p.1))
     (let f : (pipe.read, next_piece pipe size) ≡ (index * size, piece_at size start.written index) = cc (read_is start pipe size index s, piece_is start pipe size index s) in f)
 
 -- what was read, and the next piece
@@ -118,3 +120,20 @@ next_lines_are c start pipe size index h k e =
 pub first_lines-none : (c : Connection) (size : ℕ) (file : List ℕ) → first_lines c size file 0 ≡ []
 unfolding first_lines
 first_lines-none c size file = refl
+
+-- some octets are left to be sent
+next_piece-some : (pipe : Pipe) (size : ℕ) → IsSending pipe size → 1 ≤ length (next_piece pipe size)
+next_piece-some pipe size sending = let least = sending.least in let unread = sending.unread in simp (length-take, length-drop) (omega (arith, least, unread))
+
+next_piece-few : (pipe : Pipe) (size : ℕ) → IsSending pipe size → length (next_piece pipe size) ≤ 1432
+next_piece-few pipe size sending = let greatest = sending.greatest in simp (length-take, length-drop) (omega (arith, greatest))
+
+-- B takes the next piece, since it takes what A says
+pub heard_next : (sender receiver : Connection) (pipe : Pipe) (size : ℕ) (octets : List ℕ) (heard : Option (List ℕ)) → IsSending pipe size
+    → receiver ≡ sender → FitsFields sender → octets ≡ next_octets sender pipe size
+    → ((payload : List ℕ) → FitsFields receiver → 1 ≤ length payload → length payload ≤ 1432
+    → octets ≡ spelled_text (spelling_of receiver) A (data_segment receiver pipe.read payload) → heard ≡ Some payload)
+    → heard ≡ Some (next_piece pipe size)
+heard_next sender receiver pipe size octets heard sending same fits e said =
+    said (next_piece pipe size) (subst FitsFields (sym same) fits) (next_piece-some pipe size sending) (next_piece-few pipe size sending)
+    (e ∙ ap (λ (c : Connection). next_octets c pipe size) (sym same))

@@ -3,18 +3,23 @@ use Rattle.std.specs.Prelude.{ℕ, ◌*◌, List, [], ◌∷◌, ◌++◌, lengt
 use Rattle.std.specs.Int.{div_ceil}
 use Rattle.std.specs.List.{concat, range_with_len}
 use Rattle.hex.specs.Hex.{encode_lower}
-use Rattle.segment_wire.specs.Segment.{segment_text}
+use Rattle.path_segments.specs.declared.spelling.Side.{Side}
+use Rattle.path_segments.specs.declared.spelling.Side.TheVariants.{A, B}
+use Rattle.path_segments.specs.Spelled.{PlainSegment, spelled_text}
 use Rattle.straight_segments.specs.declared.connection.Connection.{Connection}
-use Rattle.straight_segments.specs.Segments.{from_a, from_b, subflow_number, syn, syn_ack, third_ack, data_segment, payload_of}
+use Rattle.straight_segments.specs.Segments.{spelling_of, syn, syn_ack, third_ack, data_segment, payload_of}
 
 -- the octets of a segment in the log
 abbrev pub segment_line : List ℕ → List ℕ
 segment_line octets = codes "segment " ++ (encode_lower octets ++ (10 ∷ []))
 
+-- the line of what a side says
+abbrev pub said_line : Connection → Side → PlainSegment → List ℕ
+said_line c from segment = segment_line (spelled_text (spelling_of c) from segment)
+
 -- the lines of the segments that open path 0
 abbrev pub opening_lines : Connection → List ℕ
-opening_lines c =
-    segment_line (segment_text from_a (syn c.a c.settings)) ++ (segment_line (segment_text from_b (syn_ack (subflow_number c.a 1) c.b c.settings)) ++ segment_line (segment_text from_a (third_ack c)))
+opening_lines c = said_line c A (syn c) ++ (said_line c B (syn_ack c) ++ said_line c A (third_ack c))
 
 -- a file is cut into pieces of this size, the last one shorter
 abbrev pub piece_at : ℕ → List ℕ → ℕ → List ℕ
@@ -25,7 +30,7 @@ piece_count size file = div_ceil (length file) size
 
 -- the line of the segment that carries a piece
 abbrev pub piece_line : Connection → ℕ → List ℕ → ℕ → List ℕ
-piece_line c size file index = segment_line (segment_text from_a (data_segment c (index * size) (piece_at size file index)))
+piece_line c size file index = said_line c A (data_segment c (index * size) (piece_at size file index))
 
 -- the lines of the first segments of a file
 unfoldable pub first_lines : Connection → ℕ → List ℕ → ℕ → List ℕ

@@ -1,10 +1,12 @@
 -- A pipe from which a file is sent piece by piece, each read as soon as it was acknowledged.
-use Rattle.std.specs.Prelude.{◌≡◌, ℕ, ◌+◌, ◌^◌, ◌<◌, ◌≤◌, false, List, length, take, drop}
+use Rattle.std.specs.Prelude.{◌≡◌, ℕ, ◌+◌, ◌<◌, ◌≤◌, false, List, length, take, drop}
 use Rattle.pipe_model.specs.declared.pipe.Pipe.{Pipe}
-use Rattle.segment_wire.specs.Segment.{segment_text}
+use Rattle.path_segments.specs.declared.spelling.Side.TheVariants.{A}
+use Rattle.path_segments.specs.Spelled.{spelled_text}
 use Rattle.straight_segments.specs.declared.connection.Connection.{Connection}
 use Rattle.mptcp_run.specs.declared.handshake.Opened.{Opened}
-use Rattle.straight_segments.specs.Segments.{from_a, data_segment}
+use Rattle.straight_segments.specs.Drawn.{FitsFields}
+use Rattle.straight_segments.specs.Segments.{spelling_of, data_segment}
 
 -- the whole file was written, some of it isn't read yet, and it is sent in pieces of this size
 pub record IsSending (pipe : Pipe) (size : ℕ) : Type 0 where
@@ -20,13 +22,12 @@ next_piece pipe size = take size (drop pipe.read pipe.written)
 
 -- the octets of the segment that carries the next piece
 abbrev pub next_octets : Connection → Pipe → ℕ → List ℕ
-next_octets c pipe size = segment_text from_a (data_segment c pipe.read (next_piece pipe size))
+next_octets c pipe size = spelled_text (spelling_of c) A (data_segment c pipe.read (next_piece pipe size))
 
--- both ends know of each other what A says: B has A's key, and the window fits its field
+-- both ends know the same of the connection
 pub record IsOpened (opened : Opened) : Type 0 where
-  pub key : opened.key ≡ opened.sender.a.key
-  pub fits : opened.sender.b.key < 2 ^ 64
-  pub buffer : opened.sender.settings.buffer ≤ 2 ^ 20
+  pub same : opened.receiver ≡ opened.sender
+  pub fits : FitsFields opened.sender
 
 -- the pipe when this piece was acknowledged and read
 abbrev pub after_piece : Pipe → List ℕ → Pipe

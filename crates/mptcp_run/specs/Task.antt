@@ -1,8 +1,7 @@
 -- What a run is to do, and how far it came.
-use Rattle.std.specs.Prelude.{ℕ, ◌≤◌, List, length, Option, Some, IfSome, IsSomeAnd, IsOk}
+use Rattle.std.specs.Prelude.{ℕ, ◌≤◌, List, length, Option, option_map, option_and_then, IfSome, IsSomeAnd, IsOk}
 use Rattle.std.specs.Result.{result_ok}
 use Rattle.straight_segments.specs.declared.connection.Connection.{Connection}
-use Rattle.straight_segments.specs.Hearing.{◌>>=◌}
 use Rattle.mptcp_run.specs.declared.status.Status.{Status}
 use Rattle.mptcp_run.specs.declared.status.Status.TheVariants.{Delivered, Usage, Script, Load, Put, TooLong, Memory}
 use Rattle.mptcp_run.specs.declared.status.Named.{Named}
@@ -16,14 +15,20 @@ pub record Task : Type 0 where
   pub connection : Connection
   pub file_a : List ℕ
 
+-- the connection that the script of these names tells of, where its content is told and valid
+abbrev pub connection_of : (List ℕ → Option (List ℕ)) → Names → Option Connection
+connection_of content names = option_and_then (λ (told : List ℕ). result_ok (connection_in told)) (content names.script)
+
+-- with the file that A sends, where that is told
+abbrev pub task_with : Option (List ℕ) → Connection → Option Task
+task_with file_a connection = option_map (λ (told : List ℕ). record { connection = connection; file_a = told }) file_a
+
+abbrev pub task_named : (List ℕ → Option (List ℕ)) → Names → Option Task
+task_named content names = option_and_then (task_with (content names.file_a)) (connection_of content names)
+
 -- the task of a command line, where the words have their form, the contents are told and the script is valid
 abbrev pub task_of : (List ℕ → Option (List ℕ)) → List (List ℕ) → Option Task
-task_of content words = do
-  names ← names_in words
-  told ← content names.script
-  connection ← result_ok (connection_in told)
-  file_a ← content names.file_a
-  Some (record { connection = connection; file_a = file_a })
+task_of content words = option_and_then (task_named content) (names_in words)
 
 -- nothing was bound or put yet
 abbrev pub IsRefusal : Status → Type 0

@@ -4,10 +4,11 @@
 ghost use Rattle.std.specs.Prelude.{◌≡◌, ◌≢◌, ◌+◌, ◌^◌, ◌<◌, ◌≤◌, ◌++◌, IfOk, IfErr, OnOk, OnErr, string_bytes};
 ghost use Rattle.outside_kit.specs.Outside.{HoldsAfter, HoldsPrefix};
 ghost use Rattle.outside_kit.specs.declared.port.Port.{Port};
-ghost use Rattle.segment_wire.specs.Segment.{segment_text};
+ghost use Rattle.path_segments.specs.declared.spelling.Side.TheVariants.{A, B};
 ghost use Rattle.mptcp_run.specs.Ports.{NeverFall, IsPortsFault};
-ghost use Rattle.straight_segments.specs.Segments.{from_a, from_b, subflow_number, syn, syn_ack, third_ack};
-ghost use Rattle.mptcp_run.specs.Log.{segment_line, opening_lines};
+ghost use Rattle.straight_segments.specs.Drawn.{FitsFields};
+ghost use Rattle.straight_segments.specs.Segments.{syn, syn_ack, third_ack};
+ghost use Rattle.mptcp_run.specs.Log.{said_line, opening_lines};
 
 use crate::device::put;
 use crate::log::push_line;
@@ -15,17 +16,16 @@ use crate::status::Status;
 use outside_kit::{Outside, Port};
 use std::alloc::{AllocError, Global};
 use straight_segments::{
-    Connection, End, hear_syn, hear_syn_ack, hear_third_ack, write_syn, write_syn_ack,
-    write_third_ack,
+    Connection, hear_syn, hear_syn_ack, hear_third_ack, write_syn, write_syn_ack, write_third_ack,
 };
 
 /// What the ends know once path 0 is open.
 #[derive(Clone, Copy, Debug, PartialEq, Eq)]
 pub struct Opened {
-    /// What A knows of both.
+    /// What A knows of both: B's key as it heard it.
     pub sender: Connection,
-    /// A's key, as B heard it.
-    pub key: u64,
+    /// What B knows of both: A's key as it heard it.
+    pub receiver: Connection,
 }
 
 /// Path 0, once it is open.
@@ -37,58 +37,52 @@ struct Opening {
     lines: String,
 }
 
-/// A's SYN goes to B: the number up to which B acknowledges.
-fn exchange_syn(
-    alloc: Global,
-    lines: &mut String,
-    connection: &Connection,
-) -> Result<u32, AllocError>
-    ensures heard { IfOk result (λ ack. ack ≡ subflow_number connection.now.a 1) }
-    ensures lines { OnOk result (string_bytes lines.new ≡ string_bytes lines.old ++ segment_line (segment_text from_a (syn connection.now.a connection.now.settings))) }
+/// A's SYN goes to B.
+fn exchange_syn(alloc: Global, lines: &mut String, drawn: &Connection) -> Result<(), AllocError>
+    requires { FitsFields drawn.now }
+    ensures { OnOk result (string_bytes lines.new ≡ string_bytes lines.old ++ said_line drawn.now A (syn drawn.now)) }
 {
-    let octets = write_syn(alloc, &connection.a, &connection.settings)?;
+    let octets = write_syn(alloc, drawn)?;
     push_line(alloc, lines, &octets)?;
-    match hear_syn(&octets) {
-        Some(ack) => Ok(ack),
-        None => unreachable!(),
+    if !hear_syn(drawn, &octets) {
+        unreachable!();
     }
+    Ok(())
 }
 
-/// B's SYN/ACK goes to A: what B says of itself.
+/// B's SYN/ACK goes to A: B's key.
 fn exchange_syn_ack(
     alloc: Global,
     lines: &mut String,
-    connection: &Connection,
-    ack: u32,
-) -> Result<End, AllocError>
-    requires fits { connection.now.b.key < 2 ^ 64 }
-    ensures heard { IfOk result (λ end. end ≡ connection.now.b) }
-    ensures lines { OnOk result (string_bytes lines.new ≡ string_bytes lines.old ++ segment_line (segment_text from_b (syn_ack ack connection.now.b connection.now.settings))) }
+    drawn: &Connection,
+) -> Result<u64, AllocError>
+    requires { FitsFields drawn.now }
+    ensures heard { IfOk result (λ key. key ≡ drawn.now.b.key) }
+    ensures lines { OnOk result (string_bytes lines.new ≡ string_bytes lines.old ++ said_line drawn.now B (syn_ack drawn.now)) }
 {
-    let octets = write_syn_ack(alloc, &connection.b, &connection.settings, ack)?;
+    let octets = write_syn_ack(alloc, drawn)?;
     push_line(alloc, lines, &octets)?;
-    match hear_syn_ack(&octets) {
-        Some(end) => Ok(end),
+    match hear_syn_ack(drawn, &octets) {
+        Some(key) => Ok(key),
         None => unreachable!(),
     }
 }
 
-/// A's ACK with both keys goes to B, whose own key this is: A's key.
+/// A's ACK with both keys, as far as A knows them, goes to B: A's key.
 fn exchange_third_ack(
     alloc: Global,
     lines: &mut String,
-    connection: &Connection,
-    own: u64,
+    sender: &Connection,
+    drawn: &Connection,
 ) -> Result<u64, AllocError>
-    requires fits { connection.now.a.key < 2 ^ 64 }
-    requires own { connection.now.b.key ≡ own }
-    requires buffer { connection.now.settings.buffer ≤ 2 ^ 20 }
-    ensures heard { IfOk result (λ key. key ≡ connection.now.a.key) }
-    ensures lines { OnOk result (string_bytes lines.new ≡ string_bytes lines.old ++ segment_line (segment_text from_a (third_ack connection.now))) }
+    requires fits { FitsFields drawn.now }
+    requires same { sender.now ≡ drawn.now }
+    ensures heard { IfOk result (λ key. key ≡ drawn.now.a.key) }
+    ensures lines { OnOk result (string_bytes lines.new ≡ string_bytes lines.old ++ said_line drawn.now A (third_ack drawn.now)) }
 {
-    let octets = write_third_ack(alloc, connection)?;
+    let octets = write_third_ack(alloc, sender)?;
     push_line(alloc, lines, &octets)?;
-    match hear_third_ack(own, &octets) {
+    match hear_third_ack(drawn, &octets) {
         Some(key) => Ok(key),
         None => unreachable!(),
     }
@@ -96,24 +90,19 @@ fn exchange_third_ack(
 
 /// The three segments, one after another.
 fn shake_hands(alloc: Global, drawn: &Connection) -> Result<Opening, AllocError>
-    requires fits_a { drawn.now.a.key < 2 ^ 64 }
-    requires fits_b { drawn.now.b.key < 2 ^ 64 }
-    requires buffer { drawn.now.settings.buffer ≤ 2 ^ 20 }
+    requires { FitsFields drawn.now }
     ensures sender { IfOk result (λ opening. opening.opened.sender ≡ drawn.now) }
-    ensures key { IfOk result (λ opening. opening.opened.key ≡ drawn.now.a.key) }
+    ensures receiver { IfOk result (λ opening. opening.opened.receiver ≡ drawn.now) }
     ensures lines { IfOk result (λ opening. string_bytes opening.lines ≡ opening_lines drawn.now) }
 {
     let mut lines = String::new(alloc);
-    let ack = exchange_syn(alloc, &mut lines, drawn)?;
-    let b = exchange_syn_ack(alloc, &mut lines, drawn, ack)?;
-    let sender = Connection {
-        a: drawn.a,
-        b,
-        settings: drawn.settings,
-    };
-    let key = exchange_third_ack(alloc, &mut lines, &sender, drawn.b.key)?;
+    exchange_syn(alloc, &mut lines, drawn)?;
+    let mut sender = *drawn;
+    sender.b.key = exchange_syn_ack(alloc, &mut lines, drawn)?;
+    let mut receiver = *drawn;
+    receiver.a.key = exchange_third_ack(alloc, &mut lines, &sender, drawn)?;
     Ok(Opening {
-        opened: Opened { sender, key },
+        opened: Opened { sender, receiver },
         lines,
     })
 }
@@ -124,11 +113,9 @@ pub fn open_path<O: Outside>(
     outside: &mut O,
     drawn: &Connection,
 ) -> Result<Opened, Status>
-    requires fits_a { drawn.now.a.key < 2 ^ 64 }
-    requires fits_b { drawn.now.b.key < 2 ^ 64 }
-    requires buffer { drawn.now.settings.buffer ≤ 2 ^ 20 }
+    requires { FitsFields drawn.now }
     ensures sender { IfOk result (λ opened. opened.sender ≡ drawn.now) }
-    ensures key { IfOk result (λ opened. opened.key ≡ drawn.now.a.key) }
+    ensures receiver { IfOk result (λ opened. opened.receiver ≡ drawn.now) }
     ensures log { OnOk result (HoldsAfter (O.holds outside.old Port.Log) (O.holds outside.new Port.Log) (λ held. held ++ opening_lines drawn.now)) }
     ensures log_prefix { OnErr result (HoldsPrefix (O.holds outside.old Port.Log) (O.holds outside.new Port.Log) (opening_lines drawn.now)) }
     ensures fault { IfErr result (IsPortsFault (O.port_faults outside.old) (O.port_faults outside.new)) }

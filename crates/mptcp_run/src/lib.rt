@@ -14,6 +14,3 @@ mod words;
 pub use link_script::ScriptKind;
 pub use status::{Named, Status, fault_text};
 pub use top_call::run;
-
-#[cfg(test)]
-mod tests;

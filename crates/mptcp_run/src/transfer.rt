@@ -4,9 +4,8 @@
 ghost use Rattle.std.specs.Prelude.{◌≡◌, ◌+◌, ◌^◌, ◌<◌, ◌≤◌, ◌++◌, true, length, IfOk, IfErr, OnOk, OnErr, None, vec_len};
 ghost use Rattle.outside_kit.specs.Outside.{HoldsAfter, HoldsPrefix};
 ghost use Rattle.pipe_model.specs.Pipe.{opening, refusal, after, TakesMemory};
-ghost use Rattle.segment_wire.specs.Segment.{CanWrite};
 ghost use Rattle.mptcp_run.specs.Ports.{NeverFall, IsPortsFault};
-ghost use Rattle.straight_segments.specs.Segments.{data_segment};
+ghost use Rattle.straight_segments.specs.Drawn.{FitsFields};
 ghost use Rattle.mptcp_run.specs.Log.{segment_line, all_lines, sending_text};
 ghost use Rattle.mptcp_run.specs.Sending.{IsSending, next_piece, next_octets, after_piece, IsClosed, IsOpened};
 
@@ -70,14 +69,27 @@ fn piece_octets(
     size: usize,
 ) -> Result<Vec<u8>, Status>
     requires sending { IsSending pipe.now size }
-    requires buffer { connection.now.settings.buffer ≤ 2 ^ 20 }
+    requires fits { FitsFields connection.now }
     ensures ok { IfOk result (λ octets. octets.items ≡ next_octets connection.now pipe.now size) }
-    ensures readable { OnOk result (CanWrite (data_segment connection.now pipe.now.read (next_piece pipe.now size))) }
     ensures memory { IfErr result (λ status. status ≡ Status.Memory) }
 {
     match write_data(alloc, connection, pipe.read, next_piece(pipe, size)) {
         Ok(octets) => Ok(octets),
         Err(AllocError) => Err(Status::Memory),
+    }
+}
+
+/// The piece that B hears in the octets of its segment.
+#[tactic(auto, using(crate::proofs::SendingLemmas::heard_next))]
+fn heard_piece<'a>(pipe: &Pipe, opened: &Opened, octets: &'a [u8], size: usize) -> &'a [u8]
+    requires sending { IsSending pipe.now size }
+    requires opened { IsOpened opened.now }
+    requires octets { octets.now ≡ next_octets opened.now.sender pipe.now size }
+    ensures { result.now ≡ next_piece pipe.now size }
+{
+    match hear_data(&opened.receiver, pipe.read, octets) {
+        Some(payload) => payload,
+        None => unreachable!(),
     }
 }
 
@@ -91,21 +103,16 @@ fn receive<'a>(
     requires sending { IsSending pipe.old size }
     requires opened { IsOpened opened.now }
     requires octets { octets.now ≡ next_octets opened.now.sender pipe.old size }
-    requires readable { CanWrite (data_segment opened.now.sender pipe.old.read (next_piece pipe.old size)) }
     ensures ok { IfOk result (λ payload. payload.now ≡ next_piece pipe.old size) }
     ensures after { OnOk result (pipe.new ≡ after_piece pipe.old (next_piece pipe.old size)) }
     ensures memory { IfErr result (λ status. status ≡ Status.Memory) }
 {
-    match hear_data(opened.key, pipe.read, octets) {
-        Some(payload) => {
-            let to = pipe.read + payload.len() as u64;
-            step(pipe, &PipeStep::Ack { to, received: to })?;
-            let count = payload.len() as u64;
-            step(pipe, &PipeStep::Read { count })?;
-            Ok(payload)
-        }
-        None => unreachable!(),
-    }
+    let payload = heard_piece(pipe, opened, octets, size);
+    let to = pipe.read + payload.len() as u64;
+    step(pipe, &PipeStep::Ack { to, received: to })?;
+    let count = payload.len() as u64;
+    step(pipe, &PipeStep::Read { count })?;
+    Ok(payload)
 }
 
 /// Sends the next piece, and puts it to B's reader and its segment to the log.
@@ -174,8 +181,6 @@ pub fn transfer<O: Outside>(
     file: Vec<u8>,
 ) -> Result<(), Status>
     requires opened { IsOpened opened.now }
-    requires least { 200 ≤ opened.now.sender.settings.mss }
-    requires greatest { opened.now.sender.settings.mss ≤ 1460 }
     requires limit { vec_len file ≤ 16777216 }
 
     ensures read_by_b { OnOk result (HoldsAfter (O.holds outside.old Port.ReadByB) (O.holds outside.new Port.ReadByB) (λ held. held ++ file.items)) }

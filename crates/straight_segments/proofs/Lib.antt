@@ -1,2 +1,2 @@
-mod Carried
+mod Said
 mod HeardAgain

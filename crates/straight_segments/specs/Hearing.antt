@@ -1,105 +1,90 @@
--- What an end takes from a segment.
-use Rattle.std.specs.Prelude.{ℕ, ◌+◌, ◌-◌, ◌^◌, ◌==◌, ◌&&◌, nat_le, length, false, if◌then◌else◌, List, [], ◌∷◌, Option, Some, None, option_map, option_and_then}
-use Rattle.std.specs.Result.{result_ok}
+-- What an end takes from the octets of a segment that it expects at a position.
+use Rattle.std.specs.Prelude.{ℕ, ◌+◌, ◌-◌, Bool, false, not, ◌==◌, ◌&&◌, if◌then◌else◌, List, ◌∷◌, length, Option, Some, None, option_and_then}
 use Rattle.capable_handshake.specs.Heard.{flag_on_syn, key_and_flag_on_syn_ack, keys_on_ack}
-use Rattle.seq_units.specs.Number.{number_of, position_near, below}
-use Rattle.key_material.specs.KeyDigest.{idsn_of}
 use Rattle.mptcp_options.specs.declared.capable.CapableKeys.TheVariants.{WithData}
-use Rattle.mptcp_options.specs.declared.dss.DataNumber.{DataNumber}
-use Rattle.mptcp_options.specs.declared.dss.DataNumber.TheVariants.{Whole, Low}
-use Rattle.mptcp_options.specs.declared.dss.DssMap.{DssMap}
-use Rattle.straight_segments.specs.declared.connection.End.{End}
-use Rattle.segment_wire.specs.Options.{option_octets}
-use Rattle.segment_wire.specs.Segment.{Segment}
-use Rattle.segment_wire.specs.Reading.{segment_meaning}
-use Rattle.segment_wire.specs.declared.head.Addresses.{Addresses}
-use Rattle.mptcp_options.specs.Value.{OptionValue, Capable, Dss, Meaning, Known, Unknown, Malformed, value_of}
-use Rattle.mptcp_options.specs.Meaning.{option_meaning}
-use Rattle.straight_segments.specs.declared.hearing.Heard.{Heard}
+use Rattle.mptcp_options.specs.Value as wire
+use Rattle.path_segments.specs.declared.expected.Expected.{Expected}
+use Rattle.path_segments.specs.declared.segment.PathSegment.{PathSegment}
+use Rattle.path_segments.specs.declared.segment.PathOption.{PathOption}
+use Rattle.path_segments.specs.declared.segment.PathOption.TheVariants.{Capable, Dss}
+use Rattle.path_segments.specs.declared.segment.PathMapping.TheVariants.{Bytes}
+use Rattle.path_segments.specs.declared.spelling.Side.{Side}
+use Rattle.path_segments.specs.declared.spelling.Side.TheVariants.{A, B}
+use Rattle.path_segments.specs.Heard.{heard_in}
+use Rattle.straight_segments.specs.declared.connection.Connection.{Connection}
+use Rattle.straight_segments.specs.Segments.{spelling_of}
 
--- the option that is meant, or what else there is
-abbrev pub known_or : Meaning → Option OptionValue → Option OptionValue
-known_or (Known option) others = Some option
-known_or Unknown others = others
-known_or Malformed others = others
+abbrev pub HeardOption : Type 0
+HeardOption = PathOption (Option ℕ) (List ℕ)
 
--- the first of these options that is known, where no checksums are used
-abbrev pub first_known : List (List ℕ) → Option OptionValue
-first_known [] = None
-first_known (option ∷ options) = known_or (option_meaning option false) (first_known options)
+abbrev pub HeardPlain : Type 0
+HeardPlain = PathSegment (Option ℕ) (List HeardOption) (List ℕ)
 
--- the sequence number, the option of Multipath TCP and the payload
-pub record HeardValue : Type 0 where
-  pub seq : ℕ
-  pub option : Option OptionValue
-  pub payload : List ℕ
+-- Position 1 and those behind it carry the stream from place 0 on. No data of the hearer is acknowledged, and of its
+-- subflow the SYN at most.
+abbrev pub expected_at : ℕ → Expected
+expected_at position = record { edge = position; unacknowledged = 0; told = 0; place = position - 1 }
 
-abbrev pub heard_in : Segment → HeardValue
-heard_in segment = record { seq = segment.head.seq; option = first_known (option_octets segment.options); payload = segment.payload }
+abbrev pub is_at : ℕ → Option ℕ → Bool
+is_at position None = false
+is_at position (Some other) = other == position
 
-abbrev pub heard_value : Heard → HeardValue
-heard_value heard = record { seq = heard.seq; option = option_map value_of heard.option; payload = heard.payload.now }
+-- the segment, where it begins at the position
+abbrev pub only_at : ℕ → HeardPlain → Option HeardPlain
+only_at position heard = if is_at position heard.position then Some heard else None
 
-abbrev pub shown : Option Heard → Option HeardValue
-shown heard = option_map heard_value heard
-
--- what is heard in octets that went between these addresses, where they are a segment
-abbrev pub heard_between : Addresses → List ℕ → Option HeardValue
-heard_between addresses octets = option_map heard_in (result_ok (segment_meaning addresses octets))
+-- what octets say that a side sent from this position on, where they are such a segment
+abbrev pub heard_at : Connection → Side → ℕ → List ℕ → Option HeardPlain
+heard_at c from position octets = option_and_then (only_at position) (heard_in (spelling_of c) from (expected_at position) octets)
 
 -- ---- the steps of the ends
 
--- a SYN that asks for no checksums is acknowledged up to the number behind its own
-abbrev pub syn_heard : HeardValue → Option ℕ
-syn_heard heard = option_and_then (λ flag_a. if flag_a then None else Some (number_of (2 ^ 32) heard.seq 1)) (flag_on_syn heard.option)
+-- the first option, where it is an MP_CAPABLE
+abbrev pub first_capable : List HeardOption → Option wire.OptionValue
+first_capable (Capable flag_a flag_c keys ∷ options) = Some (wire.Capable flag_a flag_c keys)
+first_capable options = None
 
--- a SYN/ACK without checksums tells B's key and number
-abbrev pub syn_ack_heard : HeardValue → Option End
-syn_ack_heard heard =
-    option_and_then (λ (key, flag_a). if flag_a then None else Some (record { key = key; iss = heard.seq })) (key_and_flag_on_syn_ack heard.option)
+abbrev pub capable_at : Connection → Side → ℕ → List ℕ → Option wire.OptionValue
+capable_at c from position octets = option_and_then (λ (heard : HeardPlain). first_capable heard.options) (heard_at c from position octets)
+
+-- a SYN that asks for no checksums
+abbrev pub is_plain_syn : Option Bool → Bool
+is_plain_syn None = false
+is_plain_syn (Some flag_a) = not flag_a
+
+-- B takes A's SYN
+abbrev pub syn_heard : Connection → List ℕ → Bool
+syn_heard c octets = is_plain_syn (flag_on_syn (capable_at c A 0 octets))
+
+abbrev pub key_without_checksums : ℕ × Bool → Option ℕ
+key_without_checksums (key, flag_a) = if flag_a then None else Some key
+
+-- a SYN/ACK without checksums tells B's key
+abbrev pub syn_ack_heard : Connection → List ℕ → Option ℕ
+syn_ack_heard c octets = option_and_then key_without_checksums (key_and_flag_on_syn_ack (capable_at c B 0 octets))
 
 -- the sender's key, where the receiver's is this one
 abbrev pub sender_to : ℕ → ℕ × ℕ → Option ℕ
 sender_to own (sender, receiver) = if receiver == own then Some sender else None
 
 -- an ACK with both keys tells A's, where the second one is B's own
-abbrev pub third_ack_heard : ℕ → HeardValue → Option ℕ
-third_ack_heard own heard = option_and_then (sender_to own) (keys_on_ack heard.option)
+abbrev pub third_ack_heard : Connection → List ℕ → Option ℕ
+third_ack_heard c octets = option_and_then (sender_to c.b.key) (keys_on_ack (capable_at c A 1 octets))
 
 -- ---- data
 
-infixl 10 ◌>>=◌
-abbrev pub ◌>>=◌ : {A B : Type 0} → Option A → (A → Option B) → Option B
-None >>= f = None
-(Some x) >>= f = f x
+-- The place and the length that the first option tells: both keys with data stand for place 0.
+abbrev pub place_and_length : List HeardOption → Option (ℕ × ℕ)
+place_and_length (Capable flag_a flag_c (WithData sender receiver len checksum) ∷ options) = Some (0, len)
+place_and_length (Dss next (Some (Bytes (Some place) position len fin checksum)) ∷ options) = Some (place, len)
+place_and_length options = None
 
--- the place of the stream that a data number names, beside the next one, where the key's owner sends it
-unfoldable pub place_named : ℕ → ℕ → ℕ → Option ℕ
-place_named key next number = do
-  position ← below (2 ^ 62) (position_near (2 ^ 64) (idsn_of key) (next + 1) number)
-  if nat_le 1 position then Some (position - 1) else None
+-- the payload, where the first option maps all of it to this place
+abbrev pub mapped_to : ℕ → HeardPlain → Option (List ℕ)
+mapped_to place heard =
+    option_and_then (λ (mapped : ℕ × ℕ). if mapped.0 == place && mapped.1 == length heard.payload then Some heard.payload else None)
+    (place_and_length heard.options)
 
--- a data number of eight octets
-abbrev pub whole_number : DataNumber → Option ℕ
-whole_number (Whole number) = Some number
-whole_number (Low number) = None
-
--- the place and the length that a mapping tells
-unfoldable pub mapped_by : ℕ → ℕ → DssMap → Option (ℕ × ℕ)
-mapped_by key next mapping = do
-  number ← whole_number mapping.number
-  place ← place_named key next number
-  Some (place, mapping.length)
-
--- The place and the length that an option tells: both keys with data stand for place 0.
-abbrev pub place_and_length : ℕ → ℕ → OptionValue → Option (ℕ × ℕ)
-place_and_length key next (Capable flag_a flag_c (WithData sender receiver length checksum)) = Some (0, length)
-place_and_length key next (Dss ack (Some mapping) fin) = mapped_by key next mapping
-place_and_length key next option = None
-
--- the payload, where its option maps all of it to the next place
-unfoldable pub data_heard : ℕ → ℕ → HeardValue → Option (List ℕ)
-data_heard key next heard = do
-  option ← heard.option
-  mapped ← place_and_length key next option
-  if mapped.0 == next && mapped.1 == length heard.payload then Some heard.payload else None
+-- B takes the payload of A's segment at this place
+abbrev pub data_heard : Connection → ℕ → List ℕ → Option (List ℕ)
+data_heard c place octets = option_and_then (mapped_to place) (heard_at c A (place + 1) octets)

@@ -1,83 +1,69 @@
 //! What B takes from a data segment of A.
 
-ghost use Rattle.std.specs.Prelude.{◌≡◌, ◌+◌, ◌^◌, ◌<◌, ◌≤◌, ℕ, List, length, Some, option_and_then, option_copied};
-ghost use Rattle.segment_wire.specs.Segment.{CanWrite, segment_text};
-ghost use Rattle.mptcp_options.specs.Value.{value_of};
-ghost use Rattle.straight_segments.specs.declared.connection.Connection.{Connection};
-ghost use Rattle.straight_segments.specs.Hearing.{heard_value, heard_between, place_named, mapped_by, place_and_length, data_heard};
-ghost use Rattle.straight_segments.specs.Segments.{from_a, data_segment};
+ghost use Rattle.std.specs.Prelude.{◌≡◌, ◌+◌, ◌^◌, ◌<◌, ◌≤◌, ℕ, List, length, Some, option_copied, option_map, option_and_then};
+ghost use Rattle.path_segments.specs.declared.spelling.Side.TheVariants.{A};
+ghost use Rattle.path_segments.specs.HeardSegments.{heard_value};
+ghost use Rattle.path_segments.specs.Spelled.{spelled_text};
+ghost use Rattle.straight_segments.specs.Drawn.{FitsFields};
+ghost use Rattle.straight_segments.specs.Hearing.{place_and_length, mapped_to, data_heard};
+ghost use Rattle.straight_segments.specs.Segments.{spelling_of, data_segment};
 
-use crate::hearing::{Heard, hear};
-use crate::saying::FROM_A;
-use key_material::idsn;
-use mptcp_options::{CapableKeys, DataNumber, DssMap, MpOption};
-use seq_units::{Seq64, near64};
+use crate::connection::Connection;
+use crate::hearing::hear_at;
+use mptcp_options::CapableKeys;
+use path_segments::{HeardSegment, PathMapping, PathOption, Side};
 
-/// The payload of A's segment, where its option maps all of it to the place `next` of the stream, counted from 0 and
-/// below 2^31; `key` is A's. None where it doesn't, where its data number has four octets, and where the octets are no
-/// segment.
-pub fn hear_data<'a>(key: u64, next: u64, octets: &'a [u8]) -> Option<&'a [u8]>
-    requires { next < 2 ^ 31 }
-    ensures exact { option_copied result ≡ option_and_then (data_heard key next) (heard_between from_a octets.now) }
-    // A's own segment of the next place is heard.
-    ensures said { (c : Connection) (payload : List ℕ) → c.a.key ≡ key → c.b.key < 2 ^ 64 → length payload ≤ 1432
-        → CanWrite (data_segment c next payload) → octets.now ≡ segment_text from_a (data_segment c next payload)
+/// The payload of A's segment, where its first option maps all of it to this place of the stream, counted from 0 and
+/// below 2^62 - 1. None where it doesn't, and where the octets are no segment there.
+#[tactic(auto, using(crate::proofs::HeardAgain::data_again))]
+pub fn hear_data<'a>(connection: &Connection, place: u64, octets: &'a [u8]) -> Option<&'a [u8]>
+    requires { place + 1 < 2 ^ 62 }
+    ensures exact { option_copied result ≡ data_heard connection.now place octets.now }
+    // A's own segment of this place is heard.
+    ensures said { (payload : List ℕ) → FitsFields connection.now → 1 ≤ length payload → length payload ≤ 1432
+        → octets.now ≡ spelled_text (spelling_of connection.now) A (data_segment connection.now place payload)
         → option_copied result ≡ Some payload }
 {
-    data_step(key, next, &hear(octets, &FROM_A)?)
+    mapped_to(place, hear_at(connection, Side::A, place + 1, octets))
 }
 
-#[tactic(auto, unfolding(crate::specs::Hearing::data_heard))]
-fn data_step<'a>(key: u64, next: u64, heard: &Heard<'a>) -> Option<&'a [u8]>
-    requires { next < 2 ^ 31 }
-    ensures { option_copied result ≡ data_heard key next (heard_value heard.now) }
+/// The payload of a segment whose first option maps all of it to this place.
+fn mapped_to<'a>(place: u64, heard: Option<HeardSegment<'a>>) -> Option<&'a [u8]>
+    ensures { option_copied result ≡ option_and_then (mapped_to place) (option_map heard_value heard.entry) }
 {
-    let option = heard.option?;
-    let (place, length) = place_and_length(key, next, &option)?;
-    if place == next && usize::from(length) == heard.payload.len() {
+    let heard = heard?;
+    let (first, length) = place_and_length(&heard)?;
+    if first == place && usize::from(length) == heard.payload.len() {
         Some(heard.payload)
     } else {
         None
     }
 }
 
-/// The place and the length that an option tells: both keys with data stand for place 0.
-fn place_and_length(key: u64, next: u64, option: &MpOption<'_>) -> Option<(u64, u16)>
-    requires { next < 2 ^ 31 }
-    ensures { result ≡ place_and_length key next (value_of option.now) }
+/// The place and the length that the first option tells: both keys with data stand for place 0.
+fn place_and_length(heard: &HeardSegment<'_>) -> Option<(u64, u16)>
+    ensures { result ≡ place_and_length (heard_value heard.now).options }
 {
-    match option {
-        MpOption::Capable {
-            keys: CapableKeys::WithData { length, .. },
-            ..
-        } => Some((0, *length)),
-        MpOption::Dss {
-            mapping: Some(mapping),
-            ..
-        } => mapped_by(key, next, mapping),
+    let mut options = heard.options;
+    match options.next() {
+        Some(
+            PathOption::Capable {
+                keys: CapableKeys::WithData { length, .. },
+                ..
+            },
+        ) => Some((0, length)),
+        Some(
+            PathOption::Dss {
+                mapping: Some(
+                    PathMapping::Bytes {
+                        place: Some(place),
+                        length,
+                        ..
+                    },
+                ),
+                ..
+            },
+        ) => Some((place, length)),
         _ => None,
     }
-}
-
-/// The place and the length that a mapping tells.
-#[tactic(auto, unfolding(crate::specs::Hearing::mapped_by))]
-fn mapped_by(key: u64, next: u64, mapping: &DssMap) -> Option<(u64, u16)>
-    requires { next < 2 ^ 31 }
-    ensures { result ≡ mapped_by key next mapping.now }
-{
-    let DataNumber::Whole(number) = mapping.number else {
-        return None;
-    };
-    let place = place_named(key, next, number)?;
-    Some((place, mapping.length))
-}
-
-/// The place of the stream that a data number names, beside the next one.
-#[tactic(auto, unfolding(crate::specs::Hearing::place_named))]
-fn place_named(key: u64, next: u64, number: u64) -> Option<u64>
-    requires { next < 2 ^ 31 }
-    ensures { result ≡ place_named key next number }
-{
-    let position = near64(Seq64(idsn(key)), next + 1, Seq64(number))?;
-    position.checked_sub(1)
 }

@@ -1,50 +1,70 @@
-//! What an end hears in the octets of a segment.
+//! What an end hears in the octets of a segment that it expects at a position.
 
-ghost use Rattle.std.specs.Prelude.{◌≡◌, Some, option_map};
-ghost use Rattle.segment_wire.specs.Options.{option_octets};
-ghost use Rattle.segment_wire.specs.Reading.{segment_of};
-ghost use Rattle.segment_wire.specs.Segment.{Segment, CanWrite, segment_text};
+ghost use Rattle.std.specs.Prelude.{◌≡◌, ◌^◌, ◌<◌, option_map};
 ghost use Rattle.mptcp_options.specs.Value.{value_of};
-ghost use Rattle.straight_segments.specs.Hearing.{first_known, heard_in, heard_between, shown};
+ghost use Rattle.path_segments.specs.HeardLent.{IsExpected};
+ghost use Rattle.path_segments.specs.HeardSegments.{heard_value};
+ghost use Rattle.straight_segments.specs.Hearing.{heard_at, first_capable, capable_at};
 
-use mptcp_options::{MpOption, Read, read};
-use segment_wire::{Addresses, SegmentRef, parse};
+use crate::connection::Connection;
+use mptcp_options::MpOption;
+use path_segments::{Expected, HeardSegment, PathOption, Side, hear};
+use seq_units::Pos;
 
-/// What an end takes from a segment.
-#[derive(Clone, Copy, Debug)]
-pub struct Heard<'a> {
-    /// The sequence number.
-    pub seq: u32,
-    /// The first option of Multipath TCP that is known.
-    pub option: Option<MpOption<'a>>,
-    pub payload: &'a [u8],
+/// What these octets of a side say, where they are a segment that begins at this position.
+pub fn hear_at<'a>(
+    connection: &Connection,
+    from: Side,
+    position: Pos,
+    octets: &'a [u8],
+) -> Option<HeardSegment<'a>>
+    requires { position < 2 ^ 62 }
+    ensures { option_map heard_value result ≡ heard_at connection.now from position octets.now }
+{
+    let expected = Expected {
+        edge: position,
+        unacknowledged: 0,
+        told: 0,
+        place: position.saturating_sub(1),
+    };
+    match hear(&connection.spelling(), from, &expected, octets) {
+        Some(heard) if heard.position == Some(position) => Some(heard),
+        _ => None,
+    }
 }
 
-/// What these octets say between these addresses, or None where they are no segment.
-pub fn hear<'a>(octets: &'a [u8], addresses: &Addresses) -> Option<Heard<'a>>
-    ensures exact { shown result ≡ heard_between addresses.now octets.now }
-    // What is written between the same addresses is heard.
-    ensures written { (segment : Segment) → CanWrite segment → octets.now ≡ segment_text addresses.now segment
-        → shown result ≡ Some (heard_in segment) }
+/// The MP_CAPABLE that the options of such a segment begin with.
+pub fn capable_at(
+    connection: &Connection,
+    from: Side,
+    position: Pos,
+    octets: &[u8],
+) -> Option<MpOption<'static>>
+    requires { position < 2 ^ 62 }
+    ensures { option_map value_of result ≡ capable_at connection.now from position octets.now }
 {
-    match parse(octets, addresses) {
-        Ok(segment) => Some(Heard {
-            seq: segment.head.seq,
-            option: known_option(&segment),
-            payload: segment.payload(),
+    match hear_at(connection, from, position, octets) {
+        Some(heard) => first_capable(&heard),
+        None => None,
+    }
+}
+
+fn first_capable(heard: &HeardSegment<'_>) -> Option<MpOption<'static>>
+    ensures { option_map value_of result ≡ first_capable (heard_value heard.now).options }
+{
+    let mut options = heard.options;
+    match options.next() {
+        Some(
+            PathOption::Capable {
+                flag_a,
+                flag_c,
+                keys,
+            },
+        ) => Some(MpOption::Capable {
+            flag_a,
+            flag_c,
+            keys,
         }),
-        Err(_) => None,
+        _ => None,
     }
-}
-
-/// The first option of Multipath TCP that is known, where no checksums are used.
-fn known_option<'a>(segment: &SegmentRef<'a>) -> Option<MpOption<'a>>
-    ensures { option_map value_of result ≡ first_known (option_octets (segment_of segment.now).options) }
-{
-    for option in segment.options() {
-        if let Read::Known(known) = read(option, false) {
-            return Some(known);
-        }
-    }
-    None
 }

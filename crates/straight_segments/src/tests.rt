@@ -32,6 +32,14 @@ fn settings() -> Settings
     }
 }
 
+/// The connection of seed 1, but for its keys.
+fn with_keys(a: u64, b: u64) -> Connection {
+    let mut connection = Connection::drawn(1, settings());
+    connection.a.key = a;
+    connection.b.key = b;
+    connection
+}
+
 #[test]
 fn ends_are_drawn(rt: HostRuntime) {
     let drawn = Connection::drawn(1, settings());
@@ -55,16 +63,19 @@ fn ends_are_drawn(rt: HostRuntime) {
 #[test]
 fn the_path_opens(rt: HostRuntime) -> Result<(), Fail> {
     let drawn = Connection::drawn(1, settings());
-    let syn = write_syn(rt.alloc(), &drawn.a, &drawn.settings)?;
+    let syn = write_syn(rt.alloc(), &drawn)?;
     assert_eq!(rt; syn.as_slice(), SYN);
-    assert_eq!(rt; hear_syn(&syn), Some(0x0210_1fe7));
-    let syn_ack = write_syn_ack(rt.alloc(), &drawn.b, &drawn.settings, 0x0210_1fe7)?;
+    assert!(rt; hear_syn(&drawn, &syn));
+    let syn_ack = write_syn_ack(rt.alloc(), &drawn)?;
     assert_eq!(rt; syn_ack.as_slice(), SYN_ACK);
-    assert_eq!(rt; hear_syn_ack(&syn_ack), Some(drawn.b));
+    assert_eq!(rt; hear_syn_ack(&drawn, &syn_ack), Some(KEY_OF_B));
     let third_ack = write_third_ack(rt.alloc(), &drawn)?;
     assert_eq!(rt; third_ack.as_slice(), THIRD_ACK);
-    assert_eq!(rt; hear_third_ack(KEY_OF_B, &third_ack), Some(KEY_OF_A));
-    assert_eq!(rt; hear_third_ack(KEY_OF_B + 1, &third_ack), None);
+    assert_eq!(rt; hear_third_ack(&drawn, &third_ack), Some(KEY_OF_A));
+    assert_eq!(rt;
+        hear_third_ack(&with_keys(KEY_OF_A, KEY_OF_B + 1), &third_ack),
+        None
+    );
     Ok(())
 }
 
@@ -74,23 +85,26 @@ fn data_is_sent(rt: HostRuntime) -> Result<(), Fail> {
     let first = write_data(rt.alloc(), &drawn, 0, b"hello")?;
     assert_eq!(rt; first.as_slice(), FIRST_DATA);
     assert!(rt;
-        matches!(hear_data(KEY_OF_A, 0, &first), Some(payload) if payload == b"hello".as_slice())
+        matches!(hear_data(&drawn, 0, &first), Some(payload) if payload == b"hello".as_slice())
     );
     let later = write_data(rt.alloc(), &drawn, 1372, b"world")?;
     assert_eq!(rt; later.as_slice(), LATER_DATA);
     assert!(rt;
-        matches!(hear_data(KEY_OF_A, 1372, &later), Some(payload) if payload == b"world".as_slice())
+        matches!(hear_data(&drawn, 1372, &later), Some(payload) if payload == b"world".as_slice())
     );
-    assert!(rt; hear_data(KEY_OF_A, 0, &later).is_none());
+    assert!(rt; hear_data(&drawn, 0, &later).is_none());
+    // Another key of A has other data numbers.
+    assert!(rt; hear_data(&with_keys(KEY_OF_A + 1, KEY_OF_B), 1372, &later).is_none());
     Ok(())
 }
 
 // What one end says isn't heard where another segment is due.
 #[test]
 fn other_segments_are_not_heard(rt: HostRuntime) {
-    assert_eq!(rt; hear_syn(SYN_ACK), None);
-    assert_eq!(rt; hear_syn(THIRD_ACK), None);
-    assert_eq!(rt; hear_syn_ack(SYN), None);
-    assert_eq!(rt; hear_third_ack(KEY_OF_B, SYN), None);
-    assert!(rt; hear_data(KEY_OF_A, 0, THIRD_ACK).is_none());
+    let drawn = Connection::drawn(1, settings());
+    assert!(rt; !hear_syn(&drawn, SYN_ACK));
+    assert!(rt; !hear_syn(&drawn, THIRD_ACK));
+    assert_eq!(rt; hear_syn_ack(&drawn, SYN), None);
+    assert_eq!(rt; hear_third_ack(&drawn, SYN), None);
+    assert!(rt; hear_data(&drawn, 0, THIRD_ACK).is_none());
 }
