@@ -13,7 +13,7 @@ use Rattle.dss_mapping.specs.declared.run.Run.{Run}
 use Rattle.dss_mapping.specs.declared.stretch.Stretch.{Stretch}
 use Rattle.dss_mapping.specs.Mappings.{tail_at}
 use Rattle.dss_mapping.specs.Runs.{covers, place_in, IsSound}
-use Rattle.dss_mapping.specs.Kept.{AreOrdered, place_among, place_by, IsStretch, AgreeAmong, joins, joined, lies_before, absorbed, count_joined}
+use Rattle.dss_mapping.specs.Kept.{AreOrdered, place_among, place_by, IsStretch, AgreeAmong, joins, joined, lies_before, absorbed, count_joined, AreApart}
 use Rattle.dss_mapping.proofs.PlacesOf.{within, below, behind}
 
 -- ---- their order
@@ -383,3 +383,79 @@ behind_all at runs tail n stretch e h s = record {
   onward = s.onward;
   each = λ p from to. ap (λ o. option_or o (tail_at tail p)) (passed at p runs n from e ∙ ap (place_among p) (drop_all n runs h)) ∙ s.each p from to;
 }
+
+-- ---- no run could be one with the next
+apart_later : (run next : Run) → run.to < next.pos → joins run next ≡ false
+apart_later run next h = grind (arith, nat_tests)
+
+apart_turned : (told run : Run) → lies_before told run ≡ true → joins run told ≡ false
+apart_turned told run e = grind (arith, nat_tests)
+
+joined_behind : (told run next : Run) → told.pos < told.to → next.pos < next.to → run.pos < run.to → run.to ≤ next.pos → lies_before told run ≡ true
+    → joins run next ≡ false → joins told next ≡ true → lies_before (joined told next) run ≡ true
+joined_behind told run next a b c o e f g =
+    let j : Joined told next = joins_tells told next a b g in
+    behind_both told run next j e f o
+  where
+    behind_both : (told run next : Run) → Joined told next → lies_before told run ≡ true → joins run next ≡ false → run.to ≤ next.pos → lies_before (joined told next) run ≡ true
+    behind_both told run next j e f o = grind (arith, nat_tests, j.low, j.high, j.same)
+
+-- and the first of these isn't to be one with the run before
+abbrev Behind : Run → List Run → Type 0
+Behind run [] = Unit {0}
+Behind run (next ∷ runs) = joins run next ≡ false
+
+behind_after : (run next : Run) (runs : List Run) → AreOrdered next.to runs → next.pos < next.to → run.to ≤ next.pos → Behind run runs
+behind_after run next [] o h k = tt
+behind_after run next (other ∷ runs) o h k = apart_later run other (omega (arith, o.0, h, k))
+
+absorbed_apart : (told run : Run) (runs : List Run) → AreOrdered run.to runs → told.pos < told.to → run.pos < run.to → lies_before told run ≡ true → Behind run runs
+    → joins run (absorbed told runs) ≡ false
+absorbed_apart told run [] o h k e f = apart_turned told run e
+absorbed_apart told run (next ∷ runs) o h k e f = by (joins told next) refl (λ g.
+    absorbed_apart (joined told next) run runs (ordered-later run.to next.to runs o.3 (omega (arith, o.0, o.1))) (omega (arith, o.1)) k
+    (joined_behind told run next h o.1 k o.0 e f g) (behind_after run next runs o.3 o.1 o.0))
+  where
+    by : (b : Bool) → joins told next ≡ b → (joins told next ≡ true → joins run (absorbed (joined told next) runs) ≡ false)
+        → joins run (cond b (absorbed (joined told next) runs) told) ≡ false
+    by true g rest = rest g
+    by false g rest = apart_turned told run e
+
+apart-tail : (run : Run) (runs : List Run) → AreApart (run ∷ runs) → AreApart runs
+apart-tail run [] a = tt
+apart-tail run (next ∷ runs) a = a.1
+
+into-apart : (told : Run) (runs : List Run) → AreApart runs → AreApart (into told runs)
+into-apart told [] a = tt
+into-apart told (run ∷ runs) a = by (joins told run) refl (into-apart (joined told run) runs (apart-tail run runs a))
+  where
+    by : (b : Bool) → joins told run ≡ b → AreApart (into (joined told run) runs)
+        → AreApart (cond b (absorbed (joined told run) runs) told ∷ drop (cond b (suc (count_joined (joined told run) runs)) 0) (run ∷ runs))
+    by true e rest = rest
+    by false e rest = (e, a)
+
+put-apart : (told : Run) (at n : ℕ) (runs : List Run) → n ≡ prefix_len (lies_before told) runs → AreOrdered at runs → told.pos < told.to
+    → AreApart runs → AreApart (put told n runs)
+put-apart told at zero [] e o h a = tt
+put-apart told at (suc n) [] e o h a = absurd (omega (arith, e))
+put-apart told at n (run ∷ runs) e o h a =
+    by n (lies_before told run) refl e (λ m k. put-apart told run.to m runs k o.3 h (apart-tail run runs a))
+  where
+    front : (m : ℕ) (runs : List Run) → run.pos < run.to → AreOrdered run.to runs → AreApart (run ∷ runs) → lies_before told run ≡ true → AreApart (put told m runs)
+        → AreApart (run ∷ put told m runs)
+    front zero [] s o a f rest = (apart_turned told run f, rest)
+    front zero (next ∷ runs) s o a f rest = (absorbed_apart told run (next ∷ runs) o h s f a.0, rest)
+    front (suc m) [] s o a f rest = (apart_turned told run f, rest)
+    front (suc m) (next ∷ runs) s o a f rest = (a.0, rest)
+
+    by : (n : ℕ) (b : Bool) → lies_before told run ≡ b → n ≡ cond b (1 + prefix_len (lies_before told) runs) 0
+        → ((m : ℕ) → m ≡ prefix_len (lies_before told) runs → AreApart (put told m runs))
+        → AreApart (put told n (run ∷ runs))
+    by zero true f k rest = absurd (omega (arith, k))
+    by (suc n) true f k rest = front n runs o.1 o.3 a f (rest n (omega (arith, k)))
+    by zero false f k rest = into-apart told (run ∷ runs) a
+    by (suc n) false f k rest = absurd (omega (arith, k))
+
+pub fewest_by_put : (told : Run) (n : ℕ) (runs : List Run) → n ≡ prefix_len (lies_before told) runs → AreOrdered 0 runs → told.pos < told.to
+    → AreApart runs → AreApart (put told n runs)
+fewest_by_put told n runs e o h a = put-apart told 0 n runs e o h a

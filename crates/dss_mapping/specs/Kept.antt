@@ -1,5 +1,5 @@
 -- What is kept of the places: runs in order, of which no two have a position in common.
-use Rattle.std.specs.Prelude.{ℕ, ◌≡◌, ◌+◌, ◌-◌, ◌≤◌, ◌<◌, min, max, nat_le, not, ◌&&◌, ◌==◌, if◌then◌else◌, Bool, Option, Some, None, IfSome, List, [], ◌∷◌}
+use Rattle.std.specs.Prelude.{ℕ, ◌≡◌, ◌+◌, ◌-◌, ◌≤◌, ◌<◌, min, max, nat_le, not, false, ◌&&◌, ◌==◌, if◌then◌else◌, Bool, Option, Some, None, IfSome, List, [], ◌∷◌}
 use Rattle.std.specs.Option.{option_or, option_map}
 use Rattle.std.specs.FinMap as map
 use Rattle.std.proofs.Common.{suc}
@@ -29,10 +29,6 @@ place_among p (run ∷ runs) = if covers p run then Some (place_in p run) else p
 abbrev pub place_by : List Run → Option Run → ℕ → Option ℕ
 place_by runs tail p = option_or (place_among p runs) (tail_at tail p)
 
-pub record IsKept (runs : List Run) (tail : Option Run) : Type 0 where
-  pub ordered : AreOrdered 0 runs
-  pub sound : IfSome tail IsSound
-
 -- no position of the told run has another place
 pub record AgreeAmong (told : Run) (runs : List Run) : Type 0 where
   pub each : (p : ℕ) → told.pos ≤ p → p < told.to → IfSome (place_among p runs) (λ place. place ≡ place_in p told)
@@ -42,6 +38,17 @@ abbrev pub joins : Run → Run → Bool
 joins told run =
     let p = max run.pos told.pos in
     nat_le p run.to && nat_le p told.to && (place_in p run == place_in p told)
+
+-- no run could be one with the next, so that there are as few as can be
+abbrev pub AreApart : List Run → Type 0
+AreApart [] = Unit {0}
+AreApart (run ∷ []) = Unit {0}
+AreApart (run ∷ next ∷ runs) = (joins run next ≡ false) × AreApart (next ∷ runs)
+
+pub record IsKept (runs : List Run) (tail : Option Run) : Type 0 where
+  pub ordered : AreOrdered 0 runs
+  pub fewest : AreApart runs
+  pub sound : IfSome tail IsSound
 
 -- the positions of two such runs
 abbrev pub joined : Run → Run → Run

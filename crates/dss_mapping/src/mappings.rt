@@ -16,8 +16,8 @@ use std::marker::Model;
 /// mappings and by the infinite one, the mappings that were not let go, and the position below which they were.
 #[derive(Debug, Drop)]
 pub struct Mappings {
-    /// The positions that have a place by a mapping, in order. A run that is put in becomes one with those that it touches
-    /// or meets and whose distance between place and position it has.
+    /// The positions that have a place by a mapping, in order. No two runs touch that have one distance between place and
+    /// position, so that there are as few as can be.
     runs: Vec<Run>,
     /// The positions of the infinite mapping.
     tail: Option<Run>,
@@ -82,8 +82,8 @@ impl Mappings {
     }
 
     /// Learns that every position from `pos` on has its place, counted from `place`: the infinite mapping (RFC 8684,
-    /// section 3.7). Positions and places from 2^64 - 1 on are passed over. Takes no memory, and a search by halves of the
-    /// runs for each run from `pos` on.
+    /// section 3.7). Positions and places from 2^64 - 1 on are passed over. A new one takes the place of the one before it.
+    /// Takes no memory, and a search by halves of the runs for each run from `pos` on.
     pub fn infinite(&mut self, pos: Pos, place: u64) -> Learn
         requires { place ≤ 2 ^ 62 }
         ensures answer { IsAnswer (infinite_run pos place) self.old result }

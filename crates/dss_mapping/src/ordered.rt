@@ -4,7 +4,7 @@ ghost use Rattle.std.specs.List.{prefix_len};
 ghost use Rattle.dss_mapping.specs.Runs.{covers, place_in, IsSound};
 ghost use Rattle.dss_mapping.specs.Places.{with_run};
 ghost use Rattle.dss_mapping.specs.Mappings.{tail_at};
-ghost use Rattle.dss_mapping.specs.Kept.{AreOrdered, places_of, place_among, place_by, lies_before, absorbed, count_joined, IsStretch, AgreeAmong};
+ghost use Rattle.dss_mapping.specs.Kept.{AreOrdered, places_of, place_among, place_by, lies_before, absorbed, count_joined, IsStretch, AgreeAmong, AreApart};
 
 use crate::run::Run;
 use crate::stretch::Stretch;
@@ -129,11 +129,13 @@ fn count_before(runs: &[Run], told: Run) -> usize
 /// and as long as there are runs that become one with it or come after it. Without memory all stays as it was.
 pub(crate) fn put_in(runs: &mut Vec<Run>, told: Run) -> Result<(), AllocError>
     requires ordered { AreOrdered 0 runs.old.items }
+    requires fewest { AreApart runs.old.items }
     requires some { told.pos < told.to }
     requires sound { IsSound told }
     requires agree { AgreeAmong told runs.old.items }
     ensures places { OnOk result (places_of runs.new.items ≡ with_run told (places_of runs.old.items)) }
     ensures ordered { OnOk result (AreOrdered 0 runs.new.items) }
+    ensures fewest { OnOk result (AreApart runs.new.items) }
     ensures err { OnErr result (runs.new.items ≡ runs.old.items) }
 {
     let from = count_before(runs, told);

@@ -1,9 +1,9 @@
 use Rattle.std.proofs.Common.{refl, subst, sym, ap, ◌∙◌}
 use Rattle.std.proofs.lemmas.Result.{on_ok_weaker}
 use Rattle.std.specs.List.{prefix_len}
-use Rattle.dss_mapping.specs.Kept.{AreOrdered, places_of, lies_before, absorbed, count_joined}
+use Rattle.dss_mapping.specs.Kept.{AreOrdered, AreApart, places_of, lies_before, absorbed, count_joined}
 use Rattle.dss_mapping.proofs.PlacesOf.{same_places}
-use Rattle.dss_mapping.proofs.RunsInOrder.{ordered-drop, part_is, put, put-is, placed_by_put, ordered_by_put}
+use Rattle.dss_mapping.proofs.RunsInOrder.{ordered-drop, part_is, put, put-is, placed_by_put, ordered_by_put, fewest_by_put}
 use Rattle.dss_mapping.proofs.ordered.put_in.Goals as goal
 
 pub absorb-count-requires-clause-ordered : goal.absorb-count-requires-clause-ordered
@@ -31,4 +31,14 @@ returns-clause-ordered c =
     (c.absorb-count.ensures.run ∙ ap (absorbed c.args.told) part) (c.absorb-count.ensures.count ∙ ap (count_joined c.args.told) part) refl in
     on_ok_weaker c.replace.result (λ e. subst (AreOrdered 0) (sym (e ∙ whole))
     (ordered_by_put c.args.told c.count_before-from.result c.args.runs.now.items before c.requires.ordered c.requires.some c.requires.sound c.requires.agree))
+    c.replace.ensures.ok
+
+pub returns-clause-fewest : goal.returns-clause-fewest
+returns-clause-fewest c =
+    let part = part_is c.count_before-from.result _ c.deref-2.result.now c.args.runs.now.items c.deref-2.ensures.value refl in
+    let before = c.count_before-from.ensures.value ∙ ap (prefix_len (lies_before c.args.told)) c.deref.ensures.value in
+    let whole = put-is c.args.told c.absorb-count.result.0 c.count_before-from.result c.absorb-count.result.1 _ c.args.runs.now.items
+    (c.absorb-count.ensures.run ∙ ap (absorbed c.args.told) part) (c.absorb-count.ensures.count ∙ ap (count_joined c.args.told) part) refl in
+    on_ok_weaker c.replace.result (λ e. subst AreApart (sym (e ∙ whole))
+    (fewest_by_put c.args.told c.count_before-from.result c.args.runs.now.items before c.requires.ordered c.requires.some c.requires.fewest))
     c.replace.ensures.ok
