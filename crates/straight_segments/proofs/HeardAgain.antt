@@ -89,7 +89,7 @@ module _ (c : Connection) (fits : FitsFields c) where
 
   third_ack_is : heard_at c A 1 (spelled_text (spelling_of c) A (third_ack c)) ≡ Some (meant (third_ack c))
   third_ack_is =
-      again c fits A false 1 (Some 1) (capable (Both c.a.key c.b.key)) [] (says_third_ack c fits.buffer) (omega arith) near_start (fits.key_of_a, fits.key_of_b) tt
+      again c fits A false 1 (Some 1) (capable (Both c.a.key c.b.key)) [] (says_third_ack c fits.buffer c.a.key c.b.key) (omega arith) near_start (fits.key_of_a, fits.key_of_b) tt
 
   module _ (octets : List ℕ) where
     pub syn_again : octets ≡ spelled_text (spelling_of c) A (syn c) → syn_heard c octets ≡ true

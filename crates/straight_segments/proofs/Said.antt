@@ -12,7 +12,7 @@ use Rattle.path_segments.specs.declared.spelling.Side.TheVariants.{A, B}
 use Rattle.path_segments.specs.Options.{PlainOption, said_option}
 use Rattle.path_segments.specs.Spelled.{syn_text, CanSay, CanSayOption}
 use Rattle.straight_segments.specs.declared.connection.Connection.{Connection}
-use Rattle.straight_segments.specs.Segments.{spelling_of, capable, segment_with, syn, syn_ack, third_ack, data_option, data_segment}
+use Rattle.straight_segments.specs.Segments.{spelling_of, capable, segment_with, syn, syn_ack, data_option, data_segment}
 
 pub just : {X : Type 0} (P : X → Type 0) (x : X) → P x → All P (x ∷ [])
 just P x h = All-cons P x [] h (All-nil P)
@@ -43,9 +43,10 @@ module _ (c : Connection) (small : c.settings.buffer ≤ 2 ^ 20) where
   unfolding option_text
   says_syn_ack = says B true 0 (Some 1) (capable (Sender c.b.key)) [] (record { below = tt; form = tt }) (omega arith) (omega arith)
 
-  pub says_third_ack : CanSay (spelling_of c) A (third_ack c)
+  -- whichever keys it has
+  pub says_third_ack : (sender receiver : ℕ) → CanSay (spelling_of c) A (segment_with c.settings false 1 (Some 1) (capable (Both sender receiver) ∷ []) [])
   unfolding option_text
-  says_third_ack = says A false 1 (Some 1) (capable (Both c.a.key c.b.key)) [] (record { below = tt; form = tt }) (omega arith) (omega arith)
+  says_third_ack sender receiver = says A false 1 (Some 1) (capable (Both sender receiver)) [] (record { below = tt; form = tt }) (omega arith) (omega arith)
 
   module _ (place : ℕ) (low : place + 1 < 2 ^ 62) (len : ℕ) where
     says_option : (first : Bool) → CanSayOption (spelling_of c) A (if first then capable (WithData c.a.key c.b.key len None) else Dss (Some 0) (Some (Bytes place (place + 1) len false None)))
