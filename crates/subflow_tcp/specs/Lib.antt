@@ -1,0 +1,3 @@
+pub mod States
+pub mod Timers
+pub mod Windows
