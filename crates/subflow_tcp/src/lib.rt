@@ -2,10 +2,18 @@
 //! and what is to be sent (RFC 9293, RFC 5681, RFC 6298).
 #![tactic(auto)]
 
+mod dues;
 mod handshake;
+mod segments;
+mod spelling;
 mod timers;
+mod verdicts;
 mod windows;
 
+pub use dues::Due;
 pub use handshake::State;
+pub use segments::{Arriving, Emission, Hint, Occasion, Outgoing};
+pub use spelling::Numbers;
 pub use timers::Timing;
+pub use verdicts::{Arrival, Fired, Meaning};
 pub use windows::{Congestion, Pending, Told};
