@@ -4,3 +4,7 @@ pub mod Windows
 pub mod Dues
 pub mod Segments
 pub mod Spelling
+pub mod State
+pub mod Opening
+pub mod Judging
+pub mod Sizes

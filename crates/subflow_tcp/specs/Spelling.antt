@@ -2,7 +2,6 @@
 use Rattle.std.specs.Prelude.{ℕ, ◌+◌, ◌*◌, ◌^◌, Bool, true, false, not, nat_lt, if◌then◌else◌, is_some, Option, Some, None, length}
 use Rattle.std.specs.Option.{option_map}
 use Rattle.std.specs.Prelude.{unwrap_or}
-use Rattle.seq_units.specs.declared.number.Seq32.{Seq32}
 use Rattle.seq_units.specs.Number.{number_of, position_near}
 use Rattle.segment_wire.specs.declared.head.Head.{Head}
 use Rattle.segment_wire.specs.Segment.{Segment}
@@ -18,9 +17,9 @@ abbrev pub peer_port : Numbers → ℕ
 peer_port n = if n.opens then 5001 else 40000 + n.path
 
 -- ---- read
-abbrev pub initial_or : Option Seq32 → ℕ → ℕ
+abbrev pub initial_or : Option ℕ → ℕ → ℕ
 initial_or None number = number
-initial_or (Some initial) number = initial.0
+initial_or (Some initial) number = initial
 
 -- the peer's initial number; until its SYN was taken, that of the segment itself
 abbrev pub peer_initial : Numbers → ℕ → ℕ
@@ -32,7 +31,7 @@ position_heard n edge number = if nat_lt edge (2 ^ 61) then position_near (2 ^ 3
 
 -- the position that is acknowledged, beside SND.UNA
 abbrev pub acknowledged_heard : Numbers → ℕ → Head → Option ℕ
-acknowledged_heard n una head = if head.ack_set then Some (unwrap_or (position_near (2 ^ 32) n.own.0 una head.ack) 0) else None
+acknowledged_heard n una head = if head.ack_set then Some (unwrap_or (position_near (2 ^ 32) n.own una head.ack) 0) else None
 
 -- a SYN's window is told as it stands, any other in units of 32 octets (RFC 7323, section 2.2)
 abbrev pub window_heard : Head → ℕ
@@ -60,7 +59,7 @@ abbrev pub head_said : Numbers → Outgoing → Head
 head_said n o = record {
   source_port = own_port n;
   destination_port = peer_port n;
-  seq = number_of (2 ^ 32) n.own.0 o.position;
+  seq = number_of (2 ^ 32) n.own o.position;
   ack = acknowledged_said n o.acknowledged;
   syn = o.syn;
   fin = o.fin;

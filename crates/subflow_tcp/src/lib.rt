@@ -3,6 +3,7 @@
 #![tactic(auto)]
 
 mod dues;
+mod end;
 mod handshake;
 mod segments;
 mod spelling;
@@ -11,9 +12,12 @@ mod verdicts;
 mod windows;
 
 pub use dues::Due;
+pub use end::Subflow;
 pub use handshake::State;
 pub use segments::{Arriving, Emission, Hint, Occasion, Outgoing};
 pub use spelling::Numbers;
 pub use timers::Timing;
 pub use verdicts::{Arrival, Fired, Meaning};
+pub use subflow_recv::Parts;
+pub use subflow_send::{AckKind, RecordRef};
 pub use windows::{Congestion, Pending, Told};

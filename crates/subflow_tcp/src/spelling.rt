@@ -16,9 +16,9 @@ pub struct Numbers {
     /// Whether the end opens the path; else it listens.
     pub opens: bool,
     /// The own initial sequence number.
-    pub own: Seq32,
+    pub own: u32,
     /// The peer's, once its SYN was taken.
-    pub peer: Option<Seq32>,
+    pub peer: Option<u32>,
 }
 
 impl Numbers {
@@ -45,12 +45,12 @@ impl Numbers {
     }
 
     /// The peer's initial number; until it is known, that of this segment.
-    fn peer_initial(&self, number: u32) -> Seq32
-        ensures { result.0 ≡ peer_initial self.now number }
+    fn peer_initial(&self, number: u32) -> u32
+        ensures { result ≡ peer_initial self.now number }
     {
         match self.peer {
             Some(initial) => initial,
-            None => Seq32(number),
+            None => number,
         }
     }
 
@@ -59,7 +59,7 @@ impl Numbers {
         ensures { result ≡ position_heard self.now edge number }
     {
         if edge < 1 << 61 {
-            near32(self.peer_initial(number), edge, Seq32(number))
+            near32(Seq32(self.peer_initial(number)), edge, Seq32(number))
         } else {
             None
         }
@@ -71,7 +71,7 @@ impl Numbers {
         ensures { result ≡ acknowledged_heard self.now una head }
     {
         if head.ack_set {
-            Some(near32(self.own, una, Seq32(head.ack)).unwrap_or(0))
+            Some(near32(Seq32(self.own), una, Seq32(head.ack)).unwrap_or(0))
         } else {
             None
         }
@@ -99,7 +99,7 @@ impl Numbers {
         ensures { result ≡ acknowledged_said self.now acknowledged }
     {
         match acknowledged {
-            Some(pos) => number32(self.peer_initial(0), pos).0,
+            Some(pos) => number32(Seq32(self.peer_initial(0)), pos).0,
             None => 0,
         }
     }
@@ -111,7 +111,7 @@ impl Numbers {
         Head {
             source_port: self.own_port(),
             destination_port: self.peer_port(),
-            seq: number32(self.own, outgoing.position).0,
+            seq: number32(Seq32(self.own), outgoing.position).0,
             ack: self.acknowledged_said(outgoing.acknowledged),
             syn: outgoing.syn,
             fin: outgoing.fin,

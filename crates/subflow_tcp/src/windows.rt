@@ -127,6 +127,15 @@ impl Congestion {
         self.reno.expired(flight, again);
     }
 
+    /// The room of the window beside so many octets under way.
+    pub(crate) fn room(&self, flight: u64) -> u32
+        ensures value { result ≡ self.now.reno.window - flight }
+        ensures bound { result ≤ 1048576 }
+    {
+        let window = self.reno.window();
+        u64::from(window).saturating_sub(flight) as u32
+    }
+
     /// The growth that was to be told. Without one nothing changes.
     pub(crate) fn grow(&mut self, growth: u32)
         ensures { self.new ≡ after_growth growth self.old }
