@@ -1,5 +1,5 @@
 -- What a segment that arrives means for an end, rule by rule in their order (RFC 9293, section 3.10.7; RFC 5961).
-use Rattle.std.specs.Prelude.{ℕ, ◌+◌, ◌-◌, Bool, true, false, not, ◌&&◌, ◌||◌, ◌==◌, nat_lt, nat_le, if◌then◌else◌, is_none, Option, Some, None}
+use Rattle.std.specs.Prelude.{ℕ, ◌+◌, ◌-◌, ◌^◌, ◌<◌, Bool, true, false, not, ◌&&◌, ◌||◌, ◌==◌, nat_lt, nat_le, if◌then◌else◌, is_none, Option, Some, None}
 use Rattle.subflow_tcp.specs.declared.handshake.State.{State}
 use Rattle.subflow_tcp.specs.declared.handshake.State.TheVariants.{Waiting, Listen, SynSent, Dead}
 use Rattle.subflow_tcp.specs.declared.verdicts.Meaning.{Meaning}
@@ -14,12 +14,15 @@ abbrev pub is_syn_alone : Copy → Bool
 is_syn_alone c = c.syn && (not c.fin && (not c.rst && is_none c.acknowledged))
 
 -- ---- an opening end
+-- an acknowledgement of the SYN: a reset ends the end, and a SYN accepts it
+abbrev pub meaning_answer : Copy → ℕ → Meaning
+meaning_answer c acknowledged = if c.rst then Kills else (if c.syn then Accepts acknowledged else Ignored)
+
 -- a copy counts only where it acknowledges the SYN
 abbrev pub meaning_answering : Option ℕ → Copy → EndState → Meaning
 meaning_answering None c s = Ignored
 meaning_answering (Some acknowledged) c s =
-    if nat_lt 0 acknowledged && nat_le acknowledged s.send.nxt then (if c.rst then Kills else (if c.syn then Accepts acknowledged else Ignored))
-    else Ignored
+    if nat_lt 0 acknowledged && nat_le acknowledged s.send.nxt then meaning_answer c acknowledged else Ignored
 
 abbrev pub meaning_opening : Copy → EndState → Meaning
 meaning_opening c s = if is_at_limit s then Ignored else meaning_answering c.acknowledged c s
@@ -76,3 +79,8 @@ meaning_at state c s = meaning_connected c s
 
 abbrev pub meaning_of : Copy → EndState → Meaning
 meaning_of c s = meaning_at s.state c s
+
+-- what is taken begins below the end of the window of an end that isn't at its limit
+abbrev pub IsBelow : Meaning → Type 0
+IsBelow (Taken pos acknowledged) = pos < 2 ^ 61 + 2 ^ 20
+IsBelow _ = Unit {0}

@@ -5,6 +5,7 @@
 mod dues;
 mod end;
 mod handshake;
+mod judging;
 mod segments;
 mod spelling;
 mod timers;
