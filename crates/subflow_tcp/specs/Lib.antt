@@ -8,3 +8,4 @@ pub mod State
 pub mod Opening
 pub mod Judging
 pub mod Sizes
+pub mod Taking

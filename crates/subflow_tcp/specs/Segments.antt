@@ -33,7 +33,3 @@ one_if b = if b then 1 else 0
 -- how many positions it occupies: one for each octet, one for the SYN, one for the FIN
 abbrev pub occupied : Copy → ℕ
 occupied c = length c.payload + (one_if c.syn + one_if c.fin)
-
--- how many positions its SYN occupies, before its first octet
-abbrev pub data_offset : Copy → ℕ
-data_offset c = one_if c.syn

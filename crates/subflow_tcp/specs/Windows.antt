@@ -67,3 +67,6 @@ is_same_place _ _ = false
 
 abbrev pub is_same_told : Told → Told → Bool
 is_same_told t u = is_same_place t.place u.place && t.window == u.window
+
+abbrev pub without_pending : Congestion → Congestion
+without_pending c = record c { pending = None }

@@ -1,5 +1,5 @@
 ghost use Rattle.std.specs.Prelude.{◌≡◌};
-ghost use Rattle.subflow_tcp.specs.States.{is_closed_to_segments, may_finish, after_finish, after_fin_acked, after_fin_passed};
+ghost use Rattle.subflow_tcp.specs.States.{is_closed_to_segments, may_finish, after_finish, after_fin_acked, after_fin_passed, after_handshake};
 
 /// How far an end is: the states of RFC 9293, section 3.3.2, and two of before and after.
 #[derive(Clone, Copy, Debug, PartialEq, Eq)]
@@ -43,6 +43,16 @@ impl State {
         ensures { result ≡ may_finish self }
     {
         matches!(self, State::Established | State::CloseWait)
+    }
+
+    /// The handshake of a half-open end is done.
+    pub(crate) fn after_handshake(self) -> State
+        ensures { result ≡ after_handshake self }
+    {
+        match self {
+            State::SynReceived => State::Established,
+            _ => self,
+        }
     }
 
     /// The own FIN is sent.

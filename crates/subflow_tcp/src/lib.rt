@@ -8,6 +8,7 @@ mod handshake;
 mod judging;
 mod segments;
 mod spelling;
+mod taking;
 mod timers;
 mod verdicts;
 mod windows;

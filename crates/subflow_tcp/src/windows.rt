@@ -1,6 +1,6 @@
 //! The congestion window of an end, and the duplicates that it hears (RFC 5681, section 3).
 ghost use Rattle.std.specs.Prelude.{◌≡◌, ◌<◌, ◌≤◌, ◌-◌, IfSome};
-ghost use Rattle.subflow_tcp.specs.Windows.{opening, counted, is_growth_linked, acknowledged, is_third, duplicated, interrupted, with_told, expired, after_growth, is_same_told};
+ghost use Rattle.subflow_tcp.specs.Windows.{opening, counted, is_growth_linked, acknowledged, is_third, duplicated, interrupted, with_told, expired, after_growth, is_same_told, without_pending};
 
 use reno_window::Reno;
 
@@ -125,6 +125,13 @@ impl Congestion {
     {
         self.duplicates = 0;
         self.reno.expired(flight, again);
+    }
+
+    /// No growth is to be told any more.
+    pub(crate) fn forget_growth(&mut self)
+        ensures { self.new ≡ without_pending self.old }
+    {
+        self.pending = None;
     }
 
     /// The room of the window beside so many octets under way.
