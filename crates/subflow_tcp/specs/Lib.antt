@@ -9,3 +9,4 @@ pub mod Opening
 pub mod Judging
 pub mod Sizes
 pub mod Taking
+pub mod Emitting

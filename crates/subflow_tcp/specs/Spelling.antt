@@ -7,6 +7,7 @@ use Rattle.segment_wire.specs.declared.head.Head.{Head}
 use Rattle.segment_wire.specs.Segment.{Segment}
 use Rattle.subflow_tcp.specs.declared.spelling.Numbers.{Numbers}
 use Rattle.subflow_tcp.specs.declared.segments.Outgoing.{Outgoing}
+use Rattle.subflow_tcp.specs.declared.segments.Emission.{Emission}
 use Rattle.subflow_tcp.specs.Segments.{Copy}
 
 -- path i goes from port 40000 + i to port 5001
@@ -67,6 +68,9 @@ head_said n o = record {
   ack_set = is_some o.acknowledged;
   window = 0;
 }
+
+abbrev pub said : Numbers → Outgoing → Emission
+said n o = record { head = head_said n o; pos = o.position; length = o.length }
 
 -- A segment that nobody wants gets a reset: at the number that it acknowledges, or else at number 0 with an
 -- acknowledgement of all that it occupies (RFC 9293, section 3.10.7.1).

@@ -3,6 +3,7 @@
 #![tactic(auto)]
 
 mod dues;
+mod emitting;
 mod end;
 mod handshake;
 mod judging;

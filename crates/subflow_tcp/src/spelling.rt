@@ -2,9 +2,9 @@
 ghost use Rattle.std.specs.Prelude.{◌≡◌, ◌^◌, ◌<◌};
 ghost use Rattle.segment_wire.specs.Reading.{segment_of};
 ghost use Rattle.subflow_tcp.specs.Segments.{copy_of};
-ghost use Rattle.subflow_tcp.specs.Spelling.{own_port, peer_port, peer_initial, position_heard, acknowledged_heard, window_heard, heard, acknowledged_said, head_said, reset_answer};
+ghost use Rattle.subflow_tcp.specs.Spelling.{own_port, peer_port, peer_initial, position_heard, acknowledged_heard, window_heard, heard, acknowledged_said, head_said, said, reset_answer};
 
-use crate::segments::{Arriving, Outgoing};
+use crate::segments::{Arriving, Emission, Outgoing};
 use segment_wire::{Head, SegmentRef};
 use seq_units::{Pos, Seq32, near32, number32};
 
@@ -105,7 +105,7 @@ impl Numbers {
     }
 
     /// The header of a segment, with the window 0.
-    pub(crate) fn head_said(&self, outgoing: &Outgoing) -> Head
+    fn head_said(&self, outgoing: &Outgoing) -> Head
         ensures { result ≡ head_said self.now outgoing.now }
     {
         Head {
@@ -118,6 +118,17 @@ impl Numbers {
             rst: outgoing.rst,
             ack_set: outgoing.acknowledged.is_some(),
             window: 0,
+        }
+    }
+
+    /// A segment that is to be sent, with its header.
+    pub(crate) fn said(&self, outgoing: &Outgoing) -> Emission
+        ensures { result ≡ said self.now outgoing.now }
+    {
+        Emission {
+            head: self.head_said(outgoing),
+            pos: outgoing.position,
+            length: outgoing.length,
         }
     }
 
