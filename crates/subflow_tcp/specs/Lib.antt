@@ -10,3 +10,5 @@ pub mod Judging
 pub mod Sizes
 pub mod Taking
 pub mod Emitting
+pub mod Expiring
+pub mod Closing

@@ -2,9 +2,11 @@
 //! and what is to be sent (RFC 9293, RFC 5681, RFC 6298).
 #![tactic(auto)]
 
+mod closing;
 mod dues;
 mod emitting;
 mod end;
+mod expiring;
 mod handshake;
 mod judging;
 mod segments;
