@@ -4,8 +4,8 @@ use Rattle.subflow_send.specs.Rules.{after_expired, again_at_expiry}
 use Rattle.subflow_tcp.specs.declared.verdicts.Fired.{Fired}
 use Rattle.subflow_tcp.specs.declared.verdicts.Fired.TheVariants.{Again, Probe, Died}
 use Rattle.subflow_tcp.specs.States.{is_closed_to_segments}
-use Rattle.subflow_tcp.specs.Timers as timers
-use Rattle.subflow_tcp.specs.Windows as windows
+use Rattle.loss_recovery.specs.Timers as timers
+use Rattle.loss_recovery.specs.Windows as windows
 use Rattle.subflow_tcp.specs.Dues.{owing_first}
 use Rattle.subflow_tcp.specs.State.{EndState, has_records}
 use Rattle.subflow_tcp.specs.Sizes.{flight_told}

@@ -5,8 +5,8 @@ use Rattle.subflow_recv.specs.Receiving.{Receiving}
 use Rattle.subflow_tcp.specs.declared.handshake.State.{State}
 use Rattle.subflow_tcp.specs.declared.handshake.State.TheVariants.{Waiting, Listen, SynSent}
 use Rattle.subflow_tcp.specs.declared.spelling.Numbers.{Numbers}
-use Rattle.subflow_tcp.specs.Timers as timers
-use Rattle.subflow_tcp.specs.Windows as windows
+use Rattle.loss_recovery.specs.Timers as timers
+use Rattle.loss_recovery.specs.Windows as windows
 use Rattle.subflow_tcp.specs.Dues.{nothing_due}
 use Rattle.subflow_tcp.specs.State.{EndState}
 

@@ -4,8 +4,8 @@ use Rattle.subflow_send.specs.Records.{SendState, Record}
 use Rattle.subflow_recv.specs.Receiving.{Receiving}
 use Rattle.subflow_tcp.specs.declared.handshake.State.{State}
 use Rattle.subflow_tcp.specs.declared.spelling.Numbers.{Numbers}
-use Rattle.subflow_tcp.specs.declared.timers.Timing.{Timing}
-use Rattle.subflow_tcp.specs.declared.windows.Congestion.{Congestion}
+use Rattle.loss_recovery.specs.declared.timers.Timing.{Timing}
+use Rattle.loss_recovery.specs.declared.windows.Congestion.{Congestion}
 use Rattle.subflow_tcp.specs.declared.dues.Due.{Due}
 
 pub record EndState : Type 0 where

@@ -14,10 +14,10 @@ use Rattle.subflow_tcp.specs.declared.verdicts.Meaning.{Meaning}
 use Rattle.subflow_tcp.specs.declared.verdicts.Meaning.TheVariants as means
 use Rattle.subflow_tcp.specs.declared.verdicts.Arrival.{Arrival}
 use Rattle.subflow_tcp.specs.declared.verdicts.Arrival.TheVariants.{Dropped, AckNow, Challenge, Killed, Opened, Took}
-use Rattle.subflow_tcp.specs.declared.windows.Told.{Told}
+use Rattle.loss_recovery.specs.declared.windows.Told.{Told}
 use Rattle.subflow_tcp.specs.States.{is_half_open, after_handshake, after_fin_acked}
-use Rattle.subflow_tcp.specs.Timers.{heard, measured, rtt_told, stopped}
-use Rattle.subflow_tcp.specs.Windows.{acknowledged, is_third, duplicated, interrupted, with_told, is_same_told, without_pending}
+use Rattle.loss_recovery.specs.Timers.{heard, measured, rtt_told, stopped}
+use Rattle.loss_recovery.specs.Windows.{acknowledged, is_third, duplicated, interrupted, with_told, is_same_told, without_pending}
 use Rattle.subflow_tcp.specs.Dues.{owing_ack, owing_syn_ack, owing_first, owing_answer, only_reset}
 use Rattle.subflow_tcp.specs.Segments.{Copy, occupied}
 use Rattle.segment_wire.specs.Segment.{Segment}

@@ -8,8 +8,7 @@ ghost use Rattle.subflow_tcp.specs.Opening.{nothing_came};
 use crate::dues::Due;
 use crate::handshake::State;
 use crate::spelling::Numbers;
-use crate::timers::Timing;
-use crate::windows::{Congestion, Pending};
+use loss_recovery::{Congestion, Pending, Timing};
 use seq_units::{Mapping, Pos};
 use std::alloc::{AllocError, Global};
 use std::marker::Model;
@@ -69,7 +68,7 @@ impl Subflow {
     ghost use Rattle.subflow_recv.specs.Receiving.{after_advance, after_forget_from};
     ghost use Rattle.subflow_tcp.specs.State.{has_records, is_fin_passed};
     ghost use Rattle.subflow_tcp.specs.Opening.{new_end, after_begin};
-    ghost use Rattle.subflow_tcp.specs.Windows.{after_growth};
+    ghost use Rattle.loss_recovery.specs.Windows.{after_growth};
     ghost use Rattle.subflow_tcp.specs.Sizes.{room};
 
     /// An end in this state, to which nothing has come.

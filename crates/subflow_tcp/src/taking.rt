@@ -9,13 +9,13 @@ ghost use Rattle.subflow_tcp.specs.Judging.{IsBelow};
 ghost use Rattle.subflow_tcp.specs.Sizes.{flight_told};
 ghost use Rattle.subflow_tcp.specs.Taking.{first_fin, new_octets, is_ack_again, told_by, told_by_syn};
 
-use crate::end::Subflow;
 use crate::dues::Due;
+use crate::end::Subflow;
 use crate::handshake::State;
 use crate::judging::occupied;
 use crate::segments::{Arriving, Hint};
 use crate::verdicts::{Arrival, Meaning};
-use crate::windows::Told;
+use loss_recovery::Told;
 use segment_wire::{Head, SegmentRef};
 use seq_units::Pos;
 use std::alloc::AllocError;

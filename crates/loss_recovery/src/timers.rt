@@ -1,6 +1,6 @@
 //! The retransmission timer of an end, and what decides when it runs out (RFC 6298, section 5).
 ghost use Rattle.std.specs.Prelude.{◌≡◌, ◌+◌, ◌-◌, ◌^◌, ◌<◌, ◌≤◌, IfSome};
-ghost use Rattle.subflow_tcp.specs.Timers.{opening, heard, measured, settled, expired, stopped, time_since, rtt_told};
+ghost use Rattle.loss_recovery.specs.Timers.{opening, heard, measured, settled, expired, stopped, time_since, rtt_told};
 
 use rtt_timer::Rtt;
 
@@ -27,7 +27,7 @@ fn time_since(first: u64, now: u64) -> u32
 
 impl Timing {
     /// No sample, no timer.
-    pub(crate) fn new() -> Self
+    pub fn new() -> Self
         ensures { result ≡ opening }
     {
         Timing {
@@ -39,14 +39,14 @@ impl Timing {
     }
 
     /// An acceptable segment came.
-    pub(crate) fn heard(&mut self)
+    pub fn heard(&mut self)
         ensures { self.new ≡ heard self.old }
     {
         self.expiries = 0;
     }
 
     /// Something new was acknowledged; what gives a sample was sent at the tick `since`.
-    pub(crate) fn measured(&mut self, since: Option<u64>, now: u64)
+    pub fn measured(&mut self, since: Option<u64>, now: u64)
         ensures { self.new ≡ measured since now self.old }
     {
         self.news = true;
@@ -56,7 +56,7 @@ impl Timing {
     }
 
     /// The timer after an emission: whether there is a reason for it to run, and whether it is to start anew.
-    pub(crate) fn settle(&mut self, reason: bool, restart: bool, now: u64)
+    pub fn settle(&mut self, reason: bool, restart: bool, now: u64)
         requires { now < 2 ^ 64 - 2 ^ 20 }
         ensures { self.new ≡ settled reason restart now self.old }
     {
@@ -69,7 +69,7 @@ impl Timing {
     }
 
     /// The timer ran out, not for the sixth time in a row: the timeout is doubled, and the timer starts anew.
-    pub(crate) fn expire(&mut self, now: u64)
+    pub fn expire(&mut self, now: u64)
         requires time { now < 2 ^ 64 - 2 ^ 20 }
         requires few { self.old.expiries < 5 }
         ensures value { self.new ≡ expired now self.old }
@@ -81,14 +81,14 @@ impl Timing {
     }
 
     /// No timer runs any more.
-    pub(crate) fn stop(&mut self)
+    pub fn stop(&mut self)
         ensures { self.new ≡ stopped self.old }
     {
         self.timer = None;
     }
 
     /// The round-trip time to tell: at least 1, and 1,000 without a sample.
-    pub(crate) fn rtt_told(&self) -> u32
+    pub fn rtt_told(&self) -> u32
         ensures value { result ≡ rtt_told self.now }
         ensures least { 1 ≤ result }
         ensures most { result ≤ 60000 }

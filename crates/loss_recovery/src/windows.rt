@@ -1,6 +1,6 @@
 //! The congestion window of an end, and the duplicates that it hears (RFC 5681, section 3).
 ghost use Rattle.std.specs.Prelude.{◌≡◌, ◌<◌, ◌≤◌, ◌-◌, IfSome};
-ghost use Rattle.subflow_tcp.specs.Windows.{opening, counted, is_growth_linked, acknowledged, is_third, duplicated, interrupted, with_told, expired, after_growth, is_same_told, without_pending};
+ghost use Rattle.loss_recovery.specs.Windows.{opening, counted, is_growth_linked, acknowledged, is_third, duplicated, interrupted, with_told, expired, after_growth, is_same_told, without_pending};
 
 use reno_window::Reno;
 
@@ -47,7 +47,7 @@ fn counted(octets: u64) -> u32
 
 impl Congestion {
     /// The window of an end that opens.
-    pub(crate) fn new(mss: u16) -> Self
+    pub fn new(mss: u16) -> Self
         requires { 0 < mss }
         ensures { result ≡ opening mss }
     {
@@ -71,7 +71,7 @@ impl Congestion {
     }
 
     /// Something new was acknowledged, so many octets of data among it.
-    pub(crate) fn acknowledged(&mut self, octets: u64, rtt: u32)
+    pub fn acknowledged(&mut self, octets: u64, rtt: u32)
         ensures { self.new ≡ acknowledged octets rtt self.old }
     {
         self.duplicates = 0;
@@ -87,7 +87,7 @@ impl Congestion {
     }
 
     /// A duplicate came with so many octets under way. Answers whether it is the third in a row.
-    pub(crate) fn duplicated(&mut self, flight: u32) -> bool
+    pub fn duplicated(&mut self, flight: u32) -> bool
         ensures value { self.new ≡ duplicated flight self.old }
         ensures third { result ≡ is_third self.old }
     {
@@ -105,14 +105,14 @@ impl Congestion {
     }
 
     /// A copy came that is neither a duplicate nor acknowledges something new: the row of duplicates ends.
-    pub(crate) fn interrupted(&mut self)
+    pub fn interrupted(&mut self)
         ensures { self.new ≡ interrupted self.old }
     {
         self.duplicates = 0;
     }
 
     /// What a copy told, for the comparison with the next one.
-    pub(crate) fn tell(&mut self, told: Told)
+    pub fn tell(&mut self, told: Told)
         ensures { self.new ≡ with_told told self.old }
     {
         self.told = told;
@@ -120,7 +120,7 @@ impl Congestion {
 
     /// The timer ran out with so many octets under way; `again` tells that the first record was the first one at an
     /// earlier expiry too.
-    pub(crate) fn expired(&mut self, flight: u32, again: bool)
+    pub fn expired(&mut self, flight: u32, again: bool)
         ensures { self.new ≡ expired flight again self.old }
     {
         self.duplicates = 0;
@@ -128,14 +128,14 @@ impl Congestion {
     }
 
     /// No growth is to be told any more.
-    pub(crate) fn forget_growth(&mut self)
+    pub fn forget_growth(&mut self)
         ensures { self.new ≡ without_pending self.old }
     {
         self.pending = None;
     }
 
     /// The room of the window beside so many octets under way.
-    pub(crate) fn room(&self, flight: u64) -> u32
+    pub fn room(&self, flight: u64) -> u32
         ensures value { result ≡ self.now.reno.window - flight }
         ensures bound { result ≤ 1048576 }
     {
@@ -144,7 +144,7 @@ impl Congestion {
     }
 
     /// The growth that was to be told. Without one nothing changes.
-    pub(crate) fn grow(&mut self, growth: u32)
+    pub fn grow(&mut self, growth: u32)
         ensures { self.new ≡ after_growth growth self.old }
     {
         if let Some(pending) = self.pending {
@@ -156,7 +156,7 @@ impl Congestion {
 
 impl Told {
     /// Whether the other copy told the same.
-    pub(crate) fn is_same(self, other: Told) -> bool
+    pub fn is_same(self, other: Told) -> bool
         ensures { result ≡ is_same_told self other }
     {
         self.place == other.place && self.window == other.window

@@ -4,7 +4,7 @@ use Rattle.rtt_timer.specs.Timer.{Timer}
 use Rattle.rtt_timer.specs.Estimates.{srtt_of}
 use Rattle.rtt_timer.specs.Rules as rules
 use Rattle.rtt_timer.specs.declared.estimate.Estimate.{Estimate}
-use Rattle.subflow_tcp.specs.declared.timers.Timing.{Timing}
+use Rattle.loss_recovery.specs.declared.timers.Timing.{Timing}
 
 abbrev pub opening : Timing
 opening = record { rtt = rules.opening; timer = None; expiries = 0; news = false }

@@ -2,9 +2,9 @@
 use Rattle.std.specs.Prelude.{ℕ, ◌+◌, min, Bool, true, false, not, ◌&&◌, ◌==◌, nat_lt, nat_le, if◌then◌else◌, Option, Some, None}
 use Rattle.reno_window.specs.Window.{Window}
 use Rattle.reno_window.specs.Rules as reno
-use Rattle.subflow_tcp.specs.declared.windows.Told.{Told}
-use Rattle.subflow_tcp.specs.declared.windows.Pending.{Pending}
-use Rattle.subflow_tcp.specs.declared.windows.Congestion.{Congestion}
+use Rattle.loss_recovery.specs.declared.windows.Told.{Told}
+use Rattle.loss_recovery.specs.declared.windows.Pending.{Pending}
+use Rattle.loss_recovery.specs.declared.windows.Congestion.{Congestion}
 
 abbrev pub opening : ℕ → Congestion
 opening mss = record {
