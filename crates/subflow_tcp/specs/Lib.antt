@@ -10,3 +10,4 @@ pub mod Taking
 pub mod Emitting
 pub mod Expiring
 pub mod Closing
+pub mod Laws
