@@ -1,0 +1,5 @@
+pub mod Ordered
+pub mod Spreading
+pub mod Filling
+pub mod Cutting
+pub mod Loops
