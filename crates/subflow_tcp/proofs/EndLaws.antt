@@ -44,11 +44,11 @@ none_without on restart now s e = rw e refl
 -- ---- the congestion window
 taken_keeps : (acknowledged now : ℕ) (hint : Hint) (c : Copy) (s : EndState) → window_of s ≤ 1048576 → recovers s ≡ false
     → recovers (if is_duplicate (ack_kind acknowledged s.send) (told_by hint c) c (after_acknowledgement acknowledged now s)
-        then after_duplicate (after_acknowledgement acknowledged now s)
-        else after_interruption (after_acknowledgement acknowledged now s)) ≡ false
+    then after_duplicate (after_acknowledgement acknowledged now s)
+    else after_interruption (after_acknowledgement acknowledged now s)) ≡ false
     → window_of s ≤ window_of (if is_duplicate (ack_kind acknowledged s.send) (told_by hint c) c (after_acknowledgement acknowledged now s)
-        then after_duplicate (after_acknowledgement acknowledged now s)
-        else after_interruption (after_acknowledgement acknowledged now s))
+    then after_duplicate (after_acknowledgement acknowledged now s)
+    else after_interruption (after_acknowledgement acknowledged now s))
 taken_keeps acknowledged now hint c s within calm h =
     let grows = kind_grows (ack_kind acknowledged s.send) (sample_of acknowledged s.send) now (record s { send = after_acknowledge acknowledged s.send }) within calm in
     let first : window_of s ≤ window_of (after_acknowledgement acknowledged now s) = grows.window in

@@ -91,21 +91,11 @@ impl Subflow {
         ensures below { IsBelow result }
     {
         match self.state {
-            State::Dead => {
-                if arriving.rst {
-                    Meaning::Ignored
-                } else {
-                    Meaning::Unwanted
-                }
-            }
+            State::Dead if arriving.rst => Meaning::Ignored,
+            State::Dead => Meaning::Unwanted,
             State::Waiting => Meaning::Ignored,
-            State::Listen => {
-                if is_syn_alone(arriving) {
-                    Meaning::Opens
-                } else {
-                    Meaning::Ignored
-                }
-            }
+            State::Listen if is_syn_alone(arriving) => Meaning::Opens,
+            State::Listen => Meaning::Ignored,
             State::SynSent => self.meaning_opening(arriving),
             _ => self.meaning_connected(arriving),
         }
