@@ -25,3 +25,6 @@ pub use spelling::Numbers;
 pub use subflow_recv::Parts;
 pub use subflow_send::{AckKind, RecordRef};
 pub use verdicts::{Arrival, Fired, Meaning};
+
+#[cfg(test)]
+mod tests;
