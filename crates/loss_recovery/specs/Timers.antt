@@ -1,5 +1,5 @@
 -- When the timer of an end runs, and what each event makes of it (RFC 6298, section 5).
-use Rattle.std.specs.Prelude.{ℕ, ◌+◌, ◌-◌, min, max, Bool, true, false, not, ◌&&◌, ◌||◌, if◌then◌else◌, is_none, Option, Some, None}
+use Rattle.std.specs.Prelude.{ℕ, ◌+◌, ◌-◌, min, max, Bool, true, false, ◌||◌, if◌then◌else◌, is_none, Option, Some, None}
 use Rattle.rtt_timer.specs.Timer.{Timer}
 use Rattle.rtt_timer.specs.Estimates.{srtt_of}
 use Rattle.rtt_timer.specs.Rules as rules

@@ -2,7 +2,6 @@ use Rattle.std.proofs.Common.{Some, eq-eqb, sym, ap, ◌∙◌, arith}
 use Rattle.subflow_send.specs.Records.{Record}
 use Rattle.subflow_send.specs.Rules.{stands_at}
 use Rattle.subflow_send.specs.Pieces.{piece_record}
-use Rattle.subflow_send.specs.declared.pieces.Piece.{Piece}
 use Rattle.subflow_send.proofs.ByPosition.{find_piece_at, find_piece_none}
 use Rattle.subflow_send.proofs.pieces.piece_at.Goals as goal
 

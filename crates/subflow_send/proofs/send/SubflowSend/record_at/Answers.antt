@@ -1,12 +1,11 @@
-use Rattle.std.proofs.Common.{◌≡◌, ◌-◌, ◌==◌, not, if◌then◌else◌, List, Option, Some, None, map, find, refl, sym, ap, ◌∙◌, arith}
+use Rattle.std.proofs.Common.{◌-◌, ◌==◌, not, if◌then◌else◌, Option, Some, None, map, find, sym, ap, ◌∙◌}
 use Rattle.std.specs.Option.{option_map}
 use Rattle.subflow_send.specs.declared.record.Sending.{Sending}
-use Rattle.subflow_send.specs.declared.pieces.Piece.{Piece}
 use Rattle.subflow_send.specs.Records.{Record}
 use Rattle.subflow_send.specs.Rules.{syn_record, fin_record, stands_at}
-use Rattle.subflow_send.specs.Pieces.{piece_record, all_records}
+use Rattle.subflow_send.specs.Pieces.{piece_record}
 use Rattle.subflow_send.proofs.Whole.{first_some}
-use Rattle.subflow_send.proofs.ByPosition.{record_at_is, new_fin_of_all, is_new_sending, fin_sent_of_all}
+use Rattle.subflow_send.proofs.ByPosition.{record_at_is}
 use Rattle.subflow_send.proofs.send.SubflowSend.record_at.Goals as goal
 
 pub returns-in-Some-piece_at : goal.returns-in-Some-piece_at
