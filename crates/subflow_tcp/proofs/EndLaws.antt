@@ -1,21 +1,17 @@
 -- The laws of every end.
-use Rattle.std.proofs.Common.{◌≡◌, ℕ, ◌+◌, ◌≤◌, ◌⊎◌, Bool, true, false, if◌then◌else◌, ◌||◌, is_none, Option, Some, None, IfSome, refl, sym, ap, ◌∙◌, inl, inr, arith}
+use Rattle.std.proofs.Common.{◌≡◌, ℕ, ◌+◌, ◌≤◌, ◌⊎◌, Bool, true, false, if◌then◌else◌, ◌||◌, is_none, Option, Some, None, IfSome, refl, inl, inr, arith}
 use Rattle.std.proofs.Math.Nat.{le_trans}
-use Rattle.rtt_timer.specs.Estimates.{IsWithinBounds}
 use Rattle.subflow_send.specs.Rules.{ack_kind, sample_of, after_acknowledge}
 use Rattle.subflow_tcp.specs.declared.handshake.State.TheVariants.{Established}
 use Rattle.subflow_tcp.specs.declared.segments.Hint.{Hint}
-use Rattle.subflow_tcp.specs.declared.segments.Occasion.{Occasion}
 use Rattle.subflow_tcp.specs.declared.segments.Occasion.TheVariants as to_send
-use Rattle.subflow_tcp.specs.declared.verdicts.Meaning.{Meaning}
 use Rattle.subflow_tcp.specs.declared.verdicts.Meaning.TheVariants as means
 use Rattle.subflow_tcp.specs.Segments.{Copy}
 use Rattle.subflow_tcp.specs.State.{EndState}
-use Rattle.subflow_tcp.specs.Taking.{after_arrival, after_payload, after_hearing, after_established, after_acknowledgement, is_duplicate, told_by, after_duplicate, after_interruption, after_death}
-use Rattle.subflow_tcp.specs.Expiring.{is_timed, is_sixth, after_settling, after_fire, after_expiry}
-use Rattle.subflow_tcp.specs.Emitting.{after_sending}
-use Rattle.subflow_tcp.specs.Laws.{FiredTimersRest, IsSettled, SettlingSetsTheTimeout, NoTimerWithoutAReason, window_of, recovers, ArrivalsKeepTheWindow, GrowthsKeepTheWindow, SendingsKeepTheWindow}
-use Rattle.subflow_tcp.proofs.WindowGrowth.{Grows, kind_grows, row_keeps, growth_keeps}
+use Rattle.subflow_tcp.specs.Taking.{after_payload, after_hearing, after_established, after_acknowledgement, is_duplicate, told_by, after_duplicate, after_interruption, after_death}
+use Rattle.subflow_tcp.specs.Expiring.{is_timed, is_sixth, after_expiry}
+use Rattle.subflow_tcp.specs.Laws.{FiredTimersRest, SettlingSetsTheTimeout, NoTimerWithoutAReason, window_of, recovers, ArrivalsKeepTheWindow, GrowthsKeepTheWindow, SendingsKeepTheWindow}
+use Rattle.subflow_tcp.proofs.WindowGrowth.{kind_grows, row_keeps, growth_keeps}
 
 -- ---- the timer
 either_rests : (b : Bool) (now : ℕ) (x y : EndState) → IfSome x.timing.timer (λ tick. now + 1000 ≤ tick) → IfSome y.timing.timer (λ tick. now + 1000 ≤ tick)

@@ -1,10 +1,10 @@
 -- When a congestion window falls.
-use Rattle.std.proofs.Common.{◌≡◌, ℕ, ◌+◌, ◌≤◌, Bool, true, false, nat_lt, if◌then◌else◌, Option, Some, None, refl, sym, ap, ◌∙◌, arith, true≢false}
+use Rattle.std.proofs.Common.{◌≡◌, ℕ, ◌≤◌, Bool, true, false, nat_lt, if◌then◌else◌, Option, Some, None, refl, arith, true≢false}
 use Rattle.reno_window.specs.Window.{Window}
 use Rattle.reno_window.specs.Rules as reno
 use Rattle.loss_recovery.specs.declared.windows.Congestion.{Congestion}
 use Rattle.loss_recovery.specs.declared.windows.Pending.{Pending}
-use Rattle.loss_recovery.specs.Windows.{acknowledged, duplicated, grown_by, is_growth_linked}
+use Rattle.loss_recovery.specs.Windows.{acknowledged, grown_by, is_growth_linked}
 use Rattle.subflow_send.specs.declared.record.AckKind.{AckKind}
 use Rattle.subflow_send.specs.declared.record.AckKind.TheVariants.{New, Duplicate, Old, Future}
 use Rattle.subflow_tcp.specs.State.{EndState}

@@ -1,5 +1,5 @@
 -- The FINs of an end, and what the layer above makes due.
-use Rattle.std.specs.Prelude.{ℕ, ◌+◌, ◌^◌, Bool, ◌&&◌, nat_lt, if◌then◌else◌, Option}
+use Rattle.std.specs.Prelude.{◌+◌, ◌^◌, Bool, ◌&&◌, nat_lt, if◌then◌else◌}
 use Rattle.subflow_send.specs.Rules as sending
 use Rattle.subflow_recv.specs.Receiving.{after_advance}
 use Rattle.subflow_tcp.specs.States as states

@@ -1,6 +1,5 @@
 -- What an end owes beside the records that are to be sent.
-use Rattle.std.specs.Prelude.{Bool, true, false, if◌then◌else◌, Option, Some, None}
-use Rattle.segment_wire.specs.declared.head.Head.{Head}
+use Rattle.std.specs.Prelude.{Bool, true, false, if◌then◌else◌, None}
 use Rattle.subflow_tcp.specs.declared.dues.Due.{Due}
 
 abbrev pub nothing_due : Due

@@ -1,5 +1,5 @@
 -- What a segment that arrives means for an end, rule by rule in their order (RFC 9293, section 3.10.7; RFC 5961).
-use Rattle.std.specs.Prelude.{ℕ, ◌+◌, ◌-◌, ◌^◌, ◌<◌, Bool, true, false, not, ◌&&◌, ◌||◌, ◌==◌, nat_lt, nat_le, if◌then◌else◌, is_none, Option, Some, None}
+use Rattle.std.specs.Prelude.{ℕ, ◌+◌, ◌-◌, ◌^◌, ◌<◌, Bool, false, not, ◌&&◌, ◌||◌, ◌==◌, nat_lt, nat_le, if◌then◌else◌, is_none, Option, Some, None}
 use Rattle.subflow_tcp.specs.declared.handshake.State.{State}
 use Rattle.subflow_tcp.specs.declared.handshake.State.TheVariants.{Waiting, Listen, SynSent, Dead}
 use Rattle.subflow_tcp.specs.declared.verdicts.Meaning.{Meaning}

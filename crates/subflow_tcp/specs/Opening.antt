@@ -1,10 +1,9 @@
 -- The ends of a path before anything came.
-use Rattle.std.specs.Prelude.{ℕ, Bool, true, false, Option, Some, None, []}
+use Rattle.std.specs.Prelude.{ℕ, Bool, None, []}
 use Rattle.subflow_send.specs.Rules as sending
 use Rattle.subflow_recv.specs.Receiving.{Receiving}
 use Rattle.subflow_tcp.specs.declared.handshake.State.{State}
-use Rattle.subflow_tcp.specs.declared.handshake.State.TheVariants.{Waiting, Listen, SynSent}
-use Rattle.subflow_tcp.specs.declared.spelling.Numbers.{Numbers}
+use Rattle.subflow_tcp.specs.declared.handshake.State.TheVariants.{SynSent}
 use Rattle.loss_recovery.specs.Timers as timers
 use Rattle.loss_recovery.specs.Windows as windows
 use Rattle.subflow_tcp.specs.Dues.{nothing_due}

@@ -1,5 +1,5 @@
 -- One end of a subflow by positions.
-use Rattle.std.specs.Prelude.{ℕ, Bool, true, false, nat_lt, nat_le, ◌&&◌, ◌||◌, ◌^◌, if◌then◌else◌, Option, Some, None, List, [], ◌∷◌}
+use Rattle.std.specs.Prelude.{ℕ, Bool, true, false, nat_lt, nat_le, ◌||◌, ◌^◌, Option, Some, None, List, [], ◌∷◌}
 use Rattle.subflow_send.specs.Records.{SendState, Record}
 use Rattle.subflow_recv.specs.Receiving.{Receiving}
 use Rattle.subflow_tcp.specs.declared.handshake.State.{State}
