@@ -263,7 +263,7 @@ drop-some zero bytes = refl
 drop-some (suc n) [] = refl
 drop-some (suc n) (byte ∷ bytes) = drop-some n bytes
 
-drop-min : (n k : ℕ) (bytes : List ℕ) → k ≡ min n (length bytes) → drop k bytes ≡ drop n bytes
+pub drop-min : (n k : ℕ) (bytes : List ℕ) → k ≡ min n (length bytes) → drop k bytes ≡ drop n bytes
 drop-min zero zero bytes e = refl
 drop-min zero (suc k) bytes e = absurd (omega (arith, e))
 drop-min (suc n) zero [] e = refl
@@ -285,7 +285,7 @@ drop-by_place (suc place) (suc at) lead known [] e f = ap (by_place lead) (drop-
 drop-by_place (suc place) (suc at) lead known (byte ∷ bytes) e f =
     drop-by_place place at lead known (byte ∷ bytes) (omega (arith, e)) (omega (arith, f))
 
-take-rest : (n k : ℕ) (bytes : List ℕ) → k ≡ length bytes - n → take k (drop n bytes) ≡ drop n bytes
+pub take-rest : (n k : ℕ) (bytes : List ℕ) → k ≡ length bytes - n → take k (drop n bytes) ≡ drop n bytes
 take-rest zero k [] e = take-nil k
 take-rest zero zero (byte ∷ bytes) e = absurd (omega (arith, e))
 take-rest zero (suc k) (byte ∷ bytes) e = ap (λ rest. byte ∷ rest) (take-rest zero k bytes (omega (arith, e)))

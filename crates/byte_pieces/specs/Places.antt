@@ -33,6 +33,12 @@ filled [] = []
 filled (None ∷ places) = []
 filled (Some byte ∷ places) = byte ∷ filled places
 
+-- how many places before the first byte are empty; none where there is no byte
+abbrev pub gap_len : List (Option ℕ) → ℕ
+gap_len [] = 0
+gap_len (None ∷ places) = suc (gap_len places)
+gap_len (Some byte ∷ places) = 0
+
 -- an empty place before the others; with no byte after it, it is none
 abbrev pub gap_before : List (Option ℕ) → List (Option ℕ)
 gap_before [] = []

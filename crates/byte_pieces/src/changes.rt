@@ -58,6 +58,30 @@ pub(crate) fn fresh_parts(
     Ok(parts)
 }
 
+/// How many of these bytes stand in no piece.
+pub(crate) fn count_fresh(pieces: &VecDeque<Piece>, at: u64, bytes: &[u8]) -> u64
+    requires order { AreOrdered 0 (2 ^ 62) pieces.now.items }
+    requires few { length bytes.now ≤ 2 ^ 62 }
+    ensures { result ≡ sum_by piece_len (fresh at bytes.now pieces.now.items) }
+{
+    let mut count = 0;
+    let mut next = at;
+    let mut rest = bytes;
+    let first = begun_before(pieces, at).saturating_sub(1);
+    for index in first..pieces.len() {
+        if rest.is_empty() {
+            return count;
+        }
+        let piece = &pieces[index];
+        let gap = rest.len().min(piece.at.saturating_sub(next) as usize);
+        let known = rest.len().min(piece.end().saturating_sub(next) as usize);
+        count += gap as u64;
+        rest = &rest[known..];
+        next = next.max(piece.end());
+    }
+    count + rest.len() as u64
+}
+
 /// How many bytes these pieces have.
 pub(crate) fn count_bytes(pieces: &VecDeque<Piece>) -> u64
     requires { sum_by piece_len pieces.now.items < 2 ^ 63 }

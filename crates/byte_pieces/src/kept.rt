@@ -1,7 +1,7 @@
 ghost use Rattle.std.specs.Prelude.{◌≡◌, ◌+◌, ◌-◌, ◌^◌, ◌<◌, ◌≤◌, length, All, IfOk, OnOk, OnErr};
 ghost use Rattle.std.specs.List.{concat};
 
-use crate::changes::{count_bytes, cut_pieces, drop_pieces, fresh_parts, put_pieces};
+use crate::changes::{count_bytes, count_fresh, cut_pieces, drop_pieces, fresh_parts, put_pieces};
 use crate::parts::Parts;
 use crate::piece::Piece;
 use std::alloc::{AllocError, Global};
@@ -33,7 +33,7 @@ impl Model for BytePieces {
 }
 
 impl BytePieces {
-    ghost use Rattle.byte_pieces.specs.Places.{no_bytes, top, filled, kept_count, after_put, after_drop_front, after_cut_back};
+    ghost use Rattle.byte_pieces.specs.Places.{no_bytes, top, filled, gap_len, kept_count, after_put, after_drop_front, after_cut_back};
 
     /// No bytes, from this position on. Takes no memory.
     pub fn new(alloc: Global, from: u64) -> Self
@@ -85,6 +85,28 @@ impl BytePieces {
         let count = count_bytes(&parts);
         put_pieces(&mut self.pieces, parts);
         Ok(count)
+    }
+
+    /// How many of these bytes [`BytePieces::put`] would keep, in time proportional to the number of pieces that they meet.
+    pub fn count_new(&self, at: u64, bytes: &[u8]) -> u64
+        requires { at + length bytes.now ≤ 2 ^ 62 }
+        ensures { result + kept_count self.now.places ≡ kept_count (after_put at bytes.now self.now).places }
+    {
+        let passed = bytes.len().min(self.from.saturating_sub(at) as usize);
+        let first = self.from.max(at);
+        count_fresh(&self.pieces, first, &bytes[passed..])
+    }
+
+    /// How many positions from the first one that counts on have no byte, up to the first one that has one. 0 where no byte is
+    /// kept.
+    pub fn gap_len(&self) -> u64
+        ensures value { result ≡ gap_len self.now.places }
+        ensures bound { self.now.from + result ≤ 2 ^ 62 }
+    {
+        match self.pieces.front() {
+            Some(first) => first.at - self.from,
+            None => 0,
+        }
     }
 
     /// The bytes before the first position without one, lent part by part in order. No part is empty.

@@ -131,6 +131,7 @@ impl SubflowRecv {
         requires within { to ≤ self.old.edge + length (filled self.old.places) }
         ensures { self.new ≡ after_advance to self.old }
     {
+        // The octets end at or before position 2^62, and so does `to`.
         let _top = self.kept.top();
         self.kept.drop_front(to);
     }
