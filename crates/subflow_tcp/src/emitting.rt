@@ -219,7 +219,7 @@ impl Subflow {
     }
 
     /// Why the end sends next: `None` where nothing is due.
-    pub fn next(&self) -> Option<Occasion>
+    pub fn occasion(&self) -> Option<Occasion>
         ensures { result ≡ next_occasion self.now }
     {
         if self.due.reset {
@@ -238,7 +238,7 @@ impl Subflow {
     pub fn emission(&self) -> Option<Emission>
         ensures { result ≡ next_emission self.now }
     {
-        match self.next() {
+        match self.occasion() {
             Some(occasion) => self.emission_for(occasion),
             None => None,
         }
@@ -249,7 +249,7 @@ impl Subflow {
         ensures emission { result ≡ next_emission self.old }
         ensures after { self.new ≡ after_emission now self.old }
     {
-        match self.next() {
+        match self.occasion() {
             Some(occasion) => {
                 let emission = self.emission_for(occasion);
                 self.sent(occasion, now);
