@@ -3,6 +3,7 @@
 #![tactic(auto)]
 
 mod closing;
+mod dropping;
 mod dues;
 mod emitting;
 mod end;

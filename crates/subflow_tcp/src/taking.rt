@@ -1,4 +1,4 @@
-//! What each segment that arrives makes of an end: one method a rule.
+//! What a segment that is taken makes of an end: its payload, its acknowledgement, what it tells. One method a rule.
 ghost use Rattle.std.specs.Prelude.{◌≡◌, ◌+◌, ◌^◌, ◌<◌, ◌≤◌, length, IfOk, OnOk, OnErr, true, None};
 ghost use Rattle.segment_wire.specs.Reading.{segment_of};
 ghost use Rattle.subflow_send.specs.Rules.{ack_kind};
@@ -9,7 +9,6 @@ ghost use Rattle.subflow_tcp.specs.Judging.{IsBelow};
 ghost use Rattle.subflow_tcp.specs.Sizes.{flight_told};
 ghost use Rattle.subflow_tcp.specs.Taking.{first_fin, new_octets, is_ack_again, told_by, told_by_syn};
 
-use crate::dues::Due;
 use crate::end::Subflow;
 use crate::handshake::State;
 use crate::judging::occupied;
@@ -78,7 +77,7 @@ pub(crate) fn flight_told(send: &SubflowSend) -> u32
 }
 
 impl Subflow {
-    ghost use Rattle.subflow_tcp.specs.Taking.{after_answering, after_repeated_syn, after_death, after_keeping, kept_new, after_payload, after_ack_kind, after_acknowledgement, after_new_ack, is_duplicate, after_duplicate, after_row, after_heard_ack, after_occupying, after_taken, after_syn, after_syn_ack, after_arrival, arrival_of, after_octets, after_segment, arrival_in};
+    ghost use Rattle.subflow_tcp.specs.Taking.{after_keeping, kept_new, after_payload, after_ack_kind, after_acknowledgement, after_new_ack, is_duplicate, after_duplicate, after_row, after_heard_ack, after_occupying, after_taken, after_syn, after_syn_ack, after_arrival, arrival_of, after_octets, after_segment, arrival_in};
 
     /// Treats a segment that arrives at the tick `now`, as it stands in octets: reads it, judges it, and takes it. It has
     /// at most 65,535 octets, and no growth is pending.
@@ -130,59 +129,17 @@ impl Subflow {
             Meaning::Accepts { acknowledged } => {
                 self.accept_by(acknowledged, arriving, hint, now)
             }
-            Meaning::RepeatedSyn => {
-                self.due.syn_ack = true;
-                Ok(Arrival::AckNow)
-            }
-            Meaning::Outside => {
-                self.answer();
-                Ok(Arrival::AckNow)
-            }
-            Meaning::Kills => {
-                self.die(false);
-                Ok(Arrival::Killed)
-            }
-            Meaning::Challenged => {
-                self.timing.heard();
-                self.answer();
-                Ok(Arrival::Challenge)
-            }
-            Meaning::Unacknowledging => {
-                self.timing.heard();
-                Ok(Arrival::Dropped)
-            }
-            Meaning::Ahead => {
-                self.timing.heard();
-                self.answer();
-                Ok(Arrival::AckNow)
-            }
+            Meaning::RepeatedSyn => Ok(self.hear_syn_again()),
+            Meaning::Outside => Ok(self.hear_outside()),
+            Meaning::Kills => Ok(self.hear_death()),
+            Meaning::Challenged => Ok(self.hear_challenged()),
+            Meaning::Unacknowledging => Ok(self.hear_unacknowledging()),
+            Meaning::Ahead => Ok(self.hear_ahead()),
             Meaning::Taken {
                 position,
                 acknowledged,
             } => self.take(position, acknowledged, arriving, hint, now),
         }
-    }
-
-    /// An acknowledgement is owed, at a half-open end the SYN/ACK.
-    fn answer(&mut self)
-        ensures { self.new ≡ after_answering self.old }
-    {
-        self.due
-            .owe_answer(matches!(self.state, State::SynReceived));
-    }
-
-    /// Nothing is sent, kept or awaited any more, but a reset where the end is to send one.
-    pub(crate) fn die(&mut self, reset: bool)
-        ensures { self.new ≡ after_death reset self.old }
-    {
-        let nxt = self.send.nxt();
-        self.send.acknowledge(nxt);
-        let edge = self.recv.edge();
-        self.recv.forget_from(edge);
-        self.state = State::Dead;
-        self.timing.stop();
-        self.congestion.forget_growth();
-        self.due = Due::only_reset(reset);
     }
 
     /// Keeps a payload whose first octet stands at `pos`, where it is wanted and the peer's FIN isn't passed, and answers
