@@ -10,10 +10,9 @@
 ghost use Rattle.std.specs.Prelude.{◌<◌};
 
 mod came;
-mod case;
 mod sent;
 
-use case::{CaseFault, u16_at, u32_at};
+use case_fields::{CaseFault, number_at};
 use std::alloc::{AllocError, Global};
 use std::io::{self, BufWriter, Write};
 use subflow_tcp::Subflow;
@@ -25,7 +24,7 @@ fn begin(
     fields: &[&str],
     opens: bool,
 ) -> Result<String, CaseFault> {
-    let (iss, mss) = (u32_at(fields, 0)?, u16_at(fields, 1)?);
+    let (iss, mss) = (number_at::<u32>(fields, 0)?, number_at::<u16>(fields, 1)?);
     if mss == 0 {
         return Err(CaseFault::Form);
     }

@@ -1,7 +1,7 @@
 //! What goes out of an end.
 ghost use Rattle.std.specs.Prelude.{◌<◌, ◌≤◌, ◌≡◌, ◌^◌, length, false};
 
-use crate::case::{CaseFault, flag_at, u32_at};
+use case_fields::{CaseFault, number_at, truth_at};
 use seq_units::Mapping;
 use std::alloc::{AllocError, Global};
 use subflow_tcp::{Emission, State, Subflow};
@@ -16,7 +16,7 @@ const NO_MAPPING: Mapping = Mapping {
 
 /// `push LENGTH`: the position of a piece of so many octets.
 pub fn push(alloc: Global, end: &mut Subflow, fields: &[&str]) -> Result<String, CaseFault> {
-    let length = u32_at(fields, 0)?;
+    let length: u32 = number_at(fields, 0)?;
     if length == 0 || length > 65_535 || end.is_finished() || end.nxt() >= 1 << 61 {
         return Err(CaseFault::Form);
     }
@@ -27,7 +27,7 @@ pub fn push(alloc: Global, end: &mut Subflow, fields: &[&str]) -> Result<String,
 
 /// `emit TICK`: the segment that goes out at this tick, or `nothing`.
 pub fn emit(alloc: Global, end: &mut Subflow, fields: &[&str]) -> Result<String, CaseFault> {
-    let tick = u32_at(fields, 0)?;
+    let tick: u32 = number_at(fields, 0)?;
     let foreseen = end.emission();
     let emission = end.emit(u64::from(tick));
     if emission != foreseen {
@@ -49,12 +49,15 @@ fn shown(alloc: Global, emission: &Emission) -> Result<String, AllocError> {
     let head = emission.head;
     let (syn, fin) = (letter(head.syn, "S"), letter(head.fin, "F"));
     let (rst, ack) = (letter(head.rst, "R"), letter(head.ack_set, "A"));
-    format!(in alloc; "{syn}{fin}{rst}{ack} {} {} {}", head.seq, head.ack, emission.length)
+    format!(in alloc;
+        "{syn}{fin}{rst}{ack} {} {} {}",
+        head.seq, head.ack, emission.length
+    )
 }
 
 /// `hold TICK`: the timer after it is settled, without a reason of a layer above.
 pub fn hold(alloc: Global, end: &mut Subflow, fields: &[&str]) -> Result<String, CaseFault> {
-    let tick = u32_at(fields, 0)?;
+    let tick: u32 = number_at(fields, 0)?;
     end.hold_timer(false, false, u64::from(tick));
     let timer = end.timer();
     Ok(format!(in alloc; "{timer:?}")?)
@@ -62,7 +65,7 @@ pub fn hold(alloc: Global, end: &mut Subflow, fields: &[&str]) -> Result<String,
 
 /// `fire TICK`: what the expiry comes to, and the timer after it.
 pub fn fire(alloc: Global, end: &mut Subflow, fields: &[&str]) -> Result<String, CaseFault> {
-    let tick = u32_at(fields, 0)?;
+    let tick: u32 = number_at(fields, 0)?;
     if end.timer().is_none() {
         return Err(CaseFault::Form);
     }
@@ -81,9 +84,9 @@ pub fn finish(alloc: Global, end: &mut Subflow) -> Result<String, CaseFault> {
     Ok(format!(in alloc; "{state:?}")?)
 }
 
-/// `owe yes` or `owe no`: an acknowledgement is due, one below SND.UNA or at SND.NXT.
+/// `owe 1` or `owe 0`: an acknowledgement is due, one below SND.UNA or at SND.NXT.
 pub fn owe(alloc: Global, end: &mut Subflow, fields: &[&str]) -> Result<String, CaseFault> {
-    let below = flag_at(fields, 0)?;
+    let below = truth_at(fields, 0)?;
     if end.una() == 0 || matches!(end.state(), State::Dead) {
         return Err(CaseFault::Form);
     }
@@ -91,9 +94,9 @@ pub fn owe(alloc: Global, end: &mut Subflow, fields: &[&str]) -> Result<String, 
     Ok(format!(in alloc; "owed")?)
 }
 
-/// `kill yes` or `kill no`: the end dies, with a reset or without.
+/// `kill 1` or `kill 0`: the end dies, with a reset or without.
 pub fn kill(alloc: Global, end: &mut Subflow, fields: &[&str]) -> Result<String, CaseFault> {
-    end.kill(flag_at(fields, 0)?);
+    end.kill(truth_at(fields, 0)?);
     let state = end.state();
     Ok(format!(in alloc; "{state:?}")?)
 }

@@ -2,23 +2,9 @@
 //! and its text, `hex` and its octets, or `NxCC`, which is N times the octet CC. `FAILS` is `-`, or the number of the
 //! call of the outside that fails, and how many octets that call keeps of what it is to put.
 
+use case_fields::CaseFault;
 use outside_kit::{FailAt, MemoryOutside, NamedFile};
 use std::alloc::{AllocError, Global};
-
-/// Why a line has no answer.
-#[derive(Clone, Copy)]
-pub enum CaseFault {
-    /// The line is no case.
-    Form,
-    /// Out of memory.
-    Memory,
-}
-
-impl From<AllocError> for CaseFault {
-    fn from(_: AllocError) -> Self {
-        CaseFault::Memory
-    }
-}
 
 /// The fields of a case.
 #[derive(Clone, Copy)]

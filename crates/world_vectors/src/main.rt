@@ -10,7 +10,8 @@
 mod case;
 mod names;
 
-use case::{Case, CaseFault};
+use case::Case;
+use case_fields::CaseFault;
 use mptcp_run::{Status, run};
 use names::Names;
 use outside_kit::{MemoryOutside, OpenGate, Outside, Port};
