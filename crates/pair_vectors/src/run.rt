@@ -34,13 +34,30 @@ pub struct Run {
     death: Option<u64>,
 }
 
-/// The earlier one of what happens first so far and another event, if it is to happen at all.
-fn earlier(first: Option<(u64, Event)>, tick: Option<u64>, event: Event) -> Option<(u64, Event)> {
-    match (first, tick) {
-        (Some((earliest, _)), Some(tick)) if earliest <= tick => first,
-        (_, Some(tick)) => Some((tick, event)),
-        (_, None) => first,
+/// What happens, and when.
+#[derive(Clone, Copy)]
+struct Coming {
+    tick: u64,
+    event: Event,
+}
+
+/// Whether something happens at this tick or before.
+fn is_by(first: Option<Coming>, tick: u64) -> bool {
+    match first {
+        Some(coming) => coming.tick <= tick,
+        None => false,
     }
+}
+
+/// The earlier one of what happens first so far and another event, if that is to happen at all.
+fn earlier(first: Option<Coming>, tick: Option<u64>, event: Event) -> Option<Coming> {
+    let Some(tick) = tick else {
+        return first;
+    };
+    if is_by(first, tick) {
+        return first;
+    }
+    Some(Coming { tick, event })
 }
 
 impl Run {
@@ -67,7 +84,7 @@ impl Run {
     }
 
     /// What happens next, and when.
-    fn next(&self) -> Option<(u64, Event)> {
+    fn next(&self) -> Option<Coming> {
         let copy = match self.link.due() {
             Some(due) => Some(due.tick),
             None => None,
@@ -125,11 +142,11 @@ impl Run {
     /// Goes on to the end.
     fn go(&mut self, until: u32) -> Result<(), CaseFault> {
         for _ in 0..MOST_EVENTS {
-            let Some((tick, event)) = self.next() else {
+            let Some(coming) = self.next() else {
                 return Ok(());
             };
-            match u32::try_from(tick) {
-                Ok(now) if now <= until => self.treat(event, now)?,
+            match u32::try_from(coming.tick) {
+                Ok(now) if now <= until => self.treat(coming.event, now)?,
                 _ => return Ok(()),
             }
         }
