@@ -7,7 +7,7 @@ ghost use Rattle.std.specs.Prelude.{IfOk, ◌<◌};
 ghost use Rattle.control_book.specs.Calls.{can_ask};
 
 use crate::words::bit;
-use case_fields::{CaseFault, number_at, truth_at, word_at};
+use case_fields::{CaseFault, parsed_at, truth_at, word_at};
 use control_book::{ControlBook, ControlCall, ControlReply, Notice};
 use fallback_state::{Event, Mode, Verdict};
 use key_material::Address;
@@ -23,7 +23,7 @@ pub fn open_control(alloc: Global, fields: &[&str]) -> Result<ControlBook, CaseF
         "b" => Side::B,
         _ => return Err(CaseFault::Form),
     };
-    Ok(ControlBook::new(alloc, side, number_at(fields, 1)?)?)
+    Ok(ControlBook::new(alloc, side, parsed_at(fields, 1)?)?)
 }
 
 fn event_at(fields: &[&str]) -> Result<Event, CaseFault> {
@@ -45,10 +45,10 @@ fn event_at(fields: &[&str]) -> Result<Event, CaseFault> {
 }
 
 fn four_at(fields: &[&str], place: usize) -> Result<[u8; 4], CaseFault> {
-    let first = number_at(fields, place)?;
-    let second = number_at(fields, place.saturating_add(1))?;
-    let third = number_at(fields, place.saturating_add(2))?;
-    let fourth = number_at(fields, place.saturating_add(3))?;
+    let first = parsed_at(fields, place)?;
+    let second = parsed_at(fields, place.saturating_add(1))?;
+    let third = parsed_at(fields, place.saturating_add(2))?;
+    let fourth = parsed_at(fields, place.saturating_add(3))?;
     Ok([first, second, third, fourth])
 }
 
@@ -56,17 +56,17 @@ fn heard_at(fields: &[&str]) -> Result<ControlCall, CaseFault>
     ensures { IfOk result (λ call. can_ask call) }
 {
     Ok(ControlCall::Heard {
-        id: number_at(fields, 0)?,
+        id: parsed_at(fields, 0)?,
         address: Address::V4(four_at(fields, 1)?),
-        port: number_at(fields, 5)?,
-        hmac: number_at(fields, 6)?,
+        port: parsed_at(fields, 5)?,
+        hmac: parsed_at(fields, 6)?,
     })
 }
 
 fn path_at(fields: &[&str]) -> Result<u8, CaseFault>
     ensures { IfOk result (λ path. path < 16) }
 {
-    let path: u8 = number_at(fields, 0)?;
+    let path: u8 = parsed_at(fields, 0)?;
     if path < 16 {
         Ok(path)
     } else {
@@ -78,8 +78,8 @@ fn rate_at(path: u8, fields: &[&str]) -> Result<ControlCall, CaseFault>
     requires { path < 16 }
     ensures { IfOk result (λ call. can_ask call) }
 {
-    let window: u32 = number_at(fields, 1)?;
-    let rtt: u32 = number_at(fields, 2)?;
+    let window: u32 = parsed_at(fields, 1)?;
+    let rtt: u32 = parsed_at(fields, 2)?;
     if window < 1 || window > 1_048_576 || rtt < 1 || rtt > 60_000 {
         return Err(CaseFault::Form);
     }
@@ -100,7 +100,7 @@ fn path_call(name: &str, path: u8, fields: &[&str]) -> Result<ControlCall, CaseF
         "joinbegin" => Ok(ControlCall::JoinBegin { path }),
         "joinheard" => Ok(ControlCall::JoinHeard {
             path,
-            token: number_at(fields, 1)?,
+            token: parsed_at(fields, 1)?,
         }),
         "live" => Ok(ControlCall::Live {
             path,
@@ -122,28 +122,28 @@ fn call_of(name: &str, fields: &[&str]) -> Result<ControlCall, CaseFault>
 {
     match name {
         "peerkey" => Ok(ControlCall::PeerKey {
-            key: number_at(fields, 0)?,
+            key: parsed_at(fields, 0)?,
         }),
         "keys" => Ok(ControlCall::Keys {
-            own: number_at(fields, 0)?,
-            peer: number_at(fields, 1)?,
+            own: parsed_at(fields, 0)?,
+            peer: parsed_at(fields, 1)?,
         }),
         "announce" => Ok(ControlCall::Announce {
-            id: number_at(fields, 0)?,
+            id: parsed_at(fields, 0)?,
         }),
         "withdraw" => Ok(ControlCall::Withdraw {
-            id: number_at(fields, 0)?,
+            id: parsed_at(fields, 0)?,
         }),
         "heard" => heard_at(fields),
         "echoed" => Ok(ControlCall::Echoed {
-            id: number_at(fields, 0)?,
+            id: parsed_at(fields, 0)?,
         }),
         "removed" => Ok(ControlCall::Removed {
-            id: number_at(fields, 0)?,
+            id: parsed_at(fields, 0)?,
         }),
         "fastclose" => Ok(ControlCall::FastClose),
         "fastheard" => Ok(ControlCall::FastHeard {
-            key: number_at(fields, 0)?,
+            key: parsed_at(fields, 0)?,
         }),
         _ => path_call(name, path_at(fields)?, fields),
     }

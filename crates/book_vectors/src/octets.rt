@@ -1,6 +1,6 @@
 //! Octets of a case: a word as it stands, or `made N`, of which the octet at place k of the stream is k modulo 251.
 
-use case_fields::{CaseFault, number_at, word_at};
+use case_fields::{CaseFault, parsed_at, word_at};
 use pipe_model::Text;
 use std::alloc::{AllocError, Global};
 
@@ -34,7 +34,7 @@ pub fn octets_at(
     place: u64,
 ) -> Result<Text, CaseFault> {
     match word_at(fields, field)? {
-        "made" => made(alloc, place, number_at(fields, field.saturating_add(1))?),
+        "made" => made(alloc, place, parsed_at(fields, field.saturating_add(1))?),
         word => Ok(Text::of(alloc, word.as_bytes())?),
     }
 }

@@ -7,7 +7,7 @@ ghost use Rattle.reassembly_book.specs.Steps.{CanAsk};
 
 use crate::octets::{made, octets_at, shown};
 use crate::words::bit;
-use case_fields::{CaseFault, number_at, truth_at};
+use case_fields::{CaseFault, parsed_at, truth_at};
 use pipe_model::Text;
 use reassembly_book::{ReassemblyBook, ReassemblyCall, ReassemblyReply};
 use stamped_book::Book;
@@ -25,7 +25,7 @@ pub struct Reading {
 
 /// An empty book of a capacity of 1 to 1,048,576 bytes.
 pub fn open_reassembly(alloc: Global, fields: &[&str]) -> Result<Reading, CaseFault> {
-    let capacity: u64 = number_at(fields, 0)?;
+    let capacity: u64 = parsed_at(fields, 0)?;
     if capacity < 1 || capacity > 1_048_576 {
         return Err(CaseFault::Form);
     }
@@ -39,7 +39,7 @@ pub fn open_reassembly(alloc: Global, fields: &[&str]) -> Result<Reading, CaseFa
 fn place_at(fields: &[&str], field: usize) -> Result<u64, CaseFault>
     ensures { IfOk result (λ place. place ≤ 2 ^ 32) }
 {
-    let place: u64 = number_at(fields, field)?;
+    let place: u64 = parsed_at(fields, field)?;
     if place <= MOST {
         Ok(place)
     } else {
@@ -79,7 +79,7 @@ fn call_of(alloc: Global, name: &str, fields: &[&str]) -> Result<ReassemblyCall,
         "fin" => Ok(ReassemblyCall::Fin {
             at: place_at(fields, 0)?,
         }),
-        "read" => read_call(number_at(fields, 0)?),
+        "read" => read_call(parsed_at(fields, 0)?),
         "ackout" => Ok(ReassemblyCall::AckOut),
         "abort" => Ok(ReassemblyCall::Abort {
             by_peer: truth_at(fields, 0)?,
@@ -139,7 +139,7 @@ fn placed(alloc: Global, book: &mut ReassemblyBook, at: u64, count: u64) -> Resu
 fn reversed(alloc: Global, reading: &mut Reading, fields: &[&str]) -> Result<String, CaseFault> {
     let at = place_at(fields, 0)?;
     let count = place_at(fields, 1)?;
-    let size: u64 = number_at(fields, 2)?;
+    let size: u64 = parsed_at(fields, 2)?;
     if size < 1 || size > MOST {
         return Err(CaseFault::Form);
     }
@@ -155,7 +155,7 @@ fn reversed(alloc: Global, reading: &mut Reading, fields: &[&str]) -> Result<Str
 
 /// Reads until no bytes are left: how many were read and whether they are made ones, and the last reply.
 fn reads(alloc: Global, reading: &mut Reading, fields: &[&str]) -> Result<String, CaseFault> {
-    let max = number_at(fields, 0)?;
+    let max = parsed_at(fields, 0)?;
     let mut all = Text::new(alloc);
     let start = reading.read;
     for _ in 0..10_000 {

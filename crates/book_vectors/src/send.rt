@@ -7,7 +7,7 @@ ghost use Rattle.send_book.specs.Steps.{CanAsk};
 
 use crate::octets::{octets_at, shown};
 use crate::words::{bit, or_dash};
-use case_fields::{CaseFault, number_at, truth_at};
+use case_fields::{CaseFault, parsed_at, truth_at};
 use send_book::{SendBook, SendCall, SendReply, Why};
 use stamped_book::Book;
 use std::alloc::{AllocError, Global};
@@ -21,7 +21,7 @@ pub struct Writing {
 
 /// An open book of a buffer of 1 to 1,048,576 bytes.
 pub fn open_send(alloc: Global, fields: &[&str]) -> Result<Writing, CaseFault> {
-    let buffer: u64 = number_at(fields, 0)?;
+    let buffer: u64 = parsed_at(fields, 0)?;
     if buffer < 1 || buffer > 1_048_576 {
         return Err(CaseFault::Form);
     }
@@ -35,7 +35,7 @@ pub fn open_send(alloc: Global, fields: &[&str]) -> Result<Writing, CaseFault> {
 fn path_at(fields: &[&str], place: usize) -> Result<u8, CaseFault>
     ensures { IfOk result (λ path. path < 16) }
 {
-    let path: u8 = number_at(fields, place)?;
+    let path: u8 = parsed_at(fields, place)?;
     if path < 16 {
         Ok(path)
     } else {
@@ -47,7 +47,7 @@ fn grant_at(path: u8, fields: &[&str]) -> Result<SendCall, CaseFault>
     requires { path < 16 }
     ensures { IfOk result (λ call. CanAsk call) }
 {
-    let max = number_at(fields, 1)?;
+    let max = parsed_at(fields, 1)?;
     let standby = truth_at(fields, 2)?;
     if max < 1u32 {
         return Err(CaseFault::Form);
@@ -58,8 +58,8 @@ fn grant_at(path: u8, fields: &[&str]) -> Result<SendCall, CaseFault>
 fn ack_at(fields: &[&str]) -> Result<SendCall, CaseFault>
     ensures { IfOk result (λ call. CanAsk call) }
 {
-    let next: u64 = number_at(fields, 0)?;
-    let window: u64 = number_at(fields, 1)?;
+    let next: u64 = parsed_at(fields, 0)?;
+    let window: u64 = parsed_at(fields, 1)?;
     if next >= 1 << 62 || window >= 1 << 62 {
         return Err(CaseFault::Form);
     }
@@ -151,7 +151,7 @@ fn given_once(book: &mut SendBook, fields: &[&str], max: u32) -> Result<u64, Cas
 
 /// How many bytes the paths are given in turn, until each is given none.
 fn turns(alloc: Global, book: &mut SendBook, fields: &[&str]) -> Result<String, CaseFault> {
-    let max: u32 = number_at(fields, 0)?;
+    let max: u32 = parsed_at(fields, 0)?;
     if max < 1 {
         return Err(CaseFault::Form);
     }

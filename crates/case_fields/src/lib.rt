@@ -59,7 +59,7 @@ pub fn four_at(alloc: Global, fields: &[&str], place: usize) -> Result<[u8; 4], 
 }
 
 /// The number at a place of the fields, in the range of its type.
-pub fn number_at<N: FromStr>(fields: &[&str], place: usize) -> Result<N, CaseFault>
+pub fn parsed_at<N: FromStr>(fields: &[&str], place: usize) -> Result<N, CaseFault>
 where
     N::Err: Drop,
 {

@@ -1,7 +1,7 @@
 //! What comes to an end.
 ghost use Rattle.std.specs.Prelude.{◌<◌, ◌≤◌, ◌≡◌, ◌^◌, length, None};
 
-use case_fields::{CaseFault, number_at, word_at};
+use case_fields::{CaseFault, parsed_at, word_at};
 use segment_wire::{Addresses, Head, parse, write};
 use std::alloc::Global;
 use subflow_tcp::{Hint, Subflow};
@@ -17,21 +17,21 @@ fn head_of(fields: &[&str]) -> Result<Head, CaseFault> {
     Ok(Head {
         source_port: 0,
         destination_port: 0,
-        seq: number_at(fields, 1)?,
-        ack: number_at(fields, 2)?,
+        seq: parsed_at(fields, 1)?,
+        ack: parsed_at(fields, 2)?,
         syn: bits.contains('S'),
         fin: bits.contains('F'),
         rst: bits.contains('R'),
         ack_set: bits.contains('A'),
-        window: number_at(fields, 3)?,
+        window: parsed_at(fields, 3)?,
     })
 }
 
 /// `arrive BITS SEQ ACK WINDOW LENGTH TICK`: what the end answers to these octets; `BITS` are letters of `FSRA`, or `-`.
 pub fn arrive(alloc: Global, end: &mut Subflow, fields: &[&str]) -> Result<String, CaseFault> {
     let head = head_of(fields)?;
-    let length: u16 = number_at(fields, 4)?;
-    let tick: u32 = number_at(fields, 5)?;
+    let length: u16 = parsed_at(fields, 4)?;
+    let tick: u32 = parsed_at(fields, 5)?;
     if length > 65_515 {
         return Err(CaseFault::Form);
     }
@@ -74,7 +74,7 @@ pub fn read(alloc: Global, end: &mut Subflow) -> Result<String, CaseFault> {
 
 /// `grow OCTETS`: the room of the window, after it grew by so many octets where that was to be told.
 pub fn grow(alloc: Global, end: &mut Subflow, fields: &[&str]) -> Result<String, CaseFault> {
-    let growth: u32 = number_at(fields, 0)?;
+    let growth: u32 = parsed_at(fields, 0)?;
     let pending = end.pending();
     end.grow(growth);
     let room = end.room();

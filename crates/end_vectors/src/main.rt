@@ -12,7 +12,7 @@ ghost use Rattle.std.specs.Prelude.{◌<◌};
 mod came;
 mod sent;
 
-use case_fields::{CaseFault, number_at};
+use case_fields::{CaseFault, parsed_at};
 use std::alloc::{AllocError, Global};
 use std::io::{self, BufWriter, Write};
 use subflow_tcp::Subflow;
@@ -24,7 +24,7 @@ fn begin(
     fields: &[&str],
     opens: bool,
 ) -> Result<String, CaseFault> {
-    let (iss, mss) = (number_at::<u32>(fields, 0)?, number_at::<u16>(fields, 1)?);
+    let (iss, mss) = (parsed_at::<u32>(fields, 0)?, parsed_at::<u16>(fields, 1)?);
     if mss == 0 {
         return Err(CaseFault::Form);
     }

@@ -1,7 +1,7 @@
 //! What goes out of an end.
 ghost use Rattle.std.specs.Prelude.{◌<◌, ◌≤◌, ◌≡◌, ◌^◌, length, false};
 
-use case_fields::{CaseFault, number_at, truth_at};
+use case_fields::{CaseFault, parsed_at, truth_at};
 use seq_units::Mapping;
 use std::alloc::{AllocError, Global};
 use subflow_tcp::{Emission, State, Subflow};
@@ -16,7 +16,7 @@ const NO_MAPPING: Mapping = Mapping {
 
 /// `push LENGTH`: the position of a piece of so many octets.
 pub fn push(alloc: Global, end: &mut Subflow, fields: &[&str]) -> Result<String, CaseFault> {
-    let length: u32 = number_at(fields, 0)?;
+    let length: u32 = parsed_at(fields, 0)?;
     if length == 0 || length > 65_535 || end.is_finished() || end.nxt() >= 1 << 61 {
         return Err(CaseFault::Form);
     }
@@ -27,7 +27,7 @@ pub fn push(alloc: Global, end: &mut Subflow, fields: &[&str]) -> Result<String,
 
 /// `emit TICK`: the segment that goes out at this tick, or `nothing`.
 pub fn emit(alloc: Global, end: &mut Subflow, fields: &[&str]) -> Result<String, CaseFault> {
-    let tick: u32 = number_at(fields, 0)?;
+    let tick: u32 = parsed_at(fields, 0)?;
     let foreseen = end.emission();
     let emission = end.emit(u64::from(tick));
     if emission != foreseen {
@@ -57,7 +57,7 @@ fn shown(alloc: Global, emission: &Emission) -> Result<String, AllocError> {
 
 /// `hold TICK`: the timer after it is settled, without a reason of a layer above.
 pub fn hold(alloc: Global, end: &mut Subflow, fields: &[&str]) -> Result<String, CaseFault> {
-    let tick: u32 = number_at(fields, 0)?;
+    let tick: u32 = parsed_at(fields, 0)?;
     end.hold_timer(false, false, u64::from(tick));
     let timer = end.timer();
     Ok(format!(in alloc; "{timer:?}")?)
@@ -65,7 +65,7 @@ pub fn hold(alloc: Global, end: &mut Subflow, fields: &[&str]) -> Result<String,
 
 /// `fire TICK`: what the expiry comes to, and the timer after it.
 pub fn fire(alloc: Global, end: &mut Subflow, fields: &[&str]) -> Result<String, CaseFault> {
-    let tick: u32 = number_at(fields, 0)?;
+    let tick: u32 = parsed_at(fields, 0)?;
     if end.timer().is_none() {
         return Err(CaseFault::Form);
     }

@@ -3,7 +3,7 @@ ghost use Rattle.std.specs.Prelude.{◌<◌, length};
 ghost use Rattle.link_script.specs.Scripts.{HasRanges};
 
 use crate::peer::Closes;
-use case_fields::{CaseFault, number_at, word_at};
+use case_fields::{CaseFault, parsed_at, word_at};
 use link_model::Link;
 use link_script::{Script, ScriptFault, ScriptLine, parse};
 use std::alloc::{AllocError, Global};
@@ -104,11 +104,11 @@ impl Case {
         let fields: Vec<&str> = words.split(' ').collect(alloc)?;
         let (a_closes, b_closes) = closes_at(fields.as_slice(), 2)?;
         Ok(Case {
-            octets_of_a: number_at(fields.as_slice(), 0)?,
-            octets_of_b: number_at(fields.as_slice(), 1)?,
+            octets_of_a: parsed_at(fields.as_slice(), 0)?,
+            octets_of_b: parsed_at(fields.as_slice(), 1)?,
             a_closes,
             b_closes,
-            until: number_at(fields.as_slice(), 3)?,
+            until: parsed_at(fields.as_slice(), 3)?,
             path: Path::read(alloc, lines)?,
         })
     }

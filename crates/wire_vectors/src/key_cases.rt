@@ -8,12 +8,12 @@
 //!
 //! `drawn SEED STREAM WORD`: a word that stands for a random one.
 
-use case_fields::{CaseFault, digits, number_at, octets_at};
+use case_fields::{CaseFault, digits, octets_at, parsed_at};
 use key_material::{Address, add_addr64, hmac_of_pieces, idsn, join_a160, join_b64, token};
 use std::alloc::Global;
 
 pub fn key(alloc: Global, fields: &[&str]) -> Result<String, CaseFault> {
-    let key: u64 = number_at(fields, 0)?;
+    let key: u64 = parsed_at(fields, 0)?;
     let token = token(key);
     let idsn = idsn(key);
     Ok(format!(in alloc; "{token} {idsn}")?)
@@ -35,18 +35,18 @@ pub fn hmac(alloc: Global, fields: &[&str]) -> Result<String, CaseFault> {
 }
 
 pub fn join(alloc: Global, fields: &[&str]) -> Result<String, CaseFault> {
-    let (key_a, key_b) = (number_at(fields, 0)?, number_at(fields, 1)?);
-    let (nonce_a, nonce_b) = (number_at(fields, 2)?, number_at(fields, 3)?);
+    let (key_a, key_b) = (parsed_at(fields, 0)?, parsed_at(fields, 1)?);
+    let (nonce_a, nonce_b) = (parsed_at(fields, 2)?, parsed_at(fields, 3)?);
     let of_b = join_b64(key_a, key_b, nonce_a, nonce_b);
     let of_a = digits(alloc, &join_a160(key_a, key_b, nonce_a, nonce_b))?;
     Ok(format!(in alloc; "{of_b} {of_a}")?)
 }
 
 pub fn address(alloc: Global, fields: &[&str]) -> Result<String, CaseFault> {
-    let (sender, receiver) = (number_at(fields, 0)?, number_at(fields, 1)?);
-    let id: u8 = number_at(fields, 2)?;
+    let (sender, receiver) = (parsed_at(fields, 0)?, parsed_at(fields, 1)?);
+    let id: u8 = parsed_at(fields, 2)?;
     let octets = octets_at(alloc, fields, 3)?;
-    let port: u16 = number_at(fields, 4)?;
+    let port: u16 = parsed_at(fields, 4)?;
     let Some(address) = address_of(octets.as_slice()) else {
         return Err(CaseFault::Form);
     };
@@ -66,9 +66,9 @@ fn address_of(octets: &[u8]) -> Option<Address> {
 
 pub fn drawn(alloc: Global, fields: &[&str]) -> Result<String, CaseFault> {
     let word = key_material::drawn(
-        number_at(fields, 0)?,
-        number_at(fields, 1)?,
-        number_at(fields, 2)?,
+        parsed_at(fields, 0)?,
+        parsed_at(fields, 1)?,
+        parsed_at(fields, 2)?,
     );
     Ok(format!(in alloc; "{word}")?)
 }

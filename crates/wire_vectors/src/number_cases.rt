@@ -7,13 +7,13 @@
 
 ghost use Rattle.std.specs.Prelude.{◌<◌, ◌^◌};
 
-use case_fields::{CaseFault, number_at};
+use case_fields::{CaseFault, parsed_at};
 use seq_units::{POSITION_LIMIT, Seq32, Seq64, number32, number64};
 use std::alloc::Global;
 
 pub fn number(alloc: Global, fields: &[&str]) -> Result<String, CaseFault> {
-    let base: u64 = number_at(fields, 0)?;
-    let position: u64 = number_at(fields, 1)?;
+    let base: u64 = parsed_at(fields, 0)?;
+    let position: u64 = parsed_at(fields, 1)?;
     let wide = number64(Seq64(base), position).0;
     match u32::try_from(base) {
         Ok(low) => {
@@ -25,9 +25,9 @@ pub fn number(alloc: Global, fields: &[&str]) -> Result<String, CaseFault> {
 }
 
 pub fn near32(alloc: Global, fields: &[&str]) -> Result<String, CaseFault> {
-    let base = Seq32(number_at(fields, 0)?);
-    let expected: u64 = number_at(fields, 1)?;
-    let raw = Seq32(number_at(fields, 2)?);
+    let base = Seq32(parsed_at(fields, 0)?);
+    let expected: u64 = parsed_at(fields, 1)?;
+    let raw = Seq32(parsed_at(fields, 2)?);
     if expected >= POSITION_LIMIT {
         return Err(CaseFault::Form);
     }
@@ -36,15 +36,15 @@ pub fn near32(alloc: Global, fields: &[&str]) -> Result<String, CaseFault> {
 }
 
 pub fn near64(alloc: Global, fields: &[&str]) -> Result<String, CaseFault> {
-    let base = Seq64(number_at(fields, 0)?);
-    let expected: u64 = number_at(fields, 1)?;
-    let raw = Seq64(number_at(fields, 2)?);
+    let base = Seq64(parsed_at(fields, 0)?);
+    let expected: u64 = parsed_at(fields, 1)?;
+    let raw = Seq64(parsed_at(fields, 2)?);
     let position = seq_units::near64(base, expected, raw);
     Ok(format!(in alloc; "{position:?}")?)
 }
 
 pub fn widen(alloc: Global, fields: &[&str]) -> Result<String, CaseFault> {
-    let expected = Seq64(number_at(fields, 0)?);
-    let wide = seq_units::widen(expected, number_at(fields, 1)?).0;
+    let expected = Seq64(parsed_at(fields, 0)?);
+    let wide = seq_units::widen(expected, parsed_at(fields, 1)?).0;
     Ok(format!(in alloc; "{wide}")?)
 }

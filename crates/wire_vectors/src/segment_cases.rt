@@ -8,7 +8,7 @@
 
 ghost use Rattle.std.specs.Prelude.{◌≤◌};
 
-use case_fields::{CaseFault, digits, four_at, number_at, octets_at, word_at};
+use case_fields::{CaseFault, digits, four_at, octets_at, parsed_at, word_at};
 use segment_wire::options::{are_whole, mss, window_scale};
 use segment_wire::{Addresses, Head, SegmentRef, checksum_field, parse, write};
 use std::alloc::{AllocError, Global};
@@ -55,15 +55,15 @@ fn put_option(alloc: Global, text: &mut String, option: &[u8]) -> Result<(), All
 fn head_of(fields: &[&str]) -> Result<Head, CaseFault> {
     let bits = word_at(fields, 6)?;
     Ok(Head {
-        source_port: number_at(fields, 2)?,
-        destination_port: number_at(fields, 3)?,
-        seq: number_at(fields, 4)?,
-        ack: number_at(fields, 5)?,
+        source_port: parsed_at(fields, 2)?,
+        destination_port: parsed_at(fields, 3)?,
+        seq: parsed_at(fields, 4)?,
+        ack: parsed_at(fields, 5)?,
         syn: bits.contains('S'),
         fin: bits.contains('F'),
         rst: bits.contains('R'),
         ack_set: bits.contains('A'),
-        window: number_at(fields, 7)?,
+        window: parsed_at(fields, 7)?,
     })
 }
 
