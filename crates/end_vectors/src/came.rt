@@ -6,7 +6,7 @@ use segment_wire::{Addresses, Head, parse, write};
 use std::alloc::Global;
 use subflow_tcp::{Hint, Subflow};
 
-/// The segments of a case go from nowhere to nowhere.
+/// The addresses of path 0, from A to B.
 const ADDRESSES: Addresses = Addresses {
     source: [10, 0, 0, 1],
     destination: [10, 0, 0, 2],

@@ -3,8 +3,8 @@
 //! they stand, and say where the answers come from.
 //!
 //! A line is a name and its fields with one blank between them. `open ISS MSS` and `listen ISS MSS` begin anew with such
-//! an end, and `show` tells its state, SND.UNA, SND.NXT, the receive edge and the room of its window; the head of each
-//! file says the other lines.
+//! an end, and `show` tells its state, SND.UNA, SND.NXT, the receive edge and the room of its window; the comment of each
+//! function says its line.
 #![tactic(auto)]
 
 ghost use Rattle.std.specs.Prelude.{◌<◌};

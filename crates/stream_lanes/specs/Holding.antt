@@ -162,7 +162,7 @@ pub record DirectionHolds (f : Flags) (d : Direction) : Type 0 where
   pub reader : ReaderHolds (view_of f d.send d.arrived) d.arrived d.reader
   pub lanes : From (LaneHolds (view_of f d.send d.arrived)) 0 d.lanes
 
--- A side that fell has begun and answered no join.
+-- Where A fell it began no join, and where B fell it answered none; a join is answered only where one was begun.
 pub record ModesHold (m : Modes) : Type 0 where
   pub a : m.plain_a ≡ true → m.begun ≡ false
   pub b : m.plain_b ≡ true → m.answered ≡ false

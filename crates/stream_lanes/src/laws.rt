@@ -51,8 +51,8 @@ pub fn paths_are_as_short_as_the_stream()
     ensures near { Always (BothWays ShortStreamsAreNear) }
 {}
 
-/// A law: a side that fell back to plain TCP has begun and answered no join; then only path 0 carried bytes, and each
-/// of them stands at the position that is its place.
+/// A law: where A fell back to plain TCP it began no join and none was answered, and where B did it answered none; then
+/// only path 0 carried bytes, and each of them stands at the position that is its place.
 pub fn falls_are_right()
     ensures { Always FallsAreRight }
 {}

@@ -93,8 +93,8 @@ impl Subflow {
         }
     }
 
-    /// An end that opens path `path`: its SYN is due. Its initial sequence number is `iss`, and its segments carry at most
-    /// `mss` octets, at least one. Takes no memory.
+    /// An end that opens path `path`: its SYN is due. Its initial sequence number is `iss`, and its congestion window counts
+    /// segments of `mss` octets, at least one; pieces are as long as they are pushed. Takes no memory.
     pub fn open(alloc: Global, path: u8, iss: u32, mss: u16) -> Self
         requires { 0 < mss }
         ensures { result ≡ new_end SynSent true path iss mss }
@@ -236,7 +236,7 @@ impl Subflow {
     }
 
     /// The growth that is still to be told: Some exactly where the last segment that was taken acknowledged new octets in
-    /// congestion avoidance, and [`grow`](Subflow::grow) wasn't called since.
+    /// congestion avoidance, and since then [`grow`](Subflow::grow) wasn't called and the end didn't die.
     pub fn pending(&self) -> Option<Pending>
         ensures { result ≡ self.now.congestion.pending }
     {

@@ -20,7 +20,7 @@ pub enum State {
     FinWait2,
     /// The peer's FIN passed, and its own is still to be sent.
     CloseWait,
-    /// Both FINs passed, and its own is to be acknowledged.
+    /// The peer's FIN passed after it sent its own, which is to be acknowledged.
     Closing,
     /// The peer's FIN passed, and then it sent its own.
     LastAck,

@@ -43,7 +43,8 @@ pub enum Meaning {
 pub enum Arrival {
     /// It was dropped without an acknowledgement.
     Dropped,
-    /// It was dropped, and an acknowledgement is due; at a half-open end that is the SYN/ACK.
+    /// It was dropped, and an acknowledgement is due; for the SYN that came again, and at a half-open end, that is the
+    /// SYN/ACK.
     AckNow,
     /// It was dropped, and a challenge is due: an acknowledgement.
     Challenge,
