@@ -144,11 +144,12 @@ fn reversed(alloc: Global, reading: &mut Reading, fields: &[&str]) -> Result<Str
         return Err(CaseFault::Form);
     }
     let mut all: u64 = 0;
-    let mut left = count;
-    while left > 0 {
-        let len = (left - 1) % size + 1;
-        left -= len;
-        all = all.saturating_add(placed(alloc, &mut reading.book, at + left, len)?);
+    let pieces = count.div_ceil(size);
+    for step in 0..pieces {
+        let after = pieces.saturating_sub(step);
+        let from = after.saturating_sub(1).saturating_mul(size).min(count);
+        let len = size.min(count - from);
+        all = all.saturating_add(placed(alloc, &mut reading.book, at + from, len)?);
     }
     Ok(format!(in alloc; "{all}")?)
 }
