@@ -1,0 +1,142 @@
+ghost use Rattle.std.specs.Prelude.{◌≡◌, ◌+◌, ◌-◌, ◌^◌, ◌<◌, ◌≤◌, length, All, IfOk, OnOk, OnErr};
+ghost use Rattle.std.specs.List.{concat};
+
+use crate::changes::{count_bytes, count_fresh, cut_pieces, drop_pieces, fresh_parts, put_pieces};
+use crate::parts::Parts;
+use crate::piece::Piece;
+use std::alloc::{AllocError, Global};
+use std::collections::VecDeque;
+use std::marker::Model;
+
+/// The bytes that are kept from a position on. Contracts see that position and the list of the places from there on,
+/// each with its byte or without one. Positions are at most 2^62.
+#[derive(Debug, Drop)]
+pub struct BytePieces {
+    alloc: Global,
+    /// The first position that counts.
+    from: u64,
+    /// The bytes in pieces: in order of their positions, none empty, and no position in two of them.
+    pieces: VecDeque<Piece>,
+}
+
+impl Model for BytePieces {
+    ghost use Rattle.byte_pieces.specs.Places.{PlacedBytes};
+
+    ghost Value = { PlacedBytes };
+
+    ghost use Rattle.std.specs.Prelude.{◌^◌};
+    ghost use Rattle.byte_pieces.specs.Pieces.{spread, AreOrdered};
+
+    ghost view = { λ kept. record { from = kept.from; places = spread kept.from kept.pieces.items } };
+
+    ghost invariant = { λ kept. AreOrdered kept.from (2 ^ 62) kept.pieces.items };
+}
+
+impl BytePieces {
+    ghost use Rattle.byte_pieces.specs.Places.{no_bytes, top, filled, kept_count, after_put, after_drop_front, after_cut_back};
+
+    /// No bytes, from this position on. Takes no memory.
+    pub fn new(alloc: Global, from: u64) -> Self
+        requires { from ≤ 2 ^ 62 }
+        ensures { result ≡ no_bytes from }
+    {
+        BytePieces {
+            alloc,
+            from,
+            pieces: VecDeque::new(alloc),
+        }
+    }
+
+    /// The first position that counts.
+    pub fn from(&self) -> u64
+        ensures value { result ≡ self.now.from }
+        ensures bound { result ≤ 2 ^ 62 }
+    {
+        self.from
+    }
+
+    /// The position after the last byte; the first one that counts where no byte is kept.
+    pub fn top(&self) -> u64
+        ensures value { result ≡ top self.now }
+        ensures bound { result ≤ 2 ^ 62 }
+    {
+        match self.pieces.back() {
+            Some(last) => last.end(),
+            None => self.from,
+        }
+    }
+
+    /// Keeps those of these bytes that stand at a position without one, copied once each, and answers how many these
+    /// are. The first byte stands at the position `at`. Bytes below the first position that counts are passed over.
+    ///
+    /// # Errors
+    ///
+    /// Only where there is no memory for them; then all is as it was.
+    pub fn put(&mut self, at: u64, bytes: &[u8]) -> Result<u64, AllocError>
+        requires { at + length bytes.now ≤ 2 ^ 62 }
+        ensures ok { OnOk result (self.new ≡ after_put at bytes.now self.old) }
+        ensures count { IfOk result (λ count. count + kept_count self.old.places ≡ kept_count self.new.places) }
+        ensures err { OnErr result (self.new ≡ self.old) }
+    {
+        let passed = bytes.len().min(self.from.saturating_sub(at) as usize);
+        let first = self.from.max(at);
+        let parts = fresh_parts(self.alloc, &self.pieces, first, &bytes[passed..])?;
+        self.pieces.reserve(parts.len())?;
+        let count = count_bytes(&parts);
+        put_pieces(&mut self.pieces, parts);
+        Ok(count)
+    }
+
+    /// How many of these bytes [`BytePieces::put`] would keep, in time proportional to the number of pieces that they meet.
+    pub fn count_new(&self, at: u64, bytes: &[u8]) -> u64
+        requires { at + length bytes.now ≤ 2 ^ 62 }
+        ensures { result + kept_count self.now.places ≡ kept_count (after_put at bytes.now self.now).places }
+    {
+        let passed = bytes.len().min(self.from.saturating_sub(at) as usize);
+        let first = self.from.max(at);
+        count_fresh(&self.pieces, first, &bytes[passed..])
+    }
+
+    /// The bytes before the first position without one, lent part by part in order. No part is empty.
+    pub fn in_order(&self) -> Parts<'_>
+        ensures bytes { concat result ≡ filled self.now.places }
+        ensures some { All (λ part. 0 < length part) result }
+    {
+        Parts::of(&self.pieces, self.from)
+    }
+
+    /// The first position without a byte.
+    pub fn in_order_end(&self) -> u64
+        ensures value { result ≡ self.now.from + length (filled self.now.places) }
+        ensures bound { result ≤ 2 ^ 62 }
+    {
+        let mut end = self.from;
+        for index in 0..self.pieces.len() {
+            let piece = &self.pieces[index];
+            if piece.at != end {
+                return end;
+            }
+            end = piece.end();
+        }
+        end
+    }
+
+    /// Lets the positions from `to` on count alone, and forgets the bytes below it, in time proportional to the number
+    /// of their pieces. Takes no memory.
+    pub fn drop_front(&mut self, to: u64)
+        requires order { self.old.from ≤ to }
+        requires bound { to ≤ 2 ^ 62 }
+        ensures { self.new ≡ after_drop_front to self.old }
+    {
+        drop_pieces(&mut self.pieces, to);
+        self.from = to;
+    }
+
+    /// Forgets the bytes at and past the position `to`. Takes no memory.
+    pub fn cut_back(&mut self, to: u64)
+        requires { self.old.from ≤ to }
+        ensures { self.new ≡ after_cut_back to self.old }
+    {
+        cut_pieces(&mut self.pieces, to);
+    }
+}

@@ -1,0 +1,28 @@
+ghost use Rattle.subflow_recv.specs.Laws.{HeldIsAFront, WhatComesFirstIsKept, KeptOctetsStay, ForgottenOctetsAreGone, OutsideIsNoOctetInTheWindow};
+
+/// A law: whatever parts of one list of octets come, in any order and however the edge moves and octets are forgotten
+/// in between, what is held is a front of that list from the edge on.
+pub fn held_is_a_front()
+    ensures { HeldIsAFront }
+{}
+
+/// A law: after a payload each position in the window has the octet that it had, or else that of the payload, and every
+/// other position is as it was.
+pub fn what_comes_first_is_kept()
+    ensures { WhatComesFirstIsKept }
+{}
+
+/// A law: an octet that is kept is never changed by another payload.
+pub fn kept_octets_stay()
+    ensures { KeptOctetsStay }
+{}
+
+/// A law: once octets are forgotten, nothing at or past the position is kept, and all before it is as it was.
+pub fn forgotten_octets_are_gone()
+    ensures { ForgottenOctetsAreGone }
+{}
+
+/// A law: a payload is outside exactly where none of its octets is in the window.
+pub fn outside_is_no_octet_in_the_window()
+    ensures { OutsideIsNoOctetInTheWindow }
+{}

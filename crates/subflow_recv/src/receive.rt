@@ -1,0 +1,155 @@
+ghost use Rattle.std.specs.Prelude.{◌≡◌, ◌+◌, ◌-◌, ◌^◌, ◌<◌, ◌≤◌, length, take, All, IfOk, OnOk, OnErr};
+ghost use Rattle.std.specs.List.{concat};
+
+use crate::acceptance::Acceptance;
+use byte_pieces::{BytePieces, Parts};
+use seq_units::Pos;
+use std::alloc::{AllocError, Global};
+use std::marker::Model;
+
+/// The receiving side of a subflow. Contracts see the receive edge, the window, and the list of the positions from the
+/// edge on, each with its octet or without one. Positions are at most 2^62.
+#[derive(Debug, Drop)]
+pub struct SubflowRecv {
+    /// The octets that are kept, from the receive edge on.
+    kept: BytePieces,
+    /// How many positions from the edge on are in the window.
+    window: u32,
+}
+
+impl Model for SubflowRecv {
+    ghost use Rattle.subflow_recv.specs.Receiving.{Receiving};
+
+    ghost Value = { Receiving };
+
+    ghost use Rattle.std.specs.Prelude.{◌<◌, ◌≤◌, length};
+
+    ghost view = { λ side. record { edge = side.kept.from; window = side.window; places = side.kept.places } };
+
+    ghost invariant = { λ side. (0 < side.window) × (length side.kept.places ≤ side.window) };
+}
+
+impl SubflowRecv {
+    ghost use Rattle.subflow_recv.specs.Receiving.{filled, kept_count, opening, window_end, is_outside, with_octets, acceptance_of, after_accept, after_advance, after_forget_from};
+
+    /// A side to which nothing has come: the edge is position 0, that of the peer's SYN. From the edge on `window`
+    /// positions are in the window, at least one. Takes no memory.
+    pub fn new(alloc: Global, window: u32) -> Self
+        requires { 0 < window }
+        ensures { result ≡ opening window }
+    {
+        SubflowRecv {
+            kept: BytePieces::new(alloc, 0),
+            window,
+        }
+    }
+
+    /// RCV.NXT, the receive edge: the first position that the side hasn't passed.
+    pub fn edge(&self) -> Pos
+        ensures value { result ≡ self.now.edge }
+        ensures bound { result ≤ 2 ^ 62 }
+    {
+        self.kept.from()
+    }
+
+    /// The position after the window.
+    pub fn window_end(&self) -> Pos
+        ensures value { result ≡ window_end self.now }
+        ensures above { self.now.edge < result }
+        ensures within { length self.now.places + self.now.edge ≤ result }
+    {
+        self.edge() + u64::from(self.window)
+    }
+
+    /// The position after the octets in order: the greatest one to which the edge can [`advance`](SubflowRecv::advance).
+    pub fn held_end(&self) -> Pos
+        ensures value { result ≡ self.now.edge + length (filled self.now.places) }
+        ensures bound { result ≤ 2 ^ 62 }
+    {
+        self.kept.in_order_end()
+    }
+
+    /// Keeps those octets of a payload that are in the window and stand at a position without one, each copied once.
+    /// Its first octet stands at the position `pos`. An octet that is kept already stays.
+    ///
+    /// # Errors
+    ///
+    /// Only where there is no memory for them; then all is as it was.
+    pub fn accept(&mut self, pos: Pos, payload: &[u8]) -> Result<Acceptance, AllocError>
+        requires { pos + length payload.now ≤ 2 ^ 62 }
+        ensures acceptance { IfOk result (λ acceptance. acceptance ≡ acceptance_of pos payload.now self.old) }
+        ensures after { OnOk result (self.new ≡ after_accept pos payload.now self.old) }
+        ensures err { OnErr result (self.new ≡ self.old) }
+    {
+        if self.is_outside(pos, payload) {
+            return Ok(Acceptance::Outside);
+        }
+        let count = self.keep(pos, self.before_window_end(pos, payload))?;
+        Ok(Acceptance::Kept(count))
+    }
+
+    /// Whether no octet of the payload is in the window.
+    fn is_outside(&self, pos: Pos, payload: &[u8]) -> bool
+        requires { pos + length payload.now ≤ 2 ^ 62 }
+        ensures { result ≡ is_outside pos payload.now self.now }
+    {
+        payload.is_empty() || pos + payload.len() as u64 <= self.edge() || self.window_end() <= pos
+    }
+
+    /// The octets of the payload that don't lie past the window.
+    fn before_window_end<'a>(&self, pos: Pos, payload: &'a [u8]) -> &'a [u8]
+        ensures { result.now ≡ take (window_end self.now - pos) payload.now }
+    {
+        let room = self.window_end().saturating_sub(pos);
+        &payload[..payload.len().min(room as usize)]
+    }
+
+    /// Keeps those of the octets that stand at a position without one, none of them past the window, and counts them.
+    fn keep(&mut self, pos: Pos, octets: &[u8]) -> Result<u64, AllocError>
+        requires bound { pos + length octets.now ≤ 2 ^ 62 }
+        requires within { pos + length octets.now ≤ window_end self.old }
+        ensures ok { OnOk result (self.new ≡ with_octets pos octets.now self.old) }
+        ensures count { IfOk result (λ count. count ≡ kept_count self.new.places - kept_count self.old.places) }
+        ensures err { OnErr result (self.new ≡ self.old) }
+    {
+        let count = self.kept.put(pos, octets)?;
+        Ok(count)
+    }
+
+    /// The octets in order, from the edge on up to the first position without one, lent part by part. No part is empty.
+    pub fn held(&self) -> Parts<'_>
+        ensures octets { concat result ≡ filled self.now.places }
+        ensures some { All (λ part. 0 < length part) result }
+    {
+        self.kept.in_order()
+    }
+
+    /// Moves the edge over octets in order, which are let go in time proportional to the number of their pieces. Takes
+    /// no memory.
+    pub fn advance(&mut self, to: Pos)
+        requires order { self.old.edge ≤ to }
+        requires within { to ≤ self.old.edge + length (filled self.old.places) }
+        ensures { self.new ≡ after_advance to self.old }
+    {
+        // The octets end at or before position 2^62, and so does `to`.
+        let _top = self.kept.top();
+        self.kept.drop_front(to);
+    }
+
+    /// Moves the edge over one position that no octet occupies, that of the peer's SYN or FIN (RFC 9293, section 3.4).
+    /// An octet that came for it is let go. Takes no memory.
+    pub fn pass(&mut self)
+        requires { self.old.edge < 2 ^ 62 }
+        ensures { self.new ≡ after_advance (self.old.edge + 1) self.old }
+    {
+        self.kept.drop_front(self.kept.from() + 1);
+    }
+
+    /// Forgets every octet at or past the position `pos`, so that what comes for it is kept again. Takes no memory.
+    pub fn forget_from(&mut self, pos: Pos)
+        requires { self.old.edge ≤ pos }
+        ensures { self.new ≡ after_forget_from pos self.old }
+    {
+        self.kept.cut_back(pos);
+    }
+}
