@@ -2,3 +2,4 @@ pub mod PieceLoops
 pub mod RecordLaws
 pub mod Whole
 pub mod Covering
+pub mod ByPosition

@@ -2,6 +2,7 @@
 use Rattle.std.specs.Prelude.{ℕ, ◌+◌, ◌-◌, ◌==◌, ◌&&◌, min, max, Bool, true, false, nat_lt, nat_le, if◌then◌else◌, Option, Some, None, List, [], ◌∷◌, ◌++◌, length, map, slice_get, sum_by, unwrap_or}
 use Rattle.std.specs.Option.{option_and_then, option_map_or}
 use Rattle.seq_units.specs.declared.mapping.Mapping.{Mapping}
+use Rattle.subflow_send.specs.declared.record.RecordKind.{RecordKind}
 use Rattle.subflow_send.specs.declared.record.RecordKind.TheVariants.{Syn, Data, Fin}
 use Rattle.subflow_send.specs.declared.record.AckKind.{AckKind}
 use Rattle.subflow_send.specs.declared.record.AckKind.TheVariants.{New, Duplicate, Old, Future}
@@ -119,3 +120,22 @@ octets_under_way r = if is_unsent r then 0 else length r.piece
 -- the octets of data that are under way: neither acknowledged nor to be sent
 abbrev pub flight : SendState → ℕ
 flight v = sum_by octets_under_way v.records
+
+-- ---- by position, and the FIN by itself
+abbrev pub stands_at : ℕ → Record → Bool
+stands_at pos r = r.pos == pos
+
+abbrev pub is_fin : RecordKind → Bool
+is_fin Fin = true
+is_fin _ = false
+
+-- a FIN that was never sent
+abbrev pub is_new_fin : Record → Bool
+is_new_fin r = is_fin r.kind && r.sending.times == 0
+
+-- the FIN is sent, whatever is to be sent before it
+abbrev pub fin_sent : ℕ → Record → Record
+fin_sent now r = if is_fin r.kind then record r { sending = sent_again now r.sending } else r
+
+abbrev pub after_fin_sent : ℕ → SendState → SendState
+after_fin_sent now v = record v { records = map (fin_sent now) v.records }

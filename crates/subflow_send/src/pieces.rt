@@ -3,7 +3,7 @@ ghost use Rattle.std.specs.Prelude.{◌≡◌, ◌<◌, ◌≤◌, ◌^◌, ◌=
 ghost use Rattle.std.specs.List.{list_any};
 ghost use Rattle.std.specs.Option.{option_map};
 ghost use Rattle.subflow_send.specs.Records.{record_of};
-ghost use Rattle.subflow_send.specs.Rules.{is_unsent, first_sent, expired_records, last_covered};
+ghost use Rattle.subflow_send.specs.Rules.{stands_at, is_unsent, first_sent, expired_records, last_covered};
 ghost use Rattle.subflow_send.specs.Sendings.{sent_again, first_at_an_expiry};
 ghost use Rattle.subflow_send.specs.Pieces.{piece_record, piece_len, piece_under_way, is_unsent_piece, unsent_piece, uncovered_pieces, sent_pieces, sending_of};
 
@@ -92,6 +92,19 @@ pub(crate) fn first_unsent(pieces: &VecDeque<Piece>) -> Option<RecordRef<'_>>
         let piece = &pieces[index];
         if piece.sending.unsent {
             return Some(piece.lend());
+        }
+    }
+    None
+}
+
+/// The piece at this position, lent.
+pub(crate) fn piece_at(pieces: &VecDeque<Piece>, pos: Pos) -> Option<RecordRef<'_>>
+    ensures { option_map record_of result ≡ find (stands_at pos) (map piece_record pieces.now.items) }
+{
+    for index in 0..pieces.len() {
+        let found = &pieces[index];
+        if found.pos == pos {
+            return Some(found.lend());
         }
     }
     None

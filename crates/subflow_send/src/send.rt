@@ -7,8 +7,8 @@ ghost use Rattle.subflow_send.specs.Sendings.{sent_again, to_be_sent};
 ghost use Rattle.subflow_send.specs.Pieces.{sending_of, unsent_sending};
 
 use crate::pieces::{
-    Piece, drop_covered, expire_first, first_unsent, last_covered, octets_under_way, send_first,
-    send_unsent, unsend_from,
+    Piece, drop_covered, expire_first, first_unsent, last_covered, octets_under_way, piece_at,
+    send_first, send_unsent, unsend_from,
 };
 use crate::record::{AckKind, RecordKind, RecordRef, Sending};
 use pipe_model::Text;
@@ -59,7 +59,7 @@ impl Model for SubflowSend {
 
 impl SubflowSend {
     ghost use Rattle.subflow_send.specs.Records.{span_of, Tile};
-    ghost use Rattle.subflow_send.specs.Rules.{opening, after_push, after_finish, ack_kind, after_acknowledge, newly_acknowledged, sample_of, is_unsent, after_sent, after_resent, after_expired, again_at_expiry, flight};
+    ghost use Rattle.subflow_send.specs.Rules.{opening, after_push, after_finish, ack_kind, after_acknowledge, newly_acknowledged, sample_of, is_unsent, after_sent, after_resent, after_expired, again_at_expiry, flight, stands_at, is_new_fin, after_fin_sent};
 
     /// A side that has sent nothing: its SYN stands at position 0 and is to be sent. Takes no memory.
     pub fn new(alloc: Global) -> Self
@@ -274,6 +274,39 @@ impl SubflowSend {
         if send_first(&mut self.pieces, now) {
             return;
         }
+        self.fin = again(self.fin, now);
+    }
+
+    /// The record at this position, lent; `None` where no unacknowledged record begins there.
+    pub fn record_at(&self, pos: Pos) -> Option<RecordRef<'_>>
+        ensures { option_map record_of result ≡ find (stands_at pos) self.now.records }
+    {
+        if let Some(syn) = unless(pos != 0, self.syn) {
+            return Some(syn_ref(syn));
+        }
+        if let Some(piece) = piece_at(&self.pieces, pos) {
+            return Some(piece);
+        }
+        if let Some(fin) = unless(pos != self.nxt - 1, self.fin) {
+            return Some(fin_ref(self.nxt - 1, fin));
+        }
+        None
+    }
+
+    /// Whether the FIN was pushed and never sent. It may go out before what is to be sent in front of it.
+    pub fn has_new_fin(&self) -> bool
+        ensures { result ≡ list_any is_new_fin self.now.records }
+    {
+        match self.fin {
+            Some(fin) => fin.times == 0,
+            None => false,
+        }
+    }
+
+    /// The FIN, where there is one, is sent at the tick `now`, whatever is to be sent in front of it.
+    pub fn fin_sent(&mut self, now: u64)
+        ensures { self.new ≡ after_fin_sent now self.old }
+    {
         self.fin = again(self.fin, now);
     }
 

@@ -137,3 +137,23 @@ fn numbers_over_the_wrap(rt: HostRuntime) -> Result<(), Fail> {
     assert_eq!(rt; number32(Seq32(0xFFFF_FFFF), side.nxt()), Seq32(9));
     Ok(())
 }
+
+/// Records by their positions, and a FIN that goes out before a piece that is to be sent again.
+#[test]
+fn the_fin_goes_before(rt: HostRuntime) -> Result<(), Fail> {
+    let mut side = three_pieces(rt.alloc())?;
+    let piece = side.record_at(4).ok_or("no piece")?;
+    assert_eq!(rt; piece.piece, b"de".as_slice());
+    assert!(rt; side.record_at(5).is_none());
+    assert!(rt; !side.has_new_fin());
+    if !side.is_finished() {
+        side.finish();
+    }
+    side.expired();
+    assert!(rt; side.has_new_fin());
+    side.fin_sent(70);
+    assert!(rt; !side.has_new_fin());
+    let due = side.due().ok_or("nothing is due")?;
+    assert_eq!(rt; due.pos, 4);
+    Ok(())
+}

@@ -1,0 +1,3 @@
+pub mod Unsent
+pub mod WindowGrowth
+pub mod EndLaws

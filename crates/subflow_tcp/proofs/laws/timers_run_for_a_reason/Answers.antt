@@ -1,0 +1,8 @@
+use Rattle.subflow_tcp.proofs.EndLaws.{settling_sets, none_without}
+use Rattle.subflow_tcp.proofs.laws.timers_run_for_a_reason.Goals as goal
+
+pub returns-clause-timeout : goal.returns-clause-timeout
+returns-clause-timeout c = settling_sets
+
+pub returns-clause-reason : goal.returns-clause-reason
+returns-clause-reason c = none_without

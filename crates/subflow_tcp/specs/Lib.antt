@@ -1,0 +1,13 @@
+pub mod States
+pub mod Dues
+pub mod Segments
+pub mod Spelling
+pub mod State
+pub mod Opening
+pub mod Judging
+pub mod Sizes
+pub mod Taking
+pub mod Emitting
+pub mod Expiring
+pub mod Closing
+pub mod Laws

@@ -1,0 +1,88 @@
+-- The numbers of an end's segments (RFC 9293, section 3.4), and its ports.
+use Rattle.std.specs.Prelude.{ℕ, ◌+◌, ◌*◌, ◌^◌, Bool, true, false, not, nat_lt, if◌then◌else◌, is_some, Option, Some, None, length}
+use Rattle.std.specs.Option.{option_map}
+use Rattle.std.specs.Prelude.{unwrap_or}
+use Rattle.seq_units.specs.Number.{number_of, position_near}
+use Rattle.segment_wire.specs.declared.head.Head.{Head}
+use Rattle.segment_wire.specs.Segment.{Segment}
+use Rattle.subflow_tcp.specs.declared.spelling.Numbers.{Numbers}
+use Rattle.subflow_tcp.specs.declared.segments.Outgoing.{Outgoing}
+use Rattle.subflow_tcp.specs.declared.segments.Emission.{Emission}
+use Rattle.subflow_tcp.specs.Segments.{Copy}
+
+-- path i goes from port 40000 + i to port 5001
+abbrev pub own_port : Numbers → ℕ
+own_port n = if n.opens then 40000 + n.path else 5001
+
+abbrev pub peer_port : Numbers → ℕ
+peer_port n = if n.opens then 5001 else 40000 + n.path
+
+-- ---- read
+abbrev pub initial_or : Option ℕ → ℕ → ℕ
+initial_or None number = number
+initial_or (Some initial) number = initial
+
+-- the peer's initial number; until its SYN was taken, that of the segment itself
+abbrev pub peer_initial : Numbers → ℕ → ℕ
+peer_initial n number = initial_or n.peer number
+
+-- the position that a number means beside the receive edge, which is below 2^61
+abbrev pub position_heard : Numbers → ℕ → ℕ → Option ℕ
+position_heard n edge number = if nat_lt edge (2 ^ 61) then position_near (2 ^ 32) (peer_initial n number) edge number else None
+
+-- the position that is acknowledged, beside SND.UNA
+abbrev pub acknowledged_heard : Numbers → ℕ → Head → Option ℕ
+acknowledged_heard n una head = if head.ack_set then Some (unwrap_or (position_near (2 ^ 32) n.own una head.ack) 0) else None
+
+-- a SYN's window is told as it stands, any other in units of 32 octets (RFC 7323, section 2.2)
+abbrev pub window_heard : Head → ℕ
+window_heard head = if head.syn then head.window else 32 * head.window
+
+-- a segment by positions, at this receive edge and this SND.UNA
+abbrev pub heard : Numbers → ℕ → ℕ → Segment → Copy
+heard n edge una segment = record {
+  position = position_heard n edge segment.head.seq;
+  acknowledged = acknowledged_heard n una segment.head;
+  syn = segment.head.syn;
+  fin = segment.head.fin;
+  rst = segment.head.rst;
+  window = window_heard segment.head;
+  payload = segment.payload;
+}
+
+-- ---- written
+abbrev pub acknowledged_said : Numbers → Option ℕ → ℕ
+acknowledged_said n None = 0
+acknowledged_said n (Some p) = number_of (2 ^ 32) (peer_initial n 0) p
+
+-- the header, with the window 0
+abbrev pub head_said : Numbers → Outgoing → Head
+head_said n o = record {
+  source_port = own_port n;
+  destination_port = peer_port n;
+  seq = number_of (2 ^ 32) n.own o.position;
+  ack = acknowledged_said n o.acknowledged;
+  syn = o.syn;
+  fin = o.fin;
+  rst = o.rst;
+  ack_set = is_some o.acknowledged;
+  window = 0;
+}
+
+abbrev pub said : Numbers → Outgoing → Emission
+said n o = record { head = head_said n o; pos = o.position; length = o.length }
+
+-- A segment that nobody wants gets a reset: at the number that it acknowledges, or else at number 0 with an
+-- acknowledgement of all that it occupies (RFC 9293, section 3.10.7.1).
+abbrev pub reset_answer : Numbers → Head → ℕ → Head
+reset_answer n head occupied = record {
+  source_port = own_port n;
+  destination_port = peer_port n;
+  seq = (if head.ack_set then head.ack else 0);
+  ack = (if head.ack_set then 0 else number_of (2 ^ 32) head.seq occupied);
+  syn = false;
+  fin = false;
+  rst = true;
+  ack_set = not head.ack_set;
+  window = 0;
+}

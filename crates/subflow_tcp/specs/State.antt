@@ -1,0 +1,44 @@
+-- One end of a subflow by positions.
+use Rattle.std.specs.Prelude.{ℕ, Bool, true, false, nat_lt, nat_le, ◌&&◌, ◌||◌, ◌^◌, if◌then◌else◌, Option, Some, None, List, [], ◌∷◌}
+use Rattle.subflow_send.specs.Records.{SendState, Record}
+use Rattle.subflow_recv.specs.Receiving.{Receiving}
+use Rattle.subflow_tcp.specs.declared.handshake.State.{State}
+use Rattle.subflow_tcp.specs.declared.spelling.Numbers.{Numbers}
+use Rattle.loss_recovery.specs.declared.timers.Timing.{Timing}
+use Rattle.loss_recovery.specs.declared.windows.Congestion.{Congestion}
+use Rattle.subflow_tcp.specs.declared.dues.Due.{Due}
+
+pub record EndState : Type 0 where
+  -- ports and initial numbers, which the octets alone need
+  pub numbers : Numbers
+  -- how far the end is
+  pub state : State
+  -- SND.UNA, SND.NXT, and what isn't acknowledged
+  pub send : SendState
+  -- RCV.NXT, and what has come from there on
+  pub recv : Receiving
+  -- the position of the peer's FIN, once one was heard
+  pub fin_at : Option ℕ
+  pub timing : Timing
+  pub congestion : Congestion
+  pub due : Due
+
+-- a record isn't acknowledged
+abbrev pub is_some_record : List Record → Bool
+is_some_record [] = false
+is_some_record (r ∷ rs) = true
+
+abbrev pub has_records : EndState → Bool
+has_records s = is_some_record s.send.records
+
+-- it is passed where the receive edge lies behind it
+abbrev pub is_behind : Option ℕ → ℕ → Bool
+is_behind None edge = false
+is_behind (Some pos) edge = nat_lt pos edge
+
+abbrev pub is_fin_passed : EndState → Bool
+is_fin_passed s = is_behind s.fin_at s.recv.edge
+
+-- positions end at 2^61: an end there takes nothing more
+abbrev pub is_at_limit : EndState → Bool
+is_at_limit s = nat_le (2 ^ 61) s.send.nxt || nat_le (2 ^ 61) s.recv.edge

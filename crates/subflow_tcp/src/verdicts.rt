@@ -1,0 +1,74 @@
+//! What a segment that arrives means for an end, and what the end answers.
+
+use seq_units::Pos;
+use subflow_send::AckKind;
+
+/// What a segment that arrives means for the end, by the first rule that fits.
+#[derive(Clone, Copy, Debug, PartialEq, Eq)]
+pub enum Meaning {
+    /// The end passes it over.
+    Ignored,
+    /// It came for a dead end, which answers by a reset.
+    Unwanted,
+    /// A SYN opens the listening end.
+    Opens,
+    /// A SYN/ACK acknowledges the SYN of the opening end.
+    Accepts {
+        /// The position that it acknowledges.
+        acknowledged: Pos,
+    },
+    /// The SYN that opened the end came again.
+    RepeatedSyn,
+    /// It lies outside the receive window.
+    Outside,
+    /// It is a reset that ends the end.
+    Kills,
+    /// It is a reset or a SYN that only looks like the peer's (RFC 5961).
+    Challenged,
+    /// It lies in the window and acknowledges nothing, or not yet the SYN/ACK.
+    Unacknowledging,
+    /// It acknowledges what was never sent.
+    Ahead,
+    /// Its acknowledgement and its payload count.
+    Taken {
+        /// Its first position.
+        position: Pos,
+        /// The position that it acknowledges.
+        acknowledged: Pos,
+    },
+}
+
+/// What an end answers to a segment that arrived.
+#[derive(Clone, Copy, Debug, PartialEq, Eq)]
+pub enum Arrival {
+    /// It was dropped without an acknowledgement.
+    Dropped,
+    /// It was dropped, and an acknowledgement is due; at a half-open end that is the SYN/ACK.
+    AckNow,
+    /// It was dropped, and a challenge is due: an acknowledgement.
+    Challenge,
+    /// A reset ended the end.
+    Killed,
+    /// The end left Listen, SynSent or SynReceived by it.
+    Opened,
+    /// It was taken.
+    Took {
+        /// What its acknowledgement told.
+        ack: AckKind,
+        /// How many of its octets were kept that were not kept before.
+        new: u64,
+        /// Whether it has a FIN.
+        fin: bool,
+    },
+}
+
+/// What an expiry of the timer came to.
+#[derive(Clone, Copy, Debug, PartialEq, Eq)]
+pub enum Fired {
+    /// The first record is to be sent again.
+    Again,
+    /// No record is unacknowledged: the layer above sends what it owes, or a probe.
+    Probe,
+    /// It was the sixth in a row: the end is dead, and its reset is due.
+    Died,
+}
