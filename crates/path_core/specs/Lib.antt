@@ -19,3 +19,9 @@ pub mod Passing
 pub mod Duties
 pub mod Steps
 pub mod AppSteps
+pub mod Octets
+pub mod Values
+pub mod Desk
+pub mod Starts
+pub mod Example
+pub mod FirstRound
