@@ -1,0 +1,4 @@
+pub mod Falling
+pub mod Ranking
+pub mod Resting
+pub mod Passing

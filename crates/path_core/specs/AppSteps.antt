@@ -1,5 +1,5 @@
 -- The steps of an application: it writes its file, says that it writes no more, and reads what has come.
-use Rattle.std.specs.Prelude.{ℕ, ◌+◌, Bool, true, false, not, ◌&&◌, nat_le, if◌then◌else◌, Option, Some, None, List, [], ◌∷◌, length, take, drop}
+use Rattle.std.specs.Prelude.{ℕ, ◌+◌, Bool, true, false, not, ◌&&◌, ◌||◌, nat_lt, if◌then◌else◌, Option, Some, None, List, [], ◌∷◌, length, take, drop}
 use Rattle.send_book.specs.declared.call.SendCall.TheVariants as send_calls
 use Rattle.send_book.specs.declared.call.SendReply.TheVariants as send_replies
 use Rattle.reassembly_book.specs.declared.call.ReassemblyCall.TheVariants as reassembly_calls
@@ -38,20 +38,33 @@ abbrev pub app_done : AppState → AppState
 app_done a = record a { agenda = app_left a }
 
 -- what was taken of its file is written
-abbrev pub app_wrote : Reply → AppState → AppState
-app_wrote (replies.Send (send_replies.Taken count)) a = record (app_done a) { rest = drop count a.rest }
-app_wrote _ a = app_done a
+abbrev pub taken_in : Reply → ℕ
+taken_in (replies.Send (send_replies.Taken count)) = count
+taken_in _ = 0
 
--- enough was read in this turn
-abbrev pub app_read_on : ℕ → AppState → List AppDuty
-app_read_on count a = if nat_le a.buffer count then app_left a else a.agenda
+abbrev pub app_wrote : Reply → AppState → AppState
+app_wrote r a = record (app_done a) { rest = drop (taken_in r) a.rest }
+
+abbrev pub bytes_in : Reply → List ℕ
+bytes_in (replies.Reassembly (reassembly_replies.Bytes bytes)) = bytes
+bytes_in _ = []
+
+-- the stream ended, or was aborted
+abbrev pub ends_in : Reply → Bool
+ends_in (replies.Reassembly reassembly_replies.End) = true
+ends_in (replies.Reassembly (reassembly_replies.Aborted by_peer)) = true
+ends_in _ = false
+
+-- it reads on where bytes came, and too few of them in this turn
+abbrev pub app_reads_on : List ℕ → AppState → Bool
+app_reads_on bytes a = not (is_nil bytes) && nat_lt (a.count + length bytes) a.buffer
 
 abbrev pub app_read : Reply → AppState → AppState
-app_read (replies.Reassembly (reassembly_replies.Bytes bytes)) a =
-    record a { count = a.count + length bytes; agenda = app_read_on (a.count + length bytes) a }
-app_read (replies.Reassembly reassembly_replies.End) a = record (app_done a) { told = true }
-app_read (replies.Reassembly (reassembly_replies.Aborted by_peer)) a = record (app_done a) { told = true }
-app_read _ a = app_done a
+app_read r a = record a {
+  count = a.count + length (bytes_in r);
+  told = a.told || ends_in r;
+  agenda = (if app_reads_on (bytes_in r) a then a.agenda else app_left a);
+}
 
 abbrev pub app_answered : AppDuty → Reply → AppState → AppState
 app_answered Write r a = app_wrote r a

@@ -16,6 +16,8 @@ use Rattle.subflow_tcp.specs.declared.segments.Hint.{Hint}
 use Rattle.subflow_tcp.specs.declared.segments.Outgoing.{Outgoing}
 use Rattle.subflow_tcp.specs.declared.verdicts.Meaning.{Meaning}
 use Rattle.subflow_tcp.specs.declared.verdicts.Meaning.TheVariants as means
+use Rattle.subflow_tcp.specs.declared.handshake.State.{State as EndPhase}
+use Rattle.subflow_tcp.specs.State.{EndState}
 use Rattle.subflow_tcp.specs.Segments.{Copy, occupied}
 use Rattle.subflow_tcp.specs.States.{is_half_open}
 use Rattle.subflow_tcp.specs.Judging.{meaning_of}
@@ -152,22 +154,26 @@ treated_of c s opened h = record nothing_treated {
   answer = Some (reset_for c s (copy_of h));
 }
 
+abbrev pub owing_if : Bool → EndState → EndState
+owing_if owing tcp = if owing then after_owing false tcp else tcp
+
+-- a copy that is taken may want an acknowledgement by what it says
+abbrev pub owes_by : Meaning → List Heard → Bool
+owes_by (means.Taken position acknowledged) items = list_any wants_ack items
+owes_by _ items = false
+
+-- it establishes the end
+abbrev pub opens_by : Meaning → EndPhase → Bool
+opens_by (means.Taken position acknowledged) state = is_half_open state
+opens_by (means.Accepts acknowledged) state = true
+opens_by _ state = false
+
 -- the subflow takes it; the rest is still to be treated
-abbrev pub after_copy : Profile → Side → ℕ → Meaning → Bool → HeardSegment → PathEnd → PathEnd
-after_copy c s now meaning opened h e = record e {
-  tcp = after_arrival meaning (hint_of s h) now (copy_of h) e.tcp;
-  treated = treated_of c s opened h;
-}
-
-abbrev pub owing_if : Bool → PathEnd → PathEnd
-owing_if owing e = if owing then record e { tcp = after_owing false e.tcp } else e
-
--- what each meaning makes of the end
 abbrev pub after_meaning : Profile → Side → ℕ → HeardSegment → Meaning → PathEnd → PathEnd
-after_meaning c s now h (means.Taken position acknowledged) e =
-    owing_if (list_any wants_ack (items_of s h)) (after_copy c s now (means.Taken position acknowledged) (is_half_open e.tcp.state) h e)
-after_meaning c s now h (means.Accepts acknowledged) e = after_copy c s now (means.Accepts acknowledged) true h e
-after_meaning c s now h meaning e = after_copy c s now meaning false h e
+after_meaning c s now h meaning e = record e {
+  tcp = owing_if (owes_by meaning (items_of s h)) (after_arrival meaning (hint_of s h) now (copy_of h) e.tcp);
+  treated = treated_of c s (opens_by meaning e.tcp.state) h;
+}
 
 -- and what is to be done then
 abbrev pub template_of : Side → List Heard → Meaning → List Duty

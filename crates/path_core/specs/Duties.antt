@@ -19,7 +19,7 @@ use Rattle.path_core.specs.Codec.{Codec}
 use Rattle.path_core.specs.Emission.{is_syn_due, data_stands, first_unsent, unsent_segment, data_ask, answered_syn, answered_data, end_segment, answered_end, fin_segment_of, answered_fin, after_timer}
 use Rattle.path_core.specs.Events.{next_event, step_for, happens_if}
 use Rattle.path_core.specs.Opening.{syn_window_ask, syn_ack_of, answered_syn_ack, key_heard, peer_key_ask, with_peer_key, keys_heard, keys_ask, after_keys, is_opened_by_keys, live_ask}
-use Rattle.path_core.specs.Passing.{piece_of, piece_ask, answered_piece, fin_of, fin_ask, answered_fin_heard, after_pass_fin, rate_ask, answered_rate, first_segment, answered_again, answer_of, answered_answer, dead_answer, answered_dead, resend_of, answered_resend}
+use Rattle.path_core.specs.Passing.{piece_of, piece_ask, is_placed, answered_piece, is_fin_set, fin_of, fin_ask, answered_fin_heard, after_pass_fin, rate_ask, answered_rate, first_segment, answered_again, answer_of, answered_answer, dead_answer, answered_dead, resend_of, answered_resend}
 use Rattle.path_core.specs.Placing.{after_check}
 use Rattle.path_core.specs.Sends.{sends}
 use Rattle.path_core.specs.Standing.{look_ask, answered_look, ack_out_ask, answered_ack_out, is_update_due, ack_segment, acknowledges}
@@ -135,8 +135,8 @@ answered k (duties.SynAck s) r p = answered_syn_ack k s p
 answered k (duties.Opened s) r p = goes_on s (after_keys r (keys_heard (end_at s p).treated.items) (end_at s p)) (left p) p
 answered k (duties.Heard s index) r p = answered_item k s (item_of index (end_at s p)) r p
 answered k (duties.AckHeard s) r p = goes_on s (after_verdict r (end_at s p)) (left p) p
-answered k (duties.Edge s) r p = answered_piece s (piece_of s p) r p
-answered k (duties.HeardFin s index) r p = answered_fin_heard s r p
+answered k (duties.Edge s) r p = answered_piece s (piece_of s p) (is_placed r) p
+answered k (duties.HeardFin s index) r p = answered_fin_heard s (is_fin_set r) p
 answered k (duties.AckOut s) r p = answered_ack_out s r (left p) p
 answered k (duties.Rate s) r p = answered_rate s r p
 answered k (duties.Acknowledge s) r p = acknowledges k s p

@@ -22,7 +22,7 @@ use Rattle.path_core.specs.declared.ask.Reply.{Reply}
 use Rattle.path_core.specs.declared.ask.Reply.TheVariants as replies
 use Rattle.path_core.specs.Closing.{after_granted, after_refusal, is_end_due, with_end_sent, is_waiting, without_news}
 use Rattle.path_core.specs.Codec.{Codec}
-use Rattle.path_core.specs.Ends.{PathEnd}
+use Rattle.path_core.specs.Ends.{PathEnd, Sending}
 use Rattle.path_core.specs.Segments.{ack_said, fin_said, record_or_ack, mapping_of}
 use Rattle.path_core.specs.Sends.{sends, having_sent, sent_on, with_edge_told}
 use Rattle.path_core.specs.State.{PathState, Profile, end_at, goes_on, left, path_of}
@@ -78,18 +78,31 @@ granted c s span piece e = record e {
   sending = after_granted span e.sending;
 }
 
+-- what was granted
+pub record Grant : Type 0 where
+  pub span : Span
+  pub piece : List ℕ
+
+abbrev pub grant_in : Reply → Option Grant
+grant_in (replies.Send (send_replies.Granted span piece)) = Some (record { span = span; piece = piece })
+grant_in _ = None
+
+abbrev pub refused_in : Reply → Sending → Sending
+refused_in (replies.Send (send_replies.NoGrant why known)) v = after_refusal why known v
+refused_in _ v = v
+
+abbrev pub refused : Reply → PathEnd → PathEnd
+refused r e = record e { sending = refused_in r e.sending }
+
 -- a refusal ends the asking
-abbrev pub answered_grant : {C : Type 0} → Side → Reply → PathState C → PathState C
-answered_grant s (replies.Send (send_replies.Granted span piece)) p =
-    goes_on s (granted p.profile s span piece (end_at s p)) p.agenda p
-answered_grant s (replies.Send (send_replies.NoGrant why known)) p =
-    let e = end_at s p in goes_on s (record e { sending = after_refusal why known e.sending }) (left p) p
-answered_grant s _ p = record p { agenda = left p }
+abbrev pub answered_grant : {C : Type 0} → Side → Option Grant → Reply → PathState C → PathState C
+answered_grant s (Some grant) r p = goes_on s (granted p.profile s grant.span grant.piece (end_at s p)) p.agenda p
+answered_grant s None r p = goes_on s (refused r (end_at s p)) (left p) p
 
 -- what is sent leaves the duty where it is, so that the next record is sent, or the next bytes are asked for
 abbrev pub answered_data : {C : Type 0} → Codec C → Side → Option Record → Reply → PathState C → PathState C
 answered_data k s (Some r) reply p = sent_on k s (unsent_segment s p) (having_sent_unsent s p) p.agenda p
-answered_data k s None reply p = answered_grant s reply p
+answered_data k s None reply p = answered_grant s (grant_in reply) reply p
 
 abbrev pub answered_syn : {C : Type 0} → Codec C → Side → PathState C → PathState C
 answered_syn k s p = sent_on k s (unsent_segment s p) (having_sent_unsent s p) (left p) p

@@ -107,12 +107,16 @@ path_died p = record p {
   agenda = leaves_unless_dead A p.a ++ (leaves_unless_dead B p.b ++ rest_of_turn);
 }
 
-abbrev pub after_line : {C : Type 0} → ScriptLine → PathState C → PathState C
-after_line (Die path tick) p = path_died p
-after_line _ p = with_agenda rest_of_turn p
+abbrev pub is_death : ScriptLine → Bool
+is_death (Die path tick) = true
+is_death _ = false
+
+-- the others lead to nothing yet
+abbrev pub after_line : {C : Type 0} → Bool → PathState C → PathState C
+after_line death p = if death then path_died p else with_agenda rest_of_turn p
 
 abbrev pub line_taken : {C : Type 0} → LineLeft → PathState C → PathState C
-line_taken line p = after_line line.line (record (at_tick line.tick p) { lines = tail_of p.lines })
+line_taken line p = after_line (is_death line.line) (record (at_tick line.tick p) { lines = tail_of p.lines })
 
 -- a copy that doesn't parse is dropped
 abbrev pub copy_heard : {C : Type 0} → Side → Option HeardSegment → PathState C → PathState C

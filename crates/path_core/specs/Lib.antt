@@ -25,3 +25,7 @@ pub mod Desk
 pub mod Starts
 pub mod Example
 pub mod FirstRound
+pub mod Kinds
+pub mod Turns
+pub mod Journals
+pub mod Ranks

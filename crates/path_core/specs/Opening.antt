@@ -15,6 +15,7 @@ use Rattle.path_core.specs.declared.heard.Heard.{Heard}
 use Rattle.path_core.specs.declared.heard.Heard.TheVariants as says
 use Rattle.path_core.specs.Closing.{after_acked}
 use Rattle.path_core.specs.Codec.{Codec}
+use Rattle.path_core.specs.declared.modes.Modes.{Modes}
 use Rattle.path_core.specs.Ends.{PathEnd}
 use Rattle.path_core.specs.Segments.{syn_ack_said}
 use Rattle.path_core.specs.Sends.{sends, having_sent, sent_on}
@@ -65,15 +66,12 @@ keys_ask s None = asks.Local steps.End
 keys_ask s (Some keys) = asks.Control s (control_calls.Keys keys.own keys.peer)
 
 -- where the control book noted the keys, the peer's is kept, and the end may send a DSS from now on
-abbrev pub with_keys : Reply → Option KeyPair → PathEnd → PathEnd
-with_keys (replies.Control control_replies.Noted) (Some keys) e = record e { modes = record e.modes { peer_key = Some keys.peer; clear = true } }
-with_keys _ keys e = e
-
-abbrev pub keys_told : PathEnd → PathEnd
-keys_told e = record e { treated = record e.treated { keys_told = true } }
+abbrev pub keys_in : Reply → Option KeyPair → Modes → Modes
+keys_in (replies.Control control_replies.Noted) (Some keys) m = record m { peer_key = Some keys.peer; clear = true }
+keys_in _ keys m = m
 
 abbrev pub after_keys : Reply → Option KeyPair → PathEnd → PathEnd
-after_keys r keys e = keys_told (with_keys r keys e)
+after_keys r keys e = record e { modes = keys_in r keys e.modes; treated = record e.treated { keys_told = true } }
 
 -- the end left SynReceived by a copy with both keys
 abbrev pub is_opened_by_keys : PathEnd → Bool

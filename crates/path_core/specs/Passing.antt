@@ -43,11 +43,21 @@ abbrev pub piece_ask : Side → Option Piece → Ask
 piece_ask s None = asks.Local steps.End
 piece_ask s (Some piece) = asks.Reassembly s (reassembly_calls.Place piece.place piece.octets)
 
--- What was placed is behind the edge, and the next bytes follow. What the book refuses breaks the path.
-abbrev pub answered_piece : {C : Type 0} → Side → Option Piece → Reply → PathState C → PathState C
-answered_piece s (Some piece) (replies.Reassembly (reassembly_replies.Placed count)) p =
-    goes_on s (having_asked (after_piece piece (end_at s p))) p.agenda p
-answered_piece s piece r p = goes_on s (having_asked (end_at s p)) (breaks s 1) p
+abbrev pub is_placed : Reply → Bool
+is_placed (replies.Reassembly (reassembly_replies.Placed count)) = true
+is_placed _ = false
+
+-- what the book refuses breaks the path
+abbrev pub refused : {C : Type 0} → Side → PathState C → PathState C
+refused s p = goes_on s (having_asked (end_at s p)) (breaks s 1) p
+
+abbrev pub placed : {C : Type 0} → Side → Piece → PathState C → PathState C
+placed s piece p = goes_on s (having_asked (after_piece piece (end_at s p))) p.agenda p
+
+-- what was placed is behind the edge, and the next bytes follow
+abbrev pub answered_piece : {C : Type 0} → Side → Option Piece → Bool → PathState C → PathState C
+answered_piece s (Some piece) taken p = if taken then placed s piece p else refused s p
+answered_piece s None taken p = refused s p
 
 abbrev pub piece_of : {C : Type 0} → Side → PathState C → Option Piece
 piece_of s p = next_piece p.profile (end_at s p)
@@ -64,14 +74,19 @@ fin_ask s (Some place) = asks.Reassembly s (reassembly_calls.Fin place)
 abbrev pub with_peer_end : PathEnd → PathEnd
 with_peer_end e = record e { sending = after_peer_end e.sending }
 
-abbrev pub answered_fin_heard : {C : Type 0} → Side → Reply → PathState C → PathState C
-answered_fin_heard s (replies.Reassembly reassembly_replies.FinSet) p =
-    goes_on s (having_asked (with_peer_end (end_at s p))) (left p) p
-answered_fin_heard s r p = goes_on s (having_asked (end_at s p)) (breaks s 1) p
+abbrev pub is_fin_set : Reply → Bool
+is_fin_set (replies.Reassembly reassembly_replies.FinSet) = true
+is_fin_set _ = false
+
+abbrev pub fin_set : {C : Type 0} → Side → PathState C → PathState C
+fin_set s p = goes_on s (having_asked (with_peer_end (end_at s p))) (left p) p
+
+abbrev pub answered_fin_heard : {C : Type 0} → Side → Bool → PathState C → PathState C
+answered_fin_heard s set p = if set then fin_set s p else refused s p
 
 -- the subflow's FIN ends no stream; the edge moves over it
 abbrev pub after_pass_fin : PathEnd → PathEnd
-after_pass_fin e = if is_fin_next e.tcp then record e { tcp = after_passing_fin e.tcp } else e
+after_pass_fin e = record e { tcp = (if is_fin_next e.tcp then after_passing_fin e.tcp else e.tcp) }
 
 -- ---- the growth of the window
 

@@ -16,7 +16,8 @@ use Rattle.path_core.specs.declared.ask.Reply.{Reply}
 use Rattle.path_core.specs.declared.ask.Reply.TheVariants as replies
 use Rattle.path_core.specs.declared.duty.Duty.{Duty}
 use Rattle.path_core.specs.Codec.{Codec}
-use Rattle.path_core.specs.Ends.{PathEnd}
+use Rattle.path_core.specs.declared.modes.Modes.{Modes}
+use Rattle.path_core.specs.Ends.{PathEnd, Receiving}
 use Rattle.path_core.specs.Segments.{ack_said}
 use Rattle.path_core.specs.Sends.{having_sent, sent_on}
 use Rattle.path_core.specs.State.{PathState, Profile, end_at, goes_on, left, path_of, with_agenda}
@@ -27,10 +28,13 @@ abbrev pub look_ask : {C : Type 0} → Side → PathState C → Ask
 look_ask s p = asks.Control s (control_calls.Look (path_of p))
 
 -- the mode, and how the path stands among the others; notices lead to nothing yet
+abbrev pub modes_told : Reply → Modes → Modes
+modes_told (replies.Control (control_replies.Standing mode standby sole notice)) m =
+    record m { mode = mode; standby = standby; sole = sole }
+modes_told _ m = m
+
 abbrev pub after_look : Reply → PathEnd → PathEnd
-after_look (replies.Control (control_replies.Standing mode standby sole notice)) e =
-    record e { modes = record e.modes { mode = mode; standby = standby; sole = sole } }
-after_look _ e = e
+after_look r e = record e { modes = modes_told r e.modes }
 
 abbrev pub answered_look : {C : Type 0} → Side → Reply → PathState C → PathState C
 answered_look s r p = goes_on s (after_look r (end_at s p)) (left p) p
@@ -40,13 +44,13 @@ answered_look s r p = goes_on s (after_look r (end_at s p)) (left p) p
 abbrev pub ack_out_ask : Side → Ask
 ack_out_ask s = asks.Reassembly s reassembly_calls.AckOut
 
+abbrev pub window_in : Reply → Receiving → Receiving
+window_in (replies.Reassembly (reassembly_replies.Ack next window)) v = record v { next = next; window = window }
+window_in _ v = v
+
 -- it was told what is to be acknowledged, so nothing is left to be asked
 abbrev pub after_ack_out : Reply → PathEnd → PathEnd
-after_ack_out (replies.Reassembly (reassembly_replies.Ack next window)) e = record e {
-  receiving = record e.receiving { next = next; window = window };
-  treated = record e.treated { asked = false };
-}
-after_ack_out _ e = record e { treated = record e.treated { asked = false } }
+after_ack_out r e = record e { receiving = window_in r e.receiving; treated = record e.treated { asked = false } }
 
 abbrev pub answered_ack_out : {C : Type 0} → Side → Reply → List Duty → PathState C → PathState C
 answered_ack_out s r ds p = goes_on s (after_ack_out r (end_at s p)) ds p

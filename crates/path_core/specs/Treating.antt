@@ -23,6 +23,7 @@ use Rattle.path_core.specs.declared.heard.Heard.TheVariants as says
 use Rattle.path_core.specs.Breaking.{answered_break, break_ask}
 use Rattle.path_core.specs.Closing.{after_acked}
 use Rattle.path_core.specs.Codec.{Codec}
+use Rattle.path_core.specs.declared.modes.Modes.{Modes}
 use Rattle.path_core.specs.Ends.{PathEnd, Payload, Sending}
 use Rattle.path_core.specs.Opening.{KeyPair, keys_ask, after_keys}
 use Rattle.path_core.specs.Placing.{clashes, kept_of, with_learned}
@@ -35,9 +36,12 @@ abbrev pub fell_ask : {C : Type 0} → Side → Event → PathState C → Ask
 fell_ask s event p = asks.Control s (control_calls.Fell (path_of p) event)
 
 -- the verdict tells the mode; the others lead to nothing yet
+abbrev pub mode_in : Reply → Modes → Modes
+mode_in (replies.Control (control_replies.Verdict (verdicts.Went mode))) m = record m { mode = mode }
+mode_in _ m = m
+
 abbrev pub after_verdict : Reply → PathEnd → PathEnd
-after_verdict (replies.Control (control_replies.Verdict (verdicts.Went mode))) e = record e { modes = record e.modes { mode = mode } }
-after_verdict _ e = e
+after_verdict r e = record e { modes = mode_in r e.modes }
 
 -- ---- one thing that was heard
 
@@ -71,16 +75,22 @@ heard_ask k s (says.Keys own peer) p = keys_ask s (Some (record { own = own; pee
 heard_ask k s _ p = asks.Local steps.End
 
 -- a Data ACK that was taken and covers something is told next
-abbrev pub told_next : {C : Type 0} → Side → ℕ → PathState C → List Duty
-told_next s next p = if nat_lt 0 next then replaced (duties.AckHeard s) p.agenda else left p
+abbrev pub is_acked : Reply → Bool
+is_acked (replies.Send (send_replies.Acked bytes fin)) = true
+is_acked _ = false
 
-abbrev pub with_acked : ℕ → Bool → PathEnd → PathEnd
-with_acked next fin e = record e { sending = after_acked next fin e.sending }
+abbrev pub told_next : {C : Type 0} → Side → Bool → PathState C → List Duty
+told_next s covers p = if covers then replaced (duties.AckHeard s) p.agenda else left p
+
+abbrev pub acked_in : ℕ → Reply → Sending → Sending
+acked_in next (replies.Send (send_replies.Acked bytes fin)) v = after_acked next fin v
+acked_in next _ v = v
+
+abbrev pub with_acked : ℕ → Reply → PathEnd → PathEnd
+with_acked next r e = record e { sending = acked_in next r e.sending }
 
 abbrev pub answered_ack : {C : Type 0} → Side → ℕ → Reply → PathState C → PathState C
-answered_ack s next (replies.Send (send_replies.Acked bytes fin)) p =
-    goes_on s (with_acked next fin (end_at s p)) (told_next s next p) p
-answered_ack s next _ p = with_agenda (left p) p
+answered_ack s next r p = goes_on s (with_acked next r (end_at s p)) (told_next s (is_acked r && nat_lt 0 next) p) p
 
 abbrev pub answered_mapping : {C : Type 0} → Codec C → Side → KeptMapping → Reply → PathState C → PathState C
 answered_mapping k s kept r p =

@@ -1,0 +1,27 @@
+-- That a turn ends, whatever it is answered.
+use Rattle.std.specs.Prelude.{ℕ, ◌≡◌, ◌≤◌, Option, Some, []}
+use Rattle.path_core.specs.declared.ask.Ask.{Ask}
+use Rattle.path_core.specs.declared.ask.Reply.{Reply}
+use Rattle.path_core.specs.Apps.{AppState}
+use Rattle.path_core.specs.AppSteps.{app_asks_of, app_takes}
+use Rattle.path_core.specs.Codec.{Codec}
+use Rattle.path_core.specs.Ends.{PathEnd}
+use Rattle.path_core.specs.Kinds.{IsOfKind}
+use Rattle.path_core.specs.State.{PathState}
+use Rattle.path_core.specs.Steps.{asks_of, takes}
+
+-- The turn of a path is over, or it asks, and ends after whatever reply of the asked kind.
+pub data Ends {C : Type 0} (k : Codec C) : PathState C → Type 0 where
+  Over : (p : PathState C) → p.agenda ≡ [] → Ends k p
+  Asks : (p : PathState C) (x : Ask) → asks_of k p ≡ Some x → ((r : Reply) → IsOfKind x r → Ends k (takes k r p)) → Ends k p
+
+-- the same of an application
+pub data AppEnds : AppState → Type 0 where
+  Over : (a : AppState) → a.agenda ≡ [] → AppEnds a
+  Asks : (a : AppState) (x : Ask) → app_asks_of a ≡ Some x → ((r : Reply) → IsOfKind x r → AppEnds (app_takes r a)) → AppEnds a
+
+-- what takes time: a segment is on its way for a tick or longer, and a timer runs for a tick or longer
+pub record TakesTime {C : Type 0} (p : PathState C) : Type 0 where
+  pub delay : 1 ≤ p.link.delay
+  pub timer_a : 1 ≤ p.a.tcp.timing.rtt.rto
+  pub timer_b : 1 ≤ p.b.tcp.timing.rtt.rto
