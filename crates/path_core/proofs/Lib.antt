@@ -2,3 +2,7 @@ pub mod Falling
 pub mod Ranking
 pub mod Resting
 pub mod Passing
+pub mod Sendings
+pub mod Happening
+pub mod Lowering
+pub mod TurnEnds

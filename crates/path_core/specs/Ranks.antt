@@ -1,6 +1,6 @@
 -- The numbers that show that a turn ends, each of which falls where those before it stay: ticks until the round's end, events
 -- that are due by now, the weight of what is to be done, octets in order that aren't passed, and what may still be sent.
-use Rattle.std.specs.Prelude.{ℕ, ◌+◌, ◌-◌, ◌*◌, nat_le, Bool, true, false, if◌then◌else◌, Option, Some, None, List, [], ◌∷◌, length, sum_by, count_by}
+use Rattle.std.specs.Prelude.{ℕ, ◌+◌, ◌-◌, ◌*◌, nat_le, Bool, true, false, if◌then◌else◌, Option, Some, None, List, [], ◌∷◌, length}
 use Rattle.link_model.specs.declared.flight.Flight.{Flight}
 use Rattle.subflow_recv.specs.Receiving.{filled}
 use Rattle.subflow_send.specs.Records.{Record}
@@ -64,15 +64,18 @@ bytes_left p = held p.a + held p.b
 -- ---- sendings
 
 -- octets of records, to be sent or under way
-abbrev pub piece_len : Record → ℕ
-piece_len r = length r.piece
-
 abbrev pub outstanding : List Record → ℕ
-outstanding records = sum_by piece_len records
+outstanding [] = 0
+outstanding (r ∷ rs) = length r.piece + outstanding rs
+
+-- records to be sent
+abbrev pub unsent_count : List Record → ℕ
+unsent_count [] = 0
+unsent_count (r ∷ rs) = (if is_unsent r then 1 else 0) + unsent_count rs
 
 -- each octet of room may become a piece, which is sent once
 abbrev pub work : PathEnd → ℕ
-work e = 2 * (e.tcp.congestion.reno.window - outstanding e.tcp.send.records) + count_by is_unsent e.tcp.send.records
+work e = 2 * (e.tcp.congestion.reno.window - outstanding e.tcp.send.records) + unsent_count e.tcp.send.records
 
 abbrev pub sendings_left : {C : Type 0} → PathState C → ℕ
 sendings_left p = work p.a + work p.b

@@ -2,7 +2,17 @@
 ghost use Rattle.std.specs.Prelude.{◌≡◌};
 ghost use Rattle.path_core.specs.Example.{app_of_a, app_of_b, path_at_first, app_steps_made, steps_made};
 ghost use Rattle.path_core.specs.FirstRound.{turn_of_a, turn_of_b, turn_of_path};
+ghost use Rattle.path_core.specs.Octets.{octets};
+ghost use Rattle.path_core.specs.Turns.{EveryTurnEnds, EveryRoundEnds};
 ghost use Rattle.path_core.specs.Values.{values};
+
+/// A law: a turn of a path ends, whatever replies of the asked kind come, over octets and over segments as values; so does
+/// each turn that a round begins. A segment has to be on its way for a tick or longer, and a timeout to be at least a tick.
+pub fn every_turn_ends()
+    ensures octets { EveryTurnEnds octets }
+    ensures values { EveryTurnEnds values }
+    ensures rounds { EveryRoundEnds octets }
+{}
 
 /// An example: the first round of a connection that carries five octets, step by step. Path 0 opens, carries them, and
 /// closes in both directions.
