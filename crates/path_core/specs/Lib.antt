@@ -29,3 +29,4 @@ pub mod Kinds
 pub mod Turns
 pub mod Journals
 pub mod Ranks
+pub mod Shown

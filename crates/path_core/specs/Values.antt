@@ -1,4 +1,4 @@
--- A copy carries the segment itself, which is heard as it was meant: the machine that theorems speak of.
+-- A copy carries the segment itself, and which side sent it. It is heard as it was meant: the machine that theorems speak of.
 use Rattle.std.specs.Prelude.{ℕ, Option, Some, List, []}
 use Rattle.outside_kit.specs.declared.side.Side.{Side}
 use Rattle.segment_wire.specs.Changes.{with_turned_bit}
@@ -9,20 +9,28 @@ use Rattle.path_segments.specs.Laws.{meant}
 use Rattle.path_core.specs.Codec.{Codec, HeardSegment}
 use Rattle.path_core.specs.Octets.{sum_of}
 
-abbrev pub read : Spelling → Side → Expected → PlainSegment → Option HeardSegment
-read spelling s expected segment = Some (meant segment)
+pub record Carried : Type 0 where
+  pub from : Side
+  pub segment : PlainSegment
 
-abbrev pub stripped : PlainSegment → PlainSegment
-stripped segment = record segment { options = [] }
+abbrev pub carried_by : Spelling → Side → PlainSegment → Carried
+carried_by spelling s segment = record { from = s; segment = segment }
 
-abbrev pub altered : PlainSegment → PlainSegment
-altered segment = record segment { payload = with_turned_bit segment.payload }
+abbrev pub read : Spelling → Side → Expected → Carried → Option HeardSegment
+read spelling s expected carried = Some (meant carried.segment)
 
-abbrev pub values : Codec PlainSegment
+-- the link's two changes
+abbrev pub stripped : Carried → Carried
+stripped carried = record carried { segment = record carried.segment { options = [] } }
+
+abbrev pub altered : Carried → Carried
+altered carried = record carried { segment = record carried.segment { payload = with_turned_bit carried.segment.payload } }
+
+abbrev pub values : Codec Carried
 values = record {
-  makes = λ spelling s segment. segment;
+  makes = carried_by;
   reads = read;
   sum = sum_of;
-  strips = λ spelling s segment. stripped segment;
-  alters = λ spelling s segment. altered segment;
+  strips = λ spelling s carried. stripped carried;
+  alters = λ spelling s carried. altered carried;
 }
