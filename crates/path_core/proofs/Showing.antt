@@ -18,7 +18,13 @@ use Rattle.path_core.specs.declared.ask.Reply.{Reply}
 use Rattle.path_core.specs.declared.duty.Duty.{Duty}
 use Rattle.path_core.specs.declared.duty.Duty.TheVariants as duties
 use Rattle.path_core.specs.Duties.{stands, ask_for, passed, answered}
-use Rattle.path_core.specs.Events.{died, Event, step_for, next_event, earliest, next_copy, earlier, next_line, next_fire, before}
+use Rattle.path_segments.proofs.SegmentsAgain.{heard_as_meant}
+use Rattle.path_core.specs.Arriving.{expected_by}
+use Rattle.path_core.specs.Codec.{HeardSegment}
+use Rattle.path_core.specs.Segments.{spelled_by}
+use Rattle.path_core.specs.Words.{tail_of}
+use Rattle.subflow_tcp.specs.declared.segments.Occasion.TheVariants as to_send
+use Rattle.path_core.specs.Events.{is_death, after_line, at_tick, copy_heard, heard_in, copy_taken, happens_if, died, Event, step_for, next_event, earliest, next_copy, earlier, next_line, next_fire, before}
 use Rattle.fallback_state.specs.declared.fall.Event.TheVariants as events
 use Rattle.subflow_send.specs.Records.{Record}
 use Rattle.path_core.specs.declared.heard.Heard.{Heard}
@@ -26,19 +32,19 @@ use Rattle.path_core.specs.declared.heard.Heard.TheVariants as says
 use Rattle.dss_mapping.specs.declared.kept.KeptMapping.{KeptMapping}
 use Rattle.path_core.specs.Agenda.{resets, leaves}
 use Rattle.path_core.specs.Breaking.{reset_of, reset_on, break_ask, answered_break}
-use Rattle.path_core.specs.Emission.{first_unsent, data_ask, unsent_segment, having_sent_unsent, end_segment, fin_segment_of, Grant, grant_in, answered_grant, answered_data}
+use Rattle.path_core.specs.Emission.{first_unsent, data_ask, unsent_segment, having_sent_unsent, end_segment, having_sent_end, fin_segment_of, having_sent_fin, Grant, grant_in, answered_grant, answered_data}
 use Rattle.path_core.specs.Opening.{syn_ack_of}
 use Rattle.loss_recovery.specs.declared.windows.Pending.{Pending}
-use Rattle.path_core.specs.Passing.{answered_piece, answered_fin_heard, rate_ask, first_segment, answer_of, dead_answer, resend_of}
+use Rattle.path_core.specs.Passing.{piece_of, is_placed, is_fin_set, answered_piece, answered_fin_heard, rate_ask, first_segment, answer_occasion, resend_occasion, answer_of, dead_answer, resend_of}
 use Rattle.path_core.specs.Placing.{kept_of, with_learned, Piece}
 use Rattle.path_core.specs.Standing.{ack_out_ask, answered_ack_out, ack_segment}
 use Rattle.path_core.specs.Treating.{item_of, item_ask, is_clash, fell_ask, after_verdict, is_acked, told_next, with_acked, answered_item}
 use Rattle.path_core.specs.Octets.{octets}
-use Rattle.path_core.specs.Sends.{sends, handed, sent_on}
+use Rattle.path_core.specs.Sends.{sends, having_sent, handed, sent_on}
 use Rattle.path_core.specs.Ends.{PathEnd}
-use Rattle.path_core.specs.Shown.{octets_of, shown_path, ChangesNothing, NextIsFresh}
+use Rattle.path_core.specs.Shown.{octets_of, shown_path, ChangesNothing, IsFreshCopy, NextIsFresh}
 use Rattle.path_core.specs.State.{PathState, end_at, with_agenda, goes_on, left}
-use Rattle.path_core.specs.Steps.{settled, settles_down, asks_first, asks_of, takes, next_round, begins_turn}
+use Rattle.path_core.specs.Steps.{settled, settles_down, asks_first, asks_of, answers, takes, next_round, begins_turn}
 use Rattle.path_core.specs.Agenda.{start_of_turn}
 use Rattle.path_core.specs.Values.{Carried, values}
 
@@ -323,3 +329,89 @@ module _ (show : Carried → List ℕ) where
           ≡ map (shown_flight show) (without (position (is_due due) link.under_way) link.under_way)
         = rw (same_position due link.under_way) (same_without (position (is_due due) link.under_way) link.under_way) in
       ap (λ flights. record (shown show link) { under_way = flights }) gone
+
+same_line : (death : Bool) (p : PathState Carried) → after_line death (shown_path p) ≡ shown_path (after_line death p)
+same_line true p = refl
+same_line false p = refl
+
+same_copy_heard : (s : Side) (heard : Option HeardSegment) (p : PathState Carried) → copy_heard s heard (shown_path p) ≡ shown_path (copy_heard s heard p)
+same_copy_heard s None p = refl
+same_copy_heard s (Some h) p = refl
+
+-- a fresh copy is heard as it was meant
+same_read : (s : Side) (o : Option (Flight Carried)) (p : PathState Carried) → ((flight : Flight Carried) → o ≡ Some flight → IsFreshCopy p s flight.carried)
+    → heard_in octets s (option_map (shown_flight (octets_of p.profile.spelling)) o) (shown_path p) ≡ heard_in values s o p
+same_read s None p fresh = refl
+same_read s (Some flight) p fresh =
+    let is = fresh flight refl in
+    rw is.from (heard_as_meant p.profile.spelling (spelled_by (peer s)) (expected_by (end_at s p)) flight.carried.segment is.sayable is.expected is.fresh)
+
+same_copy : (due : Due) (p : PathState Carried)
+    → ((flight : Flight Carried) → arriving due p.link ≡ Some flight → IsFreshCopy p due.to flight.carried)
+    → copy_taken octets due (shown_path p) ≡ shown_path (copy_taken values due p)
+same_copy due p fresh =
+    let show : Carried → List ℕ = octets_of p.profile.spelling in
+    let heard : Option HeardSegment = heard_in values due.to (arriving due p.link) p in
+    let arrived = ap (λ (o : Option (Flight (List ℕ))). heard_in octets due.to o (shown_path p)) (same_arriving show due p.link.under_way) in
+    ap (λ h. copy_heard due.to h (record (at_tick due.tick (shown_path p)) { link = after_delivery due (shown show p.link) }))
+        (arrived ∙ same_read due.to (arriving due p.link) p fresh)
+    ∙ ap (λ link. copy_heard due.to heard (record (at_tick due.tick (shown_path p)) { link = link })) (same_delivery show due p.link)
+    ∙ same_copy_heard due.to heard (record (at_tick due.tick p) { link = after_delivery due p.link })
+
+same_happening : (o : Option Event) (p : PathState Carried)
+    → ((due : Due) (flight : Flight Carried) → o ≡ Some (Event.Arrives due) → arriving due p.link ≡ Some flight → IsFreshCopy p due.to flight.carried)
+    → happens_if octets o (shown_path p) ≡ shown_path (happens_if values o p)
+same_happening None p fresh = refl
+same_happening (Some (Event.Takes line)) p fresh = same_line (is_death line.line) (record (at_tick line.tick p) { lines = tail_of p.lines })
+same_happening (Some (Event.Arrives due)) p fresh = same_copy due p (λ flight is. fresh due flight refl is)
+same_happening (Some (Event.Fires s tick)) p fresh = refl
+
+-- ---- every duty
+
+same_answered : (d : Duty) (r : Reply) (p : PathState Carried) → ChangesNothing p.link.lines → NextIsFresh p
+    → answered octets d r (shown_path p) ≡ shown_path (answered values d r p)
+same_answered (duties.Look s) r p nothing fresh = refl
+same_answered (duties.Window s) r p nothing fresh = refl
+same_answered (duties.Update s) r p nothing fresh = same_sent s (ack_segment s p) (having_sent to_send.Ack p.clock (ack_segment s p) (end_at s p)) (left p) p nothing
+same_answered (duties.Syn s) r p nothing fresh = same_sent s (unsent_segment s p) (having_sent_unsent s p) (left p) p nothing
+same_answered (duties.Data s) r p nothing fresh = same_data_answered s (first_unsent (end_at s p)) r p nothing
+same_answered (duties.DataFin s) r p nothing fresh = same_sent s (end_segment s p) (having_sent_end s p) (left p) p nothing
+same_answered (duties.Fin s) r p nothing fresh = same_sent s (fin_segment_of s p) (having_sent_fin s p) (left p) p nothing
+same_answered (duties.Timer s) r p nothing fresh = refl
+same_answered duties.Events r p nothing fresh =
+    ap (λ o. happens_if octets o (shown_path p)) (same_event p) ∙ same_happening (next_event p) p fresh
+same_answered (duties.SynHeard s) r p nothing fresh = refl
+same_answered (duties.SynAnswered s) r p nothing fresh = refl
+same_answered (duties.PeerKey s) r p nothing fresh = refl
+same_answered (duties.SynAck s) r p nothing fresh = same_sent s (syn_ack_of s p) (having_sent to_send.SynAck p.clock (syn_ack_of s p) (end_at s p)) (left p) p nothing
+same_answered (duties.Opened s) r p nothing fresh = refl
+same_answered (duties.Live s) r p nothing fresh = refl
+same_answered (duties.Heard s index) r p nothing fresh = same_heard s (item_of index (end_at s p)) r p nothing
+same_answered (duties.AckHeard s) r p nothing fresh = refl
+same_answered (duties.Keep s) r p nothing fresh = refl
+same_answered (duties.Edge s) r p nothing fresh = same_piece s (piece_of s p) (is_placed r) p
+same_answered (duties.HeardFin s index) r p nothing fresh = same_fin s (is_fin_set r) p
+same_answered (duties.PassFin s) r p nothing fresh = refl
+same_answered (duties.AckOut s) r p nothing fresh = refl
+same_answered (duties.Rate s) r p nothing fresh = refl
+same_answered (duties.Acknowledge s) r p nothing fresh = same_sent s (ack_segment s p) (having_sent to_send.Ack p.clock (ack_segment s p) (end_at s p)) (left p) p nothing
+same_answered (duties.Again s) r p nothing fresh = same_sent s (first_segment s p) (having_sent to_send.First p.clock (first_segment s p) (end_at s p)) (left p) p nothing
+same_answered (duties.Answer s) r p nothing fresh = same_sent s (answer_of s p) (having_sent (answer_occasion (end_at s p)) p.clock (answer_of s p) (end_at s p)) (left p) p nothing
+same_answered (duties.ResetAnswer s) r p nothing fresh = same_sent s (dead_answer s p) (end_at s p) (left p) p nothing
+same_answered (duties.Return s) r p nothing fresh = refl
+same_answered (duties.Resend s) r p nothing fresh = same_sent s (resend_of s p) (having_sent (resend_occasion (end_at s p)) p.clock (resend_of s p) (end_at s p)) (left p) p nothing
+same_answered (duties.BreakAck s reason) r p nothing fresh = refl
+same_answered (duties.BreakReset s reason) r p nothing fresh = same_reset s (Some reason) (leaves s) p nothing
+same_answered (duties.Reset s) r p nothing fresh = same_reset s None (leaves s) p nothing
+same_answered (duties.Leave s) r p nothing fresh = refl
+same_answered (duties.Dead s) r p nothing fresh = refl
+same_answered duties.End r p nothing fresh = refl
+
+same_answers : (ds : List Duty) (r : Reply) (p : PathState Carried) → ChangesNothing p.link.lines → NextIsFresh p
+    → answers octets ds r (shown_path p) ≡ shown_path (answers values ds r p)
+same_answers [] r p nothing fresh = refl
+same_answers (d ∷ ds) r p nothing fresh = same_answered d r p nothing fresh
+
+pub takes_the_same : (r : Reply) (p : PathState Carried) → ChangesNothing p.link.lines → NextIsFresh p → takes octets r (shown_path p) ≡ shown_path (takes values r p)
+takes_the_same r p nothing fresh =
+    ap settles_down (same_answers p.agenda r p nothing fresh) ∙ same_settled (answers values p.agenda r p).agenda (answers values p.agenda r p)

@@ -3,6 +3,7 @@ ghost use Rattle.std.specs.Prelude.{◌≡◌};
 ghost use Rattle.path_core.specs.Example.{app_of_a, app_of_b, path_at_first, app_steps_made, steps_made};
 ghost use Rattle.path_core.specs.FirstRound.{turn_of_a, turn_of_b, turn_of_path};
 ghost use Rattle.path_core.specs.Octets.{octets};
+ghost use Rattle.path_core.specs.Shown.{AsksTheSame, TakesTheSame, BeginsTheSame};
 ghost use Rattle.path_core.specs.Turns.{EveryTurnEnds, EveryRoundEnds};
 ghost use Rattle.path_core.specs.Values.{values};
 
@@ -12,6 +13,15 @@ pub fn every_turn_ends()
     ensures octets { EveryTurnEnds octets }
     ensures values { EveryTurnEnds values }
     ensures rounds { EveryRoundEnds octets }
+{}
+
+/// A law: a path over octets is the path over segments as values, shown in octets. It asks the same, takes each reply in the
+/// same way, and begins a round so, as long as the script strips and alters nothing and the copy that is due next is fresh:
+/// it can be said, and each of its numbers is near the one that the end expects.
+pub fn octets_do_as_values()
+    ensures asks { AsksTheSame }
+    ensures takes { TakesTheSame }
+    ensures rounds { BeginsTheSame }
 {}
 
 /// An example: the first round of a connection that carries five octets, step by step. Path 0 opens, carries them, and

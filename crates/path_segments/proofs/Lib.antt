@@ -5,4 +5,4 @@ mod ListsAgain
 mod NumbersAgain
 mod OptionsAgain
 mod SaidOptions
-mod SegmentsAgain
+pub mod SegmentsAgain

@@ -1,8 +1,7 @@
-use Rattle.path_core.specs.Octets.{octets}
 use Rattle.std.proofs.Common.{◌+◌}
+use Rattle.path_core.specs.Octets.{octets}
 use Rattle.path_core.specs.Values.{values}
 use Rattle.path_core.proofs.TurnEnds.{turn_ends, begun_ends}
-use Rattle.path_core.proofs.Showing.{asks_the_same, begins_the_same, same_sent}
 use Rattle.path_core.proofs.laws.every_turn_ends.Goals as goal
 
 pub returns-clause-octets : goal.returns-clause-octets
