@@ -6,4 +6,6 @@ pub mod Sendings
 pub mod Happening
 pub mod Lowering
 pub mod TurnEnds
+pub mod AppEnds
 pub mod Showing
+pub mod InKind

@@ -12,6 +12,9 @@ use Rattle.control_book.specs.declared.call.ControlCall.{ControlCall}
 use Rattle.control_book.specs.declared.call.ControlCall.TheVariants as control_calls
 use Rattle.control_book.specs.declared.call.ControlReply.{ControlReply}
 use Rattle.control_book.specs.declared.call.ControlReply.TheVariants as control_replies
+use Rattle.send_book.specs.State.{Tile}
+use Rattle.send_book.specs.Steps.{CanAsk}
+use Rattle.path_core.specs.Desk.{SixBooks, reply_of}
 use Rattle.path_core.specs.declared.ask.Ask.{Ask}
 use Rattle.path_core.specs.declared.ask.Ask.TheVariants as asks
 use Rattle.path_core.specs.declared.ask.Reply.{Reply}
@@ -93,3 +96,18 @@ IsOfKind (asks.Reassembly s call) (replies.Reassembly reply) = IsReassemblyKind 
 IsOfKind (asks.Control s call) (replies.Control reply) = IsControlKind call reply
 IsOfKind (asks.Local step) replies.Done = Unit {0}
 IsOfKind _ _ = ⊥
+
+-- ---- what the books answer is of the kind
+
+-- both send books are sound
+pub record AreTiled (books : SixBooks) : Type 0 where
+  pub a : Tile books.send_a
+  pub b : Tile books.send_b
+
+-- a call of a send book can be asked
+abbrev pub CanBeAsked : Ask → Type 0
+CanBeAsked (asks.Send s call) = CanAsk call
+CanBeAsked _ = Unit {0}
+
+abbrev pub BooksAnswerInKind : Type 0
+BooksAnswerInKind = (books : SixBooks) (x : Ask) → AreTiled books → CanBeAsked x → IsOfKind x (reply_of books x)

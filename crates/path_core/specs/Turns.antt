@@ -2,9 +2,10 @@
 use Rattle.std.specs.Prelude.{ℕ, ◌≡◌, ◌≤◌, true, Option, Some, List, [], ◌∷◌}
 use Rattle.path_core.specs.declared.ask.Ask.{Ask}
 use Rattle.path_core.specs.declared.ask.Reply.{Reply}
+use Rattle.path_core.specs.declared.duty.AppDuty.{AppDuty}
 use Rattle.path_core.specs.declared.duty.Duty.{Duty}
 use Rattle.path_core.specs.Apps.{AppState}
-use Rattle.path_core.specs.AppSteps.{app_asks_of, app_takes}
+use Rattle.path_core.specs.AppSteps.{app_stands, app_asks_of, app_takes}
 use Rattle.path_core.specs.Codec.{Codec}
 use Rattle.path_core.specs.Duties.{stands}
 use Rattle.path_core.specs.Kinds.{IsOfKind}
@@ -29,6 +30,13 @@ FirstStands (d ∷ ds) p = stands d p ≡ true
 abbrev pub IsSettled : {C : Type 0} → PathState C → Type 0
 IsSettled p = FirstStands p.agenda p
 
+abbrev pub FirstAppStands : List AppDuty → AppState → Type 0
+FirstAppStands [] a = Unit {0}
+FirstAppStands (d ∷ ds) a = app_stands d a ≡ true
+
+abbrev pub IsAppSettled : AppState → Type 0
+IsAppSettled a = FirstAppStands a.agenda a
+
 -- what takes time: a segment is on its way for a tick or longer, and a timer runs for a tick or longer
 pub record TakesTime {C : Type 0} (p : PathState C) : Type 0 where
   pub delay : 1 ≤ p.link.delay
@@ -44,3 +52,7 @@ EveryTurnEnds {C} k = (p : PathState C) → TakesTime p → IsSettled p → Ends
 -- so does each turn that a round begins
 abbrev pub EveryRoundEnds : {C : Type 0} → Codec C → Type 0
 EveryRoundEnds {C} k = (p : PathState C) → TakesTime p → Ends k (next_round p)
+
+-- so does an application, whose turns end by themselves
+abbrev pub EveryAppTurnEnds : Type 0
+EveryAppTurnEnds = (a : AppState) → IsAppSettled a → AppEnds a

@@ -17,5 +17,5 @@ mod modes;
 pub use ask::{Ask, LocalStep, Note, Reply};
 pub use duty::{AppDuty, Duty};
 pub use heard::Heard;
-pub use laws::{a_first_round, every_turn_ends, octets_do_as_values};
+pub use laws::{a_first_round, books_answer_in_kind, every_turn_ends, octets_do_as_values};
 pub use modes::Modes;
