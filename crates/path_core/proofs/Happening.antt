@@ -1,0 +1,220 @@
+-- Events: ticks pass, or one event less is due.
+use Rattle.std.proofs.Common.{◌≡◌, refl, sym, ap, ◌∙◌, ℕ, zero, suc, ◌+◌, ◌-◌, ◌<◌, ◌≤◌, ◌⊎◌, inl, inr, ⊎_elim, max, nat_le, nat_lt, ◌==◌, ◌&&◌, Bool, true, false, cond, if◌then◌else◌, List, [], ◌∷◌, ◌++◌, length, Option, Some, None, is_some, option_and_then, position, subst, arith}
+use Rattle.std.proofs.lemmas.Bool.{cases_lt, ltb-true, leb-false, eq-eqb, lt-ltb}
+use Rattle.outside_kit.specs.declared.side.Side.{Side}
+use Rattle.outside_kit.specs.declared.side.Side.TheVariants.{A, B}
+use Rattle.link_script.specs.Places.{same_side}
+use Rattle.link_model.specs.declared.flight.Flight.{Flight}
+use Rattle.link_model.specs.Steps.{due_of, is_due, without, next_due, arriving, after_delivery}
+use Rattle.subflow_tcp.specs.Judging.{meaning_of}
+use Rattle.subflow_tcp.specs.States.{is_dead}
+use Rattle.subflow_tcp.specs.Taking.{after_arrival}
+use Rattle.path_core.specs.Arriving.{copy_of, hint_of, items_of, owes_by, after_meaning, template_of}
+use Rattle.path_core.specs.Agenda.{rest_of_turn, emission}
+use Rattle.path_core.specs.Codec.{Codec, HeardSegment}
+use Rattle.path_core.specs.Ends.{PathEnd}
+use Rattle.path_core.specs.Events.{Event, tick_of, next_line, next_copy, next_fire, earlier, earliest, before, next_event, is_death, died, died_unless_dead, path_died, after_line, line_taken, at_tick, copy_heard, heard_in, copy_taken, timer_fired, after_firing, happens, happens_if}
+use Rattle.path_core.specs.Ranks.{ticks_left, one_if_due, due_copies, due_lines, due_timer, due_by_now}
+use Rattle.path_core.specs.State.{PathState, LineLeft, end_at, with_agenda, goes_on}
+use Rattle.path_core.specs.Turns.{TakesTime}
+use Rattle.path_core.specs.Words.{tail_of}
+use Rattle.path_core.proofs.Falling.{Then, Less}
+use Rattle.path_core.proofs.Ranking.{Rests, same_rests, Calm, goes_calm, agenda_calm, Lower, Lowers}
+use Rattle.path_core.proofs.Resting.{to_rests, arrival_settles, owing_settles, fired_rests}
+
+-- ---- lists
+
+due_now : (clock tick : ℕ) → tick ≤ clock → one_if_due clock tick ≡ 1
+due_now clock tick now = by (nat_le tick clock) refl
+  where
+    by : (b : Bool) → nat_le tick clock ≡ b → ◌≡◌ {A = ℕ} (if b then 1 else 0) 1
+    by true is = refl
+    by false is = absurd (omega (arith, leb-false _ _ is, now))
+
+same_itself : (s : Side) → same_side s s ≡ true
+same_itself A = refl
+same_itself B = refl
+
+-- ---- a death
+
+dead_rests : (clock : ℕ) (e : PathEnd) → Rests clock e (died_unless_dead e)
+dead_rests clock e = by (is_dead e.tcp.state)
+  where
+    by : (b : Bool) → Rests clock e (if b then e else died e)
+    by true = same_rests clock e e refl
+    by false = record { due = omega arith; timeout = λ some. some }
+
+-- ---- the earliest event
+
+one_of_both : (x y : Option Event) (event : Event) → earlier x y ≡ Some event → (x ≡ Some event) ⊎ (y ≡ Some event)
+one_of_both None y event e = inr e
+one_of_both (Some x) None event e = inl e
+one_of_both (Some x) (Some y) event e = by (nat_le (tick_of x) (tick_of y)) e
+  where
+    by : (b : Bool) → (if b then Some x else Some y) ≡ Some event → (Some x ≡ Some event) ⊎ (Some y ≡ Some event)
+    by true e = inl e
+    by false e = inr e
+
+soon_enough : (until : ℕ) (x : Option Event) (event : Event) → option_and_then (before until) x ≡ Some event → (x ≡ Some event) × (tick_of event < until)
+soon_enough until None event e = cc
+soon_enough until (Some x) event e = by (nat_lt (tick_of x) until) refl e
+  where
+    by : (b : Bool) → nat_lt (tick_of x) until ≡ b → (if b then Some x else None) ≡ Some event → (Some x ≡ Some event) × (tick_of event < until)
+    by true is e =
+        let same : x ≡ event = cc in
+        (e, subst (λ y. tick_of y < until) same (ltb-true _ _ is))
+    by false is e = cc
+
+module _ {C : Type 0} where
+  head_is_due : (f : Flight C) → is_due (due_of f) f ≡ true
+  head_is_due f = rw (eq-eqb f.tick f.tick refl, same_itself f.to, eq-eqb f.number f.number refl) refl
+
+  without_head : (p : Flight C → Bool) (f : Flight C) (flights : List (Flight C)) → p f ≡ true → without (position p (f ∷ flights)) (f ∷ flights) ≡ flights
+  without_head p f flights is =
+      let below : nat_lt 0 (length (f ∷ flights)) ≡ true = lt-ltb 0 (length (f ∷ flights)) (omega arith) in rw (is, below) refl
+
+  -- ---- ticks pass, or one event less is due
+
+  pub record Passes (p q : PathState C) : Type 0 where
+    pub fewer : Then ticks_left (Less due_by_now) q p
+    pub time : TakesTime q
+
+  passes_by : (p q : PathState C) (tick : ℕ) → tick < p.until → q.until ≡ p.until → q.clock ≡ max p.clock tick
+      → (q.clock ≡ p.clock → tick ≤ p.clock → due_by_now q < due_by_now p) → TakesTime q → Passes p q
+  passes_by p q tick soon until clock fewer time = ⊎_elim
+      (λ later. record { fewer = Then.Falls (omega (arith, later, soon, until, clock)); time = time })
+      (λ now. record {
+        fewer = Then.Stays (omega (arith, now, until, clock)) (fewer (omega (arith, now, clock)) now);
+        time = time;
+      })
+      (cases_lt p.clock tick)
+
+  -- what follows raises none of the two
+  pub passes_on : (p m q : PathState C) → Passes p m → Calm m q → Lowers p q
+  passes_on p m q passes calm = record { lower = by passes.fewer; time = calm.time }
+    where
+      by : Then ticks_left (Less due_by_now) m p → Lower q p
+      by (Then.Falls less) = Then.Falls (omega (arith, less, calm.ticks))
+      by (Then.Stays most less) = Then.Stays (omega (arith, most, calm.ticks)) (Then.Falls (omega (arith, less, calm.due)))
+
+  -- ---- a line
+
+  line_passes : (line : LineLeft) (lines : List LineLeft) (p : PathState C) → TakesTime p → p.lines ≡ line ∷ lines → line.tick < p.until
+      → Passes p (record (at_tick line.tick p) { lines = tail_of p.lines })
+  line_passes line lines p t is soon =
+      passes_by p (record (at_tick line.tick p) { lines = tail_of p.lines }) line.tick soon refl refl
+      (λ same now. rw same (omega (arith, one_less, due_now p.clock line.tick now)))
+      (record { delay = t.delay; timer_a = t.timer_a; timer_b = t.timer_b })
+    where
+      one_less : due_lines p.clock p.lines ≡ one_if_due p.clock line.tick + due_lines p.clock (tail_of p.lines)
+      one_less = rw is refl
+
+  line_calm : (death : Bool) (p : PathState C) → TakesTime p → Calm p (after_line death p)
+  line_calm true p t =
+      let a = dead_rests p.clock p.a in let b = dead_rests p.clock p.b in
+      record {
+        ticks = omega arith;
+        due = omega (arith, a.due, b.due);
+        time = record { delay = t.delay; timer_a = a.timeout t.timer_a; timer_b = b.timeout t.timer_b };
+      }
+  line_calm false p t = agenda_calm rest_of_turn p t
+
+  line_lowers : (line : LineLeft) (lines : List LineLeft) (p : PathState C) → TakesTime p → p.lines ≡ line ∷ lines → line.tick < p.until
+      → Lowers p (line_taken line p)
+  line_lowers line lines p t is soon =
+      let first = line_passes line lines p t is soon in
+      passes_on p (record (at_tick line.tick p) { lines = tail_of p.lines }) (line_taken line p) first
+      (line_calm (is_death line.line) (record (at_tick line.tick p) { lines = tail_of p.lines }) first.time)
+
+  -- ---- a copy
+
+  copy_passes : (f : Flight C) (flights : List (Flight C)) (p : PathState C) → TakesTime p → p.link.under_way ≡ f ∷ flights → f.tick < p.until
+      → Passes p (record (at_tick f.tick p) { link = after_delivery (due_of f) p.link })
+  copy_passes f flights p t is soon =
+      passes_by p (record (at_tick f.tick p) { link = after_delivery (due_of f) p.link }) f.tick soon refl refl
+      (λ same now. rw same (omega (arith, one_less, due_now p.clock f.tick now)))
+      (record { delay = t.delay; timer_a = t.timer_a; timer_b = t.timer_b })
+    where
+      one_less : due_copies p.clock p.link.under_way
+          ≡ one_if_due p.clock f.tick + due_copies p.clock (without (position (is_due (due_of f)) p.link.under_way) p.link.under_way)
+      one_less = rw (is, without_head (is_due (due_of f)) f flights (head_is_due f)) refl
+
+  copy_calm : (s : Side) (heard : Option HeardSegment) (p : PathState C) → TakesTime p → Calm p (copy_heard s heard p)
+  copy_calm s None p t = agenda_calm (emission s) p t
+  copy_calm s (Some h) p t =
+      let e = end_at s p in let meaning = meaning_of (copy_of h) e.tcp in
+      goes_calm s (after_meaning p.profile s p.clock h meaning e) (template_of s (items_of s h) meaning) p t
+      (to_rests p.clock e (after_meaning p.profile s p.clock h meaning e)
+      (owing_settles p.clock (owes_by meaning (items_of s h)) e.tcp.timing (after_arrival meaning (hint_of s h) p.clock (copy_of h) e.tcp)
+      (arrival_settles p.clock meaning (hint_of s h) p.clock (copy_of h) e.tcp)))
+
+  copy_lowers : (k : Codec C) (f : Flight C) (flights : List (Flight C)) (p : PathState C) → TakesTime p → p.link.under_way ≡ f ∷ flights → f.tick < p.until
+      → Lowers p (copy_taken k (due_of f) p)
+  copy_lowers k f flights p t is soon =
+      let first = copy_passes f flights p t is soon in
+      passes_on p (record (at_tick f.tick p) { link = after_delivery (due_of f) p.link }) (copy_taken k (due_of f) p) first
+      (copy_calm f.to (heard_in k f.to (arriving (due_of f) p.link) p) (record (at_tick f.tick p) { link = after_delivery (due_of f) p.link }) first.time)
+
+  -- ---- a timer
+
+  fire_passes : (s : Side) (tick : ℕ) (p : PathState C) → TakesTime p → (end_at s p).tcp.timing.timer ≡ Some tick → tick < p.until
+      → Passes p (timer_fired s (at_tick tick p))
+  fire_passes A tick p t is soon =
+      let was : due_timer p.clock p.a.tcp.timing.timer ≡ one_if_due p.clock tick = rw is refl in
+      passes_by p (timer_fired A (at_tick tick p)) tick soon refl refl
+      (λ same now. rw same (omega (arith, (fired_rests p.clock p.a.tcp t.timer_a).0, was, due_now p.clock tick now)))
+      (record { delay = t.delay; timer_a = (fired_rests (max p.clock tick) p.a.tcp t.timer_a).1; timer_b = t.timer_b })
+  fire_passes B tick p t is soon =
+      let was : due_timer p.clock p.b.tcp.timing.timer ≡ one_if_due p.clock tick = rw is refl in
+      passes_by p (timer_fired B (at_tick tick p)) tick soon refl refl
+      (λ same now. rw same (omega (arith, (fired_rests p.clock p.b.tcp t.timer_b).0, was, due_now p.clock tick now)))
+      (record { delay = t.delay; timer_a = t.timer_a; timer_b = (fired_rests (max p.clock tick) p.b.tcp t.timer_b).1 })
+
+  fire_lowers : (s : Side) (tick : ℕ) (p : PathState C) → TakesTime p → (end_at s p).tcp.timing.timer ≡ Some tick → tick < p.until
+      → Lowers p (timer_fired s (at_tick tick p))
+  fire_lowers s tick p t is soon =
+      let first = fire_passes s tick p t is soon in
+      passes_on p (timer_fired s (at_tick tick p)) (timer_fired s (at_tick tick p)) first
+      (record { ticks = omega arith; due = omega arith; time = first.time })
+
+  -- ---- the earliest
+
+  by_line : (k : Codec C) (p : PathState C) (lines : List LineLeft) (event : Event) → TakesTime p → p.lines ≡ lines → next_line lines ≡ Some event
+      → tick_of event < p.until → Lowers p (happens k event p)
+  by_line k p [] event t is e soon = cc
+  by_line k p (line ∷ lines) event t is e soon =
+      let same : Event.Takes line ≡ event = cc in
+      subst (λ x. tick_of x < p.until → Lowers p (happens k x p)) same (λ soon. line_lowers line lines p t is soon) soon
+
+  by_copy : (k : Codec C) (p : PathState C) (flights : List (Flight C)) (event : Event) → TakesTime p → p.link.under_way ≡ flights
+      → next_copy (next_due flights) ≡ Some event → tick_of event < p.until → Lowers p (happens k event p)
+  by_copy k p [] event t is e soon = cc
+  by_copy k p (f ∷ flights) event t is e soon =
+      let same : Event.Arrives (due_of f) ≡ event = cc in
+      subst (λ x. tick_of x < p.until → Lowers p (happens k x p)) same (λ soon. copy_lowers k f flights p t is soon) soon
+
+  by_timer : (k : Codec C) (s : Side) (p : PathState C) (timer : Option ℕ) (event : Event) → TakesTime p → (end_at s p).tcp.timing.timer ≡ timer
+      → next_fire s timer ≡ Some event → tick_of event < p.until → Lowers p (happens k event p)
+  by_timer k s p None event t is e soon = cc
+  by_timer k s p (Some tick) event t is e soon =
+      let same : Event.Fires s tick ≡ event = cc in
+      subst (λ x. tick_of x < p.until → Lowers p (happens k x p)) same (λ soon. fire_lowers s tick p t is soon) soon
+
+  pub event_lowers : (k : Codec C) (p : PathState C) → TakesTime p → is_some (next_event p) ≡ true → Lowers p (happens_if k (next_event p) p)
+  event_lowers k p t some = by (next_event p) refl some
+    where
+      chosen : (event : Event) → earliest p ≡ Some event → tick_of event < p.until → Lowers p (happens k event p)
+      chosen event e soon = ⊎_elim
+          (λ line. by_line k p p.lines event t refl line soon)
+          (λ others. ⊎_elim
+            (λ copy. by_copy k p p.link.under_way event t refl copy soon)
+            (λ timers. ⊎_elim
+              (λ a. by_timer k A p p.a.tcp.timing.timer event t refl a soon)
+              (λ b. by_timer k B p p.b.tcp.timing.timer event t refl b soon)
+              (one_of_both _ _ event timers))
+            (one_of_both _ _ event others))
+          (one_of_both _ _ event e)
+
+      by : (x : Option Event) → next_event p ≡ x → is_some x ≡ true → Lowers p (happens_if k x p)
+      by None is some = cc
+      by (Some event) is some = let found = soon_enough p.until (earliest p) event is in chosen event found.0 found.1

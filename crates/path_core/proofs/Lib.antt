@@ -1,0 +1,11 @@
+pub mod Falling
+pub mod Ranking
+pub mod Resting
+pub mod Passing
+pub mod Sendings
+pub mod Happening
+pub mod Lowering
+pub mod TurnEnds
+pub mod AppEnds
+pub mod Showing
+pub mod InKind

@@ -1,0 +1,313 @@
+-- Each reply of the asked kind lowers the numbers of a turn.
+use Rattle.std.proofs.Common.{◌≡◌, refl, sym, ap, ◌∙◌, subst, ℕ, zero, suc, ◌+◌, ◌-◌, ◌*◌, ◌<◌, ◌≤◌, ◌&&◌, not, nat_lt, nat_le, Bool, true, false, cond, if◌then◌else◌, List, [], ◌∷◌, ◌++◌, length, Option, Some, None, is_some, find, arith}
+use Rattle.std.proofs.lemmas.Bool.{leb-true}
+use Rattle.outside_kit.specs.declared.side.Side.{Side}
+use Rattle.outside_kit.specs.declared.side.Side.TheVariants.{A, B}
+use Rattle.path_segments.specs.Spelled.{PlainSegment}
+use Rattle.dss_mapping.specs.declared.kept.KeptMapping.{KeptMapping}
+use Rattle.dss_mapping.specs.Mappings.{mapping_at}
+use Rattle.send_book.specs.declared.call.SendReply.TheVariants as send_replies
+use Rattle.subflow_send.specs.Records.{Record}
+use Rattle.subflow_send.specs.declared.record.RecordKind.TheVariants.{Data}
+use Rattle.subflow_send.specs.Sendings.{never_sent}
+use Rattle.subflow_send.specs.Rules.{is_unsent}
+use Rattle.subflow_tcp.specs.Sizes.{room}
+use Rattle.subflow_tcp.specs.States.{may_finish}
+use Rattle.subflow_tcp.specs.declared.segments.Occasion.TheVariants as to_send
+use Rattle.send_book.specs.declared.call.SendCall.TheVariants as send_calls
+use Rattle.path_core.specs.declared.ask.Ask.{Ask}
+use Rattle.path_core.specs.declared.ask.Ask.TheVariants as asks
+use Rattle.path_core.specs.declared.ask.Reply.{Reply}
+use Rattle.path_core.specs.declared.ask.Reply.TheVariants as replies
+use Rattle.path_core.specs.declared.duty.Duty.{Duty}
+use Rattle.path_core.specs.declared.duty.Duty.TheVariants as duties
+use Rattle.path_core.specs.declared.heard.Heard.{Heard}
+use Rattle.path_core.specs.declared.heard.Heard.TheVariants as says
+use Rattle.path_core.specs.Agenda.{breaks, resets, leaves}
+use Rattle.path_core.specs.Breaking.{reset_of, reset_on, answered_break}
+use Rattle.path_core.specs.Codec.{Codec}
+use Rattle.path_core.specs.Duties.{stands, ask_for, answered, done}
+use Rattle.path_core.specs.Emission.{first_unsent, unsent_segment, having_sent_unsent, end_segment, having_sent_end, fin_segment_of, having_sent_fin, may_ask, data_stands, payload_size, grant_ask, data_ask, Grant, grant_in, granted, refused, answered_grant, answered_data}
+use Rattle.path_core.specs.Ends.{PathEnd}
+use Rattle.path_core.specs.Events.{died}
+use Rattle.path_core.specs.Kinds.{IsOfKind, IsSomeOf}
+use Rattle.path_core.specs.Opening.{syn_ack_of, key_heard, with_peer_key, keys_heard, after_keys}
+use Rattle.path_core.specs.Passing.{having_asked, piece_of, is_placed, placed, answered_piece, is_fin_set, with_peer_end, answered_fin_heard, after_rate, first_segment, answer_occasion, answer_of, dead_answer, resend_occasion, resend_of}
+use Rattle.path_core.specs.Passing as passing
+use Rattle.path_core.specs.Placing.{Piece, next_piece, after_piece}
+use Rattle.path_core.specs.Ranks.{weight, weights, bytes_left, held, outstanding, unsent_count, work, sendings_left}
+use Rattle.path_core.specs.Sends.{having_sent, sent_on}
+use Rattle.path_core.specs.Standing.{after_look, after_ack_out, answered_ack_out, ack_segment, acknowledges}
+use Rattle.path_core.specs.Segments.{mapping_of}
+use Rattle.path_core.specs.State.{PathState, Profile, end_at, with_agenda, goes_on, left, path_of}
+use Rattle.path_core.specs.Treating.{is_clash, after_verdict, is_acked, told_next, with_acked, answered_mapping, with_fin, answered_heard, answered_item, item_of}
+use Rattle.path_core.specs.Placing.{kept_of, with_learned}
+use Rattle.path_core.specs.Turns.{TakesTime}
+use Rattle.path_core.specs.Words.{replaced}
+use Rattle.path_core.proofs.Falling.{Then}
+use Rattle.path_core.proofs.Happening.{event_lowers}
+use Rattle.path_core.proofs.Ranking.{Rests, same_rests, goes_calm, sent_calm, agenda_calm, Rest, Lowers, lowers}
+use Rattle.path_core.proofs.Resting.{sent_same}
+use Rattle.path_core.proofs.Sendings.{sent_count, sent_outstanding, none_unsent, pushed_outstanding, pushed_count, filled_drop, Fits, piece_fits}
+
+-- the record of a granted piece
+abbrev pushed : Profile → Side → Grant → PathEnd → Record
+pushed c s grant e = record {
+  pos = e.tcp.send.nxt;
+  kind = Data;
+  piece = grant.piece;
+  mapping = mapping_of c s grant.span.from e.tcp.send.nxt grant.piece;
+  sending = never_sent;
+}
+
+-- a piece takes as many octets of room as it has, and is to be sent once
+granted_work : (c : Profile) (s : Side) (grant : Grant) (e : PathEnd) → first_unsent e ≡ None → IsSomeOf (payload_size c) grant.piece
+    → payload_size c ≤ room e.tcp → work (granted c s grant.span grant.piece e) < work e
+granted_work c s grant e none kind fits =
+    let idle = none_unsent e.tcp.send.records none in
+    let some : 1 ≤ length grant.piece = kind.some in
+    let most : length grant.piece ≤ payload_size c = kind.most in
+    omega (arith, some, most, fits, idle.0, idle.1, pushed_outstanding e.tcp.send.records (pushed c s grant e), pushed_count e.tcp.send.records (pushed c s grant e) refl)
+
+-- a granted piece is of the asked kind
+grant_kind : (path max : ℕ) (standby : Bool) (s : Side) (r : Reply) (grant : Grant) → grant_in r ≡ Some grant
+    → IsOfKind (asks.Send s (send_calls.Grant path max standby)) r → IsSomeOf max grant.piece
+grant_kind path max standby s (replies.Send (send_replies.Granted span piece)) grant e kind =
+    let same : piece ≡ grant.piece = cc in subst (IsSomeOf max) same kind.0
+grant_kind path max standby s (replies.Send (send_replies.Taken count)) grant e kind = cc
+grant_kind path max standby s (replies.Send send_replies.Closed) grant e kind = cc
+grant_kind path max standby s (replies.Send send_replies.Shut) grant e kind = cc
+grant_kind path max standby s (replies.Send (send_replies.NoGrant why known)) grant e kind = cc
+grant_kind path max standby s (replies.Send (send_replies.Acked bytes fin)) grant e kind = cc
+grant_kind path max standby s (replies.Send (send_replies.AckFuture written)) grant e kind = cc
+grant_kind path max standby s (replies.Send (send_replies.Returned count)) grant e kind = cc
+grant_kind path max standby s (replies.Send send_replies.Noted) grant e kind = cc
+grant_kind path max standby s (replies.Send (send_replies.Infinite from)) grant e kind = cc
+grant_kind path max standby s (replies.Send send_replies.Scattered) grant e kind = cc
+grant_kind path max standby s (replies.Reassembly reply) grant e kind = cc
+grant_kind path max standby s (replies.Control reply) grant e kind = cc
+grant_kind path max standby s replies.Done grant e kind = cc
+
+first_true : (x y : Bool) → (x && y) ≡ true → x ≡ true
+first_true true y both = refl
+first_true false y both = cc
+
+second_true : (x y : Bool) → (x && y) ≡ true → y ≡ true
+second_true true y both = both
+second_true false y both = cc
+
+-- what is asked for has room
+asked_fits : (c : Profile) (s : Side) (e : PathEnd) → may_ask c s e ≡ true → payload_size c ≤ room e.tcp
+asked_fits c s e may =
+    leb-true _ _ (first_true _ _ (second_true (may_finish e.tcp.state) _ may))
+
+module _ {C : Type 0} where
+  -- ---- by weight
+
+  pub left_less : (d : Duty) (ds : List Duty) (p : PathState C) → p.agenda ≡ d ∷ ds → weights (left p) < weights p.agenda
+  left_less d ds p is = rw is (omega arith)
+
+  goes_less : (s : Side) (e : PathEnd) (new : List Duty) (p : PathState C) → TakesTime p → Rests p.clock (end_at s p) e
+      → weights new < weights p.agenda → Lowers p (goes_on s e new p)
+  goes_less s e new p t rests less = lowers p (goes_on s e new p) (goes_calm s e new p t rests) (Then.Falls less)
+
+  sent_less : (k : Codec C) (s : Side) (segment : PlainSegment) (e : PathEnd) (new : List Duty) (p : PathState C) → TakesTime p
+      → Rests p.clock (end_at s p) e → weights new < weights p.agenda → Lowers p (sent_on k s segment e new p)
+  sent_less k s segment e new p t rests less = lowers p (sent_on k s segment e new p) (sent_calm k s segment e new p t rests) (Then.Falls less)
+
+  agenda_less : (new : List Duty) (p : PathState C) → TakesTime p → weights new < weights p.agenda → Lowers p (with_agenda new p)
+  agenda_less new p t less = lowers p (with_agenda new p) (agenda_calm new p t) (Then.Falls less)
+
+  acked_less : (k : Codec C) (s : Side) (p : PathState C) → TakesTime p → weights (left p) < weights p.agenda → Lowers p (acknowledges k s p)
+  acked_less k s p t less =
+      let e = end_at s p in let f : PathEnd = having_sent to_send.Ack p.clock (ack_segment s p) e in
+      sent_less k s (ack_segment s p) f (left p) p t (same_rests p.clock e f refl) less
+
+  -- ---- bytes that are placed
+
+  placed_less : (s : Side) (piece : Piece) (p : PathState C) → TakesTime p → next_piece p.profile (end_at s p) ≡ Some piece → Lowers p (placed s piece p)
+  placed_less A piece p t is =
+      let e = p.a in
+      let fits = piece_fits p.profile.spelling.checksums (mapping_at e.receiving.mappings e.tcp.recv.edge) e.tcp piece is in
+      let some : 1 ≤ length piece.octets = fits.some in
+      let count : e.tcp.recv.edge + length piece.octets - e.tcp.recv.edge ≡ length piece.octets = omega arith in
+      let fewer = filled_drop (length piece.octets) e.tcp.recv.places fits.within in
+      lowers p (placed A piece p) (goes_calm A (having_asked (after_piece piece e)) p.agenda p t (same_rests p.clock e (having_asked (after_piece piece e)) refl))
+      (Then.Stays (omega arith) (Then.Falls (rw count (omega (arith, some, fewer)))))
+  placed_less B piece p t is =
+      let e = p.b in
+      let fits = piece_fits p.profile.spelling.checksums (mapping_at e.receiving.mappings e.tcp.recv.edge) e.tcp piece is in
+      let some : 1 ≤ length piece.octets = fits.some in
+      let count : e.tcp.recv.edge + length piece.octets - e.tcp.recv.edge ≡ length piece.octets = omega arith in
+      let fewer = filled_drop (length piece.octets) e.tcp.recv.places fits.within in
+      lowers p (placed B piece p) (goes_calm B (having_asked (after_piece piece e)) p.agenda p t (same_rests p.clock e (having_asked (after_piece piece e)) refl))
+      (Then.Stays (omega arith) (Then.Falls (rw count (omega (arith, some, fewer)))))
+
+  refused_less : (s : Side) (p : PathState C) → TakesTime p → 12 ≤ weights p.agenda → Lowers p (passing.refused s p)
+  refused_less s p t heavy =
+      goes_less s (having_asked (end_at s p)) (breaks s 1) p t (same_rests p.clock (end_at s p) (having_asked (end_at s p)) refl) (omega (arith, heavy))
+
+  piece_lowers : (s : Side) (piece : Option Piece) (taken : Bool) (p : PathState C) → TakesTime p → 12 ≤ weights p.agenda
+      → next_piece p.profile (end_at s p) ≡ piece → Lowers p (answered_piece s piece taken p)
+  piece_lowers s None taken p t heavy is = refused_less s p t heavy
+  piece_lowers s (Some piece) true p t heavy is = placed_less s piece p t is
+  piece_lowers s (Some piece) false p t heavy is = refused_less s p t heavy
+
+  fin_lowers : (s : Side) (set : Bool) (p : PathState C) → TakesTime p → weights (left p) < weights p.agenda → 12 ≤ weights p.agenda
+      → Lowers p (answered_fin_heard s set p)
+  fin_lowers s true p t less heavy =
+      goes_less s (having_asked (with_peer_end (end_at s p))) (left p) p t
+      (same_rests p.clock (end_at s p) (having_asked (with_peer_end (end_at s p))) refl) less
+  fin_lowers s false p t less heavy = refused_less s p t heavy
+
+  -- ---- what is sent, and what is granted
+
+  unsent_less : (k : Codec C) (s : Side) (r : Record) (p : PathState C) → TakesTime p → first_unsent (end_at s p) ≡ Some r
+      → Lowers p (sent_on k s (unsent_segment s p) (having_sent_unsent s p) p.agenda p)
+  unsent_less k A r p t is =
+      lowers p (sent_on k A (unsent_segment A p) (having_sent_unsent A p) p.agenda p)
+      (sent_calm k A (unsent_segment A p) (having_sent_unsent A p) p.agenda p t (same_rests p.clock p.a (having_sent_unsent A p) refl))
+      (Then.Stays (omega arith) (Then.Stays (omega arith)
+      (omega (arith, sent_count p.clock p.a.tcp.send.records r is, sent_outstanding p.clock p.a.tcp.send.records))))
+  unsent_less k B r p t is =
+      lowers p (sent_on k B (unsent_segment B p) (having_sent_unsent B p) p.agenda p)
+      (sent_calm k B (unsent_segment B p) (having_sent_unsent B p) p.agenda p t (same_rests p.clock p.b (having_sent_unsent B p) refl))
+      (Then.Stays (omega arith) (Then.Stays (omega arith)
+      (omega (arith, sent_count p.clock p.b.tcp.send.records r is, sent_outstanding p.clock p.b.tcp.send.records))))
+
+  granted_less : (s : Side) (grant : Grant) (p : PathState C) → TakesTime p → first_unsent (end_at s p) ≡ None → IsSomeOf (payload_size p.profile) grant.piece
+      → payload_size p.profile ≤ room (end_at s p).tcp
+      → Lowers p (goes_on s (granted p.profile s grant.span grant.piece (end_at s p)) p.agenda p)
+  granted_less A grant p t none kind fits =
+      let e : PathEnd = granted p.profile A grant.span grant.piece p.a in
+      lowers p (goes_on A e p.agenda p) (goes_calm A e p.agenda p t (same_rests p.clock p.a e refl))
+      (Then.Stays (omega arith) (Then.Stays (omega arith) (omega (arith, granted_work p.profile A grant p.a none kind fits))))
+  granted_less B grant p t none kind fits =
+      let e : PathEnd = granted p.profile B grant.span grant.piece p.b in
+      lowers p (goes_on B e p.agenda p) (goes_calm B e p.agenda p t (same_rests p.clock p.b e refl))
+      (Then.Stays (omega arith) (Then.Stays (omega arith) (omega (arith, granted_work p.profile B grant p.b none kind fits))))
+
+  grant_lowers : (s : Side) (o : Option Grant) (r : Reply) (p : PathState C) → TakesTime p → weights (left p) < weights p.agenda
+      → grant_in r ≡ o → first_unsent (end_at s p) ≡ None → payload_size p.profile ≤ room (end_at s p).tcp → IsOfKind (grant_ask s p) r
+      → Lowers p (answered_grant s o r p)
+  grant_lowers s (Some grant) r p t less is none fits kind =
+      granted_less s grant p t none (grant_kind (path_of p) (payload_size p.profile) (end_at s p).modes.standby s r grant is kind) fits
+  grant_lowers s None r p t less is none fits kind =
+      goes_less s (refused r (end_at s p)) (left p) p t (same_rests p.clock (end_at s p) (refused r (end_at s p)) refl) less
+
+  data_lowers : (k : Codec C) (s : Side) (o : Option Record) (r : Reply) (p : PathState C) → TakesTime p → weights (left p) < weights p.agenda
+      → first_unsent (end_at s p) ≡ o → data_stands p.profile s (end_at s p) o ≡ true → IsOfKind (data_ask k s o p) r → Lowers p (answered_data k s o r p)
+  data_lowers k s (Some record_due) r p t less is stands kind = unsent_less k s record_due p t is
+  data_lowers k s None r p t less is stands kind =
+      grant_lowers s (grant_in r) r p t less refl is (asked_fits p.profile s (end_at s p) stands) kind
+
+  -- ---- breaks, and what a copy says
+
+  reset_less : (k : Codec C) (s : Side) (reason : Option ℕ) (new : List Duty) (p : PathState C) → TakesTime p → weights new < weights p.agenda
+      → Lowers p (reset_on k s reason new p)
+  reset_less k s reason new p t less =
+      sent_less k s (reset_of s reason p) (died (end_at s p)) new p t (record { due = omega arith; timeout = λ some. some }) less
+
+  break_lowers : (k : Codec C) (s : Side) (reason : ℕ) (r : Reply) (p : PathState C) → TakesTime p → 12 ≤ weights p.agenda
+      → Lowers p (answered_break k s reason r p)
+  break_lowers k s reason r p t heavy = by (end_at s p).treated.asked
+    where
+      by : (b : Bool) → Lowers p (if b then answered_ack_out s r (resets s reason) p else reset_on k s (Some reason) (leaves s) p)
+      by true = goes_less s (after_ack_out r (end_at s p)) (resets s reason) p t (same_rests p.clock (end_at s p) (after_ack_out r (end_at s p)) refl) (omega (arith, heavy))
+      by false = reset_less k s (Some reason) (leaves s) p t (omega (arith, heavy))
+
+  mapping_lowers : (k : Codec C) (s : Side) (kept : KeptMapping) (r : Reply) (p : PathState C) → TakesTime p → weights (left p) < weights p.agenda
+      → 12 ≤ weights p.agenda → Lowers p (answered_mapping k s kept r p)
+  mapping_lowers k s kept r p t less heavy = by (is_clash kept (end_at s p))
+    where
+      by : (b : Bool) → Lowers p (if b then answered_break k s 1 r p else goes_on s (with_learned kept (after_verdict r (end_at s p))) (left p) p)
+      by true = break_lowers k s 1 r p t heavy
+      by false = goes_less s (with_learned kept (after_verdict r (end_at s p))) (left p) p t
+          (same_rests p.clock (end_at s p) (with_learned kept (after_verdict r (end_at s p))) refl) less
+
+  told_less : (s : Side) (covers : Bool) (p : PathState C) → weights (left p) < weights p.agenda → weights (replaced (duties.AckHeard s) p.agenda) < weights p.agenda
+      → weights (told_next s covers p) < weights p.agenda
+  told_less s true p less next = next
+  told_less s false p less next = less
+
+  heard_lowers : (k : Codec C) (s : Side) (item : Option Heard) (r : Reply) (p : PathState C) → TakesTime p → weights (left p) < weights p.agenda
+      → weights (replaced (duties.AckHeard s) p.agenda) < weights p.agenda → 12 ≤ weights p.agenda → Lowers p (answered_item k s item r p)
+  heard_lowers k s None r p t less next heavy = agenda_less (left p) p t less
+  heard_lowers k s (Some says.Dss) r p t less next heavy = agenda_less (left p) p t less
+  heard_lowers k s (Some (says.DataAck place window)) r p t less next heavy =
+      goes_less s (with_acked place r (end_at s p)) (told_next s (is_acked r && nat_lt 0 place) p) p t
+      (same_rests p.clock (end_at s p) (with_acked place r (end_at s p)) refl) (told_less s (is_acked r && nat_lt 0 place) p less next)
+  heard_lowers k s (Some (says.Mapping place position len checksum)) r p t less next heavy =
+      mapping_lowers k s (kept_of p.profile s place position len checksum) r p t less heavy
+  heard_lowers k s (Some (says.DataFin place)) r p t less next heavy =
+      goes_less s (with_fin place (after_verdict r (end_at s p))) (left p) p t
+      (same_rests p.clock (end_at s p) (with_fin place (after_verdict r (end_at s p))) refl) less
+  heard_lowers k s (Some (says.PeerKey key)) r p t less next heavy = agenda_less (left p) p t less
+  heard_lowers k s (Some (says.Keys own peer)) r p t less next heavy =
+      goes_less s (after_keys r (Some (record { own = own; peer = peer })) (end_at s p)) (left p) p t
+      (same_rests p.clock (end_at s p) (after_keys r (Some (record { own = own; peer = peer })) (end_at s p)) refl) less
+
+  -- ---- every duty
+
+  pub answered_lowers : (k : Codec C) (d : Duty) (ds : List Duty) (r : Reply) (p : PathState C) → TakesTime p → p.agenda ≡ d ∷ ds → stands d p ≡ true
+      → IsOfKind (ask_for k d p) r → Lowers p (answered k d r p)
+  answered_lowers k (duties.Look s) ds r p t is stands kind =
+      goes_less s (after_look r (end_at s p)) (left p) p t (same_rests p.clock (end_at s p) (after_look r (end_at s p)) refl) (left_less _ ds p is)
+  answered_lowers k (duties.Window s) ds r p t is stands kind =
+      goes_less s (after_ack_out r (end_at s p)) (left p) p t (same_rests p.clock (end_at s p) (after_ack_out r (end_at s p)) refl) (left_less _ ds p is)
+  answered_lowers k (duties.Update s) ds r p t is stands kind = acked_less k s p t (left_less _ ds p is)
+  answered_lowers k (duties.Syn s) ds r p t is stands kind =
+      sent_less k s (unsent_segment s p) (having_sent_unsent s p) (left p) p t (same_rests p.clock (end_at s p) (having_sent_unsent s p) refl) (left_less _ ds p is)
+  answered_lowers k (duties.Data s) ds r p t is stands kind = data_lowers k s (first_unsent (end_at s p)) r p t (left_less _ ds p is) refl stands kind
+  answered_lowers k (duties.DataFin s) ds r p t is stands kind =
+      sent_less k s (end_segment s p) (having_sent_end s p) (left p) p t (same_rests p.clock (end_at s p) (having_sent_end s p) refl) (left_less _ ds p is)
+  answered_lowers k (duties.Fin s) ds r p t is stands kind =
+      sent_less k s (fin_segment_of s p) (having_sent_fin s p) (left p) p t (same_rests p.clock (end_at s p) (having_sent_fin s p) refl) (left_less _ ds p is)
+  answered_lowers k (duties.Timer s) ds r p t is stands kind = agenda_less (left p) p t (left_less _ ds p is)
+  answered_lowers k duties.Events ds r p t is stands kind = event_lowers k p t stands
+  answered_lowers k (duties.SynHeard s) ds r p t is stands kind = agenda_less (left p) p t (left_less _ ds p is)
+  answered_lowers k (duties.SynAnswered s) ds r p t is stands kind = agenda_less (left p) p t (left_less _ ds p is)
+  answered_lowers k (duties.PeerKey s) ds r p t is stands kind =
+      let e = end_at s p in let f : PathEnd = with_peer_key (key_heard e.treated.items) e in
+      goes_less s f (left p) p t (same_rests p.clock e f refl) (left_less _ ds p is)
+  answered_lowers k (duties.SynAck s) ds r p t is stands kind =
+      let e = end_at s p in let f : PathEnd = having_sent to_send.SynAck p.clock (syn_ack_of s p) e in
+      sent_less k s (syn_ack_of s p) f (left p) p t (same_rests p.clock e f refl) (left_less _ ds p is)
+  answered_lowers k (duties.Opened s) ds r p t is stands kind =
+      let e = end_at s p in let f : PathEnd = after_keys r (keys_heard e.treated.items) e in
+      goes_less s f (left p) p t (same_rests p.clock e f refl) (left_less _ ds p is)
+  answered_lowers k (duties.Live s) ds r p t is stands kind = agenda_less (left p) p t (left_less _ ds p is)
+  answered_lowers k (duties.Heard s index) ds r p t is stands kind =
+      heard_lowers k s (item_of index (end_at s p)) r p t (left_less _ ds p is) (rw is (omega arith)) (rw is (omega arith))
+  answered_lowers k (duties.AckHeard s) ds r p t is stands kind =
+      goes_less s (after_verdict r (end_at s p)) (left p) p t (same_rests p.clock (end_at s p) (after_verdict r (end_at s p)) refl) (left_less _ ds p is)
+  answered_lowers k (duties.Keep s) ds r p t is stands kind = agenda_less (left p) p t (left_less _ ds p is)
+  answered_lowers k (duties.Edge s) ds r p t is stands kind = piece_lowers s (piece_of s p) (is_placed r) p t (rw is (omega arith)) refl
+  answered_lowers k (duties.HeardFin s index) ds r p t is stands kind =
+      fin_lowers s (is_fin_set r) p t (left_less _ ds p is) (rw is (omega arith))
+  answered_lowers k (duties.PassFin s) ds r p t is stands kind = agenda_less (left p) p t (left_less _ ds p is)
+  answered_lowers k (duties.AckOut s) ds r p t is stands kind =
+      goes_less s (after_ack_out r (end_at s p)) (left p) p t (same_rests p.clock (end_at s p) (after_ack_out r (end_at s p)) refl) (left_less _ ds p is)
+  answered_lowers k (duties.Rate s) ds r p t is stands kind =
+      let e = end_at s p in let f : PathEnd = after_rate (path_of p) p.profile.mss r e in
+      goes_less s f (left p) p t (same_rests p.clock e f refl) (left_less _ ds p is)
+  answered_lowers k (duties.Acknowledge s) ds r p t is stands kind = acked_less k s p t (left_less _ ds p is)
+  answered_lowers k (duties.Again s) ds r p t is stands kind =
+      let e = end_at s p in let f : PathEnd = having_sent to_send.First p.clock (first_segment s p) e in
+      sent_less k s (first_segment s p) f (left p) p t (same_rests p.clock e f refl) (left_less _ ds p is)
+  answered_lowers k (duties.Answer s) ds r p t is stands kind =
+      let e = end_at s p in let f : PathEnd = having_sent (answer_occasion e) p.clock (answer_of s p) e in
+      sent_less k s (answer_of s p) f (left p) p t (same_rests p.clock e f (sent_same (answer_occasion e) p.clock e.tcp)) (left_less _ ds p is)
+  answered_lowers k (duties.ResetAnswer s) ds r p t is stands kind =
+      sent_less k s (dead_answer s p) (end_at s p) (left p) p t (same_rests p.clock (end_at s p) (end_at s p) refl) (left_less _ ds p is)
+  answered_lowers k (duties.Return s) ds r p t is stands kind = agenda_less (left p) p t (left_less _ ds p is)
+  answered_lowers k (duties.Resend s) ds r p t is stands kind =
+      let e = end_at s p in let f : PathEnd = having_sent (resend_occasion e) p.clock (resend_of s p) e in
+      sent_less k s (resend_of s p) f (left p) p t (same_rests p.clock e f (sent_same (resend_occasion e) p.clock e.tcp)) (left_less _ ds p is)
+  answered_lowers k (duties.BreakAck s reason) ds r p t is stands kind =
+      goes_less s (after_ack_out r (end_at s p)) (resets s reason) p t (same_rests p.clock (end_at s p) (after_ack_out r (end_at s p)) refl) (rw is (omega arith))
+  answered_lowers k (duties.BreakReset s reason) ds r p t is stands kind = reset_less k s (Some reason) (leaves s) p t (rw is (omega arith))
+  answered_lowers k (duties.Reset s) ds r p t is stands kind = reset_less k s None (leaves s) p t (rw is (omega arith))
+  answered_lowers k (duties.Leave s) ds r p t is stands kind = agenda_less (replaced (duties.Dead s) p.agenda) p t (rw is (omega arith))
+  answered_lowers k (duties.Dead s) ds r p t is stands kind = agenda_less (left p) p t (left_less _ ds p is)
+  answered_lowers k duties.End ds r p t is stands kind = agenda_less [] p t (rw is (omega arith))

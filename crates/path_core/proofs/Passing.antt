@@ -1,0 +1,121 @@
+-- Duties that are passed: the first two numbers don't rise, and the third falls.
+use Rattle.std.proofs.Common.{◌≡◌, refl, ap, ℕ, ◌+◌, ◌<◌, ◌≤◌, ◌⊎◌, inl, inr, Bool, true, false, cond, if◌then◌else◌, List, [], ◌∷◌, Option, Some, None, arith}
+use Rattle.outside_kit.specs.declared.side.Side.{Side}
+use Rattle.outside_kit.specs.declared.side.Side.TheVariants.{A, B}
+use Rattle.dss_mapping.specs.Mappings.{mapping_at}
+use Rattle.subflow_tcp.specs.Closing.{is_fin_next}
+use Rattle.subflow_tcp.specs.Expiring.{is_timed}
+use Rattle.path_core.specs.declared.duty.Duty.{Duty}
+use Rattle.path_core.specs.declared.duty.Duty.TheVariants as duties
+use Rattle.path_core.specs.Closing.{is_waiting}
+use Rattle.path_core.specs.Duties.{stands, passed}
+use Rattle.path_core.specs.Emission.{after_timer}
+use Rattle.path_core.specs.Ends.{PathEnd}
+use Rattle.path_core.specs.Passing.{after_pass_fin}
+use Rattle.path_core.specs.Placing.{after_check}
+use Rattle.path_core.specs.Ranks.{weights}
+use Rattle.path_core.specs.State.{PathState, end_at, with_end, with_agenda}
+use Rattle.path_core.specs.Steps.{settled}
+use Rattle.path_core.specs.Treating.{item_of, item_passed, after_keep}
+use Rattle.path_core.specs.Turns.{TakesTime}
+use Rattle.path_core.proofs.Ranking.{Rests, same_rests, Calm}
+use Rattle.path_core.proofs.Resting.{to_rests, item_same, keep_same, check_same, pass_fin_same, settled_settles}
+
+module _ {C : Type 0} where
+  end_calm : (s : Side) (e : PathEnd) (p : PathState C) → TakesTime p → Rests p.clock (end_at s p) e → Calm p (with_end s e p)
+  end_calm A e p t rests = record {
+    ticks = omega arith;
+    due = omega (arith, rests.due);
+    time = record { delay = t.delay; timer_a = rests.timeout t.timer_a; timer_b = t.timer_b };
+  }
+  end_calm B e p t rests = record {
+    ticks = omega arith;
+    due = omega (arith, rests.due);
+    time = record { delay = t.delay; timer_a = t.timer_a; timer_b = rests.timeout t.timer_b };
+  }
+
+  timeout_at : (s : Side) (p : PathState C) → TakesTime p → 1 ≤ (end_at s p).tcp.timing.rtt.rto
+  timeout_at A p t = t.timer_a
+  timeout_at B p t = t.timer_b
+
+  unchanged : (p : PathState C) → TakesTime p → Calm p p
+  unchanged p t = record { ticks = omega arith; due = omega arith; time = t }
+
+  pub then_calm : (p q r : PathState C) → Calm p q → Calm q r → Calm p r
+  then_calm p q r x y = record { ticks = omega (arith, x.ticks, y.ticks); due = omega (arith, x.due, y.due); time = y.time }
+
+  passed_calm : (d : Duty) (p : PathState C) → TakesTime p → Calm p (passed d p)
+  passed_calm (duties.Timer s) p t =
+      let e = end_at s p in
+      end_calm s (after_timer p.clock e) p t
+      (to_rests p.clock e (after_timer p.clock e)
+      (settled_settles p.clock (is_timed (is_waiting e.sending) e.tcp) e.sending.news e.tcp.timing (timeout_at s p t)))
+  passed_calm (duties.Heard s index) p t =
+      let e = end_at s p in
+      let f : PathEnd = item_passed p.profile s (item_of index e) e in
+      end_calm s f p t (same_rests p.clock e f (ap (λ tcp. tcp.timing) (item_same p.profile s (item_of index e) e)))
+  passed_calm (duties.Keep s) p t =
+      let e = end_at s p in end_calm s (after_keep s e) p t (same_rests p.clock e (after_keep s e) (keep_same s e))
+  passed_calm (duties.Edge s) p t =
+      let e = end_at s p in
+      end_calm s (after_check p.profile e) p t
+      (same_rests p.clock e (after_check p.profile e) (check_same p.profile.spelling.checksums (mapping_at e.receiving.mappings e.tcp.recv.edge) e))
+  passed_calm (duties.PassFin s) p t =
+      let e = end_at s p in
+      end_calm s (after_pass_fin e) p t (same_rests p.clock e (after_pass_fin e) (pass_fin_same (is_fin_next e.tcp) e.tcp))
+  passed_calm (duties.Look s) p t = unchanged p t
+  passed_calm (duties.Window s) p t = unchanged p t
+  passed_calm (duties.Update s) p t = unchanged p t
+  passed_calm (duties.Syn s) p t = unchanged p t
+  passed_calm (duties.Data s) p t = unchanged p t
+  passed_calm (duties.DataFin s) p t = unchanged p t
+  passed_calm (duties.Fin s) p t = unchanged p t
+  passed_calm duties.Events p t = unchanged p t
+  passed_calm (duties.SynHeard s) p t = unchanged p t
+  passed_calm (duties.SynAnswered s) p t = unchanged p t
+  passed_calm (duties.PeerKey s) p t = unchanged p t
+  passed_calm (duties.SynAck s) p t = unchanged p t
+  passed_calm (duties.Opened s) p t = unchanged p t
+  passed_calm (duties.Live s) p t = unchanged p t
+  passed_calm (duties.AckHeard s) p t = unchanged p t
+  passed_calm (duties.HeardFin s index) p t = unchanged p t
+  passed_calm (duties.AckOut s) p t = unchanged p t
+  passed_calm (duties.Rate s) p t = unchanged p t
+  passed_calm (duties.Acknowledge s) p t = unchanged p t
+  passed_calm (duties.Again s) p t = unchanged p t
+  passed_calm (duties.Answer s) p t = unchanged p t
+  passed_calm (duties.ResetAnswer s) p t = unchanged p t
+  passed_calm (duties.Return s) p t = unchanged p t
+  passed_calm (duties.Resend s) p t = unchanged p t
+  passed_calm (duties.BreakAck s reason) p t = unchanged p t
+  passed_calm (duties.BreakReset s reason) p t = unchanged p t
+  passed_calm (duties.Reset s) p t = unchanged p t
+  passed_calm (duties.Leave s) p t = unchanged p t
+  passed_calm (duties.Dead s) p t = unchanged p t
+  passed_calm duties.End p t = unchanged p t
+
+  -- ---- settling
+
+  -- either nothing was passed, or the weight fell
+  pub settled_lower : (ds : List Duty) (p : PathState C) → TakesTime p
+      → ((weights (settled ds p).agenda < weights ds) × Calm p (settled ds p)) ⊎ (settled ds p ≡ with_agenda ds p)
+  settled_lower [] p t = inr refl
+  settled_lower (d ∷ ds) p t = by (stands d p) (settled_lower ds (passed d p) (passed_calm d p t).time)
+    where
+      calm : Calm p (passed d p)
+      calm = passed_calm d p t
+
+      more : ((weights (settled ds (passed d p)).agenda < weights ds) × Calm (passed d p) (settled ds (passed d p)))
+          ⊎ (settled ds (passed d p) ≡ with_agenda ds (passed d p))
+          → (weights (settled ds (passed d p)).agenda < weights (d ∷ ds)) × Calm p (settled ds (passed d p))
+      more (inl rest) = (omega (arith, rest.0), then_calm p (passed d p) (settled ds (passed d p)) calm rest.1)
+      more (inr same) = rw same (omega arith, record { ticks = calm.ticks; due = calm.due; time = record { delay = calm.time.delay; timer_a = calm.time.timer_a; timer_b = calm.time.timer_b } })
+
+      by : (b : Bool)
+          → ((weights (settled ds (passed d p)).agenda < weights ds) × Calm (passed d p) (settled ds (passed d p)))
+          ⊎ (settled ds (passed d p) ≡ with_agenda ds (passed d p))
+          → ((weights (if b then with_agenda (d ∷ ds) p else settled ds (passed d p)).agenda < weights (d ∷ ds))
+          × Calm p (if b then with_agenda (d ∷ ds) p else settled ds (passed d p)))
+          ⊎ ((if b then with_agenda (d ∷ ds) p else settled ds (passed d p)) ≡ with_agenda (d ∷ ds) p)
+      by true rest = inr refl
+      by false rest = inl (more rest)

@@ -1,0 +1,161 @@
+-- Which changes of an end leave its timer at rest: none that is due is set, and the timeout takes time.
+use Rattle.std.proofs.Common.{◌≡◌, refl, ap, ℕ, ◌+◌, ◌*◌, ◌<◌, ◌≤◌, min, max, Bool, true, false, cond, if◌then◌else◌, ◌||◌, is_none, List, [], ◌∷◌, Option, Some, None, arith}
+use Rattle.outside_kit.specs.declared.side.Side.{Side}
+use Rattle.rtt_timer.specs.Timer.{Timer}
+use Rattle.rtt_timer.specs.Rules as rtt
+use Rattle.loss_recovery.specs.declared.timers.Timing.{Timing}
+use Rattle.loss_recovery.specs.Timers as timers
+use Rattle.dss_mapping.specs.declared.kept.KeptMapping.{KeptMapping}
+use Rattle.subflow_send.specs.declared.record.AckKind.{AckKind}
+use Rattle.subflow_send.specs.declared.record.AckKind.TheVariants.{New, Duplicate, Old, Future}
+use Rattle.subflow_send.specs.Rules.{ack_kind, sample_of, after_acknowledge}
+use Rattle.subflow_recv.specs.Receiving.{after_forget_from}
+use Rattle.subflow_tcp.specs.declared.handshake.State.TheVariants.{Established}
+use Rattle.subflow_tcp.specs.declared.segments.Hint.{Hint}
+use Rattle.subflow_tcp.specs.declared.segments.Occasion.{Occasion}
+use Rattle.subflow_tcp.specs.declared.segments.Occasion.TheVariants as to_send
+use Rattle.subflow_tcp.specs.declared.verdicts.Meaning.{Meaning}
+use Rattle.subflow_tcp.specs.declared.verdicts.Meaning.TheVariants as means
+use Rattle.subflow_tcp.specs.Closing.{after_owing, is_fin_next, after_passing_fin}
+use Rattle.subflow_tcp.specs.Emitting.{after_sending}
+use Rattle.subflow_tcp.specs.Expiring.{is_sixth, is_timed, after_settling, after_fire, after_expiry}
+use Rattle.subflow_tcp.specs.Segments.{Copy}
+use Rattle.subflow_tcp.specs.State.{EndState}
+use Rattle.subflow_tcp.specs.Taking.{after_arrival, after_payload, after_hearing, after_established, after_acknowledgement, after_ack_kind, is_duplicate, told_by, after_duplicate, after_interruption, after_death}
+use Rattle.path_core.specs.Arriving.{owing_if}
+use Rattle.path_core.specs.declared.heard.Heard.{Heard}
+use Rattle.path_core.specs.declared.heard.Heard.TheVariants as says
+use Rattle.path_core.specs.Ends.{PathEnd, Payload}
+use Rattle.path_core.specs.Placing.{is_wrong, forgotten_by, kept_of, with_learned}
+use Rattle.path_core.specs.Ranks.{one_if_due, due_timer}
+use Rattle.path_core.specs.State.{Profile}
+use Rattle.path_core.specs.Treating.{counts, with_fin, item_passed, kept_payload, is_dropped, without_payload, after_keep}
+use Rattle.path_core.proofs.Ranking.{Rests, late_isn't}
+
+-- ---- timings
+
+pub record Settles (clock : ℕ) (t u : Timing) : Type 0 where
+  pub due : due_timer clock u.timer ≤ due_timer clock t.timer
+  pub timeout : 1 ≤ t.rtt.rto → 1 ≤ u.rtt.rto
+
+pub to_rests : (clock : ℕ) (e f : PathEnd) → Settles clock e.tcp.timing f.tcp.timing → Rests clock e f
+to_rests clock e f settles = record { due = settles.due; timeout = settles.timeout }
+
+pub same_settles : (clock : ℕ) (t u : Timing) → u ≡ t → Settles clock t u
+same_settles clock t u same = record { due = rw same (omega arith); timeout = λ some. rw same some }
+
+-- ---- sendings
+
+pub sent_same : (occasion : Occasion) (now : ℕ) (s : EndState) → (after_sending occasion now s).timing ≡ s.timing
+sent_same to_send.Reset now s = refl
+sent_same to_send.Answer now s = refl
+sent_same to_send.SynAck now s = refl
+sent_same to_send.Ack now s = refl
+sent_same to_send.Probe now s = refl
+sent_same to_send.First now s = refl
+sent_same to_send.Unsent now s = refl
+sent_same to_send.Fin now s = refl
+
+-- ---- arrivals
+
+sampled_time : (since : Option ℕ) (now : ℕ) (rtt : Timer) → 1 ≤ rtt.rto → 1 ≤ (timers.sampled since now rtt).rto
+sampled_time None now rtt some = some
+sampled_time (Some first) now rtt some = omega arith
+
+kind_settles : (clock : ℕ) (kind : AckKind) (since : Option ℕ) (now : ℕ) (s : EndState) → Settles clock s.timing (after_ack_kind kind since now s).timing
+kind_settles clock (New octets) since now s = record { due = omega arith; timeout = sampled_time since now s.timing.rtt }
+kind_settles clock Duplicate since now s = record { due = omega arith; timeout = λ some. some }
+kind_settles clock Old since now s = record { due = omega arith; timeout = λ some. some }
+kind_settles clock Future since now s = record { due = omega arith; timeout = λ some. some }
+
+row_settles : (clock : ℕ) (b : Bool) (t : Timing) (s : EndState) → Settles clock t s.timing
+    → Settles clock t (if b then after_duplicate s else after_interruption s).timing
+row_settles clock true t s settles = record { due = settles.due; timeout = settles.timeout }
+row_settles clock false t s settles = record { due = settles.due; timeout = settles.timeout }
+
+pub arrival_settles : (clock : ℕ) (meaning : Meaning) (hint : Hint) (now : ℕ) (c : Copy) (s : EndState)
+    → Settles clock s.timing (after_arrival meaning hint now c s).timing
+arrival_settles clock means.Ignored hint now c s = record { due = omega arith; timeout = λ some. some }
+arrival_settles clock means.Unwanted hint now c s = record { due = omega arith; timeout = λ some. some }
+arrival_settles clock means.Opens hint now c s = record { due = omega arith; timeout = λ some. some }
+arrival_settles clock (means.Accepts acknowledged) hint now c s =
+    let opened : EndState = record (after_hearing (after_payload 1 hint c s)) { state = Established } in
+    let kind = kind_settles clock (ack_kind acknowledged s.send) (sample_of acknowledged s.send) now (record opened { send = after_acknowledge acknowledged s.send }) in
+    record { due = kind.due; timeout = kind.timeout }
+arrival_settles clock means.RepeatedSyn hint now c s = record { due = omega arith; timeout = λ some. some }
+arrival_settles clock means.Outside hint now c s = record { due = omega arith; timeout = λ some. some }
+arrival_settles clock means.Kills hint now c s = record { due = omega arith; timeout = λ some. some }
+arrival_settles clock means.Challenged hint now c s = record { due = omega arith; timeout = λ some. some }
+arrival_settles clock means.Unacknowledging hint now c s = record { due = omega arith; timeout = λ some. some }
+arrival_settles clock means.Ahead hint now c s = record { due = omega arith; timeout = λ some. some }
+arrival_settles clock (means.Taken pos acknowledged) hint now c s =
+    let base : EndState = after_established (after_hearing (after_payload pos hint c s)) in
+    let kind = kind_settles clock (ack_kind acknowledged s.send) (sample_of acknowledged s.send) now (record base { send = after_acknowledge acknowledged s.send }) in
+    let row = row_settles clock (is_duplicate (ack_kind acknowledged s.send) (told_by hint c) c (after_acknowledgement acknowledged now base))
+        s.timing (after_acknowledgement acknowledged now base) (record { due = kind.due; timeout = kind.timeout }) in
+    record { due = row.due; timeout = row.timeout }
+
+pub owing_settles : (clock : ℕ) (owing : Bool) (t : Timing) (s : EndState) → Settles clock t s.timing → Settles clock t (owing_if owing s).timing
+owing_settles clock true t s settles = record { due = settles.due; timeout = settles.timeout }
+owing_settles clock false t s settles = record { due = settles.due; timeout = settles.timeout }
+
+-- ---- timers
+
+later_isn't : (now rto : ℕ) → 1 ≤ rto → one_if_due now (now + rto) ≡ 0
+later_isn't now rto some = late_isn't now (now + rto) (omega (arith, some))
+
+-- a timer that ran out isn't due any more
+pub fired_rests : (now : ℕ) (s : EndState) → 1 ≤ s.timing.rtt.rto
+    → (due_timer now (after_fire now s).timing.timer ≡ 0) × (1 ≤ (after_fire now s).timing.rtt.rto)
+fired_rests now s some = by (is_sixth s)
+  where
+    by : (b : Bool) → (due_timer now (if b then after_death true s else after_expiry now s).timing.timer ≡ 0)
+        × (1 ≤ (if b then after_death true s else after_expiry now s).timing.rtt.rto)
+    by true = (refl, some)
+    by false = (later_isn't now (min 60000 (2 * s.timing.rtt.rto)) (omega (arith, some)), omega (arith, some))
+
+pub settled_settles : (now : ℕ) (reason restart : Bool) (t : Timing) → 1 ≤ t.rtt.rto → Settles now t (timers.settled reason restart now t)
+settled_settles now reason restart t some = record { due = by reason (is_none t.timer || (t.news || restart)); timeout = λ more. more }
+  where
+    by : (reason anew : Bool)
+        → due_timer now (if reason then (if anew then Some (now + t.rtt.rto) else t.timer) else None) ≤ due_timer now t.timer
+    by false anew = omega arith
+    by true true = omega (arith, later_isn't now t.rtt.rto some)
+    by true false = omega arith
+
+-- ---- what is passed in silence
+
+either_same : (b : Bool) (f e : PathEnd) → f.tcp ≡ e.tcp → (if b then f else e).tcp ≡ e.tcp
+either_same true f e same = same
+either_same false f e same = refl
+
+either_timed : (b : Bool) (f e : PathEnd) → f.tcp.timing ≡ e.tcp.timing → (if b then f else e).tcp.timing ≡ e.tcp.timing
+either_timed true f e same = same
+either_timed false f e same = refl
+
+pub item_same : (c : Profile) (s : Side) (item : Option Heard) (e : PathEnd) → (item_passed c s item e).tcp ≡ e.tcp
+item_same c s None e = refl
+item_same c s (Some says.Dss) e = refl
+item_same c s (Some (says.DataAck next window)) e = refl
+item_same c s (Some (says.Mapping place position len checksum)) e =
+    either_same (counts e) (with_learned (kept_of c s place position len checksum) e) e refl
+item_same c s (Some (says.DataFin place)) e = either_same (counts e) (with_fin place e) e refl
+item_same c s (Some (says.PeerKey key)) e = refl
+item_same c s (Some (says.Keys own peer)) e = refl
+
+pub keep_same : (s : Side) (e : PathEnd) → (after_keep s e).tcp.timing ≡ e.tcp.timing
+keep_same s e = by (is_dropped s e) e.treated.payload
+  where
+    by : (b : Bool) (payload : Option Payload) → (without_payload (if b then e else kept_payload payload e)).tcp.timing ≡ e.tcp.timing
+    by true payload = refl
+    by false None = refl
+    by false (Some payload) = refl
+
+pub check_same : (checksums : Bool) (kept : Option KeptMapping) (e : PathEnd) → (forgotten_by checksums kept e).tcp.timing ≡ e.tcp.timing
+check_same checksums None e = refl
+check_same checksums (Some kept) e =
+    either_timed (is_wrong checksums kept e.tcp) (record e { tcp = record e.tcp { recv = after_forget_from kept.pos e.tcp.recv } }) e refl
+
+pub pass_fin_same : (b : Bool) (s : EndState) → (if b then after_passing_fin s else s).timing ≡ s.timing
+pass_fin_same true s = refl
+pass_fin_same false s = refl

@@ -1,0 +1,417 @@
+-- A path over octets is the path over values, shown: one clause for each duty.
+use Rattle.std.proofs.lemmas.List.{length-map, take-map, drop-map, map-append}
+use Rattle.std.specs.List.{position_or_len}
+use Rattle.std.proofs.Common.{◌≡◌, refl, sym, ap, ◌∙◌, ℕ, zero, suc, ◌+◌, nat_lt, not, ◌&&◌, Bool, true, false, cond, if◌then◌else◌, List, [], ◌∷◌, map, Option, Some, None, find, position, remove, is_some}
+use Rattle.std.specs.Option.{option_map}
+use Rattle.outside_kit.specs.declared.side.Side.{Side}
+use Rattle.outside_kit.specs.declared.side.Side.TheVariants.{A, B}
+use Rattle.link_model.specs.declared.flight.Due.{Due}
+use Rattle.link_model.specs.declared.flight.Flight.{Flight}
+use Rattle.link_model.specs.Laws.{shown, shown_flight}
+use Rattle.link_model.specs.State.{LinkState}
+use Rattle.link_model.specs.Steps.{taken, next_number, peer, is_due, next_due, arriving, after_delivery, without, after_send}
+use Rattle.link_model.proofs.Shown.{sent_shown}
+use Rattle.path_segments.specs.declared.spelling.Spelling.{Spelling}
+use Rattle.path_segments.specs.Spelled.{PlainSegment}
+use Rattle.path_core.specs.declared.ask.Ask.{Ask}
+use Rattle.path_core.specs.declared.ask.Reply.{Reply}
+use Rattle.path_core.specs.declared.duty.Duty.{Duty}
+use Rattle.path_core.specs.declared.duty.Duty.TheVariants as duties
+use Rattle.path_core.specs.Duties.{stands, ask_for, passed, answered}
+use Rattle.path_segments.proofs.SegmentsAgain.{heard_as_meant}
+use Rattle.path_core.specs.Arriving.{expected_by}
+use Rattle.path_core.specs.Codec.{HeardSegment}
+use Rattle.path_core.specs.Segments.{spelled_by}
+use Rattle.path_core.specs.Words.{tail_of}
+use Rattle.subflow_tcp.specs.declared.segments.Occasion.TheVariants as to_send
+use Rattle.path_core.specs.Events.{is_death, after_line, at_tick, copy_heard, heard_in, copy_taken, happens_if, died, Event, step_for, next_event, earliest, next_copy, earlier, next_line, next_fire, before}
+use Rattle.fallback_state.specs.declared.fall.Event.TheVariants as events
+use Rattle.subflow_send.specs.Records.{Record}
+use Rattle.path_core.specs.declared.heard.Heard.{Heard}
+use Rattle.path_core.specs.declared.heard.Heard.TheVariants as says
+use Rattle.dss_mapping.specs.declared.kept.KeptMapping.{KeptMapping}
+use Rattle.path_core.specs.Agenda.{resets, leaves}
+use Rattle.path_core.specs.Breaking.{reset_of, reset_on, break_ask, answered_break}
+use Rattle.path_core.specs.Emission.{first_unsent, data_ask, unsent_segment, having_sent_unsent, end_segment, having_sent_end, fin_segment_of, having_sent_fin, Grant, grant_in, answered_grant, answered_data}
+use Rattle.path_core.specs.Opening.{syn_ack_of}
+use Rattle.loss_recovery.specs.declared.windows.Pending.{Pending}
+use Rattle.path_core.specs.Passing.{piece_of, is_placed, is_fin_set, answered_piece, answered_fin_heard, rate_ask, first_segment, answer_occasion, resend_occasion, answer_of, dead_answer, resend_of}
+use Rattle.path_core.specs.Placing.{kept_of, with_learned, Piece}
+use Rattle.path_core.specs.Standing.{ack_out_ask, answered_ack_out, ack_segment}
+use Rattle.path_core.specs.Treating.{item_of, item_ask, is_clash, fell_ask, after_verdict, is_acked, told_next, with_acked, answered_item}
+use Rattle.path_core.specs.Octets.{octets}
+use Rattle.path_core.specs.Sends.{sends, having_sent, handed, sent_on}
+use Rattle.path_core.specs.Ends.{PathEnd}
+use Rattle.path_core.specs.Shown.{octets_of, shown_path, ChangesNothing, IsFreshCopy, NextIsFresh}
+use Rattle.path_core.specs.State.{PathState, end_at, with_agenda, goes_on, left}
+use Rattle.path_core.specs.Steps.{settled, settles_down, asks_first, asks_of, answers, takes, next_round, begins_turn}
+use Rattle.path_core.specs.Agenda.{start_of_turn}
+use Rattle.path_core.specs.Values.{Carried, values}
+
+-- ---- the next event
+
+same_due : (p : PathState Carried) (flights : List (Flight Carried)) → next_due (map (shown_flight (octets_of p.profile.spelling)) flights) ≡ next_due flights
+same_due p [] = refl
+same_due p (f ∷ flights) = refl
+
+pub same_event : (p : PathState Carried) → next_event (shown_path p) ≡ next_event p
+same_event p = rw (same_due p p.link.under_way) refl
+
+-- ---- what stands, and what is passed
+
+same_stands : (d : Duty) (p : PathState Carried) → stands d (shown_path p) ≡ stands d p
+same_stands (duties.Look s) p = refl
+same_stands (duties.Window s) p = refl
+same_stands (duties.Update s) p = refl
+same_stands (duties.Syn s) p = refl
+same_stands (duties.Data s) p = refl
+same_stands (duties.DataFin s) p = refl
+same_stands (duties.Fin s) p = refl
+same_stands (duties.Timer s) p = refl
+same_stands duties.Events p = ap is_some (same_event p)
+same_stands (duties.SynHeard s) p = refl
+same_stands (duties.SynAnswered s) p = refl
+same_stands (duties.PeerKey s) p = refl
+same_stands (duties.SynAck s) p = refl
+same_stands (duties.Opened s) p = refl
+same_stands (duties.Live s) p = refl
+same_stands (duties.Heard s index) p = refl
+same_stands (duties.AckHeard s) p = refl
+same_stands (duties.Keep s) p = refl
+same_stands (duties.Edge s) p = refl
+same_stands (duties.HeardFin s index) p = refl
+same_stands (duties.PassFin s) p = refl
+same_stands (duties.AckOut s) p = refl
+same_stands (duties.Rate s) p = refl
+same_stands (duties.Acknowledge s) p = refl
+same_stands (duties.Again s) p = refl
+same_stands (duties.Answer s) p = refl
+same_stands (duties.ResetAnswer s) p = refl
+same_stands (duties.Return s) p = refl
+same_stands (duties.Resend s) p = refl
+same_stands (duties.BreakAck s reason) p = refl
+same_stands (duties.BreakReset s reason) p = refl
+same_stands (duties.Reset s) p = refl
+same_stands (duties.Leave s) p = refl
+same_stands (duties.Dead s) p = refl
+same_stands duties.End p = refl
+
+same_taken : (s : Side) (spelling : Spelling) (link : LinkState Carried) → taken s (shown (octets_of spelling) link) ≡ taken s link
+same_taken A spelling link = refl
+same_taken B spelling link = refl
+
+same_sends : (s : Side) (segment : PlainSegment) (p : PathState Carried) → sends octets s segment (shown_path p) ≡ sends values s segment p
+same_sends s segment p = rw (same_taken s p.profile.spelling p.link) refl
+
+same_break : (s : Side) (asked : Bool) (reason : ℕ) (p : PathState Carried)
+    → (if asked then ack_out_ask s else sends octets s (reset_of s (Some reason) (shown_path p)) (shown_path p))
+    ≡ (if asked then ack_out_ask s else sends values s (reset_of s (Some reason) p) p)
+same_break s true reason p = refl
+same_break s false reason p = same_sends s (reset_of s (Some reason) p) p
+
+same_data : (s : Side) (o : Option Record) (p : PathState Carried) → data_ask octets s o (shown_path p) ≡ data_ask values s o p
+same_data s None p = refl
+same_data s (Some r) p = same_sends s (unsent_segment s p) p
+
+same_mapping : (s : Side) (clash : Bool) (p : PathState Carried)
+    → (if clash then break_ask octets s 1 (shown_path p) else fell_ask s events.MappingHeard (shown_path p))
+    ≡ (if clash then break_ask values s 1 p else fell_ask s events.MappingHeard p)
+same_mapping s true p = same_break s (end_at s p).treated.asked 1 p
+same_mapping s false p = refl
+
+same_rate : (s : Side) (pending : Option Pending) (p : PathState Carried) → rate_ask s pending (shown_path p) ≡ rate_ask s pending p
+same_rate s None p = refl
+same_rate s (Some pending) p = refl
+
+same_item : (s : Side) (item : Option Heard) (p : PathState Carried) → item_ask octets s item (shown_path p) ≡ item_ask values s item p
+same_item s None p = refl
+same_item s (Some says.Dss) p = refl
+same_item s (Some (says.DataAck next window)) p = refl
+same_item s (Some (says.Mapping place position len checksum)) p =
+    same_mapping s (is_clash (kept_of p.profile s place position len checksum) (end_at s p)) p
+same_item s (Some (says.DataFin place)) p = refl
+same_item s (Some (says.PeerKey key)) p = refl
+same_item s (Some (says.Keys own peer)) p = refl
+
+same_asks : (d : Duty) (p : PathState Carried) → ask_for octets d (shown_path p) ≡ ask_for values d p
+same_asks (duties.Look s) p = refl
+same_asks (duties.Window s) p = refl
+same_asks (duties.Update s) p = same_sends s (ack_segment s p) p
+same_asks (duties.Syn s) p = same_sends s (unsent_segment s p) p
+same_asks (duties.Data s) p = same_data s (first_unsent (end_at s p)) p
+same_asks (duties.DataFin s) p = same_sends s (end_segment s p) p
+same_asks (duties.Fin s) p = same_sends s (fin_segment_of s p) p
+same_asks (duties.Timer s) p = refl
+same_asks duties.Events p = ap step_for (same_event p)
+same_asks (duties.SynHeard s) p = refl
+same_asks (duties.SynAnswered s) p = refl
+same_asks (duties.PeerKey s) p = refl
+same_asks (duties.SynAck s) p = same_sends s (syn_ack_of s p) p
+same_asks (duties.Opened s) p = refl
+same_asks (duties.Live s) p = refl
+same_asks (duties.Heard s index) p = same_item s (item_of index (end_at s p)) p
+same_asks (duties.AckHeard s) p = refl
+same_asks (duties.Keep s) p = refl
+same_asks (duties.Edge s) p = refl
+same_asks (duties.HeardFin s index) p = refl
+same_asks (duties.PassFin s) p = refl
+same_asks (duties.AckOut s) p = refl
+same_asks (duties.Rate s) p = same_rate s (end_at s p).tcp.congestion.pending p
+same_asks (duties.Acknowledge s) p = same_sends s (ack_segment s p) p
+same_asks (duties.Again s) p = same_sends s (first_segment s p) p
+same_asks (duties.Answer s) p = same_sends s (answer_of s p) p
+same_asks (duties.ResetAnswer s) p = same_sends s (dead_answer s p) p
+same_asks (duties.Return s) p = refl
+same_asks (duties.Resend s) p = same_sends s (resend_of s p) p
+same_asks (duties.BreakAck s reason) p = refl
+same_asks (duties.BreakReset s reason) p = same_sends s (reset_of s (Some reason) p) p
+same_asks (duties.Reset s) p = same_sends s (reset_of s None p) p
+same_asks (duties.Leave s) p = refl
+same_asks (duties.Dead s) p = refl
+same_asks duties.End p = refl
+
+same_passed : (d : Duty) (p : PathState Carried) → passed d (shown_path p) ≡ shown_path (passed d p)
+same_passed (duties.Look s) p = refl
+same_passed (duties.Window s) p = refl
+same_passed (duties.Update s) p = refl
+same_passed (duties.Syn s) p = refl
+same_passed (duties.Data s) p = refl
+same_passed (duties.DataFin s) p = refl
+same_passed (duties.Fin s) p = refl
+same_passed (duties.Timer s) p = refl
+same_passed duties.Events p = refl
+same_passed (duties.SynHeard s) p = refl
+same_passed (duties.SynAnswered s) p = refl
+same_passed (duties.PeerKey s) p = refl
+same_passed (duties.SynAck s) p = refl
+same_passed (duties.Opened s) p = refl
+same_passed (duties.Live s) p = refl
+same_passed (duties.Heard s index) p = refl
+same_passed (duties.AckHeard s) p = refl
+same_passed (duties.Keep s) p = refl
+same_passed (duties.Edge s) p = refl
+same_passed (duties.HeardFin s index) p = refl
+same_passed (duties.PassFin s) p = refl
+same_passed (duties.AckOut s) p = refl
+same_passed (duties.Rate s) p = refl
+same_passed (duties.Acknowledge s) p = refl
+same_passed (duties.Again s) p = refl
+same_passed (duties.Answer s) p = refl
+same_passed (duties.ResetAnswer s) p = refl
+same_passed (duties.Return s) p = refl
+same_passed (duties.Resend s) p = refl
+same_passed (duties.BreakAck s reason) p = refl
+same_passed (duties.BreakReset s reason) p = refl
+same_passed (duties.Reset s) p = refl
+same_passed (duties.Leave s) p = refl
+same_passed (duties.Dead s) p = refl
+same_passed duties.End p = refl
+
+pub same_settled : (ds : List Duty) (p : PathState Carried) → settled ds (shown_path p) ≡ shown_path (settled ds p)
+same_settled [] p = refl
+same_settled (d ∷ ds) p = by (stands d p) refl (same_settled ds (passed d p))
+  where
+    by : (b : Bool) → stands d p ≡ b → settled ds (shown_path (passed d p)) ≡ shown_path (settled ds (passed d p))
+        → settled (d ∷ ds) (shown_path p) ≡ shown_path (settled (d ∷ ds) p)
+    by true is rest = rw (same_stands d p, is) refl
+    by false is rest = rw (same_stands d p, is, same_passed d p) rest
+
+pub asks_the_same : (p : PathState Carried) → asks_of octets (shown_path p) ≡ asks_of values p
+asks_the_same p = by p.agenda
+  where
+    by : (ds : List Duty) → asks_first octets ds (shown_path p) ≡ asks_first values ds p
+    by [] = refl
+    by (d ∷ ds) = ap Some (same_asks d p)
+
+pub begins_the_same : (p : PathState Carried) → next_round (shown_path p) ≡ shown_path (next_round p)
+begins_the_same p = same_settled start_of_turn (with_agenda start_of_turn (record p { clock = p.until; until = p.until + 100 }))
+
+-- ---- what is sent
+
+plain_send : {C : Type 0} (strip alter : Side → C → C) (from : Side) (carried : C) (now : ℕ) (link : LinkState C) → ChangesNothing link.lines
+    → after_send strip alter from carried now link ≡ after_send (λ side c. c) (λ side c. c) from carried now link
+plain_send strip alter from carried now link nothing =
+    rw (nothing.strips from (next_number from link) now, nothing.alters from (next_number from link)) refl
+
+same_handed : (s : Side) (segment : PlainSegment) (p : PathState Carried) → ChangesNothing p.link.lines
+    → handed octets s segment (shown_path p) ≡ shown (octets_of p.profile.spelling) (handed values s segment p)
+same_handed s segment p nothing =
+    let show : Carried → List ℕ = octets_of p.profile.spelling in
+    plain_send (octets.strips p.profile.spelling) (octets.alters p.profile.spelling) s (octets.makes p.profile.spelling s segment) p.clock (shown show p.link)
+        (record { strips = nothing.strips; alters = nothing.alters })
+    ∙ sym (sent_shown show (λ side c. c) (λ side c. c) (λ side c. c) (λ side c. c) (λ side c. refl) (λ side c. refl) s (values.makes p.profile.spelling s segment) p.clock p.link)
+    ∙ ap (shown show) (sym (plain_send (values.strips p.profile.spelling) (values.alters p.profile.spelling) s (values.makes p.profile.spelling s segment) p.clock p.link nothing))
+
+pub same_sent : (s : Side) (segment : PlainSegment) (e : PathEnd) (ds : List Duty) (p : PathState Carried) → ChangesNothing p.link.lines
+    → sent_on octets s segment e ds (shown_path p) ≡ shown_path (sent_on values s segment e ds p)
+same_sent s segment e ds p nothing = ap (λ (link : LinkState (List ℕ)). record (goes_on s e ds (shown_path p)) { link = link }) (same_handed s segment p nothing)
+
+-- ---- what is answered
+
+same_reset : (s : Side) (reason : Option ℕ) (ds : List Duty) (p : PathState Carried) → ChangesNothing p.link.lines
+    → reset_on octets s reason ds (shown_path p) ≡ shown_path (reset_on values s reason ds p)
+same_reset s reason ds p nothing = same_sent s (reset_of s reason p) (died (end_at s p)) ds p nothing
+
+same_broken : (s : Side) (asked : Bool) (reason : ℕ) (r : Reply) (p : PathState Carried) → ChangesNothing p.link.lines
+    → (if asked then answered_ack_out s r (resets s reason) (shown_path p) else reset_on octets s (Some reason) (leaves s) (shown_path p))
+    ≡ shown_path (if asked then answered_ack_out s r (resets s reason) p else reset_on values s (Some reason) (leaves s) p)
+same_broken s true reason r p nothing = refl
+same_broken s false reason r p nothing = same_reset s (Some reason) (leaves s) p nothing
+
+same_learned : (s : Side) (clash : Bool) (kept : KeptMapping) (r : Reply) (p : PathState Carried) → ChangesNothing p.link.lines
+    → (if clash then answered_break octets s 1 r (shown_path p) else goes_on s (with_learned kept (after_verdict r (end_at s p))) (left p) (shown_path p))
+    ≡ shown_path (if clash then answered_break values s 1 r p else goes_on s (with_learned kept (after_verdict r (end_at s p))) (left p) p)
+same_learned s true kept r p nothing = same_broken s (end_at s p).treated.asked 1 r p nothing
+same_learned s false kept r p nothing = refl
+
+same_told : (s : Side) (covers : Bool) (p : PathState Carried) → told_next s covers (shown_path p) ≡ told_next s covers p
+same_told s true p = refl
+same_told s false p = refl
+
+same_heard : (s : Side) (item : Option Heard) (r : Reply) (p : PathState Carried) → ChangesNothing p.link.lines
+    → answered_item octets s item r (shown_path p) ≡ shown_path (answered_item values s item r p)
+same_heard s None r p nothing = refl
+same_heard s (Some says.Dss) r p nothing = refl
+same_heard s (Some (says.DataAck next window)) r p nothing =
+    ap (λ ds. goes_on s (with_acked next r (end_at s p)) ds (shown_path p)) (same_told s (is_acked r && nat_lt 0 next) p)
+same_heard s (Some (says.Mapping place position len checksum)) r p nothing =
+    same_learned s (is_clash (kept_of p.profile s place position len checksum) (end_at s p)) (kept_of p.profile s place position len checksum) r p nothing
+same_heard s (Some (says.DataFin place)) r p nothing = refl
+same_heard s (Some (says.PeerKey key)) r p nothing = refl
+same_heard s (Some (says.Keys own peer)) r p nothing = refl
+
+same_grant : (s : Side) (o : Option Grant) (r : Reply) (p : PathState Carried) → answered_grant s o r (shown_path p) ≡ shown_path (answered_grant s o r p)
+same_grant s None r p = refl
+same_grant s (Some grant) r p = refl
+
+same_data_answered : (s : Side) (o : Option Record) (r : Reply) (p : PathState Carried) → ChangesNothing p.link.lines
+    → answered_data octets s o r (shown_path p) ≡ shown_path (answered_data values s o r p)
+same_data_answered s (Some record_due) r p nothing = same_sent s (unsent_segment s p) (having_sent_unsent s p) p.agenda p nothing
+same_data_answered s None r p nothing = same_grant s (grant_in r) r p
+
+same_piece : (s : Side) (piece : Option Piece) (taken : Bool) (p : PathState Carried) → answered_piece s piece taken (shown_path p) ≡ shown_path (answered_piece s piece taken p)
+same_piece s None taken p = refl
+same_piece s (Some piece) true p = refl
+same_piece s (Some piece) false p = refl
+
+same_fin : (s : Side) (set : Bool) (p : PathState Carried) → answered_fin_heard s set (shown_path p) ≡ shown_path (answered_fin_heard s set p)
+same_fin s true p = refl
+same_fin s false p = refl
+
+-- ---- events
+
+module _ (show : Carried → List ℕ) where
+  same_arriving : (due : Due) (flights : List (Flight Carried))
+      → find (is_due due) (map (shown_flight show) flights) ≡ option_map (shown_flight show) (find (is_due due) flights)
+  same_arriving due [] = refl
+  same_arriving due (f ∷ flights) = by (is_due due f) (same_arriving due flights)
+    where
+      by : (b : Bool) → find (is_due due) (map (shown_flight show) flights) ≡ option_map (shown_flight show) (find (is_due due) flights)
+          → cond b (Some (shown_flight show f)) (find (is_due due) (map (shown_flight show) flights))
+          ≡ option_map (shown_flight show) (cond b (Some f) (find (is_due due) flights))
+      by true rest = refl
+      by false rest = rest
+
+  same_place : (due : Due) (flights : List (Flight Carried)) → position_or_len (is_due due) (map (shown_flight show) flights) ≡ position_or_len (is_due due) flights
+  same_place due [] = refl
+  same_place due (f ∷ flights) = ap (λ n. cond (not (is_due due f)) (1 + n) 0) (same_place due flights)
+
+  same_position : (due : Due) (flights : List (Flight Carried)) → position (is_due due) (map (shown_flight show) flights) ≡ position (is_due due) flights
+  same_position due flights = rw (same_place due flights, length-map flights (shown_flight show)) refl
+
+  same_without : (place : Option ℕ) (flights : List (Flight Carried)) → without place (map (shown_flight show) flights) ≡ map (shown_flight show) (without place flights)
+  same_without None flights = refl
+  same_without (Some n) flights = rw (take-map, drop-map, ← map-append) refl
+
+  same_delivery : (due : Due) (link : LinkState Carried) → after_delivery due (shown show link) ≡ shown show (after_delivery due link)
+  same_delivery due link =
+      let gone : without (position (is_due due) (map (shown_flight show) link.under_way)) (map (shown_flight show) link.under_way)
+          ≡ map (shown_flight show) (without (position (is_due due) link.under_way) link.under_way)
+        = rw (same_position due link.under_way) (same_without (position (is_due due) link.under_way) link.under_way) in
+      ap (λ flights. record (shown show link) { under_way = flights }) gone
+
+same_line : (death : Bool) (p : PathState Carried) → after_line death (shown_path p) ≡ shown_path (after_line death p)
+same_line true p = refl
+same_line false p = refl
+
+same_copy_heard : (s : Side) (heard : Option HeardSegment) (p : PathState Carried) → copy_heard s heard (shown_path p) ≡ shown_path (copy_heard s heard p)
+same_copy_heard s None p = refl
+same_copy_heard s (Some h) p = refl
+
+-- a fresh copy is heard as it was meant
+same_read : (s : Side) (o : Option (Flight Carried)) (p : PathState Carried) → ((flight : Flight Carried) → o ≡ Some flight → IsFreshCopy p s flight.carried)
+    → heard_in octets s (option_map (shown_flight (octets_of p.profile.spelling)) o) (shown_path p) ≡ heard_in values s o p
+same_read s None p fresh = refl
+same_read s (Some flight) p fresh =
+    let is = fresh flight refl in
+    rw is.from (heard_as_meant p.profile.spelling (spelled_by (peer s)) (expected_by (end_at s p)) flight.carried.segment is.sayable is.expected is.fresh)
+
+same_copy : (due : Due) (p : PathState Carried)
+    → ((flight : Flight Carried) → arriving due p.link ≡ Some flight → IsFreshCopy p due.to flight.carried)
+    → copy_taken octets due (shown_path p) ≡ shown_path (copy_taken values due p)
+same_copy due p fresh =
+    let show : Carried → List ℕ = octets_of p.profile.spelling in
+    let heard : Option HeardSegment = heard_in values due.to (arriving due p.link) p in
+    let arrived = ap (λ (o : Option (Flight (List ℕ))). heard_in octets due.to o (shown_path p)) (same_arriving show due p.link.under_way) in
+    ap (λ h. copy_heard due.to h (record (at_tick due.tick (shown_path p)) { link = after_delivery due (shown show p.link) }))
+        (arrived ∙ same_read due.to (arriving due p.link) p fresh)
+    ∙ ap (λ link. copy_heard due.to heard (record (at_tick due.tick (shown_path p)) { link = link })) (same_delivery show due p.link)
+    ∙ same_copy_heard due.to heard (record (at_tick due.tick p) { link = after_delivery due p.link })
+
+same_happening : (o : Option Event) (p : PathState Carried)
+    → ((due : Due) (flight : Flight Carried) → o ≡ Some (Event.Arrives due) → arriving due p.link ≡ Some flight → IsFreshCopy p due.to flight.carried)
+    → happens_if octets o (shown_path p) ≡ shown_path (happens_if values o p)
+same_happening None p fresh = refl
+same_happening (Some (Event.Takes line)) p fresh = same_line (is_death line.line) (record (at_tick line.tick p) { lines = tail_of p.lines })
+same_happening (Some (Event.Arrives due)) p fresh = same_copy due p (λ flight is. fresh due flight refl is)
+same_happening (Some (Event.Fires s tick)) p fresh = refl
+
+-- ---- every duty
+
+same_answered : (d : Duty) (r : Reply) (p : PathState Carried) → ChangesNothing p.link.lines → NextIsFresh p
+    → answered octets d r (shown_path p) ≡ shown_path (answered values d r p)
+same_answered (duties.Look s) r p nothing fresh = refl
+same_answered (duties.Window s) r p nothing fresh = refl
+same_answered (duties.Update s) r p nothing fresh = same_sent s (ack_segment s p) (having_sent to_send.Ack p.clock (ack_segment s p) (end_at s p)) (left p) p nothing
+same_answered (duties.Syn s) r p nothing fresh = same_sent s (unsent_segment s p) (having_sent_unsent s p) (left p) p nothing
+same_answered (duties.Data s) r p nothing fresh = same_data_answered s (first_unsent (end_at s p)) r p nothing
+same_answered (duties.DataFin s) r p nothing fresh = same_sent s (end_segment s p) (having_sent_end s p) (left p) p nothing
+same_answered (duties.Fin s) r p nothing fresh = same_sent s (fin_segment_of s p) (having_sent_fin s p) (left p) p nothing
+same_answered (duties.Timer s) r p nothing fresh = refl
+same_answered duties.Events r p nothing fresh =
+    ap (λ o. happens_if octets o (shown_path p)) (same_event p) ∙ same_happening (next_event p) p fresh
+same_answered (duties.SynHeard s) r p nothing fresh = refl
+same_answered (duties.SynAnswered s) r p nothing fresh = refl
+same_answered (duties.PeerKey s) r p nothing fresh = refl
+same_answered (duties.SynAck s) r p nothing fresh = same_sent s (syn_ack_of s p) (having_sent to_send.SynAck p.clock (syn_ack_of s p) (end_at s p)) (left p) p nothing
+same_answered (duties.Opened s) r p nothing fresh = refl
+same_answered (duties.Live s) r p nothing fresh = refl
+same_answered (duties.Heard s index) r p nothing fresh = same_heard s (item_of index (end_at s p)) r p nothing
+same_answered (duties.AckHeard s) r p nothing fresh = refl
+same_answered (duties.Keep s) r p nothing fresh = refl
+same_answered (duties.Edge s) r p nothing fresh = same_piece s (piece_of s p) (is_placed r) p
+same_answered (duties.HeardFin s index) r p nothing fresh = same_fin s (is_fin_set r) p
+same_answered (duties.PassFin s) r p nothing fresh = refl
+same_answered (duties.AckOut s) r p nothing fresh = refl
+same_answered (duties.Rate s) r p nothing fresh = refl
+same_answered (duties.Acknowledge s) r p nothing fresh = same_sent s (ack_segment s p) (having_sent to_send.Ack p.clock (ack_segment s p) (end_at s p)) (left p) p nothing
+same_answered (duties.Again s) r p nothing fresh = same_sent s (first_segment s p) (having_sent to_send.First p.clock (first_segment s p) (end_at s p)) (left p) p nothing
+same_answered (duties.Answer s) r p nothing fresh = same_sent s (answer_of s p) (having_sent (answer_occasion (end_at s p)) p.clock (answer_of s p) (end_at s p)) (left p) p nothing
+same_answered (duties.ResetAnswer s) r p nothing fresh = same_sent s (dead_answer s p) (end_at s p) (left p) p nothing
+same_answered (duties.Return s) r p nothing fresh = refl
+same_answered (duties.Resend s) r p nothing fresh = same_sent s (resend_of s p) (having_sent (resend_occasion (end_at s p)) p.clock (resend_of s p) (end_at s p)) (left p) p nothing
+same_answered (duties.BreakAck s reason) r p nothing fresh = refl
+same_answered (duties.BreakReset s reason) r p nothing fresh = same_reset s (Some reason) (leaves s) p nothing
+same_answered (duties.Reset s) r p nothing fresh = same_reset s None (leaves s) p nothing
+same_answered (duties.Leave s) r p nothing fresh = refl
+same_answered (duties.Dead s) r p nothing fresh = refl
+same_answered duties.End r p nothing fresh = refl
+
+same_answers : (ds : List Duty) (r : Reply) (p : PathState Carried) → ChangesNothing p.link.lines → NextIsFresh p
+    → answers octets ds r (shown_path p) ≡ shown_path (answers values ds r p)
+same_answers [] r p nothing fresh = refl
+same_answers (d ∷ ds) r p nothing fresh = same_answered d r p nothing fresh
+
+pub takes_the_same : (r : Reply) (p : PathState Carried) → ChangesNothing p.link.lines → NextIsFresh p → takes octets r (shown_path p) ≡ shown_path (takes values r p)
+takes_the_same r p nothing fresh =
+    ap settles_down (same_answers p.agenda r p nothing fresh) ∙ same_settled (answers values p.agenda r p).agenda (answers values p.agenda r p)

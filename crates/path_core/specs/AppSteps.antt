@@ -1,0 +1,97 @@
+-- The steps of an application: it writes its file, says that it writes no more, and reads what has come.
+use Rattle.std.specs.Prelude.{ℕ, ◌+◌, Bool, true, false, not, ◌&&◌, ◌||◌, nat_lt, if◌then◌else◌, Option, Some, None, List, [], ◌∷◌, length, take, drop}
+use Rattle.send_book.specs.declared.call.SendCall.TheVariants as send_calls
+use Rattle.send_book.specs.declared.call.SendReply.TheVariants as send_replies
+use Rattle.reassembly_book.specs.declared.call.ReassemblyCall.TheVariants as reassembly_calls
+use Rattle.reassembly_book.specs.declared.call.ReassemblyReply.TheVariants as reassembly_replies
+use Rattle.path_core.specs.declared.ask.Ask.{Ask}
+use Rattle.path_core.specs.declared.ask.Ask.TheVariants as asks
+use Rattle.path_core.specs.declared.ask.LocalStep.TheVariants as steps
+use Rattle.path_core.specs.declared.ask.Reply.{Reply}
+use Rattle.path_core.specs.declared.ask.Reply.TheVariants as replies
+use Rattle.path_core.specs.declared.duty.AppDuty.{AppDuty}
+use Rattle.path_core.specs.declared.duty.AppDuty.TheVariants.{Write, Close, Read, End}
+use Rattle.path_core.specs.Apps.{AppState}
+use Rattle.path_core.specs.Words.{is_nil, tail_of}
+
+abbrev pub start_of_app : List AppDuty
+start_of_app = Write ∷ Close ∷ Read ∷ End ∷ []
+
+-- it writes as long as its file has some left, then closes once, and reads until it was told the end
+abbrev pub app_stands : AppDuty → AppState → Bool
+app_stands Write a = not (is_nil a.rest)
+app_stands Close a = is_nil a.rest && not a.closed
+app_stands Read a = not a.told
+app_stands End a = true
+
+-- at most as many octets as a side buffers are offered at once
+abbrev pub app_ask : AppDuty → AppState → Ask
+app_ask Write a = asks.Send a.side (send_calls.Write (take a.buffer a.rest))
+app_ask Close a = asks.Send a.side send_calls.Close
+app_ask Read a = asks.Reassembly a.side (reassembly_calls.Read 65536)
+app_ask End a = asks.Local steps.End
+
+abbrev pub app_left : AppState → List AppDuty
+app_left a = tail_of a.agenda
+
+abbrev pub app_done : AppState → AppState
+app_done a = record a { agenda = app_left a }
+
+-- what was taken of its file is written
+abbrev pub taken_in : Reply → ℕ
+taken_in (replies.Send (send_replies.Taken count)) = count
+taken_in _ = 0
+
+abbrev pub app_wrote : Reply → AppState → AppState
+app_wrote r a = record (app_done a) { rest = drop (taken_in r) a.rest }
+
+abbrev pub bytes_in : Reply → List ℕ
+bytes_in (replies.Reassembly (reassembly_replies.Bytes bytes)) = bytes
+bytes_in _ = []
+
+-- the stream ended, or was aborted
+abbrev pub ends_in : Reply → Bool
+ends_in (replies.Reassembly reassembly_replies.End) = true
+ends_in (replies.Reassembly (reassembly_replies.Aborted by_peer)) = true
+ends_in _ = false
+
+-- it reads on where bytes came, and too few of them in this turn
+abbrev pub app_reads_on : List ℕ → AppState → Bool
+app_reads_on bytes a = not (is_nil bytes) && nat_lt (a.count + length bytes) a.buffer
+
+abbrev pub app_read : Reply → AppState → AppState
+app_read r a = record a {
+  count = a.count + length (bytes_in r);
+  told = a.told || ends_in r;
+  agenda = (if app_reads_on (bytes_in r) a then a.agenda else app_left a);
+}
+
+abbrev pub app_answered : AppDuty → Reply → AppState → AppState
+app_answered Write r a = app_wrote r a
+app_answered Close r a = record (app_done a) { closed = true }
+app_answered Read r a = app_read r a
+app_answered End r a = record a { agenda = [] }
+
+abbrev pub app_settled : List AppDuty → AppState → AppState
+app_settled [] a = record a { agenda = [] }
+app_settled (d ∷ ds) a = if app_stands d a then record a { agenda = d ∷ ds } else app_settled ds a
+
+abbrev pub app_asks_first : List AppDuty → AppState → Option Ask
+app_asks_first [] a = None
+app_asks_first (d ∷ ds) a = Some (app_ask d a)
+
+abbrev pub app_asks_of : AppState → Option Ask
+app_asks_of a = app_asks_first a.agenda a
+
+abbrev pub app_answers : List AppDuty → Reply → AppState → AppState
+app_answers [] r a = a
+app_answers (d ∷ ds) r a = app_answered d r a
+
+abbrev pub app_settles_down : AppState → AppState
+app_settles_down a = app_settled a.agenda a
+
+abbrev pub app_takes : Reply → AppState → AppState
+app_takes r a = app_settles_down (app_answers a.agenda r a)
+
+abbrev pub app_next_round : AppState → AppState
+app_next_round a = app_settles_down (record a { count = 0; agenda = start_of_app })

@@ -1,0 +1,19 @@
+-- An application by what it means.
+use Rattle.std.specs.Prelude.{ℕ, Bool, List}
+use Rattle.outside_kit.specs.declared.side.Side.{Side}
+use Rattle.path_core.specs.declared.duty.AppDuty.{AppDuty}
+
+pub record AppState : Type 0 where
+  pub side : Side
+  -- octets that it offers at most in a turn, and reads at least where they are there
+  pub buffer : ℕ
+  -- what of its file isn't written yet
+  pub rest : List ℕ
+  -- it told that it writes no more
+  pub closed : Bool
+  -- it was told that the stream ended, or was aborted
+  pub told : Bool
+  -- octets that it read in this turn
+  pub count : ℕ
+  -- what is still to be done in the turn
+  pub agenda : List AppDuty

@@ -1,0 +1,190 @@
+-- A copy that arrives: what it says, and what it makes of the end at once. The rest is treated duty by duty.
+use Rattle.std.specs.Prelude.{ℕ, ◌+◌, ◌-◌, ◌%◌, ◌^◌, ◌&&◌, ◌||◌, not, Bool, true, false, nat_lt, nat_le, if◌then◌else◌, is_some, unwrap_or, Option, Some, None, List, [], ◌∷◌, ◌++◌, length}
+use Rattle.std.specs.List.{flat_map, list_any}
+use Rattle.std.specs.Option.{option_map}
+use Rattle.outside_kit.specs.declared.side.Side.{Side}
+use Rattle.outside_kit.specs.declared.side.Side.TheVariants.{A, B}
+use Rattle.mptcp_options.specs.declared.capable.CapableKeys.{CapableKeys}
+use Rattle.mptcp_options.specs.declared.capable.CapableKeys.TheVariants.{NoKey, Sender, Both, WithData}
+use Rattle.path_segments.specs.declared.expected.Expected.{Expected}
+use Rattle.path_segments.specs.declared.segment.PathOption.{PathOption}
+use Rattle.path_segments.specs.declared.segment.PathOption.TheVariants.{Capable, Dss}
+use Rattle.path_segments.specs.declared.segment.PathMapping.{PathMapping}
+use Rattle.path_segments.specs.declared.segment.PathMapping.TheVariants.{Bytes, End}
+use Rattle.path_segments.specs.Spelling.{numbers_of}
+use Rattle.subflow_tcp.specs.declared.segments.Hint.{Hint}
+use Rattle.subflow_tcp.specs.declared.segments.Outgoing.{Outgoing}
+use Rattle.subflow_tcp.specs.declared.verdicts.Meaning.{Meaning}
+use Rattle.subflow_tcp.specs.declared.verdicts.Meaning.TheVariants as means
+use Rattle.subflow_tcp.specs.declared.handshake.State.{State as EndPhase}
+use Rattle.subflow_tcp.specs.State.{EndState}
+use Rattle.subflow_tcp.specs.Segments.{Copy, occupied}
+use Rattle.subflow_tcp.specs.States.{is_half_open}
+use Rattle.subflow_tcp.specs.Judging.{meaning_of}
+use Rattle.subflow_tcp.specs.Taking.{after_arrival}
+use Rattle.subflow_tcp.specs.Closing.{after_owing}
+use Rattle.path_core.specs.declared.duty.Duty.{Duty}
+use Rattle.path_core.specs.declared.heard.Heard.{Heard}
+use Rattle.path_core.specs.declared.heard.Heard.TheVariants as says
+use Rattle.path_core.specs.Agenda.{emission, syn_came, syn_ack_came, copy_came, syn_again, answers, answers_dead, leaves}
+use Rattle.path_core.specs.Codec.{HeardSegment}
+use Rattle.path_core.specs.Ends.{PathEnd, Payload, Treated, nothing_treated}
+use Rattle.path_core.specs.Segments.{spelled_by}
+use Rattle.path_core.specs.State.{Profile}
+use Rattle.path_core.specs.Words.{is_nil, is_side_a}
+
+-- what an end counts from
+abbrev pub expected_by : PathEnd → Expected
+expected_by e = record {
+  edge = e.tcp.recv.edge;
+  unacknowledged = e.tcp.send.una;
+  told = e.sending.heard;
+  place = e.receiving.next;
+}
+
+-- ---- the header
+
+abbrev pub acknowledged_in : Option (Option ℕ) → Option ℕ
+acknowledged_in None = None
+acknowledged_in (Some heard) = Some (unwrap_or heard 0)
+
+abbrev pub copy_of : HeardSegment → Copy
+copy_of h = record {
+  position = h.position;
+  acknowledged = acknowledged_in h.acknowledged;
+  syn = h.syn;
+  fin = h.fin;
+  rst = h.rst;
+  window = h.window;
+  payload = h.payload;
+}
+
+-- ---- the options
+
+abbrev pub HeardOption : Type 0
+HeardOption = PathOption (Option ℕ) (List ℕ)
+
+-- a Data ACK that names a place
+abbrev pub ack_items : Option (Option ℕ) → ℕ → List Heard
+ack_items (Some (Some next)) window = says.DataAck next window ∷ []
+ack_items _ window = []
+
+abbrev pub checksum_heard : Option ℕ → ℕ
+checksum_heard checksum = unwrap_or checksum 0
+
+-- a mapping of bytes behind the SYN, all of which have places below 2^62
+abbrev pub mapping_items : ℕ → ℕ → ℕ → Option ℕ → List Heard
+mapping_items place position len checksum =
+    if nat_lt 0 position && nat_le (place + len) (2 ^ 62) then says.Mapping place position len (checksum_heard checksum) ∷ [] else []
+
+-- a mapping that names a place; DATA_FIN stands on an acknowledgement, and no mapping is infinite
+abbrev pub map_items : Option (PathMapping (Option ℕ)) → List Heard
+map_items (Some (Bytes (Some place) (Some position) len false checksum)) = mapping_items place position len checksum
+map_items (Some (End (Some place) checksum)) = says.DataFin place ∷ []
+map_items _ = []
+
+-- MP_CAPABLE by the keys that it shows; B hears both, and the mapping of place 0 at position 1 with the first piece
+abbrev pub key_items : Side → CapableKeys → List Heard
+key_items A (Sender sender) = says.PeerKey sender ∷ []
+key_items B (Both sender receiver) = says.Keys receiver sender ∷ []
+key_items B (WithData sender receiver len checksum) = says.Keys receiver sender ∷ mapping_items 0 1 len checksum
+key_items _ _ = []
+
+abbrev pub items_in : Side → ℕ → HeardOption → List Heard
+items_in s window (Capable flag_a flag_c keys) = key_items s keys
+items_in s window (Dss next mapping) = says.Dss ∷ (ack_items next window ++ map_items mapping)
+items_in s window _ = []
+
+-- all that a copy says to the end of this side, in the order of its options
+abbrev pub items_of : Side → HeardSegment → List Heard
+items_of s h = flat_map (items_in s h.window) h.options
+
+-- the place that the Data ACK of the first DSS names
+abbrev pub place_in_first : List Heard → Option ℕ
+place_in_first [] = None
+place_in_first (says.Dss ∷ says.DataAck next window ∷ items) = Some next
+place_in_first (says.Dss ∷ items) = None
+place_in_first (item ∷ items) = place_in_first items
+
+-- what wants an acknowledgement though it occupies no position
+abbrev pub wants_ack : Heard → Bool
+wants_ack (says.DataFin place) = true
+wants_ack (says.Keys own peer) = true
+wants_ack _ = false
+
+-- ---- a dead end's answer
+
+-- the position at which a side's subflow has the number 0
+abbrev pub zero_position : Profile → Side → ℕ
+zero_position c s = (2 ^ 32 - (numbers_of c.spelling (spelled_by s)).initial.0 % 2 ^ 32) % 2 ^ 32
+
+-- at the number that the copy acknowledges, or else at number 0 with an acknowledgement of all that it occupies (RFC 9293,
+-- section 3.10.7.1)
+abbrev pub reset_by : Profile → Side → Option ℕ → ℕ → ℕ → Outgoing
+reset_by c s (Some acknowledged) position occupied =
+    record { position = acknowledged; acknowledged = None; syn = false; fin = false; rst = true; length = 0 }
+reset_by c s None position occupied = record {
+  position = zero_position c s;
+  acknowledged = Some (position + occupied);
+  syn = false;
+  fin = false;
+  rst = true;
+  length = 0;
+}
+
+abbrev pub reset_for : Profile → Side → Copy → Outgoing
+reset_for c s copy = reset_by c s copy.acknowledged (unwrap_or copy.position 0) (occupied copy)
+
+-- ---- what it makes of the end at once
+
+-- its payload is kept later, if at all
+abbrev pub hint_of : Side → HeardSegment → Hint
+hint_of s h = record { data_ack = place_in_first (items_of s h); keep = false }
+
+abbrev pub payload_at : Option ℕ → List ℕ → Option Payload
+payload_at (Some position) octets = if is_nil octets then None else Some (record { position = position; octets = octets })
+payload_at None octets = None
+
+abbrev pub treated_of : Profile → Side → Bool → HeardSegment → Treated
+treated_of c s opened h = record nothing_treated {
+  items = items_of s h;
+  opened = opened;
+  payload = payload_at h.position h.payload;
+  has_option = not (is_nil h.options);
+  answer = Some (reset_for c s (copy_of h));
+}
+
+abbrev pub owing_if : Bool → EndState → EndState
+owing_if owing tcp = if owing then after_owing false tcp else tcp
+
+-- a copy that is taken may want an acknowledgement by what it says
+abbrev pub owes_by : Meaning → List Heard → Bool
+owes_by (means.Taken position acknowledged) items = list_any wants_ack items
+owes_by _ items = false
+
+-- it establishes the end
+abbrev pub opens_by : Meaning → EndPhase → Bool
+opens_by (means.Taken position acknowledged) state = is_half_open state
+opens_by (means.Accepts acknowledged) state = true
+opens_by _ state = false
+
+-- the subflow takes it; the rest is still to be treated
+abbrev pub after_meaning : Profile → Side → ℕ → HeardSegment → Meaning → PathEnd → PathEnd
+after_meaning c s now h meaning e = record e {
+  tcp = owing_if (owes_by meaning (items_of s h)) (after_arrival meaning (hint_of s h) now (copy_of h) e.tcp);
+  treated = treated_of c s (opens_by meaning e.tcp.state) h;
+}
+
+-- and what is to be done then
+abbrev pub template_of : Side → List Heard → Meaning → List Duty
+template_of s items means.Ignored = emission s
+template_of s items means.Unwanted = answers_dead s
+template_of s items means.Opens = syn_came s
+template_of s items (means.Accepts acknowledged) = syn_ack_came s
+template_of s items means.RepeatedSyn = syn_again s
+template_of s items means.Outside = answers s
+template_of s items means.Kills = leaves s
+template_of s items means.Challenged = answers s
+template_of s items means.Unacknowledging = emission s
+template_of s items means.Ahead = answers s
+template_of s items (means.Taken position acknowledged) = copy_came s (length items)

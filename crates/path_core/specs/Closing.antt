@@ -1,0 +1,81 @@
+-- Data ACKs, and when DATA_FIN and FIN go out (RFC 8684, sections 3.3.2 and 3.3.3).
+use Rattle.std.specs.Prelude.{ℕ, max, Bool, true, false, not, ◌&&◌, ◌||◌, nat_lt, is_some, Option, Some, None, List, ◌++◌, [], ◌∷◌, filter}
+use Rattle.std.specs.List.{list_any}
+use Rattle.send_book.specs.declared.call.Span.{Span}
+use Rattle.send_book.specs.declared.call.Why.{Why}
+use Rattle.send_book.specs.declared.call.Why.TheVariants.{Ended, Backup, NothingFree, WindowShut}
+use Rattle.data_close.specs.Closing as closing
+use Rattle.subflow_tcp.specs.States.{may_finish}
+use Rattle.path_core.specs.Ends.{Sending, PathEnd}
+use Rattle.path_core.specs.Words.{is_nil, told_last}
+
+-- ---- what the peer acknowledged
+
+-- a place of the span wasn't acknowledged before, and is now
+abbrev pub is_newly_heard : ℕ → ℕ → Span → Bool
+is_newly_heard before next span = nat_lt (max span.from before) next
+
+-- the own DATA_FIN that was sent is acknowledged for the first time
+abbrev pub is_end_news : Bool → Sending → Bool
+is_end_news fin v = fin && (v.fin_sent && not v.close.own_acked)
+
+abbrev pub is_news : ℕ → Bool → Sending → Bool
+is_news next fin v = list_any (is_newly_heard v.heard next) v.granted || is_end_news fin v
+
+-- a span that isn't acknowledged whole
+abbrev pub is_open : ℕ → Span → Bool
+is_open heard span = nat_lt heard span.to
+
+-- so many bytes of the stream are acknowledged, the DATA_FIN among them or not
+abbrev pub after_acked : ℕ → Bool → Sending → Sending
+after_acked next fin v = record v {
+  heard = max v.heard next;
+  granted = filter (is_open (max v.heard next)) v.granted;
+  close = record v.close { own_acked = v.close.own_acked || fin };
+  news = v.news || is_news next fin v;
+}
+
+-- the peer's DATA_FIN came
+abbrev pub after_peer_end : Sending → Sending
+after_peer_end v = record v { close = record v.close { peer_came = true } }
+
+-- ---- grants
+
+abbrev pub after_granted : Span → Sending → Sending
+after_granted span v = record v { shut = false; granted = v.granted ++ span ∷ [] }
+
+abbrev pub is_shut : Why → Bool
+is_shut WindowShut = true
+is_shut Ended = false
+is_shut Backup = false
+is_shut NothingFree = false
+
+abbrev pub after_refusal : Why → Option ℕ → Sending → Sending
+after_refusal why known v = record v { shut = is_shut why; known_end = told_last known v.known_end }
+
+-- ---- the ends of both streams
+
+-- a DATA_FIN is acknowledged by nothing that was heard
+abbrev pub owes_end : Sending → Bool
+owes_end v = v.fin_sent && not v.close.own_acked
+
+-- the DATA_FIN is to be sent: the end is known, and it was neither sent nor acknowledged
+abbrev pub is_end_due : PathEnd → Bool
+is_end_due e =
+    may_finish e.tcp.state && (e.modes.clear && (is_some e.sending.known_end && (not e.sending.fin_sent && not e.sending.close.own_acked)))
+
+-- the FIN is to be sent: the own DATA_FIN is acknowledged, and the peer's came
+abbrev pub is_fin_due : PathEnd → Bool
+is_fin_due e = may_finish e.tcp.state && closing.may_finish e.sending.close
+
+-- ---- the timer
+
+-- what the timer runs for beside the records: a byte or a DATA_FIN that isn't acknowledged, or a window that is shut
+abbrev pub is_waiting : Sending → Bool
+is_waiting v = owes_end v || (not (is_nil v.granted) || v.shut)
+
+abbrev pub with_end_sent : Sending → Sending
+with_end_sent v = record v { fin_sent = true }
+
+abbrev pub without_news : Sending → Sending
+without_news v = record v { news = false }

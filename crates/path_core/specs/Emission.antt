@@ -1,0 +1,142 @@
+-- What an end sends by itself: its SYN, records and grants as long as there is room, DATA_FIN, FIN; and its timer.
+use Rattle.std.specs.Prelude.{ℕ, ◌-◌, Bool, true, false, not, ◌&&◌, ◌||◌, nat_le, if◌then◌else◌, is_some, Option, Some, None, List, length, find}
+use Rattle.std.specs.Option.{option_map_or}
+use Rattle.outside_kit.specs.declared.side.Side.{Side}
+use Rattle.seq_units.specs.declared.mapping.Mapping.{Mapping}
+use Rattle.path_segments.specs.Spelled.{PlainSegment}
+use Rattle.send_book.specs.declared.call.Span.{Span}
+use Rattle.send_book.specs.declared.call.SendCall.TheVariants as send_calls
+use Rattle.send_book.specs.declared.call.SendReply.TheVariants as send_replies
+use Rattle.subflow_send.specs.Records.{Record}
+use Rattle.subflow_send.specs.Rules.{is_unsent, after_push}
+use Rattle.subflow_tcp.specs.declared.segments.Occasion.TheVariants as to_send
+use Rattle.subflow_tcp.specs.States.{is_opening, is_closed_to_segments, may_finish}
+use Rattle.subflow_tcp.specs.State.{EndState, is_at_limit}
+use Rattle.subflow_tcp.specs.Sizes.{room}
+use Rattle.subflow_tcp.specs.Emitting.{after_sending}
+use Rattle.subflow_tcp.specs.Closing.{after_finishing}
+use Rattle.subflow_tcp.specs.Expiring.{after_settling}
+use Rattle.path_core.specs.declared.ask.Ask.{Ask}
+use Rattle.path_core.specs.declared.ask.Ask.TheVariants as asks
+use Rattle.path_core.specs.declared.ask.Reply.{Reply}
+use Rattle.path_core.specs.declared.ask.Reply.TheVariants as replies
+use Rattle.path_core.specs.Closing.{after_granted, after_refusal, is_end_due, with_end_sent, is_waiting, without_news}
+use Rattle.path_core.specs.Codec.{Codec}
+use Rattle.path_core.specs.Ends.{PathEnd, Sending}
+use Rattle.path_core.specs.Segments.{ack_said, fin_said, record_or_ack, mapping_of}
+use Rattle.path_core.specs.Sends.{sends, having_sent, sent_on, with_edge_told}
+use Rattle.path_core.specs.State.{PathState, Profile, end_at, goes_on, left, path_of}
+use Rattle.path_core.specs.Words.{is_side_a}
+
+-- ---- records
+
+-- the first record that is to be sent
+abbrev pub first_unsent : PathEnd → Option Record
+first_unsent e = find is_unsent e.tcp.send.records
+
+abbrev pub unsent_segment : {C : Type 0} → Side → PathState C → PlainSegment
+unsent_segment s p = record_or_ack p.profile s (first_unsent (end_at s p)) (end_at s p)
+
+abbrev pub having_sent_unsent : {C : Type 0} → Side → PathState C → PathEnd
+having_sent_unsent s p = having_sent to_send.Unsent p.clock (unsent_segment s p) (end_at s p)
+
+-- the SYN of the end that opens, which was never sent
+abbrev pub is_syn_due : PathEnd → Bool
+is_syn_due e = is_opening e.tcp.state && is_some (first_unsent e)
+
+-- once the own SYN is acknowledged records are sent that the congestion window has room for
+abbrev pub fits : EndState → Record → Bool
+fits s r = nat_le 1 s.send.una && nat_le (length r.piece) (room s)
+
+-- ---- grants
+
+-- octets of the payload of a full segment
+abbrev pub payload_size : Profile → ℕ
+payload_size c = c.mss - 28
+
+-- both SYNs are acknowledged, no FIN was sent, there is room for a full segment, positions are left, and the end may send a
+-- DSS or is the one that opened
+abbrev pub may_ask : Profile → Side → PathEnd → Bool
+may_ask c s e =
+    may_finish e.tcp.state && (nat_le (payload_size c) (room e.tcp) && (not (is_at_limit e.tcp) && (e.modes.clear || is_side_a s)))
+
+abbrev pub data_stands : Profile → Side → PathEnd → Option Record → Bool
+data_stands c s e (Some r) = not (is_closed_to_segments e.tcp.state) && fits e.tcp r
+data_stands c s e None = may_ask c s e
+
+abbrev pub grant_ask : {C : Type 0} → Side → PathState C → Ask
+grant_ask s p = asks.Send s (send_calls.Grant (path_of p) (payload_size p.profile) (end_at s p).modes.standby)
+
+abbrev pub data_ask : {C : Type 0} → Codec C → Side → Option Record → PathState C → Ask
+data_ask k s (Some r) p = sends k s (unsent_segment s p) p
+data_ask k s None p = grant_ask s p
+
+-- the granted piece is to be sent, with one mapping for ever
+abbrev pub granted : Profile → Side → Span → List ℕ → PathEnd → PathEnd
+granted c s span piece e = record e {
+  tcp = record e.tcp { send = after_push piece (mapping_of c s span.from e.tcp.send.nxt piece) e.tcp.send };
+  sending = after_granted span e.sending;
+}
+
+-- what was granted
+pub record Grant : Type 0 where
+  pub span : Span
+  pub piece : List ℕ
+
+abbrev pub grant_in : Reply → Option Grant
+grant_in (replies.Send (send_replies.Granted span piece)) = Some (record { span = span; piece = piece })
+grant_in _ = None
+
+abbrev pub refused_in : Reply → Sending → Sending
+refused_in (replies.Send (send_replies.NoGrant why known)) v = after_refusal why known v
+refused_in _ v = v
+
+abbrev pub refused : Reply → PathEnd → PathEnd
+refused r e = record e { sending = refused_in r e.sending }
+
+-- a refusal ends the asking
+abbrev pub answered_grant : {C : Type 0} → Side → Option Grant → Reply → PathState C → PathState C
+answered_grant s (Some grant) r p = goes_on s (granted p.profile s grant.span grant.piece (end_at s p)) p.agenda p
+answered_grant s None r p = goes_on s (refused r (end_at s p)) (left p) p
+
+-- what is sent leaves the duty where it is, so that the next record is sent, or the next bytes are asked for
+abbrev pub answered_data : {C : Type 0} → Codec C → Side → Option Record → Reply → PathState C → PathState C
+answered_data k s (Some r) reply p = sent_on k s (unsent_segment s p) (having_sent_unsent s p) p.agenda p
+answered_data k s None reply p = answered_grant s (grant_in reply) reply p
+
+abbrev pub answered_syn : {C : Type 0} → Codec C → Side → PathState C → PathState C
+answered_syn k s p = sent_on k s (unsent_segment s p) (having_sent_unsent s p) (left p) p
+
+-- ---- the ends of both streams
+
+-- the acknowledgement that carries the DATA_FIN
+abbrev pub end_segment : {C : Type 0} → Side → PathState C → PlainSegment
+end_segment s p = ack_said p.profile s (end_at s p).tcp.send.nxt (end_at s p).sending.known_end (end_at s p)
+
+abbrev pub having_sent_end : {C : Type 0} → Side → PathState C → PathEnd
+having_sent_end s p =
+    let e = having_sent to_send.Ack p.clock (end_segment s p) (end_at s p) in record e { sending = with_end_sent e.sending }
+
+abbrev pub answered_end : {C : Type 0} → Codec C → Side → PathState C → PathState C
+answered_end k s p = sent_on k s (end_segment s p) (having_sent_end s p) (left p) p
+
+abbrev pub fin_segment_of : {C : Type 0} → Side → PathState C → PlainSegment
+fin_segment_of s p = fin_said p.profile (end_at s p)
+
+-- the FIN is pushed and sent at once
+abbrev pub having_sent_fin : {C : Type 0} → Side → PathState C → PathEnd
+having_sent_fin s p =
+    let e = with_edge_told (fin_segment_of s p) (end_at s p) in
+    record e { tcp = after_sending to_send.Fin p.clock (after_finishing e.tcp) }
+
+abbrev pub answered_fin : {C : Type 0} → Codec C → Side → PathState C → PathState C
+answered_fin k s p = sent_on k s (fin_segment_of s p) (having_sent_fin s p) (left p) p
+
+-- ---- the timer
+
+-- it is settled by the reasons of the subflow and of the streams
+abbrev pub after_timer : ℕ → PathEnd → PathEnd
+after_timer now e = record e {
+  tcp = after_settling (is_waiting e.sending) e.sending.news now e.tcp;
+  sending = without_news e.sending;
+}

@@ -1,0 +1,116 @@
+-- What one end of a path keeps, by concern. The subflow is `subflow_tcp`'s own.
+use Rattle.std.specs.Prelude.{ℕ, Bool, true, false, Option, Some, None, List, []}
+use Rattle.send_book.specs.declared.call.Span.{Span}
+use Rattle.data_close.specs.declared.close_state.CloseState.{CloseState}
+use Rattle.dss_mapping.specs.Mappings.{Mappings, no_mappings}
+use Rattle.fallback_state.specs.declared.fall.Mode.TheVariants.{Starting}
+use Rattle.subflow_tcp.specs.declared.segments.Outgoing.{Outgoing}
+use Rattle.subflow_tcp.specs.State.{EndState}
+use Rattle.path_core.specs.declared.heard.Heard.{Heard}
+use Rattle.path_core.specs.declared.modes.Modes.{Modes}
+
+-- the side's own stream
+pub record Sending : Type 0 where
+  -- how many bytes there are in all, once a refused grant told it
+  pub known_end : Option ℕ
+  -- DATA_FIN was sent by this end
+  pub fin_sent : Bool
+  -- the own DATA_FIN is acknowledged, and the peer's came, by what this end heard
+  pub close : CloseState
+  -- the last grant was refused as the peer's window is shut
+  pub shut : Bool
+  -- how many bytes of the stream, the DATA_FIN among them, the peer acknowledged to this end
+  pub heard : ℕ
+  -- the places that were granted to this end and aren't below all that it heard
+  pub granted : List Span
+  -- one of them, or the DATA_FIN, was acknowledged since the timer was settled last
+  pub news : Bool
+
+-- the peer's stream
+pub record Receiving : Type 0 where
+  -- what is to be acknowledged, and how much more is taken, as the book told it last
+  pub next : ℕ
+  pub window : ℕ
+  -- the edge of the window that the last segment told
+  pub told_edge : ℕ
+  -- which place each position has
+  pub mappings : Mappings
+
+-- a payload that came, and the position of its first octet
+pub record Payload : Type 0 where
+  pub position : ℕ
+  pub octets : List ℕ
+
+-- what the last copy said, as far as it is still to be treated
+pub record Treated : Type 0 where
+  -- what its options say, in their order
+  pub items : List Heard
+  -- the end became established by it
+  pub opened : Bool
+  -- its keys were told already
+  pub keys_told : Bool
+  -- its payload, until it is kept or dropped
+  pub payload : Option Payload
+  -- it has an option of Multipath TCP
+  pub has_option : Bool
+  -- the ends of the stream that its DATA_FINs told, in their order
+  pub fins : List ℕ
+  -- bytes or an end were told since the book was asked last what is to be acknowledged
+  pub asked : Bool
+  -- the reset that answers it at a dead end
+  pub answer : Option Outgoing
+
+-- one end
+pub record PathEnd : Type 0 where
+  pub tcp : EndState
+  pub sending : Sending
+  pub receiving : Receiving
+  pub modes : Modes
+  pub treated : Treated
+
+abbrev pub no_sending : Sending
+no_sending = record {
+  known_end = None;
+  fin_sent = false;
+  close = record { peer_came = false; own_acked = false };
+  shut = false;
+  heard = 0;
+  granted = [];
+  news = false;
+}
+
+abbrev pub no_receiving : Receiving
+no_receiving = record { next = 0; window = 0; told_edge = 0; mappings = no_mappings }
+
+-- no copy is treated
+abbrev pub nothing_treated : Treated
+nothing_treated = record {
+  items = [];
+  opened = false;
+  keys_told = false;
+  payload = None;
+  has_option = false;
+  fins = [];
+  asked = false;
+  answer = None;
+}
+
+abbrev pub first_modes : ℕ → Modes
+first_modes own_key = record {
+  mode = Starting;
+  standby = false;
+  sole = false;
+  clear = false;
+  own_key = own_key;
+  peer_key = None;
+}
+
+-- an end of which nothing happened yet
+abbrev pub opening_end : EndState → ℕ → PathEnd
+opening_end tcp own_key = record {
+  tcp = tcp;
+  sending = no_sending;
+  receiving = no_receiving;
+  modes = first_modes own_key;
+  treated = nothing_treated;
+}

@@ -1,0 +1,153 @@
+-- What happens on a path by itself: lines of the script, copies that arrive, timers that run out.
+use Rattle.std.specs.Prelude.{ℕ, ◌+◌, max, Bool, true, false, nat_lt, nat_le, if◌then◌else◌, Option, Some, None, List, [], ◌∷◌, ◌++◌}
+use Rattle.std.specs.Option.{option_and_then}
+use Rattle.outside_kit.specs.declared.side.Side.{Side}
+use Rattle.outside_kit.specs.declared.side.Side.TheVariants.{A, B}
+use Rattle.link_script.specs.declared.script.ScriptLine.{ScriptLine}
+use Rattle.link_script.specs.declared.script.ScriptLine.TheVariants.{Die}
+use Rattle.link_model.specs.declared.flight.Due.{Due}
+use Rattle.link_model.specs.declared.flight.Flight.{Flight}
+use Rattle.link_model.specs.Steps.{next_due, arriving, after_delivery, after_cut, peer}
+use Rattle.subflow_tcp.specs.States.{is_dead}
+use Rattle.subflow_tcp.specs.Expiring.{is_sixth, after_fire}
+use Rattle.subflow_tcp.specs.Judging.{meaning_of}
+use Rattle.subflow_tcp.specs.Taking.{after_death}
+use Rattle.path_core.specs.declared.ask.Ask.{Ask}
+use Rattle.path_core.specs.declared.ask.Ask.TheVariants as asks
+use Rattle.path_core.specs.declared.ask.LocalStep.TheVariants as steps
+use Rattle.path_core.specs.declared.duty.Duty.{Duty}
+use Rattle.path_core.specs.declared.duty.Duty.TheVariants as duties
+use Rattle.path_core.specs.Agenda.{rest_of_turn, emission, expired, expired_for_ever}
+use Rattle.path_core.specs.Arriving.{expected_by, copy_of, items_of, after_meaning, template_of}
+use Rattle.path_core.specs.Codec.{Codec, HeardSegment}
+use Rattle.path_core.specs.Ends.{PathEnd, nothing_treated}
+use Rattle.path_core.specs.State.{PathState, LineLeft, end_at, with_agenda, goes_on}
+use Rattle.path_core.specs.Words.{tail_of}
+
+pub data Event : Type 0 where
+  -- a line comes due
+  Takes : LineLeft → Event
+  -- a copy arrives
+  Arrives : Due → Event
+  -- a timer runs out, at this tick
+  Fires : Side → ℕ → Event
+
+abbrev pub tick_of : Event → ℕ
+tick_of (Event.Takes line) = line.tick
+tick_of (Event.Arrives due) = due.tick
+tick_of (Event.Fires s tick) = tick
+
+-- ---- which is next
+
+abbrev pub next_line : List LineLeft → Option Event
+next_line [] = None
+next_line (line ∷ lines) = Some (Event.Takes line)
+
+abbrev pub next_copy : Option Due → Option Event
+next_copy None = None
+next_copy (Some due) = Some (Event.Arrives due)
+
+abbrev pub next_fire : Side → Option ℕ → Option Event
+next_fire s None = None
+next_fire s (Some tick) = Some (Event.Fires s tick)
+
+-- the earlier one; at one tick the first
+abbrev pub earlier : Option Event → Option Event → Option Event
+earlier None other = other
+earlier (Some x) None = Some x
+earlier (Some x) (Some y) = if nat_le (tick_of x) (tick_of y) then Some x else Some y
+
+-- at one tick lines come before copies, and copies before timers, that of A first
+abbrev pub earliest : {C : Type 0} → PathState C → Option Event
+earliest p =
+    earlier (next_line p.lines) (earlier (next_copy (next_due p.link.under_way))
+    (earlier (next_fire A p.a.tcp.timing.timer) (next_fire B p.b.tcp.timing.timer)))
+
+-- an event that comes before this tick
+abbrev pub before : ℕ → Event → Option Event
+before until event = if nat_lt (tick_of event) until then Some event else None
+
+-- the earliest event before the round's end
+abbrev pub next_event : {C : Type 0} → PathState C → Option Event
+next_event p = option_and_then (before p.until) (earliest p)
+
+abbrev pub step_of : Event → Ask
+step_of (Event.Takes line) = asks.Local (steps.Line line.number)
+step_of (Event.Arrives due) = asks.Local (steps.Arrive due.to due.copy)
+step_of (Event.Fires s tick) = asks.Local (steps.Fire s)
+
+-- the step of an event that may be there
+abbrev pub step_for : Option Event → Ask
+step_for None = asks.Local steps.End
+step_for (Some event) = step_of event
+
+-- ---- what each makes of the path
+
+-- the tick is that of the event
+abbrev pub at_tick : {C : Type 0} → ℕ → PathState C → PathState C
+at_tick tick p = record p { clock = max p.clock tick }
+
+-- nothing is sent, kept or awaited any more
+abbrev pub died : PathEnd → PathEnd
+died e = record e { tcp = after_death false e.tcp; treated = nothing_treated }
+
+abbrev pub died_unless_dead : PathEnd → PathEnd
+died_unless_dead e = if is_dead e.tcp.state then e else died e
+
+-- an end that dies gives back its bytes and tells it
+abbrev pub leaves_unless_dead : Side → PathEnd → List Duty
+leaves_unless_dead s e = if is_dead e.tcp.state then [] else duties.Leave s ∷ []
+
+-- the path dies: what is under way is lost, and both ends die, A's first
+abbrev pub path_died : {C : Type 0} → PathState C → PathState C
+path_died p = record p {
+  link = after_cut p.link;
+  a = died_unless_dead p.a;
+  b = died_unless_dead p.b;
+  agenda = leaves_unless_dead A p.a ++ (leaves_unless_dead B p.b ++ rest_of_turn);
+}
+
+abbrev pub is_death : ScriptLine → Bool
+is_death (Die path tick) = true
+is_death _ = false
+
+-- the others lead to nothing yet
+abbrev pub after_line : {C : Type 0} → Bool → PathState C → PathState C
+after_line death p = if death then path_died p else with_agenda rest_of_turn p
+
+abbrev pub line_taken : {C : Type 0} → LineLeft → PathState C → PathState C
+line_taken line p = after_line (is_death line.line) (record (at_tick line.tick p) { lines = tail_of p.lines })
+
+-- a copy that doesn't parse is dropped
+abbrev pub copy_heard : {C : Type 0} → Side → Option HeardSegment → PathState C → PathState C
+copy_heard s None p = with_agenda (emission s) p
+copy_heard s (Some h) p =
+    let e = end_at s p in let meaning = meaning_of (copy_of h) e.tcp in
+    goes_on s (after_meaning p.profile s p.clock h meaning e) (template_of s (items_of s h) meaning) p
+
+abbrev pub heard_in : {C : Type 0} → Codec C → Side → Option (Flight C) → PathState C → Option HeardSegment
+heard_in k s None p = None
+heard_in k s (Some flight) p = k.reads p.profile.spelling (peer s) (expected_by (end_at s p)) flight.carried
+
+abbrev pub copy_taken : {C : Type 0} → Codec C → Due → PathState C → PathState C
+copy_taken k due p =
+    copy_heard due.to (heard_in k due.to (arriving due p.link) p) (record (at_tick due.tick p) { link = after_delivery due p.link })
+
+-- the sixth expiry in a row ends the end
+abbrev pub template_fired : Bool → Side → List Duty
+template_fired sixth s = if sixth then expired_for_ever s else expired s
+
+abbrev pub after_firing : ℕ → PathEnd → PathEnd
+after_firing now e = record e { tcp = after_fire now e.tcp }
+
+abbrev pub timer_fired : {C : Type 0} → Side → PathState C → PathState C
+timer_fired s p = goes_on s (after_firing p.clock (end_at s p)) (template_fired (is_sixth (end_at s p).tcp) s) p
+
+abbrev pub happens : {C : Type 0} → Codec C → Event → PathState C → PathState C
+happens k (Event.Takes line) p = line_taken line p
+happens k (Event.Arrives due) p = copy_taken k due p
+happens k (Event.Fires s tick) p = timer_fired s (at_tick tick p)
+
+abbrev pub happens_if : {C : Type 0} → Codec C → Option Event → PathState C → PathState C
+happens_if k None p = with_agenda rest_of_turn p
+happens_if k (Some event) p = happens k event p

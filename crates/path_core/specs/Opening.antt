@@ -1,0 +1,83 @@
+-- How path 0 opens: SYN, SYN/ACK, and the keys of both sides (RFC 8684, section 3.1).
+use Rattle.std.specs.Prelude.{ℕ, Bool, true, false, not, ◌&&◌, is_some, Option, Some, None, List, [], ◌∷◌}
+use Rattle.outside_kit.specs.declared.side.Side.{Side}
+use Rattle.path_segments.specs.Spelled.{PlainSegment}
+use Rattle.send_book.specs.declared.call.SendCall.TheVariants as send_calls
+use Rattle.control_book.specs.declared.call.ControlCall.TheVariants as control_calls
+use Rattle.control_book.specs.declared.call.ControlReply.TheVariants as control_replies
+use Rattle.subflow_tcp.specs.declared.segments.Occasion.TheVariants as to_send
+use Rattle.path_core.specs.declared.ask.Ask.{Ask}
+use Rattle.path_core.specs.declared.ask.Ask.TheVariants as asks
+use Rattle.path_core.specs.declared.ask.LocalStep.TheVariants as steps
+use Rattle.path_core.specs.declared.ask.Reply.{Reply}
+use Rattle.path_core.specs.declared.ask.Reply.TheVariants as replies
+use Rattle.path_core.specs.declared.heard.Heard.{Heard}
+use Rattle.path_core.specs.declared.heard.Heard.TheVariants as says
+use Rattle.path_core.specs.Closing.{after_acked}
+use Rattle.path_core.specs.Codec.{Codec}
+use Rattle.path_core.specs.declared.modes.Modes.{Modes}
+use Rattle.path_core.specs.Ends.{PathEnd}
+use Rattle.path_core.specs.Segments.{syn_ack_said}
+use Rattle.path_core.specs.Sends.{sends, having_sent, sent_on}
+use Rattle.path_core.specs.State.{PathState, end_at, goes_on, left, path_of, with_agenda}
+
+-- ---- the window of a SYN
+
+-- nothing is acknowledged, and the window is told as it stands
+abbrev pub syn_window_ask : Side → PathEnd → Ask
+syn_window_ask s e = asks.Send s (send_calls.AckIn 0 e.tcp.congestion.told.window)
+
+-- ---- the SYN/ACK
+
+abbrev pub syn_ack_of : {C : Type 0} → Side → PathState C → PlainSegment
+syn_ack_of s p = syn_ack_said p.profile s (end_at s p)
+
+-- while the SYN isn't acknowledged this is another sending of its record
+abbrev pub answered_syn_ack : {C : Type 0} → Codec C → Side → PathState C → PathState C
+answered_syn_ack k s p =
+    sent_on k s (syn_ack_of s p) (having_sent to_send.SynAck p.clock (syn_ack_of s p) (end_at s p)) (left p) p
+
+-- ---- keys
+
+abbrev pub key_heard : List Heard → Option ℕ
+key_heard [] = None
+key_heard (says.PeerKey key ∷ items) = Some key
+key_heard (item ∷ items) = key_heard items
+
+abbrev pub peer_key_ask : Side → Option ℕ → Ask
+peer_key_ask s None = asks.Local steps.End
+peer_key_ask s (Some key) = asks.Control s (control_calls.PeerKey key)
+
+abbrev pub with_peer_key : Option ℕ → PathEnd → PathEnd
+with_peer_key key e = record e { modes = record e.modes { peer_key = key } }
+
+-- the own key and the peer's
+pub record KeyPair : Type 0 where
+  pub own : ℕ
+  pub peer : ℕ
+
+abbrev pub keys_heard : List Heard → Option KeyPair
+keys_heard [] = None
+keys_heard (says.Keys own peer ∷ items) = Some (record { own = own; peer = peer })
+keys_heard (item ∷ items) = keys_heard items
+
+abbrev pub keys_ask : Side → Option KeyPair → Ask
+keys_ask s None = asks.Local steps.End
+keys_ask s (Some keys) = asks.Control s (control_calls.Keys keys.own keys.peer)
+
+-- where the control book noted the keys, the peer's is kept, and the end may send a DSS from now on
+abbrev pub keys_in : Reply → Option KeyPair → Modes → Modes
+keys_in (replies.Control control_replies.Noted) (Some keys) m = record m { peer_key = Some keys.peer; clear = true }
+keys_in _ keys m = m
+
+abbrev pub after_keys : Reply → Option KeyPair → PathEnd → PathEnd
+after_keys r keys e = record e { modes = keys_in r keys e.modes; treated = record e.treated { keys_told = true } }
+
+-- the end left SynReceived by a copy with both keys
+abbrev pub is_opened_by_keys : PathEnd → Bool
+is_opened_by_keys e = e.treated.opened && is_some (keys_heard e.treated.items)
+
+-- ---- the path lives
+
+abbrev pub live_ask : {C : Type 0} → Side → PathState C → Ask
+live_ask s p = asks.Control s (control_calls.Live (path_of p) false)

@@ -1,0 +1,118 @@
+-- The mappings that an end learns, and the bytes that its receive edge passes (RFC 8684, section 3.3.1).
+use Rattle.std.specs.Prelude.{ℕ, zero, suc, ◌+◌, ◌-◌, ◌^◌, min, Bool, true, false, not, ◌&&◌, ◌||◌, ◌==◌, nat_lt, nat_le, if◌then◌else◌, is_some, Option, Some, None, List, length, take, find}
+use Rattle.dss_checksum.specs.Checksum.{dss_checksum}
+use Rattle.dss_mapping.specs.declared.kept.KeptMapping.{KeptMapping}
+use Rattle.dss_mapping.specs.declared.learn.Learn.{Learn}
+use Rattle.dss_mapping.specs.declared.learn.Learn.TheVariants.{New, Same, Clash}
+use Rattle.dss_mapping.specs.declared.run.Run.{Run}
+use Rattle.dss_mapping.specs.Runs.{covers}
+use Rattle.dss_mapping.specs.Mappings.{Mappings, run_of, all_runs, clash_of, mapping_at, after_learn, after_forget}
+use Rattle.link_model.specs.Steps.{peer}
+use Rattle.outside_kit.specs.declared.side.Side.{Side}
+use Rattle.subflow_recv.specs.Receiving.{filled, after_advance, after_forget_from}
+use Rattle.subflow_tcp.specs.State.{EndState}
+use Rattle.path_core.specs.Ends.{PathEnd, Receiving}
+use Rattle.path_core.specs.State.{Profile}
+use Rattle.path_core.specs.Segments.{bare_mapping}
+
+-- ---- learning
+
+-- so many positions from this one on have a place
+abbrev pub all_covered : ℕ → ℕ → List Run → Bool
+all_covered zero from runs = true
+all_covered (suc count) from runs = is_some (find (covers from) runs) && all_covered count (suc from) runs
+
+abbrev pub is_known : Run → Mappings → Bool
+is_known told v = all_covered (told.to - told.pos) told.pos (all_runs v)
+
+abbrev pub answer_by : Option Learn → Run → Mappings → Learn
+answer_by (Some clash) told v = clash
+answer_by None told v = if is_known told v then Same else New
+
+-- what is answered to a mapping: a clash, or else whether all its positions had their places before
+abbrev pub learn_of : KeptMapping → Mappings → Learn
+learn_of kept v = answer_by (clash_of (run_of kept) v) (run_of kept) v
+
+abbrev pub learned : KeptMapping → Mappings → Mappings
+learned kept v = after_learn kept (learn_of kept v) v
+
+abbrev pub clashes : KeptMapping → Mappings → Bool
+clashes kept v = is_some (clash_of (run_of kept) v)
+
+-- a mapping of the peer, as it was heard by the end of this side
+abbrev pub kept_of : Profile → Side → ℕ → ℕ → ℕ → ℕ → KeptMapping
+kept_of c s place position len checksum = record {
+  pos = position;
+  place = place;
+  mapping = record (bare_mapping c (peer s) place position len) { checksum = checksum };
+}
+
+abbrev pub with_learned : KeptMapping → PathEnd → PathEnd
+with_learned kept e = record e { receiving = record e.receiving { mappings = learned kept e.receiving.mappings } }
+
+-- ---- what is in order and mapped
+
+-- bytes that the edge can pass, and the place of the first one
+pub record Piece : Type 0 where
+  pub place : ℕ
+  pub octets : List ℕ
+
+-- without checksums: what is in order up to the mapping's end, with places below 2^62
+abbrev pub count_in : ℕ → KeptMapping → ℕ
+count_in edge kept = min (kept.pos + kept.mapping.length - edge) (2 ^ 62 - (kept.place + (edge - kept.pos)))
+
+abbrev pub piece_in : KeptMapping → EndState → Piece
+piece_in kept s = record {
+  place = kept.place + (s.recv.edge - kept.pos);
+  octets = take (count_in s.recv.edge kept) (filled s.recv.places);
+}
+
+-- with checksums: the whole mapping is there
+abbrev pub is_whole : KeptMapping → EndState → Bool
+is_whole kept s =
+    kept.pos == s.recv.edge && (nat_lt 0 kept.mapping.length && (nat_le kept.mapping.length (length (filled s.recv.places))
+    && nat_le (kept.place + kept.mapping.length) (2 ^ 62)))
+
+-- and the checksum is that of its bytes
+abbrev pub is_right : KeptMapping → EndState → Bool
+is_right kept s = dss_checksum kept.mapping (take kept.mapping.length (filled s.recv.places)) == kept.mapping.checksum
+
+abbrev pub some_piece : Piece → Option Piece
+some_piece piece = if nat_lt 0 (length piece.octets) then Some piece else None
+
+abbrev pub checked_piece : Bool → KeptMapping → EndState → Option Piece
+checked_piece checksums kept s =
+    if checksums then (if is_whole kept s && is_right kept s then some_piece (piece_in kept s) else None)
+    else some_piece (piece_in kept s)
+
+abbrev pub piece_by : Bool → Option KeptMapping → EndState → Option Piece
+piece_by checksums None s = None
+piece_by checksums (Some kept) s = checked_piece checksums kept s
+
+-- the next bytes to be placed
+abbrev pub next_piece : Profile → PathEnd → Option Piece
+next_piece c e = piece_by c.spelling.checksums (mapping_at e.receiving.mappings e.tcp.recv.edge) e.tcp
+
+-- the edge is behind them
+abbrev pub passed_to : ℕ → PathEnd → PathEnd
+passed_to to e = record e {
+  tcp = record e.tcp { recv = after_advance to e.tcp.recv };
+  receiving = record e.receiving { mappings = after_forget to e.receiving.mappings };
+}
+
+abbrev pub after_piece : Piece → PathEnd → PathEnd
+after_piece piece e = passed_to (e.tcp.recv.edge + length piece.octets) e
+
+-- ---- a wrong checksum
+
+abbrev pub is_wrong : Bool → KeptMapping → EndState → Bool
+is_wrong checksums kept s = checksums && (is_whole kept s && not (is_right kept s))
+
+-- every octet from the mapping's first position on is forgotten, so that what comes for it is kept again
+abbrev pub forgotten_by : Bool → Option KeptMapping → PathEnd → PathEnd
+forgotten_by checksums None e = e
+forgotten_by checksums (Some kept) e =
+    if is_wrong checksums kept e.tcp then record e { tcp = record e.tcp { recv = after_forget_from kept.pos e.tcp.recv } } else e
+
+abbrev pub after_check : Profile → PathEnd → PathEnd
+after_check c e = forgotten_by c.spelling.checksums (mapping_at e.receiving.mappings e.tcp.recv.edge) e

@@ -1,0 +1,81 @@
+-- The numbers that show that a turn ends, each of which falls where those before it stay: ticks until the round's end, events
+-- that are due by now, the weight of what is to be done, octets in order that aren't passed, and what may still be sent.
+use Rattle.std.specs.Prelude.{ℕ, ◌+◌, ◌-◌, ◌*◌, nat_le, Bool, true, false, if◌then◌else◌, Option, Some, None, List, [], ◌∷◌, length}
+use Rattle.link_model.specs.declared.flight.Flight.{Flight}
+use Rattle.subflow_recv.specs.Receiving.{filled}
+use Rattle.subflow_send.specs.Records.{Record}
+use Rattle.subflow_send.specs.Rules.{is_unsent}
+use Rattle.path_core.specs.declared.duty.Duty.{Duty}
+use Rattle.path_core.specs.declared.duty.Duty.TheVariants as duties
+use Rattle.path_core.specs.Ends.{PathEnd}
+use Rattle.path_core.specs.State.{PathState, LineLeft}
+
+abbrev pub ticks_left : {C : Type 0} → PathState C → ℕ
+ticks_left p = p.until - p.clock
+
+-- ---- events
+
+abbrev pub one_if_due : ℕ → ℕ → ℕ
+one_if_due clock tick = if nat_le tick clock then 1 else 0
+
+abbrev pub due_copies : {C : Type 0} → ℕ → List (Flight C) → ℕ
+due_copies clock [] = 0
+due_copies clock (f ∷ flights) = one_if_due clock f.tick + due_copies clock flights
+
+abbrev pub due_lines : ℕ → List LineLeft → ℕ
+due_lines clock [] = 0
+due_lines clock (line ∷ lines) = one_if_due clock line.tick + due_lines clock lines
+
+abbrev pub due_timer : ℕ → Option ℕ → ℕ
+due_timer clock None = 0
+due_timer clock (Some tick) = one_if_due clock tick
+
+abbrev pub due_by_now : {C : Type 0} → PathState C → ℕ
+due_by_now p =
+    due_copies p.clock p.link.under_way + (due_lines p.clock p.lines
+    + (due_timer p.clock p.a.tcp.timing.timer + due_timer p.clock p.b.tcp.timing.timer))
+
+-- ---- duties
+
+-- as much as all that its replies put in its place
+abbrev pub weight : Duty → ℕ
+weight (duties.Heard s index) = 11
+weight (duties.Edge s) = 11
+weight (duties.HeardFin s index) = 11
+weight (duties.BreakAck s reason) = 7
+weight (duties.BreakReset s reason) = 4
+weight (duties.Reset s) = 4
+weight (duties.Leave s) = 1
+weight _ = 0
+
+-- and each duty itself
+abbrev pub weights : List Duty → ℕ
+weights [] = 0
+weights (d ∷ ds) = 1 + (weight d + weights ds)
+
+-- ---- octets
+
+abbrev pub held : PathEnd → ℕ
+held e = length (filled e.tcp.recv.places)
+
+abbrev pub bytes_left : {C : Type 0} → PathState C → ℕ
+bytes_left p = held p.a + held p.b
+
+-- ---- sendings
+
+-- octets of records, to be sent or under way
+abbrev pub outstanding : List Record → ℕ
+outstanding [] = 0
+outstanding (r ∷ rs) = length r.piece + outstanding rs
+
+-- records to be sent
+abbrev pub unsent_count : List Record → ℕ
+unsent_count [] = 0
+unsent_count (r ∷ rs) = (if is_unsent r then 1 else 0) + unsent_count rs
+
+-- each octet of room may become a piece, which is sent once
+abbrev pub work : PathEnd → ℕ
+work e = 2 * (e.tcp.congestion.reno.window - outstanding e.tcp.send.records) + unsent_count e.tcp.send.records
+
+abbrev pub sendings_left : {C : Type 0} → PathState C → ℕ
+sendings_left p = work p.a + work p.b

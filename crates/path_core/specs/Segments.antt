@@ -1,0 +1,153 @@
+-- The segments that an end sends: their options, their windows, and the mapping of a piece (RFC 8684, section 3).
+use Rattle.std.specs.Prelude.{ℕ, ◌+◌, ◌-◌, ◌%◌, ◌^◌, ◌==◌, ◌&&◌, not, Bool, true, false, if◌then◌else◌, Option, Some, None, List, [], ◌∷◌, length}
+use Rattle.outside_kit.specs.declared.side.Side.{Side}
+use Rattle.outside_kit.specs.declared.side.Side.TheVariants.{A, B}
+use Rattle.seq_units.specs.declared.mapping.Mapping.{Mapping}
+use Rattle.mptcp_options.specs.declared.capable.CapableKeys.TheVariants.{NoKey, Sender, Both, WithData}
+use Rattle.dss_checksum.specs.Checksum.{dss_checksum}
+use Rattle.path_segments.specs.declared.spelling.Side.TheVariants as spelled_side
+use Rattle.path_segments.specs.declared.spelling.Side.{Side as SpelledSide}
+use Rattle.path_segments.specs.declared.segment.PathSegment.{PathSegment}
+use Rattle.path_segments.specs.declared.segment.PathOption.TheVariants.{Capable, Dss, Reset}
+use Rattle.path_segments.specs.declared.segment.PathMapping.{PathMapping}
+use Rattle.path_segments.specs.declared.segment.PathMapping.TheVariants.{Bytes, End}
+use Rattle.path_segments.specs.Spelling.{whole_number}
+use Rattle.path_segments.specs.Options.{PlainOption, relative_number}
+use Rattle.path_segments.specs.Spelled.{PlainSegment}
+use Rattle.subflow_send.specs.declared.record.RecordKind.{RecordKind}
+use Rattle.subflow_send.specs.declared.record.RecordKind.TheVariants.{Syn, Data, Fin}
+use Rattle.subflow_send.specs.Records.{Record}
+use Rattle.subflow_tcp.specs.declared.segments.Outgoing.{Outgoing}
+use Rattle.subflow_tcp.specs.Emitting.{ack_at, syn_ack_segment, reset_segment, fin_segment, record_segment}
+use Rattle.path_core.specs.Ends.{PathEnd}
+use Rattle.path_core.specs.State.{Profile}
+use Rattle.path_core.specs.Words.{is_side_a}
+
+-- the same side, as the segments of a path have it
+abbrev pub spelled_by : Side → SpelledSide
+spelled_by A = spelled_side.A
+spelled_by B = spelled_side.B
+
+-- ---- mappings
+
+-- of these bytes, from this place and this position on, before there is a checksum
+abbrev pub bare_mapping : Profile → Side → ℕ → ℕ → ℕ → Mapping
+bare_mapping c s place position len = record {
+  number = whole_number c.spelling (spelled_by s) place;
+  relative = relative_number position;
+  length = len;
+  checksum = 0;
+}
+
+-- where checksums are used, that of the mapping and its bytes (RFC 8684, section 3.3.1)
+abbrev pub checksum_in : Profile → Mapping → List ℕ → ℕ
+checksum_in c mapping octets = if c.spelling.checksums then dss_checksum mapping octets else 0
+
+-- the mapping that a granted piece has for ever
+abbrev pub mapping_of : Profile → Side → ℕ → ℕ → List ℕ → Mapping
+mapping_of c s place position octets =
+    record (bare_mapping c s place position (length octets)) {
+      checksum = checksum_in c (bare_mapping c s place position (length octets)) octets;
+    }
+
+-- the place that the first number of a mapping stands for
+abbrev pub place_numbered : Profile → Side → ℕ → ℕ
+place_numbered c s number = (number + (2 ^ 64 - whole_number c.spelling (spelled_by s) 0)) % 2 ^ 64
+
+-- a checksum stands in an option exactly where checksums are used
+abbrev pub checksum_told : Profile → ℕ → Option ℕ
+checksum_told c checksum = if c.spelling.checksums then Some checksum else None
+
+-- ---- options
+
+-- on a SYN: A asks for Multipath TCP, and B answers with its key (RFC 8684, section 3.1)
+abbrev pub syn_options : Profile → Side → PathEnd → List PlainOption
+syn_options c A e = Capable c.spelling.checksums false NoKey ∷ []
+syn_options c B e = Capable c.spelling.checksums false (Sender e.modes.own_key) ∷ []
+
+-- before A may send a DSS it shows both keys; B says nothing before it has them
+abbrev pub key_options : Profile → Side → Option ℕ → PathEnd → List PlainOption
+key_options c A (Some peer) e = Capable c.spelling.checksums false (Both e.modes.own_key peer) ∷ []
+key_options c A None e = []
+key_options c B peer e = []
+
+-- the mapping of a DATA_FIN without data: relative number 0 and length 1 (RFC 8684, section 3.3.3)
+abbrev pub end_mapping : Profile → Side → Option ℕ → Option (PathMapping ℕ)
+end_mapping c s None = None
+end_mapping c s (Some place) = Some (End place (checksum_told c (checksum_in c (bare_mapping c s place 0 1) [])))
+
+-- on an acknowledgement, perhaps with the DATA_FIN
+abbrev pub ack_options : Profile → Side → Option ℕ → PathEnd → List PlainOption
+ack_options c s fin e =
+    if e.modes.clear then Dss (Some e.receiving.next) (end_mapping c s fin) ∷ [] else key_options c s e.modes.peer_key e
+
+-- on data: the mapping that the piece was granted with
+abbrev pub piece_mapping : Profile → Side → Record → PathMapping ℕ
+piece_mapping c s r =
+    Bytes (place_numbered c s r.mapping.number) r.pos r.mapping.length false (checksum_told c r.mapping.checksum)
+
+-- until A may send a DSS its first piece carries both keys
+abbrev pub is_first_piece : Side → Record → PathEnd → Bool
+is_first_piece s r e = is_side_a s && (not e.modes.clear && r.pos == 1)
+
+abbrev pub first_piece_options : Profile → Option ℕ → Record → PathEnd → List PlainOption
+first_piece_options c (Some peer) r e =
+    Capable c.spelling.checksums false (WithData e.modes.own_key peer r.mapping.length (checksum_told c r.mapping.checksum)) ∷ []
+first_piece_options c None r e = []
+
+abbrev pub piece_options : Profile → Side → Record → PathEnd → List PlainOption
+piece_options c s r e =
+    if is_first_piece s r e then first_piece_options c e.modes.peer_key r e
+    else Dss (Some e.receiving.next) (Some (piece_mapping c s r)) ∷ []
+
+abbrev pub fin_options : PathEnd → List PlainOption
+fin_options e = Dss (Some e.receiving.next) None ∷ []
+
+abbrev pub record_options : RecordKind → Profile → Side → Record → PathEnd → List PlainOption
+record_options Syn c s r e = syn_options c s e
+record_options Data c s r e = piece_options c s r e
+record_options Fin c s r e = fin_options e
+
+-- why the path is reset, where there is a reason; the fault doesn't pass (RFC 8684, section 3.6)
+abbrev pub reset_options : Option ℕ → List PlainOption
+reset_options None = []
+reset_options (Some reason) = Reset false reason ∷ []
+
+-- ---- segments
+
+-- a segment has the window that the book told last, and a SYN the maximum segment size
+abbrev pub segment_of : Profile → Outgoing → List PlainOption → List ℕ → PathEnd → PlainSegment
+segment_of c o options payload e = record {
+  position = o.position;
+  acknowledged = o.acknowledged;
+  syn = o.syn;
+  fin = o.fin;
+  rst = o.rst;
+  window = e.receiving.window;
+  mss = (if o.syn then Some c.mss else None);
+  options = options;
+  payload = payload;
+}
+
+-- the acknowledgement at this position
+abbrev pub ack_said : Profile → Side → ℕ → Option ℕ → PathEnd → PlainSegment
+ack_said c s position fin e = segment_of c (ack_at position e.tcp) (ack_options c s fin e) [] e
+
+-- a record, for the first time or again
+abbrev pub record_said : Profile → Side → Record → PathEnd → PlainSegment
+record_said c s r e = segment_of c (record_segment e.tcp r) (record_options r.kind c s r e) r.piece e
+
+abbrev pub syn_ack_said : Profile → Side → PathEnd → PlainSegment
+syn_ack_said c s e = segment_of c (syn_ack_segment e.tcp) (syn_options c s e) [] e
+
+-- the FIN, also before there is a record of it
+abbrev pub fin_said : Profile → PathEnd → PlainSegment
+fin_said c e = segment_of c (fin_segment e.tcp) (fin_options e) [] e
+
+abbrev pub reset_said : Profile → Option ℕ → PathEnd → PlainSegment
+reset_said c reason e = segment_of c (reset_segment e.tcp) (reset_options reason) [] e
+
+-- a record that may be there
+abbrev pub record_or_ack : Profile → Side → Option Record → PathEnd → PlainSegment
+record_or_ack c s (Some r) e = record_said c s r e
+record_or_ack c s None e = ack_said c s e.tcp.send.nxt None e

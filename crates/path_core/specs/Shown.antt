@@ -1,0 +1,67 @@
+-- A path over segments as values, shown over octets.
+use Rattle.std.specs.Prelude.{ℕ, ◌≡◌, false, Option, Some, List}
+use Rattle.outside_kit.specs.declared.side.Side.{Side}
+use Rattle.link_script.specs.declared.script.ScriptLine.{ScriptLine}
+use Rattle.link_model.specs.declared.flight.Due.{Due}
+use Rattle.link_model.specs.declared.flight.Flight.{Flight}
+use Rattle.link_model.specs.Fate.{is_stripped, is_altered}
+use Rattle.link_model.specs.Laws.{shown}
+use Rattle.link_model.specs.Steps.{peer, arriving}
+use Rattle.path_segments.specs.declared.spelling.Spelling.{Spelling}
+use Rattle.path_segments.specs.HeardLent.{IsExpected}
+use Rattle.path_segments.specs.Laws.{IsFresh}
+use Rattle.path_segments.specs.Spelled.{CanSay}
+use Rattle.path_core.specs.declared.ask.Reply.{Reply}
+use Rattle.path_core.specs.Arriving.{expected_by}
+use Rattle.path_core.specs.Events.{Event, next_event}
+use Rattle.path_core.specs.Octets.{made, octets}
+use Rattle.path_core.specs.Segments.{spelled_by}
+use Rattle.path_core.specs.State.{PathState, end_at}
+use Rattle.path_core.specs.Steps.{asks_of, takes, next_round}
+use Rattle.path_core.specs.Values.{Carried, values}
+
+-- the octets of what is carried
+abbrev pub octets_of : Spelling → Carried → List ℕ
+octets_of spelling carried = made spelling carried.from carried.segment
+
+abbrev pub shown_path : PathState Carried → PathState (List ℕ)
+shown_path p = record {
+  profile = p.profile;
+  link = shown (octets_of p.profile.spelling) p.link;
+  clock = p.clock;
+  until = p.until;
+  lines = p.lines;
+  joined_at = p.joined_at;
+  a = p.a;
+  b = p.b;
+  agenda = p.agenda;
+}
+
+-- a script that strips and alters nothing
+pub record ChangesNothing (lines : List ScriptLine) : Type 0 where
+  pub strips : (from : Side) (number now : ℕ) → is_stripped from number now lines ≡ false
+  pub alters : (from : Side) (number : ℕ) → is_altered from number lines ≡ false
+
+-- A copy that arrives can be said, and its numbers are near those that the end expects.
+pub record IsFreshCopy (p : PathState Carried) (to : Side) (carried : Carried) : Type 0 where
+  pub from : carried.from ≡ peer to
+  pub sayable : CanSay p.profile.spelling (spelled_by (peer to)) carried.segment
+  pub expected : IsExpected (expected_by (end_at to p))
+  pub fresh : IsFresh p.profile.spelling (spelled_by (peer to)) (expected_by (end_at to p)) carried.segment
+
+-- the copy that is due next is fresh, where one is
+abbrev pub NextIsFresh : PathState Carried → Type 0
+NextIsFresh p = (due : Due) (flight : Flight Carried) → next_event p ≡ Some (Event.Arrives due) → arriving due p.link ≡ Some flight
+    → IsFreshCopy p due.to flight.carried
+
+-- what a path over octets asks is what the path over values asks
+abbrev pub AsksTheSame : Type 0
+AsksTheSame = (p : PathState Carried) → asks_of octets (shown_path p) ≡ asks_of values p
+
+-- and it takes each reply as that one does, shown over octets
+abbrev pub TakesTheSame : Type 0
+TakesTheSame = (r : Reply) (p : PathState Carried) → ChangesNothing p.link.lines → NextIsFresh p
+    → takes octets r (shown_path p) ≡ shown_path (takes values r p)
+
+abbrev pub BeginsTheSame : Type 0
+BeginsTheSame = (p : PathState Carried) → next_round (shown_path p) ≡ shown_path (next_round p)

@@ -1,0 +1,160 @@
+-- What the options of a copy make of an end, one thing after the other (RFC 8684, section 3.3).
+use Rattle.std.specs.Prelude.{ℕ, Bool, true, false, not, ◌&&◌, ◌||◌, nat_le, nat_lt, if◌then◌else◌, is_some, Option, Some, None, List, [], ◌∷◌, ◌++◌}
+use Rattle.outside_kit.specs.declared.side.Side.{Side}
+use Rattle.send_book.specs.declared.call.SendCall.TheVariants as send_calls
+use Rattle.send_book.specs.declared.call.SendReply.TheVariants as send_replies
+use Rattle.control_book.specs.declared.call.ControlCall.TheVariants as control_calls
+use Rattle.control_book.specs.declared.call.ControlReply.TheVariants as control_replies
+use Rattle.dss_mapping.specs.declared.kept.KeptMapping.{KeptMapping}
+use Rattle.fallback_state.specs.declared.fall.Event.{Event}
+use Rattle.fallback_state.specs.declared.fall.Event.TheVariants as events
+use Rattle.fallback_state.specs.declared.fall.Verdict.TheVariants as verdicts
+use Rattle.fallback_state.specs.Modes.{is_starting}
+use Rattle.subflow_tcp.specs.Taking.{after_keeping}
+use Rattle.path_core.specs.declared.ask.Ask.{Ask}
+use Rattle.path_core.specs.declared.ask.Ask.TheVariants as asks
+use Rattle.path_core.specs.declared.ask.LocalStep.TheVariants as steps
+use Rattle.path_core.specs.declared.ask.Reply.{Reply}
+use Rattle.path_core.specs.declared.ask.Reply.TheVariants as replies
+use Rattle.path_core.specs.declared.duty.Duty.{Duty}
+use Rattle.path_core.specs.declared.duty.Duty.TheVariants as duties
+use Rattle.path_core.specs.declared.heard.Heard.{Heard}
+use Rattle.path_core.specs.declared.heard.Heard.TheVariants as says
+use Rattle.path_core.specs.Breaking.{answered_break, break_ask}
+use Rattle.path_core.specs.Closing.{after_acked}
+use Rattle.path_core.specs.Codec.{Codec}
+use Rattle.path_core.specs.declared.modes.Modes.{Modes}
+use Rattle.path_core.specs.Ends.{PathEnd, Payload, Sending}
+use Rattle.path_core.specs.Opening.{KeyPair, keys_ask, after_keys}
+use Rattle.path_core.specs.Placing.{clashes, kept_of, with_learned}
+use Rattle.path_core.specs.State.{PathState, Profile, end_at, goes_on, left, path_of, with_agenda}
+use Rattle.path_core.specs.Words.{is_side_a, item_at, replaced}
+
+-- ---- what is told of the mode
+
+abbrev pub fell_ask : {C : Type 0} → Side → Event → PathState C → Ask
+fell_ask s event p = asks.Control s (control_calls.Fell (path_of p) event)
+
+-- the verdict tells the mode; the others lead to nothing yet
+abbrev pub mode_in : Reply → Modes → Modes
+mode_in (replies.Control (control_replies.Verdict (verdicts.Went mode))) m = record m { mode = mode }
+mode_in _ m = m
+
+abbrev pub after_verdict : Reply → PathEnd → PathEnd
+after_verdict r e = record e { modes = mode_in r e.modes }
+
+-- ---- one thing that was heard
+
+-- mappings and DATA_FINs count once the end has the peer's key
+abbrev pub counts : PathEnd → Bool
+counts e = is_some e.modes.peer_key
+
+abbrev pub is_clash : KeptMapping → PathEnd → Bool
+is_clash kept e = clashes kept e.receiving.mappings
+
+-- A mapping that gives a position another place breaks the path. The first ones are told.
+abbrev pub mapping_stands : KeptMapping → PathEnd → Bool
+mapping_stands kept e = counts e && (is_clash kept e || is_starting e.modes.mode)
+
+abbrev pub heard_stands : Profile → Side → Heard → PathEnd → Bool
+heard_stands c s says.Dss e = false
+heard_stands c s (says.DataAck next window) e = true
+heard_stands c s (says.Mapping place position len checksum) e = mapping_stands (kept_of c s place position len checksum) e
+heard_stands c s (says.DataFin place) e = counts e && is_starting e.modes.mode
+heard_stands c s (says.PeerKey key) e = false
+heard_stands c s (says.Keys own peer) e = not e.treated.keys_told
+
+abbrev pub mapping_ask : {C : Type 0} → Codec C → Side → KeptMapping → PathState C → Ask
+mapping_ask k s kept p = if is_clash kept (end_at s p) then break_ask k s 1 p else fell_ask s events.MappingHeard p
+
+abbrev pub heard_ask : {C : Type 0} → Codec C → Side → Heard → PathState C → Ask
+heard_ask k s (says.DataAck next window) p = asks.Send s (send_calls.AckIn next window)
+heard_ask k s (says.Mapping place position len checksum) p = mapping_ask k s (kept_of p.profile s place position len checksum) p
+heard_ask k s (says.DataFin place) p = fell_ask s events.MappingHeard p
+heard_ask k s (says.Keys own peer) p = keys_ask s (Some (record { own = own; peer = peer }))
+heard_ask k s _ p = asks.Local steps.End
+
+-- a Data ACK that was taken and covers something is told next
+abbrev pub is_acked : Reply → Bool
+is_acked (replies.Send (send_replies.Acked bytes fin)) = true
+is_acked _ = false
+
+abbrev pub told_next : {C : Type 0} → Side → Bool → PathState C → List Duty
+told_next s covers p = if covers then replaced (duties.AckHeard s) p.agenda else left p
+
+abbrev pub acked_in : ℕ → Reply → Sending → Sending
+acked_in next (replies.Send (send_replies.Acked bytes fin)) v = after_acked next fin v
+acked_in next _ v = v
+
+abbrev pub with_acked : ℕ → Reply → PathEnd → PathEnd
+with_acked next r e = record e { sending = acked_in next r e.sending }
+
+abbrev pub answered_ack : {C : Type 0} → Side → ℕ → Reply → PathState C → PathState C
+answered_ack s next r p = goes_on s (with_acked next r (end_at s p)) (told_next s (is_acked r && nat_lt 0 next) p) p
+
+abbrev pub answered_mapping : {C : Type 0} → Codec C → Side → KeptMapping → Reply → PathState C → PathState C
+answered_mapping k s kept r p =
+    if is_clash kept (end_at s p) then answered_break k s 1 r p
+    else goes_on s (with_learned kept (after_verdict r (end_at s p))) (left p) p
+
+-- the end of the stream is told later
+abbrev pub with_fin : ℕ → PathEnd → PathEnd
+with_fin place e = record e { treated = record e.treated { fins = e.treated.fins ++ place ∷ [] } }
+
+abbrev pub answered_heard : {C : Type 0} → Codec C → Side → Heard → Reply → PathState C → PathState C
+answered_heard k s (says.DataAck next window) r p = answered_ack s next r p
+answered_heard k s (says.Mapping place position len checksum) r p =
+    answered_mapping k s (kept_of p.profile s place position len checksum) r p
+answered_heard k s (says.DataFin place) r p = goes_on s (with_fin place (after_verdict r (end_at s p))) (left p) p
+answered_heard k s (says.Keys own peer) r p =
+    goes_on s (after_keys r (Some (record { own = own; peer = peer })) (end_at s p)) (left p) p
+answered_heard k s _ r p = with_agenda (left p) p
+
+-- at A the first DSS clears the end
+abbrev pub after_dss : Side → PathEnd → PathEnd
+after_dss s e = record e { modes = record e.modes { clear = e.modes.clear || is_side_a s } }
+
+-- what is passed in silence
+abbrev pub heard_passed : Profile → Side → Heard → PathEnd → PathEnd
+heard_passed c s says.Dss e = after_dss s e
+heard_passed c s (says.Mapping place position len checksum) e =
+    if counts e then with_learned (kept_of c s place position len checksum) e else e
+heard_passed c s (says.DataFin place) e = if counts e then with_fin place e else e
+heard_passed c s _ e = e
+
+-- ---- by the number of the thing
+
+abbrev pub item_stands : Profile → Side → Option Heard → PathEnd → Bool
+item_stands c s None e = false
+item_stands c s (Some item) e = heard_stands c s item e
+
+abbrev pub item_ask : {C : Type 0} → Codec C → Side → Option Heard → PathState C → Ask
+item_ask k s None p = asks.Local steps.End
+item_ask k s (Some item) p = heard_ask k s item p
+
+abbrev pub answered_item : {C : Type 0} → Codec C → Side → Option Heard → Reply → PathState C → PathState C
+answered_item k s None r p = with_agenda (left p) p
+answered_item k s (Some item) r p = answered_heard k s item r p
+
+abbrev pub item_passed : Profile → Side → Option Heard → PathEnd → PathEnd
+item_passed c s None e = e
+item_passed c s (Some item) e = heard_passed c s item e
+
+abbrev pub item_of : ℕ → PathEnd → Option Heard
+item_of index e = item_at index e.treated.items
+
+-- ---- the payload
+
+-- B drops the payload of a copy with an option, as long as it doesn't have both keys
+abbrev pub is_dropped : Side → PathEnd → Bool
+is_dropped s e = not (is_side_a s) && (not e.modes.clear && e.treated.has_option)
+
+abbrev pub kept_payload : Option Payload → PathEnd → PathEnd
+kept_payload None e = e
+kept_payload (Some payload) e = record e { tcp = after_keeping true payload.position payload.octets e.tcp }
+
+abbrev pub without_payload : PathEnd → PathEnd
+without_payload e = record e { treated = record e.treated { payload = None } }
+
+abbrev pub after_keep : Side → PathEnd → PathEnd
+after_keep s e = without_payload (if is_dropped s e then e else kept_payload e.treated.payload e)

@@ -1,0 +1,36 @@
+-- A copy carries the segment itself, and which side sent it. It is heard as it was meant: the machine that theorems speak of.
+use Rattle.std.specs.Prelude.{ℕ, Option, Some, List, []}
+use Rattle.outside_kit.specs.declared.side.Side.{Side}
+use Rattle.segment_wire.specs.Changes.{with_turned_bit}
+use Rattle.path_segments.specs.declared.expected.Expected.{Expected}
+use Rattle.path_segments.specs.declared.spelling.Spelling.{Spelling}
+use Rattle.path_segments.specs.Spelled.{PlainSegment}
+use Rattle.path_segments.specs.Laws.{meant}
+use Rattle.path_core.specs.Codec.{Codec, HeardSegment}
+use Rattle.path_core.specs.Octets.{sum_of}
+
+pub record Carried : Type 0 where
+  pub from : Side
+  pub segment : PlainSegment
+
+abbrev pub carried_by : Spelling → Side → PlainSegment → Carried
+carried_by spelling s segment = record { from = s; segment = segment }
+
+abbrev pub read : Spelling → Side → Expected → Carried → Option HeardSegment
+read spelling s expected carried = Some (meant carried.segment)
+
+-- the link's two changes
+abbrev pub stripped : Carried → Carried
+stripped carried = record carried { segment = record carried.segment { options = [] } }
+
+abbrev pub altered : Carried → Carried
+altered carried = record carried { segment = record carried.segment { payload = with_turned_bit carried.segment.payload } }
+
+abbrev pub values : Codec Carried
+values = record {
+  makes = carried_by;
+  reads = read;
+  sum = sum_of;
+  strips = λ spelling s carried. stripped carried;
+  alters = λ spelling s carried. altered carried;
+}
