@@ -44,10 +44,10 @@ answered_lower Write ds r a is = Then.Falls (rw is (omega arith))
 answered_lower Close ds r a is = Then.Falls (rw is (omega arith))
 answered_lower Read ds r a is =
     read_lower (app_reads_on (bytes_in r) a) _ (a.count + length (bytes_in r)) ds a is (λ on.
-      let both = and_both (not (is_nil (bytes_in r))) _ on in
-      let some = some_bytes (bytes_in r) both.0 in
-      let few = ltb-true _ _ both.1 in
-      (omega (arith, some), omega (arith, few)))
+    let both = and_both (not (is_nil (bytes_in r))) _ on in
+    let some = some_bytes (bytes_in r) both.0 in
+    let few = ltb-true _ _ both.1 in
+    (omega (arith, some), omega (arith, few)))
 answered_lower End ds r a is = Then.Falls (rw is (omega arith))
 
 -- ---- settling
@@ -92,8 +92,8 @@ by_agenda a next [] is first = AppEnds.Over a is
 by_agenda a next (d ∷ ds) is first =
     AppEnds.Asks a (app_ask d a) (ap (λ xs. app_asks_first xs a) is)
     (λ r kind. subst (λ xs. AppEnds (app_settles_down (app_answers xs r a))) (sym is)
-      (next (app_settles_down (app_answered d r a)) (settles_lower (app_answered d r a) a (answered_lower d ds r a is))
-      (settled_settled (app_answered d r a).agenda (app_answered d r a))))
+    (next (app_settles_down (app_answered d r a)) (settles_lower (app_answered d r a) a (answered_lower d ds r a is))
+    (settled_settled (app_answered d r a).agenda (app_answered d r a))))
 
 ends_below : (a : AppState) → Ending Lower a → IsAppSettled a → AppEnds a
 ends_below a (Ending.intro _ rest) first = by_agenda a (λ m lower first. ends_below m (rest m lower) first) a.agenda refl first

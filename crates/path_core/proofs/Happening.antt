@@ -207,12 +207,12 @@ module _ {C : Type 0} where
       chosen event e soon = ⊎_elim
           (λ line. by_line k p p.lines event t refl line soon)
           (λ others. ⊎_elim
-            (λ copy. by_copy k p p.link.under_way event t refl copy soon)
-            (λ timers. ⊎_elim
-              (λ a. by_timer k A p p.a.tcp.timing.timer event t refl a soon)
-              (λ b. by_timer k B p p.b.tcp.timing.timer event t refl b soon)
-              (one_of_both _ _ event timers))
-            (one_of_both _ _ event others))
+          (λ copy. by_copy k p p.link.under_way event t refl copy soon)
+          (λ timers. ⊎_elim
+          (λ a. by_timer k A p p.a.tcp.timing.timer event t refl a soon)
+          (λ b. by_timer k B p p.b.tcp.timing.timer event t refl b soon)
+          (one_of_both _ _ event timers))
+          (one_of_both _ _ event others))
           (one_of_both _ _ event e)
 
       by : (x : Option Event) → next_event p ≡ x → is_some x ≡ true → Lowers p (happens_if k x p)

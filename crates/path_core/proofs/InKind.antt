@@ -39,10 +39,11 @@ granted_kind path max standby b tile positive (Err why) is = tt
 granted_kind path max standby b tile positive (Ok span) is =
     let may = decision-MayTake path max standby b span is in
     let len : length (send.part_of span b.written) ≡ min (span.to - span.from) (length b.written - span.from)
-      = rw (length-take (span.to - span.from) (drop span.from b.written), length-drop span.from b.written) refl in
-    let some : 1 ≤ may.count = may.some positive in
-    (record { some = omega (arith, len, some, may.whole, may.within, tile.whole); most = omega (arith, len, may.whole, may.most) },
-    record { whole = omega (arith, len, may.whole, may.within, tile.whole) })
+    = rw (length-take (span.to - span.from) (drop span.from b.written), length-drop span.from b.written) refl in
+    let some : 1 ≤ may.count = may.some positive in (
+      record { some = omega (arith, len, some, may.whole, may.within, tile.whole); most = omega (arith, len, may.whole, may.most) },
+      record { whole = omega (arith, len, may.whole, may.within, tile.whole) },
+    )
 
 send_kind : (b : Sending) (call : SendCall) → Tile b → send.CanAsk call → IsSendKind call (send.reply_to b call)
 send_kind b (send_calls.Write bytes) tile can = by (b.closed || b.aborted)

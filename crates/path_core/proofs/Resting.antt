@@ -92,7 +92,7 @@ arrival_settles clock (means.Taken pos acknowledged) hint now c s =
     let base : EndState = after_established (after_hearing (after_payload pos hint c s)) in
     let kind = kind_settles clock (ack_kind acknowledged s.send) (sample_of acknowledged s.send) now (record base { send = after_acknowledge acknowledged s.send }) in
     let row = row_settles clock (is_duplicate (ack_kind acknowledged s.send) (told_by hint c) c (after_acknowledgement acknowledged now base))
-        s.timing (after_acknowledgement acknowledged now base) (record { due = kind.due; timeout = kind.timeout }) in
+    s.timing (after_acknowledgement acknowledged now base) (record { due = kind.due; timeout = kind.timeout }) in
     record { due = row.due; timeout = row.timeout }
 
 pub owing_settles : (clock : ℕ) (owing : Bool) (t : Timing) (s : EndState) → Settles clock t s.timing → Settles clock t (owing_if owing s).timing

@@ -238,7 +238,7 @@ same_handed : (s : Side) (segment : PlainSegment) (p : PathState Carried) → Ch
 same_handed s segment p nothing =
     let show : Carried → List ℕ = octets_of p.profile.spelling in
     plain_send (octets.strips p.profile.spelling) (octets.alters p.profile.spelling) s (octets.makes p.profile.spelling s segment) p.clock (shown show p.link)
-        (record { strips = nothing.strips; alters = nothing.alters })
+    (record { strips = nothing.strips; alters = nothing.alters })
     ∙ sym (sent_shown show (λ side c. c) (λ side c. c) (λ side c. c) (λ side c. c) (λ side c. refl) (λ side c. refl) s (values.makes p.profile.spelling s segment) p.clock p.link)
     ∙ ap (shown show) (sym (plain_send (values.strips p.profile.spelling) (values.alters p.profile.spelling) s (values.makes p.profile.spelling s segment) p.clock p.link nothing))
 
@@ -326,8 +326,8 @@ module _ (show : Carried → List ℕ) where
   same_delivery : (due : Due) (link : LinkState Carried) → after_delivery due (shown show link) ≡ shown show (after_delivery due link)
   same_delivery due link =
       let gone : without (position (is_due due) (map (shown_flight show) link.under_way)) (map (shown_flight show) link.under_way)
-          ≡ map (shown_flight show) (without (position (is_due due) link.under_way) link.under_way)
-        = rw (same_position due link.under_way) (same_without (position (is_due due) link.under_way) link.under_way) in
+      ≡ map (shown_flight show) (without (position (is_due due) link.under_way) link.under_way)
+      = rw (same_position due link.under_way) (same_without (position (is_due due) link.under_way) link.under_way) in
       ap (λ flights. record (shown show link) { under_way = flights }) gone
 
 same_line : (death : Bool) (p : PathState Carried) → after_line death (shown_path p) ≡ shown_path (after_line death p)
@@ -354,7 +354,7 @@ same_copy due p fresh =
     let heard : Option HeardSegment = heard_in values due.to (arriving due p.link) p in
     let arrived = ap (λ (o : Option (Flight (List ℕ))). heard_in octets due.to o (shown_path p)) (same_arriving show due p.link.under_way) in
     ap (λ h. copy_heard due.to h (record (at_tick due.tick (shown_path p)) { link = after_delivery due (shown show p.link) }))
-        (arrived ∙ same_read due.to (arriving due p.link) p fresh)
+    (arrived ∙ same_read due.to (arriving due p.link) p fresh)
     ∙ ap (λ link. copy_heard due.to heard (record (at_tick due.tick (shown_path p)) { link = link })) (same_delivery show due p.link)
     ∙ same_copy_heard due.to heard (record (at_tick due.tick p) { link = after_delivery due p.link })
 

@@ -42,10 +42,7 @@ pub enum Duty {
     Live(Side),
     // ---- a copy
     /// Treats one of the things that a copy said, the first being 0.
-    Heard {
-        side: Side,
-        index: u64,
-    },
+    Heard { side: Side, index: u64 },
     /// A Data ACK that covers something was taken: tells it.
     AckHeard(Side),
     /// Keeps the payload. Silent.
@@ -53,10 +50,7 @@ pub enum Duty {
     /// Places the bytes that are in order and mapped: as long as there are some.
     Edge(Side),
     /// Tells the end of the stream that a DATA_FIN said, the first being 0.
-    HeardFin {
-        side: Side,
-        index: u64,
-    },
+    HeardFin { side: Side, index: u64 },
     /// Passes the peer's FIN. Silent.
     PassFin(Side),
     /// Asks what is to be acknowledged, where bytes or an end were told.
@@ -78,15 +72,9 @@ pub enum Duty {
     Resend(Side),
     // ---- death
     /// The path is broken: asks once more what is to be acknowledged.
-    BreakAck {
-        side: Side,
-        reason: u8,
-    },
+    BreakAck { side: Side, reason: u8 },
     /// The path is broken: sends a reset with the reason (RFC 8684, section 3.6).
-    BreakReset {
-        side: Side,
-        reason: u8,
-    },
+    BreakReset { side: Side, reason: u8 },
     /// Sends a reset without a reason.
     Reset(Side),
     /// The end died: gives back its bytes.
