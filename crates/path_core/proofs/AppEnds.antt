@@ -1,12 +1,11 @@
 -- A turn of an application ends: its agenda gets shorter, or more was read, and it reads only until it has enough.
-use Rattle.std.proofs.Common.{◌≡◌, refl, sym, ap, subst, ℕ, ◌+◌, ◌-◌, ◌<◌, ◌≤◌, ◌⊎◌, inl, inr, ◌&&◌, not, nat_lt, Bool, true, false, if◌then◌else◌, List, [], ◌∷◌, length, arith}
+use Rattle.std.proofs.Common.{◌≡◌, refl, sym, ap, subst, ℕ, ◌+◌, ◌-◌, ◌<◌, ◌≤◌, ◌&&◌, not, Bool, true, false, if◌then◌else◌, List, [], ◌∷◌, length, arith}
 use Rattle.std.proofs.lemmas.Bool.{ltb-true}
 use Rattle.path_core.specs.declared.ask.Reply.{Reply}
 use Rattle.path_core.specs.declared.duty.AppDuty.{AppDuty}
 use Rattle.path_core.specs.declared.duty.AppDuty.TheVariants.{Write, Close, Read, End}
 use Rattle.path_core.specs.Apps.{AppState}
-use Rattle.path_core.specs.AppSteps.{app_stands, app_ask, app_left, app_answered, app_answers, app_settled, app_settles_down, app_asks_first, app_takes, app_read, app_reads_on, bytes_in, ends_in}
-use Rattle.path_core.specs.Kinds.{IsOfKind}
+use Rattle.path_core.specs.AppSteps.{app_stands, app_ask, app_left, app_answered, app_answers, app_settled, app_settles_down, app_asks_first, app_reads_on, bytes_in}
 use Rattle.path_core.specs.Turns.{AppEnds, FirstAppStands, IsAppSettled, EveryAppTurnEnds}
 use Rattle.path_core.specs.Words.{is_nil}
 use Rattle.path_core.proofs.Falling.{Ending, Then, Less, less-ends, then-ends}

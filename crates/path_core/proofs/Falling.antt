@@ -1,5 +1,5 @@
 -- A relation whose chains all end, and several numbers in order: the first one that changes falls.
-use Rattle.std.proofs.Common.{◌≡◌, ℕ, zero, suc, ◌<◌, ◌≤◌, arith}
+use Rattle.std.proofs.Common.{ℕ, zero, suc, ◌<◌, ◌≤◌, arith}
 
 -- every chain down from here ends
 pub data Ending {S : Type 0} (R : S → S → Type 0) : S → Type 0 where

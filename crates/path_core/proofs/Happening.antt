@@ -1,5 +1,5 @@
 -- Events: ticks pass, or one event less is due.
-use Rattle.std.proofs.Common.{◌≡◌, refl, sym, ap, ◌∙◌, ℕ, zero, suc, ◌+◌, ◌-◌, ◌<◌, ◌≤◌, ◌⊎◌, inl, inr, ⊎_elim, max, nat_le, nat_lt, ◌==◌, ◌&&◌, Bool, true, false, cond, if◌then◌else◌, List, [], ◌∷◌, ◌++◌, length, Option, Some, None, is_some, option_and_then, position, subst, arith}
+use Rattle.std.proofs.Common.{◌≡◌, refl, ℕ, ◌+◌, ◌<◌, ◌≤◌, ◌⊎◌, inl, inr, ⊎_elim, max, nat_le, nat_lt, Bool, true, false, if◌then◌else◌, List, [], ◌∷◌, length, Option, Some, None, is_some, option_and_then, position, subst, arith}
 use Rattle.std.proofs.lemmas.Bool.{cases_lt, ltb-true, leb-false, eq-eqb, lt-ltb}
 use Rattle.outside_kit.specs.declared.side.Side.{Side}
 use Rattle.outside_kit.specs.declared.side.Side.TheVariants.{A, B}
@@ -13,9 +13,9 @@ use Rattle.path_core.specs.Arriving.{copy_of, hint_of, items_of, owes_by, after_
 use Rattle.path_core.specs.Agenda.{rest_of_turn, emission}
 use Rattle.path_core.specs.Codec.{Codec, HeardSegment}
 use Rattle.path_core.specs.Ends.{PathEnd}
-use Rattle.path_core.specs.Events.{Event, tick_of, next_line, next_copy, next_fire, earlier, earliest, before, next_event, is_death, died, died_unless_dead, path_died, after_line, line_taken, at_tick, copy_heard, heard_in, copy_taken, timer_fired, after_firing, happens, happens_if}
+use Rattle.path_core.specs.Events.{Event, tick_of, next_line, next_copy, next_fire, earlier, earliest, before, next_event, is_death, died, died_unless_dead, after_line, line_taken, at_tick, copy_heard, heard_in, copy_taken, timer_fired, happens, happens_if}
 use Rattle.path_core.specs.Ranks.{ticks_left, one_if_due, due_copies, due_lines, due_timer, due_by_now}
-use Rattle.path_core.specs.State.{PathState, LineLeft, end_at, with_agenda, goes_on}
+use Rattle.path_core.specs.State.{PathState, LineLeft, end_at}
 use Rattle.path_core.specs.Turns.{TakesTime}
 use Rattle.path_core.specs.Words.{tail_of}
 use Rattle.path_core.proofs.Falling.{Then, Less}

@@ -1,5 +1,5 @@
 -- Each reply of the asked kind lowers the numbers of a turn.
-use Rattle.std.proofs.Common.{◌≡◌, refl, sym, ap, ◌∙◌, subst, ℕ, zero, suc, ◌+◌, ◌-◌, ◌*◌, ◌<◌, ◌≤◌, ◌&&◌, not, nat_lt, nat_le, Bool, true, false, cond, if◌then◌else◌, List, [], ◌∷◌, ◌++◌, length, Option, Some, None, is_some, find, arith}
+use Rattle.std.proofs.Common.{◌≡◌, refl, subst, ℕ, ◌+◌, ◌-◌, ◌<◌, ◌≤◌, ◌&&◌, nat_lt, Bool, true, false, if◌then◌else◌, List, [], ◌∷◌, length, Option, Some, None, arith}
 use Rattle.std.proofs.lemmas.Bool.{leb-true}
 use Rattle.outside_kit.specs.declared.side.Side.{Side}
 use Rattle.outside_kit.specs.declared.side.Side.TheVariants.{A, B}
@@ -10,12 +10,10 @@ use Rattle.send_book.specs.declared.call.SendReply.TheVariants as send_replies
 use Rattle.subflow_send.specs.Records.{Record}
 use Rattle.subflow_send.specs.declared.record.RecordKind.TheVariants.{Data}
 use Rattle.subflow_send.specs.Sendings.{never_sent}
-use Rattle.subflow_send.specs.Rules.{is_unsent}
 use Rattle.subflow_tcp.specs.Sizes.{room}
 use Rattle.subflow_tcp.specs.States.{may_finish}
 use Rattle.subflow_tcp.specs.declared.segments.Occasion.TheVariants as to_send
 use Rattle.send_book.specs.declared.call.SendCall.TheVariants as send_calls
-use Rattle.path_core.specs.declared.ask.Ask.{Ask}
 use Rattle.path_core.specs.declared.ask.Ask.TheVariants as asks
 use Rattle.path_core.specs.declared.ask.Reply.{Reply}
 use Rattle.path_core.specs.declared.ask.Reply.TheVariants as replies
@@ -26,7 +24,7 @@ use Rattle.path_core.specs.declared.heard.Heard.TheVariants as says
 use Rattle.path_core.specs.Agenda.{breaks, resets, leaves}
 use Rattle.path_core.specs.Breaking.{reset_of, reset_on, answered_break}
 use Rattle.path_core.specs.Codec.{Codec}
-use Rattle.path_core.specs.Duties.{stands, ask_for, answered, done}
+use Rattle.path_core.specs.Duties.{stands, ask_for, answered}
 use Rattle.path_core.specs.Emission.{first_unsent, unsent_segment, having_sent_unsent, end_segment, having_sent_end, fin_segment_of, having_sent_fin, may_ask, data_stands, payload_size, grant_ask, data_ask, Grant, grant_in, granted, refused, answered_grant, answered_data}
 use Rattle.path_core.specs.Ends.{PathEnd}
 use Rattle.path_core.specs.Events.{died}
@@ -35,20 +33,20 @@ use Rattle.path_core.specs.Opening.{syn_ack_of, key_heard, with_peer_key, keys_h
 use Rattle.path_core.specs.Passing.{having_asked, piece_of, is_placed, placed, answered_piece, is_fin_set, with_peer_end, answered_fin_heard, after_rate, first_segment, answer_occasion, answer_of, dead_answer, resend_occasion, resend_of}
 use Rattle.path_core.specs.Passing as passing
 use Rattle.path_core.specs.Placing.{Piece, next_piece, after_piece}
-use Rattle.path_core.specs.Ranks.{weight, weights, bytes_left, held, outstanding, unsent_count, work, sendings_left}
+use Rattle.path_core.specs.Ranks.{weights, work}
 use Rattle.path_core.specs.Sends.{having_sent, sent_on}
 use Rattle.path_core.specs.Standing.{after_look, after_ack_out, answered_ack_out, ack_segment, acknowledges}
 use Rattle.path_core.specs.Segments.{mapping_of}
 use Rattle.path_core.specs.State.{PathState, Profile, end_at, with_agenda, goes_on, left, path_of}
-use Rattle.path_core.specs.Treating.{is_clash, after_verdict, is_acked, told_next, with_acked, answered_mapping, with_fin, answered_heard, answered_item, item_of}
+use Rattle.path_core.specs.Treating.{is_clash, after_verdict, is_acked, told_next, with_acked, answered_mapping, with_fin, answered_item, item_of}
 use Rattle.path_core.specs.Placing.{kept_of, with_learned}
 use Rattle.path_core.specs.Turns.{TakesTime}
 use Rattle.path_core.specs.Words.{replaced}
 use Rattle.path_core.proofs.Falling.{Then}
 use Rattle.path_core.proofs.Happening.{event_lowers}
-use Rattle.path_core.proofs.Ranking.{Rests, same_rests, goes_calm, sent_calm, agenda_calm, Rest, Lowers, lowers}
+use Rattle.path_core.proofs.Ranking.{Rests, same_rests, goes_calm, sent_calm, agenda_calm, Lowers, lowers}
 use Rattle.path_core.proofs.Resting.{sent_same}
-use Rattle.path_core.proofs.Sendings.{sent_count, sent_outstanding, none_unsent, pushed_outstanding, pushed_count, filled_drop, Fits, piece_fits}
+use Rattle.path_core.proofs.Sendings.{sent_count, sent_outstanding, none_unsent, pushed_outstanding, pushed_count, filled_drop, piece_fits}
 
 -- the record of a granted piece
 abbrev pushed : Profile → Side → Grant → PathEnd → Record

@@ -1,5 +1,5 @@
 -- What lowers the numbers of a turn, and what doesn't raise the first two.
-use Rattle.std.proofs.Common.{◌≡◌, refl, ◌∙◌, ap, ℕ, ◌+◌, ◌-◌, ◌<◌, ◌≤◌, Bool, true, false, cond, if◌then◌else◌, nat_le, List, [], ◌∷◌, Option, Some, None, arith}
+use Rattle.std.proofs.Common.{◌≡◌, refl, ◌∙◌, ℕ, ◌+◌, ◌<◌, ◌≤◌, Bool, true, false, cond, if◌then◌else◌, nat_le, List, [], ◌∷◌, arith}
 use Rattle.std.proofs.lemmas.Bool.{leb-true}
 use Rattle.outside_kit.specs.declared.side.Side.{Side}
 use Rattle.outside_kit.specs.declared.side.Side.TheVariants.{A, B}
@@ -13,8 +13,8 @@ use Rattle.path_core.specs.declared.duty.Duty.{Duty}
 use Rattle.path_core.specs.Codec.{Codec}
 use Rattle.path_core.specs.Ends.{PathEnd}
 use Rattle.path_core.specs.Ranks.{ticks_left, one_if_due, due_copies, due_timer, due_by_now, weights, bytes_left, sendings_left}
-use Rattle.path_core.specs.Sends.{handed, sent_on}
-use Rattle.path_core.specs.State.{PathState, end_at, with_end, with_agenda, goes_on}
+use Rattle.path_core.specs.Sends.{sent_on}
+use Rattle.path_core.specs.State.{PathState, end_at, with_agenda, goes_on}
 use Rattle.path_core.specs.Turns.{TakesTime}
 use Rattle.path_core.proofs.Falling.{Then, Less}
 

@@ -1,8 +1,7 @@
 -- Which changes of an end leave its timer at rest: none that is due is set, and the timeout takes time.
-use Rattle.std.proofs.Common.{◌≡◌, refl, ap, ℕ, ◌+◌, ◌*◌, ◌<◌, ◌≤◌, min, max, Bool, true, false, cond, if◌then◌else◌, ◌||◌, is_none, List, [], ◌∷◌, Option, Some, None, arith}
+use Rattle.std.proofs.Common.{◌≡◌, refl, ℕ, ◌+◌, ◌*◌, ◌≤◌, min, Bool, true, false, if◌then◌else◌, ◌||◌, is_none, Option, Some, None, arith}
 use Rattle.outside_kit.specs.declared.side.Side.{Side}
 use Rattle.rtt_timer.specs.Timer.{Timer}
-use Rattle.rtt_timer.specs.Rules as rtt
 use Rattle.loss_recovery.specs.declared.timers.Timing.{Timing}
 use Rattle.loss_recovery.specs.Timers as timers
 use Rattle.dss_mapping.specs.declared.kept.KeptMapping.{KeptMapping}
@@ -16,9 +15,9 @@ use Rattle.subflow_tcp.specs.declared.segments.Occasion.{Occasion}
 use Rattle.subflow_tcp.specs.declared.segments.Occasion.TheVariants as to_send
 use Rattle.subflow_tcp.specs.declared.verdicts.Meaning.{Meaning}
 use Rattle.subflow_tcp.specs.declared.verdicts.Meaning.TheVariants as means
-use Rattle.subflow_tcp.specs.Closing.{after_owing, is_fin_next, after_passing_fin}
+use Rattle.subflow_tcp.specs.Closing.{after_passing_fin}
 use Rattle.subflow_tcp.specs.Emitting.{after_sending}
-use Rattle.subflow_tcp.specs.Expiring.{is_sixth, is_timed, after_settling, after_fire, after_expiry}
+use Rattle.subflow_tcp.specs.Expiring.{is_sixth, after_fire, after_expiry}
 use Rattle.subflow_tcp.specs.Segments.{Copy}
 use Rattle.subflow_tcp.specs.State.{EndState}
 use Rattle.subflow_tcp.specs.Taking.{after_arrival, after_payload, after_hearing, after_established, after_acknowledgement, after_ack_kind, is_duplicate, told_by, after_duplicate, after_interruption, after_death}

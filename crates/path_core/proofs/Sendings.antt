@@ -1,15 +1,15 @@
 -- Records that are sent and pushed, and octets that the edge passes, by their numbers.
-use Rattle.std.proofs.Common.{◌≡◌, refl, ap, subst, ℕ, zero, suc, ◌+◌, ◌-◌, ◌<◌, ◌≤◌, nat_lt, Bool, true, false, ◌&&◌, cond, if◌then◌else◌, List, [], ◌∷◌, ◌++◌, length, take, drop, find, Option, Some, None, arith}
+use Rattle.std.proofs.Common.{◌≡◌, refl, subst, ℕ, zero, suc, ◌+◌, ◌≤◌, nat_lt, Bool, true, false, ◌&&◌, cond, if◌then◌else◌, List, [], ◌∷◌, ◌++◌, length, drop, find, Option, Some, None, arith}
 use Rattle.std.specs.List.{sum_by}
 use Rattle.std.proofs.lemmas.List.{length-take}
 use Rattle.std.proofs.lemmas.List.Sums.{sum_by-cons}
-use Rattle.std.proofs.lemmas.Bool.{ltb-true, leb-true}
+use Rattle.std.proofs.lemmas.Bool.{ltb-true}
 use Rattle.dss_mapping.specs.declared.kept.KeptMapping.{KeptMapping}
 use Rattle.subflow_recv.specs.Receiving.{filled}
 use Rattle.subflow_send.specs.Records.{Record}
 use Rattle.subflow_send.specs.Rules.{is_unsent, first_unsent_sent, octets_under_way}
 use Rattle.subflow_tcp.specs.State.{EndState}
-use Rattle.path_core.specs.Placing.{Piece, piece_in, some_piece, is_whole, is_right, count_in, checked_piece, piece_by}
+use Rattle.path_core.specs.Placing.{Piece, piece_in, some_piece, is_whole, is_right, count_in, piece_by}
 use Rattle.path_core.specs.Ranks.{outstanding, unsent_count}
 
 pub sent_count : (now : ℕ) (rs : List Record) (r : Record) → find is_unsent rs ≡ Some r → unsent_count (first_unsent_sent now rs) + 1 ≡ unsent_count rs

@@ -1,7 +1,7 @@
 -- A path over octets is the path over values, shown: one clause for each duty.
 use Rattle.std.proofs.lemmas.List.{length-map, take-map, drop-map, map-append}
 use Rattle.std.specs.List.{position_or_len}
-use Rattle.std.proofs.Common.{◌≡◌, refl, sym, ap, ◌∙◌, ℕ, zero, suc, ◌+◌, nat_lt, not, ◌&&◌, Bool, true, false, cond, if◌then◌else◌, List, [], ◌∷◌, map, Option, Some, None, find, position, remove, is_some}
+use Rattle.std.proofs.Common.{◌≡◌, refl, sym, ap, ◌∙◌, ℕ, ◌+◌, nat_lt, not, ◌&&◌, Bool, true, false, cond, if◌then◌else◌, List, [], ◌∷◌, map, Option, Some, None, find, position, is_some}
 use Rattle.std.specs.Option.{option_map}
 use Rattle.outside_kit.specs.declared.side.Side.{Side}
 use Rattle.outside_kit.specs.declared.side.Side.TheVariants.{A, B}
@@ -13,7 +13,6 @@ use Rattle.link_model.specs.Steps.{taken, next_number, peer, is_due, next_due, a
 use Rattle.link_model.proofs.Shown.{sent_shown}
 use Rattle.path_segments.specs.declared.spelling.Spelling.{Spelling}
 use Rattle.path_segments.specs.Spelled.{PlainSegment}
-use Rattle.path_core.specs.declared.ask.Ask.{Ask}
 use Rattle.path_core.specs.declared.ask.Reply.{Reply}
 use Rattle.path_core.specs.declared.duty.Duty.{Duty}
 use Rattle.path_core.specs.declared.duty.Duty.TheVariants as duties
@@ -24,7 +23,7 @@ use Rattle.path_core.specs.Codec.{HeardSegment}
 use Rattle.path_core.specs.Segments.{spelled_by}
 use Rattle.path_core.specs.Words.{tail_of}
 use Rattle.subflow_tcp.specs.declared.segments.Occasion.TheVariants as to_send
-use Rattle.path_core.specs.Events.{is_death, after_line, at_tick, copy_heard, heard_in, copy_taken, happens_if, died, Event, step_for, next_event, earliest, next_copy, earlier, next_line, next_fire, before}
+use Rattle.path_core.specs.Events.{is_death, after_line, at_tick, copy_heard, heard_in, copy_taken, happens_if, died, Event, step_for, next_event}
 use Rattle.fallback_state.specs.declared.fall.Event.TheVariants as events
 use Rattle.subflow_send.specs.Records.{Record}
 use Rattle.path_core.specs.declared.heard.Heard.{Heard}
@@ -44,7 +43,7 @@ use Rattle.path_core.specs.Sends.{sends, having_sent, handed, sent_on}
 use Rattle.path_core.specs.Ends.{PathEnd}
 use Rattle.path_core.specs.Shown.{octets_of, shown_path, ChangesNothing, IsFreshCopy, NextIsFresh}
 use Rattle.path_core.specs.State.{PathState, end_at, with_agenda, goes_on, left}
-use Rattle.path_core.specs.Steps.{settled, settles_down, asks_first, asks_of, answers, takes, next_round, begins_turn}
+use Rattle.path_core.specs.Steps.{settled, settles_down, asks_first, asks_of, answers, takes, next_round}
 use Rattle.path_core.specs.Agenda.{start_of_turn}
 use Rattle.path_core.specs.Values.{Carried, values}
 

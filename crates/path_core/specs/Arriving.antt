@@ -1,11 +1,10 @@
 -- A copy that arrives: what it says, and what it makes of the end at once. The rest is treated duty by duty.
-use Rattle.std.specs.Prelude.{ℕ, ◌+◌, ◌-◌, ◌%◌, ◌^◌, ◌&&◌, ◌||◌, not, Bool, true, false, nat_lt, nat_le, if◌then◌else◌, is_some, unwrap_or, Option, Some, None, List, [], ◌∷◌, ◌++◌, length}
+use Rattle.std.specs.Prelude.{ℕ, ◌+◌, ◌-◌, ◌%◌, ◌^◌, ◌&&◌, not, Bool, true, false, nat_lt, nat_le, if◌then◌else◌, unwrap_or, Option, Some, None, List, [], ◌∷◌, ◌++◌, length}
 use Rattle.std.specs.List.{flat_map, list_any}
-use Rattle.std.specs.Option.{option_map}
 use Rattle.outside_kit.specs.declared.side.Side.{Side}
 use Rattle.outside_kit.specs.declared.side.Side.TheVariants.{A, B}
 use Rattle.mptcp_options.specs.declared.capable.CapableKeys.{CapableKeys}
-use Rattle.mptcp_options.specs.declared.capable.CapableKeys.TheVariants.{NoKey, Sender, Both, WithData}
+use Rattle.mptcp_options.specs.declared.capable.CapableKeys.TheVariants.{Sender, Both, WithData}
 use Rattle.path_segments.specs.declared.expected.Expected.{Expected}
 use Rattle.path_segments.specs.declared.segment.PathOption.{PathOption}
 use Rattle.path_segments.specs.declared.segment.PathOption.TheVariants.{Capable, Dss}
@@ -20,7 +19,6 @@ use Rattle.subflow_tcp.specs.declared.handshake.State.{State as EndPhase}
 use Rattle.subflow_tcp.specs.State.{EndState}
 use Rattle.subflow_tcp.specs.Segments.{Copy, occupied}
 use Rattle.subflow_tcp.specs.States.{is_half_open}
-use Rattle.subflow_tcp.specs.Judging.{meaning_of}
 use Rattle.subflow_tcp.specs.Taking.{after_arrival}
 use Rattle.subflow_tcp.specs.Closing.{after_owing}
 use Rattle.path_core.specs.declared.duty.Duty.{Duty}
@@ -31,7 +29,7 @@ use Rattle.path_core.specs.Codec.{HeardSegment}
 use Rattle.path_core.specs.Ends.{PathEnd, Payload, Treated, nothing_treated}
 use Rattle.path_core.specs.Segments.{spelled_by}
 use Rattle.path_core.specs.State.{Profile}
-use Rattle.path_core.specs.Words.{is_nil, is_side_a}
+use Rattle.path_core.specs.Words.{is_nil}
 
 -- what an end counts from
 abbrev pub expected_by : PathEnd → Expected

@@ -1,5 +1,5 @@
 -- How an end dies: by a break, by its sixth expiry, by the peer's reset (RFC 8684, section 3.6).
-use Rattle.std.specs.Prelude.{ℕ, if◌then◌else◌, Option, Some, None, List}
+use Rattle.std.specs.Prelude.{ℕ, if◌then◌else◌, Option, Some, List}
 use Rattle.outside_kit.specs.declared.side.Side.{Side}
 use Rattle.path_segments.specs.Spelled.{PlainSegment}
 use Rattle.send_book.specs.declared.call.SendCall.TheVariants as send_calls
@@ -8,16 +8,13 @@ use Rattle.path_core.specs.declared.ask.Ask.{Ask}
 use Rattle.path_core.specs.declared.ask.Ask.TheVariants as asks
 use Rattle.path_core.specs.declared.ask.Reply.{Reply}
 use Rattle.path_core.specs.declared.duty.Duty.{Duty}
-use Rattle.path_core.specs.declared.duty.Duty.TheVariants as duties
 use Rattle.path_core.specs.Agenda.{leaves, resets}
 use Rattle.path_core.specs.Codec.{Codec}
-use Rattle.path_core.specs.Ends.{PathEnd}
 use Rattle.path_core.specs.Events.{died}
 use Rattle.path_core.specs.Segments.{reset_said}
 use Rattle.path_core.specs.Sends.{sends, sent_on}
 use Rattle.path_core.specs.Standing.{ack_out_ask, answered_ack_out}
-use Rattle.path_core.specs.State.{PathState, end_at, left, path_of}
-use Rattle.path_core.specs.Words.{replaced}
+use Rattle.path_core.specs.State.{PathState, end_at, path_of}
 
 -- ---- the reset
 

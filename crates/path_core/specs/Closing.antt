@@ -1,5 +1,5 @@
 -- Data ACKs, and when DATA_FIN and FIN go out (RFC 8684, sections 3.3.2 and 3.3.3).
-use Rattle.std.specs.Prelude.{ℕ, max, Bool, true, false, not, ◌&&◌, ◌||◌, nat_lt, is_some, Option, Some, None, List, ◌++◌, [], ◌∷◌, filter}
+use Rattle.std.specs.Prelude.{ℕ, max, Bool, true, false, not, ◌&&◌, ◌||◌, nat_lt, is_some, Option, ◌++◌, [], ◌∷◌, filter}
 use Rattle.std.specs.List.{list_any}
 use Rattle.send_book.specs.declared.call.Span.{Span}
 use Rattle.send_book.specs.declared.call.Why.{Why}

@@ -1,7 +1,6 @@
 -- The four definitions by cases on the duty: whether it comes to something, to what, what its reply makes of the path, and
 -- what a duty that comes to nothing changes in silence.
-use Rattle.std.specs.Prelude.{ℕ, Bool, true, false, not, ◌&&◌, ◌||◌, is_some, Option, Some, None, List, []}
-use Rattle.outside_kit.specs.declared.side.Side.{Side}
+use Rattle.std.specs.Prelude.{Bool, true, false, not, ◌&&◌, is_some, Some, None, []}
 use Rattle.subflow_tcp.specs.State.{has_records}
 use Rattle.fallback_state.specs.declared.fall.Event.TheVariants as events
 use Rattle.fallback_state.specs.Modes.{is_starting}
@@ -24,7 +23,7 @@ use Rattle.path_core.specs.Placing.{after_check}
 use Rattle.path_core.specs.Sends.{sends}
 use Rattle.path_core.specs.Standing.{look_ask, answered_look, ack_out_ask, answered_ack_out, is_update_due, ack_segment, acknowledges}
 use Rattle.path_core.specs.State.{PathState, end_at, with_end, goes_on, left, with_agenda}
-use Rattle.path_core.specs.Treating.{item_of, item_stands, item_ask, answered_item, item_passed, fell_ask, after_verdict, after_keep, with_acked}
+use Rattle.path_core.specs.Treating.{item_of, item_stands, item_ask, answered_item, item_passed, fell_ask, after_verdict, after_keep}
 use Rattle.path_core.specs.Words.{replaced, is_nil}
 
 -- ---- whether it comes to something

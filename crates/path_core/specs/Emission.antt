@@ -1,8 +1,6 @@
 -- What an end sends by itself: its SYN, records and grants as long as there is room, DATA_FIN, FIN; and its timer.
-use Rattle.std.specs.Prelude.{ℕ, ◌-◌, Bool, true, false, not, ◌&&◌, ◌||◌, nat_le, if◌then◌else◌, is_some, Option, Some, None, List, length, find}
-use Rattle.std.specs.Option.{option_map_or}
+use Rattle.std.specs.Prelude.{ℕ, ◌-◌, Bool, not, ◌&&◌, ◌||◌, nat_le, is_some, Option, Some, None, List, length, find}
 use Rattle.outside_kit.specs.declared.side.Side.{Side}
-use Rattle.seq_units.specs.declared.mapping.Mapping.{Mapping}
 use Rattle.path_segments.specs.Spelled.{PlainSegment}
 use Rattle.send_book.specs.declared.call.Span.{Span}
 use Rattle.send_book.specs.declared.call.SendCall.TheVariants as send_calls
@@ -20,7 +18,7 @@ use Rattle.path_core.specs.declared.ask.Ask.{Ask}
 use Rattle.path_core.specs.declared.ask.Ask.TheVariants as asks
 use Rattle.path_core.specs.declared.ask.Reply.{Reply}
 use Rattle.path_core.specs.declared.ask.Reply.TheVariants as replies
-use Rattle.path_core.specs.Closing.{after_granted, after_refusal, is_end_due, with_end_sent, is_waiting, without_news}
+use Rattle.path_core.specs.Closing.{after_granted, after_refusal, with_end_sent, is_waiting, without_news}
 use Rattle.path_core.specs.Codec.{Codec}
 use Rattle.path_core.specs.Ends.{PathEnd, Sending}
 use Rattle.path_core.specs.Segments.{ack_said, fin_said, record_or_ack, mapping_of}

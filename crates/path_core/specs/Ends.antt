@@ -1,5 +1,5 @@
 -- What one end of a path keeps, by concern. The subflow is `subflow_tcp`'s own.
-use Rattle.std.specs.Prelude.{ℕ, Bool, true, false, Option, Some, None, List, []}
+use Rattle.std.specs.Prelude.{ℕ, Bool, false, Option, None, List, []}
 use Rattle.send_book.specs.declared.call.Span.{Span}
 use Rattle.data_close.specs.declared.close_state.CloseState.{CloseState}
 use Rattle.dss_mapping.specs.Mappings.{Mappings, no_mappings}

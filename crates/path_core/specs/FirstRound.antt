@@ -1,5 +1,5 @@
 -- What is asked and answered in the first round of the example, actor by actor.
-use Rattle.std.specs.Prelude.{ℕ, true, false, Some, None, List, [], ◌∷◌, ◌++◌}
+use Rattle.std.specs.Prelude.{true, false, Some, List, [], ◌∷◌, ◌++◌}
 use Rattle.outside_kit.specs.declared.side.Side.TheVariants as side
 use Rattle.send_book.specs.declared.call.SendCall.TheVariants as send_calls
 use Rattle.send_book.specs.declared.call.SendReply.TheVariants as send_replies

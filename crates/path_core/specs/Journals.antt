@@ -1,5 +1,5 @@
 -- Actors' lists and books' journals: when they are paired and chained, and the order of all steps.
-use Rattle.std.specs.Prelude.{ℕ, ◌≡◌, ◌+◌, ◌<◌, ◌≤◌, ◌==◌, ◌&&◌, ◌||◌, max, Bool, true, false, nat_lt, if◌then◌else◌, Option, Some, None, List, [], ◌∷◌, map, filter}
+use Rattle.std.specs.Prelude.{ℕ, ◌≡◌, ◌+◌, ◌<◌, ◌==◌, ◌&&◌, ◌||◌, Bool, true, false, nat_lt, if◌then◌else◌, List, [], ◌∷◌, map, filter}
 use Rattle.std.specs.List.{Contains}
 use Rattle.outside_kit.specs.declared.side.Side.{Side}
 use Rattle.stamped_book.specs.declared.stamped.Entry.{Entry}
@@ -12,7 +12,6 @@ use Rattle.control_book.specs.declared.call.ControlReply.{ControlReply}
 use Rattle.path_core.specs.declared.ask.Ask.{Ask}
 use Rattle.path_core.specs.declared.ask.Ask.TheVariants as asks
 use Rattle.path_core.specs.declared.ask.Note.{Note}
-use Rattle.path_core.specs.declared.ask.Reply.{Reply}
 use Rattle.path_core.specs.declared.ask.Reply.TheVariants as replies
 
 -- ---- an entry of a journal, as the note of the actor that made it
@@ -42,7 +41,7 @@ AreChained seen (note ∷ notes) =
 
 -- ---- paired
 
--- the steps of an actor's list above a stamp that were made at this book
+-- the notes above a stamp
 abbrev pub above : ℕ → List Note → List Note
 above after notes = filter (λ note. nat_lt after note.stamp) notes
 

@@ -1,5 +1,5 @@
 -- How path 0 opens: SYN, SYN/ACK, and the keys of both sides (RFC 8684, section 3.1).
-use Rattle.std.specs.Prelude.{ℕ, Bool, true, false, not, ◌&&◌, is_some, Option, Some, None, List, [], ◌∷◌}
+use Rattle.std.specs.Prelude.{ℕ, Bool, true, false, ◌&&◌, is_some, Option, Some, None, List, [], ◌∷◌}
 use Rattle.outside_kit.specs.declared.side.Side.{Side}
 use Rattle.path_segments.specs.Spelled.{PlainSegment}
 use Rattle.send_book.specs.declared.call.SendCall.TheVariants as send_calls
@@ -13,13 +13,12 @@ use Rattle.path_core.specs.declared.ask.Reply.{Reply}
 use Rattle.path_core.specs.declared.ask.Reply.TheVariants as replies
 use Rattle.path_core.specs.declared.heard.Heard.{Heard}
 use Rattle.path_core.specs.declared.heard.Heard.TheVariants as says
-use Rattle.path_core.specs.Closing.{after_acked}
 use Rattle.path_core.specs.Codec.{Codec}
 use Rattle.path_core.specs.declared.modes.Modes.{Modes}
 use Rattle.path_core.specs.Ends.{PathEnd}
 use Rattle.path_core.specs.Segments.{syn_ack_said}
-use Rattle.path_core.specs.Sends.{sends, having_sent, sent_on}
-use Rattle.path_core.specs.State.{PathState, end_at, goes_on, left, path_of, with_agenda}
+use Rattle.path_core.specs.Sends.{having_sent, sent_on}
+use Rattle.path_core.specs.State.{PathState, end_at, left, path_of}
 
 -- ---- the window of a SYN
 

@@ -1,7 +1,6 @@
 -- What the payload of a copy makes of an end: bytes and ends that are told, the window's growth, answers, and what an expiry
 -- sends again.
-use Rattle.std.specs.Prelude.{ℕ, ◌-◌, Bool, true, false, not, ◌&&◌, ◌==◌, if◌then◌else◌, is_some, Option, Some, None, List, [], ◌∷◌, find, slice_get}
-use Rattle.std.specs.Option.{option_map_or}
+use Rattle.std.specs.Prelude.{ℕ, ◌-◌, Bool, true, false, ◌==◌, if◌then◌else◌, Option, Some, None, List, [], find, slice_get}
 use Rattle.outside_kit.specs.declared.side.Side.{Side}
 use Rattle.path_segments.specs.Spelled.{PlainSegment}
 use Rattle.reassembly_book.specs.declared.call.ReassemblyCall.TheVariants as reassembly_calls
@@ -30,7 +29,7 @@ use Rattle.path_core.specs.Codec.{Codec}
 use Rattle.path_core.specs.Ends.{PathEnd}
 use Rattle.path_core.specs.Placing.{Piece, next_piece, after_piece}
 use Rattle.path_core.specs.Segments.{ack_said, syn_ack_said, segment_of, record_or_ack}
-use Rattle.path_core.specs.Sends.{sends, having_sent, sent_on}
+use Rattle.path_core.specs.Sends.{having_sent, sent_on}
 use Rattle.path_core.specs.State.{PathState, Profile, end_at, goes_on, left, path_of}
 use Rattle.path_core.specs.Words.{item_at}
 

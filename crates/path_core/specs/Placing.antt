@@ -1,5 +1,5 @@
 -- The mappings that an end learns, and the bytes that its receive edge passes (RFC 8684, section 3.3.1).
-use Rattle.std.specs.Prelude.{ℕ, zero, suc, ◌+◌, ◌-◌, ◌^◌, min, Bool, true, false, not, ◌&&◌, ◌||◌, ◌==◌, nat_lt, nat_le, if◌then◌else◌, is_some, Option, Some, None, List, length, take}
+use Rattle.std.specs.Prelude.{ℕ, zero, suc, ◌+◌, ◌-◌, ◌^◌, min, Bool, true, not, ◌&&◌, ◌==◌, nat_lt, nat_le, if◌then◌else◌, is_some, Option, Some, None, List, length, take}
 use Rattle.dss_checksum.specs.Checksum.{dss_checksum}
 use Rattle.dss_mapping.specs.declared.kept.KeptMapping.{KeptMapping}
 use Rattle.dss_mapping.specs.declared.learn.Learn.{Learn}

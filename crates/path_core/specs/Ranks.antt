@@ -1,6 +1,6 @@
 -- The numbers that show that a turn ends, each of which falls where those before it stay: ticks until the round's end, events
 -- that are due by now, the weight of what is to be done, octets in order that aren't passed, and what may still be sent.
-use Rattle.std.specs.Prelude.{ℕ, ◌+◌, ◌-◌, ◌*◌, nat_le, Bool, true, false, if◌then◌else◌, Option, Some, None, List, [], ◌∷◌, length}
+use Rattle.std.specs.Prelude.{ℕ, ◌+◌, ◌-◌, ◌*◌, nat_le, if◌then◌else◌, Option, Some, None, List, [], ◌∷◌, length}
 use Rattle.link_model.specs.declared.flight.Flight.{Flight}
 use Rattle.subflow_recv.specs.Receiving.{filled}
 use Rattle.subflow_send.specs.Records.{Record}

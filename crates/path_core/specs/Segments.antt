@@ -1,5 +1,5 @@
 -- The segments that an end sends: their options, their windows, and the mapping of a piece (RFC 8684, section 3).
-use Rattle.std.specs.Prelude.{ℕ, ◌+◌, ◌-◌, ◌%◌, ◌^◌, ◌==◌, ◌&&◌, not, Bool, true, false, if◌then◌else◌, Option, Some, None, List, [], ◌∷◌, length}
+use Rattle.std.specs.Prelude.{ℕ, ◌+◌, ◌-◌, ◌%◌, ◌^◌, ◌==◌, ◌&&◌, not, Bool, false, if◌then◌else◌, Option, Some, None, List, [], ◌∷◌, length}
 use Rattle.outside_kit.specs.declared.side.Side.{Side}
 use Rattle.outside_kit.specs.declared.side.Side.TheVariants.{A, B}
 use Rattle.seq_units.specs.declared.mapping.Mapping.{Mapping}
@@ -7,7 +7,6 @@ use Rattle.mptcp_options.specs.declared.capable.CapableKeys.TheVariants.{NoKey, 
 use Rattle.dss_checksum.specs.Checksum.{dss_checksum}
 use Rattle.path_segments.specs.declared.spelling.Side.TheVariants as spelled_side
 use Rattle.path_segments.specs.declared.spelling.Side.{Side as SpelledSide}
-use Rattle.path_segments.specs.declared.segment.PathSegment.{PathSegment}
 use Rattle.path_segments.specs.declared.segment.PathOption.TheVariants.{Capable, Dss, Reset}
 use Rattle.path_segments.specs.declared.segment.PathMapping.{PathMapping}
 use Rattle.path_segments.specs.declared.segment.PathMapping.TheVariants.{Bytes, End}

@@ -1,5 +1,5 @@
 -- A path over segments as values, shown over octets.
-use Rattle.std.specs.Prelude.{ℕ, ◌≡◌, false, Option, Some, List}
+use Rattle.std.specs.Prelude.{ℕ, ◌≡◌, false, Some, List}
 use Rattle.outside_kit.specs.declared.side.Side.{Side}
 use Rattle.link_script.specs.declared.script.ScriptLine.{ScriptLine}
 use Rattle.link_model.specs.declared.flight.Due.{Due}

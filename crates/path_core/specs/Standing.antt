@@ -1,5 +1,5 @@
 -- The start of a turn: how the side stands, and what is to be acknowledged.
-use Rattle.std.specs.Prelude.{ℕ, ◌+◌, ◌-◌, ◌*◌, min, Bool, true, false, ◌&&◌, nat_le, Option, Some, None, List, []}
+use Rattle.std.specs.Prelude.{ℕ, ◌+◌, ◌-◌, ◌*◌, min, Bool, true, false, ◌&&◌, nat_le, None, List}
 use Rattle.outside_kit.specs.declared.side.Side.{Side}
 use Rattle.path_segments.specs.Laws.{window_told}
 use Rattle.path_segments.specs.Spelled.{PlainSegment}
@@ -20,7 +20,7 @@ use Rattle.path_core.specs.declared.modes.Modes.{Modes}
 use Rattle.path_core.specs.Ends.{PathEnd, Receiving}
 use Rattle.path_core.specs.Segments.{ack_said}
 use Rattle.path_core.specs.Sends.{having_sent, sent_on}
-use Rattle.path_core.specs.State.{PathState, Profile, end_at, goes_on, left, path_of, with_agenda}
+use Rattle.path_core.specs.State.{PathState, Profile, end_at, goes_on, left, path_of}
 
 -- ---- Look
 

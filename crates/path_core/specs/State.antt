@@ -1,12 +1,12 @@
 -- A path by what it means. What its link's copies carry is a type of its own.
-use Rattle.std.specs.Prelude.{ℕ, Bool, Option, List, []}
+use Rattle.std.specs.Prelude.{ℕ, Option, List}
 use Rattle.outside_kit.specs.declared.side.Side.{Side}
 use Rattle.link_script.specs.declared.script.ScriptLine.{ScriptLine}
 use Rattle.link_model.specs.State.{LinkState}
 use Rattle.path_segments.specs.declared.spelling.Spelling.{Spelling}
 use Rattle.path_core.specs.declared.duty.Duty.{Duty}
 use Rattle.path_core.specs.Ends.{PathEnd}
-use Rattle.path_core.specs.Words.{pick, tail_of, replaced}
+use Rattle.path_core.specs.Words.{pick, tail_of}
 
 -- a line of the script that is an event of the path, with its number among all lines and its tick
 pub record LineLeft : Type 0 where

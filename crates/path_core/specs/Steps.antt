@@ -1,5 +1,5 @@
 -- The steps of a path: what it asks, what it takes, and how a round begins.
-use Rattle.std.specs.Prelude.{ℕ, ◌+◌, Bool, if◌then◌else◌, Option, Some, None, List, [], ◌∷◌}
+use Rattle.std.specs.Prelude.{◌+◌, if◌then◌else◌, Option, Some, None, List, [], ◌∷◌}
 use Rattle.path_core.specs.declared.ask.Ask.{Ask}
 use Rattle.path_core.specs.declared.ask.Reply.{Reply}
 use Rattle.path_core.specs.declared.duty.Duty.{Duty}

@@ -1,5 +1,5 @@
 -- What the options of a copy make of an end, one thing after the other (RFC 8684, section 3.3).
-use Rattle.std.specs.Prelude.{ℕ, Bool, true, false, not, ◌&&◌, ◌||◌, nat_le, nat_lt, if◌then◌else◌, is_some, Option, Some, None, List, [], ◌∷◌, ◌++◌}
+use Rattle.std.specs.Prelude.{ℕ, Bool, true, false, not, ◌&&◌, ◌||◌, nat_lt, if◌then◌else◌, is_some, Option, Some, None, List, [], ◌∷◌, ◌++◌}
 use Rattle.outside_kit.specs.declared.side.Side.{Side}
 use Rattle.send_book.specs.declared.call.SendCall.TheVariants as send_calls
 use Rattle.send_book.specs.declared.call.SendReply.TheVariants as send_replies
@@ -25,7 +25,7 @@ use Rattle.path_core.specs.Closing.{after_acked}
 use Rattle.path_core.specs.Codec.{Codec}
 use Rattle.path_core.specs.declared.modes.Modes.{Modes}
 use Rattle.path_core.specs.Ends.{PathEnd, Payload, Sending}
-use Rattle.path_core.specs.Opening.{KeyPair, keys_ask, after_keys}
+use Rattle.path_core.specs.Opening.{keys_ask, after_keys}
 use Rattle.path_core.specs.Placing.{clashes, kept_of, with_learned}
 use Rattle.path_core.specs.State.{PathState, Profile, end_at, goes_on, left, path_of, with_agenda}
 use Rattle.path_core.specs.Words.{is_side_a, item_at, replaced}

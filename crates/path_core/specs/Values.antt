@@ -1,5 +1,5 @@
 -- A copy carries the segment itself, and which side sent it. It is heard as it was meant: the machine that theorems speak of.
-use Rattle.std.specs.Prelude.{ℕ, Option, Some, List, []}
+use Rattle.std.specs.Prelude.{Option, Some, []}
 use Rattle.outside_kit.specs.declared.side.Side.{Side}
 use Rattle.segment_wire.specs.Changes.{with_turned_bit}
 use Rattle.path_segments.specs.declared.expected.Expected.{Expected}

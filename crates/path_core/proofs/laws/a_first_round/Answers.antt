@@ -1,7 +1,5 @@
-use Rattle.std.proofs.Common.{rules, ◌≡◌, refl}
+use Rattle.std.proofs.Common.{refl}
 use Rattle.path_core.proofs.laws.a_first_round.Goals as goal
-use Rattle.path_core.proofs.Passing.{settled_lower}
-use Rattle.path_core.proofs.Sendings.{piece_fits}
 use Rattle.segment_wire.specs.Checksum.{covered_sum}
 use Rattle.segment_wire.specs.Segment.{fixed_header}
 use Rattle.path_segments.specs.Spelled.{spelled}
