@@ -7,10 +7,9 @@ use Rattle.mptcp_options.specs.Text.{option_text}
 use Rattle.address_manager.specs.IdSet.{no_ids}
 use Rattle.control_book.specs.Registry.{opening_paths, every_path, stands_beside, serves_beside}
 use Rattle.control_book.specs.Control.{no_withdrawals}
-use Rattle.dss_mapping.specs.Places.{placed, with_run}
-use Rattle.core.specs.FinMap.{get, insert, entries, empty, checked}
+use Rattle.std.specs.FinMap.{get, entries, empty}
 
 -- src/laws.rt:19:1
 pub returns-clause-path : goal.returns-clause-path
-unfolding covered_sum fixed_header spelled option_text no_ids opening_paths every_path stands_beside serves_beside no_withdrawals placed with_run get insert entries empty checked
+unfolding covered_sum fixed_header spelled option_text no_ids opening_paths every_path stands_beside serves_beside no_withdrawals get entries empty
 returns-clause-path c = refl
