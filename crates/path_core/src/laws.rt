@@ -1,5 +1,5 @@
 //! What holds of every path, as clauses of functions that do nothing.
-ghost use Rattle.std.specs.Prelude.{◌≡◌};
+ghost use Rattle.std.specs.Prelude.{◌≡◌, take};
 ghost use Rattle.path_core.specs.Example.{app_of_a, app_of_b, path_at_first, app_steps_made, steps_made};
 ghost use Rattle.path_core.specs.FirstRound.{turn_of_a, turn_of_b, turn_of_path};
 ghost use Rattle.path_core.specs.Kinds.{BooksAnswerInKind};
@@ -32,10 +32,10 @@ pub fn octets_do_as_values()
     ensures rounds { BeginsTheSame }
 {}
 
-/// An example: the first round of a connection that carries five octets, step by step. Path 0 opens, carries them, and
-/// closes in both directions.
+/// An example: the applications' first turns over a connection that carries five octets, and the first 24 steps of path 0:
+/// it opens, both keys arrive, and the five octets come to B.
 pub fn a_first_round()
     ensures a { app_steps_made 4 app_of_a ≡ turn_of_a }
     ensures b { app_steps_made 3 app_of_b ≡ turn_of_b }
-    ensures path { steps_made values 68 path_at_first ≡ turn_of_path }
+    ensures path { steps_made values 24 path_at_first ≡ take 24 turn_of_path }
 {}

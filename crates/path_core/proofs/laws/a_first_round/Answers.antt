@@ -7,9 +7,8 @@ use Rattle.mptcp_options.specs.Text.{option_text}
 use Rattle.address_manager.specs.IdSet.{no_ids}
 use Rattle.control_book.specs.Registry.{opening_paths, every_path, stands_beside, serves_beside}
 use Rattle.control_book.specs.Control.{no_withdrawals}
-use Rattle.std.specs.FinMap.{get, entries, empty}
 
 -- src/laws.rt:19:1
 pub returns-clause-path : goal.returns-clause-path
-unfolding covered_sum fixed_header spelled option_text no_ids opening_paths every_path stands_beside serves_beside no_withdrawals get entries empty
+unfolding covered_sum fixed_header spelled option_text no_ids opening_paths every_path stands_beside serves_beside no_withdrawals
 returns-clause-path c = refl
