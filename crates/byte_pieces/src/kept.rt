@@ -114,8 +114,8 @@ impl BytePieces {
         ensures err { OnErr result (self.new ≡ self.old) }
     {
         let passed = bytes.len().min(self.from.saturating_sub(at) as usize);
-        let first = self.from.max(at);
-        let parts = fresh_parts(self.alloc, &self.pieces, first, &bytes[passed..])?;
+        let rest = &bytes[passed..];
+        let parts = fresh_parts(self.alloc, &self.pieces, self.from.max(at), rest)?;
         self.pieces.reserve(parts.len())?;
         self.incoming = Some(parts);
         Ok(())

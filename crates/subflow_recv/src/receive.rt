@@ -110,7 +110,8 @@ impl SubflowRecv {
         ensures err { OnErr result (self.new ≡ self.old) }
     {
         let octets = self.before_window_end(pos, payload);
-        self.kept.hold(pos, octets)
+        self.kept.hold(pos, octets)?;
+        Ok(())
     }
 
     /// Keeps the payload that is held, which then is held no longer. Takes no memory; where none is held, nothing changes.
