@@ -57,7 +57,7 @@ impl Model for Mappings {
 impl Mappings {
     ghost use Rattle.dss_mapping.specs.Mappings.{no_mappings, place_at, Agree, IsAnswer, after_learn, after_infinite, mapping_at, after_forget};
     ghost use Rattle.dss_mapping.specs.Kept.{IsStretch};
-    ghost use Rattle.dss_mapping.specs.Learning.{IsWithin, learn_of, first_held, held_clashes, after_hold, after_skip_held, after_learn_held, clashes, learned};
+    ghost use Rattle.dss_mapping.specs.Learning.{IsWithin, clash_of, answer_by, learn_of, first_held, held_clashes, after_hold, after_skip_held, after_learn_held, clashes, learned};
 
     /// No mapping, which takes no memory.
     pub fn new(alloc: Global) -> Self
@@ -118,9 +118,10 @@ impl Mappings {
         self.held = told;
     }
 
-    /// The first of the mappings that are held.
+    /// The first of the mappings that are held. Its places are at most 2^62.
     pub fn first_held(&self) -> Option<KeptMapping>
-        ensures { result ≡ first_held self.now.mappings }
+        ensures value { result ≡ first_held self.now.mappings }
+        ensures within { IfSome result IsWithin }
     {
         self.held.first().copied()
     }
@@ -213,6 +214,15 @@ impl Mappings {
     /// What is answered where this run is told.
     fn answer(&self, told: Run) -> Learn
         requires { IsSound told }
+        ensures answer { IsAnswer told self.now.mappings result }
+        ensures value { result ≡ answer_by (clash_of told self.now.mappings) told self.now.mappings }
+    {
+        self.first_answer(told)
+    }
+
+    /// The first clash, or else whether all positions of the run have their places.
+    fn first_answer(&self, told: Run) -> Learn
+        requires { IsSound told }
         ensures { IsAnswer told self.now.mappings result }
     {
         let mut at = told.pos;
@@ -260,8 +270,9 @@ impl Mappings {
         requires room { length self.old.mappings.held < self.old.ready }
         ensures { self.new.mappings ≡ learned kept self.old.mappings }
     {
-        if let Learn::New = self.answer(kept.run()) {
-            self.keep(kept);
+        match self.answer(kept.run()) {
+            Learn::New => self.keep(kept),
+            Learn::Same | Learn::Clash { .. } => {}
         }
     }
 

@@ -11,12 +11,11 @@ fresh_parts-requires c = ordered-below c.self.inside.from 0 (2 ^ 62) c.self.insi
 pub invariant_of-self-2 : goal.invariant_of-self-2
 invariant_of-self-2 c =
     let put = is_put c.self.inside.from c.args.at (2 ^ 62) c.min-passed.result c.max.result c.args.bytes.now _ c.self.inside.pieces.items c.in_ok-parts.parts.items
-    (with_pieces c.in_ok-parts.parts.items c.self.inside.pieces.items) c.self.invariant.0 c.requires (c.min-passed.ensures ∙ ap (min (length c.args.bytes.now)) c.saturating_sub.ensures) c.max.ensures refl c.in_ok-parts.ensures refl in
-    (
+    (with_pieces c.in_ok-parts.parts.items c.self.inside.pieces.items) c.self.invariant.0 c.requires (c.min-passed.ensures ∙ ap (min (length c.args.bytes.now)) c.saturating_sub.ensures) c.max.ensures refl c.in_ok-parts.ensures refl in (
       subst (AreOrdered c.self.inside.from (2 ^ 62)) (sym c.in_ok-reserve.ensures.items) c.self.invariant.0,
       (
-          subst (λ (ps : List Piece). AreOrdered c.self.inside.from (2 ^ 62) (with_pieces c.in_ok-parts.parts.items ps)) (sym c.in_ok-reserve.ensures.items) put.order,
-          omega (arith, c.in_ok-reserve.ensures.ok, c.in_ok-reserve.ensures.len, c.len.ensures),
+        subst (λ (ps : List Piece). AreOrdered c.self.inside.from (2 ^ 62) (with_pieces c.in_ok-parts.parts.items ps)) (sym c.in_ok-reserve.ensures.items) put.order,
+        omega (arith, c.in_ok-reserve.ensures.ok, c.in_ok-reserve.ensures.len, c.len.ensures),
       ),
     )
 
