@@ -21,9 +21,11 @@ with_name id form = with_rule form (new_rule id)
 abbrev pub with_options : App → App
 with_options form = with_option (codes "number") (with_option (codes "order") (with_option (codes "rounds") (with_option (codes "mode") form)))
 
-abbrev pub with_names : App → App
-with_names form =
-    with_name (codes "read_by_a") (with_name (codes "read_by_b") (with_name (codes "file_b") (with_name (codes "file_a") (with_name (codes "script") form))))
+abbrev pub with_inputs : App → App
+with_inputs form = with_name (codes "file_b") (with_name (codes "file_a") (with_name (codes "script") form))
+
+abbrev pub with_outputs : App → App
+with_outputs form = with_name (codes "read_by_a") (with_name (codes "read_by_b") form)
 
 abbrev pub plain_form : App
 plain_form = record (new_app (codes "mptcp_sim")) {
@@ -31,7 +33,7 @@ plain_form = record (new_app (codes "mptcp_sim")) {
 }
 
 abbrev pub line_form : App
-line_form = with_names (with_options plain_form)
+line_form = with_outputs (with_inputs (with_options plain_form))
 
 abbrev pub fault_by : ErrorKind → WordsFault
 fault_by OutOfMemory = Memory

@@ -42,13 +42,19 @@ fn with_options<'a>(alloc: Global, form: Command<'a>) -> Result<Command<'a>, All
     with_option(alloc, form, "number")
 }
 
-/// The form with its five names.
-fn with_names<'a>(alloc: Global, form: Command<'a>) -> Result<Command<'a>, AllocError>
-    ensures { IfOk result (λ made. app_of made ≡ form_is.with_names (app_of form.entry)) }
+/// The form with the names of what is read.
+fn with_inputs<'a>(alloc: Global, form: Command<'a>) -> Result<Command<'a>, AllocError>
+    ensures { IfOk result (λ made. app_of made ≡ form_is.with_inputs (app_of form.entry)) }
 {
     let form = with_name(alloc, form, "script")?;
     let form = with_name(alloc, form, "file_a")?;
-    let form = with_name(alloc, form, "file_b")?;
+    with_name(alloc, form, "file_b")
+}
+
+/// The form with the names of what is written.
+fn with_outputs<'a>(alloc: Global, form: Command<'a>) -> Result<Command<'a>, AllocError>
+    ensures { IfOk result (λ made. app_of made ≡ form_is.with_outputs (app_of form.entry)) }
+{
     let form = with_name(alloc, form, "read_by_b")?;
     with_name(alloc, form, "read_by_a")
 }
@@ -67,7 +73,8 @@ fn line_form<'a>(alloc: Global) -> Result<Command<'a>, AllocError>
     ensures { IfOk result (λ made. app_of made ≡ form_is.line_form) }
 {
     let form = with_options(alloc, plain_form(alloc))?;
-    with_names(alloc, form)
+    let form = with_inputs(alloc, form)?;
+    with_outputs(alloc, form)
 }
 
 /// Want of memory, or else words that break the form.
