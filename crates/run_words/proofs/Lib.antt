@@ -1,2 +1,6 @@
 mod Numerals
-mod Walking
+mod Rules
+mod Uses
+mod Looks
+mod Steps
+mod Walks

@@ -1,4 +1,4 @@
--- The walk of `clap` over the words finds and refuses what the parts of the words say.
+-- One word of the walk of `clap`, where no option waits for its value, where one does, and behind `--`.
 use Rattle.std.proofs.Common.{◌≡◌, ◌∙◌, ℕ, ◌+◌, ◌==◌, zero, suc, Bool, true, false, cond, not, ◌&&◌, ◌||◌, refl, sym, ap, ap₂, subst, List, [], ◌∷◌, ◌++◌, map, length, Option, Some, None, min, true≢false, codes, arith, inl, inr, suc-ne-zero}
 use Rattle.std.specs.Prelude.{◌<◌, ◌⊎◌}
 use Rattle.std.proofs.lemmas.Bool.{eqb-true}
@@ -24,232 +24,30 @@ use Rattle.clap.specs.declared.error.kind.ErrorKind.TheVariants.{UnknownArgument
 use Rattle.run_words.specs.Parts.{Word, Choice, mode_option, rounds_option, order_option, number_option, label, written, choice_of, Part, option, name, is_dashed, is_equals, part_of, with_part, parts_in, parts_of}
 use Rattle.run_words.specs.Lines.{◌>>=◌}
 use Rattle.run_words.specs.Form.{line_form}
-
--- ---- the rules of the form
-
-abbrev pub plain : Text → Option Text → Option ℕ → Rule
-plain id long index = record {
-  id = id;
-  long = long;
-  aliases = [];
-  short = None;
-  short_aliases = [];
-  index = index;
-  action = Some Set;
-  range = Some (record { start_inclusive = 1; end_inclusive = 1 });
-  value_names = 0;
-  defaults = [];
-  missing = [];
-  trailing_var_arg = false;
-  parser = Some vp.String;
-  ignore_case = false;
-  required = false;
-  is_simple = true;
-  is_free = true;
-}
-
-abbrev pub chosen : Choice → Rule
-chosen choice = plain (label choice) (Some (label choice)) None
-
--- the id of the name at a position, counted from 1
-abbrev pub name_id : ℕ → Option Text
-name_id (suc zero) = Some (codes "script")
-name_id (suc (suc zero)) = Some (codes "file_a")
-name_id (suc (suc (suc zero))) = Some (codes "file_b")
-name_id (suc (suc (suc (suc zero)))) = Some (codes "read_by_b")
-name_id (suc (suc (suc (suc (suc zero))))) = Some (codes "read_by_a")
-name_id position = None
-
-abbrev pub named : ℕ → Text → Rule
-named position id = plain id None (Some position)
-
-abbrev pub form_rules : List Rule
-form_rules = chosen mode_option ∷ chosen rounds_option ∷ chosen order_option ∷ chosen number_option
-    ∷ named 1 (codes "script") ∷ named 2 (codes "file_a") ∷ named 3 (codes "file_b") ∷ named 4 (codes "read_by_b") ∷ named 5 (codes "read_by_a") ∷ []
-
-abbrev pub shape : Shape
-shape = (built line_form).top
-
-rules_are : shape.rules ≡ form_rules
-rules_are = refl
-
-by_choice : (choice : Choice) → arg_by_id form_rules (label choice) ≡ Some (chosen choice)
-by_choice mode_option = refl
-by_choice rounds_option = refl
-by_choice order_option = refl
-by_choice number_option = refl
-
-
--- the first rule with this long name
-by_long : (n : Text) → arg_by_long form_rules n ≡ option_map chosen (choice_of (45 ∷ 45 ∷ n))
-by_long n = go (bytes_eq (codes "mode") n) (bytes_eq (codes "rounds") n) (bytes_eq (codes "order") n) (bytes_eq (codes "number") n)
-  where
-    go : (a b d e : Bool) → cond (a || false) (Some (chosen mode_option)) (cond (b || false) (Some (chosen rounds_option)) (cond (d || false) (Some (chosen order_option))
-        (cond (e || false) (Some (chosen number_option)) None)))
-        ≡ option_map chosen (cond a (Some mode_option) (cond b (Some rounds_option) (cond d (Some order_option) (cond e (Some number_option) None))))
-    go true b d e = refl
-    go false true d e = refl
-    go false false true e = refl
-    go false false false true = refl
-    go false false false false = refl
-
--- what a position's name goes to
-pub record IsNamed (position : ℕ) (id : Text) : Type 0 where
-  pub by_id : arg_by_id form_rules id ≡ Some (named position id)
-  pub by_index : arg_by_index form_rules position ≡ Some (named position id)
-  pub next : min (position + 1) usize_max ≡ suc position
-
-some≢none : {X : Type 0} (x : X) → None ≡ Some x → ⊥
-some≢none x e = true≢false (ap (λ o. Rattle.std.specs.Option.is_some o) (sym e))
-
-taken : {X : Type 0} {x y : X} → Some x ≡ Some y → x ≡ y
-taken {X} {x} e = ap (λ o. Rattle.std.specs.Option.unwrap_or o x) e
-
-is_named : (position : ℕ) (id : Text) → name_id position ≡ Some id → IsNamed position id
-is_named zero id e = absurd (some≢none id e)
-is_named (suc zero) id e = subst (IsNamed 1) (taken e) (record { by_id = refl; by_index = refl; next = refl })
-is_named (suc (suc zero)) id e = subst (IsNamed 2) (taken e) (record { by_id = refl; by_index = refl; next = refl })
-is_named (suc (suc (suc zero))) id e = subst (IsNamed 3) (taken e) (record { by_id = refl; by_index = refl; next = refl })
-is_named (suc (suc (suc (suc zero)))) id e = subst (IsNamed 4) (taken e) (record { by_id = refl; by_index = refl; next = refl })
-is_named (suc (suc (suc (suc (suc zero))))) id e = subst (IsNamed 5) (taken e) (record { by_id = refl; by_index = refl; next = refl })
-is_named (suc (suc (suc (suc (suc (suc n)))))) id e = absurd (some≢none id e)
-
-differs : (a b : ℕ) → a < b → (a == b) ≡ false
-differs a b h = elim (eqb_tells a b) [ inl e ↦ absurd (let same = e.1 in omega arith) | inr e ↦ e.0 ]
-
--- at no other position is a name
-no_name : (position : ℕ) → name_id position ≡ None → arg_by_index form_rules position ≡ None
-no_name zero e = refl
-no_name (suc zero) e = absurd (some≢none _ (sym e))
-no_name (suc (suc zero)) e = absurd (some≢none _ (sym e))
-no_name (suc (suc (suc zero))) e = absurd (some≢none _ (sym e))
-no_name (suc (suc (suc (suc zero)))) e = absurd (some≢none _ (sym e))
-no_name (suc (suc (suc (suc (suc zero))))) e = absurd (some≢none _ (sym e))
-no_name (suc (suc (suc (suc (suc (suc n)))))) e =
-    let q = suc (suc (suc (suc (suc (suc n))))) in
-    let one : (1 == q) ≡ false = differs 1 q (omega arith) in
-    let two : (2 == q) ≡ false = differs 2 q (omega arith) in
-    let three : (3 == q) ≡ false = differs 3 q (omega arith) in
-    let four : (4 == q) ≡ false = differs 4 q (omega arith) in
-    let five : (5 == q) ≡ false = differs 5 q (omega arith) in
-    rw (one, two, three, four, five) refl
-
--- ---- one use of an option or a name
-
-abbrev pub row : Text → Text → Row
-row id v = record { id = id; values = v ∷ []; count = None; source = Some CommandLine; reading = reading_of vp.String }
-
--- the rows with one more, where the id has none yet
-abbrev pub new : Text → Text → List Row → Option (List Row)
-new id v rows = cond (has_row id rows) None (Some (rows ++ row id v ∷ []))
-
-abbrev pub place_name : Option Text → Text → List Row → (List Row → Option (List Row)) → Option (List Row)
-place_name None v rows next = None
-place_name (Some id) v rows next = new id v rows >>= next
-
--- the rows after the parts, of which the next name stands at this position
-unfoldable pub place : ℕ → List Row → List Part → Option (List Row)
-place position rows [] = Some rows
-place position rows (option choice v ∷ parts) = new (label choice) v rows >>= λ r. place position r parts
-place position rows (name v ∷ parts) = place_name (name_id position) v rows (λ r. place (suc position) r parts)
-
--- kinds of fault beside what was found: both or neither
-abbrev pub Agrees : Kinds → List Row → Option (List Row) → Type 0
-Agrees [] rows (Some found) = rows ≡ found
-Agrees [] rows None = ⊥
-Agrees (k ∷ ks) rows (Some found) = ⊥
-Agrees (k ∷ ks) rows None = Unit
-
-agrees_then : (k₁ k₂ : Kinds) (r₁ r₂ : List Row) (o : Option (List Row)) (f : List Row → Option (List Row)) → Agrees k₁ r₁ o → Agrees k₂ r₂ (f r₁) → Agrees (or_else k₁ k₂) r₂ (o >>= f)
-agrees_then [] k₂ r₁ r₂ None f a b = absurd a
-agrees_then [] k₂ r₁ r₂ (Some r) f a b = subst (λ x. Agrees k₂ r₂ (f x)) a b
-agrees_then (k ∷ ks) k₂ r₁ r₂ None f a b = tt
-agrees_then (k ∷ ks) k₂ r₁ r₂ (Some r) f a b = absurd a
-
-abbrev nothing : {A B : Type 0} → A → Option B
-nothing x = None
-
-then_none : {A B : Type 0} (o : Option A) → (o >>= nothing {A = A} {B = B}) ≡ nothing o
-then_none None = refl
-then_none (Some x) = refl
-
-then_some : {A : Type 0} (o : Option A) → (o >>= (λ x. Some x)) ≡ o
-then_some None = refl
-then_some (Some x) = refl
-
-or_else_assoc : (a b d : Kinds) → or_else (or_else a b) d ≡ or_else a (or_else b d)
-or_else_assoc [] b d = refl
-or_else_assoc (k ∷ ks) b d = refl
-
-or_else_nil : (a : Kinds) → or_else a [] ≡ a
-or_else_nil [] = refl
-or_else_nil (k ∷ ks) = refl
-
-or_false : (a b : Bool) → (a || b) ≡ false → (a ≡ false) × (b ≡ false)
-or_false true b e = absurd (true≢false e)
-or_false false b e = (refl, e)
-
-without_none : (id : Text) (rows : List Row) → has_row id rows ≡ false → without id rows ≡ rows
-without_none id [] e = refl
-without_none id (r ∷ rs) e =
-    let parts = or_false (bytes_eq r.id id) (has_row id rs) e in
-    let here : bytes_eq r.id id ≡ false = parts.0 in
-    rw here (ap (λ x. r ∷ x) (without_none id rs parts.1))
-
-with_none : (id : Text) (how : Reading) (vs : List Text) (rows : List Row) → has_row id rows ≡ false
-    → with_values id how CommandLine vs rows ≡ rows ++ record { id = id; values = vs; count = None; source = Some CommandLine; reading = how } ∷ []
-with_none id how vs [] e = refl
-with_none id how vs (r ∷ rs) e =
-    let parts = or_false (bytes_eq r.id id) (has_row id rs) e in
-    let here : bytes_eq r.id id ≡ false = parts.0 in
-    rw here (ap (λ x. r ∷ x) (with_none id how vs rs parts.1))
-
--- a use of a rule with one value
-use_agrees : (id : Text) (l : Option Text) (i : Option ℕ) (v : Text) (rows : List Row) → Agrees (use_fault false (plain id l i) (v ∷ []) rows) (used (plain id l i) (v ∷ []) rows) (new id v rows)
-use_agrees id l i v rows = go (has_row id rows) refl
-  where
-    go : (b : Bool) → has_row id rows ≡ b → Agrees (use_fault false (plain id l i) (v ∷ []) rows) (used (plain id l i) (v ∷ []) rows) (new id v rows)
-    go true e = rw e tt
-    go false e = rw e (ap (λ x. with_values id (reading_of vp.String) CommandLine (v ∷ []) x) (without_none id rows e) ∙ with_none id (reading_of vp.String) (v ∷ []) rows e)
-
--- ---- what is pending
-
-abbrev held : List Row → Option (Text × List Text) → Held
-held rows pending = record { rows = rows; pending = pending; skip = 0 }
-
--- what is pending comes to `reading`
-abbrev Settles : Option (Text × List Text) → (List Row → Option (List Row)) → Type 0
-Settles pending reading = (rows : List Row) → Agrees (settle_fault form_rules false (held rows pending)) (settled_rows form_rules pending rows) (reading rows)
-
-settles_nothing : Settles None (λ rows. Some rows)
-settles_nothing rows = refl
-
-settles_value : (id : Text) (l : Option Text) (i : Option ℕ) (v : Text) → arg_by_id form_rules id ≡ Some (plain id l i) → Settles (Some (id, v ∷ [])) (new id v)
-settles_value id l i v known rows = rw known (use_agrees id l i v rows)
-
-settles_lack : (choice : Choice) → Settles (Some (label choice, [])) (λ rows. None)
-settles_lack choice rows = rw (by_choice choice) tt
+use Rattle.run_words.proofs.Rules.{some≢none, IsNamed, by_choice, by_long, chosen, differs, form_rules, is_named, name_id, named, no_name, plain, rules_are, shape, taken}
+use Rattle.run_words.proofs.Uses.{or_nothing, no_several, Agrees, Settles, agrees_then, held, new, nothing, or_else_assoc, or_else_nil, or_false, place, place_name, row, settles_lack, settles_nothing, settles_value, then_none, then_some, use_agrees, with_none, without_none}
+use Rattle.run_words.proofs.Looks.{IsPlain, bundle_refused, by_look, choice_written, cut_name, cut_value, has_character, is_plain, looks-take, looks_long, name_first, no_choice, no_choice_joined, option_first, past_dashes, uncut, written_long}
 
 -- ---- one word of the walk
 
-abbrev at : List Row → Option (Text × List Text) → Waiting → ℕ → Bool → Walk
+abbrev pub at : List Row → Option (Text × List Text) → Waiting → ℕ → Bool → Walk
 at rows pending waiting position trailing =
     record { held = held rows pending; waiting = waiting; position = position; is_trailing = trailing; stopped = None }
 
-abbrev end : Walk → List Text → Walk
+abbrev pub end : Walk → List Text → Walk
 end w words = fold (walked form_rules []) w words
 
 -- the kinds of fault of a walk from here on, and the rows at its end
-abbrev total : Walk → List Text → Kinds
+abbrev pub total : Walk → List Text → Kinds
 total w words = or_else (walk_fault shape [] w words) (settle_fault form_rules false (end w words).held)
 
-abbrev last_rows : Walk → List Text → List Row
+abbrev pub last_rows : Walk → List Text → List Row
 last_rows w words = (settled form_rules (end w words).held).rows
 
-abbrev Gives : Walk → List Text → Option (List Row) → Type 0
+abbrev pub Gives : Walk → List Text → Option (List Row) → Type 0
 Gives w words found = Agrees (total w words) (last_rows w words) found
 
-one_step : (w after : Walk) (word : Text) (rest : List Text) (turn : Kinds) (found : Option (List Row))
+pub one_step : (w after : Walk) (word : Text) (rest : List Text) (turn : Kinds) (found : Option (List Row))
     → turn_fault shape [] w word ≡ turn → walked form_rules [] w word ≡ after → Agrees (or_else turn (total after rest)) (last_rows after rest) found → Gives w (word ∷ rest) found
 unfolding walk_fault
 one_step w after word rest turn found faults moves agrees =
@@ -261,19 +59,11 @@ one_step w after word rest turn found faults moves agrees =
     (subst (λ x. Agrees (or_else turn (total x rest)) (last_rows x rest) found) (sym moves) agrees))
 
 -- a word that is refused
-refused_word : (w : Walk) (word : Text) (rest : List Text) (turn : Kinds) (found : Option (List Row)) → turn_fault shape [] w word ≡ turn
+pub refused_word : (w : Walk) (word : Text) (rest : List Text) (turn : Kinds) (found : Option (List Row)) → turn_fault shape [] w word ≡ turn
     → (length turn ≡ 0 → ⊥) → None ≡ found → Gives w (word ∷ rest) found
 refused_word w word rest [] found faults some none = absurd (some refl)
 refused_word w word rest (k ∷ ks) found faults some none = one_step w _ word rest (k ∷ ks) found faults refl
     (subst (λ o. Agrees (or_else (k ∷ ks) (total (walked form_rules [] w word) rest)) (last_rows (walked form_rules [] w word) rest) o) none tt)
-
-or_nothing : (b : Bool) → (b || false) ≡ b
-or_nothing true = refl
-or_nothing false = refl
-
-no_several : (b : Bool) → (b && false) ≡ false
-no_several true = refl
-no_several false = refl
 
 -- a word that goes to the name of this position, or is one too many
 module _ (pending : Option (Text × List Text)) (reading : List Row → Option (List Row)) (settles : Settles pending reading) (waiting : Waiting) (rows : List Row)
@@ -303,7 +93,7 @@ module _ (pending : Option (Text × List Text)) (reading : List Row → Option (
 
 -- ---- behind `--`
 
-trails : (words : List Text) (pending : Option (Text × List Text)) (reading : List Row → Option (List Row)) → Settles pending reading → (waiting : Waiting) (rows : List Row) (position : ℕ)
+pub trails : (words : List Text) (pending : Option (Text × List Text)) (reading : List Row → Option (List Row)) → Settles pending reading → (waiting : Waiting) (rows : List Row) (position : ℕ)
     → Gives (at rows pending waiting position true) words (reading rows >>= λ r. place position r (map name words))
 unfolding place walk_fault walked
 trails [] pending reading settles waiting rows position =
@@ -313,156 +103,20 @@ trails (word ∷ rest) pending reading settles waiting rows position =
     name_word pending reading settles waiting rows position true word rest (λ q r. place q r (map name rest)) refl refl
     (λ id e. trails rest (Some (id, word ∷ [])) (new id word) (settles_value id None (Some position) word (is_named position id e).by_id) idle (settled_rows form_rules pending rows) (suc position))
 
--- ---- what a word looks like
-
-abbrev looks_long : Word → Bool
-looks_long (x ∷ y ∷ rest) = (x == 45) && (y == 45)
-looks_long word = false
-
-choice_written : (word : Word) (choice : Choice) → choice_of word ≡ Some choice → written choice ≡ word
-choice_written word choice = go (bytes_eq (written mode_option) word) (bytes_eq (written rounds_option) word) (bytes_eq (written order_option) word) (bytes_eq (written number_option) word) refl refl refl refl
-  where
-    go : (a b d e : Bool) → bytes_eq (written mode_option) word ≡ a → bytes_eq (written rounds_option) word ≡ b → bytes_eq (written order_option) word ≡ d → bytes_eq (written number_option) word ≡ e
-        → cond a (Some mode_option) (cond b (Some rounds_option) (cond d (Some order_option) (cond e (Some number_option) None))) ≡ Some choice → written choice ≡ word
-    go true b d e p q r s is = subst (λ k. written k ≡ word) (taken is) ((bytes_eq-Decides (written mode_option) word).0 p)
-    go false true d e p q r s is = subst (λ k. written k ≡ word) (taken is) ((bytes_eq-Decides (written rounds_option) word).0 q)
-    go false false true e p q r s is = subst (λ k. written k ≡ word) (taken is) ((bytes_eq-Decides (written order_option) word).0 r)
-    go false false false true p q r s is = subst (λ k. written k ≡ word) (taken is) ((bytes_eq-Decides (written number_option) word).0 s)
-    go false false false false p q r s is = absurd (some≢none choice is)
-
-written_long : (choice : Choice) → looks_long (written choice) ≡ true
-written_long mode_option = refl
-written_long rounds_option = refl
-written_long order_option = refl
-written_long number_option = refl
-
-no_choice : (word : Word) → looks_long word ≡ false → choice_of word ≡ None
-no_choice word e = go (choice_of word) refl
-  where
-    go : (o : Option Choice) → choice_of word ≡ o → o ≡ None
-    go None is = refl
-    go (Some choice) is = absurd (true≢false (sym (written_long choice) ∙ ap looks_long (choice_written word choice is) ∙ e))
-
-looks-take : (n : ℕ) (word : Word) → looks_long word ≡ false → looks_long (take n word) ≡ false
-looks-take zero word e = refl
-looks-take (suc n) [] e = refl
-looks-take (suc zero) (x ∷ rest) e = refl
-looks-take (suc (suc n)) (x ∷ []) e = refl
-looks-take (suc (suc n)) (x ∷ y ∷ rest) e = e
-
-no_choice_joined : (word : Word) → looks_long word ≡ false → choice_of (before_first is_equals word) ≡ None
-no_choice_joined word e = no_choice (before_first is_equals word) (looks-take (position_or_len is_equals word) word e)
-
-record IsPlain (word : Word) : Type 0 where
-  ending : bytes_eq word (codes "--") ≡ false
-  long : long_of word ≡ None
-  short : short_of word ≡ None
-  choice : choice_of word ≡ None
-  joined : choice_of (before_first is_equals word) ≡ None
-  dashed : is_dashed word ≡ false
-
-is_plain : (word : Word) → is_dashed word ≡ false → IsPlain word
-is_plain [] e = record { ending = refl; long = refl; short = refl; choice = no_choice [] refl; joined = no_choice_joined [] refl; dashed = refl }
-is_plain (x ∷ []) e = go (x == 45) refl
-  where
-    go : (b : Bool) → (x == 45) ≡ b → IsPlain (x ∷ [])
-    go true h = record { ending = no_several (x == 45); long = rw h refl; short = rw h refl; choice = no_choice (x ∷ []) refl; joined = no_choice_joined (x ∷ []) refl; dashed = refl }
-    go false h = record { ending = no_several (x == 45); long = rw h refl; short = rw h refl; choice = no_choice (x ∷ []) refl; joined = no_choice_joined (x ∷ []) refl; dashed = refl }
-is_plain (x ∷ y ∷ rest) e =
-    let alone : looks_long (x ∷ y ∷ rest) ≡ false = rw e refl in
-    record { ending = rw e refl; long = rw e refl; short = rw e refl; choice = no_choice (x ∷ y ∷ rest) alone; joined = no_choice_joined (x ∷ y ∷ rest) alone; dashed = e }
-
--- each word is `--`, longer behind `--`, begins with one `-`, or isn't dashed
-by_look : (P : Word → Type 0) → P (45 ∷ 45 ∷ []) → ((m : ℕ) (ms : Word) → P (45 ∷ 45 ∷ m ∷ ms)) → ((y : ℕ) (rest : Word) → (y == 45) ≡ false → P (45 ∷ y ∷ rest))
-    → ((word : Word) → is_dashed word ≡ false → P word) → (word : Word) → P word
-by_look P a b d e [] = e [] refl
-by_look P a b d e (x ∷ []) = e (x ∷ []) refl
-by_look P a b d e (x ∷ y ∷ rest) = first (x == 45) refl
-  where
-    behind : (n : Word) → P (45 ∷ 45 ∷ n)
-    behind [] = a
-    behind (m ∷ ms) = b m ms
-    second : (t : Bool) → (y == 45) ≡ t → P (45 ∷ y ∷ rest)
-    second true h = subst (λ z. P (45 ∷ z ∷ rest)) (sym (eqb-true y 45 h)) (behind rest)
-    second false h = d y rest h
-    first : (t : Bool) → (x == 45) ≡ t → P (x ∷ y ∷ rest)
-    first true h = subst (λ z. P (z ∷ y ∷ rest)) (sym (eqb-true x 45 h)) (second (y == 45) refl)
-    first false h = e (x ∷ y ∷ rest) h
-
--- a text that begins with `-` has a character behind it
-has_character : (y : ℕ) (rest : Word) → IsUtf8 (45 ∷ y ∷ rest) → (x : ℕ) × (slice_get (chars (y ∷ rest)) 0 ≡ Some x)
-unfolding chars encode_utf8
-has_character y rest utf8 = go (chars (y ∷ rest)) refl
-  where
-    go : (cs : List ℕ) → chars (y ∷ rest) ≡ cs → (x : ℕ) × (slice_get cs 0 ≡ Some x)
-    go (x ∷ xs) is = (x, refl)
-    go [] is =
-        let one : encode_utf8_all (45 ∷ []) ≡ 45 ∷ y ∷ rest = ap (λ cs. encode_utf8_all (45 ∷ cs)) (sym is) ∙ encodes-chars (45 ∷ y ∷ rest) utf8 in
-        let lengths : 1 ≡ suc (suc (length rest)) = ap length one in
-        absurd (omega arith)
-
--- no option has one character
-bundle_refused : (y : ℕ) (ys : Word) (x : ℕ) (rows : List Row) (pending : Option (Text × List Text)) → slice_get (chars (y ∷ ys)) 0 ≡ Some x
-    → bundle_fault form_rules false (y ∷ ys) (held rows pending) ≡ UnknownArgument ∷ []
-unfolding flags_fault
-bundle_refused y ys x rows pending known =
-    ap (λ o. bundle_step_fault form_rules false o (y ∷ ys) 0 (held rows pending) (flags_fault form_rules false (length ys))) known
-
--- ---- the parts, in whichever order they are put
-
-option_first : (choice : Choice) (v : Text) (o : Option (List Part)) (position : ℕ) (rows : List Row)
-    → (new (label choice) v rows >>= λ r. o >>= place position r) ≡ (with_part (Some (option choice v)) o >>= place position rows)
-unfolding place
-option_first choice v None position rows = then_none (new (label choice) v rows)
-option_first choice v (Some parts) position rows = refl
-
-name_first : (v : Text) (o : Option (List Part)) (position : ℕ) (rows : List Row)
-    → place_name (name_id position) v rows (λ r. o >>= place (suc position) r) ≡ (with_part (Some (name v)) o >>= place position rows)
-unfolding place
-name_first v None position rows = go (name_id position)
-  where
-    go : (id : Option Text) → place_name id v rows (λ r. None) ≡ None
-    go None = refl
-    go (Some id) = then_none (new id v rows)
-name_first v (Some parts) position rows = refl
-
--- ---- the cut at the first `=`
-
--- no `=`, no cut
-uncut : (word : Word) → has_byte 61 word ≡ false → before_first is_equals word ≡ word
-uncut [] e = refl
-uncut (x ∷ rest) e =
-    let parts = or_false (x == 61) (has_byte 61 rest) e in
-    let here : (x == 61) ≡ false = parts.0 in
-    let one : 1 + position_or_len is_equals rest ≡ suc (position_or_len is_equals rest) = omega arith in
-    rw (here, one) (ap (λ w. x ∷ w) (uncut rest parts.1))
-
-past_dashes : (n : Word) → position_or_len is_equals (45 ∷ 45 ∷ n) ≡ suc (suc (position_or_len is_equals n))
-past_dashes n = omega arith
-
-cut_name : (n : Word) → before_first is_equals (45 ∷ 45 ∷ n) ≡ 45 ∷ 45 ∷ before_first is_equals n
-cut_name n = ap (λ k. take k (45 ∷ 45 ∷ n)) (past_dashes n)
-
-cut_value : (n : Word) → after_first is_equals (45 ∷ 45 ∷ n) ≡ after_first is_equals n
-cut_value n =
-    let k = position_or_len is_equals n in
-    let more : suc (suc k) + 1 ≡ suc (suc (k + 1)) = omega arith in
-    ap (λ i. drop (i + 1) (45 ∷ 45 ∷ n)) (past_dashes n) ∙ ap (λ i. drop i (45 ∷ 45 ∷ n)) more
-
 -- ---- one word, where no option waits for its value
 
 -- a cut that makes an option of a word that is none is at a `=`
-has_equals : (m : ℕ) (ms : Word) (choice : Choice) → choice_of (45 ∷ 45 ∷ m ∷ ms) ≡ None → choice_of (45 ∷ 45 ∷ before_first is_equals (m ∷ ms)) ≡ Some choice → has_byte 61 (m ∷ ms) ≡ true
+pub has_equals : (m : ℕ) (ms : Word) (choice : Choice) → choice_of (45 ∷ 45 ∷ m ∷ ms) ≡ None → choice_of (45 ∷ 45 ∷ before_first is_equals (m ∷ ms)) ≡ Some choice → has_byte 61 (m ∷ ms) ≡ true
 has_equals m ms choice whole cut = go (has_byte 61 (m ∷ ms)) refl
   where
     go : (b : Bool) → has_byte 61 (m ∷ ms) ≡ b → b ≡ true
     go true e = refl
     go false e = absurd (some≢none choice (sym whole ∙ ap (λ n. choice_of (45 ∷ 45 ∷ n)) (sym (uncut (m ∷ ms) e)) ∙ cut))
 
-record Reads (words : List Text) : Type 0 where
-  free : (pending : Option (Text × List Text)) (reading : List Row → Option (List Row)) → Settles pending reading → (rows : List Row) (position : ℕ)
+pub record Reads (words : List Text) : Type 0 where
+  pub free : (pending : Option (Text × List Text)) (reading : List Row → Option (List Row)) → Settles pending reading → (rows : List Row) (position : ℕ)
       → Gives (at rows pending idle position false) words (reading rows >>= λ r. parts_of None words >>= place position r)
-  due : (choice : Choice) (rows : List Row) (position : ℕ)
+  pub due : (choice : Choice) (rows : List Row) (position : ℕ)
       → Gives (at rows (Some (label choice, [])) (waits_for (label choice)) position false) words (parts_of (Some choice) words >>= place position rows)
 
 module _ (pending : Option (Text × List Text)) (reading : List Row → Option (List Row)) (settles : Settles pending reading) (rows : List Row) (position : ℕ) (rest : List Text) (later : Reads rest) where
@@ -579,7 +233,7 @@ module _ (pending : Option (Text × List Text)) (reading : List Row → Option (
       (name_word pending reading settles idle rows position false word rest (λ q r. parts_of None rest >>= place q r) faults moves
       (λ id known. later.free (Some (id, word ∷ [])) (new id word) (settles_value id None (Some position) word (is_named position id known).by_id) (settled_rows form_rules pending rows) (suc position))))
 
-  free_word : (word : Word) → Free word
+  pub free_word : (word : Word) → Free word
   free_word = by_look Free free_ending free_long free_short free_plain
 
 -- ---- one word, where an option waits for its value
@@ -647,7 +301,7 @@ module _ (choice : Choice) (rows : List Row) (position : ℕ) (rest : List Text)
       (later.free (Some (label choice, word ∷ [])) (new (label choice) word) (settles_value (label choice) (Some (label choice)) None word (by_choice choice)) rows position)))
 
 -- a value that is a word of its own
-due_plain : (choice : Choice) (rows : List Row) (position : ℕ) (rest : List Text) (later : Reads rest) (word : Word) → is_dashed word ≡ false → Due choice rows position rest later word
+pub due_plain : (choice : Choice) (rows : List Row) (position : ℕ) (rest : List Text) (later : Reads rest) (word : Word) → is_dashed word ≡ false → Due choice rows position rest later word
 unfolding walked
 due_plain mode_option rows position rest later word e utf8 =
     let is = is_plain word e in let ending = is.ending in let long = is.long in let short = is.short in
@@ -661,3 +315,7 @@ due_plain order_option rows position rest later word e utf8 =
 due_plain number_option rows position rest later word e utf8 =
     let is = is_plain word e in let ending = is.ending in let long = is.long in let short = is.short in
     due_value number_option rows position rest later word e (rw (ending, long, short) refl) (rw (ending, long, short) refl)
+
+pub due_word : (choice : Choice) (rows : List Row) (position : ℕ) (rest : List Text) (later : Reads rest) (word : Word) → Due choice rows position rest later word
+due_word choice rows position rest later = by_look (Due choice rows position rest later) (due_ending choice rows position rest later) (due_long choice rows position rest later)
+    (due_short choice rows position rest later) (due_plain choice rows position rest later)
