@@ -4,3 +4,4 @@ mod Uses
 mod Looks
 mod Steps
 mod Walks
+mod Placing
