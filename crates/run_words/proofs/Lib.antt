@@ -5,3 +5,4 @@ mod Looks
 mod Steps
 mod Walks
 mod Placing
+mod Lookups

@@ -1,6 +1,6 @@
 -- When parts find their places, and which rows they make.
 use Rattle.std.proofs.Common.{◌≡◌, ◌∙◌, ◌<◌, ◌≤◌, ℕ, zero, suc, Bool, true, false, cond, not, ◌&&◌, ◌||◌, refl, sym, ap, subst, List, [], ◌∷◌, ◌++◌, Option, Some, None, true≢false, codes, arith, append_assoc, append-nil}
-use Rattle.std.specs.Prelude.{slice_get}
+use Rattle.std.specs.Prelude.{slice_get, length, nat_lt}
 use Rattle.std.specs.Str.{bytes_eq}
 use Rattle.std.proofs.lemmas.Slice.Eq.{bytes_eq-Decides}
 use Rattle.std.proofs.lemmas.Bool.{and_parts}
@@ -192,3 +192,102 @@ placed_once choice position rows (option other v ∷ parts) found e =
 placed_once choice position rows (name v ∷ parts) found e =
     let p = name_found (name_id position) v rows (λ r. place (suc position) r parts) found e in
     placed_once choice (suc position) (rows ++ row p.0 v ∷ []) parts found p.1.2
+
+-- ---- parts in form find their places
+
+-- no name from this position on has a row
+abbrev pub Fresh : ℕ → List Row → Type 0
+Fresh position rows = (q : ℕ) → position ≤ q → has_row (id_at q) rows ≡ false
+
+-- what stands at most once
+abbrev pub Once : List Part → Type 0
+Once parts = (choice : Choice) → (o : Option Word) × (at_most_once (values_of choice parts) ≡ Some o)
+
+abbrev pub NoMore : List Row → List Part → Type 0
+NoMore rows parts = (choice : Choice) → has_row (label choice) rows ≡ true → values_of choice parts ≡ []
+
+one_alone : (v : Word) (vs : List Word) (o : Option Word) → at_most_once (v ∷ vs) ≡ Some o → vs ≡ []
+one_alone v [] o e = refl
+one_alone v (x ∷ xs) o e = absurd (some≢none o e)
+
+abbrev has_any : List Word → Bool
+has_any [] = false
+has_any (x ∷ xs) = true
+
+cons_not_nil : (v : Word) (vs : List Word) → (v ∷ vs) ≡ [] → ⊥
+cons_not_nil v vs e = true≢false (ap has_any e)
+
+-- the values of an option, after one of its kind and after another
+values_same : (other choice : Choice) (v : Word) (parts : List Part) → bytes_eq (label other) (label choice) ≡ true → values_of choice (option other v ∷ parts) ≡ v ∷ values_of choice parts
+values_same other choice v parts e = rw e refl
+
+values_other : (other choice : Choice) (v : Word) (parts : List Part) → bytes_eq (label other) (label choice) ≡ false → values_of choice (option other v ∷ parts) ≡ values_of choice parts
+values_other other choice v parts e = rw e refl
+
+module _ (other : Choice) (v : Word) (parts : List Part) (rows : List Row) (once : Once (option other v ∷ parts)) (no_more : NoMore rows (option other v ∷ parts)) where
+  abbrev with_row : List Row
+  with_row = rows ++ row (label other) v ∷ []
+
+  alone : (choice : Choice) → bytes_eq (label other) (label choice) ≡ true → values_of choice parts ≡ []
+  alone choice same =
+      let p = once choice in
+      one_alone v (values_of choice parts) p.0 (ap at_most_once (sym (values_same other choice v parts same)) ∙ p.1)
+
+  pub first_time : has_row (label other) rows ≡ false
+  first_time = go (has_row (label other) rows) refl
+    where
+      go : (b : Bool) → has_row (label other) rows ≡ b → b ≡ false
+      go true e =
+          let same = (bytes_eq-Decides (label other) (label other)).1 refl in
+          absurd (cons_not_nil v (values_of other parts) (sym (values_same other other v parts same) ∙ no_more other e))
+      go false e = refl
+
+  pub once_behind : Once parts
+  once_behind choice = go (bytes_eq (label other) (label choice)) refl
+    where
+      go : (b : Bool) → bytes_eq (label other) (label choice) ≡ b → (o : Option Word) × (at_most_once (values_of choice parts) ≡ Some o)
+      go true same = (None, ap at_most_once (alone choice same))
+      go false same = let p = once choice in (p.0, ap at_most_once (sym (values_other other choice v parts same)) ∙ p.1)
+
+  pub no_more_behind : NoMore with_row parts
+  no_more_behind choice there = go (bytes_eq (label other) (label choice)) refl
+    where
+      go : (b : Bool) → bytes_eq (label other) (label choice) ≡ b → values_of choice parts ≡ []
+      go true same = alone choice same
+      go false same =
+          let before : has_row (label choice) rows ≡ true = sym (or_nothing (has_row (label choice) rows)) ∙ ap (λ b. has_row (label choice) rows || b) (sym same)
+              ∙ sym (has_row-append (label choice) rows (row (label other) v)) ∙ there in
+          sym (values_other other choice v parts same) ∙ no_more choice before
+
+pub fresh_option : (position : ℕ) (rows : List Row) (choice : Choice) (v : Word) → Fresh position rows → Fresh position (rows ++ row (label choice) v ∷ [])
+fresh_option position rows choice v fresh q le =
+    has_row-append (id_at q) rows (row (label choice) v) ∙ ap (λ b. b || bytes_eq (label choice) (id_at q)) (fresh q le) ∙ label_differs choice q
+
+pub fresh_name : (position : ℕ) (rows : List Row) (id : Text) (v : Word) → name_id position ≡ Some id → Fresh position rows → Fresh (suc position) (rows ++ row id v ∷ [])
+fresh_name position rows id v known fresh q le =
+    let same = id_at_is position id known in
+    has_row-append (id_at q) rows (row id v) ∙ ap (λ b. b || bytes_eq id (id_at q)) (fresh q (omega arith))
+    ∙ ap (λ i. bytes_eq i (id_at q)) (sym same) ∙ ids_differ position q id known (omega arith)
+
+no_more_name : (position : ℕ) (rows : List Row) (id : Text) (v : Word) (parts : List Part) → name_id position ≡ Some id → NoMore rows parts → NoMore (rows ++ row id v ∷ []) parts
+no_more_name position rows id v parts known no_more choice there =
+    let apart : bytes_eq id (label choice) ≡ false = ap (λ i. bytes_eq i (label choice)) (sym (id_at_is position id known)) ∙ id_differs position choice in
+    no_more choice (sym (or_nothing (has_row (label choice) rows)) ∙ ap (λ b. has_row (label choice) rows || b) (sym apart) ∙ sym (has_row-append (label choice) rows (row id v)) ∙ there)
+
+new_is : (id v : Text) (rows : List Row) (f : List Row → Option (List Row)) → has_row id rows ≡ false → (new id v rows >>= f) ≡ f (rows ++ row id v ∷ [])
+new_is id v rows f e = rw e refl
+
+pub places : (position : ℕ) (rows : List Row) (parts : List Part) → NoMore rows parts → Once parts → Fits position (names_of parts) → Fresh position rows
+    → (found : List Row) × (place position rows parts ≡ Some found)
+unfolding place
+places position rows [] no_more once fits fresh = (rows, refl)
+places position rows (option choice v ∷ parts) no_more once fits fresh =
+    let later = places position (rows ++ row (label choice) v ∷ []) parts (no_more_behind choice v parts rows once no_more) (once_behind choice v parts rows once no_more) fits
+        (fresh_option position rows choice v fresh) in
+    (later.0, new_is (label choice) v rows (λ r. place position r parts) (first_time choice v parts rows once no_more) ∙ later.1)
+places position rows (name v ∷ parts) no_more once fits fresh =
+    let id = fits.0.0 in
+    let known = fits.0.1 in
+    let later = places (suc position) (rows ++ row id v ∷ []) parts (no_more_name position rows id v parts known no_more) once fits.1 (fresh_name position rows id v known fresh) in
+    let free : has_row id rows ≡ false = ap (λ i. has_row i rows) (sym (id_at_is position id known)) ∙ fresh position (omega arith) in
+    (later.0, ap (λ o. place_name o v rows (λ r. place (suc position) r parts)) known ∙ new_is id v rows (λ r. place (suc position) r parts) free ∙ later.1)
