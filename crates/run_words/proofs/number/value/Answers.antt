@@ -1,0 +1,5 @@
+use Rattle.run_words.proofs.Numerals.{parsed}
+use Rattle.run_words.proofs.number.value.Goals as goal
+
+pub returns : goal.returns
+returns c = rw c.ok.ensures.value (parsed c.args.numeral.now c.parse.result c.requires c.parse.ensures.value.0)
