@@ -1,0 +1,3 @@
+pub mod Spacing
+pub mod Numerals
+pub mod Walking
