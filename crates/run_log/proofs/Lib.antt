@@ -1,3 +1,4 @@
 pub mod Spacing
 pub mod Numerals
 pub mod Walking
+pub mod PlainWords

@@ -5,3 +5,5 @@ pub mod Lines
 pub mod Faults
 pub mod Fields
 pub mod Form
+pub mod Fitting
+pub mod Laws

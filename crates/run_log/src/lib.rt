@@ -9,6 +9,7 @@ mod control_reply;
 mod fault;
 mod field;
 mod form;
+mod laws;
 mod local;
 mod name;
 mod outcome;
@@ -19,6 +20,7 @@ mod turn;
 mod writing;
 
 pub use fault::LogFault;
+pub use laws::a_log_reads_to_its_turns;
 pub use outcome::Outcome;
 pub use reading::read_log;
 pub use turn::Turn;
