@@ -2,3 +2,4 @@ pub mod Spacing
 pub mod Numerals
 pub mod Walking
 pub mod PlainWords
+pub mod Lengths

@@ -1,12 +1,13 @@
 -- Each word of a log is made of octets that are seen: it holds neither a space nor an end of a line.
 use Rattle.std.proofs.Common.{◌≡◌, ℕ, ◌^◌, ◌<◌, Bool, true, false, ◌&&◌, leb, List, [], ◌∷◌, ◌++◌, Option, Some, None, length, map, refl, arith}
-use Rattle.std.specs.Prelude.{nat_le}
+use Rattle.std.specs.Prelude.{nat_lt, nat_le}
 use Rattle.std.specs.Char.{is_ascii_digit}
 use Rattle.std.specs.Fmt.{decimal}
 use Rattle.std.specs.List.{list_all, AllByRecursion, flat_map}
-use Rattle.std.proofs.lemmas.Bool.{and_parts, and_from}
+use Rattle.std.proofs.lemmas.Bool.{and_parts, and_from, lt-ltb, le-leb}
 use Rattle.std.proofs.lemmas.Bool.Decides.{nat_tests}
-use Rattle.std.proofs.lemmas.Fmt.{digits_decimal}
+use Rattle.std.proofs.lemmas.Fmt.{digits_decimal, decimal_nonempty, length-decimal-le}
+use Rattle.std.proofs.lemmas.List.Elements.{recursion_from_All}
 use Rattle.link_script.proofs.Numerals.{digits}
 use Rattle.fallback_state.specs.declared.fall.Event.{Event}
 use Rattle.fallback_state.specs.declared.fall.Event.TheVariants as events
@@ -47,8 +48,12 @@ use Rattle.run_log.specs.Fitting.{IsLong, IsByte, OptionFits, SendCallFits, Send
 abbrev pub is_seen : ℕ → Bool
 is_seen octet = nat_le 33 octet && nat_le octet 126
 
+-- 1 to 20 of them
+abbrev pub is_plain : List ℕ → Bool
+is_plain word = list_all is_seen word && (nat_lt 0 (length word) && nat_le (length word) 20)
+
 abbrev pub IsPlain : List ℕ → Type 0
-IsPlain word = list_all is_seen word ≡ true
+IsPlain word = is_plain word ≡ true
 
 abbrev pub ArePlain : List (List ℕ) → Type 0
 ArePlain words = AllByRecursion IsPlain words
@@ -56,14 +61,15 @@ ArePlain words = AllByRecursion IsPlain words
 seen_digit : (octet : ℕ) → is_ascii_digit octet ≡ true → is_seen octet ≡ true
 seen_digit octet h = grind (arith, nat_tests)
 
-plain_digits : (word : List ℕ) → list_all is_ascii_digit word ≡ true → IsPlain word
-plain_digits [] h = refl
-plain_digits (octet ∷ word) h =
+seen_digits : (word : List ℕ) → list_all is_ascii_digit word ≡ true → list_all is_seen word ≡ true
+seen_digits [] h = refl
+seen_digits (octet ∷ word) h =
     let parts = and_parts (is_ascii_digit octet) (list_all is_ascii_digit word) h in
-    and_from _ _ (seen_digit octet parts.0) (plain_digits word parts.1)
+    and_from _ _ (seen_digit octet parts.0) (seen_digits word parts.1)
 
 pub plain_number : (n : ℕ) → IsLong n → IsPlain (decimal n)
-plain_number n h = plain_digits (decimal n) (digits_decimal digits n h)
+plain_number n h =
+    and_from _ _ (seen_digits (decimal n) (digits_decimal digits n h)) (and_from _ _ (lt-ltb 0 (length (decimal n)) (decimal_nonempty n h)) (le-leb (length (decimal n)) 20 (length-decimal-le 20 n (omega arith) (omega arith) h)))
 
 pub plain_flag : (on : Bool) → IsPlain (flag_word on)
 plain_flag true = refl
@@ -223,7 +229,7 @@ plain_control_reply (control_replies.Never mode) h = (refl, (plain_mode mode, tt
 plain_control_reply (control_replies.UnknownToken own) h = (refl, (plain_number own h, tt))
 plain_control_reply control_replies.NotConfirmed h = (refl, tt)
 plain_control_reply (control_replies.Fallen mode) h = (refl, (plain_mode mode, tt))
-plain_control_reply (control_replies.Rows rows) h = (refl, plain_rows rows h.each)
+plain_control_reply (control_replies.Rows rows) h = (refl, plain_rows rows (recursion_from_All RowFits rows h.each))
 plain_control_reply control_replies.Echo h = (refl, tt)
 plain_control_reply control_replies.BadHmac h = (refl, tt)
 plain_control_reply control_replies.Known h = (refl, tt)

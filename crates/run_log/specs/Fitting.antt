@@ -1,5 +1,5 @@
 -- The numbers of a note are numbers of their types.
-use Rattle.std.specs.Prelude.{ℕ, ◌<◌, ◌≤◌, ◌^◌, List, length, Option, Some, None}
+use Rattle.std.specs.Prelude.{ℕ, ◌<◌, ◌≤◌, ◌^◌, List, length, Option, Some, None, All}
 use Rattle.std.specs.List.{AllByRecursion}
 use Rattle.fallback_state.specs.declared.fall.Verdict.{Verdict}
 use Rattle.fallback_state.specs.declared.fall.Verdict.TheVariants as verdicts
@@ -129,7 +129,7 @@ pub record RowFits (row : Row) : Type 0 where
 
 pub record RowsFit (rows : List Row) : Type 0 where
   pub few : length rows ≤ 16
-  pub each : AllByRecursion RowFits rows
+  pub each : All RowFits rows
 
 abbrev pub ControlReplyFits : ControlReply → Type 0
 ControlReplyFits (control_replies.Standing mode standby sole notice) = NoticeFits notice

@@ -13,11 +13,15 @@ use Rattle.actor_desk.specs.declared.ask.Reply.{Reply}
 use Rattle.actor_desk.specs.declared.ask.Reply.TheVariants as replies
 use Rattle.run_log.specs.Words.{spaced, flag_word, optional_word, reason_word, mode_word, verdict_words, notice_words}
 
+-- of a granted piece its places
+abbrev pub granted_words : ℕ → ℕ → List (List ℕ)
+granted_words from to = codes "granted" ∷ decimal from ∷ decimal to ∷ []
+
 abbrev pub send_reply_words : SendReply → List (List ℕ)
 send_reply_words (send_replies.Taken count) = codes "taken" ∷ decimal count ∷ []
 send_reply_words send_replies.Closed = codes "closed" ∷ []
 send_reply_words send_replies.Shut = codes "shut" ∷ []
-send_reply_words (send_replies.Granted span piece) = codes "granted" ∷ decimal span.from ∷ decimal span.to ∷ []
+send_reply_words (send_replies.Granted span piece) = granted_words span.from span.to
 send_reply_words (send_replies.NoGrant why known_end) = codes "none" ∷ reason_word why ∷ optional_word known_end ∷ []
 send_reply_words (send_replies.Acked bytes fin) = codes "acked" ∷ decimal bytes ∷ flag_word fin ∷ []
 send_reply_words (send_replies.AckFuture written) = codes "future" ∷ decimal written ∷ []

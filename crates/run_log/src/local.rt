@@ -1,6 +1,7 @@
 //! What an actor does by itself, in the words of a log.
 
 ghost use Rattle.std.specs.Prelude.{◌≡◌, ◌++◌, OnOk, string_bytes};
+ghost use Rattle.run_log.specs.Fitting.{LocalFits};
 ghost use Rattle.run_log.specs.Words.{spaced};
 ghost use Rattle.run_log.specs.Calls.{local_words};
 
@@ -9,7 +10,8 @@ use actor_desk::LocalStep;
 use std::alloc::AllocError;
 
 pub fn put_local(text: &mut String, step: LocalStep) -> Result<(), AllocError>
-    ensures { OnOk result (string_bytes text.new ≡ string_bytes text.old ++ spaced (local_words step)) }
+    ensures text { OnOk result (string_bytes text.new ≡ string_bytes text.old ++ spaced (local_words step)) }
+    ensures fits { OnOk result (LocalFits step) }
 {
     match step {
         LocalStep::Arrive { to, copy } => write!(text, "arrive {} {copy}", side_name(to)),

@@ -1,6 +1,7 @@
 //! The words of a log for flags, sides, modes and other things that have names.
 
 ghost use Rattle.std.specs.Prelude.{◌≡◌, ◌++◌, OnOk, string_bytes};
+ghost use Rattle.run_log.specs.Fitting.{OptionFits, VerdictFits, NoticeFits};
 ghost use Rattle.run_log.specs.Words.{spaced, flag_word, optional_word, side_word, object_word, reason_word, mode_word, event_words, verdict_words, notice_words};
 
 use control_book::Notice;
@@ -67,7 +68,8 @@ pub fn mode_name(mode: Mode) -> &'static str
 
 /// A number, or `-` where there is none.
 pub fn put_optional(text: &mut String, number: Option<u64>) -> Result<(), AllocError>
-    ensures { OnOk result (string_bytes text.new ≡ string_bytes text.old ++ optional_word number) }
+    ensures text { OnOk result (string_bytes text.new ≡ string_bytes text.old ++ optional_word number) }
+    ensures fits { OnOk result (OptionFits number) }
 {
     match number {
         Some(number) => write!(text, "{number}"),
@@ -93,7 +95,8 @@ pub fn put_event(text: &mut String, event: Event) -> Result<(), AllocError>
 }
 
 pub fn put_verdict(text: &mut String, verdict: Verdict) -> Result<(), AllocError>
-    ensures { OnOk result (string_bytes text.new ≡ string_bytes text.old ++ spaced (verdict_words verdict)) }
+    ensures text { OnOk result (string_bytes text.new ≡ string_bytes text.old ++ spaced (verdict_words verdict)) }
+    ensures fits { OnOk result (VerdictFits verdict) }
 {
     match verdict {
         Verdict::Stay => write!(text, "stay"),
@@ -104,7 +107,8 @@ pub fn put_verdict(text: &mut String, verdict: Verdict) -> Result<(), AllocError
 }
 
 pub fn put_notice(text: &mut String, notice: Notice) -> Result<(), AllocError>
-    ensures { OnOk result (string_bytes text.new ≡ string_bytes text.old ++ spaced (notice_words notice)) }
+    ensures text { OnOk result (string_bytes text.new ≡ string_bytes text.old ++ spaced (notice_words notice)) }
+    ensures fits { OnOk result (NoticeFits notice) }
 {
     match notice {
         Notice::Nothing => write!(text, "nothing"),

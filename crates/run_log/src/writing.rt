@@ -2,6 +2,7 @@
 
 ghost use Rattle.std.specs.Prelude.{◌≡◌, ◌++◌, OnOk, IfOk, string_bytes};
 ghost use Rattle.std.specs.List.{flat_map};
+ghost use Rattle.run_log.specs.Fitting.{AskFits, ReplyFits, NoteFits};
 ghost use Rattle.run_log.specs.Words.{spaced};
 ghost use Rattle.run_log.specs.Calls.{ask_words};
 ghost use Rattle.run_log.specs.Replies.{reply_text};
@@ -32,7 +33,8 @@ fn object_of(ask: &Ask) -> Object
 }
 
 fn put_ask(text: &mut String, ask: &Ask) -> Result<(), AllocError>
-    ensures { OnOk result (string_bytes text.new ≡ string_bytes text.old ++ spaced (ask_words ask.now)) }
+    ensures text { OnOk result (string_bytes text.new ≡ string_bytes text.old ++ spaced (ask_words ask.now)) }
+    ensures fits { OnOk result (AskFits ask.now) }
 {
     match ask {
         Ask::Send(_, call) => put_send_call(text, call),
@@ -44,7 +46,8 @@ fn put_ask(text: &mut String, ask: &Ask) -> Result<(), AllocError>
 
 /// Puts a book's reply behind ` = `.
 fn put_reply(text: &mut String, reply: &Reply) -> Result<(), AllocError>
-    ensures { OnOk result (string_bytes text.new ≡ string_bytes text.old ++ reply_text reply.now) }
+    ensures text { OnOk result (string_bytes text.new ≡ string_bytes text.old ++ reply_text reply.now) }
+    ensures fits { OnOk result (ReplyFits reply.now) }
 {
     match reply {
         Reply::Send(reply) => {
@@ -69,9 +72,11 @@ fn put_reply(text: &mut String, reply: &Reply) -> Result<(), AllocError>
 /// At an error nothing is kept.
 pub fn line(alloc: Global, note: &Note) -> Result<Text, AllocError>
     ensures exact { IfOk result (λ text. text ≡ ended (step_text note.now)) }
+    // The numbers of a note are numbers of their types.
+    ensures fits { OnOk result (NoteFits note.now) }
 {
     let mut text = String::new(alloc);
-    let Note { stamp, actor, .. } = note;
+    let Note { stamp, actor, .. } = *note;
     write!(
         text,
         "{stamp} {actor} {} ",
