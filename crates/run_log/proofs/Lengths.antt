@@ -257,24 +257,24 @@ control_reply_within (control_replies.Verdict verdict) h range =
     let most : length words ≤ 6 = omega (arith, leb-true (length (verdict_words verdict)) 2 (few_verdicts verdict)) in
     (some_word words (plain_control_reply (control_replies.Verdict verdict) h) (omega arith), omega (arith, words_short words 6 (plain_control_reply (control_replies.Verdict verdict) h) most))
 control_reply_within (control_replies.Rows rows) h range = rows_short rows h range
-control_reply_within control_replies.Noted h range = few_words 6 292 _ (plain_control_reply control_replies.Noted h) refl (omega arith)
-control_reply_within (control_replies.KeysDiffer own) h range = few_words 6 292 _ (plain_control_reply (control_replies.KeysDiffer own) h) refl (omega arith)
-control_reply_within (control_replies.Begin own peer) h range = few_words 6 292 _ (plain_control_reply (control_replies.Begin own peer) h) refl (omega arith)
-control_reply_within control_replies.NotYet h range = few_words 6 292 _ (plain_control_reply control_replies.NotYet h) refl (omega arith)
-control_reply_within (control_replies.Never mode) h range = few_words 6 292 _ (plain_control_reply (control_replies.Never mode) h) refl (omega arith)
-control_reply_within (control_replies.UnknownToken own) h range = few_words 6 292 _ (plain_control_reply (control_replies.UnknownToken own) h) refl (omega arith)
-control_reply_within control_replies.NotConfirmed h range = few_words 6 292 _ (plain_control_reply control_replies.NotConfirmed h) refl (omega arith)
-control_reply_within (control_replies.Fallen mode) h range = few_words 6 292 _ (plain_control_reply (control_replies.Fallen mode) h) refl (omega arith)
-control_reply_within control_replies.Echo h range = few_words 6 292 _ (plain_control_reply control_replies.Echo h) refl (omega arith)
-control_reply_within control_replies.BadHmac h range = few_words 6 292 _ (plain_control_reply control_replies.BadHmac h) refl (omega arith)
-control_reply_within control_replies.Known h range = few_words 6 292 _ (plain_control_reply control_replies.Known h) refl (omega arith)
-control_reply_within control_replies.Stopped h range = few_words 6 292 _ (plain_control_reply control_replies.Stopped h) refl (omega arith)
-control_reply_within (control_replies.OtherKey own) h range = few_words 6 292 _ (plain_control_reply (control_replies.OtherKey own) h) refl (omega arith)
+control_reply_within control_replies.Noted h range = few_words 6 292 (control_reply_words control_replies.Noted) (plain_control_reply control_replies.Noted h) refl (omega arith)
+control_reply_within (control_replies.KeysDiffer own) h range = few_words 6 292 (control_reply_words (control_replies.KeysDiffer own)) (plain_control_reply (control_replies.KeysDiffer own) h) refl (omega arith)
+control_reply_within (control_replies.Begin own peer) h range = few_words 6 292 (control_reply_words (control_replies.Begin own peer)) (plain_control_reply (control_replies.Begin own peer) h) refl (omega arith)
+control_reply_within control_replies.NotYet h range = few_words 6 292 (control_reply_words control_replies.NotYet) (plain_control_reply control_replies.NotYet h) refl (omega arith)
+control_reply_within (control_replies.Never mode) h range = few_words 6 292 (control_reply_words (control_replies.Never mode)) (plain_control_reply (control_replies.Never mode) h) refl (omega arith)
+control_reply_within (control_replies.UnknownToken own) h range = few_words 6 292 (control_reply_words (control_replies.UnknownToken own)) (plain_control_reply (control_replies.UnknownToken own) h) refl (omega arith)
+control_reply_within control_replies.NotConfirmed h range = few_words 6 292 (control_reply_words control_replies.NotConfirmed) (plain_control_reply control_replies.NotConfirmed h) refl (omega arith)
+control_reply_within (control_replies.Fallen mode) h range = few_words 6 292 (control_reply_words (control_replies.Fallen mode)) (plain_control_reply (control_replies.Fallen mode) h) refl (omega arith)
+control_reply_within control_replies.Echo h range = few_words 6 292 (control_reply_words control_replies.Echo) (plain_control_reply control_replies.Echo h) refl (omega arith)
+control_reply_within control_replies.BadHmac h range = few_words 6 292 (control_reply_words control_replies.BadHmac) (plain_control_reply control_replies.BadHmac h) refl (omega arith)
+control_reply_within control_replies.Known h range = few_words 6 292 (control_reply_words control_replies.Known) (plain_control_reply control_replies.Known h) refl (omega arith)
+control_reply_within control_replies.Stopped h range = few_words 6 292 (control_reply_words control_replies.Stopped) (plain_control_reply control_replies.Stopped h) refl (omega arith)
+control_reply_within (control_replies.OtherKey own) h range = few_words 6 292 (control_reply_words (control_replies.OtherKey own)) (plain_control_reply (control_replies.OtherKey own) h) refl (omega arith)
 
 pub plain_reply : (reply : Reply) → ReplyFits reply → list_all is_printable (reply_text reply) ≡ true
-plain_reply (replies.Send reply) h = printable_both (codes " = ") _ refl (printable_words (send_reply_words reply) (plain_send_reply reply h))
-plain_reply (replies.Reassembly reply) h = printable_both (codes " = ") _ refl (printable_words (reassembly_reply_words reply) (plain_reassembly_reply reply h))
-plain_reply (replies.Control reply) h = printable_both (codes " = ") _ refl (printable_words (control_reply_words reply) (plain_control_reply reply h))
+plain_reply (replies.Send reply) h = printable_both (codes " = ") (spaced (send_reply_words reply)) refl (printable_words (send_reply_words reply) (plain_send_reply reply h))
+plain_reply (replies.Reassembly reply) h = printable_both (codes " = ") (spaced (reassembly_reply_words reply)) refl (printable_words (reassembly_reply_words reply) (plain_reassembly_reply reply h))
+plain_reply (replies.Control reply) h = printable_both (codes " = ") (spaced (control_reply_words reply)) refl (printable_words (control_reply_words reply) (plain_control_reply reply h))
 plain_reply replies.Done h = refl
 
 reply_short : (reply : Reply) → ReplyFits reply → HasRowsInRange reply → length (reply_text reply) ≤ 295

@@ -3,3 +3,4 @@ pub mod Numerals
 pub mod Walking
 pub mod PlainWords
 pub mod Lengths
+pub mod LogReads
