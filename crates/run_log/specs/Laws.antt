@@ -1,5 +1,5 @@
 -- What holds of every log.
-use Rattle.std.specs.Prelude.{◌≡◌, ℕ, ◌<◌, List, [], ◌∷◌, ◌++◌, map, Ok}
+use Rattle.std.specs.Prelude.{◌≡◌, ℕ, ◌<◌, List, [], ◌∷◌, ◌++◌, length, map, Ok}
 use Rattle.std.specs.List.{flat_map, AllByRecursion}
 use Rattle.linked_increase.specs.Paths.{IsInRange}
 use Rattle.control_book.specs.declared.call.ControlReply.TheVariants.{Rows}
@@ -9,7 +9,7 @@ use Rattle.actor_desk.specs.declared.ask.Reply.TheVariants.{Control}
 use Rattle.run_log.specs.declared.outcome.Outcome.{Outcome}
 use Rattle.run_log.specs.declared.turn.Turn.{Turn}
 use Rattle.run_log.specs.declared.turn.Turn.TheVariants.{Step, Round}
-use Rattle.run_log.specs.Fitting.{NoteFits}
+use Rattle.run_log.specs.Fitting.{IsByte, IsLong, NoteFits}
 use Rattle.run_log.specs.Form.{reading}
 use Rattle.run_log.specs.Lines.{opening_lines, old_opening_lines, rounds_lines, outcome_text, ended}
 
@@ -38,6 +38,6 @@ log_behind opening rounds outcome = flat_map ended (opening ++ (rounds_lines 0 r
 -- the log of some rounds reads to their turns, in both formats
 abbrev pub ReadsToItsTurns : Type 0
 ReadsToItsTurns = (actors width key_a key_b : ℕ) (first : List Note) (rounds : List (List Note)) (outcome : Outcome)
-    → AllByRecursion (AllByRecursion (CanBeLogged actors)) (first ∷ rounds)
+    → IsByte width → IsLong (length rounds) → AllByRecursion (AllByRecursion (CanBeLogged actors)) (first ∷ rounds)
     → (reading actors width (log_behind (opening_lines width key_a key_b) (first ∷ rounds) outcome) ≡ Ok (turns_of (first ∷ rounds)))
     × (reading actors width (log_behind (old_opening_lines key_a key_b) (first ∷ rounds) outcome) ≡ Ok (turns_of (first ∷ rounds)))
