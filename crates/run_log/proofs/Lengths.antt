@@ -1,0 +1,299 @@
+-- What is asked and answered has 1 to 400 octets, all of which can be printed.
+use Rattle.std.proofs.Common.{◌≡◌, ℕ, ◌+◌, ◌*◌, ◌^◌, ◌<◌, ◌≤◌, Bool, true, false, ◌&&◌, leb, List, [], ◌∷◌, ◌++◌, length, map, refl, ap, sym, ◌∙◌, arith, length-append}
+use Rattle.std.specs.Prelude.{nat_lt, nat_le, codes}
+use Rattle.std.specs.Fmt.{decimal}
+use Rattle.std.specs.List.{list_all, AllByRecursion, flat_map}
+use Rattle.std.proofs.lemmas.Bool.{and_parts, and_from, ltb-true, leb-true, le-leb}
+use Rattle.std.proofs.lemmas.Bool.Decides.{nat_tests}
+use Rattle.std.proofs.lemmas.Fmt.{length-decimal-le}
+use Rattle.std.proofs.lemmas.List.Folds.{list_all-append}
+use Rattle.std.proofs.lemmas.List.Elements.{recursion_from_All}
+use Rattle.fallback_state.specs.declared.fall.Event.{Event}
+use Rattle.fallback_state.specs.declared.fall.Event.TheVariants as events
+use Rattle.fallback_state.specs.declared.fall.Verdict.{Verdict}
+use Rattle.fallback_state.specs.declared.fall.Verdict.TheVariants as verdicts
+use Rattle.control_book.specs.declared.call.Notice.{Notice}
+use Rattle.control_book.specs.declared.call.Notice.TheVariants as notices
+use Rattle.key_material.specs.Address.{octets_of}
+use Rattle.linked_increase.specs.declared.rows.Row.{Row}
+use Rattle.linked_increase.specs.Paths.{IsInRange}
+use Rattle.send_book.specs.declared.call.SendCall.{SendCall}
+use Rattle.send_book.specs.declared.call.SendCall.TheVariants as send_calls
+use Rattle.send_book.specs.declared.call.SendReply.{SendReply}
+use Rattle.send_book.specs.declared.call.SendReply.TheVariants as send_replies
+use Rattle.reassembly_book.specs.declared.call.ReassemblyCall.{ReassemblyCall}
+use Rattle.reassembly_book.specs.declared.call.ReassemblyCall.TheVariants as reassembly_calls
+use Rattle.reassembly_book.specs.declared.call.ReassemblyReply.{ReassemblyReply}
+use Rattle.reassembly_book.specs.declared.call.ReassemblyReply.TheVariants as reassembly_replies
+use Rattle.control_book.specs.declared.call.ControlCall.{ControlCall}
+use Rattle.control_book.specs.declared.call.ControlCall.TheVariants as control_calls
+use Rattle.control_book.specs.declared.call.ControlReply.{ControlReply}
+use Rattle.control_book.specs.declared.call.ControlReply.TheVariants as control_replies
+use Rattle.actor_desk.specs.declared.ask.Ask.{Ask}
+use Rattle.actor_desk.specs.declared.ask.Ask.TheVariants as asks
+use Rattle.actor_desk.specs.declared.ask.LocalStep.{LocalStep}
+use Rattle.actor_desk.specs.declared.ask.LocalStep.TheVariants as steps
+use Rattle.actor_desk.specs.declared.ask.Reply.{Reply}
+use Rattle.actor_desk.specs.declared.ask.Reply.TheVariants as replies
+use Rattle.run_log.specs.Words.{spaced, event_words, verdict_words, notice_words}
+use Rattle.run_log.specs.Calls.{send_call_words, reassembly_call_words, heard_words, control_call_words, local_words, ask_words}
+use Rattle.run_log.specs.Replies.{send_reply_words, reassembly_reply_words, row_words, control_reply_words, reply_text}
+use Rattle.run_log.specs.Fields.{is_printable, are_words}
+use Rattle.run_log.specs.Fitting.{IsByte, HeardFits, RowFits, RowsFit, AskFits, ReplyFits}
+use Rattle.run_log.specs.Laws.{HasRowsInRange}
+use Rattle.run_log.proofs.PlainWords.{is_seen, is_plain, IsPlain, ArePlain, plain_ask, plain_send_reply, plain_reassembly_reply, plain_control_reply}
+use Rattle.run_log.proofs.Spacing.{behind, spaced_behind, heard_is, rows_is}
+
+-- ---- plain words with spaces between them
+
+pub plain_seen : (word : List ℕ) → IsPlain word → list_all is_seen word ≡ true
+plain_seen word h = (and_parts (list_all is_seen word) (nat_lt 0 (length word) && nat_le (length word) 20) h).0
+
+plain_long : (word : List ℕ) → IsPlain word → (0 < length word) × (length word ≤ 20)
+plain_long word h =
+    let sizes = and_parts (nat_lt 0 (length word)) (nat_le (length word) 20) (and_parts (list_all is_seen word) (nat_lt 0 (length word) && nat_le (length word) 20) h).1 in
+    (ltb-true 0 (length word) sizes.0, leb-true (length word) 20 sizes.1)
+
+printable_octet : (octet : ℕ) → is_seen octet ≡ true → is_printable octet ≡ true
+printable_octet octet h = grind (arith, nat_tests)
+
+pub printable_word : (word : List ℕ) → list_all is_seen word ≡ true → list_all is_printable word ≡ true
+printable_word [] h = refl
+printable_word (octet ∷ word) h =
+    let parts = and_parts (is_seen octet) (list_all is_seen word) h in
+    and_from _ _ (printable_octet octet parts.0) (printable_word word parts.1)
+
+pub printable_both : (text more : List ℕ) → list_all is_printable text ≡ true → list_all is_printable more ≡ true → list_all is_printable (text ++ more) ≡ true
+printable_both text more h k = list_all-append is_printable text more ∙ and_from _ _ h k
+
+pub printable_words : (words : List (List ℕ)) → ArePlain words → list_all is_printable (spaced words) ≡ true
+printable_words [] h = refl
+printable_words (word ∷ []) h = printable_word word (plain_seen word h.0)
+printable_words (word ∷ next ∷ words) h =
+    printable_both word (32 ∷ spaced (next ∷ words)) (printable_word word (plain_seen word h.0)) (printable_words (next ∷ words) h.1)
+
+behind_short : (words : List (List ℕ)) → ArePlain words → length (behind words) ≤ 21 * length words
+behind_short [] h = omega arith
+behind_short (word ∷ words) h = omega (arith, length-append (32 ∷ word) (behind words), (plain_long word h.0).1, behind_short words h.1)
+
+-- so many words of at most 20 octets
+words_short : (words : List (List ℕ)) (most : ℕ) → ArePlain words → length words ≤ most → length (spaced words) ≤ 21 * most
+words_short [] most h few = omega arith
+words_short (word ∷ words) most h few =
+    omega (arith, ap length (spaced_behind word words), length-append word (behind words), (plain_long word h.0).1, behind_short words h.1)
+
+some_word : (words : List (List ℕ)) → ArePlain words → 0 < length words → 1 ≤ length (spaced words)
+some_word [] h some = absurd (omega arith)
+some_word (word ∷ words) h some = omega (arith, ap length (spaced_behind word words), length-append word (behind words), (plain_long word h.0).0)
+
+-- ---- how many words there are
+
+abbrev IsCount : ℕ → List (List ℕ) → Type 0
+IsCount most words = (nat_lt 0 (length words) && nat_le (length words) most) ≡ true
+
+counted : (most : ℕ) (words : List (List ℕ)) → IsCount most words → (0 < length words) × (length words ≤ most)
+counted most words h =
+    let parts = and_parts (nat_lt 0 (length words)) (nat_le (length words) most) h in
+    (ltb-true 0 (length words) parts.0, leb-true (length words) most parts.1)
+
+few_fell : (path : ℕ) (event : Event) → IsCount 5 (control_call_words (control_calls.Fell path event))
+few_fell path events.PlainHandshake = refl
+few_fell path events.PlainData = refl
+few_fell path events.PlainAck = refl
+few_fell path events.KeysHeard = refl
+few_fell path events.MappingHeard = refl
+few_fell path events.AckHeard = refl
+few_fell path events.InfiniteHeard = refl
+few_fell path events.CheckFailed = refl
+few_fell path (events.FailHeard contiguous) = refl
+few_fell path events.Stop = refl
+
+few_send_call : (call : SendCall) → IsCount 5 (send_call_words call)
+few_send_call (send_calls.Write bytes) = refl
+few_send_call send_calls.Close = refl
+few_send_call (send_calls.Grant path max standby) = refl
+few_send_call (send_calls.AckIn next window) = refl
+few_send_call (send_calls.Return path) = refl
+few_send_call send_calls.GoIdentity = refl
+few_send_call (send_calls.GoInfinite path) = refl
+few_send_call send_calls.Abort = refl
+
+few_reassembly_call : (call : ReassemblyCall) → IsCount 5 (reassembly_call_words call)
+few_reassembly_call (reassembly_calls.Place at bytes) = refl
+few_reassembly_call (reassembly_calls.Fin at) = refl
+few_reassembly_call (reassembly_calls.Read max) = refl
+few_reassembly_call reassembly_calls.AckOut = refl
+few_reassembly_call (reassembly_calls.Abort by_peer) = refl
+
+few_local : (step : LocalStep) → IsCount 5 (local_words step)
+few_local (steps.Arrive to copy) = refl
+few_local (steps.Fire side) = refl
+few_local (steps.Line number) = refl
+few_local (steps.Sent from copy length sum) = refl
+few_local steps.End = refl
+
+few_send_reply : (reply : SendReply) → IsCount 6 (send_reply_words reply)
+few_send_reply (send_replies.Taken count) = refl
+few_send_reply send_replies.Closed = refl
+few_send_reply send_replies.Shut = refl
+few_send_reply (send_replies.Granted span piece) = refl
+few_send_reply (send_replies.NoGrant why known_end) = refl
+few_send_reply (send_replies.Acked bytes fin) = refl
+few_send_reply (send_replies.AckFuture written) = refl
+few_send_reply (send_replies.Returned count) = refl
+few_send_reply send_replies.Noted = refl
+few_send_reply (send_replies.Infinite from) = refl
+few_send_reply send_replies.Scattered = refl
+
+few_reassembly_reply : (reply : ReassemblyReply) → IsCount 6 (reassembly_reply_words reply)
+few_reassembly_reply (reassembly_replies.Placed count) = refl
+few_reassembly_reply (reassembly_replies.Beyond edge) = refl
+few_reassembly_reply reassembly_replies.FinSet = refl
+few_reassembly_reply (reassembly_replies.FinClash fin at) = refl
+few_reassembly_reply (reassembly_replies.Bytes bytes) = refl
+few_reassembly_reply reassembly_replies.End = refl
+few_reassembly_reply reassembly_replies.NoneYet = refl
+few_reassembly_reply (reassembly_replies.Aborted by_peer) = refl
+few_reassembly_reply (reassembly_replies.Ack next window) = refl
+few_reassembly_reply reassembly_replies.Noted = refl
+
+few_notices : (notice : Notice) → nat_le (length (notice_words notice)) 2 ≡ true
+few_notices notices.Nothing = refl
+few_notices (notices.Announce id) = refl
+few_notices (notices.Withdraw id) = refl
+few_notices (notices.Carrier key) = refl
+few_notices notices.Reset = refl
+
+few_verdicts : (verdict : Verdict) → nat_le (length (verdict_words verdict)) 2 ≡ true
+few_verdicts verdicts.Stay = refl
+few_verdicts (verdicts.Went mode) = refl
+few_verdicts verdicts.SendFail = refl
+few_verdicts (verdicts.BreakPath reason) = refl
+
+-- ---- what is asked
+
+abbrev IsWithin : ℕ → List ℕ → Type 0
+IsWithin most text = (1 ≤ length text) × (length text ≤ most)
+
+few_words : (most bound : ℕ) (words : List (List ℕ)) → ArePlain words → IsCount most words → 21 * most ≤ bound → IsWithin bound (spaced words)
+few_words most bound words h few le =
+    let count = counted most words few in
+    (some_word words h count.0, omega (arith, words_short words most h count.1))
+
+octets_short : (octets : List ℕ) → AllByRecursion IsByte octets → length (flat_map (λ octet. 32 ∷ decimal octet) octets) ≤ 4 * length octets
+octets_short [] h = omega arith
+octets_short (octet ∷ octets) h =
+    omega (arith, length-append (32 ∷ decimal octet) (flat_map (λ octet. 32 ∷ decimal octet) octets), length-decimal-le 3 octet (omega arith) (omega (arith, h.0)) (omega (arith, h.0)), octets_short octets h.1)
+
+heard_short : (id : ℕ) (octets : List ℕ) (port hmac : ℕ) → HeardFits id octets port hmac → IsWithin 105 (spaced (heard_words id octets port hmac))
+heard_short id octets port hmac h =
+    let whole = ap length (heard_is id octets port hmac) in
+    let front = length-append (codes "heard " ++ decimal id) (flat_map (λ octet. 32 ∷ decimal octet) octets ++ ((32 ∷ decimal port) ++ (32 ∷ decimal hmac))) in
+    let named = length-append (codes "heard ") (decimal id) in
+    let back = length-append (flat_map (λ octet. 32 ∷ decimal octet) octets) ((32 ∷ decimal port) ++ (32 ∷ decimal hmac)) in
+    let last = length-append (32 ∷ decimal port) (32 ∷ decimal hmac) in
+    let ids = length-decimal-le 3 id (omega arith) (omega (arith, h.0)) (omega (arith, h.0)) in
+    let ports = length-decimal-le 5 port (omega arith) (omega (arith, h.1.1.0)) (omega (arith, h.1.1.0)) in
+    let hmacs = length-decimal-le 20 hmac (omega arith) (omega (arith, h.1.1.1)) h.1.1.1 in
+    let each = octets_short octets h.1.0.octets in
+    (omega (arith, whole, front, named, back, last), omega (arith, whole, front, named, back, last, ids, ports, hmacs, each, h.1.0.few))
+
+ask_within : (ask : Ask) → AskFits ask → IsWithin 105 (spaced (ask_words ask))
+ask_within (asks.Send side call) h = few_words 5 105 (send_call_words call) (plain_ask (asks.Send side call) h) (few_send_call call) (omega arith)
+ask_within (asks.Reassembly side call) h = few_words 5 105 (reassembly_call_words call) (plain_ask (asks.Reassembly side call) h) (few_reassembly_call call) (omega arith)
+ask_within (asks.Local step) h = few_words 5 105 (local_words step) (plain_ask (asks.Local step) h) (few_local step) (omega arith)
+ask_within (asks.Control side call) h = by call h
+  where
+    few : (call : ControlCall) → AskFits (asks.Control side call) → IsCount 5 (control_call_words call) → IsWithin 105 (spaced (control_call_words call))
+    few call h count = few_words 5 105 (control_call_words call) (plain_ask (asks.Control side call) h) count (omega arith)
+
+    by : (call : ControlCall) → AskFits (asks.Control side call) → IsWithin 105 (spaced (control_call_words call))
+    by (control_calls.Look path) h = few (control_calls.Look path) h refl
+    by (control_calls.PeerKey key) h = few (control_calls.PeerKey key) h refl
+    by (control_calls.Keys own peer) h = few (control_calls.Keys own peer) h refl
+    by (control_calls.Fell path event) h = few (control_calls.Fell path event) h (few_fell path event)
+    by (control_calls.JoinBegin path) h = few (control_calls.JoinBegin path) h refl
+    by (control_calls.JoinHeard path token) h = few (control_calls.JoinHeard path token) h refl
+    by (control_calls.Live path backup) h = few (control_calls.Live path backup) h refl
+    by (control_calls.Dead path) h = few (control_calls.Dead path) h refl
+    by (control_calls.Backup path on) h = few (control_calls.Backup path on) h refl
+    by (control_calls.Rate path window rtt) h = few (control_calls.Rate path window rtt) h refl
+    by (control_calls.Announce id) h = few (control_calls.Announce id) h refl
+    by (control_calls.Withdraw id) h = few (control_calls.Withdraw id) h refl
+    by (control_calls.Heard id address port hmac) h = heard_short id (octets_of address) port hmac h
+    by (control_calls.Echoed id) h = few (control_calls.Echoed id) h refl
+    by (control_calls.Removed id) h = few (control_calls.Removed id) h refl
+    by control_calls.FastClose h = few control_calls.FastClose h refl
+    by (control_calls.FastHeard key) h = few (control_calls.FastHeard key) h refl
+
+-- ---- what is answered
+
+each_row_short : (rows : List Row) → AllByRecursion RowFits rows → AllByRecursion IsInRange rows → length (flat_map (λ row. 32 ∷ spaced (row_words row)) rows) ≤ 18 * length rows
+each_row_short [] h range = omega arith
+each_row_short (row ∷ rows) h range =
+    let front = length-append (32 ∷ spaced (row_words row)) (flat_map (λ row. 32 ∷ spaced (row_words row)) rows) in
+    let path = length-append (decimal row.path) (32 ∷ (decimal row.window ++ 32 ∷ decimal row.rtt)) in
+    let window = length-append (decimal row.window) (32 ∷ decimal row.rtt) in
+    let paths = length-decimal-le 3 row.path (omega arith) (omega (arith, h.0.path)) (omega (arith, h.0.path)) in
+    let windows = length-decimal-le 7 row.window (omega arith) (omega (arith, range.0.window)) h.0.window in
+    let rtts = length-decimal-le 5 row.rtt (omega arith) (omega (arith, range.0.rtt)) h.0.rtt in
+    let others = each_row_short rows h.1 range.1 in
+    omega (arith, front, path, window, paths, windows, rtts, others)
+
+rows_short : (rows : List Row) → RowsFit rows → AllByRecursion IsInRange rows → IsWithin 292 (spaced (codes "rows" ∷ flat_map row_words rows))
+rows_short rows h range =
+    let whole = ap length (rows_is rows) in
+    let front = length-append (codes "rows") (flat_map (λ row. 32 ∷ spaced (row_words row)) rows) in
+    let each = each_row_short rows (recursion_from_All RowFits rows h.each) range in
+    (omega (arith, whole, front), omega (arith, whole, front, each, h.few))
+
+control_reply_within : (reply : ControlReply) → ReplyFits (replies.Control reply) → HasRowsInRange (replies.Control reply) → IsWithin 292 (spaced (control_reply_words reply))
+control_reply_within (control_replies.Standing mode standby sole notice) h range =
+    let words = control_reply_words (control_replies.Standing mode standby sole notice) in
+    let most : length words ≤ 6 = omega (arith, leb-true (length (notice_words notice)) 2 (few_notices notice)) in
+    (some_word words (plain_control_reply (control_replies.Standing mode standby sole notice) h) (omega arith), omega (arith, words_short words 6 (plain_control_reply (control_replies.Standing mode standby sole notice) h) most))
+control_reply_within (control_replies.Verdict verdict) h range =
+    let words = control_reply_words (control_replies.Verdict verdict) in
+    let most : length words ≤ 6 = omega (arith, leb-true (length (verdict_words verdict)) 2 (few_verdicts verdict)) in
+    (some_word words (plain_control_reply (control_replies.Verdict verdict) h) (omega arith), omega (arith, words_short words 6 (plain_control_reply (control_replies.Verdict verdict) h) most))
+control_reply_within (control_replies.Rows rows) h range = rows_short rows h range
+control_reply_within control_replies.Noted h range = few_words 6 292 (control_reply_words control_replies.Noted) (plain_control_reply control_replies.Noted h) refl (omega arith)
+control_reply_within (control_replies.KeysDiffer own) h range = few_words 6 292 (control_reply_words (control_replies.KeysDiffer own)) (plain_control_reply (control_replies.KeysDiffer own) h) refl (omega arith)
+control_reply_within (control_replies.Begin own peer) h range = few_words 6 292 (control_reply_words (control_replies.Begin own peer)) (plain_control_reply (control_replies.Begin own peer) h) refl (omega arith)
+control_reply_within control_replies.NotYet h range = few_words 6 292 (control_reply_words control_replies.NotYet) (plain_control_reply control_replies.NotYet h) refl (omega arith)
+control_reply_within (control_replies.Never mode) h range = few_words 6 292 (control_reply_words (control_replies.Never mode)) (plain_control_reply (control_replies.Never mode) h) refl (omega arith)
+control_reply_within (control_replies.UnknownToken own) h range = few_words 6 292 (control_reply_words (control_replies.UnknownToken own)) (plain_control_reply (control_replies.UnknownToken own) h) refl (omega arith)
+control_reply_within control_replies.NotConfirmed h range = few_words 6 292 (control_reply_words control_replies.NotConfirmed) (plain_control_reply control_replies.NotConfirmed h) refl (omega arith)
+control_reply_within (control_replies.Fallen mode) h range = few_words 6 292 (control_reply_words (control_replies.Fallen mode)) (plain_control_reply (control_replies.Fallen mode) h) refl (omega arith)
+control_reply_within control_replies.Echo h range = few_words 6 292 (control_reply_words control_replies.Echo) (plain_control_reply control_replies.Echo h) refl (omega arith)
+control_reply_within control_replies.BadHmac h range = few_words 6 292 (control_reply_words control_replies.BadHmac) (plain_control_reply control_replies.BadHmac h) refl (omega arith)
+control_reply_within control_replies.Known h range = few_words 6 292 (control_reply_words control_replies.Known) (plain_control_reply control_replies.Known h) refl (omega arith)
+control_reply_within control_replies.Stopped h range = few_words 6 292 (control_reply_words control_replies.Stopped) (plain_control_reply control_replies.Stopped h) refl (omega arith)
+control_reply_within (control_replies.OtherKey own) h range = few_words 6 292 (control_reply_words (control_replies.OtherKey own)) (plain_control_reply (control_replies.OtherKey own) h) refl (omega arith)
+
+pub plain_reply : (reply : Reply) → ReplyFits reply → list_all is_printable (reply_text reply) ≡ true
+plain_reply (replies.Send reply) h = printable_both (codes " = ") (spaced (send_reply_words reply)) refl (printable_words (send_reply_words reply) (plain_send_reply reply h))
+plain_reply (replies.Reassembly reply) h = printable_both (codes " = ") (spaced (reassembly_reply_words reply)) refl (printable_words (reassembly_reply_words reply) (plain_reassembly_reply reply h))
+plain_reply (replies.Control reply) h = printable_both (codes " = ") (spaced (control_reply_words reply)) refl (printable_words (control_reply_words reply) (plain_control_reply reply h))
+plain_reply replies.Done h = refl
+
+reply_short : (reply : Reply) → ReplyFits reply → HasRowsInRange reply → length (reply_text reply) ≤ 295
+reply_short (replies.Send reply) h range =
+    omega (arith, length-append (codes " = ") (spaced (send_reply_words reply)), (few_words 6 292 (send_reply_words reply) (plain_send_reply reply h) (few_send_reply reply) (omega arith)).1)
+reply_short (replies.Reassembly reply) h range =
+    omega (arith, length-append (codes " = ") (spaced (reassembly_reply_words reply)), (few_words 6 292 (reassembly_reply_words reply) (plain_reassembly_reply reply h) (few_reassembly_reply reply) (omega arith)).1)
+reply_short (replies.Control reply) h range =
+    omega (arith, length-append (codes " = ") (spaced (control_reply_words reply)), (control_reply_within reply h range).1)
+reply_short replies.Done h range = omega arith
+
+-- ---- both
+
+pub words_again : (ask : Ask) (reply : Reply) → AskFits ask → ReplyFits reply → HasRowsInRange reply → are_words (spaced (ask_words ask) ++ reply_text reply) ≡ true
+words_again ask reply h k range =
+    let both = length-append (spaced (ask_words ask)) (reply_text reply) in
+    let asked = ask_within ask h in
+    let answered = reply_short reply k range in
+    let text = spaced (ask_words ask) ++ reply_text reply in
+    let some = le-leb 1 (length text) (omega (arith, both, asked.0)) in
+    let most = le-leb (length text) 400 (omega (arith, both, asked.1, answered)) in
+    and_from _ _ (and_from _ _ some most) (printable_both (spaced (ask_words ask)) (reply_text reply) (printable_words (ask_words ask) (plain_ask ask h)) (plain_reply reply k))

@@ -1,0 +1,6 @@
+pub mod Spacing
+pub mod Numerals
+pub mod Walking
+pub mod PlainWords
+pub mod Lengths
+pub mod LogReads

@@ -1,0 +1,7 @@
+use Rattle.std.proofs.Common.{◌≡◌, ◌∷◌, ◌++◌, string_bytes, drop, ℕ}
+use Rattle.std.specs.Fmt.{decimal}
+use Rattle.std.specs.List.{flat_map}
+use Rattle.run_log.proofs.control_call.put_octets.Given as goal
+
+abbrev pub invariant-loop-octet : goal.invariant-loop-octet
+invariant-loop-octet l = string_bytes l.text ++ flat_map (λ octet. 32 ∷ decimal octet) (drop l.octet-index l.octets) ≡ string_bytes l.fn.text ++ flat_map (λ octet. 32 ∷ decimal octet) l.octets

@@ -1,0 +1,91 @@
+//! Reads a log.
+
+ghost use Rattle.std.specs.Prelude.{◌≡◌, ◌<◌, ◌∷◌, ◌==◌, ◌+◌, ◌-◌, ◌^◌, ◌++◌, [], length, position, OnOk, IfOk};
+ghost use Rattle.link_script.specs.Words.{text_lines};
+ghost use Rattle.run_log.specs.Form.{HasRoundBelow, taken, turn_list, after_line, reading, Gives};
+
+use crate::fault::LogFault;
+use crate::form::{Expected, Setting};
+use crate::turn::Turn;
+use std::alloc::{AllocError, Global};
+
+/// The place of the first LF.
+fn line_end(text: &[u8]) -> Option<usize>
+    ensures { result ≡ position (λ octet. octet == 10) text.now }
+{
+    text.iter().position(|octet| *octet == b'\n')
+}
+
+/// Cuts the first line off a text: the octets before the first LF, and those after it.
+fn split_line(text: &[u8]) -> (&[u8], &[u8])
+    requires { 0 < length text.now }
+    ensures line { text_lines text.now ≡ result.0.now ∷ text_lines result.1.now }
+    ensures shorter { length result.1.now < length text.now }
+{
+    match line_end(text) {
+        Some(end) => (&text[..end], &text[end + 1..]),
+        None => (text, &[]),
+    }
+}
+
+/// Adds the turn that a line tells, if it tells one.
+fn note_turn(turns: &mut Vec<Turn>, turn: Option<Turn>) -> Result<(), AllocError>
+    ensures { OnOk result (turns.new.items ≡ turns.old.items ++ turn_list turn) }
+{
+    match turn {
+        Some(turn) => Ok(turns.push(turn)?),
+        None => Ok(()),
+    }
+}
+
+/// Takes the line with this number: what may stand next, and the turn that it tells.
+fn take_line(
+    alloc: Global,
+    setting: Setting,
+    number: u64,
+    expected: &mut Expected,
+    turns: &mut Vec<Turn>,
+    line: &[u8],
+) -> Result<(), LogFault>
+    requires { HasRoundBelow (2 ^ 64 - 1) expected.old }
+    ensures { Gives (λ _. (expected.new, turns.new.items)) result (after_line number turns.old.items (taken setting.actors setting.width expected.old line.now)) }
+{
+    let Some(taken) = expected.take(alloc, setting, line)? else {
+        return Err(LogFault::Line(number));
+    };
+    note_turn(turns, taken.turn)?;
+    *expected = taken.next;
+    Ok(())
+}
+
+fn read_lines(alloc: Global, setting: Setting, bytes: &[u8]) -> Result<Vec<Turn>, LogFault>
+    ensures { Gives (λ turns. turns.items) result (reading setting.actors setting.width bytes.now) }
+{
+    let _len = bytes.len();
+    let mut turns = Vec::new(alloc);
+    let mut expected = Expected::Format;
+    let mut number = 1;
+    let mut rest = bytes;
+    while !rest.is_empty() {
+        let (line, after) = split_line(rest);
+        take_line(alloc, setting, number, &mut expected, &mut turns, line)?;
+        number += 1;
+        rest = after;
+    }
+    if !expected.is_nothing() {
+        return Err(LogFault::Line(number));
+    }
+    Ok(turns)
+}
+
+/// Reads the turns of a log, or says which line is refused first.
+///
+/// The run has so many actors, and its data numbers have `width` octets, 8 or 4. Both formats are read; the second line
+/// of format 2 has to name this width, and format 1 names none. Each line ends with LF, which the last line may lack. Every octet is allowed, and every text
+/// is answered.
+pub fn read_log(alloc: Global, bytes: &[u8], actors: u8, width: u8) -> Result<Vec<Turn>, LogFault>
+    // The turns that the text tells or the first line that is refused, unless memory ran out.
+    ensures exact { Gives (λ turns. turns.items) result (reading actors width bytes.now) }
+{
+    read_lines(alloc, Setting { actors, width }, bytes)
+}

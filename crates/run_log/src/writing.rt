@@ -1,0 +1,121 @@
+//! Writes the lines of a log.
+
+ghost use Rattle.std.specs.Prelude.{◌≡◌, ◌++◌, OnOk, IfOk, string_bytes};
+ghost use Rattle.std.specs.List.{flat_map};
+ghost use Rattle.run_log.specs.Fitting.{AskFits, ReplyFits, NoteFits};
+ghost use Rattle.run_log.specs.Words.{spaced};
+ghost use Rattle.run_log.specs.Calls.{ask_words};
+ghost use Rattle.run_log.specs.Replies.{reply_text};
+ghost use Rattle.run_log.specs.Lines.{object_of, step_text, round_text, key_word, keys_text, outcome_text, opening_lines, ended};
+
+use crate::control_call::put_control_call;
+use crate::control_reply::put_control_reply;
+use crate::local::put_local;
+use crate::name::object_name;
+use crate::outcome::Outcome;
+use crate::reassembly::{put_reassembly_call, put_reassembly_reply};
+use crate::send::{put_send_call, put_send_reply};
+use actor_desk::{Ask, Note, Reply};
+use outside_kit::Object;
+use pipe_model::Text;
+use std::alloc::{AllocError, Global};
+
+/// On which object a step is made.
+fn object_of(ask: &Ask) -> Object
+    ensures { result ≡ object_of ask.now }
+{
+    match ask {
+        Ask::Send(side, _) => Object::Send(*side),
+        Ask::Reassembly(side, _) => Object::Reassembly(*side),
+        Ask::Control(side, _) => Object::Control(*side),
+        Ask::Local(_) => Object::Me,
+    }
+}
+
+fn put_ask(text: &mut String, ask: &Ask) -> Result<(), AllocError>
+    ensures text { OnOk result (string_bytes text.new ≡ string_bytes text.old ++ spaced (ask_words ask.now)) }
+    ensures fits { OnOk result (AskFits ask.now) }
+{
+    match ask {
+        Ask::Send(_, call) => put_send_call(text, call),
+        Ask::Reassembly(_, call) => put_reassembly_call(text, call),
+        Ask::Control(_, call) => put_control_call(text, call),
+        Ask::Local(step) => put_local(text, *step),
+    }
+}
+
+/// Puts a book's reply behind ` = `.
+fn put_reply(text: &mut String, reply: &Reply) -> Result<(), AllocError>
+    ensures text { OnOk result (string_bytes text.new ≡ string_bytes text.old ++ reply_text reply.now) }
+    ensures fits { OnOk result (ReplyFits reply.now) }
+{
+    match reply {
+        Reply::Send(reply) => {
+            write!(text, " = ")?;
+            put_send_reply(text, reply)
+        }
+        Reply::Reassembly(reply) => {
+            write!(text, " = ")?;
+            put_reassembly_reply(text, reply)
+        }
+        Reply::Control(reply) => {
+            write!(text, " = ")?;
+            put_control_reply(text, reply)
+        }
+        Reply::Done => Ok(()),
+    }
+}
+
+/// Writes the line of a step: its stamp, its actor, the object, what was asked and, at a book, what was answered.
+/// Numbers are decimal; of octets the line tells how many there are. The line ends with LF.
+///
+/// At an error nothing is kept.
+pub fn line(alloc: Global, note: &Note) -> Result<Text, AllocError>
+    ensures exact { IfOk result (λ text. text ≡ ended (step_text note.now)) }
+    // The numbers of a note are numbers of their types.
+    ensures fits { OnOk result (NoteFits note.now) }
+{
+    let mut text = String::new(alloc);
+    let Note { stamp, actor, .. } = *note;
+    write!(
+        text,
+        "{stamp} {actor} {} ",
+        object_name(object_of(&note.ask))
+    )?;
+    put_ask(&mut text, &note.ask)?;
+    put_reply(&mut text, &note.reply)?;
+    writeln!(text)?;
+    Ok(Text::from(text.into_bytes()))
+}
+
+/// Writes the lines with which a log opens: its format, the octets of a data number (8, or 4 where the script has
+/// `short on`), and the keys of A and B.
+pub fn opening(alloc: Global, width: u8, key_a: u64, key_b: u64) -> Result<Text, AllocError>
+    ensures exact { IfOk result (λ text. text ≡ flat_map ended (opening_lines width key_a key_b)) }
+{
+    let key_a = hex::encode(alloc, key_a.to_be_bytes())?;
+    let key_b = hex::encode(alloc, key_b.to_be_bytes())?;
+    let mut text = String::new(alloc);
+    writeln!(text, "mptcp-log 2")?;
+    writeln!(text, "width {width}")?;
+    writeln!(text, "keys {key_a} {key_b}")?;
+    Ok(Text::from(text.into_bytes()))
+}
+
+/// Writes the line that ends the round with this number, the first one being 0.
+pub fn round_line(alloc: Global, number: u64) -> Result<Text, AllocError>
+    ensures exact { IfOk result (λ text. text ≡ ended (round_text number)) }
+{
+    let mut text = String::new(alloc);
+    writeln!(text, "round {number}")?;
+    Ok(Text::from(text.into_bytes()))
+}
+
+/// Writes the last line of a log.
+pub fn outcome_line(alloc: Global, outcome: Outcome) -> Result<Text, AllocError>
+    ensures exact { IfOk result (λ text. text ≡ ended (outcome_text outcome)) }
+{
+    let mut text = String::new(alloc);
+    writeln!(text, "outcome {outcome}")?;
+    Ok(Text::from(text.into_bytes()))
+}
