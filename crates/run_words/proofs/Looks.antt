@@ -96,9 +96,11 @@ by_look P a b d e (x ∷ y ∷ rest) = first (x == 45) refl
     behind : (n : Word) → P (45 ∷ 45 ∷ n)
     behind [] = a
     behind (m ∷ ms) = b m ms
+
     second : (t : Bool) → (y == 45) ≡ t → P (45 ∷ y ∷ rest)
     second true h = subst (λ z. P (45 ∷ z ∷ rest)) (sym (eqb-true y 45 h)) (behind rest)
     second false h = d y rest h
+
     first : (t : Bool) → (x == 45) ≡ t → P (x ∷ y ∷ rest)
     first true h = subst (λ z. P (z ∷ y ∷ rest)) (sym (eqb-true x 45 h)) (second (y == 45) refl)
     first false h = e (x ∷ y ∷ rest) h

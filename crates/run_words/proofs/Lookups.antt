@@ -111,7 +111,7 @@ line_found parts found e =
     let read_by_b = first_name 4 1 parts in
     let read_by_a = first_name 5 1 parts in
     let names : names_in (names_of parts) ≡ names_by value = names_found (names_of parts) (placed_fits 1 [] parts found e)
-        ∙ (λ i. names_by_five (given_name (sym script i)) (given_name (sym file_a i)) (given_name (sym file_b i)) (given_name (sym read_by_b i)) (given_name (sym read_by_a i))) in
+    ∙ (λ i. names_by_five (given_name (sym script i)) (given_name (sym file_a i)) (given_name (sym file_b i)) (given_name (sym read_by_b i)) (given_name (sym read_by_a i))) in
     subst (λ rows. line_of_parts parts ≡ line_by (λ id. first_of id rows)) (sym same)
     (rw (mode, rounds, order, number)
     (ap (λ o. o >>= λ n. first_of (codes "mode") (rows_for 1 parts) >>= λ word. work_in word (value (codes "rounds")) (value (codes "order")) (value (codes "number")) >>= λ w. one_line n w) names

@@ -87,6 +87,7 @@ ids_differ p q id known lt = go (bytes_eq (id_at p) (id_at q)) refl
         let nowhere : position_of (id_at q) ≡ 0 = ap (λ o. position_of (Rattle.std.specs.Option.unwrap_or o [])) e in
         let first : p ≡ 0 = sym (position_again p id known) ∙ ap position_of same ∙ nowhere in
         some≢none id (sym (ap name_id first) ∙ known)
+
     go : (b : Bool) → bytes_eq (id_at p) (id_at q) ≡ b → b ≡ false
     go true e = absurd (other (name_id q) refl ((bytes_eq-Decides (id_at p) (id_at q)).0 e))
     go false e = refl
@@ -256,7 +257,7 @@ module _ (other : Choice) (v : Word) (parts : List Part) (rows : List Row) (once
       go true same = alone choice same
       go false same =
           let before : has_row (label choice) rows ≡ true = sym (or_nothing (has_row (label choice) rows)) ∙ ap (λ b. has_row (label choice) rows || b) (sym same)
-              ∙ sym (has_row-append (label choice) rows (row (label other) v)) ∙ there in
+          ∙ sym (has_row-append (label choice) rows (row (label other) v)) ∙ there in
           sym (values_other other choice v parts same) ∙ no_more choice before
 
 pub fresh_option : (position : ℕ) (rows : List Row) (choice : Choice) (v : Word) → Fresh position rows → Fresh position (rows ++ row (label choice) v ∷ [])
@@ -283,7 +284,7 @@ unfolding place
 places position rows [] no_more once fits fresh = (rows, refl)
 places position rows (option choice v ∷ parts) no_more once fits fresh =
     let later = places position (rows ++ row (label choice) v ∷ []) parts (no_more_behind choice v parts rows once no_more) (once_behind choice v parts rows once no_more) fits
-        (fresh_option position rows choice v fresh) in
+    (fresh_option position rows choice v fresh) in
     (later.0, new_is (label choice) v rows (λ r. place position r parts) (first_time choice v parts rows once no_more) ∙ later.1)
 places position rows (name v ∷ parts) no_more once fits fresh =
     let id = fits.0.0 in

@@ -79,7 +79,6 @@ by_choice rounds_option = refl
 by_choice order_option = refl
 by_choice number_option = refl
 
-
 -- the first rule with this long name
 pub by_long : (n : Text) → arg_by_long form_rules n ≡ option_map chosen (choice_of (45 ∷ 45 ∷ n))
 by_long n = go (bytes_eq (codes "mode") n) (bytes_eq (codes "rounds") n) (bytes_eq (codes "order") n) (bytes_eq (codes "number") n)

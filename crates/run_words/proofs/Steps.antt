@@ -53,7 +53,7 @@ unfolding walk_fault
 one_step w after word rest turn found faults moves agrees =
     let next = walked form_rules [] w word in
     let same : total w (word ∷ rest) ≡ or_else (turn_fault shape [] w word) (total next rest) =
-        or_else_assoc (turn_fault shape [] w word) (walk_fault shape [] next rest) (settle_fault form_rules false (end next rest).held) in
+    or_else_assoc (turn_fault shape [] w word) (walk_fault shape [] next rest) (settle_fault form_rules false (end next rest).held) in
     subst (λ k. Agrees k (last_rows w (word ∷ rest)) found) (sym same)
     (subst (λ k. Agrees (or_else k (total next rest)) (last_rows next rest) found) (sym faults)
     (subst (λ x. Agrees (or_else turn (total x rest)) (last_rows x rest) found) (sym moves) agrees))
@@ -73,7 +73,7 @@ module _ (pending : Option (Text × List Text)) (reading : List Row → Option (
 
   name_word : turn_fault shape [] here word ≡ step_fault shape position here.held value → walked form_rules [] here word ≡ to_positional form_rules (arg_by_index form_rules position) word here here.held
       → ((id : Text) → name_id position ≡ Some id → Gives (at (settled_rows form_rules pending rows) (Some (id, word ∷ [])) idle (suc position) trailing) rest
-          (new id word (settled_rows form_rules pending rows) >>= g (suc position)))
+      (new id word (settled_rows form_rules pending rows) >>= g (suc position)))
       → Gives here (word ∷ rest) (reading rows >>= λ r. place_name (name_id position) word r (g (suc position)))
   name_word faults moves later = go (name_id position) refl
     where
@@ -87,7 +87,7 @@ module _ (pending : Option (Text × List Text)) (reading : List Row → Option (
           let alone = no_several (Rattle.clap.specs.Walk.is_pending (named position id) pending) in
           let turn : step_fault shape position here.held value ≡ settle_fault form_rules false here.held = rw (is.by_index, alone) refl in
           let moved : to_positional form_rules (arg_by_index form_rules position) word here here.held ≡ at (settled_rows form_rules pending rows) (Some (id, word ∷ [])) idle (suc position) trailing =
-              rw (is.by_index, alone, is.next) (ap (λ b. at (settled_rows form_rules pending rows) (Some (id, word ∷ [])) idle (suc position) b) (or_nothing trailing)) in
+          rw (is.by_index, alone, is.next) (ap (λ b. at (settled_rows form_rules pending rows) (Some (id, word ∷ [])) idle (suc position) b) (or_nothing trailing)) in
           one_step here _ word rest _ _ (faults ∙ turn) (moves ∙ moved)
           (agrees_then _ _ _ _ (reading rows) (λ r. place_name (Some id) word r (g (suc position))) (settles rows) (later id e))
 
@@ -165,7 +165,7 @@ module _ (pending : Option (Text × List Text)) (reading : List Row → Option (
       let faults : turn_fault shape [] stands (45 ∷ 45 ∷ n) ≡ or_else (or_else settling using) [] = rw (equals, known) refl in
       let moves : walked form_rules [] stands (45 ∷ 45 ∷ n) ≡ after = rw (equals, known) refl in
       let parts : parts_of None ((45 ∷ 45 ∷ n) ∷ rest) ≡ with_part (Some (option choice v)) (parts_of None rest) =
-          rw (whole, joined) (ap (λ w. with_part (Some (option choice w)) (parts_of None rest)) (cut_value n)) in
+      rw (whole, joined) (ap (λ w. with_part (Some (option choice w)) (parts_of None rest)) (cut_value n)) in
       subst (λ o. Gives stands ((45 ∷ 45 ∷ n) ∷ rest) (reading rows >>= λ r. o >>= place position r)) (sym parts)
       (one_step stands after (45 ∷ 45 ∷ n) rest (or_else settling using) (reading rows >>= λ r. with_part (Some (option choice v)) (parts_of None rest) >>= place position r)
       (faults ∙ or_else_nil (or_else settling using)) moves
@@ -263,6 +263,7 @@ module _ (choice : Choice) (rows : List Row) (position : ℕ) (rest : List Text)
     where
       word : Word
       word = 45 ∷ 45 ∷ m ∷ ms
+
       go : (cut : Option Choice) → choice_of (45 ∷ 45 ∷ before_first is_equals (m ∷ ms)) ≡ cut → (b : Bool) → has_byte 61 (m ∷ ms) ≡ b → Gives waits ((45 ∷ 45 ∷ m ∷ ms) ∷ rest) None
       go None e b f =
           let unknown : arg_by_long form_rules (before_first is_equals (m ∷ ms)) ≡ None = by_long (before_first is_equals (m ∷ ms)) ∙ ap (option_map chosen) e in

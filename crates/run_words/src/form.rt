@@ -22,11 +22,7 @@ fn with_option<'a>(
 }
 
 /// The form with one name more.
-fn with_name<'a>(
-    alloc: Global,
-    form: Command<'a>,
-    name: &'a str,
-) -> Result<Command<'a>, AllocError>
+fn with_name<'a>(alloc: Global, form: Command<'a>, name: &'a str) -> Result<Command<'a>, AllocError>
     ensures { IfOk result (λ made. app_of made ≡ form_is.with_name name.entry.now (app_of form.entry)) }
 {
     form.arg(Arg::new(alloc, name))
