@@ -4,3 +4,4 @@ pub mod Walking
 pub mod PlainWords
 pub mod Lengths
 pub mod LogReads
+pub mod FirstRefused

@@ -111,7 +111,7 @@ actor_again actors n l h =
     let number : is_number (decimal n) ≡ true = and_from _ _ (lt-ltb 0 (length (decimal n)) (decimal_nonempty n h)) (digits_decimal digits n h) in
     rw (number, digits_value-decimal digits n h, lt-ltb n actors l) refl
 
-seen_object : (object : Object) → IsSeen (object_word object)
+pub seen_object : (object : Object) → IsSeen (object_word object)
 seen_object (objects.Send sides.A) = refl
 seen_object (objects.Send sides.B) = refl
 seen_object (objects.Reassembly sides.A) = refl
@@ -129,7 +129,7 @@ object_again (objects.Control sides.A) = refl
 object_again (objects.Control sides.B) = refl
 object_again objects.Me = refl
 
-number_seen : (n : ℕ) → IsLong n → IsSeen (decimal n)
+pub number_seen : (n : ℕ) → IsLong n → IsSeen (decimal n)
 number_seen n h = plain_seen (decimal n) (plain_number n h)
 
 pub step_shape : (note : Note) → step_text note ≡ decimal note.stamp ++ 32 ∷ (decimal note.actor ++ 32 ∷ (object_word (object_of note.ask) ++ 32 ∷ (spaced (ask_words note.ask) ++ reply_text note.reply)))
@@ -163,7 +163,7 @@ step_line actors note h =
 same_octet : (octet : ℕ) → eqb octet octet ≡ true
 same_octet octet = search (rules, nat_tests)
 
-bytes_same : (text : List ℕ) → bytes_eq text text ≡ true
+pub bytes_same : (text : List ℕ) → bytes_eq text text ≡ true
 bytes_same [] = refl
 bytes_same (octet ∷ text) = and_from _ _ (same_octet octet) (bytes_same text)
 
@@ -172,16 +172,16 @@ no_step : (actors : ℕ) (first second : List ℕ) → IsSeen first → IsSeen s
 unfolding step_actor
 no_step actors first second h k = rw (field_cut first second h, field_none second k) refl
 
-round_no_step : (actors number : ℕ) → IsLong number → step_actor actors (round_text number) ≡ None
+pub round_no_step : (actors number : ℕ) → IsLong number → step_actor actors (round_text number) ≡ None
 round_no_step actors number h = no_step actors (codes "round") (decimal number) refl (number_seen number h)
 
-outcome_no_step : (actors : ℕ) (outcome : Outcome) → step_actor actors (outcome_text outcome) ≡ None
+pub outcome_no_step : (actors : ℕ) (outcome : Outcome) → step_actor actors (outcome_text outcome) ≡ None
 outcome_no_step actors outcomes.Delivered = no_step actors (codes "outcome") (codes "delivered") refl refl
 outcome_no_step actors outcomes.Rounds = no_step actors (codes "outcome") (codes "rounds") refl refl
 outcome_no_step actors outcomes.NoPath = no_step actors (codes "outcome") (codes "no-path") refl refl
 outcome_no_step actors outcomes.Aborted = no_step actors (codes "outcome") (codes "aborted") refl refl
 
-outcome_again : (outcome : Outcome) → is_outcome_line (outcome_text outcome) ≡ true
+pub outcome_again : (outcome : Outcome) → is_outcome_line (outcome_text outcome) ≡ true
 unfolding field
 outcome_again outcomes.Delivered = refl
 outcome_again outcomes.Rounds = refl
@@ -225,7 +225,7 @@ key_again key =
     let long : length (key_word key) ≡ 16 = length-encode_with lower_digits (to_be_bytes w64 key) in
     and_from _ _ (ap (λ (n : ℕ). eqb n 16) long) (key_digits key)
 
-keys_again : (key_a key_b : ℕ) → is_keys_line (keys_text key_a key_b) ≡ true
+pub keys_again : (key_a key_b : ℕ) → is_keys_line (keys_text key_a key_b) ≡ true
 keys_again key_a key_b =
     let first = field_cut (codes "keys") (key_word key_a ++ 32 ∷ key_word key_b) refl in
     let second = field_cut (key_word key_a) (key_word key_b) (digits_seen (key_word key_a) (key_digits key_a)) in

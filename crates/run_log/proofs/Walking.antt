@@ -56,7 +56,7 @@ module _ (actors width : ℕ) where
 
   -- ---- the number of a round is below that of its line
 
-  abbrev IsBelow : ℕ → Option Taken → Type 0
+  abbrev pub IsBelow : ℕ → Option Taken → Type 0
   IsBelow bound (Some line) = HasRoundBelow bound line.next
   IsBelow bound None = Unit {0}
 
@@ -68,7 +68,7 @@ module _ (actors width : ℕ) where
   behind_step number round (Some actor) other l p = omega arith
   behind_step number round None other l p = p
 
-  taken_below : (number : ℕ) (expected : Expected) (line : List ℕ) → HasRoundBelow number expected → IsBelow (suc number) (taken actors width expected line)
+  pub taken_below : (number : ℕ) (expected : Expected) (line : List ℕ) → HasRoundBelow number expected → IsBelow (suc number) (taken actors width expected line)
   unfolding taken
   taken_below number Format line l =
       let old = either (suc number) (bytes_eq line (codes "mptcp-log 1")) (Some (silent Keys)) None (tt {0}) (tt {0}) in
