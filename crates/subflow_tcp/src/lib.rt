@@ -10,6 +10,7 @@ mod end;
 mod expiring;
 mod handshake;
 mod judging;
+mod keeping;
 mod laws;
 mod lending;
 mod segments;
