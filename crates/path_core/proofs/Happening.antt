@@ -17,8 +17,8 @@ use Rattle.path_core.specs.Events.{Event, tick_of, next_line, next_copy, next_fi
 use Rattle.path_core.specs.Ranks.{ticks_left, one_if_due, due_copies, due_lines, due_timer, due_by_now}
 use Rattle.path_core.specs.State.{PathState, LineLeft, end_at}
 use Rattle.path_core.specs.Turns.{TakesTime}
-use Rattle.path_core.specs.Words.{tail_of}
-use Rattle.path_core.proofs.Falling.{Then, Less}
+use Rattle.actor_desk.specs.Words.{tail_of}
+use Rattle.actor_desk.proofs.Falling.{Then, Less}
 use Rattle.path_core.proofs.Ranking.{Rests, same_rests, Calm, goes_calm, agenda_calm, Lower, Lowers}
 use Rattle.path_core.proofs.Resting.{to_rests, arrival_settles, owing_settles, fired_rests}
 

@@ -1,4 +1,3 @@
-pub mod Falling
 pub mod Ranking
 pub mod Resting
 pub mod Passing
@@ -6,6 +5,4 @@ pub mod Sendings
 pub mod Happening
 pub mod Lowering
 pub mod TurnEnds
-pub mod AppEnds
 pub mod Showing
-pub mod InKind

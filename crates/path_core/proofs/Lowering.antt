@@ -14,9 +14,9 @@ use Rattle.subflow_tcp.specs.Sizes.{room}
 use Rattle.subflow_tcp.specs.States.{may_finish}
 use Rattle.subflow_tcp.specs.declared.segments.Occasion.TheVariants as to_send
 use Rattle.send_book.specs.declared.call.SendCall.TheVariants as send_calls
-use Rattle.path_core.specs.declared.ask.Ask.TheVariants as asks
-use Rattle.path_core.specs.declared.ask.Reply.{Reply}
-use Rattle.path_core.specs.declared.ask.Reply.TheVariants as replies
+use Rattle.actor_desk.specs.declared.ask.Ask.TheVariants as asks
+use Rattle.actor_desk.specs.declared.ask.Reply.{Reply}
+use Rattle.actor_desk.specs.declared.ask.Reply.TheVariants as replies
 use Rattle.path_core.specs.declared.duty.Duty.{Duty}
 use Rattle.path_core.specs.declared.duty.Duty.TheVariants as duties
 use Rattle.path_core.specs.declared.heard.Heard.{Heard}
@@ -28,7 +28,7 @@ use Rattle.path_core.specs.Duties.{stands, ask_for, answered}
 use Rattle.path_core.specs.Emission.{first_unsent, unsent_segment, having_sent_unsent, end_segment, having_sent_end, fin_segment_of, having_sent_fin, may_ask, data_stands, payload_size, grant_ask, data_ask, Grant, grant_in, granted, refused, answered_grant, answered_data}
 use Rattle.path_core.specs.Ends.{PathEnd}
 use Rattle.path_core.specs.Events.{died}
-use Rattle.path_core.specs.Kinds.{IsOfKind, IsSomeOf}
+use Rattle.actor_desk.specs.Kinds.{IsOfKind, IsSomeOf}
 use Rattle.path_core.specs.Opening.{syn_ack_of, key_heard, with_peer_key, keys_heard, after_keys}
 use Rattle.path_core.specs.Passing.{having_asked, piece_of, is_placed, placed, answered_piece, is_fin_set, with_peer_end, answered_fin_heard, after_rate, first_segment, answer_occasion, answer_of, dead_answer, resend_occasion, resend_of}
 use Rattle.path_core.specs.Passing as passing
@@ -42,7 +42,7 @@ use Rattle.path_core.specs.Treating.{is_clash, after_verdict, is_acked, told_nex
 use Rattle.path_core.specs.Placing.{kept_of, with_learned}
 use Rattle.path_core.specs.Turns.{TakesTime}
 use Rattle.path_core.specs.Words.{replaced}
-use Rattle.path_core.proofs.Falling.{Then}
+use Rattle.actor_desk.proofs.Falling.{Then}
 use Rattle.path_core.proofs.Happening.{event_lowers}
 use Rattle.path_core.proofs.Ranking.{Rests, same_rests, goes_calm, sent_calm, agenda_calm, Lowers, lowers}
 use Rattle.path_core.proofs.Resting.{sent_same}

@@ -16,7 +16,7 @@ use Rattle.path_core.specs.Ranks.{ticks_left, one_if_due, due_copies, due_timer,
 use Rattle.path_core.specs.Sends.{sent_on}
 use Rattle.path_core.specs.State.{PathState, end_at, with_agenda, goes_on}
 use Rattle.path_core.specs.Turns.{TakesTime}
-use Rattle.path_core.proofs.Falling.{Then, Less}
+use Rattle.actor_desk.proofs.Falling.{Then, Less}
 
 -- ---- copies
 

@@ -13,7 +13,7 @@ use Rattle.link_model.specs.Steps.{taken, next_number, peer, is_due, next_due, a
 use Rattle.link_model.proofs.Shown.{sent_shown}
 use Rattle.path_segments.specs.declared.spelling.Spelling.{Spelling}
 use Rattle.path_segments.specs.Spelled.{PlainSegment}
-use Rattle.path_core.specs.declared.ask.Reply.{Reply}
+use Rattle.actor_desk.specs.declared.ask.Reply.{Reply}
 use Rattle.path_core.specs.declared.duty.Duty.{Duty}
 use Rattle.path_core.specs.declared.duty.Duty.TheVariants as duties
 use Rattle.path_core.specs.Duties.{stands, ask_for, passed, answered}
@@ -21,7 +21,7 @@ use Rattle.path_segments.proofs.SegmentsAgain.{heard_as_meant}
 use Rattle.path_core.specs.Arriving.{expected_by}
 use Rattle.path_core.specs.Codec.{HeardSegment}
 use Rattle.path_core.specs.Segments.{spelled_by}
-use Rattle.path_core.specs.Words.{tail_of}
+use Rattle.actor_desk.specs.Words.{tail_of}
 use Rattle.subflow_tcp.specs.declared.segments.Occasion.TheVariants as to_send
 use Rattle.path_core.specs.Events.{is_death, after_line, at_tick, copy_heard, heard_in, copy_taken, happens_if, died, Event, step_for, next_event}
 use Rattle.fallback_state.specs.declared.fall.Event.TheVariants as events

@@ -29,7 +29,7 @@ use Rattle.path_core.specs.Codec.{HeardSegment}
 use Rattle.path_core.specs.Ends.{PathEnd, Payload, Treated, nothing_treated}
 use Rattle.path_core.specs.Segments.{spelled_by}
 use Rattle.path_core.specs.State.{Profile}
-use Rattle.path_core.specs.Words.{is_nil}
+use Rattle.actor_desk.specs.Words.{is_nil}
 
 -- what an end counts from
 abbrev pub expected_by : PathEnd → Expected

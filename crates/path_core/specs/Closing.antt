@@ -7,7 +7,8 @@ use Rattle.send_book.specs.declared.call.Why.TheVariants.{Ended, Backup, Nothing
 use Rattle.data_close.specs.Closing as closing
 use Rattle.subflow_tcp.specs.States.{may_finish}
 use Rattle.path_core.specs.Ends.{Sending, PathEnd}
-use Rattle.path_core.specs.Words.{is_nil, told_last}
+use Rattle.actor_desk.specs.Words.{is_nil}
+use Rattle.path_core.specs.Words.{told_last}
 
 -- ---- what the peer acknowledged
 

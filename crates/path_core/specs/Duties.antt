@@ -4,10 +4,10 @@ use Rattle.std.specs.Prelude.{Bool, true, false, not, ◌&&◌, is_some, Some, N
 use Rattle.subflow_tcp.specs.State.{has_records}
 use Rattle.fallback_state.specs.declared.fall.Event.TheVariants as events
 use Rattle.fallback_state.specs.Modes.{is_starting}
-use Rattle.path_core.specs.declared.ask.Ask.{Ask}
-use Rattle.path_core.specs.declared.ask.Ask.TheVariants as asks
-use Rattle.path_core.specs.declared.ask.LocalStep.TheVariants as steps
-use Rattle.path_core.specs.declared.ask.Reply.{Reply}
+use Rattle.actor_desk.specs.declared.ask.Ask.{Ask}
+use Rattle.actor_desk.specs.declared.ask.Ask.TheVariants as asks
+use Rattle.actor_desk.specs.declared.ask.LocalStep.TheVariants as steps
+use Rattle.actor_desk.specs.declared.ask.Reply.{Reply}
 use Rattle.path_core.specs.declared.duty.Duty.{Duty}
 use Rattle.path_core.specs.declared.duty.Duty.TheVariants as duties
 use Rattle.path_core.specs.Agenda.{leaves}
@@ -24,7 +24,8 @@ use Rattle.path_core.specs.Sends.{sends}
 use Rattle.path_core.specs.Standing.{look_ask, answered_look, ack_out_ask, answered_ack_out, is_update_due, ack_segment, acknowledges}
 use Rattle.path_core.specs.State.{PathState, end_at, with_end, goes_on, left, with_agenda}
 use Rattle.path_core.specs.Treating.{item_of, item_stands, item_ask, answered_item, item_passed, fell_ask, after_verdict, after_keep}
-use Rattle.path_core.specs.Words.{replaced, is_nil}
+use Rattle.actor_desk.specs.Words.{is_nil}
+use Rattle.path_core.specs.Words.{replaced}
 
 -- ---- whether it comes to something
 

@@ -12,9 +12,9 @@ use Rattle.subflow_tcp.specs.States.{is_dead}
 use Rattle.subflow_tcp.specs.Expiring.{is_sixth, after_fire}
 use Rattle.subflow_tcp.specs.Judging.{meaning_of}
 use Rattle.subflow_tcp.specs.Taking.{after_death}
-use Rattle.path_core.specs.declared.ask.Ask.{Ask}
-use Rattle.path_core.specs.declared.ask.Ask.TheVariants as asks
-use Rattle.path_core.specs.declared.ask.LocalStep.TheVariants as steps
+use Rattle.actor_desk.specs.declared.ask.Ask.{Ask}
+use Rattle.actor_desk.specs.declared.ask.Ask.TheVariants as asks
+use Rattle.actor_desk.specs.declared.ask.LocalStep.TheVariants as steps
 use Rattle.path_core.specs.declared.duty.Duty.{Duty}
 use Rattle.path_core.specs.declared.duty.Duty.TheVariants as duties
 use Rattle.path_core.specs.Agenda.{rest_of_turn, emission, expired, expired_for_ever}
@@ -22,7 +22,7 @@ use Rattle.path_core.specs.Arriving.{expected_by, copy_of, items_of, after_meani
 use Rattle.path_core.specs.Codec.{Codec, HeardSegment}
 use Rattle.path_core.specs.Ends.{PathEnd, nothing_treated}
 use Rattle.path_core.specs.State.{PathState, LineLeft, end_at, with_agenda, goes_on}
-use Rattle.path_core.specs.Words.{tail_of}
+use Rattle.actor_desk.specs.Words.{tail_of}
 
 pub data Event : Type 0 where
   -- a line comes due

@@ -1,4 +1,4 @@
--- What is asked and answered in the first round of the example, actor by actor.
+-- What is asked and answered of path 0 in the first round of the example.
 use Rattle.std.specs.Prelude.{true, false, Some, List, [], ◌∷◌, ◌++◌}
 use Rattle.outside_kit.specs.declared.side.Side.TheVariants as side
 use Rattle.send_book.specs.declared.call.SendCall.TheVariants as send_calls
@@ -12,25 +12,11 @@ use Rattle.control_book.specs.declared.call.Notice.TheVariants as notices
 use Rattle.fallback_state.specs.declared.fall.Event.TheVariants as events
 use Rattle.fallback_state.specs.declared.fall.Mode.TheVariants as modes
 use Rattle.fallback_state.specs.declared.fall.Verdict.TheVariants as verdicts
-use Rattle.path_core.specs.declared.ask.Ask.TheVariants as asks
-use Rattle.path_core.specs.declared.ask.LocalStep.TheVariants as steps
-use Rattle.path_core.specs.declared.ask.Reply.TheVariants as replies
-use Rattle.path_core.specs.Example.{hello, Step, step}
-
-abbrev pub turn_of_a : List Step
-turn_of_a =
-    step (asks.Send side.A (send_calls.Write hello)) (replies.Send (send_replies.Taken 5))
-    ∷ step (asks.Send side.A send_calls.Close) (replies.Send send_replies.Closed)
-    ∷ step (asks.Reassembly side.A (reassembly_calls.Read 65536)) (replies.Reassembly reassembly_replies.NoneYet)
-    ∷ step (asks.Local steps.End) replies.Done
-    ∷ []
-
-abbrev pub turn_of_b : List Step
-turn_of_b =
-    step (asks.Send side.B send_calls.Close) (replies.Send send_replies.Closed)
-    ∷ step (asks.Reassembly side.B (reassembly_calls.Read 65536)) (replies.Reassembly reassembly_replies.NoneYet)
-    ∷ step (asks.Local steps.End) replies.Done
-    ∷ []
+use Rattle.actor_desk.specs.declared.ask.Ask.TheVariants as asks
+use Rattle.actor_desk.specs.declared.ask.LocalStep.TheVariants as steps
+use Rattle.actor_desk.specs.declared.ask.Reply.TheVariants as replies
+use Rattle.actor_desk.specs.Desk.{Step, step}
+use Rattle.path_core.specs.Example.{hello}
 
 -- the turn begins; both SYNs, both keys, and the first piece
 abbrev pub opening_steps : List Step

@@ -2,7 +2,6 @@ pub mod Words
 pub mod Codec
 pub mod Ends
 pub mod State
-pub mod Apps
 pub mod Segments
 pub mod Sends
 pub mod Closing
@@ -18,15 +17,11 @@ pub mod Treating
 pub mod Passing
 pub mod Duties
 pub mod Steps
-pub mod AppSteps
 pub mod Octets
 pub mod Values
-pub mod Desk
 pub mod Starts
 pub mod Example
 pub mod FirstRound
-pub mod Kinds
 pub mod Turns
-pub mod Journals
 pub mod Ranks
 pub mod Shown

@@ -6,11 +6,11 @@ use Rattle.send_book.specs.declared.call.SendCall.TheVariants as send_calls
 use Rattle.control_book.specs.declared.call.ControlCall.TheVariants as control_calls
 use Rattle.control_book.specs.declared.call.ControlReply.TheVariants as control_replies
 use Rattle.subflow_tcp.specs.declared.segments.Occasion.TheVariants as to_send
-use Rattle.path_core.specs.declared.ask.Ask.{Ask}
-use Rattle.path_core.specs.declared.ask.Ask.TheVariants as asks
-use Rattle.path_core.specs.declared.ask.LocalStep.TheVariants as steps
-use Rattle.path_core.specs.declared.ask.Reply.{Reply}
-use Rattle.path_core.specs.declared.ask.Reply.TheVariants as replies
+use Rattle.actor_desk.specs.declared.ask.Ask.{Ask}
+use Rattle.actor_desk.specs.declared.ask.Ask.TheVariants as asks
+use Rattle.actor_desk.specs.declared.ask.LocalStep.TheVariants as steps
+use Rattle.actor_desk.specs.declared.ask.Reply.{Reply}
+use Rattle.actor_desk.specs.declared.ask.Reply.TheVariants as replies
 use Rattle.path_core.specs.declared.heard.Heard.{Heard}
 use Rattle.path_core.specs.declared.heard.Heard.TheVariants as says
 use Rattle.path_core.specs.Codec.{Codec}

@@ -7,9 +7,9 @@ use Rattle.path_segments.specs.Spelled.{PlainSegment}
 use Rattle.path_segments.specs.Laws.{window_told}
 use Rattle.subflow_tcp.specs.declared.segments.Occasion.{Occasion}
 use Rattle.subflow_tcp.specs.Emitting.{after_sending}
-use Rattle.path_core.specs.declared.ask.Ask.{Ask}
-use Rattle.path_core.specs.declared.ask.Ask.TheVariants as asks
-use Rattle.path_core.specs.declared.ask.LocalStep.TheVariants as steps
+use Rattle.actor_desk.specs.declared.ask.Ask.{Ask}
+use Rattle.actor_desk.specs.declared.ask.Ask.TheVariants as asks
+use Rattle.actor_desk.specs.declared.ask.LocalStep.TheVariants as steps
 use Rattle.path_core.specs.declared.duty.Duty.{Duty}
 use Rattle.path_core.specs.Codec.{Codec}
 use Rattle.path_core.specs.Ends.{PathEnd}

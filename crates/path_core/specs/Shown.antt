@@ -11,7 +11,7 @@ use Rattle.path_segments.specs.declared.spelling.Spelling.{Spelling}
 use Rattle.path_segments.specs.HeardLent.{IsExpected}
 use Rattle.path_segments.specs.Laws.{IsFresh}
 use Rattle.path_segments.specs.Spelled.{CanSay}
-use Rattle.path_core.specs.declared.ask.Reply.{Reply}
+use Rattle.actor_desk.specs.declared.ask.Reply.{Reply}
 use Rattle.path_core.specs.Arriving.{expected_by}
 use Rattle.path_core.specs.Events.{Event, next_event}
 use Rattle.path_core.specs.Octets.{made, octets}

@@ -6,7 +6,7 @@ use Rattle.link_model.specs.State.{LinkState}
 use Rattle.path_segments.specs.declared.spelling.Spelling.{Spelling}
 use Rattle.path_core.specs.declared.duty.Duty.{Duty}
 use Rattle.path_core.specs.Ends.{PathEnd}
-use Rattle.path_core.specs.Words.{pick, tail_of}
+use Rattle.actor_desk.specs.Words.{pick, tail_of}
 
 -- a line of the script that is an event of the path, with its number among all lines and its tick
 pub record LineLeft : Type 0 where

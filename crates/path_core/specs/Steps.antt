@@ -1,7 +1,7 @@
 -- The steps of a path: what it asks, what it takes, and how a round begins.
 use Rattle.std.specs.Prelude.{◌+◌, if◌then◌else◌, Option, Some, None, List, [], ◌∷◌}
-use Rattle.path_core.specs.declared.ask.Ask.{Ask}
-use Rattle.path_core.specs.declared.ask.Reply.{Reply}
+use Rattle.actor_desk.specs.declared.ask.Ask.{Ask}
+use Rattle.actor_desk.specs.declared.ask.Reply.{Reply}
 use Rattle.path_core.specs.declared.duty.Duty.{Duty}
 use Rattle.path_core.specs.Agenda.{start_of_turn}
 use Rattle.path_core.specs.Codec.{Codec}

@@ -1,14 +1,11 @@
 -- That a turn ends, whatever it is answered.
 use Rattle.std.specs.Prelude.{◌≡◌, ◌≤◌, true, Some, List, [], ◌∷◌}
-use Rattle.path_core.specs.declared.ask.Ask.{Ask}
-use Rattle.path_core.specs.declared.ask.Reply.{Reply}
-use Rattle.path_core.specs.declared.duty.AppDuty.{AppDuty}
+use Rattle.actor_desk.specs.declared.ask.Ask.{Ask}
+use Rattle.actor_desk.specs.declared.ask.Reply.{Reply}
 use Rattle.path_core.specs.declared.duty.Duty.{Duty}
-use Rattle.path_core.specs.Apps.{AppState}
-use Rattle.path_core.specs.AppSteps.{app_stands, app_asks_of, app_takes}
 use Rattle.path_core.specs.Codec.{Codec}
 use Rattle.path_core.specs.Duties.{stands}
-use Rattle.path_core.specs.Kinds.{IsOfKind}
+use Rattle.actor_desk.specs.Kinds.{IsOfKind}
 use Rattle.path_core.specs.State.{PathState}
 use Rattle.path_core.specs.Steps.{asks_of, takes, next_round}
 
@@ -17,11 +14,6 @@ pub data Ends {C : Type 0} (k : Codec C) : PathState C → Type 0 where
   Over : (p : PathState C) → p.agenda ≡ [] → Ends k p
   Asks : (p : PathState C) (x : Ask) → asks_of k p ≡ Some x → ((r : Reply) → IsOfKind x r → Ends k (takes k r p)) → Ends k p
 
--- the same of an application
-pub data AppEnds : AppState → Type 0 where
-  Over : (a : AppState) → a.agenda ≡ [] → AppEnds a
-  Asks : (a : AppState) (x : Ask) → app_asks_of a ≡ Some x → ((r : Reply) → IsOfKind x r → AppEnds (app_takes r a)) → AppEnds a
-
 -- the duty that stands first comes to something
 abbrev pub FirstStands : {C : Type 0} → List Duty → PathState C → Type 0
 FirstStands [] p = Unit {0}
@@ -29,13 +21,6 @@ FirstStands (d ∷ ds) p = stands d p ≡ true
 
 abbrev pub IsSettled : {C : Type 0} → PathState C → Type 0
 IsSettled p = FirstStands p.agenda p
-
-abbrev pub FirstAppStands : List AppDuty → AppState → Type 0
-FirstAppStands [] a = Unit {0}
-FirstAppStands (d ∷ ds) a = app_stands d a ≡ true
-
-abbrev pub IsAppSettled : AppState → Type 0
-IsAppSettled a = FirstAppStands a.agenda a
 
 -- what takes time: a segment is on its way for a tick or longer, and a timer runs for a tick or longer
 pub record TakesTime {C : Type 0} (p : PathState C) : Type 0 where
@@ -52,7 +37,3 @@ EveryTurnEnds {C} k = (p : PathState C) → TakesTime p → IsSettled p → Ends
 -- so does each turn that a round begins
 abbrev pub EveryRoundEnds : {C : Type 0} → Codec C → Type 0
 EveryRoundEnds {C} k = (p : PathState C) → TakesTime p → Ends k (next_round p)
-
--- so does an application, whose turns end by themselves
-abbrev pub EveryAppTurnEnds : Type 0
-EveryAppTurnEnds = (a : AppState) → IsAppSettled a → AppEnds a

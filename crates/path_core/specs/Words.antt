@@ -1,24 +1,11 @@
--- Words on choices and lists that the rules share.
+-- Words on choices and lists that the rules of a path share.
 use Rattle.std.specs.Prelude.{ℕ, zero, suc, Bool, true, false, Option, Some, None, List, [], ◌∷◌}
 use Rattle.outside_kit.specs.declared.side.Side.{Side}
 use Rattle.outside_kit.specs.declared.side.Side.TheVariants.{A, B}
 
--- that of A or that of B
-abbrev pub pick : {X : Type 0} → Side → X → X → X
-pick A a b = a
-pick B a b = b
-
 abbrev pub is_side_a : Side → Bool
 is_side_a A = true
 is_side_a B = false
-
-abbrev pub is_nil : {X : Type 0} → List X → Bool
-is_nil [] = true
-is_nil (x ∷ xs) = false
-
-abbrev pub tail_of : {X : Type 0} → List X → List X
-tail_of [] = []
-tail_of (x ∷ xs) = xs
 
 -- another one in the place of the first
 abbrev pub replaced : {X : Type 0} → X → List X → List X

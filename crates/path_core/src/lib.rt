@@ -1,5 +1,4 @@
-//! The actors of one connection: the two applications, and the paths. Each makes steps: it asks a book, or does something
-//! by itself, and takes the reply.
+//! The paths of one connection. Each makes steps: it asks a book, or does something by itself, and takes the reply.
 //!
 //! A turn of a path is an agenda of duties. The duty that stands first always comes to something: to an ask, or to a
 //! segment. What the reply makes of the path is one rule a duty; then the duties that come to nothing are passed over.
@@ -8,14 +7,13 @@
 //! values the machine that theorems speak of.
 #![tactic(auto)]
 
-mod ask;
 mod duty;
 mod heard;
 mod laws;
 mod modes;
 
-pub use ask::{Ask, LocalStep, Note, Reply};
-pub use duty::{AppDuty, Duty};
+pub use actor_desk::{Ask, LocalStep, Note, Reply};
+pub use duty::Duty;
 pub use heard::Heard;
-pub use laws::{a_first_round, books_answer_in_kind, every_turn_ends, octets_do_as_values};
+pub use laws::{a_first_round, every_turn_ends, octets_do_as_values};
 pub use modes::Modes;

@@ -9,6 +9,6 @@ use Rattle.control_book.specs.Registry.{opening_paths, every_path, stands_beside
 use Rattle.control_book.specs.Control.{no_withdrawals}
 
 -- src/laws.rt:19:1
-pub returns-clause-path : goal.returns-clause-path
+pub returns : goal.returns
 unfolding covered_sum fixed_header spelled option_text no_ids opening_paths every_path stands_beside serves_beside no_withdrawals
-returns-clause-path c = refl
+returns c = refl

@@ -1,7 +1,6 @@
 use Rattle.std.proofs.Common.{◌+◌}
 use Rattle.path_core.specs.Octets.{octets}
 use Rattle.path_core.specs.Values.{values}
-use Rattle.path_core.proofs.AppEnds.{app_turn_ends}
 use Rattle.path_core.proofs.TurnEnds.{turn_ends, begun_ends}
 use Rattle.path_core.proofs.laws.every_turn_ends.Goals as goal
 
@@ -14,6 +13,3 @@ returns-clause-values c = turn_ends values
 pub returns-clause-rounds : goal.returns-clause-rounds
 returns-clause-rounds c = λ p t.
     begun_ends octets (record p { clock = p.until; until = p.until + 100 }) (record { delay = t.delay; timer_a = t.timer_a; timer_b = t.timer_b })
-
-pub returns-clause-applications : goal.returns-clause-applications
-returns-clause-applications c = app_turn_ends

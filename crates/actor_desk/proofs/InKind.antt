@@ -25,8 +25,8 @@ use Rattle.control_book.specs.declared.call.ControlReply.{ControlReply}
 use Rattle.control_book.specs.declared.call.ControlReply.TheVariants as control_replies
 use Rattle.control_book.specs.Control.{Control}
 use Rattle.control_book.specs.Replies as control
-use Rattle.path_core.specs.declared.ask.Ask.TheVariants as asks
-use Rattle.path_core.specs.Kinds.{IsSendKind, IsReassemblyKind, IsControlKind, BooksAnswerInKind}
+use Rattle.actor_desk.specs.declared.ask.Ask.TheVariants as asks
+use Rattle.actor_desk.specs.Kinds.{IsSendKind, IsReassemblyKind, IsControlKind, BooksAnswerInKind}
 
 -- ---- the send book
 

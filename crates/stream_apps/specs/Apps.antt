@@ -1,7 +1,7 @@
 -- An application by what it means.
 use Rattle.std.specs.Prelude.{ℕ, Bool, List}
 use Rattle.outside_kit.specs.declared.side.Side.{Side}
-use Rattle.path_core.specs.declared.duty.AppDuty.{AppDuty}
+use Rattle.stream_apps.specs.declared.duty.AppDuty.{AppDuty}
 
 pub record AppState : Type 0 where
   pub side : Side

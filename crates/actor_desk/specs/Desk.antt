@@ -1,5 +1,5 @@
 -- The six books of a connection, and what they answer: each call by the book's own definitions.
-use Rattle.std.specs.Prelude.{ℕ}
+use Rattle.std.specs.Prelude.{ℕ, Option, Some, None, List, ◌∷◌}
 use Rattle.outside_kit.specs.declared.side.Side.{Side}
 use Rattle.outside_kit.specs.declared.side.Side.TheVariants as side
 use Rattle.send_book.specs.State as sending
@@ -12,11 +12,11 @@ use Rattle.control_book.specs.Control as control
 use Rattle.control_book.specs.Replies as control_replies
 use Rattle.control_book.specs.Steps as control_steps
 use Rattle.control_book.specs.declared.call.ControlCall.{ControlCall}
-use Rattle.path_core.specs.declared.ask.Ask.{Ask}
-use Rattle.path_core.specs.declared.ask.Ask.TheVariants as asks
-use Rattle.path_core.specs.declared.ask.Reply.{Reply}
-use Rattle.path_core.specs.declared.ask.Reply.TheVariants as replies
-use Rattle.path_core.specs.Words.{pick}
+use Rattle.actor_desk.specs.declared.ask.Ask.{Ask}
+use Rattle.actor_desk.specs.declared.ask.Ask.TheVariants as asks
+use Rattle.actor_desk.specs.declared.ask.Reply.{Reply}
+use Rattle.actor_desk.specs.declared.ask.Reply.TheVariants as replies
+use Rattle.actor_desk.specs.Words.{pick}
 
 pub record SixBooks : Type 0 where
   pub send_a : sending.Sending
@@ -77,3 +77,18 @@ opened_books buffer key_a key_b = record {
   control_a = control.opened side.A key_a;
   control_b = control.opened side.B key_b;
 }
+
+-- ---- steps
+
+-- what was asked, and what was answered
+pub record Step : Type 0 where
+  pub ask : Ask
+  pub reply : Reply
+
+abbrev pub step : Ask → Reply → Step
+step ask reply = record { ask = ask; reply = reply }
+
+-- the step that this ask makes at the books, before these
+abbrev pub step_told : Option Ask → SixBooks → List Step → List Step
+step_told None books later = later
+step_told (Some ask) books later = step ask (reply_of books ask) ∷ later

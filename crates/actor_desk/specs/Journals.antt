@@ -9,10 +9,10 @@ use Rattle.reassembly_book.specs.declared.call.ReassemblyCall.{ReassemblyCall}
 use Rattle.reassembly_book.specs.declared.call.ReassemblyReply.{ReassemblyReply}
 use Rattle.control_book.specs.declared.call.ControlCall.{ControlCall}
 use Rattle.control_book.specs.declared.call.ControlReply.{ControlReply}
-use Rattle.path_core.specs.declared.ask.Ask.{Ask}
-use Rattle.path_core.specs.declared.ask.Ask.TheVariants as asks
-use Rattle.path_core.specs.declared.ask.Note.{Note}
-use Rattle.path_core.specs.declared.ask.Reply.TheVariants as replies
+use Rattle.actor_desk.specs.declared.ask.Ask.{Ask}
+use Rattle.actor_desk.specs.declared.ask.Ask.TheVariants as asks
+use Rattle.actor_desk.specs.declared.ask.Note.{Note}
+use Rattle.actor_desk.specs.declared.ask.Reply.TheVariants as replies
 
 -- ---- an entry of a journal, as the note of the actor that made it
 

@@ -4,15 +4,15 @@ use Rattle.send_book.specs.declared.call.SendCall.TheVariants as send_calls
 use Rattle.send_book.specs.declared.call.SendReply.TheVariants as send_replies
 use Rattle.reassembly_book.specs.declared.call.ReassemblyCall.TheVariants as reassembly_calls
 use Rattle.reassembly_book.specs.declared.call.ReassemblyReply.TheVariants as reassembly_replies
-use Rattle.path_core.specs.declared.ask.Ask.{Ask}
-use Rattle.path_core.specs.declared.ask.Ask.TheVariants as asks
-use Rattle.path_core.specs.declared.ask.LocalStep.TheVariants as steps
-use Rattle.path_core.specs.declared.ask.Reply.{Reply}
-use Rattle.path_core.specs.declared.ask.Reply.TheVariants as replies
-use Rattle.path_core.specs.declared.duty.AppDuty.{AppDuty}
-use Rattle.path_core.specs.declared.duty.AppDuty.TheVariants.{Write, Close, Read, End}
-use Rattle.path_core.specs.Apps.{AppState}
-use Rattle.path_core.specs.Words.{is_nil, tail_of}
+use Rattle.actor_desk.specs.declared.ask.Ask.{Ask}
+use Rattle.actor_desk.specs.declared.ask.Ask.TheVariants as asks
+use Rattle.actor_desk.specs.declared.ask.LocalStep.TheVariants as steps
+use Rattle.actor_desk.specs.declared.ask.Reply.{Reply}
+use Rattle.actor_desk.specs.declared.ask.Reply.TheVariants as replies
+use Rattle.stream_apps.specs.declared.duty.AppDuty.{AppDuty}
+use Rattle.stream_apps.specs.declared.duty.AppDuty.TheVariants.{Write, Close, Read, End}
+use Rattle.stream_apps.specs.Apps.{AppState}
+use Rattle.actor_desk.specs.Words.{is_nil, tail_of}
 
 abbrev pub start_of_app : List AppDuty
 start_of_app = Write ∷ Close ∷ Read ∷ End ∷ []

@@ -14,11 +14,11 @@ use Rattle.control_book.specs.declared.call.ControlReply.{ControlReply}
 use Rattle.control_book.specs.declared.call.ControlReply.TheVariants as control_replies
 use Rattle.send_book.specs.State.{Tile}
 use Rattle.send_book.specs.Steps.{CanAsk}
-use Rattle.path_core.specs.Desk.{SixBooks, reply_of}
-use Rattle.path_core.specs.declared.ask.Ask.{Ask}
-use Rattle.path_core.specs.declared.ask.Ask.TheVariants as asks
-use Rattle.path_core.specs.declared.ask.Reply.{Reply}
-use Rattle.path_core.specs.declared.ask.Reply.TheVariants as replies
+use Rattle.actor_desk.specs.Desk.{SixBooks, reply_of}
+use Rattle.actor_desk.specs.declared.ask.Ask.{Ask}
+use Rattle.actor_desk.specs.declared.ask.Ask.TheVariants as asks
+use Rattle.actor_desk.specs.declared.ask.Reply.{Reply}
+use Rattle.actor_desk.specs.declared.ask.Reply.TheVariants as replies
 
 -- some bytes, and no more than were asked for
 pub record IsSomeOf (max : ℕ) (bytes : List ℕ) : Type 0 where

@@ -1,14 +1,14 @@
 -- A turn of an application ends: its agenda gets shorter, or more was read, and it reads only until it has enough.
 use Rattle.std.proofs.Common.{◌≡◌, refl, sym, ap, subst, ℕ, ◌+◌, ◌-◌, ◌<◌, ◌≤◌, ◌&&◌, not, Bool, true, false, if◌then◌else◌, List, [], ◌∷◌, length, arith}
 use Rattle.std.proofs.lemmas.Bool.{ltb-true}
-use Rattle.path_core.specs.declared.ask.Reply.{Reply}
-use Rattle.path_core.specs.declared.duty.AppDuty.{AppDuty}
-use Rattle.path_core.specs.declared.duty.AppDuty.TheVariants.{Write, Close, Read, End}
-use Rattle.path_core.specs.Apps.{AppState}
-use Rattle.path_core.specs.AppSteps.{app_stands, app_ask, app_left, app_answered, app_answers, app_settled, app_settles_down, app_asks_first, app_reads_on, bytes_in}
-use Rattle.path_core.specs.Turns.{AppEnds, FirstAppStands, IsAppSettled, EveryAppTurnEnds}
-use Rattle.path_core.specs.Words.{is_nil}
-use Rattle.path_core.proofs.Falling.{Ending, Then, Less, less-ends, then-ends}
+use Rattle.actor_desk.specs.declared.ask.Reply.{Reply}
+use Rattle.stream_apps.specs.declared.duty.AppDuty.{AppDuty}
+use Rattle.stream_apps.specs.declared.duty.AppDuty.TheVariants.{Write, Close, Read, End}
+use Rattle.stream_apps.specs.Apps.{AppState}
+use Rattle.stream_apps.specs.AppSteps.{app_stands, app_ask, app_left, app_answered, app_answers, app_settled, app_settles_down, app_asks_first, app_reads_on, bytes_in}
+use Rattle.stream_apps.specs.Turns.{AppEnds, FirstAppStands, IsAppSettled, EveryAppTurnEnds}
+use Rattle.actor_desk.specs.Words.{is_nil}
+use Rattle.actor_desk.proofs.Falling.{Ending, Then, Less, less-ends, then-ends}
 
 -- what is still to be done, and what may still be read
 abbrev duties_of : AppState → ℕ

@@ -1,0 +1,4 @@
+pub mod Words
+pub mod Desk
+pub mod Kinds
+pub mod Journals

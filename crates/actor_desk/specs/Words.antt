@@ -1,0 +1,17 @@
+-- Words on choices and lists that the rules of actors share.
+use Rattle.std.specs.Prelude.{Bool, true, false, List, [], ◌∷◌}
+use Rattle.outside_kit.specs.declared.side.Side.{Side}
+use Rattle.outside_kit.specs.declared.side.Side.TheVariants.{A, B}
+
+-- that of A or that of B
+abbrev pub pick : {X : Type 0} → Side → X → X → X
+pick A a b = a
+pick B a b = b
+
+abbrev pub is_nil : {X : Type 0} → List X → Bool
+is_nil [] = true
+is_nil (x ∷ xs) = false
+
+abbrev pub tail_of : {X : Type 0} → List X → List X
+tail_of [] = []
+tail_of (x ∷ xs) = xs

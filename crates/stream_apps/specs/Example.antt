@@ -1,0 +1,61 @@
+-- The first turns of the applications of a connection: A's file has the five octets of "hello", and B's has none.
+use Rattle.std.specs.Prelude.{ℕ, zero, suc, Option, Some, None, List, [], ◌∷◌, codes}
+use Rattle.outside_kit.specs.declared.side.Side.TheVariants as side
+use Rattle.send_book.specs.declared.call.SendCall.TheVariants as send_calls
+use Rattle.send_book.specs.declared.call.SendReply.TheVariants as send_replies
+use Rattle.reassembly_book.specs.declared.call.ReassemblyCall.TheVariants as reassembly_calls
+use Rattle.reassembly_book.specs.declared.call.ReassemblyReply.TheVariants as reassembly_replies
+use Rattle.actor_desk.specs.declared.ask.Ask.{Ask}
+use Rattle.actor_desk.specs.declared.ask.Ask.TheVariants as asks
+use Rattle.actor_desk.specs.declared.ask.LocalStep.TheVariants as steps
+use Rattle.actor_desk.specs.declared.ask.Reply.TheVariants as replies
+use Rattle.actor_desk.specs.Desk.{SixBooks, Step, step, step_told, reply_of, after_ask, opened_books}
+use Rattle.stream_apps.specs.AppSteps.{app_asks_of, app_takes}
+use Rattle.stream_apps.specs.Apps.{AppState}
+use Rattle.stream_apps.specs.Starts.{first_app_turn}
+
+-- an application with the books
+pub record AppRun : Type 0 where
+  pub app : AppState
+  pub books : SixBooks
+
+abbrev pub app_step : Option Ask → AppRun → AppRun
+app_step None w = w
+app_step (Some ask) w = record { app = app_takes (reply_of w.books ask) w.app; books = after_ask ask w.books }
+
+abbrev pub after_app_steps : ℕ → AppRun → AppRun
+after_app_steps zero w = w
+after_app_steps (suc n) w = after_app_steps n (app_step (app_asks_of w.app) w)
+
+-- so many of its steps
+abbrev pub app_steps_made : ℕ → AppRun → List Step
+app_steps_made zero w = []
+app_steps_made (suc n) w = step_told (app_asks_of w.app) w.books (app_steps_made n (app_step (app_asks_of w.app) w))
+
+-- ---- the first turns
+
+abbrev pub hello : List ℕ
+hello = codes "hello"
+
+-- with the keys that the seed 1 draws
+abbrev pub app_of_a : AppRun
+app_of_a = record { app = first_app_turn side.A 65536 hello; books = opened_books 65536 8938189255999614177 5210603713849882493 }
+
+-- after the turn of A
+abbrev pub app_of_b : AppRun
+app_of_b = record { app = first_app_turn side.B 65536 []; books = (after_app_steps 4 app_of_a).books }
+
+abbrev pub turn_of_a : List Step
+turn_of_a =
+    step (asks.Send side.A (send_calls.Write hello)) (replies.Send (send_replies.Taken 5))
+    ∷ step (asks.Send side.A send_calls.Close) (replies.Send send_replies.Closed)
+    ∷ step (asks.Reassembly side.A (reassembly_calls.Read 65536)) (replies.Reassembly reassembly_replies.NoneYet)
+    ∷ step (asks.Local steps.End) replies.Done
+    ∷ []
+
+abbrev pub turn_of_b : List Step
+turn_of_b =
+    step (asks.Send side.B send_calls.Close) (replies.Send send_replies.Closed)
+    ∷ step (asks.Reassembly side.B (reassembly_calls.Read 65536)) (replies.Reassembly reassembly_replies.NoneYet)
+    ∷ step (asks.Local steps.End) replies.Done
+    ∷ []

@@ -1,0 +1,5 @@
+pub mod Apps
+pub mod AppSteps
+pub mod Starts
+pub mod Turns
+pub mod Example

@@ -1,0 +1,9 @@
+//! The two applications of a connection: each writes its file into its side's send book, says that it writes no more, and
+//! reads from its side's reassembly book what has come.
+#![tactic(auto)]
+
+mod duty;
+mod laws;
+
+pub use duty::AppDuty;
+pub use laws::{every_app_turn_ends, first_app_turns};
