@@ -9,7 +9,7 @@ use Rattle.link_model.specs.Steps.{due_of, is_due, without, next_due, arriving, 
 use Rattle.subflow_tcp.specs.Judging.{meaning_of}
 use Rattle.subflow_tcp.specs.States.{is_dead}
 use Rattle.subflow_tcp.specs.Taking.{after_arrival}
-use Rattle.path_core.specs.Arriving.{copy_of, hint_of, items_of, owes_by, after_meaning, template_of}
+use Rattle.path_core.specs.Arriving.{copy_of, hint_of, items_of, owes_by, with_payload, after_meaning, template_of}
 use Rattle.path_core.specs.Agenda.{rest_of_turn, emission}
 use Rattle.path_core.specs.Codec.{Codec, HeardSegment}
 use Rattle.path_core.specs.Ends.{PathEnd}
@@ -23,7 +23,7 @@ use Rattle.path_core.specs.Turns.{TakesTime}
 use Rattle.actor_desk.specs.Words.{tail_of}
 use Rattle.actor_desk.proofs.Falling.{Then, Less}
 use Rattle.path_core.proofs.Ranking.{Rests, same_rests, Calm, goes_calm, agenda_calm, Lower, Lowers}
-use Rattle.path_core.proofs.Resting.{to_rests, arrival_settles, owing_settles, fired_rests}
+use Rattle.path_core.proofs.Resting.{to_rests, held_settles, owing_settles, fired_rests}
 
 -- ---- lists
 
@@ -148,8 +148,8 @@ module _ {C : Type 0} where
       let e = end_at s p in let meaning = meaning_of (copy_of h) e.tcp in
       goes_calm s (after_meaning p.profile s p.clock h meaning e) (template_of s (items_of s h) meaning) p t
       (to_rests p.clock e (after_meaning p.profile s p.clock h meaning e)
-      (owing_settles p.clock (owes_by meaning (items_of s h)) e.tcp.timing (after_arrival meaning (hint_of s h) p.clock (copy_of h) e.tcp)
-      (arrival_settles p.clock meaning (hint_of s h) p.clock (copy_of h) e.tcp)))
+      (owing_settles p.clock (owes_by meaning (items_of s h)) e.tcp.timing (after_arrival meaning (hint_of s h) p.clock (copy_of h) (with_payload meaning h.payload e.tcp))
+      (held_settles p.clock meaning h.payload (hint_of s h) p.clock (copy_of h) e.tcp)))
 
   copy_lowers : (k : Codec C) (f : Flight C) (flights : List (Flight C)) (p : PathState C) → TakesTime p → p.link.under_way ≡ f ∷ flights → f.tick < p.until
       → Lowers p (copy_taken k (due_of f) p)
