@@ -25,10 +25,10 @@ impl PathEnd {
     }
 
     /// Once the own SYN is acknowledged records are sent that the congestion window has room for.
-    fn fits(&self, record: &RecordRef<'_>) -> bool
-        ensures { result ≡ fits self.now.tcp (record_of record.now) }
+    fn fits(&self, lent: &RecordRef<'_>) -> bool
+        ensures { result ≡ fits self.now.tcp (record_of lent.now) }
     {
-        1 <= self.tcp.una() && record.piece.len() as u64 <= u64::from(self.tcp.room())
+        1 <= self.tcp.una() && lent.piece.len() as u64 <= u64::from(self.tcp.room())
     }
 
     /// Bytes may be asked for: both SYNs are acknowledged, no FIN was sent, there is room for a full segment, positions

@@ -95,15 +95,15 @@ impl Profile {
     }
 
     /// On data: the mapping that the piece was granted with.
-    fn piece_mapping(&self, side: Side, record: &RecordRef<'_>) -> PathMapping<u64>
-        ensures { result ≡ piece_mapping self.now side (record_of record.now) }
+    fn piece_mapping(&self, side: Side, lent: &RecordRef<'_>) -> PathMapping<u64>
+        ensures { result ≡ piece_mapping self.now side (record_of lent.now) }
     {
         PathMapping::Bytes {
-            place: self.place_numbered(side, record.mapping.number),
-            position: record.pos,
-            length: record.mapping.length,
+            place: self.place_numbered(side, lent.mapping.number),
+            position: lent.pos,
+            length: lent.mapping.length,
             fin: false,
-            checksum: self.checksum_told(record.mapping.checksum),
+            checksum: self.checksum_told(lent.mapping.checksum),
         }
     }
 }
@@ -159,15 +159,15 @@ impl PathEnd {
     }
 
     /// A's first piece carries both keys, until A may send a DSS.
-    fn first_piece_option(&self, profile: &Profile, record: &RecordRef<'_>) -> Option<Saying<'_>>
-        ensures value { options_by result ≡ first_piece_options profile.now self.now.modes.peer_key (record_of record.now) self.now }
+    fn first_piece_option(&self, profile: &Profile, lent: &RecordRef<'_>) -> Option<Saying<'_>>
+        ensures value { options_by result ≡ first_piece_options profile.now self.now.modes.peer_key (record_of lent.now) self.now }
     {
         let receiver = self.modes.peer_key?;
         Some(profile.capable(CapableKeys::WithData {
             sender: self.modes.own_key,
             receiver,
-            length: record.mapping.length,
-            checksum: profile.checksum_told(record.mapping.checksum),
+            length: lent.mapping.length,
+            checksum: profile.checksum_told(lent.mapping.checksum),
         }))
     }
 
@@ -176,16 +176,16 @@ impl PathEnd {
         &self,
         profile: &Profile,
         side: Side,
-        record: &RecordRef<'_>,
+        lent: &RecordRef<'_>,
     ) -> Option<Saying<'_>>
-        ensures value { options_by result ≡ piece_options profile.now side (record_of record.now) self.now }
+        ensures value { options_by result ≡ piece_options profile.now side (record_of lent.now) self.now }
     {
-        if side == Side::A && !self.modes.clear && record.pos == 1 {
-            return self.first_piece_option(profile, record);
+        if side == Side::A && !self.modes.clear && lent.pos == 1 {
+            return self.first_piece_option(profile, lent);
         }
         Some(PathOption::Dss {
             next: Some(self.receiving.next()),
-            mapping: Some(profile.piece_mapping(side, record)),
+            mapping: Some(profile.piece_mapping(side, lent)),
         })
     }
 
@@ -204,13 +204,13 @@ impl PathEnd {
         &self,
         profile: &Profile,
         side: Side,
-        record: &RecordRef<'_>,
+        lent: &RecordRef<'_>,
     ) -> Option<Saying<'_>>
-        ensures value { options_by result ≡ record_options record.now.kind profile.now side (record_of record.now) self.now }
+        ensures value { options_by result ≡ record_options lent.now.kind profile.now side (record_of lent.now) self.now }
     {
-        match record.kind {
+        match lent.kind {
             RecordKind::Syn => self.syn_option(profile, side),
-            RecordKind::Data => self.piece_option(profile, side, record),
+            RecordKind::Data => self.piece_option(profile, side, lent),
             RecordKind::Fin => self.fin_option(),
         }
     }
@@ -247,13 +247,13 @@ impl PathEnd {
         &'a self,
         profile: &Profile,
         side: Side,
-        record: &RecordRef<'a>,
+        lent: &RecordRef<'a>,
     ) -> Said<'a>
-        ensures { plain_said result ≡ record_said profile.now side (record_of record.now) self.now }
+        ensures { plain_said result ≡ record_said profile.now side (record_of lent.now) self.now }
     {
-        let option = self.record_option(profile, side, record);
-        let outgoing = self.tcp.record_segment(record);
-        self.segment_of(profile, outgoing, option, record.piece)
+        let option = self.record_option(profile, side, lent);
+        let outgoing = self.tcp.record_segment(lent);
+        self.segment_of(profile, outgoing, option, lent.piece)
     }
 
     /// A record, or else an acknowledgement.
@@ -261,9 +261,9 @@ impl PathEnd {
         &'a self,
         profile: &Profile,
         side: Side,
-        record: Option<RecordRef<'a>>,
+        lent: Option<RecordRef<'a>>,
     ) -> Said<'a>
-        ensures { plain_said result ≡ record_or_ack profile.now side (option_map record_of record) self.now }
+        ensures { plain_said result ≡ record_or_ack profile.now side (option_map record_of lent) self.now }
     {
         match record {
             Some(record) => self.record_said(profile, side, &record),
