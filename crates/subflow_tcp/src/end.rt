@@ -212,7 +212,7 @@ impl Subflow {
     }
 
     /// Whether a record is not acknowledged.
-    pub(crate) fn has_records(&self) -> bool
+    pub fn has_records(&self) -> bool
         ensures { result ≡ has_records self.now }
     {
         self.send.retransmit_first().is_some()
