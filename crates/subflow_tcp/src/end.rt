@@ -151,8 +151,7 @@ impl Subflow {
 
     /// Whether the FIN was pushed. Where it may be, it wasn't yet.
     pub fn is_finished(&self) -> bool
-        ensures value { result ≡ self.now.send.finished }
-        ensures open { IsTrue (may_finish self.now.state) → result ≡ false }
+        ensures { result ≡ self.now.send.finished }
     {
         self.send.is_finished()
     }
@@ -212,7 +211,7 @@ impl Subflow {
     }
 
     /// Whether a record is not acknowledged.
-    pub(crate) fn has_records(&self) -> bool
+    pub fn has_records(&self) -> bool
         ensures { result ≡ has_records self.now }
     {
         self.send.retransmit_first().is_some()
