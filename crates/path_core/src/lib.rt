@@ -8,17 +8,29 @@
 #![tactic(auto)]
 
 mod agenda;
+mod answering;
+mod arriving;
+mod breaking;
 mod clock;
 mod closing;
+mod duties;
 mod duty;
 mod emission;
 mod end;
 mod event;
+mod events;
 mod heard;
+mod hearing;
+mod held;
+mod in_order;
+mod keys;
 mod laws;
 mod lines;
 mod modes;
+mod opening;
+mod passing;
 mod path;
+mod placing;
 mod profile;
 mod receiving;
 mod said;
@@ -27,7 +39,9 @@ mod segments;
 mod sending;
 mod sends;
 mod standing;
+mod steps;
 mod templates;
+mod treating;
 mod treated;
 
 pub use actor_desk::{Ask, LocalStep, Note, Reply};
