@@ -21,11 +21,15 @@ pub(crate) struct Receiving {
 
 impl Model for Receiving {
     ghost use Rattle.std.specs.Prelude.{◌≤◌, ◌+◌, ◌^◌};
+    ghost use Rattle.std.specs.Coded.{codes};
+    ghost use Rattle.dss_mapping.specs.Mappings.{mappings_code};
     ghost use Rattle.path_core.specs.Ends.{Receiving};
 
     ghost Value = { Receiving };
 
-    ghost view = { λ v. record { next = v.next; window = v.window; told_edge = v.told_edge; mappings = v.mappings } };
+    ghost coded = { Prim.hlevel (codes, mappings_code) };
+
+    ghost view = { λ v. record { next = v.next; window = v.window; told_edge = v.told_edge; mappings = v.mappings.mappings } };
 
     ghost invariant = { λ v. (v.next ≤ 2 ^ 62 + 2 ^ 20) × (v.window ≤ 2 ^ 20) × (v.told_edge ≤ 2 ^ 62 + 2 ^ 21) };
 }
