@@ -166,12 +166,12 @@ reset_for c s copy = reset_by c s copy.acknowledged (unwrap_or copy.position 0) 
 abbrev pub hint_of : Side → HeardSegment → Hint
 hint_of s h = record { data_ack = place_in_first (items_of s h); keep = false }
 
-abbrev pub treated_of : Profile → Side → Bool → HeardSegment → Treated
-treated_of c s opened h = record nothing_treated {
+abbrev pub treated_of : Side → Bool → HeardSegment → Outgoing → Treated
+treated_of s opened h answer = record nothing_treated {
   items = items_of s h;
   opened = opened;
   has_option = not (is_nil h.options);
-  answer = Some (reset_for c s (copy_of h));
+  answer = Some answer;
 }
 
 abbrev pub owing_if : Bool → EndState → EndState
@@ -193,13 +193,16 @@ abbrev pub with_payload : Meaning → List ℕ → EndState → EndState
 with_payload (means.Taken position acknowledged) octets tcp = if is_nil octets then tcp else after_holding position octets tcp
 with_payload meaning octets tcp = tcp
 
--- the subflow takes it, and its payload and its mappings are held; the rest is still to be treated
-abbrev pub after_meaning : Profile → Side → ℕ → HeardSegment → Meaning → PathEnd → PathEnd
-after_meaning c s now h meaning e = record e {
+-- the subflow takes it, and its payload and these mappings are held; the rest is still to be treated
+abbrev pub having_heard : List KeptMapping → Outgoing → Side → ℕ → HeardSegment → Meaning → PathEnd → PathEnd
+having_heard told answer s now h meaning e = record e {
   tcp = owing_if (owes_by meaning (items_of s h)) (after_arrival meaning (hint_of s h) now (copy_of h) (with_payload meaning h.payload e.tcp));
-  receiving = record e.receiving { mappings = after_hold (held_of c s h) e.receiving.mappings };
-  treated = treated_of c s (opens_by meaning e.tcp.state) h;
+  receiving = record e.receiving { mappings = after_hold told e.receiving.mappings };
+  treated = treated_of s (opens_by meaning e.tcp.state) h answer;
 }
+
+abbrev pub after_meaning : Profile → Side → ℕ → HeardSegment → Meaning → PathEnd → PathEnd
+after_meaning c s now h meaning e = having_heard (held_of c s h) (reset_for c s (copy_of h)) s now h meaning e
 
 -- and what is to be done then
 abbrev pub template_of : Side → List Heard → Meaning → List Duty

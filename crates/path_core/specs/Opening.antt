@@ -14,6 +14,7 @@ use Rattle.actor_desk.specs.declared.ask.Reply.TheVariants as replies
 use Rattle.path_core.specs.declared.heard.Heard.{Heard}
 use Rattle.path_core.specs.declared.heard.Heard.TheVariants as says
 use Rattle.path_core.specs.Codec.{Codec}
+use Rattle.path_core.specs.declared.keys.KeyPair.{KeyPair}
 use Rattle.path_core.specs.declared.modes.Modes.{Modes}
 use Rattle.path_core.specs.Ends.{PathEnd}
 use Rattle.path_core.specs.Segments.{syn_ack_said}
@@ -49,11 +50,6 @@ peer_key_ask s (Some key) = asks.Control s (control_calls.PeerKey key)
 
 abbrev pub with_peer_key : Option ℕ → PathEnd → PathEnd
 with_peer_key key e = record e { modes = record e.modes { peer_key = key } }
-
--- the own key and the peer's
-pub record KeyPair : Type 0 where
-  pub own : ℕ
-  pub peer : ℕ
 
 abbrev pub keys_heard : List Heard → Option KeyPair
 keys_heard [] = None

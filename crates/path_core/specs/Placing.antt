@@ -46,6 +46,10 @@ piece_in kept s = record {
   octets = take (count_in s.recv.edge kept) (filled s.recv.places);
 }
 
+-- so many octets from the edge on, the first of which has this place
+abbrev pub piece_from : InOrder → EndState → Piece
+piece_from found s = record { place = found.place; octets = take found.count (filled s.recv.places) }
+
 -- with checksums: the whole mapping is there
 abbrev pub is_whole : KeptMapping → EndState → Bool
 is_whole kept s =

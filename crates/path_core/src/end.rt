@@ -32,7 +32,7 @@ impl Model for PathEnd {
     ghost view = { λ e. record {
       tcp = e.tcp;
       sending = e.sending;
-      receiving = e.receiving;
+      receiving = e.receiving.receiving;
       modes = e.modes;
       treated = e.treated;
     } };

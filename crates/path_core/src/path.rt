@@ -47,7 +47,7 @@ impl Model for Path {
     ghost view = { λ p. record {
       profile = p.profile;
       link = p.link;
-      clock = p.clock.now;
+      clock = p.clock.tick;
       until = p.clock.until;
       lines = p.lines.items;
       joined_at = p.joined_at;
