@@ -21,9 +21,13 @@ pub(crate) struct PathEnd {
 }
 
 impl Model for PathEnd {
+    ghost use Rattle.std.specs.Coded.{codes};
+    ghost use Rattle.dss_mapping.specs.Mappings.{mappings_code};
     ghost use Rattle.path_core.specs.Ends.{PathEnd};
 
     ghost Value = { PathEnd };
+
+    ghost coded = { Prim.hlevel (codes, mappings_code) };
 
     ghost view = { λ e. record {
       tcp = e.tcp;

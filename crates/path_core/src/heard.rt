@@ -1,9 +1,10 @@
 //! What a copy says beside its header and payload.
 
 /// One of the things that the options of a copy say, by places of the streams (RFC 8684, section 3).
-#[derive(Clone, Copy, Debug, PartialEq, Eq)]
+#[derive(Clone, Copy, Debug, Default, PartialEq, Eq)]
 pub enum Heard {
     /// A DSS came, whatever it says.
+    #[default]
     Dss,
     /// So many bytes of the hearer's stream have come in order, the DATA_FIN among them; so many octets more are taken.
     DataAck {

@@ -21,9 +21,13 @@ pub(crate) struct Receiving {
 
 impl Model for Receiving {
     ghost use Rattle.std.specs.Prelude.{◌≤◌, ◌+◌, ◌^◌};
+    ghost use Rattle.std.specs.Coded.{codes};
+    ghost use Rattle.dss_mapping.specs.Mappings.{mappings_code};
     ghost use Rattle.path_core.specs.Ends.{ReceivingStore};
 
     ghost Value = { ReceivingStore };
+
+    ghost coded = { Prim.hlevel (codes, mappings_code) };
 
     ghost view = { λ v. record {
       receiving = record { next = v.next; window = v.window; told_edge = v.told_edge; mappings = v.mappings.mappings };

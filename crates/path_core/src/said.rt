@@ -35,7 +35,7 @@ impl<'a> Said<'a> {
           rst = self.now.outgoing.rst;
           window = self.now.window;
           mss = self.now.mss;
-          options = options;
+          options = options.entry;
           payload = self.now.payload;
         } }
     {

@@ -269,8 +269,8 @@ impl PathEnd {
     ) -> Said<'a>
         ensures { plain_said result ≡ record_or_ack profile.now side (option_map record_of lent) self.now }
     {
-        match record {
-            Some(record) => self.record_said(profile, side, &record),
+        match lent {
+            Some(lent) => self.record_said(profile, side, &lent),
             None => self.ack_said(profile, side, self.tcp.nxt(), None),
         }
     }

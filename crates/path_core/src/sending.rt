@@ -4,7 +4,7 @@ ghost use Rattle.std.specs.Prelude.{◌≡◌, ◌&&◌, ◌++◌, ◌∷◌, []
 ghost use Rattle.std.specs.List.{list_any};
 ghost use Rattle.send_book.specs.declared.call.Span.{Span};
 ghost use Rattle.data_close.specs.Closing as closing;
-ghost use Rattle.path_core.specs.Words.{is_nil};
+ghost use Rattle.actor_desk.specs.Words.{is_nil};
 ghost use Rattle.path_core.specs.Closing.{is_newly_heard, is_open};
 
 use data_close::CloseState;
@@ -163,7 +163,8 @@ impl Sending {
         ensures ok { OnOk result (self.new ≡ record self.old { granted = self.old.granted ++ span ∷ [] }) }
         ensures err { OnErr result (self.new ≡ self.old) }
     {
-        self.granted.push(span)
+        self.granted.push(span)?;
+        Ok(())
     }
 
     /// The last places that were granted are granted no more.
