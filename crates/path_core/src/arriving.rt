@@ -26,7 +26,7 @@ use outside_kit::Side;
 use path_segments::{Expected, HeardSegment, hear};
 use seq_units::Pos;
 use std::alloc::AllocError;
-use subflow_tcp::{Arriving, Meaning, Outgoing};
+use subflow_tcp::{Arriving, Meaning, Outgoing, Subflow};
 
 /// Positions and places that are expected lie below this one.
 const LIMIT: u64 = 1 << 62;
@@ -80,6 +80,19 @@ fn template_of(side: Side, count: u64, meaning: Meaning) -> Agenda
     }
 }
 
+/// The payload of a copy is held where it is taken. At an error all is as it was.
+fn hold_payload(tcp: &mut Subflow, meaning: Meaning, payload: &[u8]) -> Result<(), AllocError>
+    requires below { IsBelow meaning }
+    requires small { length payload.now ≤ 65535 }
+    ensures ok { OnOk result (tcp.new ≡ with_payload meaning payload.now tcp.old) }
+    ensures err { OnErr result (tcp.new ≡ tcp.old) }
+{
+    match meaning {
+        Meaning::Taken { position, .. } if !payload.is_empty() => tcp.hold(position, payload),
+        _ => Ok(()),
+    }
+}
+
 impl PathEnd {
     /// What the end counts from.
     fn expected(&self) -> Expected
@@ -90,21 +103,6 @@ impl PathEnd {
             unacknowledged: self.tcp.una(),
             told: self.sending.heard(),
             place: self.receiving.next(),
-        }
-    }
-
-    /// The payload of a copy is held where it is taken. At an error all is as it was.
-    fn hold_payload(&mut self, meaning: Meaning, payload: &[u8]) -> Result<(), AllocError>
-        requires below { IsBelow meaning }
-        requires small { length payload.now ≤ 65535 }
-        ensures ok { OnOk result (self.new ≡ record self.old { tcp = with_payload meaning payload.now self.old.tcp }) }
-        ensures err { OnErr result (self.new ≡ self.old) }
-    {
-        match meaning {
-            Meaning::Taken { position, .. } if !payload.is_empty() => {
-                self.tcp.hold(position, payload)
-            }
-            _ => Ok(()),
         }
     }
 
@@ -122,7 +120,7 @@ impl PathEnd {
         ensures err { OnErr result (self.new ≡ self.old) }
     {
         self.receiving.mappings.make_ready(told.len())?;
-        self.hold_payload(meaning, heard.payload)?;
+        hold_payload(&mut self.tcp, meaning, heard.payload)?;
         self.receiving.mappings.hold(told);
         Ok(())
     }

@@ -11,11 +11,11 @@ ghost use Rattle.path_core.specs.Emission.{first_unsent, is_syn_due, fits, may_a
 ghost use Rattle.path_core.specs.Replies.{IsSendable, IsGrantSendable};
 ghost use Rattle.path_core.specs.State.{end_at, goes_on, left};
 
-use actor_desk::{Ask, Reply};
 use crate::end::PathEnd;
 use crate::path::Path;
 use crate::profile::Profile;
 use crate::segment_kind::SegmentKind;
+use actor_desk::{Ask, Reply};
 use outside_kit::Side;
 use send_book::{SendCall, SendReply, Span};
 use seq_units::Mapping;
@@ -59,12 +59,7 @@ impl PathEnd {
     }
 
     /// The granted piece is to be sent, with this mapping for ever. At an error all is as it was.
-    fn take_grant(
-        &mut self,
-        span: Span,
-        piece: &[u8],
-        mapping: &Mapping,
-    ) -> Result<(), AllocError>
+    fn take_grant(&mut self, span: Span, piece: &[u8], mapping: &Mapping) -> Result<(), AllocError>
         requires { IsSendable piece.now }
         ensures ok { OnOk result (self.new ≡ with_piece span piece.now mapping.now self.old) }
         ensures err { OnErr result (self.new ≡ self.old) }

@@ -1,7 +1,10 @@
 //! What happens on a path by itself: lines of the script, copies that arrive, timers that run out.
 
-ghost use Rattle.std.specs.Prelude.{◌≡◌, ◌∷◌, ◌++◌, ◌<◌, ◌^◌, ◌-◌, [], max, if◌then◌else◌, IfSome, OnOk, OnErr};
+ghost use Rattle.std.specs.Prelude.{◌≡◌, ◌∷◌, ◌++◌, ◌<◌, ◌^◌, ◌-◌, [], max, if◌then◌else◌, IfSome, IsSome, OnOk, OnErr};
+ghost use Rattle.link_model.specs.Steps.{next_due};
+ghost use Rattle.outside_kit.specs.declared.side.Side.TheVariants.{A, B};
 ghost use Rattle.subflow_tcp.specs.Expiring.{is_sixth};
+ghost use Rattle.subflow_tcp.specs.States.{is_dead};
 ghost use Rattle.path_core.specs.declared.duty.Duty.TheVariants as duties;
 ghost use Rattle.path_core.specs.declared.event.Event.TheVariants as event;
 ghost use Rattle.path_core.specs.Agenda.{rest_of_turn};

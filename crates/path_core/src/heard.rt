@@ -7,23 +7,13 @@ pub enum Heard {
     #[default]
     Dss,
     /// So many bytes of the hearer's stream have come in order, the DATA_FIN among them; so many octets more are taken.
-    DataAck {
-        next: u64,
-        window: u32,
-    },
+    DataAck { next: u64, window: u32 },
     /// A mapping: the next one of those that the end holds.
     Mapping,
     /// The stream ends before this place.
-    DataFin {
-        place: u64,
-    },
+    DataFin { place: u64 },
     /// The peer's key alone.
-    PeerKey {
-        key: u64,
-    },
+    PeerKey { key: u64 },
     /// Both keys: the hearer's own one, and the peer's.
-    Keys {
-        own: u64,
-        peer: u64,
-    },
+    Keys { own: u64, peer: u64 },
 }

@@ -1,6 +1,7 @@
 //! What the options of a copy say (RFC 8684, section 3).
 
 ghost use Rattle.std.specs.Prelude.{◌≡◌, ◌++◌, ◌∷◌, [], not, take};
+ghost use Rattle.std.specs.List.{list_any};
 ghost use Rattle.actor_desk.specs.Words.{is_nil};
 ghost use Rattle.path_segments.specs.HeardLent.{heard_plain};
 ghost use Rattle.path_segments.specs.HeardSegments.{heard_value};
@@ -89,16 +90,21 @@ fn put_map(items: &mut Items, mapping: Option<HeardMapping>)
     ensures { items.new.items ≡ take 10 (items.old.items ++ map_items mapping) }
 {
     match mapping {
-        Some(PathMapping::Bytes {
-            place: Some(place),
-            position: Some(position),
-            length,
-            fin: false,
-            ..
-        }) => put_mapping(items, place, position, length),
-        Some(PathMapping::End {
-            place: Some(place), ..
-        }) => put(items, Heard::DataFin { place }),
+        Some(
+            PathMapping::Bytes {
+                place: Some(place),
+                position: Some(position),
+                length,
+                fin: false,
+                ..
+            },
+        ) => put_mapping(items, place, position, length),
+        Some(
+            PathMapping::End {
+                place: Some(place),
+                ..
+            },
+        ) => put(items, Heard::DataFin { place }),
         _ => {}
     }
 }
@@ -160,12 +166,19 @@ fn wants_ack(item: Heard) -> bool
     matches!(item, Heard::DataFin { .. } | Heard::Keys { .. })
 }
 
+/// One of these things does.
+fn one_wants_ack(items: &[Heard]) -> bool
+    ensures { result ≡ list_any wants_ack items.now }
+{
+    items.iter().any(|item| wants_ack(*item))
+}
+
 /// A copy that is taken may want an acknowledgement by what it says.
 pub(crate) fn owes_by(meaning: Meaning, items: &[Heard]) -> bool
     ensures { result ≡ owes_by meaning items.now }
 {
     match meaning {
-        Meaning::Taken { .. } => items.iter().any(|item| wants_ack(*item)),
+        Meaning::Taken { .. } => one_wants_ack(items),
         _ => false,
     }
 }

@@ -63,13 +63,15 @@ impl Profile {
         ensures { option_to_list result ≡ map_held self.now side mapping }
     {
         match mapping {
-            Some(PathMapping::Bytes {
-                place: Some(place),
-                position: Some(position),
-                length,
-                fin: false,
-                checksum,
-            }) => self.held_if(side, place, position, length, checksum),
+            Some(
+                PathMapping::Bytes {
+                    place: Some(place),
+                    position: Some(position),
+                    length,
+                    fin: false,
+                    checksum,
+                },
+            ) => self.held_if(side, place, position, length, checksum),
             _ => None,
         }
     }
@@ -82,7 +84,9 @@ impl Profile {
             (
                 Side::B,
                 CapableKeys::WithData {
-                    length, checksum, ..
+                    length,
+                    checksum,
+                    ..
                 },
             ) => self.held_if(Side::B, 0, 1, length, checksum),
             _ => None,

@@ -39,8 +39,8 @@ mod sending;
 mod sends;
 mod standing;
 mod templates;
-mod treating;
 mod treated;
+mod treating;
 
 pub use actor_desk::{Ask, LocalStep, Note, Reply};
 pub use duty::Duty;

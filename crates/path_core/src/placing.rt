@@ -1,6 +1,6 @@
 //! The bytes that the receive edge passes, and the mappings that they have (RFC 8684, section 3.3.1).
 
-ghost use Rattle.std.specs.Prelude.{◌≡◌, ◌≤◌, ◌<◌, ◌+◌, ◌-◌, ◌^◌, length, take, min, option_map, IfOk, IfSome};
+ghost use Rattle.std.specs.Prelude.{◌≡◌, ◌≤◌, ◌<◌, ◌+◌, ◌-◌, ◌^◌, length, take, min, option_map, is_some, IfOk, IfSome};
 ghost use Rattle.std.specs.List.{concat};
 ghost use Rattle.dss_checksum.specs.Checksum.{dss_checksum};
 ghost use Rattle.dss_mapping.specs.Mappings.{mapping_at};
@@ -28,7 +28,7 @@ const LAST_PLACE: u64 = 1 << 62;
 
 /// So many octets of these parts, in order. Takes memory for them.
 fn text_of(alloc: Global, parts: Parts<'_>, count: u64) -> Result<Text, AllocError>
-    ensures { IfOk result (λ text. text ≡ take count (concat parts)) }
+    ensures { IfOk result (λ text. text ≡ take count (concat parts.entry)) }
 {
     let mut text = Text::new(alloc);
     let mut left = count;
@@ -42,7 +42,7 @@ fn text_of(alloc: Global, parts: Parts<'_>, count: u64) -> Result<Text, AllocErr
 
 /// The checksum of a mapping and so many octets of these parts.
 fn checksum_of(mapping: &Mapping, parts: Parts<'_>, count: u16) -> u16
-    ensures { result ≡ dss_checksum mapping.now (take count (concat parts)) }
+    ensures { result ≡ dss_checksum mapping.now (take count (concat parts.entry)) }
 {
     let mut sum = DssSum::new(mapping);
     let mut left = u64::from(count);

@@ -81,11 +81,7 @@ impl<'a> Said<'a> {
         ensures { result ≡ sum_of spelling.now side (plain_said self.now) }
     {
         match self.option {
-            Some(option) => sum(
-                spelling,
-                spelled_by(side),
-                &self.with_options(&[option]),
-            ),
+            Some(option) => sum(spelling, spelled_by(side), &self.with_options(&[option])),
             None => sum(spelling, spelled_by(side), &self.with_options(&[])),
         }
     }

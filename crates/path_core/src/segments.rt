@@ -247,12 +247,7 @@ impl PathEnd {
     }
 
     /// A record, for the first time or again.
-    fn record_said<'a>(
-        &'a self,
-        profile: &Profile,
-        side: Side,
-        lent: &RecordRef<'a>,
-    ) -> Said<'a>
+    fn record_said<'a>(&'a self, profile: &Profile, side: Side, lent: &RecordRef<'a>) -> Said<'a>
         ensures { plain_said result ≡ record_said profile.now side (record_of lent.now) self.now }
     {
         let option = self.record_option(profile, side, lent);

@@ -1,7 +1,9 @@
 //! What the options of a copy make of an end, one thing after the other (RFC 8684, section 3.3).
 
-ghost use Rattle.std.specs.Prelude.{◌≡◌, ◌&&◌, not, is_some, nat_lt, Some, OnOk, OnErr};
+ghost use Rattle.std.specs.Prelude.{◌≡◌, ◌&&◌, not, is_some, if◌then◌else◌, nat_lt, Some, OnOk, OnErr};
+ghost use Rattle.actor_desk.specs.declared.ask.Reply.TheVariants as replies;
 ghost use Rattle.path_core.specs.Octets.{octets};
+ghost use Rattle.path_core.specs.Opening.{after_keys};
 ghost use Rattle.path_core.specs.Placing.{with_learned, with_skipped};
 ghost use Rattle.path_core.specs.Replies.{IsAckBounded};
 ghost use Rattle.path_core.specs.State.{end_at, goes_on, left, with_agenda, with_end};
@@ -34,12 +36,21 @@ fn is_acked(reply: &Reply) -> bool
 }
 
 impl Modes {
+    /// A verdict tells the mode, where it changed.
+    fn hear_told(&mut self, reply: &ControlReply)
+        ensures { self.new ≡ mode_in (replies.Control reply.now) self.old }
+    {
+        if let ControlReply::Verdict(Verdict::Went(mode)) = *reply {
+            self.mode = mode;
+        }
+    }
+
     /// A verdict tells the mode.
     fn hear_verdict(&mut self, reply: &Reply)
         ensures { self.new ≡ mode_in reply.now self.old }
     {
-        if let Reply::Control(ControlReply::Verdict(Verdict::Went(mode))) = *reply {
-            self.mode = mode;
+        if let Reply::Control(reply) = reply {
+            self.hear_told(reply);
         }
     }
 }
