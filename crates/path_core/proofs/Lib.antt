@@ -6,3 +6,4 @@ pub mod Happening
 pub mod Lowering
 pub mod TurnEnds
 pub mod Showing
+mod Things

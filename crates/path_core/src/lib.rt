@@ -15,6 +15,8 @@ mod emission;
 mod end;
 mod event;
 mod heard;
+mod in_order;
+mod keys;
 mod laws;
 mod lines;
 mod modes;

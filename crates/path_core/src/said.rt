@@ -17,7 +17,7 @@ pub(crate) struct Said<'a> {
     pub window: u32,
     /// The maximum segment size, which a SYN has.
     pub mss: Option<u16>,
-    pub option: Option<PathOption<u64, &'a [u8]>>,
+    pub option: Option<PathOption<u64, &'static [u8]>>,
     pub payload: &'a [u8],
 }
 
@@ -26,7 +26,7 @@ impl<'a> Said<'a> {
     ghost use Rattle.path_core.specs.Said.{plain_said, CanBeSaid};
 
     /// The same segment, with its options in a list.
-    fn with_options(&self, options: &'a [PathOption<u64, &'a [u8]>]) -> SaidSegment<'a>
+    fn with_options(&self, options: &'a [PathOption<u64, &'static [u8]>]) -> SaidSegment<'a>
         ensures { result ≡ record {
           position = self.now.outgoing.position;
           acknowledged = self.now.outgoing.acknowledged;
@@ -64,12 +64,9 @@ impl<'a> Said<'a> {
     {
         match self.option {
             Some(option) => {
-                write(
-                    alloc,
-                    spelling,
-                    spelled_by(side),
-                    &self.with_options(&[option]),
-                )
+                let options = [option];
+                let segment = self.with_options(&options);
+                write(alloc, spelling, spelled_by(side), &segment)
             }
             None => write(alloc, spelling, spelled_by(side), &self.with_options(&[])),
         }
@@ -81,11 +78,11 @@ impl<'a> Said<'a> {
         ensures { result ≡ sum_of spelling.now side (plain_said self.now) }
     {
         match self.option {
-            Some(option) => sum(
-                spelling,
-                spelled_by(side),
-                &self.with_options(&[option]),
-            ),
+            Some(option) => {
+                let options = [option];
+                let segment = self.with_options(&options);
+                sum(spelling, spelled_by(side), &segment)
+            }
             None => sum(spelling, spelled_by(side), &self.with_options(&[])),
         }
     }
