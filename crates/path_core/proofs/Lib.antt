@@ -1,6 +1,6 @@
 pub mod Ranking
 pub mod Resting
-pub mod Passing
+pub mod Passed
 pub mod Sendings
 pub mod Happening
 pub mod Lowering

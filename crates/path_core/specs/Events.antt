@@ -1,5 +1,5 @@
 -- What happens on a path by itself: lines of the script, copies that arrive, timers that run out.
-use Rattle.std.specs.Prelude.{ℕ, max, Bool, true, false, nat_lt, nat_le, if◌then◌else◌, Option, Some, None, List, [], ◌∷◌, ◌++◌}
+use Rattle.std.specs.Prelude.{ℕ, max, ◌<◌, IsSome, Bool, true, false, nat_lt, nat_le, if◌then◌else◌, Option, Some, None, List, [], ◌∷◌, ◌++◌}
 use Rattle.std.specs.Option.{option_and_then}
 use Rattle.outside_kit.specs.declared.side.Side.{Side}
 use Rattle.outside_kit.specs.declared.side.Side.TheVariants.{A, B}
@@ -76,6 +76,12 @@ abbrev pub step_for : Option Event → Ask
 step_for None = asks.Local steps.End
 step_for (Some event) = step_of event
 
+-- it comes before the round's end, and is there: a copy is under way, and a timer runs
+abbrev pub CanHappen : {C : Type 0} → Event → PathState C → Type 0
+CanHappen (event.Takes line) p = line.tick < p.until
+CanHappen (event.Arrives due) p = (due.tick < p.until) × IsSome (arriving due p.link)
+CanHappen (event.Fires s tick) p = (tick < p.until) × IsSome (end_at s p).tcp.timing.timer
+
 -- ---- what each makes of the path
 
 -- the tick is that of the event
@@ -113,12 +119,15 @@ after_line death p = if death then path_died p else with_agenda rest_of_turn p
 abbrev pub line_taken : {C : Type 0} → LineLeft → PathState C → PathState C
 line_taken line p = after_line (is_death line.line) (record (at_tick line.tick p) { lines = tail_of p.lines })
 
--- a copy that doesn't parse is dropped
-abbrev pub copy_heard : {C : Type 0} → Side → Option HeardSegment → PathState C → PathState C
-copy_heard s None p = with_agenda (emission s) p
-copy_heard s (Some h) p =
+-- what is heard at this tick; a copy that doesn't parse is dropped
+abbrev pub heard_at : {C : Type 0} → ℕ → Side → Option HeardSegment → PathState C → PathState C
+heard_at now s None p = with_agenda (emission s) p
+heard_at now s (Some h) p =
     let e = end_at s p in let meaning = meaning_of (copy_of h) e.tcp in
-    goes_on s (after_meaning p.profile s p.clock h meaning e) (template_of s (items_of s h) meaning) p
+    goes_on s (after_meaning p.profile s now h meaning e) (template_of s (items_of s h) meaning) p
+
+abbrev pub copy_heard : {C : Type 0} → Side → Option HeardSegment → PathState C → PathState C
+copy_heard s heard p = heard_at p.clock s heard p
 
 abbrev pub heard_in : {C : Type 0} → Codec C → Side → Option (Flight C) → PathState C → Option HeardSegment
 heard_in k s None p = None

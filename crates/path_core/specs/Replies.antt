@@ -1,6 +1,8 @@
 -- What the rules ask of a reply, and which duties ask for bytes.
-use Rattle.std.specs.Prelude.{ℕ, ◌+◌, ◌^◌, ◌<◌, ◌≤◌, Bool, true, false, Option, Some, None, List, [], ◌∷◌, length}
+use Rattle.std.specs.Prelude.{ℕ, All, ◌+◌, ◌^◌, ◌<◌, ◌≤◌, Bool, true, false, Option, Some, None, List, [], ◌∷◌, length}
 use Rattle.reassembly_book.specs.declared.call.ReassemblyReply.TheVariants as reassembly_replies
+use Rattle.control_book.specs.declared.call.ControlReply.TheVariants as control_replies
+use Rattle.linked_increase.specs.Paths.{IsInRange}
 use Rattle.actor_desk.specs.declared.ask.Reply.{Reply}
 use Rattle.actor_desk.specs.declared.ask.Reply.TheVariants as replies
 use Rattle.path_core.specs.declared.duty.Duty.{Duty}
@@ -29,3 +31,8 @@ asks_bytes _ = false
 abbrev pub asks_bytes_first : List Duty → Bool
 asks_bytes_first [] = false
 asks_bytes_first (d ∷ ds) = asks_bytes d
+
+-- the rows of all paths are in range
+abbrev pub AreRowsInRange : Reply → Type 0
+AreRowsInRange (replies.Control (control_replies.Rows rows)) = All IsInRange rows
+AreRowsInRange _ = Unit {0}

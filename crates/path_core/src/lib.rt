@@ -8,19 +8,28 @@
 #![tactic(auto)]
 
 mod agenda;
+mod answering;
+mod arriving;
+mod breaking;
 mod clock;
 mod closing;
 mod duty;
 mod emission;
 mod end;
 mod event;
+mod events;
 mod heard;
+mod hearing;
+mod held;
 mod in_order;
 mod keys;
 mod laws;
 mod lines;
 mod modes;
+mod opening;
+mod passing;
 mod path;
+mod placing;
 mod profile;
 mod receiving;
 mod said;
@@ -30,6 +39,7 @@ mod sending;
 mod sends;
 mod standing;
 mod templates;
+mod treating;
 mod treated;
 
 pub use actor_desk::{Ask, LocalStep, Note, Reply};

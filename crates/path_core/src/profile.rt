@@ -1,6 +1,7 @@
 //! What never changes at a path.
 
 ghost use Rattle.std.specs.Prelude.{◌≡◌, ◌≤◌};
+ghost use Rattle.link_model.specs.Steps.{peer};
 ghost use Rattle.path_core.specs.Segments.{spelled_by};
 
 use outside_kit::Side;
@@ -86,5 +87,15 @@ pub(crate) fn spelled_by(side: Side) -> path_segments::Side
     match side {
         Side::A => path_segments::Side::A,
         Side::B => path_segments::Side::B,
+    }
+}
+
+/// The side at the other end.
+pub(crate) fn peer(side: Side) -> Side
+    ensures { result ≡ peer side }
+{
+    match side {
+        Side::A => Side::B,
+        Side::B => Side::A,
     }
 }
