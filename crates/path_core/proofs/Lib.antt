@@ -7,3 +7,4 @@ pub mod Lowering
 pub mod TurnEnds
 pub mod Showing
 mod Things
+mod Sayable

@@ -334,9 +334,8 @@ impl PathEnd {
     }
 
     /// The segment of this kind.
-    pub fn said(&self, profile: &Profile, side: Side, kind: SegmentKind) -> Said<'_>
-        ensures value { plain_said result ≡ said_by kind profile.now side self.now }
-        ensures can { CanBeSaid profile.now.spelling side (plain_said result) }
+    fn said_by(&self, profile: &Profile, side: Side, kind: SegmentKind) -> Said<'_>
+        ensures { plain_said result ≡ said_by kind profile.now side self.now }
     {
         match kind {
             SegmentKind::Ack => self.ack_said(profile, side, self.tcp.nxt(), None),
@@ -352,6 +351,18 @@ impl PathEnd {
             SegmentKind::Resend => self.resend_said(profile, side),
             SegmentKind::Reset { reason } => self.reset_said(profile, reason),
         }
+    }
+
+    /// The segment of this kind, which can be said.
+    #[tactic(auto, using(crate::proofs::Sayable::can_be_said))]
+    pub fn said(&self, profile: &Profile, side: Side, kind: SegmentKind) -> Said<'_>
+        ensures value { plain_said result ≡ said_by kind profile.now side self.now }
+        ensures can { CanBeSaid profile.now.spelling side (plain_said result) }
+    {
+        let _path = profile.spelling();
+        let _window = self.receiving.window();
+        let (_unsent, _first) = (self.tcp.first_unsent(), self.tcp.first_record());
+        self.said_by(profile, side, kind)
     }
 }
 
