@@ -1,5 +1,5 @@
 -- Every segment that an end sends can be said.
-use Rattle.std.proofs.Common.{◌≡◌, refl, absurd, ap, ℕ, ◌+◌, ◌-◌, ◌^◌, ◌≤◌, Bool, true, false, if◌then◌else◌, not, ◌&&◌, ◌==◌, Option, Some, None, is_some, List, [], ◌∷◌, ◌++◌, length, arith}
+use Rattle.std.proofs.Common.{◌≡◌, refl, absurd, subst, ap, ℕ, ◌+◌, ◌-◌, ◌^◌, ◌≤◌, Bool, true, false, if◌then◌else◌, not, ◌&&◌, ◌==◌, Option, Some, None, is_some, List, [], ◌∷◌, ◌++◌, length, arith}
 use Rattle.std.proofs.lemmas.List.{append-nil}
 use Rattle.std.proofs.lemmas.List.Elements.{All-nil, All-cons}
 use Rattle.std.specs.Prelude.{All, IfSome}
@@ -19,7 +19,9 @@ use Rattle.path_segments.specs.Spelled.{syn_text, options_text, CanSayOption}
 use Rattle.path_segments.specs.Spelling.{peer_of, data_number}
 use Rattle.subflow_send.specs.declared.record.RecordKind.{RecordKind}
 use Rattle.subflow_send.specs.declared.record.RecordKind.TheVariants.{Syn, Data, Fin}
-use Rattle.subflow_send.specs.Records.{Record}
+use Rattle.subflow_send.specs.Records.{Record, record_of}
+use Rattle.subflow_send.specs.declared.record.RecordRef.{RecordRef}
+use Rattle.std.specs.Option.{option_map}
 use Rattle.subflow_tcp.specs.declared.segments.Outgoing.{Outgoing}
 use Rattle.path_core.specs.Ends.{PathEnd}
 use Rattle.path_core.specs.Segments.{spelled_by, checksum_told, syn_options, key_options, end_mapping, ack_options, is_first_piece, first_piece_options, piece_options, fin_options, record_options, reset_options, segment_of, piece_mapping, ack_said, record_or_ack, syn_ack_said}
@@ -148,6 +150,11 @@ reset_short c s (Some reason) = (record { form = tt }, reset_length false reason
 
 -- ---- segments
 
+fits_of : (lent : Option RecordRef) (r : Option Record) → option_map record_of lent ≡ r → IfSome lent (λ r. length r.piece.now ≤ 65475)
+    → IfSome r (λ r. length r.piece ≤ 65475)
+fits_of None r is few = subst (λ r. IfSome r (λ r. length r.piece ≤ 65475)) is tt
+fits_of (Some lent) r is few = subst (λ r. IfSome r (λ r. length r.piece ≤ 65475)) is few
+
 module _ (c : Profile) (s : Side) (e : PathEnd) (path : c.spelling.path ≤ 15) (window : e.receiving.window ≤ 2 ^ 20) where
   says : (o : Outgoing) (options : List PlainOption) (payload : List ℕ) → AreShort c.spelling (spelled_by s) options → length payload ≤ 65475
       → CanBeSaid c.spelling s (segment_of c o options payload e)
@@ -180,16 +187,22 @@ module _ (c : Profile) (s : Side) (e : PathEnd) (path : c.spelling.path ≤ 15) 
   resend_can false true few = ack_can e.tcp.send.nxt e.sending.known_end
   resend_can false false few = ack_can (e.tcp.send.una - 1) None
 
-  -- records that are to be sent fit in a segment
-  pub can_be_said : (kind : SegmentKind) → IfSome (first_unsent e) (λ r. length r.piece ≤ 65475)
+  said_can : (kind : SegmentKind) → IfSome (first_unsent e) (λ r. length r.piece ≤ 65475)
       → IfSome (first_record e) (λ r. length r.piece ≤ 65475) → CanBeSaid c.spelling s (said_by kind c s e)
-  can_be_said to_say.Ack unsent first = ack_can e.tcp.send.nxt None
-  can_be_said to_say.DataFin unsent first = ack_can e.tcp.send.nxt e.sending.known_end
-  can_be_said to_say.Fin unsent first = says (fin_segment e.tcp) (fin_options e) [] (fin_short c s e) (omega arith)
-  can_be_said to_say.Unsent unsent first = record_can (first_unsent e) unsent
-  can_be_said to_say.First unsent first = record_can (first_record e) first
-  can_be_said to_say.SynAck unsent first = syn_ack_can
-  can_be_said to_say.Answer unsent first = answer_can e.tcp.due.syn_ack
-  can_be_said to_say.DeadAnswer unsent first = says (outgoing_or e.treated.answer (reset_segment e.tcp)) [] [] tt (omega arith)
-  can_be_said to_say.Resend unsent first = resend_can (has_records e.tcp) (owes_end e.sending) first
-  can_be_said (to_say.Reset reason) unsent first = says (reset_segment e.tcp) (reset_options reason) [] (reset_short c s reason) (omega arith)
+  said_can to_say.Ack unsent first = ack_can e.tcp.send.nxt None
+  said_can to_say.DataFin unsent first = ack_can e.tcp.send.nxt e.sending.known_end
+  said_can to_say.Fin unsent first = says (fin_segment e.tcp) (fin_options e) [] (fin_short c s e) (omega arith)
+  said_can to_say.Unsent unsent first = record_can (first_unsent e) unsent
+  said_can to_say.First unsent first = record_can (first_record e) first
+  said_can to_say.SynAck unsent first = syn_ack_can
+  said_can to_say.Answer unsent first = answer_can e.tcp.due.syn_ack
+  said_can to_say.DeadAnswer unsent first = says (outgoing_or e.treated.answer (reset_segment e.tcp)) [] [] tt (omega arith)
+  said_can to_say.Resend unsent first = resend_can (has_records e.tcp) (owes_end e.sending) first
+  said_can (to_say.Reset reason) unsent first = says (reset_segment e.tcp) (reset_options reason) [] (reset_short c s reason) (omega arith)
+
+  -- records that are lent fit in a segment
+  pub can_be_said : (kind : SegmentKind) (unsent first : Option RecordRef) → option_map record_of unsent ≡ first_unsent e
+      → IfSome unsent (λ r. length r.piece.now ≤ 65475) → option_map record_of first ≡ first_record e
+      → IfSome first (λ r. length r.piece.now ≤ 65475) → CanBeSaid c.spelling s (said_by kind c s e)
+  can_be_said kind unsent first is_unsent few_unsent is_first few_first =
+      said_can kind (fits_of unsent (first_unsent e) is_unsent few_unsent) (fits_of first (first_record e) is_first few_first)

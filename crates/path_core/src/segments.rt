@@ -1,6 +1,6 @@
 //! The segments that an end sends: their options, their windows, and the mapping of a piece (RFC 8684, section 3).
 
-ghost use Rattle.std.specs.Prelude.{◌≡◌, ◌≤◌, false, length, option_map};
+ghost use Rattle.std.specs.Prelude.{◌≡◌, ◌≤◌, false, length, option_map, IfSome};
 ghost use Rattle.dss_checksum.specs.Checksum.{dss_checksum};
 ghost use Rattle.outside_kit.specs.declared.side.Side.TheVariants.{A};
 ghost use Rattle.path_segments.specs.declared.segment.PathOption.TheVariants.{Capable};
@@ -253,6 +253,7 @@ impl PathEnd {
         side: Side,
         lent: &RecordRef<'a>,
     ) -> Said<'a>
+        requires { length lent.now.piece.now ≤ 65475 }
         ensures { plain_said result ≡ record_said profile.now side (record_of lent.now) self.now }
     {
         let option = self.record_option(profile, side, lent);
@@ -267,6 +268,7 @@ impl PathEnd {
         side: Side,
         lent: Option<RecordRef<'a>>,
     ) -> Said<'a>
+        requires { IfSome lent.entry (λ lent. length lent.piece.now ≤ 65475) }
         ensures { plain_said result ≡ record_or_ack profile.now side (option_map record_of lent.entry) self.now }
     {
         match lent {

@@ -11,7 +11,7 @@ impl Subflow {
     /// The first record that is to be sent, lent.
     pub fn first_unsent(&self) -> Option<RecordRef<'_>>
         ensures value { option_map record_of result ≡ find is_unsent self.now.send.records }
-        ensures piece { IfSome (find is_unsent self.now.send.records) (λ r. length r.piece ≤ 65475) }
+        ensures bound { IfSome result (λ lent. length lent.piece.now ≤ 65475) }
     {
         self.send.due()
     }
@@ -19,7 +19,7 @@ impl Subflow {
     /// The first record that isn't acknowledged, lent.
     pub fn first_record(&self) -> Option<RecordRef<'_>>
         ensures value { option_map record_of result ≡ slice_get self.now.send.records 0 }
-        ensures piece { IfSome (slice_get self.now.send.records 0) (λ r. length r.piece ≤ 65475) }
+        ensures bound { IfSome result (λ lent. length lent.piece.now ≤ 65475) }
     {
         self.send.retransmit_first()
     }
