@@ -7,3 +7,5 @@ pub mod Happening
 pub mod Lowering
 pub mod TurnEnds
 pub mod Showing
+mod Things
+mod Sayable

@@ -7,7 +7,7 @@ use std::marker::Model;
 /// The tick of a path, and the first tick after its round. A round is 100 ticks.
 #[derive(Debug, Drop)]
 pub(crate) struct Clock {
-    now: u64,
+    tick: u64,
     until: u64,
 }
 
@@ -17,9 +17,9 @@ impl Model for Clock {
 
     ghost Value = { Clock };
 
-    ghost view = { λ c. record { tick = c.now; until = c.until } };
+    ghost view = { λ c. record { tick = c.tick; until = c.until } };
 
-    ghost invariant = { λ c. (c.now ≤ c.until) × (c.until ≤ 100 * 2 ^ 57 + 100) };
+    ghost invariant = { λ c. (c.tick ≤ c.until) × (c.until ≤ 100 * 2 ^ 57 + 100) };
 }
 
 impl Clock {
@@ -27,7 +27,10 @@ impl Clock {
     pub fn new() -> Self
         ensures { result ≡ record { tick = 0; until = 100 } }
     {
-        Clock { now: 0, until: 100 }
+        Clock {
+            tick: 0,
+            until: 100,
+        }
     }
 
     /// The tick.
@@ -35,7 +38,7 @@ impl Clock {
         ensures value { result ≡ self.now.tick }
         ensures bound { result < 2 ^ 64 - 2 ^ 20 }
     {
-        self.now
+        self.tick
     }
 
     /// The first tick after the round.
@@ -50,7 +53,7 @@ impl Clock {
         requires { tick < self.old.until }
         ensures { self.new ≡ record self.old { tick = max self.old.tick tick } }
     {
-        self.now = self.now.max(tick);
+        self.tick = self.tick.max(tick);
     }
 
     /// The next round begins.
@@ -58,7 +61,7 @@ impl Clock {
         requires { self.old.until ≤ 100 * 2 ^ 57 }
         ensures { self.new ≡ record { tick = self.old.until; until = self.old.until + 100 } }
     {
-        self.now = self.until;
+        self.tick = self.until;
         self.until += 100;
     }
 }

@@ -35,7 +35,7 @@ pub struct Path {
 }
 
 impl Model for Path {
-    ghost use Rattle.std.specs.Prelude.{ℕ, List};
+    ghost use Rattle.std.specs.Prelude.{ℕ, ◌≡◌, List};
     ghost use Rattle.std.specs.Coded.{codes};
     ghost use Rattle.dss_mapping.specs.Mappings.{mappings_code};
     ghost use Rattle.path_core.specs.State.{PathState};
@@ -55,6 +55,8 @@ impl Model for Path {
       b = p.b;
       agenda = p.agenda;
     } };
+
+    ghost invariant = { λ p. p.profile.spelling.path ≡ p.link.path };
 }
 
 impl Path {

@@ -27,7 +27,7 @@ impl Model for Profile {
 
     ghost view = { λ c. record { mss = c.mss; buffer = c.buffer; spelling = c.spelling } };
 
-    ghost invariant = { λ c. (200 ≤ c.mss) × (c.mss ≤ 1460) × (c.buffer ≤ 2 ^ 20) };
+    ghost invariant = { λ c. (200 ≤ c.mss) × (c.mss ≤ 1460) × (c.buffer ≤ 2 ^ 20) × (c.spelling.path ≤ 15) };
 }
 
 impl Profile {
@@ -38,6 +38,7 @@ impl Profile {
         requires least { 200 ≤ mss }
         requires most { mss ≤ 1460 }
         requires buffer { buffer ≤ 1048576 }
+        requires path { spelling.path ≤ 15 }
         ensures { result ≡ record { mss = mss; buffer = buffer; spelling = spelling } }
     {
         Profile {
@@ -66,7 +67,8 @@ impl Profile {
 
     /// How the path's segments are said.
     pub fn spelling(&self) -> &Spelling
-        ensures { result.now ≡ self.now.spelling }
+        ensures value { result.now ≡ self.now.spelling }
+        ensures path { result.now.path ≤ 15 }
     {
         &self.spelling
     }

@@ -212,5 +212,12 @@ fn is_newly_heard(heard: u64, next: u64, span: &Span) -> bool
 fn let_go(granted: &mut Vec<Span>, heard: u64)
     ensures { granted.new.items ≡ filter (is_open heard) granted.old.items }
 {
-    granted.retain(|span| heard < span.to);
+    granted.retain(|span| is_open(heard, span));
+}
+
+/// The span isn't acknowledged whole.
+fn is_open(heard: u64, span: &Span) -> bool
+    ensures { result ≡ is_open heard span.now }
+{
+    heard < span.to
 }
