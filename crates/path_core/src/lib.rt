@@ -7,13 +7,45 @@
 //! values the machine that theorems speak of.
 #![tactic(auto)]
 
+mod agenda;
+mod answering;
+mod arriving;
+mod breaking;
+mod clock;
+mod closing;
 mod duty;
+mod emission;
+mod end;
+mod event;
+mod events;
 mod heard;
+mod hearing;
+mod held;
+mod in_order;
+mod keys;
 mod laws;
+mod lines;
 mod modes;
+mod opening;
+mod passing;
+mod path;
+mod placing;
+mod profile;
+mod receiving;
+mod said;
+mod segment_kind;
+mod segments;
+mod sending;
+mod sends;
+mod standing;
+mod templates;
+mod treated;
+mod treating;
 
 pub use actor_desk::{Ask, LocalStep, Note, Reply};
 pub use duty::Duty;
 pub use heard::Heard;
 pub use laws::{a_first_round, every_turn_ends, octets_do_as_values};
+pub use lines::LineLeft;
 pub use modes::Modes;
+pub use path::Path;

@@ -4,7 +4,7 @@ use pipe_model::Text;
 use std::alloc::{AllocError, Global};
 use std::marker::Model;
 
-/// The octets of a piece, at most 65,535.
+/// The octets of a piece, at most 65,475.
 #[derive(Debug, Drop)]
 pub(crate) struct Octets {
     text: Text,
@@ -19,13 +19,13 @@ impl Model for Octets {
 
     ghost view = { λ octets. octets.text };
 
-    ghost invariant = { λ octets. length octets.text ≤ 65535 };
+    ghost invariant = { λ octets. length octets.text ≤ 65475 };
 }
 
 impl Octets {
     /// A copy of these octets.
     pub(crate) fn of(alloc: Global, octets: &[u8]) -> Result<Self, AllocError>
-        requires { length octets.now ≤ 65535 }
+        requires { length octets.now ≤ 65475 }
         ensures { IfOk result (λ copy. copy ≡ octets.now) }
     {
         let text = Text::of(alloc, octets)?;
@@ -35,7 +35,7 @@ impl Octets {
     /// The octets, lent.
     pub(crate) fn as_bytes(&self) -> &[u8]
         ensures value { result.now ≡ self.now }
-        ensures bound { length result.now ≤ 65535 }
+        ensures bound { length result.now ≤ 65475 }
     {
         self.text.as_bytes()
     }

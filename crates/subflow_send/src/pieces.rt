@@ -29,7 +29,7 @@ impl Piece {
     /// The record of this piece, lent.
     pub(crate) fn lend(&self) -> RecordRef<'_>
         ensures value { record_of result ≡ piece_record self.now }
-        ensures bound { length result.piece.now ≤ 65535 }
+        ensures bound { length result.piece.now ≤ 65475 }
     {
         RecordRef {
             pos: self.pos,
@@ -88,7 +88,7 @@ pub(crate) fn drop_covered(pieces: &mut VecDeque<Piece>, pos: Pos)
 /// The first piece that is to be sent, lent.
 pub(crate) fn first_unsent(pieces: &VecDeque<Piece>) -> Option<RecordRef<'_>>
     ensures value { option_map record_of result ≡ find is_unsent (map piece_record pieces.now.items) }
-    ensures bound { IfSome result (λ found. length found.piece.now ≤ 65535) }
+    ensures bound { IfSome result (λ found. length found.piece.now ≤ 65475) }
 {
     for index in 0..pieces.len() {
         let piece = &pieces[index];
@@ -102,7 +102,7 @@ pub(crate) fn first_unsent(pieces: &VecDeque<Piece>) -> Option<RecordRef<'_>>
 /// The piece at this position, lent.
 pub(crate) fn piece_at(pieces: &VecDeque<Piece>, pos: Pos) -> Option<RecordRef<'_>>
     ensures value { option_map record_of result ≡ find (stands_at pos) (map piece_record pieces.now.items) }
-    ensures bound { IfSome result (λ found. length found.piece.now ≤ 65535) }
+    ensures bound { IfSome result (λ found. length found.piece.now ≤ 65475) }
 {
     for index in 0..pieces.len() {
         let found = &pieces[index];

@@ -103,7 +103,7 @@ impl SubflowSend {
     /// Appends a piece with its mapping, to be sent, and answers its position. Without memory for it all is as it was.
     pub fn push(&mut self, piece: &[u8], mapping: &Mapping) -> Result<Pos, AllocError>
         requires some { 0 < length piece.now }
-        requires most { length piece.now ≤ 65535 }
+        requires most { length piece.now ≤ 65475 }
         requires room { self.old.nxt < 2 ^ 61 }
         requires open { self.old.finished ≡ false }
         ensures pos { IfOk result (λ pos. pos ≡ self.old.nxt) }
@@ -215,10 +215,10 @@ impl SubflowSend {
         self.syn
     }
 
-    /// The first record that is not acknowledged whole, lent. No record has more than 65,535 octets.
+    /// The first record that is not acknowledged whole, lent. No record has more than 65,475 octets.
     pub fn retransmit_first(&self) -> Option<RecordRef<'_>>
         ensures value { option_map record_of result ≡ slice_get self.now.records 0 }
-        ensures bound { IfSome result (λ found. length found.piece.now ≤ 65535) }
+        ensures bound { IfSome result (λ found. length found.piece.now ≤ 65475) }
     {
         if let Some(syn) = self.syn {
             return Some(syn_ref(syn));
@@ -235,7 +235,7 @@ impl SubflowSend {
     /// The first record that is to be sent, lent.
     pub fn due(&self) -> Option<RecordRef<'_>>
         ensures value { option_map record_of result ≡ find is_unsent self.now.records }
-        ensures bound { IfSome result (λ found. length found.piece.now ≤ 65535) }
+        ensures bound { IfSome result (λ found. length found.piece.now ≤ 65475) }
     {
         if let Some(syn) = if_unsent(self.syn) {
             return Some(syn_ref(syn));
@@ -282,7 +282,7 @@ impl SubflowSend {
     /// The record at this position, lent; `None` where no unacknowledged record begins there.
     pub fn record_at(&self, pos: Pos) -> Option<RecordRef<'_>>
         ensures value { option_map record_of result ≡ find (stands_at pos) self.now.records }
-        ensures bound { IfSome result (λ found. length found.piece.now ≤ 65535) }
+        ensures bound { IfSome result (λ found. length found.piece.now ≤ 65475) }
     {
         if let Some(syn) = unless(pos != 0, self.syn) {
             return Some(syn_ref(syn));

@@ -40,7 +40,7 @@ impl Subflow {
     ghost use Rattle.subflow_tcp.specs.Emitting.{ack_at, reset_segment, syn_ack_segment, fin_position, fin_segment, acknowledged_in, record_segment, segment_for, emission_for, may_go, is_unsent_due, next_record, next_owed, next_occasion, next_emission, after_sending, after_emission, payload_of};
 
     /// A segment that acknowledges what has come, and nothing more.
-    fn ack_at(&self, position: Pos) -> Outgoing
+    pub fn ack_at(&self, position: Pos) -> Outgoing
         ensures { result ≡ ack_at position self.now }
     {
         Outgoing {
@@ -54,7 +54,7 @@ impl Subflow {
     }
 
     /// The reset of the end: at SND.NXT, without an acknowledgement.
-    fn reset_segment(&self) -> Outgoing
+    pub fn reset_segment(&self) -> Outgoing
         ensures { result ≡ reset_segment self.now }
     {
         Outgoing {
@@ -67,7 +67,8 @@ impl Subflow {
         }
     }
 
-    fn syn_ack_segment(&self) -> Outgoing
+    /// The SYN/ACK, at position 0.
+    pub fn syn_ack_segment(&self) -> Outgoing
         ensures { result ≡ syn_ack_segment self.now }
     {
         Outgoing {
@@ -87,7 +88,8 @@ impl Subflow {
         }
     }
 
-    fn fin_segment(&self) -> Outgoing
+    /// The FIN, also before it is pushed.
+    pub fn fin_segment(&self) -> Outgoing
         ensures { result ≡ fin_segment self.now }
     {
         Outgoing {
@@ -108,8 +110,8 @@ impl Subflow {
     }
 
     /// The segment of a record.
-    fn record_segment(&self, lent: &RecordRef<'_>) -> Outgoing
-        requires { length lent.now.piece.now ≤ 65535 }
+    pub fn record_segment(&self, lent: &RecordRef<'_>) -> Outgoing
+        requires { length lent.now.piece.now ≤ 65475 }
         ensures { result ≡ record_segment self.now (record_of lent.now) }
     {
         Outgoing {
@@ -142,7 +144,7 @@ impl Subflow {
 
     /// The segment of a record, where there is one.
     fn record_said(&self, lent: Option<RecordRef<'_>>) -> Option<Outgoing>
-        requires { IfSome lent (λ lent. length lent.piece.now ≤ 65535) }
+        requires { IfSome lent (λ lent. length lent.piece.now ≤ 65475) }
         ensures { result ≡ option_map (record_segment self.now) (option_map record_of lent.entry) }
     {
         match lent {
@@ -302,7 +304,7 @@ impl Subflow {
     /// The record at this position, lent: its octets, its mapping, and how it was sent.
     pub fn record_at(&self, pos: Pos) -> Option<RecordRef<'_>>
         ensures value { option_map record_of result ≡ find (stands_at pos) self.now.send.records }
-        ensures bound { IfSome result (λ found. length found.piece.now ≤ 65535) }
+        ensures bound { IfSome result (λ found. length found.piece.now ≤ 65475) }
     {
         self.send.record_at(pos)
     }
@@ -311,7 +313,7 @@ impl Subflow {
     /// position.
     pub fn payload(&self, emission: &Emission) -> &[u8]
         ensures value { result.now ≡ payload_of emission.now self.now }
-        ensures bound { length result.now ≤ 65535 }
+        ensures bound { length result.now ≤ 65475 }
     {
         if emission.length == 0 {
             return &[];
