@@ -1,5 +1,5 @@
 -- What is answered to a mapping that is told is what its positions say, one after the other.
-use Rattle.std.proofs.Common.{◌≡◌, ◌≢◌, ℕ, zero, suc, ◌+◌, ◌-◌, ◌<◌, ◌≤◌, ◌==◌, Bool, true, false, if◌then◌else◌, Option, Some, None, List, refl, sym, ap, ◌∙◌, subst, ⊎_elim, arith}
+use Rattle.std.proofs.Common.{◌≡◌, ◌≢◌, ℕ, zero, suc, ◌+◌, ◌-◌, ◌<◌, ◌≤◌, Bool, true, false, if◌then◌else◌, Option, Some, None, List, refl, sym, ap, ◌∙◌, subst, ⊎_elim, arith}
 use Rattle.std.specs.Prelude.{IfSome, ◌&&◌, is_some}
 use Rattle.std.proofs.lemmas.Bool.{cases_lt, eq-eqb, ne_eqb}
 use Rattle.dss_mapping.specs.declared.learn.Learn.{Learn}
@@ -7,8 +7,8 @@ use Rattle.dss_mapping.specs.declared.learn.Learn.TheVariants.{New, Same, Clash}
 use Rattle.dss_mapping.specs.declared.run.Run.{Run}
 use Rattle.dss_mapping.specs.Runs.{place_in}
 use Rattle.dss_mapping.specs.declared.kept.KeptMapping.{KeptMapping}
-use Rattle.dss_mapping.specs.Mappings.{Mappings, run_of, place_at, Agree, HasNew, HasAll, IsClash, IsAnswer, after_learn}
-use Rattle.dss_mapping.specs.Learning.{clash_or, clash_from, clash_of, all_covered, is_known, answer_by, learn_of, learned, learned_if, first_held, others_of, after_hold, after_skip_held, after_learn_held}
+use Rattle.dss_mapping.specs.Mappings.{Mappings, run_of, place_at, Agree, IsAnswer, after_learn}
+use Rattle.dss_mapping.specs.Learning.{clash_or, clash_from, clash_of, all_covered, answer_by, learn_of, learned, learned_if, first_held, others_of, after_hold, after_skip_held, after_learn_held}
 
 module _ (told : Run) (v : Mappings) where
   -- ---- the first clash

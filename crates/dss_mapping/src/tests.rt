@@ -1,3 +1,6 @@
+ghost use Rattle.std.specs.Prelude.{◌<◌};
+ghost use Rattle.dss_mapping.specs.Learning.{IsWithin};
+
 use super::*;
 use seq_units::Mapping;
 use std::test::Fail;
@@ -9,6 +12,24 @@ fn mapping(length: u16) -> Mapping {
         relative: 1,
         length,
         checksum: 0,
+    }
+}
+
+/// A mapping of ten octets at a position.
+fn kept(pos: u64, place: u64) -> KeptMapping
+    requires { place < 100 }
+    ensures { IsWithin result }
+{
+    let mapping = Mapping {
+        number: 1,
+        relative: 1,
+        length: 10,
+        checksum: 0,
+    };
+    KeptMapping {
+        pos,
+        place,
+        mapping,
     }
 }
 
@@ -64,15 +85,9 @@ fn the_first_mapping_is_told(rt: HostRuntime) -> Result<(), Fail> {
 #[test]
 fn mappings_wait_until_they_are_treated(rt: HostRuntime) -> Result<(), Fail> {
     let mut mappings = Mappings::new(rt.alloc());
-    let mut told = Vec::new(rt.alloc());
-    for (pos, place) in [(1, 0), (5, 9), (11, 10)] {
-        told.push(KeptMapping {
-            pos,
-            place,
-            mapping: mapping(10),
-        })?;
-    }
-    assert_eq!(rt; hold(&mut mappings, told)?, true);
+    let told = Vec::from_array(rt.alloc(), [kept(1, 0), kept(5, 9), kept(11, 10)])?;
+    mappings.make_ready(3)?;
+    mappings.hold(told);
     assert_eq!(rt; mappings.held_clashes(), false);
     mappings.learn_held();
     assert_eq!(rt; mappings.place_of(10), Some(9));

@@ -1,21 +1,16 @@
 -- What a segment that arrives can mean for an end.
-use Rattle.std.proofs.Common.{◌≡◌, ℕ, ◌+◌, ◌-◌, ◌^◌, ◌<◌, ◌≤◌, Bool, true, false, true≢false, nat_lt, nat_le, if◌then◌else◌, Option, Some, None, List, refl, sym, ap, ◌∙◌, subst, arith}
-use Rattle.std.specs.Prelude.{◌&&◌, ◌||◌, ◌==◌, IsTrue, length}
+use Rattle.std.proofs.Common.{◌≡◌, ℕ, ◌+◌, ◌-◌, ◌^◌, ◌<◌, Bool, true, false, true≢false, nat_lt, nat_le, if◌then◌else◌, Option, Some, None, List, refl, sym, ap, ◌∙◌, subst, arith}
+use Rattle.std.specs.Prelude.{◌&&◌, ◌||◌, ◌==◌}
 use Rattle.std.proofs.lemmas.Bool.{ltb-true, leb-false}
 use Rattle.subflow_tcp.specs.declared.handshake.State.{State}
 use Rattle.subflow_tcp.specs.declared.handshake.State.TheVariants as states
-use Rattle.subflow_tcp.specs.declared.segments.Hint.{Hint}
 use Rattle.subflow_tcp.specs.declared.verdicts.Meaning.{Meaning}
 use Rattle.subflow_tcp.specs.declared.verdicts.Meaning.TheVariants as means
-use Rattle.subflow_tcp.specs.declared.verdicts.Arrival.TheVariants.{Opened, Took}
-use Rattle.subflow_send.specs.declared.record.AckKind.{AckKind}
-use Rattle.subflow_send.specs.Rules.{ack_kind}
 use Rattle.subflow_tcp.specs.States.{is_behind_fin, is_half_open, may_finish}
 use Rattle.subflow_tcp.specs.State.{EndState, IsFinTold, is_at_limit}
 use Rattle.subflow_tcp.specs.Segments.{Copy, occupied}
-use Rattle.subflow_recv.specs.Receiving.{Receiving}
 use Rattle.subflow_tcp.specs.Judging.{is_syn_alone, is_repeated_syn, is_in_window, is_acceptable, meaning_outside, meaning_acknowledging, meaning_within, meaning_placed, meaning_connected, meaning_answer, meaning_answering, meaning_opening, meaning_at, meaning_of, IsBelow}
-use Rattle.subflow_tcp.specs.Taking.{after_keeping_for, kept_for, kept_new, is_kept, with_new, unkept, after_arrival, arrival_of}
+use Rattle.subflow_tcp.specs.Taking.{after_keeping_for, is_kept}
 
 -- ---- where a segment may stand that is taken
 or-left : (a b : Bool) → (a || b) ≡ false → a ≡ false
@@ -264,36 +259,3 @@ meant-kept means.Challenged keep payload c s = refl
 meant-kept means.Unacknowledging keep payload c s = refl
 meant-kept means.Ahead keep payload c s = refl
 meant-kept (means.Taken pos acknowledged) keep payload c s = meant-beside _ _ c s (is_kept keep s)
-
--- a segment is taken as if its payload had been kept with the rest
-pub arrival-kept : (meaning : Meaning) (hint : Hint) (now : ℕ) (c : Copy) (s : EndState)
-    → after_arrival meaning (unkept hint.data_ack) now c (after_keeping_for meaning hint.keep c.payload s) ≡ after_arrival meaning hint now c s
-arrival-kept means.Ignored hint now c s = refl
-arrival-kept means.Unwanted hint now c s = refl
-arrival-kept means.Opens hint now c s = refl
-arrival-kept (means.Accepts acknowledged) hint now c s = refl
-arrival-kept means.RepeatedSyn hint now c s = refl
-arrival-kept means.Outside hint now c s = refl
-arrival-kept means.Kills hint now c s = refl
-arrival-kept means.Challenged hint now c s = refl
-arrival-kept means.Unacknowledging hint now c s = refl
-arrival-kept means.Ahead hint now c s = refl
-arrival-kept (means.Taken pos acknowledged) hint now c s = refl
-
-took : (half_open : Bool) (kind : AckKind) (fin : Bool) (new : ℕ) → with_new new (if half_open then Opened else Took kind 0 fin) ≡ (if half_open then Opened else Took kind new fin)
-took true kind fin new = refl
-took false kind fin new = refl
-
-pub answer-kept : (meaning : Meaning) (hint : Hint) (c : Copy) (s : EndState)
-    → with_new (kept_for meaning hint.keep c.payload s) (arrival_of meaning (unkept hint.data_ack) c (after_keeping_for meaning hint.keep c.payload s)) ≡ arrival_of meaning hint c s
-answer-kept means.Ignored hint c s = refl
-answer-kept means.Unwanted hint c s = refl
-answer-kept means.Opens hint c s = refl
-answer-kept (means.Accepts acknowledged) hint c s = refl
-answer-kept means.RepeatedSyn hint c s = refl
-answer-kept means.Outside hint c s = refl
-answer-kept means.Kills hint c s = refl
-answer-kept means.Challenged hint c s = refl
-answer-kept means.Unacknowledging hint c s = refl
-answer-kept means.Ahead hint c s = refl
-answer-kept (means.Taken pos acknowledged) hint c s = took (is_half_open s.state) (ack_kind acknowledged s.send) c.fin (kept_new hint.keep pos c.payload s)

@@ -1,6 +1,5 @@
-use Rattle.std.proofs.Common.{◌≡◌, ◌∙◌, ap, sym, subst, is_some}
+use Rattle.std.proofs.Common.{◌∙◌, ap, sym, is_some}
 use Rattle.dss_mapping.specs.declared.run.Run.{Run}
-use Rattle.dss_mapping.specs.Mappings.{IsAnswer}
 use Rattle.dss_mapping.specs.Learning.{clash_of}
 use Rattle.dss_mapping.proofs.Answered.{clash-is, no_clash-is}
 use Rattle.dss_mapping.proofs.mappings.Mappings.clashes.Goals as goal

@@ -1,4 +1,4 @@
-use Rattle.std.proofs.Common.{◌+◌, ◌-◌, ◌≤◌, length, drop, subst, sym}
+use Rattle.std.proofs.Common.{◌-◌, ◌≤◌, length, drop, subst, sym}
 use Rattle.subflow_recv.specs.Receiving.{by_place, merged}
 use Rattle.subflow_recv.proofs.Window.{fits-held}
 use Rattle.subflow_recv.proofs.receive.SubflowRecv.hold.Goals as goal
