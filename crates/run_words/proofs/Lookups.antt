@@ -1,9 +1,8 @@
 -- What the rows of parts say of each id, and so what the words ask for.
-use Rattle.std.proofs.Common.{◌≡◌, ◌∙◌, ℕ, zero, suc, Bool, true, false, cond, ◌&&◌, true≢false, refl, sym, ap, subst, List, [], ◌∷◌, Option, Some, None, codes, inl, inr}
-use Rattle.std.specs.Prelude.{slice_get, find, Result, Ok, Err, ◌⊎◌}
+use Rattle.std.proofs.Common.{◌≡◌, ◌∙◌, ℕ, suc, Bool, true, false, cond, ◌&&◌, true≢false, refl, sym, ap, subst, List, [], ◌∷◌, Option, Some, None, codes, inl, inr}
+use Rattle.std.specs.Prelude.{slice_get, Result, Ok, Err, ◌⊎◌}
 use Rattle.std.specs.Str.{bytes_eq}
-use Rattle.std.proofs.lemmas.Bool.{and_parts}
-use Rattle.clap.specs.Words.{Row, Text, first_of, first_value, found_of, rows_of}
+use Rattle.clap.specs.Words.{Row, Text, first_of, first_value, rows_of}
 use Rattle.clap.specs.declared.parser.matches.Found.{Found}
 use Rattle.clap.proofs.WalkLemmas.{first_value-rows}
 use Rattle.clap.specs.Kinds.{Kinds, IsAmong}
@@ -16,10 +15,10 @@ use Rattle.clap.specs.Faults.{fault_of}
 use Rattle.run_words.specs.Form.{line_form}
 use Rattle.run_words.specs.Parts.{Word, Choice, mode_option, rounds_option, order_option, number_option, label, Part, option, name, parts_of}
 use Rattle.run_words.specs.Lines.{◌>>=◌, Line, Names, Work, values_of, names_of, names_in, at_most_once, is_given, work_in, line_of, line_of_parts}
-use Rattle.run_words.specs.Form.{fault_by, given_name, names_by, work_by, line_by}
-use Rattle.run_words.proofs.Rules.{name_id, some≢none}
+use Rattle.run_words.specs.Form.{fault_by, given_name, names_by, line_by}
+use Rattle.run_words.proofs.Rules.{some≢none}
 use Rattle.run_words.proofs.Uses.{row, place, Agrees, then_none}
-use Rattle.run_words.proofs.Placing.{id_at, id_differs, label_differs, rows_for, placed_rows, placed_fits, placed_once, places, Fits, Fresh, Once, NoMore}
+use Rattle.run_words.proofs.Placing.{id_at, id_differs, label_differs, rows_for, placed_rows, placed_fits, placed_once, places, Fits, Fresh, Once}
 use Rattle.run_words.proofs.Walks.{AreTexts, found_in, walk_agrees}
 
 -- ---- options

@@ -1,6 +1,6 @@
 -- When parts find their places, and which rows they make.
-use Rattle.std.proofs.Common.{◌≡◌, ◌∙◌, ◌<◌, ◌≤◌, ℕ, zero, suc, Bool, true, false, cond, not, ◌&&◌, ◌||◌, refl, sym, ap, subst, List, [], ◌∷◌, ◌++◌, Option, Some, None, true≢false, codes, arith, append_assoc, append-nil}
-use Rattle.std.specs.Prelude.{slice_get, length, nat_lt}
+use Rattle.std.proofs.Common.{◌≡◌, ◌∙◌, ◌<◌, ◌≤◌, ℕ, zero, suc, Bool, true, false, cond, not, ◌&&◌, ◌||◌, refl, sym, ap, List, [], ◌∷◌, ◌++◌, Option, Some, None, true≢false, codes, arith, append_assoc, append-nil}
+use Rattle.std.specs.Prelude.{slice_get}
 use Rattle.std.specs.Str.{bytes_eq}
 use Rattle.std.proofs.lemmas.Slice.Eq.{bytes_eq-Decides}
 use Rattle.std.proofs.lemmas.Bool.{and_parts}
@@ -10,7 +10,7 @@ use Rattle.clap.specs.Walk.{has_row}
 use Rattle.run_words.specs.Parts.{Word, Choice, mode_option, rounds_option, order_option, number_option, label, Part, option, name}
 use Rattle.run_words.specs.Lines.{◌>>=◌, values_of, names_of, at_most_once}
 use Rattle.run_words.proofs.Rules.{name_id, some≢none, taken}
-use Rattle.run_words.proofs.Uses.{row, new, place_name, place, or_false, or_nothing}
+use Rattle.run_words.proofs.Uses.{row, new, place_name, place, or_nothing}
 
 -- the id of a position, empty where there is none
 abbrev pub id_at : ℕ → Text

@@ -1,28 +1,18 @@
 -- The rules of the line form as `clap` fills them in.
-use Rattle.std.proofs.Common.{◌≡◌, ◌∙◌, ℕ, ◌+◌, ◌==◌, zero, suc, Bool, true, false, cond, not, ◌&&◌, ◌||◌, refl, sym, ap, ap₂, subst, List, [], ◌∷◌, ◌++◌, map, length, Option, Some, None, min, true≢false, codes, arith, inl, inr, suc-ne-zero}
-use Rattle.std.specs.Prelude.{◌<◌, ◌⊎◌}
-use Rattle.std.proofs.lemmas.Bool.{eqb-true}
+use Rattle.std.proofs.Common.{◌≡◌, ℕ, ◌+◌, ◌==◌, zero, suc, Bool, true, false, cond, ◌||◌, refl, sym, ap, subst, List, [], ◌∷◌, Option, Some, None, min, true≢false, codes, arith, inl, inr}
+use Rattle.std.specs.Prelude.{◌<◌}
 use Rattle.std.proofs.lemmas.Bool.Decides.{eqb_tells}
-use Rattle.std.proofs.lemmas.Str.{encodes-chars}
-use Rattle.std.proofs.lemmas.Slice.Eq.{bytes_eq-Decides}
 use Rattle.std.specs.List.{position_or_len, list_any, fold, before_first, after_first}
 use Rattle.std.specs.Str.{bytes_eq, chars, IsUtf8}
 use Rattle.std.specs.Char.{encode_utf8}
-use Rattle.std.specs.Prelude.{slice_get, take, drop, encode_utf8_all, option_map, if◌then◌else◌}
-use Rattle.clap.specs.Words.{App, Rule, Row, Text, one_of}
-use Rattle.clap.specs.Lexer.{has_byte, long_of, short_of, usize_max}
-use Rattle.clap.specs.Kinds.{Kinds, or_else}
-use Rattle.clap.specs.Walk.{Held, Walk, Waiting, idle, option as waits_for, arg_by_id, arg_by_index, arg_by_long, arg_by_short, has_row, settled, settled_rows, used, without, with_values, at_row, walked, walk, nothing_held, finished, to_positional, value}
-use Rattle.clap.specs.Simple.{Shape, built, matches_of}
-use Rattle.clap.specs.Faults.{fault_of, bundle_fault, bundle_step_fault, settle_fault, turn_fault, walk_fault, step_fault, use_fault, defaults_fault, flags_fault}
+use Rattle.std.specs.Prelude.{option_map}
+use Rattle.clap.specs.Words.{Rule, Text}
+use Rattle.clap.specs.Lexer.{usize_max}
+use Rattle.clap.specs.Walk.{arg_by_id, arg_by_index, arg_by_long}
+use Rattle.clap.specs.Simple.{Shape, built}
 use Rattle.clap.specs.declared.builder.action.ArgAction.TheVariants.{Set}
 use Rattle.clap.specs.declared.builder.value_parser.ValueParser.TheVariants as vp
-use Rattle.clap.specs.declared.builder.value_parser.Reading.{Reading}
-use Rattle.clap.specs.declared.parser.matches.ValueSource.TheVariants.{CommandLine}
-use Rattle.clap.specs.Values.{reading_of}
-use Rattle.clap.specs.declared.error.kind.ErrorKind.TheVariants.{UnknownArgument, InvalidValue}
-use Rattle.run_words.specs.Parts.{Word, Choice, mode_option, rounds_option, order_option, number_option, label, written, choice_of, Part, option, name, is_dashed, is_equals, part_of, with_part, parts_in, parts_of}
-use Rattle.run_words.specs.Lines.{◌>>=◌}
+use Rattle.run_words.specs.Parts.{Choice, mode_option, rounds_option, order_option, number_option, label, choice_of}
 use Rattle.run_words.specs.Form.{line_form}
 
 -- ---- the rules of the form

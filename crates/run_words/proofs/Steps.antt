@@ -1,32 +1,19 @@
 -- One word of the walk of `clap`, where no option waits for its value, where one does, and behind `--`.
-use Rattle.std.proofs.Common.{◌≡◌, ◌∙◌, ℕ, ◌+◌, ◌==◌, zero, suc, Bool, true, false, cond, not, ◌&&◌, ◌||◌, refl, sym, ap, ap₂, subst, List, [], ◌∷◌, ◌++◌, map, length, Option, Some, None, min, true≢false, codes, arith, inl, inr, suc-ne-zero}
-use Rattle.std.specs.Prelude.{◌<◌, ◌⊎◌}
-use Rattle.std.proofs.lemmas.Bool.{eqb-true}
-use Rattle.std.proofs.lemmas.Bool.Decides.{eqb_tells}
-use Rattle.std.proofs.lemmas.Str.{encodes-chars}
-use Rattle.std.proofs.lemmas.Slice.Eq.{bytes_eq-Decides}
-use Rattle.std.specs.List.{position_or_len, list_any, fold, before_first, after_first}
-use Rattle.std.specs.Str.{bytes_eq, chars, IsUtf8}
-use Rattle.std.specs.Char.{encode_utf8}
-use Rattle.std.specs.Prelude.{slice_get, take, drop, encode_utf8_all, option_map, if◌then◌else◌}
-use Rattle.clap.specs.Words.{App, Rule, Row, Text, one_of}
-use Rattle.clap.specs.Lexer.{has_byte, long_of, short_of, usize_max}
+use Rattle.std.proofs.Common.{◌≡◌, ◌∙◌, ℕ, ◌==◌, suc, Bool, true, false, refl, sym, ap, subst, List, [], ◌∷◌, map, length, Option, Some, None, codes, suc-ne-zero}
+use Rattle.std.specs.List.{fold, before_first, after_first}
+use Rattle.std.specs.Str.{bytes_eq, IsUtf8}
+use Rattle.std.specs.Prelude.{option_map}
+use Rattle.clap.specs.Words.{Row, Text}
+use Rattle.clap.specs.Lexer.{has_byte, long_of, short_of}
 use Rattle.clap.specs.Kinds.{Kinds, or_else}
 use Rattle.clap.specs.Walk.{Held, Walk, Waiting, idle, option as waits_for, arg_by_id, arg_by_index, arg_by_long, arg_by_short, has_row, settled, settled_rows, used, without, with_values, at_row, walked, walk, nothing_held, finished, to_positional, value}
-use Rattle.clap.specs.Simple.{Shape, built, matches_of}
-use Rattle.clap.specs.Faults.{fault_of, bundle_fault, bundle_step_fault, settle_fault, turn_fault, walk_fault, step_fault, use_fault, defaults_fault, flags_fault}
-use Rattle.clap.specs.declared.builder.action.ArgAction.TheVariants.{Set}
-use Rattle.clap.specs.declared.builder.value_parser.ValueParser.TheVariants as vp
-use Rattle.clap.specs.declared.builder.value_parser.Reading.{Reading}
-use Rattle.clap.specs.declared.parser.matches.ValueSource.TheVariants.{CommandLine}
-use Rattle.clap.specs.Values.{reading_of}
+use Rattle.clap.specs.Faults.{settle_fault, turn_fault, walk_fault, step_fault, use_fault}
 use Rattle.clap.specs.declared.error.kind.ErrorKind.TheVariants.{UnknownArgument, InvalidValue}
-use Rattle.run_words.specs.Parts.{Word, Choice, mode_option, rounds_option, order_option, number_option, label, written, choice_of, Part, option, name, is_dashed, is_equals, part_of, with_part, parts_in, parts_of}
+use Rattle.run_words.specs.Parts.{Word, Choice, mode_option, rounds_option, order_option, number_option, label, written, choice_of, option, name, is_dashed, is_equals, with_part, parts_of}
 use Rattle.run_words.specs.Lines.{◌>>=◌}
-use Rattle.run_words.specs.Form.{line_form}
-use Rattle.run_words.proofs.Rules.{some≢none, IsNamed, by_choice, by_long, chosen, differs, form_rules, is_named, name_id, named, no_name, plain, rules_are, shape, taken}
-use Rattle.run_words.proofs.Uses.{or_nothing, no_several, Agrees, Settles, agrees_then, held, new, nothing, or_else_assoc, or_else_nil, or_false, place, place_name, row, settles_lack, settles_nothing, settles_value, then_none, then_some, use_agrees, with_none, without_none}
-use Rattle.run_words.proofs.Looks.{IsPlain, bundle_refused, by_look, choice_written, cut_name, cut_value, has_character, is_plain, looks-take, looks_long, name_first, no_choice, no_choice_joined, option_first, past_dashes, uncut, written_long}
+use Rattle.run_words.proofs.Rules.{some≢none, by_choice, by_long, chosen, form_rules, is_named, name_id, named, no_name, shape}
+use Rattle.run_words.proofs.Uses.{or_nothing, no_several, Agrees, Settles, agrees_then, held, new, or_else_assoc, or_else_nil, place, place_name, settles_lack, settles_nothing, settles_value, then_none, then_some, use_agrees}
+use Rattle.run_words.proofs.Looks.{bundle_refused, by_look, choice_written, cut_name, cut_value, has_character, is_plain, looks_long, name_first, no_choice, no_choice_joined, option_first, uncut}
 
 -- ---- one word of the walk
 

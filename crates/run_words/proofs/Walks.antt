@@ -1,22 +1,22 @@
 -- The whole walk of `clap`: its fault and its rows are those of the parts of the words.
-use Rattle.std.proofs.Common.{◌≡◌, ◌∙◌, ℕ, Bool, true, false, cond, ◌||◌, refl, sym, ap, subst, List, [], ◌∷◌, map, Option, Some, None}
+use Rattle.std.proofs.Common.{◌≡◌, ◌∙◌, ℕ, Bool, true, false, ◌||◌, refl, sym, ap, subst, List, [], ◌∷◌, map, Option, Some, None}
 use Rattle.std.specs.Prelude.{string_bytes, String}
 use Rattle.std.specs.Global.{Global}
 use Rattle.std.specs.List.{fold}
 use Rattle.std.specs.Str.{IsUtf8}
 use Rattle.std.proofs.lemmas.Str.{IsUtf8-string_bytes}
 use Rattle.clap.specs.Words.{Rule, Row, Text}
-use Rattle.clap.specs.Kinds.{Kinds, or_else}
+use Rattle.clap.specs.Kinds.{or_else}
 use Rattle.clap.specs.Walk.{idle, has_row, settled, with_default, nothing_held, option as waits_for, finished, walk}
-use Rattle.clap.specs.Simple.{built, matches_of, is_simple}
-use Rattle.clap.specs.Faults.{fault_of, settle_fault, walk_fault, defaults_fault, level_fault, is_simple_and_free}
+use Rattle.clap.specs.Simple.{built, matches_of}
+use Rattle.clap.specs.Faults.{fault_of, settle_fault, walk_fault, defaults_fault, is_simple_and_free}
 use Rattle.clap.proofs.FaultLemmas.{leaf_fault}
 use Rattle.run_words.specs.Parts.{parts_of}
 use Rattle.run_words.specs.Lines.{◌>>=◌}
 use Rattle.run_words.specs.Form.{line_form}
 use Rattle.run_words.proofs.Rules.{plain, form_rules, shape}
 use Rattle.run_words.proofs.Uses.{Agrees, place, held, settles_nothing, settles_lack, then_some, or_else_nil}
-use Rattle.run_words.proofs.Steps.{Reads, Gives, at, end, total, last_rows, free_word, due_word}
+use Rattle.run_words.proofs.Steps.{Reads, at, end, total, last_rows, free_word, due_word}
 
 -- the words are text
 abbrev pub AreTexts : List Text → Type 0

@@ -1,5 +1,5 @@
 -- The command of `clap` that takes the words apart, and what is made of the values that it found.
-use Rattle.std.specs.Prelude.{ℕ, true, List, Option, Some, None, codes, if◌then◌else◌}
+use Rattle.std.specs.Prelude.{true, Option, Some, None, codes, if◌then◌else◌}
 use Rattle.clap.specs.Words.{App, Rule, Text, new_app, new_rule, with_rule}
 use Rattle.clap.specs.declared.error.kind.ErrorKind.{ErrorKind}
 use Rattle.clap.specs.declared.error.kind.ErrorKind.TheVariants.{OutOfMemory}

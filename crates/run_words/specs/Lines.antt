@@ -1,5 +1,5 @@
 -- What the words of a command line ask for.
-use Rattle.std.specs.Prelude.{ℕ, ◌==◌, Bool, ◌&&◌, not, List, [], ◌∷◌, length, Option, Some, None, option_map, if◌then◌else◌, codes}
+use Rattle.std.specs.Prelude.{◌≡◌, ◌≤◌, true, ℕ, ◌==◌, Bool, ◌&&◌, not, List, [], ◌∷◌, length, Option, Some, None, option_map, if◌then◌else◌, codes}
 use Rattle.std.specs.Str.{bytes_eq}
 use Rattle.run_words.specs.Parts.{Word, Choice, mode_option, rounds_option, order_option, number_option, label, Part, option, name, parts_of}
 use Rattle.run_words.specs.Numbers.{number_within}
@@ -111,6 +111,13 @@ line_of_parts parts = do
 -- what the words behind the program's name ask for, or None where they break the line form
 unfoldable pub line_of : List Word → Option Line
 line_of words = parts_of None words >>= line_of_parts
+
+-- the most rounds are 1 to 65,536, the number of a made input is 1 to 256, and a log has a name
+abbrev pub HasRanges : Work → Type 0
+HasRanges (run rounds) = (1 ≤ rounds) × (rounds ≤ 65536)
+HasRanges (serial rounds) = (1 ≤ rounds) × (rounds ≤ 65536)
+HasRanges (replay log) = is_given log ≡ true
+HasRanges (bench rounds number) = (1 ≤ rounds) × (rounds ≤ 65536) × (1 ≤ number) × (number ≤ 256)
 
 -- ---- what was read
 

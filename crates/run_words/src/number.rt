@@ -34,7 +34,7 @@ fn value(numeral: &str) -> Option<u32>
 #[tactic(auto, unfolding(crate::specs::Numbers::number_within))]
 pub fn read_number(word: &str, least: u32, most: u32) -> Option<u32>
     ensures exact { result ≡ number_is.number_within least most word.now }
-    ensures bound { IfSome result (λ number. number ≤ most) }
+    ensures within { IfSome result (λ number. (least ≤ number) × (number ≤ most)) }
 {
     if !is_numeral(word) {
         return None;

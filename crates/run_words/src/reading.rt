@@ -1,9 +1,9 @@
 //! From words to a command line.
 
-ghost use Rattle.std.specs.Prelude.{◌≡◌, IfOk, Some, None, map, option_map, string_bytes};
+ghost use Rattle.std.specs.Prelude.{◌≡◌, ◌≤◌, IfOk, IfSome, Some, None, map, option_map, string_bytes};
 ghost use Rattle.clap.specs.Words.{found_of, first_value};
 ghost use Rattle.run_words.specs.Numbers.{number_within};
-ghost use Rattle.run_words.specs.Lines.{line_of, rounds_in, work_in, shown, shown_work};
+ghost use Rattle.run_words.specs.Lines.{HasRanges, line_of, rounds_in, work_in, shown, shown_work};
 ghost use Rattle.run_words.specs.Form.{given_name, work_by, line_by};
 
 use crate::command_line::{CommandLine, Mode};
@@ -23,7 +23,8 @@ fn given_name<'a>(matches: &ArgMatches<'a>, id: &str) -> Option<&'a str>
 
 /// The most rounds that are made.
 fn rounds_of(word: Option<&str>) -> Option<u32>
-    ensures { result ≡ rounds_in (option_map (λ text. text.now) word.entry) }
+    ensures exact { result ≡ rounds_in (option_map (λ text. text.now) word.entry) }
+    ensures within { IfSome result (λ rounds. (1 ≤ rounds) × (rounds ≤ 65536)) }
 {
     match word {
         Some(word) => read_number(word, 1, 65_536),
@@ -33,7 +34,8 @@ fn rounds_of(word: Option<&str>) -> Option<u32>
 
 /// The number of a made input.
 fn input_number(word: &str) -> Option<u16>
-    ensures { result ≡ number_within 1 256 word.now }
+    ensures exact { result ≡ number_within 1 256 word.now }
+    ensures within { IfSome result (λ number. (1 ≤ number) × (number ≤ 256)) }
 {
     match read_number(word, 1, 256) {
         Some(number) => Some(number as u16),
@@ -48,8 +50,9 @@ fn mode_of<'a>(
     order: Option<&'a str>,
     number: Option<&str>,
 ) -> Option<Mode<'a>>
-    ensures { option_map shown_work result ≡ work_in mode.now (option_map (λ text. text.now) rounds.entry)
+    ensures exact { option_map shown_work result ≡ work_in mode.now (option_map (λ text. text.now) rounds.entry)
         (option_map (λ text. text.now) order.entry) (option_map (λ text. text.now) number.entry) }
+    ensures ranges { IfSome result (λ mode. HasRanges (shown_work mode)) }
 {
     match (mode, order, number) {
         ("run", None, None) => Some(Mode::Run {
@@ -71,7 +74,8 @@ fn mode_of<'a>(
 
 /// The mode, with what it needs.
 fn mode<'a>(matches: &ArgMatches<'a>) -> Option<Mode<'a>>
-    ensures { option_map shown_work result ≡ work_by (first_value (found_of matches.now)) }
+    ensures exact { option_map shown_work result ≡ work_by (first_value (found_of matches.now)) }
+    ensures ranges { IfSome result (λ mode. HasRanges (shown_work mode)) }
 {
     mode_of(
         matches.get_str("mode")?,
@@ -83,7 +87,8 @@ fn mode<'a>(matches: &ArgMatches<'a>) -> Option<Mode<'a>>
 
 /// The command line that the options and names say.
 fn command_line<'a>(matches: &ArgMatches<'a>) -> Option<CommandLine<'a>>
-    ensures { option_map shown result ≡ line_by (first_value (found_of matches.now)) }
+    ensures exact { option_map shown result ≡ line_by (first_value (found_of matches.now)) }
+    ensures ranges { IfSome result (λ line. HasRanges (shown_work line.mode)) }
 {
     Some(CommandLine {
         mode: mode(matches)?,
@@ -96,9 +101,14 @@ fn command_line<'a>(matches: &ArgMatches<'a>) -> Option<CommandLine<'a>>
 }
 
 /// Reads the words of a command line, those behind the program's name.
+///
+/// # Errors
+///
+/// `Usage` comes only where the words break the line form, and `Memory` where memory runs out; other words are read.
 pub fn read<'a>(alloc: Global, words: &'a [String]) -> Result<CommandLine<'a>, WordsFault>
     ensures ok { IfOk result (λ line. line_of (map string_bytes words.entry.now) ≡ Some (shown line)) }
     ensures usage { result ≡ Err WordsFault.Usage → line_of (map string_bytes words.entry.now) ≡ None }
+    ensures ranges { IfOk result (λ line. HasRanges (shown_work line.mode)) }
 {
     let matches = form::matches(alloc, words)?;
     match command_line(&matches) {

@@ -1,4 +1,4 @@
-use Rattle.std.proofs.Common.{◌∙◌, ap, subst, map, refl, [], string_bytes, ◌≡◌}
+use Rattle.std.proofs.Common.{◌∙◌, ap, subst, map, [], string_bytes, ◌≡◌}
 use Rattle.clap.specs.Words.{found_of}
 use Rattle.clap.specs.Simple.{matches_of, is_simple}
 use Rattle.clap.specs.Faults.{fault_of, is_simple_and_free}
