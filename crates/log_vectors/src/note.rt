@@ -8,14 +8,6 @@ use case_fields::{CaseFault, parsed_at, word_at};
 use outside_kit::Side;
 use std::alloc::{AllocError, Global};
 
-/// The words behind the first ones.
-pub fn after<'a, 'b>(fields: &'b [&'a str], count: usize) -> &'b [&'a str] {
-    match fields.get(count..) {
-        Some(rest) => rest,
-        None => &[],
-    }
-}
-
 fn side_at(fields: &[&str], place: usize) -> Result<Side, CaseFault> {
     match word_at(fields, place)? {
         "A" => Ok(Side::A),
@@ -89,8 +81,10 @@ pub fn note_of(alloc: Global, case: &str) -> Result<Note, CaseFault> {
     };
     let fields = words(alloc, ask)?;
     let replied = words(alloc, reply)?;
-    let object = word_at(&fields, 2)?;
-    let (ask, reply) = asked(alloc, object, after(&fields, 3), &replied)?;
+    let [_, _, object, ask @ ..] = fields.as_slice() else {
+        return Err(CaseFault::Form);
+    };
+    let (ask, reply) = asked(alloc, object, ask, &replied)?;
     Ok(Note {
         stamp: parsed_at(&fields, 0)?,
         seen: 0,

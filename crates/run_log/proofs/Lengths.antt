@@ -14,6 +14,8 @@ use Rattle.fallback_state.specs.declared.fall.Verdict.{Verdict}
 use Rattle.fallback_state.specs.declared.fall.Verdict.TheVariants as verdicts
 use Rattle.control_book.specs.declared.call.Notice.{Notice}
 use Rattle.control_book.specs.declared.call.Notice.TheVariants as notices
+use Rattle.key_material.specs.declared.address.Address.{Address}
+use Rattle.key_material.specs.declared.address.Address.TheVariants as addresses
 use Rattle.key_material.specs.Address.{octets_of}
 use Rattle.linked_increase.specs.declared.rows.Row.{Row}
 use Rattle.linked_increase.specs.Paths.{IsInRange}
@@ -39,7 +41,7 @@ use Rattle.run_log.specs.Words.{spaced, event_words, verdict_words, notice_words
 use Rattle.run_log.specs.Calls.{send_call_words, reassembly_call_words, heard_words, control_call_words, local_words, ask_words}
 use Rattle.run_log.specs.Replies.{send_reply_words, reassembly_reply_words, row_words, control_reply_words, reply_text}
 use Rattle.run_log.specs.Fields.{is_printable, are_words}
-use Rattle.run_log.specs.Fitting.{IsByte, HeardFits, RowFits, RowsFit, AskFits, ReplyFits}
+use Rattle.run_log.specs.Fitting.{IsByte, HasItsOctets, HeardFits, RowFits, RowsFit, AskFits, ReplyFits}
 use Rattle.run_log.specs.Laws.{HasRowsInRange}
 use Rattle.run_log.proofs.PlainWords.{is_seen, is_plain, IsPlain, ArePlain, plain_ask, plain_send_reply, plain_reassembly_reply, plain_control_reply}
 use Rattle.run_log.proofs.Spacing.{behind, spaced_behind, heard_is, rows_is}
@@ -185,8 +187,13 @@ octets_short [] h = omega arith
 octets_short (octet ∷ octets) h =
     omega (arith, length-append (32 ∷ decimal octet) (flat_map (λ octet. 32 ∷ decimal octet) octets), length-decimal-le 3 octet (omega arith) (omega (arith, h.0)) (omega (arith, h.0)), octets_short octets h.1)
 
-heard_short : (id : ℕ) (octets : List ℕ) (port hmac : ℕ) → HeardFits id octets port hmac → IsWithin 105 (spaced (heard_words id octets port hmac))
-heard_short id octets port hmac h =
+few_octets : (address : Address) → HasItsOctets address → length (octets_of address) ≤ 16
+few_octets (addresses.V4 octets) h = omega arith
+few_octets (addresses.V6 octets) h = omega arith
+
+heard_short : (id : ℕ) (address : Address) (port hmac : ℕ) → HeardFits id address port hmac → IsWithin 105 (spaced (heard_words id (octets_of address) port hmac))
+heard_short id address port hmac h =
+    let octets = octets_of address in
     let whole = ap length (heard_is id octets port hmac) in
     let front = length-append (codes "heard " ++ decimal id) (flat_map (λ octet. 32 ∷ decimal octet) octets ++ ((32 ∷ decimal port) ++ (32 ∷ decimal hmac))) in
     let named = length-append (codes "heard ") (decimal id) in
@@ -196,7 +203,7 @@ heard_short id octets port hmac h =
     let ports = length-decimal-le 5 port (omega arith) (omega (arith, h.1.1.0)) (omega (arith, h.1.1.0)) in
     let hmacs = length-decimal-le 20 hmac (omega arith) (omega (arith, h.1.1.1)) h.1.1.1 in
     let each = octets_short octets h.1.0.octets in
-    (omega (arith, whole, front, named, back, last), omega (arith, whole, front, named, back, last, ids, ports, hmacs, each, h.1.0.few))
+    (omega (arith, whole, front, named, back, last), omega (arith, whole, front, named, back, last, ids, ports, hmacs, each, few_octets address h.1.0.count))
 
 ask_within : (ask : Ask) → AskFits ask → IsWithin 105 (spaced (ask_words ask))
 ask_within (asks.Send side call) h = few_words 5 105 (send_call_words call) (plain_ask (asks.Send side call) h) (few_send_call call) (omega arith)
@@ -220,7 +227,7 @@ ask_within (asks.Control side call) h = by call h
     by (control_calls.Rate path window rtt) h = few (control_calls.Rate path window rtt) h refl
     by (control_calls.Announce id) h = few (control_calls.Announce id) h refl
     by (control_calls.Withdraw id) h = few (control_calls.Withdraw id) h refl
-    by (control_calls.Heard id address port hmac) h = heard_short id (octets_of address) port hmac h
+    by (control_calls.Heard id address port hmac) h = heard_short id address port hmac h
     by (control_calls.Echoed id) h = few (control_calls.Echoed id) h refl
     by (control_calls.Removed id) h = few (control_calls.Removed id) h refl
     by control_calls.FastClose h = few control_calls.FastClose h refl
