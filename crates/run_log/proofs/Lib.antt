@@ -5,3 +5,4 @@ pub mod PlainWords
 pub mod Lengths
 pub mod LogReads
 pub mod FirstRefused
+pub mod Retelling

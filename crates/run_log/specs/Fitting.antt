@@ -1,5 +1,5 @@
 -- The numbers of a note are numbers of their types.
-use Rattle.std.specs.Prelude.{ℕ, ◌<◌, ◌≤◌, ◌^◌, List, length, Option, Some, None, All}
+use Rattle.std.specs.Prelude.{◌≡◌, ℕ, ◌<◌, ◌≤◌, ◌^◌, List, length, Option, Some, None, All}
 use Rattle.std.specs.List.{AllByRecursion}
 use Rattle.fallback_state.specs.declared.fall.Verdict.{Verdict}
 use Rattle.fallback_state.specs.declared.fall.Verdict.TheVariants as verdicts
