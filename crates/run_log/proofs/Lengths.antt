@@ -93,7 +93,7 @@ some_word (word ∷ words) h some = omega (arith, ap length (spaced_behind word 
 abbrev IsCount : ℕ → List (List ℕ) → Type 0
 IsCount most words = (nat_lt 0 (length words) && nat_le (length words) most) ≡ true
 
-counted : (most : ℕ) (words : List (List ℕ)) → IsCount most words → (0 < length words) × (length words ≤ most)
+pub counted : (most : ℕ) (words : List (List ℕ)) → IsCount most words → (0 < length words) × (length words ≤ most)
 counted most words h =
     let parts = and_parts (nat_lt 0 (length words)) (nat_le (length words) most) h in
     (ltb-true 0 (length words) parts.0, leb-true (length words) most parts.1)
@@ -134,7 +134,7 @@ few_local (steps.Line number) = refl
 few_local (steps.Sent from copy length sum) = refl
 few_local steps.End = refl
 
-few_send_reply : (reply : SendReply) → IsCount 6 (send_reply_words reply)
+pub few_send_reply : (reply : SendReply) → IsCount 6 (send_reply_words reply)
 few_send_reply (send_replies.Taken count) = refl
 few_send_reply send_replies.Closed = refl
 few_send_reply send_replies.Shut = refl
@@ -147,7 +147,7 @@ few_send_reply send_replies.Noted = refl
 few_send_reply (send_replies.Infinite from) = refl
 few_send_reply send_replies.Scattered = refl
 
-few_reassembly_reply : (reply : ReassemblyReply) → IsCount 6 (reassembly_reply_words reply)
+pub few_reassembly_reply : (reply : ReassemblyReply) → IsCount 6 (reassembly_reply_words reply)
 few_reassembly_reply (reassembly_replies.Placed count) = refl
 few_reassembly_reply (reassembly_replies.Beyond edge) = refl
 few_reassembly_reply reassembly_replies.FinSet = refl
@@ -205,7 +205,7 @@ heard_short id address port hmac h =
     let each = octets_short octets h.1.0.octets in
     (omega (arith, whole, front, named, back, last), omega (arith, whole, front, named, back, last, ids, ports, hmacs, each, few_octets address h.1.0.count))
 
-ask_within : (ask : Ask) → AskFits ask → IsWithin 105 (spaced (ask_words ask))
+pub ask_within : (ask : Ask) → AskFits ask → IsWithin 105 (spaced (ask_words ask))
 ask_within (asks.Send side call) h = few_words 5 105 (send_call_words call) (plain_ask (asks.Send side call) h) (few_send_call call) (omega arith)
 ask_within (asks.Reassembly side call) h = few_words 5 105 (reassembly_call_words call) (plain_ask (asks.Reassembly side call) h) (few_reassembly_call call) (omega arith)
 ask_within (asks.Local step) h = few_words 5 105 (local_words step) (plain_ask (asks.Local step) h) (few_local step) (omega arith)

@@ -6,3 +6,4 @@ pub mod Lengths
 pub mod LogReads
 pub mod FirstRefused
 pub mod Retelling
+pub mod LinesTell

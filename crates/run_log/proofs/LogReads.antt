@@ -70,7 +70,7 @@ both_lines (line ∷ lines) more h k = (h.0, both_lines lines more h.1 k)
 abbrev IsSeen : List ℕ → Type 0
 IsSeen word = list_all is_seen word ≡ true
 
-no_space : (octet : ℕ) → is_seen octet ≡ true → eqb octet 32 ≡ false
+pub no_space : (octet : ℕ) → is_seen octet ≡ true → eqb octet 32 ≡ false
 no_space octet h = grind (arith, nat_tests)
 
 first_space : (word rest : List ℕ) → IsSeen word → position_or_len (λ octet. octet == 32) (word ++ 32 ∷ rest) ≡ length word
