@@ -1,5 +1,5 @@
 -- What is asked and answered has 1 to 400 octets, all of which can be printed.
-use Rattle.std.proofs.Common.{◌≡◌, ℕ, ◌+◌, ◌*◌, ◌^◌, ◌<◌, ◌≤◌, Bool, true, false, ◌&&◌, leb, List, [], ◌∷◌, ◌++◌, length, map, refl, ap, sym, ◌∙◌, arith, length-append}
+use Rattle.std.proofs.Common.{◌≡◌, ℕ, ◌*◌, ◌<◌, ◌≤◌, true, ◌&&◌, List, [], ◌∷◌, ◌++◌, length, refl, ap, ◌∙◌, arith, length-append}
 use Rattle.std.specs.Prelude.{nat_lt, nat_le, codes}
 use Rattle.std.specs.Fmt.{decimal}
 use Rattle.std.specs.List.{list_all, AllByRecursion, flat_map}
@@ -37,13 +37,13 @@ use Rattle.actor_desk.specs.declared.ask.LocalStep.{LocalStep}
 use Rattle.actor_desk.specs.declared.ask.LocalStep.TheVariants as steps
 use Rattle.actor_desk.specs.declared.ask.Reply.{Reply}
 use Rattle.actor_desk.specs.declared.ask.Reply.TheVariants as replies
-use Rattle.run_log.specs.Words.{spaced, event_words, verdict_words, notice_words}
+use Rattle.run_log.specs.Words.{spaced, verdict_words, notice_words}
 use Rattle.run_log.specs.Calls.{send_call_words, reassembly_call_words, heard_words, control_call_words, local_words, ask_words}
 use Rattle.run_log.specs.Replies.{send_reply_words, reassembly_reply_words, row_words, control_reply_words, reply_text}
 use Rattle.run_log.specs.Fields.{is_printable, are_words}
 use Rattle.run_log.specs.Fitting.{IsByte, HasItsOctets, HeardFits, RowFits, RowsFit, AskFits, ReplyFits}
 use Rattle.run_log.specs.Laws.{HasRowsInRange}
-use Rattle.run_log.proofs.PlainWords.{is_seen, is_plain, IsPlain, ArePlain, plain_ask, plain_send_reply, plain_reassembly_reply, plain_control_reply}
+use Rattle.run_log.proofs.PlainWords.{is_seen, IsPlain, ArePlain, plain_ask, plain_send_reply, plain_reassembly_reply, plain_control_reply}
 use Rattle.run_log.proofs.Spacing.{behind, spaced_behind, heard_is, rows_is}
 
 -- ---- plain words with spaces between them

@@ -1,11 +1,11 @@
 -- Two notes with one line are told alike.
-use Rattle.std.proofs.Common.{◌≡◌, ℕ, suc, ◌<◌, ◌≤◌, Bool, true, false, cond, eqb, ◌&&◌, List, [], ◌∷◌, ◌++◌, length, refl, ap, sym, ◌∙◌, append_assoc, arith}
-use Rattle.std.specs.Prelude.{nat_lt, nat_le, ◌==◌, codes, not}
+use Rattle.std.proofs.Common.{◌≡◌, ℕ, ◌<◌, ◌≤◌, true, false, cond, eqb, List, [], ◌∷◌, ◌++◌, length, refl, ap, sym, ◌∙◌, append_assoc, arith}
+use Rattle.std.specs.Prelude.{codes}
 use Rattle.std.specs.Fmt.{decimal}
-use Rattle.std.specs.List.{list_all, flat_map}
+use Rattle.std.specs.List.{list_all}
 use Rattle.std.specs.Str.{bytes_eq}
 use Rattle.std.specs.Str.Parse.{digits_value}
-use Rattle.std.proofs.lemmas.Bool.{and_parts, ltb-true}
+use Rattle.std.proofs.lemmas.Bool.{and_parts}
 use Rattle.std.proofs.lemmas.Bool.Decides.{nat_tests}
 use Rattle.std.proofs.lemmas.Fmt.{digits_value-decimal}
 use Rattle.std.proofs.lemmas.List.{append-nil}
@@ -26,10 +26,10 @@ use Rattle.run_log.specs.Words.{spaced, object_word}
 use Rattle.run_log.specs.Calls.{ask_words}
 use Rattle.run_log.specs.Replies.{send_reply_words, reassembly_reply_words, control_reply_words, reply_text}
 use Rattle.run_log.specs.Lines.{object_of, step_text}
-use Rattle.run_log.specs.Fitting.{IsLong, AskFits, ReplyFits, NoteFits}
+use Rattle.run_log.specs.Fitting.{AskFits, ReplyFits, NoteFits}
 use Rattle.run_log.specs.Telling.{told_ask, told_reply, told}
 use Rattle.run_log.specs.Laws.{LinesTellTheirNotes}
-use Rattle.run_log.proofs.PlainWords.{is_seen, IsPlain, ArePlain, plain_ask, plain_send_reply, plain_reassembly_reply, plain_control_reply}
+use Rattle.run_log.proofs.PlainWords.{is_seen, ArePlain, plain_ask, plain_send_reply, plain_reassembly_reply, plain_control_reply}
 use Rattle.run_log.proofs.Lengths.{plain_seen, counted, ask_within, few_send_reply, few_reassembly_reply}
 use Rattle.run_log.proofs.LogReads.{number_seen, seen_object, step_shape, no_space}
 use Rattle.run_log.proofs.Retelling.{send_call_of, send_call_again, send_reply_of, send_reply_again, reassembly_call_of, reassembly_call_again, reassembly_reply_of, reassembly_reply_again, control_call_of, control_call_again, control_reply_of, control_reply_again, local_of, local_again}
@@ -194,9 +194,9 @@ note_again note f kind =
     let words = spaced (ask_words note.ask) ++ reply_text note.reply in
     let third : words_of (object ++ 32 ∷ words) ≡ object ∷ words_of words = cut_word object words (seen_object (object_of note.ask)) in
     let second : words_of (decimal note.actor ++ 32 ∷ (object ++ 32 ∷ words)) ≡ decimal note.actor ∷ object ∷ words_of words =
-            cut_word (decimal note.actor) (object ++ 32 ∷ words) (number_seen note.actor (omega (arith, f.actor))) ∙ ap (λ (more : List (List ℕ)). decimal note.actor ∷ more) third in
+    cut_word (decimal note.actor) (object ++ 32 ∷ words) (number_seen note.actor (omega (arith, f.actor))) ∙ ap (λ (more : List (List ℕ)). decimal note.actor ∷ more) third in
     let first : words_of (step_text note) ≡ decimal note.stamp ∷ decimal note.actor ∷ object ∷ words_of words =
-            ap words_of (step_shape note) ∙ cut_word (decimal note.stamp) (decimal note.actor ++ 32 ∷ (object ++ 32 ∷ words)) (number_seen note.stamp f.stamp) ∙ ap (λ (more : List (List ℕ)). decimal note.stamp ∷ more) second in
+    ap words_of (step_shape note) ∙ cut_word (decimal note.stamp) (decimal note.actor ++ 32 ∷ (object ++ 32 ∷ words)) (number_seen note.stamp f.stamp) ∙ ap (λ (more : List (List ℕ)). decimal note.stamp ∷ more) second in
     let stamp = digits_value-decimal digits note.stamp f.stamp in
     let actor = digits_value-decimal digits note.actor (omega (arith, f.actor)) in
     ap from_words first ∙ rw (stamp, actor, object_again (object_of note.ask)) (by_kind note.ask note.reply note.stamp note.actor f.ask f.reply kind)

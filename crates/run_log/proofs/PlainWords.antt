@@ -1,5 +1,5 @@
 -- Each word of a log is made of octets that are seen: it holds neither a space nor an end of a line.
-use Rattle.std.proofs.Common.{◌≡◌, ℕ, ◌^◌, ◌<◌, Bool, true, false, not, ◌&&◌, leb, List, [], ◌∷◌, ◌++◌, Option, Some, None, length, map, refl, arith}
+use Rattle.std.proofs.Common.{◌≡◌, ℕ, Bool, true, false, not, ◌&&◌, List, [], ◌∷◌, ◌++◌, Option, Some, None, length, map, refl, arith}
 use Rattle.std.specs.Prelude.{nat_lt, nat_le, ◌==◌}
 use Rattle.std.specs.Char.{is_ascii_digit}
 use Rattle.std.specs.Fmt.{decimal}
@@ -43,7 +43,7 @@ use Rattle.actor_desk.specs.declared.ask.LocalStep.TheVariants as steps
 use Rattle.run_log.specs.Words.{flag_word, optional_word, side_word, reason_word, mode_word, event_words, verdict_words, notice_words}
 use Rattle.run_log.specs.Calls.{send_call_words, reassembly_call_words, heard_words, control_call_words, local_words, ask_words}
 use Rattle.run_log.specs.Replies.{send_reply_words, reassembly_reply_words, row_words, control_reply_words}
-use Rattle.run_log.specs.Fitting.{IsLong, IsByte, OptionFits, SendCallFits, SendReplyFits, ReassemblyCallFits, ReassemblyReplyFits, AddressFits, HeardFits, ControlCallFits, VerdictFits, NoticeFits, RowFits, ControlReplyFits, LocalFits, AskFits}
+use Rattle.run_log.specs.Fitting.{IsLong, IsByte, OptionFits, SendCallFits, SendReplyFits, ReassemblyCallFits, ReassemblyReplyFits, HeardFits, ControlCallFits, VerdictFits, NoticeFits, RowFits, ControlReplyFits, LocalFits, AskFits}
 
 -- an octet that is seen, and isn't '='
 abbrev pub is_seen : ℕ → Bool
