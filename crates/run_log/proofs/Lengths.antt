@@ -1,6 +1,6 @@
 -- What is asked and answered has 1 to 400 octets, all of which can be printed.
 use Rattle.std.proofs.Common.{◌≡◌, ℕ, ◌*◌, ◌<◌, ◌≤◌, true, ◌&&◌, List, [], ◌∷◌, ◌++◌, length, refl, ap, ◌∙◌, arith, length-append}
-use Rattle.std.specs.Prelude.{nat_lt, nat_le, codes}
+use Rattle.std.specs.Prelude.{nat_lt, nat_le, codes, All}
 use Rattle.std.specs.Fmt.{decimal}
 use Rattle.std.specs.List.{list_all, AllByRecursion, flat_map}
 use Rattle.std.proofs.lemmas.Bool.{and_parts, and_from, ltb-true, leb-true, le-leb}
@@ -247,11 +247,11 @@ each_row_short (row ∷ rows) h range =
     let others = each_row_short rows h.1 range.1 in
     omega (arith, front, path, window, paths, windows, rtts, others)
 
-rows_short : (rows : List Row) → RowsFit rows → AllByRecursion IsInRange rows → IsWithin 292 (spaced (codes "rows" ∷ flat_map row_words rows))
+rows_short : (rows : List Row) → RowsFit rows → All IsInRange rows → IsWithin 292 (spaced (codes "rows" ∷ flat_map row_words rows))
 rows_short rows h range =
     let whole = ap length (rows_is rows) in
     let front = length-append (codes "rows") (flat_map (λ row. 32 ∷ spaced (row_words row)) rows) in
-    let each = each_row_short rows (recursion_from_All RowFits rows h.each) range in
+    let each = each_row_short rows (recursion_from_All RowFits rows h.each) (recursion_from_All IsInRange rows range) in
     (omega (arith, whole, front), omega (arith, whole, front, each, h.few))
 
 control_reply_within : (reply : ControlReply) → ReplyFits (replies.Control reply) → HasRowsInRange (replies.Control reply) → IsWithin 292 (spaced (control_reply_words reply))

@@ -1,5 +1,5 @@
 -- What holds of every log.
-use Rattle.std.specs.Prelude.{◌≡◌, ℕ, suc, ◌<◌, ◌≤◌, List, [], ◌∷◌, ◌++◌, length, take, map, Ok, Err, IsOk}
+use Rattle.std.specs.Prelude.{◌≡◌, ℕ, suc, ◌<◌, ◌≤◌, List, [], ◌∷◌, ◌++◌, length, take, map, Ok, Err, IsOk, All}
 use Rattle.std.specs.List.{flat_map, AllByRecursion}
 use Rattle.linked_increase.specs.Paths.{IsInRange}
 use Rattle.control_book.specs.declared.call.ControlReply.TheVariants.{Rows}
@@ -20,7 +20,7 @@ use Rattle.run_log.specs.Lines.{opening_lines, old_opening_lines, rounds_lines, 
 
 -- rows that a reply tells are those of paths whose window and round-trip time are in range
 abbrev pub HasRowsInRange : Reply → Type 0
-HasRowsInRange (Control (Rows rows)) = AllByRecursion IsInRange rows
+HasRowsInRange (Control (Rows rows)) = All IsInRange rows
 HasRowsInRange reply = Unit {0}
 
 -- a note of a run of so many actors
