@@ -1,6 +1,6 @@
 -- The line of a fault is the first one that no log has there.
 use Rattle.std.proofs.Common.{◌≡◌, ℕ, suc, ◌+◌, ◌^◌, ◌<◌, ◌≤◌, Bool, true, false, cond, List, [], ◌∷◌, ◌++◌, length, take, Option, Some, None, Result, Ok, Err, refl, ap, sym, ◌∙◌, subst, arith}
-use Rattle.std.specs.Prelude.{codes, is_ok, IsOk}
+use Rattle.std.specs.Prelude.{codes, is_ok}
 use Rattle.link_script.specs.Words.{text_lines}
 use Rattle.run_log.specs.declared.fault.LogFault.{LogFault}
 use Rattle.run_log.specs.declared.fault.LogFault.TheVariants as fault
@@ -11,7 +11,7 @@ use Rattle.run_log.specs.declared.outcome.Outcome.TheVariants as outcomes
 use Rattle.run_log.specs.declared.turn.Turn.{Turn}
 use Rattle.run_log.specs.Lines.{round_text, width_text, keys_text, outcome_text}
 use Rattle.run_log.specs.Fitting.{IsLong}
-use Rattle.run_log.specs.Form.{HasRoundBelow, is_nothing, turn_list, after_line, taken, read_on, reading}
+use Rattle.run_log.specs.Form.{HasRoundBelow, is_nothing, turn_list, taken, read_on, reading}
 use Rattle.run_log.specs.Laws.{BeginsALog, IsFirstRefused, RefusesTheFirst}
 use Rattle.run_log.proofs.LogReads.{bytes_same, round_no_step, outcome_no_step, outcome_again, keys_again}
 use Rattle.run_log.proofs.Walking.{IsBelow, taken_below}
@@ -115,7 +115,7 @@ module _ (actors width : ℕ) where
   stops (line ∷ lines) number expected turns n below few e = by (stops lines) (taken actors width expected line) refl
     where
       by : ((number : ℕ) (expected : Expected) (turns : List Turn) (n : ℕ) → HasRoundBelow number expected → number + length lines ≤ 2 ^ 64
-              → read_on actors width number expected turns lines ≡ Err (fault.Line n) → StopsAt n number expected lines)
+          → read_on actors width number expected turns lines ≡ Err (fault.Line n) → StopsAt n number expected lines)
           → (o : Option Taken) → taken actors width expected line ≡ o → StopsAt n number expected (line ∷ lines)
       by rest (Some one) q =
           let step : read_on actors width number expected turns (line ∷ lines) ≡ read_on actors width (suc number) one.next (turns ++ turn_list one.turn) lines = rw q refl in
@@ -140,9 +140,9 @@ module _ (actors width : ℕ) where
       let s = found.2 in
       let begun = same_ok (take found.0 lines ++ s.more) 1 Format [] ∙ s.begins in
       let none : found.0 < length lines → BeginsALog actors width (take (suc found.0) lines) → ⊥ = λ l begins.
-          let refused = s.refused l begins.0 in
-          let same = same_ok (take (suc found.0) lines ++ begins.0) 1 Format [] in
-          let ok = begins.1 in absurd cc in
+      let refused = s.refused l begins.0 in
+      let same = same_ok (take (suc found.0) lines ++ begins.0) 1 Format [] in
+      let ok = begins.1 in absurd cc in
       (found.0, omega (arith, found.1), record { few = s.few; begins = (s.more, begun); refused = none })
 
 pub refuses_the_first : RefusesTheFirst

@@ -1,6 +1,6 @@
 -- What is asked and answered has 1 to 400 octets, all of which can be printed.
-use Rattle.std.proofs.Common.{◌≡◌, ℕ, ◌+◌, ◌*◌, ◌^◌, ◌<◌, ◌≤◌, Bool, true, false, ◌&&◌, leb, List, [], ◌∷◌, ◌++◌, length, map, refl, ap, sym, ◌∙◌, arith, length-append}
-use Rattle.std.specs.Prelude.{nat_lt, nat_le, codes}
+use Rattle.std.proofs.Common.{◌≡◌, ℕ, ◌*◌, ◌<◌, ◌≤◌, true, ◌&&◌, List, [], ◌∷◌, ◌++◌, length, refl, ap, ◌∙◌, arith, length-append}
+use Rattle.std.specs.Prelude.{nat_lt, nat_le, codes, All}
 use Rattle.std.specs.Fmt.{decimal}
 use Rattle.std.specs.List.{list_all, AllByRecursion, flat_map}
 use Rattle.std.proofs.lemmas.Bool.{and_parts, and_from, ltb-true, leb-true, le-leb}
@@ -14,6 +14,8 @@ use Rattle.fallback_state.specs.declared.fall.Verdict.{Verdict}
 use Rattle.fallback_state.specs.declared.fall.Verdict.TheVariants as verdicts
 use Rattle.control_book.specs.declared.call.Notice.{Notice}
 use Rattle.control_book.specs.declared.call.Notice.TheVariants as notices
+use Rattle.key_material.specs.declared.address.Address.{Address}
+use Rattle.key_material.specs.declared.address.Address.TheVariants as addresses
 use Rattle.key_material.specs.Address.{octets_of}
 use Rattle.linked_increase.specs.declared.rows.Row.{Row}
 use Rattle.linked_increase.specs.Paths.{IsInRange}
@@ -35,13 +37,13 @@ use Rattle.actor_desk.specs.declared.ask.LocalStep.{LocalStep}
 use Rattle.actor_desk.specs.declared.ask.LocalStep.TheVariants as steps
 use Rattle.actor_desk.specs.declared.ask.Reply.{Reply}
 use Rattle.actor_desk.specs.declared.ask.Reply.TheVariants as replies
-use Rattle.run_log.specs.Words.{spaced, event_words, verdict_words, notice_words}
+use Rattle.run_log.specs.Words.{spaced, verdict_words, notice_words}
 use Rattle.run_log.specs.Calls.{send_call_words, reassembly_call_words, heard_words, control_call_words, local_words, ask_words}
 use Rattle.run_log.specs.Replies.{send_reply_words, reassembly_reply_words, row_words, control_reply_words, reply_text}
 use Rattle.run_log.specs.Fields.{is_printable, are_words}
-use Rattle.run_log.specs.Fitting.{IsByte, HeardFits, RowFits, RowsFit, AskFits, ReplyFits}
+use Rattle.run_log.specs.Fitting.{IsByte, HasItsOctets, HeardFits, RowFits, RowsFit, AskFits, ReplyFits}
 use Rattle.run_log.specs.Laws.{HasRowsInRange}
-use Rattle.run_log.proofs.PlainWords.{is_seen, is_plain, IsPlain, ArePlain, plain_ask, plain_send_reply, plain_reassembly_reply, plain_control_reply}
+use Rattle.run_log.proofs.PlainWords.{is_seen, IsPlain, ArePlain, plain_ask, plain_send_reply, plain_reassembly_reply, plain_control_reply}
 use Rattle.run_log.proofs.Spacing.{behind, spaced_behind, heard_is, rows_is}
 
 -- ---- plain words with spaces between them
@@ -91,7 +93,7 @@ some_word (word ∷ words) h some = omega (arith, ap length (spaced_behind word 
 abbrev IsCount : ℕ → List (List ℕ) → Type 0
 IsCount most words = (nat_lt 0 (length words) && nat_le (length words) most) ≡ true
 
-counted : (most : ℕ) (words : List (List ℕ)) → IsCount most words → (0 < length words) × (length words ≤ most)
+pub counted : (most : ℕ) (words : List (List ℕ)) → IsCount most words → (0 < length words) × (length words ≤ most)
 counted most words h =
     let parts = and_parts (nat_lt 0 (length words)) (nat_le (length words) most) h in
     (ltb-true 0 (length words) parts.0, leb-true (length words) most parts.1)
@@ -132,7 +134,7 @@ few_local (steps.Line number) = refl
 few_local (steps.Sent from copy length sum) = refl
 few_local steps.End = refl
 
-few_send_reply : (reply : SendReply) → IsCount 6 (send_reply_words reply)
+pub few_send_reply : (reply : SendReply) → IsCount 6 (send_reply_words reply)
 few_send_reply (send_replies.Taken count) = refl
 few_send_reply send_replies.Closed = refl
 few_send_reply send_replies.Shut = refl
@@ -145,7 +147,7 @@ few_send_reply send_replies.Noted = refl
 few_send_reply (send_replies.Infinite from) = refl
 few_send_reply send_replies.Scattered = refl
 
-few_reassembly_reply : (reply : ReassemblyReply) → IsCount 6 (reassembly_reply_words reply)
+pub few_reassembly_reply : (reply : ReassemblyReply) → IsCount 6 (reassembly_reply_words reply)
 few_reassembly_reply (reassembly_replies.Placed count) = refl
 few_reassembly_reply (reassembly_replies.Beyond edge) = refl
 few_reassembly_reply reassembly_replies.FinSet = refl
@@ -185,8 +187,13 @@ octets_short [] h = omega arith
 octets_short (octet ∷ octets) h =
     omega (arith, length-append (32 ∷ decimal octet) (flat_map (λ octet. 32 ∷ decimal octet) octets), length-decimal-le 3 octet (omega arith) (omega (arith, h.0)) (omega (arith, h.0)), octets_short octets h.1)
 
-heard_short : (id : ℕ) (octets : List ℕ) (port hmac : ℕ) → HeardFits id octets port hmac → IsWithin 105 (spaced (heard_words id octets port hmac))
-heard_short id octets port hmac h =
+few_octets : (address : Address) → HasItsOctets address → length (octets_of address) ≤ 16
+few_octets (addresses.V4 octets) h = omega arith
+few_octets (addresses.V6 octets) h = omega arith
+
+heard_short : (id : ℕ) (address : Address) (port hmac : ℕ) → HeardFits id address port hmac → IsWithin 105 (spaced (heard_words id (octets_of address) port hmac))
+heard_short id address port hmac h =
+    let octets = octets_of address in
     let whole = ap length (heard_is id octets port hmac) in
     let front = length-append (codes "heard " ++ decimal id) (flat_map (λ octet. 32 ∷ decimal octet) octets ++ ((32 ∷ decimal port) ++ (32 ∷ decimal hmac))) in
     let named = length-append (codes "heard ") (decimal id) in
@@ -196,9 +203,9 @@ heard_short id octets port hmac h =
     let ports = length-decimal-le 5 port (omega arith) (omega (arith, h.1.1.0)) (omega (arith, h.1.1.0)) in
     let hmacs = length-decimal-le 20 hmac (omega arith) (omega (arith, h.1.1.1)) h.1.1.1 in
     let each = octets_short octets h.1.0.octets in
-    (omega (arith, whole, front, named, back, last), omega (arith, whole, front, named, back, last, ids, ports, hmacs, each, h.1.0.few))
+    (omega (arith, whole, front, named, back, last), omega (arith, whole, front, named, back, last, ids, ports, hmacs, each, few_octets address h.1.0.count))
 
-ask_within : (ask : Ask) → AskFits ask → IsWithin 105 (spaced (ask_words ask))
+pub ask_within : (ask : Ask) → AskFits ask → IsWithin 105 (spaced (ask_words ask))
 ask_within (asks.Send side call) h = few_words 5 105 (send_call_words call) (plain_ask (asks.Send side call) h) (few_send_call call) (omega arith)
 ask_within (asks.Reassembly side call) h = few_words 5 105 (reassembly_call_words call) (plain_ask (asks.Reassembly side call) h) (few_reassembly_call call) (omega arith)
 ask_within (asks.Local step) h = few_words 5 105 (local_words step) (plain_ask (asks.Local step) h) (few_local step) (omega arith)
@@ -220,7 +227,7 @@ ask_within (asks.Control side call) h = by call h
     by (control_calls.Rate path window rtt) h = few (control_calls.Rate path window rtt) h refl
     by (control_calls.Announce id) h = few (control_calls.Announce id) h refl
     by (control_calls.Withdraw id) h = few (control_calls.Withdraw id) h refl
-    by (control_calls.Heard id address port hmac) h = heard_short id (octets_of address) port hmac h
+    by (control_calls.Heard id address port hmac) h = heard_short id address port hmac h
     by (control_calls.Echoed id) h = few (control_calls.Echoed id) h refl
     by (control_calls.Removed id) h = few (control_calls.Removed id) h refl
     by control_calls.FastClose h = few control_calls.FastClose h refl
@@ -240,11 +247,11 @@ each_row_short (row ∷ rows) h range =
     let others = each_row_short rows h.1 range.1 in
     omega (arith, front, path, window, paths, windows, rtts, others)
 
-rows_short : (rows : List Row) → RowsFit rows → AllByRecursion IsInRange rows → IsWithin 292 (spaced (codes "rows" ∷ flat_map row_words rows))
+rows_short : (rows : List Row) → RowsFit rows → All IsInRange rows → IsWithin 292 (spaced (codes "rows" ∷ flat_map row_words rows))
 rows_short rows h range =
     let whole = ap length (rows_is rows) in
     let front = length-append (codes "rows") (flat_map (λ row. 32 ∷ spaced (row_words row)) rows) in
-    let each = each_row_short rows (recursion_from_All RowFits rows h.each) range in
+    let each = each_row_short rows (recursion_from_All RowFits rows h.each) (recursion_from_All IsInRange rows range) in
     (omega (arith, whole, front), omega (arith, whole, front, each, h.few))
 
 control_reply_within : (reply : ControlReply) → ReplyFits (replies.Control reply) → HasRowsInRange (replies.Control reply) → IsWithin 292 (spaced (control_reply_words reply))

@@ -5,3 +5,5 @@ pub mod PlainWords
 pub mod Lengths
 pub mod LogReads
 pub mod FirstRefused
+pub mod Retelling
+pub mod LinesTell

@@ -1,17 +1,14 @@
 -- The log of some rounds reads to their turns.
-use Rattle.std.proofs.Common.{◌≡◌, ℕ, suc, ◌+◌, ◌*◌, ◌/◌, ◌%◌, ◌^◌, ◌<◌, ◌≤◌, Bool, true, false, cond, eqb, ltb, ◌&&◌, List, [], ◌∷◌, ◌++◌, length, take, drop, map, Option, Some, None, Result, Ok, Err, refl, ap, sym, ◌∙◌, arith, append_assoc, length-append, rules}
-use Rattle.std.specs.Prelude.{nat_lt, nat_le, codes, position, ◌==◌, slice_index}
-use Rattle.std.specs.Char.{is_ascii_digit}
+use Rattle.std.proofs.Common.{◌≡◌, ℕ, suc, ◌+◌, ◌/◌, ◌%◌, ◌^◌, ◌<◌, ◌≤◌, Bool, true, false, eqb, ltb, ◌&&◌, List, [], ◌∷◌, ◌++◌, length, take, drop, map, Some, None, Result, Ok, refl, ap, sym, ◌∙◌, arith, append_assoc, length-append, rules}
+use Rattle.std.specs.Prelude.{nat_le, codes, ◌==◌, slice_index}
 use Rattle.std.specs.Fmt.{decimal}
 use Rattle.std.specs.Int.{w64, to_be_bytes}
-use Rattle.std.specs.List.{list_all, list_any, position_or_len, AllByRecursion, flat_map}
+use Rattle.std.specs.List.{list_all, position_or_len, AllByRecursion, flat_map}
 use Rattle.std.specs.Str.{bytes_eq}
-use Rattle.std.specs.Str.Parse.{digits_value}
 use Rattle.std.proofs.Math.Seq.{take-append_seam, drop-append-add}
 use Rattle.std.proofs.lemmas.Bool.{and_parts, and_from, lt-ltb, le-leb, agree_below_at}
 use Rattle.std.proofs.lemmas.Bool.Decides.{nat_tests}
 use Rattle.std.proofs.lemmas.Fmt.{digits_decimal, digits_value-decimal, decimal_nonempty, length-decimal-le}
-use Rattle.std.proofs.lemmas.List.{append-nil}
 use Rattle.std.proofs.lemmas.List.Elements.{recursion_from_All}
 use Rattle.hex.specs.Hex.{lower_digits, encode_with, encode_lower}
 use Rattle.hex.proofs.HexLemmas.{length-encode_with}
@@ -25,16 +22,16 @@ use Rattle.outside_kit.specs.declared.side.Side.TheVariants as sides
 use Rattle.actor_desk.specs.declared.ask.Note.{Note}
 use Rattle.run_log.specs.declared.fault.LogFault.{LogFault}
 use Rattle.run_log.specs.declared.form.Expected.{Expected}
-use Rattle.run_log.specs.declared.form.Expected.TheVariants.{Format, Width, Keys, Turns, Nothing}
+use Rattle.run_log.specs.declared.form.Expected.TheVariants.{Format, Turns}
 use Rattle.run_log.specs.declared.outcome.Outcome.{Outcome}
 use Rattle.run_log.specs.declared.outcome.Outcome.TheVariants as outcomes
 use Rattle.run_log.specs.declared.turn.Turn.{Turn}
-use Rattle.run_log.specs.declared.turn.Turn.TheVariants.{Step, Round}
+use Rattle.run_log.specs.declared.turn.Turn.TheVariants.{Step}
 use Rattle.run_log.specs.Words.{spaced, object_word}
 use Rattle.run_log.specs.Calls.{ask_words}
 use Rattle.run_log.specs.Replies.{reply_text}
 use Rattle.run_log.specs.Lines.{object_of, step_text, round_text, width_text, key_word, keys_text, outcome_text, ended, opening_lines, old_opening_lines, round_lines, rounds_lines}
-use Rattle.run_log.specs.Fields.{field, is_number, actor_of, is_object, is_printable, are_words, step_actor, is_lower_hex, is_key, is_keys_line, is_outcome_line}
+use Rattle.run_log.specs.Fields.{field, is_number, actor_of, is_object, is_printable, step_actor, is_lower_hex, is_key, is_keys_line, is_outcome_line}
 use Rattle.run_log.specs.Fitting.{IsLong}
 use Rattle.run_log.specs.Form.{taken, read_on, reading}
 use Rattle.run_log.specs.Laws.{CanBeLogged, turns_of_round, turns_of, log_behind, ReadsToItsTurns}
@@ -70,7 +67,7 @@ both_lines (line ∷ lines) more h k = (h.0, both_lines lines more h.1 k)
 abbrev IsSeen : List ℕ → Type 0
 IsSeen word = list_all is_seen word ≡ true
 
-no_space : (octet : ℕ) → is_seen octet ≡ true → eqb octet 32 ≡ false
+pub no_space : (octet : ℕ) → is_seen octet ≡ true → eqb octet 32 ≡ false
 no_space octet h = grind (arith, nat_tests)
 
 first_space : (word rest : List ℕ) → IsSeen word → position_or_len (λ octet. octet == 32) (word ++ 32 ∷ rest) ≡ length word
@@ -321,8 +318,7 @@ reads_to_its_turns actors width key_a key_b first rounds outcome small few h =
     let body = all_rounds_read actors width first rounds outcome few h in
     let lines = rounds_lines 0 (first ∷ rounds) ++ end_lines actors width outcome in
     let widths : IsLine (width_text width) = printable_both (codes "width ") (decimal width) refl (printable_word (decimal width) (number_seen width (omega arith))) in
-    let keys = keys_line_text key_a key_b in
-    (
+    let keys = keys_line_text key_a key_b in (
       log_read actors width (opening_lines width key_a key_b) first rounds outcome (refl, (widths, (keys, tt))) few h (opens actors width key_a key_b lines (Ok (turns_of (first ∷ rounds))) body),
       log_read actors width (old_opening_lines key_a key_b) first rounds outcome (refl, (keys, tt)) few h (opens_old actors width key_a key_b lines (Ok (turns_of (first ∷ rounds))) body),
     )

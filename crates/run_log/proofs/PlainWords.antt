@@ -1,6 +1,6 @@
 -- Each word of a log is made of octets that are seen: it holds neither a space nor an end of a line.
-use Rattle.std.proofs.Common.{◌≡◌, ℕ, ◌^◌, ◌<◌, Bool, true, false, ◌&&◌, leb, List, [], ◌∷◌, ◌++◌, Option, Some, None, length, map, refl, arith}
-use Rattle.std.specs.Prelude.{nat_lt, nat_le}
+use Rattle.std.proofs.Common.{◌≡◌, ℕ, Bool, true, false, not, ◌&&◌, List, [], ◌∷◌, ◌++◌, Option, Some, None, length, map, refl, arith}
+use Rattle.std.specs.Prelude.{nat_lt, nat_le, ◌==◌}
 use Rattle.std.specs.Char.{is_ascii_digit}
 use Rattle.std.specs.Fmt.{decimal}
 use Rattle.std.specs.List.{list_all, AllByRecursion, flat_map}
@@ -17,6 +17,7 @@ use Rattle.fallback_state.specs.declared.fall.Verdict.{Verdict}
 use Rattle.fallback_state.specs.declared.fall.Verdict.TheVariants as verdicts
 use Rattle.control_book.specs.declared.call.Notice.{Notice}
 use Rattle.control_book.specs.declared.call.Notice.TheVariants as notices
+use Rattle.key_material.specs.declared.address.Address.{Address}
 use Rattle.key_material.specs.Address.{octets_of}
 use Rattle.linked_increase.specs.declared.rows.Row.{Row}
 use Rattle.send_book.specs.declared.call.Why.{Why}
@@ -42,11 +43,11 @@ use Rattle.actor_desk.specs.declared.ask.LocalStep.TheVariants as steps
 use Rattle.run_log.specs.Words.{flag_word, optional_word, side_word, reason_word, mode_word, event_words, verdict_words, notice_words}
 use Rattle.run_log.specs.Calls.{send_call_words, reassembly_call_words, heard_words, control_call_words, local_words, ask_words}
 use Rattle.run_log.specs.Replies.{send_reply_words, reassembly_reply_words, row_words, control_reply_words}
-use Rattle.run_log.specs.Fitting.{IsLong, IsByte, OptionFits, SendCallFits, SendReplyFits, ReassemblyCallFits, ReassemblyReplyFits, AddressFits, HeardFits, ControlCallFits, VerdictFits, NoticeFits, RowFits, ControlReplyFits, LocalFits, AskFits}
+use Rattle.run_log.specs.Fitting.{IsLong, IsByte, OptionFits, SendCallFits, SendReplyFits, ReassemblyCallFits, ReassemblyReplyFits, HeardFits, ControlCallFits, VerdictFits, NoticeFits, RowFits, ControlReplyFits, LocalFits, AskFits}
 
--- an octet that is seen
+-- an octet that is seen, and isn't '='
 abbrev pub is_seen : ℕ → Bool
-is_seen octet = nat_le 33 octet && nat_le octet 126
+is_seen octet = nat_le 33 octet && (nat_le octet 126 && not (octet == 61))
 
 -- 1 to 20 of them
 abbrev pub is_plain : List ℕ → Bool
@@ -150,9 +151,9 @@ plain_octets : (octets : List ℕ) → AllByRecursion IsByte octets → ArePlain
 plain_octets [] h = tt
 plain_octets (octet ∷ octets) h = (plain_number octet (omega (arith, h.0)), plain_octets octets h.1)
 
-pub plain_heard : (id : ℕ) (octets : List ℕ) (port hmac : ℕ) → HeardFits id octets port hmac → ArePlain (heard_words id octets port hmac)
-plain_heard id octets port hmac h =
-    (refl, (plain_number id (omega (arith, h.0)), plain_append (map decimal octets) (decimal port ∷ decimal hmac ∷ []) (plain_octets octets h.1.0.octets) (plain_number port (omega (arith, h.1.1.0)), (plain_number hmac h.1.1.1, tt))))
+pub plain_heard : (id : ℕ) (address : Address) (port hmac : ℕ) → HeardFits id address port hmac → ArePlain (heard_words id (octets_of address) port hmac)
+plain_heard id address port hmac h =
+    (refl, (plain_number id (omega (arith, h.0)), plain_append (map decimal (octets_of address)) (decimal port ∷ decimal hmac ∷ []) (plain_octets (octets_of address) h.1.0.octets) (plain_number port (omega (arith, h.1.1.0)), (plain_number hmac h.1.1.1, tt))))
 
 plain_control_call : (call : ControlCall) → ControlCallFits call → ArePlain (control_call_words call)
 plain_control_call (control_calls.Look path) h = (refl, (plain_number path h, tt))
@@ -167,7 +168,7 @@ plain_control_call (control_calls.Backup path on) h = (refl, (plain_number path 
 plain_control_call (control_calls.Rate path window rtt) h = (refl, (plain_number path h.0, (plain_number window h.1.0, (plain_number rtt h.1.1, tt))))
 plain_control_call (control_calls.Announce id) h = (refl, (plain_number id h, tt))
 plain_control_call (control_calls.Withdraw id) h = (refl, (plain_number id h, tt))
-plain_control_call (control_calls.Heard id address port hmac) h = plain_heard id (octets_of address) port hmac h
+plain_control_call (control_calls.Heard id address port hmac) h = plain_heard id address port hmac h
 plain_control_call (control_calls.Echoed id) h = (refl, (plain_number id h, tt))
 plain_control_call (control_calls.Removed id) h = (refl, (plain_number id h, tt))
 plain_control_call control_calls.FastClose h = (refl, tt)

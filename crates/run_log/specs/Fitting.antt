@@ -1,9 +1,10 @@
 -- The numbers of a note are numbers of their types.
-use Rattle.std.specs.Prelude.{ℕ, ◌<◌, ◌≤◌, ◌^◌, List, length, Option, Some, None, All}
+use Rattle.std.specs.Prelude.{◌≡◌, ℕ, ◌<◌, ◌≤◌, ◌^◌, List, length, Option, Some, None, All}
 use Rattle.std.specs.List.{AllByRecursion}
 use Rattle.fallback_state.specs.declared.fall.Verdict.{Verdict}
 use Rattle.fallback_state.specs.declared.fall.Verdict.TheVariants as verdicts
 use Rattle.key_material.specs.declared.address.Address.{Address}
+use Rattle.key_material.specs.declared.address.Address.TheVariants as addresses
 use Rattle.key_material.specs.Address.{octets_of}
 use Rattle.linked_increase.specs.declared.rows.Row.{Row}
 use Rattle.send_book.specs.declared.call.SendCall.{SendCall}
@@ -84,12 +85,16 @@ ReassemblyReplyFits (reassembly_replies.Aborted by_peer) = Unit {0}
 ReassemblyReplyFits (reassembly_replies.Ack next window) = IsLong next × IsLong window
 ReassemblyReplyFits reassembly_replies.Noted = Unit {0}
 
--- the octets of an announced address
-pub record AddressFits (address : List ℕ) : Type 0 where
-  pub few : length address ≤ 16
-  pub octets : AllByRecursion IsByte address
+-- the octets of an announced address: 4 or 16
+abbrev pub HasItsOctets : Address → Type 0
+HasItsOctets (addresses.V4 octets) = length octets ≡ 4
+HasItsOctets (addresses.V6 octets) = length octets ≡ 16
 
-abbrev pub HeardFits : ℕ → List ℕ → ℕ → ℕ → Type 0
+pub record AddressFits (address : Address) : Type 0 where
+  pub count : HasItsOctets address
+  pub octets : AllByRecursion IsByte (octets_of address)
+
+abbrev pub HeardFits : ℕ → Address → ℕ → ℕ → Type 0
 HeardFits id address port hmac = IsByte id × (AddressFits address × (IsShort port × IsLong hmac))
 
 abbrev pub ControlCallFits : ControlCall → Type 0
@@ -105,7 +110,7 @@ ControlCallFits (control_calls.Backup path on) = IsLong path
 ControlCallFits (control_calls.Rate path window rtt) = IsLong path × (IsLong window × IsLong rtt)
 ControlCallFits (control_calls.Announce id) = IsLong id
 ControlCallFits (control_calls.Withdraw id) = IsLong id
-ControlCallFits (control_calls.Heard id address port hmac) = HeardFits id (octets_of address) port hmac
+ControlCallFits (control_calls.Heard id address port hmac) = HeardFits id address port hmac
 ControlCallFits (control_calls.Echoed id) = IsLong id
 ControlCallFits (control_calls.Removed id) = IsLong id
 ControlCallFits control_calls.FastClose = Unit {0}

@@ -1,5 +1,5 @@
 -- What holds of every log.
-use Rattle.std.specs.Prelude.{◌≡◌, ℕ, suc, ◌<◌, ◌≤◌, List, [], ◌∷◌, ◌++◌, length, take, map, Ok, Err, IsOk}
+use Rattle.std.specs.Prelude.{◌≡◌, ℕ, suc, ◌<◌, ◌≤◌, List, [], ◌∷◌, ◌++◌, length, take, map, Ok, Err, IsOk, All}
 use Rattle.std.specs.List.{flat_map, AllByRecursion}
 use Rattle.linked_increase.specs.Paths.{IsInRange}
 use Rattle.control_book.specs.declared.call.ControlReply.TheVariants.{Rows}
@@ -13,12 +13,14 @@ use Rattle.run_log.specs.declared.outcome.Outcome.{Outcome}
 use Rattle.run_log.specs.declared.turn.Turn.{Turn}
 use Rattle.run_log.specs.declared.turn.Turn.TheVariants.{Step, Round}
 use Rattle.run_log.specs.Fitting.{IsByte, IsLong, NoteFits}
+use Rattle.actor_desk.specs.Kinds.{IsOfKind}
+use Rattle.run_log.specs.Telling.{told}
 use Rattle.run_log.specs.Form.{read_on, reading}
-use Rattle.run_log.specs.Lines.{opening_lines, old_opening_lines, rounds_lines, outcome_text, ended}
+use Rattle.run_log.specs.Lines.{opening_lines, old_opening_lines, rounds_lines, outcome_text, step_text, ended}
 
 -- rows that a reply tells are those of paths whose window and round-trip time are in range
 abbrev pub HasRowsInRange : Reply → Type 0
-HasRowsInRange (Control (Rows rows)) = AllByRecursion IsInRange rows
+HasRowsInRange (Control (Rows rows)) = All IsInRange rows
 HasRowsInRange reply = Unit {0}
 
 -- a note of a run of so many actors
@@ -59,3 +61,7 @@ pub record IsFirstRefused (actors width : ℕ) (lines : List (List ℕ)) (before
 abbrev pub RefusesTheFirst : Type 0
 RefusesTheFirst = (actors width : ℕ) (text : List ℕ) (number : ℕ) → IsLong (length (text_lines text)) → reading actors width text ≡ Err (Line number)
     → (before : ℕ) × (number ≡ suc before) × IsFirstRefused actors width (text_lines text) before
+
+-- two notes with one line are told alike, where the replies are of the asked kind
+abbrev pub LinesTellTheirNotes : Type 0
+LinesTellTheirNotes = (a b : Note) → NoteFits a → NoteFits b → IsOfKind a.ask a.reply → IsOfKind b.ask b.reply → step_text a ≡ step_text b → told a ≡ told b

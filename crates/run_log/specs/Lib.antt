@@ -6,4 +6,5 @@ pub mod Faults
 pub mod Fields
 pub mod Form
 pub mod Fitting
+pub mod Telling
 pub mod Laws

@@ -1,16 +1,18 @@
 //! What a control book is asked, in the words of a log.
 
-ghost use Rattle.std.specs.Prelude.{◌≡◌, ◌∷◌, ◌++◌, ◌≤◌, OnOk, string_bytes, length};
+ghost use Rattle.std.specs.Prelude.{◌≡◌, ◌∷◌, ◌++◌, OnOk, string_bytes};
 ghost use Rattle.std.specs.Fmt.{decimal};
 ghost use Rattle.std.specs.List.{flat_map, AllByRecursion};
 ghost use Rattle.control_book.specs.declared.call.ControlCall.TheVariants.{Fell};
-ghost use Rattle.run_log.specs.Fitting.{IsLong, IsByte, ControlCallFits, HeardFits};
+ghost use Rattle.key_material.specs.Address.{octets_of};
+ghost use Rattle.run_log.specs.Fitting.{IsLong, IsByte, ControlCallFits, AddressFits, HeardFits};
 ghost use Rattle.run_log.specs.Words.{spaced};
 ghost use Rattle.run_log.specs.Calls.{heard_words, control_call_words};
 
 use crate::name::{flag, put_event};
 use control_book::ControlCall;
 use fallback_state::Event;
+use key_material::Address;
 use std::alloc::AllocError;
 
 fn put_fell(text: &mut String, path: u8, event: Event) -> Result<(), AllocError>
@@ -32,20 +34,30 @@ fn put_octets(text: &mut String, octets: &[u8]) -> Result<(), AllocError>
     Ok(())
 }
 
+/// The octets of an address.
+fn put_address(text: &mut String, address: Address) -> Result<(), AllocError>
+    ensures text { OnOk result (string_bytes text.new ≡ string_bytes text.old ++ flat_map (λ octet. 32 ∷ decimal octet) (octets_of address)) }
+    ensures fits { OnOk result (AddressFits address) }
+{
+    match address {
+        Address::V4(octets) => put_octets(text, &octets),
+        Address::V6(octets) => put_octets(text, &octets),
+    }
+}
+
 /// An address that the peer announced.
 fn put_heard(
     text: &mut String,
     id: u8,
-    octets: &[u8],
+    address: Address,
     port: u16,
     hmac: u64,
 ) -> Result<(), AllocError>
-    requires { length octets.now ≤ 16 }
-    ensures text { OnOk result (string_bytes text.new ≡ string_bytes text.old ++ spaced (heard_words id octets.now port hmac)) }
-    ensures fits { OnOk result (HeardFits id octets.now port hmac) }
+    ensures text { OnOk result (string_bytes text.new ≡ string_bytes text.old ++ spaced (heard_words id (octets_of address) port hmac)) }
+    ensures fits { OnOk result (HeardFits id address port hmac) }
 {
     write!(text, "heard {id}")?;
-    put_octets(text, octets)?;
+    put_address(text, address)?;
     write!(text, " {port} {hmac}")?;
     Ok(())
 }
@@ -69,10 +81,10 @@ pub fn put_control_call(text: &mut String, call: &ControlCall) -> Result<(), All
         ControlCall::Withdraw { id } => write!(text, "withdraw {id}"),
         ControlCall::Heard {
             id,
-            ref address,
+            address,
             port,
             hmac,
-        } => put_heard(text, id, address.octets(), port, hmac),
+        } => put_heard(text, id, address, port, hmac),
         ControlCall::Echoed { id } => write!(text, "echoed {id}"),
         ControlCall::Removed { id } => write!(text, "removed {id}"),
         ControlCall::FastClose => write!(text, "fastclose"),

@@ -20,7 +20,7 @@ mod turn;
 mod writing;
 
 pub use fault::LogFault;
-pub use laws::{a_log_reads_to_its_turns, the_first_refused_line_is_told};
+pub use laws::{a_line_tells_its_note, a_log_reads_to_its_turns, the_first_refused_line_is_told};
 pub use outcome::Outcome;
 pub use reading::read_log;
 pub use turn::Turn;

@@ -1,4 +1,4 @@
-use Rattle.std.proofs.Common.{◌≡◌, ◌∷◌, ◌++◌, string_bytes, drop, take, ℕ}
+use Rattle.std.proofs.Common.{◌≡◌, ◌∷◌, ◌++◌, string_bytes, drop, take}
 use Rattle.std.specs.Prelude.{All}
 use Rattle.run_log.specs.Fitting.{RowFits}
 use Rattle.std.specs.List.{flat_map}
