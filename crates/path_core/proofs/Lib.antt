@@ -2,6 +2,7 @@ pub mod Ranking
 pub mod Resting
 pub mod Passed
 pub mod FirstTold
+pub mod Filling
 pub mod Sendings
 pub mod Happening
 pub mod Lowering
