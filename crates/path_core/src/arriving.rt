@@ -64,7 +64,7 @@ fn acknowledged_in(heard: Option<Option<u64>>) -> Option<Pos>
 }
 
 /// What is to be done after a copy of this meaning that says so many things, ten at most.
-fn template_of(side: Side, count: u64, meaning: Meaning) -> Agenda
+fn template_of(side: Side, count: usize, meaning: Meaning) -> Agenda
     requires { count ≤ 10 }
     ensures { result ≡ template_by side count meaning }
 {
@@ -139,7 +139,7 @@ impl PathEnd {
         ensures after { self.new ≡ after_copy answer side now (heard_value heard.now) meaning self.old }
     {
         let items = items_of(side, heard);
-        let agenda = template_of(side, items.len() as u64, meaning);
+        let agenda = template_of(side, items.len(), meaning);
         let opened = opens_by(meaning, self.tcp.state());
         let place = place_in_first(items.as_slice());
         self.tcp.hear(meaning, &arriving_of(heard), place, now);
