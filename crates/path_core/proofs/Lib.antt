@@ -2,6 +2,9 @@ pub mod Ranking
 pub mod Resting
 pub mod Passed
 pub mod FirstTold
+pub mod Parts
+pub mod Mapped
+pub mod Filling
 pub mod Sendings
 pub mod Happening
 pub mod Lowering
