@@ -14,3 +14,4 @@ mod Things
 mod Sayable
 mod InBounds
 mod Settling
+mod FirstDuty
