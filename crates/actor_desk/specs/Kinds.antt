@@ -1,5 +1,5 @@
 -- Which replies a call can have, whatever book gives them.
-use Rattle.std.specs.Prelude.{ℕ, ◌≡◌, ◌+◌, ◌≤◌, List, length}
+use Rattle.std.specs.Prelude.{ℕ, ◌≡◌, ◌+◌, ◌≤◌, List, length, Option, Some, None}
 use Rattle.send_book.specs.declared.call.SendCall.{SendCall}
 use Rattle.send_book.specs.declared.call.SendCall.TheVariants as send_calls
 use Rattle.send_book.specs.declared.call.SendReply.{SendReply}
@@ -14,6 +14,8 @@ use Rattle.control_book.specs.declared.call.ControlReply.{ControlReply}
 use Rattle.control_book.specs.declared.call.ControlReply.TheVariants as control_replies
 use Rattle.send_book.specs.State.{Tile}
 use Rattle.send_book.specs.Steps.{CanAsk}
+use Rattle.reassembly_book.specs.Steps as arriving
+use Rattle.control_book.specs.Calls.{can_ask}
 use Rattle.actor_desk.specs.Desk.{SixBooks, reply_of}
 use Rattle.actor_desk.specs.declared.ask.Ask.{Ask}
 use Rattle.actor_desk.specs.declared.ask.Ask.TheVariants as asks
@@ -97,6 +99,11 @@ IsOfKind (asks.Control s call) (replies.Control reply) = IsControlKind call repl
 IsOfKind (asks.Local step) replies.Done = Unit {0}
 IsOfKind _ _ = ⊥
 
+-- the reply answers what was asked; where nothing was asked, no reply does
+abbrev pub AnswersTo : Option Ask → Reply → Type 0
+AnswersTo None reply = ⊥
+AnswersTo (Some ask) reply = IsOfKind ask reply
+
 -- ---- what the books answer is of the kind
 
 -- both send books are sound
@@ -104,10 +111,12 @@ pub record AreTiled (books : SixBooks) : Type 0 where
   pub a : Tile books.send_a
   pub b : Tile books.send_b
 
--- a call of a send book can be asked
+-- a call meets the conditions of its book
 abbrev pub CanBeAsked : Ask → Type 0
 CanBeAsked (asks.Send s call) = CanAsk call
-CanBeAsked _ = Unit {0}
+CanBeAsked (asks.Reassembly s call) = arriving.CanAsk call
+CanBeAsked (asks.Control s call) = can_ask call
+CanBeAsked (asks.Local step) = Unit {0}
 
 abbrev pub BooksAnswerInKind : Type 0
 BooksAnswerInKind = (books : SixBooks) (x : Ask) → AreTiled books → CanBeAsked x → IsOfKind x (reply_of books x)

@@ -12,3 +12,5 @@ pub mod TurnEnds
 pub mod Showing
 mod Things
 mod Sayable
+mod InBounds
+mod Settling

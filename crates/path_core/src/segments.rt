@@ -268,7 +268,7 @@ impl PathEnd {
         side: Side,
         lent: Option<RecordRef<'a>>,
     ) -> Said<'a>
-        requires { IfSome lent.entry (λ lent. length lent.piece.now ≤ 65475) }
+        requires { IfSome lent (λ lent. length lent.piece.now ≤ 65475) }
         ensures { plain_said result ≡ record_or_ack profile.now side (option_map record_of lent.entry) self.now }
     {
         match lent {

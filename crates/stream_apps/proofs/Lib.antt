@@ -1,1 +1,2 @@
 pub mod AppEnds
+pub mod Written

@@ -2,8 +2,10 @@
 //! reads from its side's reassembly book what has come.
 #![tactic(auto)]
 
+mod app;
 mod duty;
 mod laws;
 
+pub use app::App;
 pub use duty::AppDuty;
 pub use laws::{every_app_turn_ends, first_app_turns};
