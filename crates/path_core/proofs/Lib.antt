@@ -2,6 +2,7 @@ pub mod Ranking
 pub mod Resting
 pub mod Passed
 pub mod FirstTold
+pub mod Held
 pub mod Parts
 pub mod Mapped
 pub mod Filling
