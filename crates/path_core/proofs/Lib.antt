@@ -2,7 +2,7 @@ pub mod Ranking
 pub mod Resting
 pub mod Passed
 pub mod FirstTold
-pub mod Held
+pub mod Meanings
 pub mod Parts
 pub mod Mapped
 pub mod Filling

@@ -4,7 +4,7 @@ use Rattle.subflow_tcp.specs.Judging.{meaning_of}
 use Rattle.subflow_tcp.specs.Segments.{Copy}
 use Rattle.path_core.specs.Arriving.{copy_of}
 use Rattle.path_core.specs.Ends.{PathEnd}
-use Rattle.path_core.proofs.Held.{means_the_same}
+use Rattle.path_core.proofs.Meanings.{means_the_same}
 use Rattle.path_core.proofs.end.PathEnd.hear_segment.Goals as goal
 
 pub hear_copy-requires : goal.hear_copy-requires
