@@ -15,3 +15,4 @@ mod Things
 mod Sayable
 mod InBounds
 mod Settling
+mod FirstDuty

@@ -35,6 +35,7 @@ impl Path {
     /// # Errors
     ///
     /// Only where there is no memory for those bytes.
+    #[tactic(auto, using(crate::proofs::FirstDuty::ask_of_first, crate::proofs::FirstDuty::ask_of_none, crate::proofs::FirstDuty::bytes_of_first))]
     pub fn ask(&self) -> Result<Option<Ask>, AllocError>
         ensures ask { IfOk result (λ ask. ask ≡ asks_of octets self.now) }
         ensures plain { asks_bytes_first self.now.agenda ≡ false → IsOk result }
@@ -46,6 +47,7 @@ impl Path {
     }
 
     /// The reply answers the first duty.
+    #[tactic(auto, using(crate::proofs::FirstDuty::answer_of_first, crate::proofs::FirstDuty::answer_of_none))]
     fn answer_first(&mut self, reply: &Reply) -> Result<(), AllocError>
         requires acks { IsAckBounded reply.now }
         requires rows { AreRowsInRange reply.now }
