@@ -16,3 +16,4 @@ mod Sayable
 mod InBounds
 mod Settling
 mod FirstDuty
+mod Ordered

@@ -12,8 +12,8 @@ loop-part-init c = record {
   is = c.new-sum.ensures;
   few = omega (arith, c.from-left.ensures);
   whole =
-    ap (λ n. take n (concat c.into_iter-part-iterator.result)) c.from-left.ensures
-    ∙ ap (λ (parts : List (List ℕ)). take c.args.count (concat parts)) c.into_iter-part-iterator.ensures.into_iter_gives;
+      ap (λ n. take n (concat c.into_iter-part-iterator.result)) c.from-left.ensures
+      ∙ ap (λ (parts : List (List ℕ)). take c.args.count (concat parts)) c.into_iter-part-iterator.ensures.into_iter_gives;
 }
 
 pub add-requires : goal.add-requires
@@ -32,9 +32,9 @@ loop-part-preserved c =
       is = c.add.ensures c.args.mapping.now so.added so.is;
       few = omega (arith, so.few, length-append so.added (take taken part), length-take taken part, c.min-taken.ensures);
       whole =
-        part-taken so.added left taken (left - taken) part (concat c.next.new.self) (omega (arith, c.min-taken.ensures)) refl
-        ∙ ap (λ (parts : List (List ℕ)). so.added ++ take left (concat parts)) (sym c.in-Some.ensures.steps)
-        ∙ so.whole;
+          part-taken so.added left taken (left - taken) part (concat c.next.new.self) (omega (arith, c.min-taken.ensures)) refl
+          ∙ ap (λ (parts : List (List ℕ)). so.added ++ take left (concat parts)) (sym c.in-Some.ensures.steps)
+          ∙ so.whole;
     }
 
 pub returns : goal.returns
