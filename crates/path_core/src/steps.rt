@@ -21,7 +21,7 @@ impl Path {
     }
 
     /// The duties that come to nothing are passed, up to the first that comes to something. Takes no memory.
-    fn settle(&mut self)
+    pub(crate) fn settle(&mut self)
         ensures { self.new ≡ settles_down self.old }
     {
         while let Some(duty) = self.passable() {
