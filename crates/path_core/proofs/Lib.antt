@@ -2,6 +2,10 @@ pub mod Ranking
 pub mod Resting
 pub mod Passed
 pub mod FirstTold
+pub mod Meanings
+pub mod Parts
+pub mod Mapped
+pub mod Filling
 pub mod Sendings
 pub mod Happening
 pub mod Lowering
@@ -9,3 +13,7 @@ pub mod TurnEnds
 pub mod Showing
 mod Things
 mod Sayable
+mod InBounds
+mod Settling
+mod FirstDuty
+mod Ordered

@@ -1,5 +1,5 @@
 -- Every segment that an end sends can be said.
-use Rattle.std.proofs.Common.{◌≡◌, refl, absurd, subst, ap, ℕ, ◌+◌, ◌-◌, ◌^◌, ◌≤◌, Bool, true, false, if◌then◌else◌, not, ◌&&◌, ◌==◌, Option, Some, None, is_some, List, [], ◌∷◌, ◌++◌, length, arith}
+use Rattle.std.proofs.Common.{◌≡◌, refl, subst, ap, ℕ, ◌+◌, ◌-◌, ◌^◌, ◌≤◌, Bool, true, false, if◌then◌else◌, not, ◌&&◌, ◌==◌, Option, Some, None, is_some, List, [], ◌∷◌, ◌++◌, length, arith}
 use Rattle.std.proofs.lemmas.List.{append-nil}
 use Rattle.std.proofs.lemmas.List.Elements.{All-nil, All-cons}
 use Rattle.std.specs.Prelude.{All, IfSome}
@@ -74,7 +74,7 @@ told_form false checksum = refl
 -- ---- options
 
 -- one option at most, of 28 octets at most
-AreShort : Spelling → SpelledSide → List PlainOption → Type 0
+abbrev AreShort : Spelling → SpelledSide → List PlainOption → Type 0
 AreShort spelling from [] = Unit {0}
 AreShort spelling from (o ∷ []) = CanSayOption spelling from o × (length (option_text (said_option spelling from o)) ≤ 28)
 AreShort spelling from (o ∷ other ∷ others) = ⊥

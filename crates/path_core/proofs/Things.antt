@@ -1,5 +1,5 @@
 -- The first of the ten things that a copy may say.
-use Rattle.std.proofs.Common.{◌≡◌, refl, absurd, ℕ, zero, suc, ◌≤◌, List, ◌++◌, take, arith}
+use Rattle.std.proofs.Common.{◌≡◌, refl, ℕ, zero, suc, ◌≤◌, List, ◌++◌, take, arith}
 use Rattle.outside_kit.specs.declared.side.Side.{Side}
 use Rattle.path_core.specs.declared.duty.Duty.{Duty}
 use Rattle.path_core.specs.Agenda.{heard_and, things_heard}

@@ -78,9 +78,9 @@ step_for (Some event) = step_of event
 
 -- it comes before the round's end, and is there: a copy is under way, and a timer runs
 abbrev pub CanHappen : {C : Type 0} → Event → PathState C → Type 0
-CanHappen (event.Takes line) p = line.tick < p.until
-CanHappen (event.Arrives due) p = (due.tick < p.until) × IsSome (arriving due p.link)
-CanHappen (event.Fires s tick) p = (tick < p.until) × IsSome (end_at s p).tcp.timing.timer
+CanHappen (happenings.Takes line) p = line.tick < p.until
+CanHappen (happenings.Arrives due) p = (due.tick < p.until) × IsSome (arriving due p.link)
+CanHappen (happenings.Fires s tick) p = (tick < p.until) × IsSome (end_at s p).tcp.timing.timer
 
 -- ---- what each makes of the path
 

@@ -1,11 +1,12 @@
 //! What the options of a copy say (RFC 8684, section 3).
 
-ghost use Rattle.std.specs.Prelude.{◌≡◌, ◌++◌, ◌∷◌, [], not, take};
+ghost use Rattle.std.specs.Prelude.{◌≡◌, ◌∷◌, [], not};
 ghost use Rattle.std.specs.List.{list_any};
 ghost use Rattle.actor_desk.specs.Words.{is_nil};
 ghost use Rattle.path_segments.specs.HeardLent.{heard_plain};
 ghost use Rattle.path_segments.specs.HeardSegments.{heard_value};
 ghost use Rattle.path_core.specs.declared.heard.Heard.TheVariants as says;
+ghost use Rattle.path_core.specs.Items.{with_item, with_items, is_dss};
 ghost use Rattle.path_core.specs.Arriving.{ack_items, is_mapping, mapping_items, map_items, key_items, items_in, items_of, place_in_first, wants_ack, owes_by, opens_by};
 
 use crate::heard::Heard;
@@ -21,7 +22,7 @@ const LIMIT: u64 = 1 << 62;
 
 /// One thing more, the first ten of which count.
 fn put(items: &mut Items, item: Heard)
-    ensures { items.new.items ≡ take 10 (items.old.items ++ item ∷ []) }
+    ensures { items.new.items ≡ with_item items.old.items item }
 {
     if items.len() < 10 {
         items.push(item);
@@ -37,7 +38,7 @@ pub(crate) fn is_mapping(place: u64, position: Pos, length: u16) -> bool
 
 /// What MP_CAPABLE says by its keys.
 fn put_keys(items: &mut Items, side: Side, keys: CapableKeys)
-    ensures { items.new.items ≡ take 10 (items.old.items ++ key_items side keys) }
+    ensures { items.new.items ≡ with_items items.old.items (key_items side keys) }
 {
     match (side, keys) {
         (Side::A, CapableKeys::Sender { sender }) => put(items, Heard::PeerKey { key: sender }),
@@ -62,14 +63,14 @@ fn put_keys(items: &mut Items, side: Side, keys: CapableKeys)
 
 /// Both keys.
 fn put_both(items: &mut Items, own: u64, peer: u64)
-    ensures { items.new.items ≡ take 10 (items.old.items ++ says.Keys own peer ∷ []) }
+    ensures { items.new.items ≡ with_items items.old.items (says.Keys own peer ∷ []) }
 {
     put(items, Heard::Keys { own, peer });
 }
 
 /// A mapping, where it counts.
 fn put_mapping(items: &mut Items, place: u64, position: Pos, length: u16)
-    ensures { items.new.items ≡ take 10 (items.old.items ++ mapping_items place position length) }
+    ensures { items.new.items ≡ with_items items.old.items (mapping_items place position length) }
 {
     if is_mapping(place, position, length) {
         put(items, Heard::Mapping);
@@ -78,7 +79,7 @@ fn put_mapping(items: &mut Items, place: u64, position: Pos, length: u16)
 
 /// A Data ACK that names a place.
 fn put_ack(items: &mut Items, next: Option<Option<u64>>, window: u32)
-    ensures { items.new.items ≡ take 10 (items.old.items ++ ack_items next window) }
+    ensures { items.new.items ≡ with_items items.old.items (ack_items next window) }
 {
     if let Some(Some(next)) = next {
         put(items, Heard::DataAck { next, window });
@@ -87,7 +88,7 @@ fn put_ack(items: &mut Items, next: Option<Option<u64>>, window: u32)
 
 /// A mapping or a DATA_FIN that names a place.
 fn put_map(items: &mut Items, mapping: Option<HeardMapping>)
-    ensures { items.new.items ≡ take 10 (items.old.items ++ map_items mapping) }
+    ensures { items.new.items ≡ with_items items.old.items (map_items mapping) }
 {
     match mapping {
         Some(
@@ -111,7 +112,7 @@ fn put_map(items: &mut Items, mapping: Option<HeardMapping>)
 
 /// What one option says.
 fn put_option(items: &mut Items, side: Side, window: u32, option: &HeardOption<'_>)
-    ensures { items.new.items ≡ take 10 (items.old.items ++ items_in side window (heard_plain option.now)) }
+    ensures { items.new.items ≡ with_items items.old.items (items_in side window (heard_plain option.now)) }
 {
     match *option {
         PathOption::Capable { keys, .. } => put_keys(items, side, keys),
@@ -135,16 +136,21 @@ pub(crate) fn items_of(side: Side, heard: &HeardSegment<'_>) -> Items
     items
 }
 
+/// It says that a DSS came.
+fn is_dss(item: Heard) -> bool
+    ensures { result ≡ is_dss item }
+{
+    matches!(item, Heard::Dss)
+}
+
 /// The place that the Data ACK of the first DSS names.
 pub(crate) fn place_in_first(items: &[Heard]) -> Option<u64>
     ensures { result ≡ place_in_first items.now }
 {
-    let mut left = items;
-    while let [item, others @ ..] = left {
-        if *item == Heard::Dss {
-            return place_in(others);
+    for index in 0..items.len() {
+        if is_dss(items[index]) {
+            return place_in(&items[index + 1..]);
         }
-        left = others;
     }
     None
 }

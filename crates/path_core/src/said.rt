@@ -72,7 +72,12 @@ impl<'a> Said<'a> {
                 let segment = self.with_options(&options, self.payload);
                 write(alloc, spelling, spelled_by(side), &segment)
             }
-            None => write(alloc, spelling, spelled_by(side), &self.with_options(&[], self.payload)),
+            None => write(
+                alloc,
+                spelling,
+                spelled_by(side),
+                &self.with_options(&[], self.payload),
+            ),
         }
     }
 
@@ -82,17 +87,16 @@ impl<'a> Said<'a> {
         ensures { result ≡ sum_of spelling.now side (plain_said self.now) }
     {
         match self.option {
-<<<<<<< HEAD
-            Some(option) => sum(spelling, spelled_by(side), &self.with_options(&[option])),
-            None => sum(spelling, spelled_by(side), &self.with_options(&[])),
-=======
             Some(option) => {
                 let options = [lent(option)];
                 let segment = self.with_options(&options, self.payload);
                 sum(spelling, spelled_by(side), &segment)
             }
-            None => sum(spelling, spelled_by(side), &self.with_options(&[], self.payload)),
->>>>>>> e5d16184a46378811a9f09d47eab19875a209581
+            None => sum(
+                spelling,
+                spelled_by(side),
+                &self.with_options(&[], self.payload),
+            ),
         }
     }
 }
