@@ -1,6 +1,6 @@
 //! What happens on a path by itself: lines of the script, copies that arrive, timers that run out.
 
-ghost use Rattle.std.specs.Prelude.{◌≡◌, ◌∷◌, ◌++◌, ◌<◌, ◌^◌, ◌-◌, [], max, if◌then◌else◌, IfSome, IsSome, OnOk, OnErr};
+ghost use Rattle.std.specs.Prelude.{◌≡◌, ◌&&◌, ◌∷◌, ◌++◌, ◌<◌, ◌^◌, ◌-◌, [], max, if◌then◌else◌, IfSome, IsSome, OnOk, OnErr};
 ghost use Rattle.actor_desk.specs.Kinds.{CanBeAsked};
 ghost use Rattle.link_model.specs.Steps.{next_due};
 ghost use Rattle.outside_kit.specs.declared.side.Side.TheVariants.{A, B};
@@ -119,6 +119,13 @@ impl PathEnd {
 }
 
 impl Path {
+    /// Whether both ends are dead.
+    pub fn is_dead(&self) -> bool
+        ensures { result ≡ (is_dead self.now.a.tcp.state && is_dead self.now.b.tcp.state) }
+    {
+        self.a.is_dead() && self.b.is_dead()
+    }
+
     /// The line that comes due next.
     fn next_line(&self) -> Option<Event>
         ensures { result ≡ next_line self.now.lines }
