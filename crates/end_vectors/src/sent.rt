@@ -17,7 +17,7 @@ const NO_MAPPING: Mapping = Mapping {
 /// `push LENGTH`: the position of a piece of so many octets.
 pub fn push(alloc: Global, end: &mut Subflow, fields: &[&str]) -> Result<String, CaseFault> {
     let length: u32 = parsed_at(fields, 0)?;
-    if length == 0 || length > 65_535 || end.is_finished() || end.nxt() >= 1 << 61 {
+    if length == 0 || length > 65_475 || end.is_finished() || end.nxt() >= 1 << 61 {
         return Err(CaseFault::Form);
     }
     let piece = vec![in alloc; 0u8; length as usize]?;

@@ -107,7 +107,7 @@ pub fn grow(end: &mut Subflow, mss: u16) {
 
 /// The next piece is pushed: so many made octets from the place on.
 fn push(end: &mut Subflow, alloc: Global, place: u32, length: u32) -> Result<(), CaseFault> {
-    if length == 0 || length > 65_535 || end.is_finished() || end.nxt() >= 1 << 61 {
+    if length == 0 || length > 65_475 || end.is_finished() || end.nxt() >= 1 << 61 {
         return Err(CaseFault::Form);
     }
     let piece = made_piece(alloc, place, length)?;
