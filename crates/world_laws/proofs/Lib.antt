@@ -4,3 +4,4 @@ pub mod Chaining
 pub mod Pairing
 pub mod Roads
 pub mod Showing
+pub mod Carrying

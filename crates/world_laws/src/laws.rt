@@ -1,5 +1,5 @@
 //! What holds of every connection, as clauses of functions that do nothing.
-ghost use Rattle.world_laws.specs.Laws.{SerialIsOne, StaysFine};
+ghost use Rattle.world_laws.specs.Laws.{SerialIsOne, StaysFine, OctetsDoAsValues};
 ghost use Rattle.path_core.specs.Octets.{octets};
 ghost use Rattle.path_core.specs.Values.{values};
 
@@ -14,4 +14,11 @@ pub fn serial_is_one()
 pub fn what_is_fine_stays_fine()
     ensures octets { StaysFine octets }
     ensures values { StaysFine values }
+{}
+
+/// A law: a world whose links carry octets is the world whose links carry segments as values, shown in octets, over every list
+/// of turns that are fresh: no line of a script strips or alters a segment, and each copy that arrives can be said, with
+/// numbers near those that its end expects.
+pub fn octets_do_as_values()
+    ensures { OctetsDoAsValues }
 {}

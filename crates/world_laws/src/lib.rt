@@ -7,5 +7,5 @@
 mod laws;
 mod outcome;
 
-pub use laws::{serial_is_one, what_is_fine_stays_fine};
+pub use laws::{octets_do_as_values, serial_is_one, what_is_fine_stays_fine};
 pub use outcome::Outcome;
