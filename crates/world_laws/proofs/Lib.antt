@@ -5,3 +5,6 @@ pub mod Pairing
 pub mod Roads
 pub mod Showing
 pub mod Carrying
+pub mod Growing
+pub mod Saying
+pub mod Records

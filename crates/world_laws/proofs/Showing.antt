@@ -17,11 +17,11 @@ use Rattle.path_segments.specs.Options.{PlainOption}
 use Rattle.path_segments.specs.Spelled.{PlainSegment}
 use Rattle.subflow_send.specs.declared.record.RecordKind.{RecordKind}
 use Rattle.subflow_send.specs.declared.record.RecordKind.TheVariants.{Syn, Data, Fin}
-use Rattle.subflow_send.specs.Records.{Record}
+use Rattle.subflow_send.specs.Records.{Record, SendState}
 use Rattle.subflow_tcp.specs.declared.handshake.State.{State as EndPhase}
 use Rattle.subflow_tcp.specs.declared.handshake.State.TheVariants as phase
-use Rattle.subflow_tcp.specs.State.{EndState, is_fin_passed}
-use Rattle.subflow_recv.specs.Receiving.{filled}
+use Rattle.subflow_tcp.specs.State.{is_behind}
+use Rattle.subflow_recv.specs.Receiving.{Receiving}
 use Rattle.stream_lanes.specs.Lane.{Mapping, DataCopy, AckCopy, Lane}
 use Rattle.stream_lanes.specs.Words.{Every, Has}
 use Rattle.path_core.specs.declared.heard.Heard.{Heard}
@@ -78,10 +78,13 @@ pub record IsPiece (c : Profile) (s : Side) (datas : List DataCopy) (r : Record)
   pub octets : HasData datas r.pos r.piece
   pub mapping : HasMapping datas (place_numbered c s r.mapping.number) r.pos r.mapping.length
 
-abbrev pub RecordShows : Profile → Side → List DataCopy → List ℕ → RecordKind → Record → Type 0
-RecordShows c s datas fins Syn r = r.piece ≡ []
-RecordShows c s datas fins Data r = IsPiece c s datas r
-RecordShows c s datas fins Fin r = (r.piece ≡ []) × HasFin fins r.pos
+abbrev pub KindShows : Profile → Side → List DataCopy → List ℕ → RecordKind → Record → Type 0
+KindShows c s datas fins Syn r = r.piece ≡ []
+KindShows c s datas fins Data r = IsPiece c s datas r
+KindShows c s datas fins Fin r = (r.piece ≡ []) × HasFin fins r.pos
+
+abbrev pub RecordShows : Profile → Side → List DataCopy → List ℕ → Record → Type 0
+RecordShows c s datas fins r = KindShows c s datas fins r.kind r
 
 -- no FIN was sent, and the end isn't dead
 abbrev pub is_unfinished : EndPhase → Bool
@@ -93,12 +96,13 @@ is_unfinished phase.Established = true
 is_unfinished phase.CloseWait = true
 is_unfinished _ = false
 
-pub record SenderShows (c : Profile) (s : Side) (state : EndPhase) (nxt : ℕ) (records : List Record) (known : Option ℕ) (acked : Bool) (p : Lane) : Type 0 where
+pub record SenderShows (c : Profile) (s : Side) (state : EndPhase) (v : SendState) (known : Option ℕ) (acked : Bool) (p : Lane) : Type 0 where
   pub opened : p.opened ≡ true
   pub plain : p.sender_plain ≡ false
   -- the next position is that after the bytes that were granted
-  pub next : is_unfinished state ≡ true → nxt ≡ suc (length p.sent)
-  pub pieces : Every (λ r. RecordShows c s p.datas p.fins r.kind r) records
+  pub next : is_unfinished state ≡ true → v.nxt ≡ suc (length p.sent)
+  pub unfinished : is_unfinished state ≡ true → v.finished ≡ false
+  pub pieces : Every (RecordShows c s p.datas p.fins) v.records
   pub known_end : IfSome known (HasNumber p.data_fins)
   pub fin_acked : acked ≡ true → p.fin_acked ≡ true
 
@@ -126,9 +130,9 @@ pub record WindowShows (next window : ℕ) (acks : List AckCopy) : Type 0 where
   pub alone : HasAck acks 0 (window_told false window)
   pub syn : HasAck acks 0 (window_told true window)
 
-pub record ReceiverShows (tcp : EndState) (live : List KeptMapping) (p : Lane) : Type 0 where
-  pub edge : IsAtEdge tcp.recv.edge tcp.recv.places p ⊎ IsPastFin (is_fin_passed tcp) tcp.recv.places
-  pub fin : IfSome tcp.fin_at (HasFin p.fins)
+pub record ReceiverShows (recv : Receiving) (fin_at : Option ℕ) (live : List KeptMapping) (p : Lane) : Type 0 where
+  pub edge : IsAtEdge recv.edge recv.places p ⊎ IsPastFin (is_behind fin_at recv.edge) recv.places
+  pub fin : IfSome fin_at (HasFin p.fins)
   pub mapped : Every (KeptShows p.maps) live
 
 -- ---- what was heard
@@ -144,12 +148,13 @@ pub record TreatedShows (t : Treated) (acks : List AckCopy) (p : Lane) : Type 0 
   pub items : Every (ItemShows acks p) t.items
   pub payload : IfSome t.payload (λ payload. HasData p.datas payload.position payload.octets)
   pub fins : Every (HasNumber p.data_fins) t.fins
+  pub answer : IfSome t.answer (λ o. o.fin ≡ false)
 
 -- ---- an end: `out` carries what its side sends, and `back` what it hears
 
 pub record EndShows (c : Profile) (s : Side) (e : PathEnd) (out back : Lane) : Type 0 where
-  pub sender : SenderShows c s e.tcp.state e.tcp.send.nxt e.tcp.send.records e.sending.known_end e.sending.close.own_acked out
-  pub receiver : ReceiverShows e.tcp e.receiving.mappings.live back
+  pub sender : SenderShows c s e.tcp.state e.tcp.send e.sending.known_end e.sending.close.own_acked out
+  pub receiver : ReceiverShows e.tcp.recv e.tcp.fin_at e.receiving.mappings.live back
   pub window : WindowShows e.receiving.next e.receiving.window back.acks
   pub told : HasAck out.acks 0 e.tcp.congestion.told.window
   pub treated : TreatedShows e.treated out.acks back
