@@ -1,15 +1,17 @@
 -- Bytes by position: what is kept from some position on, and what each call makes of it.
-use Rattle.std.specs.Prelude.{ℕ, ◌+◌, ◌-◌, suc, zero, Option, Some, None, is_some, List, [], ◌∷◌, ◌++◌, length, drop, replicate, map, count_by}
+use Rattle.std.specs.Prelude.{ℕ, ◌+◌, ◌-◌, suc, zero, Option, Some, None, is_some, unwrap_or, List, [], ◌∷◌, ◌++◌, length, drop, replicate, map, count_by}
 
 pub record PlacedBytes : Type 0 where
   -- the first position that counts
   pub from : ℕ
   -- the positions from there on, each with its byte or without one; the last one has a byte
   pub places : List (Option ℕ)
+  -- the places with the bytes that are held too, where bytes are held until they are kept
+  pub incoming : Option (List (Option ℕ))
 
--- nothing is kept
+-- nothing is kept, and nothing held
 abbrev pub no_bytes : ℕ → PlacedBytes
-no_bytes from = record { from = from; places = [] }
+no_bytes from = record { from = from; places = []; incoming = None }
 
 -- the position after the last byte
 abbrev pub top : PlacedBytes → ℕ
@@ -55,14 +57,30 @@ cut (suc n) (None ∷ places) = gap_before (cut n places)
 abbrev pub kept_count : List (Option ℕ) → ℕ
 kept_count places = count_by is_some places
 
--- bytes that come at a position: those that stand where none is are kept
+-- the places with the bytes that come at a position: those that stand where none is
+abbrev pub places_with : ℕ → List ℕ → PlacedBytes → List (Option ℕ)
+places_with at bytes v = merged v.places (drop v.from (by_place at bytes))
+
+-- bytes that come at a position are kept. This and any other change of what is kept lets go of the bytes that are held.
 abbrev pub after_put : ℕ → List ℕ → PlacedBytes → PlacedBytes
-after_put at bytes v = record v { places = merged v.places (drop v.from (by_place at bytes)) }
+after_put at bytes v = record v { places = places_with at bytes v; incoming = None }
+
+-- they are held, to be kept later
+abbrev pub after_hold : ℕ → List ℕ → PlacedBytes → PlacedBytes
+after_hold at bytes v = record v { incoming = Some (places_with at bytes v) }
+
+-- what is held is kept
+abbrev pub after_keep_held : PlacedBytes → PlacedBytes
+after_keep_held v = record v { places = unwrap_or v.incoming v.places; incoming = None }
+
+-- nothing is held any more
+abbrev pub without_held : PlacedBytes → PlacedBytes
+without_held v = record v { incoming = None }
 
 -- what lies below a position counts no longer
 abbrev pub after_drop_front : ℕ → PlacedBytes → PlacedBytes
-after_drop_front to v = record { from = to; places = drop (to - v.from) v.places }
+after_drop_front to v = record { from = to; places = drop (to - v.from) v.places; incoming = None }
 
 -- what lies at or past a position is taken away
 abbrev pub after_cut_back : ℕ → PlacedBytes → PlacedBytes
-after_cut_back to v = record v { places = cut (to - v.from) v.places }
+after_cut_back to v = record v { places = cut (to - v.from) v.places; incoming = None }

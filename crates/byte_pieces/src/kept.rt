@@ -8,8 +8,9 @@ use std::alloc::{AllocError, Global};
 use std::collections::VecDeque;
 use std::marker::Model;
 
-/// The bytes that are kept from a position on. Contracts see that position and the list of the places from there on,
-/// each with its byte or without one. Positions are at most 2^62.
+/// The bytes that are kept from a position on. Contracts see that position, the list of the places from there on, each
+/// with its byte or without one, and that list as it will be once the bytes that are held are kept too. Positions are at
+/// most 2^62.
 #[derive(Debug, Drop)]
 pub struct BytePieces {
     alloc: Global,
@@ -17,6 +18,8 @@ pub struct BytePieces {
     from: u64,
     /// The bytes in pieces: in order of their positions, none empty, and no position in two of them.
     pieces: VecDeque<Piece>,
+    /// The parts of the bytes that are held, of which none stands in a piece. The pieces have room for them.
+    incoming: Option<VecDeque<Piece>>,
 }
 
 impl Model for BytePieces {
@@ -24,16 +27,24 @@ impl Model for BytePieces {
 
     ghost Value = { PlacedBytes };
 
-    ghost use Rattle.std.specs.Prelude.{◌^◌};
-    ghost use Rattle.byte_pieces.specs.Pieces.{spread, AreOrdered};
+    ghost use Rattle.std.specs.Prelude.{◌+◌, ◌^◌, ◌≤◌, IfSome};
+    ghost use Rattle.std.specs.Option.{option_map};
+    ghost use Rattle.std.specs.VecDeque.{deque_len, deque_capacity};
+    ghost use Rattle.byte_pieces.specs.Pieces.{spread, AreOrdered, with_pieces};
 
-    ghost view = { λ kept. record { from = kept.from; places = spread kept.from kept.pieces.items } };
+    ghost view = { λ kept. record {
+      from = kept.from;
+      places = spread kept.from kept.pieces.items;
+      incoming = option_map (λ parts. spread kept.from (with_pieces parts.items kept.pieces.items)) kept.incoming;
+    } };
 
-    ghost invariant = { λ kept. AreOrdered kept.from (2 ^ 62) kept.pieces.items };
+    ghost invariant = { λ kept. AreOrdered kept.from (2 ^ 62) kept.pieces.items
+        × IfSome kept.incoming (λ parts. AreOrdered kept.from (2 ^ 62) (with_pieces parts.items kept.pieces.items)
+        × (deque_len kept.pieces + deque_len parts ≤ deque_capacity kept.pieces)) };
 }
 
 impl BytePieces {
-    ghost use Rattle.byte_pieces.specs.Places.{no_bytes, top, filled, gap_len, kept_count, after_put, after_drop_front, after_cut_back};
+    ghost use Rattle.byte_pieces.specs.Places.{no_bytes, top, filled, gap_len, kept_count, after_put, after_hold, after_keep_held, without_held, after_drop_front, after_cut_back};
 
     /// No bytes, from this position on. Takes no memory.
     pub fn new(alloc: Global, from: u64) -> Self
@@ -44,6 +55,7 @@ impl BytePieces {
             alloc,
             from,
             pieces: VecDeque::new(alloc),
+            incoming: None,
         }
     }
 
@@ -67,7 +79,8 @@ impl BytePieces {
     }
 
     /// Keeps those of these bytes that stand at a position without one, copied once each, and answers how many these
-    /// are. The first byte stands at the position `at`. Bytes below the first position that counts are passed over.
+    /// are. The first byte stands at the position `at`. Bytes below the first position that counts are passed over. What
+    /// is held is let go.
     ///
     /// # Errors
     ///
@@ -82,9 +95,46 @@ impl BytePieces {
         let first = self.from.max(at);
         let parts = fresh_parts(self.alloc, &self.pieces, first, &bytes[passed..])?;
         self.pieces.reserve(parts.len())?;
+        self.incoming = None;
         let count = count_bytes(&parts);
         put_pieces(&mut self.pieces, parts);
         Ok(count)
+    }
+
+    /// Holds these bytes beside what is kept, until [`keep_held`](BytePieces::keep_held) keeps them: those that stand at a
+    /// position without one, copied once each. The first byte stands at the position `at`. What was held before is let
+    /// go, and so are these bytes at any other change.
+    ///
+    /// # Errors
+    ///
+    /// Only where there is no memory for them; then all is as it was.
+    pub fn hold(&mut self, at: u64, bytes: &[u8]) -> Result<(), AllocError>
+        requires { at + length bytes.now ≤ 2 ^ 62 }
+        ensures ok { OnOk result (self.new ≡ after_hold at bytes.now self.old) }
+        ensures err { OnErr result (self.new ≡ self.old) }
+    {
+        let passed = bytes.len().min(self.from.saturating_sub(at) as usize);
+        let rest = &bytes[passed..];
+        let parts = fresh_parts(self.alloc, &self.pieces, self.from.max(at), rest)?;
+        self.pieces.reserve(parts.len())?;
+        self.incoming = Some(parts);
+        Ok(())
+    }
+
+    /// Keeps what is held, which then is held no longer. Takes no memory; where nothing is held, nothing changes.
+    pub fn keep_held(&mut self)
+        ensures { self.new ≡ after_keep_held self.old }
+    {
+        if let Some(parts) = self.incoming.take() {
+            put_pieces(&mut self.pieces, parts);
+        }
+    }
+
+    /// Lets go of what is held.
+    pub fn drop_held(&mut self)
+        ensures { self.new ≡ without_held self.old }
+    {
+        self.incoming = None;
     }
 
     /// How many of these bytes [`BytePieces::put`] would keep, in time proportional to the number of pieces that they meet.
@@ -134,21 +184,23 @@ impl BytePieces {
     }
 
     /// Lets the positions from `to` on count alone, and forgets the bytes below it, in time proportional to the number
-    /// of their pieces. Takes no memory.
+    /// of their pieces. What is held is let go. Takes no memory.
     pub fn drop_front(&mut self, to: u64)
         requires order { self.old.from ≤ to }
         requires bound { to ≤ 2 ^ 62 }
         ensures { self.new ≡ after_drop_front to self.old }
     {
+        self.incoming = None;
         drop_pieces(&mut self.pieces, to);
         self.from = to;
     }
 
-    /// Forgets the bytes at and past the position `to`. Takes no memory.
+    /// Forgets the bytes at and past the position `to`, and what is held. Takes no memory.
     pub fn cut_back(&mut self, to: u64)
         requires { self.old.from ≤ to }
         ensures { self.new ≡ after_cut_back to self.old }
     {
+        self.incoming = None;
         cut_pieces(&mut self.pieces, to);
     }
 }

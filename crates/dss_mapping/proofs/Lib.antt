@@ -2,3 +2,4 @@ pub mod PlacesOf
 pub mod RunsInOrder
 pub mod Shown
 pub mod LawsProved
+pub mod Answered

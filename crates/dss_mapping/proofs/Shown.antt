@@ -10,9 +10,9 @@ use Rattle.dss_mapping.specs.Mappings.{Mappings, place_at, tail_at, Agree}
 use Rattle.dss_mapping.specs.Kept.{places_of, place_among, place_by, AgreeAmong, IsStretch}
 use Rattle.dss_mapping.proofs.PlacesOf.{get-places_of}
 
-module _ (runs : List Run) (tail : Option Run) (live : List KeptMapping) (forgotten : ℕ) where
+module _ (runs : List Run) (tail : Option Run) (live : List KeptMapping) (forgotten : ℕ) (held : List KeptMapping) where
   abbrev shown : Mappings
-  shown = record { places = places_of runs; tail = tail; live = live; forgotten = forgotten }
+  shown = record { places = places_of runs; tail = tail; live = live; forgotten = forgotten; held = held }
 
   at-shown : (p : ℕ) → place_at shown p ≡ place_by runs tail p
   at-shown p = ap (λ o. option_or o (tail_at tail p)) (get-places_of runs p)

@@ -3,3 +3,4 @@ pub mod Places
 pub mod Mappings
 pub mod Kept
 pub mod Laws
+pub mod Learning

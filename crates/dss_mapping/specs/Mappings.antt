@@ -23,16 +23,28 @@ pub record Mappings : Type 0 where
   pub live : List KeptMapping
   -- below this position no mapping is told
   pub forgotten : ℕ
+  -- the mappings that were told and are still to be treated, in order
+  pub held : List KeptMapping
+
+-- the mappings, and for how many more there is room
+pub record MappingStore : Type 0 where
+  pub mappings : Mappings
+  pub ready : ℕ
 
 -- how it is stored
 abbrev pub mappings_code : Coded Mappings
 mappings_code =
-    code_by (Places × (Option Run × (List KeptMapping × ℕ)))
-    (coded× (map.code coded_ℕ coded_ℕ) (coded× (coded_option run_row.coded) (coded× (coded_list kept_row.coded) coded_ℕ)))
-    (λ v. (v.places, (v.tail, (v.live, v.forgotten)))) (λ p. record { places = p.0; tail = p.1.0; live = p.1.1.0; forgotten = p.1.1.1 }) (λ _. refl)
+    code_by (Places × (Option Run × (List KeptMapping × (ℕ × List KeptMapping))))
+    (coded× (map.code coded_ℕ coded_ℕ) (coded× (coded_option run_row.coded) (coded× (coded_list kept_row.coded) (coded× coded_ℕ (coded_list kept_row.coded)))))
+    (λ v. (v.places, (v.tail, (v.live, (v.forgotten, v.held)))))
+    (λ p. record { places = p.0; tail = p.1.0; live = p.1.1.0; forgotten = p.1.1.1.0; held = p.1.1.1.1 }) (λ _. refl)
+
+abbrev pub store_code : Coded MappingStore
+store_code =
+    code_by (Mappings × ℕ) (coded× mappings_code coded_ℕ) (λ v. (v.mappings, v.ready)) (λ p. record { mappings = p.0; ready = p.1 }) (λ _. refl)
 
 abbrev pub no_mappings : Mappings
-no_mappings = record { places = map.empty; tail = None; live = []; forgotten = 0 }
+no_mappings = record { places = map.empty; tail = None; live = []; forgotten = 0; held = [] }
 
 -- the positions of a mapping, those from 2 ^ 64 - 1 on left out
 abbrev pub run_of : KeptMapping → Run

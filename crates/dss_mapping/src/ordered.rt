@@ -1,6 +1,7 @@
 //! Runs in order, of which no two have a position in common. They are searched by halves.
-ghost use Rattle.std.specs.Prelude.{◌≡◌, ◌+◌, ◌-◌, ◌^◌, ◌<◌, ◌≤◌, ◌∷◌, ◌++◌, true, length, take, drop, IfSome, OnOk, OnErr, nat_lt};
-ghost use Rattle.std.specs.List.{prefix_len};
+ghost use Rattle.std.specs.Prelude.{◌≡◌, ◌+◌, ◌-◌, ◌^◌, ◌<◌, ◌≤◌, ◌∷◌, ◌++◌, true, length, take, drop, IfSome, nat_lt};
+ghost use Rattle.std.specs.List.{insert, prefix_len};
+ghost use Rattle.std.specs.Vec.{vec_len, vec_capacity};
 ghost use Rattle.dss_mapping.specs.Runs.{covers, place_in, IsSound};
 ghost use Rattle.dss_mapping.specs.Places.{with_run};
 ghost use Rattle.dss_mapping.specs.Mappings.{tail_at};
@@ -9,7 +10,6 @@ ghost use Rattle.dss_mapping.specs.Kept.{AreOrdered, places_of, place_among, pla
 use crate::run::Run;
 use crate::stretch::Stretch;
 use seq_units::Pos;
-use std::alloc::AllocError;
 
 /// How many of these runs end before the position.
 fn ended_before(runs: &[Run], pos: Pos) -> usize
@@ -91,20 +91,35 @@ fn absorb(runs: &[Run], told: Run) -> (Run, usize)
     (joined, runs.len())
 }
 
-/// Puts the run in place of those from `from` on, below `to`.
-fn replace(runs: &mut Vec<Run>, from: usize, to: usize, run: Run) -> Result<(), AllocError>
+/// Puts the run in place of those from `from` on, below `to`. There is room for one more.
+fn replace(runs: &mut Vec<Run>, from: usize, to: usize, run: Run)
     requires order { from ≤ to }
     requires within { to ≤ length runs.old.items }
-    ensures ok { OnOk result (runs.new.items ≡ take from runs.old.items ++ run ∷ drop to runs.old.items) }
-    ensures err { OnErr result (runs.new.items ≡ runs.old.items) }
+    requires room { vec_len runs.old < vec_capacity runs.old }
+    ensures items { runs.new.items ≡ take from runs.old.items ++ run ∷ drop to runs.old.items }
+    ensures len { vec_len runs.new ≤ vec_len runs.old + 1 }
+    ensures capacity { vec_capacity runs.old ≤ vec_capacity runs.new }
 {
     if from == to {
-        runs.insert(from, run)?;
-        return Ok(());
+        insert_within(runs, from, run);
+        return;
     }
     runs[from] = run;
     runs.drain(from + 1..to);
-    Ok(())
+}
+
+/// Puts the run before the one at this index. There is room for it.
+fn insert_within(runs: &mut Vec<Run>, index: usize, run: Run)
+    requires index { index ≤ vec_len runs.old }
+    requires room { vec_len runs.old < vec_capacity runs.old }
+    ensures items { runs.new.items ≡ insert runs.old.items index run }
+    ensures len { vec_len runs.new ≡ vec_len runs.old + 1 }
+    ensures capacity { vec_capacity runs.old ≤ vec_capacity runs.new }
+{
+    match runs.insert(index, run) {
+        Ok(()) => {}
+        Err(_) => unreachable!(),
+    }
 }
 
 /// How many of these runs lie before the told one and don't join it.
@@ -126,19 +141,21 @@ fn count_before(runs: &[Run], told: Run) -> usize
 }
 
 /// Gives the positions of the told run, of which none has another place, their places. Takes a search by halves of the runs,
-/// and as long as there are runs that become one with it or come after it. Without memory all stays as it was.
-pub(crate) fn put_in(runs: &mut Vec<Run>, told: Run) -> Result<(), AllocError>
+/// and as long as there are runs that become one with it or come after it. There is room for one more.
+pub(crate) fn put_in(runs: &mut Vec<Run>, told: Run)
     requires ordered { AreOrdered 0 runs.old.items }
     requires fewest { AreApart runs.old.items }
     requires some { told.pos < told.to }
     requires sound { IsSound told }
     requires agree { AgreeAmong told runs.old.items }
-    ensures places { OnOk result (places_of runs.new.items ≡ with_run told (places_of runs.old.items)) }
-    ensures ordered { OnOk result (AreOrdered 0 runs.new.items) }
-    ensures fewest { OnOk result (AreApart runs.new.items) }
-    ensures err { OnErr result (runs.new.items ≡ runs.old.items) }
+    requires room { vec_len runs.old < vec_capacity runs.old }
+    ensures places { places_of runs.new.items ≡ with_run told (places_of runs.old.items) }
+    ensures ordered { AreOrdered 0 runs.new.items }
+    ensures fewest { AreApart runs.new.items }
+    ensures len { vec_len runs.new ≤ vec_len runs.old + 1 }
+    ensures capacity { vec_capacity runs.old ≤ vec_capacity runs.new }
 {
     let from = count_before(runs, told);
     let (run, count) = absorb(&runs[from..], told);
-    replace(runs, from, from + count, run)
+    replace(runs, from, from + count, run);
 }

@@ -9,18 +9,21 @@ use Rattle.link_model.specs.Steps.{due_of, is_due, without, next_due, arriving, 
 use Rattle.subflow_tcp.specs.Judging.{meaning_of}
 use Rattle.subflow_tcp.specs.States.{is_dead}
 use Rattle.subflow_tcp.specs.Taking.{after_arrival}
-use Rattle.path_core.specs.Arriving.{copy_of, hint_of, items_of, owes_by, after_meaning, template_of}
+use Rattle.path_core.specs.Arriving.{copy_of, hint_of, items_of, owes_by, with_payload, after_meaning, template_of}
 use Rattle.path_core.specs.Agenda.{rest_of_turn, emission}
 use Rattle.path_core.specs.Codec.{Codec, HeardSegment}
 use Rattle.path_core.specs.Ends.{PathEnd}
-use Rattle.path_core.specs.Events.{Event, tick_of, next_line, next_copy, next_fire, earlier, earliest, before, next_event, is_death, died, died_unless_dead, after_line, line_taken, at_tick, copy_heard, heard_in, copy_taken, timer_fired, happens, happens_if}
+use Rattle.path_core.specs.Events.{tick_of, next_line, next_copy, next_fire, earlier, earliest, before, next_event, is_death, died, died_unless_dead, after_line, line_taken, at_tick, copy_heard, heard_in, copy_taken, timer_fired, happens, happens_if}
+use Rattle.path_core.specs.declared.event.Event.{Event}
+use Rattle.path_core.specs.declared.event.Event.TheVariants as event
 use Rattle.path_core.specs.Ranks.{ticks_left, one_if_due, due_copies, due_lines, due_timer, due_by_now}
-use Rattle.path_core.specs.State.{PathState, LineLeft, end_at}
+use Rattle.path_core.specs.State.{PathState, end_at}
+use Rattle.path_core.specs.declared.lines.LineLeft.{LineLeft}
 use Rattle.path_core.specs.Turns.{TakesTime}
 use Rattle.actor_desk.specs.Words.{tail_of}
 use Rattle.actor_desk.proofs.Falling.{Then, Less}
 use Rattle.path_core.proofs.Ranking.{Rests, same_rests, Calm, goes_calm, agenda_calm, Lower, Lowers}
-use Rattle.path_core.proofs.Resting.{to_rests, arrival_settles, owing_settles, fired_rests}
+use Rattle.path_core.proofs.Resting.{to_rests, held_settles, owing_settles, fired_rests}
 
 -- ---- lists
 
@@ -145,8 +148,8 @@ module _ {C : Type 0} where
       let e = end_at s p in let meaning = meaning_of (copy_of h) e.tcp in
       goes_calm s (after_meaning p.profile s p.clock h meaning e) (template_of s (items_of s h) meaning) p t
       (to_rests p.clock e (after_meaning p.profile s p.clock h meaning e)
-      (owing_settles p.clock (owes_by meaning (items_of s h)) e.tcp.timing (after_arrival meaning (hint_of s h) p.clock (copy_of h) e.tcp)
-      (arrival_settles p.clock meaning (hint_of s h) p.clock (copy_of h) e.tcp)))
+      (owing_settles p.clock (owes_by meaning (items_of s h)) e.tcp.timing (after_arrival meaning (hint_of s h) p.clock (copy_of h) (with_payload meaning h.payload e.tcp))
+      (held_settles p.clock meaning h.payload (hint_of s h) p.clock (copy_of h) e.tcp)))
 
   copy_lowers : (k : Codec C) (f : Flight C) (flights : List (Flight C)) (p : PathState C) → TakesTime p → p.link.under_way ≡ f ∷ flights → f.tick < p.until
       → Lowers p (copy_taken k (due_of f) p)
@@ -183,21 +186,21 @@ module _ {C : Type 0} where
       → tick_of event < p.until → Lowers p (happens k event p)
   by_line k p [] event t is e soon = cc
   by_line k p (line ∷ lines) event t is e soon =
-      let same : Event.Takes line ≡ event = cc in
+      let same : event.Takes line ≡ event = cc in
       subst (λ x. tick_of x < p.until → Lowers p (happens k x p)) same (λ soon. line_lowers line lines p t is soon) soon
 
   by_copy : (k : Codec C) (p : PathState C) (flights : List (Flight C)) (event : Event) → TakesTime p → p.link.under_way ≡ flights
       → next_copy (next_due flights) ≡ Some event → tick_of event < p.until → Lowers p (happens k event p)
   by_copy k p [] event t is e soon = cc
   by_copy k p (f ∷ flights) event t is e soon =
-      let same : Event.Arrives (due_of f) ≡ event = cc in
+      let same : event.Arrives (due_of f) ≡ event = cc in
       subst (λ x. tick_of x < p.until → Lowers p (happens k x p)) same (λ soon. copy_lowers k f flights p t is soon) soon
 
   by_timer : (k : Codec C) (s : Side) (p : PathState C) (timer : Option ℕ) (event : Event) → TakesTime p → (end_at s p).tcp.timing.timer ≡ timer
       → next_fire s timer ≡ Some event → tick_of event < p.until → Lowers p (happens k event p)
   by_timer k s p None event t is e soon = cc
   by_timer k s p (Some tick) event t is e soon =
-      let same : Event.Fires s tick ≡ event = cc in
+      let same : event.Fires s tick ≡ event = cc in
       subst (λ x. tick_of x < p.until → Lowers p (happens k x p)) same (λ soon. fire_lowers s tick p t is soon) soon
 
   pub event_lowers : (k : Codec C) (p : PathState C) → TakesTime p → is_some (next_event p) ≡ true → Lowers p (happens_if k (next_event p) p)

@@ -4,7 +4,6 @@ use Rattle.std.proofs.lemmas.Bool.{leb-true}
 use Rattle.outside_kit.specs.declared.side.Side.{Side}
 use Rattle.outside_kit.specs.declared.side.Side.TheVariants.{A, B}
 use Rattle.path_segments.specs.Spelled.{PlainSegment}
-use Rattle.dss_mapping.specs.declared.kept.KeptMapping.{KeptMapping}
 use Rattle.dss_mapping.specs.Mappings.{mapping_at}
 use Rattle.send_book.specs.declared.call.SendReply.TheVariants as send_replies
 use Rattle.subflow_send.specs.Records.{Record}
@@ -39,7 +38,7 @@ use Rattle.path_core.specs.Standing.{after_look, after_ack_out, answered_ack_out
 use Rattle.path_core.specs.Segments.{mapping_of}
 use Rattle.path_core.specs.State.{PathState, Profile, end_at, with_agenda, goes_on, left, path_of}
 use Rattle.path_core.specs.Treating.{is_clash, after_verdict, is_acked, told_next, with_acked, answered_mapping, with_fin, answered_item, item_of}
-use Rattle.path_core.specs.Placing.{kept_of, with_learned}
+use Rattle.path_core.specs.Placing.{with_learned}
 use Rattle.path_core.specs.Turns.{TakesTime}
 use Rattle.path_core.specs.Words.{replaced}
 use Rattle.actor_desk.proofs.Falling.{Then}
@@ -214,14 +213,14 @@ module _ {C : Type 0} where
       by true = goes_less s (after_ack_out r (end_at s p)) (resets s reason) p t (same_rests p.clock (end_at s p) (after_ack_out r (end_at s p)) refl) (omega (arith, heavy))
       by false = reset_less k s (Some reason) (leaves s) p t (omega (arith, heavy))
 
-  mapping_lowers : (k : Codec C) (s : Side) (kept : KeptMapping) (r : Reply) (p : PathState C) → TakesTime p → weights (left p) < weights p.agenda
-      → 12 ≤ weights p.agenda → Lowers p (answered_mapping k s kept r p)
-  mapping_lowers k s kept r p t less heavy = by (is_clash kept (end_at s p))
+  mapping_lowers : (k : Codec C) (s : Side) (r : Reply) (p : PathState C) → TakesTime p → weights (left p) < weights p.agenda
+      → 12 ≤ weights p.agenda → Lowers p (answered_mapping k s r p)
+  mapping_lowers k s r p t less heavy = by (is_clash (end_at s p))
     where
-      by : (b : Bool) → Lowers p (if b then answered_break k s 1 r p else goes_on s (with_learned kept (after_verdict r (end_at s p))) (left p) p)
+      by : (b : Bool) → Lowers p (if b then answered_break k s 1 r p else goes_on s (with_learned (after_verdict r (end_at s p))) (left p) p)
       by true = break_lowers k s 1 r p t heavy
-      by false = goes_less s (with_learned kept (after_verdict r (end_at s p))) (left p) p t
-          (same_rests p.clock (end_at s p) (with_learned kept (after_verdict r (end_at s p))) refl) less
+      by false = goes_less s (with_learned (after_verdict r (end_at s p))) (left p) p t
+          (same_rests p.clock (end_at s p) (with_learned (after_verdict r (end_at s p))) refl) less
 
   told_less : (s : Side) (covers : Bool) (p : PathState C) → weights (left p) < weights p.agenda → weights (replaced (duties.AckHeard s) p.agenda) < weights p.agenda
       → weights (told_next s covers p) < weights p.agenda
@@ -235,8 +234,7 @@ module _ {C : Type 0} where
   heard_lowers k s (Some (says.DataAck place window)) r p t less next heavy =
       goes_less s (with_acked place r (end_at s p)) (told_next s (is_acked r && nat_lt 0 place) p) p t
       (same_rests p.clock (end_at s p) (with_acked place r (end_at s p)) refl) (told_less s (is_acked r && nat_lt 0 place) p less next)
-  heard_lowers k s (Some (says.Mapping place position len checksum)) r p t less next heavy =
-      mapping_lowers k s (kept_of p.profile s place position len checksum) r p t less heavy
+  heard_lowers k s (Some says.Mapping) r p t less next heavy = mapping_lowers k s r p t less heavy
   heard_lowers k s (Some (says.DataFin place)) r p t less next heavy =
       goes_less s (with_fin place (after_verdict r (end_at s p))) (left p) p t
       (same_rests p.clock (end_at s p) (with_fin place (after_verdict r (end_at s p))) refl) less

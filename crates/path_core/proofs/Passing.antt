@@ -52,8 +52,8 @@ module _ {C : Type 0} where
       (settled_settles p.clock (is_timed (is_waiting e.sending) e.tcp) e.sending.news e.tcp.timing (timeout_at s p t)))
   passed_calm (duties.Heard s index) p t =
       let e = end_at s p in
-      let f : PathEnd = item_passed p.profile s (item_of index e) e in
-      end_calm s f p t (same_rests p.clock e f (ap (λ tcp. tcp.timing) (item_same p.profile s (item_of index e) e)))
+      let f : PathEnd = item_passed s (item_of index e) e in
+      end_calm s f p t (same_rests p.clock e f (ap (λ tcp. tcp.timing) (item_same s (item_of index e) e)))
   passed_calm (duties.Keep s) p t =
       let e = end_at s p in end_calm s (after_keep s e) p t (same_rests p.clock e (after_keep s e) (keep_same s e))
   passed_calm (duties.Edge s) p t =

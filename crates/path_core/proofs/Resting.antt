@@ -1,5 +1,5 @@
 -- Which changes of an end leave its timer at rest: none that is due is set, and the timeout takes time.
-use Rattle.std.proofs.Common.{◌≡◌, refl, ℕ, ◌+◌, ◌*◌, ◌≤◌, min, Bool, true, false, if◌then◌else◌, ◌||◌, is_none, Option, Some, None, arith}
+use Rattle.std.proofs.Common.{◌≡◌, refl, subst, ℕ, ◌+◌, ◌*◌, ◌≤◌, min, Bool, true, false, if◌then◌else◌, ◌||◌, is_none, Option, Some, None, List, [], ◌∷◌, arith}
 use Rattle.outside_kit.specs.declared.side.Side.{Side}
 use Rattle.rtt_timer.specs.Timer.{Timer}
 use Rattle.loss_recovery.specs.declared.timers.Timing.{Timing}
@@ -20,15 +20,14 @@ use Rattle.subflow_tcp.specs.Emitting.{after_sending}
 use Rattle.subflow_tcp.specs.Expiring.{is_sixth, after_fire, after_expiry}
 use Rattle.subflow_tcp.specs.Segments.{Copy}
 use Rattle.subflow_tcp.specs.State.{EndState}
-use Rattle.subflow_tcp.specs.Taking.{after_arrival, after_payload, after_hearing, after_established, after_acknowledgement, after_ack_kind, is_duplicate, told_by, after_duplicate, after_interruption, after_death}
-use Rattle.path_core.specs.Arriving.{owing_if}
+use Rattle.subflow_tcp.specs.Taking.{after_arrival, after_payload, after_hearing, after_established, after_acknowledgement, after_ack_kind, is_duplicate, told_by, after_duplicate, after_interruption, after_death, after_keeping_held, after_dropping_held}
+use Rattle.path_core.specs.Arriving.{owing_if, with_payload}
 use Rattle.path_core.specs.declared.heard.Heard.{Heard}
 use Rattle.path_core.specs.declared.heard.Heard.TheVariants as says
-use Rattle.path_core.specs.Ends.{PathEnd, Payload}
-use Rattle.path_core.specs.Placing.{is_wrong, forgotten_by, kept_of, with_learned}
+use Rattle.path_core.specs.Ends.{PathEnd}
+use Rattle.path_core.specs.Placing.{is_wrong, forgotten_by, with_learned, with_skipped}
 use Rattle.path_core.specs.Ranks.{one_if_due, due_timer}
-use Rattle.path_core.specs.State.{Profile}
-use Rattle.path_core.specs.Treating.{counts, with_fin, item_passed, kept_payload, is_dropped, without_payload, after_keep}
+use Rattle.path_core.specs.Treating.{counts, with_fin, item_passed, is_dropped, after_keep}
 use Rattle.path_core.proofs.Ranking.{Rests, late_isn't}
 
 -- ---- timings
@@ -94,6 +93,27 @@ arrival_settles clock (means.Taken pos acknowledged) hint now c s =
     s.timing (after_acknowledgement acknowledged now base) (record { due = kind.due; timeout = kind.timeout }) in
     record { due = row.due; timeout = row.timeout }
 
+-- a payload that is held changes no timer
+pub payload_same : (meaning : Meaning) (octets : List ℕ) (s : EndState) → (with_payload meaning octets s).timing ≡ s.timing
+payload_same means.Ignored octets s = refl
+payload_same means.Unwanted octets s = refl
+payload_same means.Opens octets s = refl
+payload_same (means.Accepts acknowledged) octets s = refl
+payload_same means.RepeatedSyn octets s = refl
+payload_same means.Outside octets s = refl
+payload_same means.Kills octets s = refl
+payload_same means.Challenged octets s = refl
+payload_same means.Unacknowledging octets s = refl
+payload_same means.Ahead octets s = refl
+payload_same (means.Taken pos acknowledged) [] s = refl
+payload_same (means.Taken pos acknowledged) (octet ∷ octets) s = refl
+
+pub held_settles : (clock : ℕ) (meaning : Meaning) (octets : List ℕ) (hint : Hint) (now : ℕ) (c : Copy) (s : EndState)
+    → Settles clock s.timing (after_arrival meaning hint now c (with_payload meaning octets s)).timing
+held_settles clock meaning octets hint now c s =
+    subst (λ t. Settles clock t (after_arrival meaning hint now c (with_payload meaning octets s)).timing) (payload_same meaning octets s)
+    (arrival_settles clock meaning hint now c (with_payload meaning octets s))
+
 pub owing_settles : (clock : ℕ) (owing : Bool) (t : Timing) (s : EndState) → Settles clock t s.timing → Settles clock t (owing_if owing s).timing
 owing_settles clock true t s settles = record { due = settles.due; timeout = settles.timeout }
 owing_settles clock false t s settles = record { due = settles.due; timeout = settles.timeout }
@@ -132,23 +152,25 @@ either_timed : (b : Bool) (f e : PathEnd) → f.tcp.timing ≡ e.tcp.timing → 
 either_timed true f e same = same
 either_timed false f e same = refl
 
-pub item_same : (c : Profile) (s : Side) (item : Option Heard) (e : PathEnd) → (item_passed c s item e).tcp ≡ e.tcp
-item_same c s None e = refl
-item_same c s (Some says.Dss) e = refl
-item_same c s (Some (says.DataAck next window)) e = refl
-item_same c s (Some (says.Mapping place position len checksum)) e =
-    either_same (counts e) (with_learned (kept_of c s place position len checksum) e) e refl
-item_same c s (Some (says.DataFin place)) e = either_same (counts e) (with_fin place e) e refl
-item_same c s (Some (says.PeerKey key)) e = refl
-item_same c s (Some (says.Keys own peer)) e = refl
+mapping_same : (b : Bool) (e : PathEnd) → (if b then with_learned e else with_skipped e).tcp ≡ e.tcp
+mapping_same true e = refl
+mapping_same false e = refl
+
+pub item_same : (s : Side) (item : Option Heard) (e : PathEnd) → (item_passed s item e).tcp ≡ e.tcp
+item_same s None e = refl
+item_same s (Some says.Dss) e = refl
+item_same s (Some (says.DataAck next window)) e = refl
+item_same s (Some says.Mapping) e = mapping_same (counts e) e
+item_same s (Some (says.DataFin place)) e = either_same (counts e) (with_fin place e) e refl
+item_same s (Some (says.PeerKey key)) e = refl
+item_same s (Some (says.Keys own peer)) e = refl
 
 pub keep_same : (s : Side) (e : PathEnd) → (after_keep s e).tcp.timing ≡ e.tcp.timing
-keep_same s e = by (is_dropped s e) e.treated.payload
+keep_same s e = by (is_dropped s e)
   where
-    by : (b : Bool) (payload : Option Payload) → (without_payload (if b then e else kept_payload payload e)).tcp.timing ≡ e.tcp.timing
-    by true payload = refl
-    by false None = refl
-    by false (Some payload) = refl
+    by : (b : Bool) → (if b then after_dropping_held e.tcp else after_keeping_held e.tcp).timing ≡ e.tcp.timing
+    by true = refl
+    by false = refl
 
 pub check_same : (checksums : Bool) (kept : Option KeptMapping) (e : PathEnd) → (forgotten_by checksums kept e).tcp.timing ≡ e.tcp.timing
 check_same checksums None e = refl

@@ -23,19 +23,20 @@ use Rattle.path_core.specs.Codec.{HeardSegment}
 use Rattle.path_core.specs.Segments.{spelled_by}
 use Rattle.actor_desk.specs.Words.{tail_of}
 use Rattle.subflow_tcp.specs.declared.segments.Occasion.TheVariants as to_send
-use Rattle.path_core.specs.Events.{is_death, after_line, at_tick, copy_heard, heard_in, copy_taken, happens_if, died, Event, step_for, next_event}
+use Rattle.path_core.specs.Events.{is_death, after_line, at_tick, copy_heard, heard_in, copy_taken, happens_if, died, step_for, next_event}
+use Rattle.path_core.specs.declared.event.Event.{Event}
+use Rattle.path_core.specs.declared.event.Event.TheVariants as event
 use Rattle.fallback_state.specs.declared.fall.Event.TheVariants as events
 use Rattle.subflow_send.specs.Records.{Record}
 use Rattle.path_core.specs.declared.heard.Heard.{Heard}
 use Rattle.path_core.specs.declared.heard.Heard.TheVariants as says
-use Rattle.dss_mapping.specs.declared.kept.KeptMapping.{KeptMapping}
 use Rattle.path_core.specs.Agenda.{resets, leaves}
 use Rattle.path_core.specs.Breaking.{reset_of, reset_on, break_ask, answered_break}
 use Rattle.path_core.specs.Emission.{first_unsent, data_ask, unsent_segment, having_sent_unsent, end_segment, having_sent_end, fin_segment_of, having_sent_fin, Grant, grant_in, answered_grant, answered_data}
 use Rattle.path_core.specs.Opening.{syn_ack_of}
 use Rattle.loss_recovery.specs.declared.windows.Pending.{Pending}
 use Rattle.path_core.specs.Passing.{piece_of, is_placed, is_fin_set, answered_piece, answered_fin_heard, rate_ask, first_segment, answer_occasion, resend_occasion, answer_of, dead_answer, resend_of}
-use Rattle.path_core.specs.Placing.{kept_of, with_learned, Piece}
+use Rattle.path_core.specs.Placing.{with_learned, Piece}
 use Rattle.path_core.specs.Standing.{ack_out_ask, answered_ack_out, ack_segment}
 use Rattle.path_core.specs.Treating.{item_of, item_ask, is_clash, fell_ask, after_verdict, is_acked, told_next, with_acked, answered_item}
 use Rattle.path_core.specs.Octets.{octets}
@@ -126,8 +127,7 @@ same_item : (s : Side) (item : Option Heard) (p : PathState Carried) → item_as
 same_item s None p = refl
 same_item s (Some says.Dss) p = refl
 same_item s (Some (says.DataAck next window)) p = refl
-same_item s (Some (says.Mapping place position len checksum)) p =
-    same_mapping s (is_clash (kept_of p.profile s place position len checksum) (end_at s p)) p
+same_item s (Some says.Mapping) p = same_mapping s (is_clash (end_at s p)) p
 same_item s (Some (says.DataFin place)) p = refl
 same_item s (Some (says.PeerKey key)) p = refl
 same_item s (Some (says.Keys own peer)) p = refl
@@ -257,11 +257,11 @@ same_broken : (s : Side) (asked : Bool) (reason : ℕ) (r : Reply) (p : PathStat
 same_broken s true reason r p nothing = refl
 same_broken s false reason r p nothing = same_reset s (Some reason) (leaves s) p nothing
 
-same_learned : (s : Side) (clash : Bool) (kept : KeptMapping) (r : Reply) (p : PathState Carried) → ChangesNothing p.link.lines
-    → (if clash then answered_break octets s 1 r (shown_path p) else goes_on s (with_learned kept (after_verdict r (end_at s p))) (left p) (shown_path p))
-    ≡ shown_path (if clash then answered_break values s 1 r p else goes_on s (with_learned kept (after_verdict r (end_at s p))) (left p) p)
-same_learned s true kept r p nothing = same_broken s (end_at s p).treated.asked 1 r p nothing
-same_learned s false kept r p nothing = refl
+same_learned : (s : Side) (clash : Bool) (r : Reply) (p : PathState Carried) → ChangesNothing p.link.lines
+    → (if clash then answered_break octets s 1 r (shown_path p) else goes_on s (with_learned (after_verdict r (end_at s p))) (left p) (shown_path p))
+    ≡ shown_path (if clash then answered_break values s 1 r p else goes_on s (with_learned (after_verdict r (end_at s p))) (left p) p)
+same_learned s true r p nothing = same_broken s (end_at s p).treated.asked 1 r p nothing
+same_learned s false r p nothing = refl
 
 same_told : (s : Side) (covers : Bool) (p : PathState Carried) → told_next s covers (shown_path p) ≡ told_next s covers p
 same_told s true p = refl
@@ -273,8 +273,7 @@ same_heard s None r p nothing = refl
 same_heard s (Some says.Dss) r p nothing = refl
 same_heard s (Some (says.DataAck next window)) r p nothing =
     ap (λ ds. goes_on s (with_acked next r (end_at s p)) ds (shown_path p)) (same_told s (is_acked r && nat_lt 0 next) p)
-same_heard s (Some (says.Mapping place position len checksum)) r p nothing =
-    same_learned s (is_clash (kept_of p.profile s place position len checksum) (end_at s p)) (kept_of p.profile s place position len checksum) r p nothing
+same_heard s (Some says.Mapping) r p nothing = same_learned s (is_clash (end_at s p)) r p nothing
 same_heard s (Some (says.DataFin place)) r p nothing = refl
 same_heard s (Some (says.PeerKey key)) r p nothing = refl
 same_heard s (Some (says.Keys own peer)) r p nothing = refl
@@ -358,12 +357,12 @@ same_copy due p fresh =
     ∙ same_copy_heard due.to heard (record (at_tick due.tick p) { link = after_delivery due p.link })
 
 same_happening : (o : Option Event) (p : PathState Carried)
-    → ((due : Due) (flight : Flight Carried) → o ≡ Some (Event.Arrives due) → arriving due p.link ≡ Some flight → IsFreshCopy p due.to flight.carried)
+    → ((due : Due) (flight : Flight Carried) → o ≡ Some (event.Arrives due) → arriving due p.link ≡ Some flight → IsFreshCopy p due.to flight.carried)
     → happens_if octets o (shown_path p) ≡ shown_path (happens_if values o p)
 same_happening None p fresh = refl
-same_happening (Some (Event.Takes line)) p fresh = same_line (is_death line.line) (record (at_tick line.tick p) { lines = tail_of p.lines })
-same_happening (Some (Event.Arrives due)) p fresh = same_copy due p (λ flight is. fresh due flight refl is)
-same_happening (Some (Event.Fires s tick)) p fresh = refl
+same_happening (Some (event.Takes line)) p fresh = same_line (is_death line.line) (record (at_tick line.tick p) { lines = tail_of p.lines })
+same_happening (Some (event.Arrives due)) p fresh = same_copy due p (λ flight is. fresh due flight refl is)
+same_happening (Some (event.Fires s tick)) p fresh = refl
 
 -- ---- every duty
 

@@ -1,8 +1,10 @@
 -- A copy that arrives: what it says, and what it makes of the end at once. The rest is treated duty by duty.
-use Rattle.std.specs.Prelude.{ℕ, ◌+◌, ◌-◌, ◌%◌, ◌^◌, ◌&&◌, not, Bool, true, false, nat_lt, nat_le, if◌then◌else◌, unwrap_or, Option, Some, None, List, [], ◌∷◌, ◌++◌, length}
+use Rattle.std.specs.Prelude.{ℕ, ◌+◌, ◌-◌, ◌%◌, ◌^◌, ◌&&◌, not, Bool, true, false, nat_lt, nat_le, if◌then◌else◌, unwrap_or, Option, Some, None, List, [], ◌∷◌, ◌++◌, length, take}
 use Rattle.std.specs.List.{flat_map, list_any}
 use Rattle.outside_kit.specs.declared.side.Side.{Side}
 use Rattle.outside_kit.specs.declared.side.Side.TheVariants.{A, B}
+use Rattle.dss_mapping.specs.declared.kept.KeptMapping.{KeptMapping}
+use Rattle.dss_mapping.specs.Learning.{after_hold}
 use Rattle.mptcp_options.specs.declared.capable.CapableKeys.{CapableKeys}
 use Rattle.mptcp_options.specs.declared.capable.CapableKeys.TheVariants.{Sender, Both, WithData}
 use Rattle.path_segments.specs.declared.expected.Expected.{Expected}
@@ -19,14 +21,15 @@ use Rattle.subflow_tcp.specs.declared.handshake.State.{State as EndPhase}
 use Rattle.subflow_tcp.specs.State.{EndState}
 use Rattle.subflow_tcp.specs.Segments.{Copy, occupied}
 use Rattle.subflow_tcp.specs.States.{is_half_open}
-use Rattle.subflow_tcp.specs.Taking.{after_arrival}
+use Rattle.subflow_tcp.specs.Taking.{after_arrival, after_holding}
 use Rattle.subflow_tcp.specs.Closing.{after_owing}
 use Rattle.path_core.specs.declared.duty.Duty.{Duty}
 use Rattle.path_core.specs.declared.heard.Heard.{Heard}
 use Rattle.path_core.specs.declared.heard.Heard.TheVariants as says
 use Rattle.path_core.specs.Agenda.{emission, syn_came, syn_ack_came, copy_came, syn_again, answers, answers_dead, leaves}
 use Rattle.path_core.specs.Codec.{HeardSegment}
-use Rattle.path_core.specs.Ends.{PathEnd, Payload, Treated, nothing_treated}
+use Rattle.path_core.specs.Ends.{PathEnd, Treated, nothing_treated}
+use Rattle.path_core.specs.Placing.{kept_of}
 use Rattle.path_core.specs.Segments.{spelled_by}
 use Rattle.path_core.specs.State.{Profile}
 use Rattle.actor_desk.specs.Words.{is_nil}
@@ -71,13 +74,15 @@ abbrev pub checksum_heard : Option ℕ → ℕ
 checksum_heard checksum = unwrap_or checksum 0
 
 -- a mapping of bytes behind the SYN, all of which have places below 2^62
-abbrev pub mapping_items : ℕ → ℕ → ℕ → Option ℕ → List Heard
-mapping_items place position len checksum =
-    if nat_lt 0 position && nat_le (place + len) (2 ^ 62) then says.Mapping place position len (checksum_heard checksum) ∷ [] else []
+abbrev pub is_mapping : ℕ → ℕ → ℕ → Bool
+is_mapping place position len = nat_lt 0 position && nat_le (place + len) (2 ^ 62)
+
+abbrev pub mapping_items : ℕ → ℕ → ℕ → List Heard
+mapping_items place position len = if is_mapping place position len then says.Mapping ∷ [] else []
 
 -- a mapping that names a place; DATA_FIN stands on an acknowledgement, and no mapping is infinite
 abbrev pub map_items : Option (PathMapping (Option ℕ)) → List Heard
-map_items (Some (Bytes (Some place) (Some position) len false checksum)) = mapping_items place position len checksum
+map_items (Some (Bytes (Some place) (Some position) len false checksum)) = mapping_items place position len
 map_items (Some (End (Some place) checksum)) = says.DataFin place ∷ []
 map_items _ = []
 
@@ -85,7 +90,7 @@ map_items _ = []
 abbrev pub key_items : Side → CapableKeys → List Heard
 key_items A (Sender sender) = says.PeerKey sender ∷ []
 key_items B (Both sender receiver) = says.Keys receiver sender ∷ []
-key_items B (WithData sender receiver len checksum) = says.Keys receiver sender ∷ mapping_items 0 1 len checksum
+key_items B (WithData sender receiver len checksum) = says.Keys receiver sender ∷ mapping_items 0 1 len
 key_items _ _ = []
 
 abbrev pub items_in : Side → ℕ → HeardOption → List Heard
@@ -93,9 +98,31 @@ items_in s window (Capable flag_a flag_c keys) = key_items s keys
 items_in s window (Dss next mapping) = says.Dss ∷ (ack_items next window ++ map_items mapping)
 items_in s window _ = []
 
--- all that a copy says to the end of this side, in the order of its options
+-- all that a copy says to the end of this side, in the order of its options; forty octets of options say ten things at most
 abbrev pub items_of : Side → HeardSegment → List Heard
-items_of s h = flat_map (items_in s h.window) h.options
+items_of s h = take 10 (flat_map (items_in s h.window) h.options)
+
+-- ---- the mappings among them, which the end holds
+
+abbrev pub held_if : Profile → Side → ℕ → ℕ → ℕ → Option ℕ → List KeptMapping
+held_if c s place position len checksum =
+    if is_mapping place position len then kept_of c s place position len (checksum_heard checksum) ∷ [] else []
+
+abbrev pub map_held : Profile → Side → Option (PathMapping (Option ℕ)) → List KeptMapping
+map_held c s (Some (Bytes (Some place) (Some position) len false checksum)) = held_if c s place position len checksum
+map_held c s _ = []
+
+abbrev pub key_held : Profile → Side → CapableKeys → List KeptMapping
+key_held c B (WithData sender receiver len checksum) = held_if c B 0 1 len checksum
+key_held c _ _ = []
+
+abbrev pub held_in : Profile → Side → HeardOption → List KeptMapping
+held_in c s (Capable flag_a flag_c keys) = key_held c s keys
+held_in c s (Dss next mapping) = map_held c s mapping
+held_in c s _ = []
+
+abbrev pub held_of : Profile → Side → HeardSegment → List KeptMapping
+held_of c s h = flat_map (held_in c s) h.options
 
 -- the place that the Data ACK of the first DSS names
 abbrev pub place_in_first : List Heard → Option ℕ
@@ -139,15 +166,10 @@ reset_for c s copy = reset_by c s copy.acknowledged (unwrap_or copy.position 0) 
 abbrev pub hint_of : Side → HeardSegment → Hint
 hint_of s h = record { data_ack = place_in_first (items_of s h); keep = false }
 
-abbrev pub payload_at : Option ℕ → List ℕ → Option Payload
-payload_at (Some position) octets = if is_nil octets then None else Some (record { position = position; octets = octets })
-payload_at None octets = None
-
 abbrev pub treated_of : Profile → Side → Bool → HeardSegment → Treated
 treated_of c s opened h = record nothing_treated {
   items = items_of s h;
   opened = opened;
-  payload = payload_at h.position h.payload;
   has_option = not (is_nil h.options);
   answer = Some (reset_for c s (copy_of h));
 }
@@ -166,10 +188,16 @@ opens_by (means.Taken position acknowledged) state = is_half_open state
 opens_by (means.Accepts acknowledged) state = true
 opens_by _ state = false
 
--- the subflow takes it; the rest is still to be treated
+-- its payload is held where it is taken
+abbrev pub with_payload : Meaning → List ℕ → EndState → EndState
+with_payload (means.Taken position acknowledged) octets tcp = if is_nil octets then tcp else after_holding position octets tcp
+with_payload meaning octets tcp = tcp
+
+-- the subflow takes it, and its payload and its mappings are held; the rest is still to be treated
 abbrev pub after_meaning : Profile → Side → ℕ → HeardSegment → Meaning → PathEnd → PathEnd
 after_meaning c s now h meaning e = record e {
-  tcp = owing_if (owes_by meaning (items_of s h)) (after_arrival meaning (hint_of s h) now (copy_of h) e.tcp);
+  tcp = owing_if (owes_by meaning (items_of s h)) (after_arrival meaning (hint_of s h) now (copy_of h) (with_payload meaning h.payload e.tcp));
+  receiving = record e.receiving { mappings = after_hold (held_of c s h) e.receiving.mappings };
   treated = treated_of c s (opens_by meaning e.tcp.state) h;
 }
 

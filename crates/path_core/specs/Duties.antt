@@ -45,7 +45,7 @@ stands (duties.PeerKey s) p = is_some (key_heard (end_at s p).treated.items)
 stands (duties.SynAck s) p = true
 stands (duties.Opened s) p = is_opened_by_keys (end_at s p)
 stands (duties.Live s) p = (end_at s p).treated.opened
-stands (duties.Heard s index) p = item_stands p.profile s (item_of index (end_at s p)) (end_at s p)
+stands (duties.Heard s index) p = item_stands (item_of index (end_at s p)) (end_at s p)
 stands (duties.AckHeard s) p = is_starting (end_at s p).modes.mode
 stands (duties.Keep s) p = false
 stands (duties.Edge s) p = is_some (piece_of s p)
@@ -109,7 +109,7 @@ ask_for k duties.End p = asks.Local steps.End
 
 abbrev pub passed : {C : Type 0} → Duty → PathState C → PathState C
 passed (duties.Timer s) p = with_end s (after_timer p.clock (end_at s p)) p
-passed (duties.Heard s index) p = with_end s (item_passed p.profile s (item_of index (end_at s p)) (end_at s p)) p
+passed (duties.Heard s index) p = with_end s (item_passed s (item_of index (end_at s p)) (end_at s p)) p
 passed (duties.Keep s) p = with_end s (after_keep s (end_at s p)) p
 passed (duties.Edge s) p = with_end s (after_check p.profile (end_at s p)) p
 passed (duties.PassFin s) p = with_end s (after_pass_fin (end_at s p)) p

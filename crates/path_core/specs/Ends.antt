@@ -36,12 +36,8 @@ pub record Receiving : Type 0 where
   -- which place each position has
   pub mappings : Mappings
 
--- a payload that came, and the position of its first octet
-pub record Payload : Type 0 where
-  pub position : ℕ
-  pub octets : List ℕ
-
--- what the last copy said, as far as it is still to be treated
+-- what the last copy said, as far as it is still to be treated; its payload and its mappings are held beside what they are
+-- to be put to
 pub record Treated : Type 0 where
   -- what its options say, in their order
   pub items : List Heard
@@ -49,8 +45,6 @@ pub record Treated : Type 0 where
   pub opened : Bool
   -- its keys were told already
   pub keys_told : Bool
-  -- its payload, until it is kept or dropped
-  pub payload : Option Payload
   -- it has an option of Multipath TCP
   pub has_option : Bool
   -- the ends of the stream that its DATA_FINs told, in their order
@@ -88,7 +82,6 @@ nothing_treated = record {
   items = [];
   opened = false;
   keys_told = false;
-  payload = None;
   has_option = false;
   fins = [];
   asked = false;

@@ -16,40 +16,35 @@ use Rattle.actor_desk.specs.declared.ask.Ask.{Ask}
 use Rattle.actor_desk.specs.declared.ask.Ask.TheVariants as asks
 use Rattle.actor_desk.specs.declared.ask.LocalStep.TheVariants as steps
 use Rattle.path_core.specs.declared.duty.Duty.{Duty}
+use Rattle.path_core.specs.declared.event.Event.{Event}
+use Rattle.path_core.specs.declared.event.Event.TheVariants as event
 use Rattle.path_core.specs.declared.duty.Duty.TheVariants as duties
 use Rattle.path_core.specs.Agenda.{rest_of_turn, emission, expired, expired_for_ever}
 use Rattle.path_core.specs.Arriving.{expected_by, copy_of, items_of, after_meaning, template_of}
 use Rattle.path_core.specs.Codec.{Codec, HeardSegment}
 use Rattle.path_core.specs.Ends.{PathEnd, nothing_treated}
-use Rattle.path_core.specs.State.{PathState, LineLeft, end_at, with_agenda, goes_on}
+use Rattle.path_core.specs.State.{PathState, end_at, with_agenda, goes_on}
+use Rattle.path_core.specs.declared.lines.LineLeft.{LineLeft}
 use Rattle.actor_desk.specs.Words.{tail_of}
 
-pub data Event : Type 0 where
-  -- a line comes due
-  Takes : LineLeft → Event
-  -- a copy arrives
-  Arrives : Due → Event
-  -- a timer runs out, at this tick
-  Fires : Side → ℕ → Event
-
 abbrev pub tick_of : Event → ℕ
-tick_of (Event.Takes line) = line.tick
-tick_of (Event.Arrives due) = due.tick
-tick_of (Event.Fires s tick) = tick
+tick_of (event.Takes line) = line.tick
+tick_of (event.Arrives due) = due.tick
+tick_of (event.Fires s tick) = tick
 
 -- ---- which is next
 
 abbrev pub next_line : List LineLeft → Option Event
 next_line [] = None
-next_line (line ∷ lines) = Some (Event.Takes line)
+next_line (line ∷ lines) = Some (event.Takes line)
 
 abbrev pub next_copy : Option Due → Option Event
 next_copy None = None
-next_copy (Some due) = Some (Event.Arrives due)
+next_copy (Some due) = Some (event.Arrives due)
 
 abbrev pub next_fire : Side → Option ℕ → Option Event
 next_fire s None = None
-next_fire s (Some tick) = Some (Event.Fires s tick)
+next_fire s (Some tick) = Some (event.Fires s tick)
 
 -- the earlier one; at one tick the first
 abbrev pub earlier : Option Event → Option Event → Option Event
@@ -72,9 +67,9 @@ abbrev pub next_event : {C : Type 0} → PathState C → Option Event
 next_event p = option_and_then (before p.until) (earliest p)
 
 abbrev pub step_of : Event → Ask
-step_of (Event.Takes line) = asks.Local (steps.Line line.number)
-step_of (Event.Arrives due) = asks.Local (steps.Arrive due.to due.copy)
-step_of (Event.Fires s tick) = asks.Local (steps.Fire s)
+step_of (event.Takes line) = asks.Local (steps.Line line.number)
+step_of (event.Arrives due) = asks.Local (steps.Arrive due.to due.copy)
+step_of (event.Fires s tick) = asks.Local (steps.Fire s)
 
 -- the step of an event that may be there
 abbrev pub step_for : Option Event → Ask
@@ -144,9 +139,9 @@ abbrev pub timer_fired : {C : Type 0} → Side → PathState C → PathState C
 timer_fired s p = goes_on s (after_firing p.clock (end_at s p)) (template_fired (is_sixth (end_at s p).tcp) s) p
 
 abbrev pub happens : {C : Type 0} → Codec C → Event → PathState C → PathState C
-happens k (Event.Takes line) p = line_taken line p
-happens k (Event.Arrives due) p = copy_taken k due p
-happens k (Event.Fires s tick) p = timer_fired s (at_tick tick p)
+happens k (event.Takes line) p = line_taken line p
+happens k (event.Arrives due) p = copy_taken k due p
+happens k (event.Fires s tick) p = timer_fired s (at_tick tick p)
 
 abbrev pub happens_if : {C : Type 0} → Codec C → Option Event → PathState C → PathState C
 happens_if k None p = with_agenda rest_of_turn p

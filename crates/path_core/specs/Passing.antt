@@ -1,6 +1,6 @@
 -- What the payload of a copy makes of an end: bytes and ends that are told, the window's growth, answers, and what an expiry
 -- sends again.
-use Rattle.std.specs.Prelude.{ℕ, ◌-◌, Bool, true, false, ◌==◌, if◌then◌else◌, Option, Some, None, List, [], find, slice_get}
+use Rattle.std.specs.Prelude.{ℕ, ◌-◌, min, Bool, true, false, ◌==◌, if◌then◌else◌, Option, Some, None, List, [], find, slice_get}
 use Rattle.outside_kit.specs.declared.side.Side.{Side}
 use Rattle.path_segments.specs.Spelled.{PlainSegment}
 use Rattle.reassembly_book.specs.declared.call.ReassemblyCall.TheVariants as reassembly_calls
@@ -96,14 +96,14 @@ rate_ask s (Some pending) p = asks.Control s (control_calls.Rate (path_of p) pen
 abbrev pub is_row_of : ℕ → Row → Bool
 is_row_of path row = row.path == path
 
--- by the path's own row among all
+-- by the path's own row among all; at most 2^20 octets count
 abbrev pub growth_by : Option Row → List Row → ℕ → ℕ → ℕ
 growth_by None rows mss acked = 0
 growth_by (Some row) rows mss acked = growth_of row rows mss acked
 
 abbrev pub growth_in : ℕ → ℕ → Reply → Option Pending → ℕ
 growth_in path mss (replies.Control (control_replies.Rows rows)) (Some pending) =
-    growth_by (find (is_row_of path) rows) rows mss pending.acked
+    growth_by (find (is_row_of path) rows) rows mss (min 1048576 pending.acked)
 growth_in path mss _ pending = 0
 
 abbrev pub after_rate : ℕ → ℕ → Reply → PathEnd → PathEnd

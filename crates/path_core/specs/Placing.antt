@@ -1,12 +1,9 @@
 -- The mappings that an end learns, and the bytes that its receive edge passes (RFC 8684, section 3.3.1).
-use Rattle.std.specs.Prelude.{ℕ, zero, suc, ◌+◌, ◌-◌, ◌^◌, min, Bool, true, not, ◌&&◌, ◌==◌, nat_lt, nat_le, if◌then◌else◌, is_some, Option, Some, None, List, length, take}
+use Rattle.std.specs.Prelude.{ℕ, ◌+◌, ◌-◌, ◌^◌, min, Bool, not, ◌&&◌, ◌==◌, nat_lt, nat_le, if◌then◌else◌, Option, Some, None, List, length, take}
 use Rattle.dss_checksum.specs.Checksum.{dss_checksum}
 use Rattle.dss_mapping.specs.declared.kept.KeptMapping.{KeptMapping}
-use Rattle.dss_mapping.specs.declared.learn.Learn.{Learn}
-use Rattle.dss_mapping.specs.declared.learn.Learn.TheVariants.{New, Same, Clash}
-use Rattle.dss_mapping.specs.declared.run.Run.{Run}
-use Rattle.dss_mapping.specs.Runs.{place_in}
-use Rattle.dss_mapping.specs.Mappings.{Mappings, run_of, place_at, mapping_at, after_learn, after_forget}
+use Rattle.dss_mapping.specs.Learning.{after_learn_held, after_skip_held}
+use Rattle.dss_mapping.specs.Mappings.{mapping_at, after_forget}
 use Rattle.link_model.specs.Steps.{peer}
 use Rattle.outside_kit.specs.declared.side.Side.{Side}
 use Rattle.subflow_recv.specs.Receiving.{filled, after_advance, after_forget_from}
@@ -15,41 +12,7 @@ use Rattle.path_core.specs.Ends.{PathEnd, Receiving}
 use Rattle.path_core.specs.State.{Profile}
 use Rattle.path_core.specs.Segments.{bare_mapping}
 
--- ---- learning
-
--- the first of so many positions from this one on that has another place than the told one, and both places
-abbrev pub clash_or : Option ℕ → ℕ → Run → Option Learn → Option Learn
-clash_or None at told others = others
-clash_or (Some place) at told others = if place == place_in at told then others else Some (Clash at place (place_in at told))
-
-abbrev pub clash_from : ℕ → ℕ → Run → Mappings → Option Learn
-clash_from zero at told v = None
-clash_from (suc count) at told v = clash_or (place_at v at) at told (clash_from count (suc at) told v)
-
-abbrev pub clash_of : Run → Mappings → Option Learn
-clash_of told v = clash_from (told.to - told.pos) told.pos told v
-
--- so many positions from this one on have a place
-abbrev pub all_covered : ℕ → ℕ → Mappings → Bool
-all_covered zero at v = true
-all_covered (suc count) at v = is_some (place_at v at) && all_covered count (suc at) v
-
-abbrev pub is_known : Run → Mappings → Bool
-is_known told v = all_covered (told.to - told.pos) told.pos v
-
-abbrev pub answer_by : Option Learn → Run → Mappings → Learn
-answer_by (Some clash) told v = clash
-answer_by None told v = if is_known told v then Same else New
-
--- what is answered to a mapping: a clash, or else whether all its positions had their places before
-abbrev pub learn_of : KeptMapping → Mappings → Learn
-learn_of kept v = answer_by (clash_of (run_of kept) v) (run_of kept) v
-
-abbrev pub learned : KeptMapping → Mappings → Mappings
-learned kept v = after_learn kept (learn_of kept v) v
-
-abbrev pub clashes : KeptMapping → Mappings → Bool
-clashes kept v = is_some (clash_of (run_of kept) v)
+-- ---- mappings
 
 -- a mapping of the peer, as it was heard by the end of this side
 abbrev pub kept_of : Profile → Side → ℕ → ℕ → ℕ → ℕ → KeptMapping
@@ -59,8 +22,12 @@ kept_of c s place position len checksum = record {
   mapping = record (bare_mapping c (peer s) place position len) { checksum = checksum };
 }
 
-abbrev pub with_learned : KeptMapping → PathEnd → PathEnd
-with_learned kept e = record e { receiving = record e.receiving { mappings = learned kept e.receiving.mappings } }
+-- the first mapping that is held is learned, or passed over
+abbrev pub with_learned : PathEnd → PathEnd
+with_learned e = record e { receiving = record e.receiving { mappings = after_learn_held e.receiving.mappings } }
+
+abbrev pub with_skipped : PathEnd → PathEnd
+with_skipped e = record e { receiving = record e.receiving { mappings = after_skip_held e.receiving.mappings } }
 
 -- ---- what is in order and mapped
 

@@ -8,7 +8,8 @@ use Rattle.subflow_send.specs.Rules.{is_unsent}
 use Rattle.path_core.specs.declared.duty.Duty.{Duty}
 use Rattle.path_core.specs.declared.duty.Duty.TheVariants as duties
 use Rattle.path_core.specs.Ends.{PathEnd}
-use Rattle.path_core.specs.State.{PathState, LineLeft}
+use Rattle.path_core.specs.State.{PathState}
+use Rattle.path_core.specs.declared.lines.LineLeft.{LineLeft}
 
 abbrev pub ticks_left : {C : Type 0} → PathState C → ℕ
 ticks_left p = p.until - p.clock

@@ -1,18 +1,17 @@
 -- A path by what it means. What its link's copies carry is a type of its own.
-use Rattle.std.specs.Prelude.{ℕ, Option, List}
+use Rattle.std.specs.Prelude.{ℕ, Bool, Option, List}
 use Rattle.outside_kit.specs.declared.side.Side.{Side}
-use Rattle.link_script.specs.declared.script.ScriptLine.{ScriptLine}
 use Rattle.link_model.specs.State.{LinkState}
 use Rattle.path_segments.specs.declared.spelling.Spelling.{Spelling}
 use Rattle.path_core.specs.declared.duty.Duty.{Duty}
+use Rattle.path_core.specs.declared.lines.LineLeft.{LineLeft}
 use Rattle.path_core.specs.Ends.{PathEnd}
-use Rattle.actor_desk.specs.Words.{pick, tail_of}
+use Rattle.actor_desk.specs.Words.{pick, is_nil, tail_of}
 
--- a line of the script that is an event of the path, with its number among all lines and its tick
-pub record LineLeft : Type 0 where
-  pub number : ℕ
-  pub tick : ℕ
-  pub line : ScriptLine
+-- the tick, and the first tick after the round
+pub record Clock : Type 0 where
+  pub now : ℕ
+  pub until : ℕ
 
 -- what never changes
 pub record Profile : Type 0 where
@@ -54,6 +53,10 @@ goes_on s e ds p = with_agenda ds (with_end s e p)
 -- without the first duty
 abbrev pub left : {C : Type 0} → PathState C → List Duty
 left p = tail_of p.agenda
+
+-- nothing is left to be done in the turn
+abbrev pub has_ended : {C : Type 0} → PathState C → Bool
+has_ended p = is_nil p.agenda
 
 -- the path's number
 abbrev pub path_of : {C : Type 0} → PathState C → ℕ

@@ -1,16 +1,16 @@
 -- What the options of a copy make of an end, one thing after the other (RFC 8684, section 3.3).
-use Rattle.std.specs.Prelude.{ℕ, Bool, true, false, not, ◌&&◌, ◌||◌, nat_lt, if◌then◌else◌, is_some, Option, Some, None, List, [], ◌∷◌, ◌++◌}
+use Rattle.std.specs.Prelude.{ℕ, Bool, true, false, not, ◌&&◌, ◌||◌, nat_lt, if◌then◌else◌, is_some, Option, Some, None, List, [], ◌∷◌, ◌++◌, length}
 use Rattle.outside_kit.specs.declared.side.Side.{Side}
 use Rattle.send_book.specs.declared.call.SendCall.TheVariants as send_calls
 use Rattle.send_book.specs.declared.call.SendReply.TheVariants as send_replies
 use Rattle.control_book.specs.declared.call.ControlCall.TheVariants as control_calls
 use Rattle.control_book.specs.declared.call.ControlReply.TheVariants as control_replies
-use Rattle.dss_mapping.specs.declared.kept.KeptMapping.{KeptMapping}
+use Rattle.dss_mapping.specs.Learning.{held_clashes}
 use Rattle.fallback_state.specs.declared.fall.Event.{Event}
 use Rattle.fallback_state.specs.declared.fall.Event.TheVariants as events
 use Rattle.fallback_state.specs.declared.fall.Verdict.TheVariants as verdicts
 use Rattle.fallback_state.specs.Modes.{is_starting}
-use Rattle.subflow_tcp.specs.Taking.{after_keeping}
+use Rattle.subflow_tcp.specs.Taking.{after_keeping_held, after_dropping_held}
 use Rattle.actor_desk.specs.declared.ask.Ask.{Ask}
 use Rattle.actor_desk.specs.declared.ask.Ask.TheVariants as asks
 use Rattle.actor_desk.specs.declared.ask.LocalStep.TheVariants as steps
@@ -24,10 +24,10 @@ use Rattle.path_core.specs.Breaking.{answered_break, break_ask}
 use Rattle.path_core.specs.Closing.{after_acked}
 use Rattle.path_core.specs.Codec.{Codec}
 use Rattle.path_core.specs.declared.modes.Modes.{Modes}
-use Rattle.path_core.specs.Ends.{PathEnd, Payload, Sending}
+use Rattle.path_core.specs.Ends.{PathEnd, Sending}
 use Rattle.path_core.specs.Opening.{keys_ask, after_keys}
-use Rattle.path_core.specs.Placing.{clashes, kept_of, with_learned}
-use Rattle.path_core.specs.State.{PathState, Profile, end_at, goes_on, left, path_of, with_agenda}
+use Rattle.path_core.specs.Placing.{with_learned, with_skipped}
+use Rattle.path_core.specs.State.{PathState, end_at, goes_on, left, path_of, with_agenda}
 use Rattle.path_core.specs.Words.{is_side_a, item_at, replaced}
 
 -- ---- what is told of the mode
@@ -49,27 +49,28 @@ after_verdict r e = record e { modes = mode_in r e.modes }
 abbrev pub counts : PathEnd → Bool
 counts e = is_some e.modes.peer_key
 
-abbrev pub is_clash : KeptMapping → PathEnd → Bool
-is_clash kept e = clashes kept e.receiving.mappings
+-- the first mapping that is held gives a position another place
+abbrev pub is_clash : PathEnd → Bool
+is_clash e = held_clashes e.receiving.mappings
 
 -- A mapping that gives a position another place breaks the path. The first ones are told.
-abbrev pub mapping_stands : KeptMapping → PathEnd → Bool
-mapping_stands kept e = counts e && (is_clash kept e || is_starting e.modes.mode)
+abbrev pub mapping_stands : PathEnd → Bool
+mapping_stands e = counts e && (is_clash e || is_starting e.modes.mode)
 
-abbrev pub heard_stands : Profile → Side → Heard → PathEnd → Bool
-heard_stands c s says.Dss e = false
-heard_stands c s (says.DataAck next window) e = true
-heard_stands c s (says.Mapping place position len checksum) e = mapping_stands (kept_of c s place position len checksum) e
-heard_stands c s (says.DataFin place) e = counts e && is_starting e.modes.mode
-heard_stands c s (says.PeerKey key) e = false
-heard_stands c s (says.Keys own peer) e = not e.treated.keys_told
+abbrev pub heard_stands : Heard → PathEnd → Bool
+heard_stands says.Dss e = false
+heard_stands (says.DataAck next window) e = true
+heard_stands says.Mapping e = mapping_stands e
+heard_stands (says.DataFin place) e = counts e && is_starting e.modes.mode
+heard_stands (says.PeerKey key) e = false
+heard_stands (says.Keys own peer) e = not e.treated.keys_told
 
-abbrev pub mapping_ask : {C : Type 0} → Codec C → Side → KeptMapping → PathState C → Ask
-mapping_ask k s kept p = if is_clash kept (end_at s p) then break_ask k s 1 p else fell_ask s events.MappingHeard p
+abbrev pub mapping_ask : {C : Type 0} → Codec C → Side → PathState C → Ask
+mapping_ask k s p = if is_clash (end_at s p) then break_ask k s 1 p else fell_ask s events.MappingHeard p
 
 abbrev pub heard_ask : {C : Type 0} → Codec C → Side → Heard → PathState C → Ask
 heard_ask k s (says.DataAck next window) p = asks.Send s (send_calls.AckIn next window)
-heard_ask k s (says.Mapping place position len checksum) p = mapping_ask k s (kept_of p.profile s place position len checksum) p
+heard_ask k s says.Mapping p = mapping_ask k s p
 heard_ask k s (says.DataFin place) p = fell_ask s events.MappingHeard p
 heard_ask k s (says.Keys own peer) p = keys_ask s (Some (record { own = own; peer = peer }))
 heard_ask k s _ p = asks.Local steps.End
@@ -92,19 +93,19 @@ with_acked next r e = record e { sending = acked_in next r e.sending }
 abbrev pub answered_ack : {C : Type 0} → Side → ℕ → Reply → PathState C → PathState C
 answered_ack s next r p = goes_on s (with_acked next r (end_at s p)) (told_next s (is_acked r && nat_lt 0 next) p) p
 
-abbrev pub answered_mapping : {C : Type 0} → Codec C → Side → KeptMapping → Reply → PathState C → PathState C
-answered_mapping k s kept r p =
-    if is_clash kept (end_at s p) then answered_break k s 1 r p
-    else goes_on s (with_learned kept (after_verdict r (end_at s p))) (left p) p
+abbrev pub answered_mapping : {C : Type 0} → Codec C → Side → Reply → PathState C → PathState C
+answered_mapping k s r p =
+    if is_clash (end_at s p) then answered_break k s 1 r p
+    else goes_on s (with_learned (after_verdict r (end_at s p))) (left p) p
 
--- the end of the stream is told later
+-- the end of the stream is told later; no more than two fit in a segment
 abbrev pub with_fin : ℕ → PathEnd → PathEnd
-with_fin place e = record e { treated = record e.treated { fins = e.treated.fins ++ place ∷ [] } }
+with_fin place e =
+    record e { treated = record e.treated { fins = (if nat_lt (length e.treated.fins) 2 then e.treated.fins ++ place ∷ [] else e.treated.fins) } }
 
 abbrev pub answered_heard : {C : Type 0} → Codec C → Side → Heard → Reply → PathState C → PathState C
 answered_heard k s (says.DataAck next window) r p = answered_ack s next r p
-answered_heard k s (says.Mapping place position len checksum) r p =
-    answered_mapping k s (kept_of p.profile s place position len checksum) r p
+answered_heard k s says.Mapping r p = answered_mapping k s r p
 answered_heard k s (says.DataFin place) r p = goes_on s (with_fin place (after_verdict r (end_at s p))) (left p) p
 answered_heard k s (says.Keys own peer) r p =
     goes_on s (after_keys r (Some (record { own = own; peer = peer })) (end_at s p)) (left p) p
@@ -115,18 +116,17 @@ abbrev pub after_dss : Side → PathEnd → PathEnd
 after_dss s e = record e { modes = record e.modes { clear = e.modes.clear || is_side_a s } }
 
 -- what is passed in silence
-abbrev pub heard_passed : Profile → Side → Heard → PathEnd → PathEnd
-heard_passed c s says.Dss e = after_dss s e
-heard_passed c s (says.Mapping place position len checksum) e =
-    if counts e then with_learned (kept_of c s place position len checksum) e else e
-heard_passed c s (says.DataFin place) e = if counts e then with_fin place e else e
-heard_passed c s _ e = e
+abbrev pub heard_passed : Side → Heard → PathEnd → PathEnd
+heard_passed s says.Dss e = after_dss s e
+heard_passed s says.Mapping e = if counts e then with_learned e else with_skipped e
+heard_passed s (says.DataFin place) e = if counts e then with_fin place e else e
+heard_passed s _ e = e
 
 -- ---- by the number of the thing
 
-abbrev pub item_stands : Profile → Side → Option Heard → PathEnd → Bool
-item_stands c s None e = false
-item_stands c s (Some item) e = heard_stands c s item e
+abbrev pub item_stands : Option Heard → PathEnd → Bool
+item_stands None e = false
+item_stands (Some item) e = heard_stands item e
 
 abbrev pub item_ask : {C : Type 0} → Codec C → Side → Option Heard → PathState C → Ask
 item_ask k s None p = asks.Local steps.End
@@ -136,9 +136,9 @@ abbrev pub answered_item : {C : Type 0} → Codec C → Side → Option Heard �
 answered_item k s None r p = with_agenda (left p) p
 answered_item k s (Some item) r p = answered_heard k s item r p
 
-abbrev pub item_passed : Profile → Side → Option Heard → PathEnd → PathEnd
-item_passed c s None e = e
-item_passed c s (Some item) e = heard_passed c s item e
+abbrev pub item_passed : Side → Option Heard → PathEnd → PathEnd
+item_passed s None e = e
+item_passed s (Some item) e = heard_passed s item e
 
 abbrev pub item_of : ℕ → PathEnd → Option Heard
 item_of index e = item_at index e.treated.items
@@ -149,12 +149,6 @@ item_of index e = item_at index e.treated.items
 abbrev pub is_dropped : Side → PathEnd → Bool
 is_dropped s e = not (is_side_a s) && (not e.modes.clear && e.treated.has_option)
 
-abbrev pub kept_payload : Option Payload → PathEnd → PathEnd
-kept_payload None e = e
-kept_payload (Some payload) e = record e { tcp = after_keeping true payload.position payload.octets e.tcp }
-
-abbrev pub without_payload : PathEnd → PathEnd
-without_payload e = record e { treated = record e.treated { payload = None } }
-
+-- the payload that is held is kept or dropped
 abbrev pub after_keep : Side → PathEnd → PathEnd
-after_keep s e = without_payload (if is_dropped s e then e else kept_payload e.treated.payload e)
+after_keep s e = record e { tcp = (if is_dropped s e then after_dropping_held e.tcp else after_keeping_held e.tcp) }

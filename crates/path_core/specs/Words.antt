@@ -22,3 +22,7 @@ item_at (suc n) (x ∷ xs) = item_at n xs
 abbrev pub told_last : {X : Type 0} → Option X → Option X → Option X
 told_last None before = before
 told_last (Some x) before = Some x
+
+abbrev pub first_of : {X : Type 0} → List X → Option X
+first_of [] = None
+first_of (x ∷ xs) = Some x

@@ -1,9 +1,6 @@
 //! What a copy says beside its header and payload.
 
-use seq_units::Pos;
-
-/// One of the things that the options of a copy say, by places of the streams and positions of the subflow (RFC 8684,
-/// section 3).
+/// One of the things that the options of a copy say, by places of the streams (RFC 8684, section 3).
 #[derive(Clone, Copy, Debug, PartialEq, Eq)]
 pub enum Heard {
     /// A DSS came, whatever it says.
@@ -13,13 +10,8 @@ pub enum Heard {
         next: u64,
         window: u32,
     },
-    /// From this position on, `length` places from this place on.
-    Mapping {
-        place: u64,
-        position: Pos,
-        length: u16,
-        checksum: u16,
-    },
+    /// A mapping: the next one of those that the end holds.
+    Mapping,
     /// The stream ends before this place.
     DataFin {
         place: u64,

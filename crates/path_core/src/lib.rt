@@ -8,12 +8,15 @@
 #![tactic(auto)]
 
 mod duty;
+mod event;
 mod heard;
 mod laws;
+mod lines;
 mod modes;
 
 pub use actor_desk::{Ask, LocalStep, Note, Reply};
 pub use duty::Duty;
 pub use heard::Heard;
 pub use laws::{a_first_round, every_turn_ends, octets_do_as_values};
+pub use lines::LineLeft;
 pub use modes::Modes;

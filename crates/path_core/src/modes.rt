@@ -1,5 +1,7 @@
 //! How an end stands to Multipath TCP.
 
+ghost use Rattle.std.specs.Prelude.{◌≡◌};
+
 use fallback_state::Mode;
 
 /// What an end knows of its side, and of the keys.
@@ -17,4 +19,22 @@ pub struct Modes {
     pub own_key: u64,
     /// The peer's key, once it is known.
     pub peer_key: Option<u64>,
+}
+
+impl Modes {
+    ghost use Rattle.path_core.specs.Ends.{first_modes};
+
+    /// Nothing is known yet but the own key.
+    pub(crate) fn new(own_key: u64) -> Self
+        ensures { result ≡ first_modes own_key }
+    {
+        Modes {
+            mode: Mode::Starting,
+            standby: false,
+            sole: false,
+            clear: false,
+            own_key,
+            peer_key: None,
+        }
+    }
 }

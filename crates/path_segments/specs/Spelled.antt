@@ -1,5 +1,5 @@
 -- The octets of a segment of a path (RFC 9293, section 3.1; RFC 8684, section 3).
-use Rattle.std.specs.Prelude.{ℕ, ◌-◌, ◌/◌, ◌%◌, ◌^◌, ◌<◌, ◌≤◌, min, Bool, is_some, if◌then◌else◌, Option, Some, None, unwrap_or, option_map, IfSome, List, [], ◌∷◌, ◌++◌, length, map, replicate, All}
+use Rattle.std.specs.Prelude.{ℕ, ◌-◌, ◌/◌, ◌%◌, ◌^◌, ◌≤◌, min, Bool, is_some, if◌then◌else◌, Option, Some, None, unwrap_or, option_map, List, [], ◌∷◌, ◌++◌, length, map, replicate, All}
 use Rattle.std.specs.Borrow.{Bor}
 use Rattle.std.specs.Int.{w16, to_be_bytes}
 use Rattle.std.specs.List.{flat_map}
@@ -8,9 +8,6 @@ use Rattle.segment_wire.specs.Segment.{Segment, segment_text, checksum_field}
 use Rattle.mptcp_options.specs.Text.{HasForm, option_text}
 use Rattle.path_segments.specs.declared.segment.PathSegment.{PathSegment}
 use Rattle.path_segments.specs.declared.segment.PathOption.{PathOption}
-use Rattle.path_segments.specs.declared.segment.PathOption.TheVariants.{Dss, Fail}
-use Rattle.path_segments.specs.declared.segment.PathMapping.{PathMapping}
-use Rattle.path_segments.specs.declared.segment.PathMapping.TheVariants.{Bytes, End, Infinite}
 use Rattle.path_segments.specs.declared.spelling.Side.{Side}
 use Rattle.path_segments.specs.declared.spelling.Spelling.{Spelling}
 use Rattle.path_segments.specs.Spelling.{peer_of, addresses_from, port_of, subflow_number}
@@ -88,20 +85,8 @@ spelled_sum spelling from s = checksum_field (addresses_from spelling.path from)
 
 -- ---- which can be said
 
--- places and positions are below 2 ^ 62
-abbrev pub IsMappingBelow : PathMapping ℕ → Type 0
-IsMappingBelow (Bytes place position len fin checksum) = (place < 2 ^ 62) × (position < 2 ^ 62)
-IsMappingBelow (End place checksum) = place < 2 ^ 62
-IsMappingBelow (Infinite place position) = (place < 2 ^ 62) × (position < 2 ^ 62)
-
-abbrev pub IsOptionBelow : PlainOption → Type 0
-IsOptionBelow (Dss next mapping) = IfSome next (λ n. n < 2 ^ 62) × IfSome mapping IsMappingBelow
-IsOptionBelow (Fail place) = place < 2 ^ 62
-IsOptionBelow _ = Unit {0}
-
 -- an option has a form of its subtype, and a checksum exactly where checksums are used
 pub record CanSayOption (spelling : Spelling) (from : Side) (o : PlainOption) : Type 0 where
-  pub below : IsOptionBelow o
   pub form : HasForm spelling.checksums (said_option spelling from o)
 
 -- Each option can be said, all of them have at most 40 octets, and the payload fits beside them.

@@ -1,20 +1,17 @@
 //! Which segments can be said.
 
-ghost use Rattle.std.specs.Prelude.{◌≡◌, ◌≤◌, ◌↔◌, ◌^◌, ◌<◌, length, map, All, IsTrue, is_some, IfSome};
+ghost use Rattle.std.specs.Prelude.{◌≡◌, ◌≤◌, ◌↔◌, length, map, All, IsTrue, is_some, IfSome};
 ghost use Rattle.mptcp_options.specs.Capable.{KeysHaveForm};
 ghost use Rattle.path_segments.specs.Options.{plain_option, said_mapping};
-ghost use Rattle.path_segments.specs.Spelled.{plain, options_text, unpadded_options, CanSay, CanSayOption, IsMappingBelow};
+ghost use Rattle.path_segments.specs.Spelled.{plain, options_text, unpadded_options, CanSay, CanSayOption};
 
 use crate::segment::{PathMapping, PathOption, SaidSegment};
 use crate::spelling::{Side, Spelling};
 use mptcp_options::{CapableKeys, octets_of};
 
-/// The bound of places and positions.
-const NUMBERS: u64 = 1 << 62;
-
 /// Whether a side can say this segment: the number of the path is at most 15, the window at most 2^20 octets, and the
-/// payload at most 65,475 octets; places and positions are below 2^62; each option has a form of its subtype, with a
-/// checksum exactly where checksums are used; and all options together have at most 40 octets.
+/// payload at most 65,475 octets; each option has a form of its subtype, with a checksum exactly where checksums are
+/// used; and all options together have at most 40 octets.
 pub fn can_say(spelling: &Spelling, from: Side, segment: &SaidSegment<'_>) -> bool
     ensures exact { IsTrue result ↔ CanSay spelling.now from (plain segment.now) }
 {
@@ -73,11 +70,11 @@ impl Spelling {
     {
         match *option {
             PathOption::Capable { keys, .. } => keys_have_form(self.checksums, &keys),
-            PathOption::Dss { next, mapping } => is_below(next) && self.can_map(from, &mapping),
+            PathOption::Dss { mapping, .. } => self.can_map(from, &mapping),
             PathOption::AddAddr { echo, hmac, .. } => hmac.is_some() == !echo,
             PathOption::Remove { ids } => 1 <= ids.len() && ids.len() <= 37,
-            PathOption::Fail { place } => place < NUMBERS,
             PathOption::Join { .. }
+            | PathOption::Fail { .. }
             | PathOption::Prio { .. }
             | PathOption::FastClose { .. }
             | PathOption::Reset { .. } => true,
@@ -86,34 +83,14 @@ impl Spelling {
 
     /// Whether the mapping, if any, can be said.
     fn can_map(&self, from: Side, mapping: &Option<PathMapping<u64>>) -> bool
-        ensures { IsTrue result ↔ (IfSome mapping.now IsMappingBelow × IfSome mapping.now (λ m. is_some (said_mapping self.now from m).checksum ≡ self.now.checksums)) }
+        ensures { IsTrue result ↔ IfSome mapping.now (λ m. is_some (said_mapping self.now from m).checksum ≡ self.now.checksums) }
     {
         match *mapping {
-            None => true,
-            Some(
-                PathMapping::Bytes {
-                    place,
-                    position,
-                    checksum,
-                    ..
-                },
-            ) => { place < NUMBERS && position < NUMBERS && checksum.is_some() == self.checksums }
-            Some(PathMapping::End { place, checksum }) => {
-                place < NUMBERS && checksum.is_some() == self.checksums
+            Some(PathMapping::Bytes { checksum, .. } | PathMapping::End { checksum, .. }) => {
+                checksum.is_some() == self.checksums
             }
-            Some(PathMapping::Infinite { place, position }) => {
-                place < NUMBERS && position < NUMBERS
-            }
+            Some(PathMapping::Infinite { .. }) | None => true,
         }
-    }
-}
-
-fn is_below(next: Option<u64>) -> bool
-    ensures { IsTrue result ↔ IfSome next (λ n. n < 2 ^ 62) }
-{
-    match next {
-        Some(next) => next < NUMBERS,
-        None => true,
     }
 }
 

@@ -1,4 +1,4 @@
-ghost use Rattle.std.specs.Prelude.{◌≡◌, ◌<◌, ◌^◌};
+ghost use Rattle.std.specs.Prelude.{◌≡◌};
 
 use mptcp_options::DataNumber;
 use segment_wire::Addresses;
@@ -87,17 +87,15 @@ impl Spelling {
         number32(self.numbers(side).initial, position).0
     }
 
-    /// The data number of a place of a side's stream, with eight octets.
-    pub(crate) fn whole_number(&self, side: Side, place: u64) -> u64
-        requires { place < 2 ^ 62 }
+    /// The data number of a place of a side's stream, with eight octets (RFC 8684, section 3.3.1).
+    pub fn whole_number(&self, side: Side, place: u64) -> u64
         ensures { result ≡ whole_number self.now side place }
     {
-        number64(self.numbers(side).idsn, place + 1).0
+        number64(self.numbers(side).idsn, place).0.wrapping_add(1)
     }
 
     /// The same as wide as this connection writes it in a DSS.
     pub(crate) fn data_number(&self, side: Side, place: u64) -> DataNumber
-        requires { place < 2 ^ 62 }
         ensures { result ≡ data_number self.now side place }
     {
         let number = self.whole_number(side, place);

@@ -1,9 +1,8 @@
 //! An option of a path as the option of the octets.
 
-ghost use Rattle.std.specs.Prelude.{◌≡◌, ◌<◌, ◌^◌, IfSome, option_map};
+ghost use Rattle.std.specs.Prelude.{◌≡◌, option_map};
 ghost use Rattle.mptcp_options.specs.Value.{value_of};
 ghost use Rattle.path_segments.specs.Options.{plain_option, said_option, said_mapping, mapping_ends_stream, relative_number};
-ghost use Rattle.path_segments.specs.Spelled.{IsMappingBelow, IsOptionBelow};
 ghost use Rattle.path_segments.specs.Spelling.{peer_of, data_number};
 
 use crate::segment::{PathMapping, PathOption};
@@ -18,7 +17,6 @@ impl Spelling {
         from: Side,
         option: &PathOption<u64, &'a [u8]>,
     ) -> MpOption<'a>
-        requires { IsOptionBelow (plain_option option.now) }
         ensures { value_of result ≡ said_option self.now from (plain_option option.now) }
     {
         match *option {
@@ -61,7 +59,6 @@ impl Spelling {
     }
 
     fn said_ack(&self, from: Side, next: Option<u64>) -> Option<DataNumber>
-        requires { IfSome next (λ n. n < 2 ^ 62) }
         ensures { result ≡ option_map (data_number self.now (peer_of from)) next }
     {
         match next {
@@ -71,7 +68,6 @@ impl Spelling {
     }
 
     fn said_mapping_of(&self, from: Side, mapping: Option<PathMapping<u64>>) -> Option<DssMap>
-        requires { IfSome mapping IsMappingBelow }
         ensures { result ≡ option_map (said_mapping self.now from) mapping }
     {
         match mapping {
@@ -81,7 +77,6 @@ impl Spelling {
     }
 
     fn said_mapping(&self, from: Side, mapping: PathMapping<u64>) -> DssMap
-        requires { IsMappingBelow mapping }
         ensures { result ≡ said_mapping self.now from mapping }
     {
         match mapping {
@@ -113,8 +108,8 @@ impl Spelling {
     }
 }
 
-/// The relative subflow sequence number of a position.
-fn relative_number(position: Pos) -> u32
+/// The relative subflow sequence number of a position (RFC 8684, section 3.3.1).
+pub fn relative_number(position: Pos) -> u32
     ensures { result ≡ relative_number position }
 {
     number32(Seq32(0), position).0

@@ -37,21 +37,21 @@ module _ (c : Connection) (small : c.settings.buffer ≤ 2 ^ 20) where
 
   pub says_syn : CanSay (spelling_of c) A (syn c)
   unfolding option_text
-  says_syn = says A true 0 None (capable NoKey) [] (record { below = tt; form = tt }) (omega arith) (omega arith)
+  says_syn = says A true 0 None (capable NoKey) [] (record { form = tt }) (omega arith) (omega arith)
 
   pub says_syn_ack : CanSay (spelling_of c) B (syn_ack c)
   unfolding option_text
-  says_syn_ack = says B true 0 (Some 1) (capable (Sender c.b.key)) [] (record { below = tt; form = tt }) (omega arith) (omega arith)
+  says_syn_ack = says B true 0 (Some 1) (capable (Sender c.b.key)) [] (record { form = tt }) (omega arith) (omega arith)
 
   -- whichever keys it has
   pub says_third_ack : (sender receiver : ℕ) → CanSay (spelling_of c) A (segment_with c.settings false 1 (Some 1) (capable (Both sender receiver) ∷ []) [])
   unfolding option_text
-  says_third_ack sender receiver = says A false 1 (Some 1) (capable (Both sender receiver)) [] (record { below = tt; form = tt }) (omega arith) (omega arith)
+  says_third_ack sender receiver = says A false 1 (Some 1) (capable (Both sender receiver)) [] (record { form = tt }) (omega arith) (omega arith)
 
   module _ (place : ℕ) (low : place + 1 < 2 ^ 62) (len : ℕ) where
     says_option : (first : Bool) → CanSayOption (spelling_of c) A (if first then capable (WithData c.a.key c.b.key len None) else Dss (Some 0) (Some (Bytes place (place + 1) len false None)))
-    says_option true = record { below = tt; form = refl }
-    says_option false = record { below = (omega arith, (omega arith, omega arith)); form = (refl, tt) }
+    says_option true = record { form = refl }
+    says_option false = record { form = (refl, tt) }
 
     short_option : (first : Bool)
         → length (option_text (said_option (spelling_of c) A (if first then capable (WithData c.a.key c.b.key len None) else Dss (Some 0) (Some (Bytes place (place + 1) len false None))))) ≤ 28

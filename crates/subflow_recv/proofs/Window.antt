@@ -5,7 +5,7 @@ use Rattle.std.proofs.lemmas.List.{drop_all, length-drop, length-take}
 use Rattle.std.proofs.Math.Seq.{drop-nil}
 use Rattle.byte_pieces.proofs.Ordered.{le_true, le_false}
 use Rattle.byte_pieces.proofs.Filling.{merged-nil}
-use Rattle.subflow_recv.specs.Receiving.{Receiving, by_place, merged, filled, cut, window_end, is_outside, after_accept}
+use Rattle.subflow_recv.specs.Receiving.{Receiving, by_place, merged, filled, cut, window_end, is_outside, after_accept, without_held}
 
 -- ---- how many places there are
 length-some : (bytes : List ℕ) → length (map Some bytes) ≡ length bytes
@@ -28,6 +28,19 @@ pub fits-put : (edge window pos : ℕ) (octets : List ℕ) (places : List (Optio
     → length (merged places (drop edge (by_place pos octets))) ≤ window
 fits-put edge window pos octets places h g =
     merged-le window places (drop edge (by_place pos octets)) h (omega (arith, length-drop edge (by_place pos octets), by_place-le pos octets))
+
+-- what lies past the window is left out
+pub fits-held : (edge window pos : ℕ) (payload : List ℕ) (places : List (Option ℕ)) → length places ≤ window
+    → length (merged places (drop edge (by_place pos (take (edge + window - pos) payload)))) ≤ window
+fits-held edge window pos payload places h =
+    ⊎_elim
+    (λ (before : pos < edge + window).
+    fits-put edge window pos (take (edge + window - pos) payload) places h (omega (arith, length-take (edge + window - pos) payload)))
+    (λ (past : edge + window ≤ pos). fits-none (edge + window - pos) (omega arith))
+    (cases_lt pos (edge + window))
+  where
+    fits-none : (n : ℕ) → n ≡ 0 → length (merged places (drop edge (by_place pos (take n payload)))) ≤ window
+    fits-none n e = rw (e, drop-nil {A = Option ℕ} edge, merged-nil places) h
 
 cut-le : (n : ℕ) (places : List (Option ℕ)) → length (cut n places) ≤ length places
 cut-le zero places = omega arith
@@ -68,9 +81,9 @@ outside_kinds pos payload v e =
     (λ (none : length payload ≤ 0). inl (omega arith))
     (cases_lt 0 (length payload))
 
-pub outside_changes_nothing : (pos : ℕ) (payload : List ℕ) (v : Receiving) → is_outside pos payload v ≡ true → after_accept pos payload v ≡ v
+pub outside_changes_nothing : (pos : ℕ) (payload : List ℕ) (v : Receiving) → is_outside pos payload v ≡ true → after_accept pos payload v ≡ without_held v
 outside_changes_nothing pos payload v e =
-    ap (λ others. record v { places = merged v.places others })
+    ap (λ others. record v { places = merged v.places others; incoming = None })
     (⊎_elim
     (λ none. ap (λ octets. drop v.edge (by_place pos octets)) (take-empty (window_end v - pos) payload none) ∙ drop-nil {A = Option ℕ} v.edge)
     (λ rest. ⊎_elim
@@ -78,7 +91,7 @@ outside_changes_nothing pos payload v e =
     (λ past. ap (λ octets. drop v.edge (by_place pos octets)) (take-none (window_end v - pos) payload (omega arith)) ∙ drop-nil {A = Option ℕ} v.edge)
     rest)
     (outside_kinds pos payload v e))
-    ∙ ap (λ places. record v { places = places }) (merged-nil v.places)
+    ∙ ap (λ places. record v { places = places; incoming = None }) (merged-nil v.places)
 
 pub outside_law : (pos : ℕ) (payload : List ℕ) (v : Receiving) → 0 < v.window
     → (is_outside pos payload v ≡ true → (k : ℕ) → k < length payload → (pos + k < v.edge) ⊎ (window_end v ≤ pos + k))

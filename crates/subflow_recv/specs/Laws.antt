@@ -1,6 +1,6 @@
 -- What lists of calls promise.
 use Rattle.std.specs.Prelude.{ℕ, ◌≡◌, ◌+◌, ◌-◌, ◌<◌, ◌≤◌, ◌↔◌, ◌⊎◌, ◌&&◌, true, nat_le, nat_lt, if◌then◌else◌, Option, Some, None, List, [], ◌∷◌, length, take, drop, slice_get}
-use Rattle.subflow_recv.specs.Receiving.{Receiving, filled, window_end, is_outside, after_accept, after_advance, after_forget_from, octet_at}
+use Rattle.subflow_recv.specs.Receiving.{Receiving, filled, window_end, is_outside, after_accept, after_hold, after_keep_held, after_advance, after_forget_from, octet_at}
 
 -- what can happen to a side to which parts of one list of octets come
 pub data Event : Type 0 where
@@ -65,3 +65,7 @@ ForgottenOctetsAreGone = (v : Receiving) (from pos : ℕ) → v.edge ≤ from
 abbrev pub OutsideIsNoOctetInTheWindow : Type 0
 OutsideIsNoOctetInTheWindow = (pos : ℕ) (payload : List ℕ) (v : Receiving) → 0 < v.window
     → (is_outside pos payload v ≡ true) ↔ ((k : ℕ) → k < length payload → (pos + k < v.edge) ⊎ (window_end v ≤ pos + k))
+
+-- a payload that is held and then kept is kept as if it had been accepted at once
+abbrev pub HeldPayloadsAreKept : Type 0
+HeldPayloadsAreKept = (v : Receiving) (pos : ℕ) (payload : List ℕ) → after_keep_held (after_hold pos payload v) ≡ after_accept pos payload v

@@ -1,5 +1,5 @@
 -- The receiving side of a subflow by position, and what each call makes of it (RFC 9293, sections 3.4 and 3.10.7.4).
-use Rattle.std.specs.Prelude.{ℕ, zero, suc, ◌+◌, ◌-◌, ◌||◌, Bool, nat_le, nat_lt, if◌then◌else◌, Option, None, List, [], ◌∷◌, length, take, drop}
+use Rattle.std.specs.Prelude.{ℕ, zero, suc, ◌+◌, ◌-◌, ◌||◌, Bool, nat_le, nat_lt, if◌then◌else◌, Option, Some, None, unwrap_or, List, [], ◌∷◌, length, take, drop}
 use Rattle.subflow_recv.specs.declared.acceptance.Acceptance.{Acceptance}
 use Rattle.subflow_recv.specs.declared.acceptance.Acceptance.TheVariants.{Kept, Outside}
 -- octets by their places, what comes where nothing is kept, the octets in order, the first places alone, how many are kept
@@ -12,10 +12,12 @@ pub record Receiving : Type 0 where
   pub window : ℕ
   -- the positions from the edge on, each with its octet or without one; the last one has an octet
   pub places : List (Option ℕ)
+  -- the places with the payload that is held too, where one is held until it is kept
+  pub incoming : Option (List (Option ℕ))
 
 -- nothing has come, not even the SYN, whose position is 0
 abbrev pub opening : ℕ → Receiving
-opening window = record { edge = 0; window = window; places = [] }
+opening window = record { edge = 0; window = window; places = []; incoming = None }
 
 -- the position after the window
 abbrev pub window_end : Receiving → ℕ
@@ -26,13 +28,29 @@ abbrev pub is_outside : ℕ → List ℕ → Receiving → Bool
 is_outside pos payload v =
     nat_le (length payload) 0 || (nat_le (pos + length payload) v.edge || nat_le (window_end v) pos)
 
--- those of the octets from this position on that stand where none is kept are kept
+-- the places with the octets from this position on: those that stand where none is kept
+abbrev pub places_with : ℕ → List ℕ → Receiving → List (Option ℕ)
+places_with pos octets v = merged v.places (drop v.edge (by_place pos octets))
+
+-- they are kept; this and any other change of the side lets go of the payload that is held
 abbrev pub with_octets : ℕ → List ℕ → Receiving → Receiving
-with_octets pos octets v = record v { places = merged v.places (drop v.edge (by_place pos octets)) }
+with_octets pos octets v = record v { places = places_with pos octets v; incoming = None }
 
 -- what lies past the window is left out
 abbrev pub after_accept : ℕ → List ℕ → Receiving → Receiving
 after_accept pos payload v = with_octets pos (take (window_end v - pos) payload) v
+
+-- a payload is held, to be kept later
+abbrev pub after_hold : ℕ → List ℕ → Receiving → Receiving
+after_hold pos payload v = record v { incoming = Some (places_with pos (take (window_end v - pos) payload) v) }
+
+-- what is held is kept
+abbrev pub after_keep_held : Receiving → Receiving
+after_keep_held v = record v { places = unwrap_or v.incoming v.places; incoming = None }
+
+-- nothing is held any more
+abbrev pub without_held : Receiving → Receiving
+without_held v = record v { incoming = None }
 
 -- how many octets are kept that were not kept before
 abbrev pub newly_kept : ℕ → List ℕ → Receiving → ℕ
@@ -44,11 +62,11 @@ acceptance_of pos payload v = if is_outside pos payload v then Outside else Kept
 
 -- the edge moves, and what lies below it is let go
 abbrev pub after_advance : ℕ → Receiving → Receiving
-after_advance to v = record v { edge = to; places = drop (to - v.edge) v.places }
+after_advance to v = record v { edge = to; places = drop (to - v.edge) v.places; incoming = None }
 
 -- what lies at or past this position is forgotten
 abbrev pub after_forget_from : ℕ → Receiving → Receiving
-after_forget_from pos v = record v { places = cut (pos - v.edge) v.places }
+after_forget_from pos v = record v { places = cut (pos - v.edge) v.places; incoming = None }
 
 -- the octet at a place
 abbrev pub place_at : ℕ → List (Option ℕ) → Option ℕ

@@ -1,4 +1,4 @@
-ghost use Rattle.subflow_recv.specs.Laws.{HeldIsAFront, WhatComesFirstIsKept, KeptOctetsStay, ForgottenOctetsAreGone, OutsideIsNoOctetInTheWindow};
+ghost use Rattle.subflow_recv.specs.Laws.{HeldIsAFront, WhatComesFirstIsKept, KeptOctetsStay, ForgottenOctetsAreGone, OutsideIsNoOctetInTheWindow, HeldPayloadsAreKept};
 
 /// A law: whatever parts of one list of octets come, in any order and however the edge moves and octets are forgotten
 /// in between, what is held is a front of that list from the edge on.
@@ -25,4 +25,9 @@ pub fn forgotten_octets_are_gone()
 /// A law: a payload is outside exactly where none of its octets is in the window.
 pub fn outside_is_no_octet_in_the_window()
     ensures { OutsideIsNoOctetInTheWindow }
+{}
+
+/// A law: a payload that is held and then kept is kept as if it had been accepted at once.
+pub fn held_payloads_are_kept()
+    ensures { HeldPayloadsAreKept }
 {}

@@ -7,8 +7,9 @@ use seq_units::Pos;
 use std::alloc::{AllocError, Global};
 use std::marker::Model;
 
-/// The receiving side of a subflow. Contracts see the receive edge, the window, and the list of the positions from the
-/// edge on, each with its octet or without one. Positions are at most 2^62.
+/// The receiving side of a subflow. Contracts see the receive edge, the window, the list of the positions from the edge
+/// on, each with its octet or without one, and that list as it will be once the payload that is held is kept too.
+/// Positions are at most 2^62.
 #[derive(Debug, Drop)]
 pub struct SubflowRecv {
     /// The octets that are kept, from the receive edge on.
@@ -22,15 +23,21 @@ impl Model for SubflowRecv {
 
     ghost Value = { Receiving };
 
-    ghost use Rattle.std.specs.Prelude.{◌<◌, ◌≤◌, length};
+    ghost use Rattle.std.specs.Prelude.{◌<◌, ◌≤◌, length, IfSome};
 
-    ghost view = { λ side. record { edge = side.kept.from; window = side.window; places = side.kept.places } };
+    ghost view = { λ side. record {
+      edge = side.kept.from;
+      window = side.window;
+      places = side.kept.places;
+      incoming = side.kept.incoming;
+    } };
 
-    ghost invariant = { λ side. (0 < side.window) × (length side.kept.places ≤ side.window) };
+    ghost invariant = { λ side. (0 < side.window) × (length side.kept.places ≤ side.window)
+        × IfSome side.kept.incoming (λ places. length places ≤ side.window) };
 }
 
 impl SubflowRecv {
-    ghost use Rattle.subflow_recv.specs.Receiving.{filled, kept_count, opening, window_end, is_outside, with_octets, acceptance_of, after_accept, after_advance, after_forget_from};
+    ghost use Rattle.subflow_recv.specs.Receiving.{filled, kept_count, opening, window_end, is_outside, with_octets, acceptance_of, after_accept, after_hold, after_keep_held, without_held, after_advance, after_forget_from};
 
     /// A side to which nothing has come: the edge is position 0, that of the peer's SYN. From the edge on `window`
     /// positions are in the window, at least one. Takes no memory.
@@ -70,7 +77,8 @@ impl SubflowRecv {
     }
 
     /// Keeps those octets of a payload that are in the window and stand at a position without one, each copied once.
-    /// Its first octet stands at the position `pos`. An octet that is kept already stays.
+    /// Its first octet stands at the position `pos`. An octet that is kept already stays. A payload that is held is let
+    /// go.
     ///
     /// # Errors
     ///
@@ -82,10 +90,42 @@ impl SubflowRecv {
         ensures err { OnErr result (self.new ≡ self.old) }
     {
         if self.is_outside(pos, payload) {
+            self.kept.drop_held();
             return Ok(Acceptance::Outside);
         }
         let count = self.keep(pos, self.before_window_end(pos, payload))?;
         Ok(Acceptance::Kept(count))
+    }
+
+    /// Holds a payload beside what is kept, until [`keep_held`](SubflowRecv::keep_held) keeps those of its octets that
+    /// [`accept`](SubflowRecv::accept) would, each copied once. Its first octet stands at the position `pos`. What was held
+    /// before is let go, and so is this payload at any other change of the side.
+    ///
+    /// # Errors
+    ///
+    /// Only where there is no memory for it; then all is as it was.
+    pub fn hold(&mut self, pos: Pos, payload: &[u8]) -> Result<(), AllocError>
+        requires { pos + length payload.now ≤ 2 ^ 62 }
+        ensures ok { OnOk result (self.new ≡ after_hold pos payload.now self.old) }
+        ensures err { OnErr result (self.new ≡ self.old) }
+    {
+        let octets = self.before_window_end(pos, payload);
+        self.kept.hold(pos, octets)?;
+        Ok(())
+    }
+
+    /// Keeps the payload that is held, which then is held no longer. Takes no memory; where none is held, nothing changes.
+    pub fn keep_held(&mut self)
+        ensures { self.new ≡ after_keep_held self.old }
+    {
+        self.kept.keep_held();
+    }
+
+    /// Lets go of the payload that is held.
+    pub fn drop_held(&mut self)
+        ensures { self.new ≡ without_held self.old }
+    {
+        self.kept.drop_held();
     }
 
     /// Whether no octet of the payload is in the window.
@@ -124,8 +164,8 @@ impl SubflowRecv {
         self.kept.in_order()
     }
 
-    /// Moves the edge over octets in order, which are let go in time proportional to the number of their pieces. Takes
-    /// no memory.
+    /// Moves the edge over octets in order, which are let go in time proportional to the number of their pieces. A payload
+    /// that is held is let go. Takes no memory.
     pub fn advance(&mut self, to: Pos)
         requires order { self.old.edge ≤ to }
         requires within { to ≤ self.old.edge + length (filled self.old.places) }
@@ -137,7 +177,7 @@ impl SubflowRecv {
     }
 
     /// Moves the edge over one position that no octet occupies, that of the peer's SYN or FIN (RFC 9293, section 3.4).
-    /// An octet that came for it is let go. Takes no memory.
+    /// An octet that came for it is let go, and a payload that is held. Takes no memory.
     pub fn pass(&mut self)
         requires { self.old.edge < 2 ^ 62 }
         ensures { self.new ≡ after_advance (self.old.edge + 1) self.old }
@@ -145,7 +185,8 @@ impl SubflowRecv {
         self.kept.drop_front(self.kept.from() + 1);
     }
 
-    /// Forgets every octet at or past the position `pos`, so that what comes for it is kept again. Takes no memory.
+    /// Forgets every octet at or past the position `pos`, so that what comes for it is kept again, and the payload that is
+    /// held. Takes no memory.
     pub fn forget_from(&mut self, pos: Pos)
         requires { self.old.edge ≤ pos }
         ensures { self.new ≡ after_forget_from pos self.old }

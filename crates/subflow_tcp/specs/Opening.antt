@@ -11,7 +11,7 @@ use Rattle.subflow_tcp.specs.State.{EndState}
 
 -- nothing has come; the peer's SYN will stand at position 0, and its first octet at 1
 abbrev pub nothing_came : Receiving
-nothing_came = record { edge = 1; window = 1048576; places = [] }
+nothing_came = record { edge = 1; window = 1048576; places = []; incoming = None }
 
 -- its SYN is to be sent as soon as the state lets it
 abbrev pub new_end : State → Bool → ℕ → ℕ → ℕ → EndState

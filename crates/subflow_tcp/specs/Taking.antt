@@ -7,7 +7,7 @@ use Rattle.subflow_send.specs.Records.{SendState}
 use Rattle.subflow_send.specs.Rules.{ack_kind, after_acknowledge, sample_of}
 use Rattle.subflow_recv.specs.declared.acceptance.Acceptance.{Acceptance}
 use Rattle.subflow_recv.specs.declared.acceptance.Acceptance.TheVariants.{Kept, Outside}
-use Rattle.subflow_recv.specs.Receiving.{acceptance_of, after_accept, after_forget_from}
+use Rattle.subflow_recv.specs.Receiving.{acceptance_of, after_accept, after_hold, after_keep_held, without_held, after_forget_from}
 use Rattle.subflow_tcp.specs.declared.handshake.State.TheVariants.{SynReceived, Established, Dead}
 use Rattle.subflow_tcp.specs.declared.segments.Hint.{Hint}
 use Rattle.subflow_tcp.specs.declared.verdicts.Meaning.{Meaning}
@@ -51,7 +51,7 @@ after_death reset s = record s {
   due = only_reset reset;
 }
 
--- ---- the payload, and the FIN behind it
+-- ---- the payload
 -- it is kept where it is wanted, as long as the peer's FIN isn't passed
 abbrev pub is_kept : Bool → EndState → Bool
 is_kept keep s = keep && not (is_fin_passed s)
@@ -67,6 +67,22 @@ new_octets Outside = 0
 abbrev pub kept_new : Bool → ℕ → List ℕ → EndState → ℕ
 kept_new keep pos payload s = if is_kept keep s then new_octets (acceptance_of pos payload s.recv) else 0
 
+-- ---- a payload that is held until it is kept
+abbrev pub after_holding : ℕ → List ℕ → EndState → EndState
+after_holding pos payload s = record s { recv = after_hold pos payload s.recv }
+
+-- behind the peer's FIN nothing is kept
+abbrev pub after_keeping_held : EndState → EndState
+after_keeping_held s = record s { recv = (if is_fin_passed s then without_held s.recv else after_keep_held s.recv) }
+
+abbrev pub after_dropping_held : EndState → EndState
+after_dropping_held s = record s { recv = without_held s.recv }
+
+-- what the layer above tells of a segment whose payload isn't kept at once
+abbrev pub unkept : Option ℕ → Hint
+unkept data_ack = record { data_ack = data_ack; keep = false }
+
+-- ---- the FIN behind it
 -- the position of the first FIN that was heard
 abbrev pub first_fin : Option ℕ → Bool → ℕ → Option ℕ
 first_fin None fin pos = if fin then Some pos else None
@@ -181,6 +197,19 @@ after_arrival means.Unacknowledging hint now c s = after_hearing s
 after_arrival means.Ahead hint now c s = after_answering (after_hearing s)
 after_arrival (means.Taken pos acknowledged) hint now c s = after_taken pos acknowledged hint now c s
 
+-- the payload of a segment that means this is kept where it is taken; behind a SYN it begins at position 1
+abbrev pub after_keeping_for : Meaning → Bool → List ℕ → EndState → EndState
+after_keeping_for means.Opens keep payload s = after_keeping keep 1 payload s
+after_keeping_for (means.Accepts acknowledged) keep payload s = after_keeping keep 1 payload s
+after_keeping_for (means.Taken pos acknowledged) keep payload s = after_keeping keep pos payload s
+after_keeping_for _ keep payload s = s
+
+abbrev pub kept_for : Meaning → Bool → List ℕ → EndState → ℕ
+kept_for means.Opens keep payload s = kept_new keep 1 payload s
+kept_for (means.Accepts acknowledged) keep payload s = kept_new keep 1 payload s
+kept_for (means.Taken pos acknowledged) keep payload s = kept_new keep pos payload s
+kept_for _ keep payload s = 0
+
 -- what is answered
 abbrev pub arrival_of : Meaning → Hint → Copy → EndState → Arrival
 arrival_of means.Ignored hint c s = Dropped
@@ -195,6 +224,11 @@ arrival_of means.Unacknowledging hint c s = Dropped
 arrival_of means.Ahead hint c s = AckNow
 arrival_of (means.Taken pos acknowledged) hint c s =
     if is_half_open s.state then Opened else Took (ack_kind acknowledged s.send) (kept_new hint.keep pos c.payload s) c.fin
+
+-- so many octets are new, where it was taken
+abbrev pub with_new : ℕ → Arrival → Arrival
+with_new new (Took ack before fin) = Took ack new fin
+with_new new arrival = arrival
 
 -- ---- what the octets add
 -- a SYN that is taken tells the peer's initial number, and a dead end answers by a reset

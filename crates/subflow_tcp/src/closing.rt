@@ -11,8 +11,7 @@ impl Subflow {
 
     /// Makes the FIN due behind the last piece: the state is FinWait1 or LastAck.
     pub fn finish(&mut self)
-        requires state { IsTrue (may_finish self.old.state) }
-        requires open { self.old.send.finished ≡ false }
+        requires { IsTrue (may_finish self.old.state) }
         ensures { self.new ≡ after_finishing self.old }
     {
         self.send.finish();
@@ -38,8 +37,6 @@ impl Subflow {
 
     /// Makes an acknowledgement due, at SND.NXT, or with `below` one below SND.UNA, which a peer that is there answers.
     pub fn ack_due(&mut self, below: bool)
-        requires syn { 0 < self.old.send.una }
-        requires alive { self.old.state ≢ Dead }
         ensures { self.new ≡ after_owing below self.old }
     {
         if below {

@@ -40,7 +40,7 @@ impl Subflow {
     ghost use Rattle.subflow_tcp.specs.Emitting.{ack_at, reset_segment, syn_ack_segment, fin_position, fin_segment, acknowledged_in, record_segment, segment_for, emission_for, may_go, is_unsent_due, next_record, next_owed, next_occasion, next_emission, after_sending, after_emission, payload_of};
 
     /// A segment that acknowledges what has come, and nothing more.
-    fn ack_at(&self, position: Pos) -> Outgoing
+    pub fn ack_at(&self, position: Pos) -> Outgoing
         ensures { result ≡ ack_at position self.now }
     {
         Outgoing {
@@ -54,7 +54,7 @@ impl Subflow {
     }
 
     /// The reset of the end: at SND.NXT, without an acknowledgement.
-    fn reset_segment(&self) -> Outgoing
+    pub fn reset_segment(&self) -> Outgoing
         ensures { result ≡ reset_segment self.now }
     {
         Outgoing {
@@ -67,7 +67,8 @@ impl Subflow {
         }
     }
 
-    fn syn_ack_segment(&self) -> Outgoing
+    /// The SYN/ACK, at position 0.
+    pub fn syn_ack_segment(&self) -> Outgoing
         ensures { result ≡ syn_ack_segment self.now }
     {
         Outgoing {
@@ -87,7 +88,8 @@ impl Subflow {
         }
     }
 
-    fn fin_segment(&self) -> Outgoing
+    /// The FIN, also before it is pushed.
+    pub fn fin_segment(&self) -> Outgoing
         ensures { result ≡ fin_segment self.now }
     {
         Outgoing {
@@ -108,7 +110,7 @@ impl Subflow {
     }
 
     /// The segment of a record.
-    fn record_segment(&self, lent: &RecordRef<'_>) -> Outgoing
+    pub fn record_segment(&self, lent: &RecordRef<'_>) -> Outgoing
         ensures { result ≡ record_segment self.now (record_of lent.now) }
     {
         Outgoing {

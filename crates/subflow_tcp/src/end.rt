@@ -149,9 +149,10 @@ impl Subflow {
         self.send.nxt()
     }
 
-    /// Whether the FIN was pushed.
+    /// Whether the FIN was pushed. Where it may be, it wasn't yet.
     pub fn is_finished(&self) -> bool
-        ensures { result ≡ self.now.send.finished }
+        ensures value { result ≡ self.now.send.finished }
+        ensures open { IsTrue (may_finish self.now.state) → result ≡ false }
     {
         self.send.is_finished()
     }

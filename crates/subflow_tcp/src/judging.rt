@@ -20,9 +20,7 @@ const LIMIT: u64 = 1 << 61;
 
 /// How many positions the segment occupies: one for each octet, one for the SYN, one for the FIN.
 pub(crate) fn occupied(arriving: &Arriving<'_>) -> u64
-    requires { length arriving.now.payload.now ≤ 65535 }
-    ensures value { result ≡ occupied (copy_of arriving.now) }
-    ensures bound { result ≤ 65537 }
+    ensures { result ≡ occupied (copy_of arriving.now) }
 {
     arriving.payload.len() as u64 + (u64::from(arriving.syn) + u64::from(arriving.fin))
 }
@@ -44,8 +42,7 @@ fn is_in_window(edge: Pos, pos: Pos) -> bool
 
 /// Whether a segment at this position that occupies so many begins or ends in the window behind this edge.
 fn is_acceptable(edge: Pos, pos: Pos, len: u64) -> bool
-    requires edge { edge ≤ 2 ^ 62 }
-    requires len { len ≤ 65537 }
+    requires { edge ≤ 2 ^ 62 }
     ensures value { result ≡ is_acceptable edge pos len }
     ensures below { IsTrue result → pos < edge + 1048576 }
 {
@@ -84,9 +81,8 @@ impl Subflow {
         LIMIT <= self.send.nxt() || LIMIT <= self.recv.edge()
     }
 
-    /// What a segment means for the end, by the first rule that fits. It has at most 65,535 octets.
+    /// What a segment means for the end, by the first rule that fits.
     pub fn meaning(&self, arriving: &Arriving<'_>) -> Meaning
-        requires { length arriving.now.payload.now ≤ 65535 }
         ensures value { result ≡ meaning_of (copy_of arriving.now) self.now }
         ensures below { IsBelow result }
     {
@@ -119,7 +115,6 @@ impl Subflow {
 
     /// At an end that has the peer's SYN.
     fn meaning_connected(&self, arriving: &Arriving<'_>) -> Meaning
-        requires { length arriving.now.payload.now ≤ 65535 }
         ensures value { result ≡ meaning_connected (copy_of arriving.now) self.now }
         ensures below { IsBelow result }
     {

@@ -10,7 +10,9 @@ mod end;
 mod expiring;
 mod handshake;
 mod judging;
+mod keeping;
 mod laws;
+mod lending;
 mod segments;
 mod spelling;
 mod taking;
@@ -24,7 +26,7 @@ pub use loss_recovery::{Congestion, Pending, Timing, Told};
 pub use segments::{Arriving, Emission, Hint, Occasion, Outgoing};
 pub use spelling::Numbers;
 pub use subflow_recv::Parts;
-pub use subflow_send::{AckKind, RecordRef};
+pub use subflow_send::{AckKind, RecordKind, RecordRef};
 pub use verdicts::{Arrival, Fired, Meaning};
 
 #[cfg(test)]

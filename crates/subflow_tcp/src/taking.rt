@@ -5,9 +5,8 @@ ghost use Rattle.subflow_send.specs.Rules.{ack_kind};
 ghost use Rattle.subflow_tcp.specs.declared.verdicts.Meaning.TheVariants.{Taken};
 ghost use Rattle.subflow_tcp.specs.declared.verdicts.Arrival.TheVariants.{Opened};
 ghost use Rattle.subflow_tcp.specs.Segments.{copy_of};
-ghost use Rattle.subflow_tcp.specs.Judging.{IsBelow};
 ghost use Rattle.subflow_tcp.specs.Sizes.{flight_told};
-ghost use Rattle.subflow_tcp.specs.Taking.{first_fin, new_octets, is_ack_again, told_by, told_by_syn};
+ghost use Rattle.subflow_tcp.specs.Taking.{first_fin, is_ack_again, told_by, told_by_syn, unkept};
 
 use crate::end::Subflow;
 use crate::handshake::State;
@@ -18,7 +17,6 @@ use loss_recovery::Told;
 use segment_wire::{Head, SegmentRef};
 use seq_units::Pos;
 use std::alloc::AllocError;
-use subflow_recv::Acceptance;
 use subflow_send::{AckKind, SubflowSend};
 
 /// The position of the first FIN that was heard, of which this one would stand at `pos`.
@@ -32,16 +30,6 @@ fn first_fin(fin_at: Option<Pos>, fin: bool, pos: Pos) -> Option<Pos>
     }
 }
 
-/// How many octets are new.
-fn new_octets(acceptance: Acceptance) -> u64
-    ensures { result ≡ new_octets acceptance }
-{
-    match acceptance {
-        Acceptance::Kept(new) => new,
-        Acceptance::Outside => 0,
-    }
-}
-
 /// It acknowledges SND.UNA again.
 fn is_ack_again(kind: AckKind) -> bool
     ensures { result ≡ is_ack_again kind }
@@ -50,11 +38,11 @@ fn is_ack_again(kind: AckKind) -> bool
 }
 
 /// What a segment tells beside its acknowledgement.
-fn told_by(hint: &Hint, arriving: &Arriving<'_>) -> Told
-    ensures { result ≡ told_by hint.now (copy_of arriving.now) }
+fn told_by(data_ack: Option<u64>, arriving: &Arriving<'_>) -> Told
+    ensures { result ≡ told_by (unkept data_ack) (copy_of arriving.now) }
 {
     Told {
-        place: hint.data_ack,
+        place: data_ack,
         window: arriving.window,
     }
 }
@@ -77,10 +65,11 @@ pub(crate) fn flight_told(send: &SubflowSend) -> u32
 }
 
 impl Subflow {
-    ghost use Rattle.subflow_tcp.specs.Taking.{after_keeping, kept_new, after_payload, after_ack_kind, after_acknowledgement, after_new_ack, is_duplicate, after_duplicate, after_row, after_heard_ack, after_occupying, after_taken, after_syn, after_syn_ack, after_arrival, arrival_of, after_octets, after_segment, arrival_in};
+    ghost use Rattle.subflow_tcp.specs.Judging.{meaning_of};
+    ghost use Rattle.subflow_tcp.specs.Taking.{after_payload, after_ack_kind, after_acknowledgement, after_new_ack, is_duplicate, after_duplicate, after_row, after_heard_ack, after_occupying, after_taken, after_syn, after_syn_ack, after_arrival, arrival_of, after_octets, after_segment, arrival_in};
 
     /// Treats a segment that arrives at the tick `now`, as it stands in octets: reads it, judges it, and takes it. It has
-    /// at most 65,535 octets, and no growth is pending.
+    /// at most 65,535 octets.
     ///
     /// # Errors
     ///
@@ -91,8 +80,7 @@ impl Subflow {
         hint: &Hint,
         now: u64,
     ) -> Result<Arrival, AllocError>
-        requires small { length (segment_of segment.now).payload ≤ 65535 }
-        requires settled { self.old.congestion.pending ≡ None }
+        requires { length (segment_of segment.now).payload ≤ 65535 }
         ensures arrival { IfOk result (λ arrival. arrival ≡ arrival_in hint.now (segment_of segment.now) self.old) }
         ensures ok { OnOk result (self.new ≡ after_segment hint.now now (segment_of segment.now) self.old) }
         ensures err { OnErr result (self.new ≡ self.old) }
@@ -104,7 +92,8 @@ impl Subflow {
         Ok(arrival)
     }
 
-    /// Takes a segment by positions that means this for the end. With `keep` of the hint its payload is kept.
+    /// Takes a segment by positions that means this for the end. With `keep` of the hint its payload is kept, as by
+    /// [`keep`](Subflow::keep); all else is as [`hear`](Subflow::hear) has it.
     ///
     /// # Errors
     ///
@@ -117,144 +106,107 @@ impl Subflow {
         now: u64,
     ) -> Result<Arrival, AllocError>
         requires small { length arriving.now.payload.now ≤ 65535 }
-        requires below { IsBelow meaning }
-        requires settled { self.old.congestion.pending ≡ None }
+        requires meaning { meaning ≡ meaning_of (copy_of arriving.now) self.old }
         ensures arrival { IfOk result (λ arrival. arrival ≡ arrival_of meaning hint.now (copy_of arriving.now) self.old) }
         ensures ok { OnOk result (self.new ≡ after_arrival meaning hint.now now (copy_of arriving.now) self.old) }
         ensures err { OnErr result (self.new ≡ self.old) }
     {
+        let new = self.keep_for(meaning, hint.keep, arriving.payload)?;
+        let arrival = self.hear(meaning, arriving, hint.data_ack, now);
+        Ok(arrival.with_new(new))
+    }
+
+    /// Takes a segment by positions that means this for the end, but for its payload, which isn't kept. `data_ack` is the
+    /// place that its Data ACK names, if it names one. Takes no memory.
+    pub fn hear(
+        &mut self,
+        meaning: Meaning,
+        arriving: &Arriving<'_>,
+        data_ack: Option<u64>,
+        now: u64,
+    ) -> Arrival
+        requires { meaning ≡ meaning_of (copy_of arriving.now) self.old }
+        ensures arrival { result ≡ arrival_of meaning (unkept data_ack) (copy_of arriving.now) self.old }
+        ensures after { self.new ≡ after_arrival meaning (unkept data_ack) now (copy_of arriving.now) self.old }
+    {
         match meaning {
-            Meaning::Ignored | Meaning::Unwanted => Ok(Arrival::Dropped),
-            Meaning::Opens => self.open_by(arriving, hint),
-            Meaning::Accepts { acknowledged } => {
-                self.accept_by(acknowledged, arriving, hint, now)
-            }
-            Meaning::RepeatedSyn => Ok(self.hear_syn_again()),
-            Meaning::Outside => Ok(self.hear_outside()),
-            Meaning::Kills => Ok(self.hear_death()),
-            Meaning::Challenged => Ok(self.hear_challenged()),
-            Meaning::Unacknowledging => Ok(self.hear_unacknowledging()),
-            Meaning::Ahead => Ok(self.hear_ahead()),
+            Meaning::Ignored | Meaning::Unwanted => Arrival::Dropped,
+            Meaning::Opens => self.open_by(arriving),
+            Meaning::Accepts { acknowledged } => { self.accept_by(acknowledged, arriving, now) }
+            Meaning::RepeatedSyn => self.hear_syn_again(),
+            Meaning::Outside => self.hear_outside(),
+            Meaning::Kills => self.hear_death(),
+            Meaning::Challenged => self.hear_challenged(),
+            Meaning::Unacknowledging => self.hear_unacknowledging(),
+            Meaning::Ahead => self.hear_ahead(),
             Meaning::Taken {
                 position,
                 acknowledged,
-            } => self.take(position, acknowledged, arriving, hint, now),
+            } => self.take(position, acknowledged, arriving, data_ack, now),
         }
     }
 
-    /// Keeps a payload whose first octet stands at `pos`, where it is wanted and the peer's FIN isn't passed, and answers
-    /// how many octets are kept that were not kept before.
-    fn keep_if(&mut self, keep: bool, pos: Pos, payload: &[u8]) -> Result<u64, AllocError>
-        requires { pos + length payload.now ≤ 2 ^ 62 }
-        ensures new { IfOk result (λ new. new ≡ kept_new keep pos payload.now self.old) }
-        ensures ok { OnOk result (self.new ≡ after_keeping keep pos payload.now self.old) }
-        ensures err { OnErr result (self.new ≡ self.old) }
+    /// The FIN behind the payload of a segment, whose first octet stands at `pos`.
+    fn take_fin(&mut self, pos: Pos, arriving: &Arriving<'_>)
+        requires { pos ≤ 2 ^ 61 + 2 ^ 20 }
+        ensures { self.new ≡ after_payload pos (unkept None) (copy_of arriving.now) self.old }
     {
-        if keep && !self.is_fin_passed() {
-            let acceptance = self.recv.accept(pos, payload)?;
-            return Ok(new_octets(acceptance));
-        }
-        Ok(0)
-    }
-
-    /// Keeps a payload whose first octet stands at `pos`: one that [`arrive`](Subflow::arrive) was told not to keep. Behind
-    /// the peer's FIN nothing is kept. Answers how many octets are kept that were not kept before.
-    ///
-    /// # Errors
-    ///
-    /// Only where there is no memory for them; then all is as it was.
-    pub fn keep(&mut self, pos: Pos, payload: &[u8]) -> Result<u64, AllocError>
-        requires { pos + length payload.now ≤ 2 ^ 62 }
-        ensures new { IfOk result (λ new. new ≡ kept_new true pos payload.now self.old) }
-        ensures ok { OnOk result (self.new ≡ after_keeping true pos payload.now self.old) }
-        ensures err { OnErr result (self.new ≡ self.old) }
-    {
-        self.keep_if(true, pos, payload)
-    }
-
-    /// The payload of a segment, whose first octet stands at `pos`, and the FIN behind it.
-    fn take_payload(
-        &mut self,
-        pos: Pos,
-        arriving: &Arriving<'_>,
-        hint: &Hint,
-    ) -> Result<u64, AllocError>
-        requires pos { pos ≤ 2 ^ 61 + 2 ^ 20 }
-        requires small { length arriving.now.payload.now ≤ 65535 }
-        ensures new { IfOk result (λ new. new ≡ kept_new hint.now.keep pos arriving.now.payload.now self.old) }
-        ensures ok { OnOk result (self.new ≡ after_payload pos hint.now (copy_of arriving.now) self.old) }
-        ensures err { OnErr result (self.new ≡ self.old) }
-    {
-        let new = self.keep_if(hint.keep, pos, arriving.payload)?;
         let end = pos + arriving.payload.len() as u64;
         self.fin_at = first_fin(self.fin_at, arriving.fin, end);
-        Ok(new)
     }
 
     /// The SYN of a peer that opens.
-    fn open_by(&mut self, arriving: &Arriving<'_>, hint: &Hint) -> Result<Arrival, AllocError>
-        requires { length arriving.now.payload.now ≤ 65535 }
-        ensures arrival { IfOk result (λ arrival. arrival ≡ Opened) }
-        ensures ok { OnOk result (self.new ≡ after_syn hint.now (copy_of arriving.now) self.old) }
-        ensures err { OnErr result (self.new ≡ self.old) }
+    fn open_by(&mut self, arriving: &Arriving<'_>) -> Arrival
+        ensures arrival { result ≡ Opened }
+        ensures after { self.new ≡ after_syn (unkept None) (copy_of arriving.now) self.old }
     {
-        self.take_payload(1, arriving, hint)?;
+        self.take_fin(1, arriving);
         self.state = State::SynReceived;
         self.congestion.tell(told_by_syn(arriving));
-        Ok(Arrival::Opened)
+        Arrival::Opened
     }
 
     /// The SYN/ACK: both SYNs are acknowledged.
-    fn accept_by(
-        &mut self,
-        acknowledged: Pos,
-        arriving: &Arriving<'_>,
-        hint: &Hint,
-        now: u64,
-    ) -> Result<Arrival, AllocError>
-        requires { length arriving.now.payload.now ≤ 65535 }
-        ensures arrival { IfOk result (λ arrival. arrival ≡ Opened) }
-        ensures ok { OnOk result (self.new ≡ after_syn_ack acknowledged hint.now now (copy_of arriving.now) self.old) }
-        ensures err { OnErr result (self.new ≡ self.old) }
+    fn accept_by(&mut self, acknowledged: Pos, arriving: &Arriving<'_>, now: u64) -> Arrival
+        ensures arrival { result ≡ Opened }
+        ensures after { self.new ≡ after_syn_ack acknowledged (unkept None) now (copy_of arriving.now) self.old }
     {
-        self.take_payload(1, arriving, hint)?;
+        self.take_fin(1, arriving);
         self.timing.heard();
         self.state = State::Established;
         self.take_acknowledgement(acknowledged, now);
         self.congestion.tell(told_by_syn(arriving));
         self.owe_for(arriving);
-        Ok(Arrival::Opened)
+        Arrival::Opened
     }
 
-    /// What is taken: payload and FIN, acknowledgement, duplicates, and the acknowledgement that is owed for it.
+    /// What is taken: the FIN, the acknowledgement, duplicates, and the acknowledgement that is owed for it.
     fn take(
         &mut self,
         pos: Pos,
         acknowledged: Pos,
         arriving: &Arriving<'_>,
-        hint: &Hint,
+        data_ack: Option<u64>,
         now: u64,
-    ) -> Result<Arrival, AllocError>
-        requires pos { pos < 2 ^ 61 + 2 ^ 20 }
-        requires small { length arriving.now.payload.now ≤ 65535 }
-        ensures arrival { IfOk result (λ arrival. arrival ≡ arrival_of (Taken pos acknowledged) hint.now (copy_of arriving.now) self.old) }
-        ensures ok { OnOk result (self.new ≡ after_taken pos acknowledged hint.now now (copy_of arriving.now) self.old) }
-        ensures err { OnErr result (self.new ≡ self.old) }
+    ) -> Arrival
+        requires { pos < 2 ^ 61 + 2 ^ 20 }
+        ensures arrival { result ≡ arrival_of (Taken pos acknowledged) (unkept data_ack) (copy_of arriving.now) self.old }
+        ensures after { self.new ≡ after_taken pos acknowledged (unkept data_ack) now (copy_of arriving.now) self.old }
     {
         let half_open = matches!(self.state, State::SynReceived);
-        let new = self.take_payload(pos, arriving, hint)?;
+        self.take_fin(pos, arriving);
         self.timing.heard();
         self.state = self.state.after_handshake();
-        let ack = self.take_heard_ack(acknowledged, arriving, hint, now);
+        let ack = self.take_heard_ack(acknowledged, arriving, data_ack, now);
         self.owe_for(arriving);
         if half_open {
-            return Ok(Arrival::Opened);
+            return Arrival::Opened;
         }
-        Ok(Arrival::Took {
+        Arrival::Took {
             ack,
-            new,
+            new: 0,
             fin: arriving.fin,
-        })
+        }
     }
 
     /// The acknowledgement of a segment that is taken, and what it tells besides.
@@ -262,13 +214,13 @@ impl Subflow {
         &mut self,
         acknowledged: Pos,
         arriving: &Arriving<'_>,
-        hint: &Hint,
+        data_ack: Option<u64>,
         now: u64,
     ) -> AckKind
         ensures kind { result ≡ ack_kind acknowledged self.old.send }
-        ensures after { self.new ≡ after_heard_ack acknowledged hint.now now (copy_of arriving.now) self.old }
+        ensures after { self.new ≡ after_heard_ack acknowledged (unkept data_ack) now (copy_of arriving.now) self.old }
     {
-        let told = told_by(hint, arriving);
+        let told = told_by(data_ack, arriving);
         let kind = self.take_acknowledgement(acknowledged, now);
         self.take_row(kind, told, arriving);
         self.congestion.tell(told);
@@ -340,7 +292,6 @@ impl Subflow {
 
     /// What occupies a position is acknowledged.
     fn owe_for(&mut self, arriving: &Arriving<'_>)
-        requires { length arriving.now.payload.now ≤ 65535 }
         ensures { self.new ≡ after_occupying (copy_of arriving.now) self.old }
     {
         if occupied(arriving) > 0 {

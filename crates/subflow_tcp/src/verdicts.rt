@@ -1,4 +1,6 @@
 //! What a segment that arrives means for an end, and what the end answers.
+ghost use Rattle.std.specs.Prelude.{◌≡◌};
+ghost use Rattle.subflow_tcp.specs.Taking.{with_new};
 
 use seq_units::Pos;
 use subflow_send::AckKind;
@@ -61,6 +63,18 @@ pub enum Arrival {
         /// Whether it has a FIN.
         fin: bool,
     },
+}
+
+impl Arrival {
+    /// So many octets are new, where it was taken.
+    pub(crate) fn with_new(self, new: u64) -> Arrival
+        ensures { result ≡ with_new new self }
+    {
+        match self {
+            Arrival::Took { ack, fin, .. } => Arrival::Took { ack, new, fin },
+            other => other,
+        }
+    }
 }
 
 /// What an expiry of the timer came to.

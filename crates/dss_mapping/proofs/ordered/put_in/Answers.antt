@@ -1,5 +1,4 @@
 use Rattle.std.proofs.Common.{refl, subst, sym, ap, ◌∙◌}
-use Rattle.std.proofs.lemmas.Result.{on_ok_weaker}
 use Rattle.std.specs.List.{prefix_len}
 use Rattle.dss_mapping.specs.Kept.{AreOrdered, AreApart, places_of, lies_before, absorbed, count_joined}
 use Rattle.dss_mapping.proofs.PlacesOf.{same_places}
@@ -17,11 +16,9 @@ returns-clause-places c =
     let before = c.count_before-from.ensures.value ∙ ap (prefix_len (lies_before c.args.told)) c.deref.ensures.value in
     let whole = put-is c.args.told c.absorb-count.result.0 c.count_before-from.result c.absorb-count.result.1 _ c.args.runs.now.items
     (c.absorb-count.ensures.run ∙ ap (absorbed c.args.told) part) (c.absorb-count.ensures.count ∙ ap (count_joined c.args.told) part) refl in
-    on_ok_weaker c.replace.result (λ e.
-    ap places_of (e ∙ whole)
+    ap places_of (c.replace.ensures.items ∙ whole)
     ∙ same_places (put c.args.told c.count_before-from.result c.args.runs.now.items) c.args.runs.now.items c.args.told
-    (λ p. placed_by_put c.args.told c.count_before-from.result c.args.runs.now.items p before c.requires.ordered c.requires.some c.requires.agree))
-    c.replace.ensures.ok
+    (λ p. placed_by_put c.args.told c.count_before-from.result c.args.runs.now.items p before c.requires.ordered c.requires.some c.requires.agree)
 
 pub returns-clause-ordered : goal.returns-clause-ordered
 returns-clause-ordered c =
@@ -29,9 +26,8 @@ returns-clause-ordered c =
     let before = c.count_before-from.ensures.value ∙ ap (prefix_len (lies_before c.args.told)) c.deref.ensures.value in
     let whole = put-is c.args.told c.absorb-count.result.0 c.count_before-from.result c.absorb-count.result.1 _ c.args.runs.now.items
     (c.absorb-count.ensures.run ∙ ap (absorbed c.args.told) part) (c.absorb-count.ensures.count ∙ ap (count_joined c.args.told) part) refl in
-    on_ok_weaker c.replace.result (λ e. subst (AreOrdered 0) (sym (e ∙ whole))
-    (ordered_by_put c.args.told c.count_before-from.result c.args.runs.now.items before c.requires.ordered c.requires.some c.requires.sound c.requires.agree))
-    c.replace.ensures.ok
+    subst (AreOrdered 0) (sym (c.replace.ensures.items ∙ whole))
+    (ordered_by_put c.args.told c.count_before-from.result c.args.runs.now.items before c.requires.ordered c.requires.some c.requires.sound c.requires.agree)
 
 pub returns-clause-fewest : goal.returns-clause-fewest
 returns-clause-fewest c =
@@ -39,6 +35,5 @@ returns-clause-fewest c =
     let before = c.count_before-from.ensures.value ∙ ap (prefix_len (lies_before c.args.told)) c.deref.ensures.value in
     let whole = put-is c.args.told c.absorb-count.result.0 c.count_before-from.result c.absorb-count.result.1 _ c.args.runs.now.items
     (c.absorb-count.ensures.run ∙ ap (absorbed c.args.told) part) (c.absorb-count.ensures.count ∙ ap (count_joined c.args.told) part) refl in
-    on_ok_weaker c.replace.result (λ e. subst AreApart (sym (e ∙ whole))
-    (fewest_by_put c.args.told c.count_before-from.result c.args.runs.now.items before c.requires.ordered c.requires.some c.requires.fewest))
-    c.replace.ensures.ok
+    subst AreApart (sym (c.replace.ensures.items ∙ whole))
+    (fewest_by_put c.args.told c.count_before-from.result c.args.runs.now.items before c.requires.ordered c.requires.some c.requires.fewest)

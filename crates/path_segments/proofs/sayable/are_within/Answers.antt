@@ -3,10 +3,6 @@ use Rattle.mptcp_options.specs.Text.{option_text}
 use Rattle.path_segments.proofs.SaidOptions.{can_say_at, room_after, room_of_all}
 use Rattle.path_segments.proofs.sayable.are_within.Goals as goal
 
-pub said_option-requires : goal.said_option-requires
-said_option-requires c =
-    (can_say_at c.args.spelling.now c.args.from c.args.options.now c.requires c.loop-option.option-index _ c.loop-option-test.true).below
-
 pub octets_of-requires : goal.octets_of-requires
 octets_of-requires c =
     rw c.said_option.ensures

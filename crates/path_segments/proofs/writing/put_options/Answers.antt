@@ -4,10 +4,6 @@ use Rattle.std.proofs.lemmas.List.{take_all}
 use Rattle.path_segments.proofs.SaidOptions.{said_text, options_text-plain, can_say_at, room_at}
 use Rattle.path_segments.proofs.writing.put_options.Goals as goal
 
-pub said_option-requires : goal.said_option-requires
-said_option-requires c =
-    (can_say_at c.args.spelling.now c.args.from c.args.options.now c.requires.can c.loop-option.option-index _ c.loop-option-test.true).below
-
 pub octets_of-said-requires : goal.octets_of-said-requires
 octets_of-said-requires c =
     rw c.said_option.ensures

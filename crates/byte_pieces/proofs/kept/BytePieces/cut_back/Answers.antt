@@ -1,17 +1,17 @@
-use Rattle.std.proofs.Common.{◌^◌, ap, arith}
+use Rattle.std.proofs.Common.{◌^◌, None, ap, arith}
 use Rattle.byte_pieces.proofs.Ordered.{ordered-below}
 use Rattle.byte_pieces.proofs.Cutting.{spread-below, ordered-below_cut}
 use Rattle.byte_pieces.proofs.kept.BytePieces.cut_back.Goals as goal
 
 pub cut_pieces-requires : goal.cut_pieces-requires
-cut_pieces-requires c = ordered-below c.self.inside.from 0 (2 ^ 62) c.self.inside.pieces.items (omega arith) c.self.invariant
+cut_pieces-requires c = ordered-below c.self.inside.from 0 (2 ^ 62) c.self.inside.pieces.items (omega arith) c.self.invariant.0
 
 pub invariant_of-self : goal.invariant_of-self
 invariant_of-self c =
-    rw c.cut_pieces.ensures (ordered-below_cut c.self.inside.from c.args.to (2 ^ 62) c.self.inside.pieces.items c.self.invariant)
+    rw c.cut_pieces.ensures (ordered-below_cut c.self.inside.from c.args.to (2 ^ 62) c.self.inside.pieces.items c.self.invariant.0, tt)
 
 pub returns : goal.returns
 returns c =
     let order = rw (← c.self.view_is) at c.requires in
     rw (← c.self.view_is, c.cut_pieces.ensures)
-    (ap (λ places. record { from = c.self.inside.from; places = places }) (spread-below c.self.inside.from c.args.to (2 ^ 62) c.self.inside.pieces.items c.self.invariant order))
+    (ap (λ places. record { from = c.self.inside.from; places = places; incoming = None }) (spread-below c.self.inside.from c.args.to (2 ^ 62) c.self.inside.pieces.items c.self.invariant.0 order))

@@ -1,4 +1,4 @@
-use Rattle.std.proofs.Common.{◌+◌, ◌^◌, min, length, refl, sym, ap, ◌∙◌, arith}
+use Rattle.std.proofs.Common.{◌+◌, ◌^◌, None, min, length, refl, sym, ap, ◌∙◌, arith}
 use Rattle.std.specs.List.{sum_by}
 use Rattle.byte_pieces.specs.Places.{kept_count}
 use Rattle.byte_pieces.specs.Pieces.{piece_len, spread, with_pieces}
@@ -9,36 +9,36 @@ use Rattle.byte_pieces.proofs.Loops.{ordered-rises}
 use Rattle.byte_pieces.proofs.kept.BytePieces.put.Goals as goal
 
 pub fresh_parts-requires : goal.fresh_parts-requires
-fresh_parts-requires c = ordered-below c.self.inside.from 0 (2 ^ 62) c.self.inside.pieces.items (omega arith) c.self.invariant
+fresh_parts-requires c = ordered-below c.self.inside.from 0 (2 ^ 62) c.self.inside.pieces.items (omega arith) c.self.invariant.0
 
 pub count_bytes-count-requires : goal.count_bytes-count-requires
 count_bytes-count-requires c =
     let put = is_put c.self.inside.from c.args.at (2 ^ 62) c.min-passed.result c.max-first.result c.args.bytes.now _ c.self.inside.pieces.items c.in_ok-parts.parts.items
-    (with_pieces c.in_ok-parts.parts.items c.self.inside.pieces.items) c.self.invariant c.requires (c.min-passed.ensures ∙ ap (min (length c.args.bytes.now)) c.saturating_sub.ensures) c.max-first.ensures refl c.in_ok-parts.ensures refl in
+    (with_pieces c.in_ok-parts.parts.items c.self.inside.pieces.items) c.self.invariant.0 c.requires (c.min-passed.ensures ∙ ap (min (length c.args.bytes.now)) c.saturating_sub.ensures) c.max-first.ensures refl c.in_ok-parts.ensures refl in
     omega (arith, put.few, c.requires)
 
 pub put_pieces-requires-clause-order : goal.put_pieces-requires-clause-order
 put_pieces-requires-clause-order c =
-    rw c.in_ok-reserve.ensures.items (ordered-rises c.self.inside.from (2 ^ 62) c.self.inside.pieces.items c.self.invariant)
+    rw c.in_ok-reserve.ensures.items (ordered-rises c.self.inside.from (2 ^ 62) c.self.inside.pieces.items c.self.invariant.0)
 
 pub invariant_of-self-2 : goal.invariant_of-self-2
 invariant_of-self-2 c =
     let put = is_put c.self.inside.from c.args.at (2 ^ 62) c.min-passed.result c.max-first.result c.args.bytes.now _ c.self.inside.pieces.items c.in_ok-parts.parts.items
-    c.put_pieces.new.pieces.items c.self.invariant c.requires (c.min-passed.ensures ∙ ap (min (length c.args.bytes.now)) c.saturating_sub.ensures) c.max-first.ensures refl c.in_ok-parts.ensures
+    c.put_pieces.new.pieces.items c.self.invariant.0 c.requires (c.min-passed.ensures ∙ ap (min (length c.args.bytes.now)) c.saturating_sub.ensures) c.max-first.ensures refl c.in_ok-parts.ensures
     (c.put_pieces.ensures ∙ ap (with_pieces c.in_ok-parts.parts.items) c.in_ok-reserve.ensures.items) in
-    put.order
+    (put.order, tt)
 
 pub returns-clause-ok : goal.returns-clause-ok
 returns-clause-ok c =
     let put = is_put c.self.inside.from c.args.at (2 ^ 62) c.min-passed.result c.max-first.result c.args.bytes.now _ c.self.inside.pieces.items c.in_ok-parts.parts.items
-    c.put_pieces.new.pieces.items c.self.invariant c.requires (c.min-passed.ensures ∙ ap (min (length c.args.bytes.now)) c.saturating_sub.ensures) c.max-first.ensures refl c.in_ok-parts.ensures
+    c.put_pieces.new.pieces.items c.self.invariant.0 c.requires (c.min-passed.ensures ∙ ap (min (length c.args.bytes.now)) c.saturating_sub.ensures) c.max-first.ensures refl c.in_ok-parts.ensures
     (c.put_pieces.ensures ∙ ap (with_pieces c.in_ok-parts.parts.items) c.in_ok-reserve.ensures.items) in
-    rw (← c.self.view_is) (ap (λ places. record { from = c.self.inside.from; places = places }) put.places)
+    rw (← c.self.view_is) (ap (λ places. record { from = c.self.inside.from; places = places; incoming = None }) put.places)
 
 pub returns-clause-count : goal.returns-clause-count
 returns-clause-count c =
     let put = is_put c.self.inside.from c.args.at (2 ^ 62) c.min-passed.result c.max-first.result c.args.bytes.now _ c.self.inside.pieces.items c.in_ok-parts.parts.items
-    c.put_pieces.new.pieces.items c.self.invariant c.requires (c.min-passed.ensures ∙ ap (min (length c.args.bytes.now)) c.saturating_sub.ensures) c.max-first.ensures refl c.in_ok-parts.ensures
+    c.put_pieces.new.pieces.items c.self.invariant.0 c.requires (c.min-passed.ensures ∙ ap (min (length c.args.bytes.now)) c.saturating_sub.ensures) c.max-first.ensures refl c.in_ok-parts.ensures
     (c.put_pieces.ensures ∙ ap (with_pieces c.in_ok-parts.parts.items) c.in_ok-reserve.ensures.items) in
     rw (← c.self.view_is)
     (ap (λ n. n + kept_count (spread c.self.inside.from c.self.inside.pieces.items)) c.count_bytes-count.ensures

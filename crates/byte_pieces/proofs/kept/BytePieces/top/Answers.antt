@@ -10,7 +10,7 @@ pub end-requires : goal.end-requires
 end-requires c =
     let some = c.in-Some.ensures.variant.0 refl in
     subst (λ (p : Piece). end_of p ≤ 2 ^ 62) (sym c.in-Some.ensures.lookup)
-    (bounded-at (2 ^ 62) c.self.inside.pieces.items _ c.in-Some.last.now (ordered-bounded c.self.inside.from (2 ^ 62) c.self.inside.pieces.items c.self.invariant) (omega (arith, some)))
+    (bounded-at (2 ^ 62) c.self.inside.pieces.items _ c.in-Some.last.now (ordered-bounded c.self.inside.from (2 ^ 62) c.self.inside.pieces.items c.self.invariant.0) (omega (arith, some)))
 
 pub returns-in-Some-clause-value : goal.returns-in-Some-clause-value
 returns-in-Some-clause-value c =
@@ -18,10 +18,10 @@ returns-in-Some-clause-value c =
     rw (← c.self.view_is)
     (c.end.ensures
     ∙ ap end_of c.in-Some.ensures.lookup
-    ∙ sym (length-spread c.self.inside.from (2 ^ 62) c.self.inside.pieces.items c.self.invariant ∙ last_end-is c.self.inside.from (deque_len c.self.inside.pieces - 1) c.self.inside.pieces.items c.in-Some.last.now (omega (arith, some))))
+    ∙ sym (length-spread c.self.inside.from (2 ^ 62) c.self.inside.pieces.items c.self.invariant.0 ∙ last_end-is c.self.inside.from (deque_len c.self.inside.pieces - 1) c.self.inside.pieces.items c.in-Some.last.now (omega (arith, some))))
 
 pub returns-in-Some-clause-bound : goal.returns-in-Some-clause-bound
 returns-in-Some-clause-bound c =
     let some = c.in-Some.ensures.variant.0 refl in
     subst (λ n. n ≤ 2 ^ 62) (sym (c.end.ensures ∙ ap end_of c.in-Some.ensures.lookup))
-    (bounded-at (2 ^ 62) c.self.inside.pieces.items _ c.in-Some.last.now (ordered-bounded c.self.inside.from (2 ^ 62) c.self.inside.pieces.items c.self.invariant) (omega (arith, some)))
+    (bounded-at (2 ^ 62) c.self.inside.pieces.items _ c.in-Some.last.now (ordered-bounded c.self.inside.from (2 ^ 62) c.self.inside.pieces.items c.self.invariant.0) (omega (arith, some)))

@@ -1,0 +1,53 @@
+-- A segment that an end is to send, and which are to be sent.
+use Rattle.std.specs.Prelude.{ℕ, Option, Some, None, option_map, List, [], ◌∷◌}
+use Rattle.std.specs.Borrow.{Bor}
+use Rattle.outside_kit.specs.declared.side.Side.{Side}
+use Rattle.path_segments.specs.declared.segment.PathOption.{PathOption}
+use Rattle.path_segments.specs.declared.spelling.Spelling.{Spelling}
+use Rattle.path_segments.specs.Options.{PlainOption, plain_option}
+use Rattle.path_segments.specs.Spelled.{PlainSegment, CanSay}
+use Rattle.subflow_tcp.specs.Emitting.{reset_segment}
+use Rattle.path_core.specs.declared.said.Said.{Said}
+use Rattle.path_core.specs.declared.segment_kind.SegmentKind.{SegmentKind}
+use Rattle.path_core.specs.declared.segment_kind.SegmentKind.TheVariants as to_say
+use Rattle.path_core.specs.Emission.{first_unsent}
+use Rattle.path_core.specs.Ends.{PathEnd}
+use Rattle.path_core.specs.Passing.{outgoing_or, first_record, answer_said, resend_said}
+use Rattle.path_core.specs.Segments.{spelled_by, segment_of, ack_said, fin_said, syn_ack_said, reset_said, record_or_ack}
+use Rattle.path_core.specs.State.{Profile}
+
+-- an option that may be there, by its value
+abbrev pub options_by : Option (PathOption ℕ (Bor (List ℕ))) → List PlainOption
+options_by None = []
+options_by (Some option) = plain_option option ∷ []
+
+-- the segment of the code by its value
+abbrev pub plain_said : Said → PlainSegment
+plain_said s = record {
+  position = s.outgoing.position;
+  acknowledged = s.outgoing.acknowledged;
+  syn = s.outgoing.syn;
+  fin = s.outgoing.fin;
+  rst = s.outgoing.rst;
+  window = s.window;
+  mss = s.mss;
+  options = options_by s.option;
+  payload = s.payload.now;
+}
+
+-- a segment of a side can be said
+abbrev pub CanBeSaid : Spelling → Side → PlainSegment → Type 0
+CanBeSaid spelling s segment = CanSay spelling (spelled_by s) segment
+
+-- the segment of each kind
+abbrev pub said_by : SegmentKind → Profile → Side → PathEnd → PlainSegment
+said_by to_say.Ack c s e = ack_said c s e.tcp.send.nxt None e
+said_by to_say.DataFin c s e = ack_said c s e.tcp.send.nxt e.sending.known_end e
+said_by to_say.Fin c s e = fin_said c e
+said_by to_say.Unsent c s e = record_or_ack c s (first_unsent e) e
+said_by to_say.First c s e = record_or_ack c s (first_record e) e
+said_by to_say.SynAck c s e = syn_ack_said c s e
+said_by to_say.Answer c s e = answer_said c s e
+said_by to_say.DeadAnswer c s e = segment_of c (outgoing_or e.treated.answer (reset_segment e.tcp)) [] [] e
+said_by to_say.Resend c s e = resend_said c s e
+said_by (to_say.Reset reason) c s e = reset_said c reason e

@@ -1,0 +1,64 @@
+//! The ticks of a path.
+
+ghost use Rattle.std.specs.Prelude.{◌≡◌, ◌≤◌, ◌<◌, ◌+◌, ◌*◌, ◌-◌, ◌^◌, max};
+
+use std::marker::Model;
+
+/// The tick of a path, and the first tick after its round. A round is 100 ticks.
+#[derive(Debug, Drop)]
+pub(crate) struct Clock {
+    now: u64,
+    until: u64,
+}
+
+impl Model for Clock {
+    ghost use Rattle.std.specs.Prelude.{◌≤◌, ◌+◌, ◌*◌, ◌^◌};
+    ghost use Rattle.path_core.specs.State.{Clock};
+
+    ghost Value = { Clock };
+
+    ghost view = { λ c. record { now = c.now; until = c.until } };
+
+    ghost invariant = { λ c. (c.now ≤ c.until) × (c.until ≤ 100 * 2 ^ 57 + 100) };
+}
+
+impl Clock {
+    /// The clock of the first round.
+    pub fn new() -> Self
+        ensures { result ≡ record { now = 0; until = 100 } }
+    {
+        Clock { now: 0, until: 100 }
+    }
+
+    /// The tick.
+    pub fn now(&self) -> u64
+        ensures value { result ≡ self.now.now }
+        ensures bound { result < 2 ^ 64 - 2 ^ 20 }
+    {
+        self.now
+    }
+
+    /// The first tick after the round.
+    pub fn until(&self) -> u64
+        ensures { result ≡ self.now.until }
+    {
+        self.until
+    }
+
+    /// The tick is at least this one, which lies in the round.
+    pub fn reach(&mut self, tick: u64)
+        requires { tick < self.old.until }
+        ensures { self.new ≡ record self.old { now = max self.old.now tick } }
+    {
+        self.now = self.now.max(tick);
+    }
+
+    /// The next round begins.
+    pub fn next_round(&mut self)
+        requires { self.old.until ≤ 100 * 2 ^ 57 }
+        ensures { self.new ≡ record { now = self.old.until; until = self.old.until + 100 } }
+    {
+        self.now = self.until;
+        self.until += 100;
+    }
+}

@@ -1,0 +1,175 @@
+//! The duties of a path, case by case: whether one comes to something, to what, what its reply makes of the path, and what
+//! one that comes to nothing changes in silence. A new rule has one arm in each.
+
+ghost use Rattle.std.specs.Prelude.{◌≡◌, false, IfOk, IsOk, OnOk, OnErr};
+ghost use Rattle.path_core.specs.Octets.{octets};
+ghost use Rattle.path_core.specs.Duties.{stands, ask_for, passed, answered};
+ghost use Rattle.path_core.specs.Replies.{Fits, asks_bytes};
+
+use crate::agenda::Agenda;
+use crate::ask::{Ask, LocalStep, Reply};
+use crate::duty::Duty;
+use crate::path::Path;
+use crate::segment_kind::SegmentKind;
+use crate::standing::ack_out_ask;
+use fallback_state::{Event, Mode};
+use outside_kit::Side;
+use std::alloc::AllocError;
+use subflow_tcp::Occasion;
+
+impl Path {
+    /// Whether a duty comes to something.
+    pub(crate) fn stands(&self, duty: Duty) -> bool
+        ensures { result ≡ stands duty self.now }
+    {
+        match duty {
+            Duty::Timer(_) | Duty::Keep(_) | Duty::PassFin(_) => false,
+            Duty::Update(side) => self.end(side).is_update_due(&self.profile),
+            Duty::Syn(side) => self.end(side).is_syn_due(),
+            Duty::Data(side) => self.end(side).data_stands(&self.profile, side),
+            Duty::DataFin(side) => self.end(side).is_end_due(),
+            Duty::Fin(side) => self.end(side).is_fin_due(),
+            Duty::Events => self.next_event().is_some(),
+            Duty::PeerKey(side) => self.end(side).treated.key_heard().is_some(),
+            Duty::Opened(side) => self.end(side).treated.is_opened_by_keys(),
+            Duty::Live(side) => self.end(side).treated.is_opened(),
+            Duty::Heard { side, index } => self.end(side).item_stands(&self.profile, side, index),
+            Duty::AckHeard(side) => self.end(side).modes.mode == Mode::Starting,
+            Duty::Edge(side) => self.end(side).has_piece(&self.profile),
+            Duty::HeardFin { side, index } => self.end(side).treated.fin(index).is_some(),
+            Duty::AckOut(side) => self.end(side).treated.is_asked(),
+            Duty::Rate(side) => self.end(side).tcp.pending().is_some(),
+            Duty::Acknowledge(side) => self.end(side).tcp.owes_ack(),
+            Duty::Again(side) => self.end(side).is_again_due(),
+            Duty::Return(side) => !self.end(side).sending.is_idle(),
+            _ => true,
+        }
+    }
+
+    /// What the duty asks, or which segment it sends. Only bytes that are to be placed take memory.
+    ///
+    /// # Errors
+    ///
+    /// Only where there is no memory for those bytes.
+    pub(crate) fn ask_for(&self, duty: Duty) -> Result<Ask, AllocError>
+        ensures ask { IfOk result (λ ask. ask ≡ ask_for octets duty self.now) }
+        ensures plain { asks_bytes duty ≡ false → IsOk result }
+    {
+        match duty {
+            Duty::Edge(side) => self.piece_ask(side),
+            _ => Ok(self.plain_ask(duty)),
+        }
+    }
+
+    /// What a duty asks that carries no bytes.
+    fn plain_ask(&self, duty: Duty) -> Ask
+        ensures { asks_bytes duty ≡ false → result ≡ ask_for octets duty self.now }
+    {
+        match duty {
+            Duty::Look(side) => self.look_ask(side),
+            Duty::Window(side) | Duty::AckOut(side) | Duty::BreakAck { side, .. } => {
+                ack_out_ask(side)
+            }
+            Duty::Data(side) => self.data_ask(side),
+            Duty::Events => self.event_ask(),
+            Duty::SynHeard(side) | Duty::SynAnswered(side) => self.syn_window_ask(side),
+            Duty::PeerKey(side) => self.peer_key_ask(side),
+            Duty::Opened(side) => self.keys_ask(side),
+            Duty::Live(side) => self.live_ask(side),
+            Duty::Heard { side, index } => self.item_ask(side, index),
+            Duty::AckHeard(side) => self.fell_ask(side, Event::AckHeard),
+            Duty::HeardFin { side, index } => self.fin_ask(side, index),
+            Duty::Rate(side) => self.rate_ask(side),
+            Duty::Return(side) | Duty::Leave(side) => self.return_ask(side),
+            Duty::Dead(side) => self.dead_ask(side),
+            _ => self.segment_ask(duty),
+        }
+    }
+
+    /// The step of a duty that sends a segment, and of those that come to nothing.
+    fn segment_ask(&self, duty: Duty) -> Ask
+        ensures { asks_segment duty → result ≡ ask_for octets duty self.now }
+    {
+        match duty {
+            Duty::Update(side) | Duty::Acknowledge(side) => self.sent_step(side, SegmentKind::Ack),
+            Duty::Syn(side) => self.sent_step(side, SegmentKind::Unsent),
+            Duty::DataFin(side) => self.sent_step(side, SegmentKind::DataFin),
+            Duty::Fin(side) => self.sent_step(side, SegmentKind::Fin),
+            Duty::SynAck(side) => self.sent_step(side, SegmentKind::SynAck),
+            Duty::Again(side) => self.sent_step(side, SegmentKind::First),
+            Duty::Answer(side) => self.sent_step(side, SegmentKind::Answer),
+            Duty::ResetAnswer(side) => self.sent_step(side, SegmentKind::DeadAnswer),
+            Duty::Resend(side) => self.sent_step(side, SegmentKind::Resend),
+            Duty::BreakReset { side, reason } => self.sent_step(
+                side,
+                SegmentKind::Reset {
+                    reason: Some(reason),
+                },
+            ),
+            Duty::Reset(side) => self.sent_step(side, SegmentKind::Reset { reason: None }),
+            _ => Ask::Local(LocalStep::End),
+        }
+    }
+
+    /// What a duty that comes to nothing changes. Takes no memory.
+    pub(crate) fn pass(&mut self, duty: Duty)
+        ensures { self.new ≡ passed duty self.old }
+    {
+        match duty {
+            Duty::Timer(side) => self.settle_timer(side),
+            Duty::Heard { side, index } => self.pass_item(side, index),
+            Duty::Keep(side) => self.keep(side),
+            Duty::Edge(side) => self.check(side),
+            Duty::PassFin(side) => self.pass_fin(side),
+            _ => {}
+        }
+    }
+
+    /// What the reply makes of the path, where this duty stands first.
+    ///
+    /// # Errors
+    ///
+    /// Only where there is no memory; all is then as it was.
+    pub(crate) fn answer(&mut self, duty: Duty, reply: &Reply) -> Result<(), AllocError>
+        requires { Fits (ask_for octets duty self.old) reply.now }
+        ensures ok { OnOk result (self.new ≡ answered octets duty reply.now self.old) }
+        ensures err { OnErr result (self.new ≡ self.old) }
+    {
+        match duty {
+            Duty::Look(side) => Ok(self.look(side, reply)),
+            Duty::Window(side) | Duty::AckOut(side) => Ok(self.ack_out(side, reply)),
+            Duty::Data(side) => self.answer_data(side, reply),
+            Duty::Events => self.answer_event(),
+            Duty::PeerKey(side) => Ok(self.hear_peer_key(side)),
+            Duty::Opened(side) => Ok(self.hear_keys(side, reply)),
+            Duty::Heard { side, index } => self.answer_item(side, index, reply),
+            Duty::AckHeard(side) => Ok(self.hear_verdict(side, reply)),
+            Duty::Edge(side) => Ok(self.answer_piece(side, reply)),
+            Duty::HeardFin { side, .. } => Ok(self.answer_fin(side, reply)),
+            Duty::Rate(side) => Ok(self.hear_rate(side, reply)),
+            Duty::BreakAck { side, reason } => Ok(self.ack_out_breaking(side, reply, reason)),
+            Duty::Leave(side) => Ok(self.turns_to(Duty::Dead(side))),
+            Duty::End => Ok(self.ends_turn()),
+            _ => self.answer_sent(duty),
+        }
+    }
+
+    /// The segment of the duty is sent; all others are done.
+    fn answer_sent(&mut self, duty: Duty) -> Result<(), AllocError>
+    {
+        match duty {
+            Duty::Update(side) | Duty::Acknowledge(side) => self.acknowledge(side),
+            Duty::Syn(side) => self.send_syn(side),
+            Duty::DataFin(side) => self.send_data_fin(side),
+            Duty::Fin(side) => self.send_fin(side),
+            Duty::SynAck(side) => self.send_syn_ack(side),
+            Duty::Again(side) => self.send_again(side),
+            Duty::Answer(side) => self.send_answer(side),
+            Duty::ResetAnswer(side) => self.send_dead_answer(side),
+            Duty::Resend(side) => self.resend(side),
+            Duty::BreakReset { side, reason } => self.send_reset(side, Some(reason)),
+            Duty::Reset(side) => self.send_reset(side, None),
+            _ => Ok(self.done()),
+        }
+    }
+}

@@ -1,0 +1,221 @@
+//! What an end sends by itself: its SYN, records and grants as long as there is room, DATA_FIN, FIN; and its timer.
+
+ghost use Rattle.std.specs.Prelude.{◌≡◌, ◌≤◌, ◌<◌, ◌^◌, OnOk, OnErr, option_map, length};
+ghost use Rattle.subflow_send.specs.Records.{record_of};
+ghost use Rattle.path_core.specs.Octets.{octets};
+ghost use Rattle.path_core.specs.Emission.{is_syn_due, fits, may_ask, data_stands, grant_ask, granted, refused, answered_grant, answered_data, answered_syn, answered_end, answered_fin, after_timer};
+
+use crate::ask::{Ask, Reply};
+use crate::end::PathEnd;
+use crate::path::Path;
+use crate::profile::Profile;
+use crate::segment_kind::SegmentKind;
+use outside_kit::Side;
+use send_book::{SendCall, SendReply, Span};
+use seq_units::Mapping;
+use std::alloc::AllocError;
+use subflow_tcp::{Occasion, RecordRef, State};
+
+impl PathEnd {
+    /// The SYN of the end that opens is due: it was never sent.
+    pub fn is_syn_due(&self) -> bool
+        ensures { result ≡ is_syn_due self.now }
+    {
+        self.tcp.state() == State::SynSent && self.tcp.first_unsent().is_some()
+    }
+
+    /// Once the own SYN is acknowledged records are sent that the congestion window has room for.
+    fn fits(&self, lent: &RecordRef<'_>) -> bool
+        ensures { result ≡ fits self.now.tcp (record_of lent.now) }
+    {
+        1 <= self.tcp.una() && lent.piece.len() as u64 <= u64::from(self.tcp.room())
+    }
+
+    /// Bytes may be asked for: both SYNs are acknowledged, no FIN was sent, there is room for a full segment, positions
+    /// are left, and the end may send a DSS or is the one that opened.
+    fn may_ask(&self, profile: &Profile, side: Side) -> bool
+        ensures { result ≡ may_ask profile.now side self.now }
+    {
+        self.tcp.state().may_finish()
+            && profile.payload_size() <= self.tcp.room()
+            && !self.tcp.is_at_limit()
+            && (self.modes.clear || side == Side::A)
+    }
+
+    /// A record is sent, or bytes are asked for.
+    pub fn data_stands(&self, profile: &Profile, side: Side) -> bool
+        ensures { result ≡ data_stands profile.now side self.now (first_unsent self.now) }
+    {
+        match self.tcp.first_unsent() {
+            Some(record) => !self.tcp.state().is_closed_to_segments() && self.fits(&record),
+            None => self.may_ask(profile, side),
+        }
+    }
+
+    /// The granted piece is to be sent, with this mapping for ever. At an error all is as it was.
+    fn take_grant(
+        &mut self,
+        span: Span,
+        piece: &[u8],
+        mapping: &Mapping,
+    ) -> Result<(), AllocError>
+        requires { IsSendable piece.now }
+        ensures ok { OnOk result (self.new ≡ with_piece span piece.now mapping.now self.old) }
+        ensures err { OnErr result (self.new ≡ self.old) }
+    {
+        if self.tcp.is_finished() || self.tcp.is_at_limit() {
+            return Err(AllocError);
+        }
+        self.sending.push_span(span)?;
+        if let Err(error) = self.tcp.push(piece, mapping) {
+            self.sending.pop_span();
+            return Err(error);
+        }
+        self.sending.open_window();
+        Ok(())
+    }
+
+    /// A grant was refused.
+    fn refuse_grant(&mut self, reply: &Reply)
+        ensures { self.new ≡ refused reply.now self.old }
+    {
+        if let Reply::Send(SendReply::NoGrant { why, end }) = *reply {
+            self.sending.refuse(why, end);
+        }
+    }
+
+    /// The timer is settled by the reasons of the subflow and of the streams.
+    pub fn settle_timer(&mut self, now: u64)
+        requires { now < 2 ^ 64 - 2 ^ 20 }
+        ensures { self.new ≡ after_timer now self.old }
+    {
+        let (waiting, news) = (self.sending.is_waiting(), self.sending.has_news());
+        self.tcp.hold_timer(waiting, news, now);
+        self.sending.clear_news();
+    }
+
+    /// The FIN was pushed and sent at once, and told this edge of the window.
+    fn having_sent_fin(&mut self, now: u64, told_edge: u64)
+        requires state { IsTrue (may_finish self.old.tcp.state) }
+        requires open { self.old.tcp.send.finished ≡ false }
+        requires edge { told_edge ≤ 2 ^ 62 + 2 ^ 21 }
+        ensures { self.new ≡ record self.old {
+          receiving = record self.old.receiving { told_edge = told_edge };
+          tcp = after_sending Fin now (after_finishing self.old.tcp);
+        } }
+    {
+        self.receiving.tell_edge(told_edge);
+        self.tcp.finish();
+        self.tcp.sent(Occasion::Fin, now);
+    }
+}
+
+impl Path {
+    /// Bytes of the stream are asked for.
+    fn grant_ask(&self, side: Side) -> Ask
+        ensures { result ≡ grant_ask side self.now }
+    {
+        Ask::Send(
+            side,
+            SendCall::Grant {
+                path: self.number(),
+                max: self.profile.payload_size(),
+                standby: self.end(side).modes.standby,
+            },
+        )
+    }
+
+    /// A record is sent, or bytes are asked for.
+    pub(crate) fn data_ask(&self, side: Side) -> Ask
+        ensures { result ≡ data_ask octets side (first_unsent (end_at side self.now)) self.now }
+    {
+        match self.end(side).tcp.first_unsent() {
+            Some(_) => self.sent_step(side, SegmentKind::Unsent),
+            None => self.grant_ask(side),
+        }
+    }
+
+    /// The SYN is sent.
+    pub(crate) fn send_syn(&mut self, side: Side) -> Result<(), AllocError>
+        ensures ok { OnOk result (self.new ≡ answered_syn octets side self.old) }
+        ensures err { OnErr result (self.new ≡ self.old) }
+    {
+        self.send_and_leave(side, SegmentKind::Unsent, Occasion::Unsent)
+    }
+
+    /// The granted piece is to be sent; the duty stays. At an error all is as it was.
+    fn take_grant(&mut self, side: Side, span: Span, piece: &[u8]) -> Result<(), AllocError>
+        requires { IsSendable piece.now }
+        ensures ok { OnOk result (self.new ≡ goes_on side (granted self.old.profile side span piece.now (end_at side self.old)) self.old.agenda self.old) }
+        ensures err { OnErr result (self.new ≡ self.old) }
+    {
+        let position = self.end(side).tcp.nxt();
+        let mapping = self.profile.mapping_of(side, span.from, position, piece);
+        self.end_mut(side).take_grant(span, piece, &mapping)
+    }
+
+    /// A grant was refused, which ends the asking.
+    fn refuse_grant(&mut self, side: Side, reply: &Reply)
+        ensures { self.new ≡ goes_on side (refused reply.now (end_at side self.old)) (left self.old) self.old }
+    {
+        self.end_mut(side).refuse_grant(reply);
+        self.done();
+    }
+
+    /// What was granted is taken, or the refusal ends the asking. At an error all is as it was.
+    fn hear_grant(&mut self, side: Side, reply: &Reply) -> Result<(), AllocError>
+        requires { IsGrantSendable (grant_in reply.now) }
+        ensures ok { OnOk result (self.new ≡ answered_grant side (grant_in reply.now) reply.now self.old) }
+        ensures err { OnErr result (self.new ≡ self.old) }
+    {
+        match reply {
+            Reply::Send(SendReply::Granted { span, piece }) => {
+                self.take_grant(side, *span, piece.as_bytes())
+            }
+            _ => {
+                self.refuse_grant(side, reply);
+                Ok(())
+            }
+        }
+    }
+
+    /// A record is sent, or what was granted is taken; the duty stays, so that the next record is sent, or the next bytes
+    /// are asked for.
+    pub(crate) fn answer_data(&mut self, side: Side, reply: &Reply) -> Result<(), AllocError>
+        requires { IsNone (first_unsent (end_at side self.old)) → IsGrantSendable (grant_in reply.now) }
+        ensures ok { OnOk result (self.new ≡ answered_data octets side (first_unsent (end_at side self.old)) reply.now self.old) }
+        ensures err { OnErr result (self.new ≡ self.old) }
+    {
+        if self.end(side).tcp.first_unsent().is_some() {
+            self.send(side, SegmentKind::Unsent, Occasion::Unsent)
+        } else {
+            self.hear_grant(side, reply)
+        }
+    }
+
+    /// The acknowledgement with the DATA_FIN is sent.
+    pub(crate) fn send_data_fin(&mut self, side: Side) -> Result<(), AllocError>
+        ensures ok { OnOk result (self.new ≡ answered_end octets side self.old) }
+        ensures err { OnErr result (self.new ≡ self.old) }
+    {
+        self.send_and_leave(side, SegmentKind::DataFin, Occasion::Ack)?;
+        self.end_mut(side).sending.end_is_sent();
+        Ok(())
+    }
+
+    /// The FIN is pushed and sent.
+    pub(crate) fn send_fin(&mut self, side: Side) -> Result<(), AllocError>
+        ensures ok { OnOk result (self.new ≡ answered_fin octets side self.old) }
+        ensures err { OnErr result (self.new ≡ self.old) }
+    {
+        if !self.end(side).can_finish() {
+            return Err(AllocError);
+        }
+        let told_edge = self.edge_told(side, SegmentKind::Fin);
+        self.hand(side, SegmentKind::Fin)?;
+        let now = self.clock.now();
+        self.end_mut(side).having_sent_fin(now, told_edge);
+        self.done();
+        Ok(())
+    }
+}

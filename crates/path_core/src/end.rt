@@ -1,0 +1,52 @@
+//! What one end of a path keeps, by concern.
+
+ghost use Rattle.std.specs.Prelude.{◌≡◌};
+
+use crate::modes::Modes;
+use crate::receiving::Receiving;
+use crate::sending::Sending;
+use crate::treated::Treated;
+use std::alloc::Global;
+use std::marker::Model;
+use subflow_tcp::Subflow;
+
+/// One end of a path: its subflow, its own stream, the peer's, the mode, and the copy that it treats.
+#[derive(Debug, Drop)]
+pub(crate) struct PathEnd {
+    pub tcp: Subflow,
+    pub sending: Sending,
+    pub receiving: Receiving,
+    pub modes: Modes,
+    pub treated: Treated,
+}
+
+impl Model for PathEnd {
+    ghost use Rattle.path_core.specs.Ends.{PathEnd};
+
+    ghost Value = { PathEnd };
+
+    ghost view = { λ e. record {
+      tcp = e.tcp;
+      sending = e.sending;
+      receiving = e.receiving;
+      modes = e.modes;
+      treated = e.treated;
+    } };
+}
+
+impl PathEnd {
+    ghost use Rattle.path_core.specs.Ends.{opening_end};
+
+    /// An end of which nothing happened yet. Takes no memory.
+    pub fn new(alloc: Global, tcp: Subflow, own_key: u64) -> Self
+        ensures { result ≡ opening_end tcp own_key }
+    {
+        PathEnd {
+            tcp,
+            sending: Sending::new(alloc),
+            receiving: Receiving::new(alloc),
+            modes: Modes::new(own_key),
+            treated: Treated::nothing(),
+        }
+    }
+}

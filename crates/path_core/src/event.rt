@@ -1,0 +1,16 @@
+//! What happens on a path by itself.
+
+use crate::lines::LineLeft;
+use link_model::Due;
+use outside_kit::Side;
+
+/// What happens on a path by itself, at a tick.
+#[derive(Clone, Copy, Debug, PartialEq, Eq)]
+pub(crate) enum Event {
+    /// A line comes due.
+    Takes(LineLeft),
+    /// A copy arrives.
+    Arrives(Due),
+    /// A timer runs out, at this tick.
+    Fires(Side, u64),
+}

@@ -1,0 +1,114 @@
+//! A path: its two ends, its link, and what is still to be done in its turn.
+
+ghost use Rattle.std.specs.Prelude.{◌≡◌, [], Some};
+ghost use Rattle.std.specs.Borrow.{sem};
+ghost use Rattle.path_core.specs.Words.{tail_of, replaced};
+
+use crate::agenda::Agenda;
+use crate::clock::Clock;
+use crate::duty::Duty;
+use crate::end::PathEnd;
+use crate::lines::LineLeft;
+use crate::profile::Profile;
+use link_model::Link;
+use outside_kit::Side;
+use std::alloc::Global;
+use std::collections::VecDeque;
+use std::marker::Model;
+
+/// A path of a connection. Its turn is an agenda of duties, the first of which comes to something: to an ask, or to a
+/// segment.
+#[derive(Debug, Drop)]
+pub struct Path {
+    pub(crate) alloc: Global,
+    pub(crate) profile: Profile,
+    pub(crate) link: Link,
+    pub(crate) clock: Clock,
+    /// The lines of the script that aren't taken yet, in the order of their ticks.
+    pub(crate) lines: VecDeque<LineLeft>,
+    /// The tick at which the path joins, where it joins.
+    pub(crate) joined_at: Option<u64>,
+    pub(crate) a: PathEnd,
+    pub(crate) b: PathEnd,
+    pub(crate) agenda: Agenda,
+}
+
+impl Model for Path {
+    ghost use Rattle.std.specs.Prelude.{ℕ, List};
+    ghost use Rattle.path_core.specs.State.{PathState};
+
+    ghost Value = { PathState (List ℕ) };
+
+    ghost view = { λ p. record {
+      profile = p.profile;
+      link = p.link;
+      clock = p.clock.now;
+      until = p.clock.until;
+      lines = p.lines.items;
+      joined_at = p.joined_at;
+      a = p.a;
+      b = p.b;
+      agenda = p.agenda;
+    } };
+}
+
+impl Path {
+    ghost use Rattle.path_core.specs.Lending.{LendsEnd};
+    ghost use Rattle.path_core.specs.State.{end_at, with_agenda, path_of, has_ended};
+
+    /// Whether its turn has ended.
+    pub fn has_ended(&self) -> bool
+        ensures { result ≡ has_ended self.now }
+    {
+        self.agenda.first().is_none()
+    }
+
+    /// The end of a side.
+    pub(crate) fn end(&self, side: Side) -> &PathEnd
+        ensures { result.now ≡ end_at side self.now }
+    {
+        match side {
+            Side::A => &self.a,
+            Side::B => &self.b,
+        }
+    }
+
+    /// The end of a side, lent.
+    pub(crate) fn end_mut(&mut self, side: Side) -> &mut PathEnd
+        ensures* writes_back { sem 𝓛 (LendsEnd self.entry side result) }
+        ensures value { result.now ≡ end_at side self.old }
+    {
+        match side {
+            Side::A => &mut self.a,
+            Side::B => &mut self.b,
+        }
+    }
+
+    /// The number of the path.
+    pub(crate) fn number(&self) -> u8
+        ensures { result ≡ path_of self.now }
+    {
+        self.link.path()
+    }
+
+    /// The first duty is done.
+    pub(crate) fn done(&mut self)
+        ensures { self.new ≡ with_agenda (tail_of self.old.agenda) self.old }
+    {
+        self.agenda.pop();
+    }
+
+    /// Another duty stands in the place of the first.
+    pub(crate) fn turns_to(&mut self, duty: Duty)
+        ensures { self.new ≡ with_agenda (replaced duty self.old.agenda) self.old }
+    {
+        self.agenda.replace_first(duty);
+    }
+
+    /// These duties are to be done, and no others.
+    pub(crate) fn sets_about(&mut self, agenda: Agenda)
+        ensures { self.new ≡ with_agenda agenda self.old }
+    {
+        self.agenda = agenda;
+    }
+}

@@ -1,0 +1,90 @@
+//! What never changes at a path.
+
+ghost use Rattle.std.specs.Prelude.{◌≡◌, ◌≤◌};
+ghost use Rattle.path_core.specs.Segments.{spelled_by};
+
+use outside_kit::Side;
+use path_segments::Spelling;
+use std::marker::Model;
+
+/// What never changes at a path.
+#[derive(Debug, Drop)]
+pub(crate) struct Profile {
+    /// Octets of the maximum segment size.
+    mss: u16,
+    /// Octets that each side buffers.
+    buffer: u32,
+    /// How its segments are said.
+    spelling: Spelling,
+}
+
+impl Model for Profile {
+    ghost use Rattle.std.specs.Prelude.{◌≤◌, ◌^◌};
+    ghost use Rattle.path_core.specs.State.{Profile};
+
+    ghost Value = { Profile };
+
+    ghost view = { λ c. record { mss = c.mss; buffer = c.buffer; spelling = c.spelling } };
+
+    ghost invariant = { λ c. (200 ≤ c.mss) × (c.mss ≤ 1460) × (c.buffer ≤ 2 ^ 20) };
+}
+
+impl Profile {
+    ghost use Rattle.path_core.specs.Emission.{payload_size};
+
+    /// A profile of a maximum segment size of 200 to 1,460 octets, and a buffer of at most 1,048,576.
+    pub fn new(mss: u16, buffer: u32, spelling: Spelling) -> Self
+        requires least { 200 ≤ mss }
+        requires most { mss ≤ 1460 }
+        requires buffer { buffer ≤ 1048576 }
+        ensures { result ≡ record { mss = mss; buffer = buffer; spelling = spelling } }
+    {
+        Profile {
+            mss,
+            buffer,
+            spelling,
+        }
+    }
+
+    /// Octets of the maximum segment size.
+    pub fn mss(&self) -> u16
+        ensures value { result ≡ self.now.mss }
+        ensures least { 200 ≤ result }
+        ensures most { result ≤ 1460 }
+    {
+        self.mss
+    }
+
+    /// Octets that each side buffers.
+    pub fn buffer(&self) -> u32
+        ensures value { result ≡ self.now.buffer }
+        ensures bound { result ≤ 1048576 }
+    {
+        self.buffer
+    }
+
+    /// How the path's segments are said.
+    pub fn spelling(&self) -> &Spelling
+        ensures { result.now ≡ self.now.spelling }
+    {
+        &self.spelling
+    }
+
+    /// Octets of the payload of a full segment.
+    pub fn payload_size(&self) -> u32
+        ensures value { result ≡ payload_size self.now }
+        ensures bound { result ≤ 1432 }
+    {
+        u32::from(self.mss - 28)
+    }
+}
+
+/// The same side, as the segments of a path have it.
+pub(crate) fn spelled_by(side: Side) -> path_segments::Side
+    ensures { result ≡ spelled_by side }
+{
+    match side {
+        Side::A => path_segments::Side::A,
+        Side::B => path_segments::Side::B,
+    }
+}

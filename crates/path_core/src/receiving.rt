@@ -1,0 +1,89 @@
+//! What an end keeps of the peer's stream (RFC 8684, section 3.3.1).
+
+ghost use Rattle.std.specs.Prelude.{◌≡◌, ◌≤◌, ◌+◌, ◌^◌};
+
+use dss_mapping::Mappings;
+use std::alloc::Global;
+use std::marker::Model;
+
+/// What an end keeps of the peer's stream. Windows are at most 2^20 octets, and places at most 2^62 + 2^20.
+#[derive(Debug, Drop)]
+pub(crate) struct Receiving {
+    /// What is to be acknowledged, as the book told it last.
+    next: u64,
+    /// How much more is taken, as the book told it last.
+    window: u32,
+    /// The edge of the window that the last segment told.
+    told_edge: u64,
+    /// Which place each position has.
+    pub mappings: Mappings,
+}
+
+impl Model for Receiving {
+    ghost use Rattle.std.specs.Prelude.{◌≤◌, ◌+◌, ◌^◌};
+    ghost use Rattle.path_core.specs.Ends.{Receiving};
+
+    ghost Value = { Receiving };
+
+    ghost view = { λ v. record { next = v.next; window = v.window; told_edge = v.told_edge; mappings = v.mappings } };
+
+    ghost invariant = { λ v. (v.next ≤ 2 ^ 62 + 2 ^ 20) × (v.window ≤ 2 ^ 20) × (v.told_edge ≤ 2 ^ 62 + 2 ^ 21) };
+}
+
+impl Receiving {
+    ghost use Rattle.path_core.specs.Ends.{no_receiving};
+
+    /// Nothing came and nothing was told. Takes no memory.
+    pub fn new(alloc: Global) -> Self
+        ensures { result ≡ no_receiving }
+    {
+        Receiving {
+            next: 0,
+            window: 0,
+            told_edge: 0,
+            mappings: Mappings::new(alloc),
+        }
+    }
+
+    /// What is to be acknowledged.
+    pub fn next(&self) -> u64
+        ensures value { result ≡ self.now.next }
+        ensures bound { result ≤ 2 ^ 62 + 2 ^ 20 }
+    {
+        self.next
+    }
+
+    /// How much more is taken, in octets.
+    pub fn window(&self) -> u32
+        ensures value { result ≡ self.now.window }
+        ensures bound { result ≤ 2 ^ 20 }
+    {
+        self.window
+    }
+
+    /// The edge of the window that the last segment told.
+    pub fn told_edge(&self) -> u64
+        ensures value { result ≡ self.now.told_edge }
+        ensures bound { result ≤ 2 ^ 62 + 2 ^ 21 }
+    {
+        self.told_edge
+    }
+
+    /// A segment told this edge.
+    pub fn tell_edge(&mut self, edge: u64)
+        requires { edge ≤ 2 ^ 62 + 2 ^ 21 }
+        ensures { self.new ≡ record self.old { told_edge = edge } }
+    {
+        self.told_edge = edge;
+    }
+
+    /// The book told what is to be acknowledged, and how much more is taken.
+    pub fn tell_window(&mut self, next: u64, window: u32)
+        requires next { next ≤ 2 ^ 62 + 2 ^ 20 }
+        requires window { window ≤ 2 ^ 20 }
+        ensures { self.new ≡ record self.old { next = next; window = window } }
+    {
+        self.next = next;
+        self.window = window;
+    }
+}

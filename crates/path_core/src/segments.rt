@@ -1,0 +1,362 @@
+//! The segments that an end sends: their options, their windows, and the mapping of a piece (RFC 8684, section 3).
+
+ghost use Rattle.std.specs.Prelude.{◌≡◌, ◌≤◌, ◌^◌, ◌<◌, length, option_map, IfSome};
+ghost use Rattle.subflow_send.specs.Records.{record_of};
+ghost use Rattle.path_core.specs.Segments.{bare_mapping, mapping_of, place_numbered, checksum_told, syn_options, key_options, end_mapping, ack_options, piece_mapping, is_first_piece, first_piece_options, piece_options, fin_options, record_options, reset_options};
+ghost use Rattle.path_core.specs.Said.{options_by, plain_said, said_by, IsShort, CanBeSaid};
+
+use crate::end::PathEnd;
+use crate::profile::{Profile, spelled_by};
+use crate::said::Said;
+use crate::segment_kind::SegmentKind;
+use dss_checksum::DssSum;
+use mptcp_options::CapableKeys;
+use outside_kit::Side;
+use path_segments::{PathMapping, PathOption, relative_number};
+use seq_units::{Mapping, Pos};
+use subflow_send::RecordKind;
+use subflow_tcp::{Outgoing, RecordRef};
+
+/// An option that an end says: none of them has ids.
+type Saying<'a> = PathOption<u64, &'a [u8]>;
+
+impl Profile {
+    /// The mapping of `length` bytes of a side's stream, before there is a checksum.
+    pub fn bare_mapping(&self, side: Side, place: u64, position: Pos, length: u16) -> Mapping
+        ensures { result ≡ bare_mapping self.now side place position length }
+    {
+        Mapping {
+            number: self.spelling().whole_number(spelled_by(side), place),
+            relative: relative_number(position),
+            length,
+            checksum: 0,
+        }
+    }
+
+    /// The checksum of a mapping and its bytes, where checksums are used (RFC 8684, section 3.3.1).
+    fn checksum_in(&self, mapping: &Mapping, octets: &[u8]) -> u16
+        requires { length octets.now ≤ 65535 }
+        ensures { result ≡ checksum_in self.now mapping.now octets.now }
+    {
+        if self.spelling().checksums {
+            checksum_of(mapping, octets)
+        } else {
+            0
+        }
+    }
+
+    /// The mapping that a granted piece has for ever.
+    pub fn mapping_of(&self, side: Side, place: u64, position: Pos, octets: &[u8]) -> Mapping
+        requires { length octets.now ≤ 65535 }
+        ensures { result ≡ mapping_of self.now side place position octets.now }
+    {
+        let bare = self.bare_mapping(side, place, position, octets.len() as u16);
+        Mapping {
+            checksum: self.checksum_in(&bare, octets),
+            ..bare
+        }
+    }
+
+    /// The place that the first number of a mapping stands for.
+    fn place_numbered(&self, side: Side, number: u64) -> u64
+        ensures { result ≡ place_numbered self.now side number }
+    {
+        number.wrapping_sub(self.spelling().whole_number(spelled_by(side), 0))
+    }
+
+    /// A checksum stands in an option exactly where checksums are used.
+    fn checksum_told(&self, checksum: u16) -> Option<u16>
+        ensures { result ≡ checksum_told self.now checksum }
+    {
+        self.spelling().checksums.then_some(checksum)
+    }
+
+    /// MP_CAPABLE with these keys (RFC 8684, section 3.1).
+    fn capable(&self, keys: CapableKeys) -> Saying<'static>
+        ensures { result ≡ PathOption.Capable self.now.spelling.checksums false keys }
+    {
+        PathOption::Capable {
+            flag_a: self.spelling().checksums,
+            flag_c: false,
+            keys,
+        }
+    }
+
+    /// The mapping of the DATA_FIN without data: relative number 0 and length 1 (RFC 8684, section 3.3.3).
+    fn end_mapping(&self, side: Side, fin: Option<u64>) -> Option<PathMapping<u64>>
+        ensures { result ≡ end_mapping self.now side fin }
+    {
+        let place = fin?;
+        let checksum = self.checksum_in(&self.bare_mapping(side, place, 0, 1), &[]);
+        Some(PathMapping::End {
+            place,
+            checksum: self.checksum_told(checksum),
+        })
+    }
+
+    /// On data: the mapping that the piece was granted with.
+    fn piece_mapping(&self, side: Side, lent: &RecordRef<'_>) -> PathMapping<u64>
+        ensures { result ≡ piece_mapping self.now side (record_of lent.now) }
+    {
+        PathMapping::Bytes {
+            place: self.place_numbered(side, lent.mapping.number),
+            position: lent.pos,
+            length: lent.mapping.length,
+            fin: false,
+            checksum: self.checksum_told(lent.mapping.checksum),
+        }
+    }
+}
+
+/// The checksum of a mapping and its bytes.
+pub(crate) fn checksum_of(mapping: &Mapping, octets: &[u8]) -> u16
+    requires { length octets.now ≤ 65535 }
+    ensures { result ≡ dss_checksum mapping.now octets.now }
+{
+    let mut sum = DssSum::new(mapping);
+    sum.add(octets);
+    sum.make()
+}
+
+impl PathEnd {
+    /// On a SYN: A asks for Multipath TCP, and B answers with its key (RFC 8684, section 3.1).
+    fn syn_option(&self, profile: &Profile, side: Side) -> Option<Saying<'_>>
+        ensures value { options_by result ≡ syn_options profile.now side self.now }
+    {
+        match side {
+            Side::A => Some(profile.capable(CapableKeys::NoKey)),
+            Side::B => Some(profile.capable(CapableKeys::Sender {
+                sender: self.modes.own_key,
+            })),
+        }
+    }
+
+    /// Before A may send a DSS it shows both keys; B says nothing before it has them.
+    fn key_option(&self, profile: &Profile, side: Side) -> Option<Saying<'_>>
+        ensures value { options_by result ≡ key_options profile.now side self.now.modes.peer_key self.now }
+    {
+        match (side, self.modes.peer_key) {
+            (Side::A, Some(receiver)) => Some(profile.capable(CapableKeys::Both {
+                sender: self.modes.own_key,
+                receiver,
+            })),
+            _ => None,
+        }
+    }
+
+    /// On an acknowledgement, perhaps with the DATA_FIN.
+    fn ack_option(&self, profile: &Profile, side: Side, fin: Option<u64>) -> Option<Saying<'_>>
+        ensures value { options_by result ≡ ack_options profile.now side fin self.now }
+    {
+        if self.modes.clear {
+            Some(PathOption::Dss {
+                next: Some(self.receiving.next()),
+                mapping: profile.end_mapping(side, fin),
+            })
+        } else {
+            self.key_option(profile, side)
+        }
+    }
+
+    /// A's first piece carries both keys, until A may send a DSS.
+    fn first_piece_option(&self, profile: &Profile, lent: &RecordRef<'_>) -> Option<Saying<'_>>
+        ensures value { options_by result ≡ first_piece_options profile.now self.now.modes.peer_key (record_of lent.now) self.now }
+    {
+        let receiver = self.modes.peer_key?;
+        Some(profile.capable(CapableKeys::WithData {
+            sender: self.modes.own_key,
+            receiver,
+            length: lent.mapping.length,
+            checksum: profile.checksum_told(lent.mapping.checksum),
+        }))
+    }
+
+    /// On data.
+    fn piece_option(
+        &self,
+        profile: &Profile,
+        side: Side,
+        lent: &RecordRef<'_>,
+    ) -> Option<Saying<'_>>
+        ensures value { options_by result ≡ piece_options profile.now side (record_of lent.now) self.now }
+    {
+        if side == Side::A && !self.modes.clear && lent.pos == 1 {
+            return self.first_piece_option(profile, lent);
+        }
+        Some(PathOption::Dss {
+            next: Some(self.receiving.next()),
+            mapping: Some(profile.piece_mapping(side, lent)),
+        })
+    }
+
+    /// On the FIN.
+    fn fin_option(&self) -> Option<Saying<'_>>
+        ensures value { options_by result ≡ fin_options self.now }
+    {
+        Some(PathOption::Dss {
+            next: Some(self.receiving.next()),
+            mapping: None,
+        })
+    }
+
+    /// On a record.
+    fn record_option(
+        &self,
+        profile: &Profile,
+        side: Side,
+        lent: &RecordRef<'_>,
+    ) -> Option<Saying<'_>>
+        ensures value { options_by result ≡ record_options lent.now.kind profile.now side (record_of lent.now) self.now }
+    {
+        match lent.kind {
+            RecordKind::Syn => self.syn_option(profile, side),
+            RecordKind::Data => self.piece_option(profile, side, lent),
+            RecordKind::Fin => self.fin_option(),
+        }
+    }
+
+    /// A segment with the window that the book told last, and on a SYN with the maximum segment size.
+    fn segment_of<'a>(
+        &self,
+        profile: &Profile,
+        outgoing: Outgoing,
+        option: Option<Saying<'a>>,
+        payload: &'a [u8],
+    ) -> Said<'a>
+        ensures { plain_said result ≡ segment_of profile.now outgoing (options_by option) payload.now self.now }
+    {
+        Said {
+            outgoing,
+            window: self.receiving.window(),
+            mss: outgoing.syn.then_some(profile.mss()),
+            option,
+            payload,
+        }
+    }
+
+    /// The acknowledgement at this position, perhaps with the DATA_FIN.
+    fn ack_said(&self, profile: &Profile, side: Side, position: Pos, fin: Option<u64>) -> Said<'_>
+        ensures { plain_said result ≡ ack_said profile.now side position fin self.now }
+    {
+        let option = self.ack_option(profile, side, fin);
+        self.segment_of(profile, self.tcp.ack_at(position), option, &[])
+    }
+
+    /// A record, for the first time or again.
+    fn record_said<'a>(
+        &'a self,
+        profile: &Profile,
+        side: Side,
+        lent: &RecordRef<'a>,
+    ) -> Said<'a>
+        ensures { plain_said result ≡ record_said profile.now side (record_of lent.now) self.now }
+    {
+        let option = self.record_option(profile, side, lent);
+        let outgoing = self.tcp.record_segment(lent);
+        self.segment_of(profile, outgoing, option, lent.piece)
+    }
+
+    /// A record, or else an acknowledgement.
+    fn record_or_ack<'a>(
+        &'a self,
+        profile: &Profile,
+        side: Side,
+        lent: Option<RecordRef<'a>>,
+    ) -> Said<'a>
+        ensures { plain_said result ≡ record_or_ack profile.now side (option_map record_of lent) self.now }
+    {
+        match record {
+            Some(record) => self.record_said(profile, side, &record),
+            None => self.ack_said(profile, side, self.tcp.nxt(), None),
+        }
+    }
+
+    fn syn_ack_said(&self, profile: &Profile, side: Side) -> Said<'_>
+        ensures { plain_said result ≡ syn_ack_said profile.now side self.now }
+    {
+        let option = self.syn_option(profile, side);
+        self.segment_of(profile, self.tcp.syn_ack_segment(), option, &[])
+    }
+
+    /// The FIN, also before there is a record of it.
+    fn fin_said(&self, profile: &Profile) -> Said<'_>
+        ensures { plain_said result ≡ fin_said profile.now self.now }
+    {
+        self.segment_of(profile, self.tcp.fin_segment(), self.fin_option(), &[])
+    }
+
+    /// The reset, perhaps with a reason; the fault doesn't pass (RFC 8684, section 3.6).
+    fn reset_said(&self, profile: &Profile, reason: Option<u8>) -> Said<'_>
+        ensures { plain_said result ≡ reset_said profile.now reason self.now }
+    {
+        let option = reset_option(reason);
+        self.segment_of(profile, self.tcp.reset_segment(), option, &[])
+    }
+
+    /// The answer to a segment that is passed over.
+    fn answer_said(&self, profile: &Profile, side: Side) -> Said<'_>
+        ensures { plain_said result ≡ answer_said profile.now side self.now }
+    {
+        if self.tcp.owes_syn_ack() {
+            self.syn_ack_said(profile, side)
+        } else {
+            self.ack_said(profile, side, self.tcp.nxt(), None)
+        }
+    }
+
+    /// The reset that answers a copy at a dead end.
+    fn dead_answer_said(&self, profile: &Profile) -> Said<'_>
+        ensures { plain_said result ≡ said_by SegmentKind.DeadAnswer profile.now A self.now }
+    {
+        let outgoing = match self.treated.answer() {
+            Some(outgoing) => outgoing,
+            None => self.tcp.reset_segment(),
+        };
+        self.segment_of(profile, outgoing, None, &[])
+    }
+
+    /// What an expiry sends again: the first record, or else the DATA_FIN, or else what a peer that is there answers.
+    fn resend_said(&self, profile: &Profile, side: Side) -> Said<'_>
+        ensures { plain_said result ≡ resend_said profile.now side self.now }
+    {
+        if self.tcp.has_records() {
+            return self.record_or_ack(profile, side, self.tcp.first_record());
+        }
+        if self.sending.owes_end() {
+            return self.ack_said(profile, side, self.tcp.nxt(), self.sending.known_end());
+        }
+        let probe = self.tcp.una().saturating_sub(1);
+        self.ack_said(profile, side, probe, None)
+    }
+
+    /// The segment of this kind.
+    pub fn said(&self, profile: &Profile, side: Side, kind: SegmentKind) -> Said<'_>
+        ensures value { plain_said result ≡ said_by kind profile.now side self.now }
+        ensures can { CanBeSaid profile.now.spelling side (plain_said result) }
+    {
+        match kind {
+            SegmentKind::Ack => self.ack_said(profile, side, self.tcp.nxt(), None),
+            SegmentKind::DataFin => {
+                self.ack_said(profile, side, self.tcp.nxt(), self.sending.known_end())
+            }
+            SegmentKind::Fin => self.fin_said(profile),
+            SegmentKind::Unsent => self.record_or_ack(profile, side, self.tcp.first_unsent()),
+            SegmentKind::First => self.record_or_ack(profile, side, self.tcp.first_record()),
+            SegmentKind::SynAck => self.syn_ack_said(profile, side),
+            SegmentKind::Answer => self.answer_said(profile, side),
+            SegmentKind::DeadAnswer => self.dead_answer_said(profile),
+            SegmentKind::Resend => self.resend_said(profile, side),
+            SegmentKind::Reset { reason } => self.reset_said(profile, reason),
+        }
+    }
+}
+
+/// Why the path is reset, where there is a reason.
+fn reset_option(reason: Option<u8>) -> Option<Saying<'static>>
+    ensures { options_by result ≡ reset_options reason }
+{
+    Some(PathOption::Reset {
+        transient: false,
+        reason: reason?,
+    })
+}

@@ -1,0 +1,215 @@
+//! What an end keeps of its side's own stream (RFC 8684, sections 3.3.2 and 3.3.3).
+
+ghost use Rattle.std.specs.Prelude.{◌≡◌, ◌&&◌, ◌++◌, ◌∷◌, [], false, true, not, is_some, List, OnOk, OnErr, filter};
+ghost use Rattle.std.specs.List.{list_any};
+ghost use Rattle.send_book.specs.declared.call.Span.{Span};
+ghost use Rattle.data_close.specs.Closing as closing;
+ghost use Rattle.path_core.specs.Words.{is_nil};
+ghost use Rattle.path_core.specs.Closing.{is_newly_heard, is_open};
+
+use data_close::CloseState;
+use send_book::{Span, Why};
+use std::alloc::{AllocError, Global};
+use std::marker::Model;
+
+/// What an end keeps of its side's own stream.
+#[derive(Debug, Drop)]
+pub(crate) struct Sending {
+    /// How many bytes there are in all, once a refused grant told it.
+    known_end: Option<u64>,
+    /// DATA_FIN was sent by this end.
+    fin_sent: bool,
+    /// The own DATA_FIN is acknowledged, and the peer's came, by what this end heard.
+    close: CloseState,
+    /// The last grant was refused as the peer's window is shut.
+    shut: bool,
+    /// How many bytes of the stream, the DATA_FIN among them, the peer acknowledged to this end.
+    heard: u64,
+    /// The places that were granted to this end and aren't below all that it heard.
+    granted: Vec<Span>,
+    /// One of them, or the DATA_FIN, was acknowledged since the timer was settled last.
+    news: bool,
+}
+
+impl Model for Sending {
+    ghost use Rattle.path_core.specs.Ends.{Sending};
+
+    ghost Value = { Sending };
+
+    ghost view = { λ v. record {
+      known_end = v.known_end;
+      fin_sent = v.fin_sent;
+      close = v.close;
+      shut = v.shut;
+      heard = v.heard;
+      granted = v.granted.items;
+      news = v.news;
+    } };
+}
+
+impl Sending {
+    ghost use Rattle.path_core.specs.Ends.{no_sending};
+    ghost use Rattle.path_core.specs.Closing.{is_news, after_acked, after_peer_end, after_refusal, owes_end, is_waiting, with_end_sent, without_news};
+
+    /// Nothing was granted, sent or heard. Takes no memory.
+    pub fn new(alloc: Global) -> Self
+        ensures { result ≡ no_sending }
+    {
+        Sending {
+            known_end: None,
+            fin_sent: false,
+            close: CloseState::new(),
+            shut: false,
+            heard: 0,
+            granted: Vec::new(alloc),
+            news: false,
+        }
+    }
+
+    /// How many bytes there are in all, where that is known.
+    pub fn known_end(&self) -> Option<u64>
+        ensures { result ≡ self.now.known_end }
+    {
+        self.known_end
+    }
+
+    /// How many bytes of the stream, the DATA_FIN among them, the peer acknowledged to this end.
+    pub fn heard(&self) -> u64
+        ensures { result ≡ self.now.heard }
+    {
+        self.heard
+    }
+
+    /// Whether something was acknowledged since the timer was settled last.
+    pub fn has_news(&self) -> bool
+        ensures { result ≡ self.now.news }
+    {
+        self.news
+    }
+
+    /// The timer was settled.
+    pub fn clear_news(&mut self)
+        ensures { self.new ≡ without_news self.old }
+    {
+        self.news = false;
+    }
+
+    /// Whether nothing that was granted is open.
+    pub fn is_idle(&self) -> bool
+        ensures { result ≡ is_nil self.now.granted }
+    {
+        self.granted.is_empty()
+    }
+
+    /// A DATA_FIN is acknowledged by nothing that was heard.
+    pub fn owes_end(&self) -> bool
+        ensures { result ≡ owes_end self.now }
+    {
+        self.fin_sent && !self.close.own_acked
+    }
+
+    /// The timer runs for it: a byte or a DATA_FIN that isn't acknowledged, or a window that is shut.
+    pub fn is_waiting(&self) -> bool
+        ensures { result ≡ is_waiting self.now }
+    {
+        self.owes_end() || !self.is_idle() || self.shut
+    }
+
+    /// The DATA_FIN is to be sent: the end is known, and it was neither sent nor acknowledged.
+    pub fn is_end_due(&self) -> bool
+        ensures { result ≡ (is_some self.now.known_end && (not self.now.fin_sent && not self.now.close.own_acked)) }
+    {
+        self.known_end.is_some() && !self.fin_sent && !self.close.own_acked
+    }
+
+    /// The DATA_FIN was sent.
+    pub fn end_is_sent(&mut self)
+        ensures { self.new ≡ with_end_sent self.old }
+    {
+        self.fin_sent = true;
+    }
+
+    /// Both streams are closed, so that the FIN may go out (RFC 8684, section 3.3.3).
+    pub fn may_finish(&self) -> bool
+        ensures { result ≡ closing.may_finish self.now.close }
+    {
+        self.close.may_finish()
+    }
+
+    /// The peer's DATA_FIN came.
+    pub fn peer_ended(&mut self)
+        ensures { self.new ≡ after_peer_end self.old }
+    {
+        self.close.heard_fin();
+    }
+
+    /// The last grant was no refusal for a window that is shut.
+    pub fn open_window(&mut self)
+        ensures { self.new ≡ record self.old { shut = false } }
+    {
+        self.shut = false;
+    }
+
+    /// A grant was refused, and perhaps told the end of the stream.
+    pub fn refuse(&mut self, why: Why, known: Option<u64>)
+        ensures { self.new ≡ after_refusal why known self.old }
+    {
+        self.shut = why == Why::WindowShut;
+        self.known_end = known.or(self.known_end);
+    }
+
+    /// These places are granted. At an error all is as it was.
+    pub fn push_span(&mut self, span: Span) -> Result<(), AllocError>
+        ensures ok { OnOk result (self.new ≡ record self.old { granted = self.old.granted ++ span ∷ [] }) }
+        ensures err { OnErr result (self.new ≡ self.old) }
+    {
+        self.granted.push(span)
+    }
+
+    /// The last places that were granted are granted no more.
+    pub fn pop_span(&mut self)
+        ensures { (before : List Span) (last : Span) → self.old.granted ≡ before ++ last ∷ []
+            → self.new ≡ record self.old { granted = before } }
+    {
+        self.granted.pop();
+    }
+
+    /// So many bytes of the stream are acknowledged, the DATA_FIN among them or not. Takes no memory.
+    pub fn acknowledge(&mut self, next: u64, fin: bool)
+        ensures { self.new ≡ after_acked next fin self.old }
+    {
+        self.news |= self.is_news(next, fin);
+        self.heard = self.heard.max(next);
+        let_go(&mut self.granted, self.heard);
+        self.close.own_acked |= fin;
+    }
+
+    /// A place that was granted, or the DATA_FIN, is acknowledged for the first time.
+    fn is_news(&self, next: u64, fin: bool) -> bool
+        ensures { result ≡ is_news next fin self.now }
+    {
+        has_newly_heard(self.granted.as_slice(), self.heard, next)
+            || fin && self.fin_sent && !self.close.own_acked
+    }
+}
+
+/// A place of one of these spans wasn't acknowledged before, and is now.
+fn has_newly_heard(granted: &[Span], heard: u64, next: u64) -> bool
+    ensures { result ≡ list_any (is_newly_heard heard next) granted.now }
+{
+    granted.iter().any(|span| is_newly_heard(heard, next, span))
+}
+
+/// A place of the span wasn't acknowledged before, and is now.
+fn is_newly_heard(heard: u64, next: u64, span: &Span) -> bool
+    ensures { result ≡ is_newly_heard heard next span.now }
+{
+    span.from.max(heard) < next
+}
+
+/// The spans that are acknowledged whole are let go.
+fn let_go(granted: &mut Vec<Span>, heard: u64)
+    ensures { granted.new.items ≡ filter (is_open heard) granted.old.items }
+{
+    granted.retain(|span| heard < span.to);
+}

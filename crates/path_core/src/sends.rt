@@ -1,0 +1,133 @@
+//! Handing a segment to the link: the step that tells it, and what it makes of the end and of the link.
+
+ghost use Rattle.std.specs.Prelude.{◌≡◌, ◌≤◌, ◌+◌, ◌^◌, OnOk, OnErr};
+ghost use Rattle.path_core.specs.Octets.{octets};
+ghost use Rattle.path_core.specs.Said.{plain_said, said_by};
+ghost use Rattle.path_core.specs.Sends.{edge_told, sends, handed, having_sent, sent_on};
+
+use crate::ask::{Ask, LocalStep};
+use crate::end::PathEnd;
+use crate::path::Path;
+use crate::said::Said;
+use crate::segment_kind::SegmentKind;
+use outside_kit::Side;
+use std::alloc::AllocError;
+use subflow_tcp::Occasion;
+
+/// A link takes fewer segments than this from a side.
+const MOST_SEGMENTS: u64 = 1 << 63;
+
+/// The window in octets as a hearer reads it: a SYN tells it up to 65,535, all others in steps of 32 (RFC 7323).
+pub(crate) fn window_told(syn: bool, window: u32) -> u32
+    ensures value { result ≡ window_told syn window }
+    ensures bound { result ≤ window }
+{
+    if syn {
+        window.min(65_535)
+    } else {
+        window / 32 * 32
+    }
+}
+
+impl PathEnd {
+    /// The edge of the window that a segment of the end tells; a reset tells none.
+    fn edge_told(&self, said: &Said<'_>) -> u64
+        ensures value { result ≡ edge_told (plain_said said.now) self.now }
+        ensures bound { said.now.window ≤ 2 ^ 20 → result ≤ 2 ^ 62 + 2 ^ 21 }
+    {
+        if said.outgoing.rst {
+            return self.receiving.told_edge();
+        }
+        let window = window_told(said.outgoing.syn, said.window);
+        self.receiving.next() + u64::from(window)
+    }
+
+    /// A segment was sent on this occasion, which told this edge.
+    fn having_sent(&mut self, occasion: Occasion, now: u64, told_edge: u64)
+        requires { told_edge ≤ 2 ^ 62 + 2 ^ 21 }
+        ensures { self.new ≡ record self.old {
+          receiving = record self.old.receiving { told_edge = told_edge };
+          tcp = after_sending occasion now self.old.tcp;
+        } }
+    {
+        self.receiving.tell_edge(told_edge);
+        self.tcp.sent(occasion, now);
+    }
+}
+
+impl Path {
+    /// The segment of this kind that the end of a side sends.
+    fn said(&self, side: Side, kind: SegmentKind) -> Said<'_>
+        ensures value { plain_said result ≡ said_by kind self.now.profile side (end_at side self.now) }
+        ensures can { CanBeSaid self.now.profile.spelling side (plain_said result) }
+    {
+        self.end(side).said(&self.profile, side, kind)
+    }
+
+    /// The step of a segment that is sent. Takes no memory.
+    pub(crate) fn sent_step(&self, side: Side, kind: SegmentKind) -> Ask
+        ensures { result ≡ sends octets side (said_by kind self.now.profile side (end_at side self.now)) self.now }
+    {
+        let said = self.said(side, kind);
+        Ask::Local(LocalStep::Sent {
+            from: side,
+            copy: self.link.taken(side) + 1,
+            length: said.payload.len() as u32,
+            sum: said.sum(self.profile.spelling(), side),
+        })
+    }
+
+    /// The edge of the window that the segment tells.
+    fn edge_told(&self, side: Side, kind: SegmentKind) -> u64
+        ensures value { result ≡ edge_told (said_by kind self.now.profile side (end_at side self.now)) (end_at side self.now) }
+        ensures bound { result ≤ 2 ^ 62 + 2 ^ 21 }
+    {
+        self.end(side).edge_told(&self.said(side, kind))
+    }
+
+    /// The link takes the segment of this kind. At an error all is as it was.
+    pub(crate) fn hand(&mut self, side: Side, kind: SegmentKind) -> Result<(), AllocError>
+        ensures ok { OnOk result (self.new ≡ record self.old { link = handed octets side (said_by kind self.old.profile side (end_at side self.old)) self.old }) }
+        ensures err { OnErr result (self.new ≡ self.old) }
+    {
+        if self.link.taken(side) >= MOST_SEGMENTS {
+            return Err(AllocError);
+        }
+        let said = self.said(side, kind);
+        let octets = said.octets(self.alloc, self.profile.spelling(), side)?;
+        self.link.send(side, octets.as_slice(), self.clock.now())?;
+        Ok(())
+    }
+
+    /// The segment of this kind is sent on this occasion; the agenda stays. At an error all is as it was.
+    pub(crate) fn send(
+        &mut self,
+        side: Side,
+        kind: SegmentKind,
+        occasion: Occasion,
+    ) -> Result<(), AllocError>
+        ensures ok { OnOk result (self.new ≡ sent_kind occasion kind side self.old) }
+        ensures err { OnErr result (self.new ≡ self.old) }
+    {
+        let told_edge = self.edge_told(side, kind);
+        self.hand(side, kind)?;
+        let now = self.clock.now();
+        self.end_mut(side).having_sent(occasion, now, told_edge);
+        Ok(())
+    }
+
+    /// So it is, and the first duty is done. At an error all is as it was.
+    pub(crate) fn send_and_leave(
+        &mut self,
+        side: Side,
+        kind: SegmentKind,
+        occasion: Occasion,
+    ) -> Result<(), AllocError>
+        ensures ok { OnOk result (self.new ≡ with_agenda (left self.old) (sent_kind occasion kind side self.old)) }
+        ensures err { OnErr result (self.new ≡ self.old) }
+    {
+        self.send(side, kind, occasion)?;
+        self.done();
+        Ok(())
+    }
+}

@@ -1,0 +1,132 @@
+//! The start of a turn: how the side stands, and what is to be acknowledged.
+
+ghost use Rattle.std.specs.Prelude.{◌≡◌, List};
+ghost use Rattle.path_core.specs.Said.{said_by};
+
+use crate::agenda::Agenda;
+use crate::ask::{Ask, Reply};
+use crate::end::PathEnd;
+use crate::modes::Modes;
+use crate::path::Path;
+use crate::profile::Profile;
+use crate::sends::window_told;
+use control_book::{ControlCall, ControlReply};
+use outside_kit::Side;
+use reassembly_book::{ReassemblyCall, ReassemblyReply};
+use subflow_tcp::State;
+
+/// Both SYNs are acknowledged, and the end isn't dead.
+fn is_connected(state: State) -> bool
+    ensures { result ≡ is_connected state }
+{
+    !matches!(
+        state,
+        State::Waiting | State::Listen | State::SynSent | State::SynReceived | State::Dead
+    )
+}
+
+/// It is asked what is to be acknowledged.
+pub(crate) fn ack_out_ask(side: Side) -> Ask
+    ensures { result ≡ ack_out_ask side }
+{
+    Ask::Reassembly(side, ReassemblyCall::AckOut)
+}
+
+impl Modes {
+    /// The mode, and how the path stands among the others.
+    fn tell(&mut self, reply: &Reply)
+        ensures { self.new ≡ modes_told reply.now self.old }
+    {
+        if let Reply::Control(
+            ControlReply::Standing {
+                mode,
+                standby,
+                sole,
+                ..
+            },
+        ) = *reply
+        {
+            self.mode = mode;
+            self.standby = standby;
+            self.sole = sole;
+        }
+    }
+}
+
+impl PathEnd {
+    /// The edge of the window that a segment could tell, in steps of 32 octets.
+    fn tellable_edge(&self) -> u64
+        ensures value { result ≡ tellable_edge self.now }
+        ensures bound { result ≤ 2 ^ 62 + 2 ^ 21 }
+    {
+        self.receiving.next() + u64::from(window_told(false, self.receiving.window()))
+    }
+
+    /// The window grew by half the buffer, or by two segments.
+    fn has_grown(&self, profile: &Profile) -> bool
+        ensures { result ≡ has_grown profile.now self.now }
+    {
+        let growth = self
+            .tellable_edge()
+            .saturating_sub(self.receiving.told_edge());
+        profile.buffer().min(4 * u32::from(profile.mss())) as u64 <= 2 * growth
+    }
+
+    /// An acknowledgement is to tell the window.
+    pub fn is_update_due(&self, profile: &Profile) -> bool
+        ensures { result ≡ is_update_due profile.now self.now }
+    {
+        is_connected(self.tcp.state()) && self.has_grown(profile)
+    }
+
+    /// It was told what is to be acknowledged, so nothing is left to be asked.
+    pub fn hear_ack_out(&mut self, reply: &Reply)
+        requires { IsAckBounded reply.now }
+        ensures { self.new ≡ after_ack_out reply.now self.old }
+    {
+        if let Reply::Reassembly(ReassemblyReply::Ack { next, window }) = *reply {
+            self.receiving.tell_window(next, window as u32);
+        }
+        self.treated.set_asked(false);
+    }
+}
+
+impl Path {
+    /// It is asked how the side stands.
+    pub(crate) fn look_ask(&self, side: Side) -> Ask
+        ensures { result ≡ look_ask side self.now }
+    {
+        Ask::Control(
+            side,
+            ControlCall::Look {
+                path: self.number(),
+            },
+        )
+    }
+
+    /// The side told how it stands.
+    pub(crate) fn look(&mut self, side: Side, reply: &Reply)
+        ensures { self.new ≡ answered_look side reply.now self.old }
+    {
+        self.end_mut(side).modes.tell(reply);
+        self.done();
+    }
+
+    /// It was told what is to be acknowledged, and the first duty is done.
+    pub(crate) fn ack_out(&mut self, side: Side, reply: &Reply)
+        requires { IsAckBounded reply.now }
+        ensures { self.new ≡ answered_ack_out side reply.now (left self.old) self.old }
+    {
+        self.end_mut(side).hear_ack_out(reply);
+        self.done();
+    }
+
+    /// It was told what is to be acknowledged, and the break goes on.
+    pub(crate) fn ack_out_breaking(&mut self, side: Side, reply: &Reply, reason: u8)
+        requires { IsAckBounded reply.now }
+        ensures { self.new ≡ answered_ack_out side reply.now (resets side reason) self.old }
+    {
+        self.end_mut(side).hear_ack_out(reply);
+        self.sets_about(Agenda::resets(side, reason));
+    }
+}

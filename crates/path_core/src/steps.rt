@@ -1,0 +1,86 @@
+//! The steps of a path: what it asks, what it takes, and how a round begins.
+
+ghost use Rattle.std.specs.Prelude.{◌≡◌, ◌≢◌, ◌≤◌, ◌*◌, ◌^◌, [], false, IfOk, IsOk, OnOk, OnErr, OnSome};
+ghost use Rattle.path_core.specs.Octets.{octets};
+ghost use Rattle.path_core.specs.Replies.{TakesReply, asks_bytes_first};
+ghost use Rattle.path_core.specs.Steps.{settles_down, answers, asks_of, takes, next_round};
+
+use crate::agenda::Agenda;
+use crate::ask::{Ask, Reply};
+use crate::duty::Duty;
+use crate::path::Path;
+use std::alloc::AllocError;
+
+impl Path {
+    /// The first duty, where it comes to nothing.
+    fn passable(&self) -> Option<Duty>
+        ensures { result ≡ passable self.now }
+    {
+        let duty = self.agenda.first()?;
+        if self.stands(duty) { None } else { Some(duty) }
+    }
+
+    /// The duties that come to nothing are passed, up to the first that comes to something. Takes no memory.
+    fn settle(&mut self)
+        ensures { self.new ≡ settles_down self.old }
+    {
+        while let Some(duty) = self.passable() {
+            self.done();
+            self.pass(duty);
+        }
+    }
+
+    /// What it asks: nothing where its turn ended. Only an ask that carries bytes takes memory.
+    ///
+    /// # Errors
+    ///
+    /// Only where there is no memory for those bytes.
+    pub fn ask(&self) -> Result<Option<Ask>, AllocError>
+        ensures ask { IfOk result (λ ask. ask ≡ asks_of octets self.now) }
+        ensures plain { asks_bytes_first self.now.agenda ≡ false → IsOk result }
+    {
+        match self.agenda.first() {
+            Some(duty) => Ok(Some(self.ask_for(duty)?)),
+            None => Ok(None),
+        }
+    }
+
+    /// The reply answers the first duty.
+    fn answer_first(&mut self, reply: &Reply) -> Result<(), AllocError>
+        requires { TakesReply (asks_of octets self.old) reply.now }
+        ensures ok { OnOk result (self.new ≡ answers octets self.old.agenda reply.now self.old) }
+        ensures err { OnErr result (self.new ≡ self.old) }
+    {
+        match self.agenda.first() {
+            Some(duty) => self.answer(duty, reply),
+            None => Ok(()),
+        }
+    }
+
+    /// Takes the reply to what it asked last. The turn hasn't ended, and the reply is one that the ask can have.
+    ///
+    /// # Errors
+    ///
+    /// Only where there is no memory; the path is then as it was.
+    pub fn take(&mut self, reply: &Reply) -> Result<(), AllocError>
+        requires { TakesReply (asks_of octets self.old) reply.now }
+        ensures ok { OnOk result (self.new ≡ takes octets reply.now self.old) }
+        ensures err { OnErr result (self.new ≡ self.old) }
+    {
+        self.answer_first(reply)?;
+        self.settle();
+        Ok(())
+    }
+
+    /// Begins the next round: 100 ticks more. The turn has ended, and fewer than 2^57 rounds were begun so. Takes no
+    /// memory.
+    pub fn next_round(&mut self)
+        requires ended { self.old.agenda ≡ [] }
+        requires rounds { self.old.until ≤ 100 * 2 ^ 57 }
+        ensures { self.new ≡ next_round self.old }
+    {
+        self.clock.next_round();
+        self.sets_about(Agenda::start_of_turn());
+        self.settle();
+    }
+}

@@ -1,0 +1,122 @@
+//! What the last copy said, as far as it is still to be treated.
+
+ghost use Rattle.std.specs.Prelude.{◌≡◌, true, false, List};
+ghost use Rattle.path_core.specs.Words.{item_at};
+
+use crate::heard::Heard;
+use arrayvec::ArrayVec;
+use std::marker::Model;
+use subflow_tcp::Outgoing;
+
+/// The things that a copy says. There are at most ten in forty octets of options.
+pub(crate) type Items = ArrayVec<Heard, 10>;
+
+/// What the last copy said, as far as it is still to be treated. Its payload and its mappings wait beside what they are
+/// to be put to.
+#[derive(Debug, Drop)]
+pub(crate) struct Treated {
+    /// What its options say, in their order.
+    items: Items,
+    /// The end became established by it.
+    opened: bool,
+    /// Its keys were told already.
+    keys_told: bool,
+    /// It has an option of Multipath TCP.
+    has_option: bool,
+    /// The ends of the stream that its DATA_FINs told, in their order.
+    fins: ArrayVec<u64, 2>,
+    /// Bytes or an end were told since the book was asked last what is to be acknowledged.
+    asked: bool,
+    /// The reset that answers it at a dead end.
+    answer: Option<Outgoing>,
+}
+
+impl Model for Treated {
+    ghost use Rattle.path_core.specs.Ends.{Treated};
+
+    ghost Value = { Treated };
+
+    ghost view = { λ t. record {
+      items = t.items.items;
+      opened = t.opened;
+      keys_told = t.keys_told;
+      has_option = t.has_option;
+      fins = t.fins.items;
+      asked = t.asked;
+      answer = t.answer;
+    } };
+}
+
+impl Treated {
+    ghost use Rattle.path_core.specs.Ends.{nothing_treated};
+
+    /// No copy is treated.
+    pub fn nothing() -> Self
+        ensures { result ≡ nothing_treated }
+    {
+        Treated {
+            items: ArrayVec::new(),
+            opened: false,
+            keys_told: false,
+            has_option: false,
+            fins: ArrayVec::new(),
+            asked: false,
+            answer: None,
+        }
+    }
+
+    /// What the copy said, with the answer to it, is to be treated.
+    pub fn of(items: Items, opened: bool, has_option: bool, answer: Outgoing) -> Self
+        ensures { result ≡ record nothing_treated { items = items.items; opened = opened; has_option = has_option; answer = Some answer } }
+    {
+        Treated {
+            items,
+            opened,
+            has_option,
+            answer: Some(answer),
+            ..Treated::nothing()
+        }
+    }
+
+    /// The thing of this number that it said, the first being 0.
+    pub fn item(&self, index: u64) -> Option<Heard>
+        ensures { result ≡ item_at index self.now.items }
+    {
+        self.items.as_slice().get(index as usize).copied()
+    }
+
+    /// Its keys are told.
+    pub fn keys_were_told(&mut self)
+        ensures { self.new ≡ record self.old { keys_told = true } }
+    {
+        self.keys_told = true;
+    }
+
+    /// Whether bytes or an end were told since the book was asked last what is to be acknowledged.
+    pub fn is_asked(&self) -> bool
+        ensures { result ≡ self.now.asked }
+    {
+        self.asked
+    }
+
+    /// So it is, or not.
+    pub fn set_asked(&mut self, asked: bool)
+        ensures { self.new ≡ record self.old { asked = asked } }
+    {
+        self.asked = asked;
+    }
+
+    /// Whether the end became established by the copy.
+    pub fn is_opened(&self) -> bool
+        ensures { result ≡ self.now.opened }
+    {
+        self.opened
+    }
+
+    /// The reset that answers the copy at a dead end.
+    pub fn answer(&self) -> Option<Outgoing>
+        ensures { result ≡ self.now.answer }
+    {
+        self.answer
+    }
+}

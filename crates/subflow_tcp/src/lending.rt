@@ -1,0 +1,52 @@
+//! What an end lends and tells of what it is to send.
+ghost use Rattle.std.specs.Prelude.{◌≡◌, find, slice_get};
+ghost use Rattle.std.specs.Option.{option_map};
+ghost use Rattle.subflow_send.specs.Records.{record_of};
+ghost use Rattle.subflow_send.specs.Rules.{is_unsent};
+
+use crate::end::Subflow;
+use subflow_send::RecordRef;
+
+impl Subflow {
+    /// The first record that is to be sent, lent.
+    pub fn first_unsent(&self) -> Option<RecordRef<'_>>
+        ensures { option_map record_of result ≡ find is_unsent self.now.send.records }
+    {
+        self.send.due()
+    }
+
+    /// The first record that isn't acknowledged, lent.
+    pub fn first_record(&self) -> Option<RecordRef<'_>>
+        ensures { option_map record_of result ≡ slice_get self.now.send.records 0 }
+    {
+        self.send.retransmit_first()
+    }
+
+    /// Whether an acknowledgement is owed.
+    pub fn owes_ack(&self) -> bool
+        ensures { result ≡ self.now.due.ack }
+    {
+        self.due.ack
+    }
+
+    /// Whether the SYN/ACK is owed.
+    pub fn owes_syn_ack(&self) -> bool
+        ensures { result ≡ self.now.due.syn_ack }
+    {
+        self.due.syn_ack
+    }
+
+    /// Whether the first record is to be sent again.
+    pub fn owes_first(&self) -> bool
+        ensures { result ≡ self.now.due.first }
+    {
+        self.due.first
+    }
+
+    /// The window that the last copy told, in octets.
+    pub fn told_window(&self) -> u32
+        ensures { result ≡ self.now.congestion.told.window }
+    {
+        self.congestion.told.window
+    }
+}
