@@ -14,6 +14,8 @@ use Rattle.control_book.specs.declared.call.ControlReply.{ControlReply}
 use Rattle.control_book.specs.declared.call.ControlReply.TheVariants as control_replies
 use Rattle.send_book.specs.State.{Tile}
 use Rattle.send_book.specs.Steps.{CanAsk}
+use Rattle.reassembly_book.specs.Steps as arriving
+use Rattle.control_book.specs.Calls.{can_ask}
 use Rattle.actor_desk.specs.Desk.{SixBooks, reply_of}
 use Rattle.actor_desk.specs.declared.ask.Ask.{Ask}
 use Rattle.actor_desk.specs.declared.ask.Ask.TheVariants as asks
@@ -104,10 +106,12 @@ pub record AreTiled (books : SixBooks) : Type 0 where
   pub a : Tile books.send_a
   pub b : Tile books.send_b
 
--- a call of a send book can be asked
+-- a call meets the conditions of its book
 abbrev pub CanBeAsked : Ask → Type 0
 CanBeAsked (asks.Send s call) = CanAsk call
-CanBeAsked _ = Unit {0}
+CanBeAsked (asks.Reassembly s call) = arriving.CanAsk call
+CanBeAsked (asks.Control s call) = can_ask call
+CanBeAsked (asks.Local step) = Unit {0}
 
 abbrev pub BooksAnswerInKind : Type 0
 BooksAnswerInKind = (books : SixBooks) (x : Ask) → AreTiled books → CanBeAsked x → IsOfKind x (reply_of books x)

@@ -5,7 +5,14 @@
 #![tactic(auto)]
 
 mod ask;
+mod books;
+mod copies;
+mod desk;
 mod laws;
+mod notes;
 
 pub use ask::{Ask, LocalStep, Note, Reply};
-pub use laws::books_answer_in_kind;
+pub use books::Books;
+pub use desk::Desk;
+pub use laws::{books_answer_in_kind, books_answer_within_bounds};
+pub use notes::Notes;

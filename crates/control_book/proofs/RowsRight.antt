@@ -36,7 +36,7 @@ right_set paths place state all here path =
       | inr past ↦ subst (λ (xs : List PathState). IsRight (state_of xs path).row path) (sym (set_past paths place state past)) (all path)
     ]
 
-right_once : (c : Control) (asked : ControlCall) → can_ask asked → RowsAreRight c.paths → RowsAreRight (after c asked).paths
+pub right_once : (c : Control) (asked : ControlCall) → can_ask asked → RowsAreRight c.paths → RowsAreRight (after c asked).paths
 right_once c (call.Look path) can r = told (λ d. RowsAreRight d.paths) (notice_on c path) path c (λ id. r) r
 right_once c (call.PeerKey key) can r = r
 right_once c (call.Keys own peer) can r = either (λ d. RowsAreRight d.paths) _ _ c r r
