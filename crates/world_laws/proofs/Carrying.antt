@@ -10,8 +10,9 @@ use Rattle.path_core.proofs.Showing.{asks_the_same, begins_the_same, takes_the_s
 use Rattle.world_laws.specs.Actors.{Actor, ActorCrew, member_asks, member_takes, is_over}
 use Rattle.world_laws.specs.Fresh.{IsFreshCrew, IsFreshMember, IsFreshTurn, AreFresh, shown_member, shown_crew, shown_world}
 use Rattle.world_laws.specs.Laws.{OctetsDoAsValues}
-use Rattle.world_laws.specs.Members.Member.{App, Path}
-use Rattle.world_laws.specs.StampedBooks.{StampedBooks, answer_to}
+use Rattle.world_laws.specs.declared.member.Member.TheVariants.{App, Path}
+use Rattle.actor_desk.specs.Books.{StampedBooks}
+use Rattle.world_laws.specs.StampedBooks.{answer_to}
 use Rattle.world_laws.specs.Worlds.{WorldState, Turn, crew_after, asked, stepped, world_step, is_going, all_over, greatest, begins, end_round, after_turn, world_run}
 
 member_asks_same : (m : Actor Carried) → member_asks octets (shown_member m) ≡ member_asks values m

@@ -12,18 +12,18 @@ use Rattle.actor_desk.specs.declared.ask.Ask.TheVariants as asks
 use Rattle.actor_desk.specs.declared.ask.Note.{Note}
 use Rattle.actor_desk.specs.Journals.{is_local, AreChained}
 use Rattle.world_laws.specs.Fine.{NotesRise, last_noted, AreStamped, BooksAreStamped, IsChainedAbove}
-use Rattle.world_laws.specs.StampedBooks.{StampedBooks, stamp_for, having_entered}
+use Rattle.actor_desk.specs.Books.{StampedBooks, stamp_of, after_entry}
 use Rattle.world_laws.proofs.Occurring.{In}
 
 -- ---- the stamp of a step
 
-pub stamp_rises : (books : StampedBooks) (pass : Pass) (ask : Ask) → pass.stamp < stamp_for books pass ask
+pub stamp_rises : (books : StampedBooks) (pass : Pass) (ask : Ask) → pass.stamp < stamp_of ask books pass
 stamp_rises books pass (asks.Send s call) = omega arith
 stamp_rises books pass (asks.Reassembly s call) = omega arith
 stamp_rises books pass (asks.Control s call) = omega arith
 stamp_rises books pass (asks.Local step) = omega arith
 
-pub local_stamp : (books : StampedBooks) (pass : Pass) (ask : Ask) → is_local ask ≡ true → stamp_for books pass ask ≡ pass.stamp + 1
+pub local_stamp : (books : StampedBooks) (pass : Pass) (ask : Ask) → is_local ask ≡ true → stamp_of ask books pass ≡ pass.stamp + 1
 local_stamp books pass (asks.Send s call) is = cc
 local_stamp books pass (asks.Reassembly s call) is = cc
 local_stamp books pass (asks.Control s call) is = cc
@@ -103,7 +103,7 @@ module _ {C R : Type 0} where
       let stamp : entry.stamp ≡ n.stamp = sym (same entry) ∙ ap (λ m. m.stamp) is in omega (arith, stamped.0, stamp)
   entries_above f same last (entry ∷ entries) n stamped (inr there) = entries_above f same entry.stamp entries n stamped.1 there
 
-pub stamped_more : (pass : Pass) (ask : Ask) (books : StampedBooks) → BooksAreStamped books → BooksAreStamped (having_entered pass ask books)
+pub stamped_more : (pass : Pass) (ask : Ask) (books : StampedBooks) → BooksAreStamped books → BooksAreStamped (after_entry ask pass books)
 stamped_more pass (asks.Send A call) books h = record {
   send_a = AreStamped-more 0 books.send_a.journal _ h.send_a refl;
   send_b = h.send_b;

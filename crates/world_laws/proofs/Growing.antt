@@ -128,14 +128,12 @@ module _ {acks acks_after : List AckCopy} {p q : Lane} (l : Longer acks acks_aft
 
   item_longer : (item : Heard) → ItemShows acks p item → ItemShows acks_after q item
   item_longer (says.DataAck next window) h = ack_longer next window h
-  item_longer (says.Mapping place position len checksum) h = mapping_longer place position len h
   item_longer (says.DataFin place) h = number_longer place h
   item_longer _ h = tt
 
   pub treated_longer : (t : Treated) → TreatedShows t acks p → TreatedShows t acks_after q
   treated_longer t h = record {
     items = Every-map item_longer h.items;
-    payload = IfSome-map t.payload (λ payload has. data_longer payload.position payload.octets has) h.payload;
     fins = Every-map number_longer h.fins;
     answer = h.answer;
   }
@@ -149,7 +147,7 @@ peer_sender c s state v known acked p q g h = subst (SenderShows c s state v kno
 
 peer_receiver : (recv : Receiving) (fin_at : Option ℕ) (live : List KeptMapping) (p q : Lane) → SenderGoes p q → ReceiverShows recv fin_at live p → ReceiverShows recv fin_at live q
 peer_receiver recv fin_at live p q g h = subst (ReceiverShows recv fin_at live) (sym g.is) (record {
-  edge = ⊎_elim (λ at. inl (record { edge_is = at.edge_is; under = at.under })) (λ past. inr past) h.edge;
+  edge = ⊎_elim (λ at. inl (record { edge_is = at.edge_is; under = at.under; held = at.held })) (λ past. inr past) h.edge;
   fin = IfSome-map fin_at (λ pos has. Has-more g.fins has) h.fin;
   mapped = h.mapped;
 })
@@ -184,4 +182,5 @@ peer_shows c s e out out_after back back_after g r h =
       window = subst (WindowShows e.receiving.next e.receiving.window) (sym acks) h.window;
       told = ack_longer l 0 e.tcp.congestion.told.window h.told;
       treated = treated_longer l e.treated h.treated;
+      held = Every-map (λ kept has. mapping_longer l kept.place kept.pos kept.mapping.length has) h.held;
     }

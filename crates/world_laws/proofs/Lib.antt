@@ -8,3 +8,5 @@ pub mod Carrying
 pub mod Growing
 pub mod Saying
 pub mod Records
+pub mod Doing
+pub mod Taking

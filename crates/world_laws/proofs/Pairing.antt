@@ -18,7 +18,8 @@ use Rattle.world_laws.specs.Actors.{Actor, ActorCrew, member_asks}
 use Rattle.world_laws.specs.Laws.{StaysFine}
 use Rattle.world_laws.specs.Openings.{Start, new_crew, opened_world}
 use Rattle.world_laws.specs.Fine.{NotesRise, last_noted, BooksAreStamped, IsChainedAbove, IsFineCrew, lists_of, IsFine}
-use Rattle.world_laws.specs.StampedBooks.{StampedBooks, stamp_for, having_entered, journals_of}
+use Rattle.actor_desk.specs.Books.{StampedBooks, stamp_of, after_entry}
+use Rattle.world_laws.specs.StampedBooks.{journals_of}
 use Rattle.world_laws.specs.Worlds.{WorldState, Turn, note_of, crew_after, asked, stepped, world_step, all_over, greatest, begins, end_round, after_turn, world_run}
 use Rattle.world_laws.proofs.Occurring.{In, Occurs, Pairs, Grown, paired_from, pairs_from, pairs_grow, pairs_local, grown_here, grown_later}
 use Rattle.world_laws.proofs.Chaining.{stamp_rises, local_stamp, last_noted-more, NotesRise-more, stamps_below, stamps_above, chained_more, chained_anew, entries_above, stamped_more}
@@ -32,7 +33,7 @@ grown_journal f journal entry n is = map-append f journal (entry ∷ []) ∙ ap 
 
 -- it is at a book, or at none
 pub grown_journals : (pass : Pass) (ask : Ask) (books : StampedBooks) → is_local ask ≡ false
-    → Grown (note_of books pass ask) (journals_of books) (journals_of (having_entered pass ask books))
+    → Grown (note_of books pass ask) (journals_of books) (journals_of (after_entry ask pass books))
 grown_journals pass (asks.Send A call) books at = grown_here _ _ _ _ (grown_journal (send_note A) books.send_a.journal _ _ refl)
 grown_journals pass (asks.Send B call) books at = grown_later _ _ _ _ (grown_here _ _ _ _ (grown_journal (send_note B) books.send_b.journal _ _ refl))
 grown_journals pass (asks.Reassembly A call) books at =
@@ -47,7 +48,7 @@ grown_journals pass (asks.Control B call) books at =
     (grown_here _ _ _ _ (grown_journal (control_note B) books.control_b.journal _ _ refl))))))
 grown_journals pass (asks.Local step) books at = cc
 
-same_journals : (pass : Pass) (ask : Ask) (books : StampedBooks) → is_local ask ≡ true → having_entered pass ask books ≡ books
+same_journals : (pass : Pass) (ask : Ask) (books : StampedBooks) → is_local ask ≡ true → after_entry ask pass books ≡ books
 same_journals pass (asks.Send s call) books at = cc
 same_journals pass (asks.Reassembly s call) books at = cc
 same_journals pass (asks.Control s call) books at = cc

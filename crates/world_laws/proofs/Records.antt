@@ -4,6 +4,8 @@ use Rattle.std.proofs.lemmas.Option.{same_Some}
 use Rattle.std.specs.List.{slice_get, find}
 use Rattle.std.specs.Option.{IfSome}
 use Rattle.outside_kit.specs.declared.side.Side.{Side}
+use Rattle.subflow_send.specs.declared.record.RecordKind.{RecordKind}
+use Rattle.subflow_send.specs.declared.record.RecordKind.TheVariants.{Syn, Data, Fin}
 use Rattle.subflow_send.specs.declared.record.Sending.{Sending}
 use Rattle.subflow_send.specs.Records.{Record, SendState, end_of}
 use Rattle.subflow_send.specs.Rules.{is_unsent, uncovered, first_unsent_sent, first_sent, unsent_again, expired_records, fin_sent, after_acknowledge, after_sent, after_resent, after_expired, after_fin_sent, is_fin}
@@ -19,7 +21,7 @@ use Rattle.path_core.specs.Ends.{PathEnd}
 use Rattle.path_core.specs.Sends.{having_sent}
 use Rattle.path_core.specs.State.{Profile}
 use Rattle.path_segments.specs.Spelled.{PlainSegment}
-use Rattle.world_laws.proofs.Showing.{RecordShows, SenderShows, EndShows}
+use Rattle.world_laws.proofs.Showing.{KindShows, RecordShows, SenderShows, EndShows}
 
 module _ {X : Type 0} {P : X → Type 0} where
   pub every_cons : (x : X) (xs : List X) → P x → Every P xs → Every P (x ∷ xs)
@@ -91,8 +93,13 @@ uncovered_kept {P} pos (r ∷ rs) h = by (nat_le (end_of r) pos) (uncovered_kept
 -- ---- the sending half
 
 module _ (c : Profile) (s : Side) (known : Option ℕ) (acked : Bool) (p : Lane) where
+  same_kind : (kind : RecordKind) (r : Record) (x : Sending) → KindShows c s p.datas p.fins kind r → KindShows c s p.datas p.fins kind (record r { sending = x })
+  same_kind Syn r x h = h
+  same_kind Data r x h = record { octets = h.octets; mapping = h.mapping }
+  same_kind Fin r x h = h
+
   same_record : (r : Record) (x : Sending) → RecordShows c s p.datas p.fins r → RecordShows c s p.datas p.fins (record r { sending = x })
-  same_record r x h = h
+  same_record r x h = same_kind r.kind r x h
 
   abbrev Shows : EndPhase → SendState → Type 0
   Shows state v = SenderShows c s state v known acked p
@@ -135,23 +142,23 @@ module _ (c : Profile) (s : Side) (known : Option ℕ) (acked : Bool) (p : Lane)
 -- an end that has sent a segment
 pub sent_end : (c : Profile) (s : Side) (out back : Lane) (occasion : Occasion) (now : ℕ) (sg : PlainSegment) (e : PathEnd) → EndShows c s e out back
     → EndShows c s (having_sent occasion now sg e) out back
-sent_end c s out back to_send.Reset now sg e h = record { sender = h.sender; receiver = h.receiver; window = h.window; told = h.told; treated = h.treated }
-sent_end c s out back to_send.Answer now sg e h = record { sender = h.sender; receiver = h.receiver; window = h.window; told = h.told; treated = h.treated }
+sent_end c s out back to_send.Reset now sg e h = record { sender = h.sender; receiver = h.receiver; window = h.window; told = h.told; treated = h.treated; held = h.held }
+sent_end c s out back to_send.Answer now sg e h = record { sender = h.sender; receiver = h.receiver; window = h.window; told = h.told; treated = h.treated; held = h.held }
 sent_end c s out back to_send.SynAck now sg e h = record {
   sender = syn_resent_shows c s _ _ out now e.tcp.state e.tcp.send h.sender;
-  receiver = h.receiver; window = h.window; told = h.told; treated = h.treated;
+  receiver = h.receiver; window = h.window; told = h.told; treated = h.treated; held = h.held;
 }
-sent_end c s out back to_send.Ack now sg e h = record { sender = h.sender; receiver = h.receiver; window = h.window; told = h.told; treated = h.treated }
-sent_end c s out back to_send.Probe now sg e h = record { sender = h.sender; receiver = h.receiver; window = h.window; told = h.told; treated = h.treated }
+sent_end c s out back to_send.Ack now sg e h = record { sender = h.sender; receiver = h.receiver; window = h.window; told = h.told; treated = h.treated; held = h.held }
+sent_end c s out back to_send.Probe now sg e h = record { sender = h.sender; receiver = h.receiver; window = h.window; told = h.told; treated = h.treated; held = h.held }
 sent_end c s out back to_send.First now sg e h = record {
   sender = resent_shows c s _ _ out now e.tcp.state e.tcp.send h.sender;
-  receiver = h.receiver; window = h.window; told = h.told; treated = h.treated;
+  receiver = h.receiver; window = h.window; told = h.told; treated = h.treated; held = h.held;
 }
 sent_end c s out back to_send.Unsent now sg e h = record {
   sender = sent_shows c s _ _ out now e.tcp.state e.tcp.send h.sender;
-  receiver = h.receiver; window = h.window; told = h.told; treated = h.treated;
+  receiver = h.receiver; window = h.window; told = h.told; treated = h.treated; held = h.held;
 }
 sent_end c s out back to_send.Fin now sg e h = record {
   sender = fin_sent_shows c s _ _ out now e.tcp.state e.tcp.send h.sender;
-  receiver = h.receiver; window = h.window; told = h.told; treated = h.treated;
+  receiver = h.receiver; window = h.window; told = h.told; treated = h.treated; held = h.held;
 }

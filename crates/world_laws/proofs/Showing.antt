@@ -26,7 +26,7 @@ use Rattle.stream_lanes.specs.Lane.{Mapping, DataCopy, AckCopy, Lane}
 use Rattle.stream_lanes.specs.Words.{Every, Has}
 use Rattle.path_core.specs.declared.heard.Heard.{Heard}
 use Rattle.path_core.specs.declared.heard.Heard.TheVariants as says
-use Rattle.path_core.specs.Ends.{PathEnd, Treated, Payload}
+use Rattle.path_core.specs.Ends.{PathEnd, Treated}
 use Rattle.path_core.specs.Segments.{place_numbered}
 use Rattle.path_core.specs.State.{PathState, Profile}
 use Rattle.path_core.specs.Shown.{ChangesNothing}
@@ -113,9 +113,10 @@ pub record Under (places kept : List (Option ℕ)) : Type 0 where
   pub each : (i byte : ℕ) → slice_get places i ≡ Some (Some byte) → slice_get kept i ≡ Some (Some byte)
 
 -- the edge is that of the lane, or behind the FIN, where nothing is kept
-pub record IsAtEdge (edge : ℕ) (places : List (Option ℕ)) (p : Lane) : Type 0 where
-  pub edge_is : edge ≡ suc p.edge
-  pub under : Under places p.kept
+pub record IsAtEdge (recv : Receiving) (p : Lane) : Type 0 where
+  pub edge_is : recv.edge ≡ suc p.edge
+  pub under : Under recv.places p.kept
+  pub held : IfSome recv.incoming (λ places. Under places p.kept)
 
 pub record IsPastFin (passed : Bool) (places : List (Option ℕ)) : Type 0 where
   pub passed_is : passed ≡ true
@@ -124,6 +125,10 @@ pub record IsPastFin (passed : Bool) (places : List (Option ℕ)) : Type 0 where
 abbrev pub KeptShows : List Mapping → KeptMapping → Type 0
 KeptShows maps kept = Has (IsMappingOf kept.place kept.pos kept.mapping.length) maps
 
+-- a mapping that was heard and isn't learned yet
+abbrev pub HeldShows : List DataCopy → KeptMapping → Type 0
+HeldShows datas kept = HasMapping datas kept.place kept.pos kept.mapping.length
+
 -- the windows that segments tell are those of acknowledgements of the lane, with and without the place
 pub record WindowShows (next window : ℕ) (acks : List AckCopy) : Type 0 where
   pub ack : HasAck acks next (window_told false window)
@@ -131,7 +136,7 @@ pub record WindowShows (next window : ℕ) (acks : List AckCopy) : Type 0 where
   pub syn : HasAck acks 0 (window_told true window)
 
 pub record ReceiverShows (recv : Receiving) (fin_at : Option ℕ) (live : List KeptMapping) (p : Lane) : Type 0 where
-  pub edge : IsAtEdge recv.edge recv.places p ⊎ IsPastFin (is_behind fin_at recv.edge) recv.places
+  pub edge : IsAtEdge recv p ⊎ IsPastFin (is_behind fin_at recv.edge) recv.places
   pub fin : IfSome fin_at (HasFin p.fins)
   pub mapped : Every (KeptShows p.maps) live
 
@@ -140,13 +145,11 @@ pub record ReceiverShows (recv : Receiving) (fin_at : Option ℕ) (live : List K
 -- a thing that a copy said: acknowledgements were sent on the one lane, the rest on the other
 abbrev pub ItemShows : List AckCopy → Lane → Heard → Type 0
 ItemShows acks p (says.DataAck next window) = HasAck acks next window
-ItemShows acks p (says.Mapping place position len checksum) = HasMapping p.datas place position len
 ItemShows acks p (says.DataFin place) = HasNumber p.data_fins place
 ItemShows acks p _ = Unit {0}
 
 pub record TreatedShows (t : Treated) (acks : List AckCopy) (p : Lane) : Type 0 where
   pub items : Every (ItemShows acks p) t.items
-  pub payload : IfSome t.payload (λ payload. HasData p.datas payload.position payload.octets)
   pub fins : Every (HasNumber p.data_fins) t.fins
   pub answer : IfSome t.answer (λ o. o.fin ≡ false)
 
@@ -158,6 +161,7 @@ pub record EndShows (c : Profile) (s : Side) (e : PathEnd) (out back : Lane) : T
   pub window : WindowShows e.receiving.next e.receiving.window back.acks
   pub told : HasAck out.acks 0 e.tcp.congestion.told.window
   pub treated : TreatedShows e.treated out.acks back
+  pub held : Every (HeldShows back.datas) e.receiving.mappings.held
 
 -- ---- copies
 

@@ -8,8 +8,9 @@ use Rattle.stream_apps.specs.AppSteps.{app_asks_of, app_takes, app_next_round}
 use Rattle.path_core.specs.Codec.{Codec}
 use Rattle.path_core.specs.State.{PathState}
 use Rattle.path_core.specs.Steps.{asks_of, takes, next_round}
-use Rattle.world_laws.specs.Members.{Member, Crew}
-use Rattle.world_laws.specs.Members.Member.{App, Path}
+use Rattle.world_laws.specs.declared.member.Member.{Member}
+use Rattle.world_laws.specs.declared.member.Crew.{Crew}
+use Rattle.world_laws.specs.declared.member.Member.TheVariants.{App, Path}
 
 abbrev pub Actor : Type 0 → Type 0
 Actor C = Member AppState (PathState C)

@@ -6,7 +6,8 @@ use Rattle.stream_lanes.specs.Words.{Every, From}
 use Rattle.actor_desk.specs.declared.ask.Note.{Note}
 use Rattle.actor_desk.specs.Journals.{AreChained, ArePaired}
 use Rattle.world_laws.specs.Actors.{ActorCrew}
-use Rattle.world_laws.specs.StampedBooks.{StampedBooks, journals_of}
+use Rattle.actor_desk.specs.Books.{StampedBooks}
+use Rattle.world_laws.specs.StampedBooks.{journals_of}
 use Rattle.world_laws.specs.Worlds.{WorldState}
 
 -- each stamp is greater than the one before it, from this one on

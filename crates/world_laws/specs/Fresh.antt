@@ -3,7 +3,7 @@ use Rattle.std.specs.Prelude.{ℕ, Option, Some, None, List, [], ◌∷◌, slic
 use Rattle.path_core.specs.State.{PathState}
 use Rattle.path_core.specs.Shown.{shown_path, NextIsFresh, ChangesNothing}
 use Rattle.path_core.specs.Values.{Carried, values}
-use Rattle.world_laws.specs.Members.Member.{App, Path}
+use Rattle.world_laws.specs.declared.member.Member.TheVariants.{App, Path}
 use Rattle.world_laws.specs.Actors.{Actor, ActorCrew}
 use Rattle.world_laws.specs.Worlds.{WorldState, Turn, after_turn}
 

@@ -1,4 +1,3 @@
-pub mod Members
 pub mod Actors
 pub mod StampedBooks
 pub mod Worlds

@@ -2,12 +2,13 @@
 use Rattle.std.specs.Prelude.{ℕ, None, List, [], ◌∷◌}
 use Rattle.outside_kit.specs.declared.side.Side.TheVariants.{A, B}
 use Rattle.link_script.specs.declared.script.ScriptLine.{ScriptLine}
+use Rattle.actor_desk.specs.Books.{unasked}
+use Rattle.actor_desk.specs.Desk.{opened_books}
 use Rattle.stream_apps.specs.Starts.{first_app_turn}
 use Rattle.path_core.specs.Starts.{Drawn, first_turn}
 use Rattle.path_core.specs.State.{Profile}
-use Rattle.world_laws.specs.Members.Member.{App, Path}
+use Rattle.world_laws.specs.declared.member.Member.TheVariants.{App, Path}
 use Rattle.world_laws.specs.Actors.{Actor, ActorCrew}
-use Rattle.world_laws.specs.StampedBooks.{opened_stamped}
 use Rattle.world_laws.specs.Worlds.{WorldState}
 
 -- what a connection begins with
@@ -38,5 +39,5 @@ module _ {C : Type 0} where
     crew = new_crew 0 (App (first_app_turn A start.profile.buffer start.file_a))
         ∷ new_crew 1 (App (first_app_turn B start.profile.buffer start.file_b))
         ∷ new_crew 2 (Path (first_turn start.profile start.drawn start.delay start.lines)) ∷ [];
-    books = opened_stamped start.profile.buffer start.drawn.key_a start.drawn.key_b;
+    books = unasked (opened_books start.profile.buffer start.drawn.key_a start.drawn.key_b);
   }

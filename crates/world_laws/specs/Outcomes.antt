@@ -14,11 +14,11 @@ use Rattle.actor_desk.specs.Desk.{send_of, reassembly_of}
 use Rattle.actor_desk.specs.Words.{pick}
 use Rattle.stream_apps.specs.AppSteps.{bytes_in}
 use Rattle.path_core.specs.State.{PathState}
-use Rattle.world_laws.specs.Members.Member.{App, Path}
+use Rattle.world_laws.specs.declared.member.Member.TheVariants.{App, Path}
 use Rattle.world_laws.specs.declared.outcome.Outcome.{Outcome}
 use Rattle.world_laws.specs.declared.outcome.Outcome.TheVariants.{Going, Delivered, Aborted, NoPath}
 use Rattle.world_laws.specs.Actors.{Actor, ActorCrew}
-use Rattle.world_laws.specs.StampedBooks.{six_of}
+use Rattle.actor_desk.specs.Books.{books_in}
 use Rattle.world_laws.specs.Worlds.{WorldState}
 
 -- ---- what an application was told
@@ -95,10 +95,10 @@ module _ {C : Type 0} where
   -- what the writer's side has and how much of it is acknowledged, and how far the reader of the other side is
   abbrev pub pipe_of : Side → Side → WorldState C → Pipe
   pipe_of writer reader w =
-      let send = send_of writer (six_of w.books) in record {
+      let send = send_of writer (books_in w.books) in record {
         written = send.written;
         closed = send.closed;
-        read = (reassembly_of reader (six_of w.books)).read;
+        read = (reassembly_of reader (books_in w.books)).read;
         acked = acked_len send.marks;
         told_end = was_told tells_end (notes_of reader w.crew);
       }

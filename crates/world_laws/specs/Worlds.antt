@@ -7,7 +7,8 @@ use Rattle.actor_desk.specs.declared.ask.Note.{Note}
 use Rattle.actor_desk.specs.declared.ask.Reply.{Reply}
 use Rattle.path_core.specs.Codec.{Codec}
 use Rattle.world_laws.specs.Actors.{ActorCrew, member_asks, member_takes, member_next, is_over}
-use Rattle.world_laws.specs.StampedBooks.{StampedBooks, answer_to, stamp_for, having_entered}
+use Rattle.actor_desk.specs.Books.{StampedBooks, stamp_of, after_entry}
+use Rattle.world_laws.specs.StampedBooks.{answer_to}
 
 -- the actor of the number n is the n-th of the crew, the first being 0
 pub record WorldState (C : Type 0) : Type 0 where
@@ -24,7 +25,7 @@ pub data Turn : Type 0 where
 -- the step as it is noted
 abbrev pub note_of : StampedBooks → Pass → Ask → Note
 note_of books pass ask = record {
-  stamp = stamp_for books pass ask;
+  stamp = stamp_of ask books pass;
   seen = pass.stamp;
   actor = pass.actor;
   ask = ask;
@@ -36,7 +37,7 @@ module _ {C : Type 0} where
   abbrev pub crew_after : Codec C → Ask → StampedBooks → ActorCrew C → ActorCrew C
   crew_after k ask books c = record c {
     member = member_takes k (answer_to books ask) c.member;
-    pass = record c.pass { stamp = stamp_for books c.pass ask };
+    pass = record c.pass { stamp = stamp_of ask books c.pass };
     list = c.list ++ note_of books c.pass ask ∷ [];
   }
 
@@ -44,7 +45,7 @@ module _ {C : Type 0} where
   abbrev pub asked : Codec C → ℕ → Option Ask → ActorCrew C → WorldState C → WorldState C
   asked k actor None c w = w
   asked k actor (Some ask) c w =
-      record { crew = slice_set w.crew actor (crew_after k ask w.books c); books = having_entered c.pass ask w.books }
+      record { crew = slice_set w.crew actor (crew_after k ask w.books c); books = after_entry ask c.pass w.books }
 
   abbrev pub stepped : Codec C → ℕ → Option (ActorCrew C) → WorldState C → WorldState C
   stepped k actor None w = w

@@ -5,7 +5,9 @@
 #![tactic(auto)]
 
 mod laws;
+mod member;
 mod outcome;
 
 pub use laws::{octets_do_as_values, serial_is_one, what_is_fine_stays_fine};
+pub use member::{Crew, Member};
 pub use outcome::Outcome;
