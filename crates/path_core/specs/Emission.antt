@@ -3,6 +3,7 @@ use Rattle.std.specs.Prelude.{ℕ, ◌-◌, Bool, not, ◌&&◌, ◌||◌, nat_l
 use Rattle.outside_kit.specs.declared.side.Side.{Side}
 use Rattle.path_segments.specs.Spelled.{PlainSegment}
 use Rattle.send_book.specs.declared.call.Span.{Span}
+use Rattle.seq_units.specs.declared.mapping.Mapping.{Mapping}
 use Rattle.send_book.specs.declared.call.SendCall.TheVariants as send_calls
 use Rattle.send_book.specs.declared.call.SendReply.TheVariants as send_replies
 use Rattle.subflow_send.specs.Records.{Record}
@@ -69,12 +70,16 @@ abbrev pub data_ask : {C : Type 0} → Codec C → Side → Option Record → Pa
 data_ask k s (Some r) p = sends k s (unsent_segment s p) p
 data_ask k s None p = grant_ask s p
 
--- the granted piece is to be sent, with one mapping for ever
-abbrev pub granted : Profile → Side → Span → List ℕ → PathEnd → PathEnd
-granted c s span piece e = record e {
-  tcp = record e.tcp { send = after_push piece (mapping_of c s span.from e.tcp.send.nxt piece) e.tcp.send };
+-- the piece is to be sent with this mapping
+abbrev pub with_piece : Span → List ℕ → Mapping → PathEnd → PathEnd
+with_piece span piece mapping e = record e {
+  tcp = record e.tcp { send = after_push piece mapping e.tcp.send };
   sending = after_granted span e.sending;
 }
+
+-- the granted piece is to be sent, with one mapping for ever
+abbrev pub granted : Profile → Side → Span → List ℕ → PathEnd → PathEnd
+granted c s span piece e = with_piece span piece (mapping_of c s span.from e.tcp.send.nxt piece) e
 
 -- what was granted
 pub record Grant : Type 0 where

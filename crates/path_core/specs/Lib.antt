@@ -25,3 +25,6 @@ pub mod FirstRound
 pub mod Turns
 pub mod Ranks
 pub mod Shown
+pub mod Said
+pub mod Lending
+pub mod Replies

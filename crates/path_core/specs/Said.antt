@@ -6,6 +6,7 @@ use Rattle.path_segments.specs.declared.segment.PathOption.{PathOption}
 use Rattle.path_segments.specs.declared.spelling.Spelling.{Spelling}
 use Rattle.path_segments.specs.Options.{PlainOption, plain_option}
 use Rattle.path_segments.specs.Spelled.{PlainSegment, CanSay}
+use Rattle.subflow_tcp.specs.declared.segments.Occasion.{Occasion}
 use Rattle.subflow_tcp.specs.Emitting.{reset_segment}
 use Rattle.path_core.specs.declared.said.Said.{Said}
 use Rattle.path_core.specs.declared.segment_kind.SegmentKind.{SegmentKind}
@@ -14,7 +15,9 @@ use Rattle.path_core.specs.Emission.{first_unsent}
 use Rattle.path_core.specs.Ends.{PathEnd}
 use Rattle.path_core.specs.Passing.{outgoing_or, first_record, answer_said, resend_said}
 use Rattle.path_core.specs.Segments.{spelled_by, segment_of, ack_said, fin_said, syn_ack_said, reset_said, record_or_ack}
-use Rattle.path_core.specs.State.{Profile}
+use Rattle.path_core.specs.Octets.{octets}
+use Rattle.path_core.specs.Sends.{having_sent, sent_on}
+use Rattle.path_core.specs.State.{PathState, Profile, end_at}
 
 -- an option that may be there, by its value
 abbrev pub options_by : Option (PathOption ℕ (Bor (List ℕ))) → List PlainOption
@@ -51,3 +54,9 @@ said_by to_say.Answer c s e = answer_said c s e
 said_by to_say.DeadAnswer c s e = segment_of c (outgoing_or e.treated.answer (reset_segment e.tcp)) [] [] e
 said_by to_say.Resend c s e = resend_said c s e
 said_by (to_say.Reset reason) c s e = reset_said c reason e
+
+-- the segment of a kind is sent on an occasion
+abbrev pub sent_kind : Occasion → SegmentKind → Side → PathState (List ℕ) → PathState (List ℕ)
+sent_kind occasion kind s p =
+    let segment = said_by kind p.profile s (end_at s p) in
+    sent_on octets s segment (having_sent occasion p.clock segment (end_at s p)) p.agenda p

@@ -6,8 +6,8 @@ ghost use Rattle.path_core.specs.Octets.{octets};
 ghost use Rattle.path_core.specs.Duties.{stands, ask_for, passed, answered};
 ghost use Rattle.path_core.specs.Replies.{Fits, asks_bytes};
 
+use actor_desk::{Ask, LocalStep, Reply};
 use crate::agenda::Agenda;
-use crate::ask::{Ask, LocalStep, Reply};
 use crate::duty::Duty;
 use crate::path::Path;
 use crate::segment_kind::SegmentKind;

@@ -1,11 +1,17 @@
 //! What an end sends by itself: its SYN, records and grants as long as there is room, DATA_FIN, FIN; and its timer.
 
-ghost use Rattle.std.specs.Prelude.{◌≡◌, ◌≤◌, ◌<◌, ◌^◌, OnOk, OnErr, option_map, length};
+ghost use Rattle.std.specs.Prelude.{◌≡◌, ◌≤◌, ◌<◌, ◌+◌, ◌-◌, ◌^◌, false, OnOk, OnErr, IsNone, IsTrue};
 ghost use Rattle.subflow_send.specs.Records.{record_of};
+ghost use Rattle.subflow_tcp.specs.declared.segments.Occasion.TheVariants.{Fin};
+ghost use Rattle.subflow_tcp.specs.States.{may_finish};
+ghost use Rattle.subflow_tcp.specs.Closing.{after_finishing};
+ghost use Rattle.subflow_tcp.specs.Emitting.{after_sending};
 ghost use Rattle.path_core.specs.Octets.{octets};
-ghost use Rattle.path_core.specs.Emission.{is_syn_due, fits, may_ask, data_stands, grant_ask, granted, refused, answered_grant, answered_data, answered_syn, answered_end, answered_fin, after_timer};
+ghost use Rattle.path_core.specs.Emission.{first_unsent, is_syn_due, fits, may_ask, data_stands, grant_ask, data_ask, grant_in, with_piece, granted, refused, answered_grant, answered_data, answered_syn, answered_end, answered_fin, after_timer};
+ghost use Rattle.path_core.specs.Replies.{IsSendable, IsGrantSendable};
+ghost use Rattle.path_core.specs.State.{end_at, goes_on, left};
 
-use crate::ask::{Ask, Reply};
+use actor_desk::{Ask, Reply};
 use crate::end::PathEnd;
 use crate::path::Path;
 use crate::profile::Profile;

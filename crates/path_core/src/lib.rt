@@ -7,12 +7,28 @@
 //! values the machine that theorems speak of.
 #![tactic(auto)]
 
+mod agenda;
+mod clock;
+mod closing;
 mod duty;
+mod emission;
+mod end;
 mod event;
 mod heard;
 mod laws;
 mod lines;
 mod modes;
+mod path;
+mod profile;
+mod receiving;
+mod said;
+mod segment_kind;
+mod segments;
+mod sending;
+mod sends;
+mod standing;
+mod templates;
+mod treated;
 
 pub use actor_desk::{Ask, LocalStep, Note, Reply};
 pub use duty::Duty;
@@ -20,3 +36,4 @@ pub use heard::Heard;
 pub use laws::{a_first_round, every_turn_ends, octets_do_as_values};
 pub use lines::LineLeft;
 pub use modes::Modes;
+pub use path::Path;

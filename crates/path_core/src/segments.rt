@@ -1,9 +1,14 @@
 //! The segments that an end sends: their options, their windows, and the mapping of a piece (RFC 8684, section 3).
 
-ghost use Rattle.std.specs.Prelude.{◌≡◌, ◌≤◌, ◌^◌, ◌<◌, length, option_map, IfSome};
+ghost use Rattle.std.specs.Prelude.{◌≡◌, ◌≤◌, false, length, option_map};
+ghost use Rattle.dss_checksum.specs.Checksum.{dss_checksum};
+ghost use Rattle.outside_kit.specs.declared.side.Side.TheVariants.{A};
+ghost use Rattle.path_segments.specs.declared.segment.PathOption.TheVariants.{Capable};
 ghost use Rattle.subflow_send.specs.Records.{record_of};
-ghost use Rattle.path_core.specs.Segments.{bare_mapping, mapping_of, place_numbered, checksum_told, syn_options, key_options, end_mapping, ack_options, piece_mapping, is_first_piece, first_piece_options, piece_options, fin_options, record_options, reset_options};
-ghost use Rattle.path_core.specs.Said.{options_by, plain_said, said_by, IsShort, CanBeSaid};
+ghost use Rattle.path_core.specs.declared.segment_kind.SegmentKind.TheVariants.{DeadAnswer};
+ghost use Rattle.path_core.specs.Segments.{bare_mapping, checksum_in, mapping_of, place_numbered, checksum_told, syn_options, key_options, end_mapping, ack_options, piece_mapping, first_piece_options, piece_options, fin_options, record_options, reset_options, segment_of, ack_said, record_said, record_or_ack, syn_ack_said, fin_said, reset_said};
+ghost use Rattle.path_core.specs.Passing.{answer_said, resend_said};
+ghost use Rattle.path_core.specs.Said.{options_by, plain_said, said_by, CanBeSaid};
 
 use crate::end::PathEnd;
 use crate::profile::{Profile, spelled_by};
@@ -14,8 +19,7 @@ use mptcp_options::CapableKeys;
 use outside_kit::Side;
 use path_segments::{PathMapping, PathOption, relative_number};
 use seq_units::{Mapping, Pos};
-use subflow_send::RecordKind;
-use subflow_tcp::{Outgoing, RecordRef};
+use subflow_tcp::{Outgoing, RecordKind, RecordRef};
 
 /// An option that an end says: none of them has ids.
 type Saying<'a> = PathOption<u64, &'a [u8]>;
@@ -73,7 +77,7 @@ impl Profile {
 
     /// MP_CAPABLE with these keys (RFC 8684, section 3.1).
     fn capable(&self, keys: CapableKeys) -> Saying<'static>
-        ensures { result ≡ PathOption.Capable self.now.spelling.checksums false keys }
+        ensures { result ≡ Capable self.now.spelling.checksums false keys }
     {
         PathOption::Capable {
             flag_a: self.spelling().checksums,
@@ -306,7 +310,7 @@ impl PathEnd {
 
     /// The reset that answers a copy at a dead end.
     fn dead_answer_said(&self, profile: &Profile) -> Said<'_>
-        ensures { plain_said result ≡ said_by SegmentKind.DeadAnswer profile.now A self.now }
+        ensures { plain_said result ≡ said_by DeadAnswer profile.now A self.now }
     {
         let outgoing = match self.treated.answer() {
             Some(outgoing) => outgoing,

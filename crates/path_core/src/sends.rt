@@ -2,10 +2,13 @@
 
 ghost use Rattle.std.specs.Prelude.{◌≡◌, ◌≤◌, ◌+◌, ◌^◌, OnOk, OnErr};
 ghost use Rattle.path_core.specs.Octets.{octets};
-ghost use Rattle.path_core.specs.Said.{plain_said, said_by};
-ghost use Rattle.path_core.specs.Sends.{edge_told, sends, handed, having_sent, sent_on};
+ghost use Rattle.path_segments.specs.Laws.{window_told};
+ghost use Rattle.subflow_tcp.specs.Emitting.{after_sending};
+ghost use Rattle.path_core.specs.Said.{plain_said, said_by, sent_kind, CanBeSaid};
+ghost use Rattle.path_core.specs.Sends.{edge_told, sends, handed};
+ghost use Rattle.path_core.specs.State.{end_at, left, with_agenda};
 
-use crate::ask::{Ask, LocalStep};
+use actor_desk::{Ask, LocalStep};
 use crate::end::PathEnd;
 use crate::path::Path;
 use crate::said::Said;
@@ -78,7 +81,7 @@ impl Path {
     }
 
     /// The edge of the window that the segment tells.
-    fn edge_told(&self, side: Side, kind: SegmentKind) -> u64
+    pub(crate) fn edge_told(&self, side: Side, kind: SegmentKind) -> u64
         ensures value { result ≡ edge_told (said_by kind self.now.profile side (end_at side self.now)) (end_at side self.now) }
         ensures bound { result ≤ 2 ^ 62 + 2 ^ 21 }
     {

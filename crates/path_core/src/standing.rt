@@ -1,19 +1,25 @@
 //! The start of a turn: how the side stands, and what is to be acknowledged.
 
-ghost use Rattle.std.specs.Prelude.{◌≡◌, List};
-ghost use Rattle.path_core.specs.Said.{said_by};
+ghost use Rattle.std.specs.Prelude.{◌≡◌, ◌≤◌, ◌+◌, ◌^◌, OnOk, OnErr};
+ghost use Rattle.path_core.specs.Agenda.{resets};
+ghost use Rattle.path_core.specs.Octets.{octets};
+ghost use Rattle.path_core.specs.Replies.{IsAckBounded};
+ghost use Rattle.path_core.specs.Standing.{look_ask, modes_told, answered_look, ack_out_ask, after_ack_out, answered_ack_out, is_connected, tellable_edge, has_grown, is_update_due, acknowledges};
+ghost use Rattle.path_core.specs.State.{left};
 
+use actor_desk::{Ask, Reply};
 use crate::agenda::Agenda;
-use crate::ask::{Ask, Reply};
 use crate::end::PathEnd;
 use crate::modes::Modes;
 use crate::path::Path;
 use crate::profile::Profile;
+use crate::segment_kind::SegmentKind;
 use crate::sends::window_told;
 use control_book::{ControlCall, ControlReply};
 use outside_kit::Side;
 use reassembly_book::{ReassemblyCall, ReassemblyReply};
-use subflow_tcp::State;
+use std::alloc::AllocError;
+use subflow_tcp::{Occasion, State};
 
 /// Both SYNs are acknowledged, and the end isn't dead.
 fn is_connected(state: State) -> bool
@@ -119,6 +125,14 @@ impl Path {
     {
         self.end_mut(side).hear_ack_out(reply);
         self.done();
+    }
+
+    /// The acknowledgement is sent.
+    pub(crate) fn acknowledge(&mut self, side: Side) -> Result<(), AllocError>
+        ensures ok { OnOk result (self.new ≡ acknowledges octets side self.old) }
+        ensures err { OnErr result (self.new ≡ self.old) }
+    {
+        self.send_and_leave(side, SegmentKind::Ack, Occasion::Ack)
     }
 
     /// It was told what is to be acknowledged, and the break goes on.

@@ -5,8 +5,8 @@ ghost use Rattle.path_core.specs.Octets.{octets};
 ghost use Rattle.path_core.specs.Replies.{TakesReply, asks_bytes_first};
 ghost use Rattle.path_core.specs.Steps.{settles_down, answers, asks_of, takes, next_round};
 
+use actor_desk::{Ask, Reply};
 use crate::agenda::Agenda;
-use crate::ask::{Ask, Reply};
 use crate::duty::Duty;
 use crate::path::Path;
 use std::alloc::AllocError;

@@ -1,3 +1,4 @@
 pub mod Unsent
 pub mod WindowGrowth
 pub mod EndLaws
+pub mod Meant

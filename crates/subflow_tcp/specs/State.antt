@@ -1,5 +1,5 @@
 -- One end of a subflow by positions.
-use Rattle.std.specs.Prelude.{ℕ, Bool, true, false, nat_lt, nat_le, ◌||◌, ◌^◌, Option, Some, None, List, [], ◌∷◌}
+use Rattle.std.specs.Prelude.{ℕ, Bool, true, false, nat_lt, nat_le, ◌||◌, ◌^◌, ◌≡◌, Option, Some, None, List, [], ◌∷◌}
 use Rattle.subflow_send.specs.Records.{SendState, Record}
 use Rattle.subflow_recv.specs.Receiving.{Receiving}
 use Rattle.subflow_tcp.specs.declared.handshake.State.{State}
@@ -7,6 +7,7 @@ use Rattle.subflow_tcp.specs.declared.spelling.Numbers.{Numbers}
 use Rattle.loss_recovery.specs.declared.timers.Timing.{Timing}
 use Rattle.loss_recovery.specs.declared.windows.Congestion.{Congestion}
 use Rattle.subflow_tcp.specs.declared.dues.Due.{Due}
+use Rattle.subflow_tcp.specs.States.{is_behind_fin}
 
 pub record EndState : Type 0 where
   -- ports and initial numbers, which the octets alone need
@@ -42,3 +43,8 @@ is_fin_passed s = is_behind s.fin_at s.recv.edge
 -- positions end at 2^61: an end there takes nothing more
 abbrev pub is_at_limit : EndState → Bool
 is_at_limit s = nat_le (2 ^ 61) s.send.nxt || nat_le (2 ^ 61) s.recv.edge
+
+-- once the FIN was pushed, the end is in one of the states behind that
+abbrev pub IsFinTold : Bool → State → Type 0
+IsFinTold false state = Unit {0}
+IsFinTold true state = is_behind_fin state ≡ true

@@ -33,6 +33,16 @@ may_finish Established = true
 may_finish CloseWait = true
 may_finish _ = false
 
+-- the FIN was pushed, or the end is dead
+abbrev pub is_behind_fin : State → Bool
+is_behind_fin FinWait1 = true
+is_behind_fin FinWait2 = true
+is_behind_fin Closing = true
+is_behind_fin LastAck = true
+is_behind_fin TimeWait = true
+is_behind_fin Dead = true
+is_behind_fin _ = false
+
 -- the own FIN is sent
 abbrev pub after_finish : State → State
 after_finish Established = FinWait1

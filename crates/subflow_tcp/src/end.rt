@@ -38,7 +38,7 @@ pub struct Subflow {
 }
 
 impl Model for Subflow {
-    ghost use Rattle.subflow_tcp.specs.State.{EndState};
+    ghost use Rattle.subflow_tcp.specs.State.{EndState, IsFinTold};
 
     ghost Value = { EndState };
 
@@ -52,6 +52,8 @@ impl Model for Subflow {
       congestion = s.congestion;
       due = s.due;
     } };
+
+    ghost invariant = { λ s. IsFinTold s.send.finished s.state };
 }
 
 /// The receiving side before anything came.
@@ -70,6 +72,7 @@ impl Subflow {
     ghost use Rattle.subflow_tcp.specs.Opening.{new_end, after_begin};
     ghost use Rattle.loss_recovery.specs.Windows.{after_growth};
     ghost use Rattle.subflow_tcp.specs.Sizes.{room};
+    ghost use Rattle.subflow_tcp.specs.States.{may_finish};
 
     /// An end in this state, to which nothing has come.
     fn new(alloc: Global, state: State, opens: bool, path: u8, iss: u32, mss: u16) -> Self
@@ -212,7 +215,7 @@ impl Subflow {
     }
 
     /// Whether a record is not acknowledged.
-    pub(crate) fn has_records(&self) -> bool
+    pub fn has_records(&self) -> bool
         ensures { result ≡ has_records self.now }
     {
         self.send.retransmit_first().is_some()

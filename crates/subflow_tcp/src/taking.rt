@@ -1,5 +1,5 @@
 //! What a segment that is taken makes of an end: its payload, its acknowledgement, what it tells. One method a rule.
-ghost use Rattle.std.specs.Prelude.{◌≡◌, ◌+◌, ◌^◌, ◌<◌, ◌≤◌, length, IfOk, OnOk, OnErr, true, None};
+ghost use Rattle.std.specs.Prelude.{◌≡◌, ◌+◌, ◌^◌, ◌<◌, ◌≤◌, length, IfOk, OnOk, OnErr, true, false, None};
 ghost use Rattle.segment_wire.specs.Reading.{segment_of};
 ghost use Rattle.subflow_send.specs.Rules.{ack_kind};
 ghost use Rattle.subflow_tcp.specs.declared.verdicts.Meaning.TheVariants.{Taken};
@@ -66,7 +66,7 @@ pub(crate) fn flight_told(send: &SubflowSend) -> u32
 
 impl Subflow {
     ghost use Rattle.subflow_tcp.specs.Judging.{meaning_of};
-    ghost use Rattle.subflow_tcp.specs.Taking.{after_payload, after_ack_kind, after_acknowledgement, after_new_ack, is_duplicate, after_duplicate, after_row, after_heard_ack, after_occupying, after_taken, after_syn, after_syn_ack, after_arrival, arrival_of, after_octets, after_segment, arrival_in};
+    ghost use Rattle.subflow_tcp.specs.Taking.{after_hearing, after_established, after_payload, after_ack_kind, after_acknowledgement, after_new_ack, is_duplicate, after_duplicate, after_row, after_heard_ack, after_occupying, after_taken, after_syn, after_syn_ack, after_arrival, arrival_of, after_octets, after_segment, arrival_in};
 
     /// Treats a segment that arrives at the tick `now`, as it stands in octets: reads it, judges it, and takes it. It has
     /// at most 65,535 octets.
@@ -129,6 +129,8 @@ impl Subflow {
         ensures arrival { result ≡ arrival_of meaning (unkept data_ack) (copy_of arriving.now) self.old }
         ensures after { self.new ≡ after_arrival meaning (unkept data_ack) now (copy_of arriving.now) self.old }
     {
+        // The state of an end that opens tells that its FIN wasn't pushed.
+        let _state = self.state;
         match meaning {
             Meaning::Ignored | Meaning::Unwanted => Arrival::Dropped,
             Meaning::Opens => self.open_by(arriving),
@@ -157,6 +159,7 @@ impl Subflow {
 
     /// The SYN of a peer that opens.
     fn open_by(&mut self, arriving: &Arriving<'_>) -> Arrival
+        requires { self.old.send.finished ≡ false }
         ensures arrival { result ≡ Opened }
         ensures after { self.new ≡ after_syn (unkept None) (copy_of arriving.now) self.old }
     {
@@ -168,6 +171,7 @@ impl Subflow {
 
     /// The SYN/ACK: both SYNs are acknowledged.
     fn accept_by(&mut self, acknowledged: Pos, arriving: &Arriving<'_>, now: u64) -> Arrival
+        requires { self.old.send.finished ≡ false }
         ensures arrival { result ≡ Opened }
         ensures after { self.new ≡ after_syn_ack acknowledged (unkept None) now (copy_of arriving.now) self.old }
     {
@@ -178,6 +182,14 @@ impl Subflow {
         self.congestion.tell(told_by_syn(arriving));
         self.owe_for(arriving);
         Arrival::Opened
+    }
+
+    /// An acceptable segment was heard, which acknowledges the SYN/ACK.
+    fn establish(&mut self)
+        ensures { self.new ≡ after_established (after_hearing self.old) }
+    {
+        self.timing.heard();
+        self.state = self.state.after_handshake();
     }
 
     /// What is taken: the FIN, the acknowledgement, duplicates, and the acknowledgement that is owed for it.
@@ -195,8 +207,7 @@ impl Subflow {
     {
         let half_open = matches!(self.state, State::SynReceived);
         self.take_fin(pos, arriving);
-        self.timing.heard();
-        self.state = self.state.after_handshake();
+        self.establish();
         let ack = self.take_heard_ack(acknowledged, arriving, data_ack, now);
         self.owe_for(arriving);
         if half_open {

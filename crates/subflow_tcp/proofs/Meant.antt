@@ -1,0 +1,299 @@
+-- What a segment that arrives can mean for an end.
+use Rattle.std.proofs.Common.{◌≡◌, ℕ, ◌+◌, ◌-◌, ◌^◌, ◌<◌, ◌≤◌, Bool, true, false, true≢false, nat_lt, nat_le, if◌then◌else◌, Option, Some, None, List, refl, sym, ap, ◌∙◌, subst, arith}
+use Rattle.std.specs.Prelude.{◌&&◌, ◌||◌, ◌==◌, IsTrue, length}
+use Rattle.std.proofs.lemmas.Bool.{ltb-true, leb-false}
+use Rattle.subflow_tcp.specs.declared.handshake.State.{State}
+use Rattle.subflow_tcp.specs.declared.handshake.State.TheVariants as states
+use Rattle.subflow_tcp.specs.declared.segments.Hint.{Hint}
+use Rattle.subflow_tcp.specs.declared.verdicts.Meaning.{Meaning}
+use Rattle.subflow_tcp.specs.declared.verdicts.Meaning.TheVariants as means
+use Rattle.subflow_tcp.specs.declared.verdicts.Arrival.TheVariants.{Opened, Took}
+use Rattle.subflow_send.specs.declared.record.AckKind.{AckKind}
+use Rattle.subflow_send.specs.Rules.{ack_kind}
+use Rattle.subflow_tcp.specs.States.{is_behind_fin, is_half_open, may_finish}
+use Rattle.subflow_tcp.specs.State.{EndState, IsFinTold, is_at_limit}
+use Rattle.subflow_tcp.specs.Segments.{Copy, occupied}
+use Rattle.subflow_recv.specs.Receiving.{Receiving}
+use Rattle.subflow_tcp.specs.Judging.{is_syn_alone, is_repeated_syn, is_in_window, is_acceptable, meaning_outside, meaning_acknowledging, meaning_within, meaning_placed, meaning_connected, meaning_answer, meaning_answering, meaning_opening, meaning_at, meaning_of, IsBelow}
+use Rattle.subflow_tcp.specs.Taking.{after_keeping_for, kept_for, kept_new, is_kept, with_new, unkept, after_arrival, arrival_of}
+
+-- ---- where a segment may stand that is taken
+or-left : (a b : Bool) → (a || b) ≡ false → a ≡ false
+or-left true b e = e
+or-left false b e = refl
+
+or-right : (a b : Bool) → (a || b) ≡ false → b ≡ false
+or-right true b e = absurd (true≢false e)
+or-right false b e = e
+
+and-left : (a b : Bool) → (a && b) ≡ true → a ≡ true
+and-left true b e = refl
+and-left false b e = e
+
+and-right : (a b : Bool) → (a && b) ≡ true → b ≡ true
+and-right true b e = e
+and-right false b e = absurd (true≢false (sym e))
+
+edge-below : (s : EndState) → is_at_limit s ≡ false → s.recv.edge < 2 ^ 61
+edge-below s e = leb-false (2 ^ 61) s.recv.edge (or-right (nat_le (2 ^ 61) s.send.nxt) (nat_le (2 ^ 61) s.recv.edge) e)
+
+window-below : (edge pos : ℕ) → is_in_window edge pos ≡ true → pos < edge + 1048576
+window-below edge pos e = ltb-true pos (edge + 1048576) (and-right (nat_le edge pos) (nat_lt pos (edge + 1048576)) e)
+
+acceptable-below : (edge pos len : ℕ) → is_acceptable edge pos len ≡ true → pos < edge + 1048576
+acceptable-below edge pos len e = by (is_in_window edge pos) refl
+  where
+    by : (b : Bool) → is_in_window edge pos ≡ b → pos < edge + 1048576
+    by true h = window-below edge pos h
+    by false h =
+        let last : (nat_lt 0 len && is_in_window edge (pos + (len - 1))) ≡ true =
+        sym (ap (λ b. b || (nat_lt 0 len && is_in_window edge (pos + (len - 1)))) h) ∙ e in
+        omega (arith, window-below edge (pos + (len - 1)) (and-right (nat_lt 0 len) (is_in_window edge (pos + (len - 1))) last))
+
+-- ---- what holds of each meaning that an end with the peer's SYN finds holds of what it means
+module _ (P : Meaning → Type 0) where
+  chosen : (b : Bool) (x y : Meaning) → (b ≡ true → P x) → (b ≡ false → P y) → P (if b then x else y)
+  chosen true x y f g = f refl
+  chosen false x y f g = g refl
+
+  pub record Each : Type 0 where
+    pub ignored : P means.Ignored
+    pub unwanted : P means.Unwanted
+    pub repeated : P means.RepeatedSyn
+    pub outside : P means.Outside
+    pub kills : P means.Kills
+    pub challenged : P means.Challenged
+    pub unacknowledging : P means.Unacknowledging
+    pub ahead : P means.Ahead
+    pub taken : (pos acknowledged : ℕ) → pos < 2 ^ 61 + 2 ^ 20 → P (means.Taken pos acknowledged)
+
+  at-outside : Each → (c : Copy) → P (meaning_outside c)
+  at-outside all c = chosen c.rst means.Ignored means.Outside (λ _. all.ignored) (λ _. all.outside)
+
+  at-acknowledging : Each → (o : Option ℕ) (pos : ℕ) (s : EndState) → pos < 2 ^ 61 + 2 ^ 20 → P (meaning_acknowledging o pos s)
+  at-acknowledging all None pos s h = all.unacknowledging
+  at-acknowledging all (Some acknowledged) pos s h =
+      chosen (nat_lt s.send.nxt acknowledged) means.Ahead (if is_half_open s.state && acknowledged == 0 then means.Unacknowledging else means.Taken pos acknowledged)
+      (λ _. all.ahead)
+      (λ _. chosen (is_half_open s.state && acknowledged == 0) means.Unacknowledging (means.Taken pos acknowledged) (λ _. all.unacknowledging) (λ _. all.taken pos acknowledged h))
+
+  at-within : Each → (pos : ℕ) (c : Copy) (s : EndState) → pos < 2 ^ 61 + 2 ^ 20 → P (meaning_within pos c s)
+  at-within all pos c s h =
+      chosen c.rst (if pos == s.recv.edge then means.Kills else means.Challenged) (if c.syn then means.Challenged else meaning_acknowledging c.acknowledged pos s)
+      (λ _. chosen (pos == s.recv.edge) means.Kills means.Challenged (λ _. all.kills) (λ _. all.challenged))
+      (λ _. chosen c.syn means.Challenged (meaning_acknowledging c.acknowledged pos s) (λ _. all.challenged) (λ _. at-acknowledging all c.acknowledged pos s h))
+
+  at-placed : Each → (o : Option ℕ) (c : Copy) (s : EndState) → s.recv.edge < 2 ^ 61 → P (meaning_placed o c s)
+  at-placed all None c s h = at-outside all c
+  at-placed all (Some pos) c s h =
+      chosen (is_acceptable s.recv.edge pos (occupied c)) (meaning_within pos c s) (meaning_outside c)
+      (λ e. at-within all pos c s (omega (arith, h, acceptable-below s.recv.edge pos (occupied c) e)))
+      (λ _. at-outside all c)
+
+  pub at-connected : Each → (c : Copy) (s : EndState) → P (meaning_connected c s)
+  at-connected all c s =
+      chosen (is_at_limit s) means.Ignored (if is_repeated_syn c s then means.RepeatedSyn else meaning_placed c.position c s)
+      (λ _. all.ignored)
+      (λ low. chosen (is_repeated_syn c s) means.RepeatedSyn (meaning_placed c.position c s)
+      (λ _. all.repeated)
+      (λ _. at-placed all c.position c s (edge-below s low)))
+
+  pub at-dead : Each → (c : Copy) → P (if c.rst then means.Ignored else means.Unwanted)
+  at-dead all c = chosen c.rst means.Ignored means.Unwanted (λ _. all.ignored) (λ _. all.unwanted)
+
+  pub at-listening : Each → P means.Opens → (c : Copy) → P (if is_syn_alone c then means.Opens else means.Ignored)
+  at-listening all opens c = chosen (is_syn_alone c) means.Opens means.Ignored (λ _. opens) (λ _. all.ignored)
+
+  at-answering : Each → ((acknowledged : ℕ) → P (means.Accepts acknowledged)) → (o : Option ℕ) (c : Copy) (s : EndState) → P (meaning_answering o c s)
+  at-answering all accepts None c s = all.ignored
+  at-answering all accepts (Some acknowledged) c s =
+      chosen (nat_lt 0 acknowledged && nat_le acknowledged s.send.nxt) (meaning_answer c acknowledged) means.Ignored
+      (λ _. chosen c.rst means.Kills (if c.syn then means.Accepts acknowledged else means.Ignored)
+      (λ _. all.kills)
+      (λ _. chosen c.syn (means.Accepts acknowledged) means.Ignored (λ _. accepts acknowledged) (λ _. all.ignored)))
+      (λ _. all.ignored)
+
+  pub at-opening : Each → ((acknowledged : ℕ) → P (means.Accepts acknowledged)) → (c : Copy) (s : EndState) → P (meaning_opening c s)
+  at-opening all accepts c s =
+      chosen (is_at_limit s) means.Ignored (meaning_answering c.acknowledged c s) (λ _. all.ignored) (λ _. at-answering all accepts c.acknowledged c s)
+
+-- ---- it is below the end of the window
+each-below : Each IsBelow
+each-below = record {
+  ignored = tt;
+  unwanted = tt;
+  repeated = tt;
+  outside = tt;
+  kills = tt;
+  challenged = tt;
+  unacknowledging = tt;
+  ahead = tt;
+  taken = λ pos acknowledged h. h;
+}
+
+pub below-meant : (state : State) (c : Copy) (s : EndState) → s.state ≡ state → IsBelow (meaning_of c s)
+below-meant state c s e = subst (λ state. IsBelow (meaning_at state c s)) (sym e) (at state)
+  where
+    at : (state : State) → IsBelow (meaning_at state c s)
+    at states.Dead = at-dead IsBelow each-below c
+    at states.Waiting = tt
+    at states.Listen = at-listening IsBelow each-below tt c
+    at states.SynSent = at-opening IsBelow each-below (λ _. tt) c s
+    at states.SynReceived = at-connected IsBelow each-below c s
+    at states.Established = at-connected IsBelow each-below c s
+    at states.FinWait1 = at-connected IsBelow each-below c s
+    at states.FinWait2 = at-connected IsBelow each-below c s
+    at states.CloseWait = at-connected IsBelow each-below c s
+    at states.Closing = at-connected IsBelow each-below c s
+    at states.LastAck = at-connected IsBelow each-below c s
+    at states.TimeWait = at-connected IsBelow each-below c s
+
+-- ---- no end behind its FIN opens
+abbrev pub OpensNothing : Meaning → Type 0
+OpensNothing means.Opens = ⊥
+OpensNothing (means.Accepts acknowledged) = ⊥
+OpensNothing _ = Unit {0}
+
+each-stays : Each OpensNothing
+each-stays = record {
+  ignored = tt;
+  unwanted = tt;
+  repeated = tt;
+  outside = tt;
+  kills = tt;
+  challenged = tt;
+  unacknowledging = tt;
+  ahead = tt;
+  taken = λ pos acknowledged h. tt;
+}
+
+stays-meant : (state : State) (c : Copy) (s : EndState) → is_behind_fin state ≡ true → OpensNothing (meaning_at state c s)
+stays-meant states.Dead c s e = at-dead OpensNothing each-stays c
+stays-meant states.Waiting c s e = absurd (true≢false (sym e))
+stays-meant states.Listen c s e = absurd (true≢false (sym e))
+stays-meant states.SynSent c s e = absurd (true≢false (sym e))
+stays-meant states.SynReceived c s e = absurd (true≢false (sym e))
+stays-meant states.Established c s e = absurd (true≢false (sym e))
+stays-meant states.CloseWait c s e = absurd (true≢false (sym e))
+stays-meant states.FinWait1 c s e = at-connected OpensNothing each-stays c s
+stays-meant states.FinWait2 c s e = at-connected OpensNothing each-stays c s
+stays-meant states.Closing c s e = at-connected OpensNothing each-stays c s
+stays-meant states.LastAck c s e = at-connected OpensNothing each-stays c s
+stays-meant states.TimeWait c s e = at-connected OpensNothing each-stays c s
+
+-- so the FIN of an end that opens isn't pushed
+pub open-meant : (c : Copy) (s : EndState) (meaning : Meaning) → IsFinTold s.send.finished s.state → meaning ≡ meaning_of c s → (OpensNothing meaning → ⊥)
+    → s.send.finished ≡ false
+open-meant c s meaning told e opens = by s.send.finished told
+  where
+    by : (b : Bool) → IsFinTold b s.state → b ≡ false
+    by false h = refl
+    by true h = absurd (opens (subst OpensNothing (sym e) (stays-meant s.state c s h)))
+
+pub open-where_it_may_finish : (finished : Bool) (state : State) → IsFinTold finished state → may_finish state ≡ true → finished ≡ false
+open-where_it_may_finish false state told may = refl
+open-where_it_may_finish true states.Dead told may = absurd (true≢false (sym may))
+open-where_it_may_finish true states.Waiting told may = absurd (true≢false (sym may))
+open-where_it_may_finish true states.Listen told may = absurd (true≢false (sym may))
+open-where_it_may_finish true states.SynSent told may = absurd (true≢false (sym may))
+open-where_it_may_finish true states.SynReceived told may = absurd (true≢false (sym may))
+open-where_it_may_finish true states.Established told may = absurd (true≢false (sym told))
+open-where_it_may_finish true states.CloseWait told may = absurd (true≢false (sym told))
+open-where_it_may_finish true states.FinWait1 told may = absurd (true≢false (sym may))
+open-where_it_may_finish true states.FinWait2 told may = absurd (true≢false (sym may))
+open-where_it_may_finish true states.Closing told may = absurd (true≢false (sym may))
+open-where_it_may_finish true states.LastAck told may = absurd (true≢false (sym may))
+open-where_it_may_finish true states.TimeWait told may = absurd (true≢false (sym may))
+
+-- ---- a payload that is kept first
+abbrev beside : List (Option ℕ) → Option (List (Option ℕ)) → EndState → EndState
+beside places incoming s = record s { recv = record s.recv { places = places; incoming = incoming } }
+
+module _ (places : List (Option ℕ)) (incoming : Option (List (Option ℕ))) (c : Copy) (s : EndState) where
+  acknowledging-beside : (o : Option ℕ) (pos : ℕ) → meaning_acknowledging o pos (beside places incoming s) ≡ meaning_acknowledging o pos s
+  acknowledging-beside None pos = refl
+  acknowledging-beside (Some acknowledged) pos = refl
+
+  within-beside : (pos : ℕ) → meaning_within pos c (beside places incoming s) ≡ meaning_within pos c s
+  within-beside pos =
+      ap (λ (m : Meaning). if c.rst then (if pos == s.recv.edge then means.Kills else means.Challenged) else (if c.syn then means.Challenged else m))
+      (acknowledging-beside c.acknowledged pos)
+
+  placed-beside : (o : Option ℕ) → meaning_placed o c (beside places incoming s) ≡ meaning_placed o c s
+  placed-beside None = refl
+  placed-beside (Some pos) = ap (λ (m : Meaning). if is_acceptable s.recv.edge pos (occupied c) then m else meaning_outside c) (within-beside pos)
+
+  connected-beside : meaning_connected c (beside places incoming s) ≡ meaning_connected c s
+  connected-beside =
+      ap (λ (m : Meaning). if is_at_limit s then means.Ignored else (if is_repeated_syn c s then means.RepeatedSyn else m)) (placed-beside c.position)
+
+  answering-beside : (o : Option ℕ) → meaning_answering o c (beside places incoming s) ≡ meaning_answering o c s
+  answering-beside None = refl
+  answering-beside (Some acknowledged) = refl
+
+  opening-beside : meaning_opening c (beside places incoming s) ≡ meaning_opening c s
+  opening-beside = ap (λ (m : Meaning). if is_at_limit s then means.Ignored else m) (answering-beside c.acknowledged)
+
+  at-beside : (state : State) → meaning_at state c (beside places incoming s) ≡ meaning_at state c s
+  at-beside states.Dead = refl
+  at-beside states.Waiting = refl
+  at-beside states.Listen = refl
+  at-beside states.SynSent = opening-beside
+  at-beside states.SynReceived = connected-beside
+  at-beside states.Established = connected-beside
+  at-beside states.FinWait1 = connected-beside
+  at-beside states.FinWait2 = connected-beside
+  at-beside states.CloseWait = connected-beside
+  at-beside states.Closing = connected-beside
+  at-beside states.LastAck = connected-beside
+  at-beside states.TimeWait = connected-beside
+
+  meant-beside : (b : Bool) → meaning_of c (record s { recv = (if b then record s.recv { places = places; incoming = incoming } else s.recv) }) ≡ meaning_of c s
+  meant-beside true = at-beside s.state
+  meant-beside false = refl
+
+pub meant-kept : (meaning : Meaning) (keep : Bool) (payload : List ℕ) (c : Copy) (s : EndState) → meaning_of c (after_keeping_for meaning keep payload s) ≡ meaning_of c s
+meant-kept means.Ignored keep payload c s = refl
+meant-kept means.Unwanted keep payload c s = refl
+meant-kept means.Opens keep payload c s = meant-beside _ _ c s (is_kept keep s)
+meant-kept (means.Accepts acknowledged) keep payload c s = meant-beside _ _ c s (is_kept keep s)
+meant-kept means.RepeatedSyn keep payload c s = refl
+meant-kept means.Outside keep payload c s = refl
+meant-kept means.Kills keep payload c s = refl
+meant-kept means.Challenged keep payload c s = refl
+meant-kept means.Unacknowledging keep payload c s = refl
+meant-kept means.Ahead keep payload c s = refl
+meant-kept (means.Taken pos acknowledged) keep payload c s = meant-beside _ _ c s (is_kept keep s)
+
+-- a segment is taken as if its payload had been kept with the rest
+pub arrival-kept : (meaning : Meaning) (hint : Hint) (now : ℕ) (c : Copy) (s : EndState)
+    → after_arrival meaning (unkept hint.data_ack) now c (after_keeping_for meaning hint.keep c.payload s) ≡ after_arrival meaning hint now c s
+arrival-kept means.Ignored hint now c s = refl
+arrival-kept means.Unwanted hint now c s = refl
+arrival-kept means.Opens hint now c s = refl
+arrival-kept (means.Accepts acknowledged) hint now c s = refl
+arrival-kept means.RepeatedSyn hint now c s = refl
+arrival-kept means.Outside hint now c s = refl
+arrival-kept means.Kills hint now c s = refl
+arrival-kept means.Challenged hint now c s = refl
+arrival-kept means.Unacknowledging hint now c s = refl
+arrival-kept means.Ahead hint now c s = refl
+arrival-kept (means.Taken pos acknowledged) hint now c s = refl
+
+took : (half_open : Bool) (kind : AckKind) (fin : Bool) (new : ℕ) → with_new new (if half_open then Opened else Took kind 0 fin) ≡ (if half_open then Opened else Took kind new fin)
+took true kind fin new = refl
+took false kind fin new = refl
+
+pub answer-kept : (meaning : Meaning) (hint : Hint) (c : Copy) (s : EndState)
+    → with_new (kept_for meaning hint.keep c.payload s) (arrival_of meaning (unkept hint.data_ack) c (after_keeping_for meaning hint.keep c.payload s)) ≡ arrival_of meaning hint c s
+answer-kept means.Ignored hint c s = refl
+answer-kept means.Unwanted hint c s = refl
+answer-kept means.Opens hint c s = refl
+answer-kept (means.Accepts acknowledged) hint c s = refl
+answer-kept means.RepeatedSyn hint c s = refl
+answer-kept means.Outside hint c s = refl
+answer-kept means.Kills hint c s = refl
+answer-kept means.Challenged hint c s = refl
+answer-kept means.Unacknowledging hint c s = refl
+answer-kept means.Ahead hint c s = refl
+answer-kept (means.Taken pos acknowledged) hint c s = took (is_half_open s.state) (ack_kind acknowledged s.send) c.fin (kept_new hint.keep pos c.payload s)
