@@ -59,7 +59,7 @@ length-granted (c ∷ sent) place bytes = let rest = length-granted sent place b
 -- ---- the reply to AckOut, and the acknowledgements that may be sent by it
 
 -- what a segment tells is the place and a window that is rounded down
-abbrev ack_moves : ℕ → ℕ → List Move
+abbrev pub ack_moves : ℕ → ℕ → List Move
 ack_moves next window = SendAck next (32 * (window / 32)) 0 ∷ SendAck 0 (32 * (window / 32)) 0 ∷ SendAck 0 (min 65535 window) 0 ∷ []
 
 least : (a b : ℕ) → a ≤ b → min a b ≡ a
@@ -67,10 +67,10 @@ least a b most = omega (arith, most)
 
 -- the windows of the reply show on the lane after these moves
 module _ (next window : ℕ) (p : Lane) where
-  abbrev told_lane : Lane
+  abbrev pub told_lane : Lane
   told_lane = takes_ack_out (reassembly_replies.Ack next window) p
 
-  abbrev told_acks : List AckCopy
+  abbrev pub told_acks : List AckCopy
   told_acks = ack_copy next (32 * (window / 32)) 0 told_lane ∷ ack_copy 0 (32 * (window / 32)) 0 told_lane ∷ ack_copy 0 (min 65535 window) 0 told_lane ∷ []
 
   pub told_goes : ReceiverGoes p (moves (ack_moves next window) told_lane)
@@ -118,13 +118,13 @@ place_is c s place position len small = place_back (numbers_of c.spelling (spell
 
 -- the piece is granted, and its segment may be sent from now on
 module _ (span : Span) (piece : List ℕ) (p : Lane) where
-  abbrev granted_lane : Lane
+  abbrev pub granted_lane : Lane
   granted_lane = takes_grant (send_replies.Granted span piece) p
 
-  abbrev mapping_granted : Mapping
+  abbrev pub mapping_granted : Mapping
   mapping_granted = record { pos = length p.sent; place = span.from; len = length piece }
 
-  abbrev copy_granted : DataCopy
+  abbrev pub copy_granted : DataCopy
   copy_granted = record { pos = length p.sent; bytes = piece; mapping = Some mapping_granted }
 
   abbrev pub with_piece : Lane

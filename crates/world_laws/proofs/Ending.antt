@@ -1,6 +1,7 @@
 -- What each rule of an end makes of the lanes.
 use Rattle.std.proofs.Common.{◌≡◌, refl, sym, ◌∙◌, ap, subst, ℕ, zero, suc, ◌+◌, ◌-◌, ◌*◌, ◌/◌, ◌^◌, ◌<◌, ◌≤◌, min, max, ◌&&◌, ◌||◌, ◌==◌, not, nat_lt, nat_le, ◌⊎◌, inl, inr, ⊎_elim, Bool, true, false, cond, if◌then◌else◌, Option, Some, None, List, [], ◌∷◌, ◌++◌, length, take, drop, map, arith}
-use Rattle.std.proofs.lemmas.Bool.{or_cases, both_ways, false≢true}
+use Rattle.std.proofs.lemmas.Bool.{or_cases, or_left, or_right, both_ways, false≢true}
+use Rattle.std.proofs.lemmas.List.{append-nil}
 use Rattle.std.proofs.lemmas.Option.{same_Some}
 use Rattle.std.specs.List.{slice_get}
 use Rattle.std.specs.Option.{IfSome}
@@ -22,6 +23,8 @@ use Rattle.subflow_tcp.specs.declared.handshake.State.TheVariants as phase
 use Rattle.subflow_tcp.specs.Closing.{after_finishing}
 use Rattle.subflow_tcp.specs.States as states
 use Rattle.stream_lanes.specs.Lane.{Lane}
+use Rattle.stream_lanes.specs.Lane.Ask.{Nothing}
+use Rattle.send_book.specs.declared.call.SendReply.{SendReply}
 use Rattle.stream_lanes.specs.Moves.{later_end, known, takes_grant, takes_ack, cells_from}
 use Rattle.stream_lanes.specs.Words.{Every}
 use Rattle.stream_lanes.proofs.Lists.{Every-nil, Every-map, Every-push, Has-more, IfSome-map}
@@ -40,6 +43,21 @@ use Rattle.world_laws.proofs.Doing.{told_lane, ack_moves, told_goes, told_window
 use Rattle.world_laws.proofs.Growing.{SenderGoes, ReceiverGoes, sender_stays, receiver_stays, Longer, sent_longer, heard_longer, data_longer, mapping_longer, number_longer, fin_longer, treated_longer}
 use Rattle.world_laws.proofs.Roads.{moves, Strolls, stays}
 use Rattle.world_laws.proofs.Showing.{HasAck, HasData, HasMapping, HasNumber, HasFin, IsPiece, KindShows, RecordShows, is_unfinished, SenderShows, ReceiverShows, WindowShows, TreatedShows, EndShows}
+
+-- an end that may finish hasn't finished
+unfinished_if : (state : EndPhase) → states.may_finish state ≡ true → is_unfinished state ≡ true
+unfinished_if phase.Established is = refl
+unfinished_if phase.CloseWait is = refl
+unfinished_if phase.Waiting is = refl
+unfinished_if phase.Listen is = refl
+unfinished_if phase.SynSent is = refl
+unfinished_if phase.SynReceived is = refl
+unfinished_if phase.FinWait1 is = absurd (false≢true is)
+unfinished_if phase.FinWait2 is = absurd (false≢true is)
+unfinished_if phase.Closing is = absurd (false≢true is)
+unfinished_if phase.LastAck is = absurd (false≢true is)
+unfinished_if phase.TimeWait is = absurd (false≢true is)
+unfinished_if phase.Dead is = absurd (false≢true is)
 
 -- An end that did something: its lanes went on from where they were, after a call from these on by moves alone, and they show it.
 pub record Did (c : Profile) (s : Side) (e : PathEnd) (out out_called back back_called : Lane) : Type 0 where
@@ -107,10 +125,10 @@ module _ (c : Profile) (s : Side) (out back : Lane) where
 
   pub granted_end : (span : Span) (piece : List ℕ) (e : PathEnd) → states.may_finish e.tcp.state ≡ true → span.from < 2 ^ 64 → EndShows c s e out back
       → Did c s (granted c s span piece e) out (granted_lane span piece out) back back
-  granted_end span piece e open small h =
+  granted_end span piece e may small h =
       let q : Lane = with_piece span piece out in
       let g : SenderGoes out q = piece_goes span piece out in
-      let at : e.tcp.send.nxt ≡ suc (length out.sent) = h.sender.next (unfinished_at e.tcp.state open) in
+      let at : e.tcp.send.nxt ≡ suc (length out.sent) = h.sender.next (unfinished_if e.tcp.state may) in
       let l = length-granted out.sent span.from piece in
       record {
         out_after = q;
@@ -143,15 +161,6 @@ module _ (c : Profile) (s : Side) (out back : Lane) where
           held = h.held;
         };
       }
-    where
-      unfinished_at : (state : EndPhase) → states.may_finish state ≡ true → is_unfinished state ≡ true
-      unfinished_at phase.Established is = refl
-      unfinished_at phase.CloseWait is = refl
-      unfinished_at phase.Waiting is = refl
-      unfinished_at phase.Listen is = refl
-      unfinished_at phase.SynSent is = refl
-      unfinished_at phase.SynReceived is = refl
-      unfinished_at _ is = absurd (false≢true is)
 
   pub refused_end : (why : Why) (told : Option ℕ) (e : PathEnd) → EndShows c s e out back
       → Did c s (refused (replies.Send (send_replies.NoGrant why told)) e) out (refused_lane why told out) back back
@@ -186,3 +195,115 @@ module _ (c : Profile) (s : Side) (out back : Lane) where
       known_at : (told : Option ℕ) → IfSome (told_last told e.sending.known_end) (HasNumber (out.data_fins ++ known (later_end told out.known_end)))
       known_at (Some place) = has_last out.data_fins place refl
       known_at None = IfSome-map e.sending.known_end (λ n has. Has-more _ has) h.sender.known_end
+
+  -- ---- acknowledgements
+
+  abbrev idle : Lane
+  idle = record out { asking = Nothing }
+
+  idle_goes : SenderGoes out idle
+  idle_goes = record {
+    sent = out.sent; pieces = out.pieces; known_end = out.known_end; heard = out.heard; fin_acked = out.fin_acked; asking = Nothing;
+    datas = []; data_fins = []; fins = [];
+    is = rw (append-nil out.datas, append-nil out.data_fins, append-nil out.fins) refl;
+  }
+
+  -- the reply changes nothing at the end, and the lane asks no more
+  pub idle_end : (e : PathEnd) → EndShows c s e out back → Did c s e out idle back back
+  idle_end e h = record {
+    out_after = idle; back_after = back; out_moves = stays idle; back_moves = stays back; sender = idle_goes; receiver = receiver_stays back;
+    shows = record {
+      sender = record {
+        opened = h.sender.opened; plain = h.sender.plain; next = h.sender.next; unfinished = h.sender.unfinished; pieces = h.sender.pieces;
+        known_end = h.sender.known_end; fin_acked = h.sender.fin_acked;
+      };
+      receiver = h.receiver; window = h.window; told = h.told; treated = h.treated; held = h.held;
+    };
+  }
+
+  -- an acknowledgement changes what the lane's sender knows, and nothing else
+  pub acked_end : (next : ℕ) (r : SendReply) (e : PathEnd) → EndShows c s e out back → Did c s (with_acked next (replies.Send r) e) out (takes_ack next r out) back back
+  acked_end next (send_replies.Acked bytes fin) e h = record {
+    out_after = takes_ack next (send_replies.Acked bytes fin) out;
+    back_after = back;
+    out_moves = stays _;
+    back_moves = stays back;
+    sender = record {
+      sent = out.sent; pieces = out.pieces; known_end = out.known_end; heard = max out.heard next; fin_acked = out.fin_acked || fin; asking = Nothing;
+      datas = []; data_fins = []; fins = [];
+      is = rw (append-nil out.datas, append-nil out.data_fins, append-nil out.fins) refl;
+    };
+    receiver = receiver_stays back;
+    shows = record {
+      sender = record {
+        opened = h.sender.opened; plain = h.sender.plain; next = h.sender.next; unfinished = h.sender.unfinished; pieces = h.sender.pieces; known_end = h.sender.known_end;
+        fin_acked = λ is. ⊎_elim (λ old. or_left out.fin_acked fin (h.sender.fin_acked old)) (λ new. or_right out.fin_acked fin new) (or_cases e.sending.close.own_acked fin is);
+      };
+      receiver = h.receiver; window = h.window; told = h.told; treated = h.treated; held = h.held;
+    };
+  }
+  acked_end next (send_replies.Taken count) e h = idle_end e h
+  acked_end next send_replies.Shut e h = idle_end e h
+  acked_end next send_replies.Closed e h = idle_end e h
+  acked_end next (send_replies.Granted span piece) e h = idle_end e h
+  acked_end next (send_replies.NoGrant why told) e h = idle_end e h
+  acked_end next (send_replies.AckFuture written) e h = idle_end e h
+  acked_end next (send_replies.Returned count) e h = idle_end e h
+  acked_end next send_replies.Noted e h = idle_end e h
+  acked_end next (send_replies.Infinite from) e h = idle_end e h
+  acked_end next send_replies.Scattered e h = idle_end e h
+
+  -- ---- the FIN
+
+  -- it stands after the bytes that were granted
+  pub finished_end : (e : PathEnd) → states.may_finish e.tcp.state ≡ true → e.sending.close.own_acked ≡ true → EndShows c s e out back
+      → Did c s (record e { tcp = after_finishing e.tcp }) out out back back
+  finished_end e may acked h =
+      let q : Lane = with_fin_sent out in
+      let g : SenderGoes out q = fin_goes out in
+      let at : e.tcp.send.nxt ≡ suc (length out.sent) = h.sender.next (unfinished_if e.tcp.state may) in
+      record {
+        out_after = q;
+        back_after = back;
+        out_moves = sends_the_fin out h.sender.opened h.sender.plain (h.sender.fin_acked acked);
+        back_moves = stays back;
+        sender = g;
+        receiver = receiver_stays back;
+        shows = record {
+          sender = record {
+            opened = h.sender.opened;
+            plain = h.sender.plain;
+            next = λ un. absurd (both_ways _ (finished_if e.tcp.state may) un);
+            unfinished = λ un. absurd (both_ways _ (finished_if e.tcp.state may) un);
+            pieces = Every-push _ (same_pieces q (longer q g) e.tcp.send h.sender.pieces) (refl, has_last out.fins _ (sym at));
+            known_end = h.sender.known_end;
+            fin_acked = h.sender.fin_acked;
+          };
+          receiver = h.receiver;
+          window = h.window;
+          told = receiving_same q g e h;
+          treated = treated_same q g e h;
+          held = h.held;
+        };
+      }
+    where
+      finished_if : (state : EndPhase) → states.may_finish state ≡ true → is_unfinished (states.after_finish state) ≡ false
+      finished_if phase.Established is = refl
+      finished_if phase.CloseWait is = refl
+      finished_if phase.Waiting is = absurd (false≢true is)
+      finished_if phase.Listen is = absurd (false≢true is)
+      finished_if phase.SynSent is = absurd (false≢true is)
+      finished_if phase.SynReceived is = absurd (false≢true is)
+      finished_if phase.FinWait1 is = absurd (false≢true is)
+      finished_if phase.FinWait2 is = absurd (false≢true is)
+      finished_if phase.Closing is = absurd (false≢true is)
+      finished_if phase.LastAck is = absurd (false≢true is)
+      finished_if phase.TimeWait is = absurd (false≢true is)
+      finished_if phase.Dead is = absurd (false≢true is)
+
+-- ---- what leaves the lanes alone
+
+-- the window that was told last stays
+grown_told : (growth : ℕ) (o : Option Pending) (c : Congestion) → (windows.grown_by growth o c).told ≡ c.told
+grown_told growth None c = refl
+grown_told growth (Some p) c = refl

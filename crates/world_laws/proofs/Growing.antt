@@ -124,6 +124,7 @@ module _ {acks acks_after : List AckCopy} {p q : Lane} (l : Longer acks acks_aft
     options = Every-map (option_longer _) h.options;
     payload = ⊎_elim (λ none. inl none) (λ has. inr (data_longer sg.position sg.payload has)) h.payload;
     fin = λ is. let f = h.fin is in (f.0, fin_longer sg.position f.1);
+    plain = h.plain;
   }
 
   item_longer : (item : Heard) → ItemShows acks p item → ItemShows acks_after q item

@@ -10,3 +10,9 @@ pub mod Saying
 pub mod Records
 pub mod Doing
 pub mod Taking
+pub mod Ending
+pub mod Hearing
+pub mod Applying
+pub mod Journaling
+pub mod Rules
+pub mod Arriving

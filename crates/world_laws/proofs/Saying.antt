@@ -67,20 +67,20 @@ module _ (c : Profile) (s : Side) (e : PathEnd) (acks : List AckCopy) (p : Lane)
 
   -- the acknowledgement at any position, perhaps with the DATA_FIN
   pub ack_says : (position : ℕ) (fin : Option ℕ) → IfSome fin (HasNumber p.data_fins) → SegmentShows acks p (ack_said c s position fin e)
-  ack_says position fin h = record { window = w.alone; options = ack_options_say fin h; payload = inl refl; fin = λ is. absurd (false≢true is) }
+  ack_says position fin h = record { window = w.alone; options = ack_options_say fin h; payload = inl refl; fin = λ is. absurd (false≢true is); plain = λ syn. refl }
 
   pub syn_ack_says : SegmentShows acks p (syn_ack_said c s e)
-  syn_ack_says = record { window = w.syn; options = syn_options_say _ s; payload = inl refl; fin = λ is. absurd (false≢true is) }
+  syn_ack_says = record { window = w.syn; options = syn_options_say _ s; payload = inl refl; fin = λ is. absurd (false≢true is); plain = λ syn. refl }
 
   pub fin_says : HasFin p.fins (fin_position e.tcp.send) → SegmentShows acks p (fin_said c e)
-  fin_says h = record { window = w.alone; options = every_one _ (w.ack, tt); payload = inl refl; fin = λ is. (refl, h) }
+  fin_says h = record { window = w.alone; options = every_one _ (w.ack, tt); payload = inl refl; fin = λ is. (refl, h); plain = λ syn. absurd (false≢true syn) }
 
   pub reset_says : (reason : Option ℕ) → SegmentShows acks p (reset_said c reason e)
-  reset_says reason = record { window = w.alone; options = reset_options_say _ reason; payload = inl refl; fin = λ is. absurd (false≢true is) }
+  reset_says reason = record { window = w.alone; options = reset_options_say _ reason; payload = inl refl; fin = λ is. absurd (false≢true is); plain = λ syn. refl }
 
   -- a dead end's answer
   pub outgoing_says : (o : Outgoing) → o.fin ≡ false → SegmentShows acks p (segment_of c o [] [] e)
-  outgoing_says o none = record { window = window_at _ _ _ w o.syn; options = Every-nil _; payload = inl refl; fin = λ is. absurd (both_ways o.fin none is) }
+  outgoing_says o none = record { window = window_at _ _ _ w o.syn; options = Every-nil _; payload = inl refl; fin = λ is. absurd (both_ways o.fin none is); plain = λ syn. none }
 
   -- ---- records
 
@@ -108,9 +108,9 @@ module _ (c : Profile) (s : Side) (e : PathEnd) (acks : List AckCopy) (p : Lane)
     said_as kind r = segment_of c (record (record_segment e.tcp r) { syn = is_syn kind; fin = is_fin kind }) (record_options kind c s r e) r.piece e
 
     kind_says : (kind : RecordKind) (r : Record) → KindShows c s p.datas p.fins kind r → SegmentShows acks p (said_as kind r)
-    kind_says Syn r h = record { window = w.syn; options = syn_options_say _ s; payload = inl h; fin = λ is. absurd (false≢true is) }
-    kind_says Data r h = record { window = w.alone; options = piece_options_say r h.mapping; payload = inr h.octets; fin = λ is. absurd (false≢true is) }
-    kind_says Fin r h = record { window = w.alone; options = every_one _ (w.ack, tt); payload = inl h.0; fin = λ is. (h.0, h.1) }
+    kind_says Syn r h = record { window = w.syn; options = syn_options_say _ s; payload = inl h; fin = λ is. absurd (false≢true is); plain = λ syn. refl }
+    kind_says Data r h = record { window = w.alone; options = piece_options_say r h.mapping; payload = inr h.octets; fin = λ is. absurd (false≢true is); plain = λ syn. refl }
+    kind_says Fin r h = record { window = w.alone; options = every_one _ (w.ack, tt); payload = inl h.0; fin = λ is. (h.0, h.1); plain = λ syn. absurd (false≢true syn) }
 
     pub record_says : (r : Record) → RecordShows c s p.datas p.fins r → SegmentShows acks p (record_said c s r e)
     record_says r h = kind_says r.kind r h

@@ -187,6 +187,7 @@ pub record SegmentShows (acks : List AckCopy) (p : Lane) (sg : PlainSegment) : T
   pub options : Every (OptionShows (window_told sg.syn sg.window) acks p) sg.options
   pub payload : (sg.payload ≡ []) ⊎ HasData p.datas sg.position sg.payload
   pub fin : sg.fin ≡ true → (sg.payload ≡ []) × HasFin p.fins sg.position
+  pub plain : sg.syn ≡ true → sg.fin ≡ false
 
 abbrev pub FlightShows : Lane → Lane → Side → PlainSegment → Type 0
 FlightShows ab ba B sg = SegmentShows ba.acks ab sg
