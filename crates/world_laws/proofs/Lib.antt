@@ -16,3 +16,5 @@ pub mod Applying
 pub mod Journaling
 pub mod Rules
 pub mod Arriving
+pub mod Asking
+pub mod Trios

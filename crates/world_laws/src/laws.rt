@@ -1,5 +1,5 @@
 //! What holds of every connection, as clauses of functions that do nothing.
-ghost use Rattle.world_laws.specs.Laws.{SerialIsOne, StaysFine, OctetsDoAsValues};
+ghost use Rattle.world_laws.specs.Laws.{Always, SerialIsOne, StaysFine, OctetsDoAsValues, WritesTheFiles};
 ghost use Rattle.path_core.specs.Octets.{octets};
 ghost use Rattle.path_core.specs.Values.{values};
 
@@ -21,4 +21,11 @@ pub fn what_is_fine_stays_fine()
 /// numbers near those that its end expects.
 pub fn octets_do_as_values()
     ensures { OctetsDoAsValues }
+{}
+
+/// A law: at every moment, whatever the order of the steps, what a send book has as written is the front of its side's file,
+/// and it is closed only where that is the whole file.
+pub fn files_are_written()
+    ensures octets { Always octets WritesTheFiles }
+    ensures values { Always values WritesTheFiles }
 {}
