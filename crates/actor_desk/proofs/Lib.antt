@@ -1,3 +1,4 @@
 pub mod Falling
 pub mod InKind
 pub mod Small
+pub mod Entered

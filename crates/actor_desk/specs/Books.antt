@@ -1,7 +1,6 @@
 -- The six books with their journals, and what a call makes of them.
-use Rattle.std.specs.Prelude.{ℕ, ◌+◌, Option, Some, None, List, [], ◌∷◌, ◌++◌, map}
+use Rattle.std.specs.Prelude.{ℕ, ◌+◌, []}
 use Rattle.outside_kit.specs.declared.side.Side.{Side}
-use Rattle.outside_kit.specs.declared.side.Side.TheVariants as side
 use Rattle.stamped_book.specs.declared.stamped.Pass.{Pass}
 use Rattle.stamped_book.specs.Journal.{Journaled, book_of}
 use Rattle.stamped_book.specs.Entering.{next_stamp, after_entering}
@@ -20,10 +19,7 @@ use Rattle.control_book.specs.Replies as controlling
 use Rattle.control_book.specs.Steps as control
 use Rattle.actor_desk.specs.declared.ask.Ask.{Ask}
 use Rattle.actor_desk.specs.declared.ask.Ask.TheVariants as asks
-use Rattle.actor_desk.specs.declared.ask.Note.{Note}
-use Rattle.actor_desk.specs.declared.ask.Reply.{Reply}
-use Rattle.actor_desk.specs.Desk.{SixBooks, opened_books}
-use Rattle.actor_desk.specs.Journals.{send_note, reassembly_note, control_note}
+use Rattle.actor_desk.specs.Desk.{SixBooks}
 use Rattle.actor_desk.specs.Words.{pick}
 
 abbrev pub SendJournal : Type 0

@@ -1,5 +1,5 @@
 -- Which replies a call can have, whatever book gives them.
-use Rattle.std.specs.Prelude.{ℕ, ◌≡◌, ◌+◌, ◌≤◌, List, length}
+use Rattle.std.specs.Prelude.{ℕ, ◌≡◌, ◌+◌, ◌≤◌, List, length, Option, Some, None}
 use Rattle.send_book.specs.declared.call.SendCall.{SendCall}
 use Rattle.send_book.specs.declared.call.SendCall.TheVariants as send_calls
 use Rattle.send_book.specs.declared.call.SendReply.{SendReply}
@@ -98,6 +98,11 @@ IsOfKind (asks.Reassembly s call) (replies.Reassembly reply) = IsReassemblyKind 
 IsOfKind (asks.Control s call) (replies.Control reply) = IsControlKind call reply
 IsOfKind (asks.Local step) replies.Done = Unit {0}
 IsOfKind _ _ = ⊥
+
+-- the reply answers what was asked; where nothing was asked, no reply does
+abbrev pub AnswersTo : Option Ask → Reply → Type 0
+AnswersTo None reply = ⊥
+AnswersTo (Some ask) reply = IsOfKind ask reply
 
 -- ---- what the books answer is of the kind
 

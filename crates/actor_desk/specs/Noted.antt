@@ -1,6 +1,5 @@
 -- What a desk notes of the calls at each book, and what a call adds to it.
-use Rattle.std.specs.Prelude.{ℕ, ◌<◌, ◌^◌, ◌≡◌, Option, Some, None, List, [], ◌∷◌, ◌++◌, map}
-use Rattle.outside_kit.specs.declared.side.Side.{Side}
+use Rattle.std.specs.Prelude.{◌<◌, ◌^◌, ◌≡◌, Option, Some, None, List, [], ◌∷◌, ◌++◌, map}
 use Rattle.outside_kit.specs.declared.side.Side.TheVariants as side
 use Rattle.stamped_book.specs.declared.stamped.Pass.{Pass}
 use Rattle.actor_desk.specs.declared.ask.Ask.{Ask}

@@ -44,6 +44,7 @@ impl Model for Books {
 }
 
 impl Books {
+    ghost use Rattle.actor_desk.specs.Bounds.{AreSmall};
     ghost use Rattle.actor_desk.specs.Books.{books_in, unasked, after_send_entry, after_reassembly_entry, after_control_entry, after_entry, stamp_of};
     ghost use Rattle.actor_desk.specs.Desk.{send_of, reassembly_of, control_of, opened_books, reply_of};
     ghost use Rattle.actor_desk.specs.Journals.{is_local};
@@ -70,15 +71,21 @@ impl Books {
         })
     }
 
-    // A law: the marks of both send books are as many as their bytes.
-    fn tiled(&self)
-        ensures { AreTiled (books_in self.now) }
+    // A law: the marks of both send books are as many as their bytes, and the numbers of all six are small.
+    fn sound(&self)
+        ensures tiled { AreTiled (books_in self.now) }
+        ensures small { AreSmall (books_in self.now) }
     {
         marks_tile(self.send_a.book());
         marks_tile(self.send_b.book());
     }
 
-    fn ask_send(&mut self, pass: &mut Pass, side: Side, call: &SendCall) -> Result<SendReply, Refusal>
+    fn ask_send(
+        &mut self,
+        pass: &mut Pass,
+        side: Side,
+        call: &SendCall,
+    ) -> Result<SendReply, Refusal>
         requires { sending.CanAsk call.now }
         ensures reply { IfOk result (λ reply. reply ≡ sending.reply_to (send_of side (books_in self.old)) call.now) }
         ensures ok { OnOk result (self.new ≡ after_send_entry side call.now pass.old self.old) }
@@ -93,7 +100,12 @@ impl Books {
         }
     }
 
-    fn ask_reassembly(&mut self, pass: &mut Pass, side: Side, call: &ReassemblyCall) -> Result<ReassemblyReply, Refusal>
+    fn ask_reassembly(
+        &mut self,
+        pass: &mut Pass,
+        side: Side,
+        call: &ReassemblyCall,
+    ) -> Result<ReassemblyReply, Refusal>
         requires { arriving.CanAsk call.now }
         ensures reply { IfOk result (λ reply. reply ≡ arriving.reply_to (reassembly_of side (books_in self.old)) call.now) }
         ensures ok { OnOk result (self.new ≡ after_reassembly_entry side call.now pass.old self.old) }
@@ -108,7 +120,12 @@ impl Books {
         }
     }
 
-    fn ask_control(&mut self, pass: &mut Pass, side: Side, call: &ControlCall) -> Result<ControlReply, Refusal>
+    fn ask_control(
+        &mut self,
+        pass: &mut Pass,
+        side: Side,
+        call: &ControlCall,
+    ) -> Result<ControlReply, Refusal>
         requires { controlling.can_ask call.now }
         ensures reply { IfOk result (λ reply. reply ≡ control_replies.reply_to (control_of side (books_in self.old)) call.now) }
         ensures ok { OnOk result (self.new ≡ after_control_entry side call.now pass.old self.old) }
@@ -149,7 +166,8 @@ impl Desk for Books {
     ghost use Rattle.actor_desk.specs.Books.{books_in, origin_of, after_entry, stamp_of};
     ghost use Rattle.actor_desk.specs.Bounds.{IsBounded};
     ghost use Rattle.actor_desk.specs.Desk.{reply_of};
-    ghost use Rattle.actor_desk.specs.Kinds.{IsOfKind};
+    ghost use Rattle.actor_desk.specs.Journals.{is_local};
+    ghost use Rattle.actor_desk.specs.Kinds.{CanBeAsked, IsOfKind};
     ghost use Rattle.actor_desk.specs.Noted.{Rises, notes_in, note_of, noted};
 
     ghost serves = { λ books actor. Unit {0} };
@@ -163,6 +181,8 @@ impl Desk for Books {
     /// Asks a book. What it answers is the book's own reply; its journal has one entry more, and the other five books stay.
     /// Every actor is served. After a refusal all is as before.
     fn call(&mut self, pass: &mut Pass, ask: &Ask) -> Result<Reply, Refusal>
+        requires book { is_local ask.now ≡ false }
+        requires conditions { CanBeAsked ask.now }
         ensures reply { IfOk result (λ reply. reply ≡ reply_of (books_in self.old) ask.now) }
         ensures ok { OnOk result (self.new ≡ after_entry ask.now pass.old self.old) }
         ensures pass { OnOk result (pass.new ≡ record pass.old { stamp = stamp_of ask.now self.old pass.old }) }
@@ -175,7 +195,7 @@ impl Desk for Books {
         ensures notes { IfOk result (λ reply. Some (notes_in self.new) ≡ noted (Some (notes_in self.old)) (note_of pass.old pass.new ask.now reply)) }
         ensures origin { origin_of self.new ≡ origin_of self.old }
     {
-        self.tiled();
+        self.sound();
         self.enter(pass, ask)
     }
 }

@@ -10,6 +10,8 @@ mod copies;
 mod desk;
 mod laws;
 mod notes;
+#[cfg(test)]
+mod tests;
 
 pub use ask::{Ask, LocalStep, Note, Reply};
 pub use books::Books;

@@ -1,1 +1,3 @@
 pub mod AppEnds
+pub mod Asking
+pub mod Written

@@ -24,9 +24,12 @@ app_stands Close a = is_nil a.rest && not a.closed
 app_stands Read a = not a.told
 app_stands End a = true
 
--- at most as many octets as a side buffers are offered at once
+-- the next bytes of its file: at most as many as a side buffers are offered at once
+abbrev pub offered : AppState → List ℕ
+offered a = take a.buffer a.rest
+
 abbrev pub app_ask : AppDuty → AppState → Ask
-app_ask Write a = asks.Send a.side (send_calls.Write (take a.buffer a.rest))
+app_ask Write a = asks.Send a.side (send_calls.Write (offered a))
 app_ask Close a = asks.Send a.side send_calls.Close
 app_ask Read a = asks.Reassembly a.side (reassembly_calls.Read 65536)
 app_ask End a = asks.Local steps.End
@@ -82,6 +85,11 @@ app_asks_first (d ∷ ds) a = Some (app_ask d a)
 
 abbrev pub app_asks_of : AppState → Option Ask
 app_asks_of a = app_asks_first a.agenda a
+
+-- the ask has bytes
+abbrev pub asks_bytes : List AppDuty → Bool
+asks_bytes (Write ∷ ds) = true
+asks_bytes _ = false
 
 abbrev pub app_answers : List AppDuty → Reply → AppState → AppState
 app_answers [] r a = a

@@ -1,5 +1,6 @@
 pub mod Apps
 pub mod AppSteps
+pub mod Kept
 pub mod Starts
 pub mod Turns
 pub mod Example

@@ -1,8 +1,8 @@
 -- That a turn of an application ends, whatever it is answered.
-use Rattle.std.specs.Prelude.{◌≡◌, true, Some, List, [], ◌∷◌}
+use Rattle.std.specs.Prelude.{◌≡◌, true, Some, IfSome, List, [], ◌∷◌}
 use Rattle.actor_desk.specs.declared.ask.Ask.{Ask}
 use Rattle.actor_desk.specs.declared.ask.Reply.{Reply}
-use Rattle.actor_desk.specs.Kinds.{IsOfKind}
+use Rattle.actor_desk.specs.Kinds.{CanBeAsked, IsOfKind}
 use Rattle.stream_apps.specs.declared.duty.AppDuty.{AppDuty}
 use Rattle.stream_apps.specs.Apps.{AppState}
 use Rattle.stream_apps.specs.AppSteps.{app_stands, app_asks_of, app_takes}
@@ -23,3 +23,7 @@ IsAppSettled a = FirstAppStands a.agenda a
 -- An application whose first duty comes to something ends its turn, whatever replies of the asked kind come.
 abbrev pub EveryAppTurnEnds : Type 0
 EveryAppTurnEnds = (a : AppState) → IsAppSettled a → AppEnds a
+
+-- What an application asks meets the conditions of the book that it asks.
+abbrev pub EveryAppAskCanBeAsked : Type 0
+EveryAppAskCanBeAsked = (a : AppState) → IfSome (app_asks_of a) CanBeAsked

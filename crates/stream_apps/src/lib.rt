@@ -2,8 +2,12 @@
 //! reads from its side's reassembly book what has come.
 #![tactic(auto)]
 
+mod app;
 mod duty;
 mod laws;
+#[cfg(test)]
+mod tests;
 
+pub use app::App;
 pub use duty::AppDuty;
-pub use laws::{every_app_turn_ends, first_app_turns};
+pub use laws::{app_asks_can_be_asked, every_app_turn_ends, first_app_turns};

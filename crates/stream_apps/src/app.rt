@@ -1,0 +1,261 @@
+//! An application of a connection, and its turns.
+ghost use Rattle.std.specs.Prelude.{◌≡◌, ◌≤◌, true, false, Some, [], ◌∷◌, length, IfOk, IsOk};
+ghost use Rattle.stream_apps.specs.declared.duty.AppDuty.TheVariants as duty;
+ghost use Rattle.stream_apps.specs.AppSteps.{taken_in, bytes_in, ends_in};
+
+use crate::duty::AppDuty;
+use actor_desk::{Ask, LocalStep, Reply};
+use outside_kit::Side;
+use pipe_model::Text;
+use reassembly_book::{ReassemblyCall, ReassemblyReply};
+use send_book::{SendCall, SendReply};
+use std::alloc::{AllocError, Global};
+use std::marker::Model;
+
+/// How many bytes are read at once, at most.
+const READ_MAX: u32 = 65_536;
+
+/// The application of one side. In a turn it offers the next bytes of its file once, says once that it writes no more, and
+/// reads until nothing is there, the stream ended or was aborted, or it has read as many bytes as a side buffers.
+#[derive(Debug, Drop)]
+pub struct App {
+    side: Side,
+    /// How many octets a side buffers.
+    buffer: u64,
+    /// All that it writes.
+    file: Text,
+    /// How many octets of the file are written.
+    written: usize,
+    /// Whether it told that it writes no more.
+    closed: bool,
+    /// Whether it was told that the stream ended, or was aborted.
+    told: bool,
+    /// How many octets it read in this turn.
+    count: u64,
+    /// What it does next; nothing where its turn ended.
+    due: Option<AppDuty>,
+}
+
+impl Model for App {
+    ghost use Rattle.stream_apps.specs.Apps.{AppState};
+    ghost use Rattle.stream_apps.specs.Kept.{shown, IsKept};
+
+    ghost Value = { AppState };
+
+    ghost view = { λ a. shown a.side a.buffer a.file a.written a.closed a.told a.count a.due };
+
+    ghost invariant = { λ a. IsKept a.buffer a.file a.written a.count a.due };
+}
+
+impl App {
+    ghost use Rattle.actor_desk.specs.Kinds.{AnswersTo};
+    ghost use Rattle.stream_apps.specs.AppSteps.{app_answered, app_asks_of, app_done, app_next_round, app_settled, app_settles_down, app_takes, asks_bytes, offered};
+    ghost use Rattle.stream_apps.specs.Kept.{agenda_from};
+    ghost use Rattle.stream_apps.specs.Starts.{first_app_turn};
+    ghost use Rattle.actor_desk.specs.Words.{is_nil};
+
+    /// The application of a side at the start of its first turn. A side buffers `buffer` octets, 1 to 1,048,576. It takes no
+    /// memory.
+    pub fn new(side: Side, buffer: u64, file: Text) -> Self
+        requires some { 1 ≤ buffer }
+        requires most { buffer ≤ 1048576 }
+        ensures { result ≡ first_app_turn side buffer file }
+    {
+        let mut app = App {
+            side,
+            buffer,
+            file,
+            written: 0,
+            closed: false,
+            told: false,
+            count: 0,
+            due: None,
+        };
+        app.next_round();
+        app
+    }
+
+    /// Whose application it is.
+    pub fn side(&self) -> Side
+        ensures { result ≡ self.now.side }
+    {
+        self.side
+    }
+
+    /// Whether it was told that the stream ended, or was aborted.
+    pub fn is_told(&self) -> bool
+        ensures { result ≡ self.now.told }
+    {
+        self.told
+    }
+
+    /// Whether its turn ended.
+    pub fn has_ended(&self) -> bool
+        ensures { result ≡ is_nil self.now.agenda }
+    {
+        self.due.is_none()
+    }
+
+    /// What it asks; nothing where its turn ended. Only an ask with bytes takes memory, for their copy.
+    pub fn ask(&self, alloc: Global) -> Result<Option<Ask>, AllocError>
+        ensures ask { IfOk result (λ ask. ask ≡ app_asks_of self.now) }
+        ensures plain { asks_bytes self.now.agenda ≡ false → IsOk result }
+    {
+        match self.due {
+            Some(AppDuty::Write) => {
+                let bytes = Text::of(alloc, self.offered())?;
+                Ok(Some(Ask::Send(self.side, SendCall::Write { bytes })))
+            }
+            Some(AppDuty::Close) => Ok(Some(Ask::Send(self.side, SendCall::Close))),
+            Some(AppDuty::Read) => {
+                let call = ReassemblyCall::Read { max: READ_MAX };
+                Ok(Some(Ask::Reassembly(self.side, call)))
+            }
+            Some(AppDuty::End) => Ok(Some(Ask::Local(LocalStep::End))),
+            None => Ok(None),
+        }
+    }
+
+    /// Takes the reply to what it asks, and goes on to what it asks next. It takes no memory.
+    pub fn take(&mut self, reply: &Reply)
+        requires { AnswersTo (app_asks_of self.old) reply.now }
+        ensures { self.new ≡ app_takes reply.now self.old }
+    {
+        match self.due {
+            Some(AppDuty::Write) => self.wrote(reply),
+            Some(AppDuty::Close) => self.close(),
+            Some(AppDuty::Read) => self.read(reply),
+            Some(AppDuty::End) | None => self.due = None,
+        }
+    }
+
+    /// Begins the next turn. It takes no memory.
+    pub fn next_round(&mut self)
+        ensures { self.new ≡ app_next_round self.old }
+    {
+        self.count = 0;
+        self.due = Some(self.from_write());
+    }
+
+    // The next bytes of the file, as many as a side buffers at most.
+    fn offered(&self) -> &[u8]
+        ensures { result.now ≡ offered self.now }
+    {
+        let rest = &self.file.as_bytes()[self.written..];
+        &rest[..rest.len().min(self.buffer as usize)]
+    }
+
+    // Whether its file has no byte left.
+    fn is_written(&self) -> bool
+        ensures { result ≡ is_nil self.now.rest }
+    {
+        self.written == self.file.len()
+    }
+
+    // What it does from a read on.
+    fn from_read(&self) -> AppDuty
+        ensures { agenda_from (Some result) ≡ (app_settled (duty.Read ∷ duty.End ∷ []) self.now).agenda }
+    {
+        if self.told {
+            AppDuty::End
+        } else {
+            AppDuty::Read
+        }
+    }
+
+    // What it does from the close on.
+    fn from_close(&self) -> AppDuty
+        ensures { agenda_from (Some result) ≡ (app_settled (duty.Close ∷ duty.Read ∷ duty.End ∷ []) self.now).agenda }
+    {
+        if self.is_written() && !self.closed {
+            AppDuty::Close
+        } else {
+            self.from_read()
+        }
+    }
+
+    // What it does from a write on.
+    fn from_write(&self) -> AppDuty
+        ensures { agenda_from (Some result) ≡ (app_settled (duty.Write ∷ duty.Close ∷ duty.Read ∷ duty.End ∷ []) self.now).agenda }
+    {
+        if self.is_written() {
+            self.from_close()
+        } else {
+            AppDuty::Write
+        }
+    }
+
+    // How many of the bytes that it offered were taken.
+    fn taken(&self, reply: &Reply) -> usize
+        requires due { self.now.agenda ≡ agenda_from (Some duty.Write) }
+        requires kind { AnswersTo (app_asks_of self.now) reply.now }
+        ensures value { result ≡ taken_in reply.now }
+        ensures within { result ≤ length self.now.rest }
+    {
+        taken_in(reply) as usize
+    }
+
+    fn wrote(&mut self, reply: &Reply)
+        requires due { self.old.agenda ≡ agenda_from (Some duty.Write) }
+        requires kind { AnswersTo (app_asks_of self.old) reply.now }
+        ensures { self.new ≡ app_takes reply.now self.old }
+    {
+        let _len = self.file.len();
+        self.written += self.taken(reply);
+        self.due = Some(self.from_close());
+    }
+
+    fn close(&mut self)
+        requires { self.old.agenda ≡ agenda_from (Some duty.Close) }
+        ensures { self.new ≡ app_settles_down (record (app_done self.old) { closed = true }) }
+    {
+        self.closed = true;
+        self.due = Some(self.from_read());
+    }
+
+    fn read(&mut self, reply: &Reply)
+        requires due { self.old.agenda ≡ agenda_from (Some duty.Read) }
+        requires kind { AnswersTo (app_asks_of self.old) reply.now }
+        ensures { self.new ≡ app_takes reply.now self.old }
+    {
+        let came = count_in(reply);
+        self.count += came;
+        self.told = self.told || ends_in(reply);
+        let reads_on = came > 0 && self.count < self.buffer;
+        self.due = Some(if reads_on {
+            self.from_read()
+        } else {
+            AppDuty::End
+        });
+    }
+}
+
+// How many bytes were taken.
+fn taken_in(reply: &Reply) -> u64
+    ensures { result ≡ taken_in reply.now }
+{
+    match reply {
+        Reply::Send(SendReply::Taken(count)) => *count,
+        _ => 0,
+    }
+}
+
+// How many bytes came.
+fn count_in(reply: &Reply) -> u64
+    ensures { result ≡ length (bytes_in reply.now) }
+{
+    match reply {
+        Reply::Reassembly(ReassemblyReply::Bytes(bytes)) => bytes.len() as u64,
+        _ => 0,
+    }
+}
+
+// Whether the stream ended, or was aborted.
+fn ends_in(reply: &Reply) -> bool
+    ensures { result ≡ ends_in reply.now }
+{
+    matches!(
+        reply,
+        Reply::Reassembly(ReassemblyReply::End | ReassemblyReply::Aborted { .. })
+    )
+}
