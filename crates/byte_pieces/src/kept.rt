@@ -89,6 +89,7 @@ impl BytePieces {
         requires { at + length bytes.now ≤ 2 ^ 62 }
         ensures ok { OnOk result (self.new ≡ after_put at bytes.now self.old) }
         ensures count { IfOk result (λ count. count + kept_count self.old.places ≡ kept_count self.new.places) }
+        ensures few { IfOk result (λ count. count ≤ length bytes.now) }
         ensures err { OnErr result (self.new ≡ self.old) }
     {
         let passed = bytes.len().min(self.from.saturating_sub(at) as usize);

@@ -31,5 +31,13 @@ fn bytes_in_any_order(rt: HostRuntime) -> Result<(), Fail> {
     );
     kept.drop_front(11);
     assert_in_order(&rt, &kept, [b"b", b"C", b"", b""]);
+    kept.hold(10, b"?Bcde")?;
+    assert_eq!(rt; kept.in_order_end(), 13);
+    kept.keep_held();
+    assert_in_order(&rt, &kept, [b"b", b"C", b"de", b""]);
+    kept.hold(15, b"f")?;
+    kept.drop_held();
+    kept.keep_held();
+    assert_eq!(rt; kept.top(), 15);
     Ok(())
 }

@@ -59,6 +59,31 @@ fn the_first_mapping_is_told(rt: HostRuntime) -> Result<(), Fail> {
     Ok(())
 }
 
+/// Three mappings are held: the first is learned, the second has another place at position 5 and is passed over, and the
+/// third is learned.
+#[test]
+fn mappings_wait_until_they_are_treated(rt: HostRuntime) -> Result<(), Fail> {
+    let mut mappings = Mappings::new(rt.alloc());
+    let mut told = Vec::new(rt.alloc());
+    for (pos, place) in [(1, 0), (5, 9), (11, 10)] {
+        told.push(KeptMapping {
+            pos,
+            place,
+            mapping: mapping(10),
+        })?;
+    }
+    assert_eq!(rt; hold(&mut mappings, told)?, true);
+    assert_eq!(rt; mappings.held_clashes(), false);
+    mappings.learn_held();
+    assert_eq!(rt; mappings.place_of(10), Some(9));
+    assert_eq!(rt; mappings.held_clashes(), true);
+    mappings.skip_held();
+    mappings.learn_held();
+    assert_eq!(rt; mappings.place_of(20), Some(19));
+    assert_eq!(rt; mappings.first_held(), None);
+    Ok(())
+}
+
 /// 4,096 mappings in an order that jumps about, which become one run; one with another distance stays a run of its own.
 #[test]
 fn each_place_is_told(rt: HostRuntime) -> Result<(), Fail> {

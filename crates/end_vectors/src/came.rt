@@ -50,7 +50,7 @@ fn arrive_as(
     let Ok(segment) = parse(octets, &ADDRESSES) else {
         return Err(CaseFault::Form);
     };
-    if segment.payload().len() > 65_535 || end.pending().is_some() {
+    if segment.payload().len() > 65_535 {
         return Err(CaseFault::Form);
     }
     let hint = Hint {

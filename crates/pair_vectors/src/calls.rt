@@ -49,7 +49,7 @@ fn addresses_from(side: Side) -> Addresses {
 
 /// A segment comes to the end.
 fn take(end: &mut Subflow, segment: &SegmentRef<'_>, now: u32) -> Result<(), CaseFault> {
-    if segment.payload().len() > 65_535 || end.pending().is_some() {
+    if segment.payload().len() > 65_535 {
         return Err(CaseFault::Form);
     }
     end.arrive(segment, &HINT, u64::from(now))?;

@@ -15,7 +15,7 @@ use Rattle.path_core.specs.Codec.{Codec, HeardSegment}
 use Rattle.path_core.specs.Ends.{PathEnd}
 use Rattle.path_core.specs.Events.{tick_of, next_line, next_copy, next_fire, earlier, earliest, before, next_event, is_death, died, died_unless_dead, after_line, line_taken, at_tick, copy_heard, heard_in, copy_taken, timer_fired, happens, happens_if}
 use Rattle.path_core.specs.declared.event.Event.{Event}
-use Rattle.path_core.specs.declared.event.Event.TheVariants as event
+use Rattle.path_core.specs.declared.event.Event.TheVariants as happenings
 use Rattle.path_core.specs.Ranks.{ticks_left, one_if_due, due_copies, due_lines, due_timer, due_by_now}
 use Rattle.path_core.specs.State.{PathState, end_at}
 use Rattle.path_core.specs.declared.lines.LineLeft.{LineLeft}
@@ -186,21 +186,21 @@ module _ {C : Type 0} where
       → tick_of event < p.until → Lowers p (happens k event p)
   by_line k p [] event t is e soon = cc
   by_line k p (line ∷ lines) event t is e soon =
-      let same : event.Takes line ≡ event = cc in
+      let same : happenings.Takes line ≡ event = cc in
       subst (λ x. tick_of x < p.until → Lowers p (happens k x p)) same (λ soon. line_lowers line lines p t is soon) soon
 
   by_copy : (k : Codec C) (p : PathState C) (flights : List (Flight C)) (event : Event) → TakesTime p → p.link.under_way ≡ flights
       → next_copy (next_due flights) ≡ Some event → tick_of event < p.until → Lowers p (happens k event p)
   by_copy k p [] event t is e soon = cc
   by_copy k p (f ∷ flights) event t is e soon =
-      let same : event.Arrives (due_of f) ≡ event = cc in
+      let same : happenings.Arrives (due_of f) ≡ event = cc in
       subst (λ x. tick_of x < p.until → Lowers p (happens k x p)) same (λ soon. copy_lowers k f flights p t is soon) soon
 
   by_timer : (k : Codec C) (s : Side) (p : PathState C) (timer : Option ℕ) (event : Event) → TakesTime p → (end_at s p).tcp.timing.timer ≡ timer
       → next_fire s timer ≡ Some event → tick_of event < p.until → Lowers p (happens k event p)
   by_timer k s p None event t is e soon = cc
   by_timer k s p (Some tick) event t is e soon =
-      let same : event.Fires s tick ≡ event = cc in
+      let same : happenings.Fires s tick ≡ event = cc in
       subst (λ x. tick_of x < p.until → Lowers p (happens k x p)) same (λ soon. fire_lowers s tick p t is soon) soon
 
   pub event_lowers : (k : Codec C) (p : PathState C) → TakesTime p → is_some (next_event p) ≡ true → Lowers p (happens_if k (next_event p) p)

@@ -1,8 +1,16 @@
 pub mod Ranking
 pub mod Resting
-pub mod Passing
+pub mod Passed
+pub mod FirstTold
+pub mod Parts
+pub mod Mapped
+pub mod Filling
 pub mod Sendings
 pub mod Happening
 pub mod Lowering
 pub mod TurnEnds
 pub mod Showing
+mod Things
+mod Sayable
+mod InBounds
+mod Settling

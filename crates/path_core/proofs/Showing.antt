@@ -25,7 +25,7 @@ use Rattle.actor_desk.specs.Words.{tail_of}
 use Rattle.subflow_tcp.specs.declared.segments.Occasion.TheVariants as to_send
 use Rattle.path_core.specs.Events.{is_death, after_line, at_tick, copy_heard, heard_in, copy_taken, happens_if, died, step_for, next_event}
 use Rattle.path_core.specs.declared.event.Event.{Event}
-use Rattle.path_core.specs.declared.event.Event.TheVariants as event
+use Rattle.path_core.specs.declared.event.Event.TheVariants as happenings
 use Rattle.fallback_state.specs.declared.fall.Event.TheVariants as events
 use Rattle.subflow_send.specs.Records.{Record}
 use Rattle.path_core.specs.declared.heard.Heard.{Heard}
@@ -357,12 +357,12 @@ same_copy due p fresh =
     ∙ same_copy_heard due.to heard (record (at_tick due.tick p) { link = after_delivery due p.link })
 
 same_happening : (o : Option Event) (p : PathState Carried)
-    → ((due : Due) (flight : Flight Carried) → o ≡ Some (event.Arrives due) → arriving due p.link ≡ Some flight → IsFreshCopy p due.to flight.carried)
+    → ((due : Due) (flight : Flight Carried) → o ≡ Some (happenings.Arrives due) → arriving due p.link ≡ Some flight → IsFreshCopy p due.to flight.carried)
     → happens_if octets o (shown_path p) ≡ shown_path (happens_if values o p)
 same_happening None p fresh = refl
-same_happening (Some (event.Takes line)) p fresh = same_line (is_death line.line) (record (at_tick line.tick p) { lines = tail_of p.lines })
-same_happening (Some (event.Arrives due)) p fresh = same_copy due p (λ flight is. fresh due flight refl is)
-same_happening (Some (event.Fires s tick)) p fresh = refl
+same_happening (Some (happenings.Takes line)) p fresh = same_line (is_death line.line) (record (at_tick line.tick p) { lines = tail_of p.lines })
+same_happening (Some (happenings.Arrives due)) p fresh = same_copy due p (λ flight is. fresh due flight refl is)
+same_happening (Some (happenings.Fires s tick)) p fresh = refl
 
 -- ---- every duty
 

@@ -13,7 +13,7 @@ use Rattle.path_core.specs.Agenda.{start_of_turn}
 use Rattle.path_core.specs.Turns.{Ends, TakesTime, FirstStands, IsSettled}
 use Rattle.actor_desk.proofs.Falling.{Ending, Then, less-ends, then-ends}
 use Rattle.path_core.proofs.Lowering.{answered_lowers}
-use Rattle.path_core.proofs.Passing.{settled_lower}
+use Rattle.path_core.proofs.Passed.{settled_lower}
 use Rattle.path_core.proofs.Ranking.{Calm, Rest, Lower, Lowers}
 
 module _ {C : Type 0} where

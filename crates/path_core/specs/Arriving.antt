@@ -1,5 +1,5 @@
 -- A copy that arrives: what it says, and what it makes of the end at once. The rest is treated duty by duty.
-use Rattle.std.specs.Prelude.{ℕ, ◌+◌, ◌-◌, ◌%◌, ◌^◌, ◌&&◌, not, Bool, true, false, nat_lt, nat_le, if◌then◌else◌, unwrap_or, Option, Some, None, List, [], ◌∷◌, ◌++◌, length, take}
+use Rattle.std.specs.Prelude.{ℕ, ◌+◌, ◌-◌, ◌%◌, ◌^◌, ◌<◌, ◌≤◌, ◌&&◌, not, Bool, true, false, nat_lt, nat_le, if◌then◌else◌, unwrap_or, Option, Some, None, List, [], ◌∷◌, ◌++◌, length, take}
 use Rattle.std.specs.List.{flat_map, list_any}
 use Rattle.outside_kit.specs.declared.side.Side.{Side}
 use Rattle.outside_kit.specs.declared.side.Side.TheVariants.{A, B}
@@ -21,6 +21,7 @@ use Rattle.subflow_tcp.specs.declared.handshake.State.{State as EndPhase}
 use Rattle.subflow_tcp.specs.State.{EndState}
 use Rattle.subflow_tcp.specs.Segments.{Copy, occupied}
 use Rattle.subflow_tcp.specs.States.{is_half_open}
+use Rattle.subflow_tcp.specs.Judging.{meaning_of}
 use Rattle.subflow_tcp.specs.Taking.{after_arrival, after_holding}
 use Rattle.subflow_tcp.specs.Closing.{after_owing}
 use Rattle.path_core.specs.declared.duty.Duty.{Duty}
@@ -137,6 +138,11 @@ wants_ack (says.DataFin place) = true
 wants_ack (says.Keys own peer) = true
 wants_ack _ = false
 
+-- it has at most 65,535 octets, and its position is below 2^63
+pub record IsShortCopy (c : Copy) : Type 0 where
+  pub small : length c.payload ≤ 65535
+  pub low : unwrap_or c.position 0 < 2 ^ 63
+
 -- ---- a dead end's answer
 
 -- the position at which a side's subflow has the number 0
@@ -166,12 +172,12 @@ reset_for c s copy = reset_by c s copy.acknowledged (unwrap_or copy.position 0) 
 abbrev pub hint_of : Side → HeardSegment → Hint
 hint_of s h = record { data_ack = place_in_first (items_of s h); keep = false }
 
-abbrev pub treated_of : Profile → Side → Bool → HeardSegment → Treated
-treated_of c s opened h = record nothing_treated {
+abbrev pub treated_of : Side → Bool → HeardSegment → Outgoing → Treated
+treated_of s opened h answer = record nothing_treated {
   items = items_of s h;
   opened = opened;
   has_option = not (is_nil h.options);
-  answer = Some (reset_for c s (copy_of h));
+  answer = Some answer;
 }
 
 abbrev pub owing_if : Bool → EndState → EndState
@@ -193,24 +199,42 @@ abbrev pub with_payload : Meaning → List ℕ → EndState → EndState
 with_payload (means.Taken position acknowledged) octets tcp = if is_nil octets then tcp else after_holding position octets tcp
 with_payload meaning octets tcp = tcp
 
--- the subflow takes it, and its payload and its mappings are held; the rest is still to be treated
-abbrev pub after_meaning : Profile → Side → ℕ → HeardSegment → Meaning → PathEnd → PathEnd
-after_meaning c s now h meaning e = record e {
-  tcp = owing_if (owes_by meaning (items_of s h)) (after_arrival meaning (hint_of s h) now (copy_of h) (with_payload meaning h.payload e.tcp));
-  receiving = record e.receiving { mappings = after_hold (held_of c s h) e.receiving.mappings };
-  treated = treated_of c s (opens_by meaning e.tcp.state) h;
+-- so are its mappings
+abbrev pub with_held : List KeptMapping → HeardSegment → Meaning → PathEnd → PathEnd
+with_held told h meaning e = record e {
+  tcp = with_payload meaning h.payload e.tcp;
+  receiving = record e.receiving { mappings = after_hold told e.receiving.mappings };
 }
 
+-- the subflow takes it, and the rest is still to be treated
+abbrev pub after_copy : Outgoing → Side → ℕ → HeardSegment → Meaning → PathEnd → PathEnd
+after_copy answer s now h meaning e = record e {
+  tcp = owing_if (owes_by meaning (items_of s h)) (after_arrival meaning (hint_of s h) now (copy_of h) e.tcp);
+  treated = treated_of s (opens_by meaning e.tcp.state) h answer;
+}
+
+abbrev pub after_meaning : Profile → Side → ℕ → HeardSegment → Meaning → PathEnd → PathEnd
+after_meaning c s now h meaning e = after_copy (reset_for c s (copy_of h)) s now h meaning (with_held (held_of c s h) h meaning e)
+
+-- a segment that says these mappings, and is answered so at a dead end, whatever it means
+abbrev pub segment_heard : List KeptMapping → Outgoing → Side → ℕ → HeardSegment → PathEnd → PathEnd
+segment_heard told answer s now h e =
+    let meaning = meaning_of (copy_of h) e.tcp in after_copy answer s now h meaning (with_held told h meaning e)
+
 -- and what is to be done then
+abbrev pub template_by : Side → ℕ → Meaning → List Duty
+template_by s count means.Ignored = emission s
+template_by s count means.Unwanted = answers_dead s
+template_by s count means.Opens = syn_came s
+template_by s count (means.Accepts acknowledged) = syn_ack_came s
+template_by s count means.RepeatedSyn = syn_again s
+template_by s count means.Outside = answers s
+template_by s count means.Kills = leaves s
+template_by s count means.Challenged = answers s
+template_by s count means.Unacknowledging = emission s
+template_by s count means.Ahead = answers s
+template_by s count (means.Taken position acknowledged) = copy_came s count
+
+-- by how many things it says
 abbrev pub template_of : Side → List Heard → Meaning → List Duty
-template_of s items means.Ignored = emission s
-template_of s items means.Unwanted = answers_dead s
-template_of s items means.Opens = syn_came s
-template_of s items (means.Accepts acknowledged) = syn_ack_came s
-template_of s items means.RepeatedSyn = syn_again s
-template_of s items means.Outside = answers s
-template_of s items means.Kills = leaves s
-template_of s items means.Challenged = answers s
-template_of s items means.Unacknowledging = emission s
-template_of s items means.Ahead = answers s
-template_of s items (means.Taken position acknowledged) = copy_came s (length items)
+template_of s items meaning = template_by s (length items) meaning

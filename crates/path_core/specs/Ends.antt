@@ -36,6 +36,11 @@ pub record Receiving : Type 0 where
   -- which place each position has
   pub mappings : Mappings
 
+-- the same, and for how many mappings more there is room
+pub record ReceivingStore : Type 0 where
+  pub receiving : Receiving
+  pub ready : ℕ
+
 -- what the last copy said, as far as it is still to be treated; its payload and its mappings are held beside what they are
 -- to be put to
 pub record Treated : Type 0 where

@@ -1,5 +1,5 @@
 -- What happens on a path by itself: lines of the script, copies that arrive, timers that run out.
-use Rattle.std.specs.Prelude.{ℕ, max, Bool, true, false, nat_lt, nat_le, if◌then◌else◌, Option, Some, None, List, [], ◌∷◌, ◌++◌}
+use Rattle.std.specs.Prelude.{ℕ, max, ◌<◌, IsSome, Bool, true, false, nat_lt, nat_le, if◌then◌else◌, Option, Some, None, List, [], ◌∷◌, ◌++◌}
 use Rattle.std.specs.Option.{option_and_then}
 use Rattle.outside_kit.specs.declared.side.Side.{Side}
 use Rattle.outside_kit.specs.declared.side.Side.TheVariants.{A, B}
@@ -17,7 +17,7 @@ use Rattle.actor_desk.specs.declared.ask.Ask.TheVariants as asks
 use Rattle.actor_desk.specs.declared.ask.LocalStep.TheVariants as steps
 use Rattle.path_core.specs.declared.duty.Duty.{Duty}
 use Rattle.path_core.specs.declared.event.Event.{Event}
-use Rattle.path_core.specs.declared.event.Event.TheVariants as event
+use Rattle.path_core.specs.declared.event.Event.TheVariants as happenings
 use Rattle.path_core.specs.declared.duty.Duty.TheVariants as duties
 use Rattle.path_core.specs.Agenda.{rest_of_turn, emission, expired, expired_for_ever}
 use Rattle.path_core.specs.Arriving.{expected_by, copy_of, items_of, after_meaning, template_of}
@@ -28,23 +28,23 @@ use Rattle.path_core.specs.declared.lines.LineLeft.{LineLeft}
 use Rattle.actor_desk.specs.Words.{tail_of}
 
 abbrev pub tick_of : Event → ℕ
-tick_of (event.Takes line) = line.tick
-tick_of (event.Arrives due) = due.tick
-tick_of (event.Fires s tick) = tick
+tick_of (happenings.Takes line) = line.tick
+tick_of (happenings.Arrives due) = due.tick
+tick_of (happenings.Fires s tick) = tick
 
 -- ---- which is next
 
 abbrev pub next_line : List LineLeft → Option Event
 next_line [] = None
-next_line (line ∷ lines) = Some (event.Takes line)
+next_line (line ∷ lines) = Some (happenings.Takes line)
 
 abbrev pub next_copy : Option Due → Option Event
 next_copy None = None
-next_copy (Some due) = Some (event.Arrives due)
+next_copy (Some due) = Some (happenings.Arrives due)
 
 abbrev pub next_fire : Side → Option ℕ → Option Event
 next_fire s None = None
-next_fire s (Some tick) = Some (event.Fires s tick)
+next_fire s (Some tick) = Some (happenings.Fires s tick)
 
 -- the earlier one; at one tick the first
 abbrev pub earlier : Option Event → Option Event → Option Event
@@ -67,14 +67,20 @@ abbrev pub next_event : {C : Type 0} → PathState C → Option Event
 next_event p = option_and_then (before p.until) (earliest p)
 
 abbrev pub step_of : Event → Ask
-step_of (event.Takes line) = asks.Local (steps.Line line.number)
-step_of (event.Arrives due) = asks.Local (steps.Arrive due.to due.copy)
-step_of (event.Fires s tick) = asks.Local (steps.Fire s)
+step_of (happenings.Takes line) = asks.Local (steps.Line line.number)
+step_of (happenings.Arrives due) = asks.Local (steps.Arrive due.to due.copy)
+step_of (happenings.Fires s tick) = asks.Local (steps.Fire s)
 
 -- the step of an event that may be there
 abbrev pub step_for : Option Event → Ask
 step_for None = asks.Local steps.End
 step_for (Some event) = step_of event
+
+-- it comes before the round's end, and is there: a copy is under way, and a timer runs
+abbrev pub CanHappen : {C : Type 0} → Event → PathState C → Type 0
+CanHappen (happenings.Takes line) p = line.tick < p.until
+CanHappen (happenings.Arrives due) p = (due.tick < p.until) × IsSome (arriving due p.link)
+CanHappen (happenings.Fires s tick) p = (tick < p.until) × IsSome (end_at s p).tcp.timing.timer
 
 -- ---- what each makes of the path
 
@@ -113,12 +119,15 @@ after_line death p = if death then path_died p else with_agenda rest_of_turn p
 abbrev pub line_taken : {C : Type 0} → LineLeft → PathState C → PathState C
 line_taken line p = after_line (is_death line.line) (record (at_tick line.tick p) { lines = tail_of p.lines })
 
--- a copy that doesn't parse is dropped
-abbrev pub copy_heard : {C : Type 0} → Side → Option HeardSegment → PathState C → PathState C
-copy_heard s None p = with_agenda (emission s) p
-copy_heard s (Some h) p =
+-- what is heard at this tick; a copy that doesn't parse is dropped
+abbrev pub heard_at : {C : Type 0} → ℕ → Side → Option HeardSegment → PathState C → PathState C
+heard_at now s None p = with_agenda (emission s) p
+heard_at now s (Some h) p =
     let e = end_at s p in let meaning = meaning_of (copy_of h) e.tcp in
-    goes_on s (after_meaning p.profile s p.clock h meaning e) (template_of s (items_of s h) meaning) p
+    goes_on s (after_meaning p.profile s now h meaning e) (template_of s (items_of s h) meaning) p
+
+abbrev pub copy_heard : {C : Type 0} → Side → Option HeardSegment → PathState C → PathState C
+copy_heard s heard p = heard_at p.clock s heard p
 
 abbrev pub heard_in : {C : Type 0} → Codec C → Side → Option (Flight C) → PathState C → Option HeardSegment
 heard_in k s None p = None
@@ -139,9 +148,9 @@ abbrev pub timer_fired : {C : Type 0} → Side → PathState C → PathState C
 timer_fired s p = goes_on s (after_firing p.clock (end_at s p)) (template_fired (is_sixth (end_at s p).tcp) s) p
 
 abbrev pub happens : {C : Type 0} → Codec C → Event → PathState C → PathState C
-happens k (event.Takes line) p = line_taken line p
-happens k (event.Arrives due) p = copy_taken k due p
-happens k (event.Fires s tick) p = timer_fired s (at_tick tick p)
+happens k (happenings.Takes line) p = line_taken line p
+happens k (happenings.Arrives due) p = copy_taken k due p
+happens k (happenings.Fires s tick) p = timer_fired s (at_tick tick p)
 
 abbrev pub happens_if : {C : Type 0} → Codec C → Option Event → PathState C → PathState C
 happens_if k None p = with_agenda rest_of_turn p

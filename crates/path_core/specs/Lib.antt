@@ -28,3 +28,4 @@ pub mod Shown
 pub mod Said
 pub mod Lending
 pub mod Replies
+pub mod Items

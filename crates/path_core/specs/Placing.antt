@@ -8,6 +8,7 @@ use Rattle.link_model.specs.Steps.{peer}
 use Rattle.outside_kit.specs.declared.side.Side.{Side}
 use Rattle.subflow_recv.specs.Receiving.{filled, after_advance, after_forget_from}
 use Rattle.subflow_tcp.specs.State.{EndState}
+use Rattle.path_core.specs.declared.in_order.InOrder.{InOrder}
 use Rattle.path_core.specs.Ends.{PathEnd, Receiving}
 use Rattle.path_core.specs.State.{Profile}
 use Rattle.path_core.specs.Segments.{bare_mapping}
@@ -45,6 +46,10 @@ piece_in kept s = record {
   place = kept.place + (s.recv.edge - kept.pos);
   octets = take (count_in s.recv.edge kept) (filled s.recv.places);
 }
+
+-- so many octets from the edge on, the first of which has this place
+abbrev pub piece_from : InOrder → EndState → Piece
+piece_from found s = record { place = found.place; octets = take found.count (filled s.recv.places) }
 
 -- with checksums: the whole mapping is there
 abbrev pub is_whole : KeptMapping → EndState → Bool

@@ -1,6 +1,11 @@
 -- What the rules ask of a reply, and which duties ask for bytes.
-use Rattle.std.specs.Prelude.{ℕ, ◌+◌, ◌^◌, ◌<◌, ◌≤◌, Bool, true, false, Option, Some, None, List, [], ◌∷◌, length}
+use Rattle.std.specs.Prelude.{ℕ, All, ◌+◌, ◌^◌, ◌<◌, ◌≤◌, Bool, true, false, Option, Some, None, List, [], ◌∷◌, length}
 use Rattle.reassembly_book.specs.declared.call.ReassemblyReply.TheVariants as reassembly_replies
+use Rattle.control_book.specs.declared.call.ControlReply.TheVariants as control_replies
+use Rattle.linked_increase.specs.Paths.{IsInRange}
+use Rattle.actor_desk.specs.declared.ask.Ask.{Ask}
+use Rattle.actor_desk.specs.Kinds.{IsOfKind}
+use Rattle.actor_desk.specs.Bounds.{IsBounded}
 use Rattle.actor_desk.specs.declared.ask.Reply.{Reply}
 use Rattle.actor_desk.specs.declared.ask.Reply.TheVariants as replies
 use Rattle.path_core.specs.declared.duty.Duty.{Duty}
@@ -29,3 +34,55 @@ asks_bytes _ = false
 abbrev pub asks_bytes_first : List Duty → Bool
 asks_bytes_first [] = false
 asks_bytes_first (d ∷ ds) = asks_bytes d
+
+-- the rows of all paths are in range
+abbrev pub AreRowsInRange : Reply → Type 0
+AreRowsInRange (replies.Control (control_replies.Rows rows)) = All IsInRange rows
+AreRowsInRange _ = Unit {0}
+
+-- duties that send a segment, and those that come to nothing
+abbrev pub asks_segment : Duty → Bool
+asks_segment (duties.Look s) = false
+asks_segment (duties.Window s) = false
+asks_segment (duties.AckOut s) = false
+asks_segment (duties.BreakAck s reason) = false
+asks_segment (duties.Data s) = false
+asks_segment duties.Events = false
+asks_segment (duties.SynHeard s) = false
+asks_segment (duties.SynAnswered s) = false
+asks_segment (duties.PeerKey s) = false
+asks_segment (duties.Opened s) = false
+asks_segment (duties.Live s) = false
+asks_segment (duties.Heard s index) = false
+asks_segment (duties.AckHeard s) = false
+asks_segment (duties.Edge s) = false
+asks_segment (duties.HeardFin s index) = false
+asks_segment (duties.Rate s) = false
+asks_segment (duties.Return s) = false
+asks_segment (duties.Leave s) = false
+asks_segment (duties.Dead s) = false
+asks_segment _ = true
+
+-- duties whose reply may take memory: they send, or store what came
+abbrev pub takes_memory : Duty → Bool
+takes_memory (duties.Data s) = true
+takes_memory duties.Events = true
+takes_memory (duties.Heard s index) = true
+takes_memory (duties.Update s) = true
+takes_memory (duties.Acknowledge s) = true
+takes_memory (duties.Syn s) = true
+takes_memory (duties.DataFin s) = true
+takes_memory (duties.Fin s) = true
+takes_memory (duties.SynAck s) = true
+takes_memory (duties.Again s) = true
+takes_memory (duties.Answer s) = true
+takes_memory (duties.ResetAnswer s) = true
+takes_memory (duties.Resend s) = true
+takes_memory (duties.BreakReset s reason) = true
+takes_memory (duties.Reset s) = true
+takes_memory _ = false
+
+-- the turn hasn't ended, and the reply is of the asked kind, within bounds
+abbrev pub TakesReply : Option Ask → Reply → Type 0
+TakesReply None r = ⊥
+TakesReply (Some x) r = IsOfKind x r × IsBounded x r

@@ -15,7 +15,7 @@ use Rattle.actor_desk.specs.declared.ask.Reply.{Reply}
 use Rattle.path_core.specs.Arriving.{expected_by}
 use Rattle.path_core.specs.Events.{next_event}
 use Rattle.path_core.specs.declared.event.Event.{Event}
-use Rattle.path_core.specs.declared.event.Event.TheVariants as event
+use Rattle.path_core.specs.declared.event.Event.TheVariants as happenings
 use Rattle.path_core.specs.Octets.{made, octets}
 use Rattle.path_core.specs.Segments.{spelled_by}
 use Rattle.path_core.specs.State.{PathState, end_at}
@@ -53,7 +53,7 @@ pub record IsFreshCopy (p : PathState Carried) (to : Side) (carried : Carried) :
 
 -- the copy that is due next is fresh, where one is
 abbrev pub NextIsFresh : PathState Carried → Type 0
-NextIsFresh p = (due : Due) (flight : Flight Carried) → next_event p ≡ Some (event.Arrives due) → arriving due p.link ≡ Some flight
+NextIsFresh p = (due : Due) (flight : Flight Carried) → next_event p ≡ Some (happenings.Arrives due) → arriving due p.link ≡ Some flight
     → IsFreshCopy p due.to flight.carried
 
 -- what a path over octets asks is what the path over values asks

@@ -10,7 +10,7 @@ use Rattle.actor_desk.specs.Words.{pick, is_nil, tail_of}
 
 -- the tick, and the first tick after the round
 pub record Clock : Type 0 where
-  pub now : ℕ
+  pub tick : ℕ
   pub until : ℕ
 
 -- what never changes

@@ -13,6 +13,14 @@ abbrev pub settled : {C : Type 0} → List Duty → PathState C → PathState C
 settled [] p = with_agenda [] p
 settled (d ∷ ds) p = if stands d p then with_agenda (d ∷ ds) p else settled ds (passed d p)
 
+-- the first duty, where it comes to nothing
+abbrev pub passable_of : {C : Type 0} → List Duty → PathState C → Option Duty
+passable_of [] p = None
+passable_of (d ∷ ds) p = if stands d p then None else Some d
+
+abbrev pub passable : {C : Type 0} → PathState C → Option Duty
+passable p = passable_of p.agenda p
+
 abbrev pub settles_down : {C : Type 0} → PathState C → PathState C
 settles_down p = settled p.agenda p
 

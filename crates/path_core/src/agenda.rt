@@ -1,7 +1,8 @@
 //! What is still to be done in a turn, one duty after the other.
 
 ghost use Rattle.std.specs.Prelude.{◌≡◌, ◌≤◌, ◌+◌, ◌++◌, length};
-ghost use Rattle.path_core.specs.Words.{first_of, tail_of, replaced};
+ghost use Rattle.actor_desk.specs.Words.{tail_of};
+ghost use Rattle.path_core.specs.Words.{first_of, replaced};
 
 use crate::duty::Duty;
 use arrayvec::ArrayVec;

@@ -7,7 +7,7 @@ use std::marker::Model;
 /// The tick of a path, and the first tick after its round. A round is 100 ticks.
 #[derive(Debug, Drop)]
 pub(crate) struct Clock {
-    now: u64,
+    tick: u64,
     until: u64,
 }
 
@@ -17,25 +17,28 @@ impl Model for Clock {
 
     ghost Value = { Clock };
 
-    ghost view = { λ c. record { now = c.now; until = c.until } };
+    ghost view = { λ c. record { tick = c.tick; until = c.until } };
 
-    ghost invariant = { λ c. (c.now ≤ c.until) × (c.until ≤ 100 * 2 ^ 57 + 100) };
+    ghost invariant = { λ c. (c.tick ≤ c.until) × (c.until ≤ 100 * 2 ^ 57 + 100) };
 }
 
 impl Clock {
     /// The clock of the first round.
     pub fn new() -> Self
-        ensures { result ≡ record { now = 0; until = 100 } }
+        ensures { result ≡ record { tick = 0; until = 100 } }
     {
-        Clock { now: 0, until: 100 }
+        Clock {
+            tick: 0,
+            until: 100,
+        }
     }
 
     /// The tick.
     pub fn now(&self) -> u64
-        ensures value { result ≡ self.now.now }
+        ensures value { result ≡ self.now.tick }
         ensures bound { result < 2 ^ 64 - 2 ^ 20 }
     {
-        self.now
+        self.tick
     }
 
     /// The first tick after the round.
@@ -48,17 +51,17 @@ impl Clock {
     /// The tick is at least this one, which lies in the round.
     pub fn reach(&mut self, tick: u64)
         requires { tick < self.old.until }
-        ensures { self.new ≡ record self.old { now = max self.old.now tick } }
+        ensures { self.new ≡ record self.old { tick = max self.old.tick tick } }
     {
-        self.now = self.now.max(tick);
+        self.tick = self.tick.max(tick);
     }
 
     /// The next round begins.
     pub fn next_round(&mut self)
         requires { self.old.until ≤ 100 * 2 ^ 57 }
-        ensures { self.new ≡ record { now = self.old.until; until = self.old.until + 100 } }
+        ensures { self.new ≡ record { tick = self.old.until; until = self.old.until + 100 } }
     {
-        self.now = self.until;
+        self.tick = self.until;
         self.until += 100;
     }
 }

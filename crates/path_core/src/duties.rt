@@ -1,10 +1,10 @@
 //! The duties of a path, case by case: whether one comes to something, to what, what its reply makes of the path, and what
 //! one that comes to nothing changes in silence. A new rule has one arm in each.
 
-ghost use Rattle.std.specs.Prelude.{◌≡◌, false, IfOk, IsOk, OnOk, OnErr};
+ghost use Rattle.std.specs.Prelude.{◌≡◌, true, false, IfOk, IsOk, OnOk, OnErr};
 ghost use Rattle.path_core.specs.Octets.{octets};
 ghost use Rattle.path_core.specs.Duties.{stands, ask_for, passed, answered};
-ghost use Rattle.path_core.specs.Replies.{Fits, asks_bytes};
+ghost use Rattle.path_core.specs.Replies.{IsAckBounded, AreRowsInRange, asks_bytes, asks_segment, takes_memory};
 
 use actor_desk::{Ask, LocalStep, Reply};
 use crate::agenda::Agenda;
@@ -13,9 +13,7 @@ use crate::path::Path;
 use crate::segment_kind::SegmentKind;
 use crate::standing::ack_out_ask;
 use fallback_state::{Event, Mode};
-use outside_kit::Side;
 use std::alloc::AllocError;
-use subflow_tcp::Occasion;
 
 impl Path {
     /// Whether a duty comes to something.
@@ -31,9 +29,9 @@ impl Path {
             Duty::Fin(side) => self.end(side).is_fin_due(),
             Duty::Events => self.next_event().is_some(),
             Duty::PeerKey(side) => self.end(side).treated.key_heard().is_some(),
-            Duty::Opened(side) => self.end(side).treated.is_opened_by_keys(),
+            Duty::Opened(side) => self.end(side).is_opened_by_keys(),
             Duty::Live(side) => self.end(side).treated.is_opened(),
-            Duty::Heard { side, index } => self.end(side).item_stands(&self.profile, side, index),
+            Duty::Heard { side, index } => self.end(side).item_stands(index),
             Duty::AckHeard(side) => self.end(side).modes.mode == Mode::Starting,
             Duty::Edge(side) => self.end(side).has_piece(&self.profile),
             Duty::HeardFin { side, index } => self.end(side).treated.fin(index).is_some(),
@@ -88,7 +86,8 @@ impl Path {
 
     /// The step of a duty that sends a segment, and of those that come to nothing.
     fn segment_ask(&self, duty: Duty) -> Ask
-        ensures { asks_segment duty → result ≡ ask_for octets duty self.now }
+        requires { asks_segment duty ≡ true }
+        ensures { result ≡ ask_for octets duty self.now }
     {
         match duty {
             Duty::Update(side) | Duty::Acknowledge(side) => self.sent_step(side, SegmentKind::Ack),
@@ -131,33 +130,15 @@ impl Path {
     ///
     /// Only where there is no memory; all is then as it was.
     pub(crate) fn answer(&mut self, duty: Duty, reply: &Reply) -> Result<(), AllocError>
-        requires { Fits (ask_for octets duty self.old) reply.now }
+        requires acks { IsAckBounded reply.now }
+        requires rows { AreRowsInRange reply.now }
         ensures ok { OnOk result (self.new ≡ answered octets duty reply.now self.old) }
         ensures err { OnErr result (self.new ≡ self.old) }
     {
         match duty {
-            Duty::Look(side) => Ok(self.look(side, reply)),
-            Duty::Window(side) | Duty::AckOut(side) => Ok(self.ack_out(side, reply)),
             Duty::Data(side) => self.answer_data(side, reply),
             Duty::Events => self.answer_event(),
-            Duty::PeerKey(side) => Ok(self.hear_peer_key(side)),
-            Duty::Opened(side) => Ok(self.hear_keys(side, reply)),
             Duty::Heard { side, index } => self.answer_item(side, index, reply),
-            Duty::AckHeard(side) => Ok(self.hear_verdict(side, reply)),
-            Duty::Edge(side) => Ok(self.answer_piece(side, reply)),
-            Duty::HeardFin { side, .. } => Ok(self.answer_fin(side, reply)),
-            Duty::Rate(side) => Ok(self.hear_rate(side, reply)),
-            Duty::BreakAck { side, reason } => Ok(self.ack_out_breaking(side, reply, reason)),
-            Duty::Leave(side) => Ok(self.turns_to(Duty::Dead(side))),
-            Duty::End => Ok(self.ends_turn()),
-            _ => self.answer_sent(duty),
-        }
-    }
-
-    /// The segment of the duty is sent; all others are done.
-    fn answer_sent(&mut self, duty: Duty) -> Result<(), AllocError>
-    {
-        match duty {
             Duty::Update(side) | Duty::Acknowledge(side) => self.acknowledge(side),
             Duty::Syn(side) => self.send_syn(side),
             Duty::DataFin(side) => self.send_data_fin(side),
@@ -169,7 +150,33 @@ impl Path {
             Duty::Resend(side) => self.resend(side),
             Duty::BreakReset { side, reason } => self.send_reset(side, Some(reason)),
             Duty::Reset(side) => self.send_reset(side, None),
-            _ => Ok(self.done()),
+            _ => {
+                self.hear(duty, reply);
+                Ok(())
+            }
+        }
+    }
+
+    /// What the reply makes of the path, where the duty sends nothing and takes no memory.
+    fn hear(&mut self, duty: Duty, reply: &Reply)
+        requires acks { IsAckBounded reply.now }
+        requires rows { AreRowsInRange reply.now }
+        requires plain { takes_memory duty ≡ false }
+        ensures { self.new ≡ answered octets duty reply.now self.old }
+    {
+        match duty {
+            Duty::Look(side) => self.look(side, reply),
+            Duty::Window(side) | Duty::AckOut(side) => self.ack_out(side, reply),
+            Duty::PeerKey(side) => self.hear_peer_key(side),
+            Duty::Opened(side) => self.hear_keys(side, reply),
+            Duty::AckHeard(side) => self.hear_verdict(side, reply),
+            Duty::Edge(side) => self.answer_piece(side, reply),
+            Duty::HeardFin { side, .. } => self.answer_fin(side, reply),
+            Duty::Rate(side) => self.hear_rate(side, reply),
+            Duty::BreakAck { side, reason } => self.ack_out_breaking(side, reply, reason),
+            Duty::Leave(side) => self.turns_to(Duty::Dead(side)),
+            Duty::End => self.sets_about(Agenda::of(&[])),
+            _ => self.done(),
         }
     }
 }

@@ -1,6 +1,6 @@
 //! What an end sends by itself: its SYN, records and grants as long as there is room, DATA_FIN, FIN; and its timer.
 
-ghost use Rattle.std.specs.Prelude.{◌≡◌, ◌≤◌, ◌<◌, ◌+◌, ◌-◌, ◌^◌, false, OnOk, OnErr, IsNone, IsTrue};
+ghost use Rattle.std.specs.Prelude.{◌≡◌, ◌≤◌, ◌<◌, ◌+◌, ◌-◌, ◌^◌, false, OnOk, OnErr, IsTrue};
 ghost use Rattle.subflow_send.specs.Records.{record_of};
 ghost use Rattle.subflow_tcp.specs.declared.segments.Occasion.TheVariants.{Fin};
 ghost use Rattle.subflow_tcp.specs.States.{may_finish};
@@ -8,19 +8,22 @@ ghost use Rattle.subflow_tcp.specs.Closing.{after_finishing};
 ghost use Rattle.subflow_tcp.specs.Emitting.{after_sending};
 ghost use Rattle.path_core.specs.Octets.{octets};
 ghost use Rattle.path_core.specs.Emission.{first_unsent, is_syn_due, fits, may_ask, data_stands, grant_ask, data_ask, grant_in, with_piece, granted, refused, answered_grant, answered_data, answered_syn, answered_end, answered_fin, after_timer};
-ghost use Rattle.path_core.specs.Replies.{IsSendable, IsGrantSendable};
-ghost use Rattle.path_core.specs.State.{end_at, goes_on, left};
+ghost use Rattle.path_core.specs.Replies.{IsSendable};
+ghost use Rattle.path_core.specs.State.{end_at, with_end, goes_on, left};
 
-use actor_desk::{Ask, Reply};
 use crate::end::PathEnd;
 use crate::path::Path;
 use crate::profile::Profile;
 use crate::segment_kind::SegmentKind;
+use actor_desk::{Ask, Reply};
 use outside_kit::Side;
 use send_book::{SendCall, SendReply, Span};
 use seq_units::Mapping;
 use std::alloc::AllocError;
 use subflow_tcp::{Occasion, RecordRef, State};
+
+/// A segment carries as many octets at most, beside forty octets of options.
+const MOST_OCTETS: usize = 65_475;
 
 impl PathEnd {
     /// The SYN of the end that opens is due: it was never sent.
@@ -59,12 +62,7 @@ impl PathEnd {
     }
 
     /// The granted piece is to be sent, with this mapping for ever. At an error all is as it was.
-    fn take_grant(
-        &mut self,
-        span: Span,
-        piece: &[u8],
-        mapping: &Mapping,
-    ) -> Result<(), AllocError>
+    fn take_grant(&mut self, span: Span, piece: &[u8], mapping: &Mapping) -> Result<(), AllocError>
         requires { IsSendable piece.now }
         ensures ok { OnOk result (self.new ≡ with_piece span piece.now mapping.now self.old) }
         ensures err { OnErr result (self.new ≡ self.old) }
@@ -117,6 +115,14 @@ impl PathEnd {
 }
 
 impl Path {
+    /// The timer of a side is settled.
+    pub(crate) fn settle_timer(&mut self, side: Side)
+        ensures { self.new ≡ with_end side (after_timer self.old.clock (end_at side self.old)) self.old }
+    {
+        let now = self.clock.now();
+        self.end_mut(side).settle_timer(now);
+    }
+
     /// Bytes of the stream are asked for.
     fn grant_ask(&self, side: Side) -> Ask
         ensures { result ≡ grant_ask side self.now }
@@ -170,12 +176,14 @@ impl Path {
 
     /// What was granted is taken, or the refusal ends the asking. At an error all is as it was.
     fn hear_grant(&mut self, side: Side, reply: &Reply) -> Result<(), AllocError>
-        requires { IsGrantSendable (grant_in reply.now) }
         ensures ok { OnOk result (self.new ≡ answered_grant side (grant_in reply.now) reply.now self.old) }
         ensures err { OnErr result (self.new ≡ self.old) }
     {
         match reply {
             Reply::Send(SendReply::Granted { span, piece }) => {
+                if piece.is_empty() || piece.len() > MOST_OCTETS {
+                    return Err(AllocError);
+                }
                 self.take_grant(side, *span, piece.as_bytes())
             }
             _ => {
@@ -188,7 +196,6 @@ impl Path {
     /// A record is sent, or what was granted is taken; the duty stays, so that the next record is sent, or the next bytes
     /// are asked for.
     pub(crate) fn answer_data(&mut self, side: Side, reply: &Reply) -> Result<(), AllocError>
-        requires { IsNone (first_unsent (end_at side self.old)) → IsGrantSendable (grant_in reply.now) }
         ensures ok { OnOk result (self.new ≡ answered_data octets side (first_unsent (end_at side self.old)) reply.now self.old) }
         ensures err { OnErr result (self.new ≡ self.old) }
     {

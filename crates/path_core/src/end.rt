@@ -21,14 +21,18 @@ pub(crate) struct PathEnd {
 }
 
 impl Model for PathEnd {
+    ghost use Rattle.std.specs.Coded.{codes};
+    ghost use Rattle.dss_mapping.specs.Mappings.{mappings_code};
     ghost use Rattle.path_core.specs.Ends.{PathEnd};
 
     ghost Value = { PathEnd };
 
+    ghost coded = { Prim.hlevel (codes, mappings_code) };
+
     ghost view = { λ e. record {
       tcp = e.tcp;
       sending = e.sending;
-      receiving = e.receiving;
+      receiving = e.receiving.receiving;
       modes = e.modes;
       treated = e.treated;
     } };

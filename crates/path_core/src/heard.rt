@@ -1,28 +1,19 @@
 //! What a copy says beside its header and payload.
 
 /// One of the things that the options of a copy say, by places of the streams (RFC 8684, section 3).
-#[derive(Clone, Copy, Debug, PartialEq, Eq)]
+#[derive(Clone, Copy, Debug, Default, PartialEq, Eq)]
 pub enum Heard {
     /// A DSS came, whatever it says.
+    #[default]
     Dss,
     /// So many bytes of the hearer's stream have come in order, the DATA_FIN among them; so many octets more are taken.
-    DataAck {
-        next: u64,
-        window: u32,
-    },
+    DataAck { next: u64, window: u32 },
     /// A mapping: the next one of those that the end holds.
     Mapping,
     /// The stream ends before this place.
-    DataFin {
-        place: u64,
-    },
+    DataFin { place: u64 },
     /// The peer's key alone.
-    PeerKey {
-        key: u64,
-    },
+    PeerKey { key: u64 },
     /// Both keys: the hearer's own one, and the peer's.
-    Keys {
-        own: u64,
-        peer: u64,
-    },
+    Keys { own: u64, peer: u64 },
 }

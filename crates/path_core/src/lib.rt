@@ -8,17 +8,29 @@
 #![tactic(auto)]
 
 mod agenda;
+mod answering;
+mod arriving;
+mod breaking;
 mod clock;
 mod closing;
+mod duties;
 mod duty;
 mod emission;
 mod end;
 mod event;
+mod events;
 mod heard;
+mod hearing;
+mod held;
+mod in_order;
+mod keys;
 mod laws;
 mod lines;
 mod modes;
+mod opening;
+mod passing;
 mod path;
+mod placing;
 mod profile;
 mod receiving;
 mod said;
@@ -27,11 +39,14 @@ mod segments;
 mod sending;
 mod sends;
 mod standing;
+mod steps;
 mod templates;
 mod treated;
+mod treating;
 
 pub use actor_desk::{Ask, LocalStep, Note, Reply};
 pub use duty::Duty;
+pub use event::Event;
 pub use heard::Heard;
 pub use laws::{a_first_round, every_turn_ends, octets_do_as_values};
 pub use lines::LineLeft;

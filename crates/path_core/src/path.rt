@@ -2,7 +2,8 @@
 
 ghost use Rattle.std.specs.Prelude.{◌≡◌, [], Some};
 ghost use Rattle.std.specs.Borrow.{sem};
-ghost use Rattle.path_core.specs.Words.{tail_of, replaced};
+ghost use Rattle.actor_desk.specs.Words.{tail_of};
+ghost use Rattle.path_core.specs.Words.{replaced};
 
 use crate::agenda::Agenda;
 use crate::clock::Clock;
@@ -34,15 +35,19 @@ pub struct Path {
 }
 
 impl Model for Path {
-    ghost use Rattle.std.specs.Prelude.{ℕ, List};
+    ghost use Rattle.std.specs.Prelude.{ℕ, ◌≡◌, List};
+    ghost use Rattle.std.specs.Coded.{codes};
+    ghost use Rattle.dss_mapping.specs.Mappings.{mappings_code};
     ghost use Rattle.path_core.specs.State.{PathState};
 
     ghost Value = { PathState (List ℕ) };
 
+    ghost coded = { Prim.hlevel (codes, mappings_code) };
+
     ghost view = { λ p. record {
       profile = p.profile;
       link = p.link;
-      clock = p.clock.now;
+      clock = p.clock.tick;
       until = p.clock.until;
       lines = p.lines.items;
       joined_at = p.joined_at;
@@ -50,6 +55,8 @@ impl Model for Path {
       b = p.b;
       agenda = p.agenda;
     } };
+
+    ghost invariant = { λ p. p.profile.spelling.path ≡ p.link.path };
 }
 
 impl Path {

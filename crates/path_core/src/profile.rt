@@ -1,6 +1,7 @@
 //! What never changes at a path.
 
 ghost use Rattle.std.specs.Prelude.{◌≡◌, ◌≤◌};
+ghost use Rattle.link_model.specs.Steps.{peer};
 ghost use Rattle.path_core.specs.Segments.{spelled_by};
 
 use outside_kit::Side;
@@ -26,7 +27,7 @@ impl Model for Profile {
 
     ghost view = { λ c. record { mss = c.mss; buffer = c.buffer; spelling = c.spelling } };
 
-    ghost invariant = { λ c. (200 ≤ c.mss) × (c.mss ≤ 1460) × (c.buffer ≤ 2 ^ 20) };
+    ghost invariant = { λ c. (200 ≤ c.mss) × (c.mss ≤ 1460) × (c.buffer ≤ 2 ^ 20) × (c.spelling.path ≤ 15) };
 }
 
 impl Profile {
@@ -37,6 +38,7 @@ impl Profile {
         requires least { 200 ≤ mss }
         requires most { mss ≤ 1460 }
         requires buffer { buffer ≤ 1048576 }
+        requires path { spelling.path ≤ 15 }
         ensures { result ≡ record { mss = mss; buffer = buffer; spelling = spelling } }
     {
         Profile {
@@ -65,7 +67,8 @@ impl Profile {
 
     /// How the path's segments are said.
     pub fn spelling(&self) -> &Spelling
-        ensures { result.now ≡ self.now.spelling }
+        ensures value { result.now ≡ self.now.spelling }
+        ensures path { result.now.path ≤ 15 }
     {
         &self.spelling
     }
@@ -86,5 +89,15 @@ pub(crate) fn spelled_by(side: Side) -> path_segments::Side
     match side {
         Side::A => path_segments::Side::A,
         Side::B => path_segments::Side::B,
+    }
+}
+
+/// The side at the other end.
+pub(crate) fn peer(side: Side) -> Side
+    ensures { result ≡ peer side }
+{
+    match side {
+        Side::A => Side::B,
+        Side::B => Side::A,
     }
 }

@@ -21,11 +21,18 @@ pub(crate) struct Receiving {
 
 impl Model for Receiving {
     ghost use Rattle.std.specs.Prelude.{◌≤◌, ◌+◌, ◌^◌};
-    ghost use Rattle.path_core.specs.Ends.{Receiving};
+    ghost use Rattle.std.specs.Coded.{codes};
+    ghost use Rattle.dss_mapping.specs.Mappings.{mappings_code};
+    ghost use Rattle.path_core.specs.Ends.{ReceivingStore};
 
-    ghost Value = { Receiving };
+    ghost Value = { ReceivingStore };
 
-    ghost view = { λ v. record { next = v.next; window = v.window; told_edge = v.told_edge; mappings = v.mappings } };
+    ghost coded = { Prim.hlevel (codes, mappings_code) };
+
+    ghost view = { λ v. record {
+      receiving = record { next = v.next; window = v.window; told_edge = v.told_edge; mappings = v.mappings.mappings };
+      ready = v.mappings.ready;
+    } };
 
     ghost invariant = { λ v. (v.next ≤ 2 ^ 62 + 2 ^ 20) × (v.window ≤ 2 ^ 20) × (v.told_edge ≤ 2 ^ 62 + 2 ^ 21) };
 }
@@ -35,7 +42,7 @@ impl Receiving {
 
     /// Nothing came and nothing was told. Takes no memory.
     pub fn new(alloc: Global) -> Self
-        ensures { result ≡ no_receiving }
+        ensures { result.receiving ≡ no_receiving }
     {
         Receiving {
             next: 0,
@@ -47,7 +54,7 @@ impl Receiving {
 
     /// What is to be acknowledged.
     pub fn next(&self) -> u64
-        ensures value { result ≡ self.now.next }
+        ensures value { result ≡ self.now.receiving.next }
         ensures bound { result ≤ 2 ^ 62 + 2 ^ 20 }
     {
         self.next
@@ -55,7 +62,7 @@ impl Receiving {
 
     /// How much more is taken, in octets.
     pub fn window(&self) -> u32
-        ensures value { result ≡ self.now.window }
+        ensures value { result ≡ self.now.receiving.window }
         ensures bound { result ≤ 2 ^ 20 }
     {
         self.window
@@ -63,7 +70,7 @@ impl Receiving {
 
     /// The edge of the window that the last segment told.
     pub fn told_edge(&self) -> u64
-        ensures value { result ≡ self.now.told_edge }
+        ensures value { result ≡ self.now.receiving.told_edge }
         ensures bound { result ≤ 2 ^ 62 + 2 ^ 21 }
     {
         self.told_edge
@@ -72,7 +79,7 @@ impl Receiving {
     /// A segment told this edge.
     pub fn tell_edge(&mut self, edge: u64)
         requires { edge ≤ 2 ^ 62 + 2 ^ 21 }
-        ensures { self.new ≡ record self.old { told_edge = edge } }
+        ensures { self.new ≡ record self.old { receiving = record self.old.receiving { told_edge = edge } } }
     {
         self.told_edge = edge;
     }
@@ -81,7 +88,7 @@ impl Receiving {
     pub fn tell_window(&mut self, next: u64, window: u32)
         requires next { next ≤ 2 ^ 62 + 2 ^ 20 }
         requires window { window ≤ 2 ^ 20 }
-        ensures { self.new ≡ record self.old { next = next; window = window } }
+        ensures { self.new ≡ record self.old { receiving = record self.old.receiving { next = next; window = window } } }
     {
         self.next = next;
         self.window = window;

@@ -17,7 +17,7 @@ pub(crate) struct Said<'a> {
     pub window: u32,
     /// The maximum segment size, which a SYN has.
     pub mss: Option<u16>,
-    pub option: Option<PathOption<u64, &'a [u8]>>,
+    pub option: Option<PathOption<u64, &'static [u8]>>,
     pub payload: &'a [u8],
 }
 
@@ -25,8 +25,12 @@ impl<'a> Said<'a> {
     ghost use Rattle.path_core.specs.Octets.{made, sum_of};
     ghost use Rattle.path_core.specs.Said.{plain_said, CanBeSaid};
 
-    /// The same segment, with its options in a list.
-    fn with_options(&self, options: &'a [PathOption<u64, &'a [u8]>]) -> SaidSegment<'a>
+    /// The same segment, with its options in a list, and its payload.
+    fn with_options<'b>(
+        &self,
+        options: &'b [PathOption<u64, &'b [u8]>],
+        payload: &'b [u8],
+    ) -> SaidSegment<'b>
         ensures { result ≡ record {
           position = self.now.outgoing.position;
           acknowledged = self.now.outgoing.acknowledged;
@@ -35,8 +39,8 @@ impl<'a> Said<'a> {
           rst = self.now.outgoing.rst;
           window = self.now.window;
           mss = self.now.mss;
-          options = options;
-          payload = self.now.payload;
+          options = options.entry;
+          payload = payload.entry;
         } }
     {
         SaidSegment {
@@ -48,7 +52,7 @@ impl<'a> Said<'a> {
             window: self.window,
             mss: self.mss,
             options,
-            payload: self.payload,
+            payload,
         }
     }
 
@@ -64,14 +68,11 @@ impl<'a> Said<'a> {
     {
         match self.option {
             Some(option) => {
-                write(
-                    alloc,
-                    spelling,
-                    spelled_by(side),
-                    &self.with_options(&[option]),
-                )
+                let options = [lent(option)];
+                let segment = self.with_options(&options, self.payload);
+                write(alloc, spelling, spelled_by(side), &segment)
             }
-            None => write(alloc, spelling, spelled_by(side), &self.with_options(&[])),
+            None => write(alloc, spelling, spelled_by(side), &self.with_options(&[], self.payload)),
         }
     }
 
@@ -81,12 +82,19 @@ impl<'a> Said<'a> {
         ensures { result ≡ sum_of spelling.now side (plain_said self.now) }
     {
         match self.option {
-            Some(option) => sum(
-                spelling,
-                spelled_by(side),
-                &self.with_options(&[option]),
-            ),
-            None => sum(spelling, spelled_by(side), &self.with_options(&[])),
+            Some(option) => {
+                let options = [lent(option)];
+                let segment = self.with_options(&options, self.payload);
+                sum(spelling, spelled_by(side), &segment)
+            }
+            None => sum(spelling, spelled_by(side), &self.with_options(&[], self.payload)),
         }
     }
+}
+
+/// The same option.
+fn lent(option: PathOption<u64, &'static [u8]>) -> PathOption<u64, &'static [u8]>
+    ensures { result ≡ option.entry }
+{
+    option
 }

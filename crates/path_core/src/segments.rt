@@ -1,6 +1,6 @@
 //! The segments that an end sends: their options, their windows, and the mapping of a piece (RFC 8684, section 3).
 
-ghost use Rattle.std.specs.Prelude.{◌≡◌, ◌≤◌, false, length, option_map};
+ghost use Rattle.std.specs.Prelude.{◌≡◌, ◌≤◌, false, length, option_map, IfSome};
 ghost use Rattle.dss_checksum.specs.Checksum.{dss_checksum};
 ghost use Rattle.outside_kit.specs.declared.side.Side.TheVariants.{A};
 ghost use Rattle.path_segments.specs.declared.segment.PathOption.TheVariants.{Capable};
@@ -22,7 +22,7 @@ use seq_units::{Mapping, Pos};
 use subflow_tcp::{Outgoing, RecordKind, RecordRef};
 
 /// An option that an end says: none of them has ids.
-type Saying<'a> = PathOption<u64, &'a [u8]>;
+type Saying = PathOption<u64, &'static [u8]>;
 
 impl Profile {
     /// The mapping of `length` bytes of a side's stream, before there is a checksum.
@@ -76,7 +76,7 @@ impl Profile {
     }
 
     /// MP_CAPABLE with these keys (RFC 8684, section 3.1).
-    fn capable(&self, keys: CapableKeys) -> Saying<'static>
+    fn capable(&self, keys: CapableKeys) -> Saying
         ensures { result ≡ Capable self.now.spelling.checksums false keys }
     {
         PathOption::Capable {
@@ -124,7 +124,7 @@ pub(crate) fn checksum_of(mapping: &Mapping, octets: &[u8]) -> u16
 
 impl PathEnd {
     /// On a SYN: A asks for Multipath TCP, and B answers with its key (RFC 8684, section 3.1).
-    fn syn_option(&self, profile: &Profile, side: Side) -> Option<Saying<'_>>
+    fn syn_option(&self, profile: &Profile, side: Side) -> Option<Saying>
         ensures value { options_by result ≡ syn_options profile.now side self.now }
     {
         match side {
@@ -136,7 +136,7 @@ impl PathEnd {
     }
 
     /// Before A may send a DSS it shows both keys; B says nothing before it has them.
-    fn key_option(&self, profile: &Profile, side: Side) -> Option<Saying<'_>>
+    fn key_option(&self, profile: &Profile, side: Side) -> Option<Saying>
         ensures value { options_by result ≡ key_options profile.now side self.now.modes.peer_key self.now }
     {
         match (side, self.modes.peer_key) {
@@ -149,7 +149,7 @@ impl PathEnd {
     }
 
     /// On an acknowledgement, perhaps with the DATA_FIN.
-    fn ack_option(&self, profile: &Profile, side: Side, fin: Option<u64>) -> Option<Saying<'_>>
+    fn ack_option(&self, profile: &Profile, side: Side, fin: Option<u64>) -> Option<Saying>
         ensures value { options_by result ≡ ack_options profile.now side fin self.now }
     {
         if self.modes.clear {
@@ -163,7 +163,7 @@ impl PathEnd {
     }
 
     /// A's first piece carries both keys, until A may send a DSS.
-    fn first_piece_option(&self, profile: &Profile, lent: &RecordRef<'_>) -> Option<Saying<'_>>
+    fn first_piece_option(&self, profile: &Profile, lent: &RecordRef<'_>) -> Option<Saying>
         ensures value { options_by result ≡ first_piece_options profile.now self.now.modes.peer_key (record_of lent.now) self.now }
     {
         let receiver = self.modes.peer_key?;
@@ -181,7 +181,7 @@ impl PathEnd {
         profile: &Profile,
         side: Side,
         lent: &RecordRef<'_>,
-    ) -> Option<Saying<'_>>
+    ) -> Option<Saying>
         ensures value { options_by result ≡ piece_options profile.now side (record_of lent.now) self.now }
     {
         if side == Side::A && !self.modes.clear && lent.pos == 1 {
@@ -194,7 +194,7 @@ impl PathEnd {
     }
 
     /// On the FIN.
-    fn fin_option(&self) -> Option<Saying<'_>>
+    fn fin_option(&self) -> Option<Saying>
         ensures value { options_by result ≡ fin_options self.now }
     {
         Some(PathOption::Dss {
@@ -209,7 +209,7 @@ impl PathEnd {
         profile: &Profile,
         side: Side,
         lent: &RecordRef<'_>,
-    ) -> Option<Saying<'_>>
+    ) -> Option<Saying>
         ensures value { options_by result ≡ record_options lent.now.kind profile.now side (record_of lent.now) self.now }
     {
         match lent.kind {
@@ -221,13 +221,13 @@ impl PathEnd {
 
     /// A segment with the window that the book told last, and on a SYN with the maximum segment size.
     fn segment_of<'a>(
-        &self,
+        &'a self,
         profile: &Profile,
         outgoing: Outgoing,
-        option: Option<Saying<'a>>,
+        option: Option<Saying>,
         payload: &'a [u8],
     ) -> Said<'a>
-        ensures { plain_said result ≡ segment_of profile.now outgoing (options_by option) payload.now self.now }
+        ensures { plain_said result ≡ segment_of profile.now outgoing (options_by option.entry) payload.now self.now }
     {
         Said {
             outgoing,
@@ -253,6 +253,7 @@ impl PathEnd {
         side: Side,
         lent: &RecordRef<'a>,
     ) -> Said<'a>
+        requires { length lent.now.piece.now ≤ 65475 }
         ensures { plain_said result ≡ record_said profile.now side (record_of lent.now) self.now }
     {
         let option = self.record_option(profile, side, lent);
@@ -267,10 +268,11 @@ impl PathEnd {
         side: Side,
         lent: Option<RecordRef<'a>>,
     ) -> Said<'a>
-        ensures { plain_said result ≡ record_or_ack profile.now side (option_map record_of lent) self.now }
+        requires { IfSome lent (λ lent. length lent.piece.now ≤ 65475) }
+        ensures { plain_said result ≡ record_or_ack profile.now side (option_map record_of lent.entry) self.now }
     {
-        match record {
-            Some(record) => self.record_said(profile, side, &record),
+        match lent {
+            Some(lent) => self.record_said(profile, side, &lent),
             None => self.ack_said(profile, side, self.tcp.nxt(), None),
         }
     }
@@ -334,9 +336,8 @@ impl PathEnd {
     }
 
     /// The segment of this kind.
-    pub fn said(&self, profile: &Profile, side: Side, kind: SegmentKind) -> Said<'_>
-        ensures value { plain_said result ≡ said_by kind profile.now side self.now }
-        ensures can { CanBeSaid profile.now.spelling side (plain_said result) }
+    fn said_by(&self, profile: &Profile, side: Side, kind: SegmentKind) -> Said<'_>
+        ensures { plain_said result ≡ said_by kind profile.now side self.now }
     {
         match kind {
             SegmentKind::Ack => self.ack_said(profile, side, self.tcp.nxt(), None),
@@ -353,10 +354,22 @@ impl PathEnd {
             SegmentKind::Reset { reason } => self.reset_said(profile, reason),
         }
     }
+
+    /// The segment of this kind, which can be said.
+    #[tactic(auto, using(crate::proofs::Sayable::can_be_said))]
+    pub fn said(&self, profile: &Profile, side: Side, kind: SegmentKind) -> Said<'_>
+        ensures value { plain_said result ≡ said_by kind profile.now side self.now }
+        ensures can { CanBeSaid profile.now.spelling side (plain_said result) }
+    {
+        let _path = profile.spelling();
+        let _window = self.receiving.window();
+        let (_unsent, _first) = (self.tcp.first_unsent(), self.tcp.first_record());
+        self.said_by(profile, side, kind)
+    }
 }
 
 /// Why the path is reset, where there is a reason.
-fn reset_option(reason: Option<u8>) -> Option<Saying<'static>>
+fn reset_option(reason: Option<u8>) -> Option<Saying>
     ensures { options_by result ≡ reset_options reason }
 {
     Some(PathOption::Reset {

@@ -4,7 +4,7 @@ ghost use Rattle.std.specs.Prelude.{◌≡◌, ◌&&◌, ◌++◌, ◌∷◌, []
 ghost use Rattle.std.specs.List.{list_any};
 ghost use Rattle.send_book.specs.declared.call.Span.{Span};
 ghost use Rattle.data_close.specs.Closing as closing;
-ghost use Rattle.path_core.specs.Words.{is_nil};
+ghost use Rattle.actor_desk.specs.Words.{is_nil};
 ghost use Rattle.path_core.specs.Closing.{is_newly_heard, is_open};
 
 use data_close::CloseState;
@@ -163,7 +163,8 @@ impl Sending {
         ensures ok { OnOk result (self.new ≡ record self.old { granted = self.old.granted ++ span ∷ [] }) }
         ensures err { OnErr result (self.new ≡ self.old) }
     {
-        self.granted.push(span)
+        self.granted.push(span)?;
+        Ok(())
     }
 
     /// The last places that were granted are granted no more.
@@ -211,5 +212,12 @@ fn is_newly_heard(heard: u64, next: u64, span: &Span) -> bool
 fn let_go(granted: &mut Vec<Span>, heard: u64)
     ensures { granted.new.items ≡ filter (is_open heard) granted.old.items }
 {
-    granted.retain(|span| heard < span.to);
+    granted.retain(|span| is_open(heard, span));
+}
+
+/// The span isn't acknowledged whole.
+fn is_open(heard: u64, span: &Span) -> bool
+    ensures { result ≡ is_open heard span.now }
+{
+    heard < span.to
 }

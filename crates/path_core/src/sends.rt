@@ -8,11 +8,11 @@ ghost use Rattle.path_core.specs.Said.{plain_said, said_by, sent_kind, CanBeSaid
 ghost use Rattle.path_core.specs.Sends.{edge_told, sends, handed};
 ghost use Rattle.path_core.specs.State.{end_at, left, with_agenda};
 
-use actor_desk::{Ask, LocalStep};
 use crate::end::PathEnd;
 use crate::path::Path;
 use crate::said::Said;
 use crate::segment_kind::SegmentKind;
+use actor_desk::{Ask, LocalStep};
 use outside_kit::Side;
 use std::alloc::AllocError;
 use subflow_tcp::Occasion;

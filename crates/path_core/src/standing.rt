@@ -7,7 +7,6 @@ ghost use Rattle.path_core.specs.Replies.{IsAckBounded};
 ghost use Rattle.path_core.specs.Standing.{look_ask, modes_told, answered_look, ack_out_ask, after_ack_out, answered_ack_out, is_connected, tellable_edge, has_grown, is_update_due, acknowledges};
 ghost use Rattle.path_core.specs.State.{left};
 
-use actor_desk::{Ask, Reply};
 use crate::agenda::Agenda;
 use crate::end::PathEnd;
 use crate::modes::Modes;
@@ -15,6 +14,7 @@ use crate::path::Path;
 use crate::profile::Profile;
 use crate::segment_kind::SegmentKind;
 use crate::sends::window_told;
+use actor_desk::{Ask, Reply};
 use control_book::{ControlCall, ControlReply};
 use outside_kit::Side;
 use reassembly_book::{ReassemblyCall, ReassemblyReply};

@@ -1,9 +1,9 @@
 //! The steps of a path: what it asks, what it takes, and how a round begins.
 
-ghost use Rattle.std.specs.Prelude.{◌≡◌, ◌≢◌, ◌≤◌, ◌*◌, ◌^◌, [], false, IfOk, IsOk, OnOk, OnErr, OnSome};
+ghost use Rattle.std.specs.Prelude.{◌≡◌, ◌≤◌, ◌*◌, ◌^◌, [], false, IfOk, IsOk, OnOk, OnErr};
 ghost use Rattle.path_core.specs.Octets.{octets};
-ghost use Rattle.path_core.specs.Replies.{TakesReply, asks_bytes_first};
-ghost use Rattle.path_core.specs.Steps.{settles_down, answers, asks_of, takes, next_round};
+ghost use Rattle.path_core.specs.Replies.{TakesReply, IsAckBounded, AreRowsInRange, asks_bytes_first};
+ghost use Rattle.path_core.specs.Steps.{passable, settles_down, answers, asks_of, takes, next_round};
 
 use actor_desk::{Ask, Reply};
 use crate::agenda::Agenda;
@@ -47,7 +47,8 @@ impl Path {
 
     /// The reply answers the first duty.
     fn answer_first(&mut self, reply: &Reply) -> Result<(), AllocError>
-        requires { TakesReply (asks_of octets self.old) reply.now }
+        requires acks { IsAckBounded reply.now }
+        requires rows { AreRowsInRange reply.now }
         ensures ok { OnOk result (self.new ≡ answers octets self.old.agenda reply.now self.old) }
         ensures err { OnErr result (self.new ≡ self.old) }
     {
@@ -62,6 +63,7 @@ impl Path {
     /// # Errors
     ///
     /// Only where there is no memory; the path is then as it was.
+    #[tactic(auto, using(crate::proofs::InBounds::acks_bounded, crate::proofs::InBounds::rows_in_range))]
     pub fn take(&mut self, reply: &Reply) -> Result<(), AllocError>
         requires { TakesReply (asks_of octets self.old) reply.now }
         ensures ok { OnOk result (self.new ≡ takes octets reply.now self.old) }

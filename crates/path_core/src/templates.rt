@@ -1,7 +1,7 @@
 //! What is to be done in a turn, and after each kind of event. A rule that is added to one of them has to be a duty.
 
 ghost use Rattle.std.specs.Prelude.{◌≡◌, ◌≤◌, ◌∷◌};
-ghost use Rattle.path_core.specs.Agenda.{rest_of_turn, emission, start_of_turn, syn_came, syn_ack_came, payload_came, copy_came, syn_again, answers, answers_dead, expired, expired_for_ever, leaves, breaks, resets};
+ghost use Rattle.path_core.specs.Agenda.{things_heard, rest_of_turn, emission, start_of_turn, syn_came, syn_ack_came, payload_came, copy_came, syn_again, answers, answers_dead, expired, expired_for_ever, leaves, breaks, resets};
 
 use crate::agenda::Agenda;
 use crate::duty::Duty;
@@ -141,14 +141,13 @@ impl Agenda {
     }
 
     /// A copy is taken, which says so many things, ten at most.
-    pub fn copy_came(side: Side, count: u64) -> Self
+    #[tactic(auto, using(crate::proofs::Things::heard_first))]
+    pub fn copy_came(side: Side, count: usize) -> Self
         requires { count ≤ 10 }
         ensures { result ≡ copy_came side count }
     {
         let mut agenda = Agenda::of(&[Duty::Opened(side), Duty::Live(side)]);
-        for index in 0..count {
-            agenda.put_last(&[Duty::Heard { side, index }]);
-        }
+        agenda.put_last(&things_heard(side)[..count]);
         agenda.put_last(Agenda::payload_came(side).as_slice());
         agenda
     }
@@ -218,4 +217,22 @@ impl Agenda {
     {
         Agenda::before_rest(Duty::BreakReset { side, reason })
     }
+}
+
+/// The things that a copy may say, in their order.
+fn things_heard(side: Side) -> [Duty; 10]
+    ensures { result ≡ things_heard side }
+{
+    [
+        Duty::Heard { side, index: 0 },
+        Duty::Heard { side, index: 1 },
+        Duty::Heard { side, index: 2 },
+        Duty::Heard { side, index: 3 },
+        Duty::Heard { side, index: 4 },
+        Duty::Heard { side, index: 5 },
+        Duty::Heard { side, index: 6 },
+        Duty::Heard { side, index: 7 },
+        Duty::Heard { side, index: 8 },
+        Duty::Heard { side, index: 9 },
+    ]
 }

@@ -1,6 +1,6 @@
 //! What the last copy said, as far as it is still to be treated.
 
-ghost use Rattle.std.specs.Prelude.{◌≡◌, true, false, List};
+ghost use Rattle.std.specs.Prelude.{◌≡◌, ◌++◌, ◌∷◌, [], true, false, nat_lt, if◌then◌else◌, length, Some};
 ghost use Rattle.path_core.specs.Words.{item_at};
 
 use crate::heard::Heard;
@@ -83,6 +83,43 @@ impl Treated {
         ensures { result ≡ item_at index self.now.items }
     {
         self.items.as_slice().get(index as usize).copied()
+    }
+
+    /// The things that it said.
+    pub fn items(&self) -> &[Heard]
+        ensures { result.now ≡ self.now.items }
+    {
+        self.items.as_slice()
+    }
+
+    /// Whether it has an option of Multipath TCP.
+    pub fn has_option(&self) -> bool
+        ensures { result ≡ self.now.has_option }
+    {
+        self.has_option
+    }
+
+    /// Whether its keys were told already.
+    pub fn are_keys_told(&self) -> bool
+        ensures { result ≡ self.now.keys_told }
+    {
+        self.keys_told
+    }
+
+    /// The end of the stream that its DATA_FIN of this number told, the first being 0.
+    pub fn fin(&self, index: u64) -> Option<u64>
+        ensures { result ≡ item_at index self.now.fins }
+    {
+        self.fins.as_slice().get(index as usize).copied()
+    }
+
+    /// A DATA_FIN told this end of the stream; a third one counts no more.
+    pub fn note_fin(&mut self, place: u64)
+        ensures { self.new ≡ record self.old { fins = (if nat_lt (length self.old.fins) 2 then self.old.fins ++ place ∷ [] else self.old.fins) } }
+    {
+        if self.fins.len() < 2 {
+            self.fins.push(place);
+        }
     }
 
     /// Its keys are told.

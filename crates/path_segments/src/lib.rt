@@ -27,6 +27,7 @@ pub use listening::hear;
 pub use sayable::can_say;
 pub use segment::{PathMapping, PathOption, PathSegment, SaidSegment};
 pub use spelling::{EndNumbers, Side, Spelling};
+pub use wire::relative_number;
 pub use writing::{sum, write};
 
 #[cfg(test)]

@@ -60,6 +60,11 @@ newly_kept pos payload v = kept_count (after_accept pos payload v).places - kept
 abbrev pub acceptance_of : ℕ → List ℕ → Receiving → Acceptance
 acceptance_of pos payload v = if is_outside pos payload v then Outside else Kept (newly_kept pos payload v)
 
+-- how many octets are kept by it that were not kept before
+abbrev pub new_octets : Acceptance → ℕ
+new_octets (Kept n) = n
+new_octets Outside = 0
+
 -- the edge moves, and what lies below it is let go
 abbrev pub after_advance : ℕ → Receiving → Receiving
 after_advance to v = record v { edge = to; places = drop (to - v.edge) v.places; incoming = None }

@@ -37,7 +37,7 @@ impl Model for SubflowRecv {
 }
 
 impl SubflowRecv {
-    ghost use Rattle.subflow_recv.specs.Receiving.{filled, kept_count, opening, window_end, is_outside, with_octets, acceptance_of, after_accept, after_hold, after_keep_held, without_held, after_advance, after_forget_from};
+    ghost use Rattle.subflow_recv.specs.Receiving.{filled, kept_count, opening, window_end, is_outside, with_octets, acceptance_of, new_octets, after_accept, after_hold, after_keep_held, without_held, after_advance, after_forget_from};
 
     /// A side to which nothing has come: the edge is position 0, that of the peer's SYN. From the edge on `window`
     /// positions are in the window, at least one. Takes no memory.
@@ -86,6 +86,7 @@ impl SubflowRecv {
     pub fn accept(&mut self, pos: Pos, payload: &[u8]) -> Result<Acceptance, AllocError>
         requires { pos + length payload.now ≤ 2 ^ 62 }
         ensures acceptance { IfOk result (λ acceptance. acceptance ≡ acceptance_of pos payload.now self.old) }
+        ensures few { IfOk result (λ acceptance. new_octets acceptance ≤ length payload.now) }
         ensures after { OnOk result (self.new ≡ after_accept pos payload.now self.old) }
         ensures err { OnErr result (self.new ≡ self.old) }
     {
@@ -150,6 +151,7 @@ impl SubflowRecv {
         requires within { pos + length octets.now ≤ window_end self.old }
         ensures ok { OnOk result (self.new ≡ with_octets pos octets.now self.old) }
         ensures count { IfOk result (λ count. count ≡ kept_count self.new.places - kept_count self.old.places) }
+        ensures few { IfOk result (λ count. count ≤ length octets.now) }
         ensures err { OnErr result (self.new ≡ self.old) }
     {
         let count = self.kept.put(pos, octets)?;

@@ -21,6 +21,13 @@ fn accept(side: &mut SubflowRecv, pos: u64, payload: &[u8]) -> Result<Acceptance
     side.accept(pos, payload)
 }
 
+/// Holds a payload.
+fn hold(side: &mut SubflowRecv, pos: u64, payload: &[u8]) -> Result<(), AllocError>
+    requires { pos + length payload.now ≤ 2 ^ 62 }
+{
+    side.hold(pos, payload)
+}
+
 /// What is held, in one piece.
 fn held_text(alloc: Global, side: &SubflowRecv) -> Result<Vec<u8>, AllocError> {
     let mut text = Vec::new(alloc);
@@ -58,11 +65,14 @@ fn a_window_of_four(rt: HostRuntime) -> Result<(), Fail> {
         side.forget_from(4);
     }
     assert_eq!(rt; (side.edge(), side.held_end()), (2, 4));
-    assert_eq!(rt; accept(&mut side, 2, b"BCDEF")?, Acceptance::Kept(2));
+    hold(&mut side, 2, b"BCDEF")?;
+    assert_eq!(rt; side.held_end(), 4);
+    side.keep_held();
     assert_eq!(rt;
         held_text(rt.alloc(), &side)?.as_slice(),
         b"bcDE".as_slice()
     );
+    assert_eq!(rt; accept(&mut side, 2, b"BCDEF")?, Acceptance::Kept(0));
     Ok(())
 }
 

@@ -280,7 +280,7 @@ spans-push [] r = refl
 spans-push (x ∷ rs) r = ap (λ (t : List (ℕ × ℕ)). span_of x ∷ t) (spans-push rs r)
 
 pub kept_push : (una nxt : ℕ) (syn : Option Sending) (ps : List Piece) (fin : Option Sending) (finished : Bool) (p : Piece) (end : ℕ) → IsKept una nxt syn ps fin finished
-    → finished ≡ false → p.pos ≡ nxt → 0 < length p.bytes → length p.bytes ≤ 65535 → nxt < 2 ^ 61 → end ≡ nxt + length p.bytes
+    → finished ≡ false → p.pos ≡ nxt → 0 < length p.bytes → length p.bytes ≤ 65475 → nxt < 2 ^ 61 → end ≡ nxt + length p.bytes
     → IsKept una end syn (ps ++ p ∷ []) fin finished
 kept_push una nxt syn ps (Some s) finished p end kept still at some most room e = absurd (true≢false (sym (kept.fin_last refl) ∙ still))
 kept_push una nxt syn ps None finished p end kept still at some most room e =

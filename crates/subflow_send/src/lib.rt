@@ -4,6 +4,7 @@
 #![tactic(auto)]
 
 mod laws;
+mod octets;
 mod pieces;
 mod record;
 mod send;

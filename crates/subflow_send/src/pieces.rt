@@ -1,5 +1,5 @@
 //! The data pieces of a sending side, in order of their positions.
-ghost use Rattle.std.specs.Prelude.{◌≡◌, ◌<◌, ◌≤◌, ◌^◌, ◌==◌, not, ◌++◌, take, drop, length, map, sum_by, find};
+ghost use Rattle.std.specs.Prelude.{◌≡◌, ◌<◌, ◌≤◌, ◌^◌, ◌==◌, not, ◌++◌, take, drop, length, map, sum_by, find, IfSome};
 ghost use Rattle.std.specs.List.{list_any};
 ghost use Rattle.std.specs.Option.{option_map};
 ghost use Rattle.subflow_send.specs.Records.{record_of};
@@ -7,8 +7,8 @@ ghost use Rattle.subflow_send.specs.Rules.{stands_at, is_unsent, first_sent, exp
 ghost use Rattle.subflow_send.specs.Sendings.{sent_again, first_at_an_expiry};
 ghost use Rattle.subflow_send.specs.Pieces.{piece_record, piece_len, piece_under_way, is_unsent_piece, unsent_piece, uncovered_pieces, sent_pieces, sending_of};
 
+use crate::octets::Octets;
 use crate::record::{RecordKind, RecordRef, Sending};
-use pipe_model::Text;
 use seq_units::{Mapping, Pos};
 use std::collections::VecDeque;
 
@@ -18,7 +18,7 @@ pub(crate) struct Piece {
     /// The position of the first octet.
     pub(crate) pos: Pos,
     /// The octets, at least one.
-    pub(crate) bytes: Text,
+    pub(crate) bytes: Octets,
     /// The mapping that they were pushed with.
     pub(crate) mapping: Mapping,
     /// How they were sent.
@@ -28,7 +28,8 @@ pub(crate) struct Piece {
 impl Piece {
     /// The record of this piece, lent.
     pub(crate) fn lend(&self) -> RecordRef<'_>
-        ensures { record_of result ≡ piece_record self.now }
+        ensures value { record_of result ≡ piece_record self.now }
+        ensures bound { length result.piece.now ≤ 65475 }
     {
         RecordRef {
             pos: self.pos,
@@ -86,7 +87,8 @@ pub(crate) fn drop_covered(pieces: &mut VecDeque<Piece>, pos: Pos)
 
 /// The first piece that is to be sent, lent.
 pub(crate) fn first_unsent(pieces: &VecDeque<Piece>) -> Option<RecordRef<'_>>
-    ensures { option_map record_of result ≡ find is_unsent (map piece_record pieces.now.items) }
+    ensures value { option_map record_of result ≡ find is_unsent (map piece_record pieces.now.items) }
+    ensures bound { IfSome result (λ found. length found.piece.now ≤ 65475) }
 {
     for index in 0..pieces.len() {
         let piece = &pieces[index];
@@ -99,7 +101,8 @@ pub(crate) fn first_unsent(pieces: &VecDeque<Piece>) -> Option<RecordRef<'_>>
 
 /// The piece at this position, lent.
 pub(crate) fn piece_at(pieces: &VecDeque<Piece>, pos: Pos) -> Option<RecordRef<'_>>
-    ensures { option_map record_of result ≡ find (stands_at pos) (map piece_record pieces.now.items) }
+    ensures value { option_map record_of result ≡ find (stands_at pos) (map piece_record pieces.now.items) }
+    ensures bound { IfSome result (λ found. length found.piece.now ≤ 65475) }
 {
     for index in 0..pieces.len() {
         let found = &pieces[index];

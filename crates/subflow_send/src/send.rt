@@ -1,4 +1,4 @@
-ghost use Rattle.std.specs.Prelude.{◌≡◌, ◌≢◌, ◌+◌, ◌-◌, ◌^◌, ◌<◌, ◌≤◌, ◌↔◌, [], length, true, false, map, find, slice_get, OnOk, OnErr, IfOk, IsTrue, IsSome, if◌then◌else◌};
+ghost use Rattle.std.specs.Prelude.{◌≡◌, ◌≢◌, ◌+◌, ◌-◌, ◌^◌, ◌<◌, ◌≤◌, ◌↔◌, [], length, true, false, map, find, slice_get, OnOk, OnErr, IfOk, IfSome, IsTrue, IsSome, if◌then◌else◌};
 ghost use Rattle.std.specs.List.{list_any};
 ghost use Rattle.std.specs.Option.{option_map};
 ghost use Rattle.subflow_send.specs.Records.{record_of};
@@ -6,12 +6,12 @@ ghost use Rattle.subflow_send.specs.Rules.{syn_record, fin_record, last_covered}
 ghost use Rattle.subflow_send.specs.Sendings.{sent_again, to_be_sent};
 ghost use Rattle.subflow_send.specs.Pieces.{sending_of, unsent_sending};
 
+use crate::octets::Octets;
 use crate::pieces::{
     Piece, drop_covered, expire_first, first_unsent, last_covered, octets_under_way, piece_at,
     send_first, send_unsent, unsend_from,
 };
 use crate::record::{AckKind, RecordKind, RecordRef, Sending};
-use pipe_model::Text;
 use seq_units::{Mapping, Pos};
 use std::alloc::{AllocError, Global};
 use std::collections::VecDeque;
@@ -103,7 +103,7 @@ impl SubflowSend {
     /// Appends a piece with its mapping, to be sent, and answers its position. Without memory for it all is as it was.
     pub fn push(&mut self, piece: &[u8], mapping: &Mapping) -> Result<Pos, AllocError>
         requires some { 0 < length piece.now }
-        requires most { length piece.now ≤ 65535 }
+        requires most { length piece.now ≤ 65475 }
         requires room { self.old.nxt < 2 ^ 61 }
         requires open { self.old.finished ≡ false }
         ensures pos { IfOk result (λ pos. pos ≡ self.old.nxt) }
@@ -111,7 +111,7 @@ impl SubflowSend {
         ensures err { OnErr result (self.new ≡ self.old) }
     {
         let pos = self.nxt;
-        let bytes = Text::of(self.alloc, piece)?;
+        let bytes = Octets::of(self.alloc, piece)?;
         self.pieces.push_back(Piece {
             pos,
             bytes,
@@ -215,9 +215,10 @@ impl SubflowSend {
         self.syn
     }
 
-    /// The first record that is not acknowledged whole, lent.
+    /// The first record that is not acknowledged whole, lent. No record has more than 65,475 octets.
     pub fn retransmit_first(&self) -> Option<RecordRef<'_>>
-        ensures { option_map record_of result ≡ slice_get self.now.records 0 }
+        ensures value { option_map record_of result ≡ slice_get self.now.records 0 }
+        ensures bound { IfSome result (λ found. length found.piece.now ≤ 65475) }
     {
         if let Some(syn) = self.syn {
             return Some(syn_ref(syn));
@@ -233,7 +234,8 @@ impl SubflowSend {
 
     /// The first record that is to be sent, lent.
     pub fn due(&self) -> Option<RecordRef<'_>>
-        ensures { option_map record_of result ≡ find is_unsent self.now.records }
+        ensures value { option_map record_of result ≡ find is_unsent self.now.records }
+        ensures bound { IfSome result (λ found. length found.piece.now ≤ 65475) }
     {
         if let Some(syn) = if_unsent(self.syn) {
             return Some(syn_ref(syn));
@@ -279,7 +281,8 @@ impl SubflowSend {
 
     /// The record at this position, lent; `None` where no unacknowledged record begins there.
     pub fn record_at(&self, pos: Pos) -> Option<RecordRef<'_>>
-        ensures { option_map record_of result ≡ find (stands_at pos) self.now.records }
+        ensures value { option_map record_of result ≡ find (stands_at pos) self.now.records }
+        ensures bound { IfSome result (λ found. length found.piece.now ≤ 65475) }
     {
         if let Some(syn) = unless(pos != 0, self.syn) {
             return Some(syn_ref(syn));
@@ -351,7 +354,8 @@ impl SubflowSend {
 
 /// The SYN.
 fn syn_ref<'a>(sending: Sending) -> RecordRef<'a>
-    ensures { record_of result ≡ syn_record sending }
+    ensures value { record_of result ≡ syn_record sending }
+    ensures empty { length result.piece.now ≡ 0 }
 {
     RecordRef {
         pos: 0,
@@ -364,7 +368,8 @@ fn syn_ref<'a>(sending: Sending) -> RecordRef<'a>
 
 /// The FIN at this position.
 fn fin_ref<'a>(pos: Pos, sending: Sending) -> RecordRef<'a>
-    ensures { record_of result ≡ fin_record pos sending }
+    ensures value { record_of result ≡ fin_record pos sending }
+    ensures empty { length result.piece.now ≡ 0 }
 {
     RecordRef {
         pos,

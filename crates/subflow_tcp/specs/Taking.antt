@@ -5,9 +5,7 @@ use Rattle.subflow_send.specs.declared.record.AckKind.{AckKind}
 use Rattle.subflow_send.specs.declared.record.AckKind.TheVariants.{New, Duplicate, Old, Future}
 use Rattle.subflow_send.specs.Records.{SendState}
 use Rattle.subflow_send.specs.Rules.{ack_kind, after_acknowledge, sample_of}
-use Rattle.subflow_recv.specs.declared.acceptance.Acceptance.{Acceptance}
-use Rattle.subflow_recv.specs.declared.acceptance.Acceptance.TheVariants.{Kept, Outside}
-use Rattle.subflow_recv.specs.Receiving.{acceptance_of, after_accept, after_hold, after_keep_held, without_held, after_forget_from}
+use Rattle.subflow_recv.specs.Receiving.{acceptance_of, new_octets, after_accept, after_hold, after_keep_held, without_held, after_forget_from}
 use Rattle.subflow_tcp.specs.declared.handshake.State.TheVariants.{SynReceived, Established, Dead}
 use Rattle.subflow_tcp.specs.declared.segments.Hint.{Hint}
 use Rattle.subflow_tcp.specs.declared.verdicts.Meaning.{Meaning}
@@ -58,10 +56,6 @@ is_kept keep s = keep && not (is_fin_passed s)
 
 abbrev pub after_keeping : Bool → ℕ → List ℕ → EndState → EndState
 after_keeping keep pos payload s = record s { recv = (if is_kept keep s then after_accept pos payload s.recv else s.recv) }
-
-abbrev pub new_octets : Acceptance → ℕ
-new_octets (Kept n) = n
-new_octets Outside = 0
 
 -- how many octets are kept that were not kept before
 abbrev pub kept_new : Bool → ℕ → List ℕ → EndState → ℕ

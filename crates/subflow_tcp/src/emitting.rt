@@ -1,5 +1,5 @@
 //! What an end sends: which segment is next, what it says, and what its sending changes.
-ghost use Rattle.std.specs.Prelude.{◌≡◌, find, slice_get};
+ghost use Rattle.std.specs.Prelude.{◌≡◌, ◌≤◌, length, find, slice_get, IfSome};
 ghost use Rattle.std.specs.Option.{option_map};
 ghost use Rattle.subflow_send.specs.Records.{record_of};
 ghost use Rattle.subflow_send.specs.Rules.{is_fin, stands_at};
@@ -111,6 +111,7 @@ impl Subflow {
 
     /// The segment of a record.
     pub fn record_segment(&self, lent: &RecordRef<'_>) -> Outgoing
+        requires { length lent.now.piece.now ≤ 65475 }
         ensures { result ≡ record_segment self.now (record_of lent.now) }
     {
         Outgoing {
@@ -119,7 +120,7 @@ impl Subflow {
             syn: is_syn(lent.kind),
             fin: is_fin(lent.kind),
             rst: false,
-            length: lent.piece.len() as u64,
+            length: lent.piece.len() as u32,
         }
     }
 
@@ -143,6 +144,7 @@ impl Subflow {
 
     /// The segment of a record, where there is one.
     fn record_said(&self, lent: Option<RecordRef<'_>>) -> Option<Outgoing>
+        requires { IfSome lent (λ lent. length lent.piece.now ≤ 65475) }
         ensures { result ≡ option_map (record_segment self.now) (option_map record_of lent.entry) }
     {
         match lent {
@@ -301,7 +303,8 @@ impl Subflow {
 
     /// The record at this position, lent: its octets, its mapping, and how it was sent.
     pub fn record_at(&self, pos: Pos) -> Option<RecordRef<'_>>
-        ensures { option_map record_of result ≡ find (stands_at pos) self.now.send.records }
+        ensures value { option_map record_of result ≡ find (stands_at pos) self.now.send.records }
+        ensures bound { IfSome result (λ found. length found.piece.now ≤ 65475) }
     {
         self.send.record_at(pos)
     }
@@ -309,7 +312,8 @@ impl Subflow {
     /// The octets of a segment that is to be sent, or was sent and isn't acknowledged, lent: those of the record at its
     /// position.
     pub fn payload(&self, emission: &Emission) -> &[u8]
-        ensures { result.now ≡ payload_of emission.now self.now }
+        ensures value { result.now ≡ payload_of emission.now self.now }
+        ensures bound { length result.now ≤ 65475 }
     {
         if emission.length == 0 {
             return &[];

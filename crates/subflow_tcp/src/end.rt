@@ -204,7 +204,7 @@ impl Subflow {
     /// Appends a piece with its mapping, to be sent, and answers its position. Without memory for it all is as it was.
     pub fn push(&mut self, piece: &[u8], mapping: &Mapping) -> Result<Pos, AllocError>
         requires some { 0 < length piece.now }
-        requires most { length piece.now ≤ 65535 }
+        requires most { length piece.now ≤ 65475 }
         requires room { self.old.send.nxt < 2 ^ 61 }
         requires open { self.old.send.finished ≡ false }
         ensures pos { IfOk result (λ pos. pos ≡ self.old.send.nxt) }

@@ -32,7 +32,7 @@ pub enum State {
 
 impl State {
     /// Whether it sends no record in this state: it waits, it listens, or it is dead.
-    pub(crate) fn is_closed_to_segments(self) -> bool
+    pub fn is_closed_to_segments(self) -> bool
         ensures { result ≡ is_closed_to_segments self }
     {
         matches!(self, State::Waiting | State::Listen | State::Dead)

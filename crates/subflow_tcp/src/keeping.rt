@@ -1,23 +1,11 @@
 //! The payload of a segment: kept at once, or held until it is kept.
 ghost use Rattle.std.specs.Prelude.{◌≡◌, ◌+◌, ◌^◌, ◌≤◌, length, IfOk, OnOk, OnErr, true};
 ghost use Rattle.subflow_tcp.specs.Judging.{IsBelow};
-ghost use Rattle.subflow_tcp.specs.Taking.{new_octets};
 
 use crate::end::Subflow;
 use crate::verdicts::Meaning;
 use seq_units::Pos;
 use std::alloc::AllocError;
-use subflow_recv::Acceptance;
-
-/// How many octets are new.
-fn new_octets(acceptance: Acceptance) -> u64
-    ensures { result ≡ new_octets acceptance }
-{
-    match acceptance {
-        Acceptance::Kept(new) => new,
-        Acceptance::Outside => 0,
-    }
-}
 
 impl Subflow {
     ghost use Rattle.subflow_tcp.specs.Taking.{after_keeping, kept_new, kept_for, after_keeping_for, after_holding, after_keeping_held, after_dropping_held};
@@ -42,12 +30,13 @@ impl Subflow {
     fn keep_if(&mut self, keep: bool, pos: Pos, payload: &[u8]) -> Result<u64, AllocError>
         requires { pos + length payload.now ≤ 2 ^ 62 }
         ensures new { IfOk result (λ new. new ≡ kept_new keep pos payload.now self.old) }
+        ensures few { IfOk result (λ new. new ≤ length payload.now) }
         ensures ok { OnOk result (self.new ≡ after_keeping keep pos payload.now self.old) }
         ensures err { OnErr result (self.new ≡ self.old) }
     {
         if keep && !self.is_fin_passed() {
             let acceptance = self.recv.accept(pos, payload)?;
-            return Ok(new_octets(acceptance));
+            return Ok(acceptance.new_octets());
         }
         Ok(0)
     }
@@ -94,7 +83,7 @@ impl Subflow {
         meaning: Meaning,
         keep: bool,
         payload: &[u8],
-    ) -> Result<u64, AllocError>
+    ) -> Result<u32, AllocError>
         requires small { length payload.now ≤ 65535 }
         requires below { IsBelow meaning }
         ensures new { IfOk result (λ new. new ≡ kept_for meaning keep payload.now self.old) }
@@ -102,9 +91,21 @@ impl Subflow {
         ensures err { OnErr result (self.new ≡ self.old) }
     {
         match meaning {
-            Meaning::Opens | Meaning::Accepts { .. } => self.keep_if(keep, 1, payload),
-            Meaning::Taken { position, .. } => self.keep_if(keep, position, payload),
+            Meaning::Opens | Meaning::Accepts { .. } => self.keep_few(keep, 1, payload),
+            Meaning::Taken { position, .. } => self.keep_few(keep, position, payload),
             _ => Ok(0),
         }
+    }
+
+    /// The same as `keep_if`, for a payload of at most 65,535 octets.
+    fn keep_few(&mut self, keep: bool, pos: Pos, payload: &[u8]) -> Result<u32, AllocError>
+        requires bound { pos + length payload.now ≤ 2 ^ 62 }
+        requires small { length payload.now ≤ 65535 }
+        ensures new { IfOk result (λ new. new ≡ kept_new keep pos payload.now self.old) }
+        ensures ok { OnOk result (self.new ≡ after_keeping keep pos payload.now self.old) }
+        ensures err { OnErr result (self.new ≡ self.old) }
+    {
+        let new = self.keep_if(keep, pos, payload)?;
+        Ok(new as u32)
     }
 }

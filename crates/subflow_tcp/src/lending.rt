@@ -1,5 +1,5 @@
 //! What an end lends and tells of what it is to send.
-ghost use Rattle.std.specs.Prelude.{◌≡◌, find, slice_get};
+ghost use Rattle.std.specs.Prelude.{◌≡◌, ◌≤◌, find, slice_get, length, IfSome};
 ghost use Rattle.std.specs.Option.{option_map};
 ghost use Rattle.subflow_send.specs.Records.{record_of};
 ghost use Rattle.subflow_send.specs.Rules.{is_unsent};
@@ -10,14 +10,16 @@ use subflow_send::RecordRef;
 impl Subflow {
     /// The first record that is to be sent, lent.
     pub fn first_unsent(&self) -> Option<RecordRef<'_>>
-        ensures { option_map record_of result ≡ find is_unsent self.now.send.records }
+        ensures value { option_map record_of result ≡ find is_unsent self.now.send.records }
+        ensures bound { IfSome result (λ lent. length lent.piece.now ≤ 65475) }
     {
         self.send.due()
     }
 
     /// The first record that isn't acknowledged, lent.
     pub fn first_record(&self) -> Option<RecordRef<'_>>
-        ensures { option_map record_of result ≡ slice_get self.now.send.records 0 }
+        ensures value { option_map record_of result ≡ slice_get self.now.send.records 0 }
+        ensures bound { IfSome result (λ lent. length lent.piece.now ≤ 65475) }
     {
         self.send.retransmit_first()
     }

@@ -59,8 +59,8 @@ pub struct Outgoing {
     pub syn: bool,
     pub fin: bool,
     pub rst: bool,
-    /// How many octets of payload it has.
-    pub length: u64,
+    /// How many octets of payload it has, at most 65,535.
+    pub length: u32,
 }
 
 /// A segment that is to be sent: its header with the window 0, which the layer above sets, and which octets it carries.
@@ -69,6 +69,6 @@ pub struct Emission {
     pub head: Head,
     /// The position of its first octet.
     pub pos: Pos,
-    /// How many octets of payload it has.
-    pub length: u64,
+    /// How many octets of payload it has, at most 65,535.
+    pub length: u32,
 }

@@ -20,7 +20,7 @@ fn heard<'a>(end: &Subflow, position: u64, payload: &'a [u8]) -> Arriving<'a> {
 
 /// Treats a segment by positions, where that may be done now.
 fn take(end: &mut Subflow, arriving: &Arriving<'_>, keep: bool) -> Result<Arrival, AllocError> {
-    if arriving.payload.len() > 65_535 || end.pending().is_some() {
+    if arriving.payload.len() > 65_535 {
         return Ok(Arrival::Dropped);
     }
     let hint = Hint {
@@ -65,6 +65,12 @@ fn a_payload_that_is_kept_later(rt: HostRuntime) -> Result<(), Fail> {
     take(&mut end, &first, true)?;
     let to = end.held_end();
     assert_eq!(rt; to, 6);
+    end.hold(6, b", ")?;
+    end.drop_held();
+    end.hold(6, b"!")?;
+    end.keep_held();
+    let to = end.held_end();
+    assert_eq!(rt; to, 7);
     Ok(())
 }
 

@@ -58,8 +58,8 @@ pub enum Arrival {
     Took {
         /// What its acknowledgement told.
         ack: AckKind,
-        /// How many of its octets were kept that were not kept before.
-        new: u64,
+        /// How many of its octets were kept that were not kept before, at most 65,535.
+        new: u32,
         /// Whether it has a FIN.
         fin: bool,
     },
@@ -67,7 +67,7 @@ pub enum Arrival {
 
 impl Arrival {
     /// So many octets are new, where it was taken.
-    pub(crate) fn with_new(self, new: u64) -> Arrival
+    pub(crate) fn with_new(self, new: u32) -> Arrival
         ensures { result ≡ with_new new self }
     {
         match self {

@@ -45,3 +45,10 @@ returns-clause-count c =
     ∙ ap (λ n. sum_by piece_len c.in_ok-parts.parts.items + n) (count-spread c.self.inside.from c.self.inside.pieces.items)
     ∙ put.count
     ∙ sym (count-spread c.self.inside.from c.put_pieces.new.pieces.items))
+
+pub returns-clause-few : goal.returns-clause-few
+returns-clause-few c =
+    let put = is_put c.self.inside.from c.args.at (2 ^ 62) c.min-passed.result c.max-first.result c.args.bytes.now _ c.self.inside.pieces.items c.in_ok-parts.parts.items
+    c.put_pieces.new.pieces.items c.self.invariant.0 c.requires (c.min-passed.ensures ∙ ap (min (length c.args.bytes.now)) c.saturating_sub.ensures) c.max-first.ensures refl c.in_ok-parts.ensures
+    (c.put_pieces.ensures ∙ ap (with_pieces c.in_ok-parts.parts.items) c.in_ok-reserve.ensures.items) in
+    omega (arith, put.few, c.count_bytes-count.ensures)

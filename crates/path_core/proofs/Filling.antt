@@ -1,0 +1,66 @@
+-- Things put one after the other are the first ten.
+use Rattle.std.proofs.Common.{◌≡◌, ◌∙◌, refl, sym, ap, ℕ, ◌+◌, ◌≤◌, ◌<◌, nat_lt, Bool, true, false, if◌then◌else◌, List, [], ◌∷◌, ◌++◌, length, length-append, take, arith}
+use Rattle.std.proofs.lemmas.Bool.{ltb-true, ltb-false}
+use Rattle.std.proofs.lemmas.List.{take-append-le}
+use Rattle.std.proofs.Math.Seq.{take-length}
+use Rattle.path_core.specs.declared.heard.Heard.{Heard}
+use Rattle.path_core.specs.declared.heard.Heard.TheVariants as says
+use Rattle.path_core.specs.Arriving.{place_in_first}
+use Rattle.path_core.specs.Items.{with_item, with_items, is_dss}
+
+pub with_items-append : (items xs ys : List Heard) → with_items items (xs ++ ys) ≡ with_items (with_items items xs) ys
+with_items-append items [] ys = refl
+with_items-append items (x ∷ xs) ys = with_items-append (with_item items x) xs ys
+
+append-assoc : (xs : List Heard) (y : Heard) (ys : List Heard) → (xs ++ y ∷ []) ++ ys ≡ xs ++ y ∷ ys
+append-assoc [] y ys = refl
+append-assoc (x ∷ xs) y ys = ap (λ rest. x ∷ rest) (append-assoc xs y ys)
+
+append-nil : (xs : List Heard) → xs ++ [] ≡ xs
+append-nil [] = refl
+append-nil (x ∷ xs) = ap (λ rest. x ∷ rest) (append-nil xs)
+
+take-all : (n : ℕ) (xs : List Heard) → length xs ≡ n → take n xs ≡ xs
+take-all n xs e = ap (λ (k : ℕ). take k xs) (sym e) ∙ take-length xs
+
+take-full : (n : ℕ) (xs ys : List Heard) → length xs ≡ n → take n (xs ++ ys) ≡ xs
+take-full n xs ys e = take-append-le n xs ys (omega (arith, e)) ∙ take-all n xs e
+
+take-short : (n : ℕ) (xs : List Heard) → length xs ≤ n → take n xs ≡ xs
+take-short n [] le = by n
+  where
+    by : (n : ℕ) → take {A = Heard} n [] ≡ []
+    by zero = refl
+    by (suc n) = refl
+take-short zero (x ∷ xs) le = absurd (omega (arith, le))
+take-short (suc n) (x ∷ xs) le = ap (λ rest. x ∷ rest) (take-short n xs (omega (arith, le)))
+
+pub with_items-is : (items xs : List Heard) → length items ≤ 10 → with_items items xs ≡ take 10 (items ++ xs)
+with_items-is items [] le = sym (ap (λ all. take 10 all) (append-nil items) ∙ take-short 10 items le)
+with_items-is items (x ∷ xs) le = by (nat_lt (length items) 10) refl
+  where
+    by : (b : Bool) → nat_lt (length items) 10 ≡ b → with_items (if b then items ++ x ∷ [] else items) xs ≡ take 10 (items ++ x ∷ xs)
+    by true is =
+        with_items-is (items ++ x ∷ []) xs (omega (arith, length-append items (x ∷ []), ltb-true _ _ is))
+        ∙ ap (λ all. take 10 all) (append-assoc items x xs)
+    by false is =
+        let full : length items ≡ 10 = omega (arith, le, ltb-false _ _ is) in
+        with_items-is items xs le ∙ take-full 10 items xs full ∙ sym (take-full 10 items (x ∷ xs) full)
+
+-- ---- the first DSS
+
+pub dss_here : (item : Heard) (items : List Heard) → is_dss item ≡ true → place_in_first (item ∷ items) ≡ place_in_first (says.Dss ∷ items)
+dss_here says.Dss items is = refl
+dss_here (says.DataAck next window) items is = cc
+dss_here says.Mapping items is = cc
+dss_here (says.DataFin place) items is = cc
+dss_here (says.PeerKey key) items is = cc
+dss_here (says.Keys own peer) items is = cc
+
+pub dss_later : (item : Heard) (items : List Heard) → is_dss item ≡ false → place_in_first (item ∷ items) ≡ place_in_first items
+dss_later says.Dss items is = cc
+dss_later (says.DataAck next window) items is = refl
+dss_later says.Mapping items is = refl
+dss_later (says.DataFin place) items is = refl
+dss_later (says.PeerKey key) items is = refl
+dss_later (says.Keys own peer) items is = refl

@@ -1,0 +1,208 @@
+-- Every segment that an end sends can be said.
+use Rattle.std.proofs.Common.{◌≡◌, refl, subst, ap, ℕ, ◌+◌, ◌-◌, ◌^◌, ◌≤◌, Bool, true, false, if◌then◌else◌, not, ◌&&◌, ◌==◌, Option, Some, None, is_some, List, [], ◌∷◌, ◌++◌, length, arith}
+use Rattle.std.proofs.lemmas.List.{append-nil}
+use Rattle.std.proofs.lemmas.List.Elements.{All-nil, All-cons}
+use Rattle.std.specs.Prelude.{All, IfSome}
+use Rattle.outside_kit.specs.declared.side.Side.{Side}
+use Rattle.outside_kit.specs.declared.side.Side.TheVariants.{A, B}
+use Rattle.mptcp_options.specs.declared.capable.CapableKeys.{CapableKeys}
+use Rattle.mptcp_options.specs.declared.capable.CapableKeys.TheVariants.{NoKey, Sender, Both, WithData}
+use Rattle.mptcp_options.specs.declared.dss.DataNumber.{DataNumber}
+use Rattle.mptcp_options.specs.declared.dss.DataNumber.TheVariants.{Whole, Low}
+use Rattle.mptcp_options.specs.Text.{option_text}
+use Rattle.mptcp_options.specs.Value as wire
+use Rattle.path_segments.specs.declared.segment.PathOption.TheVariants.{Capable, Dss, Reset}
+use Rattle.path_segments.specs.declared.spelling.Spelling.{Spelling}
+use Rattle.path_segments.specs.declared.spelling.Side.{Side as SpelledSide}
+use Rattle.path_segments.specs.Options.{PlainOption, said_option, relative_number}
+use Rattle.path_segments.specs.Spelled.{syn_text, options_text, CanSayOption}
+use Rattle.path_segments.specs.Spelling.{peer_of, data_number}
+use Rattle.subflow_send.specs.declared.record.RecordKind.{RecordKind}
+use Rattle.subflow_send.specs.declared.record.RecordKind.TheVariants.{Syn, Data, Fin}
+use Rattle.subflow_send.specs.Records.{Record, record_of}
+use Rattle.subflow_send.specs.declared.record.RecordRef.{RecordRef}
+use Rattle.std.specs.Option.{option_map}
+use Rattle.subflow_tcp.specs.declared.segments.Outgoing.{Outgoing}
+use Rattle.path_core.specs.Ends.{PathEnd}
+use Rattle.path_core.specs.Segments.{spelled_by, checksum_told, syn_options, key_options, end_mapping, ack_options, is_first_piece, first_piece_options, piece_options, fin_options, record_options, reset_options, segment_of, piece_mapping, ack_said, record_or_ack, syn_ack_said}
+use Rattle.path_core.specs.declared.segment_kind.SegmentKind.{SegmentKind}
+use Rattle.path_core.specs.declared.segment_kind.SegmentKind.TheVariants as to_say
+use Rattle.subflow_tcp.specs.Emitting.{ack_at, record_segment, syn_ack_segment, fin_segment, reset_segment}
+use Rattle.subflow_tcp.specs.State.{has_records}
+use Rattle.path_core.specs.Closing.{owes_end}
+use Rattle.path_core.specs.Emission.{first_unsent}
+use Rattle.path_core.specs.Passing.{first_record, outgoing_or}
+use Rattle.path_core.specs.Said.{CanBeSaid, said_by}
+use Rattle.path_core.specs.State.{Profile}
+
+-- ---- lengths
+
+capable_length : (flag_a flag_c : Bool) (keys : CapableKeys) → length (option_text (wire.Capable flag_a flag_c keys)) ≤ 28
+unfolding option_text
+capable_length flag_a flag_c NoKey = omega arith
+capable_length flag_a flag_c (Sender sender) = omega arith
+capable_length flag_a flag_c (Both sender receiver) = omega arith
+capable_length flag_a flag_c (WithData sender receiver len None) = omega arith
+capable_length flag_a flag_c (WithData sender receiver len (Some checksum)) = omega arith
+
+ack_length : (ack : DataNumber) (fin : Bool) → length (option_text (wire.Dss (Some ack) None fin)) ≤ 28
+unfolding option_text
+ack_length (Whole ack) fin = omega arith
+ack_length (Low ack) fin = omega arith
+
+dss_length : (ack number : DataNumber) (relative len : ℕ) (checksum : Option ℕ) (fin : Bool)
+    → length (option_text (wire.Dss (Some ack) (Some (record { number = number; relative = relative; length = len; checksum = checksum })) fin)) ≤ 28
+unfolding option_text
+dss_length (Whole ack) (Whole number) relative len None fin = omega arith
+dss_length (Whole ack) (Whole number) relative len (Some checksum) fin = omega arith
+dss_length (Whole ack) (Low number) relative len None fin = omega arith
+dss_length (Whole ack) (Low number) relative len (Some checksum) fin = omega arith
+dss_length (Low ack) (Whole number) relative len None fin = omega arith
+dss_length (Low ack) (Whole number) relative len (Some checksum) fin = omega arith
+dss_length (Low ack) (Low number) relative len None fin = omega arith
+dss_length (Low ack) (Low number) relative len (Some checksum) fin = omega arith
+
+reset_length : (transient : Bool) (reason : ℕ) → length (option_text (wire.Reset transient reason)) ≤ 28
+unfolding option_text
+reset_length transient reason = omega arith
+
+-- a checksum stands exactly where checksums are used
+told_form : (used : Bool) (checksum : ℕ) → is_some (if used then Some checksum else None) ≡ used
+told_form true checksum = refl
+told_form false checksum = refl
+
+-- ---- options
+
+-- one option at most, of 28 octets at most
+abbrev AreShort : Spelling → SpelledSide → List PlainOption → Type 0
+AreShort spelling from [] = Unit {0}
+AreShort spelling from (o ∷ []) = CanSayOption spelling from o × (length (option_text (said_option spelling from o)) ≤ 28)
+AreShort spelling from (o ∷ other ∷ others) = ⊥
+
+each_of : (spelling : Spelling) (from : SpelledSide) (options : List PlainOption) → AreShort spelling from options → All (CanSayOption spelling from) options
+each_of spelling from [] short = All-nil (CanSayOption spelling from)
+each_of spelling from (o ∷ []) short = All-cons (CanSayOption spelling from) o [] short.0 (All-nil (CanSayOption spelling from))
+each_of spelling from (o ∷ other ∷ others) short = absurd short
+
+room_of : (syn : Bool) (mss : ℕ) (spelling : Spelling) (from : SpelledSide) (options : List PlainOption) → AreShort spelling from options
+    → length (syn_text (if syn then Some mss else None) ++ options_text spelling from options) ≤ 40
+room_of true mss spelling from [] short = omega arith
+room_of false mss spelling from [] short = omega arith
+room_of true mss spelling from (o ∷ []) short = omega (arith, short.1, ap length (append-nil (option_text (said_option spelling from o))))
+room_of false mss spelling from (o ∷ []) short = omega (arith, short.1, ap length (append-nil (option_text (said_option spelling from o))))
+room_of syn mss spelling from (o ∷ other ∷ others) short = absurd short
+
+syn_short : (c : Profile) (s : Side) (e : PathEnd) → AreShort c.spelling (spelled_by s) (syn_options c s e)
+syn_short c A e = (record { form = tt }, capable_length c.spelling.checksums false NoKey)
+syn_short c B e = (record { form = tt }, capable_length c.spelling.checksums false (Sender e.modes.own_key))
+
+key_short : (c : Profile) (s : Side) (peer : Option ℕ) (e : PathEnd) → AreShort c.spelling (spelled_by s) (key_options c s peer e)
+key_short c A None e = tt
+key_short c A (Some peer) e = (record { form = tt }, capable_length c.spelling.checksums false (Both e.modes.own_key peer))
+key_short c B peer e = tt
+
+end_short : (c : Profile) (s : Side) (fin : Option ℕ) (next : ℕ) → AreShort c.spelling (spelled_by s) (Dss (Some next) (end_mapping c s fin) ∷ [])
+end_short c s None next = (record { form = (tt, refl) }, ack_length (data_number c.spelling (peer_of (spelled_by s)) next) false)
+end_short c s (Some place) next = (
+  record { form = (told_form c.spelling.checksums _, tt) },
+  dss_length (data_number c.spelling (peer_of (spelled_by s)) next) (data_number c.spelling (spelled_by s) place) 0 1 _ true,
+)
+
+ack_short : (c : Profile) (s : Side) (fin : Option ℕ) (e : PathEnd) → AreShort c.spelling (spelled_by s) (ack_options c s fin e)
+ack_short c s fin e = by e.modes.clear
+  where
+    by : (clear : Bool) → AreShort c.spelling (spelled_by s)
+        (if clear then Dss (Some e.receiving.next) (end_mapping c s fin) ∷ [] else key_options c s e.modes.peer_key e)
+    by true = end_short c s fin e.receiving.next
+    by false = key_short c s e.modes.peer_key e
+
+first_short : (c : Profile) (s : Side) (peer : Option ℕ) (r : Record) (e : PathEnd) → AreShort c.spelling (spelled_by s) (first_piece_options c peer r e)
+first_short c s None r e = tt
+first_short c s (Some peer) r e = (
+  record { form = told_form c.spelling.checksums r.mapping.checksum },
+  capable_length c.spelling.checksums false (WithData e.modes.own_key peer r.mapping.length (checksum_told c r.mapping.checksum)),
+)
+
+piece_short : (c : Profile) (s : Side) (r : Record) (e : PathEnd) → AreShort c.spelling (spelled_by s) (piece_options c s r e)
+piece_short c s r e = by (is_first_piece s r e)
+  where
+    by : (first : Bool) → AreShort c.spelling (spelled_by s)
+        (if first then first_piece_options c e.modes.peer_key r e else Dss (Some e.receiving.next) (Some (piece_mapping c s r)) ∷ [])
+    by true = first_short c s e.modes.peer_key r e
+    by false = (
+      record { form = (told_form c.spelling.checksums r.mapping.checksum, tt) },
+      dss_length (data_number c.spelling (peer_of (spelled_by s)) e.receiving.next) _ (relative_number r.pos) r.mapping.length
+          (checksum_told c r.mapping.checksum) false,
+    )
+
+fin_short : (c : Profile) (s : Side) (e : PathEnd) → AreShort c.spelling (spelled_by s) (fin_options e)
+fin_short c s e = (record { form = (tt, refl) }, ack_length (data_number c.spelling (peer_of (spelled_by s)) e.receiving.next) false)
+
+record_short : (kind : RecordKind) (c : Profile) (s : Side) (r : Record) (e : PathEnd)
+    → AreShort c.spelling (spelled_by s) (record_options kind c s r e)
+record_short Syn c s r e = syn_short c s e
+record_short Data c s r e = piece_short c s r e
+record_short Fin c s r e = fin_short c s e
+
+reset_short : (c : Profile) (s : Side) (reason : Option ℕ) → AreShort c.spelling (spelled_by s) (reset_options reason)
+reset_short c s None = tt
+reset_short c s (Some reason) = (record { form = tt }, reset_length false reason)
+
+-- ---- segments
+
+fits_of : (lent : Option RecordRef) (r : Option Record) → option_map record_of lent ≡ r → IfSome lent (λ r. length r.piece.now ≤ 65475)
+    → IfSome r (λ r. length r.piece ≤ 65475)
+fits_of None r is few = subst (λ r. IfSome r (λ r. length r.piece ≤ 65475)) is tt
+fits_of (Some lent) r is few = subst (λ r. IfSome r (λ r. length r.piece ≤ 65475)) is few
+
+module _ (c : Profile) (s : Side) (e : PathEnd) (path : c.spelling.path ≤ 15) (window : e.receiving.window ≤ 2 ^ 20) where
+  says : (o : Outgoing) (options : List PlainOption) (payload : List ℕ) → AreShort c.spelling (spelled_by s) options → length payload ≤ 65475
+      → CanBeSaid c.spelling s (segment_of c o options payload e)
+  says o options payload short few = record {
+    path = path;
+    window = window;
+    options = each_of c.spelling (spelled_by s) options short;
+    room = room_of o.syn c.mss c.spelling (spelled_by s) options short;
+    fits = few;
+  }
+
+  pub ack_can : (position : ℕ) (fin : Option ℕ) → CanBeSaid c.spelling s (ack_said c s position fin e)
+  ack_can position fin = says (ack_at position e.tcp) (ack_options c s fin e) [] (ack_short c s fin e) (omega arith)
+
+  pub record_can : (r : Option Record) → IfSome r (λ r. length r.piece ≤ 65475) → CanBeSaid c.spelling s (record_or_ack c s r e)
+  record_can None few = ack_can e.tcp.send.nxt None
+  record_can (Some r) few = says (record_segment e.tcp r) (record_options r.kind c s r e) r.piece (record_short r.kind c s r e) few
+
+  pub syn_ack_can : CanBeSaid c.spelling s (syn_ack_said c s e)
+  syn_ack_can = says (syn_ack_segment e.tcp) (syn_options c s e) [] (syn_short c s e) (omega arith)
+
+  answer_can : (syn_ack : Bool) → CanBeSaid c.spelling s (if syn_ack then syn_ack_said c s e else ack_said c s e.tcp.send.nxt None e)
+  answer_can true = syn_ack_can
+  answer_can false = ack_can e.tcp.send.nxt None
+
+  resend_can : (first end : Bool) → IfSome (first_record e) (λ r. length r.piece ≤ 65475)
+      → CanBeSaid c.spelling s (if first then record_or_ack c s (first_record e) e
+      else (if end then ack_said c s e.tcp.send.nxt e.sending.known_end e else ack_said c s (e.tcp.send.una - 1) None e))
+  resend_can true end few = record_can (first_record e) few
+  resend_can false true few = ack_can e.tcp.send.nxt e.sending.known_end
+  resend_can false false few = ack_can (e.tcp.send.una - 1) None
+
+  said_can : (kind : SegmentKind) → IfSome (first_unsent e) (λ r. length r.piece ≤ 65475)
+      → IfSome (first_record e) (λ r. length r.piece ≤ 65475) → CanBeSaid c.spelling s (said_by kind c s e)
+  said_can to_say.Ack unsent first = ack_can e.tcp.send.nxt None
+  said_can to_say.DataFin unsent first = ack_can e.tcp.send.nxt e.sending.known_end
+  said_can to_say.Fin unsent first = says (fin_segment e.tcp) (fin_options e) [] (fin_short c s e) (omega arith)
+  said_can to_say.Unsent unsent first = record_can (first_unsent e) unsent
+  said_can to_say.First unsent first = record_can (first_record e) first
+  said_can to_say.SynAck unsent first = syn_ack_can
+  said_can to_say.Answer unsent first = answer_can e.tcp.due.syn_ack
+  said_can to_say.DeadAnswer unsent first = says (outgoing_or e.treated.answer (reset_segment e.tcp)) [] [] tt (omega arith)
+  said_can to_say.Resend unsent first = resend_can (has_records e.tcp) (owes_end e.sending) first
+  said_can (to_say.Reset reason) unsent first = says (reset_segment e.tcp) (reset_options reason) [] (reset_short c s reason) (omega arith)
+
+  -- records that are lent fit in a segment
+  pub can_be_said : (kind : SegmentKind) (unsent first : Option RecordRef) → option_map record_of unsent ≡ first_unsent e
+      → IfSome unsent (λ r. length r.piece.now ≤ 65475) → option_map record_of first ≡ first_record e
+      → IfSome first (λ r. length r.piece.now ≤ 65475) → CanBeSaid c.spelling s (said_by kind c s e)
+  can_be_said kind unsent first is_unsent few_unsent is_first few_first =
+      said_can kind (fits_of unsent (first_unsent e) is_unsent few_unsent) (fits_of first (first_record e) is_first few_first)

@@ -1,0 +1,59 @@
+//! The reset that answers a copy at a dead end (RFC 9293, section 3.10.7.1).
+
+ghost use Rattle.std.specs.Prelude.{◌≡◌, ◌+◌, ◌<◌, ◌≤◌, ◌^◌, unwrap_or, length, IsTrue};
+ghost use Rattle.subflow_tcp.specs.Segments as subflow;
+ghost use Rattle.path_core.specs.Arriving.{zero_position, reset_for, IsShortCopy};
+
+use crate::profile::Profile;
+use outside_kit::Side;
+use seq_units::Pos;
+use subflow_tcp::{Arriving, Outgoing};
+
+/// It has at most 65,535 octets, and its position is below 2^63.
+pub(crate) fn is_short(copy: &Arriving<'_>) -> bool
+    ensures { IsTrue result → IsShortCopy (subflow.copy_of copy.now) }
+{
+    copy.payload.len() <= 65_535 && copy.position.unwrap_or(0) < 1 << 63
+}
+
+/// The position behind all that it occupies.
+fn end_of(copy: &Arriving<'_>) -> Pos
+    requires { IsShortCopy (subflow.copy_of copy.now) }
+    ensures { result ≡ unwrap_or copy.now.position 0 + subflow.occupied (subflow.copy_of copy.now) }
+{
+    let occupied = copy.payload.len() as u64 + u64::from(copy.syn) + u64::from(copy.fin);
+    copy.position.unwrap_or(0) + occupied
+}
+
+impl Profile {
+    /// The position at which a side's subflow has the number 0.
+    fn zero_position(&self, side: Side) -> Pos
+        ensures { result ≡ zero_position self.now side }
+    {
+        let initial = match side {
+            Side::A => self.spelling().a.initial,
+            Side::B => self.spelling().b.initial,
+        };
+        u64::from(0u32.wrapping_sub(initial.0))
+    }
+
+    /// The reset that answers a copy at a dead end: at the number that the copy acknowledges, or else at number 0 with an
+    /// acknowledgement of all that it occupies (RFC 9293, section 3.10.7.1). Its positions are below 2^63.
+    pub fn reset_for(&self, side: Side, copy: &Arriving<'_>) -> Outgoing
+        requires { IsShortCopy (subflow.copy_of copy.now) }
+        ensures { result ≡ reset_for self.now side (subflow.copy_of copy.now) }
+    {
+        let (position, acknowledged) = match copy.acknowledged {
+            Some(acknowledged) => (acknowledged, None),
+            None => (self.zero_position(side), Some(end_of(copy))),
+        };
+        Outgoing {
+            position,
+            acknowledged,
+            syn: false,
+            fin: false,
+            rst: true,
+            length: 0,
+        }
+    }
+}

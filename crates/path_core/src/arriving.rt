@@ -1,0 +1,227 @@
+//! A copy that arrives, and what it makes of the end at once. The rest is treated duty by duty.
+
+ghost use Rattle.std.specs.Prelude.{◌≡◌, ◌≤◌, length, All, Some, IfOk, IsTrue, OnOk, OnErr};
+ghost use Rattle.dss_mapping.specs.Learning.{IsWithin};
+ghost use Rattle.link_model.specs.Steps.{peer};
+ghost use Rattle.path_segments.specs.HeardLent.{IsExpected};
+ghost use Rattle.path_segments.specs.HeardSegments.{heard_value};
+ghost use Rattle.subflow_tcp.specs.Judging.{meaning_of, IsBelow};
+ghost use Rattle.subflow_tcp.specs.Segments as subflow;
+ghost use Rattle.path_core.specs.declared.event.Event.TheVariants as event;
+ghost use Rattle.path_core.specs.Arriving.{expected_by, acknowledged_in, copy_of, items_of, with_payload, with_held, after_copy, segment_heard, template_by, template_of};
+ghost use Rattle.path_core.specs.Events.{heard_at, copy_taken, CanHappen};
+ghost use Rattle.path_core.specs.Octets.{octets, read};
+ghost use Rattle.path_core.specs.State.{end_at};
+
+use crate::agenda::Agenda;
+use crate::answering::is_short;
+use crate::end::PathEnd;
+use crate::hearing::{has_option, items_of, opens_by, owes_by, place_in_first};
+use crate::path::Path;
+use crate::profile::{peer, spelled_by};
+use crate::treated::Treated;
+use dss_mapping::KeptMapping;
+use link_model::Due;
+use outside_kit::Side;
+use path_segments::{Expected, HeardSegment, hear};
+use seq_units::Pos;
+use std::alloc::AllocError;
+use subflow_tcp::{Arriving, Meaning, Outgoing, Subflow};
+
+/// Positions and places that are expected lie below this one.
+const LIMIT: u64 = 1 << 62;
+
+/// What is expected lies within the range of positions and places.
+fn is_expected(expected: &Expected) -> bool
+    ensures { IsTrue result → IsExpected expected.now }
+{
+    expected.edge < LIMIT
+        && expected.unacknowledged < LIMIT
+        && expected.told < LIMIT
+        && expected.place < LIMIT
+}
+
+/// The header and the payload of a segment that is heard.
+fn arriving_of<'a>(heard: &HeardSegment<'a>) -> Arriving<'a>
+    ensures { subflow.copy_of result ≡ copy_of (heard_value heard.now) }
+{
+    Arriving {
+        position: heard.position,
+        acknowledged: acknowledged_in(heard.acknowledged),
+        syn: heard.syn,
+        fin: heard.fin,
+        rst: heard.rst,
+        window: heard.window,
+        payload: heard.payload,
+    }
+}
+
+/// The position that it acknowledges, 0 where its number means none.
+fn acknowledged_in(heard: Option<Option<u64>>) -> Option<Pos>
+    ensures { result ≡ acknowledged_in heard }
+{
+    Some(heard?.unwrap_or(0))
+}
+
+/// What is to be done after a copy of this meaning that says so many things, ten at most.
+fn template_of(side: Side, count: usize, meaning: Meaning) -> Agenda
+    requires { count ≤ 10 }
+    ensures { result ≡ template_by side count meaning }
+{
+    match meaning {
+        Meaning::Ignored | Meaning::Unacknowledging => Agenda::emission(side),
+        Meaning::Unwanted => Agenda::answers_dead(side),
+        Meaning::Opens => Agenda::syn_came(side),
+        Meaning::Accepts { .. } => Agenda::syn_ack_came(side),
+        Meaning::RepeatedSyn => Agenda::syn_again(side),
+        Meaning::Outside | Meaning::Challenged | Meaning::Ahead => Agenda::answers(side),
+        Meaning::Kills => Agenda::leaves(side),
+        Meaning::Taken { .. } => Agenda::copy_came(side, count),
+    }
+}
+
+/// The payload of a copy is held where it is taken. At an error all is as it was.
+fn hold_payload(tcp: &mut Subflow, meaning: Meaning, payload: &[u8]) -> Result<(), AllocError>
+    requires below { IsBelow meaning }
+    requires small { length payload.now ≤ 65535 }
+    ensures ok { OnOk result (tcp.new ≡ with_payload meaning payload.now tcp.old) }
+    ensures err { OnErr result (tcp.new ≡ tcp.old) }
+{
+    match meaning {
+        Meaning::Taken { position, .. } if !payload.is_empty() => tcp.hold(position, payload),
+        _ => Ok(()),
+    }
+}
+
+impl PathEnd {
+    /// What the end counts from.
+    fn expected(&self) -> Expected
+        ensures { result ≡ expected_by self.now }
+    {
+        Expected {
+            edge: self.tcp.edge(),
+            unacknowledged: self.tcp.una(),
+            told: self.sending.heard(),
+            place: self.receiving.next(),
+        }
+    }
+
+    /// The payload of a copy is held where it is taken, and its mappings are. At an error all is as it was.
+    fn hold(
+        &mut self,
+        meaning: Meaning,
+        heard: &HeardSegment<'_>,
+        told: Vec<KeptMapping>,
+    ) -> Result<(), AllocError>
+        requires below { IsBelow meaning }
+        requires small { length heard.now.payload.now ≤ 65535 }
+        requires within { All IsWithin told.items }
+        ensures ok { OnOk result (self.new ≡ with_held told.items (heard_value heard.now) meaning self.old) }
+        ensures err { OnErr result (self.new ≡ self.old) }
+    {
+        self.receiving.mappings.make_ready(told.len())?;
+        hold_payload(&mut self.tcp, meaning, heard.payload)?;
+        self.receiving.mappings.hold(told);
+        Ok(())
+    }
+
+    /// The subflow takes a copy of this meaning; what it says is still to be treated.
+    fn hear_copy(
+        &mut self,
+        side: Side,
+        now: u64,
+        heard: &HeardSegment<'_>,
+        meaning: Meaning,
+        answer: Outgoing,
+    ) -> Agenda
+        requires { meaning ≡ meaning_of (copy_of (heard_value heard.now)) self.old.tcp }
+        ensures agenda { result ≡ template_of side (items_of side (heard_value heard.now)) meaning }
+        ensures after { self.new ≡ after_copy answer side now (heard_value heard.now) meaning self.old }
+    {
+        let items = items_of(side, heard);
+        let agenda = template_of(side, items.len(), meaning);
+        let opened = opens_by(meaning, self.tcp.state());
+        let place = place_in_first(items.as_slice());
+        self.tcp.hear(meaning, &arriving_of(heard), place, now);
+        if owes_by(meaning, items.as_slice()) {
+            self.tcp.ack_due(false);
+        }
+        self.treated = Treated::of(items, opened, has_option(heard), answer);
+        agenda
+    }
+
+    /// A segment is heard, which says these mappings, and is answered so at a dead end. At an error all is as it was.
+    fn hear_segment(
+        &mut self,
+        side: Side,
+        now: u64,
+        heard: &HeardSegment<'_>,
+        told: Vec<KeptMapping>,
+        answer: Outgoing,
+    ) -> Result<Agenda, AllocError>
+        requires small { length heard.now.payload.now ≤ 65535 }
+        requires within { All IsWithin told.items }
+        ensures agenda { IfOk result (λ agenda. agenda ≡ template_of side (items_of side (heard_value heard.now)) (meaning_of (copy_of (heard_value heard.now)) self.old.tcp)) }
+        ensures ok { OnOk result (self.new ≡ segment_heard told.items answer side now (heard_value heard.now) self.old) }
+        ensures err { OnErr result (self.new ≡ self.old) }
+    {
+        let meaning = self.tcp.meaning(&arriving_of(heard));
+        self.hold(meaning, heard, told)?;
+        Ok(self.hear_copy(side, now, heard, meaning, answer))
+    }
+}
+
+impl Path {
+    /// A segment is heard at a side at this tick, which follows the path's. At an error all is as it was.
+    fn hear_segment(
+        &mut self,
+        side: Side,
+        now: u64,
+        heard: &HeardSegment<'_>,
+    ) -> Result<(), AllocError>
+        ensures ok { OnOk result (self.new ≡ heard_at now side (Some (heard_value heard.now)) self.old) }
+        ensures err { OnErr result (self.new ≡ self.old) }
+    {
+        let copy = arriving_of(heard);
+        if !is_short(&copy) {
+            return Err(AllocError);
+        }
+        let told = self.profile.held_of(self.alloc, side, heard)?;
+        let answer = self.profile.reset_for(side, &copy);
+        let agenda = self
+            .end_mut(side)
+            .hear_segment(side, now, heard, told, answer)?;
+        self.sets_about(agenda);
+        Ok(())
+    }
+
+    /// Octets arrive at a side at this tick: those that are no segment are dropped. At an error all is as it was.
+    fn hear_octets(&mut self, side: Side, now: u64, octets: &[u8]) -> Result<(), AllocError>
+        ensures ok { OnOk result (self.new ≡ heard_at now side (read self.old.profile.spelling (peer side) (expected_by (end_at side self.old)) octets.now) self.old) }
+        ensures err { OnErr result (self.new ≡ self.old) }
+    {
+        let expected = self.end(side).expected();
+        if !is_expected(&expected) {
+            return Err(AllocError);
+        }
+        let spelling = *self.profile.spelling();
+        match hear(&spelling, spelled_by(peer(side)), &expected, octets) {
+            Some(heard) => self.hear_segment(side, now, &heard),
+            None => Ok(self.sets_about(Agenda::emission(side))),
+        }
+    }
+
+    /// A copy arrives. At an error all is as it was.
+    pub(crate) fn take_copy(&mut self, due: Due) -> Result<(), AllocError>
+        requires { CanHappen (event.Arrives due) self.old }
+        ensures ok { OnOk result (self.new ≡ copy_taken octets due self.old) }
+        ensures err { OnErr result (self.new ≡ self.old) }
+    {
+        let carried = self.link.octets(&due)?;
+        let now = self.clock.now().max(due.tick);
+        self.hear_octets(due.to, now, carried.as_slice())?;
+        self.link.deliver(&due);
+        self.clock.reach(due.tick);
+        Ok(())
+    }
+}

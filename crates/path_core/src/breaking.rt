@@ -1,0 +1,101 @@
+//! How an end dies: by a break, by its sixth expiry, by the peer's reset (RFC 8684, section 3.6).
+
+ghost use Rattle.std.specs.Prelude.{◌≡◌, Some, None, OnOk, OnErr};
+ghost use Rattle.path_core.specs.declared.segment_kind.SegmentKind.TheVariants as to_say;
+ghost use Rattle.path_core.specs.Agenda.{leaves};
+ghost use Rattle.path_core.specs.Breaking.{reset_of, reset_on, break_ask, answered_break, return_ask, dead_ask};
+ghost use Rattle.path_core.specs.Events.{died};
+ghost use Rattle.path_core.specs.Octets.{octets};
+ghost use Rattle.path_core.specs.Replies.{IsAckBounded};
+
+use crate::agenda::Agenda;
+use crate::end::PathEnd;
+use crate::path::Path;
+use crate::segment_kind::SegmentKind;
+use crate::standing::ack_out_ask;
+use crate::treated::Treated;
+use actor_desk::{Ask, Reply};
+use control_book::ControlCall;
+use outside_kit::Side;
+use send_book::SendCall;
+use std::alloc::AllocError;
+
+impl PathEnd {
+    /// Nothing is sent, kept or awaited any more.
+    pub fn die(&mut self)
+        ensures { self.new ≡ died self.old }
+    {
+        self.tcp.kill(false);
+        self.treated = Treated::nothing();
+    }
+}
+
+impl Path {
+    /// What the end holds is given back.
+    pub(crate) fn return_ask(&self, side: Side) -> Ask
+        ensures { result ≡ return_ask side self.now }
+    {
+        Ask::Send(
+            side,
+            SendCall::Return {
+                path: self.number(),
+            },
+        )
+    }
+
+    /// It is told that the end is dead.
+    pub(crate) fn dead_ask(&self, side: Side) -> Ask
+        ensures { result ≡ dead_ask side self.now }
+    {
+        Ask::Control(
+            side,
+            ControlCall::Dead {
+                path: self.number(),
+            },
+        )
+    }
+
+    /// The reset is sent, and the end is dead. At an error all is as it was.
+    pub(crate) fn send_reset(&mut self, side: Side, reason: Option<u8>) -> Result<(), AllocError>
+        ensures ok { OnOk result (self.new ≡ reset_on octets side reason (leaves side) self.old) }
+        ensures err { OnErr result (self.new ≡ self.old) }
+    {
+        self.hand(side, SegmentKind::Reset { reason })?;
+        self.end_mut(side).die();
+        self.sets_about(Agenda::leaves(side));
+        Ok(())
+    }
+
+    /// The first step of a break: where bytes or an end were told, what is to be acknowledged is asked once more.
+    pub(crate) fn break_ask(&self, side: Side, reason: u8) -> Ask
+        ensures { result ≡ break_ask octets side reason self.now }
+    {
+        if self.end(side).treated.is_asked() {
+            return ack_out_ask(side);
+        }
+        self.sent_step(
+            side,
+            SegmentKind::Reset {
+                reason: Some(reason),
+            },
+        )
+    }
+
+    /// That step is made. At an error all is as it was.
+    pub(crate) fn answer_break(
+        &mut self,
+        side: Side,
+        reason: u8,
+        reply: &Reply,
+    ) -> Result<(), AllocError>
+        requires { IsAckBounded reply.now }
+        ensures ok { OnOk result (self.new ≡ answered_break octets side reason reply.now self.old) }
+        ensures err { OnErr result (self.new ≡ self.old) }
+    {
+        if self.end(side).treated.is_asked() {
+            self.ack_out_breaking(side, reply, reason);
+            return Ok(());
+        }
+        self.send_reset(side, Some(reason))
+    }
+}

@@ -1,0 +1,224 @@
+//! What happens on a path by itself: lines of the script, copies that arrive, timers that run out.
+
+ghost use Rattle.std.specs.Prelude.{◌≡◌, ◌∷◌, ◌++◌, ◌<◌, ◌^◌, ◌-◌, [], max, if◌then◌else◌, IfSome, IsSome, OnOk, OnErr};
+ghost use Rattle.link_model.specs.Steps.{next_due};
+ghost use Rattle.outside_kit.specs.declared.side.Side.TheVariants.{A, B};
+ghost use Rattle.subflow_tcp.specs.Expiring.{is_sixth};
+ghost use Rattle.subflow_tcp.specs.States.{is_dead};
+ghost use Rattle.path_core.specs.declared.duty.Duty.TheVariants as duties;
+ghost use Rattle.path_core.specs.declared.event.Event.TheVariants as event;
+ghost use Rattle.path_core.specs.Agenda.{rest_of_turn};
+ghost use Rattle.path_core.specs.Events.{tick_of, next_line, next_copy, next_fire, earlier, earliest, before, next_event, step_of, step_for, is_death, died_unless_dead, path_died, line_taken, after_firing, template_fired, timer_fired, at_tick, copy_taken, happens_if, CanHappen};
+ghost use Rattle.path_core.specs.Octets.{octets};
+ghost use Rattle.path_core.specs.State.{end_at};
+
+use crate::agenda::Agenda;
+use crate::duty::Duty;
+use crate::end::PathEnd;
+use crate::event::Event;
+use crate::lines::LineLeft;
+use crate::path::Path;
+use actor_desk::{Ask, LocalStep};
+use link_script::ScriptLine;
+use outside_kit::Side;
+use std::alloc::AllocError;
+use subflow_tcp::{Fired, State};
+
+impl Event {
+    /// The tick at which it happens.
+    fn tick(self) -> u64
+        ensures { result ≡ tick_of self }
+    {
+        match self {
+            Event::Takes(line) => line.tick,
+            Event::Arrives(due) => due.tick,
+            Event::Fires(_, tick) => tick,
+        }
+    }
+
+    /// Its step.
+    fn step(self) -> Ask
+        ensures { result ≡ step_of self }
+    {
+        Ask::Local(match self {
+            Event::Takes(line) => LocalStep::Line(line.number),
+            Event::Arrives(due) => LocalStep::Arrive {
+                to: due.to,
+                copy: due.copy,
+            },
+            Event::Fires(side, _) => LocalStep::Fire(side),
+        })
+    }
+}
+
+/// The earlier of two events; at one tick the first.
+fn earlier(first: Option<Event>, second: Option<Event>) -> Option<Event>
+    ensures { result ≡ earlier first second }
+{
+    match (first, second) {
+        (None, other) => other,
+        (Some(event), None) => Some(event),
+        (Some(event), Some(other)) => {
+            if event.tick() <= other.tick() {
+                Some(event)
+            } else {
+                Some(other)
+            }
+        }
+    }
+}
+
+/// The path dies.
+fn is_death(line: &ScriptLine) -> bool
+    ensures { result ≡ is_death line.now }
+{
+    matches!(line, ScriptLine::Die { .. })
+}
+
+/// Each end that wasn't dead leaves.
+fn all_leave(a_is_dead: bool, b_is_dead: bool) -> Agenda
+    ensures { result ≡ (if a_is_dead then [] else duties.Leave A ∷ []) ++ ((if b_is_dead then [] else duties.Leave B ∷ []) ++ rest_of_turn) }
+{
+    let (a, b) = (Duty::Leave(Side::A), Duty::Leave(Side::B));
+    match (a_is_dead, b_is_dead) {
+        (false, false) => Agenda::of(&[a, b, Duty::Events, Duty::End]),
+        (false, true) => Agenda::of(&[a, Duty::Events, Duty::End]),
+        (true, false) => Agenda::of(&[b, Duty::Events, Duty::End]),
+        (true, true) => Agenda::rest_of_turn(),
+    }
+}
+
+impl PathEnd {
+    /// Whether it is dead.
+    fn is_dead(&self) -> bool
+        ensures { result ≡ is_dead self.now.tcp.state }
+    {
+        matches!(self.tcp.state(), State::Dead)
+    }
+
+    /// Nothing is sent, kept or awaited any more, unless it was dead before.
+    fn die_unless_dead(&mut self)
+        ensures { self.new ≡ died_unless_dead self.old }
+    {
+        if !self.is_dead() {
+            self.die();
+        }
+    }
+
+    /// Its timer ran out. Answers whether it was the sixth time in a row, which ends the end.
+    fn fire(&mut self, now: u64) -> bool
+        requires now { now < 2 ^ 64 - 2 ^ 20 }
+        requires running { IsSome self.old.tcp.timing.timer }
+        ensures sixth { result ≡ is_sixth self.old.tcp }
+        ensures after { self.new ≡ after_firing now self.old }
+    {
+        matches!(self.tcp.fire(now), Fired::Died)
+    }
+}
+
+impl Path {
+    /// The line that comes due next.
+    fn next_line(&self) -> Option<Event>
+        ensures { result ≡ next_line self.now.lines }
+    {
+        let line = self.lines.front()?;
+        Some(Event::Takes(*line))
+    }
+
+    /// The copy that arrives next.
+    fn next_copy(&self) -> Option<Event>
+        ensures { result ≡ next_copy (next_due self.now.link.under_way) }
+    {
+        Some(Event::Arrives(self.link.due()?))
+    }
+
+    /// The timer of a side runs out.
+    fn next_fire(&self, side: Side) -> Option<Event>
+        ensures { result ≡ next_fire side (end_at side self.now).tcp.timing.timer }
+    {
+        Some(Event::Fires(side, self.end(side).tcp.timer()?))
+    }
+
+    /// The earliest event. At one tick lines come before copies, and copies before timers, that of A first.
+    fn earliest(&self) -> Option<Event>
+        ensures { result ≡ earliest self.now }
+    {
+        let fires = earlier(self.next_fire(Side::A), self.next_fire(Side::B));
+        earlier(self.next_line(), earlier(self.next_copy(), fires))
+    }
+
+    /// The earliest event before the round's end.
+    pub(crate) fn next_event(&self) -> Option<Event>
+        ensures value { result ≡ next_event self.now }
+        ensures can { IfSome result (λ event. CanHappen event self.now) }
+    {
+        let event = self.earliest()?;
+        if event.tick() < self.clock.until() {
+            Some(event)
+        } else {
+            None
+        }
+    }
+
+    /// The step of that event.
+    pub(crate) fn event_ask(&self) -> Ask
+        ensures { result ≡ step_for (next_event self.now) }
+    {
+        match self.next_event() {
+            Some(event) => event.step(),
+            None => Ask::Local(LocalStep::End),
+        }
+    }
+
+    /// The path dies: what is under way is lost, and both ends die, A's first.
+    fn die(&mut self)
+        ensures { self.new ≡ path_died self.old }
+    {
+        let agenda = all_leave(self.a.is_dead(), self.b.is_dead());
+        self.link.cut();
+        self.a.die_unless_dead();
+        self.b.die_unless_dead();
+        self.sets_about(agenda);
+    }
+
+    /// The first line is taken. All but the path's death lead to nothing yet.
+    fn take_line(&mut self, line: LineLeft)
+        requires { CanHappen (event.Takes line) self.old }
+        ensures { self.new ≡ line_taken line self.old }
+    {
+        self.clock.reach(line.tick);
+        self.lines.pop_front();
+        if is_death(&line.line) {
+            self.die();
+        } else {
+            self.sets_about(Agenda::rest_of_turn());
+        }
+    }
+
+    /// The timer of a side runs out at this tick.
+    fn fire(&mut self, side: Side, tick: u64)
+        requires { CanHappen (event.Fires side tick) self.old }
+        ensures { self.new ≡ timer_fired side (at_tick tick self.old) }
+    {
+        self.clock.reach(tick);
+        let now = self.clock.now();
+        if self.end_mut(side).fire(now) {
+            self.sets_about(Agenda::expired_for_ever(side));
+        } else {
+            self.sets_about(Agenda::expired(side));
+        }
+    }
+
+    /// The earliest event before the round's end happens. At an error all is as it was.
+    pub(crate) fn answer_event(&mut self) -> Result<(), AllocError>
+        ensures ok { OnOk result (self.new ≡ happens_if octets (next_event self.old) self.old) }
+        ensures err { OnErr result (self.new ≡ self.old) }
+    {
+        match self.next_event() {
+            Some(Event::Takes(line)) => Ok(self.take_line(line)),
+            Some(Event::Arrives(due)) => self.take_copy(due),
+            Some(Event::Fires(side, tick)) => Ok(self.fire(side, tick)),
+            None => Ok(self.sets_about(Agenda::rest_of_turn())),
+        }
+    }
+}

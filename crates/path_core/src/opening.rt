@@ -1,0 +1,196 @@
+//! How path 0 opens: SYN, SYN/ACK, and the keys of both sides (RFC 8684, section 3.1).
+
+ghost use Rattle.std.specs.Prelude.{◌≡◌, Some, OnOk, OnErr};
+ghost use Rattle.path_core.specs.Octets.{octets};
+ghost use Rattle.path_core.specs.Opening.{key_in, pair_in, key_heard, keys_heard, keys_in, is_opened_by_keys, syn_window_ask, peer_key_ask, with_peer_key, keys_ask, after_keys, answered_syn_ack, live_ask};
+ghost use Rattle.path_core.specs.State.{end_at, goes_on, left};
+
+use crate::end::PathEnd;
+use crate::heard::Heard;
+use crate::keys::KeyPair;
+use crate::modes::Modes;
+use crate::path::Path;
+use crate::segment_kind::SegmentKind;
+use crate::treated::Treated;
+use actor_desk::{Ask, LocalStep, Reply};
+use control_book::{ControlCall, ControlReply};
+use outside_kit::Side;
+use send_book::SendCall;
+use std::alloc::AllocError;
+use subflow_tcp::Occasion;
+
+/// The key that a thing tells alone.
+fn key_in(item: Heard) -> Option<u64>
+    ensures { result ≡ key_in item }
+{
+    match item {
+        Heard::PeerKey { key } => Some(key),
+        _ => None,
+    }
+}
+
+/// The two keys that a thing tells.
+fn pair_in(item: Heard) -> Option<KeyPair>
+    ensures { result ≡ pair_in item }
+{
+    match item {
+        Heard::Keys { own, peer } => Some(KeyPair { own, peer }),
+        _ => None,
+    }
+}
+
+/// The first key that one of these things tells alone.
+fn key_heard(items: &[Heard]) -> Option<u64>
+    ensures { result ≡ key_heard items.now }
+{
+    for item in items {
+        if let Some(key) = key_in(*item) {
+            return Some(key);
+        }
+    }
+    None
+}
+
+/// The first two keys that one of these things tells.
+fn keys_heard(items: &[Heard]) -> Option<KeyPair>
+    ensures { result ≡ keys_heard items.now }
+{
+    for item in items {
+        if let Some(keys) = pair_in(*item) {
+            return Some(keys);
+        }
+    }
+    None
+}
+
+/// These keys are told to the control book.
+pub(crate) fn keys_ask(side: Side, keys: Option<KeyPair>) -> Ask
+    ensures { result ≡ keys_ask side keys }
+{
+    match keys {
+        Some(KeyPair { own, peer }) => Ask::Control(side, ControlCall::Keys { own, peer }),
+        None => Ask::Local(LocalStep::End),
+    }
+}
+
+impl Treated {
+    /// The peer's key, where the copy told it alone.
+    pub fn key_heard(&self) -> Option<u64>
+        ensures { result ≡ key_heard self.now.items }
+    {
+        key_heard(self.items())
+    }
+
+    /// Both keys, where the copy told them.
+    pub fn keys_heard(&self) -> Option<KeyPair>
+        ensures { result ≡ keys_heard self.now.items }
+    {
+        keys_heard(self.items())
+    }
+}
+
+impl Modes {
+    /// Where the control book noted the keys, the peer's is kept, and the end may send a DSS from now on.
+    fn hear_keys(&mut self, reply: &Reply, keys: Option<KeyPair>)
+        ensures { self.new ≡ keys_in reply.now keys self.old }
+    {
+        if let (Reply::Control(ControlReply::Noted), Some(keys)) = (reply, keys) {
+            self.peer_key = Some(keys.peer);
+            self.clear = true;
+        }
+    }
+}
+
+impl PathEnd {
+    /// The end left SynReceived by a copy with both keys.
+    pub fn is_opened_by_keys(&self) -> bool
+        ensures { result ≡ is_opened_by_keys self.now }
+    {
+        self.treated.is_opened() && self.treated.keys_heard().is_some()
+    }
+
+    /// The keys of the copy were told.
+    pub fn hear_keys(&mut self, reply: &Reply, keys: Option<KeyPair>)
+        ensures { self.new ≡ after_keys reply.now keys self.old }
+    {
+        self.modes.hear_keys(reply, keys);
+        self.treated.keys_were_told();
+    }
+
+    /// The peer's key was told.
+    fn hear_peer_key(&mut self)
+        ensures { self.new ≡ with_peer_key (key_heard self.old.treated.items) self.old }
+    {
+        self.modes.peer_key = self.treated.key_heard();
+    }
+}
+
+impl Path {
+    /// The window of the SYN is told: it acknowledges nothing.
+    pub(crate) fn syn_window_ask(&self, side: Side) -> Ask
+        ensures { result ≡ syn_window_ask side (end_at side self.now) }
+    {
+        Ask::Send(
+            side,
+            SendCall::AckIn {
+                next: 0,
+                window: u64::from(self.end(side).tcp.told_window()),
+            },
+        )
+    }
+
+    /// The peer's key is told.
+    pub(crate) fn peer_key_ask(&self, side: Side) -> Ask
+        ensures { result ≡ peer_key_ask side (key_heard (end_at side self.now).treated.items) }
+    {
+        match self.end(side).treated.key_heard() {
+            Some(key) => Ask::Control(side, ControlCall::PeerKey { key }),
+            None => Ask::Local(LocalStep::End),
+        }
+    }
+
+    /// The peer's key was told.
+    pub(crate) fn hear_peer_key(&mut self, side: Side)
+        ensures { self.new ≡ goes_on side (with_peer_key (key_heard (end_at side self.old).treated.items) (end_at side self.old)) (left self.old) self.old }
+    {
+        self.end_mut(side).hear_peer_key();
+        self.done();
+    }
+
+    /// Both keys are told.
+    pub(crate) fn keys_ask(&self, side: Side) -> Ask
+        ensures { result ≡ keys_ask side (keys_heard (end_at side self.now).treated.items) }
+    {
+        keys_ask(side, self.end(side).treated.keys_heard())
+    }
+
+    /// Both keys were told.
+    pub(crate) fn hear_keys(&mut self, side: Side, reply: &Reply)
+        ensures { self.new ≡ goes_on side (after_keys reply.now (keys_heard (end_at side self.old).treated.items) (end_at side self.old)) (left self.old) self.old }
+    {
+        let keys = self.end(side).treated.keys_heard();
+        self.end_mut(side).hear_keys(reply, keys);
+        self.done();
+    }
+
+    /// The SYN/ACK is sent: while the SYN isn't acknowledged this is another sending of its record.
+    pub(crate) fn send_syn_ack(&mut self, side: Side) -> Result<(), AllocError>
+        ensures ok { OnOk result (self.new ≡ answered_syn_ack octets side self.old) }
+        ensures err { OnErr result (self.new ≡ self.old) }
+    {
+        self.send_and_leave(side, SegmentKind::SynAck, Occasion::SynAck)
+    }
+
+    /// It is told that the path lives.
+    pub(crate) fn live_ask(&self, side: Side) -> Ask
+        ensures { result ≡ live_ask side self.now }
+    {
+        Ask::Control(
+            side,
+            ControlCall::Live {
+                path: self.number(),
+                backup: false,
+            },
+        )
+    }
+}

@@ -1,0 +1,231 @@
+//! What the payload of a copy makes of an end: ends that are told, the window's growth, answers, and what an expiry sends
+//! again.
+
+ghost use Rattle.std.specs.Prelude.{◌≡◌, ◌&&◌, ◌≤◌, ◌<◌, ◌^◌, ◌-◌, min, All, Contains, Some, find, OnOk, OnErr, IfSome};
+ghost use Rattle.linked_increase.specs.Paths.{IsInRange};
+ghost use Rattle.subflow_tcp.specs.State.{has_records};
+ghost use Rattle.path_core.specs.Octets.{octets};
+ghost use Rattle.path_core.specs.Passing.{having_asked, refused, fin_of, fin_ask, with_peer_end, is_fin_set, fin_set, answered_fin_heard, after_pass_fin, rate_ask, is_row_of, growth_by, growth_in, after_rate, answered_rate, answered_again, answer_occasion, answered_answer, dead_answer, answered_dead, resend_occasion, answered_resend};
+ghost use Rattle.path_core.specs.Replies.{AreRowsInRange};
+ghost use Rattle.path_core.specs.State.{end_at, goes_on, left, path_of, with_end};
+
+use crate::agenda::Agenda;
+use crate::end::PathEnd;
+use crate::path::Path;
+use crate::segment_kind::SegmentKind;
+use actor_desk::{Ask, LocalStep, Reply};
+use control_book::{ControlCall, ControlReply};
+use linked_increase::{Row, Rows, growth};
+use outside_kit::Side;
+use reassembly_book::{ReassemblyCall, ReassemblyReply};
+use std::alloc::AllocError;
+use subflow_tcp::{Occasion, Pending};
+
+/// What the book refuses breaks the path with this reason: an unspecific one (RFC 8684, section 3.6).
+const REFUSED: u8 = 1;
+
+/// The end of the stream was set.
+fn is_fin_set(reply: &Reply) -> bool
+    ensures { result ≡ is_fin_set reply.now }
+{
+    matches!(reply, Reply::Reassembly(ReassemblyReply::FinSet))
+}
+
+/// The row of a path.
+fn row_of(path: u8, rows: &[Row]) -> Option<Row>
+    ensures row { result ≡ find (is_row_of path) rows.now }
+    ensures among { IfSome result (Contains rows.now) }
+{
+    rows.iter().copied().find(|row| row.path == path)
+}
+
+/// How much a window grows, by the path's own row among all; at most 2^20 octets count.
+fn growth_by(path: u8, rows: &Rows, mss: u16, acked: u32) -> u32
+    requires rows { All IsInRange rows.now }
+    requires mss { mss ≤ 1460 }
+    ensures { result ≡ growth_by (find (is_row_of path) rows.now) rows.now mss (min 1048576 acked) }
+{
+    match row_of(path, rows.as_slice()) {
+        Some(row) => growth(&row, rows, u32::from(mss), acked.min(1_048_576)),
+        None => 0,
+    }
+}
+
+/// How much a window grows by a reply.
+fn growth_in(path: u8, mss: u16, reply: &Reply, pending: Option<Pending>) -> u32
+    requires rows { AreRowsInRange reply.now }
+    requires mss { mss ≤ 1460 }
+    ensures { result ≡ growth_in path mss reply.now pending }
+{
+    match (reply, pending) {
+        (Reply::Control(ControlReply::Rows(rows)), Some(pending)) => {
+            growth_by(path, rows, mss, pending.acked)
+        }
+        _ => 0,
+    }
+}
+
+impl PathEnd {
+    /// Bytes or an end were told.
+    pub fn have_asked(&mut self)
+        ensures { self.new ≡ having_asked self.old }
+    {
+        self.treated.set_asked(true);
+    }
+
+    /// The end of the peer's stream was told.
+    fn hear_peer_end(&mut self)
+        ensures { self.new ≡ having_asked (with_peer_end self.old) }
+    {
+        self.sending.peer_ended();
+        self.have_asked();
+    }
+
+    /// The subflow's FIN ends no stream; the edge moves over it.
+    fn pass_fin(&mut self)
+        ensures { self.new ≡ after_pass_fin self.old }
+    {
+        if self.tcp.is_fin_next() {
+            self.tcp.pass_fin();
+        }
+    }
+
+    /// The window grows by what the rows of all paths say.
+    fn hear_rate(&mut self, path: u8, mss: u16, reply: &Reply)
+        requires rows { AreRowsInRange reply.now }
+        requires mss { mss ≤ 1460 }
+        ensures { self.new ≡ after_rate path mss reply.now self.old }
+    {
+        let growth = growth_in(path, mss, reply, self.tcp.pending());
+        self.tcp.grow(growth);
+    }
+
+    /// The first record is to be sent again.
+    pub fn is_again_due(&self) -> bool
+        ensures { result ≡ (self.now.tcp.due.first && has_records self.now.tcp) }
+    {
+        self.tcp.owes_first() && self.tcp.has_records()
+    }
+
+    /// An end whose SYN isn't acknowledged answers by its SYN/ACK.
+    fn answer_occasion(&self) -> Occasion
+        ensures { result ≡ answer_occasion self.now }
+    {
+        if self.tcp.owes_syn_ack() {
+            Occasion::SynAck
+        } else {
+            Occasion::Ack
+        }
+    }
+
+    /// An expiry sends the first record again, or else the DATA_FIN, or else what a peer that is there answers.
+    fn resend_occasion(&self) -> Occasion
+        ensures { result ≡ resend_occasion self.now }
+    {
+        if self.tcp.has_records() {
+            Occasion::First
+        } else if self.sending.owes_end() {
+            Occasion::Ack
+        } else {
+            Occasion::Probe
+        }
+    }
+}
+
+impl Path {
+    /// What the book refuses breaks the path.
+    pub(crate) fn refuse(&mut self, side: Side)
+        ensures { self.new ≡ refused side self.old }
+    {
+        self.end_mut(side).have_asked();
+        self.sets_about(Agenda::breaks(side, REFUSED));
+    }
+
+    /// The end of the stream that the DATA_FIN of this number told.
+    pub(crate) fn fin_ask(&self, side: Side, index: u64) -> Ask
+        ensures { result ≡ fin_ask side (fin_of index (end_at side self.now)) }
+    {
+        match self.end(side).treated.fin(index) {
+            Some(at) => Ask::Reassembly(side, ReassemblyCall::Fin { at }),
+            None => Ask::Local(LocalStep::End),
+        }
+    }
+
+    /// The end of the stream was told; one that the book refuses breaks the path.
+    pub(crate) fn answer_fin(&mut self, side: Side, reply: &Reply)
+        ensures { self.new ≡ answered_fin_heard side (is_fin_set reply.now) self.old }
+    {
+        if is_fin_set(reply) {
+            self.end_mut(side).hear_peer_end();
+            self.done();
+        } else {
+            self.refuse(side);
+        }
+    }
+
+    /// The edge moves over the peer's FIN.
+    pub(crate) fn pass_fin(&mut self, side: Side)
+        ensures { self.new ≡ with_end side (after_pass_fin (end_at side self.old)) self.old }
+    {
+        self.end_mut(side).pass_fin();
+    }
+
+    /// The window before the growth and the round-trip time are told.
+    pub(crate) fn rate_ask(&self, side: Side) -> Ask
+        ensures { result ≡ rate_ask side (end_at side self.now).tcp.congestion.pending self.now }
+    {
+        match self.end(side).tcp.pending() {
+            Some(Pending { window, rtt, .. }) => {
+                let path = self.number();
+                Ask::Control(side, ControlCall::Rate { path, window, rtt })
+            }
+            None => Ask::Local(LocalStep::End),
+        }
+    }
+
+    /// The window grows.
+    pub(crate) fn hear_rate(&mut self, side: Side, reply: &Reply)
+        requires { AreRowsInRange reply.now }
+        ensures { self.new ≡ answered_rate side reply.now self.old }
+    {
+        let (path, mss) = (self.number(), self.profile.mss());
+        self.end_mut(side).hear_rate(path, mss, reply);
+        self.done();
+    }
+
+    /// The first record is sent again.
+    pub(crate) fn send_again(&mut self, side: Side) -> Result<(), AllocError>
+        ensures ok { OnOk result (self.new ≡ answered_again octets side self.old) }
+        ensures err { OnErr result (self.new ≡ self.old) }
+    {
+        self.send_and_leave(side, SegmentKind::First, Occasion::First)
+    }
+
+    /// The answer to a segment that is passed over is sent.
+    pub(crate) fn send_answer(&mut self, side: Side) -> Result<(), AllocError>
+        ensures ok { OnOk result (self.new ≡ answered_answer octets side self.old) }
+        ensures err { OnErr result (self.new ≡ self.old) }
+    {
+        let occasion = self.end(side).answer_occasion();
+        self.send_and_leave(side, SegmentKind::Answer, occasion)
+    }
+
+    /// The reset that answers a copy at a dead end is sent.
+    pub(crate) fn send_dead_answer(&mut self, side: Side) -> Result<(), AllocError>
+        ensures ok { OnOk result (self.new ≡ answered_dead octets side self.old) }
+        ensures err { OnErr result (self.new ≡ self.old) }
+    {
+        self.hand(side, SegmentKind::DeadAnswer)?;
+        self.done();
+        Ok(())
+    }
+
+    /// What an expiry sends again is sent.
+    pub(crate) fn resend(&mut self, side: Side) -> Result<(), AllocError>
+        ensures ok { OnOk result (self.new ≡ answered_resend octets side self.old) }
+        ensures err { OnErr result (self.new ≡ self.old) }
+    {
+        let occasion = self.end(side).resend_occasion();
+        self.send_and_leave(side, SegmentKind::Resend, occasion)
+    }
+}

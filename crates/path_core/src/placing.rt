@@ -1,0 +1,234 @@
+//! The bytes that the receive edge passes, and the mappings that they have (RFC 8684, section 3.3.1).
+
+ghost use Rattle.std.specs.Prelude.{◌≡◌, ◌≤◌, ◌<◌, ◌+◌, ◌-◌, ◌^◌, length, take, min, option_map, is_some, IfOk, IfSome};
+ghost use Rattle.std.specs.List.{concat};
+ghost use Rattle.dss_checksum.specs.Checksum.{dss_checksum};
+ghost use Rattle.dss_mapping.specs.Mappings.{mapping_at};
+ghost use Rattle.subflow_recv.specs.Receiving.{filled};
+ghost use Rattle.path_core.specs.Placing.{count_in, piece_in, piece_from, is_whole, is_right, some_piece, checked_piece, next_piece, after_piece, is_wrong, forgotten_by, after_check};
+ghost use Rattle.path_core.specs.Passing.{having_asked, piece_ask, is_placed, placed, answered_piece, piece_of};
+ghost use Rattle.path_core.specs.State.{end_at, with_end};
+
+use crate::end::PathEnd;
+use crate::in_order::InOrder;
+use crate::path::Path;
+use crate::profile::Profile;
+use actor_desk::{Ask, LocalStep, Reply};
+use dss_checksum::DssSum;
+use dss_mapping::KeptMapping;
+use outside_kit::Side;
+use pipe_model::Text;
+use reassembly_book::{ReassemblyCall, ReassemblyReply};
+use seq_units::{Mapping, Pos};
+use std::alloc::{AllocError, Global};
+use subflow_tcp::Parts;
+
+/// The first place that no byte has.
+const LAST_PLACE: u64 = 1 << 62;
+
+/// So many octets of these parts, in order. Takes memory for them.
+fn text_of(alloc: Global, parts: Parts<'_>, count: u64) -> Result<Text, AllocError>
+    ensures { IfOk result (λ text. text ≡ take count (concat parts.entry)) }
+{
+    let mut text = Text::new(alloc);
+    let mut left = count;
+    for part in parts {
+        let taken = left.min(part.len() as u64);
+        text.append(&part[..taken as usize])?;
+        left -= taken;
+    }
+    Ok(text)
+}
+
+/// The checksum of a mapping and so many octets of these parts.
+fn checksum_of(mapping: &Mapping, parts: Parts<'_>, count: u16) -> u16
+    ensures { result ≡ dss_checksum mapping.now (take count (concat parts.entry)) }
+{
+    let mut sum = DssSum::new(mapping);
+    let mut left = u64::from(count);
+    for part in parts {
+        let taken = left.min(part.len() as u64);
+        sum.add(&part[..taken as usize]);
+        left -= taken;
+    }
+    sum.make()
+}
+
+/// How many octets from the edge on the mapping covers, with places below 2^62.
+fn count_in(edge: Pos, kept: KeptMapping) -> u64
+    requires { kept.pos ≤ edge }
+    ensures value { result ≡ count_in edge kept }
+    ensures places { 0 < result → kept.place + (edge - kept.pos) < 2 ^ 62 }
+{
+    let offset = edge - kept.pos;
+    let left = u64::from(kept.mapping.length).saturating_sub(offset);
+    left.min(LAST_PLACE.saturating_sub(kept.place.saturating_add(offset)))
+}
+
+/// The bytes were placed.
+fn is_placed(reply: &Reply) -> bool
+    ensures { result ≡ is_placed reply.now }
+{
+    matches!(reply, Reply::Reassembly(ReassemblyReply::Placed(_)))
+}
+
+impl PathEnd {
+    /// How many octets are in order from the edge on.
+    fn in_order(&self) -> u64
+        ensures value { result ≡ length (filled self.now.tcp.recv.places) }
+        ensures bound { self.now.tcp.recv.edge + result ≤ 2 ^ 62 }
+    {
+        self.tcp.held_end() - self.tcp.edge()
+    }
+
+    /// The mapping of the position at the edge.
+    fn mapping_at_edge(&self) -> Option<KeptMapping>
+        ensures value { result ≡ mapping_at self.now.receiving.mappings self.now.tcp.recv.edge }
+        ensures begun { IfSome result (λ kept. kept.pos ≤ self.now.tcp.recv.edge) }
+    {
+        self.receiving.mappings.mapping_at(self.tcp.edge())
+    }
+
+    /// The whole mapping is there.
+    fn is_whole(&self, kept: KeptMapping) -> bool
+        ensures { result ≡ is_whole kept self.now.tcp }
+    {
+        let length = u64::from(kept.mapping.length);
+        kept.pos == self.tcp.edge()
+            && 0 < length
+            && length <= self.in_order()
+            && kept.place.saturating_add(length) <= LAST_PLACE
+    }
+
+    /// The checksum is that of its bytes.
+    fn is_right(&self, kept: KeptMapping) -> bool
+        ensures { result ≡ is_right kept self.now.tcp }
+    {
+        let sum = checksum_of(&kept.mapping, self.tcp.held(), kept.mapping.length);
+        sum == kept.mapping.checksum
+    }
+
+    /// The bytes of a mapping that the edge can pass, without a look at the checksum.
+    fn piece_in(&self, kept: KeptMapping) -> Option<InOrder>
+        requires { kept.pos ≤ self.now.tcp.recv.edge }
+        ensures { option_map (λ found. piece_from found self.now.tcp) result ≡ some_piece (piece_in kept self.now.tcp) }
+    {
+        let edge = self.tcp.edge();
+        let count = count_in(edge, kept);
+        if 0 < count.min(self.in_order()) {
+            let place = kept.place + (edge - kept.pos);
+            Some(InOrder { place, count })
+        } else {
+            None
+        }
+    }
+
+    /// The same; where checksums are used only those of a whole mapping that has the right one.
+    fn checked_piece(&self, checksums: bool, kept: KeptMapping) -> Option<InOrder>
+        requires { kept.pos ≤ self.now.tcp.recv.edge }
+        ensures { option_map (λ found. piece_from found self.now.tcp) result ≡ checked_piece checksums kept self.now.tcp }
+    {
+        if checksums && !(self.is_whole(kept) && self.is_right(kept)) {
+            return None;
+        }
+        self.piece_in(kept)
+    }
+
+    /// The next bytes to be placed.
+    fn next_piece(&self, profile: &Profile) -> Option<InOrder>
+        ensures { option_map (λ found. piece_from found self.now.tcp) result ≡ next_piece profile.now self.now }
+    {
+        match self.mapping_at_edge() {
+            Some(kept) => self.checked_piece(profile.spelling().checksums, kept),
+            None => None,
+        }
+    }
+
+    /// Whether there are such bytes.
+    pub fn has_piece(&self, profile: &Profile) -> bool
+        ensures { result ≡ is_some (next_piece profile.now self.now) }
+    {
+        self.next_piece(profile).is_some()
+    }
+
+    /// These bytes. Takes memory for them.
+    fn octets_of(&self, alloc: Global, found: InOrder) -> Result<Text, AllocError>
+        ensures { IfOk result (λ text. text ≡ (piece_from found self.now.tcp).octets) }
+    {
+        text_of(alloc, self.tcp.held(), found.count)
+    }
+
+    /// The edge passes these bytes, which were placed.
+    fn place(&mut self, found: InOrder)
+        ensures { self.new ≡ having_asked (after_piece (piece_from found self.old.tcp) self.old) }
+    {
+        let to = self.tcp.edge() + found.count.min(self.in_order());
+        self.tcp.advance(to);
+        self.receiving.mappings.forget_below(to);
+        self.have_asked();
+    }
+
+    /// A whole mapping with a wrong checksum: all octets from its first position on are forgotten, so that what comes for
+    /// them is kept again.
+    fn check(&mut self, checksums: bool)
+        ensures { self.new ≡ forgotten_by checksums (mapping_at self.old.receiving.mappings self.old.tcp.recv.edge) self.old }
+    {
+        if let Some(kept) = self.mapping_at_edge() {
+            if checksums && self.is_whole(kept) && !self.is_right(kept) {
+                self.tcp.forget_from(kept.pos);
+            }
+        }
+    }
+}
+
+impl Path {
+    /// The next bytes to be placed at a side.
+    fn piece(&self, side: Side) -> Option<InOrder>
+        ensures { option_map (λ found. piece_from found (end_at side self.now).tcp) result ≡ piece_of side self.now }
+    {
+        self.end(side).next_piece(&self.profile)
+    }
+
+    /// They are to be placed. Takes memory for them.
+    pub(crate) fn piece_ask(&self, side: Side) -> Result<Ask, AllocError>
+        ensures { IfOk result (λ ask. ask ≡ piece_ask side (piece_of side self.now)) }
+    {
+        match self.piece(side) {
+            Some(found) => {
+                let bytes = self.end(side).octets_of(self.alloc, found)?;
+                let at = found.place;
+                Ok(Ask::Reassembly(side, ReassemblyCall::Place { at, bytes }))
+            }
+            None => Ok(Ask::Local(LocalStep::End)),
+        }
+    }
+
+    /// What was placed is behind the edge; what the book refuses breaks the path.
+    pub(crate) fn answer_piece(&mut self, side: Side, reply: &Reply)
+        ensures { self.new ≡ answered_piece side (piece_of side self.old) (is_placed reply.now) self.old }
+    {
+        match self.piece(side) {
+            Some(found) => self.answer_found(side, found, reply),
+            None => self.refuse(side),
+        }
+    }
+
+    /// The same, of these bytes.
+    fn answer_found(&mut self, side: Side, found: InOrder, reply: &Reply)
+        ensures { self.new ≡ answered_piece side (Some (piece_from found (end_at side self.old).tcp)) (is_placed reply.now) self.old }
+    {
+        if is_placed(reply) {
+            self.end_mut(side).place(found);
+        } else {
+            self.refuse(side);
+        }
+    }
+
+    /// Octets with a wrong checksum are forgotten.
+    pub(crate) fn check(&mut self, side: Side)
+        ensures { self.new ≡ with_end side (after_check self.old.profile (end_at side self.old)) self.old }
+    {
+        let checksums = self.profile.spelling().checksums;
+        self.end_mut(side).check(checksums);
+    }
+}

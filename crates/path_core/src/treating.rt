@@ -1,0 +1,332 @@
+//! What the options of a copy make of an end, one thing after the other (RFC 8684, section 3.3).
+
+ghost use Rattle.std.specs.Prelude.{◌≡◌, ◌&&◌, not, is_some, if◌then◌else◌, nat_lt, Some, OnOk, OnErr};
+ghost use Rattle.actor_desk.specs.declared.ask.Reply.TheVariants as replies;
+ghost use Rattle.path_core.specs.Octets.{octets};
+ghost use Rattle.path_core.specs.Opening.{after_keys};
+ghost use Rattle.path_core.specs.Placing.{with_learned, with_skipped};
+ghost use Rattle.path_core.specs.Replies.{IsAckBounded};
+ghost use Rattle.path_core.specs.State.{end_at, goes_on, left, with_agenda, with_end};
+ghost use Rattle.path_core.specs.Treating.{mode_in, after_verdict, counts, is_clash, mapping_stands, heard_stands, mapping_ask, heard_ask, is_acked, told_next, acked_in, with_acked, answered_ack, answered_mapping, with_fin, answered_heard, after_dss, heard_passed, item_stands, item_ask, answered_item, item_passed, item_of, is_dropped, after_keep, fell_ask};
+
+use crate::duty::Duty;
+use crate::end::PathEnd;
+use crate::heard::Heard;
+use crate::keys::KeyPair;
+use crate::modes::Modes;
+use crate::opening::keys_ask;
+use crate::path::Path;
+use crate::sending::Sending;
+use actor_desk::{Ask, LocalStep, Reply};
+use control_book::{ControlCall, ControlReply};
+use fallback_state::{Event, Mode, Verdict};
+use outside_kit::Side;
+use send_book::{SendCall, SendReply};
+use std::alloc::AllocError;
+
+/// A mapping that gives a position another place breaks the path with this reason: an unspecific one (RFC 8684,
+/// section 3.6).
+const CLASH: u8 = 1;
+
+/// A Data ACK was taken.
+fn is_acked(reply: &Reply) -> bool
+    ensures { result ≡ is_acked reply.now }
+{
+    matches!(reply, Reply::Send(SendReply::Acked { .. }))
+}
+
+impl Modes {
+    /// A verdict tells the mode, where it changed.
+    fn hear_told(&mut self, reply: &ControlReply)
+        ensures { self.new ≡ mode_in (replies.Control reply.now) self.old }
+    {
+        if let ControlReply::Verdict(Verdict::Went(mode)) = *reply {
+            self.mode = mode;
+        }
+    }
+
+    /// A verdict tells the mode.
+    fn hear_verdict(&mut self, reply: &Reply)
+        ensures { self.new ≡ mode_in reply.now self.old }
+    {
+        if let Reply::Control(reply) = reply {
+            self.hear_told(reply);
+        }
+    }
+}
+
+impl Sending {
+    /// So many bytes of the stream are acknowledged, where the Data ACK was taken.
+    fn hear_ack(&mut self, next: u64, reply: &Reply)
+        ensures { self.new ≡ acked_in next reply.now self.old }
+    {
+        if let Reply::Send(SendReply::Acked { fin, .. }) = *reply {
+            self.acknowledge(next, fin);
+        }
+    }
+}
+
+impl PathEnd {
+    /// Mappings and DATA_FINs count once the end has the peer's key.
+    fn counts(&self) -> bool
+        ensures { result ≡ counts self.now }
+    {
+        self.modes.peer_key.is_some()
+    }
+
+    /// The first mapping that is held gives a position another place.
+    fn is_clash(&self) -> bool
+        ensures { result ≡ is_clash self.now }
+    {
+        self.receiving.mappings.held_clashes()
+    }
+
+    /// A thing that was heard comes to something.
+    fn heard_stands(&self, item: Heard) -> bool
+        ensures { result ≡ heard_stands item self.now }
+    {
+        let starting = self.modes.mode == Mode::Starting;
+        match item {
+            Heard::Dss | Heard::PeerKey { .. } => false,
+            Heard::DataAck { .. } => true,
+            Heard::Mapping => self.counts() && (self.is_clash() || starting),
+            Heard::DataFin { .. } => self.counts() && starting,
+            Heard::Keys { .. } => !self.treated.are_keys_told(),
+        }
+    }
+
+    /// The thing of this number comes to something.
+    pub fn item_stands(&self, index: u64) -> bool
+        ensures { result ≡ item_stands (item_of index self.now) self.now }
+    {
+        match self.treated.item(index) {
+            Some(item) => self.heard_stands(item),
+            None => false,
+        }
+    }
+
+    /// The verdict was told.
+    fn hear_verdict(&mut self, reply: &Reply)
+        ensures { self.new ≡ after_verdict reply.now self.old }
+    {
+        self.modes.hear_verdict(reply);
+    }
+
+    /// The first mapping that is held is learned.
+    fn learn(&mut self)
+        ensures { self.new ≡ with_learned self.old }
+    {
+        self.receiving.mappings.learn_held();
+    }
+
+    /// The first mapping that is held is learned where it counts, and is held no longer.
+    fn pass_mapping(&mut self)
+        ensures { self.new ≡ (if counts self.old then with_learned self.old else with_skipped self.old) }
+    {
+        if self.counts() {
+            self.receiving.mappings.learn_held();
+        } else {
+            self.receiving.mappings.skip_held();
+        }
+    }
+
+    /// The end of the stream is told later.
+    fn note_fin(&mut self, place: u64)
+        ensures { self.new ≡ with_fin place self.old }
+    {
+        self.treated.note_fin(place);
+    }
+
+    /// What is passed in silence.
+    fn pass_heard(&mut self, side: Side, item: Heard)
+        ensures { self.new ≡ heard_passed side item self.old }
+    {
+        match item {
+            Heard::Dss => self.modes.clear |= side == Side::A,
+            Heard::Mapping => self.pass_mapping(),
+            Heard::DataFin { place } => {
+                if self.counts() {
+                    self.note_fin(place);
+                }
+            }
+            Heard::DataAck { .. } | Heard::PeerKey { .. } | Heard::Keys { .. } => {}
+        }
+    }
+
+    /// The thing of this number is passed in silence.
+    fn pass_item(&mut self, side: Side, index: u64)
+        ensures { self.new ≡ item_passed side (item_of index self.old) self.old }
+    {
+        if let Some(item) = self.treated.item(index) {
+            self.pass_heard(side, item);
+        }
+    }
+
+    /// B drops the payload of a copy with an option, as long as it doesn't have both keys.
+    fn is_dropped(&self, side: Side) -> bool
+        ensures { result ≡ is_dropped side self.now }
+    {
+        side == Side::B && !self.modes.clear && self.treated.has_option()
+    }
+
+    /// The payload that is held is kept or dropped.
+    fn keep(&mut self, side: Side)
+        ensures { self.new ≡ after_keep side self.old }
+    {
+        if self.is_dropped(side) {
+            self.tcp.drop_held();
+        } else {
+            self.tcp.keep_held();
+        }
+    }
+}
+
+impl Path {
+    /// An event is told that may change the mode.
+    pub(crate) fn fell_ask(&self, side: Side, event: Event) -> Ask
+        ensures { result ≡ fell_ask side event self.now }
+    {
+        Ask::Control(
+            side,
+            ControlCall::Fell {
+                path: self.number(),
+                event,
+            },
+        )
+    }
+
+    /// The verdict was told, and the first duty is done.
+    pub(crate) fn hear_verdict(&mut self, side: Side, reply: &Reply)
+        ensures { self.new ≡ goes_on side (after_verdict reply.now (end_at side self.old)) (left self.old) self.old }
+    {
+        self.end_mut(side).hear_verdict(reply);
+        self.done();
+    }
+
+    /// What a mapping asks.
+    fn mapping_ask(&self, side: Side) -> Ask
+        ensures { result ≡ mapping_ask octets side self.now }
+    {
+        if self.end(side).is_clash() {
+            self.break_ask(side, CLASH)
+        } else {
+            self.fell_ask(side, Event::MappingHeard)
+        }
+    }
+
+    /// What a thing that was heard asks.
+    fn heard_ask(&self, side: Side, item: Heard) -> Ask
+        ensures { result ≡ heard_ask octets side item self.now }
+    {
+        match item {
+            Heard::DataAck { next, window } => {
+                let window = u64::from(window);
+                Ask::Send(side, SendCall::AckIn { next, window })
+            }
+            Heard::Mapping => self.mapping_ask(side),
+            Heard::DataFin { .. } => self.fell_ask(side, Event::MappingHeard),
+            Heard::Keys { own, peer } => keys_ask(side, Some(KeyPair { own, peer })),
+            Heard::Dss | Heard::PeerKey { .. } => Ask::Local(LocalStep::End),
+        }
+    }
+
+    /// What the thing of this number asks.
+    pub(crate) fn item_ask(&self, side: Side, index: u64) -> Ask
+        ensures { result ≡ item_ask octets side (item_of index (end_at side self.now)) self.now }
+    {
+        match self.end(side).treated.item(index) {
+            Some(item) => self.heard_ask(side, item),
+            None => Ask::Local(LocalStep::End),
+        }
+    }
+
+    /// A Data ACK that was taken and covers something is told next.
+    fn answer_ack(&mut self, side: Side, next: u64, reply: &Reply)
+        ensures { self.new ≡ answered_ack side next reply.now self.old }
+    {
+        self.end_mut(side).sending.hear_ack(next, reply);
+        if is_acked(reply) && 0 < next {
+            self.turns_to(Duty::AckHeard(side));
+        } else {
+            self.done();
+        }
+    }
+
+    /// A mapping that clashes breaks the path, any other is learned. At an error all is as it was.
+    fn answer_mapping(&mut self, side: Side, reply: &Reply) -> Result<(), AllocError>
+        requires { IsAckBounded reply.now }
+        ensures ok { OnOk result (self.new ≡ answered_mapping octets side reply.now self.old) }
+        ensures err { OnErr result (self.new ≡ self.old) }
+    {
+        if self.end(side).is_clash() {
+            return self.answer_break(side, CLASH, reply);
+        }
+        self.end_mut(side).hear_verdict(reply);
+        self.end_mut(side).learn();
+        self.done();
+        Ok(())
+    }
+
+    /// The end of the stream is told later.
+    fn answer_data_fin(&mut self, side: Side, place: u64, reply: &Reply)
+        ensures { self.new ≡ goes_on side (with_fin place (after_verdict reply.now (end_at side self.old))) (left self.old) self.old }
+    {
+        self.end_mut(side).hear_verdict(reply);
+        self.end_mut(side).note_fin(place);
+        self.done();
+    }
+
+    /// Both keys were told.
+    fn answer_keys(&mut self, side: Side, keys: KeyPair, reply: &Reply)
+        ensures { self.new ≡ goes_on side (after_keys reply.now (Some keys) (end_at side self.old)) (left self.old) self.old }
+    {
+        self.end_mut(side).hear_keys(reply, Some(keys));
+        self.done();
+    }
+
+    /// What the reply to a thing that was heard makes of the path. At an error all is as it was.
+    fn answer_heard(&mut self, side: Side, item: Heard, reply: &Reply) -> Result<(), AllocError>
+        requires { IsAckBounded reply.now }
+        ensures ok { OnOk result (self.new ≡ answered_heard octets side item reply.now self.old) }
+        ensures err { OnErr result (self.new ≡ self.old) }
+    {
+        match item {
+            Heard::DataAck { next, .. } => Ok(self.answer_ack(side, next, reply)),
+            Heard::Mapping => self.answer_mapping(side, reply),
+            Heard::DataFin { place } => Ok(self.answer_data_fin(side, place, reply)),
+            Heard::Keys { own, peer } => Ok(self.answer_keys(side, KeyPair { own, peer }, reply)),
+            Heard::Dss | Heard::PeerKey { .. } => Ok(self.done()),
+        }
+    }
+
+    /// What the reply to the thing of this number makes of the path. At an error all is as it was.
+    pub(crate) fn answer_item(
+        &mut self,
+        side: Side,
+        index: u64,
+        reply: &Reply,
+    ) -> Result<(), AllocError>
+        requires { IsAckBounded reply.now }
+        ensures ok { OnOk result (self.new ≡ answered_item octets side (item_of index (end_at side self.old)) reply.now self.old) }
+        ensures err { OnErr result (self.new ≡ self.old) }
+    {
+        match self.end(side).treated.item(index) {
+            Some(item) => self.answer_heard(side, item, reply),
+            None => Ok(self.done()),
+        }
+    }
+
+    /// The thing of this number is passed in silence.
+    pub(crate) fn pass_item(&mut self, side: Side, index: u64)
+        ensures { self.new ≡ with_end side (item_passed side (item_of index (end_at side self.old)) (end_at side self.old)) self.old }
+    {
+        self.end_mut(side).pass_item(side, index);
+    }
+
+    /// The payload that is held is kept or dropped.
+    pub(crate) fn keep(&mut self, side: Side)
+        ensures { self.new ≡ with_end side (after_keep side (end_at side self.old)) self.old }
+    {
+        self.end_mut(side).keep(side);
+    }
+}
