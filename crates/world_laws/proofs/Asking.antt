@@ -24,7 +24,8 @@ use Rattle.path_core.specs.Codec.{Codec}
 use Rattle.path_core.specs.Duties.{ask_for}
 use Rattle.path_core.specs.Emission.{first_unsent, data_ask}
 use Rattle.path_core.specs.Events.{next_event, step_for}
-use Rattle.path_core.specs.Opening.{KeyPair, key_heard, peer_key_ask, keys_heard, keys_ask}
+use Rattle.path_core.specs.declared.keys.KeyPair.{KeyPair}
+use Rattle.path_core.specs.Opening.{key_heard, peer_key_ask, keys_heard, keys_ask}
 use Rattle.path_core.specs.Passing.{piece_of, piece_ask, fin_of, fin_ask, rate_ask}
 use Rattle.path_core.specs.Placing.{Piece}
 use Rattle.path_core.specs.Sends.{sends}

@@ -75,7 +75,12 @@ module _ (next window : ℕ) (p : Lane) where
 
   pub told_goes : ReceiverGoes p (moves (ack_moves next window) told_lane)
   told_goes = record {
-    edge = p.edge; kept = p.kept; maps = p.maps; due = false; latest = record { next = next; window = window }; asking = Nothing;
+    edge = p.edge;
+    kept = p.kept;
+    maps = p.maps;
+    due = false;
+    latest = record { next = next; window = window };
+    asking = Nothing;
     acks = told_acks;
     is = rw (append_assoc p.acks, append_assoc p.acks) refl;
   }
@@ -138,8 +143,15 @@ module _ (span : Span) (piece : List ℕ) (p : Lane) where
 
   pub piece_goes : SenderGoes p with_piece
   piece_goes = record {
-    sent = p.sent ++ cells_from span.from piece; pieces = p.pieces ++ mapping_granted ∷ []; known_end = p.known_end; heard = p.heard;
-    fin_acked = p.fin_acked; asking = Nothing; datas = copy_granted ∷ []; data_fins = []; fins = [];
+    sent = p.sent ++ cells_from span.from piece;
+    pieces = p.pieces ++ mapping_granted ∷ [];
+    known_end = p.known_end;
+    heard = p.heard;
+    fin_acked = p.fin_acked;
+    asking = Nothing;
+    datas = copy_granted ∷ [];
+    data_fins = [];
+    fins = [];
     is = rw (append-nil p.data_fins, append-nil p.fins) refl;
   }
 
@@ -158,8 +170,15 @@ module _ (why : Why) (told : Option ℕ) (p : Lane) where
 
   pub end_goes : SenderGoes p with_end
   end_goes = record {
-    sent = p.sent; pieces = p.pieces; known_end = later_end told p.known_end; heard = p.heard; fin_acked = p.fin_acked; asking = Nothing;
-    datas = []; data_fins = known (later_end told p.known_end); fins = [];
+    sent = p.sent;
+    pieces = p.pieces;
+    known_end = later_end told p.known_end;
+    heard = p.heard;
+    fin_acked = p.fin_acked;
+    asking = Nothing;
+    datas = [];
+    data_fins = known (later_end told p.known_end);
+    fins = [];
     is = rw (append-nil p.datas, append-nil p.fins) refl;
   }
 
@@ -177,7 +196,14 @@ module _ (p : Lane) where
 
   pub fin_goes : SenderGoes p with_fin_sent
   fin_goes = record {
-    sent = p.sent; pieces = p.pieces; known_end = p.known_end; heard = p.heard; fin_acked = p.fin_acked; asking = p.asking;
-    datas = []; data_fins = []; fins = length p.sent ∷ [];
+    sent = p.sent;
+    pieces = p.pieces;
+    known_end = p.known_end;
+    heard = p.heard;
+    fin_acked = p.fin_acked;
+    asking = p.asking;
+    datas = [];
+    data_fins = [];
+    fins = length p.sent ∷ [];
     is = rw (append-nil p.datas, append-nil p.data_fins) refl;
   }

@@ -73,7 +73,13 @@ module _ (c : Profile) (s : Side) (out back : Lane) where
   -- the lanes stay
   pub did_nothing : (e : PathEnd) → EndShows c s e out back → Did c s e out out back back
   did_nothing e h = record {
-    out_after = out; back_after = back; out_moves = stays out; back_moves = stays back; sender = sender_stays out; receiver = receiver_stays back; shows = h;
+    out_after = out;
+    back_after = back;
+    out_moves = stays out;
+    back_moves = stays back;
+    sender = sender_stays out;
+    receiver = receiver_stays back;
+    shows = h;
   }
 
   -- ---- modes
@@ -203,21 +209,42 @@ module _ (c : Profile) (s : Side) (out back : Lane) where
 
   idle_goes : SenderGoes out idle
   idle_goes = record {
-    sent = out.sent; pieces = out.pieces; known_end = out.known_end; heard = out.heard; fin_acked = out.fin_acked; asking = Nothing;
-    datas = []; data_fins = []; fins = [];
+    sent = out.sent;
+    pieces = out.pieces;
+    known_end = out.known_end;
+    heard = out.heard;
+    fin_acked = out.fin_acked;
+    asking = Nothing;
+    datas = [];
+    data_fins = [];
+    fins = [];
     is = rw (append-nil out.datas, append-nil out.data_fins, append-nil out.fins) refl;
   }
 
   -- the reply changes nothing at the end, and the lane asks no more
   pub idle_end : (e : PathEnd) → EndShows c s e out back → Did c s e out idle back back
   idle_end e h = record {
-    out_after = idle; back_after = back; out_moves = stays idle; back_moves = stays back; sender = idle_goes; receiver = receiver_stays back;
+    out_after = idle;
+    back_after = back;
+    out_moves = stays idle;
+    back_moves = stays back;
+    sender = idle_goes;
+    receiver = receiver_stays back;
     shows = record {
       sender = record {
-        opened = h.sender.opened; plain = h.sender.plain; next = h.sender.next; unfinished = h.sender.unfinished; pieces = h.sender.pieces;
-        known_end = h.sender.known_end; fin_acked = h.sender.fin_acked;
+        opened = h.sender.opened;
+        plain = h.sender.plain;
+        next = h.sender.next;
+        unfinished = h.sender.unfinished;
+        pieces = h.sender.pieces;
+        known_end = h.sender.known_end;
+        fin_acked = h.sender.fin_acked;
       };
-      receiver = h.receiver; window = h.window; told = h.told; treated = h.treated; held = h.held;
+      receiver = h.receiver;
+      window = h.window;
+      told = h.told;
+      treated = h.treated;
+      held = h.held;
     };
   }
 
@@ -229,17 +256,33 @@ module _ (c : Profile) (s : Side) (out back : Lane) where
     out_moves = stays _;
     back_moves = stays back;
     sender = record {
-      sent = out.sent; pieces = out.pieces; known_end = out.known_end; heard = max out.heard next; fin_acked = out.fin_acked || fin; asking = Nothing;
-      datas = []; data_fins = []; fins = [];
+      sent = out.sent;
+      pieces = out.pieces;
+      known_end = out.known_end;
+      heard = max out.heard next;
+      fin_acked = out.fin_acked || fin;
+      asking = Nothing;
+      datas = [];
+      data_fins = [];
+      fins = [];
       is = rw (append-nil out.datas, append-nil out.data_fins, append-nil out.fins) refl;
     };
     receiver = receiver_stays back;
     shows = record {
       sender = record {
-        opened = h.sender.opened; plain = h.sender.plain; next = h.sender.next; unfinished = h.sender.unfinished; pieces = h.sender.pieces; known_end = h.sender.known_end;
+        opened = h.sender.opened;
+        plain = h.sender.plain;
+        next = h.sender.next;
+        unfinished = h.sender.unfinished;
+        pieces = h.sender.pieces;
+        known_end = h.sender.known_end;
         fin_acked = λ is. ⊎_elim (λ old. or_left out.fin_acked fin (h.sender.fin_acked old)) (λ new. or_right out.fin_acked fin new) (or_cases e.sending.close.own_acked fin is);
       };
-      receiver = h.receiver; window = h.window; told = h.told; treated = h.treated; held = h.held;
+      receiver = h.receiver;
+      window = h.window;
+      told = h.told;
+      treated = h.treated;
+      held = h.held;
     };
   }
   acked_end next (send_replies.Taken count) e h = idle_end e h

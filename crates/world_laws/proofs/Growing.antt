@@ -40,8 +40,15 @@ pub record SenderGoes (p q : Lane) : Type 0 where
   pub data_fins : List ℕ
   pub fins : List ℕ
   pub is : q ≡ record p {
-    sent = sent; pieces = pieces; known_end = known_end; heard = heard; fin_acked = fin_acked; asking = asking;
-    datas = p.datas ++ datas; data_fins = p.data_fins ++ data_fins; fins = p.fins ++ fins;
+    sent = sent;
+    pieces = pieces;
+    known_end = known_end;
+    heard = heard;
+    fin_acked = fin_acked;
+    asking = asking;
+    datas = p.datas ++ datas;
+    data_fins = p.data_fins ++ data_fins;
+    fins = p.fins ++ fins;
   }
 
 -- by what its receiver's end does
@@ -57,14 +64,27 @@ pub record ReceiverGoes (p q : Lane) : Type 0 where
 
 pub sender_stays : (p : Lane) → SenderGoes p p
 sender_stays p = record {
-  sent = p.sent; pieces = p.pieces; known_end = p.known_end; heard = p.heard; fin_acked = p.fin_acked; asking = p.asking;
-  datas = []; data_fins = []; fins = [];
+  sent = p.sent;
+  pieces = p.pieces;
+  known_end = p.known_end;
+  heard = p.heard;
+  fin_acked = p.fin_acked;
+  asking = p.asking;
+  datas = [];
+  data_fins = [];
+  fins = [];
   is = rw (append-nil p.datas, append-nil p.data_fins, append-nil p.fins) refl;
 }
 
 pub receiver_stays : (p : Lane) → ReceiverGoes p p
 receiver_stays p = record {
-  edge = p.edge; kept = p.kept; maps = p.maps; due = p.due; latest = p.latest; asking = p.asking; acks = [];
+  edge = p.edge;
+  kept = p.kept;
+  maps = p.maps;
+  due = p.due;
+  latest = p.latest;
+  asking = p.asking;
+  acks = [];
   is = rw (append-nil p.acks) refl;
 }
 
@@ -156,19 +176,27 @@ peer_receiver recv fin_at live p q g h = subst (ReceiverShows recv fin_at live) 
 -- what the lanes have grown by where the end of one side does something
 pub sent_longer : (out out_after back back_after : Lane) → SenderGoes out out_after → ReceiverGoes back back_after → Longer back.acks back_after.acks out out_after
 sent_longer out out_after back back_after g r = record {
-  more_acks = r.acks; acks_are = ap (λ p. p.acks) r.is;
-  datas = g.datas; datas_are = ap (λ p. p.datas) g.is;
-  data_fins = g.data_fins; data_fins_are = ap (λ p. p.data_fins) g.is;
-  fins = g.fins; fins_are = ap (λ p. p.fins) g.is;
+  more_acks = r.acks;
+  acks_are = ap (λ p. p.acks) r.is;
+  datas = g.datas;
+  datas_are = ap (λ p. p.datas) g.is;
+  data_fins = g.data_fins;
+  data_fins_are = ap (λ p. p.data_fins) g.is;
+  fins = g.fins;
+  fins_are = ap (λ p. p.fins) g.is;
 }
 
 -- the other direction of the same
 pub heard_longer : (out out_after back back_after : Lane) → SenderGoes out out_after → ReceiverGoes back back_after → Longer out.acks out_after.acks back back_after
 heard_longer out out_after back back_after g r = record {
-  more_acks = []; acks_are = ap (λ p. p.acks) g.is ∙ sym (append-nil out.acks);
-  datas = []; datas_are = ap (λ p. p.datas) r.is ∙ sym (append-nil back.datas);
-  data_fins = []; data_fins_are = ap (λ p. p.data_fins) r.is ∙ sym (append-nil back.data_fins);
-  fins = []; fins_are = ap (λ p. p.fins) r.is ∙ sym (append-nil back.fins);
+  more_acks = [];
+  acks_are = ap (λ p. p.acks) g.is ∙ sym (append-nil out.acks);
+  datas = [];
+  datas_are = ap (λ p. p.datas) r.is ∙ sym (append-nil back.datas);
+  data_fins = [];
+  data_fins_are = ap (λ p. p.data_fins) r.is ∙ sym (append-nil back.data_fins);
+  fins = [];
+  fins_are = ap (λ p. p.fins) r.is ∙ sym (append-nil back.fins);
 }
 
 -- the end of the other side, whose lanes are these the other way round

@@ -68,8 +68,13 @@ module _ (c : Profile) (s : Side) (known : Option ℕ) (acked : Bool) (p : Lane)
   pub state_shows : (state after : EndPhase) (v : SendState) → (is_unfinished after ≡ true → is_unfinished state ≡ true) → SenderShows c s state v known acked p
       → SenderShows c s after v known acked p
   state_shows state after v back h = record {
-    opened = h.opened; plain = h.plain; next = λ un. h.next (back un); unfinished = λ un. h.unfinished (back un); pieces = h.pieces;
-    known_end = h.known_end; fin_acked = h.fin_acked;
+    opened = h.opened;
+    plain = h.plain;
+    next = λ un. h.next (back un);
+    unfinished = λ un. h.unfinished (back un);
+    pieces = h.pieces;
+    known_end = h.known_end;
+    fin_acked = h.fin_acked;
   }
 
 pub handshake_back : (state : EndPhase) → is_unfinished (states.after_handshake state) ≡ true → is_unfinished state ≡ true
@@ -159,7 +164,6 @@ module _ (c : Copy) (s : EndState) (u : Bool) where
   connected_fits : Fitting c u (judging.meaning_connected c s)
   connected_fits = fits_if c (is_at_limit s) means.Ignored (if judging.is_repeated_syn c s then means.RepeatedSyn else judging.meaning_placed c.position c s) (λ is. record { fits = tt })
       (λ is. fits_if c (judging.is_repeated_syn c s) means.RepeatedSyn (judging.meaning_placed c.position c s) (λ again. record { fits = tt }) (λ other. placed_fits c.position refl))
-
 
 module _ (c : Copy) (s : EndState) where
   fits_at : (state : EndPhase) → Fitting c (is_unfinished state) (judging.meaning_at state c s)

@@ -18,3 +18,4 @@ pub mod Rules
 pub mod Arriving
 pub mod Asking
 pub mod Trios
+pub mod Finishing

@@ -107,7 +107,13 @@ module _ (c : Profile) (s : Side) (known : Option ℕ) (acked : Bool) (p : Lane)
   -- other records of the same octets
   with_records : (state : EndPhase) (v : SendState) (rs : List Record) → Shows state v → Every (RecordShows c s p.datas p.fins) rs → Shows state (record v { records = rs })
   with_records state v rs h pieces = record {
-    opened = h.opened; plain = h.plain; next = h.next; unfinished = h.unfinished; pieces = pieces; known_end = h.known_end; fin_acked = h.fin_acked;
+    opened = h.opened;
+    plain = h.plain;
+    next = h.next;
+    unfinished = h.unfinished;
+    pieces = pieces;
+    known_end = h.known_end;
+    fin_acked = h.fin_acked;
   }
 
   pub sent_shows : (now : ℕ) (state : EndPhase) (v : SendState) → Shows state v → Shows state (after_sent now v)
@@ -134,8 +140,13 @@ module _ (c : Profile) (s : Side) (known : Option ℕ) (acked : Bool) (p : Lane)
     where
       by : (b : Bool) → Shows state (if b then record v { una = pos; records = uncovered pos v.records } else v)
       by true = record {
-        opened = h.opened; plain = h.plain; next = h.next; unfinished = h.unfinished; pieces = uncovered_kept pos v.records h.pieces;
-        known_end = h.known_end; fin_acked = h.fin_acked;
+        opened = h.opened;
+        plain = h.plain;
+        next = h.next;
+        unfinished = h.unfinished;
+        pieces = uncovered_kept pos v.records h.pieces;
+        known_end = h.known_end;
+        fin_acked = h.fin_acked;
       }
       by false = h
 
@@ -146,19 +157,35 @@ sent_end c s out back to_send.Reset now sg e h = record { sender = h.sender; rec
 sent_end c s out back to_send.Answer now sg e h = record { sender = h.sender; receiver = h.receiver; window = h.window; told = h.told; treated = h.treated; held = h.held }
 sent_end c s out back to_send.SynAck now sg e h = record {
   sender = syn_resent_shows c s _ _ out now e.tcp.state e.tcp.send h.sender;
-  receiver = h.receiver; window = h.window; told = h.told; treated = h.treated; held = h.held;
+  receiver = h.receiver;
+  window = h.window;
+  told = h.told;
+  treated = h.treated;
+  held = h.held;
 }
 sent_end c s out back to_send.Ack now sg e h = record { sender = h.sender; receiver = h.receiver; window = h.window; told = h.told; treated = h.treated; held = h.held }
 sent_end c s out back to_send.Probe now sg e h = record { sender = h.sender; receiver = h.receiver; window = h.window; told = h.told; treated = h.treated; held = h.held }
 sent_end c s out back to_send.First now sg e h = record {
   sender = resent_shows c s _ _ out now e.tcp.state e.tcp.send h.sender;
-  receiver = h.receiver; window = h.window; told = h.told; treated = h.treated; held = h.held;
+  receiver = h.receiver;
+  window = h.window;
+  told = h.told;
+  treated = h.treated;
+  held = h.held;
 }
 sent_end c s out back to_send.Unsent now sg e h = record {
   sender = sent_shows c s _ _ out now e.tcp.state e.tcp.send h.sender;
-  receiver = h.receiver; window = h.window; told = h.told; treated = h.treated; held = h.held;
+  receiver = h.receiver;
+  window = h.window;
+  told = h.told;
+  treated = h.treated;
+  held = h.held;
 }
 sent_end c s out back to_send.Fin now sg e h = record {
   sender = fin_sent_shows c s _ _ out now e.tcp.state e.tcp.send h.sender;
-  receiver = h.receiver; window = h.window; told = h.told; treated = h.treated; held = h.held;
+  receiver = h.receiver;
+  window = h.window;
+  told = h.told;
+  treated = h.treated;
+  held = h.held;
 }

@@ -30,7 +30,8 @@ use Rattle.actor_desk.specs.declared.ask.Reply.{Reply}
 use Rattle.path_core.specs.Emission.{after_timer}
 use Rattle.path_core.specs.Ends.{PathEnd, Treated, nothing_treated}
 use Rattle.path_core.specs.Events.{died, died_unless_dead, after_firing}
-use Rattle.path_core.specs.Opening.{KeyPair, with_peer_key, after_keys, keys_in}
+use Rattle.path_core.specs.declared.keys.KeyPair.{KeyPair}
+use Rattle.path_core.specs.Opening.{with_peer_key, after_keys, keys_in}
 use Rattle.path_core.specs.Passing.{having_asked, with_peer_end, after_rate}
 use Rattle.path_core.specs.Placing.{is_wrong, forgotten_by, after_check}
 use Rattle.path_core.specs.Standing.{after_look, modes_told}
@@ -69,7 +70,10 @@ module _ (c : Profile) (s : Side) (out back : Lane) where
 
   pub keys_show : (r : Reply) (keys : Option KeyPair) (e : PathEnd) → Shows e → Shows (after_keys r keys e)
   keys_show r keys e h = record {
-    sender = h.sender; receiver = h.receiver; window = h.window; told = h.told;
+    sender = h.sender;
+    receiver = h.receiver;
+    window = h.window;
+    told = h.told;
     treated = record { items = h.treated.items; fins = h.treated.fins; answer = h.treated.answer };
     held = h.held;
   }
@@ -82,9 +86,12 @@ module _ (c : Profile) (s : Side) (out back : Lane) where
 
   pub rate_shows : (path mss : ℕ) (r : Reply) (e : PathEnd) → Shows e → Shows (after_rate path mss r e)
   rate_shows path mss r e h = record {
-    sender = h.sender; receiver = h.receiver; window = h.window;
+    sender = h.sender;
+    receiver = h.receiver;
+    window = h.window;
     told = subst (λ told. HasAck out.acks 0 told.window) (sym (grown_told _ e.tcp.congestion.pending e.tcp.congestion)) h.told;
-    treated = h.treated; held = h.held;
+    treated = h.treated;
+    held = h.held;
   }
 
   -- ---- death
@@ -97,7 +104,10 @@ module _ (c : Profile) (s : Side) (out back : Lane) where
     sender = state_shows c s _ _ out e.tcp.state phase.Dead _ (λ no_more. absurd (false≢true no_more))
         (acknowledged_shows c s _ _ out e.tcp.send.nxt e.tcp.state e.tcp.send h.sender);
     receiver = cut_shows e.tcp.fin_at e.receiving.mappings.live back (e.tcp.recv.edge - e.tcp.recv.edge) e.tcp.recv h.receiver;
-    window = h.window; told = h.told; treated = shows; held = h.held;
+    window = h.window;
+    told = h.told;
+    treated = shows;
+    held = h.held;
   }
 
   pub died_shows : (e : PathEnd) → Shows e → Shows (died e)
@@ -117,7 +127,11 @@ module _ (c : Profile) (s : Side) (out back : Lane) where
       by true = dead_tcp true e e.treated h.treated h
       by false = record {
         sender = expired_shows c s _ _ out e.tcp.state e.tcp.send h.sender;
-        receiver = h.receiver; window = h.window; told = h.told; treated = h.treated; held = h.held;
+        receiver = h.receiver;
+        window = h.window;
+        told = h.told;
+        treated = h.treated;
+        held = h.held;
       }
 
   -- ---- what is kept
@@ -131,7 +145,10 @@ module _ (c : Profile) (s : Side) (out back : Lane) where
       by true = record {
         sender = h.sender;
         receiver = cut_shows e.tcp.fin_at e.receiving.mappings.live back (kept.pos - e.tcp.recv.edge) e.tcp.recv h.receiver;
-        window = h.window; told = h.told; treated = h.treated; held = h.held;
+        window = h.window;
+        told = h.told;
+        treated = h.treated;
+        held = h.held;
       }
 
   kept_receiver : (fin_at : Option ℕ) (live : List KeptMapping) (recv : Receiving) (passed : Bool) → is_behind fin_at recv.edge ≡ passed → ReceiverShows recv fin_at live back
@@ -152,11 +169,18 @@ module _ (c : Profile) (s : Side) (out back : Lane) where
     where
       by : (b : Bool) → Shows (record e { tcp = if b then taking.after_dropping_held e.tcp else taking.after_keeping_held e.tcp })
       by true = record {
-        sender = h.sender; receiver = dropped_shows e.tcp.fin_at e.receiving.mappings.live back e.tcp.recv h.receiver;
-        window = h.window; told = h.told; treated = h.treated; held = h.held;
+        sender = h.sender;
+        receiver = dropped_shows e.tcp.fin_at e.receiving.mappings.live back e.tcp.recv h.receiver;
+        window = h.window;
+        told = h.told;
+        treated = h.treated;
+        held = h.held;
       }
       by false = record {
         sender = h.sender;
         receiver = kept_receiver e.tcp.fin_at e.receiving.mappings.live e.tcp.recv (is_behind e.tcp.fin_at e.tcp.recv.edge) refl h.receiver;
-        window = h.window; told = h.told; treated = h.treated; held = h.held;
+        window = h.window;
+        told = h.told;
+        treated = h.treated;
+        held = h.held;
       }

@@ -106,7 +106,13 @@ module _ (p : Lane) (v : View) (h : LaneHolds v 0 p) where
 
     pub heard_goes : ReceiverGoes p heard_lane
     heard_goes = record {
-      edge = p.edge; kept = heard_lane.kept; maps = p.maps; due = p.due; latest = p.latest; asking = p.asking; acks = [];
+      edge = p.edge;
+      kept = heard_lane.kept;
+      maps = p.maps;
+      due = p.due;
+      latest = p.latest;
+      asking = p.asking;
+      acks = [];
       is = rw (append-nil p.acks) refl;
     }
 
@@ -151,7 +157,13 @@ module _ (p : Lane) (place position len : ℕ) (has : HasMapping p.datas place p
 
   pub learned_goes : ReceiverGoes p learned_lane
   learned_goes = record {
-    edge = p.edge; kept = p.kept; maps = learned_lane.maps; due = p.due; latest = p.latest; asking = p.asking; acks = [];
+    edge = p.edge;
+    kept = p.kept;
+    maps = learned_lane.maps;
+    due = p.due;
+    latest = p.latest;
+    asking = p.asking;
+    acks = [];
     is = rw (append-nil p.acks) refl;
   }
 

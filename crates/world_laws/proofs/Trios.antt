@@ -1,6 +1,8 @@
 -- The world of two applications and one path, and what is written in it.
-use Rattle.std.proofs.Common.{◌≡◌, refl, sym, ◌∙◌, ap, subst, ℕ, zero, suc, ◌&&◌, not, Bool, true, false, if◌then◌else◌, Option, Some, None, List, [], ◌∷◌, ◌++◌, map, take}
+use Rattle.std.proofs.Common.{◌≡◌, refl, sym, ◌∙◌, ap, subst, ℕ, zero, suc, ◌+◌, ◌&&◌, not, Bool, true, false, if◌then◌else◌, Option, Some, None, List, [], ◌∷◌, ◌++◌, map, take}
 use Rattle.std.proofs.lemmas.List.{append-nil}
+use Rattle.std.proofs.lemmas.Option.{same_Some}
+use Rattle.std.specs.List.{slice_get}
 use Rattle.std.proofs.lemmas.Bool.{and_parts, both_ways, false≢true}
 use Rattle.outside_kit.specs.declared.side.Side.{Side}
 use Rattle.outside_kit.specs.declared.side.Side.TheVariants.{A, B}
@@ -27,17 +29,18 @@ use Rattle.stream_apps.specs.Turns.{FirstAppStands, IsAppSettled}
 use Rattle.path_core.specs.declared.duty.Duty.{Duty}
 use Rattle.path_core.specs.Codec.{Codec}
 use Rattle.path_core.specs.Duties.{ask_for}
-use Rattle.path_core.specs.Starts.{first_turn}
+use Rattle.path_core.specs.Starts.{first_turn, waiting_path}
 use Rattle.path_core.specs.State.{PathState}
 use Rattle.path_core.specs.Steps.{asks_first, takes, next_round}
 use Rattle.world_laws.specs.declared.member.Member.TheVariants.{App, Path}
 use Rattle.world_laws.specs.Actors.{Actor, ActorCrew}
-use Rattle.world_laws.specs.Laws.{Always, WritesTheFile, WritesTheFiles}
+use Rattle.world_laws.specs.Laws.{Always, NothingDueIsLeft, IsDone, WritesTheFile, WritesTheFiles}
 use Rattle.world_laws.specs.Openings.{Start, opened_world}
 use Rattle.world_laws.specs.StampedBooks.{answer_to}
 use Rattle.world_laws.specs.Worlds.{WorldState, Turn, note_of, asked, world_step, all_over, greatest, begins, end_round, after_turn, world_run}
 use Rattle.world_laws.proofs.Applying.{Writes, Settles, settled_app, writes_more, closes}
 use Rattle.world_laws.proofs.Asking.{LeavesFile, AskLeavesFile, asks_leave, call_keeps}
+use Rattle.world_laws.proofs.Finishing.{Shaped, takes_shaped, begun_shaped, nothing_due}
 use Rattle.world_laws.proofs.Journaling.{books_after}
 
 -- ---- an application
@@ -186,6 +189,7 @@ module _ {C : Type 0} where
   pub record Fare (start : Start) (t : Trio C) : Type 0 where
     pub a : Fares A start.file_a t.a (books_in t.books).send_a
     pub b : Fares B start.file_b t.b (books_in t.books).send_b
+    pub p : Shaped t.p.agenda t.p
 
   -- a world of such a kind
   pub record IsTrio (start : Start) (w : WorldState C) : Type 0 where
@@ -206,6 +210,7 @@ module _ {C : Type 0} where
           a = subst (λ x. Fares A start.file_a (app_takes (answer_to t.books ask) t.a) x.send_a) same (app_fares A start.file_a six t.a d ds is f.a);
           b = subst (λ x. Fares B start.file_b t.b x.send_b) same
               (subst (Fares B start.file_b t.b) (sym (app_leaves_b d t.a six f.a.side_is)) f.b);
+          p = f.p;
         };
       }
 
@@ -222,6 +227,7 @@ module _ {C : Type 0} where
           a = subst (λ x. Fares A start.file_a t.a x.send_a) same
               (subst (Fares A start.file_a t.a) (sym (app_leaves_a d t.b six f.b.side_is)) f.a);
           b = subst (λ x. Fares B start.file_b (app_takes (answer_to t.books ask) t.b) x.send_b) same (app_fares B start.file_b six t.b d ds is f.b);
+          p = f.p;
         };
       }
 
@@ -238,6 +244,7 @@ module _ {C : Type 0} where
         fare = record {
           a = subst (λ x. Fares A start.file_a t.a x.send_a) same (other_fares A start.file_a t.a six.send_a _ (path_leaves_a start.file_a t.a.rest ask six leaves f.a.writes) f.a);
           b = subst (λ x. Fares B start.file_b t.b x.send_b) same (other_fares B start.file_b t.b six.send_b _ (path_leaves_b start.file_b t.b.rest ask six leaves f.b.writes) f.b);
+          p = takes_shaped k (answer_to t.books ask) t.p f.p;
         };
       }
 
@@ -256,11 +263,15 @@ module _ {C : Type 0} where
           let stamp = greatest 0 (world_of t).crew in
           record {
             trio = record t {
-              a = app_next_round t.a; b = app_next_round t.b; p = next_round t.p;
-              at_a = raised_to stamp t.at_a; at_b = raised_to stamp t.at_b; at_p = raised_to stamp t.at_p;
+              a = app_next_round t.a;
+              b = app_next_round t.b;
+              p = next_round t.p;
+              at_a = raised_to stamp t.at_a;
+              at_b = raised_to stamp t.at_b;
+              at_p = raised_to stamp t.at_p;
             };
             is = refl;
-            fare = record { a = next_fares A start.file_a t.a _ f.a; b = next_fares B start.file_b t.b _ f.b };
+            fare = record { a = next_fares A start.file_a t.a _ f.a; b = next_fares B start.file_b t.b _ f.b; p = begun_shaped (record t.p { clock = t.p.until; until = t.p.until + 100 }) };
           }
 
   turn_trio : (k : Codec C) (start : Start) (turn : Turn) (w : WorldState C) → IsTrio start w → IsTrio start (after_turn k turn w)
@@ -277,13 +288,16 @@ module _ {C : Type 0} where
       a = first_app_turn A start.profile.buffer start.file_a;
       b = first_app_turn B start.profile.buffer start.file_b;
       p = first_turn start.profile start.drawn start.delay start.lines;
-      at_a = new_seat 0; at_b = new_seat 1; at_p = new_seat 2;
+      at_a = new_seat 0;
+      at_b = new_seat 1;
+      at_p = new_seat 2;
       books = unasked (opened_books start.profile.buffer start.drawn.key_a start.drawn.key_b);
     };
     is = refl;
     fare = record {
       a = opened_fares A start.profile.buffer start.file_a _ refl refl;
       b = opened_fares B start.profile.buffer start.file_b _ refl refl;
+      p = begun_shaped {C = C} (waiting_path start.profile start.drawn start.delay start.lines);
     };
   }
 
@@ -297,3 +311,12 @@ module _ {C : Type 0} where
         a = written_from start.file_a t.trio.a.rest _ t.fare.a.writes;
         b = written_from start.file_b t.trio.b.rest _ t.fare.b.writes;
       })
+
+  pub nothing_due_is_left : (k : Codec C) → Always k (λ start w. NothingDueIsLeft w)
+  nothing_due_is_left k start turns = let t = always_trio k start turns in subst NothingDueIsLeft (sym t.is) (record { each = at t.trio t.fare })
+    where
+      at : (t : Trio C) → Fare start t → (actor : ℕ) (c : ActorCrew C) → slice_get (world_of t).crew actor ≡ Some c → IsDone c.member
+      at t f zero c there = subst (λ x. IsDone x.member) (same_Some _ c there) tt
+      at t f (suc zero) c there = subst (λ x. IsDone x.member) (same_Some _ c there) tt
+      at t f (suc (suc zero)) c there = subst (λ x. IsDone x.member) (same_Some _ c there) (λ over. nothing_due t.p f.p over)
+      at t f (suc (suc (suc actor))) c there = cc

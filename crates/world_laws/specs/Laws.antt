@@ -1,11 +1,14 @@
 -- What is promised of a connection over every list of turns.
-use Rattle.std.specs.Prelude.{ℕ, ◌≡◌, true, List}
+use Rattle.std.specs.Prelude.{ℕ, ◌≡◌, true, Some, None, List, [], slice_get}
 use Rattle.pipe_model.specs.Prefix.{IsPrefix}
 use Rattle.send_book.specs.State.{Sending}
 use Rattle.actor_desk.specs.Books.{books_in}
 use Rattle.path_core.specs.Codec.{Codec}
 use Rattle.path_core.specs.Octets.{octets}
 use Rattle.path_core.specs.Values.{Carried, values}
+use Rattle.path_core.specs.Events.{next_event}
+use Rattle.world_laws.specs.declared.member.Member.TheVariants.{App, Path}
+use Rattle.world_laws.specs.Actors.{Actor, ActorCrew}
 use Rattle.world_laws.specs.Fine.{IsFine}
 use Rattle.world_laws.specs.Fresh.{AreFresh, shown_world}
 use Rattle.world_laws.specs.Openings.{Start, opened_world}
@@ -20,6 +23,14 @@ pub record WritesTheFile (file : List ℕ) (send : Sending) : Type 0 where
 pub record WritesTheFiles {C : Type 0} (start : Start) (w : WorldState C) : Type 0 where
   pub a : WritesTheFile start.file_a (books_in w.books).send_a
   pub b : WritesTheFile start.file_b (books_in w.books).send_b
+
+-- where the turn of a path is over, no line, no copy and no timer is due before the round's end
+abbrev pub IsDone : {C : Type 0} → Actor C → Type 0
+IsDone (App a) = Unit {0}
+IsDone (Path p) = p.agenda ≡ [] → next_event p ≡ None
+
+pub record NothingDueIsLeft {C : Type 0} (w : WorldState C) : Type 0 where
+  pub each : (actor : ℕ) (c : ActorCrew C) → slice_get w.crew actor ≡ Some c → IsDone c.member
 
 module _ {C : Type 0} (k : Codec C) where
   -- P holds of a connection at every moment, in whatever order its actors go

@@ -1,5 +1,5 @@
 //! What holds of every connection, as clauses of functions that do nothing.
-ghost use Rattle.world_laws.specs.Laws.{Always, SerialIsOne, StaysFine, OctetsDoAsValues, WritesTheFiles};
+ghost use Rattle.world_laws.specs.Laws.{Always, NothingDueIsLeft, SerialIsOne, StaysFine, OctetsDoAsValues, WritesTheFiles};
 ghost use Rattle.path_core.specs.Octets.{octets};
 ghost use Rattle.path_core.specs.Values.{values};
 
@@ -28,4 +28,11 @@ pub fn octets_do_as_values()
 pub fn files_are_written()
     ensures octets { Always octets WritesTheFiles }
     ensures values { Always values WritesTheFiles }
+{}
+
+/// A law: at every moment, where the turn of a path is over, no line of its script, no copy and no timer is due before the
+/// round's end. So none is left at the end of a round.
+pub fn nothing_due_is_left()
+    ensures octets { Always octets (λ start w. NothingDueIsLeft w) }
+    ensures values { Always values (λ start w. NothingDueIsLeft w) }
 {}

@@ -8,6 +8,9 @@ mod laws;
 mod member;
 mod outcome;
 
-pub use laws::{files_are_written, octets_do_as_values, serial_is_one, what_is_fine_stays_fine};
+pub use laws::{
+    files_are_written, nothing_due_is_left, octets_do_as_values, serial_is_one,
+    what_is_fine_stays_fine,
+};
 pub use member::{Crew, Member};
 pub use outcome::Outcome;
