@@ -6,7 +6,7 @@ use outside_kit::Side;
 
 /// What happens on a path by itself, at a tick.
 #[derive(Clone, Copy, Debug, PartialEq, Eq)]
-pub(crate) enum Event {
+pub enum Event {
     /// A line comes due.
     Takes(LineLeft),
     /// A copy arrives.

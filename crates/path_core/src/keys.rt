@@ -2,7 +2,7 @@
 
 /// The key of the own side, and the peer's.
 #[derive(Clone, Copy, Debug, PartialEq, Eq)]
-pub(crate) struct KeyPair {
+pub struct KeyPair {
     pub own: u64,
     pub peer: u64,
 }

@@ -47,7 +47,9 @@ mod treating;
 
 pub use actor_desk::{Ask, LocalStep, Note, Reply};
 pub use duty::Duty;
+pub use event::Event;
 pub use heard::Heard;
+pub use keys::KeyPair;
 pub use laws::{a_first_round, every_turn_ends, octets_do_as_values};
 pub use lines::LineLeft;
 pub use modes::Modes;

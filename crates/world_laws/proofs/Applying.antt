@@ -1,0 +1,185 @@
+-- What the steps of an application make of the two directions: it writes into the one, and reads from the other.
+use Rattle.std.proofs.Common.{◌≡◌, refl, sym, ◌∙◌, ap, subst, ℕ, zero, suc, ◌+◌, ◌<◌, ◌≤◌, min, ◌&&◌, ◌||◌, not, nat_lt, Bool, true, false, if◌then◌else◌, Option, Some, None, List, [], ◌∷◌, ◌++◌, length, take, drop, replicate, arith}
+use Rattle.std.proofs.lemmas.Bool.{and_parts, or_parts, both_ways, false≢true}
+use Rattle.std.proofs.lemmas.List.{append-nil, append_assoc, take-append-drop}
+use Rattle.std.specs.List.{list_any}
+use Rattle.outside_kit.specs.declared.side.Side.{Side}
+use Rattle.send_book.specs.declared.call.SendReply.TheVariants as send_replies
+use Rattle.send_book.specs.declared.mark.ByteMark.TheVariants.{Free}
+use Rattle.send_book.specs.Tried.{no_paths}
+use Rattle.send_book.specs.State.{Sending}
+use Rattle.send_book.specs.Steps as send
+use Rattle.reassembly_book.specs.declared.call.ReassemblyReply.{ReassemblyReply}
+use Rattle.reassembly_book.specs.declared.call.ReassemblyReply.TheVariants as reassembly_replies
+use Rattle.reassembly_book.specs.State.{Arriving, filled}
+use Rattle.reassembly_book.specs.Steps as arrival
+use Rattle.stream_lanes.specs.Lane.{Lane}
+use Rattle.stream_lanes.specs.Streams.{Reader, Direction, StreamEvent, takes_read, is_done, after}
+use Rattle.stream_lanes.specs.Streams.StreamEvent.{Write, Close, Read}
+use Rattle.actor_desk.specs.declared.ask.Note.{Note}
+use Rattle.actor_desk.specs.declared.ask.Reply.{Reply}
+use Rattle.actor_desk.specs.declared.ask.Reply.TheVariants as replies
+use Rattle.stream_apps.specs.declared.duty.AppDuty.{AppDuty}
+use Rattle.stream_apps.specs.declared.duty.AppDuty.TheVariants as duties
+use Rattle.stream_apps.specs.Apps.{AppState}
+use Rattle.stream_apps.specs.AppSteps.{app_stands, app_settled, app_settles_down, app_answered, app_answers, app_takes, app_next_round, taken_in, bytes_in, ends_in, start_of_app}
+use Rattle.stream_apps.specs.Turns.{FirstAppStands, IsAppSettled}
+use Rattle.actor_desk.specs.Words.{is_nil}
+use Rattle.world_laws.specs.Outcomes.{note_tells, was_told, tells_end, bytes_noted, read_by}
+
+-- ---- lists that grow
+
+any_more : {X : Type 0} (test : X → Bool) (xs : List X) (x : X) → list_any test (xs ++ x ∷ []) ≡ (list_any test xs || test x)
+any_more test [] x = by (test x)
+  where
+    by : (b : Bool) → (b || false) ≡ b
+    by true = refl
+    by false = refl
+any_more test (y ∷ xs) x = by (test y) (any_more test xs x)
+  where
+    by : (b : Bool) → list_any test (xs ++ x ∷ []) ≡ (list_any test xs || test x) → (b || list_any test (xs ++ x ∷ [])) ≡ ((b || list_any test xs) || test x)
+    by true rest = refl
+    by false rest = rest
+
+read_more : (notes : List Note) (n : Note) → read_by (notes ++ n ∷ []) ≡ read_by notes ++ bytes_noted n
+read_more [] n = append-nil (bytes_noted n)
+read_more (note ∷ notes) n = ap (λ xs. bytes_noted note ++ xs) (read_more notes n) ∙ sym (append_assoc (bytes_noted note) (read_by notes) (bytes_noted n))
+
+or_false : (b : Bool) → (b || false) ≡ b
+or_false true = refl
+or_false false = refl
+
+or_true : (b : Bool) → (b || true) ≡ true
+or_true true = refl
+or_true false = refl
+
+-- ---- an application
+
+-- an abort was told, by whichever side
+abbrev pub tells_stop : Reply → Bool
+tells_stop (replies.Reassembly (reassembly_replies.Aborted by_peer)) = true
+tells_stop _ = false
+
+-- what the steps of the application are, and the book that it writes into
+pub record Writes (file : List ℕ) (rest : List ℕ) (send : Sending) : Type 0 where
+  pub front : file ≡ send.written ++ rest
+  pub whole : send.closed ≡ true → rest ≡ []
+
+-- the reader is what the steps say
+pub record Reads (told : Bool) (notes : List Note) (r : Reader) : Type 0 where
+  pub out_is : r.out ≡ read_by notes
+  pub told_is : r.told ≡ was_told tells_end notes
+  pub stopped_is : r.stopped ≡ was_told tells_stop notes
+  pub done_is : told ≡ is_done r
+
+-- ---- the agenda
+
+same_stands : (d : AppDuty) (ds : List AppDuty) (a : AppState) → app_stands d a ≡ true → app_stands d (record a { agenda = d ∷ ds }) ≡ true
+same_stands duties.Write ds a is = is
+same_stands duties.Close ds a is = is
+same_stands duties.Read ds a is = is
+same_stands duties.End ds a is = is
+
+-- settling changes the agenda alone, and what then stands first comes to something
+pub record Settles (a b : AppState) : Type 0 where
+  pub agenda : List AppDuty
+  pub is : b ≡ record a { agenda = agenda }
+  pub settled : IsAppSettled b
+
+pub settled_app : (ds : List AppDuty) (a : AppState) → Settles a (app_settled ds a)
+settled_app [] a = record { agenda = []; is = refl; settled = tt }
+settled_app (d ∷ ds) a = by (app_stands d a) refl (settled_app ds a)
+  where
+    by : (b : Bool) → app_stands d a ≡ b → Settles a (app_settled ds a) → Settles a (if b then record a { agenda = d ∷ ds } else app_settled ds a)
+    by true is rest = record { agenda = d ∷ ds; is = refl; settled = same_stands d ds a is }
+    by false is rest = rest
+
+-- ---- writing
+
+-- what is taken is the front of what was offered, which is the front of what is left
+taken_front : (count buffer : ℕ) (rest : List ℕ) → count ≤ length (take buffer rest) → take count (take buffer rest) ++ drop count rest ≡ rest
+taken_front zero buffer rest most = refl
+taken_front (suc count) zero rest most = absurd (omega (arith, most))
+taken_front (suc count) (suc buffer) [] most = absurd (omega (arith, most))
+taken_front (suc count) (suc buffer) (x ∷ rest) most = ap (λ xs. x ∷ xs) (taken_front count buffer rest (omega (arith, most)))
+
+pub writes_more : (file rest : List ℕ) (buffer : ℕ) (b : Sending) → not (is_nil rest) ≡ true → Writes file rest b
+    → Writes file (drop (taken_in (replies.Send (send.write_reply (take buffer rest) b))) rest) (send.after_write (take buffer rest) b)
+writes_more file rest buffer b some h = by (b.closed || b.aborted) refl
+  where
+    nonempty : (xs : List ℕ) → not (is_nil xs) ≡ true → xs ≡ [] → ⊥
+    nonempty [] is e = false≢true is
+    nonempty (x ∷ xs) is e = cc
+
+    by : (shut : Bool) → (b.closed || b.aborted) ≡ shut
+        → Writes file (drop (taken_in (replies.Send (if shut then send_replies.Shut else send_replies.Taken (send.taken (take buffer rest) b)))) rest)
+        (if shut then b else record b {
+          written = b.written ++ take (send.taken (take buffer rest) b) (take buffer rest);
+          marks = b.marks ++ replicate (send.taken (take buffer rest) b) (Free no_paths);
+        })
+    by true is = h
+    by false is = record {
+      front = h.front ∙ ap (λ xs. b.written ++ xs) (sym (taken_front (send.taken (take buffer rest) b) buffer rest (omega arith)))
+          ∙ sym (append_assoc b.written (take (send.taken (take buffer rest) b) (take buffer rest)) (drop (send.taken (take buffer rest) b) rest));
+      whole = λ closed. absurd (both_ways b.closed (or_parts b.closed b.aborted is).0 closed);
+    }
+
+pub closes : (file : List ℕ) (b : Sending) → Writes file [] b → Writes file [] (send.after_close b)
+closes file b h = by b.aborted
+  where
+    by : (shut : Bool) → Writes file [] (if shut then b else record b { closed = true })
+    by true = h
+    by false = record { front = h.front; whole = λ closed. refl }
+
+-- ---- reading
+
+-- the note of a read adds to the reader what the reply says
+pub reads_more : (told : Bool) (notes : List Note) (r : Reader) (reply : ReassemblyReply) (n : Note) → n.reply ≡ replies.Reassembly reply → Reads told notes r
+    → Reads (told || ends_in (replies.Reassembly reply)) (notes ++ n ∷ []) (takes_read reply r)
+reads_more told notes r reply n is h = by reply is
+  where
+    other : (reply : ReassemblyReply) → n.reply ≡ replies.Reassembly reply → bytes_in (replies.Reassembly reply) ≡ [] → tells_end (replies.Reassembly reply) ≡ false → tells_stop (replies.Reassembly reply) ≡ false
+        → ends_in (replies.Reassembly reply) ≡ false → Reads (told || ends_in (replies.Reassembly reply)) (notes ++ n ∷ []) r
+    other reply is bytes end stop ends = record {
+      out_is = h.out_is ∙ sym (read_more notes n ∙ ap (λ x. read_by notes ++ bytes_in x) is ∙ ap (λ xs. read_by notes ++ xs) bytes ∙ append-nil (read_by notes));
+      told_is = h.told_is ∙ sym (any_more (note_tells tells_end) notes n ∙ ap (λ x. was_told tells_end notes || tells_end x) is ∙ ap (λ b. was_told tells_end notes || b) end ∙ or_false (was_told tells_end notes));
+      stopped_is = h.stopped_is ∙ sym (any_more (note_tells tells_stop) notes n ∙ ap (λ x. was_told tells_stop notes || tells_stop x) is ∙ ap (λ b. was_told tells_stop notes || b) stop ∙ or_false (was_told tells_stop notes));
+      done_is = ap (λ b. told || b) ends ∙ or_false told ∙ h.done_is;
+    }
+
+    by : (reply : ReassemblyReply) → n.reply ≡ replies.Reassembly reply → Reads (told || ends_in (replies.Reassembly reply)) (notes ++ n ∷ []) (takes_read reply r)
+    by (reassembly_replies.Bytes bytes) is = record {
+      out_is = ap (λ xs. xs ++ bytes) h.out_is ∙ sym (read_more notes n ∙ ap (λ x. read_by notes ++ bytes_in x) is);
+      told_is = h.told_is ∙ sym (any_more (note_tells tells_end) notes n ∙ ap (λ x. was_told tells_end notes || tells_end x) is ∙ or_false (was_told tells_end notes));
+      stopped_is = h.stopped_is ∙ sym (any_more (note_tells tells_stop) notes n ∙ ap (λ x. was_told tells_stop notes || tells_stop x) is ∙ or_false (was_told tells_stop notes));
+      done_is = or_false told ∙ h.done_is;
+    }
+    by reassembly_replies.End is = record {
+      out_is = h.out_is ∙ sym (read_more notes n ∙ ap (λ x. read_by notes ++ bytes_in x) is ∙ append-nil (read_by notes));
+      told_is = sym (any_more (note_tells tells_end) notes n ∙ ap (λ x. was_told tells_end notes || tells_end x) is ∙ or_true (was_told tells_end notes));
+      stopped_is = h.stopped_is ∙ sym (any_more (note_tells tells_stop) notes n ∙ ap (λ x. was_told tells_stop notes || tells_stop x) is ∙ or_false (was_told tells_stop notes));
+      done_is = or_true told;
+    }
+    by (reassembly_replies.Aborted by_peer) is = record {
+      out_is = h.out_is ∙ sym (read_more notes n ∙ ap (λ x. read_by notes ++ bytes_in x) is ∙ append-nil (read_by notes));
+      told_is = h.told_is ∙ sym (any_more (note_tells tells_end) notes n ∙ ap (λ x. was_told tells_end notes || tells_end x) is ∙ or_false (was_told tells_end notes));
+      stopped_is = sym (any_more (note_tells tells_stop) notes n ∙ ap (λ x. was_told tells_stop notes || tells_stop x) is ∙ or_true (was_told tells_stop notes));
+      done_is = or_true told ∙ sym (or_true r.told);
+    }
+    by (reassembly_replies.Placed count) is = other (reassembly_replies.Placed count) is refl refl refl refl
+    by (reassembly_replies.Beyond edge) is = other (reassembly_replies.Beyond edge) is refl refl refl refl
+    by (reassembly_replies.FinClash fin at) is = other (reassembly_replies.FinClash fin at) is refl refl refl refl
+    by reassembly_replies.FinSet is = other reassembly_replies.FinSet is refl refl refl refl
+    by reassembly_replies.NoneYet is = other reassembly_replies.NoneYet is refl refl refl refl
+    by (reassembly_replies.Ack next window) is = other (reassembly_replies.Ack next window) is refl refl refl refl
+    by reassembly_replies.Noted is = other reassembly_replies.Noted is refl refl refl refl
+
+-- a step at no reassembly book leaves the reader as it is
+pub reads_on : (told : Bool) (notes : List Note) (r : Reader) (n : Note) → bytes_in n.reply ≡ [] → tells_end n.reply ≡ false → tells_stop n.reply ≡ false
+    → Reads told notes r → Reads told (notes ++ n ∷ []) r
+reads_on told notes r n bytes end stop h = record {
+  out_is = h.out_is ∙ sym (read_more notes n ∙ ap (λ xs. read_by notes ++ xs) bytes ∙ append-nil (read_by notes));
+  told_is = h.told_is ∙ sym (any_more (note_tells tells_end) notes n ∙ ap (λ b. was_told tells_end notes || b) end ∙ or_false (was_told tells_end notes));
+  stopped_is = h.stopped_is ∙ sym (any_more (note_tells tells_stop) notes n ∙ ap (λ b. was_told tells_stop notes || b) stop ∙ or_false (was_told tells_stop notes));
+  done_is = h.done_is;
+}

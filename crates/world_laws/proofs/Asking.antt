@@ -1,0 +1,162 @@
+-- A path never writes to a send book and never closes one.
+use Rattle.std.proofs.Common.{◌≡◌, refl, sym, ◌∙◌, ap, Result, Ok, Err, ℕ, ◌==◌, Bool, true, false, if◌then◌else◌, option_map, Option, Some, None, List, [], ◌∷◌, ◌++◌}
+use Rattle.send_book.specs.declared.call.Span.{Span}
+use Rattle.send_book.specs.declared.call.Why.{Why}
+use Rattle.send_book.specs.declared.call.SendCall.{SendCall}
+use Rattle.send_book.specs.declared.call.SendCall.TheVariants as calls
+use Rattle.send_book.specs.State.{Sending}
+use Rattle.send_book.specs.Steps.{decision, given_by, is_future, is_gathered, after_call}
+use Rattle.subflow_send.specs.Records.{Record}
+use Rattle.loss_recovery.specs.declared.windows.Pending.{Pending}
+use Rattle.actor_desk.specs.declared.ask.Ask.{Ask}
+use Rattle.actor_desk.specs.declared.ask.Ask.TheVariants as asks
+use Rattle.outside_kit.specs.declared.side.Side.{Side}
+use Rattle.path_core.specs.declared.duty.Duty.{Duty}
+use Rattle.path_core.specs.declared.duty.Duty.TheVariants as duties
+use Rattle.path_core.specs.declared.event.Event.{Event}
+use Rattle.path_core.specs.declared.event.Event.TheVariants as happening
+use Rattle.path_core.specs.declared.heard.Heard.{Heard}
+use Rattle.path_core.specs.declared.heard.Heard.TheVariants as says
+use Rattle.reassembly_book.specs.declared.call.ReassemblyCall.TheVariants as reassembly_calls
+use Rattle.fallback_state.specs.declared.fall.Event.TheVariants as events
+use Rattle.path_core.specs.Breaking.{break_ask, reset_of}
+use Rattle.path_core.specs.Codec.{Codec}
+use Rattle.path_core.specs.Duties.{ask_for}
+use Rattle.path_core.specs.Emission.{first_unsent, data_ask}
+use Rattle.path_core.specs.Events.{next_event, step_for}
+use Rattle.path_core.specs.declared.keys.KeyPair.{KeyPair}
+use Rattle.path_core.specs.Opening.{key_heard, peer_key_ask, keys_heard, keys_ask}
+use Rattle.path_core.specs.Passing.{piece_of, piece_ask, fin_of, fin_ask, rate_ask}
+use Rattle.path_core.specs.Placing.{Piece}
+use Rattle.path_core.specs.Sends.{sends}
+use Rattle.path_core.specs.State.{PathState, end_at}
+use Rattle.path_core.specs.Treating.{is_clash, fell_ask, mapping_ask, heard_ask, item_ask, item_of}
+use Rattle.world_laws.proofs.Applying.{Writes}
+
+-- neither writes nor closes
+abbrev pub LeavesFile : SendCall → Type 0
+LeavesFile (calls.Write bytes) = ⊥
+LeavesFile calls.Close = ⊥
+LeavesFile _ = Unit {0}
+
+abbrev pub AskLeavesFile : Ask → Type 0
+AskLeavesFile (asks.Send s call) = LeavesFile call
+AskLeavesFile _ = Unit {0}
+
+module _ {C : Type 0} (k : Codec C) (p : PathState C) where
+  data_leaves : (s : Side) (o : Option Record) → AskLeavesFile (data_ask k s o p)
+  data_leaves s None = tt
+  data_leaves s (Some r) = tt
+
+  step_leaves : (o : Option Event) → AskLeavesFile (step_for o)
+  step_leaves None = tt
+  step_leaves (Some (happening.Takes line)) = tt
+  step_leaves (Some (happening.Arrives due)) = tt
+  step_leaves (Some (happening.Fires s tick)) = tt
+
+  key_leaves : (s : Side) (o : Option ℕ) → AskLeavesFile (peer_key_ask s o)
+  key_leaves s None = tt
+  key_leaves s (Some key) = tt
+
+  keys_leave : (s : Side) (o : Option KeyPair) → AskLeavesFile (keys_ask s o)
+  keys_leave s None = tt
+  keys_leave s (Some keys) = tt
+
+  break_leaves : (s : Side) (reason : ℕ) → AskLeavesFile (break_ask k s reason p)
+  break_leaves s reason = by (end_at s p).treated.asked
+    where
+      by : (b : Bool) → AskLeavesFile (if b then asks.Reassembly s reassembly_calls.AckOut else sends k s (reset_of s (Some reason) p) p)
+      by true = tt
+      by false = tt
+
+  mapping_leaves : (s : Side) → AskLeavesFile (mapping_ask k s p)
+  mapping_leaves s = by (is_clash (end_at s p))
+    where
+      by : (b : Bool) → AskLeavesFile (if b then break_ask k s 1 p else fell_ask s events.MappingHeard p)
+      by true = break_leaves s 1
+      by false = tt
+
+  item_leaves : (s : Side) (o : Option Heard) → AskLeavesFile (item_ask k s o p)
+  item_leaves s None = tt
+  item_leaves s (Some says.Dss) = tt
+  item_leaves s (Some (says.DataAck next window)) = tt
+  item_leaves s (Some says.Mapping) = mapping_leaves s
+  item_leaves s (Some (says.DataFin place)) = tt
+  item_leaves s (Some (says.PeerKey key)) = tt
+  item_leaves s (Some (says.Keys own peer)) = tt
+
+  piece_leaves : (s : Side) (o : Option Piece) → AskLeavesFile (piece_ask s o)
+  piece_leaves s None = tt
+  piece_leaves s (Some piece) = tt
+
+  fin_leaves : (s : Side) (o : Option ℕ) → AskLeavesFile (fin_ask s o)
+  fin_leaves s None = tt
+  fin_leaves s (Some place) = tt
+
+  rate_leaves : (s : Side) (o : Option Pending) → AskLeavesFile (rate_ask s o p)
+  rate_leaves s None = tt
+  rate_leaves s (Some pending) = tt
+
+  pub asks_leave : (d : Duty) → AskLeavesFile (ask_for k d p)
+  asks_leave (duties.Look s) = tt
+  asks_leave (duties.Window s) = tt
+  asks_leave (duties.Update s) = tt
+  asks_leave (duties.Syn s) = tt
+  asks_leave (duties.Data s) = data_leaves s (first_unsent (end_at s p))
+  asks_leave (duties.DataFin s) = tt
+  asks_leave (duties.Fin s) = tt
+  asks_leave (duties.Timer s) = tt
+  asks_leave duties.Events = step_leaves (next_event p)
+  asks_leave (duties.SynHeard s) = tt
+  asks_leave (duties.SynAnswered s) = tt
+  asks_leave (duties.PeerKey s) = key_leaves s (key_heard (end_at s p).treated.items)
+  asks_leave (duties.SynAck s) = tt
+  asks_leave (duties.Opened s) = keys_leave s (keys_heard (end_at s p).treated.items)
+  asks_leave (duties.Live s) = tt
+  asks_leave (duties.Heard s index) = item_leaves s (item_of index (end_at s p))
+  asks_leave (duties.AckHeard s) = tt
+  asks_leave (duties.Keep s) = tt
+  asks_leave (duties.Edge s) = piece_leaves s (piece_of s p)
+  asks_leave (duties.HeardFin s index) = fin_leaves s (fin_of index (end_at s p))
+  asks_leave (duties.PassFin s) = tt
+  asks_leave (duties.AckOut s) = tt
+  asks_leave (duties.Rate s) = rate_leaves s (end_at s p).tcp.congestion.pending
+  asks_leave (duties.Acknowledge s) = tt
+  asks_leave (duties.Again s) = tt
+  asks_leave (duties.Answer s) = tt
+  asks_leave (duties.ResetAnswer s) = tt
+  asks_leave (duties.Return s) = tt
+  asks_leave (duties.Resend s) = tt
+  asks_leave (duties.BreakAck s reason) = tt
+  asks_leave (duties.BreakReset s reason) = tt
+  asks_leave (duties.Reset s) = tt
+  asks_leave (duties.Leave s) = tt
+  asks_leave (duties.Dead s) = tt
+  asks_leave duties.End = tt
+
+-- such a call leaves what was written, and whether it is closed
+module _ (file rest : List ℕ) (b : Sending) (h : Writes file rest b) where
+  grant_keeps : (path : ℕ) (r : Result Span Why) → Writes file rest (given_by path r b)
+  grant_keeps path (Ok span) = record { front = h.front; whole = h.whole }
+  grant_keeps path (Err why) = h
+
+  ack_keeps : (c : Bool) (c_after : Sending) → c_after.written ≡ b.written → c_after.closed ≡ b.closed → Writes file rest (if c then b else c_after)
+  ack_keeps true c_after written closed = h
+  ack_keeps false c_after written closed = record {
+    front = h.front ∙ ap (λ xs. xs ++ rest) (sym written);
+    whole = λ is. h.whole (sym closed ∙ is);
+  }
+
+  pub call_keeps : (call : SendCall) → LeavesFile call → Writes file rest (after_call b call)
+  call_keeps (calls.Write bytes) leaves = absurd leaves
+  call_keeps calls.Close leaves = absurd leaves
+  call_keeps (calls.Grant path max standby) leaves = grant_keeps path (decision path max standby b)
+  call_keeps (calls.AckIn next window) leaves = ack_keeps (is_future next b) _ refl refl
+  call_keeps (calls.Return path) leaves = record { front = h.front; whole = h.whole }
+  call_keeps calls.GoIdentity leaves = record { front = h.front; whole = h.whole }
+  call_keeps (calls.GoInfinite path) leaves = infinite (is_gathered path b)
+    where
+      infinite : (c : Bool) → Writes file rest (if c then record b { owner = Some path } else b)
+      infinite true = record { front = h.front; whole = h.whole }
+      infinite false = h
+  call_keeps calls.Abort leaves = record { front = h.front; whole = h.whole }

@@ -1,0 +1,209 @@
+-- What an end does: the lanes go on by what its sender's half and its receiver's half do, and show the end as it is then.
+use Rattle.std.proofs.Common.{◌≡◌, refl, sym, ◌∙◌, ap, subst, ℕ, zero, suc, ◌+◌, ◌-◌, ◌*◌, ◌/◌, ◌%◌, ◌^◌, ◌<◌, ◌≤◌, min, max, ◌&&◌, ◌||◌, ◌==◌, not, nat_lt, nat_le, ◌⊎◌, inl, inr, ⊎_elim, Bool, true, false, if◌then◌else◌, Option, Some, None, List, [], ◌∷◌, ◌++◌, length, take, drop, map, arith}
+use Rattle.std.proofs.lemmas.Bool.{lt-ltb, false≢true}
+use Rattle.std.proofs.lemmas.List.{append-nil, append_assoc, length-take, take_all}
+use Rattle.std.proofs.lemmas.Option.{same_Some}
+use Rattle.std.specs.List.{slice_get}
+use Rattle.std.specs.Option.{IfSome}
+use Rattle.outside_kit.specs.declared.side.Side.{Side}
+use Rattle.send_book.specs.declared.call.Span.{Span}
+use Rattle.send_book.specs.declared.call.Why.{Why}
+use Rattle.send_book.specs.declared.call.SendReply.{SendReply}
+use Rattle.send_book.specs.declared.call.SendReply.TheVariants as send_replies
+use Rattle.reassembly_book.specs.declared.call.ReassemblyReply.{ReassemblyReply}
+use Rattle.reassembly_book.specs.declared.call.ReassemblyReply.TheVariants as reassembly_replies
+use Rattle.send_book.proofs.Lists.{slice_get-append_right}
+use Rattle.stream_lanes.specs.Lane.{Cell, Mapping, DataCopy, AckCopy, Lane}
+use Rattle.stream_lanes.specs.Lane.Ask.{Nothing, AskGrant, AskAckIn, AskPlace, AskFin, AskAckOut}
+use Rattle.stream_lanes.specs.Moves.{Move, bytes_of, cells_from, hears, hears_data_fin, sends_piece, is_whole, known, later_end, takes_grant, takes_ack, takes_placed, takes_fin, takes_ack_out, ack_copy}
+use Rattle.stream_lanes.specs.Moves.Move.{WantGrant, HearAck, SendPiece, SendDataFin, SendFin, HearDataFin, WantAckOut, SendAck}
+use Rattle.stream_lanes.specs.Words.{Every, Has}
+use Rattle.stream_lanes.proofs.Lists.{Has-more}
+use Rattle.path_segments.specs.Spelling.{numbers_of}
+use Rattle.path_core.specs.Segments.{spelled_by, bare_mapping, place_numbered}
+use Rattle.path_core.specs.State.{Profile}
+use Rattle.world_laws.proofs.Growing.{SenderGoes, ReceiverGoes, sender_stays, receiver_stays}
+use Rattle.world_laws.proofs.Roads.{move, moves, Strolls, one_move, then_strolls}
+use Rattle.world_laws.proofs.Showing.{HasAck, HasData, HasMapping, HasNumber, IsAckOf, IsDataOf, IsMappedTo, IsMappingOf, WindowShows}
+
+-- the last one of a list
+last_there : {X : Type 0} (xs : List X) (x : X) → slice_get (xs ++ x ∷ []) (length xs) ≡ Some x
+last_there [] x = refl
+last_there (y ∷ xs) x = last_there xs x
+
+pub has_last : {X : Type 0} {P : X → Type 0} (xs : List X) (x : X) → P x → Has P (xs ++ x ∷ [])
+has_last xs x h = record { at = length xs; item = x; there = last_there xs x; holds = h }
+
+-- ---- bytes of a grant
+
+bytes_from : (place : ℕ) (bytes : List ℕ) → bytes_of (cells_from place bytes) ≡ bytes
+bytes_from place [] = refl
+bytes_from place (byte ∷ bytes) = ap (λ xs. byte ∷ xs) (bytes_from (suc place) bytes)
+
+bytes_more : (sent : List Cell) (place : ℕ) (bytes : List ℕ) → drop (length sent) (bytes_of (sent ++ cells_from place bytes)) ≡ bytes
+bytes_more [] place bytes = bytes_from place bytes
+bytes_more (c ∷ sent) place bytes = bytes_more sent place bytes
+
+take_whole : (xs : List ℕ) → take (length xs) xs ≡ xs
+take_whole [] = refl
+take_whole (x ∷ xs) = ap (λ ys. x ∷ ys) (take_whole xs)
+
+pub length-granted : (sent : List Cell) (place : ℕ) (bytes : List ℕ) → length (sent ++ cells_from place bytes) ≡ length sent + length bytes
+length-granted [] place bytes = by place bytes
+  where
+    by : (place : ℕ) (bytes : List ℕ) → length (cells_from place bytes) ≡ 0 + length bytes
+    by place [] = refl
+    by place (byte ∷ bytes) = let rest = by (suc place) bytes in omega (arith, rest)
+length-granted (c ∷ sent) place bytes = let rest = length-granted sent place bytes in omega (arith, rest)
+
+-- ---- the reply to AckOut, and the acknowledgements that may be sent by it
+
+-- what a segment tells is the place and a window that is rounded down
+abbrev pub ack_moves : ℕ → ℕ → List Move
+ack_moves next window = SendAck next (32 * (window / 32)) 0 ∷ SendAck 0 (32 * (window / 32)) 0 ∷ SendAck 0 (min 65535 window) 0 ∷ []
+
+least : (a b : ℕ) → a ≤ b → min a b ≡ a
+least a b most = omega (arith, most)
+
+-- the windows of the reply show on the lane after these moves
+module _ (next window : ℕ) (p : Lane) where
+  abbrev pub told_lane : Lane
+  told_lane = takes_ack_out (reassembly_replies.Ack next window) p
+
+  abbrev pub told_acks : List AckCopy
+  told_acks = ack_copy next (32 * (window / 32)) 0 told_lane ∷ ack_copy 0 (32 * (window / 32)) 0 told_lane ∷ ack_copy 0 (min 65535 window) 0 told_lane ∷ []
+
+  pub told_goes : ReceiverGoes p (moves (ack_moves next window) told_lane)
+  told_goes = record {
+    edge = p.edge;
+    kept = p.kept;
+    maps = p.maps;
+    due = false;
+    latest = record { next = next; window = window };
+    asking = Nothing;
+    acks = told_acks;
+    is = rw (append_assoc p.acks, append_assoc p.acks) refl;
+  }
+
+  pub told_windows : WindowShows next window (moves (ack_moves next window) told_lane).acks
+  told_windows =
+      let down : 32 * (window / 32) ≤ window = omega arith in
+      record {
+        ack = Has-more _ (Has-more _ (has_last p.acks _ (record { next_is = least next next (omega arith); window_is = least _ window down })));
+        alone = Has-more _ (has_last (p.acks ++ _ ∷ []) _ (record { next_is = least 0 next (omega arith); window_is = least _ window down }));
+        syn = has_last ((p.acks ++ _ ∷ []) ++ _ ∷ []) _ (record { next_is = least 0 next (omega arith); window_is = least _ window (omega arith) });
+      }
+
+-- ---- moves before a call
+
+module _ (p : Lane) where
+  pub wants_grant : (most : ℕ) (standby : Bool) → p.opened ≡ true → 1 ≤ most → Strolls p (record p { asking = AskGrant most standby })
+  wants_grant most standby opened some = one_move (WantGrant most standby) p _ (sym (ap (λ (b : Bool). if b && nat_lt 0 most then record p { asking = AskGrant most standby } else p) opened
+      ∙ ap (λ (b : Bool). if b then record p { asking = AskGrant most standby } else p) (lt-ltb 0 most some)))
+
+  pub hears_ack : (next window : ℕ) → p.sender_plain ≡ false → HasAck p.acks next window → Strolls p (record p { asking = AskAckIn next window })
+  hears_ack next window plain h = one_move (HearAck h.at) p _ (sym (ap (λ o. hears o p) h.there
+      ∙ ap (λ (b : Bool). record p { asking = AskAckIn (if b then h.item.sub else h.item.next) h.item.window }) plain
+      ∙ ap (λ n. record p { asking = AskAckIn n h.item.window }) h.holds.next_is ∙ ap (λ w. record p { asking = AskAckIn next w }) h.holds.window_is))
+
+  pub wants_fin : (place : ℕ) → HasNumber p.data_fins place → Strolls p (record p { asking = AskFin place })
+  wants_fin place h = one_move (HearDataFin h.at) p _ (sym (ap (λ o. hears_data_fin o p) h.there ∙ ap (λ n. record p { asking = AskFin n }) h.holds))
+
+  pub wants_ack_out : Strolls p (record p { asking = AskAckOut })
+  wants_ack_out = one_move WantAckOut p _ refl
+
+-- ---- a grant
+
+-- the number that stands for a place means that place
+place_back : (idsn place : ℕ) → place < 2 ^ 64 → ((idsn + (place + 1)) % 2 ^ 64 + (2 ^ 64 - (idsn + (0 + 1)) % 2 ^ 64)) % 2 ^ 64 ≡ place
+place_back idsn place small = omega (arith, small)
+
+pub place_is : (c : Profile) (s : Side) (place position len : ℕ) → place < 2 ^ 64 → place_numbered c s (bare_mapping c s place position len).number ≡ place
+place_is c s place position len small = place_back (numbers_of c.spelling (spelled_by s)).idsn.0 place small
+
+-- the piece is granted, and its segment may be sent from now on
+module _ (span : Span) (piece : List ℕ) (p : Lane) where
+  abbrev pub granted_lane : Lane
+  granted_lane = takes_grant (send_replies.Granted span piece) p
+
+  abbrev pub mapping_granted : Mapping
+  mapping_granted = record { pos = length p.sent; place = span.from; len = length piece }
+
+  abbrev pub copy_granted : DataCopy
+  copy_granted = record { pos = length p.sent; bytes = piece; mapping = Some mapping_granted }
+
+  abbrev pub with_piece : Lane
+  with_piece = record granted_lane { datas = p.datas ++ copy_granted ∷ [] }
+
+  pub sends_the_piece : Strolls granted_lane with_piece
+  sends_the_piece = one_move (SendPiece (length p.pieces) true) granted_lane with_piece (sym (
+      ap (λ o. sends_piece true o granted_lane) (last_there p.pieces mapping_granted)
+      ∙ ap (λ bytes. record granted_lane { datas = p.datas ++ record { pos = length p.sent; bytes = bytes; mapping = Some mapping_granted } ∷ [] })
+      (ap (take (length piece)) (bytes_more p.sent span.from piece) ∙ take_whole piece)))
+
+  pub piece_goes : SenderGoes p with_piece
+  piece_goes = record {
+    sent = p.sent ++ cells_from span.from piece;
+    pieces = p.pieces ++ mapping_granted ∷ [];
+    known_end = p.known_end;
+    heard = p.heard;
+    fin_acked = p.fin_acked;
+    asking = Nothing;
+    datas = copy_granted ∷ [];
+    data_fins = [];
+    fins = [];
+    is = rw (append-nil p.data_fins, append-nil p.fins) refl;
+  }
+
+-- ---- a refused grant
+
+-- the end that it told is sent from now on
+module _ (why : Why) (told : Option ℕ) (p : Lane) where
+  abbrev pub refused_lane : Lane
+  refused_lane = takes_grant (send_replies.NoGrant why told) p
+
+  abbrev pub with_end : Lane
+  with_end = record refused_lane { data_fins = p.data_fins ++ known (later_end told p.known_end) }
+
+  pub sends_the_end : Strolls refused_lane with_end
+  sends_the_end = one_move SendDataFin refused_lane with_end refl
+
+  pub end_goes : SenderGoes p with_end
+  end_goes = record {
+    sent = p.sent;
+    pieces = p.pieces;
+    known_end = later_end told p.known_end;
+    heard = p.heard;
+    fin_acked = p.fin_acked;
+    asking = Nothing;
+    datas = [];
+    data_fins = known (later_end told p.known_end);
+    fins = [];
+    is = rw (append-nil p.datas, append-nil p.fins) refl;
+  }
+
+-- ---- the FIN
+
+module _ (p : Lane) where
+  abbrev pub with_fin_sent : Lane
+  with_fin_sent = record p { fins = p.fins ++ length p.sent ∷ [] }
+
+  pub sends_the_fin : p.opened ≡ true → p.sender_plain ≡ false → p.fin_acked ≡ true → Strolls p with_fin_sent
+  sends_the_fin opened plain acked = one_move SendFin p with_fin_sent (sym (
+      ap (λ (b : Bool). if b && (if p.sender_plain then is_whole p.known_end p else p.fin_acked) then with_fin_sent else p) opened
+      ∙ ap (λ (b : Bool). if (if b then is_whole p.known_end p else p.fin_acked) then with_fin_sent else p) plain
+      ∙ ap (λ (b : Bool). if b then with_fin_sent else p) acked))
+
+  pub fin_goes : SenderGoes p with_fin_sent
+  fin_goes = record {
+    sent = p.sent;
+    pieces = p.pieces;
+    known_end = p.known_end;
+    heard = p.heard;
+    fin_acked = p.fin_acked;
+    asking = p.asking;
+    datas = [];
+    data_fins = [];
+    fins = length p.sent ∷ [];
+    is = rw (append-nil p.datas, append-nil p.data_fins) refl;
+  }

@@ -1,0 +1,284 @@
+-- A turn of a path is over only where nothing is due before the round's end.
+use Rattle.std.proofs.Common.{◌≡◌, refl, sym, ap, subst, ℕ, zero, suc, ◌+◌, ◌⊎◌, inl, inr, Bool, true, false, if◌then◌else◌, is_some, Option, Some, None, List, [], ◌∷◌, ◌++◌, length}
+use Rattle.std.proofs.lemmas.Bool.{false≢true, true≢false}
+use Rattle.outside_kit.specs.declared.side.Side.{Side}
+use Rattle.outside_kit.specs.declared.side.Side.TheVariants.{A, B}
+use Rattle.subflow_tcp.specs.declared.verdicts.Meaning.{Meaning}
+use Rattle.subflow_tcp.specs.declared.verdicts.Meaning.TheVariants as means
+use Rattle.subflow_tcp.specs.Expiring.{is_sixth}
+use Rattle.subflow_tcp.specs.Judging.{meaning_of}
+use Rattle.subflow_tcp.specs.States.{is_dead}
+use Rattle.subflow_send.specs.Records.{Record}
+use Rattle.link_model.specs.Steps.{arriving, after_delivery}
+use Rattle.actor_desk.specs.Words.{tail_of}
+use Rattle.actor_desk.specs.declared.ask.Reply.{Reply}
+use Rattle.path_core.specs.declared.duty.Duty.{Duty}
+use Rattle.path_core.specs.declared.duty.Duty.TheVariants as duties
+use Rattle.path_core.specs.declared.event.Event.{Event}
+use Rattle.path_core.specs.declared.event.Event.TheVariants as happening
+use Rattle.path_core.specs.declared.heard.Heard.{Heard}
+use Rattle.path_core.specs.declared.heard.Heard.TheVariants as says
+use Rattle.path_core.specs.Agenda.{start_of_turn, heard_and, payload_came, emission, rest_of_turn, breaks, resets, leaves}
+use Rattle.path_core.specs.Arriving.{items_of, copy_of, template_by}
+use Rattle.path_core.specs.Breaking.{answered_break, reset_on}
+use Rattle.path_core.specs.Codec.{Codec, HeardSegment}
+use Rattle.path_core.specs.Duties.{stands, passed, answered}
+use Rattle.path_core.specs.Emission.{first_unsent, Grant, grant_in, answered_grant, answered_data}
+use Rattle.path_core.specs.Events.{next_event, heard_in, at_tick, is_death, leaves_unless_dead, after_line, path_died, copy_heard, template_fired, timer_fired, happens, happens_if}
+use Rattle.path_core.specs.Passing.{piece_of, is_placed, answered_piece, is_fin_set, answered_fin_heard}
+use Rattle.path_core.specs.Placing.{Piece, with_learned}
+use Rattle.path_core.specs.Standing.{answered_ack_out}
+use Rattle.path_core.specs.State.{PathState, end_at, with_agenda, goes_on, left}
+use Rattle.path_core.specs.Words.{replaced}
+use Rattle.path_core.specs.Steps.{settled, answers, takes, next_round}
+use Rattle.path_core.specs.Treating.{is_clash, after_verdict, is_acked, told_next, answered_mapping, answered_heard, answered_item, item_of}
+
+-- the events of the turn, and its end, are ahead
+abbrev pub Ahead : List Duty → Type 0
+Ahead [] = ⊥
+Ahead (duties.Events ∷ ds) = ds ≡ duties.End ∷ []
+Ahead (duties.End ∷ ds) = ⊥
+Ahead (d ∷ ds) = Ahead ds
+
+nothing_next : (o : Option Event) → is_some o ≡ false → o ≡ None
+nothing_next None is = refl
+nothing_next (Some event) is = absurd (true≢false is)
+
+heard_ahead : (s : Side) (from count : ℕ) (ds : List Duty) → Ahead ds → Ahead (heard_and s from count ds)
+heard_ahead s from zero ds h = h
+heard_ahead s from (suc count) ds h = heard_ahead s (from + 1) count ds h
+
+template_ahead : (s : Side) (count : ℕ) (m : Meaning) → Ahead (template_by s count m)
+template_ahead s count means.Ignored = refl
+template_ahead s count means.Unwanted = refl
+template_ahead s count means.Opens = refl
+template_ahead s count (means.Accepts acknowledged) = refl
+template_ahead s count means.RepeatedSyn = refl
+template_ahead s count means.Outside = refl
+template_ahead s count means.Kills = refl
+template_ahead s count means.Challenged = refl
+template_ahead s count means.Unacknowledging = refl
+template_ahead s count means.Ahead = refl
+template_ahead s count (means.Taken position acknowledged) = heard_ahead s 0 count (payload_came s) refl
+
+died_ahead : (dead_a dead_b : Bool) → Ahead ((if dead_a then [] else duties.Leave A ∷ []) ++ ((if dead_b then [] else duties.Leave B ∷ []) ++ rest_of_turn))
+died_ahead true true = refl
+died_ahead true false = refl
+died_ahead false true = refl
+died_ahead false false = refl
+
+fired_ahead : (sixth : Bool) (s : Side) → Ahead (template_fired sixth s)
+fired_ahead true s = refl
+fired_ahead false s = refl
+
+with_ahead : {X : Type 0} (ds : List Duty) → Ahead ds ⊎ ⊥ → (Ahead ds → X) → X
+with_ahead ds (inl ahead) f = f ahead
+with_ahead ds (inr never) f = absurd never
+
+module _ {C : Type 0} where
+  -- only its end is, and nothing is due
+  abbrev pub IsLast : List Duty → PathState C → Type 0
+  IsLast [] p = next_event p ≡ None
+  IsLast (duties.End ∷ ds) p = (ds ≡ []) × (next_event p ≡ None)
+  IsLast (d ∷ ds) p = ⊥
+
+  abbrev pub Shaped : List Duty → PathState C → Type 0
+  Shaped ds p = Ahead ds ⊎ IsLast ds p
+
+  -- ---- passing
+
+  onward : (ds : List Duty) (q : PathState C) → Ahead ds ⊎ ⊥ → Shaped ds q
+  onward ds q (inl ahead) = inl ahead
+  onward ds q (inr never) = absurd never
+
+  past_events : (ds : List Duty) (p : PathState C) → next_event p ≡ None → ds ≡ duties.End ∷ [] → Shaped ds p
+  past_events ds p none is = subst (λ xs. Shaped xs p) (sym is) (inr (refl, none))
+
+  next_shaped : (d : Duty) (ds : List Duty) (p : PathState C) → Shaped (d ∷ ds) p → stands d p ≡ false → Shaped ds (passed d p)
+  next_shaped duties.Events ds p (inl is) no_more = past_events ds p (nothing_next (next_event p) no_more) is
+  next_shaped duties.Events ds p (inr never) no_more = absurd never
+  next_shaped duties.End ds p h no_more = absurd (true≢false no_more)
+  next_shaped (duties.Look s) ds p h no_more = onward ds _ h
+  next_shaped (duties.Window s) ds p h no_more = onward ds _ h
+  next_shaped (duties.Update s) ds p h no_more = onward ds _ h
+  next_shaped (duties.Syn s) ds p h no_more = onward ds _ h
+  next_shaped (duties.Data s) ds p h no_more = onward ds _ h
+  next_shaped (duties.DataFin s) ds p h no_more = onward ds _ h
+  next_shaped (duties.Fin s) ds p h no_more = onward ds _ h
+  next_shaped (duties.Timer s) ds p h no_more = onward ds _ h
+  next_shaped (duties.SynHeard s) ds p h no_more = onward ds _ h
+  next_shaped (duties.SynAnswered s) ds p h no_more = onward ds _ h
+  next_shaped (duties.PeerKey s) ds p h no_more = onward ds _ h
+  next_shaped (duties.SynAck s) ds p h no_more = onward ds _ h
+  next_shaped (duties.Opened s) ds p h no_more = onward ds _ h
+  next_shaped (duties.Live s) ds p h no_more = onward ds _ h
+  next_shaped (duties.Heard s index) ds p h no_more = onward ds _ h
+  next_shaped (duties.AckHeard s) ds p h no_more = onward ds _ h
+  next_shaped (duties.Keep s) ds p h no_more = onward ds _ h
+  next_shaped (duties.Edge s) ds p h no_more = onward ds _ h
+  next_shaped (duties.HeardFin s index) ds p h no_more = onward ds _ h
+  next_shaped (duties.PassFin s) ds p h no_more = onward ds _ h
+  next_shaped (duties.AckOut s) ds p h no_more = onward ds _ h
+  next_shaped (duties.Rate s) ds p h no_more = onward ds _ h
+  next_shaped (duties.Acknowledge s) ds p h no_more = onward ds _ h
+  next_shaped (duties.Again s) ds p h no_more = onward ds _ h
+  next_shaped (duties.Answer s) ds p h no_more = onward ds _ h
+  next_shaped (duties.ResetAnswer s) ds p h no_more = onward ds _ h
+  next_shaped (duties.Return s) ds p h no_more = onward ds _ h
+  next_shaped (duties.Resend s) ds p h no_more = onward ds _ h
+  next_shaped (duties.BreakAck s reason) ds p h no_more = onward ds _ h
+  next_shaped (duties.BreakReset s reason) ds p h no_more = onward ds _ h
+  next_shaped (duties.Reset s) ds p h no_more = onward ds _ h
+  next_shaped (duties.Leave s) ds p h no_more = onward ds _ h
+  next_shaped (duties.Dead s) ds p h no_more = onward ds _ h
+
+  same_last : (ds : List Duty) (p : PathState C) → IsLast ds p → IsLast ds (with_agenda ds p)
+  same_last [] p h = h
+  same_last (duties.End ∷ ds) p h = h
+  same_last (duties.Look s ∷ ds) p h = absurd h
+  same_last (d ∷ ds) p h = last_or d h
+    where
+      last_or : (d : Duty) → IsLast (d ∷ ds) p → IsLast (d ∷ ds) (with_agenda (d ∷ ds) p)
+      last_or duties.End h = h
+      last_or _ h = absurd h
+
+  settled_shaped : (ds : List Duty) (p : PathState C) → Shaped ds p → Shaped (settled ds p).agenda (settled ds p)
+  settled_shaped [] p h = onto h
+    where
+      onto : Shaped [] p → Shaped [] (with_agenda [] p)
+      onto (inl never) = absurd never
+      onto (inr none) = inr none
+  settled_shaped (d ∷ ds) p h = by (stands d p) refl (λ no_more. settled_shaped ds (passed d p) (next_shaped d ds p h no_more))
+    where
+      by : (b : Bool) → stands d p ≡ b → (stands d p ≡ false → Shaped (settled ds (passed d p)).agenda (settled ds (passed d p)))
+          → Shaped (if b then with_agenda (d ∷ ds) p else settled ds (passed d p)).agenda (if b then with_agenda (d ∷ ds) p else settled ds (passed d p))
+      by true is rest = onto h
+        where
+          onto : Shaped (d ∷ ds) p → Shaped (d ∷ ds) (with_agenda (d ∷ ds) p)
+          onto (inl ahead) = inl ahead
+          onto (inr last) = inr (same_last (d ∷ ds) p last)
+      by false is rest = rest is
+
+  -- ---- replies
+
+  copy_ahead : (s : Side) (o : Option HeardSegment) (p : PathState C) → Ahead (copy_heard s o p).agenda
+  copy_ahead s None p = refl
+  copy_ahead s (Some h) p = template_ahead s (length (items_of s h)) (meaning_of (copy_of h) (end_at s p).tcp)
+
+  line_ahead : (death : Bool) (p : PathState C) → Ahead (after_line death p).agenda
+  line_ahead true p = died_ahead (is_dead p.a.tcp.state) (is_dead p.b.tcp.state)
+  line_ahead false p = refl
+
+  event_ahead : (k : Codec C) (o : Option Event) (p : PathState C) → Ahead (happens_if k o p).agenda
+  event_ahead k None p = refl
+  event_ahead k (Some (happening.Takes line)) p = line_ahead (is_death line.line) (record (at_tick line.tick p) { lines = tail_of p.lines })
+  event_ahead k (Some (happening.Arrives due)) p = copy_ahead due.to (heard_in k due.to (arriving due p.link) p) (record (at_tick due.tick p) { link = after_delivery due p.link })
+  event_ahead k (Some (happening.Fires s tick)) p = fired_ahead (is_sixth (end_at s (at_tick tick p)).tcp) s
+
+  break_ahead : (k : Codec C) (s : Side) (reason : ℕ) (r : Reply) (p : PathState C) → Ahead (answered_break k s reason r p).agenda
+  break_ahead k s reason r p = by (end_at s p).treated.asked
+    where
+      by : (b : Bool) → Ahead (if b then answered_ack_out s r (resets s reason) p else reset_on k s (Some reason) (leaves s) p).agenda
+      by true = refl
+      by false = refl
+
+  module _ (k : Codec C) (s : Side) (r : Reply) (p : PathState C) (same : Ahead p.agenda) (left_ahead : Ahead (left p)) where
+    data_ahead : (o : Option Record) → Ahead (answered_data k s o r p).agenda
+    data_ahead (Some record_unsent) = same
+    data_ahead None = by (grant_in r)
+      where
+        by : (o : Option Grant) → Ahead (answered_grant s o r p).agenda
+        by (Some grant) = same
+        by None = left_ahead
+
+    piece_ahead : (o : Option Piece) (taken : Bool) → Ahead (answered_piece s o taken p).agenda
+    piece_ahead (Some piece) true = same
+    piece_ahead (Some piece) false = refl
+    piece_ahead None taken = refl
+
+    fin_ahead : (set : Bool) → Ahead (answered_fin_heard s set p).agenda
+    fin_ahead true = left_ahead
+    fin_ahead false = refl
+
+    module _ (index : ℕ) (acked_ahead : Ahead (replaced (duties.AckHeard s) p.agenda)) where
+      told_ahead : (b : Bool) → Ahead (told_next s b p)
+      told_ahead true = acked_ahead
+      told_ahead false = left_ahead
+
+      mapping_ahead : Ahead (answered_mapping k s r p).agenda
+      mapping_ahead = by (is_clash (end_at s p))
+        where
+          by : (b : Bool) → Ahead (if b then answered_break k s 1 r p else goes_on s (with_learned (after_verdict r (end_at s p))) (left p) p).agenda
+          by true = break_ahead k s 1 r p
+          by false = left_ahead
+
+      item_ahead : (o : Option Heard) → Ahead (answered_item k s o r p).agenda
+      item_ahead None = left_ahead
+      item_ahead (Some (says.DataAck next window)) = told_ahead _
+      item_ahead (Some says.Mapping) = mapping_ahead
+      item_ahead (Some (says.DataFin place)) = left_ahead
+      item_ahead (Some (says.Keys own peer)) = left_ahead
+      item_ahead (Some (says.PeerKey key)) = left_ahead
+      item_ahead (Some says.Dss) = left_ahead
+
+  from_left : (ds : List Duty) (q : PathState C) → Ahead ds ⊎ ⊥ → Shaped ds q
+  from_left ds q h = onward ds q h
+
+  answered_shaped : (k : Codec C) (d : Duty) (ds : List Duty) (r : Reply) (p : PathState C) → Shaped (d ∷ ds) (with_agenda (d ∷ ds) p)
+      → Shaped (answered k d r (with_agenda (d ∷ ds) p)).agenda (answered k d r (with_agenda (d ∷ ds) p))
+  answered_shaped k duties.Events ds r p h = inl (event_ahead k (next_event p) (with_agenda (duties.Events ∷ ds) p))
+  answered_shaped k duties.End ds r p (inl never) = absurd never
+  answered_shaped k duties.End ds r p (inr last) = inr last.1
+  answered_shaped k (duties.Look s) ds r p h = from_left ds _ h
+  answered_shaped k (duties.Window s) ds r p h = from_left ds _ h
+  answered_shaped k (duties.Update s) ds r p h = from_left ds _ h
+  answered_shaped k (duties.Syn s) ds r p h = from_left ds _ h
+  answered_shaped k (duties.Data s) ds r p h = with_ahead ds h (λ a. inl (data_ahead k s r (with_agenda (duties.Data s ∷ ds) p) a a (first_unsent (end_at s p))))
+  answered_shaped k (duties.DataFin s) ds r p h = from_left ds _ h
+  answered_shaped k (duties.Fin s) ds r p h = from_left ds _ h
+  answered_shaped k (duties.Timer s) ds r p h = from_left ds _ h
+  answered_shaped k (duties.SynHeard s) ds r p h = from_left ds _ h
+  answered_shaped k (duties.SynAnswered s) ds r p h = from_left ds _ h
+  answered_shaped k (duties.PeerKey s) ds r p h = from_left ds _ h
+  answered_shaped k (duties.SynAck s) ds r p h = from_left ds _ h
+  answered_shaped k (duties.Opened s) ds r p h = from_left ds _ h
+  answered_shaped k (duties.Live s) ds r p h = from_left ds _ h
+  answered_shaped k (duties.Heard s index) ds r p h = with_ahead ds h (λ a. inl (item_ahead k s r (with_agenda (duties.Heard s index ∷ ds) p) a a index a (item_of index (end_at s p))))
+  answered_shaped k (duties.AckHeard s) ds r p h = from_left ds _ h
+  answered_shaped k (duties.Keep s) ds r p h = from_left ds _ h
+  answered_shaped k (duties.Edge s) ds r p h = with_ahead ds h (λ a. inl (piece_ahead k s r (with_agenda (duties.Edge s ∷ ds) p) a a (piece_of s p) (is_placed r)))
+  answered_shaped k (duties.HeardFin s index) ds r p h = with_ahead ds h (λ a. inl (fin_ahead k s r (with_agenda (duties.HeardFin s index ∷ ds) p) a a (is_fin_set r)))
+  answered_shaped k (duties.PassFin s) ds r p h = from_left ds _ h
+  answered_shaped k (duties.AckOut s) ds r p h = from_left ds _ h
+  answered_shaped k (duties.Rate s) ds r p h = from_left ds _ h
+  answered_shaped k (duties.Acknowledge s) ds r p h = from_left ds _ h
+  answered_shaped k (duties.Again s) ds r p h = from_left ds _ h
+  answered_shaped k (duties.Answer s) ds r p h = from_left ds _ h
+  answered_shaped k (duties.ResetAnswer s) ds r p h = from_left ds _ h
+  answered_shaped k (duties.Return s) ds r p h = from_left ds _ h
+  answered_shaped k (duties.Resend s) ds r p h = from_left ds _ h
+  answered_shaped k (duties.BreakAck s reason) ds r p h = inl refl
+  answered_shaped k (duties.BreakReset s reason) ds r p h = inl refl
+  answered_shaped k (duties.Reset s) ds r p h = inl refl
+  answered_shaped k (duties.Leave s) ds r p h = with_ahead ds h (λ a. inl a)
+  answered_shaped k (duties.Dead s) ds r p h = from_left ds _ h
+
+  pub takes_shaped : (k : Codec C) (r : Reply) (p : PathState C) → Shaped p.agenda p → Shaped (takes k r p).agenda (takes k r p)
+  takes_shaped k r p h = by p.agenda h
+    where
+      by : (ds : List Duty) → Shaped ds (with_agenda ds p) → Shaped (takes k r (with_agenda ds p)).agenda (takes k r (with_agenda ds p))
+      by [] h = settled_shaped [] (with_agenda [] p) h
+      by (d ∷ ds) h =
+          let q : PathState C = answered k d r (with_agenda (d ∷ ds) p) in
+          settled_shaped q.agenda q (answered_shaped k d ds r p h)
+
+  pub begun_shaped : (p : PathState C) → Shaped (settled start_of_turn (with_agenda start_of_turn p)).agenda (settled start_of_turn (with_agenda start_of_turn p))
+  begun_shaped p = settled_shaped start_of_turn (with_agenda start_of_turn p) (inl refl)
+
+  -- where the turn is over nothing is due
+  pub nothing_due : (p : PathState C) → Shaped p.agenda p → p.agenda ≡ [] → next_event p ≡ None
+  nothing_due p h over = by (subst (λ ds. Shaped ds p) over h)
+    where
+      by : Shaped [] p → next_event p ≡ None
+      by (inl never) = absurd never
+      by (inr none) = none

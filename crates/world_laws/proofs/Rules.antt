@@ -1,0 +1,186 @@
+-- Rules of an end that leave the lanes alone.
+use Rattle.std.proofs.Common.{◌≡◌, refl, sym, ◌∙◌, ap, subst, ℕ, zero, suc, ◌+◌, ◌-◌, ◌<◌, ◌≤◌, ◌&&◌, ◌||◌, ◌==◌, not, nat_lt, nat_le, ◌⊎◌, inl, inr, ⊎_elim, Bool, true, false, if◌then◌else◌, is_none, unwrap_or, Option, Some, None, List, [], ◌∷◌, ◌++◌, length, take, drop, arith}
+use Rattle.std.proofs.lemmas.Bool.{and_parts, both_ways, false≢true, eqb-true, ltb-true}
+use Rattle.std.proofs.lemmas.Option.{same_Some}
+use Rattle.std.specs.List.{slice_get}
+use Rattle.std.specs.Option.{IfSome}
+use Rattle.outside_kit.specs.declared.side.Side.{Side}
+use Rattle.dss_mapping.specs.declared.kept.KeptMapping.{KeptMapping}
+use Rattle.dss_mapping.specs.Mappings.{mapping_at}
+use Rattle.loss_recovery.specs.declared.windows.Congestion.{Congestion}
+use Rattle.loss_recovery.specs.declared.windows.Pending.{Pending}
+use Rattle.loss_recovery.specs.declared.windows.Told.{Told}
+use Rattle.loss_recovery.specs.Windows as windows
+use Rattle.subflow_recv.specs.Receiving.{Receiving, after_forget_from, without_held, after_keep_held}
+use Rattle.subflow_send.specs.declared.record.AckKind.{AckKind}
+use Rattle.subflow_send.specs.declared.record.AckKind.TheVariants as acks
+use Rattle.subflow_send.specs.Rules.{after_acknowledge, ack_kind, sample_of}
+use Rattle.subflow_tcp.specs.declared.handshake.State.{State as EndPhase}
+use Rattle.subflow_tcp.specs.declared.handshake.State.TheVariants as phase
+use Rattle.subflow_tcp.specs.declared.segments.Hint.{Hint}
+use Rattle.subflow_tcp.specs.Expiring as expiring
+use Rattle.subflow_tcp.specs.Segments.{Copy, occupied}
+use Rattle.subflow_tcp.specs.State.{EndState, is_behind, has_records}
+use Rattle.subflow_tcp.specs.States as states
+use Rattle.subflow_tcp.specs.Taking as taking
+use Rattle.stream_lanes.specs.Lane.{Lane}
+use Rattle.stream_lanes.specs.Words.{Every}
+use Rattle.stream_lanes.proofs.Lists.{Every-nil}
+use Rattle.actor_desk.specs.declared.ask.Reply.{Reply}
+use Rattle.path_core.specs.Emission.{after_timer}
+use Rattle.path_core.specs.Ends.{PathEnd, Treated, nothing_treated}
+use Rattle.path_core.specs.Events.{died, died_unless_dead, after_firing}
+use Rattle.path_core.specs.declared.keys.KeyPair.{KeyPair}
+use Rattle.path_core.specs.Opening.{with_peer_key, after_keys, keys_in}
+use Rattle.path_core.specs.Passing.{having_asked, with_peer_end, after_rate}
+use Rattle.path_core.specs.Placing.{is_wrong, forgotten_by, after_check}
+use Rattle.path_core.specs.Standing.{after_look, modes_told}
+use Rattle.path_core.specs.State.{Profile}
+use Rattle.path_core.specs.Treating.{after_verdict, mode_in, after_dss, after_keep, is_dropped}
+use Rattle.world_laws.proofs.Hearing.{cut_shows, dropped_shows, state_shows, handshake_back, fin_acked_back}
+use Rattle.world_laws.proofs.Records.{acknowledged_shows, expired_shows}
+use Rattle.world_laws.proofs.Showing.{HasAck, is_unfinished, SenderShows, Under, IsAtEdge, IsPastFin, ReceiverShows, TreatedShows, EndShows}
+
+grown_told : (growth : ℕ) (o : Option Pending) (c : Congestion) → (windows.grown_by growth o c).told ≡ c.told
+grown_told growth None c = refl
+grown_told growth (Some p) c = refl
+
+module _ (c : Profile) (s : Side) (out back : Lane) where
+  abbrev Shows : PathEnd → Type 0
+  Shows e = EndShows c s e out back
+
+  -- what was treated, changed as far as no lane has to do with it
+  with_treated : (e : PathEnd) (t : Treated) → TreatedShows t out.acks back → Shows e → Shows (record e { treated = t })
+  with_treated e t shows h = record { sender = h.sender; receiver = h.receiver; window = h.window; told = h.told; treated = shows; held = h.held }
+
+  pub asked_shows : (e : PathEnd) → Shows e → Shows (having_asked e)
+  asked_shows e h = with_treated e _ (record { items = h.treated.items; fins = h.treated.fins; answer = h.treated.answer }) h
+
+  pub looked_shows : (r : Reply) (e : PathEnd) → Shows e → Shows (after_look r e)
+  looked_shows r e h = record { sender = h.sender; receiver = h.receiver; window = h.window; told = h.told; treated = h.treated; held = h.held }
+
+  pub verdict_shows : (r : Reply) (e : PathEnd) → Shows e → Shows (after_verdict r e)
+  verdict_shows r e h = record { sender = h.sender; receiver = h.receiver; window = h.window; told = h.told; treated = h.treated; held = h.held }
+
+  pub dss_shows : (e : PathEnd) → Shows e → Shows (after_dss s e)
+  dss_shows e h = record { sender = h.sender; receiver = h.receiver; window = h.window; told = h.told; treated = h.treated; held = h.held }
+
+  pub key_shows : (key : Option ℕ) (e : PathEnd) → Shows e → Shows (with_peer_key key e)
+  key_shows key e h = record { sender = h.sender; receiver = h.receiver; window = h.window; told = h.told; treated = h.treated; held = h.held }
+
+  pub keys_show : (r : Reply) (keys : Option KeyPair) (e : PathEnd) → Shows e → Shows (after_keys r keys e)
+  keys_show r keys e h = record {
+    sender = h.sender;
+    receiver = h.receiver;
+    window = h.window;
+    told = h.told;
+    treated = record { items = h.treated.items; fins = h.treated.fins; answer = h.treated.answer };
+    held = h.held;
+  }
+
+  pub peer_end_shows : (e : PathEnd) → Shows e → Shows (with_peer_end e)
+  peer_end_shows e h = record { sender = h.sender; receiver = h.receiver; window = h.window; told = h.told; treated = h.treated; held = h.held }
+
+  pub timer_shows : (now : ℕ) (e : PathEnd) → Shows e → Shows (after_timer now e)
+  timer_shows now e h = record { sender = h.sender; receiver = h.receiver; window = h.window; told = h.told; treated = h.treated; held = h.held }
+
+  pub rate_shows : (path mss : ℕ) (r : Reply) (e : PathEnd) → Shows e → Shows (after_rate path mss r e)
+  rate_shows path mss r e h = record {
+    sender = h.sender;
+    receiver = h.receiver;
+    window = h.window;
+    told = subst (λ told. HasAck out.acks 0 told.window) (sym (grown_told _ e.tcp.congestion.pending e.tcp.congestion)) h.told;
+    treated = h.treated;
+    held = h.held;
+  }
+
+  -- ---- death
+
+  nothing_shows : TreatedShows nothing_treated out.acks back
+  nothing_shows = record { items = Every-nil _; fins = Every-nil _; answer = tt }
+
+  dead_tcp : (reset : Bool) (e : PathEnd) (t : Treated) → TreatedShows t out.acks back → Shows e → Shows (record e { tcp = taking.after_death reset e.tcp; treated = t })
+  dead_tcp reset e t shows h = record {
+    sender = state_shows c s _ _ out e.tcp.state phase.Dead _ (λ no_more. absurd (false≢true no_more))
+        (acknowledged_shows c s _ _ out e.tcp.send.nxt e.tcp.state e.tcp.send h.sender);
+    receiver = cut_shows e.tcp.fin_at e.receiving.mappings.live back (e.tcp.recv.edge - e.tcp.recv.edge) e.tcp.recv h.receiver;
+    window = h.window;
+    told = h.told;
+    treated = shows;
+    held = h.held;
+  }
+
+  pub died_shows : (e : PathEnd) → Shows e → Shows (died e)
+  died_shows e h = dead_tcp false e nothing_treated nothing_shows h
+
+  pub died_unless_shows : (e : PathEnd) → Shows e → Shows (died_unless_dead e)
+  died_unless_shows e h = by (states.is_dead e.tcp.state)
+    where
+      by : (b : Bool) → Shows (if b then e else died e)
+      by true = h
+      by false = died_shows e h
+
+  pub fired_shows : (now : ℕ) (e : PathEnd) → Shows e → Shows (after_firing now e)
+  fired_shows now e h = by (expiring.is_sixth e.tcp)
+    where
+      by : (b : Bool) → Shows (record e { tcp = if b then taking.after_death true e.tcp else expiring.after_expiry now e.tcp })
+      by true = dead_tcp true e e.treated h.treated h
+      by false = record {
+        sender = expired_shows c s _ _ out e.tcp.state e.tcp.send h.sender;
+        receiver = h.receiver;
+        window = h.window;
+        told = h.told;
+        treated = h.treated;
+        held = h.held;
+      }
+
+  -- ---- what is kept
+
+  pub check_shows : (c : Profile) (checksums : Bool) (o : Option KeptMapping) (e : PathEnd) → Shows e → Shows (forgotten_by checksums o e)
+  check_shows c checksums None e h = h
+  check_shows c checksums (Some kept) e h = by (is_wrong checksums kept e.tcp)
+    where
+      by : (b : Bool) → Shows (if b then record e { tcp = record e.tcp { recv = after_forget_from kept.pos e.tcp.recv } } else e)
+      by false = h
+      by true = record {
+        sender = h.sender;
+        receiver = cut_shows e.tcp.fin_at e.receiving.mappings.live back (kept.pos - e.tcp.recv.edge) e.tcp.recv h.receiver;
+        window = h.window;
+        told = h.told;
+        treated = h.treated;
+        held = h.held;
+      }
+
+  kept_receiver : (fin_at : Option ℕ) (live : List KeptMapping) (recv : Receiving) (passed : Bool) → is_behind fin_at recv.edge ≡ passed → ReceiverShows recv fin_at live back
+      → ReceiverShows (if passed then without_held recv else after_keep_held recv) fin_at live back
+  kept_receiver fin_at live recv true is h = dropped_shows fin_at live back recv h
+  kept_receiver fin_at live recv false is h = record {
+    edge = ⊎_elim (λ at. inl (record { edge_is = at.edge_is; under = under_if recv.incoming at.under at.held; held = tt })) (λ past. absurd (both_ways _ is past.passed_is)) h.edge;
+    fin = h.fin;
+    mapped = h.mapped;
+  }
+    where
+      under_if : (o : Option (List (Option ℕ))) → Under recv.places back.kept → IfSome o (λ places. Under places back.kept) → Under (unwrap_or o recv.places) back.kept
+      under_if None u held = u
+      under_if (Some places) u held = held
+
+  pub keep_shows : (e : PathEnd) → Shows e → Shows (after_keep s e)
+  keep_shows e h = by (is_dropped s e)
+    where
+      by : (b : Bool) → Shows (record e { tcp = if b then taking.after_dropping_held e.tcp else taking.after_keeping_held e.tcp })
+      by true = record {
+        sender = h.sender;
+        receiver = dropped_shows e.tcp.fin_at e.receiving.mappings.live back e.tcp.recv h.receiver;
+        window = h.window;
+        told = h.told;
+        treated = h.treated;
+        held = h.held;
+      }
+      by false = record {
+        sender = h.sender;
+        receiver = kept_receiver e.tcp.fin_at e.receiving.mappings.live e.tcp.recv (is_behind e.tcp.fin_at e.tcp.recv.edge) refl h.receiver;
+        window = h.window;
+        told = h.told;
+        treated = h.treated;
+        held = h.held;
+      }

@@ -1,0 +1,143 @@
+-- Each segment that an end sends shows what its lanes have, and so does each copy of it.
+use Rattle.std.proofs.Common.{◌≡◌, refl, sym, ◌∙◌, ap, subst, ℕ, zero, suc, ◌+◌, ◌-◌, ◌&&◌, ◌==◌, not, ◌⊎◌, inl, inr, Bool, true, false, cond, if◌then◌else◌, Option, Some, None, List, [], ◌∷◌, ◌++◌, arith}
+use Rattle.std.proofs.lemmas.Bool.{and_parts, eqb-true, both_ways, false≢true}
+use Rattle.std.proofs.lemmas.Option.{same_Some}
+use Rattle.std.specs.List.{slice_get, find}
+use Rattle.std.specs.Option.{IfSome}
+use Rattle.outside_kit.specs.declared.side.Side.{Side}
+use Rattle.outside_kit.specs.declared.side.Side.TheVariants.{A, B}
+use Rattle.link_model.specs.declared.flight.Flight.{Flight}
+use Rattle.link_model.specs.Steps.{comes_before, with_flight, with_flights}
+use Rattle.path_segments.specs.declared.segment.PathOption.TheVariants.{Dss}
+use Rattle.path_segments.specs.Laws.{window_told}
+use Rattle.path_segments.specs.Spelled.{PlainSegment}
+use Rattle.subflow_send.specs.declared.record.RecordKind.{RecordKind}
+use Rattle.subflow_send.specs.declared.record.RecordKind.TheVariants.{Syn, Data, Fin}
+use Rattle.subflow_send.specs.Records.{Record}
+use Rattle.subflow_tcp.specs.declared.segments.Outgoing.{Outgoing}
+use Rattle.subflow_tcp.specs.Emitting.{is_syn, fin_position, record_segment}
+use Rattle.subflow_send.specs.Rules.{is_fin}
+use Rattle.stream_lanes.specs.Lane.{AckCopy, Lane}
+use Rattle.stream_lanes.specs.Words.{Every}
+use Rattle.stream_lanes.proofs.Lists.{Every-nil, Every-push}
+use Rattle.path_segments.specs.Options.{PlainOption}
+use Rattle.path_core.specs.Ends.{PathEnd}
+use Rattle.path_core.specs.Segments.{place_numbered, syn_options, key_options, end_mapping, ack_options, is_first_piece, first_piece_options, piece_options, piece_mapping, fin_options, record_options, reset_options, segment_of, ack_said, record_said, syn_ack_said, fin_said, reset_said, record_or_ack}
+use Rattle.path_core.specs.State.{Profile}
+use Rattle.path_core.specs.Values.{Carried}
+use Rattle.path_core.specs.Words.{is_side_a}
+use Rattle.world_laws.proofs.Showing.{HasAck, HasData, HasMapping, HasNumber, HasFin, IsPiece, KindShows, RecordShows, WindowShows, OptionShows, SegmentShows, FlightShows}
+
+window_at : (next window : ℕ) (acks : List AckCopy) → WindowShows next window acks → (syn : Bool) → HasAck acks 0 (window_told syn window)
+window_at next window acks h true = h.syn
+window_at next window acks h false = h.alone
+
+every_one : {X : Type 0} {P : X → Type 0} (x : X) → P x → Every P (x ∷ [])
+every_one {X} {P} x h = Every-push {xs = []} x (Every-nil P) h
+
+module _ (c : Profile) (s : Side) (e : PathEnd) (acks : List AckCopy) (p : Lane) (w : WindowShows e.receiving.next e.receiving.window acks) where
+  -- ---- options
+
+  keys_say : (window : ℕ) (s : Side) (peer : Option ℕ) → Every (OptionShows window acks p) (key_options c s peer e)
+  keys_say window A (Some peer) = every_one _ tt
+  keys_say window A None = Every-nil _
+  keys_say window B peer = Every-nil _
+
+  end_says : (fin : Option ℕ) → IfSome fin (HasNumber p.data_fins) → OptionShows (window_told false e.receiving.window) acks p (Dss (Some e.receiving.next) (end_mapping c s fin))
+  end_says None h = (w.ack, tt)
+  end_says (Some place) h = (w.ack, h)
+
+  ack_options_say : (fin : Option ℕ) → IfSome fin (HasNumber p.data_fins) → Every (OptionShows (window_told false e.receiving.window) acks p) (ack_options c s fin e)
+  ack_options_say fin h = by e.modes.clear
+    where
+      by : (b : Bool) → Every (OptionShows (window_told false e.receiving.window) acks p) (if b then Dss (Some e.receiving.next) (end_mapping c s fin) ∷ [] else key_options c s e.modes.peer_key e)
+      by true = every_one _ (end_says fin h)
+      by false = keys_say _ s e.modes.peer_key
+
+  syn_options_say : (window : ℕ) (s : Side) → Every (OptionShows window acks p) (syn_options c s e)
+  syn_options_say window A = every_one _ tt
+  syn_options_say window B = every_one _ tt
+
+  reset_options_say : (window : ℕ) (reason : Option ℕ) → Every (OptionShows window acks p) (reset_options reason)
+  reset_options_say window None = Every-nil _
+  reset_options_say window (Some reason) = every_one _ tt
+
+  -- ---- segments without octets
+
+  -- the acknowledgement at any position, perhaps with the DATA_FIN
+  pub ack_says : (position : ℕ) (fin : Option ℕ) → IfSome fin (HasNumber p.data_fins) → SegmentShows acks p (ack_said c s position fin e)
+  ack_says position fin h = record { window = w.alone; options = ack_options_say fin h; payload = inl refl; fin = λ is. absurd (false≢true is); plain = λ syn. refl }
+
+  pub syn_ack_says : SegmentShows acks p (syn_ack_said c s e)
+  syn_ack_says = record { window = w.syn; options = syn_options_say _ s; payload = inl refl; fin = λ is. absurd (false≢true is); plain = λ syn. refl }
+
+  pub fin_says : HasFin p.fins (fin_position e.tcp.send) → SegmentShows acks p (fin_said c e)
+  fin_says h = record { window = w.alone; options = every_one _ (w.ack, tt); payload = inl refl; fin = λ is. (refl, h); plain = λ syn. absurd (false≢true syn) }
+
+  pub reset_says : (reason : Option ℕ) → SegmentShows acks p (reset_said c reason e)
+  reset_says reason = record { window = w.alone; options = reset_options_say _ reason; payload = inl refl; fin = λ is. absurd (false≢true is); plain = λ syn. refl }
+
+  -- a dead end's answer
+  pub outgoing_says : (o : Outgoing) → o.fin ≡ false → SegmentShows acks p (segment_of c o [] [] e)
+  outgoing_says o none = record { window = window_at _ _ _ w o.syn; options = Every-nil _; payload = inl refl; fin = λ is. absurd (both_ways o.fin none is); plain = λ syn. none }
+
+  -- ---- records
+
+  -- on a lane with one path a mapping from the first position begins at the first place
+  module _ (first : (place len : ℕ) → HasMapping p.datas place 1 len → HasMapping p.datas 0 1 len) where
+    first_says : (peer : Option ℕ) (r : Record) → r.pos ≡ 1 → HasMapping p.datas (place_numbered c s r.mapping.number) r.pos r.mapping.length
+        → Every (OptionShows (window_told false e.receiving.window) acks p) (first_piece_options c peer r e)
+    first_says None r at h = Every-nil _
+    first_says (Some peer) r at h = every_one _ (first _ r.mapping.length (subst (λ position. HasMapping p.datas (place_numbered c s r.mapping.number) position r.mapping.length) at h))
+
+    piece_options_say : (r : Record) → HasMapping p.datas (place_numbered c s r.mapping.number) r.pos r.mapping.length
+        → Every (OptionShows (window_told false e.receiving.window) acks p) (piece_options c s r e)
+    piece_options_say r h = by (is_first_piece s r e) refl
+      where
+        by : (b : Bool) → is_first_piece s r e ≡ b → Every (OptionShows (window_told false e.receiving.window) acks p)
+            (if b then first_piece_options c e.modes.peer_key r e else Dss (Some e.receiving.next) (Some (piece_mapping c s r)) ∷ [])
+        by true is =
+            let parts = and_parts (is_side_a s) (not e.modes.clear && r.pos == 1) is in
+            let at = and_parts (not e.modes.clear) (r.pos == 1) parts.1 in
+            first_says e.modes.peer_key r (eqb-true r.pos 1 at.1) h
+        by false is = every_one _ (w.ack, h)
+
+    -- the record's segment, if it were of this kind
+    abbrev said_as : RecordKind → Record → PlainSegment
+    said_as kind r = segment_of c (record (record_segment e.tcp r) { syn = is_syn kind; fin = is_fin kind }) (record_options kind c s r e) r.piece e
+
+    kind_says : (kind : RecordKind) (r : Record) → KindShows c s p.datas p.fins kind r → SegmentShows acks p (said_as kind r)
+    kind_says Syn r h = record { window = w.syn; options = syn_options_say _ s; payload = inl h; fin = λ is. absurd (false≢true is); plain = λ syn. refl }
+    kind_says Data r h = record { window = w.alone; options = piece_options_say r h.mapping; payload = inr h.octets; fin = λ is. absurd (false≢true is); plain = λ syn. refl }
+    kind_says Fin r h = record { window = w.alone; options = every_one _ (w.ack, tt); payload = inl h.0; fin = λ is. (h.0, h.1); plain = λ syn. absurd (false≢true syn) }
+
+    pub record_says : (r : Record) → RecordShows c s p.datas p.fins r → SegmentShows acks p (record_said c s r e)
+    record_says r h = kind_says r.kind r h
+
+    pub record_or_ack_says : (o : Option Record) → IfSome o (RecordShows c s p.datas p.fins) → SegmentShows acks p (record_or_ack c s o e)
+    record_or_ack_says None h = ack_says e.tcp.send.nxt None tt
+    record_or_ack_says (Some r) h = record_says r h
+
+-- ---- copies
+
+module _ {C : Type 0} (P : Flight C → Type 0) where
+  flight_kept : (f : Flight C) (flights : List (Flight C)) → P f → Every P flights → Every P (with_flight f flights)
+  flight_kept f [] here h = every_one f here
+  flight_kept f (g ∷ flights) here h = by (comes_before f g) (flight_kept f flights here (record { each = λ i x is. h.each (suc i) x is }))
+    where
+      put : (x : Flight C) (xs : List (Flight C)) → P x → Every P xs → Every P (x ∷ xs)
+      put x xs first rest = record { each = λ i y is. at i y is }
+        where
+          at : (i : ℕ) (y : Flight C) → slice_get (x ∷ xs) i ≡ Some y → P y
+          at zero y is = subst P (same_Some x y is) first
+          at (suc i) y is = rest.each i y is
+
+      by : (b : Bool) → Every P (with_flight f flights) → Every P (cond b (f ∷ g ∷ flights) (g ∷ with_flight f flights))
+      by true more = put f (g ∷ flights) here h
+      by false more = put g (with_flight f flights) (h.each 0 g refl) more
+
+  pub flights_kept : (to : Side) (number : ℕ) (carried : C) → ((tick : ℕ) → P (record { tick = tick; to = to; number = number; carried = carried })) → (ticks : List ℕ) (flights : List (Flight C))
+      → Every P flights → Every P (with_flights to number carried ticks flights)
+  flights_kept to number carried new [] flights h = h
+  flights_kept to number carried new (tick ∷ ticks) flights h =
+      flights_kept to number carried new ticks _ (flight_kept (record { tick = tick; to = to; number = number; carried = carried }) flights (new tick) h)

@@ -1,0 +1,204 @@
+-- What the ends of path 0 and the copies on its link have to do with the two lanes that the path is shown as. Positions of a
+-- path count its SYN, those of a lane its bytes alone.
+use Rattle.std.proofs.Common.{◌≡◌, ℕ, suc, ◌+◌, ◌<◌, ◌≤◌, ◌⊎◌, Bool, true, false, Option, Some, None, List, [], ◌∷◌, ◌++◌, length}
+use Rattle.std.specs.List.{slice_get}
+use Rattle.std.specs.Option.{IfSome}
+use Rattle.outside_kit.specs.declared.side.Side.{Side}
+use Rattle.outside_kit.specs.declared.side.Side.TheVariants.{A, B}
+use Rattle.dss_mapping.specs.declared.kept.KeptMapping.{KeptMapping}
+use Rattle.link_model.specs.declared.flight.Flight.{Flight}
+use Rattle.mptcp_options.specs.declared.capable.CapableKeys.{CapableKeys}
+use Rattle.mptcp_options.specs.declared.capable.CapableKeys.TheVariants.{WithData}
+use Rattle.path_segments.specs.declared.segment.PathMapping.{PathMapping}
+use Rattle.path_segments.specs.declared.segment.PathMapping.TheVariants.{Bytes, End, Infinite}
+use Rattle.path_segments.specs.declared.segment.PathOption.TheVariants.{Capable, Dss}
+use Rattle.path_segments.specs.Laws.{window_told}
+use Rattle.path_segments.specs.Options.{PlainOption}
+use Rattle.path_segments.specs.Spelled.{PlainSegment}
+use Rattle.subflow_send.specs.declared.record.RecordKind.{RecordKind}
+use Rattle.subflow_send.specs.declared.record.RecordKind.TheVariants.{Syn, Data, Fin}
+use Rattle.subflow_send.specs.Records.{Record, SendState}
+use Rattle.subflow_tcp.specs.declared.handshake.State.{State as EndPhase}
+use Rattle.subflow_tcp.specs.declared.handshake.State.TheVariants as phase
+use Rattle.subflow_tcp.specs.State.{is_behind}
+use Rattle.subflow_recv.specs.Receiving.{Receiving}
+use Rattle.stream_lanes.specs.Lane.{Mapping, DataCopy, AckCopy, Lane}
+use Rattle.stream_lanes.specs.Words.{Every, Has}
+use Rattle.path_core.specs.declared.heard.Heard.{Heard}
+use Rattle.path_core.specs.declared.heard.Heard.TheVariants as says
+use Rattle.path_core.specs.Ends.{PathEnd, Treated}
+use Rattle.path_core.specs.Segments.{place_numbered}
+use Rattle.path_core.specs.State.{PathState, Profile}
+use Rattle.path_core.specs.Shown.{ChangesNothing}
+use Rattle.path_core.specs.Values.{Carried}
+
+-- ---- what was ever sent on a lane
+
+-- an acknowledgement with this place and this window
+pub record IsAckOf (next window : ℕ) (a : AckCopy) : Type 0 where
+  pub next_is : a.next ≡ next
+  pub window_is : a.window ≡ window
+
+abbrev pub HasAck : List AckCopy → ℕ → ℕ → Type 0
+HasAck acks next window = Has (IsAckOf next window) acks
+
+-- octets from this position of the path on
+pub record IsDataOf (position : ℕ) (octets : List ℕ) (d : DataCopy) : Type 0 where
+  pub position_is : suc d.pos ≡ position
+  pub octets_are : d.bytes ≡ octets
+
+abbrev pub HasData : List DataCopy → ℕ → List ℕ → Type 0
+HasData datas position octets = Has (IsDataOf position octets) datas
+
+-- a mapping from this place, this position of the path and this length
+pub record IsMappingOf (place position len : ℕ) (m : Mapping) : Type 0 where
+  pub place_is : m.place ≡ place
+  pub position_is : suc m.pos ≡ position
+  pub len_is : m.len ≡ len
+
+pub record IsMappedTo (place position len : ℕ) (d : DataCopy) : Type 0 where
+  pub mapping : Mapping
+  pub there : d.mapping ≡ Some mapping
+  pub is : IsMappingOf place position len mapping
+
+abbrev pub HasMapping : List DataCopy → ℕ → ℕ → ℕ → Type 0
+HasMapping datas place position len = Has (IsMappedTo place position len) datas
+
+abbrev pub HasNumber : List ℕ → ℕ → Type 0
+HasNumber numbers n = Has (λ m. m ≡ n) numbers
+
+-- a FIN at this position of the path
+abbrev pub HasFin : List ℕ → ℕ → Type 0
+HasFin fins position = Has (λ m. suc m ≡ position) fins
+
+-- ---- the sending half of an end
+
+-- a record that may be sent again
+pub record IsPiece (c : Profile) (s : Side) (datas : List DataCopy) (r : Record) : Type 0 where
+  pub octets : HasData datas r.pos r.piece
+  pub mapping : HasMapping datas (place_numbered c s r.mapping.number) r.pos r.mapping.length
+
+abbrev pub KindShows : Profile → Side → List DataCopy → List ℕ → RecordKind → Record → Type 0
+KindShows c s datas fins Syn r = r.piece ≡ []
+KindShows c s datas fins Data r = IsPiece c s datas r
+KindShows c s datas fins Fin r = (r.piece ≡ []) × HasFin fins r.pos
+
+abbrev pub RecordShows : Profile → Side → List DataCopy → List ℕ → Record → Type 0
+RecordShows c s datas fins r = KindShows c s datas fins r.kind r
+
+-- no FIN was sent, and the end isn't dead
+abbrev pub is_unfinished : EndPhase → Bool
+is_unfinished phase.Waiting = true
+is_unfinished phase.Listen = true
+is_unfinished phase.SynSent = true
+is_unfinished phase.SynReceived = true
+is_unfinished phase.Established = true
+is_unfinished phase.CloseWait = true
+is_unfinished _ = false
+
+pub record SenderShows (c : Profile) (s : Side) (state : EndPhase) (v : SendState) (known : Option ℕ) (acked : Bool) (p : Lane) : Type 0 where
+  pub opened : p.opened ≡ true
+  pub plain : p.sender_plain ≡ false
+  -- the next position is that after the bytes that were granted
+  pub next : is_unfinished state ≡ true → v.nxt ≡ suc (length p.sent)
+  pub unfinished : is_unfinished state ≡ true → v.finished ≡ false
+  pub pieces : Every (RecordShows c s p.datas p.fins) v.records
+  pub known_end : IfSome known (HasNumber p.data_fins)
+  pub fin_acked : acked ≡ true → p.fin_acked ≡ true
+
+-- ---- the receiving half
+
+-- what is kept at a place is kept there on the lane
+pub record Under (places kept : List (Option ℕ)) : Type 0 where
+  pub each : (i byte : ℕ) → slice_get places i ≡ Some (Some byte) → slice_get kept i ≡ Some (Some byte)
+
+-- the edge is that of the lane, or behind the FIN, where nothing is kept
+pub record IsAtEdge (recv : Receiving) (p : Lane) : Type 0 where
+  pub edge_is : recv.edge ≡ suc p.edge
+  pub under : Under recv.places p.kept
+  pub held : IfSome recv.incoming (λ places. Under places p.kept)
+
+pub record IsPastFin (passed : Bool) (places : List (Option ℕ)) : Type 0 where
+  pub passed_is : passed ≡ true
+  pub none : (i byte : ℕ) → slice_get places i ≡ Some (Some byte) → ⊥
+
+abbrev pub KeptShows : List Mapping → KeptMapping → Type 0
+KeptShows maps kept = Has (IsMappingOf kept.place kept.pos kept.mapping.length) maps
+
+-- a mapping that was heard and isn't learned yet
+abbrev pub HeldShows : List DataCopy → KeptMapping → Type 0
+HeldShows datas kept = HasMapping datas kept.place kept.pos kept.mapping.length
+
+-- the windows that segments tell are those of acknowledgements of the lane, with and without the place
+pub record WindowShows (next window : ℕ) (acks : List AckCopy) : Type 0 where
+  pub ack : HasAck acks next (window_told false window)
+  pub alone : HasAck acks 0 (window_told false window)
+  pub syn : HasAck acks 0 (window_told true window)
+
+pub record ReceiverShows (recv : Receiving) (fin_at : Option ℕ) (live : List KeptMapping) (p : Lane) : Type 0 where
+  pub edge : IsAtEdge recv p ⊎ IsPastFin (is_behind fin_at recv.edge) recv.places
+  pub fin : IfSome fin_at (HasFin p.fins)
+  pub mapped : Every (KeptShows p.maps) live
+
+-- ---- what was heard
+
+-- a thing that a copy said: acknowledgements were sent on the one lane, the rest on the other
+abbrev pub ItemShows : List AckCopy → Lane → Heard → Type 0
+ItemShows acks p (says.DataAck next window) = HasAck acks next window
+ItemShows acks p (says.DataFin place) = HasNumber p.data_fins place
+ItemShows acks p _ = Unit {0}
+
+pub record TreatedShows (t : Treated) (acks : List AckCopy) (p : Lane) : Type 0 where
+  pub items : Every (ItemShows acks p) t.items
+  pub fins : Every (HasNumber p.data_fins) t.fins
+  pub answer : IfSome t.answer (λ o. o.fin ≡ false)
+
+-- ---- an end: `out` carries what its side sends, and `back` what it hears
+
+pub record EndShows (c : Profile) (s : Side) (e : PathEnd) (out back : Lane) : Type 0 where
+  pub sender : SenderShows c s e.tcp.state e.tcp.send e.sending.known_end e.sending.close.own_acked out
+  pub receiver : ReceiverShows e.tcp.recv e.tcp.fin_at e.receiving.mappings.live back
+  pub window : WindowShows e.receiving.next e.receiving.window back.acks
+  pub told : HasAck out.acks 0 e.tcp.congestion.told.window
+  pub treated : TreatedShows e.treated out.acks back
+  pub held : Every (HeldShows back.datas) e.receiving.mappings.held
+
+-- ---- copies
+
+-- a mapping in an option
+abbrev pub MappingShows : Option (PathMapping ℕ) → Lane → Type 0
+MappingShows None p = Unit {0}
+MappingShows (Some (Bytes place position len fin checksum)) p = HasMapping p.datas place position len
+MappingShows (Some (End place checksum)) p = HasNumber p.data_fins place
+MappingShows (Some (Infinite place position)) p = Unit {0}
+
+abbrev pub KeysShow : CapableKeys → Lane → Type 0
+KeysShow (WithData sender receiver len checksum) p = HasMapping p.datas 0 1 len
+KeysShow _ p = Unit {0}
+
+abbrev pub OptionShows : ℕ → List AckCopy → Lane → PlainOption → Type 0
+OptionShows window acks p (Capable flag_a flag_c keys) = KeysShow keys p
+OptionShows window acks p (Dss next mapping) = IfSome next (λ n. HasAck acks n window) × MappingShows mapping p
+OptionShows window acks p _ = Unit {0}
+
+-- a segment on the lane whose acknowledgements are those of the other one
+pub record SegmentShows (acks : List AckCopy) (p : Lane) (sg : PlainSegment) : Type 0 where
+  pub window : HasAck acks 0 (window_told sg.syn sg.window)
+  pub options : Every (OptionShows (window_told sg.syn sg.window) acks p) sg.options
+  pub payload : (sg.payload ≡ []) ⊎ HasData p.datas sg.position sg.payload
+  pub fin : sg.fin ≡ true → (sg.payload ≡ []) × HasFin p.fins sg.position
+  pub plain : sg.syn ≡ true → sg.fin ≡ false
+
+abbrev pub FlightShows : Lane → Lane → Side → PlainSegment → Type 0
+FlightShows ab ba B sg = SegmentShows ba.acks ab sg
+FlightShows ab ba A sg = SegmentShows ab.acks ba sg
+
+-- ---- the path
+
+pub record PathShows (c : Profile) (p : PathState Carried) (ab ba : Lane) : Type 0 where
+  pub profile : p.profile ≡ c
+  pub path : p.link.path ≡ 0
+  pub unchanged : ChangesNothing p.link.lines
+  pub a : EndShows c A p.a ab ba
+  pub b : EndShows c B p.b ba ab
+  pub copies : Every (λ f. FlightShows ab ba f.to f.carried.segment) p.link.under_way

@@ -1,0 +1,207 @@
+-- What the receiver's half of an end does, on the lane: it keeps the octets of a copy, learns a mapping, places bytes, and passes
+-- the FIN.
+use Rattle.std.proofs.Common.{◌≡◌, refl, sym, ◌∙◌, ap, subst, ℕ, zero, suc, ◌+◌, ◌-◌, ◌<◌, ◌≤◌, min, max, ◌&&◌, ◌||◌, ◌==◌, not, nat_lt, nat_le, ◌⊎◌, inl, inr, ⊎_elim, Bool, true, false, if◌then◌else◌, Option, Some, None, List, [], ◌∷◌, ◌++◌, length, take, drop, map, replicate, arith}
+use Rattle.std.proofs.lemmas.Bool.{le-leb, and_from, false≢true}
+use Rattle.std.proofs.lemmas.List.{append-nil, length-take}
+use Rattle.std.proofs.lemmas.Option.{same_Some}
+use Rattle.std.specs.List.{slice_get}
+use Rattle.std.specs.Option.{IfSome}
+use Rattle.reassembly_book.specs.State.{filled}
+use Rattle.reassembly_book.specs.Steps.{by_place, merged}
+use Rattle.send_book.proofs.Lists.{slice_get-drop}
+use Rattle.stream_lanes.specs.Holding.{IsByteOf, IsHonest, LaneHolds, DirectionHolds}
+use Rattle.stream_lanes.specs.Lane.{Mapping, DataCopy, Lane}
+use Rattle.stream_lanes.specs.Lane.Ask.{AskPlace}
+use Rattle.stream_lanes.specs.Laws.{copy_clashes, mapping_clashes}
+use Rattle.stream_lanes.specs.Moves.{Move, clashes, keeps, learns, learns_mapping, places, lies_in, in_order}
+use Rattle.stream_lanes.specs.Moves.Move.{Hear, Learn, WantPlace}
+use Rattle.stream_lanes.specs.View.{View}
+use Rattle.stream_lanes.specs.Words.{Every, From, Cells, Has}
+use Rattle.stream_lanes.proofs.Bytes.{Cells-by_place, From-take}
+use Rattle.stream_lanes.proofs.Lists.{Every-map, Every-push, Has-more, in_drop}
+use Rattle.world_laws.proofs.Doing.{has_last}
+use Rattle.world_laws.proofs.Growing.{ReceiverGoes}
+use Rattle.world_laws.proofs.Roads.{move, Strolls, one_move}
+use Rattle.world_laws.proofs.Showing.{HasData, HasMapping, IsMappingOf, Under}
+
+-- ---- bytes by place
+
+in_merged : (xs ys : List (Option ℕ)) (i x : ℕ) → slice_get (merged xs ys) i ≡ Some (Some x)
+    → (slice_get xs i ≡ Some (Some x)) ⊎ (slice_get ys i ≡ Some (Some x))
+in_merged [] ys i x e = inr e
+in_merged (place ∷ xs) [] i x e = inl e
+in_merged (Some byte ∷ xs) (other ∷ ys) zero x e = inl e
+in_merged (None ∷ xs) (other ∷ ys) zero x e = inr e
+in_merged (Some byte ∷ xs) (other ∷ ys) (suc i) x e = in_merged xs ys i x e
+in_merged (None ∷ xs) (other ∷ ys) (suc i) x e = in_merged xs ys i x e
+
+merged_left : (xs ys : List (Option ℕ)) (i x : ℕ) → slice_get xs i ≡ Some (Some x) → slice_get (merged xs ys) i ≡ Some (Some x)
+merged_left [] ys i x e = cc
+merged_left (y ∷ xs) [] i x e = e
+merged_left (Some y ∷ xs) (z ∷ ys) zero x e = e
+merged_left (None ∷ xs) (z ∷ ys) zero x e = cc
+merged_left (Some y ∷ xs) (z ∷ ys) (suc i) x e = merged_left xs ys i x e
+merged_left (None ∷ xs) (z ∷ ys) (suc i) x e = merged_left xs ys i x e
+
+merged_right : (xs ys : List (Option ℕ)) (i x : ℕ) → slice_get ys i ≡ Some (Some x) → (y : ℕ) × (slice_get (merged xs ys) i ≡ Some (Some y))
+merged_right [] ys i x e = (x, e)
+merged_right (y ∷ xs) [] i x e = cc
+merged_right (Some y ∷ xs) (z ∷ ys) zero x e = (y, refl)
+merged_right (None ∷ xs) (z ∷ ys) zero x e = (x, e)
+merged_right (Some y ∷ xs) (z ∷ ys) (suc i) x e = merged_right xs ys i x e
+merged_right (None ∷ xs) (z ∷ ys) (suc i) x e = merged_right xs ys i x e
+
+-- bytes of one record at one position are the same
+module _ (places kept more : List (Option ℕ)) (u : Under places kept) (agree : (i b x : ℕ) → slice_get kept i ≡ Some (Some b) → slice_get more i ≡ Some (Some x) → b ≡ x) where
+  came_under : (i x : ℕ) → slice_get more i ≡ Some (Some x) → slice_get (merged kept more) i ≡ Some (Some x)
+  came_under i x e = by (merged_right kept more i x e)
+    where
+      by : (y : ℕ) × (slice_get (merged kept more) i ≡ Some (Some y)) → slice_get (merged kept more) i ≡ Some (Some x)
+      by there = ⊎_elim
+          (λ old. let same : there.0 ≡ x = agree i there.0 x old e in there.1 ∙ ap (λ b. Some (Some b)) same)
+          (λ new. there.1 ∙ sym new ∙ e)
+          (in_merged kept more i there.0 there.1)
+
+  pub under_merged : Under (merged places more) (merged kept more)
+  under_merged = record {
+    each = λ i x e. ⊎_elim (λ old. merged_left kept more i x (u.each i x old)) (λ new. came_under i x new) (in_merged places more i x e);
+  }
+
+  pub under_more : Under places (merged kept more)
+  under_more = record { each = λ i x e. merged_left kept more i x (u.each i x e) }
+
+-- positions that count the SYN
+one_further : (edge at : ℕ) (bytes : List ℕ) → drop (suc edge) (by_place (suc at) bytes) ≡ drop edge (by_place at bytes)
+one_further zero at [] = refl
+one_further (suc edge) at [] = refl
+one_further edge at (byte ∷ bytes) = refl
+
+pub under_drop : (n : ℕ) (places kept : List (Option ℕ)) → Under places kept → Under (drop n places) (drop n kept)
+under_drop n places kept u = record {
+  each = λ i x e. slice_get-drop n kept i (n + i) refl ∙ u.each (n + i) x (in_drop n places i (n + i) (Some x) refl e);
+}
+
+-- what is in order is in order on the lane
+pub filled_under : (n : ℕ) (places kept : List (Option ℕ)) → Under places kept → n ≤ length (filled places) → take n (filled places) ≡ take n (filled kept)
+filled_under zero places kept u most = refl
+filled_under (suc n) [] kept u most = absurd (omega (arith, most))
+filled_under (suc n) (None ∷ places) kept u most = absurd (omega (arith, most))
+filled_under (suc n) (Some x ∷ places) [] u most = let first : None ≡ Some (Some x) = u.each 0 x refl in cc
+filled_under (suc n) (Some x ∷ places) (None ∷ kept) u most = let first : Some None ≡ Some (Some x) = u.each 0 x refl in cc
+filled_under (suc n) (Some x ∷ places) (Some y ∷ kept) u most =
+    let first : Some (Some y) ≡ Some (Some x) = u.each 0 x refl in
+    let same : y ≡ x = cc in
+    rw same (ap (λ xs. x ∷ xs) (filled_under n places kept (record { each = λ i b e. u.each (suc i) b e }) (omega (arith, most))))
+
+-- ---- a copy is heard
+
+module _ (p : Lane) (v : View) (h : LaneHolds v 0 p) where
+  -- the lane keeps the first octets of the copy
+  module _ (position : ℕ) (octets : List ℕ) (has : HasData p.datas position octets) (count : ℕ) where
+    abbrev pub heard_lane : Lane
+    heard_lane = record p { kept = merged p.kept (drop p.edge (by_place has.item.pos (take count has.item.bytes))) }
+
+    pub hears : Strolls p heard_lane
+    hears = one_move (Hear has.at count) p heard_lane (sym (ap (λ o. keeps count o p) has.there))
+
+    pub heard_goes : ReceiverGoes p heard_lane
+    heard_goes = record {
+      edge = p.edge;
+      kept = heard_lane.kept;
+      maps = p.maps;
+      due = p.due;
+      latest = p.latest;
+      asking = p.asking;
+      acks = [];
+      is = rw (append-nil p.acks) refl;
+    }
+
+    agree : (i b x : ℕ) → slice_get p.kept i ≡ Some (Some b) → slice_get (drop p.edge (by_place has.item.pos (take count has.item.bytes))) i ≡ Some (Some x) → b ≡ x
+    agree i b x old new =
+        let honest : IsHonest p.sent has.item = h.bytes.honest.each has.at has.item has.there in
+        let came : IsByteOf p.sent (p.edge + i) b = h.bytes.came.each i (p.edge + i) b refl old in
+        let here : IsByteOf p.sent (p.edge + i) x = (Cells-by_place p.edge (From-take count honest.bytes)).each i (p.edge + i) x refl new in
+        same_Some b x (sym came ∙ here)
+
+    -- the same octets at the end, whose positions count the SYN
+    same_octets : (edge : ℕ) → edge ≡ suc p.edge → drop edge (by_place position (take count octets)) ≡ drop p.edge (by_place has.item.pos (take count has.item.bytes))
+    same_octets edge at =
+        ap (λ e. drop e (by_place position (take count octets))) at
+        ∙ ap (λ q. drop (suc p.edge) (by_place q (take count octets))) (sym has.holds.position_is)
+        ∙ ap (λ bs. drop (suc p.edge) (by_place (suc has.item.pos) (take count bs))) (sym has.holds.octets_are)
+        ∙ one_further p.edge has.item.pos (take count has.item.bytes)
+
+    pub heard_under : (edge : ℕ) (places : List (Option ℕ)) → edge ≡ suc p.edge → Under places p.kept
+        → Under (merged places (drop edge (by_place position (take count octets)))) heard_lane.kept
+    heard_under edge places at u =
+        subst (λ more. Under (merged places more) heard_lane.kept) (sym (same_octets edge at))
+        (under_merged places p.kept (drop p.edge (by_place has.item.pos (take count has.item.bytes))) u agree)
+
+    pub heard_more : (places : List (Option ℕ)) → Under places p.kept → Under places heard_lane.kept
+    heard_more places u = under_more places p.kept (drop p.edge (by_place has.item.pos (take count has.item.bytes))) u agree
+
+-- ---- a mapping is learned
+
+module _ (p : Lane) (place position len : ℕ) (has : HasMapping p.datas place position len)
+    (agrees : copy_clashes (slice_get p.datas has.at) p ≡ false) where
+  abbrev pub learned_lane : Lane
+  learned_lane = record p { maps = p.maps ++ has.holds.mapping ∷ [] }
+
+  no_clash : clashes has.holds.mapping p.maps ≡ false
+  no_clash = sym (ap (λ o. copy_clashes o p) has.there ∙ ap (λ o. mapping_clashes o p) has.holds.there) ∙ agrees
+
+  pub learns_it : Strolls p learned_lane
+  learns_it = one_move (Learn has.at) p learned_lane (sym (
+      ap (λ o. learns o p) has.there ∙ ap (λ o. learns_mapping o p) has.holds.there
+      ∙ ap (λ (b : Bool). if b then p else learned_lane) no_clash))
+
+  pub learned_goes : ReceiverGoes p learned_lane
+  learned_goes = record {
+    edge = p.edge;
+    kept = p.kept;
+    maps = learned_lane.maps;
+    due = p.due;
+    latest = p.latest;
+    asking = p.asking;
+    acks = [];
+    is = rw (append-nil p.acks) refl;
+  }
+
+  pub learned_there : Has (IsMappingOf place position len) learned_lane.maps
+  learned_there = has_last p.maps has.holds.mapping has.holds.is
+
+-- ---- bytes are placed
+
+take_taken : (count : ℕ) (xs : List ℕ) → take (length (take count xs)) xs ≡ take count xs
+take_taken zero xs = refl
+take_taken (suc count) [] = refl
+take_taken (suc count) (x ∷ xs) = ap (λ ys. x ∷ ys) (take_taken count xs)
+
+module _ (p : Lane) (edge : ℕ) (places_kept : List (Option ℕ)) (count : ℕ) (at : edge ≡ suc p.edge) (u : Under places_kept p.kept)
+    (place position len : ℕ) (has : Has (IsMappingOf place position len) p.maps)
+    (after : position ≤ edge) (before : edge < position + len) (most : length (take count (filled places_kept)) ≤ position + len - edge) where
+  abbrev pub octets : List ℕ
+  octets = take count (filled places_kept)
+
+  some_are : length octets ≤ length (filled places_kept)
+  some_are = let l = length-take count (filled places_kept) in omega (arith, l)
+
+  same_order : in_order (length octets) p ≡ octets
+  same_order = sym (filled_under (length octets) places_kept p.kept u some_are) ∙ take_taken count (filled places_kept)
+
+  lies : lies_in has.item octets p ≡ true
+  lies =
+      let q = has.holds.position_is in let l = has.holds.len_is in
+      and_from (nat_le has.item.pos p.edge) (nat_le (p.edge + length octets) (has.item.pos + has.item.len))
+      (le-leb has.item.pos p.edge (omega (arith, at, q, after)))
+      (le-leb (p.edge + length octets) (has.item.pos + has.item.len) (omega (arith, at, q, l, most, before)))
+
+  same_place : has.item.place + (p.edge - has.item.pos) ≡ place + (edge - position)
+  same_place = let q = has.holds.position_is in let r = has.holds.place_is in omega (arith, at, q, r, after)
+
+  pub wants_place : Strolls p (record p { asking = AskPlace (place + (edge - position)) octets })
+  wants_place = one_move (WantPlace has.at (length octets)) p _ (sym (
+      ap (λ o. places (length octets) o p) has.there
+      ∙ ap (λ bs. if lies_in has.item bs p then record p { asking = AskPlace (has.item.place + (p.edge - has.item.pos)) bs } else p) same_order
+      ∙ ap (λ (b : Bool). if b then record p { asking = AskPlace (has.item.place + (p.edge - has.item.pos)) octets } else p) lies
+      ∙ ap (λ q. record p { asking = AskPlace q octets }) same_place))

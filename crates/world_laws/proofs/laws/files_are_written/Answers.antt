@@ -1,0 +1,10 @@
+use Rattle.path_core.specs.Octets.{octets}
+use Rattle.path_core.specs.Values.{values}
+use Rattle.world_laws.proofs.Trios.{writes_the_files}
+use Rattle.world_laws.proofs.laws.files_are_written.Goals as goal
+
+pub returns-clause-octets : goal.returns-clause-octets
+returns-clause-octets c = writes_the_files octets
+
+pub returns-clause-values : goal.returns-clause-values
+returns-clause-values c = writes_the_files values

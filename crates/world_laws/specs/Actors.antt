@@ -1,0 +1,41 @@
+-- The actors of a connection: two applications and the paths. What the links of the paths carry is a type of its own.
+use Rattle.std.specs.Prelude.{Bool, Option, List, [], ◌∷◌}
+use Rattle.actor_desk.specs.declared.ask.Ask.{Ask}
+use Rattle.actor_desk.specs.declared.ask.Reply.{Reply}
+use Rattle.actor_desk.specs.Words.{is_nil}
+use Rattle.stream_apps.specs.Apps.{AppState}
+use Rattle.stream_apps.specs.AppSteps.{app_asks_of, app_takes, app_next_round}
+use Rattle.path_core.specs.Codec.{Codec}
+use Rattle.path_core.specs.State.{PathState}
+use Rattle.path_core.specs.Steps.{asks_of, takes, next_round}
+use Rattle.world_laws.specs.declared.member.Member.{Member}
+use Rattle.world_laws.specs.declared.member.Crew.{Crew}
+use Rattle.world_laws.specs.declared.member.Member.TheVariants.{App, Path}
+
+abbrev pub Actor : Type 0 → Type 0
+Actor C = Member AppState (PathState C)
+
+-- with its pass and its steps
+abbrev pub ActorCrew : Type 0 → Type 0
+ActorCrew C = Crew AppState (PathState C)
+
+module _ {C : Type 0} where
+  -- what it asks: nothing where its turn ended
+  abbrev pub member_asks : Codec C → Actor C → Option Ask
+  member_asks k (App a) = app_asks_of a
+  member_asks k (Path p) = asks_of k p
+
+  -- its turn ended
+  abbrev pub is_over : Actor C → Bool
+  is_over (App a) = is_nil a.agenda
+  is_over (Path p) = is_nil p.agenda
+
+  -- it takes a reply
+  abbrev pub member_takes : Codec C → Reply → Actor C → Actor C
+  member_takes k r (App a) = App (app_takes r a)
+  member_takes k r (Path p) = Path (takes k r p)
+
+  -- the next round begins
+  abbrev pub member_next : Actor C → Actor C
+  member_next (App a) = App (app_next_round a)
+  member_next (Path p) = Path (next_round p)

@@ -1,0 +1,52 @@
+-- What is promised of a connection over every list of turns.
+use Rattle.std.specs.Prelude.{ℕ, ◌≡◌, true, Some, None, List, [], slice_get}
+use Rattle.pipe_model.specs.Prefix.{IsPrefix}
+use Rattle.send_book.specs.State.{Sending}
+use Rattle.actor_desk.specs.Books.{books_in}
+use Rattle.path_core.specs.Codec.{Codec}
+use Rattle.path_core.specs.Octets.{octets}
+use Rattle.path_core.specs.Values.{Carried, values}
+use Rattle.path_core.specs.Events.{next_event}
+use Rattle.world_laws.specs.declared.member.Member.TheVariants.{App, Path}
+use Rattle.world_laws.specs.Actors.{Actor, ActorCrew}
+use Rattle.world_laws.specs.Fine.{IsFine}
+use Rattle.world_laws.specs.Fresh.{AreFresh, shown_world}
+use Rattle.world_laws.specs.Openings.{Start, opened_world}
+use Rattle.world_laws.specs.Serial.{IsSerial}
+use Rattle.world_laws.specs.Worlds.{WorldState, Turn, after_turn, world_run}
+
+-- what a book has as written is the front of a file, and all of it where the book is closed
+pub record WritesTheFile (file : List ℕ) (send : Sending) : Type 0 where
+  pub front : IsPrefix send.written file
+  pub whole : send.closed ≡ true → send.written ≡ file
+
+pub record WritesTheFiles {C : Type 0} (start : Start) (w : WorldState C) : Type 0 where
+  pub a : WritesTheFile start.file_a (books_in w.books).send_a
+  pub b : WritesTheFile start.file_b (books_in w.books).send_b
+
+-- where the turn of a path is over, no line, no copy and no timer is due before the round's end
+abbrev pub IsDone : {C : Type 0} → Actor C → Type 0
+IsDone (App a) = Unit {0}
+IsDone (Path p) = p.agenda ≡ [] → next_event p ≡ None
+
+pub record NothingDueIsLeft {C : Type 0} (w : WorldState C) : Type 0 where
+  pub each : (actor : ℕ) (c : ActorCrew C) → slice_get w.crew actor ≡ Some c → IsDone c.member
+
+module _ {C : Type 0} (k : Codec C) where
+  -- P holds of a connection at every moment, in whatever order its actors go
+  abbrev pub Always : (Start → WorldState C → Type 0) → Type 0
+  Always P = (start : Start) (turns : List Turn) → P start (world_run k turns (opened_world start))
+
+  -- there is one list of serial turns at most
+  abbrev pub SerialIsOne : Type 0
+  SerialIsOne = (w : WorldState C) (most : ℕ) (ts us : List Turn) → IsSerial k most ts w → IsSerial k most us w → ts ≡ us
+
+  -- a step or a round's end keeps lists and journals in order, which they are from the opening on
+  pub record StaysFine : Type 0 where
+    pub always : Always (λ start w. IsFine w)
+    pub turns : (turn : Turn) (w : WorldState C) → IsFine w → IsFine (after_turn k turn w)
+
+-- a world over octets is the world over segments as values, shown in octets, as long as its turns are fresh
+abbrev pub OctetsDoAsValues : Type 0
+OctetsDoAsValues = (turns : List Turn) (w : WorldState Carried) → AreFresh turns w
+    → world_run octets turns (shown_world w) ≡ shown_world (world_run values turns w)

@@ -1,0 +1,9 @@
+pub mod Actors
+pub mod StampedBooks
+pub mod Worlds
+pub mod Outcomes
+pub mod Serial
+pub mod Openings
+pub mod Fine
+pub mod Fresh
+pub mod Laws

@@ -1,0 +1,16 @@
+//! The world of one connection: two applications and its paths, the six books with their journals, and what each step and each
+//! end of a round makes of them.
+//!
+//! Definitions, and laws over every order of steps; no code. They are polymorphic in what the links of the paths carry.
+#![tactic(auto)]
+
+mod laws;
+mod member;
+mod outcome;
+
+pub use laws::{
+    files_are_written, nothing_due_is_left, octets_do_as_values, serial_is_one,
+    what_is_fine_stays_fine,
+};
+pub use member::{Crew, Member};
+pub use outcome::Outcome;
