@@ -12,10 +12,8 @@ use std::test::Fail;
 fn answer(app: &mut App, alloc: Global, reply: &Reply) -> Result<Option<Ask>, AllocError> {
     let ask = app.ask(alloc)?;
     match (&ask, reply) {
-        (
-            Some(Ask::Send(_, SendCall::Write { bytes })),
-            Reply::Send(SendReply::Taken(count)),
-        ) if *count <= bytes.len() as u64 => app.take(reply),
+        (Some(Ask::Send(_, SendCall::Write { bytes })), Reply::Send(SendReply::Taken(count)))
+            if *count <= bytes.len() as u64 => app.take(reply),
         (Some(Ask::Send(_, SendCall::Close)), Reply::Send(SendReply::Closed)) => app.take(reply),
         (
             Some(Ask::Reassembly(_, ReassemblyCall::Read { .. })),
