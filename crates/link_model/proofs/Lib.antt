@@ -1,5 +1,5 @@
 mod Fates
-mod Found
+pub mod Found
 mod Ranges
 mod Placing
 pub mod Order

@@ -1,5 +1,5 @@
 -- Things put one after the other are the first ten.
-use Rattle.std.proofs.Common.{◌≡◌, ◌∙◌, refl, sym, ap, ℕ, ◌+◌, ◌≤◌, ◌<◌, nat_lt, Bool, true, false, if◌then◌else◌, List, [], ◌∷◌, ◌++◌, length, length-append, take, arith}
+use Rattle.std.proofs.Common.{◌≡◌, ◌∙◌, refl, sym, ap, ℕ, zero, suc, ◌+◌, ◌≤◌, ◌<◌, nat_lt, Bool, true, false, if◌then◌else◌, List, [], ◌∷◌, ◌++◌, length, length-append, take, arith}
 use Rattle.std.proofs.lemmas.Bool.{ltb-true, ltb-false}
 use Rattle.std.proofs.lemmas.List.{take-append-le}
 use Rattle.std.proofs.Math.Seq.{take-length}
@@ -37,15 +37,16 @@ take-short (suc n) (x ∷ xs) le = ap (λ rest. x ∷ rest) (take-short n xs (om
 
 pub with_items-is : (items xs : List Heard) → length items ≤ 10 → with_items items xs ≡ take 10 (items ++ xs)
 with_items-is items [] le = sym (ap (λ all. take 10 all) (append-nil items) ∙ take-short 10 items le)
-with_items-is items (x ∷ xs) le = by (nat_lt (length items) 10) refl
+with_items-is items (x ∷ xs) le =
+    by (nat_lt (length items) 10) refl (λ short. with_items-is (items ++ x ∷ []) xs (omega (arith, length-append items (x ∷ []), short))) (with_items-is items xs le)
   where
-    by : (b : Bool) → nat_lt (length items) 10 ≡ b → with_items (if b then items ++ x ∷ [] else items) xs ≡ take 10 (items ++ x ∷ xs)
-    by true is =
-        with_items-is (items ++ x ∷ []) xs (omega (arith, length-append items (x ∷ []), ltb-true _ _ is))
-        ∙ ap (λ all. take 10 all) (append-assoc items x xs)
-    by false is =
+    by : (b : Bool) → nat_lt (length items) 10 ≡ b
+        → (length items < 10 → with_items (items ++ x ∷ []) xs ≡ take 10 ((items ++ x ∷ []) ++ xs)) → with_items items xs ≡ take 10 (items ++ xs)
+        → with_items (if b then items ++ x ∷ [] else items) xs ≡ take 10 (items ++ x ∷ xs)
+    by true is longer same = longer (ltb-true _ _ is) ∙ ap (λ all. take 10 all) (append-assoc items x xs)
+    by false is longer same =
         let full : length items ≡ 10 = omega (arith, le, ltb-false _ _ is) in
-        with_items-is items xs le ∙ take-full 10 items xs full ∙ sym (take-full 10 items (x ∷ xs) full)
+        same ∙ take-full 10 items xs full ∙ sym (take-full 10 items (x ∷ xs) full)
 
 -- ---- the first DSS
 

@@ -2,6 +2,7 @@ pub mod Ranking
 pub mod Resting
 pub mod Passed
 pub mod FirstTold
+pub mod Meanings
 pub mod Parts
 pub mod Mapped
 pub mod Filling
@@ -14,3 +15,5 @@ mod Things
 mod Sayable
 mod InBounds
 mod Settling
+mod FirstDuty
+mod Ordered

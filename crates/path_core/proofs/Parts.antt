@@ -8,23 +8,23 @@ append-assoc : (xs ys zs : List ℕ) → (xs ++ ys) ++ zs ≡ xs ++ (ys ++ zs)
 append-assoc [] ys zs = refl
 append-assoc (x ∷ xs) ys zs = ap (λ rest. x ∷ rest) (append-assoc xs ys zs)
 
-take-zero : (xs : List ℕ) → take 0 xs ≡ []
-take-zero xs = refl
-
 -- those of the first part, and then as many fewer of the others
-taken-parts : (left taken : ℕ) (part rest : List ℕ) → taken ≡ min left (length part)
-    → take taken part ++ take (left - taken) rest ≡ take left (part ++ rest)
-taken-parts zero zero part rest e = refl
-taken-parts zero (suc taken) part rest e = absurd (omega (arith, e))
-taken-parts (suc left) zero [] rest e = refl
-taken-parts (suc left) (suc taken) [] rest e = absurd (omega (arith, e))
-taken-parts (suc left) zero (x ∷ part) rest e = absurd (omega (arith, e))
-taken-parts (suc left) (suc taken) (x ∷ part) rest e = ap (λ xs. x ∷ xs) (taken-parts left taken part rest (omega (arith, e)))
+taken-parts : (left taken others : ℕ) (part rest : List ℕ) → taken ≡ min left (length part) → others ≡ left - taken
+    → take taken part ++ take others rest ≡ take left (part ++ rest)
+taken-parts left taken others [] rest e f =
+    let none : taken ≡ 0 = omega (arith, e) in let all : others ≡ left = omega (arith, f, none) in
+    ap (λ n. take {A = ℕ} n [] ++ take others rest) none ∙ ap (λ n. take n rest) all
+taken-parts zero taken others (x ∷ part) rest e f =
+    let none : taken ≡ 0 = omega (arith, e) in let no : others ≡ 0 = omega (arith, f) in
+    ap (λ n. take n (x ∷ part) ++ take others rest) none ∙ ap (λ n. take n rest) no
+taken-parts (suc left) zero others (x ∷ part) rest e f = absurd (omega (arith, e))
+taken-parts (suc left) (suc taken) others (x ∷ part) rest e f =
+    ap (λ xs. x ∷ xs) (taken-parts left taken others part rest (omega (arith, e)) (omega (arith, f)))
 
-pub part-taken : (before : List ℕ) (left taken : ℕ) (part rest : List ℕ) → taken ≡ min left (length part)
-    → (before ++ take taken part) ++ take (left - taken) rest ≡ before ++ take left (part ++ rest)
-part-taken before left taken part rest e =
-    append-assoc before (take taken part) (take (left - taken) rest) ∙ ap (λ xs. before ++ xs) (taken-parts left taken part rest e)
+pub part-taken : (before : List ℕ) (left taken others : ℕ) (part rest : List ℕ) → taken ≡ min left (length part) → others ≡ left - taken
+    → (before ++ take taken part) ++ take others rest ≡ before ++ take left (part ++ rest)
+part-taken before left taken others part rest e f =
+    append-assoc before (take taken part) (take others rest) ∙ ap (λ xs. before ++ xs) (taken-parts left taken others part rest e f)
 
 -- a sum over a mapping and some octets, so many of which are still to be added
 pub record Summed (mapping : Mapping) (count left : ℕ) (sum : MappingSum) (rest all : List ℕ) : Type 0 where
@@ -33,7 +33,7 @@ pub record Summed (mapping : Mapping) (count left : ℕ) (sum : MappingSum) (res
   pub few : length added + left ≡ count
   pub whole : added ++ take left rest ≡ take count all
 
-pub append-nil : (xs : List ℕ) → xs ++ [] ≡ xs
+pub append-nil : {X : Type 0} (xs : List X) → xs ++ [] ≡ xs
 append-nil [] = refl
 append-nil (x ∷ xs) = ap (λ rest. x ∷ rest) (append-nil xs)
 

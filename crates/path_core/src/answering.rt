@@ -1,16 +1,19 @@
 //! The reset that answers a copy at a dead end (RFC 9293, section 3.10.7.1).
 
-ghost use Rattle.std.specs.Prelude.{◌≡◌, ◌+◌, ◌<◌, ◌≤◌, ◌^◌, unwrap_or, length, IsTrue};
+ghost use Rattle.std.specs.Prelude.{◌≡◌, ◌+◌, ◌<◌, ◌≤◌, ◌^◌, unwrap_or, length, IfSome, IsSome, IsTrue};
 ghost use Rattle.subflow_tcp.specs.Segments as subflow;
-ghost use Rattle.path_core.specs.Arriving.{zero_position, reset_for, IsShortCopy};
+ghost use Rattle.path_segments.specs.HeardSegments.{heard_value};
+ghost use Rattle.path_core.specs.Arriving.{copy_of, zero_position, reset_for, IsShortCopy};
 
+use crate::arriving::arriving_of;
 use crate::profile::Profile;
 use outside_kit::Side;
+use path_segments::HeardSegment;
 use seq_units::Pos;
 use subflow_tcp::{Arriving, Outgoing};
 
 /// It has at most 65,535 octets, and its position is below 2^63.
-pub(crate) fn is_short(copy: &Arriving<'_>) -> bool
+fn is_short(copy: &Arriving<'_>) -> bool
     ensures { IsTrue result → IsShortCopy (subflow.copy_of copy.now) }
 {
     copy.payload.len() <= 65_535 && copy.position.unwrap_or(0) < 1 << 63
@@ -39,7 +42,7 @@ impl Profile {
 
     /// The reset that answers a copy at a dead end: at the number that the copy acknowledges, or else at number 0 with an
     /// acknowledgement of all that it occupies (RFC 9293, section 3.10.7.1). Its positions are below 2^63.
-    pub fn reset_for(&self, side: Side, copy: &Arriving<'_>) -> Outgoing
+    fn reset_for(&self, side: Side, copy: &Arriving<'_>) -> Outgoing
         requires { IsShortCopy (subflow.copy_of copy.now) }
         ensures { result ≡ reset_for self.now side (subflow.copy_of copy.now) }
     {
@@ -54,6 +57,19 @@ impl Profile {
             fin: false,
             rst: true,
             length: 0,
+        }
+    }
+
+    /// The same for a segment that is heard; none where that has more octets or stands at another position than it could.
+    pub fn answer_to(&self, side: Side, heard: &HeardSegment<'_>) -> Option<Outgoing>
+        ensures value { IfSome result (λ answer. answer ≡ reset_for self.now side (copy_of (heard_value heard.now))) }
+        ensures small { IsSome result → length heard.now.payload.now ≤ 65535 }
+    {
+        let copy = arriving_of(heard);
+        if is_short(&copy) {
+            Some(self.reset_for(side, &copy))
+        } else {
+            None
         }
     }
 }

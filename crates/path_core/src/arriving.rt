@@ -14,7 +14,6 @@ ghost use Rattle.path_core.specs.Octets.{octets, read};
 ghost use Rattle.path_core.specs.State.{end_at};
 
 use crate::agenda::Agenda;
-use crate::answering::is_short;
 use crate::end::PathEnd;
 use crate::hearing::{has_option, items_of, opens_by, owes_by, place_in_first};
 use crate::path::Path;
@@ -42,7 +41,7 @@ fn is_expected(expected: &Expected) -> bool
 }
 
 /// The header and the payload of a segment that is heard.
-fn arriving_of<'a>(heard: &HeardSegment<'a>) -> Arriving<'a>
+pub(crate) fn arriving_of<'a>(heard: &HeardSegment<'a>) -> Arriving<'a>
     ensures { subflow.copy_of result ≡ copy_of (heard_value heard.now) }
 {
     Arriving {
@@ -182,12 +181,10 @@ impl Path {
         ensures ok { OnOk result (self.new ≡ heard_at now side (Some (heard_value heard.now)) self.old) }
         ensures err { OnErr result (self.new ≡ self.old) }
     {
-        let copy = arriving_of(heard);
-        if !is_short(&copy) {
+        let Some(answer) = self.profile.answer_to(side, heard) else {
             return Err(AllocError);
-        }
+        };
         let told = self.profile.held_of(self.alloc, side, heard)?;
-        let answer = self.profile.reset_for(side, &copy);
         let agenda = self
             .end_mut(side)
             .hear_segment(side, now, heard, told, answer)?;

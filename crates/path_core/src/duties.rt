@@ -6,12 +6,12 @@ ghost use Rattle.path_core.specs.Octets.{octets};
 ghost use Rattle.path_core.specs.Duties.{stands, ask_for, passed, answered};
 ghost use Rattle.path_core.specs.Replies.{IsAckBounded, AreRowsInRange, asks_bytes, asks_segment, takes_memory};
 
-use actor_desk::{Ask, LocalStep, Reply};
 use crate::agenda::Agenda;
 use crate::duty::Duty;
 use crate::path::Path;
 use crate::segment_kind::SegmentKind;
 use crate::standing::ack_out_ask;
+use actor_desk::{Ask, LocalStep, Reply};
 use fallback_state::{Event, Mode};
 use std::alloc::AllocError;
 
@@ -61,7 +61,8 @@ impl Path {
 
     /// What a duty asks that carries no bytes.
     fn plain_ask(&self, duty: Duty) -> Ask
-        ensures { asks_bytes duty ≡ false → result ≡ ask_for octets duty self.now }
+        requires { asks_bytes duty ≡ false }
+        ensures { result ≡ ask_for octets duty self.now }
     {
         match duty {
             Duty::Look(side) => self.look_ask(side),
@@ -139,7 +140,8 @@ impl Path {
             Duty::Data(side) => self.answer_data(side, reply),
             Duty::Events => self.answer_event(),
             Duty::Heard { side, index } => self.answer_item(side, index, reply),
-            Duty::Update(side) | Duty::Acknowledge(side) => self.acknowledge(side),
+            Duty::Update(side) => self.acknowledge(side),
+            Duty::Acknowledge(side) => self.acknowledge(side),
             Duty::Syn(side) => self.send_syn(side),
             Duty::DataFin(side) => self.send_data_fin(side),
             Duty::Fin(side) => self.send_fin(side),

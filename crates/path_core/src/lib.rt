@@ -39,6 +39,7 @@ mod segments;
 mod sending;
 mod sends;
 mod standing;
+mod start;
 mod steps;
 mod templates;
 mod treated;

@@ -15,7 +15,7 @@ use crate::path::Path;
 use crate::profile::Profile;
 use actor_desk::{Ask, LocalStep, Reply};
 use dss_checksum::DssSum;
-use dss_mapping::KeptMapping;
+use dss_mapping::{KeptMapping, Mappings};
 use outside_kit::Side;
 use pipe_model::Text;
 use reassembly_book::{ReassemblyCall, ReassemblyReply};
@@ -54,6 +54,14 @@ fn checksum_of(mapping: &Mapping, parts: Parts<'_>, count: u16) -> u16
     sum.make()
 }
 
+/// The mapping of a position.
+fn mapping_at(mappings: &Mappings, edge: Pos) -> Option<KeptMapping>
+    ensures value { result ≡ mapping_at mappings.now.mappings edge }
+    ensures begun { IfSome result (λ kept. kept.pos ≤ edge) }
+{
+    mappings.mapping_at(edge)
+}
+
 /// How many octets from the edge on the mapping covers, with places below 2^62.
 fn count_in(edge: Pos, kept: KeptMapping) -> u64
     requires { kept.pos ≤ edge }
@@ -86,7 +94,7 @@ impl PathEnd {
         ensures value { result ≡ mapping_at self.now.receiving.mappings self.now.tcp.recv.edge }
         ensures begun { IfSome result (λ kept. kept.pos ≤ self.now.tcp.recv.edge) }
     {
-        self.receiving.mappings.mapping_at(self.tcp.edge())
+        mapping_at(&self.receiving.mappings, self.tcp.edge())
     }
 
     /// The whole mapping is there.

@@ -72,7 +72,12 @@ impl<'a> Said<'a> {
                 let segment = self.with_options(&options, self.payload);
                 write(alloc, spelling, spelled_by(side), &segment)
             }
-            None => write(alloc, spelling, spelled_by(side), &self.with_options(&[], self.payload)),
+            None => write(
+                alloc,
+                spelling,
+                spelled_by(side),
+                &self.with_options(&[], self.payload),
+            ),
         }
     }
 
@@ -87,7 +92,11 @@ impl<'a> Said<'a> {
                 let segment = self.with_options(&options, self.payload);
                 sum(spelling, spelled_by(side), &segment)
             }
-            None => sum(spelling, spelled_by(side), &self.with_options(&[], self.payload)),
+            None => sum(
+                spelling,
+                spelled_by(side),
+                &self.with_options(&[], self.payload),
+            ),
         }
     }
 }

@@ -176,12 +176,7 @@ impl PathEnd {
     }
 
     /// On data.
-    fn piece_option(
-        &self,
-        profile: &Profile,
-        side: Side,
-        lent: &RecordRef<'_>,
-    ) -> Option<Saying>
+    fn piece_option(&self, profile: &Profile, side: Side, lent: &RecordRef<'_>) -> Option<Saying>
         ensures value { options_by result ≡ piece_options profile.now side (record_of lent.now) self.now }
     {
         if side == Side::A && !self.modes.clear && lent.pos == 1 {
@@ -204,12 +199,7 @@ impl PathEnd {
     }
 
     /// On a record.
-    fn record_option(
-        &self,
-        profile: &Profile,
-        side: Side,
-        lent: &RecordRef<'_>,
-    ) -> Option<Saying>
+    fn record_option(&self, profile: &Profile, side: Side, lent: &RecordRef<'_>) -> Option<Saying>
         ensures value { options_by result ≡ record_options lent.now.kind profile.now side (record_of lent.now) self.now }
     {
         match lent.kind {
@@ -247,12 +237,7 @@ impl PathEnd {
     }
 
     /// A record, for the first time or again.
-    fn record_said<'a>(
-        &'a self,
-        profile: &Profile,
-        side: Side,
-        lent: &RecordRef<'a>,
-    ) -> Said<'a>
+    fn record_said<'a>(&'a self, profile: &Profile, side: Side, lent: &RecordRef<'a>) -> Said<'a>
         requires { length lent.now.piece.now ≤ 65475 }
         ensures { plain_said result ≡ record_said profile.now side (record_of lent.now) self.now }
     {

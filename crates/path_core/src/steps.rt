@@ -5,10 +5,10 @@ ghost use Rattle.path_core.specs.Octets.{octets};
 ghost use Rattle.path_core.specs.Replies.{TakesReply, IsAckBounded, AreRowsInRange, asks_bytes_first};
 ghost use Rattle.path_core.specs.Steps.{passable, settles_down, answers, asks_of, takes, next_round};
 
-use actor_desk::{Ask, Reply};
 use crate::agenda::Agenda;
 use crate::duty::Duty;
 use crate::path::Path;
+use actor_desk::{Ask, Reply};
 use std::alloc::AllocError;
 
 impl Path {
@@ -21,7 +21,7 @@ impl Path {
     }
 
     /// The duties that come to nothing are passed, up to the first that comes to something. Takes no memory.
-    fn settle(&mut self)
+    pub(crate) fn settle(&mut self)
         ensures { self.new ≡ settles_down self.old }
     {
         while let Some(duty) = self.passable() {
@@ -35,6 +35,7 @@ impl Path {
     /// # Errors
     ///
     /// Only where there is no memory for those bytes.
+    #[tactic(auto, using(crate::proofs::FirstDuty::ask_of_first, crate::proofs::FirstDuty::ask_of_none, crate::proofs::FirstDuty::bytes_of_first))]
     pub fn ask(&self) -> Result<Option<Ask>, AllocError>
         ensures ask { IfOk result (λ ask. ask ≡ asks_of octets self.now) }
         ensures plain { asks_bytes_first self.now.agenda ≡ false → IsOk result }
@@ -46,6 +47,7 @@ impl Path {
     }
 
     /// The reply answers the first duty.
+    #[tactic(auto, using(crate::proofs::FirstDuty::answer_of_first, crate::proofs::FirstDuty::answer_of_none))]
     fn answer_first(&mut self, reply: &Reply) -> Result<(), AllocError>
         requires acks { IsAckBounded reply.now }
         requires rows { AreRowsInRange reply.now }

@@ -4,4 +4,4 @@ use Rattle.path_core.proofs.Parts.{Summed}
 use Rattle.path_core.proofs.placing.checksum_of.Given as goal
 
 abbrev pub invariant-loop-part : goal.invariant-loop-part
-invariant-loop-part l = Summed l.mapping.now l.count l.left l.sum (concat l.part-iterator) (concat l.fn.parts)
+invariant-loop-part l = Summed l.mapping l.count l.left l.sum (concat l.part-iterator) (concat l.fn.parts)

@@ -1,0 +1,63 @@
+-- What the first duty of an agenda comes to.
+use Rattle.std.proofs.Common.{◌≡◌, refl, ap, sym, subst, ◌∙◌, Bool, true, false, if◌then◌else◌, Option, Some, None, List, [], ◌∷◌}
+use Rattle.actor_desk.specs.Words.{tail_of}
+use Rattle.actor_desk.specs.declared.ask.Reply.{Reply}
+use Rattle.path_core.specs.declared.duty.Duty.{Duty}
+use Rattle.path_core.specs.Codec.{Codec}
+use Rattle.path_core.specs.Duties.{stands, ask_for, passed, answered}
+use Rattle.path_core.specs.Replies.{asks_bytes, asks_bytes_first}
+use Rattle.path_core.specs.State.{PathState, with_agenda}
+use Rattle.path_core.specs.Steps.{settled, settles_down, passable, passable_of, asks_first, answers}
+use Rattle.path_core.specs.Words.{first_of}
+use Rattle.path_core.proofs.Settling.{passes_anyway, settles_anyway}
+
+pub bytes_of_first : (ds : List Duty) (d : Duty) → first_of ds ≡ Some d → asks_bytes_first ds ≡ asks_bytes d
+bytes_of_first [] d is = cc
+bytes_of_first (x ∷ ds) d is = let same : x ≡ d = cc in ap asks_bytes same
+
+module _ {C : Type 0} (k : Codec C) where
+  pub ask_of_first : (ds : List Duty) (d : Duty) (p : PathState C) → first_of ds ≡ Some d → asks_first k ds p ≡ Some (ask_for k d p)
+  ask_of_first [] d p is = cc
+  ask_of_first (x ∷ ds) d p is = let same : x ≡ d = cc in ap (λ y. Some (ask_for k y p)) same
+
+  pub ask_of_none : (ds : List Duty) (p : PathState C) → first_of ds ≡ None → asks_first k ds p ≡ None
+  ask_of_none [] p is = refl
+  ask_of_none (x ∷ ds) p is = cc
+
+  pub answer_of_first : (ds : List Duty) (d : Duty) (r : Reply) (p : PathState C) → first_of ds ≡ Some d → answers k ds r p ≡ answered k d r p
+  answer_of_first [] d r p is = cc
+  answer_of_first (x ∷ ds) d r p is = let same : x ≡ d = cc in ap (λ y. answered k y r p) same
+
+  pub answer_of_none : (ds : List Duty) (r : Reply) (p : PathState C) → first_of ds ≡ None → answers k ds r p ≡ p
+  answer_of_none [] r p is = refl
+  answer_of_none (x ∷ ds) r p is = cc
+
+module _ {C : Type 0} where
+  -- a duty that comes to nothing is passed
+  passes_first : (ds : List Duty) (d : Duty) (p : PathState C) → passable_of ds p ≡ Some d
+      → settles_down (passed d (with_agenda (tail_of ds) p)) ≡ settled ds p
+  passes_first [] d p is = cc
+  passes_first (x ∷ ds) d p is = by (stands x p) is
+    where
+      by : (b : Bool) → (if b then None else Some x) ≡ Some d
+          → settles_down (passed d (with_agenda ds p)) ≡ (if b then with_agenda (x ∷ ds) p else settled ds (passed x p))
+      by true is = cc
+      by false is =
+          let same : x ≡ d = cc in
+          subst (λ y. settles_down (passed y (with_agenda ds p)) ≡ settled ds (passed x p)) same
+          (ap settles_down (passes_anyway x ds p) ∙ settles_anyway ds ds (passed x p))
+
+  pub passes : (d : Duty) (p : PathState C) → passable p ≡ Some d → settles_down (passed d (with_agenda (tail_of p.agenda) p)) ≡ settles_down p
+  passes d p is = passes_first p.agenda d p is
+
+  stays : (ds : List Duty) (p : PathState C) → p.agenda ≡ ds → passable_of ds p ≡ None → settled ds p ≡ p
+  stays [] p is none = subst (λ ds. with_agenda ds p ≡ p) is refl
+  stays (d ∷ ds) p is none = by (stands d p) none
+    where
+      by : (b : Bool) → (if b then None else Some d) ≡ None → (if b then with_agenda (d ∷ ds) p else settled ds (passed d p)) ≡ p
+      by true none = subst (λ ds. with_agenda ds p ≡ p) is refl
+      by false none = cc
+
+  -- where the first one comes to something nothing changes
+  pub settled_stays : (p : PathState C) → passable p ≡ None → settles_down p ≡ p
+  settled_stays p none = stays p.agenda p refl none

@@ -1,0 +1,10 @@
+use Rattle.std.proofs.Common.{◌≡◌, sym, ◌∙◌}
+use Rattle.path_core.proofs.FirstDuty.{passes, settled_stays}
+use Rattle.path_core.proofs.path.Path.settle.Goals as goal
+
+pub loop-duty-preserved : goal.loop-duty-preserved
+loop-duty-preserved c =
+    rw (c.pass.ensures, c.done.ensures) (passes c.in-Some.duty c.loop-duty.self (sym c.passable.ensures ∙ c.in-Some.is) ∙ c.loop-duty.invariant)
+
+pub returns : goal.returns
+returns c = sym (settled_stays c.loop-duty.self (sym c.passable.ensures ∙ c.in_default.is)) ∙ c.loop-duty.invariant
