@@ -1,9 +1,8 @@
 -- What the steps of an application make of the two directions: it writes into the one, and reads from the other.
-use Rattle.std.proofs.Common.{◌≡◌, refl, sym, ◌∙◌, ap, subst, ℕ, zero, suc, ◌+◌, ◌<◌, ◌≤◌, min, ◌&&◌, ◌||◌, not, nat_lt, Bool, true, false, if◌then◌else◌, Option, Some, None, List, [], ◌∷◌, ◌++◌, length, take, drop, replicate, arith}
-use Rattle.std.proofs.lemmas.Bool.{and_parts, or_parts, both_ways, false≢true}
-use Rattle.std.proofs.lemmas.List.{append-nil, append_assoc, take-append-drop}
+use Rattle.std.proofs.Common.{◌≡◌, refl, sym, ◌∙◌, ap, ℕ, zero, suc, ◌≤◌, ◌||◌, not, Bool, true, false, if◌then◌else◌, List, [], ◌∷◌, ◌++◌, length, take, drop, replicate, arith}
+use Rattle.std.proofs.lemmas.Bool.{or_parts, both_ways, false≢true}
+use Rattle.std.proofs.lemmas.List.{append-nil, append_assoc}
 use Rattle.std.specs.List.{list_any}
-use Rattle.outside_kit.specs.declared.side.Side.{Side}
 use Rattle.send_book.specs.declared.call.SendReply.TheVariants as send_replies
 use Rattle.send_book.specs.declared.mark.ByteMark.TheVariants.{Free}
 use Rattle.send_book.specs.Tried.{no_paths}
@@ -11,19 +10,15 @@ use Rattle.send_book.specs.State.{Sending}
 use Rattle.send_book.specs.Steps as send
 use Rattle.reassembly_book.specs.declared.call.ReassemblyReply.{ReassemblyReply}
 use Rattle.reassembly_book.specs.declared.call.ReassemblyReply.TheVariants as reassembly_replies
-use Rattle.reassembly_book.specs.State.{Arriving, filled}
-use Rattle.reassembly_book.specs.Steps as arrival
-use Rattle.stream_lanes.specs.Lane.{Lane}
-use Rattle.stream_lanes.specs.Streams.{Reader, Direction, StreamEvent, takes_read, is_done, after}
-use Rattle.stream_lanes.specs.Streams.StreamEvent.{Write, Close, Read}
+use Rattle.stream_lanes.specs.Streams.{Reader, takes_read, is_done}
 use Rattle.actor_desk.specs.declared.ask.Note.{Note}
 use Rattle.actor_desk.specs.declared.ask.Reply.{Reply}
 use Rattle.actor_desk.specs.declared.ask.Reply.TheVariants as replies
 use Rattle.stream_apps.specs.declared.duty.AppDuty.{AppDuty}
 use Rattle.stream_apps.specs.declared.duty.AppDuty.TheVariants as duties
 use Rattle.stream_apps.specs.Apps.{AppState}
-use Rattle.stream_apps.specs.AppSteps.{app_stands, app_settled, app_settles_down, app_answered, app_answers, app_takes, app_next_round, taken_in, bytes_in, ends_in, start_of_app}
-use Rattle.stream_apps.specs.Turns.{FirstAppStands, IsAppSettled}
+use Rattle.stream_apps.specs.AppSteps.{app_stands, app_settled, taken_in, bytes_in, ends_in}
+use Rattle.stream_apps.specs.Turns.{IsAppSettled}
 use Rattle.actor_desk.specs.Words.{is_nil}
 use Rattle.world_laws.specs.Outcomes.{note_tells, was_told, tells_end, bytes_noted, read_by}
 

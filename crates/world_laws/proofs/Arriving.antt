@@ -1,58 +1,39 @@
 -- A copy that arrives: what the end makes of it at once, and what the lanes do then.
-use Rattle.std.proofs.Common.{◌≡◌, refl, sym, ◌∙◌, ap, subst, ℕ, zero, suc, ◌+◌, ◌-◌, ◌^◌, ◌<◌, ◌≤◌, ◌&&◌, nat_lt, nat_le, ◌⊎◌, inl, inr, ⊎_elim, Bool, true, false, if◌then◌else◌, option_map, unwrap_or, Option, Some, None, List, [], ◌∷◌, ◌++◌, length, take, drop, map, flat_map, arith}
-use Rattle.std.proofs.lemmas.Bool.{and_parts, both_ways, false≢true}
-use Rattle.std.proofs.lemmas.List.{append-nil}
-use Rattle.std.proofs.lemmas.Option.{same_Some}
-use Rattle.std.specs.List.{slice_get}
+use Rattle.std.proofs.Common.{◌≡◌, refl, sym, ap, subst, ℕ, suc, ◌+◌, inl, ⊎_elim, Bool, true, false, if◌then◌else◌, option_map, Option, Some, None, List, [], ◌∷◌, length, take, map, flat_map}
+use Rattle.std.proofs.lemmas.Bool.{both_ways, false≢true}
 use Rattle.std.specs.Option.{IfSome}
 use Rattle.outside_kit.specs.declared.side.Side.{Side}
 use Rattle.outside_kit.specs.declared.side.Side.TheVariants.{A, B}
 use Rattle.dss_mapping.specs.declared.kept.KeptMapping.{KeptMapping}
-use Rattle.dss_mapping.specs.Learning.{after_hold}
 use Rattle.loss_recovery.specs.declared.windows.Told.{Told}
 use Rattle.mptcp_options.specs.declared.capable.CapableKeys.{CapableKeys}
 use Rattle.mptcp_options.specs.declared.capable.CapableKeys.TheVariants.{NoKey, Sender, Both, WithData}
 use Rattle.path_segments.specs.declared.segment.PathMapping.{PathMapping}
 use Rattle.path_segments.specs.declared.segment.PathMapping.TheVariants.{Bytes, End, Infinite}
 use Rattle.path_segments.specs.declared.segment.PathOption.TheVariants.{Capable, Join, Dss, AddAddr, Remove, Prio, Fail, FastClose, Reset}
-use Rattle.path_segments.specs.Laws.{meant, meant_option, meant_mapping, window_told}
+use Rattle.path_segments.specs.Laws.{meant_option, meant_mapping}
 use Rattle.path_segments.specs.Options.{PlainOption}
-use Rattle.path_segments.specs.Spelled.{PlainSegment}
-use Rattle.subflow_recv.specs.Receiving.{Receiving, window_end, after_accept}
+use Rattle.subflow_recv.specs.Receiving.{after_accept}
 use Rattle.subflow_send.specs.declared.record.AckKind.{AckKind}
 use Rattle.subflow_send.specs.declared.record.AckKind.TheVariants as acks
 use Rattle.subflow_send.specs.Rules.{after_acknowledge, ack_kind, sample_of}
-use Rattle.subflow_tcp.specs.declared.handshake.State.{State as EndPhase}
 use Rattle.subflow_tcp.specs.declared.handshake.State.TheVariants as phase
 use Rattle.subflow_tcp.specs.declared.segments.Hint.{Hint}
-use Rattle.subflow_tcp.specs.declared.verdicts.Meaning.{Meaning}
-use Rattle.subflow_tcp.specs.declared.verdicts.Meaning.TheVariants as means
-use Rattle.subflow_tcp.specs.Judging.{meaning_of}
-use Rattle.subflow_tcp.specs.Segments.{Copy, occupied}
-use Rattle.subflow_tcp.specs.State.{EndState, is_behind}
+use Rattle.subflow_tcp.specs.Segments.{Copy}
+use Rattle.subflow_tcp.specs.State.{EndState}
 use Rattle.subflow_tcp.specs.States as states
 use Rattle.subflow_tcp.specs.Taking as taking
-use Rattle.stream_lanes.specs.Holding.{LaneHolds}
 use Rattle.stream_lanes.specs.Lane.{AckCopy, Lane}
-use Rattle.stream_lanes.specs.View.{View}
 use Rattle.stream_lanes.specs.Words.{Every}
-use Rattle.stream_lanes.proofs.Lists.{Every-nil, Every-map, Every-append, in_take}
+use Rattle.stream_lanes.proofs.Lists.{Every-nil, Every-append, in_take}
 use Rattle.path_core.specs.declared.heard.Heard.{Heard}
 use Rattle.path_core.specs.declared.heard.Heard.TheVariants as says
-use Rattle.path_core.specs.Arriving.{copy_of, ack_items, is_mapping, mapping_items, map_items, key_items, items_in, items_of, held_if, map_held, key_held, held_in, held_of, checksum_heard, hint_of, treated_of, with_payload, owing_if, owes_by, opens_by, after_meaning, reset_for, reset_by, HeardOption}
-use Rattle.path_core.specs.Codec.{HeardSegment}
-use Rattle.path_core.specs.Ends.{PathEnd}
+use Rattle.path_core.specs.Arriving.{ack_items, is_mapping, mapping_items, map_items, key_items, items_in, held_if, map_held, key_held, held_in, checksum_heard}
 use Rattle.path_core.specs.Placing.{kept_of}
 use Rattle.path_core.specs.State.{Profile}
-use Rattle.actor_desk.specs.Words.{is_nil}
-use Rattle.world_laws.proofs.Ending.{Did}
-use Rattle.world_laws.proofs.Growing.{SenderGoes, ReceiverGoes, sender_stays, receiver_stays}
-use Rattle.world_laws.proofs.Hearing.{Fits, meaning_fits, state_shows, handshake_back, fin_acked_back}
+use Rattle.world_laws.proofs.Hearing.{state_shows, handshake_back, fin_acked_back}
 use Rattle.world_laws.proofs.Records.{acknowledged_shows, every_cons}
-use Rattle.world_laws.proofs.Roads.{Strolls, stays}
-use Rattle.world_laws.proofs.Rules.{died_shows}
-use Rattle.world_laws.proofs.Showing.{HasAck, HasData, HasMapping, HasNumber, HasFin, is_unfinished, SenderShows, Under, IsAtEdge, IsPastFin, ReceiverShows, HeldShows, WindowShows, ItemShows, TreatedShows, EndShows, MappingShows, KeysShow, OptionShows, SegmentShows}
-use Rattle.world_laws.proofs.Taking.{heard_lane, hears, heard_goes, heard_under, heard_more}
+use Rattle.world_laws.proofs.Showing.{HasAck, HasMapping, HasFin, is_unfinished, SenderShows, ReceiverShows, HeldShows, ItemShows, MappingShows, KeysShow, OptionShows}
 
 -- ---- what the options say
 

@@ -1,5 +1,5 @@
 -- A path never writes to a send book and never closes one.
-use Rattle.std.proofs.Common.{◌≡◌, refl, sym, ◌∙◌, ap, Result, Ok, Err, ℕ, ◌==◌, Bool, true, false, if◌then◌else◌, option_map, Option, Some, None, List, [], ◌∷◌, ◌++◌}
+use Rattle.std.proofs.Common.{◌≡◌, refl, sym, ◌∙◌, ap, Result, Ok, Err, ℕ, Bool, true, false, if◌then◌else◌, Option, Some, None, List, ◌++◌}
 use Rattle.send_book.specs.declared.call.Span.{Span}
 use Rattle.send_book.specs.declared.call.Why.{Why}
 use Rattle.send_book.specs.declared.call.SendCall.{SendCall}
@@ -30,7 +30,7 @@ use Rattle.path_core.specs.Passing.{piece_of, piece_ask, fin_of, fin_ask, rate_a
 use Rattle.path_core.specs.Placing.{Piece}
 use Rattle.path_core.specs.Sends.{sends}
 use Rattle.path_core.specs.State.{PathState, end_at}
-use Rattle.path_core.specs.Treating.{is_clash, fell_ask, mapping_ask, heard_ask, item_ask, item_of}
+use Rattle.path_core.specs.Treating.{is_clash, fell_ask, mapping_ask, item_ask, item_of}
 use Rattle.world_laws.proofs.Applying.{Writes}
 
 -- neither writes nor closes

@@ -1,30 +1,25 @@
 -- What an end does: the lanes go on by what its sender's half and its receiver's half do, and show the end as it is then.
-use Rattle.std.proofs.Common.{◌≡◌, refl, sym, ◌∙◌, ap, subst, ℕ, zero, suc, ◌+◌, ◌-◌, ◌*◌, ◌/◌, ◌%◌, ◌^◌, ◌<◌, ◌≤◌, min, max, ◌&&◌, ◌||◌, ◌==◌, not, nat_lt, nat_le, ◌⊎◌, inl, inr, ⊎_elim, Bool, true, false, if◌then◌else◌, Option, Some, None, List, [], ◌∷◌, ◌++◌, length, take, drop, map, arith}
-use Rattle.std.proofs.lemmas.Bool.{lt-ltb, false≢true}
-use Rattle.std.proofs.lemmas.List.{append-nil, append_assoc, length-take, take_all}
-use Rattle.std.proofs.lemmas.Option.{same_Some}
+use Rattle.std.proofs.Common.{◌≡◌, refl, sym, ◌∙◌, ap, ℕ, suc, ◌+◌, ◌-◌, ◌*◌, ◌/◌, ◌%◌, ◌^◌, ◌<◌, ◌≤◌, min, ◌&&◌, nat_lt, Bool, true, false, if◌then◌else◌, Option, Some, List, [], ◌∷◌, ◌++◌, length, take, drop, arith}
+use Rattle.std.proofs.lemmas.Bool.{lt-ltb}
+use Rattle.std.proofs.lemmas.List.{append-nil, append_assoc}
 use Rattle.std.specs.List.{slice_get}
-use Rattle.std.specs.Option.{IfSome}
 use Rattle.outside_kit.specs.declared.side.Side.{Side}
 use Rattle.send_book.specs.declared.call.Span.{Span}
 use Rattle.send_book.specs.declared.call.Why.{Why}
-use Rattle.send_book.specs.declared.call.SendReply.{SendReply}
 use Rattle.send_book.specs.declared.call.SendReply.TheVariants as send_replies
-use Rattle.reassembly_book.specs.declared.call.ReassemblyReply.{ReassemblyReply}
 use Rattle.reassembly_book.specs.declared.call.ReassemblyReply.TheVariants as reassembly_replies
-use Rattle.send_book.proofs.Lists.{slice_get-append_right}
 use Rattle.stream_lanes.specs.Lane.{Cell, Mapping, DataCopy, AckCopy, Lane}
-use Rattle.stream_lanes.specs.Lane.Ask.{Nothing, AskGrant, AskAckIn, AskPlace, AskFin, AskAckOut}
-use Rattle.stream_lanes.specs.Moves.{Move, bytes_of, cells_from, hears, hears_data_fin, sends_piece, is_whole, known, later_end, takes_grant, takes_ack, takes_placed, takes_fin, takes_ack_out, ack_copy}
+use Rattle.stream_lanes.specs.Lane.Ask.{Nothing, AskGrant, AskAckIn, AskFin, AskAckOut}
+use Rattle.stream_lanes.specs.Moves.{Move, bytes_of, cells_from, hears, hears_data_fin, sends_piece, is_whole, known, later_end, takes_grant, takes_ack_out, ack_copy}
 use Rattle.stream_lanes.specs.Moves.Move.{WantGrant, HearAck, SendPiece, SendDataFin, SendFin, HearDataFin, WantAckOut, SendAck}
-use Rattle.stream_lanes.specs.Words.{Every, Has}
+use Rattle.stream_lanes.specs.Words.{Has}
 use Rattle.stream_lanes.proofs.Lists.{Has-more}
 use Rattle.path_segments.specs.Spelling.{numbers_of}
 use Rattle.path_core.specs.Segments.{spelled_by, bare_mapping, place_numbered}
 use Rattle.path_core.specs.State.{Profile}
-use Rattle.world_laws.proofs.Growing.{SenderGoes, ReceiverGoes, sender_stays, receiver_stays}
-use Rattle.world_laws.proofs.Roads.{move, moves, Strolls, one_move, then_strolls}
-use Rattle.world_laws.proofs.Showing.{HasAck, HasData, HasMapping, HasNumber, IsAckOf, IsDataOf, IsMappedTo, IsMappingOf, WindowShows}
+use Rattle.world_laws.proofs.Growing.{SenderGoes, ReceiverGoes}
+use Rattle.world_laws.proofs.Roads.{moves, Strolls, one_move}
+use Rattle.world_laws.proofs.Showing.{HasAck, HasNumber, WindowShows}
 
 -- the last one of a list
 last_there : {X : Type 0} (xs : List X) (x : X) → slice_get (xs ++ x ∷ []) (length xs) ≡ Some x

@@ -1,9 +1,7 @@
 -- What each rule of an end makes of the lanes.
-use Rattle.std.proofs.Common.{◌≡◌, refl, sym, ◌∙◌, ap, subst, ℕ, zero, suc, ◌+◌, ◌-◌, ◌*◌, ◌/◌, ◌^◌, ◌<◌, ◌≤◌, min, max, ◌&&◌, ◌||◌, ◌==◌, not, nat_lt, nat_le, ◌⊎◌, inl, inr, ⊎_elim, Bool, true, false, cond, if◌then◌else◌, Option, Some, None, List, [], ◌∷◌, ◌++◌, length, take, drop, map, arith}
+use Rattle.std.proofs.Common.{◌≡◌, refl, sym, ap, subst, ℕ, suc, ◌^◌, ◌<◌, max, ◌||◌, inl, inr, ⊎_elim, true, false, Option, Some, None, List, [], ◌++◌, length, arith}
 use Rattle.std.proofs.lemmas.Bool.{or_cases, or_left, or_right, both_ways, false≢true}
 use Rattle.std.proofs.lemmas.List.{append-nil}
-use Rattle.std.proofs.lemmas.Option.{same_Some}
-use Rattle.std.specs.List.{slice_get}
 use Rattle.std.specs.Option.{IfSome}
 use Rattle.outside_kit.specs.declared.side.Side.{Side}
 use Rattle.send_book.specs.declared.call.Span.{Span}
@@ -14,8 +12,6 @@ use Rattle.loss_recovery.specs.declared.windows.Congestion.{Congestion}
 use Rattle.loss_recovery.specs.declared.windows.Pending.{Pending}
 use Rattle.loss_recovery.specs.Windows as windows
 use Rattle.subflow_send.specs.Records.{Record, SendState}
-use Rattle.subflow_send.specs.Rules.{after_push, fin_record}
-use Rattle.subflow_send.specs.Sendings.{never_sent}
 use Rattle.subflow_send.specs.declared.record.RecordKind.{RecordKind}
 use Rattle.subflow_send.specs.declared.record.RecordKind.TheVariants.{Syn, Data, Fin}
 use Rattle.subflow_tcp.specs.declared.handshake.State.{State as EndPhase}
@@ -25,24 +21,21 @@ use Rattle.subflow_tcp.specs.States as states
 use Rattle.stream_lanes.specs.Lane.{Lane}
 use Rattle.stream_lanes.specs.Lane.Ask.{Nothing}
 use Rattle.send_book.specs.declared.call.SendReply.{SendReply}
-use Rattle.stream_lanes.specs.Moves.{later_end, known, takes_grant, takes_ack, cells_from}
+use Rattle.stream_lanes.specs.Moves.{later_end, known, takes_ack}
 use Rattle.stream_lanes.specs.Words.{Every}
-use Rattle.stream_lanes.proofs.Lists.{Every-nil, Every-map, Every-push, Has-more, IfSome-map}
-use Rattle.actor_desk.specs.declared.ask.Reply.{Reply}
+use Rattle.stream_lanes.proofs.Lists.{Every-map, Every-push, Has-more, IfSome-map}
 use Rattle.actor_desk.specs.declared.ask.Reply.TheVariants as replies
 use Rattle.path_core.specs.declared.modes.Modes.{Modes}
-use Rattle.path_core.specs.Closing.{after_acked}
-use Rattle.path_core.specs.Ends.{PathEnd, Sending, Treated}
-use Rattle.path_core.specs.Emission.{granted, refused, payload_size}
-use Rattle.path_core.specs.Segments.{mapping_of, place_numbered}
+use Rattle.path_core.specs.Ends.{PathEnd}
+use Rattle.path_core.specs.Emission.{granted, refused}
 use Rattle.path_core.specs.Standing.{after_ack_out}
 use Rattle.path_core.specs.State.{Profile}
 use Rattle.path_core.specs.Treating.{with_acked}
 use Rattle.path_core.specs.Words.{told_last}
 use Rattle.world_laws.proofs.Doing.{told_lane, ack_moves, told_goes, told_windows, with_piece, granted_lane, sends_the_piece, piece_goes, refused_lane, with_end, sends_the_end, end_goes, with_fin_sent, sends_the_fin, fin_goes, place_is, length-granted, has_last}
-use Rattle.world_laws.proofs.Growing.{SenderGoes, ReceiverGoes, sender_stays, receiver_stays, Longer, sent_longer, heard_longer, data_longer, mapping_longer, number_longer, fin_longer, treated_longer}
+use Rattle.world_laws.proofs.Growing.{SenderGoes, ReceiverGoes, sender_stays, receiver_stays, Longer, sent_longer, data_longer, mapping_longer, fin_longer}
 use Rattle.world_laws.proofs.Roads.{moves, Strolls, stays}
-use Rattle.world_laws.proofs.Showing.{HasAck, HasData, HasMapping, HasNumber, HasFin, IsPiece, KindShows, RecordShows, is_unfinished, SenderShows, ReceiverShows, WindowShows, TreatedShows, EndShows}
+use Rattle.world_laws.proofs.Showing.{HasAck, HasNumber, KindShows, RecordShows, is_unfinished, TreatedShows, EndShows}
 
 -- an end that may finish hasn't finished
 unfinished_if : (state : EndPhase) → states.may_finish state ≡ true → is_unfinished state ≡ true

@@ -1,6 +1,6 @@
 -- A turn of a path is over only where nothing is due before the round's end.
-use Rattle.std.proofs.Common.{◌≡◌, refl, sym, ap, subst, ℕ, zero, suc, ◌+◌, ◌⊎◌, inl, inr, Bool, true, false, if◌then◌else◌, is_some, Option, Some, None, List, [], ◌∷◌, ◌++◌, length}
-use Rattle.std.proofs.lemmas.Bool.{false≢true, true≢false}
+use Rattle.std.proofs.Common.{◌≡◌, refl, sym, subst, ℕ, zero, suc, ◌+◌, ◌⊎◌, inl, inr, Bool, true, false, if◌then◌else◌, is_some, Option, Some, None, List, [], ◌∷◌, ◌++◌, length}
+use Rattle.std.proofs.lemmas.Bool.{true≢false}
 use Rattle.outside_kit.specs.declared.side.Side.{Side}
 use Rattle.outside_kit.specs.declared.side.Side.TheVariants.{A, B}
 use Rattle.subflow_tcp.specs.declared.verdicts.Meaning.{Meaning}
@@ -18,20 +18,20 @@ use Rattle.path_core.specs.declared.event.Event.{Event}
 use Rattle.path_core.specs.declared.event.Event.TheVariants as happening
 use Rattle.path_core.specs.declared.heard.Heard.{Heard}
 use Rattle.path_core.specs.declared.heard.Heard.TheVariants as says
-use Rattle.path_core.specs.Agenda.{start_of_turn, heard_and, payload_came, emission, rest_of_turn, breaks, resets, leaves}
+use Rattle.path_core.specs.Agenda.{start_of_turn, heard_and, payload_came, rest_of_turn, resets, leaves}
 use Rattle.path_core.specs.Arriving.{items_of, copy_of, template_by}
 use Rattle.path_core.specs.Breaking.{answered_break, reset_on}
 use Rattle.path_core.specs.Codec.{Codec, HeardSegment}
 use Rattle.path_core.specs.Duties.{stands, passed, answered}
 use Rattle.path_core.specs.Emission.{first_unsent, Grant, grant_in, answered_grant, answered_data}
-use Rattle.path_core.specs.Events.{next_event, heard_in, at_tick, is_death, leaves_unless_dead, after_line, path_died, copy_heard, template_fired, timer_fired, happens, happens_if}
+use Rattle.path_core.specs.Events.{next_event, heard_in, at_tick, is_death, after_line, copy_heard, template_fired, happens_if}
 use Rattle.path_core.specs.Passing.{piece_of, is_placed, answered_piece, is_fin_set, answered_fin_heard}
 use Rattle.path_core.specs.Placing.{Piece, with_learned}
 use Rattle.path_core.specs.Standing.{answered_ack_out}
 use Rattle.path_core.specs.State.{PathState, end_at, with_agenda, goes_on, left}
 use Rattle.path_core.specs.Words.{replaced}
-use Rattle.path_core.specs.Steps.{settled, answers, takes, next_round}
-use Rattle.path_core.specs.Treating.{is_clash, after_verdict, is_acked, told_next, answered_mapping, answered_heard, answered_item, item_of}
+use Rattle.path_core.specs.Steps.{settled, takes}
+use Rattle.path_core.specs.Treating.{is_clash, after_verdict, told_next, answered_mapping, answered_item, item_of}
 
 -- the events of the turn, and its end, are ahead
 abbrev pub Ahead : List Duty → Type 0

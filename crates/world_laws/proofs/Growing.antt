@@ -1,8 +1,6 @@
 -- What was sent on a lane stays, so what the ends and the copies have to do with the lanes stays as these go on.
-use Rattle.std.proofs.Common.{◌≡◌, refl, sym, ◌∙◌, ap, subst, ℕ, suc, ◌⊎◌, inl, inr, ⊎_elim, Bool, true, false, Option, Some, None, List, [], ◌∷◌, ◌++◌}
+use Rattle.std.proofs.Common.{◌≡◌, refl, sym, ◌∙◌, ap, subst, ℕ, inl, inr, ⊎_elim, Bool, Option, Some, None, List, [], ◌++◌}
 use Rattle.std.proofs.lemmas.List.{append-nil}
-use Rattle.std.specs.List.{slice_get}
-use Rattle.std.specs.Option.{IfSome}
 use Rattle.outside_kit.specs.declared.side.Side.{Side}
 use Rattle.mptcp_options.specs.declared.capable.CapableKeys.{CapableKeys}
 use Rattle.mptcp_options.specs.declared.capable.CapableKeys.TheVariants.{WithData}
@@ -11,20 +9,17 @@ use Rattle.path_segments.specs.declared.segment.PathMapping.TheVariants.{Bytes, 
 use Rattle.path_segments.specs.declared.segment.PathOption.TheVariants.{Capable, Dss}
 use Rattle.path_segments.specs.Options.{PlainOption}
 use Rattle.path_segments.specs.Spelled.{PlainSegment}
-use Rattle.subflow_send.specs.declared.record.RecordKind.{RecordKind}
-use Rattle.subflow_send.specs.declared.record.RecordKind.TheVariants.{Syn, Data, Fin}
-use Rattle.subflow_send.specs.Records.{Record, SendState}
+use Rattle.subflow_send.specs.Records.{SendState}
 use Rattle.subflow_tcp.specs.declared.handshake.State.{State as EndPhase}
 use Rattle.subflow_recv.specs.Receiving.{Receiving}
 use Rattle.dss_mapping.specs.declared.kept.KeptMapping.{KeptMapping}
 use Rattle.stream_lanes.specs.Lane.{Cell, Mapping, DataCopy, AckCopy, Told, Ask, Lane}
-use Rattle.stream_lanes.specs.Words.{Every, Has}
-use Rattle.stream_lanes.proofs.Lists.{Every-map, Has-map, Has-more, IfSome-map}
+use Rattle.stream_lanes.proofs.Lists.{Every-map, Has-more, IfSome-map}
 use Rattle.path_core.specs.declared.heard.Heard.{Heard}
 use Rattle.path_core.specs.declared.heard.Heard.TheVariants as says
 use Rattle.path_core.specs.Ends.{PathEnd, Treated}
 use Rattle.path_core.specs.State.{Profile}
-use Rattle.world_laws.proofs.Showing.{HasAck, HasData, HasMapping, HasNumber, HasFin, IsPiece, KindShows, RecordShows, SenderShows, IsAtEdge, IsPastFin, KeptShows, WindowShows, ReceiverShows, ItemShows, TreatedShows, EndShows, MappingShows, KeysShow, OptionShows, SegmentShows}
+use Rattle.world_laws.proofs.Showing.{HasAck, HasData, HasMapping, HasNumber, HasFin, SenderShows, WindowShows, ReceiverShows, ItemShows, TreatedShows, EndShows, MappingShows, KeysShow, OptionShows, SegmentShows}
 
 -- ---- how a lane goes on
 

@@ -1,5 +1,5 @@
 -- An ask that is entered at the stamped books is that call at the books that their journals make.
-use Rattle.std.proofs.Common.{◌≡◌, refl, sym, ◌∙◌, ap, List, [], ◌∷◌, ◌++◌}
+use Rattle.std.proofs.Common.{◌≡◌, refl, ap, [], ◌∷◌}
 use Rattle.outside_kit.specs.declared.side.Side.TheVariants.{A, B}
 use Rattle.stamped_book.specs.declared.stamped.Pass.{Pass}
 use Rattle.stamped_book.specs.Journal.{Journaled, book_of}
@@ -12,7 +12,7 @@ use Rattle.control_book.specs.Steps as control
 use Rattle.actor_desk.specs.declared.ask.Ask.{Ask}
 use Rattle.actor_desk.specs.declared.ask.Ask.TheVariants as asks
 use Rattle.actor_desk.specs.Books.{StampedBooks, books_in, after_entry}
-use Rattle.actor_desk.specs.Desk.{SixBooks, after_ask}
+use Rattle.actor_desk.specs.Desk.{after_ask}
 
 entered : {O C R : Type 0} (reply_to : O → C → R) (after : O → C → O) (stamped : Journaled O C R) (pass : Pass) (call : C)
     → book_of reply_to after (after_entering reply_to after stamped pass call) ≡ after (book_of reply_to after stamped) call

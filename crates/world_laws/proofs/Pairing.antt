@@ -1,14 +1,13 @@
 -- Every step and every end of a round keeps lists and journals paired and chained.
-use Rattle.std.proofs.Common.{◌≡◌, refl, sym, ◌∙◌, ap, subst, ℕ, zero, suc, ◌+◌, ◌<◌, ◌≤◌, max, Bool, true, false, if◌then◌else◌, ◌⊎◌, inl, inr, ⊎_elim, Option, Some, None, List, [], ◌∷◌, ◌++◌, map, set, arith}
+use Rattle.std.proofs.Common.{◌≡◌, refl, sym, ◌∙◌, ap, subst, ℕ, zero, suc, ◌+◌, ◌<◌, ◌≤◌, max, Bool, true, false, if◌then◌else◌, inl, inr, Option, Some, None, List, [], ◌∷◌, ◌++◌, map, set, arith}
 use Rattle.std.proofs.lemmas.List.{map-append}
 use Rattle.std.proofs.lemmas.Option.{same_Some}
 use Rattle.std.specs.List.{slice_get}
-use Rattle.outside_kit.specs.declared.side.Side.{Side}
 use Rattle.outside_kit.specs.declared.side.Side.TheVariants.{A, B}
 use Rattle.stamped_book.specs.declared.stamped.Entry.{Entry}
 use Rattle.stamped_book.specs.declared.stamped.Pass.{Pass}
-use Rattle.stream_lanes.specs.Words.{Every, From}
-use Rattle.stream_lanes.proofs.Lists.{Every-nil, Every-map, Every-push, From-map, From-put, in_map}
+use Rattle.stream_lanes.specs.Words.{From}
+use Rattle.stream_lanes.proofs.Lists.{Every-nil, Every-map, Every-push, From-put, in_map}
 use Rattle.actor_desk.specs.declared.ask.Ask.{Ask}
 use Rattle.actor_desk.specs.declared.ask.Ask.TheVariants as asks
 use Rattle.actor_desk.specs.declared.ask.Note.{Note}
@@ -17,11 +16,11 @@ use Rattle.path_core.specs.Codec.{Codec}
 use Rattle.world_laws.specs.Actors.{Actor, ActorCrew, member_asks}
 use Rattle.world_laws.specs.Laws.{StaysFine}
 use Rattle.world_laws.specs.Openings.{Start, new_crew, opened_world}
-use Rattle.world_laws.specs.Fine.{NotesRise, last_noted, BooksAreStamped, IsChainedAbove, IsFineCrew, lists_of, IsFine}
-use Rattle.actor_desk.specs.Books.{StampedBooks, stamp_of, after_entry}
+use Rattle.world_laws.specs.Fine.{BooksAreStamped, IsChainedAbove, IsFineCrew, lists_of, IsFine}
+use Rattle.actor_desk.specs.Books.{StampedBooks, after_entry}
 use Rattle.world_laws.specs.StampedBooks.{journals_of}
 use Rattle.world_laws.specs.Worlds.{WorldState, Turn, note_of, crew_after, asked, stepped, world_step, all_over, greatest, begins, end_round, after_turn, world_run}
-use Rattle.world_laws.proofs.Occurring.{In, Occurs, Pairs, Grown, paired_from, pairs_from, pairs_grow, pairs_local, grown_here, grown_later}
+use Rattle.world_laws.proofs.Occurring.{Occurs, Pairs, Grown, paired_from, pairs_from, pairs_grow, pairs_local, grown_here, grown_later}
 use Rattle.world_laws.proofs.Chaining.{stamp_rises, local_stamp, last_noted-more, NotesRise-more, stamps_below, stamps_above, chained_more, chained_anew, entries_above, stamped_more}
 
 -- ---- the journals after a step

@@ -1,5 +1,5 @@
 -- What is sent, acknowledged or marked leaves the records with the octets and mappings that they were granted with.
-use Rattle.std.proofs.Common.{◌≡◌, refl, sym, ap, subst, ℕ, zero, suc, ◌==◌, ◌&&◌, nat_le, nat_lt, Bool, true, false, if◌then◌else◌, Option, Some, None, List, [], ◌∷◌, ◌++◌, map}
+use Rattle.std.proofs.Common.{◌≡◌, refl, subst, ℕ, zero, suc, ◌==◌, ◌&&◌, nat_le, nat_lt, Bool, true, false, if◌then◌else◌, Option, Some, None, List, [], ◌∷◌, map}
 use Rattle.std.proofs.lemmas.Option.{same_Some}
 use Rattle.std.specs.List.{slice_get, find}
 use Rattle.std.specs.Option.{IfSome}
@@ -9,14 +9,13 @@ use Rattle.subflow_send.specs.declared.record.RecordKind.TheVariants.{Syn, Data,
 use Rattle.subflow_send.specs.declared.record.Sending.{Sending}
 use Rattle.subflow_send.specs.Records.{Record, SendState, end_of}
 use Rattle.subflow_send.specs.Rules.{is_unsent, uncovered, first_unsent_sent, first_sent, unsent_again, expired_records, fin_sent, after_acknowledge, after_sent, after_resent, after_expired, after_fin_sent, is_fin}
-use Rattle.subflow_send.specs.Sendings.{sent_again, first_at_an_expiry, to_be_sent}
+use Rattle.subflow_send.specs.Sendings.{sent_again}
 use Rattle.subflow_tcp.specs.declared.handshake.State.{State as EndPhase}
 use Rattle.subflow_tcp.specs.declared.segments.Occasion.{Occasion}
 use Rattle.subflow_tcp.specs.declared.segments.Occasion.TheVariants as to_send
 use Rattle.subflow_tcp.specs.Emitting.{syn_resent}
 use Rattle.stream_lanes.specs.Lane.{Lane}
 use Rattle.stream_lanes.specs.Words.{Every}
-use Rattle.stream_lanes.proofs.Lists.{Every-nil}
 use Rattle.path_core.specs.Ends.{PathEnd}
 use Rattle.path_core.specs.Sends.{having_sent}
 use Rattle.path_core.specs.State.{Profile}

@@ -1,13 +1,12 @@
 -- A direction of a connection with path 0 alone, and what is done to it: moves of its lane, then at most one call of its books,
 -- and moves again.
-use Rattle.std.proofs.Common.{◌≡◌, refl, sym, ◌∙◌, ap, subst, ℕ, false, Option, Some, None, List, [], ◌∷◌, ◌++◌, map}
-use Rattle.std.proofs.lemmas.List.{append-nil, append_assoc}
+use Rattle.std.proofs.Common.{◌≡◌, refl, sym, ◌∙◌, ap, false, Option, Some, None, List, [], ◌∷◌, ◌++◌}
 use Rattle.send_book.specs.State.{Sending}
 use Rattle.reassembly_book.specs.State.{Arriving}
 use Rattle.stream_lanes.specs.Lane.{Lane}
 use Rattle.stream_lanes.specs.Moves.{Flags, Move, moved}
 use Rattle.stream_lanes.specs.Streams.{Reader, Direction, StreamEvent, after}
-use Rattle.stream_lanes.specs.Streams.StreamEvent.{Moves, Asks}
+use Rattle.stream_lanes.specs.Streams.StreamEvent.{Moves}
 
 -- no join was answered, and no side fell back
 abbrev pub no_flags : Flags

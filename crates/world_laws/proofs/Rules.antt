@@ -1,45 +1,34 @@
 -- Rules of an end that leave the lanes alone.
-use Rattle.std.proofs.Common.{◌≡◌, refl, sym, ◌∙◌, ap, subst, ℕ, zero, suc, ◌+◌, ◌-◌, ◌<◌, ◌≤◌, ◌&&◌, ◌||◌, ◌==◌, not, nat_lt, nat_le, ◌⊎◌, inl, inr, ⊎_elim, Bool, true, false, if◌then◌else◌, is_none, unwrap_or, Option, Some, None, List, [], ◌∷◌, ◌++◌, length, take, drop, arith}
-use Rattle.std.proofs.lemmas.Bool.{and_parts, both_ways, false≢true, eqb-true, ltb-true}
-use Rattle.std.proofs.lemmas.Option.{same_Some}
-use Rattle.std.specs.List.{slice_get}
+use Rattle.std.proofs.Common.{◌≡◌, refl, sym, subst, ℕ, ◌-◌, inl, ⊎_elim, Bool, true, false, if◌then◌else◌, unwrap_or, Option, Some, None, List}
+use Rattle.std.proofs.lemmas.Bool.{both_ways, false≢true}
 use Rattle.std.specs.Option.{IfSome}
 use Rattle.outside_kit.specs.declared.side.Side.{Side}
 use Rattle.dss_mapping.specs.declared.kept.KeptMapping.{KeptMapping}
-use Rattle.dss_mapping.specs.Mappings.{mapping_at}
 use Rattle.loss_recovery.specs.declared.windows.Congestion.{Congestion}
 use Rattle.loss_recovery.specs.declared.windows.Pending.{Pending}
-use Rattle.loss_recovery.specs.declared.windows.Told.{Told}
 use Rattle.loss_recovery.specs.Windows as windows
 use Rattle.subflow_recv.specs.Receiving.{Receiving, after_forget_from, without_held, after_keep_held}
-use Rattle.subflow_send.specs.declared.record.AckKind.{AckKind}
-use Rattle.subflow_send.specs.declared.record.AckKind.TheVariants as acks
-use Rattle.subflow_send.specs.Rules.{after_acknowledge, ack_kind, sample_of}
-use Rattle.subflow_tcp.specs.declared.handshake.State.{State as EndPhase}
 use Rattle.subflow_tcp.specs.declared.handshake.State.TheVariants as phase
-use Rattle.subflow_tcp.specs.declared.segments.Hint.{Hint}
 use Rattle.subflow_tcp.specs.Expiring as expiring
-use Rattle.subflow_tcp.specs.Segments.{Copy, occupied}
-use Rattle.subflow_tcp.specs.State.{EndState, is_behind, has_records}
+use Rattle.subflow_tcp.specs.State.{is_behind}
 use Rattle.subflow_tcp.specs.States as states
 use Rattle.subflow_tcp.specs.Taking as taking
 use Rattle.stream_lanes.specs.Lane.{Lane}
-use Rattle.stream_lanes.specs.Words.{Every}
 use Rattle.stream_lanes.proofs.Lists.{Every-nil}
 use Rattle.actor_desk.specs.declared.ask.Reply.{Reply}
 use Rattle.path_core.specs.Emission.{after_timer}
 use Rattle.path_core.specs.Ends.{PathEnd, Treated, nothing_treated}
 use Rattle.path_core.specs.Events.{died, died_unless_dead, after_firing}
 use Rattle.path_core.specs.declared.keys.KeyPair.{KeyPair}
-use Rattle.path_core.specs.Opening.{with_peer_key, after_keys, keys_in}
+use Rattle.path_core.specs.Opening.{with_peer_key, after_keys}
 use Rattle.path_core.specs.Passing.{having_asked, with_peer_end, after_rate}
-use Rattle.path_core.specs.Placing.{is_wrong, forgotten_by, after_check}
-use Rattle.path_core.specs.Standing.{after_look, modes_told}
+use Rattle.path_core.specs.Placing.{is_wrong, forgotten_by}
+use Rattle.path_core.specs.Standing.{after_look}
 use Rattle.path_core.specs.State.{Profile}
-use Rattle.path_core.specs.Treating.{after_verdict, mode_in, after_dss, after_keep, is_dropped}
-use Rattle.world_laws.proofs.Hearing.{cut_shows, dropped_shows, state_shows, handshake_back, fin_acked_back}
+use Rattle.path_core.specs.Treating.{after_verdict, after_dss, after_keep, is_dropped}
+use Rattle.world_laws.proofs.Hearing.{cut_shows, dropped_shows, state_shows}
 use Rattle.world_laws.proofs.Records.{acknowledged_shows, expired_shows}
-use Rattle.world_laws.proofs.Showing.{HasAck, is_unfinished, SenderShows, Under, IsAtEdge, IsPastFin, ReceiverShows, TreatedShows, EndShows}
+use Rattle.world_laws.proofs.Showing.{HasAck, Under, ReceiverShows, TreatedShows, EndShows}
 
 grown_told : (growth : ℕ) (o : Option Pending) (c : Congestion) → (windows.grown_by growth o c).told ≡ c.told
 grown_told growth None c = refl

@@ -1,8 +1,8 @@
 -- Each segment that an end sends shows what its lanes have, and so does each copy of it.
-use Rattle.std.proofs.Common.{◌≡◌, refl, sym, ◌∙◌, ap, subst, ℕ, zero, suc, ◌+◌, ◌-◌, ◌&&◌, ◌==◌, not, ◌⊎◌, inl, inr, Bool, true, false, cond, if◌then◌else◌, Option, Some, None, List, [], ◌∷◌, ◌++◌, arith}
+use Rattle.std.proofs.Common.{◌≡◌, refl, subst, ℕ, zero, suc, ◌&&◌, ◌==◌, not, inl, inr, Bool, true, false, cond, if◌then◌else◌, Option, Some, None, List, [], ◌∷◌}
 use Rattle.std.proofs.lemmas.Bool.{and_parts, eqb-true, both_ways, false≢true}
 use Rattle.std.proofs.lemmas.Option.{same_Some}
-use Rattle.std.specs.List.{slice_get, find}
+use Rattle.std.specs.List.{slice_get}
 use Rattle.std.specs.Option.{IfSome}
 use Rattle.outside_kit.specs.declared.side.Side.{Side}
 use Rattle.outside_kit.specs.declared.side.Side.TheVariants.{A, B}
@@ -20,13 +20,11 @@ use Rattle.subflow_send.specs.Rules.{is_fin}
 use Rattle.stream_lanes.specs.Lane.{AckCopy, Lane}
 use Rattle.stream_lanes.specs.Words.{Every}
 use Rattle.stream_lanes.proofs.Lists.{Every-nil, Every-push}
-use Rattle.path_segments.specs.Options.{PlainOption}
 use Rattle.path_core.specs.Ends.{PathEnd}
-use Rattle.path_core.specs.Segments.{place_numbered, syn_options, key_options, end_mapping, ack_options, is_first_piece, first_piece_options, piece_options, piece_mapping, fin_options, record_options, reset_options, segment_of, ack_said, record_said, syn_ack_said, fin_said, reset_said, record_or_ack}
+use Rattle.path_core.specs.Segments.{place_numbered, syn_options, key_options, end_mapping, ack_options, is_first_piece, first_piece_options, piece_options, piece_mapping, record_options, reset_options, segment_of, ack_said, record_said, syn_ack_said, fin_said, reset_said, record_or_ack}
 use Rattle.path_core.specs.State.{Profile}
-use Rattle.path_core.specs.Values.{Carried}
 use Rattle.path_core.specs.Words.{is_side_a}
-use Rattle.world_laws.proofs.Showing.{HasAck, HasData, HasMapping, HasNumber, HasFin, IsPiece, KindShows, RecordShows, WindowShows, OptionShows, SegmentShows, FlightShows}
+use Rattle.world_laws.proofs.Showing.{HasAck, HasMapping, HasNumber, HasFin, KindShows, RecordShows, WindowShows, OptionShows, SegmentShows}
 
 window_at : (next window : ℕ) (acks : List AckCopy) → WindowShows next window acks → (syn : Bool) → HasAck acks 0 (window_told syn window)
 window_at next window acks h true = h.syn

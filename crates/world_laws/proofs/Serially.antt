@@ -4,7 +4,7 @@ use Rattle.std.proofs.lemmas.Bool.{both_ways}
 use Rattle.path_core.specs.Codec.{Codec}
 use Rattle.world_laws.specs.Outcomes.{outcome_of}
 use Rattle.world_laws.specs.Serial.{goes_on, OneOf, spelled, after_steps, IsTurn, AreTurns, after_round, AreRounds, IsSerial}
-use Rattle.world_laws.specs.Worlds.{WorldState, Turn, is_going, world_step}
+use Rattle.world_laws.specs.Worlds.{WorldState, Turn, world_step}
 
 module _ {C : Type 0} (k : Codec C) where
   pub one_turn : (actor n m : ℕ) (w : WorldState C) → IsTurn k actor n w → IsTurn k actor m w → n ≡ m

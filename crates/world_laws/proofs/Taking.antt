@@ -1,27 +1,26 @@
 -- What the receiver's half of an end does, on the lane: it keeps the octets of a copy, learns a mapping, places bytes, and passes
 -- the FIN.
-use Rattle.std.proofs.Common.{◌≡◌, refl, sym, ◌∙◌, ap, subst, ℕ, zero, suc, ◌+◌, ◌-◌, ◌<◌, ◌≤◌, min, max, ◌&&◌, ◌||◌, ◌==◌, not, nat_lt, nat_le, ◌⊎◌, inl, inr, ⊎_elim, Bool, true, false, if◌then◌else◌, Option, Some, None, List, [], ◌∷◌, ◌++◌, length, take, drop, map, replicate, arith}
-use Rattle.std.proofs.lemmas.Bool.{le-leb, and_from, false≢true}
+use Rattle.std.proofs.Common.{◌≡◌, refl, sym, ◌∙◌, ap, subst, ℕ, zero, suc, ◌+◌, ◌-◌, ◌<◌, ◌≤◌, nat_le, ◌⊎◌, inl, inr, ⊎_elim, Bool, true, false, if◌then◌else◌, Option, Some, None, List, [], ◌∷◌, ◌++◌, length, take, drop, arith}
+use Rattle.std.proofs.lemmas.Bool.{le-leb, and_from}
 use Rattle.std.proofs.lemmas.List.{append-nil, length-take}
 use Rattle.std.proofs.lemmas.Option.{same_Some}
 use Rattle.std.specs.List.{slice_get}
-use Rattle.std.specs.Option.{IfSome}
 use Rattle.reassembly_book.specs.State.{filled}
 use Rattle.reassembly_book.specs.Steps.{by_place, merged}
 use Rattle.send_book.proofs.Lists.{slice_get-drop}
-use Rattle.stream_lanes.specs.Holding.{IsByteOf, IsHonest, LaneHolds, DirectionHolds}
-use Rattle.stream_lanes.specs.Lane.{Mapping, DataCopy, Lane}
+use Rattle.stream_lanes.specs.Holding.{IsByteOf, IsHonest, LaneHolds}
+use Rattle.stream_lanes.specs.Lane.{Lane}
 use Rattle.stream_lanes.specs.Lane.Ask.{AskPlace}
 use Rattle.stream_lanes.specs.Laws.{copy_clashes, mapping_clashes}
-use Rattle.stream_lanes.specs.Moves.{Move, clashes, keeps, learns, learns_mapping, places, lies_in, in_order}
+use Rattle.stream_lanes.specs.Moves.{clashes, keeps, learns, learns_mapping, places, lies_in, in_order}
 use Rattle.stream_lanes.specs.Moves.Move.{Hear, Learn, WantPlace}
 use Rattle.stream_lanes.specs.View.{View}
-use Rattle.stream_lanes.specs.Words.{Every, From, Cells, Has}
+use Rattle.stream_lanes.specs.Words.{Has}
 use Rattle.stream_lanes.proofs.Bytes.{Cells-by_place, From-take}
-use Rattle.stream_lanes.proofs.Lists.{Every-map, Every-push, Has-more, in_drop}
+use Rattle.stream_lanes.proofs.Lists.{in_drop}
 use Rattle.world_laws.proofs.Doing.{has_last}
 use Rattle.world_laws.proofs.Growing.{ReceiverGoes}
-use Rattle.world_laws.proofs.Roads.{move, Strolls, one_move}
+use Rattle.world_laws.proofs.Roads.{Strolls, one_move}
 use Rattle.world_laws.proofs.Showing.{HasData, HasMapping, IsMappingOf, Under}
 
 -- ---- bytes by place

@@ -1,5 +1,5 @@
 -- The world of two applications and one path, and what is written in it.
-use Rattle.std.proofs.Common.{◌≡◌, refl, sym, ◌∙◌, ap, subst, ℕ, zero, suc, ◌+◌, ◌&&◌, not, Bool, true, false, if◌then◌else◌, Option, Some, None, List, [], ◌∷◌, ◌++◌, map, take}
+use Rattle.std.proofs.Common.{◌≡◌, refl, sym, ◌∙◌, ap, subst, ℕ, zero, suc, ◌+◌, not, Bool, true, false, if◌then◌else◌, Option, Some, None, List, [], ◌∷◌, ◌++◌, map, take}
 use Rattle.std.proofs.lemmas.List.{append-nil}
 use Rattle.std.proofs.lemmas.Option.{same_Some}
 use Rattle.std.specs.List.{slice_get}
@@ -39,7 +39,7 @@ use Rattle.world_laws.specs.Openings.{Start, opened_world}
 use Rattle.world_laws.specs.StampedBooks.{answer_to}
 use Rattle.world_laws.specs.Worlds.{WorldState, Turn, note_of, asked, world_step, all_over, greatest, begins, end_round, after_turn, world_run}
 use Rattle.world_laws.proofs.Applying.{Writes, Settles, settled_app, writes_more, closes}
-use Rattle.world_laws.proofs.Asking.{LeavesFile, AskLeavesFile, asks_leave, call_keeps}
+use Rattle.world_laws.proofs.Asking.{AskLeavesFile, asks_leave, call_keeps}
 use Rattle.world_laws.proofs.Finishing.{Shaped, takes_shaped, begun_shaped, nothing_due}
 use Rattle.world_laws.proofs.Journaling.{books_after}
 

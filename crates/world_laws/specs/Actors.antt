@@ -1,5 +1,5 @@
 -- The actors of a connection: two applications and the paths. What the links of the paths carry is a type of its own.
-use Rattle.std.specs.Prelude.{Bool, Option, List, [], ◌∷◌}
+use Rattle.std.specs.Prelude.{Bool, Option}
 use Rattle.actor_desk.specs.declared.ask.Ask.{Ask}
 use Rattle.actor_desk.specs.declared.ask.Reply.{Reply}
 use Rattle.actor_desk.specs.Words.{is_nil}

@@ -1,11 +1,13 @@
 -- A connection before its first step.
 use Rattle.std.specs.Prelude.{ℕ, None, List, [], ◌∷◌}
 use Rattle.outside_kit.specs.declared.side.Side.TheVariants.{A, B}
+use Rattle.link_script.specs.declared.script.Script.{Script}
 use Rattle.link_script.specs.declared.script.ScriptLine.{ScriptLine}
+use Rattle.link_model.specs.Steps.{delay_of}
 use Rattle.actor_desk.specs.Books.{unasked}
 use Rattle.actor_desk.specs.Desk.{opened_books}
 use Rattle.stream_apps.specs.Starts.{first_app_turn}
-use Rattle.path_core.specs.Starts.{Drawn, first_turn}
+use Rattle.path_core.specs.Starts.{Drawn, drawn_of, profile_of, first_turn}
 use Rattle.path_core.specs.State.{Profile}
 use Rattle.world_laws.specs.declared.member.Member.TheVariants.{App, Path}
 use Rattle.world_laws.specs.Actors.{Actor, ActorCrew}
@@ -22,6 +24,17 @@ pub record Start : Type 0 where
   -- what each side writes
   pub file_a : List ℕ
   pub file_b : List ℕ
+
+-- a connection by a script, with its files
+abbrev pub start_of : Script → List ℕ → List ℕ → Start
+start_of script file_a file_b = record {
+  profile = profile_of script;
+  drawn = drawn_of script;
+  delay = delay_of 0 script.paths;
+  lines = script.lines;
+  file_a = file_a;
+  file_b = file_b;
+}
 
 module _ {C : Type 0} where
   -- an actor that has made no step

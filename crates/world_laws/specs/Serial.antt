@@ -3,7 +3,7 @@
 use Rattle.std.specs.Prelude.{ℕ, zero, suc, ◌≡◌, Bool, true, false, List, [], ◌∷◌, length}
 use Rattle.path_core.specs.Codec.{Codec}
 use Rattle.world_laws.specs.declared.outcome.Outcome.{Outcome}
-use Rattle.world_laws.specs.declared.outcome.Outcome.TheVariants.{Going, Delivered, Aborted, NoPath}
+use Rattle.world_laws.specs.declared.outcome.Outcome.TheVariants.{Going}
 use Rattle.world_laws.specs.Outcomes.{outcome_of}
 use Rattle.world_laws.specs.Worlds.{WorldState, Turn, is_going, world_step, end_round, world_run}
 
