@@ -2,6 +2,7 @@ pub mod Ranking
 pub mod Resting
 pub mod Passed
 pub mod FirstTold
+pub mod Fair
 pub mod Meanings
 pub mod Parts
 pub mod Mapped

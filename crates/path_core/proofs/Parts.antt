@@ -1,6 +1,5 @@
 -- Octets that are lent part by part, as many as are wanted.
-use Rattle.std.proofs.Common.{◌≡◌, ◌∙◌, refl, sym, ap, ℕ, zero, suc, ◌+◌, ◌-◌, ◌≤◌, min, List, [], ◌∷◌, ◌++◌, length, take, arith}
-use Rattle.std.proofs.lemmas.List.{length-take}
+use Rattle.std.proofs.Common.{◌≡◌, ◌∙◌, refl, ap, ℕ, zero, suc, ◌+◌, ◌-◌, min, List, [], ◌∷◌, ◌++◌, length, take, arith}
 use Rattle.seq_units.specs.declared.mapping.Mapping.{Mapping}
 use Rattle.dss_checksum.specs.MappingSum.{MappingSum, sum_of}
 

@@ -66,9 +66,9 @@ copy_of h = record {
 abbrev pub HeardOption : Type 0
 HeardOption = PathOption (Option ℕ) (List ℕ)
 
--- a Data ACK that names a place
+-- a Data ACK that names a place below 2^62
 abbrev pub ack_items : Option (Option ℕ) → ℕ → List Heard
-ack_items (Some (Some next)) window = says.DataAck next window ∷ []
+ack_items (Some (Some next)) window = if nat_lt next (2 ^ 62) then says.DataAck next window ∷ [] else []
 ack_items _ window = []
 
 abbrev pub checksum_heard : Option ℕ → ℕ
@@ -81,10 +81,14 @@ is_mapping place position len = nat_lt 0 position && nat_le (place + len) (2 ^ 6
 abbrev pub mapping_items : ℕ → ℕ → ℕ → List Heard
 mapping_items place position len = if is_mapping place position len then says.Mapping ∷ [] else []
 
+-- the end of the stream, at a place of at most 2^62
+abbrev pub end_items : ℕ → List Heard
+end_items place = if nat_le place (2 ^ 62) then says.DataFin place ∷ [] else []
+
 -- a mapping that names a place; DATA_FIN stands on an acknowledgement, and no mapping is infinite
 abbrev pub map_items : Option (PathMapping (Option ℕ)) → List Heard
 map_items (Some (Bytes (Some place) (Some position) len false checksum)) = mapping_items place position len
-map_items (Some (End (Some place) checksum)) = says.DataFin place ∷ []
+map_items (Some (End (Some place) checksum)) = end_items place
 map_items _ = []
 
 -- MP_CAPABLE by the keys that it shows; B hears both, and the mapping of place 0 at position 1 with the first piece

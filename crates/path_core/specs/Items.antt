@@ -1,5 +1,5 @@
 -- The things that a copy says, one after the other: the first ten count.
-use Rattle.std.specs.Prelude.{nat_lt, if◌then◌else◌, Bool, true, false, Option, Some, None, List, [], ◌∷◌, ◌++◌, length}
+use Rattle.std.specs.Prelude.{◌^◌, ◌<◌, ◌≤◌, nat_lt, if◌then◌else◌, Bool, true, false, List, [], ◌∷◌, ◌++◌, length}
 use Rattle.path_core.specs.declared.heard.Heard.{Heard}
 use Rattle.path_core.specs.declared.heard.Heard.TheVariants as says
 
@@ -13,3 +13,9 @@ with_items items (item ∷ others) = with_items (with_item items item) others
 abbrev pub is_dss : Heard → Bool
 is_dss says.Dss = true
 is_dss _ = false
+
+-- the places that it names are below 2^62, and an end of the stream at most that
+abbrev pub IsFair : Heard → Type 0
+IsFair (says.DataAck next window) = next < 2 ^ 62
+IsFair (says.DataFin place) = place ≤ 2 ^ 62
+IsFair _ = Unit {0}

@@ -1,6 +1,6 @@
 -- What the payload of a copy makes of an end: bytes and ends that are told, the window's growth, answers, and what an expiry
 -- sends again.
-use Rattle.std.specs.Prelude.{ℕ, ◌-◌, min, Bool, true, false, ◌==◌, if◌then◌else◌, Option, Some, None, List, [], find, slice_get}
+use Rattle.std.specs.Prelude.{ℕ, ◌-◌, min, max, Bool, true, false, ◌==◌, if◌then◌else◌, Option, Some, None, List, [], find, slice_get}
 use Rattle.outside_kit.specs.declared.side.Side.{Side}
 use Rattle.path_segments.specs.Spelled.{PlainSegment}
 use Rattle.reassembly_book.specs.declared.call.ReassemblyCall.TheVariants as reassembly_calls
@@ -89,9 +89,11 @@ after_pass_fin e = record e { tcp = (if is_fin_next e.tcp then after_passing_fin
 
 -- ---- the growth of the window
 
+-- a window of at least an octet and at most 2^20, and a round-trip time of at least a tick and at most a minute
 abbrev pub rate_ask : {C : Type 0} → Side → Option Pending → PathState C → Ask
 rate_ask s None p = asks.Local steps.End
-rate_ask s (Some pending) p = asks.Control s (control_calls.Rate (path_of p) pending.window pending.rtt)
+rate_ask s (Some pending) p =
+    asks.Control s (control_calls.Rate (path_of p) (max 1 (min 1048576 pending.window)) (max 1 (min 60000 pending.rtt)))
 
 abbrev pub is_row_of : ℕ → Row → Bool
 is_row_of path row = row.path == path

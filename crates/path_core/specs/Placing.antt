@@ -9,7 +9,7 @@ use Rattle.outside_kit.specs.declared.side.Side.{Side}
 use Rattle.subflow_recv.specs.Receiving.{filled, after_advance, after_forget_from}
 use Rattle.subflow_tcp.specs.State.{EndState}
 use Rattle.path_core.specs.declared.in_order.InOrder.{InOrder}
-use Rattle.path_core.specs.Ends.{PathEnd, Receiving}
+use Rattle.path_core.specs.Ends.{PathEnd}
 use Rattle.path_core.specs.State.{Profile}
 use Rattle.path_core.specs.Segments.{bare_mapping}
 

@@ -1,5 +1,5 @@
 -- A segment that an end is to send, and which are to be sent.
-use Rattle.std.specs.Prelude.{ℕ, Option, Some, None, option_map, List, [], ◌∷◌}
+use Rattle.std.specs.Prelude.{ℕ, Option, Some, None, List, [], ◌∷◌}
 use Rattle.std.specs.Borrow.{Bor}
 use Rattle.outside_kit.specs.declared.side.Side.{Side}
 use Rattle.path_segments.specs.declared.segment.PathOption.{PathOption}

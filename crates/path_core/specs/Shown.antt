@@ -14,7 +14,6 @@ use Rattle.path_segments.specs.Spelled.{CanSay}
 use Rattle.actor_desk.specs.declared.ask.Reply.{Reply}
 use Rattle.path_core.specs.Arriving.{expected_by}
 use Rattle.path_core.specs.Events.{next_event}
-use Rattle.path_core.specs.declared.event.Event.{Event}
 use Rattle.path_core.specs.declared.event.Event.TheVariants as happenings
 use Rattle.path_core.specs.Octets.{made, octets}
 use Rattle.path_core.specs.Segments.{spelled_by}

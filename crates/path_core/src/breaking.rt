@@ -1,6 +1,7 @@
 //! How an end dies: by a break, by its sixth expiry, by the peer's reset (RFC 8684, section 3.6).
 
 ghost use Rattle.std.specs.Prelude.{◌≡◌, Some, None, OnOk, OnErr};
+ghost use Rattle.actor_desk.specs.Kinds.{CanBeAsked};
 ghost use Rattle.path_core.specs.declared.segment_kind.SegmentKind.TheVariants as to_say;
 ghost use Rattle.path_core.specs.Agenda.{leaves};
 ghost use Rattle.path_core.specs.Breaking.{reset_of, reset_on, break_ask, answered_break, return_ask, dead_ask};
@@ -33,7 +34,8 @@ impl PathEnd {
 impl Path {
     /// What the end holds is given back.
     pub(crate) fn return_ask(&self, side: Side) -> Ask
-        ensures { result ≡ return_ask side self.now }
+        ensures value { result ≡ return_ask side self.now }
+        ensures able { CanBeAsked result }
     {
         Ask::Send(
             side,
@@ -45,7 +47,8 @@ impl Path {
 
     /// It is told that the end is dead.
     pub(crate) fn dead_ask(&self, side: Side) -> Ask
-        ensures { result ≡ dead_ask side self.now }
+        ensures value { result ≡ dead_ask side self.now }
+        ensures able { CanBeAsked result }
     {
         Ask::Control(
             side,
@@ -68,7 +71,8 @@ impl Path {
 
     /// The first step of a break: where bytes or an end were told, what is to be acknowledged is asked once more.
     pub(crate) fn break_ask(&self, side: Side, reason: u8) -> Ask
-        ensures { result ≡ break_ask octets side reason self.now }
+        ensures value { result ≡ break_ask octets side reason self.now }
+        ensures able { CanBeAsked result }
     {
         if self.end(side).treated.is_asked() {
             return ack_out_ask(side);

@@ -2,6 +2,7 @@
 //! one that comes to nothing changes in silence. A new rule has one arm in each.
 
 ghost use Rattle.std.specs.Prelude.{◌≡◌, true, false, IfOk, IsOk, OnOk, OnErr};
+ghost use Rattle.actor_desk.specs.Kinds.{CanBeAsked};
 ghost use Rattle.path_core.specs.Octets.{octets};
 ghost use Rattle.path_core.specs.Duties.{stands, ask_for, passed, answered};
 ghost use Rattle.path_core.specs.Replies.{IsAckBounded, AreRowsInRange, asks_bytes, asks_segment, takes_memory};
@@ -51,6 +52,7 @@ impl Path {
     /// Only where there is no memory for those bytes.
     pub(crate) fn ask_for(&self, duty: Duty) -> Result<Ask, AllocError>
         ensures ask { IfOk result (λ ask. ask ≡ ask_for octets duty self.now) }
+        ensures able { IfOk result CanBeAsked }
         ensures plain { asks_bytes duty ≡ false → IsOk result }
     {
         match duty {
@@ -62,7 +64,8 @@ impl Path {
     /// What a duty asks that carries no bytes.
     fn plain_ask(&self, duty: Duty) -> Ask
         requires { asks_bytes duty ≡ false }
-        ensures { result ≡ ask_for octets duty self.now }
+        ensures value { result ≡ ask_for octets duty self.now }
+        ensures able { CanBeAsked result }
     {
         match duty {
             Duty::Look(side) => self.look_ask(side),
@@ -88,7 +91,8 @@ impl Path {
     /// The step of a duty that sends a segment, and of those that come to nothing.
     fn segment_ask(&self, duty: Duty) -> Ask
         requires { asks_segment duty ≡ true }
-        ensures { result ≡ ask_for octets duty self.now }
+        ensures value { result ≡ ask_for octets duty self.now }
+        ensures able { CanBeAsked result }
     {
         match duty {
             Duty::Update(side) | Duty::Acknowledge(side) => self.sent_step(side, SegmentKind::Ack),

@@ -1,6 +1,7 @@
 //! What an end sends by itself: its SYN, records and grants as long as there is room, DATA_FIN, FIN; and its timer.
 
 ghost use Rattle.std.specs.Prelude.{◌≡◌, ◌≤◌, ◌<◌, ◌+◌, ◌-◌, ◌^◌, false, OnOk, OnErr, IsTrue};
+ghost use Rattle.actor_desk.specs.Kinds.{CanBeAsked};
 ghost use Rattle.subflow_send.specs.Records.{record_of};
 ghost use Rattle.subflow_tcp.specs.declared.segments.Occasion.TheVariants.{Fin};
 ghost use Rattle.subflow_tcp.specs.States.{may_finish};
@@ -125,7 +126,8 @@ impl Path {
 
     /// Bytes of the stream are asked for.
     fn grant_ask(&self, side: Side) -> Ask
-        ensures { result ≡ grant_ask side self.now }
+        ensures value { result ≡ grant_ask side self.now }
+        ensures able { CanBeAsked result }
     {
         Ask::Send(
             side,
@@ -139,7 +141,8 @@ impl Path {
 
     /// A record is sent, or bytes are asked for.
     pub(crate) fn data_ask(&self, side: Side) -> Ask
-        ensures { result ≡ data_ask octets side (first_unsent (end_at side self.now)) self.now }
+        ensures value { result ≡ data_ask octets side (first_unsent (end_at side self.now)) self.now }
+        ensures able { CanBeAsked result }
     {
         match self.end(side).tcp.first_unsent() {
             Some(_) => self.sent_step(side, SegmentKind::Unsent),

@@ -1,6 +1,7 @@
 //! What happens on a path by itself: lines of the script, copies that arrive, timers that run out.
 
-ghost use Rattle.std.specs.Prelude.{◌≡◌, ◌∷◌, ◌++◌, ◌<◌, ◌^◌, ◌-◌, [], max, if◌then◌else◌, IfSome, IsSome, OnOk, OnErr};
+ghost use Rattle.std.specs.Prelude.{◌≡◌, ◌&&◌, ◌∷◌, ◌++◌, ◌<◌, ◌^◌, ◌-◌, [], max, if◌then◌else◌, IfSome, IsSome, OnOk, OnErr};
+ghost use Rattle.actor_desk.specs.Kinds.{CanBeAsked};
 ghost use Rattle.link_model.specs.Steps.{next_due};
 ghost use Rattle.outside_kit.specs.declared.side.Side.TheVariants.{A, B};
 ghost use Rattle.subflow_tcp.specs.Expiring.{is_sixth};
@@ -38,7 +39,8 @@ impl Event {
 
     /// Its step.
     fn step(self) -> Ask
-        ensures { result ≡ step_of self }
+        ensures value { result ≡ step_of self }
+        ensures able { CanBeAsked result }
     {
         Ask::Local(match self {
             Event::Takes(line) => LocalStep::Line(line.number),
@@ -117,6 +119,13 @@ impl PathEnd {
 }
 
 impl Path {
+    /// Whether both ends are dead.
+    pub fn is_dead(&self) -> bool
+        ensures { result ≡ (is_dead self.now.a.tcp.state && is_dead self.now.b.tcp.state) }
+    {
+        self.a.is_dead() && self.b.is_dead()
+    }
+
     /// The line that comes due next.
     fn next_line(&self) -> Option<Event>
         ensures { result ≡ next_line self.now.lines }
@@ -162,7 +171,8 @@ impl Path {
 
     /// The step of that event.
     pub(crate) fn event_ask(&self) -> Ask
-        ensures { result ≡ step_for (next_event self.now) }
+        ensures value { result ≡ step_for (next_event self.now) }
+        ensures able { CanBeAsked result }
     {
         match self.next_event() {
             Some(event) => event.step(),
@@ -215,10 +225,19 @@ impl Path {
         ensures err { OnErr result (self.new ≡ self.old) }
     {
         match self.next_event() {
-            Some(Event::Takes(line)) => Ok(self.take_line(line)),
+            Some(Event::Takes(line)) => {
+                self.take_line(line);
+                Ok(())
+            }
             Some(Event::Arrives(due)) => self.take_copy(due),
-            Some(Event::Fires(side, tick)) => Ok(self.fire(side, tick)),
-            None => Ok(self.sets_about(Agenda::rest_of_turn())),
+            Some(Event::Fires(side, tick)) => {
+                self.fire(side, tick);
+                Ok(())
+            }
+            None => {
+                self.sets_about(Agenda::rest_of_turn());
+                Ok(())
+            }
         }
     }
 }

@@ -1,13 +1,13 @@
 //! What the options of a copy say (RFC 8684, section 3).
 
-ghost use Rattle.std.specs.Prelude.{◌≡◌, ◌∷◌, [], not};
+ghost use Rattle.std.specs.Prelude.{◌≡◌, ◌∷◌, [], not, All};
 ghost use Rattle.std.specs.List.{list_any};
 ghost use Rattle.actor_desk.specs.Words.{is_nil};
 ghost use Rattle.path_segments.specs.HeardLent.{heard_plain};
 ghost use Rattle.path_segments.specs.HeardSegments.{heard_value};
 ghost use Rattle.path_core.specs.declared.heard.Heard.TheVariants as says;
-ghost use Rattle.path_core.specs.Items.{with_item, with_items, is_dss};
-ghost use Rattle.path_core.specs.Arriving.{ack_items, is_mapping, mapping_items, map_items, key_items, items_in, items_of, place_in_first, wants_ack, owes_by, opens_by};
+ghost use Rattle.path_core.specs.Items.{with_item, with_items, is_dss, IsFair};
+ghost use Rattle.path_core.specs.Arriving.{ack_items, is_mapping, mapping_items, map_items, end_items, key_items, items_in, items_of, place_in_first, wants_ack, owes_by, opens_by};
 
 use crate::heard::Heard;
 use crate::treated::Items;
@@ -81,8 +81,18 @@ fn put_mapping(items: &mut Items, place: u64, position: Pos, length: u16)
 fn put_ack(items: &mut Items, next: Option<Option<u64>>, window: u32)
     ensures { items.new.items ≡ with_items items.old.items (ack_items next window) }
 {
-    if let Some(Some(next)) = next {
-        put(items, Heard::DataAck { next, window });
+    match next {
+        Some(Some(next)) if next < LIMIT => put(items, Heard::DataAck { next, window }),
+        _ => {}
+    }
+}
+
+/// The end of the stream, at a place of at most 2^62.
+fn put_end(items: &mut Items, place: u64)
+    ensures { items.new.items ≡ with_items items.old.items (end_items place) }
+{
+    if place <= LIMIT {
+        put(items, Heard::DataFin { place });
     }
 }
 
@@ -105,7 +115,7 @@ fn put_map(items: &mut Items, mapping: Option<HeardMapping>)
                 place: Some(place),
                 ..
             },
-        ) => put(items, Heard::DataFin { place }),
+        ) => put_end(items, place),
         _ => {}
     }
 }
@@ -127,7 +137,8 @@ fn put_option(items: &mut Items, side: Side, window: u32, option: &HeardOption<'
 
 /// All that a copy says to the end of this side, in the order of its options.
 pub(crate) fn items_of(side: Side, heard: &HeardSegment<'_>) -> Items
-    ensures { result.items ≡ items_of side (heard_value heard.now) }
+    ensures value { result.items ≡ items_of side (heard_value heard.now) }
+    ensures fair { All IsFair result.items }
 {
     let mut items = Items::new();
     for option in heard.options {

@@ -1,6 +1,7 @@
 //! How path 0 opens: SYN, SYN/ACK, and the keys of both sides (RFC 8684, section 3.1).
 
 ghost use Rattle.std.specs.Prelude.{◌≡◌, Some, OnOk, OnErr};
+ghost use Rattle.actor_desk.specs.Kinds.{CanBeAsked};
 ghost use Rattle.path_core.specs.Octets.{octets};
 ghost use Rattle.path_core.specs.Opening.{key_in, pair_in, key_heard, keys_heard, keys_in, is_opened_by_keys, syn_window_ask, peer_key_ask, with_peer_key, keys_ask, after_keys, answered_syn_ack, live_ask};
 ghost use Rattle.path_core.specs.State.{end_at, goes_on, left};
@@ -65,7 +66,8 @@ fn keys_heard(items: &[Heard]) -> Option<KeyPair>
 
 /// These keys are told to the control book.
 pub(crate) fn keys_ask(side: Side, keys: Option<KeyPair>) -> Ask
-    ensures { result ≡ keys_ask side keys }
+    ensures value { result ≡ keys_ask side keys }
+    ensures able { CanBeAsked result }
 {
     match keys {
         Some(KeyPair { own, peer }) => Ask::Control(side, ControlCall::Keys { own, peer }),
@@ -128,7 +130,8 @@ impl PathEnd {
 impl Path {
     /// The window of the SYN is told: it acknowledges nothing.
     pub(crate) fn syn_window_ask(&self, side: Side) -> Ask
-        ensures { result ≡ syn_window_ask side (end_at side self.now) }
+        ensures value { result ≡ syn_window_ask side (end_at side self.now) }
+        ensures able { CanBeAsked result }
     {
         Ask::Send(
             side,
@@ -141,7 +144,8 @@ impl Path {
 
     /// The peer's key is told.
     pub(crate) fn peer_key_ask(&self, side: Side) -> Ask
-        ensures { result ≡ peer_key_ask side (key_heard (end_at side self.now).treated.items) }
+        ensures value { result ≡ peer_key_ask side (key_heard (end_at side self.now).treated.items) }
+        ensures able { CanBeAsked result }
     {
         match self.end(side).treated.key_heard() {
             Some(key) => Ask::Control(side, ControlCall::PeerKey { key }),
@@ -159,7 +163,8 @@ impl Path {
 
     /// Both keys are told.
     pub(crate) fn keys_ask(&self, side: Side) -> Ask
-        ensures { result ≡ keys_ask side (keys_heard (end_at side self.now).treated.items) }
+        ensures value { result ≡ keys_ask side (keys_heard (end_at side self.now).treated.items) }
+        ensures able { CanBeAsked result }
     {
         keys_ask(side, self.end(side).treated.keys_heard())
     }
@@ -183,7 +188,8 @@ impl Path {
 
     /// It is told that the path lives.
     pub(crate) fn live_ask(&self, side: Side) -> Ask
-        ensures { result ≡ live_ask side self.now }
+        ensures value { result ≡ live_ask side self.now }
+        ensures able { CanBeAsked result }
     {
         Ask::Control(
             side,

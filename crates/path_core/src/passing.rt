@@ -2,6 +2,7 @@
 //! again.
 
 ghost use Rattle.std.specs.Prelude.{◌≡◌, ◌&&◌, ◌≤◌, ◌<◌, ◌^◌, ◌-◌, min, All, Contains, Some, find, OnOk, OnErr, IfSome};
+ghost use Rattle.actor_desk.specs.Kinds.{CanBeAsked};
 ghost use Rattle.linked_increase.specs.Paths.{IsInRange};
 ghost use Rattle.subflow_tcp.specs.State.{has_records};
 ghost use Rattle.path_core.specs.Octets.{octets};
@@ -143,7 +144,8 @@ impl Path {
 
     /// The end of the stream that the DATA_FIN of this number told.
     pub(crate) fn fin_ask(&self, side: Side, index: u64) -> Ask
-        ensures { result ≡ fin_ask side (fin_of index (end_at side self.now)) }
+        ensures value { result ≡ fin_ask side (fin_of index (end_at side self.now)) }
+        ensures able { CanBeAsked result }
     {
         match self.end(side).treated.fin(index) {
             Some(at) => Ask::Reassembly(side, ReassemblyCall::Fin { at }),
@@ -172,11 +174,14 @@ impl Path {
 
     /// The window before the growth and the round-trip time are told.
     pub(crate) fn rate_ask(&self, side: Side) -> Ask
-        ensures { result ≡ rate_ask side (end_at side self.now).tcp.congestion.pending self.now }
+        ensures value { result ≡ rate_ask side (end_at side self.now).tcp.congestion.pending self.now }
+        ensures able { CanBeAsked result }
     {
         match self.end(side).tcp.pending() {
             Some(Pending { window, rtt, .. }) => {
                 let path = self.number();
+                let window = window.min(1_048_576).max(1);
+                let rtt = rtt.min(60_000).max(1);
                 Ask::Control(side, ControlCall::Rate { path, window, rtt })
             }
             None => Ask::Local(LocalStep::End),

@@ -1,6 +1,6 @@
 //! A path: its two ends, its link, and what is still to be done in its turn.
 
-ghost use Rattle.std.specs.Prelude.{◌≡◌, [], Some};
+ghost use Rattle.std.specs.Prelude.{◌≡◌, ◌<◌, [], Some};
 ghost use Rattle.std.specs.Borrow.{sem};
 ghost use Rattle.actor_desk.specs.Words.{tail_of};
 ghost use Rattle.path_core.specs.Words.{replaced};
@@ -91,11 +91,12 @@ impl Path {
         }
     }
 
-    /// The number of the path.
+    /// The number of the path, below 16.
     pub(crate) fn number(&self) -> u8
-        ensures { result ≡ path_of self.now }
+        ensures value { result ≡ path_of self.now }
+        ensures bound { result < 16 }
     {
-        self.link.path()
+        self.profile.spelling().path
     }
 
     /// The first duty is done.

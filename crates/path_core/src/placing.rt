@@ -2,6 +2,7 @@
 
 ghost use Rattle.std.specs.Prelude.{◌≡◌, ◌≤◌, ◌<◌, ◌+◌, ◌-◌, ◌^◌, length, take, min, option_map, is_some, IfOk, IfSome};
 ghost use Rattle.std.specs.List.{concat};
+ghost use Rattle.actor_desk.specs.Kinds.{CanBeAsked};
 ghost use Rattle.dss_checksum.specs.Checksum.{dss_checksum};
 ghost use Rattle.dss_mapping.specs.Mappings.{mapping_at};
 ghost use Rattle.subflow_recv.specs.Receiving.{filled};
@@ -28,7 +29,8 @@ const LAST_PLACE: u64 = 1 << 62;
 
 /// So many octets of these parts, in order. Takes memory for them.
 fn text_of(alloc: Global, parts: Parts<'_>, count: u64) -> Result<Text, AllocError>
-    ensures { IfOk result (λ text. text ≡ take count (concat parts.entry)) }
+    ensures octets { IfOk result (λ text. text ≡ take count (concat parts.entry)) }
+    ensures few { IfOk result (λ text. length text ≤ count) }
 {
     let mut text = Text::new(alloc);
     let mut left = count;
@@ -66,7 +68,7 @@ fn mapping_at(mappings: &Mappings, edge: Pos) -> Option<KeptMapping>
 fn count_in(edge: Pos, kept: KeptMapping) -> u64
     requires { kept.pos ≤ edge }
     ensures value { result ≡ count_in edge kept }
-    ensures places { 0 < result → kept.place + (edge - kept.pos) < 2 ^ 62 }
+    ensures places { 0 < result → kept.place + (edge - kept.pos) + result ≤ 2 ^ 62 }
 {
     let offset = edge - kept.pos;
     let left = u64::from(kept.mapping.length).saturating_sub(offset);
@@ -119,7 +121,8 @@ impl PathEnd {
     /// The bytes of a mapping that the edge can pass, without a look at the checksum.
     fn piece_in(&self, kept: KeptMapping) -> Option<InOrder>
         requires { kept.pos ≤ self.now.tcp.recv.edge }
-        ensures { option_map (λ found. piece_from found self.now.tcp) result ≡ some_piece (piece_in kept self.now.tcp) }
+        ensures value { option_map (λ found. piece_from found self.now.tcp) result ≡ some_piece (piece_in kept self.now.tcp) }
+        ensures places { IfSome result (λ found. found.place + found.count ≤ 2 ^ 62) }
     {
         let edge = self.tcp.edge();
         let count = count_in(edge, kept);
@@ -134,7 +137,8 @@ impl PathEnd {
     /// The same; where checksums are used only those of a whole mapping that has the right one.
     fn checked_piece(&self, checksums: bool, kept: KeptMapping) -> Option<InOrder>
         requires { kept.pos ≤ self.now.tcp.recv.edge }
-        ensures { option_map (λ found. piece_from found self.now.tcp) result ≡ checked_piece checksums kept self.now.tcp }
+        ensures value { option_map (λ found. piece_from found self.now.tcp) result ≡ checked_piece checksums kept self.now.tcp }
+        ensures places { IfSome result (λ found. found.place + found.count ≤ 2 ^ 62) }
     {
         if checksums && !(self.is_whole(kept) && self.is_right(kept)) {
             return None;
@@ -144,7 +148,8 @@ impl PathEnd {
 
     /// The next bytes to be placed.
     fn next_piece(&self, profile: &Profile) -> Option<InOrder>
-        ensures { option_map (λ found. piece_from found self.now.tcp) result ≡ next_piece profile.now self.now }
+        ensures value { option_map (λ found. piece_from found self.now.tcp) result ≡ next_piece profile.now self.now }
+        ensures places { IfSome result (λ found. found.place + found.count ≤ 2 ^ 62) }
     {
         match self.mapping_at_edge() {
             Some(kept) => self.checked_piece(profile.spelling().checksums, kept),
@@ -161,7 +166,8 @@ impl PathEnd {
 
     /// These bytes. Takes memory for them.
     fn octets_of(&self, alloc: Global, found: InOrder) -> Result<Text, AllocError>
-        ensures { IfOk result (λ text. text ≡ (piece_from found self.now.tcp).octets) }
+        ensures octets { IfOk result (λ text. text ≡ (piece_from found self.now.tcp).octets) }
+        ensures few { IfOk result (λ text. length text ≤ found.count) }
     {
         text_of(alloc, self.tcp.held(), found.count)
     }
@@ -192,14 +198,16 @@ impl PathEnd {
 impl Path {
     /// The next bytes to be placed at a side.
     fn piece(&self, side: Side) -> Option<InOrder>
-        ensures { option_map (λ found. piece_from found (end_at side self.now).tcp) result ≡ piece_of side self.now }
+        ensures value { option_map (λ found. piece_from found (end_at side self.now).tcp) result ≡ piece_of side self.now }
+        ensures places { IfSome result (λ found. found.place + found.count ≤ 2 ^ 62) }
     {
         self.end(side).next_piece(&self.profile)
     }
 
     /// They are to be placed. Takes memory for them.
     pub(crate) fn piece_ask(&self, side: Side) -> Result<Ask, AllocError>
-        ensures { IfOk result (λ ask. ask ≡ piece_ask side (piece_of side self.now)) }
+        ensures ask { IfOk result (λ ask. ask ≡ piece_ask side (piece_of side self.now)) }
+        ensures able { IfOk result CanBeAsked }
     {
         match self.piece(side) {
             Some(found) => {

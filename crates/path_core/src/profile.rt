@@ -76,6 +76,7 @@ impl Profile {
     /// Octets of the payload of a full segment.
     pub fn payload_size(&self) -> u32
         ensures value { result ≡ payload_size self.now }
+        ensures least { 1 ≤ result }
         ensures bound { result ≤ 1432 }
     {
         u32::from(self.mss - 28)

@@ -1,6 +1,7 @@
 //! Handing a segment to the link: the step that tells it, and what it makes of the end and of the link.
 
 ghost use Rattle.std.specs.Prelude.{◌≡◌, ◌≤◌, ◌+◌, ◌^◌, OnOk, OnErr};
+ghost use Rattle.actor_desk.specs.Kinds.{CanBeAsked};
 ghost use Rattle.path_core.specs.Octets.{octets};
 ghost use Rattle.path_segments.specs.Laws.{window_told};
 ghost use Rattle.subflow_tcp.specs.Emitting.{after_sending};
@@ -69,7 +70,8 @@ impl Path {
 
     /// The step of a segment that is sent. Takes no memory.
     pub(crate) fn sent_step(&self, side: Side, kind: SegmentKind) -> Ask
-        ensures { result ≡ sends octets side (said_by kind self.now.profile side (end_at side self.now)) self.now }
+        ensures value { result ≡ sends octets side (said_by kind self.now.profile side (end_at side self.now)) self.now }
+        ensures able { CanBeAsked result }
     {
         let said = self.said(side, kind);
         Ask::Local(LocalStep::Sent {

@@ -1,6 +1,7 @@
 //! The start of a turn: how the side stands, and what is to be acknowledged.
 
 ghost use Rattle.std.specs.Prelude.{◌≡◌, ◌≤◌, ◌+◌, ◌^◌, OnOk, OnErr};
+ghost use Rattle.actor_desk.specs.Kinds.{CanBeAsked};
 ghost use Rattle.path_core.specs.Agenda.{resets};
 ghost use Rattle.path_core.specs.Octets.{octets};
 ghost use Rattle.path_core.specs.Replies.{IsAckBounded};
@@ -33,7 +34,8 @@ fn is_connected(state: State) -> bool
 
 /// It is asked what is to be acknowledged.
 pub(crate) fn ack_out_ask(side: Side) -> Ask
-    ensures { result ≡ ack_out_ask side }
+    ensures value { result ≡ ack_out_ask side }
+    ensures able { CanBeAsked result }
 {
     Ask::Reassembly(side, ReassemblyCall::AckOut)
 }
@@ -100,7 +102,8 @@ impl PathEnd {
 impl Path {
     /// It is asked how the side stands.
     pub(crate) fn look_ask(&self, side: Side) -> Ask
-        ensures { result ≡ look_ask side self.now }
+        ensures value { result ≡ look_ask side self.now }
+        ensures able { CanBeAsked result }
     {
         Ask::Control(
             side,

@@ -1,6 +1,7 @@
 //! The steps of a path: what it asks, what it takes, and how a round begins.
 
-ghost use Rattle.std.specs.Prelude.{◌≡◌, ◌≤◌, ◌*◌, ◌^◌, [], false, IfOk, IsOk, OnOk, OnErr};
+ghost use Rattle.std.specs.Prelude.{◌≡◌, ◌≤◌, ◌*◌, ◌^◌, [], false, IfOk, IfSome, IsOk, OnOk, OnErr};
+ghost use Rattle.actor_desk.specs.Kinds.{CanBeAsked};
 ghost use Rattle.path_core.specs.Octets.{octets};
 ghost use Rattle.path_core.specs.Replies.{TakesReply, IsAckBounded, AreRowsInRange, asks_bytes_first};
 ghost use Rattle.path_core.specs.Steps.{passable, settles_down, answers, asks_of, takes, next_round};
@@ -38,6 +39,7 @@ impl Path {
     #[tactic(auto, using(crate::proofs::FirstDuty::ask_of_first, crate::proofs::FirstDuty::ask_of_none, crate::proofs::FirstDuty::bytes_of_first))]
     pub fn ask(&self) -> Result<Option<Ask>, AllocError>
         ensures ask { IfOk result (λ ask. ask ≡ asks_of octets self.now) }
+        ensures able { IfOk result (λ ask. IfSome ask CanBeAsked) }
         ensures plain { asks_bytes_first self.now.agenda ≡ false → IsOk result }
     {
         match self.agenda.first() {

@@ -1,6 +1,7 @@
 //! What the last copy said, as far as it is still to be treated.
 
-ghost use Rattle.std.specs.Prelude.{◌≡◌, ◌++◌, ◌∷◌, [], true, false, nat_lt, if◌then◌else◌, length, Some};
+ghost use Rattle.std.specs.Prelude.{◌≡◌, ◌++◌, ◌∷◌, [], true, false, nat_lt, if◌then◌else◌, length, ◌≤◌, ◌^◌, All, IfSome, Some};
+ghost use Rattle.path_core.specs.Items.{IsFair};
 ghost use Rattle.path_core.specs.Words.{item_at};
 
 use crate::heard::Heard;
@@ -45,6 +46,11 @@ impl Model for Treated {
       asked = t.asked;
       answer = t.answer;
     } };
+
+    ghost use Rattle.std.specs.Prelude.{◌^◌, ◌≤◌, All};
+    ghost use Rattle.path_core.specs.Items.{IsFair};
+
+    ghost invariant = { λ t. All IsFair t.items.items × All (λ place. place ≤ 2 ^ 62) t.fins.items };
 }
 
 impl Treated {
@@ -67,6 +73,7 @@ impl Treated {
 
     /// What the copy said, with the answer to it, is to be treated.
     pub fn of(items: Items, opened: bool, has_option: bool, answer: Outgoing) -> Self
+        requires { All IsFair items.items }
         ensures { result ≡ record nothing_treated { items = items.items; opened = opened; has_option = has_option; answer = Some answer } }
     {
         Treated {
@@ -80,7 +87,8 @@ impl Treated {
 
     /// The thing of this number that it said, the first being 0.
     pub fn item(&self, index: u64) -> Option<Heard>
-        ensures { result ≡ item_at index self.now.items }
+        ensures value { result ≡ item_at index self.now.items }
+        ensures fair { IfSome result IsFair }
     {
         self.items.as_slice().get(index as usize).copied()
     }
@@ -108,13 +116,15 @@ impl Treated {
 
     /// The end of the stream that its DATA_FIN of this number told, the first being 0.
     pub fn fin(&self, index: u64) -> Option<u64>
-        ensures { result ≡ item_at index self.now.fins }
+        ensures value { result ≡ item_at index self.now.fins }
+        ensures bound { IfSome result (λ place. place ≤ 2 ^ 62) }
     {
         self.fins.as_slice().get(index as usize).copied()
     }
 
-    /// A DATA_FIN told this end of the stream; a third one counts no more.
+    /// A DATA_FIN told this end of the stream, at most 2^62; a third one counts no more.
     pub fn note_fin(&mut self, place: u64)
+        requires { place ≤ 2 ^ 62 }
         ensures { self.new ≡ record self.old { fins = (if nat_lt (length self.old.fins) 2 then self.old.fins ++ place ∷ [] else self.old.fins) } }
     {
         if self.fins.len() < 2 {

@@ -1,7 +1,9 @@
 //! What the options of a copy make of an end, one thing after the other (RFC 8684, section 3.3).
 
-ghost use Rattle.std.specs.Prelude.{◌≡◌, ◌&&◌, not, is_some, if◌then◌else◌, nat_lt, Some, OnOk, OnErr};
+ghost use Rattle.std.specs.Prelude.{◌≡◌, ◌≤◌, ◌^◌, ◌&&◌, not, is_some, if◌then◌else◌, nat_lt, Some, OnOk, OnErr};
+ghost use Rattle.actor_desk.specs.Kinds.{CanBeAsked};
 ghost use Rattle.actor_desk.specs.declared.ask.Reply.TheVariants as replies;
+ghost use Rattle.path_core.specs.Items.{IsFair};
 ghost use Rattle.path_core.specs.Octets.{octets};
 ghost use Rattle.path_core.specs.Opening.{after_keys};
 ghost use Rattle.path_core.specs.Placing.{with_learned, with_skipped};
@@ -132,6 +134,7 @@ impl PathEnd {
 
     /// The end of the stream is told later.
     fn note_fin(&mut self, place: u64)
+        requires { place ≤ 2 ^ 62 }
         ensures { self.new ≡ with_fin place self.old }
     {
         self.treated.note_fin(place);
@@ -139,6 +142,7 @@ impl PathEnd {
 
     /// What is passed in silence.
     fn pass_heard(&mut self, side: Side, item: Heard)
+        requires { IsFair item }
         ensures { self.new ≡ heard_passed side item self.old }
     {
         match item {
@@ -184,7 +188,8 @@ impl PathEnd {
 impl Path {
     /// An event is told that may change the mode.
     pub(crate) fn fell_ask(&self, side: Side, event: Event) -> Ask
-        ensures { result ≡ fell_ask side event self.now }
+        ensures value { result ≡ fell_ask side event self.now }
+        ensures able { CanBeAsked result }
     {
         Ask::Control(
             side,
@@ -205,7 +210,8 @@ impl Path {
 
     /// What a mapping asks.
     fn mapping_ask(&self, side: Side) -> Ask
-        ensures { result ≡ mapping_ask octets side self.now }
+        ensures value { result ≡ mapping_ask octets side self.now }
+        ensures able { CanBeAsked result }
     {
         if self.end(side).is_clash() {
             self.break_ask(side, CLASH)
@@ -216,7 +222,9 @@ impl Path {
 
     /// What a thing that was heard asks.
     fn heard_ask(&self, side: Side, item: Heard) -> Ask
-        ensures { result ≡ heard_ask octets side item self.now }
+        requires { IsFair item }
+        ensures value { result ≡ heard_ask octets side item self.now }
+        ensures able { CanBeAsked result }
     {
         match item {
             Heard::DataAck { next, window } => {
@@ -232,7 +240,8 @@ impl Path {
 
     /// What the thing of this number asks.
     pub(crate) fn item_ask(&self, side: Side, index: u64) -> Ask
-        ensures { result ≡ item_ask octets side (item_of index (end_at side self.now)) self.now }
+        ensures value { result ≡ item_ask octets side (item_of index (end_at side self.now)) self.now }
+        ensures able { CanBeAsked result }
     {
         match self.end(side).treated.item(index) {
             Some(item) => self.heard_ask(side, item),
@@ -269,6 +278,7 @@ impl Path {
 
     /// The end of the stream is told later.
     fn answer_data_fin(&mut self, side: Side, place: u64, reply: &Reply)
+        requires { place ≤ 2 ^ 62 }
         ensures { self.new ≡ goes_on side (with_fin place (after_verdict reply.now (end_at side self.old))) (left self.old) self.old }
     {
         self.end_mut(side).hear_verdict(reply);
@@ -286,16 +296,29 @@ impl Path {
 
     /// What the reply to a thing that was heard makes of the path. At an error all is as it was.
     fn answer_heard(&mut self, side: Side, item: Heard, reply: &Reply) -> Result<(), AllocError>
-        requires { IsAckBounded reply.now }
+        requires fair { IsFair item }
+        requires acks { IsAckBounded reply.now }
         ensures ok { OnOk result (self.new ≡ answered_heard octets side item reply.now self.old) }
         ensures err { OnErr result (self.new ≡ self.old) }
     {
         match item {
-            Heard::DataAck { next, .. } => Ok(self.answer_ack(side, next, reply)),
+            Heard::DataAck { next, .. } => {
+                self.answer_ack(side, next, reply);
+                Ok(())
+            }
             Heard::Mapping => self.answer_mapping(side, reply),
-            Heard::DataFin { place } => Ok(self.answer_data_fin(side, place, reply)),
-            Heard::Keys { own, peer } => Ok(self.answer_keys(side, KeyPair { own, peer }, reply)),
-            Heard::Dss | Heard::PeerKey { .. } => Ok(self.done()),
+            Heard::DataFin { place } => {
+                self.answer_data_fin(side, place, reply);
+                Ok(())
+            }
+            Heard::Keys { own, peer } => {
+                self.answer_keys(side, KeyPair { own, peer }, reply);
+                Ok(())
+            }
+            Heard::Dss | Heard::PeerKey { .. } => {
+                self.done();
+                Ok(())
+            }
         }
     }
 
@@ -312,7 +335,10 @@ impl Path {
     {
         match self.end(side).treated.item(index) {
             Some(item) => self.answer_heard(side, item, reply),
-            None => Ok(self.done()),
+            None => {
+                self.done();
+                Ok(())
+            }
         }
     }
 

@@ -1,4 +1,4 @@
-use Rattle.std.proofs.Common.{◌≡◌, ◌∙◌, sym, ap, ◌+◌, drop, get_or}
+use Rattle.std.proofs.Common.{◌∙◌, sym, ap, ◌+◌, drop, get_or}
 use Rattle.std.proofs.lemmas.List.{at_drop_more, drop_all}
 use Rattle.path_core.specs.Arriving.{place_in_first}
 use Rattle.path_core.proofs.Filling.{dss_later}

@@ -1,4 +1,4 @@
-use Rattle.std.proofs.Common.{◌≡◌, sym}
+use Rattle.std.proofs.Common.{sym}
 use Rattle.path_core.proofs.Filling.{with_items-append}
 use Rattle.path_core.specs.Arriving.{ack_items, map_items}
 use Rattle.path_core.specs.Items.{with_item}

@@ -1,4 +1,4 @@
-use Rattle.std.proofs.Common.{◌≡◌, ◌∙◌, sym, refl, arith}
+use Rattle.std.proofs.Common.{◌∙◌, sym, refl, arith}
 use Rattle.path_core.specs.Opening.{pair_in, keys_heard}
 use Rattle.path_core.proofs.FirstTold.{told_here, told_later, told_by_none}
 use Rattle.path_core.proofs.opening.keys_heard.Goals as goal

@@ -1,4 +1,3 @@
-use Rattle.std.proofs.Common.{◌≡◌, ◌+◌, ◌++◌, List, ℕ, length, take}
 use Rattle.std.specs.List.{concat}
 use Rattle.path_core.proofs.Parts.{Summed}
 use Rattle.path_core.proofs.placing.checksum_of.Given as goal

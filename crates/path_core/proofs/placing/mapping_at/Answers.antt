@@ -1,4 +1,4 @@
-use Rattle.std.proofs.Common.{◌≡◌, sym, subst, ◌≤◌, IfSome, Option}
+use Rattle.std.proofs.Common.{sym, subst, ◌≤◌, IfSome, Option}
 use Rattle.dss_mapping.specs.declared.kept.KeptMapping.{KeptMapping}
 use Rattle.path_core.proofs.Mapped.{mapping_begins}
 use Rattle.path_core.proofs.placing.mapping_at.Goals as goal

@@ -1,4 +1,4 @@
-use Rattle.std.proofs.Common.{◌≡◌, ◌∙◌, sym, refl, ap, ◌-◌, ◌++◌, List, ℕ, take, arith}
+use Rattle.std.proofs.Common.{◌∙◌, sym, refl, ap, ◌-◌, ◌++◌, List, ℕ, take, arith}
 use Rattle.std.specs.List.{concat}
 use Rattle.path_core.proofs.Parts.{part-taken}
 use Rattle.path_core.proofs.placing.text_of.Goals as goal

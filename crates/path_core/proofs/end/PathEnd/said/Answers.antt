@@ -1,4 +1,4 @@
-use Rattle.std.proofs.Common.{◌≡◌, ◌≤◌, ◌^◌, sym, subst}
+use Rattle.std.proofs.Common.{◌≤◌, ◌^◌, sym, subst}
 use Rattle.path_core.specs.Said.{CanBeSaid}
 use Rattle.path_core.proofs.Sayable.{can_be_said}
 use Rattle.path_core.proofs.end.PathEnd.said.Goals as goal

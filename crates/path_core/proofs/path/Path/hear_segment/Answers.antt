@@ -1,4 +1,4 @@
-use Rattle.std.proofs.Common.{◌≡◌, refl}
+use Rattle.std.proofs.Common.{refl}
 use Rattle.path_core.proofs.path.Path.hear_segment.Goals as goal
 
 pub returns-clause-ok : goal.returns-clause-ok

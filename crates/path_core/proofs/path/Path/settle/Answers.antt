@@ -1,4 +1,4 @@
-use Rattle.std.proofs.Common.{◌≡◌, sym, ◌∙◌}
+use Rattle.std.proofs.Common.{sym, ◌∙◌}
 use Rattle.path_core.proofs.FirstDuty.{passes, settled_stays}
 use Rattle.path_core.proofs.path.Path.settle.Goals as goal
 

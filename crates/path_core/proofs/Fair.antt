@@ -1,0 +1,79 @@
+-- What a copy says names places below 2^62.
+use Rattle.std.proofs.Common.{◌≡◌, refl, ℕ, ◌^◌, nat_lt, nat_le, Bool, true, false, if◌then◌else◌, List, [], ◌∷◌, ◌++◌, Option, Some, None, All, take}
+use Rattle.std.specs.List.{flat_map}
+use Rattle.std.proofs.lemmas.Bool.{ltb-true, leb-true}
+use Rattle.std.proofs.lemmas.List.Elements.{All-nil, All-cons, All-append, All-take}
+use Rattle.outside_kit.specs.declared.side.Side.{Side}
+use Rattle.outside_kit.specs.declared.side.Side.TheVariants.{A, B}
+use Rattle.mptcp_options.specs.declared.capable.CapableKeys.{CapableKeys}
+use Rattle.mptcp_options.specs.declared.capable.CapableKeys.TheVariants.{NoKey, Sender, Both, WithData}
+use Rattle.path_segments.specs.declared.segment.PathOption.TheVariants.{Capable, Join, Dss, AddAddr, Remove, Prio, Fail, FastClose, Reset}
+use Rattle.path_segments.specs.declared.segment.PathMapping.{PathMapping}
+use Rattle.path_segments.specs.declared.segment.PathMapping.TheVariants.{Bytes, End, Infinite}
+use Rattle.path_core.specs.declared.heard.Heard.TheVariants as says
+use Rattle.path_core.specs.Arriving.{HeardOption, is_mapping, mapping_items, ack_items, end_items, map_items, key_items, items_in}
+use Rattle.path_core.specs.Items.{IsFair}
+
+fair_ack : (next : Option (Option ℕ)) (window : ℕ) → All IsFair (ack_items next window)
+fair_ack None window = All-nil IsFair
+fair_ack (Some None) window = All-nil IsFair
+fair_ack (Some (Some next)) window = by (nat_lt next (2 ^ 62)) refl
+  where
+    by : (b : Bool) → nat_lt next (2 ^ 62) ≡ b → All IsFair (if b then says.DataAck next window ∷ [] else [])
+    by true is = All-cons IsFair (says.DataAck next window) [] (ltb-true _ _ is) (All-nil IsFair)
+    by false is = All-nil IsFair
+
+fair_end : (place : ℕ) → All IsFair (end_items place)
+fair_end place = by (nat_le place (2 ^ 62)) refl
+  where
+    by : (b : Bool) → nat_le place (2 ^ 62) ≡ b → All IsFair (if b then says.DataFin place ∷ [] else [])
+    by true is = All-cons IsFair (says.DataFin place) [] (leb-true _ _ is) (All-nil IsFair)
+    by false is = All-nil IsFair
+
+fair_mapping : (place position len : ℕ) → All IsFair (mapping_items place position len)
+fair_mapping place position len = by (is_mapping place position len)
+  where
+    by : (b : Bool) → All IsFair (if b then says.Mapping ∷ [] else [])
+    by true = All-cons IsFair says.Mapping [] tt (All-nil IsFair)
+    by false = All-nil IsFair
+
+fair_map : (mapping : Option (PathMapping (Option ℕ))) → All IsFair (map_items mapping)
+fair_map None = All-nil IsFair
+fair_map (Some (Bytes None position len fin checksum)) = All-nil IsFair
+fair_map (Some (Bytes (Some place) None len fin checksum)) = All-nil IsFair
+fair_map (Some (Bytes (Some place) (Some position) len true checksum)) = All-nil IsFair
+fair_map (Some (Bytes (Some place) (Some position) len false checksum)) = fair_mapping place position len
+fair_map (Some (End None checksum)) = All-nil IsFair
+fair_map (Some (End (Some place) checksum)) = fair_end place
+fair_map (Some (Infinite place position)) = All-nil IsFair
+
+fair_keys : (s : Side) (keys : CapableKeys) → All IsFair (key_items s keys)
+fair_keys A NoKey = All-nil IsFair
+fair_keys A (Sender sender) = All-cons IsFair (says.PeerKey sender) [] tt (All-nil IsFair)
+fair_keys A (Both sender receiver) = All-nil IsFair
+fair_keys A (WithData sender receiver len checksum) = All-nil IsFair
+fair_keys B NoKey = All-nil IsFair
+fair_keys B (Sender sender) = All-nil IsFair
+fair_keys B (Both sender receiver) = All-cons IsFair (says.Keys receiver sender) [] tt (All-nil IsFair)
+fair_keys B (WithData sender receiver len checksum) = All-cons IsFair (says.Keys receiver sender) (mapping_items 0 1 len) tt (fair_mapping 0 1 len)
+
+fair_in : (s : Side) (window : ℕ) (option : HeardOption) → All IsFair (items_in s window option)
+fair_in s window (Capable flag_a flag_c keys) = fair_keys s keys
+fair_in s window (Join form) = All-nil IsFair
+fair_in s window (Dss next mapping) =
+    All-cons IsFair says.Dss (ack_items next window ++ map_items mapping) tt
+    (All-append IsFair (ack_items next window) (map_items mapping) (fair_ack next window) (fair_map mapping))
+fair_in s window (AddAddr echo id address port hmac) = All-nil IsFair
+fair_in s window (Remove ids) = All-nil IsFair
+fair_in s window (Prio backup) = All-nil IsFair
+fair_in s window (Fail place) = All-nil IsFair
+fair_in s window (FastClose key) = All-nil IsFair
+fair_in s window (Reset transient reason) = All-nil IsFair
+
+fair_all : (s : Side) (window : ℕ) (options : List HeardOption) → All IsFair (flat_map (items_in s window) options)
+fair_all s window [] = All-nil IsFair
+fair_all s window (option ∷ options) =
+    All-append IsFair (items_in s window option) (flat_map (items_in s window) options) (fair_in s window option) (fair_all s window options)
+
+pub items_are_fair : (s : Side) (window : ℕ) (options : List HeardOption) → All IsFair (take 10 (flat_map (items_in s window) options))
+items_are_fair s window options = All-take IsFair 10 (flat_map (items_in s window) options) (fair_all s window options)
