@@ -204,7 +204,10 @@ impl Path {
         let spelling = *self.profile.spelling();
         match hear(&spelling, spelled_by(peer(side)), &expected, octets) {
             Some(heard) => self.hear_segment(side, now, &heard),
-            None => Ok(self.sets_about(Agenda::emission(side))),
+            None => {
+                self.sets_about(Agenda::emission(side));
+                Ok(())
+            }
         }
     }
 

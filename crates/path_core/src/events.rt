@@ -225,10 +225,19 @@ impl Path {
         ensures err { OnErr result (self.new ≡ self.old) }
     {
         match self.next_event() {
-            Some(Event::Takes(line)) => Ok(self.take_line(line)),
+            Some(Event::Takes(line)) => {
+                self.take_line(line);
+                Ok(())
+            }
             Some(Event::Arrives(due)) => self.take_copy(due),
-            Some(Event::Fires(side, tick)) => Ok(self.fire(side, tick)),
-            None => Ok(self.sets_about(Agenda::rest_of_turn())),
+            Some(Event::Fires(side, tick)) => {
+                self.fire(side, tick);
+                Ok(())
+            }
+            None => {
+                self.sets_about(Agenda::rest_of_turn());
+                Ok(())
+            }
         }
     }
 }

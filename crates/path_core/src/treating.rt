@@ -302,11 +302,23 @@ impl Path {
         ensures err { OnErr result (self.new ≡ self.old) }
     {
         match item {
-            Heard::DataAck { next, .. } => Ok(self.answer_ack(side, next, reply)),
+            Heard::DataAck { next, .. } => {
+                self.answer_ack(side, next, reply);
+                Ok(())
+            }
             Heard::Mapping => self.answer_mapping(side, reply),
-            Heard::DataFin { place } => Ok(self.answer_data_fin(side, place, reply)),
-            Heard::Keys { own, peer } => Ok(self.answer_keys(side, KeyPair { own, peer }, reply)),
-            Heard::Dss | Heard::PeerKey { .. } => Ok(self.done()),
+            Heard::DataFin { place } => {
+                self.answer_data_fin(side, place, reply);
+                Ok(())
+            }
+            Heard::Keys { own, peer } => {
+                self.answer_keys(side, KeyPair { own, peer }, reply);
+                Ok(())
+            }
+            Heard::Dss | Heard::PeerKey { .. } => {
+                self.done();
+                Ok(())
+            }
         }
     }
 
@@ -323,7 +335,10 @@ impl Path {
     {
         match self.end(side).treated.item(index) {
             Some(item) => self.answer_heard(side, item, reply),
-            None => Ok(self.done()),
+            None => {
+                self.done();
+                Ok(())
+            }
         }
     }
 
