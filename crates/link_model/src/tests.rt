@@ -63,10 +63,9 @@ fn copies_arrive_by_the_script(rt: HostRuntime) -> Result<(), Fail> {
     ] {
         let next = link.due().ok_or("nothing is under way")?;
         assert_eq!(rt; Some(next), arrival);
-        assert_eq!(rt;
-            link.deliver(&next).as_slice(),
-            octets(alloc, want)?.as_slice()
-        );
+        let shared = link.octets(&next)?;
+        assert_eq!(rt; shared.as_slice(), octets(alloc, want)?.as_slice());
+        assert_eq!(rt; link.deliver(&next).as_slice(), shared.as_slice());
     }
     assert_eq!(rt; link.due(), None);
     hand(&mut link, Side::A, &data, 20)?;
