@@ -1,5 +1,5 @@
 -- What happens on a path by itself: lines of the script, copies that arrive, timers that run out.
-use Rattle.std.specs.Prelude.{ℕ, max, ◌<◌, IsSome, Bool, true, false, nat_lt, nat_le, if◌then◌else◌, Option, Some, None, List, [], ◌∷◌, ◌++◌}
+use Rattle.std.specs.Prelude.{ℕ, max, ◌<◌, ◌&&◌, IsSome, Bool, true, false, nat_lt, nat_le, if◌then◌else◌, Option, Some, None, List, [], ◌∷◌, ◌++◌}
 use Rattle.std.specs.Option.{option_and_then}
 use Rattle.outside_kit.specs.declared.side.Side.{Side}
 use Rattle.outside_kit.specs.declared.side.Side.TheVariants.{A, B}
@@ -8,6 +8,8 @@ use Rattle.link_script.specs.declared.script.ScriptLine.TheVariants.{Die}
 use Rattle.link_model.specs.declared.flight.Due.{Due}
 use Rattle.link_model.specs.declared.flight.Flight.{Flight}
 use Rattle.link_model.specs.Steps.{next_due, arriving, after_delivery, after_cut, peer}
+use Rattle.subflow_tcp.specs.declared.handshake.State.{State as EndPhase}
+use Rattle.subflow_tcp.specs.declared.handshake.State.TheVariants as phase
 use Rattle.subflow_tcp.specs.States.{is_dead}
 use Rattle.subflow_tcp.specs.Expiring.{is_sixth, after_fire}
 use Rattle.subflow_tcp.specs.Judging.{meaning_of}
@@ -107,6 +109,16 @@ path_died p = record p {
   b = died_unless_dead p.b;
   agenda = leaves_unless_dead A p.a ++ (leaves_unless_dead B p.b ++ rest_of_turn);
 }
+
+-- it is dead, or never heard anything
+abbrev pub is_dead_or_listening : EndPhase → Bool
+is_dead_or_listening phase.Listen = true
+is_dead_or_listening phase.Dead = true
+is_dead_or_listening _ = false
+
+-- A path is dead where A's end is dead, and B's end is dead or was never reached.
+abbrev pub is_dead_path : {C : Type 0} → PathState C → Bool
+is_dead_path p = is_dead p.a.tcp.state && is_dead_or_listening p.b.tcp.state
 
 abbrev pub is_death : ScriptLine → Bool
 is_death (Die path tick) = true

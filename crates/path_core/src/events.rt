@@ -9,7 +9,7 @@ ghost use Rattle.subflow_tcp.specs.States.{is_dead};
 ghost use Rattle.path_core.specs.declared.duty.Duty.TheVariants as duties;
 ghost use Rattle.path_core.specs.declared.event.Event.TheVariants as event;
 ghost use Rattle.path_core.specs.Agenda.{rest_of_turn};
-ghost use Rattle.path_core.specs.Events.{tick_of, next_line, next_copy, next_fire, earlier, earliest, before, next_event, step_of, step_for, is_death, died_unless_dead, path_died, line_taken, after_firing, template_fired, timer_fired, at_tick, copy_taken, happens_if, CanHappen};
+ghost use Rattle.path_core.specs.Events.{is_dead_or_listening, is_dead_path, tick_of, next_line, next_copy, next_fire, earlier, earliest, before, next_event, step_of, step_for, is_death, died_unless_dead, path_died, line_taken, after_firing, template_fired, timer_fired, at_tick, copy_taken, happens_if, CanHappen};
 ghost use Rattle.path_core.specs.Octets.{octets};
 ghost use Rattle.path_core.specs.State.{end_at};
 
@@ -98,6 +98,13 @@ impl PathEnd {
         matches!(self.tcp.state(), State::Dead)
     }
 
+    /// Whether it is dead, or never heard anything.
+    fn is_dead_or_listening(&self) -> bool
+        ensures { result ≡ is_dead_or_listening self.now.tcp.state }
+    {
+        matches!(self.tcp.state(), State::Dead | State::Listen)
+    }
+
     /// Nothing is sent, kept or awaited any more, unless it was dead before.
     fn die_unless_dead(&mut self)
         ensures { self.new ≡ died_unless_dead self.old }
@@ -119,11 +126,11 @@ impl PathEnd {
 }
 
 impl Path {
-    /// Whether both ends are dead.
+    /// Whether A's end is dead, and B's end is dead or was never reached.
     pub fn is_dead(&self) -> bool
-        ensures { result ≡ (is_dead self.now.a.tcp.state && is_dead self.now.b.tcp.state) }
+        ensures { result ≡ is_dead_path self.now }
     {
-        self.a.is_dead() && self.b.is_dead()
+        self.a.is_dead() && self.b.is_dead_or_listening()
     }
 
     /// The line that comes due next.

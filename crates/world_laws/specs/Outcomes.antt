@@ -6,14 +6,13 @@ use Rattle.outside_kit.specs.declared.side.Side.TheVariants.{A, B}
 use Rattle.pipe_model.specs.declared.pipe.Pipe.{Pipe}
 use Rattle.send_book.specs.State.{acked_len}
 use Rattle.reassembly_book.specs.declared.call.ReassemblyReply.TheVariants as reassembly_replies
-use Rattle.subflow_tcp.specs.States.{is_dead}
+use Rattle.path_core.specs.Events.{is_dead_path}
 use Rattle.actor_desk.specs.declared.ask.Note.{Note}
 use Rattle.actor_desk.specs.declared.ask.Reply.{Reply}
 use Rattle.actor_desk.specs.declared.ask.Reply.TheVariants as replies
 use Rattle.actor_desk.specs.Desk.{send_of, reassembly_of}
 use Rattle.actor_desk.specs.Words.{pick}
 use Rattle.stream_apps.specs.AppSteps.{bytes_in}
-use Rattle.path_core.specs.State.{PathState}
 use Rattle.world_laws.specs.declared.member.Member.TheVariants.{App, Path}
 use Rattle.world_laws.specs.declared.outcome.Outcome.{Outcome}
 use Rattle.world_laws.specs.declared.outcome.Outcome.TheVariants.{Going, Delivered, Aborted, NoPath}
@@ -72,10 +71,6 @@ module _ {C : Type 0} where
   output_of s w = read_by (notes_of s w.crew)
 
   -- ---- dead paths
-
-  -- both ends are dead
-  abbrev pub is_dead_path : PathState C → Bool
-  is_dead_path p = is_dead p.a.tcp.state && is_dead p.b.tcp.state
 
   abbrev pub is_no_live_path : Actor C → Bool
   is_no_live_path (App a) = true
