@@ -1,5 +1,5 @@
 -- A copy that arrives: what the end makes of it at once, and what the lanes do then.
-use Rattle.std.proofs.Common.{◌≡◌, refl, sym, ap, subst, ℕ, suc, ◌+◌, inl, ⊎_elim, Bool, true, false, if◌then◌else◌, option_map, Option, Some, None, List, [], ◌∷◌, length, take, map, flat_map}
+use Rattle.std.proofs.Common.{◌≡◌, refl, sym, ap, subst, ℕ, suc, ◌+◌, ◌^◌, nat_le, nat_lt, inl, ⊎_elim, Bool, true, false, if◌then◌else◌, option_map, Option, Some, None, List, [], ◌∷◌, length, take, map, flat_map}
 use Rattle.std.proofs.lemmas.Bool.{both_ways, false≢true}
 use Rattle.std.specs.Option.{IfSome}
 use Rattle.outside_kit.specs.declared.side.Side.{Side}
@@ -44,6 +44,10 @@ module _ (acks : List AckCopy) (p : Lane) (window : ℕ) where
   one : (item : Heard) → ItemShows acks p item → Says (item ∷ [])
   one item h = every_cons item [] h (Every-nil _)
 
+  said_if : (b : Bool) (item : Heard) → ItemShows acks p item → Says (if b then item ∷ [] else [])
+  said_if true item h = one item h
+  said_if false item h = Every-nil _
+
   mapping_says : (place position len : ℕ) → Says (mapping_items place position len)
   mapping_says place position len = by (is_mapping place position len)
     where
@@ -55,12 +59,12 @@ module _ (acks : List AckCopy) (p : Lane) (window : ℕ) where
   map_says None h = Every-nil _
   map_says (Some (Bytes place position len true checksum)) h = Every-nil _
   map_says (Some (Bytes place position len false checksum)) h = mapping_says place position len
-  map_says (Some (End place checksum)) h = one (says.DataFin place) h
+  map_says (Some (End place checksum)) h = said_if (nat_le place (2 ^ 62)) (says.DataFin place) h
   map_says (Some (Infinite place position)) h = Every-nil _
 
   acks_say : (o : Option ℕ) → IfSome o (λ n. HasAck acks n window) → Says (ack_items (option_map (λ n. Some n) o) window)
   acks_say None h = Every-nil _
-  acks_say (Some n) h = one (says.DataAck n window) h
+  acks_say (Some n) h = said_if (nat_lt n (2 ^ 62)) (says.DataAck n window) h
 
   keys_say : (s : Side) (keys : CapableKeys) → Says (key_items s keys)
   keys_say A NoKey = Every-nil _
