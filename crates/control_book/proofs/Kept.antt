@@ -12,6 +12,7 @@ use Rattle.fallback_state.specs.declared.fall.Event.{Event}
 use Rattle.fallback_state.specs.declared.fall.Event.TheVariants.{KeysHeard}
 use Rattle.fallback_state.specs.Table.{fall_step}
 use Rattle.fallback_state.proofs.Steps.{standing, aborted_kept}
+use Rattle.key_material.specs.declared.address.Address.{Address}
 use Rattle.address_manager.specs.Addresses.{Addresses}
 use Rattle.address_manager.specs.IdSet.{is_member}
 use Rattle.control_book.specs.declared.registry.PathState.{PathState}
@@ -245,7 +246,7 @@ member_set ids place id member keeps is =
       | inr past ↦ ap (λ (xs : List Bool). is_member xs id) (set_past ids place member past) ∙ is
     ]
 
-either_addresses : (P : Addresses → Type 0) (b : Bool) (one other : Addresses) → P one → P other → P (if b then one else other)
+either_addresses : (P : Addresses Address → Type 0) (b : Bool) (one other : Addresses Address) → P one → P other → P (if b then one else other)
 either_addresses P true one other p q = p
 either_addresses P false one other p q = q
 

@@ -20,6 +20,7 @@ use Rattle.control_book.specs.declared.call.ControlReply.TheVariants as reply
 use Rattle.control_book.specs.declared.call.Notice.{Notice}
 use Rattle.control_book.specs.declared.call.Notice.TheVariants as notice
 use Rattle.control_book.specs.Registry.{state_of, stands, sole, lowest_living, standby, rows_with}
+use Rattle.control_book.specs.SameAddress.{is_same}
 use Rattle.control_book.specs.Control.{Control, peer_or_zero, is_path, withdrawals_on}
 
 abbrev pub is_sure : Mode → Bool
@@ -123,7 +124,7 @@ told_heard heard.BadHmac = reply.BadHmac
 told_heard heard.Known = reply.Known
 
 abbrev pub address_reply : ℕ → Address → ℕ → ℕ → Control → ControlReply
-address_reply id address port hmac c = told_heard (heard_reply id address (is_right id address port hmac c) c.addresses)
+address_reply id address port hmac c = told_heard (heard_reply is_same id address (is_right id address port hmac c) c.addresses)
 
 abbrev pub fast_heard_reply : ℕ → Control → ControlReply
 fast_heard_reply key c = if key == c.keys.own then reply.Stopped else reply.OtherKey c.keys.own

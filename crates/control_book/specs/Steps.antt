@@ -6,7 +6,7 @@ use Rattle.key_material.specs.KeyDigest.{token_of}
 use Rattle.fallback_state.specs.declared.fall.Event.{Event}
 use Rattle.fallback_state.specs.declared.fall.Event.TheVariants as event
 use Rattle.fallback_state.specs.Table.{fall_step}
-use Rattle.address_manager.specs.Addresses.{Addresses, knows}
+use Rattle.address_manager.specs.Addresses.{knows}
 use Rattle.address_manager.specs.Steps.{after_announce as addresses_announced, after_heard as addresses_heard, after_removed as addresses_removed}
 use Rattle.control_book.specs.declared.registry.Phase.TheVariants.{Idle, Opening, Living}
 use Rattle.control_book.specs.declared.registry.PathState.{PathState}
