@@ -1,7 +1,6 @@
 pub mod Ranking
 pub mod Resting
 pub mod Passed
-pub mod FirstTold
 pub mod Fair
 pub mod Meanings
 pub mod Parts
@@ -12,7 +11,6 @@ pub mod Happening
 pub mod Lowering
 pub mod TurnEnds
 pub mod Showing
-mod Things
 mod Sayable
 mod InBounds
 mod Settling

@@ -1,8 +1,8 @@
 use Rattle.std.proofs.Common.{◌∙◌, sym, ap, ◌+◌, drop, get_or}
 use Rattle.std.proofs.lemmas.List.{at_drop_more, drop_all}
-use Rattle.path_core.specs.Arriving.{place_in_first}
-use Rattle.path_core.proofs.Filling.{dss_later}
-use Rattle.path_core.proofs.hearing.place_in_first.Goals as goal
+use Rattle.path_agenda.specs.Items.{place_in_first}
+use Rattle.path_agenda.proofs.FirstDss.{dss_later}
+use Rattle.path_agenda.proofs.items.place_in_first.Goals as goal
 
 pub loop-index-preserved : goal.loop-index-preserved
 loop-index-preserved c =

@@ -1,7 +1,7 @@
 use Rattle.std.proofs.Common.{◌∙◌, sym, refl, arith}
-use Rattle.path_core.specs.Opening.{pair_in, keys_heard}
-use Rattle.path_core.proofs.FirstTold.{told_here, told_later, told_by_none}
-use Rattle.path_core.proofs.opening.keys_heard.Goals as goal
+use Rattle.path_agenda.specs.Items.{pair_in, keys_heard}
+use Rattle.path_agenda.proofs.FirstTold.{told_here, told_later, told_by_none}
+use Rattle.path_agenda.proofs.items.keys_heard.Goals as goal
 
 pub loop-item-init : goal.loop-item-init
 loop-item-init c = refl

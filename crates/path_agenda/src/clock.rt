@@ -4,16 +4,16 @@ ghost use Rattle.std.specs.Prelude.{◌≡◌, ◌≤◌, ◌<◌, ◌+◌, ◌*
 
 use std::marker::Model;
 
-/// The tick of a path, and the first tick after its round. A round is 100 ticks.
+/// The tick of a path, and the first tick after its round. A round is 100 ticks, and there are at most 2^57 of them.
 #[derive(Debug, Drop)]
-pub(crate) struct Clock {
+pub struct Clock {
     tick: u64,
     until: u64,
 }
 
 impl Model for Clock {
     ghost use Rattle.std.specs.Prelude.{◌≤◌, ◌+◌, ◌*◌, ◌^◌};
-    ghost use Rattle.path_core.specs.State.{Clock};
+    ghost use Rattle.path_agenda.specs.Clock.{Clock};
 
     ghost Value = { Clock };
 
@@ -23,7 +23,7 @@ impl Model for Clock {
 }
 
 impl Clock {
-    /// The clock of the first round.
+    /// The clock of the first round, which goes from tick 0 to tick 99.
     pub fn new() -> Self
         ensures { result ≡ record { tick = 0; until = 100 } }
     {
@@ -33,7 +33,7 @@ impl Clock {
         }
     }
 
-    /// The tick.
+    /// The tick, below 2^64 - 2^20, so that a delay of fewer than 2^20 ticks can be added.
     pub fn now(&self) -> u64
         ensures value { result ≡ self.now.tick }
         ensures bound { result < 2 ^ 64 - 2 ^ 20 }
@@ -56,7 +56,7 @@ impl Clock {
         self.tick = self.tick.max(tick);
     }
 
-    /// The next round begins.
+    /// The next round begins, at the first tick after this one. Fewer than 2^57 rounds were begun so.
     pub fn next_round(&mut self)
         requires { self.old.until ≤ 100 * 2 ^ 57 }
         ensures { self.new ≡ record { tick = self.old.until; until = self.old.until + 100 } }

@@ -1,8 +1,8 @@
 -- The first of the ten things that a copy may say.
 use Rattle.std.proofs.Common.{◌≡◌, refl, ℕ, zero, suc, ◌≤◌, List, ◌++◌, take, arith}
 use Rattle.outside_kit.specs.declared.side.Side.{Side}
-use Rattle.path_core.specs.declared.duty.Duty.{Duty}
-use Rattle.path_core.specs.Agenda.{heard_and, things_heard}
+use Rattle.path_agenda.specs.declared.duty.Duty.{Duty}
+use Rattle.path_agenda.specs.Agenda.{heard_and, things_heard}
 
 -- as many of them as are heard, and then these
 pub heard_first : (s : Side) (n : ℕ) (ds : List Duty) → n ≤ 10 → take n (things_heard s) ++ ds ≡ heard_and s 0 n ds

@@ -1,14 +1,14 @@
 //! What is to be done in a turn, and after each kind of event. A rule that is added to one of them has to be a duty.
 
 ghost use Rattle.std.specs.Prelude.{◌≡◌, ◌≤◌, ◌∷◌};
-ghost use Rattle.path_core.specs.Agenda.{things_heard, rest_of_turn, emission, start_of_turn, syn_came, syn_ack_came, payload_came, copy_came, syn_again, answers, answers_dead, expired, expired_for_ever, leaves, breaks, resets};
+ghost use Rattle.path_agenda.specs.Agenda.{things_heard, rest_of_turn, emission, start_of_turn, syn_came, syn_ack_came, payload_came, copy_came, syn_again, answers, answers_dead, expired, expired_for_ever, leaves, breaks, resets};
 
 use crate::agenda::Agenda;
 use crate::duty::Duty;
 use outside_kit::Side;
 
 impl Agenda {
-    /// What follows what the ends do.
+    /// What follows what the ends do: the events of the round, and then the end of the turn.
     pub fn rest_of_turn() -> Self
         ensures { result ≡ rest_of_turn }
     {
@@ -30,7 +30,7 @@ impl Agenda {
         ])
     }
 
-    /// A turn.
+    /// A turn, from its start: both ends look at how their sides stand, tell their windows, and send what they may.
     pub fn start_of_turn() -> Self
         ensures { result ≡ start_of_turn }
     {
@@ -80,7 +80,7 @@ impl Agenda {
         Agenda::of(&[duty, Duty::Events, Duty::End])
     }
 
-    /// The SYN of the peer came.
+    /// The SYN of the peer came: its window is told, and then the SYN/ACK goes out.
     pub fn syn_came(side: Side) -> Self
         ensures { result ≡ syn_came side }
     {
@@ -97,7 +97,7 @@ impl Agenda {
         ])
     }
 
-    /// The SYN/ACK came.
+    /// The SYN/ACK came: its window is told, the peer's key, and that the path lives; then it is acknowledged.
     pub fn syn_ack_came(side: Side) -> Self
         ensures { result ≡ syn_ack_came side }
     {
@@ -152,7 +152,7 @@ impl Agenda {
         agenda
     }
 
-    /// The SYN came again.
+    /// The SYN came again: so does the SYN/ACK.
     pub fn syn_again(side: Side) -> Self
         ensures { result ≡ syn_again side }
     {
@@ -166,14 +166,14 @@ impl Agenda {
         Agenda::before_emission(Duty::Answer(side), side)
     }
 
-    /// A copy came at a dead end.
+    /// A copy came at a dead end, which answers by a reset.
     pub fn answers_dead(side: Side) -> Self
         ensures { result ≡ answers_dead side }
     {
         Agenda::before_rest(Duty::ResetAnswer(side))
     }
 
-    /// The timer ran out.
+    /// The timer ran out: what isn't acknowledged is given back, and what was lost is sent again.
     pub fn expired(side: Side) -> Self
         ensures { result ≡ expired side }
     {
@@ -190,28 +190,28 @@ impl Agenda {
         ])
     }
 
-    /// The timer ran out for the sixth time in a row.
+    /// The timer ran out for the sixth time in a row: a reset, and nothing more is sent.
     pub fn expired_for_ever(side: Side) -> Self
         ensures { result ≡ expired_for_ever side }
     {
         Agenda::before_rest(Duty::Reset(side))
     }
 
-    /// The end died.
+    /// The end died: it leaves.
     pub fn leaves(side: Side) -> Self
         ensures { result ≡ leaves side }
     {
         Agenda::before_rest(Duty::Leave(side))
     }
 
-    /// The path breaks.
+    /// The path breaks, with this reason (RFC 8684, section 3.6): it is asked once more what is to be acknowledged.
     pub fn breaks(side: Side, reason: u8) -> Self
         ensures { result ≡ breaks side reason }
     {
         Agenda::before_rest(Duty::BreakAck { side, reason })
     }
 
-    /// The path breaks, and all is acknowledged.
+    /// The path breaks, and what is to be acknowledged was told: a reset with this reason (RFC 8684, section 3.6).
     pub fn resets(side: Side, reason: u8) -> Self
         ensures { result ≡ resets side reason }
     {
