@@ -4,7 +4,8 @@ ghost use Rattle.std.specs.Prelude.{◌≡◌, ◌≤◌, ◌<◌, ◌+◌, ◌*
 
 use std::marker::Model;
 
-/// The tick of a path, and the first tick after its round. A round is 100 ticks, and there are at most 2^57 of them.
+/// The tick of a path, and the first tick after its round. A round is 100 ticks, and at most 2^57 rounds follow the
+/// first one.
 #[derive(Debug, Drop)]
 pub struct Clock {
     tick: u64,
