@@ -19,3 +19,4 @@ pub mod Arriving
 pub mod Asking
 pub mod Trios
 pub mod Finishing
+pub mod Lanes
