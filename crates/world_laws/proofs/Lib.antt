@@ -19,3 +19,16 @@ pub mod Arriving
 pub mod Asking
 pub mod Trios
 pub mod Finishing
+pub mod Lanes
+pub mod Strolling
+pub mod Sides
+pub mod Placing
+pub mod Answering
+pub mod Replying
+pub mod Arrived
+pub mod Happening
+pub mod Settling
+pub mod Stepping
+pub mod Turning
+pub mod Joining
+pub mod Beginning
