@@ -70,6 +70,13 @@ impl Path {
         self.agenda.first().is_none()
     }
 
+    /// The first tick after its round, in ticks of a millisecond. The first round ends at 100.
+    pub fn round_end(&self) -> u64
+        ensures { result ≡ self.now.until }
+    {
+        self.clock.until()
+    }
+
     /// The end of a side.
     pub(crate) fn end(&self, side: Side) -> &PathEnd
         ensures { result.now ≡ end_at side self.now }
