@@ -11,6 +11,7 @@ pub mod Sendings
 pub mod Happening
 pub mod Lowering
 pub mod TurnEnds
+pub mod FarResets
 pub mod Showing
 mod Things
 mod Sayable
