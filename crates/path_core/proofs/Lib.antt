@@ -10,6 +10,7 @@ pub mod Sendings
 pub mod Happening
 pub mod Lowering
 pub mod TurnEnds
+pub mod FarResets
 pub mod Showing
 mod Sayable
 mod InBounds

@@ -18,7 +18,7 @@ pub fn what_is_fine_stays_fine()
 
 /// A law: a world whose links carry octets is the world whose links carry segments as values, shown in octets, over every list
 /// of turns that are fresh: no line of a script strips or alters a segment, and each copy that arrives can be said, with
-/// numbers near those that its end expects.
+/// numbers near those that its end expects, but for the position of a reset that is 2^31 or more ahead and below 2^32.
 pub fn octets_do_as_values()
     ensures { OctetsDoAsValues }
 {}
