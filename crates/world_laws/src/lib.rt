@@ -9,8 +9,9 @@ mod member;
 mod outcome;
 
 pub use laws::{
-    files_are_written, nothing_due_is_left, octets_do_as_values, serial_is_one,
-    what_is_fine_stays_fine,
+    each_round_has_a_step, files_are_written, grants_are_done, keys_never_differ,
+    nothing_due_is_left, octets_do_as_values, readers_are_done, serial_exists, serial_is_one,
+    what_is_fine_stays_fine, woven_rounds_do_the_same,
 };
 pub use member::{Crew, Member};
 pub use outcome::Outcome;
