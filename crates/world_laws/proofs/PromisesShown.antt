@@ -34,7 +34,7 @@ same_notes_of s w = same_notes_at (pick s 0 1) w.crew
 same_output : (s : Side) (w : WorldState Carried) → output_of s (shown_world w) ≡ output_of s w
 same_output s w = ap read_by (same_notes_of s w)
 
-same_told : (s : Side) (w : WorldState Carried) → was_told_end s (shown_world w) ≡ was_told_end s w
+pub same_told : (s : Side) (w : WorldState Carried) → was_told_end s (shown_world w) ≡ was_told_end s w
 same_told s w = ap (was_told tells_end) (same_notes_of s w)
 
 -- ---- promises

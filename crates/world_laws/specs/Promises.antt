@@ -1,6 +1,6 @@
 -- What a connection promises at every moment, whatever the order of the steps: of each direction, from a writer's side to the
 -- reader's.
-use Rattle.std.specs.Prelude.{ℕ, ◌≡◌, ◌≤◌, Bool, true, false, List, length}
+use Rattle.std.specs.Prelude.{ℕ, ◌≡◌, ◌-◌, ◌^◌, ◌<◌, ◌≤◌, Bool, true, false, List, [], ◌∷◌, ◌++◌, length}
 use Rattle.outside_kit.specs.declared.side.Side.{Side}
 use Rattle.outside_kit.specs.declared.side.Side.TheVariants.{A, B}
 use Rattle.pipe_model.specs.Prefix.{IsPrefix}
@@ -14,9 +14,23 @@ use Rattle.actor_desk.specs.declared.ask.Reply.{Reply}
 use Rattle.actor_desk.specs.declared.ask.Reply.TheVariants as replies
 use Rattle.actor_desk.specs.Books.{books_in}
 use Rattle.actor_desk.specs.Desk.{send_of, reassembly_of}
+use Rattle.link_model.specs.Steps.{lines_of}
 use Rattle.path_core.specs.Codec.{Codec}
+use Rattle.path_core.specs.Octets.{octets}
+use Rattle.path_core.specs.Shown.{ChangesNothing}
+use Rattle.path_core.specs.Values.{Carried, values}
+use Rattle.world_laws.specs.Fresh.{AreFresh}
+use Rattle.world_laws.specs.Openings.{Start, opened_world}
 use Rattle.world_laws.specs.Outcomes.{tells_end, was_told, notes_at, notes_of, output_of, pipe_of}
 use Rattle.world_laws.specs.Worlds.{WorldState, Turn, after_turn, world_run}
+
+-- Where it is promised: the script strips and alters nothing on path 0, a full segment has room for octets beside its options, and
+-- both files are shorter than 2^31 - 2 octets.
+pub record IsPlain (start : Start) : Type 0 where
+  pub unchanged : ChangesNothing (lines_of 0 start.lines)
+  pub size : 29 ≤ start.profile.mss
+  pub short_a : length start.file_a < 2 ^ 31 - 2
+  pub short_b : length start.file_b < 2 ^ 31 - 2
 
 -- the answers that would say that the two sides don't agree
 abbrev pub tells_refusal : Reply → Bool
@@ -75,3 +89,30 @@ module _ {C : Type 0} where
   -- no control book was told another key for its own
   abbrev pub KeysNeverDiffer : WorldState C → Type 0
   KeysNeverDiffer w = (actor : ℕ) → was_told tells_other_key (notes_at actor w.crew) ≡ false
+
+-- ---- at every moment
+
+-- P holds over segments as values
+abbrev pub IsPromised : (WorldState Carried → Type 0) → Type 0
+IsPromised P = (start : Start) (turns : List Turn) → IsPlain start → P (world_run values turns (opened_world start))
+
+-- and over octets, where the turns were fresh
+abbrev pub IsPromisedOfOctets : (WorldState (List ℕ) → Type 0) → Type 0
+IsPromisedOfOctets P =
+    (start : Start) (turns : List Turn) → IsPlain start → AreFresh turns (opened_world start) → P (world_run octets turns (opened_world start))
+
+-- after the end was told nothing comes by fresh turns
+abbrev pub NothingFollowsInOctets : Type 0
+NothingFollowsInOctets =
+    (start : Start) (turns more : List Turn) → IsPlain start → AreFresh (turns ++ more) (opened_world start)
+    → (was_told_end B (world_run octets turns (opened_world start)) ≡ true
+    → NothingCame A B (world_run octets turns (opened_world start)) (world_run octets more (world_run octets turns (opened_world start))))
+    × (was_told_end A (world_run octets turns (opened_world start)) ≡ true
+    → NothingCame B A (world_run octets turns (opened_world start)) (world_run octets more (world_run octets turns (opened_world start))))
+
+-- each fresh turn is one step or none
+abbrev pub FreshTurnsAreSteps : Type 0
+FreshTurnsAreSteps =
+    (start : Start) (turns : List Turn) (turn : Turn) → IsPlain start → AreFresh (turns ++ turn ∷ []) (opened_world start)
+    → IsOneStep A B (world_run octets turns (opened_world start)) (after_turn octets turn (world_run octets turns (opened_world start)))
+    × IsOneStep B A (world_run octets turns (opened_world start)) (after_turn octets turn (world_run octets turns (opened_world start)))

@@ -1,6 +1,6 @@
 //! What holds of every connection, as clauses of functions that do nothing.
 ghost use Rattle.world_laws.specs.Laws.{AfterFreshTurns, Always, NothingDueIsLeft, SerialExists, SerialIsOne, StaysFine, OctetsDoAsValues, WritesTheFiles};
-ghost use Rattle.world_laws.specs.Promises.{KeysNeverDiffer};
+ghost use Rattle.world_laws.specs.Promises.{BothKeepTheirWord, EachTurnIsOneStep, FreshTurnsAreSteps, IsPromised, IsPromisedOfOctets, KeysNeverDiffer, NothingFollows, NothingFollowsInOctets, NothingWasRefused};
 ghost use Rattle.world_laws.specs.RoundEnd.{GrantsAreDone, ReadersAreDone};
 ghost use Rattle.world_laws.specs.Timely.{EachRoundHasAStep};
 ghost use Rattle.world_laws.specs.Weaving.{RoundsWeave, StepsWeave, WovenDoes};
@@ -88,4 +88,33 @@ pub fn nothing_due_is_left()
 pub fn keys_never_differ()
     ensures values { Always values (λ start w. KeysNeverDiffer w) }
     ensures octets { AfterFreshTurns (λ w. KeysNeverDiffer w) }
+{}
+
+/// A law: at every moment, in each direction, what the reader got is a prefix of what the writer wrote; what is acknowledged was
+/// received, and what was received was written; where DATA_FIN is acknowledged the stream is closed and all of it was received;
+/// and the end is told only where the stream is closed and the reader has all of it.
+///
+/// The script strips and alters nothing on path 0, the maximum segment size is 29 octets or more, and both files are shorter than
+/// 2^31 - 2 octets. The steps are in any order. Over octets the turns have to be fresh.
+pub fn both_sides_keep_their_word()
+    ensures values { IsPromised BothKeepTheirWord }
+    ensures octets { IsPromisedOfOctets BothKeepTheirWord }
+{}
+
+/// A law: once a reader was told the end it reads nothing more, and nothing more is written for it, by whatever turns follow.
+pub fn nothing_follows_the_end()
+    ensures values { IsPromised (NothingFollows values) }
+    ensures octets { NothingFollowsInOctets }
+{}
+
+/// A law: each turn is on each of the two pipes one step that the pipe allows, or none.
+pub fn each_turn_is_one_pipe_step_or_none()
+    ensures values { IsPromised (EachTurnIsOneStep values) }
+    ensures octets { FreshTurnsAreSteps }
+{}
+
+/// A law: no step of an actor is answered `Beyond`, `FinClash` or `AckFuture`.
+pub fn nothing_is_refused()
+    ensures values { IsPromised NothingWasRefused }
+    ensures octets { IsPromisedOfOctets NothingWasRefused }
 {}
