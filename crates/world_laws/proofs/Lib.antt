@@ -58,3 +58,4 @@ pub mod Beginning
 pub mod PromisesKept
 pub mod PromisesRuns
 pub mod PromisesMade
+pub mod GrantingOnce

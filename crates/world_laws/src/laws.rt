@@ -1,4 +1,5 @@
 //! What holds of every connection, as clauses of functions that do nothing.
+ghost use Rattle.world_laws.specs.Granted.{GrantedOnce};
 ghost use Rattle.world_laws.specs.Laws.{AfterFreshTurns, Always, NothingDueIsLeft, SerialExists, SerialIsOne, StaysFine, OctetsDoAsValues, WritesTheFiles};
 ghost use Rattle.world_laws.specs.Promises.{BothKeepTheirWord, EachTurnIsOneStep, FreshTurnsAreSteps, IsPromised, IsPromisedOfOctets, KeysNeverDiffer, NothingFollows, NothingFollowsInOctets, NothingWasRefused};
 ghost use Rattle.world_laws.specs.RoundEnd.{GrantsAreDone, ReadersAreDone};
@@ -117,4 +118,10 @@ pub fn each_turn_is_one_pipe_step_or_none()
 pub fn nothing_is_refused()
     ensures values { IsPromised NothingWasRefused }
     ensures octets { IsPromisedOfOctets NothingWasRefused }
+{}
+
+/// A law: at every moment each byte of a stream was granted to a path once at most, by whichever steps of all actors.
+pub fn bytes_are_granted_once()
+    ensures octets { Always octets (λ start w. GrantedOnce w) }
+    ensures values { Always values (λ start w. GrantedOnce w) }
 {}
