@@ -59,3 +59,6 @@ pub mod PromisesKept
 pub mod PromisesRuns
 pub mod PromisesMade
 pub mod GrantingOnce
+pub mod PlacesKept
+pub mod PlacesSent
+pub mod PlacesAgree

@@ -11,4 +11,5 @@ pub mod RoundEnd
 pub mod Weaving
 pub mod Promises
 pub mod Granted
+pub mod Agreement
 pub mod Laws
