@@ -62,3 +62,7 @@ pub mod GrantingOnce
 pub mod PlacesKept
 pub mod PlacesSent
 pub mod PlacesAgree
+pub mod PathAsks
+pub mod TrioLifting
+pub mod CatchingUp
+pub mod RoundCatch

@@ -4,6 +4,7 @@ ghost use Rattle.world_laws.specs.Granted.{GrantedOnce};
 ghost use Rattle.world_laws.specs.Laws.{AfterFreshTurns, Always, NothingDueIsLeft, SerialExists, SerialIsOne, StaysFine, OctetsDoAsValues, WritesTheFiles};
 ghost use Rattle.world_laws.specs.Promises.{BothKeepTheirWord, EachTurnIsOneStep, FreshTurnsAreSteps, IsPromised, IsPromisedOfOctets, KeysNeverDiffer, NothingFollows, NothingFollowsInOctets, NothingWasRefused};
 ghost use Rattle.world_laws.specs.RoundEnd.{GrantsAreDone, ReadersAreDone};
+ghost use Rattle.world_laws.specs.RoundNumbers.{InEachRound, ReadersCaughtUp};
 ghost use Rattle.world_laws.specs.Timely.{EachRoundHasAStep};
 ghost use Rattle.world_laws.specs.Weaving.{RoundsWeave, StepsWeave, WovenDoes};
 ghost use Rattle.path_core.specs.Octets.{octets};
@@ -34,6 +35,13 @@ pub fn what_is_fine_stays_fine()
 pub fn readers_are_done()
     ensures octets { Always octets (λ start w. ReadersAreDone w) }
     ensures values { Always values (λ start w. ReadersAreDone w) }
+{}
+
+/// A law: in each round, in whatever order the actors go, where the turn of an application is over, it has read all octets that had
+/// arrived without a gap as the round began.
+pub fn readers_catch_up()
+    ensures octets { InEachRound octets ReadersCaughtUp }
+    ensures values { InEachRound values ReadersCaughtUp }
 {}
 
 /// A law: at every moment, where the turn of a path is over, an end that has no record to send and may ask for bytes, with room in

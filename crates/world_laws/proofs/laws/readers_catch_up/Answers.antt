@@ -1,0 +1,10 @@
+use Rattle.path_core.specs.Octets.{octets}
+use Rattle.path_core.specs.Values.{values}
+use Rattle.world_laws.proofs.RoundCatch.{readers_caught_up}
+use Rattle.world_laws.proofs.laws.readers_catch_up.Goals as goal
+
+pub returns-clause-octets : goal.returns-clause-octets
+returns-clause-octets c = readers_caught_up octets
+
+pub returns-clause-values : goal.returns-clause-values
+returns-clause-values c = readers_caught_up values
