@@ -66,3 +66,6 @@ pub mod PathAsks
 pub mod TrioLifting
 pub mod CatchingUp
 pub mod RoundCatch
+pub mod AskingBooks
+pub mod RoundAsksAll
+pub mod AskingForAll

@@ -191,7 +191,7 @@ module _ {C : Type 0} where
       takes_done k p notes n (answer_to books x) p.agenda (asks ∙ ap (λ y. Some y) (sym asked)) is
       (λ s same none. refusal_told books p x s (sym asked ∙ same) none) h.followed h.each
 
-  begun_grants : (p : PathState C) (flags : Side → Bool) → Granting (begins_turn p) flags
+  pub begun_grants : (p : PathState C) (flags : Side → Bool) → Granting (begins_turn p) flags
   begun_grants p flags = settled_done start_of_turn (with_agenda start_of_turn p) flags refl at
     where
       at : (t : Side) → Pays (with_agenda start_of_turn p) start_of_turn flags t

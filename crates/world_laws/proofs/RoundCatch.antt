@@ -23,7 +23,6 @@ use Rattle.stream_apps.specs.AppSteps.{start_of_app, app_ask, app_reads_on, app_
 use Rattle.path_agenda.specs.declared.duty.Duty.{Duty}
 use Rattle.path_core.specs.Codec.{Codec}
 use Rattle.path_core.specs.Duties.{ask_for}
-use Rattle.path_core.specs.State.{path_of}
 use Rattle.world_laws.specs.Openings.{Start, opened_world}
 use Rattle.world_laws.specs.Outcomes.{output_of, read_by}
 use Rattle.world_laws.specs.RoundNumbers.{after_steps, BeginsRound, InEachRound, ReadersCaughtUp}
@@ -101,8 +100,8 @@ other_b End a six is = refl
 other_b Read a six is = ap (λ s. (after_reassembly_call s (calls.Read 65536) six).reassembly_b) is
 
 -- a path lets it grow
-module _ (arrived read : ℕ) (a : AppState) (notes : List Note) (number : ℕ) (six : SixBooks) where
-  grown_a : (ask : Ask) → IsPathAsk number ask → Caught arrived read a notes six.reassembly_a → Caught arrived read a notes (after_ask ask six).reassembly_a
+module _ (arrived read : ℕ) (a : AppState) (notes : List Note) (six : SixBooks) where
+  grown_a : (ask : Ask) → IsPathAsk ask → Caught arrived read a notes six.reassembly_a → Caught arrived read a notes (after_ask ask six).reassembly_a
   grown_a (asks.Reassembly A call) is h =
       grown_caught arrived read a notes six.reassembly_a (after_call six.reassembly_a call) (sound-after_call call six.reassembly_a h.reading.sound) (arrives six.reassembly_a call is) h
   grown_a (asks.Reassembly B call) is h = h
@@ -110,7 +109,7 @@ module _ (arrived read : ℕ) (a : AppState) (notes : List Note) (number : ℕ) 
   grown_a (asks.Control s call) is h = h
   grown_a (asks.Local step) is h = h
 
-  grown_b : (ask : Ask) → IsPathAsk number ask → Caught arrived read a notes six.reassembly_b → Caught arrived read a notes (after_ask ask six).reassembly_b
+  grown_b : (ask : Ask) → IsPathAsk ask → Caught arrived read a notes six.reassembly_b → Caught arrived read a notes (after_ask ask six).reassembly_b
   grown_b (asks.Reassembly B call) is h =
       grown_caught arrived read a notes six.reassembly_b (after_call six.reassembly_b call) (sound-after_call call six.reassembly_b h.reading.sound) (arrives six.reassembly_b call is) h
   grown_b (asks.Reassembly A call) is h = h
@@ -162,8 +161,8 @@ module _ {C : Type 0} (k : Codec C) (start : Start) where
         let same = sym (books_after ask t.at_p.pass t.books) in
         let own = path_asks k t.p d in
         record {
-          a = subst (λ x. Caught arrived_a read_a t.a t.at_a.list x.reassembly_a) same (grown_a arrived_a read_a t.a t.at_a.list (path_of t.p) six ask own h.a);
-          b = subst (λ x. Caught arrived_b read_b t.b t.at_b.list x.reassembly_b) same (grown_b arrived_b read_b t.b t.at_b.list (path_of t.p) six ask own h.b);
+          a = subst (λ x. Caught arrived_a read_a t.a t.at_a.list x.reassembly_a) same (grown_a arrived_a read_a t.a t.at_a.list six ask own h.a);
+          b = subst (λ x. Caught arrived_b read_b t.b t.at_b.list x.reassembly_b) same (grown_b arrived_b read_b t.b t.at_b.list six ask own h.b);
         }
 
     pub caught_stepwise : Stepwise k start Q

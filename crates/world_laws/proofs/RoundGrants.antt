@@ -62,6 +62,8 @@ abbrev pub needs : Duty → List Duty → Bool
 needs (duties.Look s) ds = is_owed s ds
 needs (duties.Update s) ds = is_owed s ds
 needs (duties.Syn s) ds = is_owed s ds
+needs (duties.SynHeard s) ds = is_owed s ds
+needs (duties.SynAnswered s) ds = is_owed s ds
 needs (duties.PeerKey s) ds = is_owed s ds
 needs (duties.SynAck s) ds = is_owed s ds
 needs (duties.Opened s) ds = is_owed s ds

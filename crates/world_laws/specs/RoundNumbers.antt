@@ -1,13 +1,48 @@
 -- What is done by the end of a round, in numbers of what stood as it began.
-use Rattle.std.specs.Prelude.{ℕ, ◌≡◌, ◌≤◌, false, true, List, length, map}
+use Rattle.std.specs.Prelude.{ℕ, ◌≡◌, ◌≤◌, min, ◌&&◌, Bool, true, false, Some, None, List, [], length, map, drop, slice_get}
+use Rattle.std.specs.List.{list_any, position_or_len}
 use Rattle.outside_kit.specs.declared.side.Side.{Side}
+use Rattle.send_book.specs.declared.call.SendCall.TheVariants as send_calls
+use Rattle.send_book.specs.declared.mark.ByteMark.{ByteMark}
+use Rattle.send_book.specs.Marks.{is_free_for}
+use Rattle.send_book.specs.State.{Sending}
 use Rattle.reassembly_book.specs.State.{received}
+use Rattle.actor_desk.specs.declared.ask.Ask.{Ask}
+use Rattle.actor_desk.specs.declared.ask.Ask.TheVariants as asks
+use Rattle.actor_desk.specs.declared.ask.Note.{Note}
 use Rattle.actor_desk.specs.Words.{pick}
 use Rattle.path_core.specs.Codec.{Codec}
+use Rattle.path_core.specs.Emission.{first_unsent, may_ask}
+use Rattle.path_core.specs.State.{end_at, path_of}
+use Rattle.world_laws.specs.declared.member.Member.TheVariants.{App, Path}
+use Rattle.world_laws.specs.Actors.{Actor, ActorCrew}
 use Rattle.world_laws.specs.Openings.{Start, opened_world}
-use Rattle.world_laws.specs.Outcomes.{output_of}
-use Rattle.world_laws.specs.Promises.{arrived_at}
+use Rattle.world_laws.specs.Outcomes.{notes_at, output_of}
+use Rattle.world_laws.specs.Promises.{arrived_at, written_by}
+use Rattle.world_laws.specs.RoundEnd.{asks_grant}
 use Rattle.world_laws.specs.Worlds.{WorldState, Turn, all_over, is_going, end_round, world_run}
+
+-- ---- what a path was granted
+
+-- how many bytes stand before the first one that this path may still take
+abbrev pub taken_len : ℕ → List ByteMark → ℕ
+taken_len path marks = position_or_len (is_free_for path) marks
+
+-- the path asks for bytes while it is on standby
+abbrev pub is_standby : Ask → Bool
+is_standby (asks.Send s (send_calls.Grant path max standby)) = standby
+is_standby _ = false
+
+abbrev pub asks_on_standby : Side → Note → Bool
+asks_on_standby s note = asks_grant s note.ask && is_standby note.ask
+
+-- Of so many bytes none below the edge of the peer's window is left that the path may take; or it asked for bytes, in these steps,
+-- while it was on standby.
+pub data AskedForAll (path : ℕ) (s : Side) (steps : List Note) (written : ℕ) (book : Sending) : Type 0 where
+  Taken : min written book.edge ≤ taken_len path book.marks → AskedForAll path s steps written book
+  Standby : list_any (asks_on_standby s) steps ≡ true → AskedForAll path s steps written book
+
+-- ---- rounds
 
 module _ {C : Type 0} where
   module _ (k : Codec C) where
@@ -27,3 +62,20 @@ module _ {C : Type 0} where
   -- where the turn of an application is over, it has read all that had arrived without a gap as the round began
   abbrev pub ReadersCaughtUp : WorldState C → WorldState C → Type 0
   ReadersCaughtUp begun w = (s : Side) → is_going (pick s 0 1) w ≡ false → received (arrived_at s begun) ≤ length (output_of s w)
+
+  -- ---- bytes that are asked for
+
+  -- the steps that an actor made since then
+  abbrev pub steps_since : ℕ → WorldState C → WorldState C → List Note
+  steps_since actor begun w = drop (length (notes_at actor begun.crew)) (notes_at actor w.crew)
+
+  -- An end that has no record to send and may ask for bytes, with room in its window for a full segment, asked for all.
+  abbrev pub AskForAll : WorldState C → WorldState C → ℕ → Actor C → Type 0
+  AskForAll begun w actor (App a) = Unit {0}
+  AskForAll begun w actor (Path p) =
+      p.agenda ≡ [] → (s : Side) → first_unsent (end_at s p) ≡ None → may_ask p.profile s (end_at s p) ≡ true
+      → AskedForAll (path_of p) s (steps_since actor begun w) (length (written_by s begun).written) (written_by s w)
+
+  -- each end of a path whose turn is over
+  pub record PathsAskForAll (begun w : WorldState C) : Type 0 where
+    pub each : (actor : ℕ) (c : ActorCrew C) → slice_get w.crew actor ≡ Some c → AskForAll begun w actor c.member

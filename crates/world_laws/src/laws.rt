@@ -4,7 +4,7 @@ ghost use Rattle.world_laws.specs.Granted.{GrantedOnce};
 ghost use Rattle.world_laws.specs.Laws.{AfterFreshTurns, Always, NothingDueIsLeft, SerialExists, SerialIsOne, StaysFine, OctetsDoAsValues, WritesTheFiles};
 ghost use Rattle.world_laws.specs.Promises.{BothKeepTheirWord, EachTurnIsOneStep, FreshTurnsAreSteps, IsPromised, IsPromisedOfOctets, KeysNeverDiffer, NothingFollows, NothingFollowsInOctets, NothingWasRefused};
 ghost use Rattle.world_laws.specs.RoundEnd.{GrantsAreDone, ReadersAreDone};
-ghost use Rattle.world_laws.specs.RoundNumbers.{InEachRound, ReadersCaughtUp};
+ghost use Rattle.world_laws.specs.RoundNumbers.{InEachRound, PathsAskForAll, ReadersCaughtUp};
 ghost use Rattle.world_laws.specs.Timely.{EachRoundHasAStep};
 ghost use Rattle.world_laws.specs.Weaving.{RoundsWeave, StepsWeave, WovenDoes};
 ghost use Rattle.path_core.specs.Octets.{octets};
@@ -49,6 +49,15 @@ pub fn readers_catch_up()
 pub fn grants_are_done()
     ensures octets { Always octets (λ start w. GrantsAreDone w) }
     ensures values { Always values (λ start w. GrantsAreDone w) }
+{}
+
+/// A law: in each round, in whatever order the actors go, where the turn of a path is over, an end that has no record to send and
+/// may ask for bytes, with room in its window for a full segment, asked for all: of the octets that were written as the round began
+/// none below the edge of the peer's window is left that the path may take, unless it asked for octets in this round while it was
+/// on standby.
+pub fn paths_ask_for_all()
+    ensures octets { InEachRound octets PathsAskForAll }
+    ensures values { InEachRound values PathsAskForAll }
 {}
 
 /// A law: at every moment a path has begun no more rounds than its actor has steps, and one more while its turn isn't over. So

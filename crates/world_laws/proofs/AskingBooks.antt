@@ -1,0 +1,316 @@
+-- What a refused grant says of a send book in numbers, and what the calls of two applications and one path make of it.
+use Rattle.std.proofs.Common.{◌≡◌, refl, sym, ◌∙◌, ap, subst, ℕ, suc, ◌+◌, ◌-◌, ◌≤◌, ◌&&◌, ◌||◌, ◌==◌, not, min, max, nat_lt, nat_le, inl, inr, ◌⊎◌, ⊎_elim, Bool, true, false, cond, if◌then◌else◌, Option, Some, None, Result, Ok, Err, List, [], ◌∷◌, ◌++◌, length, take, drop, map, replicate, arith}
+use Rattle.std.proofs.lemmas.Bool.{and_parts, eqb-true, leb-true, ltb-false, false≢true}
+use Rattle.std.proofs.lemmas.List.{length-append, length-take, length-drop, length-map, length-replicate}
+use Rattle.std.proofs.lemmas.List.Sums.{count_by-le-length, sum_by-cons}
+use Rattle.std.specs.List.{count_by, list_any, position}
+use Rattle.outside_kit.specs.declared.side.Side.{Side}
+use Rattle.send_book.specs.declared.call.Span.{Span}
+use Rattle.send_book.specs.declared.call.Why.{Why}
+use Rattle.send_book.specs.declared.call.Why.TheVariants.{Ended, Backup, WindowShut}
+use Rattle.send_book.specs.declared.call.SendCall.{SendCall}
+use Rattle.send_book.specs.declared.call.SendCall.TheVariants.{Write, Close, Grant, AckIn, Return, GoIdentity, GoInfinite, Abort}
+use Rattle.send_book.specs.declared.mark.ByteMark.{ByteMark}
+use Rattle.send_book.specs.declared.mark.ByteMark.TheVariants.{Acked, Held, Free}
+use Rattle.send_book.specs.Marks.{is_acked, is_free_for, given, returned}
+use Rattle.send_book.specs.State.{Sending, acked_len}
+use Rattle.send_book.specs.Steps.{taken, is_for, span_at, decision, reply_by, run_len, given_by, is_future, fin_after, after_call}
+use Rattle.send_book.specs.Tried.{contains, no_paths}
+use Rattle.send_book.proofs.Decisions.{MayTake, decision-MayTake}
+use Rattle.send_book.proofs.PathSets.{contains-insert}
+use Rattle.stream_lanes.specs.Words.{Every}
+use Rattle.stream_lanes.proofs.Lists.{Every-append, in_take, in_drop, in_map, in_replicate}
+use Rattle.actor_desk.specs.declared.ask.Note.{Note}
+use Rattle.actor_desk.specs.declared.ask.Reply.TheVariants as replies
+use Rattle.path_core.specs.Emission.{grant_in}
+use Rattle.world_laws.specs.RoundNumbers.{taken_len, asks_on_standby, AskedForAll}
+use Rattle.world_laws.specs.RoundNumbers.AskedForAll.{Taken, Standby}
+
+-- ---- marks
+
+-- a byte that is held was tried by the path
+abbrev pub IsTried : ℕ → ByteMark → Type 0
+IsTried path Acked = Unit {0}
+IsTried path (Held holder tried) = contains path tried ≡ true
+IsTried path (Free tried) = Unit {0}
+
+every_taken : {X : Type 0} {P : X → Type 0} (n : ℕ) (xs : List X) → Every P xs → Every P (take n xs)
+every_taken n xs h = record { each = λ i x at. h.each i x (in_take n xs i x at).0 }
+
+every_dropped : {X : Type 0} {P : X → Type 0} (n : ℕ) (xs : List X) → Every P xs → Every P (drop n xs)
+every_dropped n xs h = record { each = λ i x at. h.each (n + i) x (in_drop n xs i (n + i) x refl at) }
+
+every_mapped : {X : Type 0} {P : X → Type 0} (f : X → X) → ((x : X) → P x → P (f x)) → (xs : List X) → Every P xs → Every P (map f xs)
+every_mapped {X} {P} f keeps xs h = record {
+  each = λ i y at. let found = in_map f xs i y at in subst P found.2 (keeps found.0 (h.each i found.0 found.1));
+}
+
+every_same : {X : Type 0} {P : X → Type 0} (n : ℕ) (x : X) → P x → Every P (replicate n x)
+every_same {X} {P} n x h = record { each = λ i y at. subst P (in_replicate n x i y at) h }
+
+given_tried : (path : ℕ) (m : ByteMark) → IsTried path m → IsTried path (given path m)
+given_tried path Acked h = tt
+given_tried path (Held holder tried) h = h
+given_tried path (Free tried) h = contains-insert path tried
+
+returned_tried : (path asker : ℕ) (m : ByteMark) → IsTried path m → IsTried path (returned asker m)
+returned_tried path asker Acked h = tt
+returned_tried path asker (Free tried) h = tt
+returned_tried path asker (Held holder tried) h = by (holder == asker)
+  where
+    by : (b : Bool) → IsTried path (if b then Free tried else Held holder tried)
+    by true = tt
+    by false = h
+
+-- a byte that the path may not take it may not take when it is given back
+returned_taken : (path asker : ℕ) (m : ByteMark) → IsTried path m → is_free_for path m ≡ false → is_free_for path (returned asker m) ≡ false
+returned_taken path asker Acked h none = refl
+returned_taken path asker (Free tried) h none = none
+returned_taken path asker (Held holder tried) h none = by (holder == asker)
+  where
+    by : (b : Bool) → is_free_for path (if b then Free tried else Held holder tried) ≡ false
+    by true = ap not h
+    by false = refl
+
+-- ---- how many are taken
+
+taken_written : (path count : ℕ) (ms : List ByteMark) → taken_len path ms ≤ taken_len path (ms ++ replicate count (Free no_paths))
+taken_written path count [] = omega arith
+taken_written path count (m ∷ ms) = by (is_free_for path m) (taken_written path count ms)
+  where
+    by : (b : Bool) → taken_len path ms ≤ taken_len path (ms ++ replicate count (Free no_paths))
+        → cond (not b) (1 + taken_len path ms) 0 ≤ cond (not b) (1 + taken_len path (ms ++ replicate count (Free no_paths))) 0
+    by true rest = omega arith
+    by false rest = omega (arith, rest)
+
+taken_returned : (path asker : ℕ) (ms : List ByteMark) → Every (IsTried path) ms → taken_len path ms ≤ taken_len path (map (returned asker) ms)
+taken_returned path asker [] h = omega arith
+taken_returned path asker (m ∷ ms) h = by (is_free_for path m) refl (taken_returned path asker ms (record { each = λ i x at. h.each (suc i) x at }))
+  where
+    by : (b : Bool) → is_free_for path m ≡ b → taken_len path ms ≤ taken_len path (map (returned asker) ms)
+        → cond (not b) (1 + taken_len path ms) 0 ≤ cond (not (is_free_for path (returned asker m))) (1 + taken_len path (map (returned asker) ms)) 0
+    by true is rest = omega arith
+    by false is rest =
+        let same : is_free_for path (returned asker m) ≡ false = returned_taken path asker m (h.each 0 m refl) is in
+        subst (λ (c : Bool). 1 + taken_len path ms ≤ cond (not c) (1 + taken_len path (map (returned asker) ms)) 0) (sym same) (omega (arith, rest))
+
+-- where all are acknowledged all are taken
+all_acked : (path : ℕ) (ms : List ByteMark) → length ms ≤ count_by is_acked ms → length ms ≤ taken_len path ms
+all_acked path [] h = omega arith
+all_acked path (Acked ∷ ms) h =
+    let count : count_by is_acked (Acked ∷ ms) ≡ 1 + count_by is_acked ms = sum_by-cons (λ (x : ByteMark). cond (is_acked x) 1 0) Acked ms in
+    let rest = all_acked path ms (omega (arith, h, count)) in omega (arith, rest)
+all_acked path (Held holder tried ∷ ms) h =
+    let count : count_by is_acked (Held holder tried ∷ ms) ≡ 0 + count_by is_acked ms = sum_by-cons (λ (x : ByteMark). cond (is_acked x) 1 0) (Held holder tried) ms in
+    let most = count_by-le-length is_acked ms in absurd (omega (arith, h, count, most))
+all_acked path (Free tried ∷ ms) h =
+    let count : count_by is_acked (Free tried ∷ ms) ≡ 0 + count_by is_acked ms = sum_by-cons (λ (x : ByteMark). cond (is_acked x) 1 0) (Free tried) ms in
+    let most = count_by-le-length is_acked ms in absurd (omega (arith, h, count, most))
+
+-- ---- steps
+
+any_last : (test : Note → Bool) (steps : List Note) (n : Note) → test n ≡ true → list_any test (steps ++ n ∷ []) ≡ true
+any_last test [] n is = ap (λ b. b || false) is
+any_last test (m ∷ steps) n is = by (test m) (any_last test steps n is)
+  where
+    by : (b : Bool) → list_any test (steps ++ n ∷ []) ≡ true → (b || list_any test (steps ++ n ∷ [])) ≡ true
+    by true rest = refl
+    by false rest = rest
+
+any_before : (test : Note → Bool) (steps : List Note) (n : Note) → list_any test steps ≡ true → list_any test (steps ++ n ∷ []) ≡ true
+any_before test [] n is = absurd (false≢true is)
+any_before test (m ∷ steps) n is = by (test m) is (any_before test steps n)
+  where
+    by : (b : Bool) → (b || list_any test steps) ≡ true → (list_any test steps ≡ true → list_any test (steps ++ n ∷ []) ≡ true) → (b || list_any test (steps ++ n ∷ [])) ≡ true
+    by true is rest = refl
+    by false is rest = rest is
+
+-- ---- a book of one path, of which so much was written as the round began
+
+pub record IsOnes (path written : ℕ) (b : Sending) : Type 0 where
+  pub aborted : b.aborted ≡ false
+  pub owner : b.owner ≡ None
+  pub tried : Every (IsTried path) b.marks
+  pub whole : length b.marks ≡ length b.written
+  pub grown : written ≤ length b.written
+
+-- a call of an application, or of the path
+abbrev pub IsOrdinary : ℕ → SendCall → Type 0
+IsOrdinary path (Write bytes) = Unit {0}
+IsOrdinary path Close = Unit {0}
+IsOrdinary path (Grant asker max standby) = asker ≡ path
+IsOrdinary path (AckIn next window) = Unit {0}
+IsOrdinary path (Return asker) = Unit {0}
+IsOrdinary path _ = ⊥
+
+-- neither a grant nor an acknowledgement
+abbrev pub IsQuiet : SendCall → Type 0
+IsQuiet (Write bytes) = Unit {0}
+IsQuiet Close = Unit {0}
+IsQuiet (Return asker) = Unit {0}
+IsQuiet _ = ⊥
+
+module _ (path written : ℕ) (b : Sending) (h : IsOnes path written b) where
+  ones_written : (bytes : List ℕ) (shut : Bool) → IsOnes path written (if shut then b else record b {
+    written = b.written ++ take (taken bytes b) bytes;
+    marks = b.marks ++ replicate (taken bytes b) (Free no_paths);
+  })
+  ones_written bytes true = h
+  ones_written bytes false = record {
+    aborted = h.aborted;
+    owner = h.owner;
+    tried = Every-append h.tried (every_same (taken bytes b) (Free no_paths) tt);
+    whole = (
+        let one = length-append b.marks (replicate (taken bytes b) (Free no_paths)) in let two = length-replicate (taken bytes b) (Free no_paths) in
+        let three = length-append b.written (take (taken bytes b) bytes) in let four = length-take (taken bytes b) bytes in
+        omega (arith, one, two, three, four, h.whole));
+    grown = (let three = length-append b.written (take (taken bytes b) bytes) in omega (arith, three, h.grown));
+  }
+
+  ones_closed : (aborted : Bool) → IsOnes path written (if aborted then b else record b { closed = true })
+  ones_closed true = h
+  ones_closed false = record { aborted = h.aborted; owner = h.owner; tried = h.tried; whole = h.whole; grown = h.grown }
+
+  ones_granted : (max : ℕ) (standby : Bool) (o : Result Span Why) → decision path max standby b ≡ o → IsOnes path written (given_by path o b)
+  ones_granted max standby (Err why) is = h
+  ones_granted max standby (Ok span) is =
+      let m : MayTake path max b span = decision-MayTake path max standby b span is in
+      let part : List ByteMark = take (span.to - span.from) (drop span.from b.marks) in
+      record {
+        aborted = h.aborted;
+        owner = h.owner;
+        tried = Every-append (every_taken span.from b.marks h.tried)
+            (Every-append (every_mapped (given path) (given_tried path) part (every_taken (span.to - span.from) (drop span.from b.marks) (every_dropped span.from b.marks h.tried)))
+            (every_dropped span.to b.marks h.tried));
+        whole = (
+            let one = length-append (take span.from b.marks) (map (given path) part ++ drop span.to b.marks) in
+            let two = length-append (map (given path) part) (drop span.to b.marks) in
+            let three = length-map part (given path) in
+            let four = length-take (span.to - span.from) (drop span.from b.marks) in
+            let five = length-drop span.from b.marks in let six = length-drop span.to b.marks in let seven = length-take span.from b.marks in
+            omega (arith, one, two, three, four, five, six, seven, m.whole, m.within, h.whole));
+        grown = h.grown;
+      }
+
+  ones_acked : (next window : ℕ) (future : Bool) → IsOnes path written (if future then b else record b {
+    marks = replicate (min next (length b.marks)) Acked ++ drop next b.marks;
+    edge = max b.edge (next + window);
+    fin = fin_after next b;
+  })
+  ones_acked next window true = h
+  ones_acked next window false = record {
+    aborted = h.aborted;
+    owner = h.owner;
+    tried = Every-append (every_same (min next (length b.marks)) Acked tt) (every_dropped next b.marks h.tried);
+    whole = (
+        let one = length-append (replicate (min next (length b.marks)) Acked) (drop next b.marks) in
+        let two = length-replicate (min next (length b.marks)) Acked in let three = length-drop next b.marks in
+        omega (arith, one, two, three, h.whole));
+    grown = h.grown;
+  }
+
+  pub ones_after : (call : SendCall) → IsOrdinary path call → IsOnes path written (after_call b call)
+  ones_after (Write bytes) is = ones_written bytes (b.closed || b.aborted)
+  ones_after Close is = ones_closed b.aborted
+  ones_after (Grant asker max standby) is =
+      subst (λ n. IsOnes path written (given_by n (decision n max standby b) b)) (sym is) (ones_granted max standby (decision path max standby b) refl)
+  ones_after (AckIn next window) is = ones_acked next window (is_future next b)
+  ones_after (Return asker) is = record {
+    aborted = h.aborted;
+    owner = h.owner;
+    tried = every_mapped (returned asker) (returned_tried path asker) b.marks h.tried;
+    whole = length-map b.marks (returned asker) ∙ h.whole;
+    grown = h.grown;
+  }
+  ones_after GoIdentity is = absurd is
+  ones_after (GoInfinite asker) is = absurd is
+  ones_after Abort is = absurd is
+
+  -- ---- all is taken as long as nothing is granted or acknowledged
+
+  abbrev AllTaken : Sending → Type 0
+  AllTaken c = min written c.edge ≤ taken_len path c.marks
+
+  taken_after : (call : SendCall) → IsQuiet call → AllTaken b → AllTaken (after_call b call)
+  taken_after (Write bytes) is all = by (b.closed || b.aborted)
+    where
+      by : (shut : Bool) → AllTaken (if shut then b else record b {
+        written = b.written ++ take (taken bytes b) bytes;
+        marks = b.marks ++ replicate (taken bytes b) (Free no_paths);
+      })
+      by true = all
+      by false = let more = taken_written path (taken bytes b) b.marks in omega (arith, all, more)
+  taken_after Close is all = by b.aborted
+    where
+      by : (aborted : Bool) → AllTaken (if aborted then b else record b { closed = true })
+      by true = all
+      by false = all
+  taken_after (Return asker) is all = let more = taken_returned path asker b.marks h.tried in omega (arith, all, more)
+  taken_after (Grant asker max standby) is all = absurd is
+  taken_after (AckIn next window) is all = absurd is
+  taken_after GoIdentity is all = absurd is
+  taken_after (GoInfinite asker) is all = absurd is
+  taken_after Abort is all = absurd is
+
+  pub all_after : (s : Side) (steps : List Note) (call : SendCall) → IsQuiet call → AskedForAll path s steps written b → AskedForAll path s steps written (after_call b call)
+  all_after s steps call is (Taken all) = Taken (taken_after call is all)
+  all_after s steps call is (Standby told) = Standby told
+
+  -- ---- a refusal
+
+  -- nothing is left, or it is past the edge
+  none_found : position (is_free_for path) b.marks ≡ None → AllTaken b
+  none_found is = by (nat_lt (taken_len path b.marks) (length b.marks)) refl is
+    where
+      by : (c : Bool) → nat_lt (taken_len path b.marks) (length b.marks) ≡ c → cond c (Some (taken_len path b.marks)) None ≡ None → AllTaken b
+      by true below is = cc
+      by false above is = let most = ltb-false (taken_len path b.marks) (length b.marks) above in omega (arith, most, h.whole, h.grown)
+
+  shut_at : (from : ℕ) → position (is_free_for path) b.marks ≡ Some from → b.edge ≤ from → AllTaken b
+  shut_at from is edge = by (nat_lt (taken_len path b.marks) (length b.marks)) is
+    where
+      by : (c : Bool) → cond c (Some (taken_len path b.marks)) None ≡ Some from → AllTaken b
+      by true is = let same : taken_len path b.marks ≡ from = cc in omega (arith, same, edge)
+      by false is = cc
+
+  at_place : (most : ℕ) (o : Option ℕ) → position (is_free_for path) b.marks ≡ o → grant_in (replies.Send (reply_by (span_at path most b o) b)) ≡ None → AllTaken b
+  at_place most None is none = none_found is
+  at_place most (Some from) is none = by (nat_le b.edge from) refl none
+    where
+      by : (c : Bool) → nat_le b.edge from ≡ c → grant_in (replies.Send (reply_by (if c then Err WindowShut else Ok (record { from = from; to = from + run_len path most b from })) b)) ≡ None → AllTaken b
+      by true edge none = shut_at from is (leb-true b.edge from edge)
+      by false edge none = cc
+
+  refused_by : (max : ℕ) (standby done : Bool) → (done ≡ true → AllTaken b)
+      → grant_in (replies.Send (reply_by (if done then Err Ended else (if standby then Err Backup else span_at path max b (position (is_free_for path) b.marks))) b)) ≡ None
+      → AllTaken b ⊎ (standby ≡ true)
+  refused_by max standby true all none = inl (all refl)
+  refused_by max true false all none = inr refl
+  refused_by max false false all none = inl (at_place max (position (is_free_for path) b.marks) refl none)
+
+  refused_all : (max : ℕ) (standby : Bool) → grant_in (replies.Send (reply_by (decision path max standby b) b)) ≡ None → AllTaken b ⊎ (standby ≡ true)
+  refused_all max standby none = refused_by max standby (b.aborted || (b.closed && (acked_len b.marks == length b.written))) all
+      (subst (λ (o : Option ℕ). grant_in (replies.Send (reply_by (if b.aborted || (b.closed && (acked_len b.marks == length b.written)) then Err Ended
+      else (if standby then Err Backup else span_at path max b (if is_for path o then position (is_free_for path) b.marks else None))) b)) ≡ None) h.owner none)
+    where
+      all : (b.aborted || (b.closed && (acked_len b.marks == length b.written))) ≡ true → AllTaken b
+      all done =
+          let closed : (b.closed && (acked_len b.marks == length b.written)) ≡ true = ap (λ a. a || (b.closed && (acked_len b.marks == length b.written))) (sym h.aborted) ∙ done in
+          let count : acked_len b.marks ≡ length b.written = eqb-true (acked_len b.marks) (length b.written) (and_parts b.closed (acked_len b.marks == length b.written) closed).1 in
+          let most = all_acked path b.marks (omega (arith, count, h.whole)) in omega (arith, most, h.whole, h.grown)
+
+  -- after a refusal the book is the same
+  same_given : (o : Result Span Why) → grant_in (replies.Send (reply_by o b)) ≡ None → given_by path o b ≡ b
+  same_given (Ok span) none = cc
+  same_given (Err why) none = refl
+
+  pub grant_refused : (s : Side) (steps : List Note) (n : Note) (max : ℕ) (standby : Bool) → asks_on_standby s n ≡ standby
+      → grant_in (replies.Send (reply_by (decision path max standby b) b)) ≡ None → AskedForAll path s (steps ++ n ∷ []) written (after_call b (Grant path max standby))
+  grant_refused s steps n max standby told none =
+      subst (AskedForAll path s (steps ++ n ∷ []) written) (sym (same_given (decision path max standby b) none))
+      (⊎_elim (λ all. Taken all) (λ is. Standby (any_last (asks_on_standby s) steps n (told ∙ is))) (refused_all max standby none))
+
+-- with a step more
+pub asked_more : (path : ℕ) (s : Side) (steps : List Note) (n : Note) (written : ℕ) (b : Sending) → AskedForAll path s steps written b → AskedForAll path s (steps ++ n ∷ []) written b
+asked_more path s steps n written b (Taken all) = Taken all
+asked_more path s steps n written b (Standby told) = Standby (any_before (asks_on_standby s) steps n told)

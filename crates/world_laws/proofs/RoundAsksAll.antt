@@ -1,0 +1,328 @@
+-- Where the turn of a path is over, an end that may ask for bytes was refused over all that was written as the round began.
+use Rattle.std.proofs.Common.{◌≡◌, refl, sym, ap, subst, ℕ, not, inl, Bool, true, false, Option, Some, None, List, [], ◌∷◌, ◌++◌}
+use Rattle.std.proofs.lemmas.Bool.{and_parts, false≢true}
+use Rattle.outside_kit.specs.declared.side.Side.{Side}
+use Rattle.outside_kit.specs.declared.side.Side.TheVariants.{A, B}
+use Rattle.link_model.specs.Steps.{peer}
+use Rattle.send_book.specs.declared.call.SendCall.{SendCall}
+use Rattle.send_book.specs.declared.call.SendCall.TheVariants as send_calls
+use Rattle.send_book.specs.State.{Sending}
+use Rattle.send_book.specs.Steps.{after_call}
+use Rattle.subflow_send.specs.Records.{Record}
+use Rattle.actor_desk.specs.declared.ask.Ask.{Ask}
+use Rattle.actor_desk.specs.declared.ask.Ask.TheVariants as asks
+use Rattle.actor_desk.specs.declared.ask.Note.{Note}
+use Rattle.actor_desk.specs.Desk.{SixBooks, reply_of, after_ask, after_send_call}
+use Rattle.stream_apps.specs.declared.duty.AppDuty.{AppDuty}
+use Rattle.stream_apps.specs.declared.duty.AppDuty.TheVariants as app_duties
+use Rattle.stream_apps.specs.Apps.{AppState}
+use Rattle.stream_apps.specs.AppSteps.{app_ask, offered}
+use Rattle.path_agenda.specs.declared.duty.Duty.{Duty}
+use Rattle.path_agenda.specs.declared.duty.Duty.TheVariants as duties
+use Rattle.path_core.specs.Codec.{Codec}
+use Rattle.path_core.specs.Duties.{ask_for, answered}
+use Rattle.path_core.specs.Emission.{first_unsent, Grant, grant_in, grant_ask, answered_grant, answered_data, data_ask}
+use Rattle.path_core.specs.State.{PathState, end_at, with_agenda, path_of}
+use Rattle.path_core.specs.Steps.{takes}
+use Rattle.path_core.specs.Treating.{item_of}
+use Rattle.world_laws.specs.RoundNumbers.{asks_on_standby, AskedForAll}
+use Rattle.world_laws.proofs.AskingBooks.{IsOnes, IsQuiet, ones_after, all_after, grant_refused, asked_more}
+use Rattle.world_laws.proofs.PathAsks.{IsQuietAsk, IsHeardAsk, IsQuietDuty, quiet_asks, heard_asks}
+use Rattle.world_laws.proofs.RoundGrantAsks.{MayNotAsk}
+use Rattle.world_laws.proofs.RoundGrants.{Pays, Granting, needs, is_followed, is_owed, settled_done, data_sent, granted_done, refused_done, answered_done}
+
+-- ---- one side's book in a round
+
+-- where the last grant was refused, and no acknowledgement came since, all was asked for
+pub record SideAsks (path written : ℕ) (s : Side) (steps : List Note) (refused : Bool) (b : Sending) : Type 0 where
+  pub ones : IsOnes path written b
+  pub all : refused ≡ true → AskedForAll path s steps written b
+
+module _ (path written : ℕ) (s : Side) where
+  -- a call that is neither grant nor acknowledgement
+  quiet_side : (steps : List Note) (refused : Bool) (b : Sending) (call : SendCall) → IsQuiet call → SideAsks path written s steps refused b → SideAsks path written s steps refused (after_call b call)
+  quiet_side steps refused b (send_calls.Write bytes) is h =
+      record { ones = ones_after path written b h.ones (send_calls.Write bytes) tt; all = λ on. all_after path written b h.ones s steps (send_calls.Write bytes) tt (h.all on) }
+  quiet_side steps refused b send_calls.Close is h =
+      record { ones = ones_after path written b h.ones send_calls.Close tt; all = λ on. all_after path written b h.ones s steps send_calls.Close tt (h.all on) }
+  quiet_side steps refused b (send_calls.Return asker) is h =
+      record { ones = ones_after path written b h.ones (send_calls.Return asker) tt; all = λ on. all_after path written b h.ones s steps (send_calls.Return asker) tt (h.all on) }
+  quiet_side steps refused b (send_calls.Grant asker max standby) is h = absurd is
+  quiet_side steps refused b (send_calls.AckIn next window) is h = absurd is
+  quiet_side steps refused b send_calls.GoIdentity is h = absurd is
+  quiet_side steps refused b (send_calls.GoInfinite asker) is h = absurd is
+  quiet_side steps refused b send_calls.Abort is h = absurd is
+
+  noted_side : (steps : List Note) (n : Note) (refused : Bool) (b : Sending) → SideAsks path written s steps refused b → SideAsks path written s (steps ++ n ∷ []) refused b
+  noted_side steps n refused b h = record { ones = h.ones; all = λ on. asked_more path s steps n written b (h.all on) }
+
+-- ---- an application
+
+module _ (path written : ℕ) (steps : List Note) (refused : Bool) (a : AppState) (six : SixBooks) where
+  pub own_a : (d : AppDuty) → a.side ≡ A → SideAsks path written A steps refused six.send_a → SideAsks path written A steps refused (after_ask (app_ask d a) six).send_a
+  own_a app_duties.Write is h =
+      subst (λ s. SideAsks path written A steps refused (after_send_call s (send_calls.Write (offered a)) six).send_a) (sym is) (quiet_side path written A steps refused six.send_a (send_calls.Write (offered a)) tt h)
+  own_a app_duties.Close is h =
+      subst (λ s. SideAsks path written A steps refused (after_send_call s send_calls.Close six).send_a) (sym is) (quiet_side path written A steps refused six.send_a send_calls.Close tt h)
+  own_a app_duties.Read is h = h
+  own_a app_duties.End is h = h
+
+  pub own_b : (d : AppDuty) → a.side ≡ B → SideAsks path written B steps refused six.send_b → SideAsks path written B steps refused (after_ask (app_ask d a) six).send_b
+  own_b app_duties.Write is h =
+      subst (λ s. SideAsks path written B steps refused (after_send_call s (send_calls.Write (offered a)) six).send_b) (sym is) (quiet_side path written B steps refused six.send_b (send_calls.Write (offered a)) tt h)
+  own_b app_duties.Close is h =
+      subst (λ s. SideAsks path written B steps refused (after_send_call s send_calls.Close six).send_b) (sym is) (quiet_side path written B steps refused six.send_b send_calls.Close tt h)
+  own_b app_duties.Read is h = h
+  own_b app_duties.End is h = h
+
+  pub other_a : (d : AppDuty) → a.side ≡ B → SideAsks path written A steps refused six.send_a → SideAsks path written A steps refused (after_ask (app_ask d a) six).send_a
+  other_a app_duties.Write is h = subst (λ s. SideAsks path written A steps refused (after_send_call s (send_calls.Write (offered a)) six).send_a) (sym is) h
+  other_a app_duties.Close is h = subst (λ s. SideAsks path written A steps refused (after_send_call s send_calls.Close six).send_a) (sym is) h
+  other_a app_duties.Read is h = h
+  other_a app_duties.End is h = h
+
+  pub other_b : (d : AppDuty) → a.side ≡ A → SideAsks path written B steps refused six.send_b → SideAsks path written B steps refused (after_ask (app_ask d a) six).send_b
+  other_b app_duties.Write is h = subst (λ s. SideAsks path written B steps refused (after_send_call s (send_calls.Write (offered a)) six).send_b) (sym is) h
+  other_b app_duties.Close is h = subst (λ s. SideAsks path written B steps refused (after_send_call s send_calls.Close six).send_b) (sym is) h
+  other_b app_duties.Read is h = h
+  other_b app_duties.End is h = h
+
+-- ---- both sides' books, and what is ahead on the path
+
+pub record BothAsk (path written_a written_b : ℕ) (steps : List Note) (refused : Side → Bool) (six : SixBooks) : Type 0 where
+  pub a : SideAsks path written_a A steps (refused A) six.send_a
+  pub b : SideAsks path written_b B steps (refused B) six.send_b
+
+-- one side's flag is another
+abbrev with_flag : Side → Bool → (Side → Bool) → Side → Bool
+with_flag A flag refused A = flag
+with_flag A flag refused B = refused B
+with_flag B flag refused A = refused A
+with_flag B flag refused B = flag
+
+own_flag : (s : Side) (flag : Bool) (refused : Side → Bool) → with_flag s flag refused s ≡ flag
+own_flag A flag refused = refl
+own_flag B flag refused = refl
+
+never_on : {X : Type 0} → false ≡ true → X
+never_on is = absurd (false≢true is)
+
+module _ (path written_a written_b : ℕ) (steps : List Note) (n : Note) (refused : Side → Bool) (six : SixBooks) (h : BothAsk path written_a written_b steps refused six) where
+  abbrev Asks : (Side → Bool) → SixBooks → Type 0
+  Asks flags books = BothAsk path written_a written_b (steps ++ n ∷ []) flags books
+
+  noted : Asks refused six
+  noted = record { a = noted_side path written_a A steps n (refused A) six.send_a h.a; b = noted_side path written_b B steps n (refused B) six.send_b h.b }
+
+  -- an ask that is neither grant nor acknowledgement
+  quiet_both : (ask : Ask) → IsQuietAsk ask → Asks refused (after_ask ask six)
+  quiet_both (asks.Send A call) is = record { a = quiet_side path written_a A (steps ++ n ∷ []) (refused A) six.send_a call is noted.a; b = noted.b }
+  quiet_both (asks.Send B call) is = record { a = noted.a; b = quiet_side path written_b B (steps ++ n ∷ []) (refused B) six.send_b call is noted.b }
+  quiet_both (asks.Reassembly s call) is = record { a = noted.a; b = noted.b }
+  quiet_both (asks.Control s call) is = record { a = noted.a; b = noted.b }
+  quiet_both (asks.Local step) is = record { a = noted.a; b = noted.b }
+
+  -- what was heard at one side: an acknowledgement, or nothing for the send books
+  lowered : (s : Side) → Asks (with_flag s false refused) six
+  lowered A = record { a = record { ones = h.a.ones; all = λ on. never_on on }; b = noted.b }
+  lowered B = record { a = noted.a; b = record { ones = h.b.ones; all = λ on. never_on on } }
+
+  heard_call : (s : Side) (call : SendCall) → IsHeardAsk s (asks.Send s call) → Asks (with_flag s false refused) (after_send_call s call six)
+  heard_call A (send_calls.AckIn next window) is = record { a = record { ones = ones_after path written_a six.send_a h.a.ones (send_calls.AckIn next window) tt; all = λ on. never_on on }; b = noted.b }
+  heard_call B (send_calls.AckIn next window) is = record { a = noted.a; b = record { ones = ones_after path written_b six.send_b h.b.ones (send_calls.AckIn next window) tt; all = λ on. never_on on } }
+  heard_call s (send_calls.Write bytes) is = absurd is
+  heard_call s send_calls.Close is = absurd is
+  heard_call s (send_calls.Grant asker max standby) is = absurd is
+  heard_call s (send_calls.Return asker) is = absurd is
+  heard_call s send_calls.GoIdentity is = absurd is
+  heard_call s (send_calls.GoInfinite asker) is = absurd is
+  heard_call s send_calls.Abort is = absurd is
+
+  heard_both : (s : Side) (ask : Ask) → IsHeardAsk s ask → Asks (with_flag s false refused) (after_ask ask six)
+  heard_both A (asks.Send A call) is = heard_call A call is
+  heard_both B (asks.Send B call) is = heard_call B call is
+  heard_both A (asks.Send B call) is = other_side call is
+    where
+      other_side : (call : SendCall) → IsHeardAsk A (asks.Send B call) → Asks (with_flag A false refused) (after_send_call B call six)
+      other_side (send_calls.AckIn next window) is = (let never : B ≡ A = is in cc)
+      other_side (send_calls.Write bytes) is = absurd is
+      other_side send_calls.Close is = absurd is
+      other_side (send_calls.Grant asker max standby) is = absurd is
+      other_side (send_calls.Return asker) is = absurd is
+      other_side send_calls.GoIdentity is = absurd is
+      other_side (send_calls.GoInfinite asker) is = absurd is
+      other_side send_calls.Abort is = absurd is
+  heard_both B (asks.Send A call) is = other_side call is
+    where
+      other_side : (call : SendCall) → IsHeardAsk B (asks.Send A call) → Asks (with_flag B false refused) (after_send_call A call six)
+      other_side (send_calls.AckIn next window) is = (let never : A ≡ B = is in cc)
+      other_side (send_calls.Write bytes) is = absurd is
+      other_side send_calls.Close is = absurd is
+      other_side (send_calls.Grant asker max standby) is = absurd is
+      other_side (send_calls.Return asker) is = absurd is
+      other_side send_calls.GoIdentity is = absurd is
+      other_side (send_calls.GoInfinite asker) is = absurd is
+      other_side send_calls.Abort is = absurd is
+  heard_both s (asks.Reassembly t call) is = lowered_with s
+    where
+      lowered_with : (s : Side) → Asks (with_flag s false refused) (after_ask (asks.Reassembly t call) six)
+      lowered_with A = record { a = (lowered A).a; b = (lowered A).b }
+      lowered_with B = record { a = (lowered B).a; b = (lowered B).b }
+  heard_both s (asks.Control t call) is = lowered_with s
+    where
+      lowered_with : (s : Side) → Asks (with_flag s false refused) (after_ask (asks.Control t call) six)
+      lowered_with A = record { a = (lowered A).a; b = (lowered A).b }
+      lowered_with B = record { a = (lowered B).a; b = (lowered B).b }
+  heard_both s (asks.Local step) is = lowered s
+
+  -- a grant
+  granted_both : (s : Side) (max : ℕ) (standby : Bool) → Asks (with_flag s false refused) (after_ask (asks.Send s (send_calls.Grant path max standby)) six)
+  granted_both A max standby = record { a = record { ones = ones_after path written_a six.send_a h.a.ones (send_calls.Grant path max standby) refl; all = λ on. never_on on }; b = noted.b }
+  granted_both B max standby = record { a = noted.a; b = record { ones = ones_after path written_b six.send_b h.b.ones (send_calls.Grant path max standby) refl; all = λ on. never_on on } }
+
+  -- and a refusal
+  refused_both : (s : Side) (max : ℕ) (standby : Bool) → n.ask ≡ asks.Send s (send_calls.Grant path max standby) → grant_in (reply_of six (asks.Send s (send_calls.Grant path max standby))) ≡ None
+      → Asks (with_flag s true refused) (after_ask (asks.Send s (send_calls.Grant path max standby)) six)
+  refused_both A max standby asks none = record {
+    a = record {
+      ones = ones_after path written_a six.send_a h.a.ones (send_calls.Grant path max standby) refl;
+      all = λ on. grant_refused path written_a six.send_a h.a.ones A steps n max standby (ap (λ x. asks_on_standby A (record n { ask = x })) asks) none;
+    };
+    b = noted.b;
+  }
+  refused_both B max standby asks none = record {
+    a = noted.a;
+    b = record {
+      ones = ones_after path written_b six.send_b h.b.ones (send_calls.Grant path max standby) refl;
+      all = λ on. grant_refused path written_b six.send_b h.b.ones B steps n max standby (ap (λ x. asks_on_standby B (record n { ask = x })) asks) none;
+    };
+  }
+
+-- ---- a step of the path
+
+module _ {C : Type 0} (k : Codec C) (p : PathState C) (written_a written_b : ℕ) (steps : List Note) (n : Note) (refused : Side → Bool) (six : SixBooks)
+    (h : BothAsk (path_of p) written_a written_b steps refused six) where
+  -- what is ahead on the path then, and both books
+  pub record AskThen (q : PathState C) : Type 0 where
+    pub flags : Side → Bool
+    pub granting : Granting q flags
+    pub both : BothAsk (path_of p) written_a written_b (steps ++ n ∷ []) flags (after_ask n.ask six)
+
+  abbrev Here : List Duty → PathState C
+  Here ds = with_agenda ds p
+
+  asked_is : (x : Ask) (flags : Side → Bool) → n.ask ≡ x → BothAsk (path_of p) written_a written_b (steps ++ n ∷ []) flags (after_ask x six)
+      → BothAsk (path_of p) written_a written_b (steps ++ n ∷ []) flags (after_ask n.ask six)
+  asked_is x flags is both = subst (λ y. BothAsk (path_of p) written_a written_b (steps ++ n ∷ []) flags (after_ask y six)) (sym is) both
+
+  quiet_duty : (d : Duty) (ds : List Duty) → IsQuietDuty d → MayNotAsk d → n.ask ≡ ask_for k d (Here (d ∷ ds)) → is_followed (d ∷ ds) ≡ true
+      → ((t : Side) → Pays (Here (d ∷ ds)) (d ∷ ds) refused t) → AskThen (answered k d (reply_of six (ask_for k d (Here (d ∷ ds)))) (Here (d ∷ ds)))
+  quiet_duty d ds quiet may is f each = record {
+    flags = refused;
+    granting = answered_done k (reply_of six (ask_for k d (Here (d ∷ ds)))) p refused d ds may f each;
+    both = asked_is (ask_for k d (Here (d ∷ ds))) refused is
+        (quiet_both (path_of p) written_a written_b steps n refused six h (ask_for k d (Here (d ∷ ds))) (quiet_asks k (Here (d ∷ ds)) d quiet));
+  }
+
+  -- the flag of a side that has what it needs ahead is of no account
+  lower_each : (s : Side) (xs : List Duty) (flag : Bool) → is_owed s xs ≡ true → ((t : Side) → Pays (Here xs) xs refused t) → (t : Side) → Pays (Here xs) xs (with_flag s flag refused) t
+  lower_each A xs flag owed each A = inl owed
+  lower_each A xs flag owed each B = each B
+  lower_each B xs flag owed each A = each A
+  lower_each B xs flag owed each B = inl owed
+
+  heard_duty : (d : Duty) (s : Side) (ds : List Duty) → IsHeardAsk s (ask_for k d (Here (d ∷ ds))) → MayNotAsk d → is_owed s (d ∷ ds) ≡ true → n.ask ≡ ask_for k d (Here (d ∷ ds))
+      → is_followed (d ∷ ds) ≡ true → ((t : Side) → Pays (Here (d ∷ ds)) (d ∷ ds) refused t) → AskThen (answered k d (reply_of six (ask_for k d (Here (d ∷ ds)))) (Here (d ∷ ds)))
+  heard_duty d s ds heard may owed is f each = record {
+    flags = with_flag s false refused;
+    granting = answered_done k (reply_of six (ask_for k d (Here (d ∷ ds)))) p (with_flag s false refused) d ds may f (lower_each s (d ∷ ds) false owed each);
+    both = asked_is (ask_for k d (Here (d ∷ ds))) (with_flag s false refused) is
+        (heard_both (path_of p) written_a written_b steps n refused six h s (ask_for k d (Here (d ∷ ds))) heard);
+  }
+
+  first_needs : (d : Duty) (ds : List Duty) → is_followed (d ∷ ds) ≡ true → needs d ds ≡ true
+  first_needs d ds f = (and_parts (needs d ds) (is_followed ds) f).0
+
+  own_data : (s : Side) (ds : List Duty) → is_owed s (duties.Data s ∷ ds) ≡ true
+  own_data A ds = refl
+  own_data B ds = refl
+
+  other_each : (s : Side) (xs : List Duty) (flag : Bool) → ((t : Side) → Pays (Here xs) xs refused t) → (t : Side) → (t ≡ s → ⊥) → Pays (Here xs) xs (with_flag s flag refused) t
+  other_each A xs flag each A apart = absurd (apart refl)
+  other_each A xs flag each B apart = each B
+  other_each B xs flag each A apart = each A
+  other_each B xs flag each B apart = absurd (apart refl)
+
+  grant_duty : (s : Side) (ds : List Duty) → n.ask ≡ grant_ask s p → is_followed (duties.Data s ∷ ds) ≡ true → ((t : Side) → Pays (Here (duties.Data s ∷ ds)) (duties.Data s ∷ ds) refused t)
+      → (o : Option Grant) → grant_in (reply_of six (grant_ask s p)) ≡ o → AskThen (answered_grant s o (reply_of six (grant_ask s p)) (Here (duties.Data s ∷ ds)))
+  grant_duty s ds is f each (Some grant) found = record {
+    flags = with_flag s false refused;
+    granting = granted_done k (reply_of six (grant_ask s p)) p (with_flag s false refused) s ds grant f (lower_each s (duties.Data s ∷ ds) false (own_data s ds) each);
+    both = asked_is (grant_ask s p) (with_flag s false refused) is (granted_both (path_of p) written_a written_b steps n refused six h s _ _);
+  }
+  grant_duty s ds is f each None found = record {
+    flags = with_flag s true refused;
+    granting = refused_done k (reply_of six (grant_ask s p)) p (with_flag s true refused) s ds (own_flag s true refused) f (other_each s (duties.Data s ∷ ds) true each);
+    both = asked_is (grant_ask s p) (with_flag s true refused) is (refused_both (path_of p) written_a written_b steps n refused six h s _ _ is found);
+  }
+
+  data_duty : (s : Side) (ds : List Duty) → is_followed (duties.Data s ∷ ds) ≡ true → ((t : Side) → Pays (Here (duties.Data s ∷ ds)) (duties.Data s ∷ ds) refused t)
+      → (o : Option Record) → n.ask ≡ data_ask k s o (Here (duties.Data s ∷ ds)) → AskThen (answered_data k s o (reply_of six (data_ask k s o (Here (duties.Data s ∷ ds)))) (Here (duties.Data s ∷ ds)))
+  data_duty s ds f each (Some u) is = record {
+    flags = refused;
+    granting = data_sent k (reply_of six (data_ask k s (Some u) (Here (duties.Data s ∷ ds)))) p refused s ds u f each;
+    both = asked_is (data_ask k s (Some u) (Here (duties.Data s ∷ ds))) refused is
+        (quiet_both (path_of p) written_a written_b steps n refused six h (data_ask k s (Some u) (Here (duties.Data s ∷ ds))) tt);
+  }
+  data_duty s ds f each None is = grant_duty s ds is f each (grant_in (reply_of six (grant_ask s p))) refl
+
+  duty_asks : (d : Duty) (ds : List Duty) → n.ask ≡ ask_for k d (Here (d ∷ ds)) → is_followed (d ∷ ds) ≡ true → ((t : Side) → Pays (Here (d ∷ ds)) (d ∷ ds) refused t)
+      → AskThen (answered k d (reply_of six (ask_for k d (Here (d ∷ ds)))) (Here (d ∷ ds)))
+  duty_asks (duties.Data s) ds is f each = data_duty s ds f each (first_unsent (end_at s p)) is
+  duty_asks (duties.Heard s index) ds is f each =
+      heard_duty (duties.Heard s index) s ds (heard_asks k (Here (duties.Heard s index ∷ ds)) s (item_of index (end_at s p))) tt
+      (and_parts (is_owed s ds) (not (is_owed (peer s) ds)) (first_needs (duties.Heard s index) ds f)).0 is f each
+  duty_asks (duties.Look s) ds is f each = quiet_duty (duties.Look s) ds tt tt is f each
+  duty_asks (duties.Window s) ds is f each = quiet_duty (duties.Window s) ds tt tt is f each
+  duty_asks (duties.Update s) ds is f each = quiet_duty (duties.Update s) ds tt tt is f each
+  duty_asks (duties.Syn s) ds is f each = quiet_duty (duties.Syn s) ds tt tt is f each
+  duty_asks (duties.DataFin s) ds is f each = quiet_duty (duties.DataFin s) ds tt tt is f each
+  duty_asks (duties.Fin s) ds is f each = quiet_duty (duties.Fin s) ds tt tt is f each
+  duty_asks (duties.Timer s) ds is f each = quiet_duty (duties.Timer s) ds tt tt is f each
+  duty_asks duties.Events ds is f each = quiet_duty duties.Events ds tt tt is f each
+  duty_asks (duties.SynHeard s) ds is f each = heard_duty (duties.SynHeard s) s ds refl tt (first_needs (duties.SynHeard s) ds f) is f each
+  duty_asks (duties.SynAnswered s) ds is f each = heard_duty (duties.SynAnswered s) s ds refl tt (first_needs (duties.SynAnswered s) ds f) is f each
+  duty_asks (duties.PeerKey s) ds is f each = quiet_duty (duties.PeerKey s) ds tt tt is f each
+  duty_asks (duties.SynAck s) ds is f each = quiet_duty (duties.SynAck s) ds tt tt is f each
+  duty_asks (duties.Opened s) ds is f each = quiet_duty (duties.Opened s) ds tt tt is f each
+  duty_asks (duties.Live s) ds is f each = quiet_duty (duties.Live s) ds tt tt is f each
+  duty_asks (duties.AckHeard s) ds is f each = quiet_duty (duties.AckHeard s) ds tt tt is f each
+  duty_asks (duties.Keep s) ds is f each = quiet_duty (duties.Keep s) ds tt tt is f each
+  duty_asks (duties.Edge s) ds is f each = quiet_duty (duties.Edge s) ds tt tt is f each
+  duty_asks (duties.HeardFin s index) ds is f each = quiet_duty (duties.HeardFin s index) ds tt tt is f each
+  duty_asks (duties.PassFin s) ds is f each = quiet_duty (duties.PassFin s) ds tt tt is f each
+  duty_asks (duties.AckOut s) ds is f each = quiet_duty (duties.AckOut s) ds tt tt is f each
+  duty_asks (duties.Rate s) ds is f each = quiet_duty (duties.Rate s) ds tt tt is f each
+  duty_asks (duties.Acknowledge s) ds is f each = quiet_duty (duties.Acknowledge s) ds tt tt is f each
+  duty_asks (duties.Again s) ds is f each = quiet_duty (duties.Again s) ds tt tt is f each
+  duty_asks (duties.Answer s) ds is f each = quiet_duty (duties.Answer s) ds tt tt is f each
+  duty_asks (duties.ResetAnswer s) ds is f each = quiet_duty (duties.ResetAnswer s) ds tt tt is f each
+  duty_asks (duties.Return s) ds is f each = quiet_duty (duties.Return s) ds tt tt is f each
+  duty_asks (duties.Resend s) ds is f each = quiet_duty (duties.Resend s) ds tt tt is f each
+  duty_asks (duties.BreakAck s reason) ds is f each = quiet_duty (duties.BreakAck s reason) ds tt tt is f each
+  duty_asks (duties.BreakReset s reason) ds is f each = quiet_duty (duties.BreakReset s reason) ds tt tt is f each
+  duty_asks (duties.Reset s) ds is f each = quiet_duty (duties.Reset s) ds tt tt is f each
+  duty_asks (duties.Leave s) ds is f each = quiet_duty (duties.Leave s) ds tt tt is f each
+  duty_asks (duties.Dead s) ds is f each = quiet_duty (duties.Dead s) ds tt tt is f each
+  duty_asks duties.End ds is f each = quiet_duty duties.End ds tt tt is f each
+
+  here_asks : (d : Duty) (ds : List Duty) → n.ask ≡ ask_for k d (Here (d ∷ ds)) → Granting (Here (d ∷ ds)) refused → AskThen (takes k (reply_of six (ask_for k d (Here (d ∷ ds)))) (Here (d ∷ ds)))
+  here_asks d ds is g =
+      let q : PathState C = answered k d (reply_of six (ask_for k d (Here (d ∷ ds)))) (Here (d ∷ ds)) in
+      let t : AskThen q = duty_asks d ds is g.followed g.each in
+      record { flags = t.flags; granting = settled_done q.agenda q t.flags t.granting.followed t.granting.each; both = t.both }
+
+  pub path_step : (d : Duty) (ds : List Duty) → p.agenda ≡ d ∷ ds → n.ask ≡ ask_for k d p → Granting p refused → AskThen (takes k (reply_of six (ask_for k d p)) p)
+  path_step d ds agenda =
+      let same : p ≡ Here (d ∷ ds) = ap (λ xs. with_agenda xs p) agenda in
+      subst (λ q. n.ask ≡ ask_for k d q → Granting q refused → AskThen (takes k (reply_of six (ask_for k d q)) q)) (sym same) (here_asks d ds)
