@@ -1,5 +1,5 @@
 -- What a side's control book answers: one definition for each call that has an answer of its own.
-use Rattle.std.specs.Prelude.{ℕ, ◌==◌, Bool, true, false, not, ◌&&◌, ◌||◌, if◌then◌else◌, Option, Some, None, is_some}
+use Rattle.std.specs.Prelude.{ℕ, ◌==◌, Bool, true, false, not, ◌&&◌, ◌||◌, if◌then◌else◌, Option, Some, None}
 use Rattle.key_material.specs.declared.address.Address.{Address}
 use Rattle.key_material.specs.KeyDigest.{token_of}
 use Rattle.key_material.specs.AddressHmac.{add_addr64_of}
@@ -10,7 +10,6 @@ use Rattle.fallback_state.specs.declared.fall.Event.{Event}
 use Rattle.fallback_state.specs.Table.{fall_step}
 use Rattle.address_manager.specs.declared.manager.Heard.{Heard}
 use Rattle.address_manager.specs.declared.manager.Heard.TheVariants as heard
-use Rattle.address_manager.specs.Addresses.{knows}
 use Rattle.address_manager.specs.IdSet.{lowest}
 use Rattle.address_manager.specs.Steps.{heard_reply}
 use Rattle.control_book.specs.declared.call.ControlCall.{ControlCall}
