@@ -1,0 +1,8 @@
+pub mod Clocks
+mod Lists
+mod AbleAsks
+mod AsValues
+mod Showing
+mod StepMade
+mod Ending
+pub mod RoundsMade
