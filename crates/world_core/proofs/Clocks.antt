@@ -3,11 +3,11 @@ use Rattle.std.proofs.Common.{◌≡◌, refl, ◌∙◌, ℕ, ◌+◌, Bool, tr
 use Rattle.outside_kit.specs.declared.side.Side.{Side}
 use Rattle.actor_desk.specs.declared.ask.Reply.{Reply}
 use Rattle.actor_desk.specs.Words.{is_nil, tail_of}
-use Rattle.path_core.specs.Agenda.{start_of_turn}
-use Rattle.path_core.specs.declared.duty.Duty.{Duty}
-use Rattle.path_core.specs.declared.duty.Duty.TheVariants as duties
-use Rattle.path_core.specs.declared.heard.Heard.{Heard}
-use Rattle.path_core.specs.declared.heard.Heard.TheVariants as says
+use Rattle.path_agenda.specs.Agenda.{start_of_turn}
+use Rattle.path_agenda.specs.declared.duty.Duty.{Duty}
+use Rattle.path_agenda.specs.declared.duty.Duty.TheVariants as duties
+use Rattle.path_agenda.specs.declared.heard.Heard.{Heard}
+use Rattle.path_agenda.specs.declared.heard.Heard.TheVariants as says
 use Rattle.path_core.specs.Breaking.{reset_on, answered_break}
 use Rattle.path_core.specs.Codec.{Codec, HeardSegment}
 use Rattle.path_core.specs.Duties.{stands, passed, answered}

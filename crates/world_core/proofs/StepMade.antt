@@ -7,7 +7,7 @@ use Rattle.actor_desk.specs.declared.ask.Ask.{Ask}
 use Rattle.actor_desk.specs.declared.ask.Note.{Note}
 use Rattle.actor_desk.specs.declared.ask.Reply.{Reply}
 use Rattle.actor_desk.specs.Words.{is_nil}
-use Rattle.path_core.specs.declared.duty.Duty.{Duty}
+use Rattle.path_agenda.specs.declared.duty.Duty.{Duty}
 use Rattle.path_core.specs.Octets.{octets}
 use Rattle.path_core.specs.State.{PathState}
 use Rattle.path_core.specs.Steps.{asks_first}
