@@ -1,15 +1,13 @@
 -- The end of a round: each actor can begin the next one, and the world stays sound.
-use Rattle.std.proofs.Common.{◌≡◌, refl, sym, ◌∙◌, ap, subst, ℕ, zero, suc, ◌+◌, ◌*◌, ◌^◌, ◌<◌, ◌≤◌, Bool, true, false, ◌&&◌, if◌then◌else◌, Some, List, [], ◌∷◌, length, map, arith}
+use Rattle.std.proofs.Common.{◌≡◌, refl, sym, ◌∙◌, subst, ℕ, zero, suc, ◌+◌, ◌*◌, ◌^◌, ◌<◌, ◌≤◌, Bool, true, false, ◌&&◌, if◌then◌else◌, Some, List, [], ◌∷◌, length, map, arith}
 use Rattle.std.proofs.lemmas.Bool.{both_ways}
 use Rattle.std.proofs.lemmas.List.{length-map}
-use Rattle.std.proofs.lemmas.Option.{same_Some}
 use Rattle.std.specs.List.{slice_get, slice_index_or}
 use Rattle.actor_desk.specs.Words.{is_nil}
 use Rattle.path_core.specs.Octets.{octets}
 use Rattle.path_core.specs.Starts.{waiting_path}
 use Rattle.path_core.specs.State.{PathState}
-use Rattle.path_core.specs.Steps.{next_round, begins_turn}
-use Rattle.stream_lanes.specs.Words.{Every}
+use Rattle.path_core.specs.Steps.{begins_turn}
 use Rattle.stream_lanes.proofs.Lists.{in_map}
 use Rattle.world_laws.specs.Actors.{Actor, ActorCrew, member_next, is_over}
 use Rattle.world_laws.specs.declared.member.Member.TheVariants.{App, Path}
@@ -17,12 +15,14 @@ use Rattle.world_laws.specs.Fine.{IsFine}
 use Rattle.world_laws.specs.Openings.{Start, opened_world}
 use Rattle.actor_desk.specs.Books.{StampedBooks}
 use Rattle.world_laws.specs.Worlds.{all_over, greatest, begins, end_round}
+use Rattle.world_laws.specs.Timely.{IsTimely, IsTimelyMember}
 use Rattle.world_laws.proofs.Pairing.{round_fine, stays_fine}
+use Rattle.world_laws.proofs.RoundFrame.{first_keeps, first_stands}
+use Rattle.world_laws.proofs.RoundLifting.{opened_lifted}
 use Rattle.world_core.specs.Kept.{world, IsSound, IsKept}
 use Rattle.world_core.specs.declared.hearing.Hearing.{Hearing}
 use Rattle.world_core.specs.Hearing.{heard_by}
-use Rattle.world_core.specs.Timely.{IsTimely, IsTimelyMember, IsTimelyCrew, AreTimely, CanBegin, IsReady}
-use Rattle.world_core.proofs.Clocks.{begun_until, begun_stands, first_until, first_stands}
+use Rattle.world_core.specs.Timely.{IsTimelyCrew, AreTimely, CanBegin, IsReady}
 use Rattle.world_core.proofs.Showing.{heard_begun}
 
 first_of_both : (a b : Bool) → (a && b) ≡ true → a ≡ true
@@ -55,11 +55,16 @@ module _ {C : Type 0} where
 
   -- ---- the next round
 
+  -- a path that begins a turn has something to do
+  first_timely : (p : PathState C) (n : ℕ) → p.until ≤ 100 * n + 100 → IsTimely n (begins_turn p)
+  first_timely p n most =
+      let kept = first_keeps p in
+      record { begun = omega (arith, kept.0, most); over = λ nothing. absurd (both_ways (is_nil (begins_turn p).agenda) (first_stands p) nothing) }
+
   begun_timely : (m : Actor C) (n : ℕ) → IsTimelyMember n m → is_over m ≡ true → IsTimelyMember n (member_next m)
   begun_timely (App a) n h over = tt
   begun_timely (Path p) n h over =
-      let later = begun_until p in
-      record { begun = omega (arith, later, h.over over); over = λ nothing. absurd (both_ways (is_nil (next_round p).agenda) (begun_stands p) nothing) }
+      let most = h.over over in first_timely (record p { clock = p.until; until = p.until + 100 }) n (omega (arith, most))
 
   all_over_at : (crew : List (ActorCrew C)) (i : ℕ) (c : ActorCrew C) → all_over crew ≡ true → slice_get crew i ≡ Some c → is_over c.member ≡ true
   all_over_at [] i c over at = cc
@@ -130,25 +135,14 @@ ended_kept crew books h failed k = record {
 
 -- ---- the opening
 
-first_timely : (p : PathState (List ℕ)) → p.until ≡ 100 → IsTimely 0 (begins_turn p)
-first_timely p is =
-    let first = first_until p in
-    record { begun = omega (arith, first, is); over = λ nothing. absurd (both_ways (is_nil (begins_turn p).agenda) (first_stands p) nothing) }
-
 pub opened_sound : (start : Start) → IsSound (opened_world start)
 opened_sound start = record {
   fine = (stays_fine octets).always start [];
-  timely = record { each = at };
+  timely = opened_lifted IsTimelyCrew start (record { few = omega arith; timely = tt }) (record { few = omega arith; timely = tt }) (record {
+    few = omega arith;
+    timely = first_timely (waiting_path start.profile start.drawn start.delay start.lines) 0 (omega arith);
+  });
 }
-  where
-    at : (i : ℕ) (c : ActorCrew (List ℕ)) → slice_get (opened_world {C = List ℕ} start).crew i ≡ Some c → IsTimelyCrew c
-    at zero c there = subst IsTimelyCrew (same_Some _ c there) (record { few = omega arith; timely = tt })
-    at (suc zero) c there = subst IsTimelyCrew (same_Some _ c there) (record { few = omega arith; timely = tt })
-    at (suc (suc zero)) c there = subst IsTimelyCrew (same_Some _ c there) (record {
-      few = omega arith;
-      timely = first_timely (waiting_path start.profile start.drawn start.delay start.lines) refl;
-    })
-    at (suc (suc (suc i))) c there = cc
 
 pub opened_parts : (start : Start) (crew : List (ActorCrew (List ℕ))) (books : StampedBooks) → crew ≡ (opened_world start).crew → books ≡ (opened_world {C = List ℕ} start).books
     → IsSound (world crew books)

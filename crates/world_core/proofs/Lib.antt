@@ -1,4 +1,3 @@
-pub mod Clocks
 mod Lists
 mod AbleAsks
 mod AsValues

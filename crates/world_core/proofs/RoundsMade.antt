@@ -1,9 +1,9 @@
 -- Turns, rounds and runs of rounds, one after the other.
-use Rattle.std.proofs.Common.{◌≡◌, refl, sym, ◌∙◌, ap, subst, ℕ, zero, suc, ◌+◌, ◌-◌, ◌<◌, ◌≤◌, Bool, true, false, List, [], ◌∷◌, length, drop, get_or, arith}
+use Rattle.std.proofs.Common.{◌≡◌, refl, sym, ◌∙◌, ap, subst, ℕ, zero, suc, ◌+◌, ◌<◌, ◌≤◌, Bool, true, false, List, [], ◌∷◌, length, drop, get_or}
 use Rattle.std.proofs.lemmas.List.{drop_more, at_drop_all}
 use Rattle.path_core.specs.Codec.{Codec}
 use Rattle.world_laws.specs.Outcomes.{outcome_of}
-use Rattle.world_laws.specs.Serial.{goes_on, OneOf, steps_and, round_and, spelled, after_steps, IsTurn, TurnTo, AreTurns, after_turns, after_round, AreRounds, IsSerial, SerialTo}
+use Rattle.world_laws.specs.Serial.{goes_on, OneOf, steps_and, round_and, spelled, after_steps, TurnTo, AreTurns, after_turns, after_round, AreRounds, SerialTo}
 use Rattle.world_laws.specs.Worlds.{WorldState, Turn, is_going, world_step, end_round, world_run, RunTo}
 use Rattle.world_core.specs.Rounds.{TurnsFrom, TurnsTo, RoundTo, after_rounds, RoundsTo}
 

@@ -1,18 +1,16 @@
 -- What the outcome asks for, after a step of one actor and after a round's end.
-use Rattle.std.proofs.Common.{◌≡◌, refl, sym, ◌∙◌, ap, ℕ, zero, suc, ◌&&◌, ◌||◌, false, Bool, true, Option, Some, None, List, [], ◌∷◌, ◌++◌, length, map, set}
-use Rattle.std.proofs.lemmas.List.{length-set, length-map}
+use Rattle.std.proofs.Common.{◌≡◌, refl, sym, ◌∙◌, ap, ℕ, zero, suc, ◌&&◌, ◌||◌, false, Bool, true, Some, List, [], ◌∷◌, ◌++◌, map, set}
+use Rattle.std.proofs.lemmas.List.{length-set}
 use Rattle.std.proofs.lemmas.List.Folds.{list_any-append}
 use Rattle.std.proofs.lemmas.Option.{same_Some}
-use Rattle.std.specs.List.{slice_get, list_any}
+use Rattle.std.specs.List.{slice_get}
 use Rattle.outside_kit.specs.declared.side.Side.TheVariants.{A, B}
 use Rattle.actor_desk.specs.declared.ask.Note.{Note}
 use Rattle.actor_desk.specs.declared.ask.Reply.{Reply}
 use Rattle.world_laws.specs.Actors.{ActorCrew}
-use Rattle.world_laws.specs.Outcomes.{note_tells, was_told, tells_end, tells_abort, notes_or, notes_at, notes_of, are_all_dead, is_no_live_path, outcome_by, outcome_of}
+use Rattle.world_laws.specs.Outcomes.{note_tells, was_told, tells_end, tells_abort, notes_at, notes_of, are_all_dead, is_no_live_path, outcome_by, outcome_of}
 use Rattle.world_laws.specs.Worlds.{begins}
-use Rattle.world_core.specs.Hearing.{told_by, told_more, heard_more, heard_with, heard_by, ShowsTheSame}
-use Rattle.world_core.specs.declared.hearing.Told.{Told}
-use Rattle.world_core.specs.declared.hearing.Hearing.{Hearing}
+use Rattle.world_core.specs.Hearing.{told_by, told_more, heard_more, heard_by, ShowsTheSame}
 
 -- ---- one note more
 

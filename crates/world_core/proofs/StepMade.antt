@@ -1,11 +1,10 @@
 -- A step of one actor, as one of the world: what comes of it, and that the world stays sound.
-use Rattle.std.proofs.Common.{◌≡◌, refl, sym, ◌∙◌, ap, subst, ℕ, suc, ◌+◌, ◌*◌, ◌^◌, ◌<◌, ◌≤◌, Bool, true, false, not, is_some, ◌⊎◌, ⊎_elim, Option, Some, None, List, [], ◌∷◌, ◌++◌, length, set, Result, IfOk, OnOk, OnErr, arith}
+use Rattle.std.proofs.Common.{◌≡◌, refl, sym, ◌∙◌, ap, subst, ℕ, ◌+◌, ◌^◌, ◌<◌, Bool, true, false, not, is_some, ⊎_elim, Option, Some, None, List, [], ◌∷◌, length, set, Result, IfOk, OnOk, OnErr, arith}
 use Rattle.std.proofs.lemmas.Bool.{both_ways}
 use Rattle.std.proofs.lemmas.List.{length-append}
 use Rattle.std.specs.List.{slice_get, slice_index_or}
 use Rattle.actor_desk.specs.declared.ask.Ask.{Ask}
 use Rattle.actor_desk.specs.declared.ask.Note.{Note}
-use Rattle.actor_desk.specs.declared.ask.Reply.{Reply}
 use Rattle.actor_desk.specs.Words.{is_nil}
 use Rattle.path_agenda.specs.declared.duty.Duty.{Duty}
 use Rattle.path_core.specs.Octets.{octets}
@@ -20,14 +19,15 @@ use Rattle.world_laws.specs.Actors.{Actor, ActorCrew, member_asks, member_takes,
 use Rattle.world_laws.specs.declared.member.Member.TheVariants.{App, Path}
 use Rattle.world_laws.specs.Fine.{IsFine}
 use Rattle.world_laws.specs.StampedBooks.{answer_to}
-use Rattle.actor_desk.specs.Books.{StampedBooks, after_entry}
-use Rattle.world_laws.specs.Worlds.{WorldState, note_of, crew_after, asked, stepped, world_step, goes, is_going}
+use Rattle.actor_desk.specs.Books.{StampedBooks}
+use Rattle.world_laws.specs.Worlds.{note_of, crew_after, asked, stepped, world_step, goes, is_going}
 use Rattle.world_laws.proofs.Pairing.{step_fine}
 use Rattle.world_core.specs.Hearing.{heard_by, heard_with, ShowsTheSame}
 use Rattle.world_core.specs.Kept.{world, IsSound}
 use Rattle.world_core.specs.Steps.{note_if, crew_if, books_if, GoesUp, StampRises, stamp_or, note_by, next_note}
-use Rattle.world_core.specs.Timely.{IsTimely, IsTimelyMember, IsTimelyCrew, AreTimely}
-use Rattle.world_core.proofs.Clocks.{takes_until}
+use Rattle.world_laws.specs.Timely.{IsTimelyMember}
+use Rattle.world_laws.proofs.RoundFrame.{takes_keeps}
+use Rattle.world_core.specs.Timely.{IsTimelyCrew}
 use Rattle.world_core.proofs.Lists.{put_again, found, both_ok, each_ok, both_err}
 use Rattle.world_core.proofs.Showing.{heard_again, shows_other}
 
@@ -109,8 +109,8 @@ module _ (crew : List (ActorCrew (List ℕ))) (books after : StampedBooks) (i : 
   timely_member : (ask : Ask) (m : Actor (List ℕ)) (n : ℕ) → IsTimelyMember n m → IsTimelyMember (n + 1) (member_takes octets (answer_to books ask) m)
   timely_member ask (App a) n h = tt
   timely_member ask (Path p) n h =
-      let same = takes_until octets (answer_to books ask) p in
-      record { begun = omega (arith, same, h.begun); over = λ _. omega (arith, same, h.begun) }
+      let kept = takes_keeps octets (answer_to books ask) p in
+      record { begun = omega (arith, kept.0, h.begun); over = λ _. omega (arith, kept.0, h.begun) }
 
   timely_crew : (o : Option Ask) → d ≡ crew_if o books c → (length c.list < 2 ^ 57 → length d.list < 2 ^ 57) → IsTimelyCrew c → IsTimelyCrew d
   timely_crew None e few h = subst IsTimelyCrew (sym e) h

@@ -1,7 +1,6 @@
 -- A round: each actor's turn in order of number, and its end.
-use Rattle.std.specs.Prelude.{ℕ, zero, suc, ◌≡◌, List, [], ◌∷◌, length}
+use Rattle.std.specs.Prelude.{ℕ, ◌≡◌, List, [], ◌∷◌, length}
 use Rattle.path_core.specs.Codec.{Codec}
-use Rattle.world_laws.specs.Outcomes.{outcome_of}
 use Rattle.world_laws.specs.Serial.{AreTurns, AreRounds, after_turns, after_round}
 use Rattle.world_laws.specs.Worlds.{WorldState}
 

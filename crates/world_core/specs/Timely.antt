@@ -1,21 +1,11 @@
--- How many rounds an actor has begun: each leaves a note at least.
-use Rattle.std.specs.Prelude.{ℕ, ◌≡◌, ◌+◌, ◌*◌, ◌^◌, ◌<◌, ◌≤◌, true, List, length, All}
-use Rattle.actor_desk.specs.Words.{is_nil}
+-- How many notes an actor has, and so how many rounds it has begun at most.
+use Rattle.std.specs.Prelude.{◌≡◌, ◌*◌, ◌^◌, ◌<◌, ◌≤◌, true, List, length, All}
 use Rattle.stream_lanes.specs.Words.{Every}
 use Rattle.world_laws.specs.declared.member.Member.TheVariants.{App, Path}
 use Rattle.world_laws.specs.Actors.{Actor, ActorCrew, is_over}
-use Rattle.path_core.specs.State.{PathState}
-
--- a round is 100 ticks, and the first one ends at tick 100
-pub record IsTimely {C : Type 0} (notes : ℕ) (p : PathState C) : Type 0 where
-  pub begun : p.until ≤ 100 * notes + 100
-  pub over : is_nil p.agenda ≡ true → p.until ≤ 100 * notes
+use Rattle.world_laws.specs.Timely.{IsTimelyMember}
 
 module _ {C : Type 0} where
-  abbrev pub IsTimelyMember : ℕ → Actor C → Type 0
-  IsTimelyMember notes (App a) = Unit {0}
-  IsTimelyMember notes (Path p) = IsTimely notes p
-
   -- it has fewer than 2^57 notes, and began no more rounds
   pub record IsTimelyCrew (c : ActorCrew C) : Type 0 where
     pub few : length c.list < 2 ^ 57
