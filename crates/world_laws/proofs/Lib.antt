@@ -32,3 +32,5 @@ pub mod Stepping
 pub mod Turning
 pub mod Joining
 pub mod Beginning
+pub mod Telling
+pub mod TellingRules
