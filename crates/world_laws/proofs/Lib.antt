@@ -34,3 +34,4 @@ pub mod Joining
 pub mod Beginning
 pub mod Telling
 pub mod TellingRules
+pub mod TellingArrivals

@@ -84,7 +84,7 @@ module _ (c : Profile) (s : Side) (v : SendState) (h : SenderTells c s v) where
       by true = resent_tells now
       by false = h
 
-  acknowledged_tells : (pos : ℕ) → SenderTells c s (after_acknowledge pos v)
+  pub acknowledged_tells : (pos : ℕ) → SenderTells c s (after_acknowledge pos v)
   acknowledged_tells pos = by (nat_lt v.una pos && nat_le pos v.nxt) refl
     where
       by : (b : Bool) → (nat_lt v.una pos && nat_le pos v.nxt) ≡ b → SenderTells c s (if b then record v { una = pos; records = uncovered pos v.records } else v)
