@@ -35,3 +35,4 @@ pub mod Beginning
 pub mod Telling
 pub mod TellingRules
 pub mod TellingArrivals
+pub mod TellingSteps
