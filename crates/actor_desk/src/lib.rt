@@ -10,8 +10,6 @@ mod copies;
 mod desk;
 mod laws;
 mod notes;
-#[cfg(test)]
-mod tests;
 
 pub use ask::{Ask, LocalStep, Note, Reply};
 pub use books::Books;

@@ -3,16 +3,14 @@
 ghost use Rattle.std.specs.Prelude.{◌≡◌, ◌<◌, [], Some};
 ghost use Rattle.std.specs.Borrow.{sem};
 ghost use Rattle.actor_desk.specs.Words.{tail_of};
-ghost use Rattle.path_core.specs.Words.{replaced};
+ghost use Rattle.path_agenda.specs.Words.{replaced};
 
-use crate::agenda::Agenda;
-use crate::clock::Clock;
-use crate::duty::Duty;
 use crate::end::PathEnd;
 use crate::lines::LineLeft;
 use crate::profile::Profile;
 use link_model::Link;
 use outside_kit::Side;
+use path_agenda::{Agenda, Clock, Duty};
 use std::alloc::Global;
 use std::collections::VecDeque;
 use std::marker::Model;
@@ -70,6 +68,13 @@ impl Path {
         self.agenda.first().is_none()
     }
 
+    /// The first tick after its round, in ticks of a millisecond. The first round ends at 100.
+    pub fn round_end(&self) -> u64
+        ensures { result ≡ self.now.until }
+    {
+        self.clock.until()
+    }
+
     /// The end of a side.
     pub(crate) fn end(&self, side: Side) -> &PathEnd
         ensures { result.now ≡ end_at side self.now }
@@ -100,6 +105,7 @@ impl Path {
     }
 
     /// The first duty is done.
+    #[tactic(auto, using(crate::proofs::FirstDuty::rest_is))]
     pub(crate) fn done(&mut self)
         ensures { self.new ≡ with_agenda (tail_of self.old.agenda) self.old }
     {

@@ -2,6 +2,7 @@
 
 ghost use Rattle.std.specs.Prelude.{◌≡◌, ◌≤◌, ◌+◌, ◌^◌, OnOk, OnErr};
 ghost use Rattle.actor_desk.specs.Kinds.{CanBeAsked};
+ghost use Rattle.link_model.specs.Octets.{after_octets};
 ghost use Rattle.path_core.specs.Octets.{octets};
 ghost use Rattle.path_segments.specs.Laws.{window_told};
 ghost use Rattle.subflow_tcp.specs.Emitting.{after_sending};
@@ -101,6 +102,24 @@ impl Path {
         let said = self.said(side, kind);
         let octets = said.octets(self.alloc, self.profile.spelling(), side)?;
         self.link.send(side, octets.as_slice(), self.clock.now())?;
+        Ok(())
+    }
+
+    /// The link takes octets from a side at the path's tick, as a segment that the side's end doesn't know of. So a test
+    /// bench makes an end hear what no peer says; a connection never calls it.
+    ///
+    /// # Errors
+    ///
+    /// Only where there is no memory for the copies, or the link took 2^63 segments from that side; the path is then as it
+    /// was.
+    pub fn inject(&mut self, from: Side, octets: &[u8]) -> Result<(), AllocError>
+        ensures ok { OnOk result (self.new ≡ record self.old { link = after_octets from octets.now self.old.clock self.old.link }) }
+        ensures err { OnErr result (self.new ≡ self.old) }
+    {
+        if self.link.taken(from) >= MOST_SEGMENTS {
+            return Err(AllocError);
+        }
+        self.link.send(from, octets, self.clock.now())?;
         Ok(())
     }
 

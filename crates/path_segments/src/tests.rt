@@ -49,31 +49,6 @@ fn with_option<'a>(
     }
 }
 
-fn capable(keys: CapableKeys) -> PathOption<u64, &'static [u8]> {
-    PathOption::Capable {
-        flag_a: false,
-        flag_c: false,
-        keys,
-    }
-}
-
-fn ack(next: u64) -> PathOption<u64, &'static [u8]> {
-    PathOption::Dss {
-        next: Some(next),
-        mapping: None,
-    }
-}
-
-fn end(next: u64, place: u64) -> PathOption<u64, &'static [u8]> {
-    PathOption::Dss {
-        next: Some(next),
-        mapping: Some(PathMapping::End {
-            place,
-            checksum: None,
-        }),
-    }
-}
-
 /// The octets of a segment that can be said.
 fn octets_of(
     alloc: Global,
@@ -87,94 +62,16 @@ fn octets_of(
     Ok(write(alloc, spelling, from, segment)?)
 }
 
-/// The checksum field of a segment that can be said.
-fn sum_of(spelling: &Spelling, from: Side, segment: &SaidSegment<'_>) -> Option<u16> {
-    if can_say(spelling, from, segment) {
-        Some(sum(spelling, from, segment))
-    } else {
-        None
-    }
-}
-
-/// The checksum fields of a transfer of five bytes from A to B, worked out by an independent program: the opening.
-#[test]
-fn sums_of_an_opening(rt: HostRuntime) {
-    let s = drawn_spelling(false, false);
-    let no_key = [capable(CapableKeys::NoKey)];
-    let syn = PathSegment {
-        syn: true,
-        mss: Some(1400),
-        ..with_option(0, None, 65_536, &no_key, &[])
-    };
-    assert_eq!(rt; sum_of(&s, Side::A, &syn), Some(27535));
-    let one_key = [capable(CapableKeys::Sender { sender: KEY_OF_B })];
-    let syn_ack = PathSegment {
-        syn: true,
-        mss: Some(1400),
-        ..with_option(0, Some(1), 65_536, &one_key, &[])
-    };
-    assert_eq!(rt; sum_of(&s, Side::B, &syn_ack), Some(39255));
-    let both = [capable(CapableKeys::Both {
-        sender: KEY_OF_A,
-        receiver: KEY_OF_B,
-    })];
-    let third = with_option(1, Some(1), 65_536, &both, &[]);
-    assert_eq!(rt; sum_of(&s, Side::A, &third), Some(53516));
-    let data = [capable(CapableKeys::WithData {
-        sender: KEY_OF_A,
-        receiver: KEY_OF_B,
-        length: 5,
-        checksum: None,
-    })];
-    let hello = with_option(1, Some(1), 65_536, &data, b"hello");
-    assert_eq!(rt; sum_of(&s, Side::A, &hello), Some(32042));
-}
-
-/// The checksum field of a segment of the transfer that has a DSS and no payload.
-fn sum_of_dss(
-    from: Side,
-    fin: bool,
-    position: u64,
-    acknowledged: u64,
-    window: u32,
-    option: PathOption<u64, &[u8]>,
-) -> Option<u16> {
-    let options = [option];
-    let segment = PathSegment {
-        fin,
-        ..with_option(position, Some(acknowledged), window, &options, &[])
-    };
-    sum_of(&drawn_spelling(false, false), from, &segment)
-}
-
-/// The same of the rest of the transfer: Data ACKs, both DATA_FINs and both FINs.
-#[test]
-fn sums_of_a_close(rt: HostRuntime) {
-    let (full, less) = (65_536, 65_531);
-    assert_eq!(rt; sum_of_dss(Side::B, false, 1, 1, full, ack(0)), Some(36439));
-    assert_eq!(rt;
-        sum_of_dss(Side::B, false, 1, 1, full, end(0, 0)),
-        Some(35302)
-    );
-    assert_eq!(rt; sum_of_dss(Side::B, false, 1, 6, less, ack(5)), Some(36430));
-    assert_eq!(rt;
-        sum_of_dss(Side::A, false, 6, 1, full, end(0, 5)),
-        Some(35292)
-    );
-    assert_eq!(rt; sum_of_dss(Side::A, false, 6, 1, full, ack(1)), Some(60226));
-    assert_eq!(rt; sum_of_dss(Side::B, false, 1, 6, less, ack(6)), Some(36429));
-    assert_eq!(rt; sum_of_dss(Side::B, true, 1, 6, less, ack(6)), Some(36428));
-    assert_eq!(rt; sum_of_dss(Side::A, true, 6, 1, full, ack(1)), Some(60225));
-    assert_eq!(rt; sum_of_dss(Side::A, false, 7, 2, full, ack(1)), Some(60224));
-    assert_eq!(rt; sum_of_dss(Side::B, false, 2, 7, less, ack(6)), Some(36427));
-}
-
 /// Side A's first segment where its initial number is 0xFFFF_FFFF, written out by hand.
 #[test]
 fn a_syn_both_ways(rt: HostRuntime) -> Result<(), Fail> {
     let mut s = drawn_spelling(false, false);
     s.a.initial = Seq32(0xffff_ffff);
-    let options = [capable(CapableKeys::NoKey)];
+    let options = [PathOption::Capable {
+        flag_a: false,
+        flag_c: false,
+        keys: CapableKeys::NoKey,
+    }];
     let syn = PathSegment {
         syn: true,
         mss: Some(1400),

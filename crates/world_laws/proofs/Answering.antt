@@ -24,11 +24,11 @@ use Rattle.stream_lanes.proofs.Lists.{in_map}
 use Rattle.actor_desk.specs.declared.ask.Ask.{Ask}
 use Rattle.actor_desk.specs.Desk.{SixBooks, reassembly_of, reply_of}
 use Rattle.actor_desk.specs.Words.{pick}
-use Rattle.path_core.specs.declared.duty.Duty.{Duty}
-use Rattle.path_core.specs.declared.keys.KeyPair.{KeyPair}
+use Rattle.path_agenda.specs.declared.duty.Duty.{Duty}
+use Rattle.path_agenda.specs.declared.keys.KeyPair.{KeyPair}
 use Rattle.path_core.specs.Breaking.{reset_of, reset_on, break_ask, answered_break}
 use Rattle.path_core.specs.Closing.{owes_end, with_end_sent}
-use Rattle.path_core.specs.Agenda.{leaves, resets}
+use Rattle.path_agenda.specs.Agenda.{leaves, resets}
 use Rattle.path_core.specs.Emission.{first_unsent, unsent_segment, having_sent_unsent, end_segment, having_sent_end, fin_segment_of, having_sent_fin, answered_end, answered_fin}
 use Rattle.path_core.specs.Ends.{PathEnd}
 use Rattle.path_core.specs.Events.{died}

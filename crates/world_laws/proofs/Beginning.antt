@@ -18,7 +18,7 @@ use Rattle.actor_desk.specs.Desk.{SixBooks, opened_books}
 use Rattle.stream_apps.specs.Apps.{AppState}
 use Rattle.stream_apps.specs.AppSteps.{start_of_app}
 use Rattle.stream_apps.specs.Starts.{first_app_turn}
-use Rattle.path_core.specs.Agenda.{start_of_turn}
+use Rattle.path_agenda.specs.Agenda.{start_of_turn}
 use Rattle.path_core.specs.Ends.{opening_end}
 use Rattle.path_core.specs.Starts.{waiting_path, first_turn}
 use Rattle.path_core.specs.State.{PathState, Profile, with_agenda}

@@ -23,7 +23,7 @@ use Rattle.actor_desk.specs.Words.{pick, tail_of}
 use Rattle.path_core.specs.declared.event.Event.{Event}
 use Rattle.path_core.specs.declared.event.Event.TheVariants as happenings
 use Rattle.path_core.specs.declared.lines.LineLeft.{LineLeft}
-use Rattle.path_core.specs.Agenda.{rest_of_turn, emission}
+use Rattle.path_agenda.specs.Agenda.{rest_of_turn, emission}
 use Rattle.path_core.specs.Arriving.{copy_of, items_of, after_meaning, template_of}
 use Rattle.path_core.specs.Ends.{PathEnd}
 use Rattle.path_core.specs.Events.{step_for, is_death, at_tick, path_died, after_line, line_taken, heard_in, copy_heard, copy_taken, after_firing, template_fired, timer_fired, happens, happens_if}

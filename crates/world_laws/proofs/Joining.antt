@@ -15,8 +15,8 @@ use Rattle.stream_apps.specs.declared.duty.AppDuty.{AppDuty}
 use Rattle.stream_apps.specs.Apps.{AppState}
 use Rattle.stream_apps.specs.AppSteps.{app_ask, app_asks_first, app_next_round, start_of_app}
 use Rattle.stream_apps.specs.Turns.{FirstAppStands}
-use Rattle.path_core.specs.declared.duty.Duty.{Duty}
-use Rattle.path_core.specs.Agenda.{start_of_turn}
+use Rattle.path_agenda.specs.declared.duty.Duty.{Duty}
+use Rattle.path_agenda.specs.Agenda.{start_of_turn}
 use Rattle.path_core.specs.Duties.{stands, ask_for, passed, answered}
 use Rattle.path_core.specs.State.{PathState, with_agenda}
 use Rattle.path_core.specs.Steps.{settled, asks_first, answers, takes, settles_down, next_round}

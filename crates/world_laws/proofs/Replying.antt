@@ -28,13 +28,13 @@ use Rattle.actor_desk.specs.declared.ask.Reply.TheVariants as replies
 use Rattle.actor_desk.specs.Desk.{SixBooks, send_of, reply_of}
 use Rattle.actor_desk.specs.Words.{pick}
 use Rattle.fallback_state.specs.declared.fall.Event.TheVariants as events
-use Rattle.path_core.specs.declared.heard.Heard.{Heard}
-use Rattle.path_core.specs.declared.heard.Heard.TheVariants as says
-use Rattle.path_core.specs.Agenda.{breaks}
+use Rattle.path_agenda.specs.declared.heard.Heard.{Heard}
+use Rattle.path_agenda.specs.declared.heard.Heard.TheVariants as says
+use Rattle.path_agenda.specs.Agenda.{breaks}
 use Rattle.path_core.specs.Breaking.{break_ask, answered_break}
 use Rattle.path_core.specs.Emission.{granted, grant_in, refused, answered_grant}
 use Rattle.path_core.specs.Ends.{PathEnd}
-use Rattle.path_core.specs.declared.keys.KeyPair.{KeyPair}
+use Rattle.path_agenda.specs.declared.keys.KeyPair.{KeyPair}
 use Rattle.path_core.specs.Opening.{syn_window_ask, keys_ask, after_keys}
 use Rattle.path_core.specs.Passing.{having_asked, with_peer_end, piece_ask, answered_piece, is_placed, piece_of, fin_of, fin_ask, answered_fin_heard, is_fin_set, rate_ask, after_rate, answered_rate}
 use Rattle.path_core.specs.Placing.{Piece, after_piece, with_learned}

@@ -23,7 +23,7 @@ use Rattle.actor_desk.specs.declared.ask.Ask.{Ask}
 use Rattle.actor_desk.specs.declared.ask.Ask.TheVariants as asks
 use Rattle.actor_desk.specs.Desk.{SixBooks, send_of, reassembly_of, after_ask}
 use Rattle.actor_desk.specs.Words.{pick}
-use Rattle.path_core.specs.declared.duty.Duty.{Duty}
+use Rattle.path_agenda.specs.declared.duty.Duty.{Duty}
 use Rattle.path_core.specs.Ends.{PathEnd}
 use Rattle.path_core.specs.Sends.{sent_on}
 use Rattle.path_core.specs.State.{PathState, Profile, end_at, goes_on}

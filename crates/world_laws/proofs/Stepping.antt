@@ -14,20 +14,21 @@ use Rattle.actor_desk.specs.declared.ask.Ask.TheVariants as asks
 use Rattle.actor_desk.specs.declared.ask.Reply.{Reply}
 use Rattle.actor_desk.specs.Desk.{SixBooks, send_of, reply_of}
 use Rattle.actor_desk.specs.Words.{pick}
-use Rattle.path_core.specs.declared.duty.Duty.{Duty}
-use Rattle.path_core.specs.declared.duty.Duty.TheVariants as duties
-use Rattle.path_core.specs.Agenda.{leaves, resets}
+use Rattle.path_agenda.specs.declared.duty.Duty.{Duty}
+use Rattle.path_agenda.specs.declared.duty.Duty.TheVariants as duties
+use Rattle.path_agenda.specs.Agenda.{leaves, resets}
 use Rattle.path_core.specs.Duties.{stands, ask_for, answered}
 use Rattle.path_core.specs.Emission.{first_unsent, data_stands, data_ask, answered_data, payload_size}
 use Rattle.path_core.specs.Ends.{PathEnd}
 use Rattle.path_core.specs.Events.{next_event}
-use Rattle.path_core.specs.Opening.{key_heard, peer_key_ask, with_peer_key, keys_heard, keys_ask, after_keys}
+use Rattle.path_agenda.specs.Items.{key_heard, keys_heard}
+use Rattle.path_core.specs.Opening.{peer_key_ask, with_peer_key, keys_ask, after_keys}
 use Rattle.path_core.specs.Passing.{piece_of}
 use Rattle.path_core.specs.Standing.{look_ask, after_look}
 use Rattle.path_core.specs.State.{PathState, end_at, left, path_of, with_agenda}
 use Rattle.path_core.specs.Treating.{fell_ask, after_verdict}
 use Rattle.path_core.specs.Values.{Carried, values}
-use Rattle.path_core.specs.Words.{replaced}
+use Rattle.path_agenda.specs.Words.{replaced}
 use Rattle.world_laws.proofs.Answering as answering
 use Rattle.world_laws.proofs.Answering.{Steps}
 use Rattle.world_laws.proofs.Ending.{did_nothing}

@@ -37,8 +37,8 @@ use Rattle.subflow_send.specs.Rules.{is_fin}
 use Rattle.subflow_tcp.specs.Segments.{one_if, occupied}
 use Rattle.subflow_tcp.specs.States.{is_opening}
 use Rattle.stream_lanes.specs.Words.{Every}
-use Rattle.path_core.specs.declared.heard.Heard.{Heard}
-use Rattle.path_core.specs.declared.heard.Heard.TheVariants as says
+use Rattle.path_agenda.specs.declared.heard.Heard.{Heard}
+use Rattle.path_agenda.specs.declared.heard.Heard.TheVariants as says
 use Rattle.path_core.specs.Arriving.{copy_of, expected_by}
 use Rattle.path_core.specs.declared.modes.Modes.{Modes}
 use Rattle.path_core.specs.Ends.{PathEnd, Sending, Receiving, Treated}

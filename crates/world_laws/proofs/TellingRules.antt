@@ -29,15 +29,16 @@ use Rattle.stream_lanes.specs.Words.{Every}
 use Rattle.stream_lanes.proofs.Lists.{Every-nil, Every-push}
 use Rattle.actor_desk.specs.declared.ask.Reply.{Reply}
 use Rattle.actor_desk.specs.declared.ask.Reply.TheVariants as replies
-use Rattle.path_core.specs.declared.heard.Heard.{Heard}
-use Rattle.path_core.specs.declared.heard.Heard.TheVariants as says
-use Rattle.path_core.specs.declared.keys.KeyPair.{KeyPair}
+use Rattle.path_agenda.specs.declared.heard.Heard.{Heard}
+use Rattle.path_agenda.specs.declared.heard.Heard.TheVariants as says
+use Rattle.path_agenda.specs.declared.keys.KeyPair.{KeyPair}
 use Rattle.path_core.specs.declared.modes.Modes.{Modes}
 use Rattle.path_core.specs.Closing.{with_end_sent}
 use Rattle.path_core.specs.Emission.{granted, refused, after_timer}
 use Rattle.path_core.specs.Ends.{PathEnd, Treated, nothing_treated}
 use Rattle.path_core.specs.Events.{died, died_unless_dead, after_firing}
-use Rattle.path_core.specs.Opening.{key_in, key_heard, pair_in, keys_heard, with_peer_key, keys_in, after_keys}
+use Rattle.path_agenda.specs.Items.{key_in, key_heard, pair_in, keys_heard}
+use Rattle.path_core.specs.Opening.{with_peer_key, keys_in, after_keys}
 use Rattle.path_core.specs.Passing.{having_asked, with_peer_end, after_rate, after_pass_fin}
 use Rattle.path_core.specs.Placing.{Piece, is_wrong, forgotten_by, after_piece, with_learned, with_skipped}
 use Rattle.path_core.specs.Segments.{bare_mapping}

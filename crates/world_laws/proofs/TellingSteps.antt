@@ -18,14 +18,14 @@ use Rattle.stream_lanes.proofs.Promises.{paths_short}
 use Rattle.stream_lanes.proofs.Views.{received_written}
 use Rattle.actor_desk.specs.Desk.{SixBooks, send_of, reassembly_of}
 use Rattle.actor_desk.specs.Words.{pick, tail_of}
-use Rattle.path_core.specs.declared.duty.Duty.{Duty}
-use Rattle.path_core.specs.declared.duty.Duty.TheVariants as duties
+use Rattle.path_agenda.specs.declared.duty.Duty.{Duty}
+use Rattle.path_agenda.specs.declared.duty.Duty.TheVariants as duties
 use Rattle.path_core.specs.Ends.{PathEnd}
 use Rattle.path_core.specs.Sends.{handed, sent_on}
 use Rattle.path_core.specs.Shown.{ChangesNothing}
 use Rattle.path_core.specs.State.{PathState, Profile, end_at, goes_on, with_agenda}
 use Rattle.path_core.specs.Values.{Carried, carried_by, stripped, altered, values}
-use Rattle.path_core.specs.Words.{replaced}
+use Rattle.path_agenda.specs.Words.{replaced}
 use Rattle.world_laws.proofs.Lanes.{duo_of}
 use Rattle.world_laws.proofs.Roads.{no_flags, direction}
 use Rattle.world_laws.proofs.Saying.{flights_kept}

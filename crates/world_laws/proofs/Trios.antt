@@ -26,7 +26,7 @@ use Rattle.stream_apps.specs.Apps.{AppState}
 use Rattle.stream_apps.specs.AppSteps.{app_stands, app_ask, app_asks_first, app_answered, app_answers, app_settled, app_settles_down, app_takes, app_next_round, start_of_app}
 use Rattle.stream_apps.specs.Starts.{first_app_turn}
 use Rattle.stream_apps.specs.Turns.{FirstAppStands, IsAppSettled}
-use Rattle.path_core.specs.declared.duty.Duty.{Duty}
+use Rattle.path_agenda.specs.declared.duty.Duty.{Duty}
 use Rattle.path_core.specs.Codec.{Codec}
 use Rattle.path_core.specs.Duties.{ask_for}
 use Rattle.path_core.specs.Starts.{first_turn, waiting_path}

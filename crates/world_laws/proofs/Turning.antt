@@ -19,7 +19,7 @@ use Rattle.stream_apps.specs.declared.duty.AppDuty.{AppDuty}
 use Rattle.stream_apps.specs.declared.duty.AppDuty.TheVariants as app_duties
 use Rattle.stream_apps.specs.Apps.{AppState}
 use Rattle.stream_apps.specs.AppSteps.{app_stands, app_ask, app_answered, app_answers, app_settles_down, app_takes, offered}
-use Rattle.path_core.specs.declared.duty.Duty.{Duty}
+use Rattle.path_agenda.specs.declared.duty.Duty.{Duty}
 use Rattle.path_core.specs.State.{PathState, Profile}
 use Rattle.path_core.specs.Steps.{settled}
 use Rattle.path_core.specs.Values.{Carried}

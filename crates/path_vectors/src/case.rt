@@ -1,0 +1,121 @@
+//! A case is `SCRIPT | FILE_A | FILE_B | ROUNDS | SHOWN`, or so with ` | OCTETS`. In the script `;` stands for LF. A file is
+//! `none` where the side has no application, `-` where it is empty, `text` and its text, `hex` and its octets, or `made`
+//! and how many octets: the one at place k is k modulo 251. `SHOWN` is `log`, `sums` or `places`. `OCTETS`, in hexadecimal
+//! digits, go to the link of path 0 from A's side after the first round, and A's end doesn't know of them.
+ghost use Rattle.std.specs.Prelude.{IfOk};
+ghost use Rattle.link_script.specs.Scripts.{HasRanges};
+
+use case_fields::{CaseFault, octets_at, parsed_at, word_at};
+use link_script::{Script, ScriptFault, parse};
+use std::alloc::{AllocError, Global};
+
+/// What is shown of a run.
+#[derive(Clone, Copy)]
+pub enum Shown {
+    /// Each line of its log.
+    Log,
+    /// How much there was of everything, and digests.
+    Sums,
+    /// Which copies arrived, and what was to be placed.
+    Places,
+}
+
+/// What a connection is to do, and what is shown of it.
+#[derive(Drop)]
+pub struct Case {
+    pub script: Script,
+    /// What A writes, where it has an application.
+    pub file_a: Option<Vec<u8>>,
+    /// What B writes, where it has an application.
+    pub file_b: Option<Vec<u8>>,
+    /// How many rounds are made at most.
+    pub rounds: u64,
+    pub shown: Shown,
+    /// What goes to the link after the first round.
+    pub injected: Option<Vec<u8>>,
+}
+
+impl Case {
+    /// The case that a line tells.
+    pub fn read(alloc: Global, line: &str) -> Result<Self, CaseFault>
+        ensures { IfOk result (λ case. HasRanges case.script) }
+    {
+        let fields: Vec<&str> = line.split(" | ").collect(alloc)?;
+        let fields = fields.as_slice();
+        Ok(Case {
+            script: script(alloc, word_at(fields, 0)?)?,
+            file_a: file(alloc, word_at(fields, 1)?)?,
+            file_b: file(alloc, word_at(fields, 2)?)?,
+            rounds: parsed_at(fields, 3)?,
+            shown: shown_at(fields, 4)?,
+            injected: injected(alloc, fields)?,
+        })
+    }
+}
+
+fn shown_at(fields: &[&str], place: usize) -> Result<Shown, CaseFault> {
+    match word_at(fields, place)? {
+        "log" => Ok(Shown::Log),
+        "sums" => Ok(Shown::Sums),
+        "places" => Ok(Shown::Places),
+        _ => Err(CaseFault::Form),
+    }
+}
+
+/// A text with LF for each `;`.
+fn with_line_ends(alloc: Global, field: &str) -> Result<String, AllocError> {
+    let mut text = String::new(alloc);
+    for line in field.split(';') {
+        text.push_str(line)?;
+        text.push('\n')?;
+    }
+    Ok(text)
+}
+
+fn script(alloc: Global, field: &str) -> Result<Script, CaseFault>
+    ensures { IfOk result (λ script. HasRanges script) }
+{
+    let text = with_line_ends(alloc, field)?;
+    match parse(alloc, text.as_bytes()) {
+        Ok(script) => Ok(script),
+        Err(ScriptFault::Line { .. }) => Err(CaseFault::Form),
+        Err(ScriptFault::Memory) => Err(CaseFault::Memory),
+    }
+}
+
+/// What goes to the link, where the case has a sixth field.
+fn injected(alloc: Global, fields: &[&str]) -> Result<Option<Vec<u8>>, CaseFault> {
+    match fields.get(5) {
+        Some(_) => Ok(Some(octets_at(alloc, fields, 5)?)),
+        None => Ok(None),
+    }
+}
+
+/// What a side writes, where it has an application.
+fn file(alloc: Global, field: &str) -> Result<Option<Vec<u8>>, CaseFault> {
+    match field {
+        "none" => Ok(None),
+        _ => Ok(Some(content(alloc, field)?)),
+    }
+}
+
+/// The octets of a file.
+fn content(alloc: Global, field: &str) -> Result<Vec<u8>, CaseFault> {
+    match field.split_once(" ") {
+        Some(("text", text)) => Ok(Vec::from_slice(alloc, text.as_bytes())?),
+        Some(("hex", digits)) => octets_at(alloc, &[digits], 0),
+        Some(("made", count)) => Ok(made(alloc, parsed_at(&[count], 0)?)?),
+        None if field == "-" => Ok(Vec::new(alloc)),
+        _ => Err(CaseFault::Form),
+    }
+}
+
+/// The octet that is made for a place.
+fn made_at(place: u32) -> u8 {
+    (place % 251) as u8
+}
+
+/// So many made octets.
+fn made(alloc: Global, count: u32) -> Result<Vec<u8>, AllocError> {
+    (0..count).map(made_at).collect(alloc)
+}

@@ -1,0 +1,179 @@
+//! The actors of a connection and its books.
+ghost use Rattle.std.specs.Prelude.{◌≤◌};
+ghost use Rattle.link_script.specs.Scripts.{HasRanges};
+
+use crate::actor::{Actor, Member};
+use crate::case::Case;
+use crate::journal::Journal;
+use actor_desk::Books;
+use case_fields::CaseFault;
+use key_material::drawn;
+use link_script::Script;
+use outside_kit::Side;
+use path_core::Path;
+use pipe_model::Text;
+use run_log::Outcome;
+use std::alloc::{AllocError, Global};
+use stream_apps::App;
+
+/// The applications, path 0 and the six books.
+#[derive(Drop)]
+pub struct Connection {
+    alloc: Global,
+    actors: Vec<Actor>,
+    books: Books,
+    /// What still goes to the link.
+    injected: Option<Vec<u8>>,
+}
+
+/// The keys of A and B.
+#[derive(Clone, Copy)]
+pub struct Keys {
+    pub a: u64,
+    pub b: u64,
+}
+
+/// The key whose halves are two words of stream 0 of the seed.
+fn key_of(seed: u64, first: u32) -> u64 {
+    let high = u64::from(drawn(seed, 0, u64::from(first)));
+    let low = u64::from(drawn(seed, 0, u64::from(first) + 1));
+    (high << 32) | low
+}
+
+impl Keys {
+    /// The keys that a seed draws.
+    pub fn drawn(seed: u64) -> Self {
+        Keys {
+            a: key_of(seed, 0),
+            b: key_of(seed, 2),
+        }
+    }
+}
+
+/// The application of a side, where it has one, has the actor's number 0 at A and 1 at B.
+fn push_app(
+    actors: &mut Vec<Actor>,
+    number: u8,
+    side: Side,
+    buffer: u64,
+    file: Option<Vec<u8>>,
+) -> Result<(), AllocError>
+    requires some { 1 ≤ buffer }
+    requires most { buffer ≤ 1048576 }
+{
+    if let Some(file) = file {
+        let app = App::new(side, buffer, Text::from(file));
+        actors.push(Actor::new(number, Member::App(app)))?;
+    }
+    Ok(())
+}
+
+/// The actors of a case.
+fn actors_of(
+    alloc: Global,
+    script: &Script,
+    file_a: Option<Vec<u8>>,
+    file_b: Option<Vec<u8>>,
+) -> Result<Vec<Actor>, AllocError>
+    requires { HasRanges script.now }
+{
+    let mut actors = Vec::new(alloc);
+    push_app(&mut actors, 0, Side::A, script.buffer, file_a)?;
+    push_app(&mut actors, 1, Side::B, script.buffer, file_b)?;
+    let path = Path::new(alloc, script, 0)?;
+    actors.push(Actor::new(2, Member::Path(path)))?;
+    Ok(actors)
+}
+
+impl Connection {
+    /// The connection of a case before its first step.
+    pub fn open(alloc: Global, case: Case) -> Result<Self, AllocError>
+        requires { HasRanges case.script }
+    {
+        let keys = Keys::drawn(case.script.seed);
+        let books = Books::open(alloc, case.script.buffer, keys.a, keys.b)?;
+        Ok(Connection {
+            alloc,
+            actors: actors_of(alloc, &case.script, case.file_a, case.file_b)?,
+            books,
+            injected: case.injected,
+        })
+    }
+
+    /// The turns of all actors, in the order of their numbers.
+    fn turns(&mut self, journal: &mut Journal) -> Result<(), CaseFault> {
+        for actor in self.actors.iter_mut() {
+            actor.turn(self.alloc, &mut self.books, journal)?;
+        }
+        Ok(())
+    }
+
+    /// The greatest stamp that an actor knows.
+    fn stamp(&self) -> u64 {
+        let mut stamp = 0;
+        for actor in self.actors.iter() {
+            stamp = stamp.max(actor.stamp());
+        }
+        stamp
+    }
+
+    /// Each actor begins the next round.
+    fn next_round(&mut self) -> Result<(), CaseFault> {
+        let stamp = self.stamp();
+        for actor in self.actors.iter_mut() {
+            actor.next_round(stamp)?;
+        }
+        Ok(())
+    }
+
+    /// What the case has for the link goes there, once.
+    fn inject(&mut self) -> Result<(), AllocError> {
+        if let Some(octets) = self.injected.take() {
+            for actor in self.actors.iter_mut() {
+                actor.inject(octets.as_slice())?;
+            }
+        }
+        Ok(())
+    }
+
+    /// Whether both readers were told the end of their streams.
+    fn is_delivered(&self) -> bool {
+        self.actors.iter().all(|actor| actor.is_told())
+    }
+
+    /// Whether the path is dead.
+    fn has_no_path(&self) -> bool {
+        self.actors.iter().any(|actor| actor.is_dead())
+    }
+
+    /// How the run ended, where it did.
+    fn outcome(&self) -> Option<Outcome> {
+        if self.is_delivered() {
+            Some(Outcome::Delivered)
+        } else if self.has_no_path() {
+            Some(Outcome::NoPath)
+        } else {
+            None
+        }
+    }
+
+    /// Makes rounds until the run ended, but no more than so many. Answers how it ended.
+    fn rounds(&mut self, most: u64, journal: &mut Journal) -> Result<Outcome, CaseFault> {
+        for number in 0..most {
+            self.turns(journal)?;
+            journal.end_round(number)?;
+            if let Some(outcome) = self.outcome() {
+                return Ok(outcome);
+            }
+            self.next_round()?;
+            self.inject()?;
+        }
+        Ok(Outcome::Rounds)
+    }
+
+    /// The whole run of a case.
+    pub fn run(&mut self, most: u64, journal: &mut Journal) -> Result<(), CaseFault> {
+        let outcome = self.rounds(most, journal)?;
+        Ok(journal.end(outcome)?)
+    }
+}
