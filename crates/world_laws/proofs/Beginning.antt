@@ -40,10 +40,10 @@ use Rattle.world_laws.proofs.Trios.{first_trio, first_fare}
 abbrev first_moves : List Move
 first_moves = Open ∷ SendAck 0 0 0 ∷ []
 
-abbrev first_ack : AckCopy
+abbrev pub first_ack : AckCopy
 first_ack = record { next = 0; window = 0; sub = 0 }
 
-abbrev first_lane : Lane
+abbrev pub first_lane : Lane
 first_lane = record new_lane { opened = true; acks = first_ack ∷ [] }
 
 first_has : HasAck first_lane.acks 0 0
@@ -75,10 +75,10 @@ opening_shows c s state opens path own key = record {
 }
 
 module _ (start : Start) (can : CanShow start) where
-  abbrev waiting : PathState Carried
+  abbrev pub waiting : PathState Carried
   waiting = waiting_path start.profile start.drawn start.delay start.lines
 
-  waiting_shows : PathShows start.profile (with_agenda start_of_turn waiting) first_lane first_lane
+  pub waiting_shows : PathShows start.profile (with_agenda start_of_turn waiting) first_lane first_lane
   waiting_shows = record {
     profile = refl;
     path = refl;
@@ -88,10 +88,10 @@ module _ (start : Start) (can : CanShow start) where
     copies = Every-nil _;
   }
 
-  abbrev no_reader : Reader
+  abbrev pub no_reader : Reader
   no_reader = record { out = []; told = false; stopped = false }
 
-  abbrev six : SixBooks
+  abbrev pub six : SixBooks
   six = opened_books start.profile.buffer start.drawn.key_a start.drawn.key_b
 
   abbrev first_strolled : Strolled start.profile (with_agenda start_of_turn waiting) new_lane new_lane
@@ -103,7 +103,7 @@ module _ (start : Start) (can : CanShow start) where
     shows = waiting_shows;
   }
 
-  first_holds : Holds (duo_of six first_lane first_lane no_reader no_reader)
+  pub first_holds : Holds (duo_of six first_lane first_lane no_reader no_reader)
   first_holds = strolls_held six no_reader no_reader new_lane first_lane new_lane first_lane first_strolled.ab_moves first_strolled.ba_moves (all_held 1 start.profile.buffer start.profile.buffer [])
 
   turn_strolled : Strolled start.profile (first_turn start.profile start.drawn start.delay start.lines) new_lane new_lane
@@ -145,7 +145,7 @@ each_opening_shows start can = opened_shows start can
 -- ---- every list of turns
 
 module _ (start : Start) (can : CanShow start) where
-  turn_reached : (turn : Turn) (w : WorldState Carried) → Reached start w → Reached start (after_turn values turn w)
+  pub turn_reached : (turn : Turn) (w : WorldState Carried) → Reached start w → Reached start (after_turn values turn w)
   turn_reached turn w r =
       let first = opening 1 start.profile.buffer start.profile.buffer in
       let d : Duo = after_events r.events first in
@@ -159,7 +159,7 @@ module _ (start : Start) (can : CanShow start) where
   run_reached [] w r = r
   run_reached (turn ∷ turns) w r = run_reached turns (after_turn values turn w) (turn_reached turn w r)
 
-  opened_reached : Reached start (opened_world start)
+  pub opened_reached : Reached start (opened_world start)
   opened_reached = let o = opened_shows start can in record { events = o.0; shows = o.1 }
 
 pub each_run_shows : EachRunShows

@@ -62,3 +62,6 @@ pub mod TellingSteps
 pub mod PromisesKept
 pub mod PromisesRuns
 pub mod PromisesMade
+pub mod TellingEvents
+pub mod TellingDuties
+pub mod TellingSettling

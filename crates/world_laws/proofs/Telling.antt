@@ -1,11 +1,11 @@
 -- The numbers that a path tells: each is below 2^31, so that each is near every one that may be expected.
-use Rattle.std.proofs.Common.{◌≡◌, refl, ap, ℕ, ◌+◌, ◌%◌, ◌^◌, ◌<◌, ◌≤◌, ◌⊎◌, inl, inr, Bool, true, false, if◌then◌else◌, is_some, Option, Some, None, List, [], ◌∷◌, ◌++◌, length, arith}
-use Rattle.std.proofs.lemmas.Bool.{ne_eqb}
+use Rattle.std.proofs.Common.{◌≡◌, refl, ap, ℕ, ◌+◌, ◌%◌, ◌^◌, ◌<◌, ◌≤◌, ◌⊎◌, inl, inr, ⊎_elim, Bool, true, false, if◌then◌else◌, is_some, Option, Some, None, List, [], ◌∷◌, ◌++◌, length, arith}
+use Rattle.std.proofs.lemmas.Bool.{ne_eqb, cases_lt}
 use Rattle.std.proofs.lemmas.Int.{ints}
 use Rattle.std.proofs.lemmas.List.{append-nil}
 use Rattle.std.proofs.lemmas.List.Elements.{All-nil, All-cons, All-weaker}
 use Rattle.std.specs.Prelude.{All}
-use Rattle.std.specs.Option.{IfSome}
+use Rattle.std.specs.Option.{IfSome, IsSome}
 use Rattle.outside_kit.specs.declared.side.Side.{Side}
 use Rattle.outside_kit.specs.declared.side.Side.TheVariants.{A, B}
 use Rattle.seq_units.specs.declared.mapping.Mapping.{Mapping}
@@ -44,6 +44,7 @@ use Rattle.path_core.specs.declared.modes.Modes.{Modes}
 use Rattle.path_core.specs.Ends.{PathEnd, Sending, Receiving, Treated}
 use Rattle.path_core.specs.Passing.{outgoing_or}
 use Rattle.path_core.specs.Segments.{spelled_by, bare_mapping, checksum_in, place_numbered, checksum_told, syn_options, key_options, end_mapping, ack_options, piece_mapping, is_first_piece, first_piece_options, piece_options, fin_options, record_options, reset_options, segment_of, ack_said, record_said, syn_ack_said, fin_said, reset_said, record_or_ack}
+use Rattle.path_core.specs.Shown.{IsFarReset}
 use Rattle.path_core.specs.State.{Profile}
 
 abbrev pub IsShort : ℕ → Type 0
@@ -66,11 +67,16 @@ pub record OptionTells (c : Profile) (s : Side) (o : PlainOption) : Type 0 where
   pub fits : Fits (said_option c.spelling (spelled_by s) o)
   pub short : OptionIsShort o
 
--- A segment of a side that can be said, with small numbers; a reset may stand anywhere, since a dead end answers a SYN at
--- number 0.
+-- A reset of a dead end, which answers a SYN at number 0: that may be any position below 2^32.
+pub record IsStray (rst : Bool) (acknowledged : Option ℕ) (position : ℕ) : Type 0 where
+  pub reset : rst ≡ true
+  pub acknowledging : IsSome acknowledged
+  pub low : position < 2 ^ 32
+
+-- a segment of a side that can be said, with small numbers, but for the position of a stray reset
 pub record SegmentTells (c : Profile) (s : Side) (sg : PlainSegment) : Type 0 where
   pub sayable : CanSay c.spelling (spelled_by s) sg
-  pub position : (sg.rst ≡ true) ⊎ IsShort sg.position
+  pub position : IsStray sg.rst sg.acknowledged sg.position ⊎ IsShort sg.position
   pub acknowledged : IfSome sg.acknowledged IsShort
   -- where it acknowledges nothing, the position after it is small too
   pub reaches : sg.acknowledged ≡ None → IsShort (sg.position + occupied (copy_of (meant sg)))
@@ -80,8 +86,12 @@ pub record SegmentTells (c : Profile) (s : Side) (sg : PlainSegment) : Type 0 wh
 
 -- ---- near
 
+-- also where it is less than 2^31 ahead
+near_below : (expected n : ℕ) → IsShort expected → n < expected + 2 ^ 31 → IsPositionFresh expected n
+near_below expected n a b = record { behind = omega (arith, ints); ahead = omega (arith, ints) }
+
 near : (expected n : ℕ) → IsShort expected → IsShort n → IsPositionFresh expected n
-near expected n a b = record { behind = omega (arith, ints); ahead = omega (arith, ints) }
+near expected n a b = near_below expected n a (omega (arith, b))
 
 near_place : (short : Bool) (expected n : ℕ) → IsShort expected → IsShort n → IsPlaceFresh short expected n
 near_place short expected n a b = record { below = omega (arith, b); near = λ is. near expected n a b }
@@ -117,10 +127,11 @@ module _ (short : Bool) (x : Expected) (h : IsShortly x) where
   option_near (Fail place) o = near_place false x.told place h.told o
   option_near _ o = tt
 
--- a segment that tells is fresh
-pub fresh_from : (c : Profile) (s : Side) (x : Expected) (sg : PlainSegment) → SegmentTells c s sg → IsShort sg.position → IsShortly x → IsFresh c.spelling (spelled_by s) x sg
-fresh_from c s x sg tells at h = record {
-  position = near x.edge sg.position h.edge at;
+-- a segment that tells is fresh, at each position that is
+fresh_at : (c : Profile) (s : Side) (x : Expected) (sg : PlainSegment) (position : ℕ) → SegmentTells c s sg → IsPositionFresh x.edge position → IsShortly x
+    → IsFresh c.spelling (spelled_by s) x (record sg { position = position })
+fresh_at c s x sg position tells at h = record {
+  position = at;
   acknowledged = acknowledged_near sg.acknowledged tells.acknowledged;
   syn = tells.syn;
   mss = tells.mss;
@@ -130,6 +141,17 @@ fresh_from c s x sg tells at h = record {
     acknowledged_near : (o : Option ℕ) → IfSome o IsShort → IfSome o (IsPositionFresh x.unacknowledged)
     acknowledged_near None n = tt
     acknowledged_near (Some n) short = near x.unacknowledged n h.unacknowledged short
+
+-- and so it is at its own, unless it is a reset that is far
+pub fresh_or_far : (c : Profile) (s : Side) (x : Expected) (sg : PlainSegment) → SegmentTells c s sg → IsShortly x
+    → IsFresh c.spelling (spelled_by s) x sg ⊎ IsFarReset c.spelling (spelled_by s) x sg
+fresh_or_far c s x sg tells h = ⊎_elim
+    (λ stray. ⊎_elim
+        (λ below. inl (fresh_at c s x sg sg.position tells (near_below x.edge sg.position h.edge below) h))
+        (λ ahead. inr (record { reset = stray.reset; acknowledging = stray.acknowledging; ahead = ahead; low = stray.low; others = fresh_at c s x sg x.edge tells (near x.edge x.edge h.edge h.edge) h }))
+        (cases_lt sg.position (x.edge + 2 ^ 31)))
+    (λ short. inl (fresh_at c s x sg sg.position tells (near x.edge sg.position h.edge short) h))
+    tells.position
 
 -- ---- an end
 
@@ -158,6 +180,7 @@ ItemTells _ = Unit {0}
 -- the answer of a dead end is a reset
 pub record AnswerTells (o : Outgoing) : Type 0 where
   pub rst : o.rst ≡ true
+  pub low : o.position < 2 ^ 32
   pub acknowledged : IfSome o.acknowledged IsShort
   pub reaches : o.acknowledged ≡ None → IsShort o.position
   pub syn : o.syn ≡ false
@@ -372,7 +395,7 @@ module _ (c : Profile) (s : Side) (path : c.spelling.path ≤ 15) (mss : c.mss <
   mss_low false = tt
 
   segment_tells : (o : Outgoing) (options : List PlainOption) (payload : List ℕ) → length payload ≤ 65475
-      → (o.rst ≡ true) ⊎ IsShort o.position → IfSome o.acknowledged IsShort → (o.acknowledged ≡ None → IsShort (o.position + occupied (copy_of (meant (segment_of c o options payload e)))))
+      → IsStray o.rst o.acknowledged o.position ⊎ IsShort o.position → IfSome o.acknowledged IsShort → (o.acknowledged ≡ None → IsShort (o.position + occupied (copy_of (meant (segment_of c o options payload e)))))
       → One options → SegmentTells c s (segment_of c o options payload e)
   segment_tells o options payload most at ack reaches one = record {
     sayable = record { path = path; window = h.window.window; options = each_said c s options one; room = room_of c s o.syn c.mss options one; fits = most };
@@ -425,11 +448,15 @@ module _ (c : Profile) (s : Side) (path : c.spelling.path ≤ 15) (mss : c.mss <
   none_more n short = omega (arith, short)
 
   pub reset_tells : (reason : Option ℕ) → IfSome reason (λ n. n < 256) → SegmentTells c s (reset_said c reason e)
-  reset_tells reason low = segment_tells (reset_segment e.tcp) (reset_options reason) [] (omega arith) (inl refl) tt (λ is. none_more e.tcp.send.nxt h.sender.next) (reset_options_tell reason low)
+  reset_tells reason low = segment_tells (reset_segment e.tcp) (reset_options reason) [] (omega arith) (inr h.sender.next) tt (λ is. none_more e.tcp.send.nxt h.sender.next) (reset_options_tell reason low)
 
   answer_tells : (o : Outgoing) → AnswerTells o → SegmentTells c s (segment_of c o [] [] e)
-  answer_tells o a = segment_tells o [] [] (omega arith) (inl a.rst) a.acknowledged reaches tt
+  answer_tells o a = segment_tells o [] [] (omega arith) (stands o.acknowledged refl) a.acknowledged reaches tt
     where
+      stands : (ack : Option ℕ) → o.acknowledged ≡ ack → IsStray o.rst o.acknowledged o.position ⊎ IsShort o.position
+      stands None is = inr (a.reaches is)
+      stands (Some n) is = inl (record { reset = a.rst; acknowledging = rw is refl; low = a.low })
+
       reaches : o.acknowledged ≡ None → IsShort (o.position + occupied (copy_of (meant (segment_of c o [] [] e))))
       reaches is =
           let short = a.reaches is in
@@ -441,5 +468,5 @@ module _ (c : Profile) (s : Side) (path : c.spelling.path ≤ 15) (mss : c.mss <
   dead_answer_tells = by e.treated.answer h.treated.answer
     where
       by : (o : Option Outgoing) → IfSome o AnswerTells → SegmentTells c s (segment_of c (outgoing_or o (reset_segment e.tcp)) [] [] e)
-      by None a = answer_tells (reset_segment e.tcp) (record { rst = refl; acknowledged = tt; reaches = λ is. h.sender.next; syn = refl; fin = refl })
+      by None a = answer_tells (reset_segment e.tcp) (record { rst = refl; low = let next = h.sender.next in omega (arith, next); acknowledged = tt; reaches = λ is. h.sender.next; syn = refl; fin = refl })
       by (Some o) a = answer_tells o a

@@ -1,5 +1,5 @@
 -- What a copy that arrives tells, and what it leaves of the numbers that its end tells.
-use Rattle.std.proofs.Common.{◌≡◌, refl, ℕ, ◌+◌, ◌^◌, nat_le, nat_lt, Bool, true, false, if◌then◌else◌, option_map, Option, Some, None, List, [], ◌∷◌, take, map, flat_map}
+use Rattle.std.proofs.Common.{◌≡◌, refl, ℕ, ◌+◌, ◌^◌, ◌<◌, nat_le, nat_lt, Bool, true, false, if◌then◌else◌, option_map, Option, Some, None, List, [], ◌∷◌, take, map, flat_map, arith}
 use Rattle.std.specs.Prelude.{All}
 use Rattle.std.specs.Option.{IfSome}
 use Rattle.std.proofs.lemmas.List.Elements.{All-head, All-tail}
@@ -31,7 +31,7 @@ use Rattle.stream_lanes.proofs.Lists.{Every-nil, Every-append, in_take}
 use Rattle.actor_desk.specs.Words.{is_nil}
 use Rattle.path_agenda.specs.declared.heard.Heard.{Heard}
 use Rattle.path_agenda.specs.declared.heard.Heard.TheVariants as says
-use Rattle.path_core.specs.Arriving.{copy_of, ack_items, is_mapping, mapping_items, map_items, key_items, items_in, items_of, hint_of, reset_for, reset_by, owing_if, owes_by, with_payload, after_meaning}
+use Rattle.path_core.specs.Arriving.{copy_of, ack_items, is_mapping, mapping_items, map_items, key_items, items_in, items_of, hint_of, reset_for, reset_by, owing_if, owes_by, with_payload, after_meaning, zero_position}
 use Rattle.path_core.specs.Ends.{PathEnd}
 use Rattle.path_core.specs.State.{Profile}
 use Rattle.world_laws.proofs.Records.{every_cons}
@@ -95,9 +95,12 @@ taken_tell n items h = record { each = λ i x is. h.each i x (in_take n items i 
 
 -- ---- the answer of a dead end
 
+zero_low : (c : Profile) (s : Side) → zero_position c s < 2 ^ 32
+zero_low c s = omega arith
+
 answer_tells : (c : Profile) (s : Side) (o : Option ℕ) (position occupied : ℕ) → IfSome o IsShort → (o ≡ None → IsShort (position + occupied)) → AnswerTells (reset_by c s o position occupied)
-answer_tells c s None position occupied short reaches = record { rst = refl; acknowledged = reaches refl; reaches = λ is. cc; syn = refl; fin = refl }
-answer_tells c s (Some acknowledged) position occupied short reaches = record { rst = refl; acknowledged = tt; reaches = λ is. short; syn = refl; fin = refl }
+answer_tells c s None position occupied short reaches = record { rst = refl; low = zero_low c s; acknowledged = reaches refl; reaches = λ is. cc; syn = refl; fin = refl }
+answer_tells c s (Some acknowledged) position occupied short reaches = record { rst = refl; low = omega (arith, short); acknowledged = tt; reaches = λ is. short; syn = refl; fin = refl }
 
 -- ---- the subflow
 

@@ -173,7 +173,7 @@ module _ (c : Profile) (s : Side) (e : PathEnd) (h : EndTells c s e) where
 
   -- ---- what was heard
 
-  stream_acked : (next : ℕ) (r : SendReply) → IsShort next → EndTells c s (with_acked next (replies.Send r) e)
+  pub stream_acked : (next : ℕ) (r : SendReply) → IsShort next → EndTells c s (with_acked next (replies.Send r) e)
   stream_acked next (send_replies.Acked bytes fin) short = record {
     sender = h.sender;
     edge = h.edge;
