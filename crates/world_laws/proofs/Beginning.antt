@@ -24,10 +24,11 @@ use Rattle.path_core.specs.Starts.{waiting_path, first_turn}
 use Rattle.path_core.specs.State.{PathState, Profile, with_agenda}
 use Rattle.path_core.specs.Values.{Carried, values}
 use Rattle.world_laws.specs.Openings.{Start, opened_world}
+use Rattle.world_laws.specs.Promises.{IsPlain}
 use Rattle.world_laws.specs.Worlds.{WorldState, Turn, after_turn, world_run}
 use Rattle.world_laws.proofs.Applying.{Reads, settled_app}
 use Rattle.world_laws.proofs.Joining.{settled_first, each_turn_shows}
-use Rattle.world_laws.proofs.Lanes.{CanShow, duo_of, WorldShows, Shown, OpenedShows, EachOpeningShows, Reached, EachRunShows, move_events, events_append, turn_events, turn_is}
+use Rattle.world_laws.proofs.Lanes.{duo_of, WorldShows, Shown, OpenedShows, EachOpeningShows, Reached, EachRunShows, move_events, events_append, turn_events, turn_is}
 use Rattle.world_laws.proofs.Saying.{every_one}
 use Rattle.world_laws.proofs.Settling.{then_strolled, settles}
 use Rattle.world_laws.proofs.Showing.{HasAck, Under, EndShows, PathShows}
@@ -74,7 +75,7 @@ opening_shows c s state opens path own key = record {
   held = Every-nil _;
 }
 
-module _ (start : Start) (can : CanShow start) where
+module _ (start : Start) (can : IsPlain start) where
   abbrev pub waiting : PathState Carried
   waiting = waiting_path start.profile start.drawn start.delay start.lines
 
@@ -144,7 +145,7 @@ each_opening_shows start can = opened_shows start can
 
 -- ---- every list of turns
 
-module _ (start : Start) (can : CanShow start) where
+module _ (start : Start) (can : IsPlain start) where
   pub turn_reached : (turn : Turn) (w : WorldState Carried) → Reached start w → Reached start (after_turn values turn w)
   turn_reached turn w r =
       let first = opening 1 start.profile.buffer start.profile.buffer in

@@ -65,3 +65,4 @@ pub mod PromisesMade
 pub mod TellingEvents
 pub mod TellingDuties
 pub mod TellingSettling
+pub mod TellingWorlds

@@ -8,27 +8,23 @@ use Rattle.world_laws.specs.Fresh.{AreFresh, shown_world}
 use Rattle.world_laws.specs.Openings.{Start, opened_world}
 use Rattle.world_laws.specs.Promises.{IsPlain, was_told_end, BothKeepTheirWord, NothingCame, NothingFollows, IsOneStep, EachTurnIsOneStep, NothingWasRefused, IsPromised, IsPromisedOfOctets, NothingFollowsInOctets, FreshTurnsAreSteps}
 use Rattle.world_laws.specs.Worlds.{WorldState, Turn, after_turn, world_run}
-use Rattle.world_laws.proofs.Lanes.{CanShow}
 use Rattle.world_laws.proofs.PromisesRuns.{always_keep_word, never_follows, always_one_step, never_refused}
 use Rattle.world_laws.proofs.PromisesShown.{both_shown, came_shown, step_shown, refused_shown, same_told, run_shown}
 use Rattle.world_laws.proofs.WeavingRounds.{run_append}
 
-can_show : (start : Start) → IsPlain start → CanShow start
-can_show start h = record { unchanged = h.unchanged; size = h.size; short_a = h.short_a; short_b = h.short_b }
-
 -- ---- over segments as values
 
 pub keep_their_word : IsPromised BothKeepTheirWord
-keep_their_word start turns plain = always_keep_word start (can_show start plain) turns
+keep_their_word start turns plain = always_keep_word start plain turns
 
 pub nothing_follows : IsPromised (NothingFollows values)
-nothing_follows start turns plain = never_follows start (can_show start plain) turns
+nothing_follows start turns plain = never_follows start plain turns
 
 pub one_step_each : IsPromised (EachTurnIsOneStep values)
-one_step_each start turns plain = always_one_step start (can_show start plain) turns
+one_step_each start turns plain = always_one_step start plain turns
 
 pub nothing_refused : IsPromised NothingWasRefused
-nothing_refused start turns plain = never_refused start (can_show start plain) turns
+nothing_refused start turns plain = never_refused start plain turns
 
 -- ---- over octets
 

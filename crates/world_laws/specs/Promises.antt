@@ -32,6 +32,19 @@ pub record IsPlain (start : Start) : Type 0 where
   pub short_a : length start.file_a < 2 ^ 31 - 2
   pub short_b : length start.file_b < 2 ^ 31 - 2
 
+-- Where every segment can be said, and heard as it was meant: the path has a port, a full segment fits in a datagram with all of
+-- its options, a side buffers 2^20 octets at most, and keys have 64 bits. Each script says so.
+pub record NumbersFit (start : Start) : Type 0 where
+  pub path : start.profile.spelling.path ≤ 15
+  pub size : start.profile.mss ≤ 65503
+  pub buffer : start.profile.buffer ≤ 2 ^ 20
+  pub key_a : start.drawn.key_a < 2 ^ 64
+  pub key_b : start.drawn.key_b < 2 ^ 64
+
+-- every list of turns is fresh
+abbrev pub EveryListIsFresh : Type 0
+EveryListIsFresh = (start : Start) (turns : List Turn) → IsPlain start → NumbersFit start → AreFresh turns (opened_world start)
+
 -- the answers that would say that the two sides don't agree
 abbrev pub tells_refusal : Reply → Bool
 tells_refusal (replies.Send (send_replies.AckFuture written)) = true
