@@ -59,10 +59,11 @@ pub mod Telling
 pub mod TellingRules
 pub mod TellingArrivals
 pub mod TellingSteps
-pub mod PromisesKept
-pub mod PromisesRuns
-pub mod PromisesMade
 pub mod TellingEvents
 pub mod TellingDuties
 pub mod TellingSettling
 pub mod TellingWorlds
+pub mod PromisesKept
+pub mod PromisesRuns
+pub mod PromisesMade
+pub mod PromisesOfScripts
