@@ -55,6 +55,15 @@ pub mod Stepping
 pub mod Turning
 pub mod Joining
 pub mod Beginning
+pub mod Telling
+pub mod TellingRules
+pub mod TellingArrivals
+pub mod TellingSteps
+pub mod TellingEvents
+pub mod TellingDuties
+pub mod TellingSettling
+pub mod TellingWorlds
 pub mod PromisesKept
 pub mod PromisesRuns
 pub mod PromisesMade
+pub mod PromisesOfScripts

@@ -10,4 +10,5 @@ pub mod Timely
 pub mod RoundEnd
 pub mod Weaving
 pub mod Promises
+pub mod PlainScripts
 pub mod Laws

@@ -32,6 +32,15 @@ pub record IsPlain (start : Start) : Type 0 where
   pub short_a : length start.file_a < 2 ^ 31 - 2
   pub short_b : length start.file_b < 2 ^ 31 - 2
 
+-- Where every segment can be said, and heard as it was meant: the path is one of sixteen, a full segment with its header has 65,535
+-- octets at most, a side buffers 2^20 octets at most, and keys have 64 bits. It is so by each script.
+pub record NumbersFit (start : Start) : Type 0 where
+  pub path : start.profile.spelling.path ≤ 15
+  pub size : start.profile.mss ≤ 65503
+  pub buffer : start.profile.buffer ≤ 2 ^ 20
+  pub key_a : start.drawn.key_a < 2 ^ 64
+  pub key_b : start.drawn.key_b < 2 ^ 64
+
 -- the answers that would say that the two sides don't agree
 abbrev pub tells_refusal : Reply → Bool
 tells_refusal (replies.Send (send_replies.AckFuture written)) = true
@@ -96,23 +105,12 @@ module _ {C : Type 0} where
 abbrev pub IsPromised : (WorldState Carried → Type 0) → Type 0
 IsPromised P = (start : Start) (turns : List Turn) → IsPlain start → P (world_run values turns (opened_world start))
 
--- and over octets, where the turns were fresh
+-- and over octets
 abbrev pub IsPromisedOfOctets : (WorldState (List ℕ) → Type 0) → Type 0
-IsPromisedOfOctets P =
-    (start : Start) (turns : List Turn) → IsPlain start → AreFresh turns (opened_world start) → P (world_run octets turns (opened_world start))
+IsPromisedOfOctets P = (start : Start) (turns : List Turn) → IsPlain start → NumbersFit start → P (world_run octets turns (opened_world start))
 
--- after the end was told nothing comes by fresh turns
-abbrev pub NothingFollowsInOctets : Type 0
-NothingFollowsInOctets =
-    (start : Start) (turns more : List Turn) → IsPlain start → AreFresh (turns ++ more) (opened_world start)
-    → (was_told_end B (world_run octets turns (opened_world start)) ≡ true
-    → NothingCame A B (world_run octets turns (opened_world start)) (world_run octets more (world_run octets turns (opened_world start))))
-    × (was_told_end A (world_run octets turns (opened_world start)) ≡ true
-    → NothingCame B A (world_run octets turns (opened_world start)) (world_run octets more (world_run octets turns (opened_world start))))
+-- ---- so nothing that arrives is heard otherwise than it was meant
 
--- each fresh turn is one step or none
-abbrev pub FreshTurnsAreSteps : Type 0
-FreshTurnsAreSteps =
-    (start : Start) (turns : List Turn) (turn : Turn) → IsPlain start → AreFresh (turns ++ turn ∷ []) (opened_world start)
-    → IsOneStep A B (world_run octets turns (opened_world start)) (after_turn octets turn (world_run octets turns (opened_world start)))
-    × IsOneStep B A (world_run octets turns (opened_world start)) (after_turn octets turn (world_run octets turns (opened_world start)))
+-- every list of turns is fresh
+abbrev pub EveryListIsFresh : Type 0
+EveryListIsFresh = (start : Start) (turns : List Turn) → IsPlain start → NumbersFit start → AreFresh turns (opened_world start)
