@@ -35,7 +35,7 @@ abbrev valued : Start → List Turn → WorldState Carried
 valued start turns = world_run values turns (opened_world start)
 
 -- and shown over octets
-run_fresh : (start : Start) (turns : List Turn) → IsPlain start → NumbersFit start → world_run octets turns (opened_world start) ≡ shown_world (valued start turns)
+pub run_fresh : (start : Start) (turns : List Turn) → IsPlain start → NumbersFit start → world_run octets turns (opened_world start) ≡ shown_world (valued start turns)
 run_fresh start turns plain fit = run_shown start turns (every_list_is_fresh start turns plain fit)
 
 pub keep_their_word_in_octets : IsPromisedOfOctets BothKeepTheirWord
