@@ -17,7 +17,7 @@ changes_segments (Alter path from number) = true
 changes_segments (StripAll path from tick) = true
 changes_segments _ = false
 
--- a script whose lines drop, repeat and delay segments and end paths, but change none, and two files shorter than 2^31 - 2 octets
+-- a script by whose lines no segment is changed, and two files shorter than 2^31 - 2 octets
 pub record IsPlainScript (script : Script) (file_a file_b : List ℕ) : Type 0 where
   pub ranges : HasRanges script
   pub unchanged : list_any changes_segments script.lines ≡ false

@@ -1,7 +1,7 @@
 //! What holds of every connection, as clauses of functions that do nothing.
 ghost use Rattle.world_laws.specs.Laws.{AfterFreshTurns, Always, NothingDueIsLeft, SerialExists, SerialIsOne, StaysFine, OctetsDoAsValues, WritesTheFiles};
 ghost use Rattle.world_laws.specs.PlainScripts.{PlainScriptsKeepAllPromises, PlainScriptsStartPlainly};
-ghost use Rattle.world_laws.specs.Promises.{BothKeepTheirWord, EachTurnIsOneStep, EveryListIsFresh, IsPromised, IsPromisedOfOctets, KeysNeverDiffer, NothingFollows, NothingWasRefused};
+ghost use Rattle.world_laws.specs.Promises.{BothKeepTheirWord, EachTurnIsOneStep, EveryListIsFresh, IsPromised, IsPromisedOfOctets, KeysNeverDiffer, NothingFollows, NothingWasRefused, OctetsAreValuesShown};
 ghost use Rattle.world_laws.specs.RoundEnd.{GrantsAreDone, ReadersAreDone};
 ghost use Rattle.world_laws.specs.Timely.{EachRoundHasAStep};
 ghost use Rattle.world_laws.specs.Weaving.{RoundsWeave, StepsWeave, WovenDoes};
@@ -74,7 +74,8 @@ pub fn octets_do_as_values()
 /// octets at most, the path's number is 15 at most, and keys have 64 bits. So such a world over octets is always the world over
 /// segments as values, shown in octets.
 pub fn turns_are_fresh()
-    ensures { EveryListIsFresh }
+    ensures fresh { EveryListIsFresh }
+    ensures same { OctetsAreValuesShown }
 {}
 
 /// A law: at every moment, whatever the order of the steps, what a send book has as written is the front of its side's file,
