@@ -67,3 +67,7 @@ pub mod PromisesKept
 pub mod PromisesRuns
 pub mod PromisesMade
 pub mod PromisesOfScripts
+pub mod GrantingOnce
+pub mod PlacesKept
+pub mod PlacesSent
+pub mod PlacesAgree

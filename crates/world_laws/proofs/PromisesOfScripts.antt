@@ -17,6 +17,7 @@ use Rattle.path_core.specs.Shown.{ChangesNothing}
 use Rattle.path_core.specs.Starts.{key_of, first_mss}
 use Rattle.world_laws.specs.Openings.{start_of}
 use Rattle.world_laws.specs.PlainScripts.{changes_segments, PlainScriptsStartPlainly, PlainScriptsKeepAllPromises}
+use Rattle.world_laws.proofs.PlacesAgree.{mappings_agree_in_octets}
 use Rattle.world_laws.proofs.PromisesMade.{keep_their_word_in_octets, nothing_follows_in_octets, one_step_each_in_octets, nothing_refused_in_octets, keys_in_octets}
 
 -- ---- lines
@@ -84,4 +85,5 @@ plain_scripts_keep_all_promises script file_a file_b turns h =
       steps = one_step_each_in_octets start turns starts.0 starts.1;
       refused = nothing_refused_in_octets start turns starts.0 starts.1;
       keys = keys_in_octets start turns starts.0 starts.1;
+      mappings = mappings_agree_in_octets start turns starts.0 starts.1;
     }

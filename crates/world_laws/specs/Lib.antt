@@ -11,4 +11,6 @@ pub mod RoundEnd
 pub mod Weaving
 pub mod Promises
 pub mod PlainScripts
+pub mod Granted
+pub mod Agreement
 pub mod Laws

@@ -1,4 +1,6 @@
 //! What holds of every connection, as clauses of functions that do nothing.
+ghost use Rattle.world_laws.specs.Agreement.{MappingsAgree};
+ghost use Rattle.world_laws.specs.Granted.{GrantedOnce};
 ghost use Rattle.world_laws.specs.Laws.{AfterFreshTurns, Always, NothingDueIsLeft, SerialExists, SerialIsOne, StaysFine, OctetsDoAsValues, WritesTheFiles};
 ghost use Rattle.world_laws.specs.PlainScripts.{PlainScriptsKeepAllPromises, PlainScriptsStartPlainly};
 ghost use Rattle.world_laws.specs.Promises.{BothKeepTheirWord, EachTurnIsOneStep, EveryListIsFresh, IsPromised, IsPromisedOfOctets, KeysNeverDiffer, NothingFollows, NothingWasRefused, OctetsAreValuesShown};
@@ -132,8 +134,21 @@ pub fn nothing_is_refused()
 
 /// A law: a connection by a script that strips and alters nothing, with files shorter than 2^31 - 2 octets, starts plainly, with
 /// numbers that fit; so over octets it keeps every promise, in whatever order its actors go: both sides keep their word, nothing
-/// follows the end, each turn is on each pipe one step or none, nothing is refused, and keys never differ.
+/// follows the end, each turn is on each pipe one step or none, nothing is refused, keys never differ, and mappings agree.
 pub fn plain_scripts_keep_all_promises()
     ensures starts { PlainScriptsStartPlainly }
     ensures promises { PlainScriptsKeepAllPromises }
+{}
+
+/// A law: at every moment each byte of a stream was granted to a path once at most, by whichever steps of all actors.
+pub fn bytes_are_granted_once()
+    ensures octets { Always octets (λ start w. GrantedOnce w) }
+    ensures values { Always values (λ start w. GrantedOnce w) }
+{}
+
+/// A law: at every moment no mapping that an end of a path heard, and has still to treat, gives a position another place than the
+/// one that the end learned (RFC 8684, section 3.3.1). Premises as for `both_sides_keep_their_word`.
+pub fn mappings_agree()
+    ensures values { IsPromised MappingsAgree }
+    ensures octets { IsPromisedOfOctets MappingsAgree }
 {}
