@@ -250,8 +250,7 @@ module _ (start : Start) (can : IsPlain start) where
 -- ---- the law
 
 pub mappings_agree : IsPromised MappingsAgree
-mappings_agree start turns plain =
-    always_agree start plain turns
+mappings_agree start turns plain = always_agree start plain turns
 
 shown_agrees : (m : Actor Carried) → EndsAgree m → EndsAgree (shown_member m)
 shown_agrees (App a) h = tt

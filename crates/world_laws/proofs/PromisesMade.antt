@@ -6,7 +6,7 @@ use Rattle.path_core.specs.Octets.{octets}
 use Rattle.path_core.specs.Values.{Carried, values}
 use Rattle.world_laws.specs.Fresh.{shown_world}
 use Rattle.world_laws.specs.Openings.{Start, opened_world}
-use Rattle.world_laws.specs.Promises.{IsPlain, NumbersFit, was_told_end, BothKeepTheirWord, NothingCame, NothingFollows, IsOneStep, EachTurnIsOneStep, NothingWasRefused, KeysNeverDiffer, IsPromised, IsPromisedOfOctets}
+use Rattle.world_laws.specs.Promises.{IsPlain, NumbersFit, was_told_end, BothKeepTheirWord, NothingCame, NothingFollows, IsOneStep, EachTurnIsOneStep, NothingWasRefused, KeysNeverDiffer, IsPromised, IsPromisedOfOctets, OctetsAreValuesShown}
 use Rattle.world_laws.specs.Worlds.{WorldState, Turn, after_turn, world_run}
 use Rattle.world_laws.proofs.KeysAgree.{keys_never_differ}
 use Rattle.world_laws.proofs.PromisesRuns.{always_keep_word, never_follows, always_one_step, never_refused}
@@ -35,7 +35,7 @@ abbrev valued : Start → List Turn → WorldState Carried
 valued start turns = world_run values turns (opened_world start)
 
 -- and shown over octets
-pub run_fresh : (start : Start) (turns : List Turn) → IsPlain start → NumbersFit start → world_run octets turns (opened_world start) ≡ shown_world (valued start turns)
+pub run_fresh : OctetsAreValuesShown
 run_fresh start turns plain fit = run_shown start turns (every_list_is_fresh start turns plain fit)
 
 pub keep_their_word_in_octets : IsPromisedOfOctets BothKeepTheirWord

@@ -1,25 +1,23 @@
 -- Connections by scripts that strip and alter nothing keep all promises.
-use Rattle.std.proofs.Common.{◌≡◌, refl, ℕ, ◌+◌, ◌*◌, ◌^◌, ◌<◌, ◌≤◌, Bool, true, false, ◌||◌, cond, List, [], ◌∷◌, length, arith}
+use Rattle.std.proofs.Common.{◌≡◌, refl, ℕ, ◌+◌, ◌^◌, ◌<◌, ◌≤◌, Bool, true, false, cond, List, [], ◌∷◌, length, arith}
 use Rattle.std.specs.List.{list_any}
 use Rattle.std.specs.Prelude.{All}
 use Rattle.std.proofs.lemmas.Bool.{or_from, or_parts}
 use Rattle.std.proofs.lemmas.List.Elements.{All-head}
 use Rattle.outside_kit.specs.declared.side.Side.{Side}
 use Rattle.key_material.proofs.Bounds.{drawn_word_below}
-use Rattle.key_material.specs.Drawing.{drawn_word}
 use Rattle.link_model.specs.Fate.{is_stripped_by, is_altered_by}
 use Rattle.link_model.specs.Steps.{is_path, lines_of}
 use Rattle.link_script.specs.Places.{path_named}
 use Rattle.link_script.specs.declared.script.PathLine.{PathLine}
-use Rattle.link_script.specs.declared.script.Script.{Script}
 use Rattle.link_script.specs.declared.script.ScriptLine.{ScriptLine}
-use Rattle.link_script.specs.declared.script.ScriptLine.TheVariants.{Drop, Strip, Alter, Dup, Late, StripAll, Die, Prio, Add, Remove, FastClose}
+use Rattle.link_script.specs.declared.script.ScriptLine.TheVariants.{Strip, Alter, StripAll}
 use Rattle.link_script.specs.Scripts.{IsPath}
 use Rattle.path_core.specs.Shown.{ChangesNothing}
 use Rattle.path_core.specs.Starts.{key_of, first_mss}
 use Rattle.world_laws.specs.Openings.{start_of}
-use Rattle.world_laws.specs.PlainScripts.{changes_segments, IsPlainScript, PlainScriptsStartPlainly, PlainScriptsKeepAllPromises}
-use Rattle.world_laws.specs.Promises.{IsPlain, NumbersFit}
+use Rattle.world_laws.specs.PlainScripts.{changes_segments, PlainScriptsStartPlainly, PlainScriptsKeepAllPromises}
+use Rattle.world_laws.proofs.PlacesAgree.{mappings_agree_in_octets}
 use Rattle.world_laws.proofs.PromisesMade.{keep_their_word_in_octets, nothing_follows_in_octets, one_step_each_in_octets, nothing_refused_in_octets, keys_in_octets}
 
 -- ---- lines
@@ -87,4 +85,5 @@ plain_scripts_keep_all_promises script file_a file_b turns h =
       steps = one_step_each_in_octets start turns starts.0 starts.1;
       refused = nothing_refused_in_octets start turns starts.0 starts.1;
       keys = keys_in_octets start turns starts.0 starts.1;
+      mappings = mappings_agree_in_octets start turns starts.0 starts.1;
     }

@@ -147,9 +147,9 @@ pub fresh_or_far : (c : Profile) (s : Side) (x : Expected) (sg : PlainSegment) �
     → IsFresh c.spelling (spelled_by s) x sg ⊎ IsFarReset c.spelling (spelled_by s) x sg
 fresh_or_far c s x sg tells h = ⊎_elim
     (λ stray. ⊎_elim
-        (λ below. inl (fresh_at c s x sg sg.position tells (near_below x.edge sg.position h.edge below) h))
-        (λ ahead. inr (record { reset = stray.reset; acknowledging = stray.acknowledging; ahead = ahead; low = stray.low; others = fresh_at c s x sg x.edge tells (near x.edge x.edge h.edge h.edge) h }))
-        (cases_lt sg.position (x.edge + 2 ^ 31)))
+    (λ below. inl (fresh_at c s x sg sg.position tells (near_below x.edge sg.position h.edge below) h))
+    (λ ahead. inr (record { reset = stray.reset; acknowledging = stray.acknowledging; ahead = ahead; low = stray.low; others = fresh_at c s x sg x.edge tells (near x.edge x.edge h.edge h.edge) h }))
+    (cases_lt sg.position (x.edge + 2 ^ 31)))
     (λ short. inl (fresh_at c s x sg sg.position tells (near x.edge sg.position h.edge short) h))
     tells.position
 

@@ -1,29 +1,27 @@
 -- What each duty's reply leaves of the numbers that a path's ends and copies tell.
-use Rattle.std.proofs.Common.{◌≡◌, refl, sym, ap, subst, ℕ, suc, ◌+◌, ◌-◌, ◌^◌, ◌<◌, ◌≤◌, min, ◌&&◌, nat_lt, not, Bool, true, false, if◌then◌else◌, Option, Some, None, Result, Ok, Err, List, [], ◌∷◌, length, take, drop, arith}
+use Rattle.std.proofs.Common.{◌≡◌, refl, ap, subst, ℕ, suc, ◌+◌, ◌-◌, ◌^◌, ◌<◌, ◌≤◌, min, ◌&&◌, nat_lt, not, Bool, true, false, if◌then◌else◌, Option, Some, None, Result, Ok, Err, List, [], length, take, drop, arith}
 use Rattle.std.proofs.lemmas.Bool.{and_parts, and_from, ltb-true}
 use Rattle.std.proofs.lemmas.List.{length-take, length-drop}
-use Rattle.std.specs.List.{list_all}
 use Rattle.std.specs.Option.{IfSome}
 use Rattle.outside_kit.specs.declared.side.Side.{Side}
 use Rattle.outside_kit.specs.declared.side.Side.TheVariants.{A, B}
 use Rattle.link_model.specs.Steps.{peer}
 use Rattle.path_segments.specs.Spelled.{PlainSegment}
 use Rattle.reassembly_book.specs.Steps.{next_wanted, window}
-use Rattle.send_book.specs.declared.call.SendCall.TheVariants.{Grant, AckIn}
+use Rattle.send_book.specs.declared.call.SendCall.TheVariants.{Grant}
 use Rattle.send_book.specs.declared.call.SendReply.{SendReply}
 use Rattle.send_book.specs.declared.call.SendReply.TheVariants as send_replies
 use Rattle.send_book.specs.declared.call.Span.{Span}
 use Rattle.send_book.specs.declared.call.Why.{Why}
 use Rattle.send_book.specs.State.{Sending as SendBook}
 use Rattle.send_book.specs.Steps.{decision, reply_by, given_by, grant_reply, end_of, part_of, ack_reply}
-use Rattle.send_book.proofs.Decisions.{MayTake, decision-MayTake}
+use Rattle.send_book.proofs.Decisions.{decision-MayTake}
 use Rattle.fallback_state.specs.declared.fall.Event.TheVariants as events
 use Rattle.subflow_send.specs.Records.{Record}
 use Rattle.subflow_send.specs.Rules.{is_unsent}
 use Rattle.subflow_tcp.specs.declared.segments.Occasion.{Occasion}
 use Rattle.subflow_tcp.specs.declared.segments.Occasion.TheVariants as to_send
 use Rattle.subflow_tcp.specs.Closing.{after_finishing}
-use Rattle.subflow_tcp.specs.Emitting.{fin_position}
 use Rattle.subflow_tcp.specs.State.{has_records}
 use Rattle.subflow_tcp.specs.States as states
 use Rattle.stream_lanes.specs.Holding.{Holds, LaneHolds}
@@ -31,7 +29,7 @@ use Rattle.stream_lanes.specs.Lane.{Lane}
 use Rattle.stream_lanes.specs.Lane.Ask.{AskPlace}
 use Rattle.stream_lanes.specs.Laws.{LaneIsShort}
 use Rattle.stream_lanes.specs.Streams.{Reader}
-use Rattle.stream_lanes.specs.View.{View, view_of}
+use Rattle.stream_lanes.specs.View.{view_of}
 use Rattle.stream_lanes.proofs.Promises.{paths_short}
 use Rattle.actor_desk.specs.declared.ask.Ask.{Ask}
 use Rattle.actor_desk.specs.declared.ask.Ask.TheVariants as asks
@@ -48,21 +46,20 @@ use Rattle.path_agenda.specs.Agenda.{leaves, resets, breaks}
 use Rattle.path_agenda.specs.Items.{key_heard, keys_heard}
 use Rattle.path_agenda.specs.Words.{replaced}
 use Rattle.path_core.specs.Breaking.{reset_of, reset_on, break_ask, answered_break}
-use Rattle.path_core.specs.Closing.{owes_end, with_end_sent}
+use Rattle.path_core.specs.Closing.{owes_end}
 use Rattle.path_core.specs.Duties.{stands, ask_for, answered}
 use Rattle.path_core.specs.Emission.{payload_size, first_unsent, unsent_segment, data_stands, data_ask, answered_data, grant_in, granted, refused, answered_grant, end_segment, having_sent_end, answered_end, fin_segment_of, having_sent_fin, answered_fin}
 use Rattle.path_core.specs.Ends.{PathEnd}
 use Rattle.path_core.specs.Events.{next_event, died}
-use Rattle.path_core.specs.Opening.{peer_key_ask, with_peer_key, keys_ask, after_keys, syn_ack_of}
-use Rattle.path_core.specs.Passing.{having_asked, with_peer_end, piece_ask, answered_piece, is_placed, piece_of, fin_of, fin_ask, answered_fin_heard, is_fin_set, rate_ask, after_rate, first_record, first_segment, answer_of, answer_occasion, dead_answer, answered_dead, resend_occasion, resend_of, answered_resend}
+use Rattle.path_core.specs.Opening.{with_peer_key, keys_ask, after_keys, syn_ack_of}
+use Rattle.path_core.specs.Passing.{having_asked, with_peer_end, piece_ask, answered_piece, is_placed, piece_of, fin_of, fin_ask, answered_fin_heard, is_fin_set, rate_ask, after_rate, first_record, first_segment, answer_of, answer_occasion, dead_answer, answered_dead, resend_occasion, resend_of}
 use Rattle.path_core.specs.Placing.{Piece, after_piece, with_learned}
 use Rattle.path_core.specs.Segments.{ack_said, syn_ack_said, record_or_ack}
 use Rattle.path_core.specs.Sends.{sends, having_sent, sent_on}
 use Rattle.path_core.specs.Standing.{look_ask, after_look, ack_out_ask, after_ack_out, answered_ack_out, ack_segment}
 use Rattle.path_core.specs.State.{PathState, Profile, end_at, goes_on, left, path_of, with_agenda}
-use Rattle.path_core.specs.Treating.{fell_ask, after_verdict, is_clash, told_next, is_acked, mapping_ask, answered_mapping, heard_ask, answered_heard, answered_ack, with_acked, with_fin, item_ask, answered_item, item_of}
+use Rattle.path_core.specs.Treating.{fell_ask, after_verdict, is_clash, told_next, is_acked, mapping_ask, answered_mapping, heard_ask, answered_heard, with_acked, with_fin, item_ask, answered_item, item_of}
 use Rattle.path_core.specs.Values.{Carried, values}
-use Rattle.path_core.specs.Words.{item_at}
 use Rattle.world_laws.proofs.Ending.{unfinished_if}
 use Rattle.world_laws.proofs.Lanes.{duo_of, call_events}
 use Rattle.world_laws.proofs.Placing.{NextPiece, piece_from, at_edge, wants_piece}

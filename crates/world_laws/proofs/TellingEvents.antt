@@ -1,6 +1,5 @@
 -- What happens on a path by itself leaves the numbers that its ends and its copies tell small.
-use Rattle.std.proofs.Common.{◌≡◌, refl, sym, subst, ℕ, zero, suc, ◌+◌, ◌&&◌, Bool, true, false, if◌then◌else◌, Option, Some, None, List, [], ◌∷◌, ◌++◌, length, find, position}
-use Rattle.std.specs.List.{list_all}
+use Rattle.std.proofs.Common.{◌≡◌, refl, ℕ, zero, suc, ◌+◌, Bool, true, false, if◌then◌else◌, Option, Some, None, List, [], ◌∷◌, ◌++◌, length, find, position}
 use Rattle.std.specs.Option.{IfSome}
 use Rattle.std.proofs.lemmas.Bool.{false≢true}
 use Rattle.outside_kit.specs.declared.side.Side.{Side}
@@ -10,13 +9,11 @@ use Rattle.link_model.specs.declared.flight.Flight.{Flight}
 use Rattle.link_model.specs.Steps.{is_due, arriving, after_delivery}
 use Rattle.link_script.specs.Places.{same_side}
 use Rattle.path_segments.specs.Laws.{meant}
-use Rattle.path_segments.specs.Spelled.{PlainSegment}
 use Rattle.subflow_tcp.specs.declared.verdicts.Meaning.{Meaning}
 use Rattle.subflow_tcp.specs.declared.verdicts.Meaning.TheVariants as means
 use Rattle.subflow_tcp.specs.Expiring.{is_sixth}
 use Rattle.subflow_tcp.specs.Judging.{meaning_of}
 use Rattle.subflow_tcp.specs.States.{is_dead}
-use Rattle.stream_lanes.specs.Words.{Every}
 use Rattle.stream_lanes.proofs.Lists.{Every-nil}
 use Rattle.actor_desk.specs.Words.{tail_of}
 use Rattle.path_agenda.specs.declared.duty.Duty.{Duty}
@@ -26,15 +23,14 @@ use Rattle.path_core.specs.declared.event.Event.{Event}
 use Rattle.path_core.specs.declared.event.Event.TheVariants as happenings
 use Rattle.path_core.specs.Arriving.{copy_of, items_of, after_meaning, template_by, template_of}
 use Rattle.path_core.specs.Ends.{PathEnd}
-use Rattle.path_core.specs.Events.{is_death, at_tick, path_died, after_line, line_taken, heard_in, copy_heard, copy_taken, after_firing, template_fired, timer_fired, happens, happens_if}
-use Rattle.path_core.specs.State.{PathState, Profile, end_at, goes_on, with_agenda}
+use Rattle.path_core.specs.Events.{is_death, at_tick, after_line, heard_in, copy_heard, copy_taken, after_firing, template_fired, timer_fired, happens, happens_if}
+use Rattle.path_core.specs.State.{PathState, Profile, end_at}
 use Rattle.path_core.specs.Values.{Carried, values}
 use Rattle.world_laws.proofs.Happening.{without_kept, found_due, side_is}
 use Rattle.world_laws.proofs.Records.{every_find}
-use Rattle.world_laws.proofs.Telling.{SegmentTells, EndTells}
 use Rattle.world_laws.proofs.TellingArrivals.{arrived_tells}
 use Rattle.world_laws.proofs.TellingRules.{died_unless_tells, fired_tells}
-use Rattle.world_laws.proofs.TellingSteps.{CopyTells, is_fair, AreFair, PathTells, tells_at, tells_on, tells_agenda}
+use Rattle.world_laws.proofs.TellingSteps.{CopyTells, AreFair, PathTells, tells_at, tells_on, tells_agenda}
 
 -- ---- templates
 

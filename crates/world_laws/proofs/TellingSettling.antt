@@ -1,12 +1,11 @@
 -- The duties that come to nothing leave the numbers that a path tells small, and so does a turn of the path.
-use Rattle.std.proofs.Common.{◌≡◌, refl, ℕ, suc, ◌+◌, ◌^◌, ◌≤◌, ◌&&◌, Bool, true, false, if◌then◌else◌, Option, Some, None, List, [], ◌∷◌, length, arith}
+use Rattle.std.proofs.Common.{◌≡◌, refl, ℕ, ◌+◌, ◌^◌, ◌≤◌, Bool, true, false, if◌then◌else◌, Option, Some, None, List, [], ◌∷◌, length, arith}
 use Rattle.std.proofs.lemmas.Bool.{and_parts, eqb-true, false≢true}
 use Rattle.std.specs.List.{list_all}
 use Rattle.std.specs.Option.{IfSome}
 use Rattle.outside_kit.specs.declared.side.Side.{Side}
 use Rattle.link_model.specs.Steps.{peer}
 use Rattle.dss_mapping.specs.Mappings.{mapping_at}
-use Rattle.subflow_tcp.specs.Closing.{is_fin_next}
 use Rattle.subflow_tcp.specs.Judging.{is_at}
 use Rattle.stream_lanes.specs.Holding.{Holds}
 use Rattle.stream_lanes.specs.Lane.{Lane}
@@ -28,11 +27,10 @@ use Rattle.path_core.specs.Steps.{settled}
 use Rattle.path_core.specs.Treating.{counts, with_fin, after_keep, heard_passed, item_passed, item_of}
 use Rattle.path_core.specs.Values.{Carried}
 use Rattle.world_laws.proofs.Lanes.{duo_of}
-use Rattle.world_laws.proofs.Replying.{every_item}
 use Rattle.world_laws.proofs.Settling.{passes}
-use Rattle.world_laws.proofs.Showing.{HasFin, EndShows, PathShows}
+use Rattle.world_laws.proofs.Showing.{HasFin, PathShows}
 use Rattle.world_laws.proofs.Strolling.{Strolled, side_shows, strolls_held}
-use Rattle.world_laws.proofs.Telling.{IsShort, ItemTells, EndTells}
+use Rattle.world_laws.proofs.Telling.{IsShort, EndTells}
 use Rattle.world_laws.proofs.TellingRules as rules
 use Rattle.world_laws.proofs.TellingSteps.{is_fair, AreFair, PathTells, BooksAreShort, back_short, tells_at, tells_on, tells_agenda}
 

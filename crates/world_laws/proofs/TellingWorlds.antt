@@ -6,10 +6,8 @@ use Rattle.std.specs.List.{slice_get}
 use Rattle.std.specs.Option.{IfSome}
 use Rattle.outside_kit.specs.declared.side.Side.{Side}
 use Rattle.outside_kit.specs.declared.side.Side.TheVariants.{A, B}
-use Rattle.link_model.specs.declared.flight.Due.{Due}
 use Rattle.link_model.specs.declared.flight.Flight.{Flight}
 use Rattle.link_model.specs.Steps.{arriving}
-use Rattle.path_segments.specs.HeardLent.{IsExpected}
 use Rattle.reassembly_book.specs.declared.call.ReassemblyCall.{ReassemblyCall}
 use Rattle.reassembly_book.specs.declared.call.ReassemblyCall.TheVariants as calls
 use Rattle.reassembly_book.specs.State.{Arriving}
@@ -36,8 +34,6 @@ use Rattle.path_agenda.specs.Agenda.{start_of_turn}
 use Rattle.path_core.specs.Arriving.{expected_by}
 use Rattle.path_core.specs.Duties.{stands, ask_for, answered}
 use Rattle.path_core.specs.Ends.{opening_end}
-use Rattle.path_core.specs.Events.{next_event}
-use Rattle.path_core.specs.declared.event.Event.TheVariants as happenings
 use Rattle.path_core.specs.Shown.{IsFreshCopy, NextIsFresh}
 use Rattle.path_core.specs.Starts.{first_turn}
 use Rattle.path_core.specs.State.{PathState, Profile, end_at, with_agenda}
@@ -46,7 +42,7 @@ use Rattle.path_core.specs.Turns.{FirstStands}
 use Rattle.path_core.specs.Values.{Carried, values}
 use Rattle.world_laws.specs.declared.member.Member.TheVariants.{App, Path}
 use Rattle.world_laws.specs.Actors.{Actor, ActorCrew}
-use Rattle.world_laws.specs.Fresh.{IsFreshCrew, IsFreshTurn, AreFresh}
+use Rattle.world_laws.specs.Fresh.{IsFreshTurn, AreFresh}
 use Rattle.world_laws.specs.Openings.{Start, opened_world}
 use Rattle.world_laws.specs.Promises.{IsPlain, NumbersFit, EveryListIsFresh}
 use Rattle.world_laws.specs.StampedBooks.{answer_to}
@@ -59,7 +55,7 @@ use Rattle.world_laws.proofs.Lanes.{duo_of, WorldShows, Reached}
 use Rattle.world_laws.proofs.Showing.{PathShows}
 use Rattle.world_laws.proofs.Sides.{Answered}
 use Rattle.world_laws.proofs.Stepping.{duty_step}
-use Rattle.world_laws.proofs.Telling.{IsShort, IsKey, EndTells, expected_from, expected_shortly, fresh_or_far}
+use Rattle.world_laws.proofs.Telling.{IsKey, EndTells, expected_from, expected_shortly, fresh_or_far}
 use Rattle.world_laws.proofs.TellingDuties.{after_holds, duty_tells}
 use Rattle.world_laws.proofs.TellingEvents.{due_tells}
 use Rattle.world_laws.proofs.TellingSettling.{settled_tells}

@@ -6,6 +6,7 @@ use Rattle.link_script.specs.declared.script.ScriptLine.{ScriptLine}
 use Rattle.link_script.specs.declared.script.ScriptLine.TheVariants.{Strip, Alter, StripAll}
 use Rattle.link_script.specs.Scripts.{HasRanges}
 use Rattle.path_core.specs.Octets.{octets}
+use Rattle.world_laws.specs.Agreement.{MappingsAgree}
 use Rattle.world_laws.specs.Openings.{opened_world, start_of}
 use Rattle.world_laws.specs.Promises.{IsPlain, NumbersFit, BothKeepTheirWord, NothingFollows, EachTurnIsOneStep, NothingWasRefused, KeysNeverDiffer}
 use Rattle.world_laws.specs.Worlds.{WorldState, Turn, world_run}
@@ -17,7 +18,7 @@ changes_segments (Alter path from number) = true
 changes_segments (StripAll path from tick) = true
 changes_segments _ = false
 
--- a script whose lines drop, repeat and delay segments and end paths, but change none, and two files shorter than 2^31 - 2 octets
+-- a script by whose lines no segment is changed, and two files shorter than 2^31 - 2 octets
 pub record IsPlainScript (script : Script) (file_a file_b : List ℕ) : Type 0 where
   pub ranges : HasRanges script
   pub unchanged : list_any changes_segments script.lines ≡ false
@@ -36,6 +37,7 @@ pub record KeepsAllPromises (w : WorldState (List ℕ)) : Type 0 where
   pub steps : EachTurnIsOneStep octets w
   pub refused : NothingWasRefused w
   pub keys : KeysNeverDiffer w
+  pub mappings : MappingsAgree w
 
 -- so it keeps all promises, whatever the order of the steps
 abbrev pub PlainScriptsKeepAllPromises : Type 0

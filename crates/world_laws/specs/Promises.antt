@@ -1,6 +1,6 @@
 -- What a connection promises at every moment, whatever the order of the steps: of each direction, from a writer's side to the
 -- reader's.
-use Rattle.std.specs.Prelude.{ℕ, ◌≡◌, ◌-◌, ◌^◌, ◌<◌, ◌≤◌, Bool, true, false, List, [], ◌∷◌, ◌++◌, length}
+use Rattle.std.specs.Prelude.{ℕ, ◌≡◌, ◌-◌, ◌^◌, ◌<◌, ◌≤◌, Bool, true, false, List, length}
 use Rattle.outside_kit.specs.declared.side.Side.{Side}
 use Rattle.outside_kit.specs.declared.side.Side.TheVariants.{A, B}
 use Rattle.pipe_model.specs.Prefix.{IsPrefix}
@@ -19,7 +19,7 @@ use Rattle.path_core.specs.Codec.{Codec}
 use Rattle.path_core.specs.Octets.{octets}
 use Rattle.path_core.specs.Shown.{ChangesNothing}
 use Rattle.path_core.specs.Values.{Carried, values}
-use Rattle.world_laws.specs.Fresh.{AreFresh}
+use Rattle.world_laws.specs.Fresh.{AreFresh, shown_world}
 use Rattle.world_laws.specs.Openings.{Start, opened_world}
 use Rattle.world_laws.specs.Outcomes.{tells_end, was_told, notes_at, notes_of, output_of, pipe_of}
 use Rattle.world_laws.specs.Worlds.{WorldState, Turn, after_turn, world_run}
@@ -114,3 +114,9 @@ IsPromisedOfOctets P = (start : Start) (turns : List Turn) → IsPlain start →
 -- every list of turns is fresh
 abbrev pub EveryListIsFresh : Type 0
 EveryListIsFresh = (start : Start) (turns : List Turn) → IsPlain start → NumbersFit start → AreFresh turns (opened_world start)
+
+-- so a world over octets is the world over segments as values, shown in octets
+abbrev pub OctetsAreValuesShown : Type 0
+OctetsAreValuesShown =
+    (start : Start) (turns : List Turn) → IsPlain start → NumbersFit start
+    → world_run octets turns (opened_world start) ≡ shown_world (world_run values turns (opened_world start))

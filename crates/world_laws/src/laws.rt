@@ -3,7 +3,7 @@ ghost use Rattle.world_laws.specs.Agreement.{MappingsAgree};
 ghost use Rattle.world_laws.specs.Granted.{GrantedOnce};
 ghost use Rattle.world_laws.specs.Laws.{AfterFreshTurns, Always, NothingDueIsLeft, SerialExists, SerialIsOne, StaysFine, OctetsDoAsValues, WritesTheFiles};
 ghost use Rattle.world_laws.specs.PlainScripts.{PlainScriptsKeepAllPromises, PlainScriptsStartPlainly};
-ghost use Rattle.world_laws.specs.Promises.{BothKeepTheirWord, EachTurnIsOneStep, EveryListIsFresh, IsPromised, IsPromisedOfOctets, KeysNeverDiffer, NothingFollows, NothingWasRefused};
+ghost use Rattle.world_laws.specs.Promises.{BothKeepTheirWord, EachTurnIsOneStep, EveryListIsFresh, IsPromised, IsPromisedOfOctets, KeysNeverDiffer, NothingFollows, NothingWasRefused, OctetsAreValuesShown};
 ghost use Rattle.world_laws.specs.RoundEnd.{GrantsAreDone, ReadersAreDone};
 ghost use Rattle.world_laws.specs.Timely.{EachRoundHasAStep};
 ghost use Rattle.world_laws.specs.Weaving.{RoundsWeave, StepsWeave, WovenDoes};
@@ -76,7 +76,8 @@ pub fn octets_do_as_values()
 /// octets at most, the path's number is 15 at most, and keys have 64 bits. So such a world over octets is always the world over
 /// segments as values, shown in octets.
 pub fn turns_are_fresh()
-    ensures { EveryListIsFresh }
+    ensures fresh { EveryListIsFresh }
+    ensures same { OctetsAreValuesShown }
 {}
 
 /// A law: at every moment, whatever the order of the steps, what a send book has as written is the front of its side's file,
@@ -133,7 +134,7 @@ pub fn nothing_is_refused()
 
 /// A law: a connection by a script that strips and alters nothing, with files shorter than 2^31 - 2 octets, starts plainly, with
 /// numbers that fit; so over octets it keeps every promise, in whatever order its actors go: both sides keep their word, nothing
-/// follows the end, each turn is on each pipe one step or none, nothing is refused, and keys never differ.
+/// follows the end, each turn is on each pipe one step or none, nothing is refused, keys never differ, and mappings agree.
 pub fn plain_scripts_keep_all_promises()
     ensures starts { PlainScriptsStartPlainly }
     ensures promises { PlainScriptsKeepAllPromises }
