@@ -23,6 +23,7 @@ use Rattle.control_book.specs.declared.call.ControlCall.{ControlCall}
 use Rattle.control_book.specs.declared.call.ControlCall.TheVariants as control_calls
 use Rattle.control_book.specs.declared.call.ControlReply.{ControlReply}
 use Rattle.control_book.specs.declared.call.ControlReply.TheVariants as control_replies
+use Rattle.control_book.specs.SameAddress.{is_same}
 use Rattle.control_book.specs.Control.{Control}
 use Rattle.control_book.specs.Replies as control
 use Rattle.actor_desk.specs.declared.ask.Ask.TheVariants as asks
@@ -131,7 +132,7 @@ control_kind c (control_calls.Rate path window rtt) = tt
 control_kind c (control_calls.Announce id) = tt
 control_kind c (control_calls.Withdraw id) = tt
 control_kind c (control_calls.Heard id address port hmac) =
-    told_kind id address port hmac (heard_reply id address (control.is_right id address port hmac c) c.addresses)
+    told_kind id address port hmac (heard_reply is_same id address (control.is_right id address port hmac c) c.addresses)
 control_kind c (control_calls.Echoed id) = tt
 control_kind c (control_calls.Removed id) = tt
 control_kind c control_calls.FastClose = tt

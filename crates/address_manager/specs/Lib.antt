@@ -1,4 +1,3 @@
 pub mod IdSet
-pub mod SameAddress
 pub mod Addresses
 pub mod Steps

@@ -1,9 +1,7 @@
-ghost use Rattle.address_manager.specs.SameAddress.{is_same};
 ghost use Rattle.std.specs.Prelude.{◌≡◌, true, false, OnOk, OnErr, IfOk, slice_set};
 
 use crate::id_set::IdSet;
 use indexmap::IndexMap;
-use key_material::Address;
 use std::alloc::{AllocError, Global};
 use std::marker::Model;
 
@@ -18,28 +16,29 @@ pub enum Heard {
     Known,
 }
 
-/// The addresses that a side announced and that it keeps of the peer, by their ids, and the paths that are backups.
+/// The addresses that a side announced and that it keeps of the peer, by their ids, and the paths that are backups. An
+/// address is of any type `A` whose `==` tells whether two of them are one.
 #[derive(Drop)]
-pub struct AddressManager {
+pub struct AddressManager<A> {
     /// What this side announced.
-    announced: IndexMap<u8, Address>,
+    announced: IndexMap<u8, A>,
     /// What the peer announced, in the order in which it was first kept.
-    kept: IndexMap<u8, Address>,
+    kept: IndexMap<u8, A>,
     /// The ids whose announcements have not ended.
     due: IdSet,
     /// The paths that are backups.
     backups: IdSet,
 }
 
-impl Model for AddressManager {
+impl<A> Model for AddressManager<A> {
     ghost use Rattle.address_manager.specs.Addresses.{Addresses};
 
-    ghost Value = { Addresses };
+    ghost Value = { Addresses A };
 
     ghost view = { λ m. record { announced = m.announced.entries; kept = m.kept.entries; due = m.due; backups = m.backups } };
 }
 
-impl AddressManager {
+impl<A: Copy + Eq> AddressManager<A> {
     ghost use Rattle.address_manager.specs.Addresses.{no_addresses, knows};
     ghost use Rattle.address_manager.specs.IdSet.{is_member, lowest};
     ghost use Rattle.address_manager.specs.Steps.{after_announce, heard_reply, after_heard, after_removed};
@@ -58,7 +57,7 @@ impl AddressManager {
 
     /// Announces an address under an id, until [`AddressManager::echoed`] or [`AddressManager::removed`] of that id. An
     /// address of that id that was announced before is replaced. Where there is no memory, all is as before.
-    pub fn announce(&mut self, id: u8, address: Address) -> Result<(), AllocError>
+    pub fn announce(&mut self, id: u8, address: A) -> Result<(), AllocError>
         ensures ok { OnOk result (self.new ≡ after_announce id address self.old) }
         ensures err { OnErr result (self.new ≡ self.old) }
     {
@@ -69,8 +68,8 @@ impl AddressManager {
 
     /// Takes an address that the peer announced under an id; `right` tells whether its HMAC is right. A right one is kept,
     /// in place of another one of that id. Where there is no memory, all is as before (RFC 8684, section 3.4.1).
-    pub fn heard(&mut self, id: u8, address: Address, right: bool) -> Result<Heard, AllocError>
-        ensures reply { IfOk result (λ reply. reply ≡ heard_reply id address right self.old) }
+    pub fn heard(&mut self, id: u8, address: A, right: bool) -> Result<Heard, AllocError>
+        ensures reply { IfOk result (λ reply. reply ≡ heard_reply A.eq id address right self.old) }
         ensures ok { OnOk result (self.new ≡ after_heard id address right self.old) }
         ensures err { OnErr result (self.new ≡ self.old) }
     {
@@ -82,14 +81,14 @@ impl AddressManager {
     }
 
     /// What [`AddressManager::heard`] answers to these.
-    pub fn answer(&self, id: u8, address: Address, right: bool) -> Heard
-        ensures { result ≡ heard_reply id address right self.now }
+    pub fn answer(&self, id: u8, address: A, right: bool) -> Heard
+        ensures { result ≡ heard_reply A.eq id address right self.now }
     {
         if !right {
             return Heard::BadHmac;
         }
         match self.kept.get(&id) {
-            Some(kept) if is_same(kept, &address) => Heard::Known,
+            Some(kept) if *kept == address => Heard::Known,
             _ => Heard::Echo,
         }
     }
@@ -138,16 +137,5 @@ impl AddressManager {
         ensures { result ≡ is_member self.now.backups path }
     {
         self.backups.contains(path)
-    }
-}
-
-/// Whether two addresses are one.
-fn is_same(one: &Address, other: &Address) -> bool
-    ensures { result ≡ is_same one.now other.now }
-{
-    match (one, other) {
-        (Address::V4(one), Address::V4(other)) => one == other,
-        (Address::V6(one), Address::V6(other)) => one == other,
-        _ => false,
     }
 }

@@ -1,10 +1,16 @@
 use super::*;
-use key_material::Address;
 use std::test::Fail;
 
-const NEW: Address = Address::V4([10, 0, 7, 2]);
+/// An address as the tests have it: a host and a port.
+#[derive(Clone, Copy, Debug, PartialEq, Eq)]
+struct Place {
+    host: u32,
+    port: u16,
+}
 
-const OLD: Address = Address::V4([10, 0, 7, 3]);
+const NEW: Place = Place { host: 7, port: 2 };
+
+const OLD: Place = Place { host: 7, port: 3 };
 
 /// An announcement ends with its echo; the address stays an announced one until it is removed.
 #[test]

@@ -1,5 +1,5 @@
 -- What one call keeps, and so every list of calls.
-use Rattle.std.proofs.Common.{◌≡◌, ◌≢◌, ℕ, ◌<◌, ◌≤◌, ◌⊎◌, inl, inr, Bool, true, false, List, [], ◌∷◌, length, Option, Some, None, get_or, set, refl, sym, ap, ◌∙◌, subst, eq-eqb, get_or-set_same, get_or-set_other}
+use Rattle.std.proofs.Common.{◌≡◌, ◌≢◌, ℕ, inl, inr, Bool, true, false, List, [], ◌∷◌, length, Option, Some, None, get_or, set, refl, sym, ap, ◌∙◌, subst, eq-eqb, get_or-set_same, get_or-set_other}
 use Rattle.std.specs.Prelude.{not, ◌&&◌, ◌||◌, ◌==◌, if◌then◌else◌}
 use Rattle.std.specs.List.{list_any}
 use Rattle.std.proofs.Math.Bool.{or-true}
@@ -12,6 +12,7 @@ use Rattle.fallback_state.specs.declared.fall.Event.{Event}
 use Rattle.fallback_state.specs.declared.fall.Event.TheVariants.{KeysHeard}
 use Rattle.fallback_state.specs.Table.{fall_step}
 use Rattle.fallback_state.proofs.Steps.{standing, aborted_kept}
+use Rattle.key_material.specs.declared.address.Address.{Address}
 use Rattle.address_manager.specs.Addresses.{Addresses}
 use Rattle.address_manager.specs.IdSet.{is_member}
 use Rattle.control_book.specs.declared.registry.PathState.{PathState}
@@ -245,7 +246,7 @@ member_set ids place id member keeps is =
       | inr past ↦ ap (λ (xs : List Bool). is_member xs id) (set_past ids place member past) ∙ is
     ]
 
-either_addresses : (P : Addresses → Type 0) (b : Bool) (one other : Addresses) → P one → P other → P (if b then one else other)
+either_addresses : (P : Addresses Address → Type 0) (b : Bool) (one other : Addresses Address) → P one → P other → P (if b then one else other)
 either_addresses P true one other p q = p
 either_addresses P false one other p q = q
 

@@ -3,6 +3,7 @@ use Rattle.std.specs.Prelude.{ℕ, ◌==◌, Bool, false, List, Option, Some, No
 use Rattle.outside_kit.specs.declared.side.Side.{Side}
 use Rattle.fallback_state.specs.declared.fall.Fall.{Fall}
 use Rattle.fallback_state.specs.Fall.{opening as fall_opening}
+use Rattle.key_material.specs.declared.address.Address.{Address}
 use Rattle.address_manager.specs.Addresses.{Addresses, no_addresses}
 use Rattle.address_manager.specs.IdSet.{no_ids}
 use Rattle.control_book.specs.declared.registry.PathState.{PathState}
@@ -20,7 +21,7 @@ pub record Control : Type 0 where
   -- its paths
   pub paths : List PathState
   -- the addresses, and the backups
-  pub addresses : Addresses
+  pub addresses : Addresses Address
   -- the carrier of a fast close, and the addresses to be taken back
   pub notices : Notices
 

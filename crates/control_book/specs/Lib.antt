@@ -1,4 +1,5 @@
 pub mod Registry
+pub mod SameAddress
 pub mod Control
 pub mod Calls
 pub mod Replies

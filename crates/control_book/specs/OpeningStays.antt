@@ -1,6 +1,5 @@
 -- No call changes which side the book is of, nor the side's own key.
 use Rattle.std.specs.Prelude.{◌≡◌, ℕ, Bool, true, false, if◌then◌else◌, refl}
-use Rattle.outside_kit.specs.declared.side.Side.{Side}
 use Rattle.control_book.specs.declared.call.ControlCall.{ControlCall}
 use Rattle.control_book.specs.declared.call.ControlCall.TheVariants as call
 use Rattle.control_book.specs.declared.call.Notice.{Notice}

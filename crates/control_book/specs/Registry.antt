@@ -1,5 +1,5 @@
 -- The paths of a side, by their numbers 0 to 15.
-use Rattle.std.specs.Prelude.{ℕ, ◌==◌, Bool, true, false, not, ◌&&◌, ◌||◌, if◌then◌else◌, List, [], ◌∷◌, Option, Some, None, position, slice_set, slice_index_or}
+use Rattle.std.specs.Prelude.{ℕ, ◌==◌, Bool, true, false, not, ◌&&◌, if◌then◌else◌, List, [], ◌∷◌, Option, Some, None, position, slice_set, slice_index_or}
 use Rattle.std.specs.List.{list_any, filter_map}
 use Rattle.linked_increase.specs.declared.rows.Row.{Row}
 use Rattle.address_manager.specs.IdSet.{is_member}

@@ -1,5 +1,5 @@
 -- What a side's control book answers: one definition for each call that has an answer of its own.
-use Rattle.std.specs.Prelude.{ℕ, ◌==◌, Bool, true, false, not, ◌&&◌, ◌||◌, if◌then◌else◌, Option, Some, None, is_some}
+use Rattle.std.specs.Prelude.{ℕ, ◌==◌, Bool, true, false, not, ◌&&◌, ◌||◌, if◌then◌else◌, Option, Some, None}
 use Rattle.key_material.specs.declared.address.Address.{Address}
 use Rattle.key_material.specs.KeyDigest.{token_of}
 use Rattle.key_material.specs.AddressHmac.{add_addr64_of}
@@ -10,7 +10,6 @@ use Rattle.fallback_state.specs.declared.fall.Event.{Event}
 use Rattle.fallback_state.specs.Table.{fall_step}
 use Rattle.address_manager.specs.declared.manager.Heard.{Heard}
 use Rattle.address_manager.specs.declared.manager.Heard.TheVariants as heard
-use Rattle.address_manager.specs.Addresses.{knows}
 use Rattle.address_manager.specs.IdSet.{lowest}
 use Rattle.address_manager.specs.Steps.{heard_reply}
 use Rattle.control_book.specs.declared.call.ControlCall.{ControlCall}
@@ -20,6 +19,7 @@ use Rattle.control_book.specs.declared.call.ControlReply.TheVariants as reply
 use Rattle.control_book.specs.declared.call.Notice.{Notice}
 use Rattle.control_book.specs.declared.call.Notice.TheVariants as notice
 use Rattle.control_book.specs.Registry.{state_of, stands, sole, lowest_living, standby, rows_with}
+use Rattle.control_book.specs.SameAddress.{is_same}
 use Rattle.control_book.specs.Control.{Control, peer_or_zero, is_path, withdrawals_on}
 
 abbrev pub is_sure : Mode → Bool
@@ -123,7 +123,7 @@ told_heard heard.BadHmac = reply.BadHmac
 told_heard heard.Known = reply.Known
 
 abbrev pub address_reply : ℕ → Address → ℕ → ℕ → Control → ControlReply
-address_reply id address port hmac c = told_heard (heard_reply id address (is_right id address port hmac c) c.addresses)
+address_reply id address port hmac c = told_heard (heard_reply is_same id address (is_right id address port hmac c) c.addresses)
 
 abbrev pub fast_heard_reply : ℕ → Control → ControlReply
 fast_heard_reply key c = if key == c.keys.own then reply.Stopped else reply.OtherKey c.keys.own

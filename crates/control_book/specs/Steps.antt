@@ -1,12 +1,12 @@
 -- What each call changes in a side's control book: one definition for each.
-use Rattle.std.specs.Prelude.{ℕ, ◌==◌, Bool, true, false, not, ◌&&◌, ◌||◌, if◌then◌else◌, List, [], ◌∷◌, Option, Some, None, is_some, fold, slice_set}
+use Rattle.std.specs.Prelude.{ℕ, ◌==◌, Bool, true, false, not, ◌&&◌, ◌||◌, if◌then◌else◌, List, [], ◌∷◌, Some, None, is_some, fold, slice_set}
 use Rattle.key_material.specs.declared.address.Address.{Address}
 use Rattle.key_material.specs.declared.address.Address.TheVariants.{V4}
 use Rattle.key_material.specs.KeyDigest.{token_of}
 use Rattle.fallback_state.specs.declared.fall.Event.{Event}
 use Rattle.fallback_state.specs.declared.fall.Event.TheVariants as event
 use Rattle.fallback_state.specs.Table.{fall_step}
-use Rattle.address_manager.specs.Addresses.{Addresses, knows}
+use Rattle.address_manager.specs.Addresses.{knows}
 use Rattle.address_manager.specs.Steps.{after_announce as addresses_announced, after_heard as addresses_heard, after_removed as addresses_removed}
 use Rattle.control_book.specs.declared.registry.Phase.TheVariants.{Idle, Opening, Living}
 use Rattle.control_book.specs.declared.registry.PathState.{PathState}

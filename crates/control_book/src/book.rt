@@ -49,7 +49,7 @@ pub struct ControlBook {
     /// Its paths, by their numbers.
     paths: [PathState; 16],
     /// The addresses, and which paths are backups.
-    addresses: AddressManager,
+    addresses: AddressManager<Address>,
     /// What is still to be told.
     notices: Notices,
 }

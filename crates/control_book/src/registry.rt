@@ -4,6 +4,7 @@ ghost use Rattle.std.specs.List.{list_any, filter_map};
 ghost use Rattle.control_book.specs.Registry.{every_path, idle, is_living, is_standing, state_of, lives, stands, stands_beside, sole, lowest_living, serves_beside, standby, told_row, rows_with, with_phase, with_row, with_removed, opening_paths};
 
 use address_manager::AddressManager;
+use key_material::Address;
 use linked_increase::{Row, Rows};
 
 /// How far a path is.
@@ -125,14 +126,19 @@ fn first_living(paths: &[PathState]) -> Option<usize>
 }
 
 /// Whether the path is a backup, and another living one isn't.
-pub(crate) fn standby(paths: &[PathState], addresses: &AddressManager, path: u8) -> bool
+pub(crate) fn standby(paths: &[PathState], addresses: &AddressManager<Address>, path: u8) -> bool
     ensures { result ≡ standby paths.now addresses.now.backups path }
 {
     addresses.is_backup(path) && any_serves(paths, addresses, path, &every_path())
 }
 
 /// Whether one of these paths, which isn't this one, lives and is no backup.
-fn any_serves(paths: &[PathState], addresses: &AddressManager, path: u8, among: &[u8]) -> bool
+fn any_serves(
+    paths: &[PathState],
+    addresses: &AddressManager<Address>,
+    path: u8,
+    among: &[u8],
+) -> bool
     ensures { result ≡ list_any (serves_beside paths.now addresses.now.backups path) among.now }
 {
     among
@@ -142,7 +148,12 @@ fn any_serves(paths: &[PathState], addresses: &AddressManager, path: u8, among: 
 
 /// Whether the other path, which isn't this one, lives and is no backup.
 #[tactic(auto, unfolding(crate::specs::Registry::serves_beside))]
-fn serves_beside(paths: &[PathState], addresses: &AddressManager, path: u8, other: u8) -> bool
+fn serves_beside(
+    paths: &[PathState],
+    addresses: &AddressManager<Address>,
+    path: u8,
+    other: u8,
+) -> bool
     ensures { result ≡ serves_beside paths.now addresses.now.backups path other }
 {
     other != path && lives(paths, other) && !addresses.is_backup(other)

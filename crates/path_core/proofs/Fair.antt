@@ -10,9 +10,9 @@ use Rattle.mptcp_options.specs.declared.capable.CapableKeys.TheVariants.{NoKey, 
 use Rattle.path_segments.specs.declared.segment.PathOption.TheVariants.{Capable, Join, Dss, AddAddr, Remove, Prio, Fail, FastClose, Reset}
 use Rattle.path_segments.specs.declared.segment.PathMapping.{PathMapping}
 use Rattle.path_segments.specs.declared.segment.PathMapping.TheVariants.{Bytes, End, Infinite}
-use Rattle.path_core.specs.declared.heard.Heard.TheVariants as says
+use Rattle.path_agenda.specs.declared.heard.Heard.TheVariants as says
 use Rattle.path_core.specs.Arriving.{HeardOption, is_mapping, mapping_items, ack_items, end_items, map_items, key_items, items_in}
-use Rattle.path_core.specs.Items.{IsFair}
+use Rattle.path_agenda.specs.Items.{IsFair}
 
 fair_ack : (next : Option (Option ℕ)) (window : ℕ) → All IsFair (ack_items next window)
 fair_ack None window = All-nil IsFair

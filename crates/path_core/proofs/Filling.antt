@@ -3,10 +3,8 @@ use Rattle.std.proofs.Common.{◌≡◌, ◌∙◌, refl, sym, ap, ℕ, zero, su
 use Rattle.std.proofs.lemmas.Bool.{ltb-true, ltb-false}
 use Rattle.std.proofs.lemmas.List.{take-append-le}
 use Rattle.std.proofs.Math.Seq.{take-length}
-use Rattle.path_core.specs.declared.heard.Heard.{Heard}
-use Rattle.path_core.specs.declared.heard.Heard.TheVariants as says
-use Rattle.path_core.specs.Arriving.{place_in_first}
-use Rattle.path_core.specs.Items.{with_item, with_items, is_dss}
+use Rattle.path_agenda.specs.declared.heard.Heard.{Heard}
+use Rattle.path_agenda.specs.Items.{with_item, with_items}
 
 pub with_items-append : (items xs ys : List Heard) → with_items items (xs ++ ys) ≡ with_items (with_items items xs) ys
 with_items-append items [] ys = refl
@@ -47,21 +45,3 @@ with_items-is items (x ∷ xs) le =
     by false is longer same =
         let full : length items ≡ 10 = omega (arith, le, ltb-false _ _ is) in
         same ∙ take-full 10 items xs full ∙ sym (take-full 10 items (x ∷ xs) full)
-
--- ---- the first DSS
-
-pub dss_here : (item : Heard) (items : List Heard) → is_dss item ≡ true → place_in_first (item ∷ items) ≡ place_in_first (says.Dss ∷ items)
-dss_here says.Dss items is = refl
-dss_here (says.DataAck next window) items is = cc
-dss_here says.Mapping items is = cc
-dss_here (says.DataFin place) items is = cc
-dss_here (says.PeerKey key) items is = cc
-dss_here (says.Keys own peer) items is = cc
-
-pub dss_later : (item : Heard) (items : List Heard) → is_dss item ≡ false → place_in_first (item ∷ items) ≡ place_in_first items
-dss_later says.Dss items is = cc
-dss_later (says.DataAck next window) items is = refl
-dss_later says.Mapping items is = refl
-dss_later (says.DataFin place) items is = refl
-dss_later (says.PeerKey key) items is = refl
-dss_later (says.Keys own peer) items is = refl

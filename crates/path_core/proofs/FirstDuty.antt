@@ -1,15 +1,20 @@
 -- What the first duty of an agenda comes to.
-use Rattle.std.proofs.Common.{◌≡◌, refl, ap, subst, ◌∙◌, Bool, true, false, if◌then◌else◌, Some, None, List, [], ◌∷◌}
+use Rattle.std.proofs.Common.{◌≡◌, refl, ap, subst, ◌∙◌, Bool, true, false, if◌then◌else◌, Some, None, List, [], ◌∷◌, drop}
 use Rattle.actor_desk.specs.Words.{tail_of}
 use Rattle.actor_desk.specs.declared.ask.Reply.{Reply}
-use Rattle.path_core.specs.declared.duty.Duty.{Duty}
+use Rattle.path_agenda.specs.declared.duty.Duty.{Duty}
 use Rattle.path_core.specs.Codec.{Codec}
 use Rattle.path_core.specs.Duties.{stands, ask_for, passed, answered}
 use Rattle.path_core.specs.Replies.{asks_bytes, asks_bytes_first}
 use Rattle.path_core.specs.State.{PathState, with_agenda}
 use Rattle.path_core.specs.Steps.{settled, settles_down, passable, passable_of, asks_first, answers}
-use Rattle.path_core.specs.Words.{first_of}
+use Rattle.path_agenda.specs.Words.{first_of}
 use Rattle.path_core.proofs.Settling.{passes_anyway, settles_anyway}
+
+-- the agenda without it
+pub rest_is : (ds : List Duty) → drop 1 ds ≡ tail_of ds
+rest_is [] = refl
+rest_is (d ∷ ds) = refl
 
 pub bytes_of_first : (ds : List Duty) (d : Duty) → first_of ds ≡ Some d → asks_bytes_first ds ≡ asks_bytes d
 bytes_of_first [] d is = cc

@@ -10,7 +10,7 @@ use Rattle.subflow_tcp.specs.Judging.{meaning_of}
 use Rattle.subflow_tcp.specs.States.{is_dead}
 use Rattle.subflow_tcp.specs.Taking.{after_arrival}
 use Rattle.path_core.specs.Arriving.{copy_of, hint_of, items_of, owes_by, with_payload, after_meaning, template_of}
-use Rattle.path_core.specs.Agenda.{rest_of_turn, emission}
+use Rattle.path_agenda.specs.Agenda.{rest_of_turn, emission}
 use Rattle.path_core.specs.Codec.{Codec, HeardSegment}
 use Rattle.path_core.specs.Ends.{PathEnd}
 use Rattle.path_core.specs.Events.{tick_of, next_line, next_copy, next_fire, earlier, earliest, before, next_event, is_death, died, died_unless_dead, after_line, line_taken, at_tick, copy_heard, heard_in, copy_taken, timer_fired, happens, happens_if}

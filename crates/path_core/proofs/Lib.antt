@@ -1,7 +1,6 @@
 pub mod Ranking
 pub mod Resting
 pub mod Passed
-pub mod FirstTold
 pub mod Fair
 pub mod Meanings
 pub mod Parts
@@ -11,8 +10,8 @@ pub mod Sendings
 pub mod Happening
 pub mod Lowering
 pub mod TurnEnds
+pub mod FarResets
 pub mod Showing
-mod Things
 mod Sayable
 mod InBounds
 mod Settling

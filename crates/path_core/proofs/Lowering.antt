@@ -16,11 +16,11 @@ use Rattle.send_book.specs.declared.call.SendCall.TheVariants as send_calls
 use Rattle.actor_desk.specs.declared.ask.Ask.TheVariants as asks
 use Rattle.actor_desk.specs.declared.ask.Reply.{Reply}
 use Rattle.actor_desk.specs.declared.ask.Reply.TheVariants as replies
-use Rattle.path_core.specs.declared.duty.Duty.{Duty}
-use Rattle.path_core.specs.declared.duty.Duty.TheVariants as duties
-use Rattle.path_core.specs.declared.heard.Heard.{Heard}
-use Rattle.path_core.specs.declared.heard.Heard.TheVariants as says
-use Rattle.path_core.specs.Agenda.{breaks, resets, leaves}
+use Rattle.path_agenda.specs.declared.duty.Duty.{Duty}
+use Rattle.path_agenda.specs.declared.duty.Duty.TheVariants as duties
+use Rattle.path_agenda.specs.declared.heard.Heard.{Heard}
+use Rattle.path_agenda.specs.declared.heard.Heard.TheVariants as says
+use Rattle.path_agenda.specs.Agenda.{breaks, resets, leaves}
 use Rattle.path_core.specs.Breaking.{reset_of, reset_on, answered_break}
 use Rattle.path_core.specs.Codec.{Codec}
 use Rattle.path_core.specs.Duties.{stands, ask_for, answered}
@@ -28,11 +28,13 @@ use Rattle.path_core.specs.Emission.{first_unsent, unsent_segment, having_sent_u
 use Rattle.path_core.specs.Ends.{PathEnd}
 use Rattle.path_core.specs.Events.{died}
 use Rattle.actor_desk.specs.Kinds.{IsOfKind, IsSomeOf}
-use Rattle.path_core.specs.Opening.{syn_ack_of, key_heard, with_peer_key, keys_heard, after_keys}
+use Rattle.path_agenda.specs.Items.{key_heard, keys_heard}
+use Rattle.path_core.specs.Opening.{syn_ack_of, with_peer_key, after_keys}
 use Rattle.path_core.specs.Passing.{having_asked, piece_of, is_placed, placed, answered_piece, is_fin_set, with_peer_end, answered_fin_heard, after_rate, first_segment, answer_occasion, answer_of, dead_answer, resend_occasion, resend_of}
 use Rattle.path_core.specs.Passing as passing
 use Rattle.path_core.specs.Placing.{Piece, next_piece, after_piece}
-use Rattle.path_core.specs.Ranks.{weights, work}
+use Rattle.path_agenda.specs.Weights.{weights}
+use Rattle.path_core.specs.Ranks.{work}
 use Rattle.path_core.specs.Sends.{having_sent, sent_on}
 use Rattle.path_core.specs.Standing.{after_look, after_ack_out, answered_ack_out, ack_segment, acknowledges}
 use Rattle.path_core.specs.Segments.{mapping_of}
@@ -40,7 +42,7 @@ use Rattle.path_core.specs.State.{PathState, Profile, end_at, with_agenda, goes_
 use Rattle.path_core.specs.Treating.{is_clash, after_verdict, is_acked, told_next, with_acked, answered_mapping, with_fin, answered_item, item_of}
 use Rattle.path_core.specs.Placing.{with_learned}
 use Rattle.path_core.specs.Turns.{TakesTime}
-use Rattle.path_core.specs.Words.{replaced}
+use Rattle.path_agenda.specs.Words.{replaced}
 use Rattle.actor_desk.proofs.Falling.{Then}
 use Rattle.path_core.proofs.Happening.{event_lowers}
 use Rattle.path_core.proofs.Ranking.{Rests, same_rests, goes_calm, sent_calm, agenda_calm, Lowers, lowers}

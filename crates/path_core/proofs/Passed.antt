@@ -5,15 +5,15 @@ use Rattle.outside_kit.specs.declared.side.Side.TheVariants.{A, B}
 use Rattle.dss_mapping.specs.Mappings.{mapping_at}
 use Rattle.subflow_tcp.specs.Closing.{is_fin_next}
 use Rattle.subflow_tcp.specs.Expiring.{is_timed}
-use Rattle.path_core.specs.declared.duty.Duty.{Duty}
-use Rattle.path_core.specs.declared.duty.Duty.TheVariants as duties
+use Rattle.path_agenda.specs.declared.duty.Duty.{Duty}
+use Rattle.path_agenda.specs.declared.duty.Duty.TheVariants as duties
 use Rattle.path_core.specs.Closing.{is_waiting}
 use Rattle.path_core.specs.Duties.{stands, passed}
 use Rattle.path_core.specs.Emission.{after_timer}
 use Rattle.path_core.specs.Ends.{PathEnd}
 use Rattle.path_core.specs.Passing.{after_pass_fin}
 use Rattle.path_core.specs.Placing.{after_check}
-use Rattle.path_core.specs.Ranks.{weights}
+use Rattle.path_agenda.specs.Weights.{weights}
 use Rattle.path_core.specs.State.{PathState, end_at, with_end, with_agenda}
 use Rattle.path_core.specs.Steps.{settled}
 use Rattle.path_core.specs.Treating.{item_of, item_passed, after_keep}

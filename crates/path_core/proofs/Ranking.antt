@@ -9,10 +9,11 @@ use Rattle.link_model.specs.declared.fate.Fate.TheVariants.{OnTime, Lost, Late, 
 use Rattle.link_model.specs.State.{LinkState}
 use Rattle.link_model.specs.Steps.{comes_before, with_flight, with_flights, arrivals, after_send}
 use Rattle.path_segments.specs.Spelled.{PlainSegment}
-use Rattle.path_core.specs.declared.duty.Duty.{Duty}
+use Rattle.path_agenda.specs.declared.duty.Duty.{Duty}
 use Rattle.path_core.specs.Codec.{Codec}
 use Rattle.path_core.specs.Ends.{PathEnd}
-use Rattle.path_core.specs.Ranks.{ticks_left, one_if_due, due_copies, due_timer, due_by_now, weights, bytes_left, sendings_left}
+use Rattle.path_agenda.specs.Weights.{weights}
+use Rattle.path_core.specs.Ranks.{ticks_left, one_if_due, due_copies, due_timer, due_by_now, bytes_left, sendings_left}
 use Rattle.path_core.specs.Sends.{sent_on}
 use Rattle.path_core.specs.State.{PathState, end_at, with_agenda, goes_on}
 use Rattle.path_core.specs.Turns.{TakesTime}

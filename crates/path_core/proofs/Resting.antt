@@ -22,8 +22,8 @@ use Rattle.subflow_tcp.specs.Segments.{Copy}
 use Rattle.subflow_tcp.specs.State.{EndState}
 use Rattle.subflow_tcp.specs.Taking.{after_arrival, after_payload, after_hearing, after_established, after_acknowledgement, after_ack_kind, is_duplicate, told_by, after_duplicate, after_interruption, after_death, after_keeping_held, after_dropping_held}
 use Rattle.path_core.specs.Arriving.{owing_if, with_payload}
-use Rattle.path_core.specs.declared.heard.Heard.{Heard}
-use Rattle.path_core.specs.declared.heard.Heard.TheVariants as says
+use Rattle.path_agenda.specs.declared.heard.Heard.{Heard}
+use Rattle.path_agenda.specs.declared.heard.Heard.TheVariants as says
 use Rattle.path_core.specs.Ends.{PathEnd}
 use Rattle.path_core.specs.Placing.{is_wrong, forgotten_by, with_learned, with_skipped}
 use Rattle.path_core.specs.Ranks.{one_if_due, due_timer}

@@ -1,7 +1,7 @@
 -- Passing a duty looks at nothing of the agenda.
 use Rattle.std.proofs.Common.{◌≡◌, refl, ap, ◌∙◌, Bool, if◌then◌else◌, List, [], ◌∷◌}
-use Rattle.path_core.specs.declared.duty.Duty.{Duty}
-use Rattle.path_core.specs.declared.duty.Duty.TheVariants as duties
+use Rattle.path_agenda.specs.declared.duty.Duty.{Duty}
+use Rattle.path_agenda.specs.declared.duty.Duty.TheVariants as duties
 use Rattle.path_core.specs.Duties.{stands, passed}
 use Rattle.path_core.specs.State.{PathState, with_agenda}
 use Rattle.path_core.specs.Steps.{settled}

@@ -1,8 +1,8 @@
 -- A path over octets is the path over values, shown: one clause for each duty.
 use Rattle.std.proofs.lemmas.List.{length-map, take-map, drop-map, map-append}
 use Rattle.std.specs.List.{position_or_len}
-use Rattle.std.proofs.Common.{◌≡◌, refl, sym, ap, ◌∙◌, ℕ, ◌+◌, nat_lt, not, ◌&&◌, Bool, true, false, cond, if◌then◌else◌, List, [], ◌∷◌, map, Option, Some, None, find, position, is_some}
-use Rattle.std.specs.Option.{option_map}
+use Rattle.std.proofs.Common.{◌≡◌, refl, sym, ap, ◌∙◌, ℕ, ◌+◌, ◌^◌, ◌≤◌, ◌⊎◌, inl, inr, subst, nat_lt, not, ◌&&◌, Bool, true, false, cond, if◌then◌else◌, List, [], ◌∷◌, map, Option, Some, None, find, position, is_some}
+use Rattle.std.specs.Option.{IsSome, option_map}
 use Rattle.outside_kit.specs.declared.side.Side.{Side}
 use Rattle.outside_kit.specs.declared.side.Side.TheVariants.{A, B}
 use Rattle.link_model.specs.declared.flight.Due.{Due}
@@ -14,10 +14,13 @@ use Rattle.link_model.proofs.Shown.{sent_shown}
 use Rattle.path_segments.specs.declared.spelling.Spelling.{Spelling}
 use Rattle.path_segments.specs.Spelled.{PlainSegment}
 use Rattle.actor_desk.specs.declared.ask.Reply.{Reply}
-use Rattle.path_core.specs.declared.duty.Duty.{Duty}
-use Rattle.path_core.specs.declared.duty.Duty.TheVariants as duties
+use Rattle.path_agenda.specs.declared.duty.Duty.{Duty}
+use Rattle.path_agenda.specs.declared.duty.Duty.TheVariants as duties
 use Rattle.path_core.specs.Duties.{stands, ask_for, passed, answered}
 use Rattle.path_segments.proofs.SegmentsAgain.{heard_as_meant}
+use Rattle.path_segments.specs.declared.expected.Expected.{Expected}
+use Rattle.path_segments.specs.Laws.{IsFresh, meant}
+use Rattle.path_core.proofs.FarResets.{far_heard, far_treated}
 use Rattle.path_core.specs.Arriving.{expected_by}
 use Rattle.path_core.specs.Codec.{HeardSegment}
 use Rattle.path_core.specs.Segments.{spelled_by}
@@ -28,9 +31,9 @@ use Rattle.path_core.specs.declared.event.Event.{Event}
 use Rattle.path_core.specs.declared.event.Event.TheVariants as happenings
 use Rattle.fallback_state.specs.declared.fall.Event.TheVariants as events
 use Rattle.subflow_send.specs.Records.{Record}
-use Rattle.path_core.specs.declared.heard.Heard.{Heard}
-use Rattle.path_core.specs.declared.heard.Heard.TheVariants as says
-use Rattle.path_core.specs.Agenda.{resets, leaves}
+use Rattle.path_agenda.specs.declared.heard.Heard.{Heard}
+use Rattle.path_agenda.specs.declared.heard.Heard.TheVariants as says
+use Rattle.path_agenda.specs.Agenda.{resets, leaves}
 use Rattle.path_core.specs.Breaking.{reset_of, reset_on, break_ask, answered_break}
 use Rattle.path_core.specs.Emission.{first_unsent, data_ask, unsent_segment, having_sent_unsent, end_segment, having_sent_end, fin_segment_of, having_sent_fin, Grant, grant_in, answered_grant, answered_data}
 use Rattle.path_core.specs.Opening.{syn_ack_of}
@@ -42,10 +45,10 @@ use Rattle.path_core.specs.Treating.{item_of, item_ask, is_clash, fell_ask, afte
 use Rattle.path_core.specs.Octets.{octets}
 use Rattle.path_core.specs.Sends.{sends, having_sent, handed, sent_on}
 use Rattle.path_core.specs.Ends.{PathEnd}
-use Rattle.path_core.specs.Shown.{octets_of, shown_path, ChangesNothing, IsFreshCopy, NextIsFresh}
+use Rattle.path_core.specs.Shown.{octets_of, shown_path, ChangesNothing, IsFarReset, IsFreshCopy, NextIsFresh}
 use Rattle.path_core.specs.State.{PathState, end_at, with_agenda, goes_on, left}
 use Rattle.path_core.specs.Steps.{settled, settles_down, asks_first, asks_of, answers, takes, next_round}
-use Rattle.path_core.specs.Agenda.{start_of_turn}
+use Rattle.path_agenda.specs.Agenda.{start_of_turn}
 use Rattle.path_core.specs.Values.{Carried, values}
 
 -- ---- the next event
@@ -336,13 +339,30 @@ same_copy_heard : (s : Side) (heard : Option HeardSegment) (p : PathState Carrie
 same_copy_heard s None p = refl
 same_copy_heard s (Some h) p = refl
 
--- a fresh copy is heard as it was meant
-same_read : (s : Side) (o : Option (Flight Carried)) (p : PathState Carried) → ((flight : Flight Carried) → o ≡ Some flight → IsFreshCopy p s flight.carried)
-    → heard_in octets s (option_map (shown_flight (octets_of p.profile.spelling)) o) (shown_path p) ≡ heard_in values s o p
-same_read s None p fresh = refl
-same_read s (Some flight) p fresh =
-    let is = fresh flight refl in
-    rw is.from (heard_as_meant p.profile.spelling (spelled_by (peer s)) (expected_by (end_at s p)) flight.carried.segment is.sayable is.expected is.fresh)
+heard_ack : (acknowledged : Option ℕ) → IsSome acknowledged → IsSome (option_map (λ n. Some n) acknowledged)
+heard_ack (Some n) some = refl
+heard_ack None some = absurd (cc some)
+
+-- a fresh copy is heard as it was meant, and a far reset without its position
+same_read : (s : Side) (o : Option (Flight Carried)) (p : PathState Carried) (q : PathState (List ℕ)) → end_at s q ≡ end_at s p
+    → ((flight : Flight Carried) → o ≡ Some flight → IsFreshCopy p s flight.carried)
+    → copy_heard s (heard_in octets s (option_map (shown_flight (octets_of p.profile.spelling)) o) (shown_path p)) q ≡ copy_heard s (heard_in values s o p) q
+same_read s None p q same fresh = refl
+same_read s (Some flight) p q same fresh = let is = fresh flight refl in rw is.from (by is is.fresh)
+  where
+    segment : PlainSegment
+    segment = flight.carried.segment
+
+    expected : Expected
+    expected = expected_by (end_at s p)
+
+    by : IsFreshCopy p s flight.carried
+        → IsFresh p.profile.spelling (spelled_by (peer s)) expected segment ⊎ IsFarReset p.profile.spelling (spelled_by (peer s)) expected segment
+        → copy_heard s (octets.reads p.profile.spelling (peer s) expected (octets.makes p.profile.spelling (peer s) segment)) q ≡ copy_heard s (Some (meant segment)) q
+    by is (inl near) = ap (λ h. copy_heard s h q) (heard_as_meant p.profile.spelling (spelled_by (peer s)) expected segment is.sayable is.expected near)
+    by is (inr far) =
+        ap (λ h. copy_heard s h q) (far_heard p.profile.spelling (spelled_by (peer s)) expected segment is.sayable far is.expected)
+        ∙ far_treated (meant segment) segment.position far.reset refl s q (heard_ack segment.acknowledged far.acknowledging) (subst (λ e. e.tcp.recv.edge + 2 ^ 31 ≤ segment.position) (sym same) far.ahead)
 
 same_copy : (due : Due) (p : PathState Carried)
     → ((flight : Flight Carried) → arriving due p.link ≡ Some flight → IsFreshCopy p due.to flight.carried)
@@ -350,9 +370,9 @@ same_copy : (due : Due) (p : PathState Carried)
 same_copy due p fresh =
     let show : Carried → List ℕ = octets_of p.profile.spelling in
     let heard : Option HeardSegment = heard_in values due.to (arriving due p.link) p in
-    let arrived = ap (λ (o : Option (Flight (List ℕ))). heard_in octets due.to o (shown_path p)) (same_arriving show due p.link.under_way) in
-    ap (λ h. copy_heard due.to h (record (at_tick due.tick (shown_path p)) { link = after_delivery due (shown show p.link) }))
-    (arrived ∙ same_read due.to (arriving due p.link) p fresh)
+    let after : PathState (List ℕ) = record (at_tick due.tick (shown_path p)) { link = after_delivery due (shown show p.link) } in
+    ap (λ (o : Option (Flight (List ℕ))). copy_heard due.to (heard_in octets due.to o (shown_path p)) after) (same_arriving show due p.link.under_way)
+    ∙ same_read due.to (arriving due p.link) p after refl fresh
     ∙ ap (λ link. copy_heard due.to heard (record (at_tick due.tick (shown_path p)) { link = link })) (same_delivery show due p.link)
     ∙ same_copy_heard due.to heard (record (at_tick due.tick p) { link = after_delivery due p.link })
 

@@ -24,10 +24,11 @@ use Rattle.subflow_tcp.specs.States.{is_half_open}
 use Rattle.subflow_tcp.specs.Judging.{meaning_of}
 use Rattle.subflow_tcp.specs.Taking.{after_arrival, after_holding}
 use Rattle.subflow_tcp.specs.Closing.{after_owing}
-use Rattle.path_core.specs.declared.duty.Duty.{Duty}
-use Rattle.path_core.specs.declared.heard.Heard.{Heard}
-use Rattle.path_core.specs.declared.heard.Heard.TheVariants as says
-use Rattle.path_core.specs.Agenda.{emission, syn_came, syn_ack_came, copy_came, syn_again, answers, answers_dead, leaves}
+use Rattle.path_agenda.specs.declared.duty.Duty.{Duty}
+use Rattle.path_agenda.specs.declared.heard.Heard.{Heard}
+use Rattle.path_agenda.specs.declared.heard.Heard.TheVariants as says
+use Rattle.path_agenda.specs.Items.{place_in_first, wants_ack}
+use Rattle.path_agenda.specs.Agenda.{emission, syn_came, syn_ack_came, copy_came, syn_again, answers, answers_dead, leaves}
 use Rattle.path_core.specs.Codec.{HeardSegment}
 use Rattle.path_core.specs.Ends.{PathEnd, Treated, nothing_treated}
 use Rattle.path_core.specs.Placing.{kept_of}
@@ -128,19 +129,6 @@ held_in c s _ = []
 
 abbrev pub held_of : Profile → Side → HeardSegment → List KeptMapping
 held_of c s h = flat_map (held_in c s) h.options
-
--- the place that the Data ACK of the first DSS names
-abbrev pub place_in_first : List Heard → Option ℕ
-place_in_first [] = None
-place_in_first (says.Dss ∷ says.DataAck next window ∷ items) = Some next
-place_in_first (says.Dss ∷ items) = None
-place_in_first (item ∷ items) = place_in_first items
-
--- what wants an acknowledgement though it occupies no position
-abbrev pub wants_ack : Heard → Bool
-wants_ack (says.DataFin place) = true
-wants_ack (says.Keys own peer) = true
-wants_ack _ = false
 
 -- it has at most 65,535 octets, and its position is below 2^63
 pub record IsShortCopy (c : Copy) : Type 0 where

@@ -7,8 +7,8 @@ use Rattle.control_book.specs.declared.call.ControlCall.TheVariants as control_c
 use Rattle.actor_desk.specs.declared.ask.Ask.{Ask}
 use Rattle.actor_desk.specs.declared.ask.Ask.TheVariants as asks
 use Rattle.actor_desk.specs.declared.ask.Reply.{Reply}
-use Rattle.path_core.specs.declared.duty.Duty.{Duty}
-use Rattle.path_core.specs.Agenda.{leaves, resets}
+use Rattle.path_agenda.specs.declared.duty.Duty.{Duty}
+use Rattle.path_agenda.specs.Agenda.{leaves, resets}
 use Rattle.path_core.specs.Codec.{Codec}
 use Rattle.path_core.specs.Events.{died}
 use Rattle.path_core.specs.Segments.{reset_said}

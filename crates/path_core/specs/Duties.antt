@@ -8,16 +8,17 @@ use Rattle.actor_desk.specs.declared.ask.Ask.{Ask}
 use Rattle.actor_desk.specs.declared.ask.Ask.TheVariants as asks
 use Rattle.actor_desk.specs.declared.ask.LocalStep.TheVariants as steps
 use Rattle.actor_desk.specs.declared.ask.Reply.{Reply}
-use Rattle.path_core.specs.declared.duty.Duty.{Duty}
-use Rattle.path_core.specs.declared.duty.Duty.TheVariants as duties
-use Rattle.path_core.specs.Agenda.{leaves}
+use Rattle.path_agenda.specs.declared.duty.Duty.{Duty}
+use Rattle.path_agenda.specs.declared.duty.Duty.TheVariants as duties
+use Rattle.path_agenda.specs.Agenda.{leaves}
 use Rattle.path_core.specs.Breaking.{reset_of, reset_on, return_ask, dead_ask}
-use Rattle.path_core.specs.Agenda.{resets}
+use Rattle.path_agenda.specs.Agenda.{resets}
 use Rattle.path_core.specs.Closing.{is_end_due, is_fin_due}
 use Rattle.path_core.specs.Codec.{Codec}
 use Rattle.path_core.specs.Emission.{is_syn_due, data_stands, first_unsent, unsent_segment, data_ask, answered_syn, answered_data, end_segment, answered_end, fin_segment_of, answered_fin, after_timer}
 use Rattle.path_core.specs.Events.{next_event, step_for, happens_if}
-use Rattle.path_core.specs.Opening.{syn_window_ask, syn_ack_of, answered_syn_ack, key_heard, peer_key_ask, with_peer_key, keys_heard, keys_ask, after_keys, is_opened_by_keys, live_ask}
+use Rattle.path_agenda.specs.Items.{key_heard, keys_heard}
+use Rattle.path_core.specs.Opening.{syn_window_ask, syn_ack_of, answered_syn_ack, peer_key_ask, with_peer_key, keys_ask, after_keys, is_opened_by_keys, live_ask}
 use Rattle.path_core.specs.Passing.{piece_of, piece_ask, is_placed, answered_piece, is_fin_set, fin_of, fin_ask, answered_fin_heard, after_pass_fin, rate_ask, answered_rate, first_segment, answered_again, answer_of, answered_answer, dead_answer, answered_dead, resend_of, answered_resend}
 use Rattle.path_core.specs.Placing.{after_check}
 use Rattle.path_core.specs.Sends.{sends}
@@ -25,7 +26,7 @@ use Rattle.path_core.specs.Standing.{look_ask, answered_look, ack_out_ask, answe
 use Rattle.path_core.specs.State.{PathState, end_at, with_end, goes_on, left, with_agenda}
 use Rattle.path_core.specs.Treating.{item_of, item_stands, item_ask, answered_item, item_passed, fell_ask, after_verdict, after_keep}
 use Rattle.actor_desk.specs.Words.{is_nil}
-use Rattle.path_core.specs.Words.{replaced}
+use Rattle.path_agenda.specs.Words.{replaced}
 
 -- ---- whether it comes to something
 

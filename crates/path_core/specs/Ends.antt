@@ -6,7 +6,7 @@ use Rattle.dss_mapping.specs.Mappings.{Mappings, no_mappings}
 use Rattle.fallback_state.specs.declared.fall.Mode.TheVariants.{Starting}
 use Rattle.subflow_tcp.specs.declared.segments.Outgoing.{Outgoing}
 use Rattle.subflow_tcp.specs.State.{EndState}
-use Rattle.path_core.specs.declared.heard.Heard.{Heard}
+use Rattle.path_agenda.specs.declared.heard.Heard.{Heard}
 use Rattle.path_core.specs.declared.modes.Modes.{Modes}
 
 -- the side's own stream

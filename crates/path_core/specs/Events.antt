@@ -17,11 +17,11 @@ use Rattle.subflow_tcp.specs.Taking.{after_death}
 use Rattle.actor_desk.specs.declared.ask.Ask.{Ask}
 use Rattle.actor_desk.specs.declared.ask.Ask.TheVariants as asks
 use Rattle.actor_desk.specs.declared.ask.LocalStep.TheVariants as steps
-use Rattle.path_core.specs.declared.duty.Duty.{Duty}
+use Rattle.path_agenda.specs.declared.duty.Duty.{Duty}
 use Rattle.path_core.specs.declared.event.Event.{Event}
 use Rattle.path_core.specs.declared.event.Event.TheVariants as happenings
-use Rattle.path_core.specs.declared.duty.Duty.TheVariants as duties
-use Rattle.path_core.specs.Agenda.{rest_of_turn, emission, expired, expired_for_ever}
+use Rattle.path_agenda.specs.declared.duty.Duty.TheVariants as duties
+use Rattle.path_agenda.specs.Agenda.{rest_of_turn, emission, expired, expired_for_ever}
 use Rattle.path_core.specs.Arriving.{expected_by, copy_of, items_of, after_meaning, template_of}
 use Rattle.path_core.specs.Codec.{Codec, HeardSegment}
 use Rattle.path_core.specs.Ends.{PathEnd, nothing_treated}

@@ -6,7 +6,6 @@ pub mod Segments
 pub mod Sends
 pub mod Closing
 pub mod Placing
-pub mod Agenda
 pub mod Arriving
 pub mod Events
 pub mod Standing
@@ -28,4 +27,3 @@ pub mod Shown
 pub mod Said
 pub mod Lending
 pub mod Replies
-pub mod Items

@@ -1,6 +1,5 @@
 -- How path 0 opens: SYN, SYN/ACK, and the keys of both sides (RFC 8684, section 3.1).
-use Rattle.std.specs.Prelude.{ℕ, Bool, true, false, ◌&&◌, is_some, Option, Some, None, List, [], ◌∷◌}
-use Rattle.std.specs.Option.{option_or}
+use Rattle.std.specs.Prelude.{ℕ, Bool, true, false, ◌&&◌, is_some, Option, Some, None}
 use Rattle.outside_kit.specs.declared.side.Side.{Side}
 use Rattle.path_segments.specs.Spelled.{PlainSegment}
 use Rattle.send_book.specs.declared.call.SendCall.TheVariants as send_calls
@@ -12,10 +11,9 @@ use Rattle.actor_desk.specs.declared.ask.Ask.TheVariants as asks
 use Rattle.actor_desk.specs.declared.ask.LocalStep.TheVariants as steps
 use Rattle.actor_desk.specs.declared.ask.Reply.{Reply}
 use Rattle.actor_desk.specs.declared.ask.Reply.TheVariants as replies
-use Rattle.path_core.specs.declared.heard.Heard.{Heard}
-use Rattle.path_core.specs.declared.heard.Heard.TheVariants as says
 use Rattle.path_core.specs.Codec.{Codec}
-use Rattle.path_core.specs.declared.keys.KeyPair.{KeyPair}
+use Rattle.path_agenda.specs.declared.keys.KeyPair.{KeyPair}
+use Rattle.path_agenda.specs.Items.{keys_heard}
 use Rattle.path_core.specs.declared.modes.Modes.{Modes}
 use Rattle.path_core.specs.Ends.{PathEnd}
 use Rattle.path_core.specs.Segments.{syn_ack_said}
@@ -40,29 +38,12 @@ answered_syn_ack k s p =
 
 -- ---- keys
 
-abbrev pub key_in : Heard → Option ℕ
-key_in (says.PeerKey key) = Some key
-key_in _ = None
-
--- the first one
-abbrev pub key_heard : List Heard → Option ℕ
-key_heard [] = None
-key_heard (item ∷ items) = option_or (key_in item) (key_heard items)
-
 abbrev pub peer_key_ask : Side → Option ℕ → Ask
 peer_key_ask s None = asks.Local steps.End
 peer_key_ask s (Some key) = asks.Control s (control_calls.PeerKey key)
 
 abbrev pub with_peer_key : Option ℕ → PathEnd → PathEnd
 with_peer_key key e = record e { modes = record e.modes { peer_key = key } }
-
-abbrev pub pair_in : Heard → Option KeyPair
-pair_in (says.Keys own peer) = Some (record { own = own; peer = peer })
-pair_in _ = None
-
-abbrev pub keys_heard : List Heard → Option KeyPair
-keys_heard [] = None
-keys_heard (item ∷ items) = option_or (pair_in item) (keys_heard items)
 
 abbrev pub keys_ask : Side → Option KeyPair → Ask
 keys_ask s None = asks.Local steps.End

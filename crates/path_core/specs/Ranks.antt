@@ -5,8 +5,6 @@ use Rattle.link_model.specs.declared.flight.Flight.{Flight}
 use Rattle.subflow_recv.specs.Receiving.{filled}
 use Rattle.subflow_send.specs.Records.{Record}
 use Rattle.subflow_send.specs.Rules.{is_unsent}
-use Rattle.path_core.specs.declared.duty.Duty.{Duty}
-use Rattle.path_core.specs.declared.duty.Duty.TheVariants as duties
 use Rattle.path_core.specs.Ends.{PathEnd}
 use Rattle.path_core.specs.State.{PathState}
 use Rattle.path_core.specs.declared.lines.LineLeft.{LineLeft}
@@ -35,24 +33,6 @@ abbrev pub due_by_now : {C : Type 0} → PathState C → ℕ
 due_by_now p =
     due_copies p.clock p.link.under_way + (due_lines p.clock p.lines
     + (due_timer p.clock p.a.tcp.timing.timer + due_timer p.clock p.b.tcp.timing.timer))
-
--- ---- duties
-
--- as much as all that its replies put in its place
-abbrev pub weight : Duty → ℕ
-weight (duties.Heard s index) = 11
-weight (duties.Edge s) = 11
-weight (duties.HeardFin s index) = 11
-weight (duties.BreakAck s reason) = 7
-weight (duties.BreakReset s reason) = 4
-weight (duties.Reset s) = 4
-weight (duties.Leave s) = 1
-weight _ = 0
-
--- and each duty itself
-abbrev pub weights : List Duty → ℕ
-weights [] = 0
-weights (d ∷ ds) = 1 + (weight d + weights ds)
 
 -- ---- octets
 

@@ -8,8 +8,8 @@ use Rattle.actor_desk.specs.Kinds.{IsOfKind}
 use Rattle.actor_desk.specs.Bounds.{IsBounded}
 use Rattle.actor_desk.specs.declared.ask.Reply.{Reply}
 use Rattle.actor_desk.specs.declared.ask.Reply.TheVariants as replies
-use Rattle.path_core.specs.declared.duty.Duty.{Duty}
-use Rattle.path_core.specs.declared.duty.Duty.TheVariants as duties
+use Rattle.path_agenda.specs.declared.duty.Duty.{Duty}
+use Rattle.path_agenda.specs.declared.duty.Duty.TheVariants as duties
 use Rattle.path_core.specs.Emission.{Grant}
 
 -- what is to be acknowledged is a place, and how much more is taken a window

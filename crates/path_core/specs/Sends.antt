@@ -10,7 +10,7 @@ use Rattle.subflow_tcp.specs.Emitting.{after_sending}
 use Rattle.actor_desk.specs.declared.ask.Ask.{Ask}
 use Rattle.actor_desk.specs.declared.ask.Ask.TheVariants as asks
 use Rattle.actor_desk.specs.declared.ask.LocalStep.TheVariants as steps
-use Rattle.path_core.specs.declared.duty.Duty.{Duty}
+use Rattle.path_agenda.specs.declared.duty.Duty.{Duty}
 use Rattle.path_core.specs.Codec.{Codec}
 use Rattle.path_core.specs.Ends.{PathEnd}
 use Rattle.path_core.specs.State.{PathState, goes_on}

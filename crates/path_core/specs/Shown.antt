@@ -1,5 +1,5 @@
 -- A path over segments as values, shown over octets.
-use Rattle.std.specs.Prelude.{ℕ, ◌≡◌, false, Some, List}
+use Rattle.std.specs.Prelude.{ℕ, ◌≡◌, ◌+◌, ◌^◌, ◌<◌, ◌≤◌, ◌⊎◌, true, false, IsSome, Some, List}
 use Rattle.outside_kit.specs.declared.side.Side.{Side}
 use Rattle.link_script.specs.declared.script.ScriptLine.{ScriptLine}
 use Rattle.link_model.specs.declared.flight.Due.{Due}
@@ -7,10 +7,12 @@ use Rattle.link_model.specs.declared.flight.Flight.{Flight}
 use Rattle.link_model.specs.Fate.{is_stripped, is_altered}
 use Rattle.link_model.specs.Laws.{shown}
 use Rattle.link_model.specs.Steps.{peer, arriving}
+use Rattle.path_segments.specs.declared.expected.Expected.{Expected}
+use Rattle.path_segments.specs.declared.spelling.Side.{Side as SpelledSide}
 use Rattle.path_segments.specs.declared.spelling.Spelling.{Spelling}
 use Rattle.path_segments.specs.HeardLent.{IsExpected}
 use Rattle.path_segments.specs.Laws.{IsFresh}
-use Rattle.path_segments.specs.Spelled.{CanSay}
+use Rattle.path_segments.specs.Spelled.{PlainSegment, CanSay}
 use Rattle.actor_desk.specs.declared.ask.Reply.{Reply}
 use Rattle.path_core.specs.Arriving.{expected_by}
 use Rattle.path_core.specs.Events.{next_event}
@@ -43,12 +45,23 @@ pub record ChangesNothing (lines : List ScriptLine) : Type 0 where
   pub strips : (from : Side) (number now : ℕ) → is_stripped from number now lines ≡ false
   pub alters : (from : Side) (number : ℕ) → is_altered from number lines ≡ false
 
--- A copy that arrives can be said, and its numbers are near those that the end expects.
+-- A reset 2^31 positions or more ahead of what the end expects, below position 2^32; all its other numbers are near. The
+-- nearest position that its number means would be before the first, so that octets tell none. A dead end sends such resets,
+-- since it answers a segment without an acknowledgement at number 0, wherever that lies (RFC 9293, section 3.10.7.1).
+pub record IsFarReset (spelling : Spelling) (from : SpelledSide) (expected : Expected) (s : PlainSegment) : Type 0 where
+  pub reset : s.rst ≡ true
+  pub acknowledging : IsSome s.acknowledged
+  pub ahead : expected.edge + 2 ^ 31 ≤ s.position
+  pub low : s.position < 2 ^ 32
+  pub others : IsFresh spelling from expected (record s { position = expected.edge })
+
+-- A copy that arrives can be said, and its numbers are near those that the end expects, but for the position of a far reset.
 pub record IsFreshCopy (p : PathState Carried) (to : Side) (carried : Carried) : Type 0 where
   pub from : carried.from ≡ peer to
   pub sayable : CanSay p.profile.spelling (spelled_by (peer to)) carried.segment
   pub expected : IsExpected (expected_by (end_at to p))
   pub fresh : IsFresh p.profile.spelling (spelled_by (peer to)) (expected_by (end_at to p)) carried.segment
+      ⊎ IsFarReset p.profile.spelling (spelled_by (peer to)) (expected_by (end_at to p)) carried.segment
 
 -- the copy that is due next is fresh, where one is
 abbrev pub NextIsFresh : PathState Carried → Type 0

@@ -14,7 +14,7 @@ use Rattle.actor_desk.specs.declared.ask.Ask.{Ask}
 use Rattle.actor_desk.specs.declared.ask.Ask.TheVariants as asks
 use Rattle.actor_desk.specs.declared.ask.Reply.{Reply}
 use Rattle.actor_desk.specs.declared.ask.Reply.TheVariants as replies
-use Rattle.path_core.specs.declared.duty.Duty.{Duty}
+use Rattle.path_agenda.specs.declared.duty.Duty.{Duty}
 use Rattle.path_core.specs.Codec.{Codec}
 use Rattle.path_core.specs.declared.modes.Modes.{Modes}
 use Rattle.path_core.specs.Ends.{PathEnd, Receiving}

@@ -3,15 +3,10 @@ use Rattle.std.specs.Prelude.{ℕ, Bool, Option, List}
 use Rattle.outside_kit.specs.declared.side.Side.{Side}
 use Rattle.link_model.specs.State.{LinkState}
 use Rattle.path_segments.specs.declared.spelling.Spelling.{Spelling}
-use Rattle.path_core.specs.declared.duty.Duty.{Duty}
+use Rattle.path_agenda.specs.declared.duty.Duty.{Duty}
 use Rattle.path_core.specs.declared.lines.LineLeft.{LineLeft}
 use Rattle.path_core.specs.Ends.{PathEnd}
 use Rattle.actor_desk.specs.Words.{pick, is_nil, tail_of}
-
--- the tick, and the first tick after the round
-pub record Clock : Type 0 where
-  pub tick : ℕ
-  pub until : ℕ
 
 -- what never changes
 pub record Profile : Type 0 where

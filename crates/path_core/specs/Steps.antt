@@ -2,8 +2,8 @@
 use Rattle.std.specs.Prelude.{◌+◌, if◌then◌else◌, Option, Some, None, List, [], ◌∷◌}
 use Rattle.actor_desk.specs.declared.ask.Ask.{Ask}
 use Rattle.actor_desk.specs.declared.ask.Reply.{Reply}
-use Rattle.path_core.specs.declared.duty.Duty.{Duty}
-use Rattle.path_core.specs.Agenda.{start_of_turn}
+use Rattle.path_agenda.specs.declared.duty.Duty.{Duty}
+use Rattle.path_agenda.specs.Agenda.{start_of_turn}
 use Rattle.path_core.specs.Codec.{Codec}
 use Rattle.path_core.specs.Duties.{stands, ask_for, passed, answered}
 use Rattle.path_core.specs.State.{PathState, with_agenda}

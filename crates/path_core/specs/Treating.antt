@@ -16,10 +16,10 @@ use Rattle.actor_desk.specs.declared.ask.Ask.TheVariants as asks
 use Rattle.actor_desk.specs.declared.ask.LocalStep.TheVariants as steps
 use Rattle.actor_desk.specs.declared.ask.Reply.{Reply}
 use Rattle.actor_desk.specs.declared.ask.Reply.TheVariants as replies
-use Rattle.path_core.specs.declared.duty.Duty.{Duty}
-use Rattle.path_core.specs.declared.duty.Duty.TheVariants as duties
-use Rattle.path_core.specs.declared.heard.Heard.{Heard}
-use Rattle.path_core.specs.declared.heard.Heard.TheVariants as says
+use Rattle.path_agenda.specs.declared.duty.Duty.{Duty}
+use Rattle.path_agenda.specs.declared.duty.Duty.TheVariants as duties
+use Rattle.path_agenda.specs.declared.heard.Heard.{Heard}
+use Rattle.path_agenda.specs.declared.heard.Heard.TheVariants as says
 use Rattle.path_core.specs.Breaking.{answered_break, break_ask}
 use Rattle.path_core.specs.Closing.{after_acked}
 use Rattle.path_core.specs.Codec.{Codec}
@@ -28,7 +28,8 @@ use Rattle.path_core.specs.Ends.{PathEnd, Sending}
 use Rattle.path_core.specs.Opening.{keys_ask, after_keys}
 use Rattle.path_core.specs.Placing.{with_learned, with_skipped}
 use Rattle.path_core.specs.State.{PathState, end_at, goes_on, left, path_of, with_agenda}
-use Rattle.path_core.specs.Words.{is_side_a, item_at, replaced}
+use Rattle.path_agenda.specs.Words.{replaced}
+use Rattle.path_core.specs.Words.{is_side_a, item_at}
 
 -- ---- what is told of the mode
 

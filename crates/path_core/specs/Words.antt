@@ -7,11 +7,6 @@ abbrev pub is_side_a : Side → Bool
 is_side_a A = true
 is_side_a B = false
 
--- another one in the place of the first
-abbrev pub replaced : {X : Type 0} → X → List X → List X
-replaced y [] = []
-replaced y (x ∷ xs) = y ∷ xs
-
 -- the item of this number, the first being 0
 abbrev pub item_at : {X : Type 0} → ℕ → List X → Option X
 item_at n [] = None
@@ -22,7 +17,3 @@ item_at (suc n) (x ∷ xs) = item_at n xs
 abbrev pub told_last : {X : Type 0} → Option X → Option X → Option X
 told_last None before = before
 told_last (Some x) before = Some x
-
-abbrev pub first_of : {X : Type 0} → List X → Option X
-first_of [] = None
-first_of (x ∷ xs) = Some x

@@ -13,15 +13,15 @@ ghost use Rattle.path_core.specs.Events.{heard_at, copy_taken, CanHappen};
 ghost use Rattle.path_core.specs.Octets.{octets, read};
 ghost use Rattle.path_core.specs.State.{end_at};
 
-use crate::agenda::Agenda;
 use crate::end::PathEnd;
-use crate::hearing::{has_option, items_of, opens_by, owes_by, place_in_first};
+use crate::hearing::{has_option, items_of, opens_by, owes_by};
 use crate::path::Path;
 use crate::profile::{peer, spelled_by};
 use crate::treated::Treated;
 use dss_mapping::KeptMapping;
 use link_model::Due;
 use outside_kit::Side;
+use path_agenda::{Agenda, place_in_first};
 use path_segments::{Expected, HeardSegment, hear};
 use seq_units::Pos;
 use std::alloc::AllocError;

@@ -3,13 +3,12 @@
 ghost use Rattle.std.specs.Prelude.{◌≡◌, Some, None, OnOk, OnErr};
 ghost use Rattle.actor_desk.specs.Kinds.{CanBeAsked};
 ghost use Rattle.path_core.specs.declared.segment_kind.SegmentKind.TheVariants as to_say;
-ghost use Rattle.path_core.specs.Agenda.{leaves};
+ghost use Rattle.path_agenda.specs.Agenda.{leaves};
 ghost use Rattle.path_core.specs.Breaking.{reset_of, reset_on, break_ask, answered_break, return_ask, dead_ask};
 ghost use Rattle.path_core.specs.Events.{died};
 ghost use Rattle.path_core.specs.Octets.{octets};
 ghost use Rattle.path_core.specs.Replies.{IsAckBounded};
 
-use crate::agenda::Agenda;
 use crate::end::PathEnd;
 use crate::path::Path;
 use crate::segment_kind::SegmentKind;
@@ -18,6 +17,7 @@ use crate::treated::Treated;
 use actor_desk::{Ask, Reply};
 use control_book::ControlCall;
 use outside_kit::Side;
+use path_agenda::Agenda;
 use send_book::SendCall;
 use std::alloc::AllocError;
 

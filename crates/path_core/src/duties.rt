@@ -7,13 +7,12 @@ ghost use Rattle.path_core.specs.Octets.{octets};
 ghost use Rattle.path_core.specs.Duties.{stands, ask_for, passed, answered};
 ghost use Rattle.path_core.specs.Replies.{IsAckBounded, AreRowsInRange, asks_bytes, asks_segment, takes_memory};
 
-use crate::agenda::Agenda;
-use crate::duty::Duty;
 use crate::path::Path;
 use crate::segment_kind::SegmentKind;
 use crate::standing::ack_out_ask;
 use actor_desk::{Ask, LocalStep, Reply};
 use fallback_state::{Event, Mode};
+use path_agenda::{Agenda, Duty};
 use std::alloc::AllocError;
 
 impl Path {

@@ -6,15 +6,13 @@ ghost use Rattle.link_model.specs.Steps.{next_due};
 ghost use Rattle.outside_kit.specs.declared.side.Side.TheVariants.{A, B};
 ghost use Rattle.subflow_tcp.specs.Expiring.{is_sixth};
 ghost use Rattle.subflow_tcp.specs.States.{is_dead};
-ghost use Rattle.path_core.specs.declared.duty.Duty.TheVariants as duties;
+ghost use Rattle.path_agenda.specs.declared.duty.Duty.TheVariants as duties;
 ghost use Rattle.path_core.specs.declared.event.Event.TheVariants as event;
-ghost use Rattle.path_core.specs.Agenda.{rest_of_turn};
+ghost use Rattle.path_agenda.specs.Agenda.{rest_of_turn};
 ghost use Rattle.path_core.specs.Events.{is_dead_or_listening, is_dead_path, tick_of, next_line, next_copy, next_fire, earlier, earliest, before, next_event, step_of, step_for, is_death, died_unless_dead, path_died, line_taken, after_firing, template_fired, timer_fired, at_tick, copy_taken, happens_if, CanHappen};
 ghost use Rattle.path_core.specs.Octets.{octets};
 ghost use Rattle.path_core.specs.State.{end_at};
 
-use crate::agenda::Agenda;
-use crate::duty::Duty;
 use crate::end::PathEnd;
 use crate::event::Event;
 use crate::lines::LineLeft;
@@ -22,6 +20,7 @@ use crate::path::Path;
 use actor_desk::{Ask, LocalStep};
 use link_script::ScriptLine;
 use outside_kit::Side;
+use path_agenda::{Agenda, Duty};
 use std::alloc::AllocError;
 use subflow_tcp::{Fired, State};
 

@@ -1,18 +1,16 @@
 //! What the options of a copy say (RFC 8684, section 3).
 
 ghost use Rattle.std.specs.Prelude.{◌≡◌, ◌∷◌, [], not, All};
-ghost use Rattle.std.specs.List.{list_any};
 ghost use Rattle.actor_desk.specs.Words.{is_nil};
 ghost use Rattle.path_segments.specs.HeardLent.{heard_plain};
 ghost use Rattle.path_segments.specs.HeardSegments.{heard_value};
-ghost use Rattle.path_core.specs.declared.heard.Heard.TheVariants as says;
-ghost use Rattle.path_core.specs.Items.{with_item, with_items, is_dss, IsFair};
-ghost use Rattle.path_core.specs.Arriving.{ack_items, is_mapping, mapping_items, map_items, end_items, key_items, items_in, items_of, place_in_first, wants_ack, owes_by, opens_by};
+ghost use Rattle.path_agenda.specs.declared.heard.Heard.TheVariants as says;
+ghost use Rattle.path_agenda.specs.Items.{with_item, with_items, IsFair};
+ghost use Rattle.path_core.specs.Arriving.{ack_items, is_mapping, mapping_items, map_items, end_items, key_items, items_in, items_of, owes_by, opens_by};
 
-use crate::heard::Heard;
-use crate::treated::Items;
 use mptcp_options::CapableKeys;
 use outside_kit::Side;
+use path_agenda::{Heard, Items, one_wants_ack};
 use path_segments::{HeardMapping, HeardOption, HeardSegment, PathMapping, PathOption};
 use seq_units::Pos;
 use subflow_tcp::{Meaning, State};
@@ -145,49 +143,6 @@ pub(crate) fn items_of(side: Side, heard: &HeardSegment<'_>) -> Items
         put_option(&mut items, side, heard.window, &option);
     }
     items
-}
-
-/// It says that a DSS came.
-fn is_dss(item: Heard) -> bool
-    ensures { result ≡ is_dss item }
-{
-    matches!(item, Heard::Dss)
-}
-
-/// The place that the Data ACK of the first DSS names.
-pub(crate) fn place_in_first(items: &[Heard]) -> Option<u64>
-    ensures { result ≡ place_in_first items.now }
-{
-    for index in 0..items.len() {
-        if is_dss(items[index]) {
-            return place_in(&items[index + 1..]);
-        }
-    }
-    None
-}
-
-/// The place of a Data ACK that stands first.
-fn place_in(items: &[Heard]) -> Option<u64>
-    ensures { result ≡ place_in_first (says.Dss ∷ items.now) }
-{
-    match items {
-        [Heard::DataAck { next, .. }, ..] => Some(*next),
-        _ => None,
-    }
-}
-
-/// What wants an acknowledgement though it occupies no position.
-fn wants_ack(item: Heard) -> bool
-    ensures { result ≡ wants_ack item }
-{
-    matches!(item, Heard::DataFin { .. } | Heard::Keys { .. })
-}
-
-/// One of these things does.
-fn one_wants_ack(items: &[Heard]) -> bool
-    ensures { result ≡ list_any wants_ack items.now }
-{
-    items.iter().any(|item| wants_ack(*item))
 }
 
 /// A copy that is taken may want an acknowledgement by what it says.

@@ -7,23 +7,18 @@
 //! values the machine that theorems speak of.
 #![tactic(auto)]
 
-mod agenda;
 mod answering;
 mod arriving;
 mod breaking;
-mod clock;
 mod closing;
 mod duties;
-mod duty;
 mod emission;
 mod end;
 mod event;
 mod events;
-mod heard;
 mod hearing;
 mod held;
 mod in_order;
-mod keys;
 mod laws;
 mod lines;
 mod modes;
@@ -41,16 +36,13 @@ mod sends;
 mod standing;
 mod start;
 mod steps;
-mod templates;
 mod treated;
 mod treating;
 
 pub use actor_desk::{Ask, LocalStep, Note, Reply};
-pub use duty::Duty;
 pub use event::Event;
-pub use heard::Heard;
-pub use keys::KeyPair;
 pub use laws::{a_first_round, every_turn_ends, octets_do_as_values};
 pub use lines::LineLeft;
 pub use modes::Modes;
 pub use path::Path;
+pub use path_agenda::{Duty, Heard, KeyPair};

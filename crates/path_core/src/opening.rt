@@ -2,13 +2,12 @@
 
 ghost use Rattle.std.specs.Prelude.{◌≡◌, Some, OnOk, OnErr};
 ghost use Rattle.actor_desk.specs.Kinds.{CanBeAsked};
+ghost use Rattle.path_agenda.specs.Items.{key_heard, keys_heard};
 ghost use Rattle.path_core.specs.Octets.{octets};
-ghost use Rattle.path_core.specs.Opening.{key_in, pair_in, key_heard, keys_heard, keys_in, is_opened_by_keys, syn_window_ask, peer_key_ask, with_peer_key, keys_ask, after_keys, answered_syn_ack, live_ask};
+ghost use Rattle.path_core.specs.Opening.{keys_in, is_opened_by_keys, syn_window_ask, peer_key_ask, with_peer_key, keys_ask, after_keys, answered_syn_ack, live_ask};
 ghost use Rattle.path_core.specs.State.{end_at, goes_on, left};
 
 use crate::end::PathEnd;
-use crate::heard::Heard;
-use crate::keys::KeyPair;
 use crate::modes::Modes;
 use crate::path::Path;
 use crate::segment_kind::SegmentKind;
@@ -16,53 +15,10 @@ use crate::treated::Treated;
 use actor_desk::{Ask, LocalStep, Reply};
 use control_book::{ControlCall, ControlReply};
 use outside_kit::Side;
+use path_agenda::{KeyPair, key_heard, keys_heard};
 use send_book::SendCall;
 use std::alloc::AllocError;
 use subflow_tcp::Occasion;
-
-/// The key that a thing tells alone.
-fn key_in(item: Heard) -> Option<u64>
-    ensures { result ≡ key_in item }
-{
-    match item {
-        Heard::PeerKey { key } => Some(key),
-        _ => None,
-    }
-}
-
-/// The two keys that a thing tells.
-fn pair_in(item: Heard) -> Option<KeyPair>
-    ensures { result ≡ pair_in item }
-{
-    match item {
-        Heard::Keys { own, peer } => Some(KeyPair { own, peer }),
-        _ => None,
-    }
-}
-
-/// The first key that one of these things tells alone.
-fn key_heard(items: &[Heard]) -> Option<u64>
-    ensures { result ≡ key_heard items.now }
-{
-    for item in items {
-        if let Some(key) = key_in(*item) {
-            return Some(key);
-        }
-    }
-    None
-}
-
-/// The first two keys that one of these things tells.
-fn keys_heard(items: &[Heard]) -> Option<KeyPair>
-    ensures { result ≡ keys_heard items.now }
-{
-    for item in items {
-        if let Some(keys) = pair_in(*item) {
-            return Some(keys);
-        }
-    }
-    None
-}
 
 /// These keys are told to the control book.
 pub(crate) fn keys_ask(side: Side, keys: Option<KeyPair>) -> Ask

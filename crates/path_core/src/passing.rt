@@ -10,7 +10,6 @@ ghost use Rattle.path_core.specs.Passing.{having_asked, refused, fin_of, fin_ask
 ghost use Rattle.path_core.specs.Replies.{AreRowsInRange};
 ghost use Rattle.path_core.specs.State.{end_at, goes_on, left, path_of, with_end};
 
-use crate::agenda::Agenda;
 use crate::end::PathEnd;
 use crate::path::Path;
 use crate::segment_kind::SegmentKind;
@@ -18,6 +17,7 @@ use actor_desk::{Ask, LocalStep, Reply};
 use control_book::{ControlCall, ControlReply};
 use linked_increase::{Row, Rows, growth};
 use outside_kit::Side;
+use path_agenda::Agenda;
 use reassembly_book::{ReassemblyCall, ReassemblyReply};
 use std::alloc::AllocError;
 use subflow_tcp::{Occasion, Pending};

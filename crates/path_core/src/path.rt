@@ -3,16 +3,14 @@
 ghost use Rattle.std.specs.Prelude.{◌≡◌, ◌<◌, [], Some};
 ghost use Rattle.std.specs.Borrow.{sem};
 ghost use Rattle.actor_desk.specs.Words.{tail_of};
-ghost use Rattle.path_core.specs.Words.{replaced};
+ghost use Rattle.path_agenda.specs.Words.{replaced};
 
-use crate::agenda::Agenda;
-use crate::clock::Clock;
-use crate::duty::Duty;
 use crate::end::PathEnd;
 use crate::lines::LineLeft;
 use crate::profile::Profile;
 use link_model::Link;
 use outside_kit::Side;
+use path_agenda::{Agenda, Clock, Duty};
 use std::alloc::Global;
 use std::collections::VecDeque;
 use std::marker::Model;
@@ -107,6 +105,7 @@ impl Path {
     }
 
     /// The first duty is done.
+    #[tactic(auto, using(crate::proofs::FirstDuty::rest_is))]
     pub(crate) fn done(&mut self)
         ensures { self.new ≡ with_agenda (tail_of self.old.agenda) self.old }
     {

@@ -2,13 +2,12 @@
 
 ghost use Rattle.std.specs.Prelude.{◌≡◌, ◌≤◌, ◌+◌, ◌^◌, OnOk, OnErr};
 ghost use Rattle.actor_desk.specs.Kinds.{CanBeAsked};
-ghost use Rattle.path_core.specs.Agenda.{resets};
+ghost use Rattle.path_agenda.specs.Agenda.{resets};
 ghost use Rattle.path_core.specs.Octets.{octets};
 ghost use Rattle.path_core.specs.Replies.{IsAckBounded};
 ghost use Rattle.path_core.specs.Standing.{look_ask, modes_told, answered_look, ack_out_ask, after_ack_out, answered_ack_out, is_connected, tellable_edge, has_grown, is_update_due, acknowledges};
 ghost use Rattle.path_core.specs.State.{left};
 
-use crate::agenda::Agenda;
 use crate::end::PathEnd;
 use crate::modes::Modes;
 use crate::path::Path;
@@ -18,6 +17,7 @@ use crate::sends::window_told;
 use actor_desk::{Ask, Reply};
 use control_book::{ControlCall, ControlReply};
 use outside_kit::Side;
+use path_agenda::Agenda;
 use reassembly_book::{ReassemblyCall, ReassemblyReply};
 use std::alloc::AllocError;
 use subflow_tcp::{Occasion, State};

@@ -6,10 +6,9 @@ ghost use Rattle.path_core.specs.Octets.{octets};
 ghost use Rattle.path_core.specs.Replies.{TakesReply, IsAckBounded, AreRowsInRange, asks_bytes_first};
 ghost use Rattle.path_core.specs.Steps.{passable, settles_down, answers, asks_of, takes, next_round};
 
-use crate::agenda::Agenda;
-use crate::duty::Duty;
 use crate::path::Path;
 use actor_desk::{Ask, Reply};
+use path_agenda::{Agenda, Duty};
 use std::alloc::AllocError;
 
 impl Path {

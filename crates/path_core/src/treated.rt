@@ -1,16 +1,13 @@
 //! What the last copy said, as far as it is still to be treated.
 
 ghost use Rattle.std.specs.Prelude.{◌≡◌, ◌++◌, ◌∷◌, [], true, false, nat_lt, if◌then◌else◌, length, ◌≤◌, ◌^◌, All, IfSome, Some};
-ghost use Rattle.path_core.specs.Items.{IsFair};
+ghost use Rattle.path_agenda.specs.Items.{IsFair};
 ghost use Rattle.path_core.specs.Words.{item_at};
 
-use crate::heard::Heard;
 use arrayvec::ArrayVec;
+use path_agenda::{Heard, Items};
 use std::marker::Model;
 use subflow_tcp::Outgoing;
-
-/// The things that a copy says. There are at most ten in forty octets of options.
-pub(crate) type Items = ArrayVec<Heard, 10>;
 
 /// What the last copy said, as far as it is still to be treated. Its payload and its mappings wait beside what they are
 /// to be put to.
@@ -48,7 +45,7 @@ impl Model for Treated {
     } };
 
     ghost use Rattle.std.specs.Prelude.{◌^◌, ◌≤◌, All};
-    ghost use Rattle.path_core.specs.Items.{IsFair};
+    ghost use Rattle.path_agenda.specs.Items.{IsFair};
 
     ghost invariant = { λ t. All IsFair t.items.items × All (λ place. place ≤ 2 ^ 62) t.fins.items };
 }

@@ -3,7 +3,7 @@
 ghost use Rattle.std.specs.Prelude.{◌≡◌, ◌≤◌, ◌^◌, ◌&&◌, not, is_some, if◌then◌else◌, nat_lt, Some, OnOk, OnErr};
 ghost use Rattle.actor_desk.specs.Kinds.{CanBeAsked};
 ghost use Rattle.actor_desk.specs.declared.ask.Reply.TheVariants as replies;
-ghost use Rattle.path_core.specs.Items.{IsFair};
+ghost use Rattle.path_agenda.specs.Items.{IsFair};
 ghost use Rattle.path_core.specs.Octets.{octets};
 ghost use Rattle.path_core.specs.Opening.{after_keys};
 ghost use Rattle.path_core.specs.Placing.{with_learned, with_skipped};
@@ -11,10 +11,7 @@ ghost use Rattle.path_core.specs.Replies.{IsAckBounded};
 ghost use Rattle.path_core.specs.State.{end_at, goes_on, left, with_agenda, with_end};
 ghost use Rattle.path_core.specs.Treating.{mode_in, after_verdict, counts, is_clash, mapping_stands, heard_stands, mapping_ask, heard_ask, is_acked, told_next, acked_in, with_acked, answered_ack, answered_mapping, with_fin, answered_heard, after_dss, heard_passed, item_stands, item_ask, answered_item, item_passed, item_of, is_dropped, after_keep, fell_ask};
 
-use crate::duty::Duty;
 use crate::end::PathEnd;
-use crate::heard::Heard;
-use crate::keys::KeyPair;
 use crate::modes::Modes;
 use crate::opening::keys_ask;
 use crate::path::Path;
@@ -23,6 +20,7 @@ use actor_desk::{Ask, LocalStep, Reply};
 use control_book::{ControlCall, ControlReply};
 use fallback_state::{Event, Mode, Verdict};
 use outside_kit::Side;
+use path_agenda::{Duty, Heard, KeyPair};
 use send_book::{SendCall, SendReply};
 use std::alloc::AllocError;
 

@@ -26,8 +26,8 @@ use Rattle.subflow_tcp.specs.Taking as taking
 use Rattle.stream_lanes.specs.Lane.{AckCopy, Lane}
 use Rattle.stream_lanes.specs.Words.{Every}
 use Rattle.stream_lanes.proofs.Lists.{Every-nil, Every-append, in_take}
-use Rattle.path_core.specs.declared.heard.Heard.{Heard}
-use Rattle.path_core.specs.declared.heard.Heard.TheVariants as says
+use Rattle.path_agenda.specs.declared.heard.Heard.{Heard}
+use Rattle.path_agenda.specs.declared.heard.Heard.TheVariants as says
 use Rattle.path_core.specs.Arriving.{ack_items, is_mapping, mapping_items, map_items, key_items, items_in, held_if, map_held, key_held, held_in, checksum_heard}
 use Rattle.path_core.specs.Placing.{kept_of}
 use Rattle.path_core.specs.State.{Profile}
@@ -87,11 +87,11 @@ module _ (acks : List AckCopy) (p : Lane) (window : ℕ) where
   option_says s (FastClose key) h = Every-nil _
   option_says s (Reset transient reason) h = Every-nil _
 
-  options_say : (s : Side) (os : List PlainOption) → Every (OptionShows window acks p) os → Says (flat_map (items_in s window) (map meant_option os))
+  pub options_say : (s : Side) (os : List PlainOption) → Every (OptionShows window acks p) os → Says (flat_map (items_in s window) (map meant_option os))
   options_say s [] h = Every-nil _
   options_say s (o ∷ os) h = Every-append (option_says s o (h.each 0 o refl)) (options_say s os (record { each = λ i x is. h.each (suc i) x is }))
 
-  taken_say : (n : ℕ) (items : List Heard) → Says items → Says (take n items)
+  pub taken_say : (n : ℕ) (items : List Heard) → Says items → Says (take n items)
   taken_say n items h = record { each = λ i x is. h.each i x (in_take n items i x is).0 }
 
 -- the mappings that the end holds
@@ -134,16 +134,16 @@ module _ (c : Profile) (window : ℕ) (acks : List AckCopy) (p : Lane) where
   option_holds s (FastClose key) h = Every-nil _
   option_holds s (Reset transient reason) h = Every-nil _
 
-  options_hold : (s : Side) (os : List PlainOption) → Every (OptionShows window acks p) os → Held (flat_map (held_in c s) (map meant_option os))
+  pub options_hold : (s : Side) (os : List PlainOption) → Every (OptionShows window acks p) os → Held (flat_map (held_in c s) (map meant_option os))
   options_hold s [] h = Every-nil _
   options_hold s (o ∷ os) h = Every-append (option_holds s o (h.each 0 o refl)) (options_hold s os (record { each = λ i x is. h.each (suc i) x is }))
 
 -- ---- the subflow
 
 -- both halves of a subflow
-record Halves (c : Profile) (s : Side) (known : Option ℕ) (acked : Bool) (live : List KeptMapping) (out back : Lane) (tcp : EndState) : Type 0 where
-  sender : SenderShows c s tcp.state tcp.send known acked out
-  receiver : ReceiverShows tcp.recv tcp.fin_at live back
+pub record Halves (c : Profile) (s : Side) (known : Option ℕ) (acked : Bool) (live : List KeptMapping) (out back : Lane) (tcp : EndState) : Type 0 where
+  pub sender : SenderShows c s tcp.state tcp.send known acked out
+  pub receiver : ReceiverShows tcp.recv tcp.fin_at live back
 
 module _ (c : Profile) (s : Side) (known : Option ℕ) (acked : Bool) (live : List KeptMapping) (out back : Lane) where
   abbrev Halved : EndState → Type 0
@@ -193,7 +193,7 @@ module _ (c : Profile) (s : Side) (known : Option ℕ) (acked : Bool) (live : Li
       }
 
   -- each meaning
-  taken_both : (pos acknowledged : ℕ) (hint : Hint) (now : ℕ) (copy : Copy) (tcp : EndState) → hint.keep ≡ false → (copy.fin ≡ true → HasFin back.fins (pos + length copy.payload)) → Halved tcp
+  pub taken_both : (pos acknowledged : ℕ) (hint : Hint) (now : ℕ) (copy : Copy) (tcp : EndState) → hint.keep ≡ false → (copy.fin ≡ true → HasFin back.fins (pos + length copy.payload)) → Halved tcp
       → Halved (taking.after_taken pos acknowledged hint now copy tcp)
   taken_both pos acknowledged hint now copy tcp keep fin h =
       let p = payload_both pos hint copy tcp keep fin h in
@@ -203,12 +203,12 @@ module _ (c : Profile) (s : Side) (known : Option ℕ) (acked : Bool) (live : Li
       let r = row_both (ack_kind acknowledged (taking.after_established t).send) (taking.told_by hint copy) copy (taking.after_acknowledgement acknowledged now (taking.after_established t)) a in
       record { sender = r.sender; receiver = r.receiver }
 
-  syn_both : (hint : Hint) (copy : Copy) (tcp : EndState) → hint.keep ≡ false → copy.fin ≡ false → (is_unfinished tcp.state ≡ true) → Halved tcp → Halved (taking.after_syn hint copy tcp)
+  pub syn_both : (hint : Hint) (copy : Copy) (tcp : EndState) → hint.keep ≡ false → copy.fin ≡ false → (is_unfinished tcp.state ≡ true) → Halved tcp → Halved (taking.after_syn hint copy tcp)
   syn_both hint copy tcp keep fin un h =
       let p = payload_both 1 hint copy tcp keep (λ is. absurd (both_ways copy.fin fin is)) h in
       record { sender = state_shows c s known acked out tcp.state phase.SynReceived tcp.send (λ x. un) p.sender; receiver = p.receiver }
 
-  syn_ack_both : (acknowledged : ℕ) (hint : Hint) (now : ℕ) (copy : Copy) (tcp : EndState) → hint.keep ≡ false → copy.fin ≡ false → (is_unfinished tcp.state ≡ true) → Halved tcp
+  pub syn_ack_both : (acknowledged : ℕ) (hint : Hint) (now : ℕ) (copy : Copy) (tcp : EndState) → hint.keep ≡ false → copy.fin ≡ false → (is_unfinished tcp.state ≡ true) → Halved tcp
       → Halved (taking.after_syn_ack acknowledged hint now copy tcp)
   syn_ack_both acknowledged hint now copy tcp keep fin un h =
       let p = payload_both 1 hint copy tcp keep (λ is. absurd (both_ways copy.fin fin is)) h in

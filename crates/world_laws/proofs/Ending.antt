@@ -32,13 +32,13 @@ use Rattle.path_core.specs.Standing.{after_ack_out}
 use Rattle.path_core.specs.State.{Profile}
 use Rattle.path_core.specs.Treating.{with_acked}
 use Rattle.path_core.specs.Words.{told_last}
-use Rattle.world_laws.proofs.Doing.{told_lane, ack_moves, told_goes, told_windows, with_piece, granted_lane, sends_the_piece, piece_goes, refused_lane, with_end, sends_the_end, end_goes, with_fin_sent, sends_the_fin, fin_goes, place_is, length-granted, has_last}
+use Rattle.world_laws.proofs.Doing.{told_lane, ack_moves, told_goes, told_windows, with_piece, granted_lane, sends_the_piece, piece_goes, refused_lane, with_end, sends_the_end, end_goes, with_fin_sent, fin_goes, place_is, length-granted, has_last}
 use Rattle.world_laws.proofs.Growing.{SenderGoes, ReceiverGoes, sender_stays, receiver_stays, Longer, sent_longer, data_longer, mapping_longer, fin_longer}
 use Rattle.world_laws.proofs.Roads.{moves, Strolls, stays}
 use Rattle.world_laws.proofs.Showing.{HasAck, HasNumber, KindShows, RecordShows, is_unfinished, TreatedShows, EndShows}
 
 -- an end that may finish hasn't finished
-unfinished_if : (state : EndPhase) → states.may_finish state ≡ true → is_unfinished state ≡ true
+pub unfinished_if : (state : EndPhase) → states.may_finish state ≡ true → is_unfinished state ≡ true
 unfinished_if phase.Established is = refl
 unfinished_if phase.CloseWait is = refl
 unfinished_if phase.Waiting is = refl
@@ -64,7 +64,7 @@ pub record Did (c : Profile) (s : Side) (e : PathEnd) (out out_called back back_
 
 module _ (c : Profile) (s : Side) (out back : Lane) where
   -- the lanes stay
-  pub did_nothing : (e : PathEnd) → EndShows c s e out back → Did c s e out out back back
+  abbrev pub did_nothing : (e : PathEnd) → EndShows c s e out back → Did c s e out out back back
   did_nothing e h = record {
     out_after = out;
     back_after = back;
@@ -292,35 +292,26 @@ module _ (c : Profile) (s : Side) (out back : Lane) where
   -- ---- the FIN
 
   -- it stands after the bytes that were granted
-  pub finished_end : (e : PathEnd) → states.may_finish e.tcp.state ≡ true → e.sending.close.own_acked ≡ true → EndShows c s e out back
-      → Did c s (record e { tcp = after_finishing e.tcp }) out out back back
-  finished_end e may acked h =
+  pub finished_shows : (e : PathEnd) → states.may_finish e.tcp.state ≡ true → EndShows c s e out back → EndShows c s (record e { tcp = after_finishing e.tcp }) (with_fin_sent out) back
+  finished_shows e may h =
       let q : Lane = with_fin_sent out in
       let g : SenderGoes out q = fin_goes out in
       let at : e.tcp.send.nxt ≡ suc (length out.sent) = h.sender.next (unfinished_if e.tcp.state may) in
       record {
-        out_after = q;
-        back_after = back;
-        out_moves = sends_the_fin out h.sender.opened h.sender.plain (h.sender.fin_acked acked);
-        back_moves = stays back;
-        sender = g;
-        receiver = receiver_stays back;
-        shows = record {
-          sender = record {
-            opened = h.sender.opened;
-            plain = h.sender.plain;
-            next = λ un. absurd (both_ways _ (finished_if e.tcp.state may) un);
-            unfinished = λ un. absurd (both_ways _ (finished_if e.tcp.state may) un);
-            pieces = Every-push _ (same_pieces q (longer q g) e.tcp.send h.sender.pieces) (refl, has_last out.fins _ (sym at));
-            known_end = h.sender.known_end;
-            fin_acked = h.sender.fin_acked;
-          };
-          receiver = h.receiver;
-          window = h.window;
-          told = receiving_same q g e h;
-          treated = treated_same q g e h;
-          held = h.held;
+        sender = record {
+          opened = h.sender.opened;
+          plain = h.sender.plain;
+          next = λ un. absurd (both_ways _ (finished_if e.tcp.state may) un);
+          unfinished = λ un. absurd (both_ways _ (finished_if e.tcp.state may) un);
+          pieces = Every-push _ (same_pieces q (longer q g) e.tcp.send h.sender.pieces) (refl, has_last out.fins _ (sym at));
+          known_end = h.sender.known_end;
+          fin_acked = h.sender.fin_acked;
         };
+        receiver = h.receiver;
+        window = h.window;
+        told = receiving_same q g e h;
+        treated = treated_same q g e h;
+        held = h.held;
       }
     where
       finished_if : (state : EndPhase) → states.may_finish state ≡ true → is_unfinished (states.after_finish state) ≡ false

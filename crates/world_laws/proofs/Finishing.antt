@@ -12,13 +12,13 @@ use Rattle.subflow_send.specs.Records.{Record}
 use Rattle.link_model.specs.Steps.{arriving, after_delivery}
 use Rattle.actor_desk.specs.Words.{tail_of}
 use Rattle.actor_desk.specs.declared.ask.Reply.{Reply}
-use Rattle.path_core.specs.declared.duty.Duty.{Duty}
-use Rattle.path_core.specs.declared.duty.Duty.TheVariants as duties
+use Rattle.path_agenda.specs.declared.duty.Duty.{Duty}
+use Rattle.path_agenda.specs.declared.duty.Duty.TheVariants as duties
 use Rattle.path_core.specs.declared.event.Event.{Event}
 use Rattle.path_core.specs.declared.event.Event.TheVariants as happening
-use Rattle.path_core.specs.declared.heard.Heard.{Heard}
-use Rattle.path_core.specs.declared.heard.Heard.TheVariants as says
-use Rattle.path_core.specs.Agenda.{start_of_turn, heard_and, payload_came, rest_of_turn, resets, leaves}
+use Rattle.path_agenda.specs.declared.heard.Heard.{Heard}
+use Rattle.path_agenda.specs.declared.heard.Heard.TheVariants as says
+use Rattle.path_agenda.specs.Agenda.{start_of_turn, heard_and, payload_came, rest_of_turn, resets, leaves}
 use Rattle.path_core.specs.Arriving.{items_of, copy_of, template_by}
 use Rattle.path_core.specs.Breaking.{answered_break, reset_on}
 use Rattle.path_core.specs.Codec.{Codec, HeardSegment}
@@ -29,7 +29,7 @@ use Rattle.path_core.specs.Passing.{piece_of, is_placed, answered_piece, is_fin_
 use Rattle.path_core.specs.Placing.{Piece, with_learned}
 use Rattle.path_core.specs.Standing.{answered_ack_out}
 use Rattle.path_core.specs.State.{PathState, end_at, with_agenda, goes_on, left}
-use Rattle.path_core.specs.Words.{replaced}
+use Rattle.path_agenda.specs.Words.{replaced}
 use Rattle.path_core.specs.Steps.{settled, takes}
 use Rattle.path_core.specs.Treating.{is_clash, after_verdict, told_next, answered_mapping, answered_item, item_of}
 

@@ -53,7 +53,7 @@ module _ {X : Type 0} {P : X → Type 0} where
 
 -- a fact of a record that doesn't depend on how it was sent
 module _ (P : Record → Type 0) (any : (r : Record) (x : Sending) → P r → P (record r { sending = x })) where
-  unsent_sent_kept : (now : ℕ) (rs : List Record) → Every P rs → Every P (first_unsent_sent now rs)
+  pub unsent_sent_kept : (now : ℕ) (rs : List Record) → Every P rs → Every P (first_unsent_sent now rs)
   unsent_sent_kept now [] h = h
   unsent_sent_kept now (r ∷ rs) h = by (is_unsent r) (unsent_sent_kept now rs (every_rest r rs h))
     where
@@ -61,11 +61,11 @@ module _ (P : Record → Type 0) (any : (r : Record) (x : Sending) → P r → P
       by true more = every_cons _ rs (any r _ (every_first r rs h)) (every_rest r rs h)
       by false more = every_cons r _ (every_first r rs h) more
 
-  first_sent_kept : (now : ℕ) (rs : List Record) → Every P rs → Every P (first_sent now rs)
+  pub first_sent_kept : (now : ℕ) (rs : List Record) → Every P rs → Every P (first_sent now rs)
   first_sent_kept now [] h = h
   first_sent_kept now (r ∷ rs) h = every_cons _ rs (any r _ (every_first r rs h)) (every_rest r rs h)
 
-  fin_sent_kept : (now : ℕ) (rs : List Record) → Every P rs → Every P (map (fin_sent now) rs)
+  pub fin_sent_kept : (now : ℕ) (rs : List Record) → Every P rs → Every P (map (fin_sent now) rs)
   fin_sent_kept now [] h = h
   fin_sent_kept now (r ∷ rs) h = every_cons _ _ (by (is_fin r.kind)) (fin_sent_kept now rs (every_rest r rs h))
     where
@@ -77,11 +77,11 @@ module _ (P : Record → Type 0) (any : (r : Record) (x : Sending) → P r → P
   unsent_again_kept [] h = h
   unsent_again_kept (r ∷ rs) h = every_cons _ _ (any r _ (every_first r rs h)) (unsent_again_kept rs (every_rest r rs h))
 
-  expired_kept : (rs : List Record) → Every P rs → Every P (expired_records rs)
+  pub expired_kept : (rs : List Record) → Every P rs → Every P (expired_records rs)
   expired_kept [] h = h
   expired_kept (r ∷ rs) h = every_cons _ _ (any r _ (every_first r rs h)) (unsent_again_kept rs (every_rest r rs h))
 
-uncovered_kept : {P : Record → Type 0} (pos : ℕ) (rs : List Record) → Every P rs → Every P (uncovered pos rs)
+pub uncovered_kept : {P : Record → Type 0} (pos : ℕ) (rs : List Record) → Every P rs → Every P (uncovered pos rs)
 uncovered_kept pos [] h = h
 uncovered_kept {P} pos (r ∷ rs) h = by (nat_le (end_of r) pos) (uncovered_kept pos rs (every_rest r rs h))
   where

@@ -19,7 +19,7 @@ use Rattle.actor_desk.specs.declared.ask.Reply.{Reply}
 use Rattle.path_core.specs.Emission.{after_timer}
 use Rattle.path_core.specs.Ends.{PathEnd, Treated, nothing_treated}
 use Rattle.path_core.specs.Events.{died, died_unless_dead, after_firing}
-use Rattle.path_core.specs.declared.keys.KeyPair.{KeyPair}
+use Rattle.path_agenda.specs.declared.keys.KeyPair.{KeyPair}
 use Rattle.path_core.specs.Opening.{with_peer_key, after_keys}
 use Rattle.path_core.specs.Passing.{having_asked, with_peer_end, after_rate}
 use Rattle.path_core.specs.Placing.{is_wrong, forgotten_by}

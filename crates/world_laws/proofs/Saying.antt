@@ -30,7 +30,7 @@ window_at : (next window : ℕ) (acks : List AckCopy) → WindowShows next windo
 window_at next window acks h true = h.syn
 window_at next window acks h false = h.alone
 
-every_one : {X : Type 0} {P : X → Type 0} (x : X) → P x → Every P (x ∷ [])
+pub every_one : {X : Type 0} {P : X → Type 0} (x : X) → P x → Every P (x ∷ [])
 every_one {X} {P} x h = Every-push {xs = []} x (Every-nil P) h
 
 module _ (c : Profile) (s : Side) (e : PathEnd) (acks : List AckCopy) (p : Lane) (w : WindowShows e.receiving.next e.receiving.window acks) where

@@ -23,8 +23,8 @@ use Rattle.subflow_tcp.specs.State.{is_behind}
 use Rattle.subflow_recv.specs.Receiving.{Receiving}
 use Rattle.stream_lanes.specs.Lane.{Mapping, DataCopy, AckCopy, Lane}
 use Rattle.stream_lanes.specs.Words.{Every, Has}
-use Rattle.path_core.specs.declared.heard.Heard.{Heard}
-use Rattle.path_core.specs.declared.heard.Heard.TheVariants as says
+use Rattle.path_agenda.specs.declared.heard.Heard.{Heard}
+use Rattle.path_agenda.specs.declared.heard.Heard.TheVariants as says
 use Rattle.path_core.specs.Ends.{PathEnd, Treated}
 use Rattle.path_core.specs.Segments.{place_numbered}
 use Rattle.path_core.specs.State.{PathState, Profile}

@@ -26,7 +26,7 @@ use Rattle.stream_apps.specs.Apps.{AppState}
 use Rattle.stream_apps.specs.AppSteps.{app_stands, app_ask, app_asks_first, app_answered, app_answers, app_settled, app_settles_down, app_takes, app_next_round, start_of_app}
 use Rattle.stream_apps.specs.Starts.{first_app_turn}
 use Rattle.stream_apps.specs.Turns.{FirstAppStands, IsAppSettled}
-use Rattle.path_core.specs.declared.duty.Duty.{Duty}
+use Rattle.path_agenda.specs.declared.duty.Duty.{Duty}
 use Rattle.path_core.specs.Codec.{Codec}
 use Rattle.path_core.specs.Duties.{ask_for}
 use Rattle.path_core.specs.Starts.{first_turn, waiting_path}
@@ -161,10 +161,10 @@ seat_after ask books seat = record seat { pass = record seat.pass { stamp = stam
 other_fares : (s : Side) (file : List ℕ) (a : AppState) (send send_after : Sending) → Writes file a.rest send_after → Fares s file a send → Fares s file a send_after
 other_fares s file a send send_after writes h = record { side_is = h.side_is; writes = writes; settled = h.settled }
 
-abbrev raised_to : ℕ → Seat → Seat
+abbrev pub raised_to : ℕ → Seat → Seat
 raised_to stamp seat = record seat { pass = raised seat.pass stamp }
 
-abbrev new_seat : ℕ → Seat
+abbrev pub new_seat : ℕ → Seat
 new_seat number = record { pass = record { actor = number; stamp = 0 }; list = []; refused = None }
 
 opened_fares : (s : Side) (buffer : ℕ) (file : List ℕ) (send : Sending) → send.written ≡ [] → send.closed ≡ false → Fares s file (first_app_turn s buffer file) send
@@ -197,56 +197,63 @@ module _ {C : Type 0} where
     pub is : w ≡ world_of trio
     pub fare : Fare start trio
 
-  step_a : (k : Codec C) (start : Start) (t : Trio C) → Fare start t → (ds : List AppDuty) → t.a.agenda ≡ ds
-      → IsTrio start (asked k 0 (app_asks_first ds t.a) (seated t.at_a (App t.a)) (world_of t))
-  step_a k start t f [] is = record { trio = t; is = refl; fare = f }
-  step_a k start t f (d ∷ ds) is =
+  -- what a step of an application or of the path makes of it
+  abbrev pub after_a : Ask → Trio C → Trio C
+  after_a ask t = record t { a = app_takes (answer_to t.books ask) t.a; at_a = seat_after ask t.books t.at_a; books = after_entry ask t.at_a.pass t.books }
+
+  abbrev pub after_b : Ask → Trio C → Trio C
+  after_b ask t = record t { b = app_takes (answer_to t.books ask) t.b; at_b = seat_after ask t.books t.at_b; books = after_entry ask t.at_b.pass t.books }
+
+  abbrev pub after_p : Codec C → Ask → Trio C → Trio C
+  after_p k ask t = record t { p = takes k (answer_to t.books ask) t.p; at_p = seat_after ask t.books t.at_p; books = after_entry ask t.at_p.pass t.books }
+
+  pub fare_after_a : (start : Start) (t : Trio C) → Fare start t → (d : AppDuty) (ds : List AppDuty) → t.a.agenda ≡ d ∷ ds → Fare start (after_a (app_ask d t.a) t)
+  fare_after_a start t f d ds is =
       let six = books_in t.books in let ask = app_ask d t.a in
       let same = sym (books_after ask t.at_a.pass t.books) in
       record {
-        trio = record t { a = app_takes (answer_to t.books ask) t.a; at_a = seat_after ask t.books t.at_a; books = after_entry ask t.at_a.pass t.books };
-        is = refl;
-        fare = record {
-          a = subst (λ x. Fares A start.file_a (app_takes (answer_to t.books ask) t.a) x.send_a) same (app_fares A start.file_a six t.a d ds is f.a);
-          b = subst (λ x. Fares B start.file_b t.b x.send_b) same
-              (subst (Fares B start.file_b t.b) (sym (app_leaves_b d t.a six f.a.side_is)) f.b);
-          p = f.p;
-        };
+        a = subst (λ x. Fares A start.file_a (app_takes (answer_to t.books ask) t.a) x.send_a) same (app_fares A start.file_a six t.a d ds is f.a);
+        b = subst (λ x. Fares B start.file_b t.b x.send_b) same
+            (subst (Fares B start.file_b t.b) (sym (app_leaves_b d t.a six f.a.side_is)) f.b);
+        p = f.p;
       }
 
-  step_b : (k : Codec C) (start : Start) (t : Trio C) → Fare start t → (ds : List AppDuty) → t.b.agenda ≡ ds
-      → IsTrio start (asked k 1 (app_asks_first ds t.b) (seated t.at_b (App t.b)) (world_of t))
-  step_b k start t f [] is = record { trio = t; is = refl; fare = f }
-  step_b k start t f (d ∷ ds) is =
+  pub fare_after_b : (start : Start) (t : Trio C) → Fare start t → (d : AppDuty) (ds : List AppDuty) → t.b.agenda ≡ d ∷ ds → Fare start (after_b (app_ask d t.b) t)
+  fare_after_b start t f d ds is =
       let six = books_in t.books in let ask = app_ask d t.b in
       let same = sym (books_after ask t.at_b.pass t.books) in
       record {
-        trio = record t { b = app_takes (answer_to t.books ask) t.b; at_b = seat_after ask t.books t.at_b; books = after_entry ask t.at_b.pass t.books };
-        is = refl;
-        fare = record {
-          a = subst (λ x. Fares A start.file_a t.a x.send_a) same
-              (subst (Fares A start.file_a t.a) (sym (app_leaves_a d t.b six f.b.side_is)) f.a);
-          b = subst (λ x. Fares B start.file_b (app_takes (answer_to t.books ask) t.b) x.send_b) same (app_fares B start.file_b six t.b d ds is f.b);
-          p = f.p;
-        };
+        a = subst (λ x. Fares A start.file_a t.a x.send_a) same
+            (subst (Fares A start.file_a t.a) (sym (app_leaves_a d t.b six f.b.side_is)) f.a);
+        b = subst (λ x. Fares B start.file_b (app_takes (answer_to t.books ask) t.b) x.send_b) same (app_fares B start.file_b six t.b d ds is f.b);
+        p = f.p;
       }
 
-  step_p : (k : Codec C) (start : Start) (t : Trio C) → Fare start t → (ds : List Duty) → t.p.agenda ≡ ds
-      → IsTrio start (asked k 2 (asks_first k ds t.p) (seated t.at_p (Path t.p)) (world_of t))
-  step_p k start t f [] is = record { trio = t; is = refl; fare = f }
-  step_p k start t f (d ∷ ds) is =
+  pub fare_after_p : (k : Codec C) (start : Start) (t : Trio C) → Fare start t → (d : Duty) → Fare start (after_p k (ask_for k d t.p) t)
+  fare_after_p k start t f d =
       let six = books_in t.books in let ask = ask_for k d t.p in
       let same = sym (books_after ask t.at_p.pass t.books) in
       let leaves = asks_leave k t.p d in
       record {
-        trio = record t { p = takes k (answer_to t.books ask) t.p; at_p = seat_after ask t.books t.at_p; books = after_entry ask t.at_p.pass t.books };
-        is = refl;
-        fare = record {
-          a = subst (λ x. Fares A start.file_a t.a x.send_a) same (other_fares A start.file_a t.a six.send_a _ (path_leaves_a start.file_a t.a.rest ask six leaves f.a.writes) f.a);
-          b = subst (λ x. Fares B start.file_b t.b x.send_b) same (other_fares B start.file_b t.b six.send_b _ (path_leaves_b start.file_b t.b.rest ask six leaves f.b.writes) f.b);
-          p = takes_shaped k (answer_to t.books ask) t.p f.p;
-        };
+        a = subst (λ x. Fares A start.file_a t.a x.send_a) same (other_fares A start.file_a t.a six.send_a _ (path_leaves_a start.file_a t.a.rest ask six leaves f.a.writes) f.a);
+        b = subst (λ x. Fares B start.file_b t.b x.send_b) same (other_fares B start.file_b t.b six.send_b _ (path_leaves_b start.file_b t.b.rest ask six leaves f.b.writes) f.b);
+        p = takes_shaped k (answer_to t.books ask) t.p f.p;
       }
+
+  step_a : (k : Codec C) (start : Start) (t : Trio C) → Fare start t → (ds : List AppDuty) → t.a.agenda ≡ ds
+      → IsTrio start (asked k 0 (app_asks_first ds t.a) (seated t.at_a (App t.a)) (world_of t))
+  step_a k start t f [] is = record { trio = t; is = refl; fare = f }
+  step_a k start t f (d ∷ ds) is = record { trio = after_a (app_ask d t.a) t; is = refl; fare = fare_after_a start t f d ds is }
+
+  step_b : (k : Codec C) (start : Start) (t : Trio C) → Fare start t → (ds : List AppDuty) → t.b.agenda ≡ ds
+      → IsTrio start (asked k 1 (app_asks_first ds t.b) (seated t.at_b (App t.b)) (world_of t))
+  step_b k start t f [] is = record { trio = t; is = refl; fare = f }
+  step_b k start t f (d ∷ ds) is = record { trio = after_b (app_ask d t.b) t; is = refl; fare = fare_after_b start t f d ds is }
+
+  step_p : (k : Codec C) (start : Start) (t : Trio C) → Fare start t → (ds : List Duty) → t.p.agenda ≡ ds
+      → IsTrio start (asked k 2 (asks_first k ds t.p) (seated t.at_p (Path t.p)) (world_of t))
+  step_p k start t f [] is = record { trio = t; is = refl; fare = f }
+  step_p k start t f (d ∷ ds) is = record { trio = after_p k (ask_for k d t.p) t; is = refl; fare = fare_after_p k start t f d }
 
   step_trio : (k : Codec C) (start : Start) (actor : ℕ) (t : Trio C) → Fare start t → IsTrio start (world_step k actor (world_of t))
   step_trio k start zero t f = step_a k start t f t.a.agenda refl
@@ -254,25 +261,32 @@ module _ {C : Type 0} where
   step_trio k start (suc (suc zero)) t f = step_p k start t f t.p.agenda refl
   step_trio k start (suc (suc (suc actor))) t f = record { trio = t; is = refl; fare = f }
 
+  -- where each turn ended the next round begins
+  abbrev pub next_trio : Trio C → Trio C
+  next_trio t =
+      let stamp = greatest 0 (world_of t).crew in
+      record t {
+        a = app_next_round t.a;
+        b = app_next_round t.b;
+        p = next_round t.p;
+        at_a = raised_to stamp t.at_a;
+        at_b = raised_to stamp t.at_b;
+        at_p = raised_to stamp t.at_p;
+      }
+
+  pub next_fare : (start : Start) (t : Trio C) → Fare start t → Fare start (next_trio t)
+  next_fare start t f = record {
+    a = next_fares A start.file_a t.a _ f.a;
+    b = next_fares B start.file_b t.b _ f.b;
+    p = begun_shaped (record t.p { clock = t.p.until; until = t.p.until + 100 });
+  }
+
   round_trio : (start : Start) (t : Trio C) → Fare start t → IsTrio start (end_round (world_of t))
   round_trio start t f = by (all_over (world_of t).crew)
     where
       by : (over : Bool) → IsTrio start (if over then record (world_of t) { crew = map (begins (greatest 0 (world_of t).crew)) (world_of t).crew } else world_of t)
       by false = record { trio = t; is = refl; fare = f }
-      by true =
-          let stamp = greatest 0 (world_of t).crew in
-          record {
-            trio = record t {
-              a = app_next_round t.a;
-              b = app_next_round t.b;
-              p = next_round t.p;
-              at_a = raised_to stamp t.at_a;
-              at_b = raised_to stamp t.at_b;
-              at_p = raised_to stamp t.at_p;
-            };
-            is = refl;
-            fare = record { a = next_fares A start.file_a t.a _ f.a; b = next_fares B start.file_b t.b _ f.b; p = begun_shaped (record t.p { clock = t.p.until; until = t.p.until + 100 }) };
-          }
+      by true = record { trio = next_trio t; is = refl; fare = next_fare start t f }
 
   turn_trio : (k : Codec C) (start : Start) (turn : Turn) (w : WorldState C) → IsTrio start w → IsTrio start (after_turn k turn w)
   turn_trio k start (Turn.Step actor) w h = subst (λ v. IsTrio start (world_step k actor v)) (sym h.is) (step_trio k start actor h.trio h.fare)
@@ -282,24 +296,26 @@ module _ {C : Type 0} where
   run_trio k start [] w h = h
   run_trio k start (turn ∷ turns) w h = run_trio k start turns (after_turn k turn w) (turn_trio k start turn w h)
 
-  opened_trio : (start : Start) → IsTrio start (opened_world start)
-  opened_trio start = record {
-    trio = record {
-      a = first_app_turn A start.profile.buffer start.file_a;
-      b = first_app_turn B start.profile.buffer start.file_b;
-      p = first_turn start.profile start.drawn start.delay start.lines;
-      at_a = new_seat 0;
-      at_b = new_seat 1;
-      at_p = new_seat 2;
-      books = unasked (opened_books start.profile.buffer start.drawn.key_a start.drawn.key_b);
-    };
-    is = refl;
-    fare = record {
-      a = opened_fares A start.profile.buffer start.file_a _ refl refl;
-      b = opened_fares B start.profile.buffer start.file_b _ refl refl;
-      p = begun_shaped {C = C} (waiting_path start.profile start.drawn start.delay start.lines);
-    };
+  abbrev pub first_trio : Start → Trio C
+  first_trio start = record {
+    a = first_app_turn A start.profile.buffer start.file_a;
+    b = first_app_turn B start.profile.buffer start.file_b;
+    p = first_turn start.profile start.drawn start.delay start.lines;
+    at_a = new_seat 0;
+    at_b = new_seat 1;
+    at_p = new_seat 2;
+    books = unasked (opened_books start.profile.buffer start.drawn.key_a start.drawn.key_b);
   }
+
+  pub first_fare : (start : Start) → Fare start (first_trio start)
+  first_fare start = record {
+    a = opened_fares A start.profile.buffer start.file_a _ refl refl;
+    b = opened_fares B start.profile.buffer start.file_b _ refl refl;
+    p = begun_shaped {C = C} (waiting_path start.profile start.drawn start.delay start.lines);
+  }
+
+  opened_trio : (start : Start) → IsTrio start (opened_world start)
+  opened_trio start = record { trio = first_trio start; is = refl; fare = first_fare start }
 
   pub always_trio : (k : Codec C) (start : Start) (turns : List Turn) → IsTrio start (world_run k turns (opened_world start))
   always_trio k start turns = run_trio k start turns (opened_world start) (opened_trio start)

@@ -1,4 +1,5 @@
--- Lists of turns in which each copy that arrives is fresh: it can be said, and its numbers are near those that its end expects.
+-- Lists of turns in which each copy that arrives is fresh: it can be said, and its numbers are near those that its end expects,
+-- but for the position of a reset far ahead.
 use Rattle.std.specs.Prelude.{ℕ, Option, Some, None, List, [], ◌∷◌, slice_get, map}
 use Rattle.path_core.specs.State.{PathState}
 use Rattle.path_core.specs.Shown.{shown_path, NextIsFresh, ChangesNothing}

@@ -1,11 +1,12 @@
 -- What is promised of a connection over every list of turns.
-use Rattle.std.specs.Prelude.{ℕ, ◌≡◌, true, Some, None, List, [], slice_get}
+use Rattle.std.specs.Prelude.{ℕ, ◌≡◌, ◌≤◌, true, Some, None, List, [], slice_get}
 use Rattle.pipe_model.specs.Prefix.{IsPrefix}
 use Rattle.send_book.specs.State.{Sending}
 use Rattle.actor_desk.specs.Books.{books_in}
 use Rattle.path_core.specs.Codec.{Codec}
 use Rattle.path_core.specs.Octets.{octets}
 use Rattle.path_core.specs.Values.{Carried, values}
+use Rattle.path_core.specs.Emission.{payload_size}
 use Rattle.path_core.specs.Events.{next_event}
 use Rattle.world_laws.specs.declared.member.Member.TheVariants.{App, Path}
 use Rattle.world_laws.specs.Actors.{Actor, ActorCrew}
@@ -13,7 +14,7 @@ use Rattle.world_laws.specs.Fine.{IsFine}
 use Rattle.world_laws.specs.Fresh.{AreFresh, shown_world}
 use Rattle.world_laws.specs.Openings.{Start, opened_world}
 use Rattle.world_laws.specs.Serial.{IsSerial}
-use Rattle.world_laws.specs.Worlds.{WorldState, Turn, after_turn, world_run}
+use Rattle.world_laws.specs.Worlds.{WorldState, Turn, after_turn, world_run, AreLawful}
 
 -- what a book has as written is the front of a file, and all of it where the book is closed
 pub record WritesTheFile (file : List ℕ) (send : Sending) : Type 0 where
@@ -32,6 +33,11 @@ IsDone (Path p) = p.agenda ≡ [] → next_event p ≡ None
 pub record NothingDueIsLeft {C : Type 0} (w : WorldState C) : Type 0 where
   pub each : (actor : ℕ) (c : ActorCrew C) → slice_get w.crew actor ≡ Some c → IsDone c.member
 
+-- a segment is on its way for a tick at least, and a full one has a byte of payload at least
+pub record CanRun (start : Start) : Type 0 where
+  pub delay : 1 ≤ start.delay
+  pub payload : 1 ≤ payload_size start.profile
+
 module _ {C : Type 0} (k : Codec C) where
   -- P holds of a connection at every moment, in whatever order its actors go
   abbrev pub Always : (Start → WorldState C → Type 0) → Type 0
@@ -40,6 +46,11 @@ module _ {C : Type 0} (k : Codec C) where
   -- there is one list of serial turns at most
   abbrev pub SerialIsOne : Type 0
   SerialIsOne = (w : WorldState C) (most : ℕ) (ts us : List Turn) → IsSerial k most ts w → IsSerial k most us w → ts ≡ us
+
+  -- from each moment on, for every number of rounds, there are serial turns, and they are lawful: whatever the books answer,
+  -- each turn of an actor ends
+  abbrev pub SerialExists : Type 0
+  SerialExists = Always (λ start w. CanRun start → (most : ℕ) → (turns : List Turn) × IsSerial k most turns w × AreLawful k turns w)
 
   -- a step or a round's end keeps lists and journals in order, which they are from the opening on
   pub record StaysFine : Type 0 where
@@ -50,3 +61,7 @@ module _ {C : Type 0} (k : Codec C) where
 abbrev pub OctetsDoAsValues : Type 0
 OctetsDoAsValues = (turns : List Turn) (w : WorldState Carried) → AreFresh turns w
     → world_run octets turns (shown_world w) ≡ shown_world (world_run values turns w)
+
+-- P holds of a connection over octets after every list of fresh turns
+abbrev pub AfterFreshTurns : (WorldState (List ℕ) → Type 0) → Type 0
+AfterFreshTurns P = (start : Start) (turns : List Turn) → AreFresh turns (opened_world start) → P (world_run octets turns (opened_world start))

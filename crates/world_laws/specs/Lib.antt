@@ -6,4 +6,8 @@ pub mod Serial
 pub mod Openings
 pub mod Fine
 pub mod Fresh
+pub mod Timely
+pub mod RoundEnd
+pub mod Weaving
+pub mod Promises
 pub mod Laws

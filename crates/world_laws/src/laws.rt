@@ -1,5 +1,9 @@
 //! What holds of every connection, as clauses of functions that do nothing.
-ghost use Rattle.world_laws.specs.Laws.{Always, NothingDueIsLeft, SerialIsOne, StaysFine, OctetsDoAsValues, WritesTheFiles};
+ghost use Rattle.world_laws.specs.Laws.{AfterFreshTurns, Always, NothingDueIsLeft, SerialExists, SerialIsOne, StaysFine, OctetsDoAsValues, WritesTheFiles};
+ghost use Rattle.world_laws.specs.Promises.{BothKeepTheirWord, EachTurnIsOneStep, FreshTurnsAreSteps, IsPromised, IsPromisedOfOctets, KeysNeverDiffer, NothingFollows, NothingFollowsInOctets, NothingWasRefused};
+ghost use Rattle.world_laws.specs.RoundEnd.{GrantsAreDone, ReadersAreDone};
+ghost use Rattle.world_laws.specs.Timely.{EachRoundHasAStep};
+ghost use Rattle.world_laws.specs.Weaving.{RoundsWeave, StepsWeave, WovenDoes};
 ghost use Rattle.path_core.specs.Octets.{octets};
 ghost use Rattle.path_core.specs.Values.{values};
 
@@ -9,6 +13,13 @@ pub fn serial_is_one()
     ensures values { SerialIsOne values }
 {}
 
+/// A law: at every moment there are serial turns for every number of rounds, and they are lawful, as each actor's turn ends
+/// whatever the books answer. A segment has to be on its way for a tick or longer, and a full one to have a payload.
+pub fn serial_exists()
+    ensures octets { SerialExists octets }
+    ensures values { SerialExists values }
+{}
+
 /// A law: in each world that comes about by steps and ends of rounds, lawful or not, lists and journals are paired at every
 /// stamp, stamps rise in each, and they are chained above the greatest stamp at the last round's end.
 pub fn what_is_fine_stays_fine()
@@ -16,9 +27,43 @@ pub fn what_is_fine_stays_fine()
     ensures values { StaysFine values }
 {}
 
+/// A law: at every moment, where the turn of an application is over, it was told that the stream ended or was aborted, or it read
+/// in this turn at least as many octets as a side buffers, or its last read was answered that there is nothing yet.
+pub fn readers_are_done()
+    ensures octets { Always octets (λ start w. ReadersAreDone w) }
+    ensures values { Always values (λ start w. ReadersAreDone w) }
+{}
+
+/// A law: at every moment, where the turn of a path is over, an end that has no record to send and may ask for bytes, with room in
+/// its window for a full segment, was refused its last grant. What it was refused over stands in the send book's journal.
+pub fn grants_are_done()
+    ensures octets { Always octets (λ start w. GrantsAreDone w) }
+    ensures values { Always values (λ start w. GrantsAreDone w) }
+{}
+
+/// A law: at every moment a path has begun no more rounds than its actor has steps, and one more while its turn isn't over. So
+/// rounds are as few as the steps that a list can hold.
+pub fn each_round_has_a_step()
+    ensures octets { Always octets (λ start w. EachRoundHasAStep w) }
+    ensures values { Always values (λ start w. EachRoundHasAStep w) }
+{}
+
+/// A law: the steps of a round, put in order by stamp, then actor, are lawful, and make of the world at the round's beginning
+/// what they made before: the same actors and books, with the same lists and journals. It takes what each actor and each book
+/// did, lists and journals being paired, whoever ordered them; so it speaks of threads, too.
+///
+/// So steps that were made one after the other, in whatever order, come to the same in that order; and so do whole serial
+/// rounds from the opening on, each put in that order and ended.
+pub fn woven_rounds_do_the_same()
+    ensures octets { WovenDoes octets }
+    ensures values { WovenDoes values }
+    ensures steps { StepsWeave octets }
+    ensures rounds { RoundsWeave octets }
+{}
+
 /// A law: a world whose links carry octets is the world whose links carry segments as values, shown in octets, over every list
 /// of turns that are fresh: no line of a script strips or alters a segment, and each copy that arrives can be said, with
-/// numbers near those that its end expects.
+/// numbers near those that its end expects, but for the position of a reset that is 2^31 or more ahead and below 2^32.
 pub fn octets_do_as_values()
     ensures { OctetsDoAsValues }
 {}
@@ -35,4 +80,41 @@ pub fn files_are_written()
 pub fn nothing_due_is_left()
     ensures octets { Always octets (λ start w. NothingDueIsLeft w) }
     ensures values { Always values (λ start w. NothingDueIsLeft w) }
+{}
+
+/// A law: no control book is told another key for its own, as each key that an end hears is one that was drawn (RFC 8684, section
+/// 3.1). Over segments as values this holds whatever the script strips, alters, drops or repeats; over octets where the turns are
+/// fresh.
+pub fn keys_never_differ()
+    ensures values { Always values (λ start w. KeysNeverDiffer w) }
+    ensures octets { AfterFreshTurns (λ w. KeysNeverDiffer w) }
+{}
+
+/// A law: at every moment, in each direction, what the reader got is a prefix of what the writer wrote; what is acknowledged was
+/// received, and what was received was written; where DATA_FIN is acknowledged the stream is closed and all of it was received;
+/// and the end is told only where the stream is closed and the reader has all of it.
+///
+/// The script strips and alters nothing on path 0, the maximum segment size is 29 octets or more, and both files are shorter than
+/// 2^31 - 2 octets. The steps are in any order. Over octets the turns have to be fresh.
+pub fn both_sides_keep_their_word()
+    ensures values { IsPromised BothKeepTheirWord }
+    ensures octets { IsPromisedOfOctets BothKeepTheirWord }
+{}
+
+/// A law: once a reader was told the end it reads nothing more, and nothing more is written for it, by whatever turns follow.
+pub fn nothing_follows_the_end()
+    ensures values { IsPromised (NothingFollows values) }
+    ensures octets { NothingFollowsInOctets }
+{}
+
+/// A law: each turn is on each of the two pipes one step that the pipe allows, or none.
+pub fn each_turn_is_one_pipe_step_or_none()
+    ensures values { IsPromised (EachTurnIsOneStep values) }
+    ensures octets { FreshTurnsAreSteps }
+{}
+
+/// A law: no step of an actor is answered `Beyond`, `FinClash` or `AckFuture`.
+pub fn nothing_is_refused()
+    ensures values { IsPromised NothingWasRefused }
+    ensures octets { IsPromisedOfOctets NothingWasRefused }
 {}

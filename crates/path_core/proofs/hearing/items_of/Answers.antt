@@ -1,9 +1,9 @@
 use Rattle.std.proofs.Common.{◌≡◌, ◌∙◌, sym, ap, subst, List, [], take, All, arith}
 use Rattle.std.specs.List.{flat_map}
 use Rattle.path_segments.specs.HeardSegments.{heard_left}
-use Rattle.path_core.specs.declared.heard.Heard.{Heard}
+use Rattle.path_agenda.specs.declared.heard.Heard.{Heard}
 use Rattle.path_core.specs.Arriving.{HeardOption, items_in}
-use Rattle.path_core.specs.Items.{with_items, IsFair}
+use Rattle.path_agenda.specs.Items.{with_items, IsFair}
 use Rattle.path_core.proofs.Fair.{items_are_fair}
 use Rattle.path_core.proofs.Filling.{with_items-is}
 use Rattle.path_core.proofs.hearing.items_of.Goals as goal

@@ -2,7 +2,7 @@ use Rattle.std.proofs.Common.{◌≡◌, []}
 use Rattle.std.specs.List.{flat_map}
 use Rattle.path_segments.specs.HeardSegments.{heard_left}
 use Rattle.path_core.specs.Arriving.{items_in}
-use Rattle.path_core.specs.Items.{with_items}
+use Rattle.path_agenda.specs.Items.{with_items}
 use Rattle.path_core.proofs.hearing.items_of.Given as goal
 
 abbrev pub invariant-loop-option : goal.invariant-loop-option

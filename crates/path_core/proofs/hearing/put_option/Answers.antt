@@ -1,8 +1,8 @@
 use Rattle.std.proofs.Common.{sym}
 use Rattle.path_core.proofs.Filling.{with_items-append}
 use Rattle.path_core.specs.Arriving.{ack_items, map_items}
-use Rattle.path_core.specs.Items.{with_item}
-use Rattle.path_core.specs.declared.heard.Heard.TheVariants as says
+use Rattle.path_agenda.specs.Items.{with_item}
+use Rattle.path_agenda.specs.declared.heard.Heard.TheVariants as says
 use Rattle.path_core.proofs.hearing.put_option.Goals as goal
 
 pub returns-in-Dss : goal.returns-in-Dss

@@ -1,0 +1,25 @@
+-- What a copy says changes nothing at the end of a turn.
+use Rattle.std.proofs.Common.{◌≡◌, refl, ℕ, zero, suc, ◌+◌, List, arith}
+use Rattle.outside_kit.specs.declared.side.Side.{Side}
+use Rattle.path_agenda.specs.declared.duty.Duty.{Duty}
+use Rattle.path_agenda.specs.Agenda.{heard_and, payload_came}
+use Rattle.path_agenda.specs.Laws.{ends_once, EveryTemplateEnds, EveryChainEnds}
+
+heard_ends : (s : Side) (from count : ℕ) (ds : List Duty) → ends_once (heard_and s from count ds) ≡ ends_once ds
+heard_ends s from zero ds = refl
+heard_ends s from (suc count) ds = heard_ends s (from + 1) count ds
+
+pub templates_end : EveryTemplateEnds
+templates_end s count reason = rw (heard_ends s 0 count (payload_came s)) refl
+
+pub chains_end : EveryChainEnds
+chains_end s index reason = record {
+  heard = omega arith;
+  edge = omega arith;
+  heard_fin = omega arith;
+  ack_heard = omega arith;
+  break_ack = omega arith;
+  break_reset = omega arith;
+  reset = omega arith;
+  leave = omega arith;
+}

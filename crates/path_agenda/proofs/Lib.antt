@@ -1,0 +1,4 @@
+pub mod FirstTold
+mod FirstDss
+mod Things
+mod Ended

@@ -1,0 +1,55 @@
+-- The things that a copy says, one after the other: the first ten count.
+use Rattle.std.specs.Prelude.{ℕ, ◌^◌, ◌<◌, ◌≤◌, nat_lt, if◌then◌else◌, Bool, true, false, Option, Some, None, List, [], ◌∷◌, ◌++◌, length}
+use Rattle.std.specs.Option.{option_or}
+use Rattle.path_agenda.specs.declared.heard.Heard.{Heard}
+use Rattle.path_agenda.specs.declared.heard.Heard.TheVariants as says
+use Rattle.path_agenda.specs.declared.keys.KeyPair.{KeyPair}
+
+abbrev pub with_item : List Heard → Heard → List Heard
+with_item items item = if nat_lt (length items) 10 then items ++ item ∷ [] else items
+
+abbrev pub with_items : List Heard → List Heard → List Heard
+with_items items [] = items
+with_items items (item ∷ others) = with_items (with_item items item) others
+
+abbrev pub is_dss : Heard → Bool
+is_dss says.Dss = true
+is_dss _ = false
+
+-- the places that it names are below 2^62, and an end of the stream at most that
+abbrev pub IsFair : Heard → Type 0
+IsFair (says.DataAck next window) = next < 2 ^ 62
+IsFair (says.DataFin place) = place ≤ 2 ^ 62
+IsFair _ = Unit {0}
+
+-- the place that the Data ACK of the first DSS names
+abbrev pub place_in_first : List Heard → Option ℕ
+place_in_first [] = None
+place_in_first (says.Dss ∷ says.DataAck next window ∷ items) = Some next
+place_in_first (says.Dss ∷ items) = None
+place_in_first (item ∷ items) = place_in_first items
+
+-- what wants an acknowledgement though it occupies no position
+abbrev pub wants_ack : Heard → Bool
+wants_ack (says.DataFin place) = true
+wants_ack (says.Keys own peer) = true
+wants_ack _ = false
+
+-- ---- keys
+
+abbrev pub key_in : Heard → Option ℕ
+key_in (says.PeerKey key) = Some key
+key_in _ = None
+
+-- the first one
+abbrev pub key_heard : List Heard → Option ℕ
+key_heard [] = None
+key_heard (item ∷ items) = option_or (key_in item) (key_heard items)
+
+abbrev pub pair_in : Heard → Option KeyPair
+pair_in (says.Keys own peer) = Some (record { own = own; peer = peer })
+pair_in _ = None
+
+abbrev pub keys_heard : List Heard → Option KeyPair
+keys_heard [] = None
+keys_heard (item ∷ items) = option_or (pair_in item) (keys_heard items)

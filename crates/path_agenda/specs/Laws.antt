@@ -1,0 +1,45 @@
+-- What holds of every template, and of what takes the place of a duty.
+use Rattle.std.specs.Prelude.{◌≡◌, ℕ, ◌<◌, Bool, true, false, List, [], ◌∷◌}
+use Rattle.std.specs.List.{list_all}
+use Rattle.outside_kit.specs.declared.side.Side.{Side}
+use Rattle.path_agenda.specs.declared.duty.Duty.{Duty}
+use Rattle.path_agenda.specs.declared.duty.Duty.TheVariants as duties
+use Rattle.path_agenda.specs.Agenda.{rest_of_turn, emission, start_of_turn, syn_came, syn_ack_came, copy_came, syn_again, answers, answers_dead, expired, expired_for_ever, leaves, breaks, resets}
+use Rattle.path_agenda.specs.Weights.{weights}
+
+-- ---- the end of a turn
+
+-- the last duty is End, and no other one is
+abbrev pub ends_once : List Duty → Bool
+ends_once [] = false
+ends_once (duties.End ∷ []) = true
+ends_once (duties.End ∷ ds) = false
+ends_once (d ∷ ds) = ends_once ds
+
+-- all templates, at an end of this side, for a copy that says so many things and a break with this reason
+abbrev pub templates : Side → ℕ → ℕ → List (List Duty)
+templates s count reason =
+    start_of_turn ∷ rest_of_turn ∷ emission s ∷ syn_came s ∷ syn_ack_came s ∷ copy_came s count ∷ syn_again s ∷ answers s
+    ∷ answers_dead s ∷ expired s ∷ expired_for_ever s ∷ leaves s ∷ breaks s reason ∷ resets s reason ∷ []
+
+abbrev pub EveryTemplateEnds : Type 0
+EveryTemplateEnds = (s : Side) (count reason : ℕ) → list_all ends_once (templates s count reason) ≡ true
+
+-- ---- what takes the place of a duty
+
+-- it is less than the duty was
+pub record ChainsEnd (s : Side) (index reason : ℕ) : Type 0 where
+  -- a break in the place of what a copy said, or of bytes
+  pub heard : weights (breaks s reason) < weights (duties.Heard s index ∷ [])
+  pub edge : weights (breaks s reason) < weights (duties.Edge s ∷ [])
+  pub heard_fin : weights (breaks s reason) < weights (duties.HeardFin s index ∷ [])
+  -- a Data ACK that covers something
+  pub ack_heard : weights (duties.AckHeard s ∷ []) < weights (duties.Heard s index ∷ [])
+  -- from a break to the reset, and from a reset to the death
+  pub break_ack : weights (resets s reason) < weights (duties.BreakAck s reason ∷ [])
+  pub break_reset : weights (leaves s) < weights (duties.BreakReset s reason ∷ [])
+  pub reset : weights (leaves s) < weights (duties.Reset s ∷ [])
+  pub leave : weights (duties.Dead s ∷ []) < weights (duties.Leave s ∷ [])
+
+abbrev pub EveryChainEnds : Type 0
+EveryChainEnds = (s : Side) (index reason : ℕ) → ChainsEnd s index reason

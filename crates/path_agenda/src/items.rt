@@ -1,0 +1,100 @@
+//! The things that a copy says, in their order.
+
+ghost use Rattle.std.specs.Prelude.{◌≡◌, ◌∷◌};
+ghost use Rattle.std.specs.List.{list_any};
+ghost use Rattle.path_agenda.specs.declared.heard.Heard.TheVariants as says;
+ghost use Rattle.path_agenda.specs.Items.{is_dss, place_in_first, wants_ack, key_in, key_heard, pair_in, keys_heard};
+
+use crate::heard::Heard;
+use crate::keys::KeyPair;
+use arrayvec::ArrayVec;
+
+/// The things that a copy says. There are at most ten in forty octets of options.
+pub type Items = ArrayVec<Heard, 10>;
+
+/// It says that a DSS came.
+fn is_dss(item: Heard) -> bool
+    ensures { result ≡ is_dss item }
+{
+    matches!(item, Heard::Dss)
+}
+
+/// The place that the Data ACK of the first DSS names, where it has one: a Data ACK stands right behind its DSS.
+pub fn place_in_first(items: &[Heard]) -> Option<u64>
+    ensures { result ≡ place_in_first items.now }
+{
+    for index in 0..items.len() {
+        if is_dss(items[index]) {
+            return place_in(&items[index + 1..]);
+        }
+    }
+    None
+}
+
+/// The place of a Data ACK that stands first.
+fn place_in(items: &[Heard]) -> Option<u64>
+    ensures { result ≡ place_in_first (says.Dss ∷ items.now) }
+{
+    match items {
+        [Heard::DataAck { next, .. }, ..] => Some(*next),
+        _ => None,
+    }
+}
+
+/// What wants an acknowledgement though it occupies no position.
+fn wants_ack(item: Heard) -> bool
+    ensures { result ≡ wants_ack item }
+{
+    matches!(item, Heard::DataFin { .. } | Heard::Keys { .. })
+}
+
+/// Whether one of these things wants an acknowledgement though it occupies no position: a DATA_FIN, or both keys.
+pub fn one_wants_ack(items: &[Heard]) -> bool
+    ensures { result ≡ list_any wants_ack items.now }
+{
+    items.iter().any(|item| wants_ack(*item))
+}
+
+/// The key that a thing tells alone.
+fn key_in(item: Heard) -> Option<u64>
+    ensures { result ≡ key_in item }
+{
+    match item {
+        Heard::PeerKey { key } => Some(key),
+        _ => None,
+    }
+}
+
+/// The two keys that a thing tells.
+fn pair_in(item: Heard) -> Option<KeyPair>
+    ensures { result ≡ pair_in item }
+{
+    match item {
+        Heard::Keys { own, peer } => Some(KeyPair { own, peer }),
+        _ => None,
+    }
+}
+
+/// The first key that one of these things tells alone.
+pub fn key_heard(items: &[Heard]) -> Option<u64>
+    ensures { result ≡ key_heard items.now }
+{
+    for item in items {
+        if let Some(key) = key_in(*item) {
+            return Some(key);
+        }
+    }
+    None
+}
+
+/// The first two keys that one of these things tells.
+pub fn keys_heard(items: &[Heard]) -> Option<KeyPair>
+    ensures { result ≡ keys_heard items.now }
+{
+    for item in items {
+        if let Some(keys) = pair_in(*item) {
+            return Some(keys);
+        }
+    }
+    None
+}

@@ -1,0 +1,238 @@
+//! What is to be done in a turn, and after each kind of event. A rule that is added to one of them has to be a duty.
+
+ghost use Rattle.std.specs.Prelude.{◌≡◌, ◌≤◌, ◌∷◌};
+ghost use Rattle.path_agenda.specs.Agenda.{things_heard, rest_of_turn, emission, start_of_turn, syn_came, syn_ack_came, payload_came, copy_came, syn_again, answers, answers_dead, expired, expired_for_ever, leaves, breaks, resets};
+
+use crate::agenda::Agenda;
+use crate::duty::Duty;
+use outside_kit::Side;
+
+impl Agenda {
+    /// What follows what the ends do: the events of the round, and then the end of the turn.
+    pub fn rest_of_turn() -> Self
+        ensures { result ≡ rest_of_turn }
+    {
+        Agenda::of(&[Duty::Events, Duty::End])
+    }
+
+    /// What follows every event at an end: what it sends, and then the next events.
+    pub fn emission(side: Side) -> Self
+        ensures { result ≡ emission side }
+    {
+        Agenda::of(&[
+            Duty::Syn(side),
+            Duty::Data(side),
+            Duty::DataFin(side),
+            Duty::Fin(side),
+            Duty::Timer(side),
+            Duty::Events,
+            Duty::End,
+        ])
+    }
+
+    /// A turn, from its start: both ends look at how their sides stand, tell their windows, and send what they may.
+    pub fn start_of_turn() -> Self
+        ensures { result ≡ start_of_turn }
+    {
+        let (a, b) = (Side::A, Side::B);
+        Agenda::of(&[
+            Duty::Look(a),
+            Duty::Look(b),
+            Duty::Window(a),
+            Duty::Update(a),
+            Duty::Window(b),
+            Duty::Update(b),
+            Duty::Syn(a),
+            Duty::Data(a),
+            Duty::DataFin(a),
+            Duty::Fin(a),
+            Duty::Timer(a),
+            Duty::Syn(b),
+            Duty::Data(b),
+            Duty::DataFin(b),
+            Duty::Fin(b),
+            Duty::Timer(b),
+            Duty::Events,
+            Duty::End,
+        ])
+    }
+
+    /// One duty, and then what an end sends.
+    fn before_emission(duty: Duty, side: Side) -> Self
+        ensures { result ≡ duty ∷ emission side }
+    {
+        Agenda::of(&[
+            duty,
+            Duty::Syn(side),
+            Duty::Data(side),
+            Duty::DataFin(side),
+            Duty::Fin(side),
+            Duty::Timer(side),
+            Duty::Events,
+            Duty::End,
+        ])
+    }
+
+    /// One duty, and then the rest of the turn.
+    fn before_rest(duty: Duty) -> Self
+        ensures { result ≡ duty ∷ rest_of_turn }
+    {
+        Agenda::of(&[duty, Duty::Events, Duty::End])
+    }
+
+    /// The SYN of the peer came: its window is told, and then the SYN/ACK goes out.
+    pub fn syn_came(side: Side) -> Self
+        ensures { result ≡ syn_came side }
+    {
+        Agenda::of(&[
+            Duty::SynHeard(side),
+            Duty::SynAck(side),
+            Duty::Syn(side),
+            Duty::Data(side),
+            Duty::DataFin(side),
+            Duty::Fin(side),
+            Duty::Timer(side),
+            Duty::Events,
+            Duty::End,
+        ])
+    }
+
+    /// The SYN/ACK came: its window is told, the peer's key, and that the path lives; then it is acknowledged.
+    pub fn syn_ack_came(side: Side) -> Self
+        ensures { result ≡ syn_ack_came side }
+    {
+        Agenda::of(&[
+            Duty::SynAnswered(side),
+            Duty::PeerKey(side),
+            Duty::Live(side),
+            Duty::Acknowledge(side),
+            Duty::Syn(side),
+            Duty::Data(side),
+            Duty::DataFin(side),
+            Duty::Fin(side),
+            Duty::Timer(side),
+            Duty::Events,
+            Duty::End,
+        ])
+    }
+
+    /// What follows what a copy says: its payload, and the answers.
+    fn payload_came(side: Side) -> Self
+        ensures { result ≡ payload_came side }
+    {
+        Agenda::of(&[
+            Duty::Keep(side),
+            Duty::Edge(side),
+            Duty::HeardFin { side, index: 0 },
+            Duty::HeardFin { side, index: 1 },
+            Duty::PassFin(side),
+            Duty::AckOut(side),
+            Duty::Rate(side),
+            Duty::Acknowledge(side),
+            Duty::Again(side),
+            Duty::Syn(side),
+            Duty::Data(side),
+            Duty::DataFin(side),
+            Duty::Fin(side),
+            Duty::Timer(side),
+            Duty::Events,
+            Duty::End,
+        ])
+    }
+
+    /// A copy is taken, which says so many things, ten at most.
+    #[tactic(auto, using(crate::proofs::Things::heard_first))]
+    pub fn copy_came(side: Side, count: usize) -> Self
+        requires { count ≤ 10 }
+        ensures { result ≡ copy_came side count }
+    {
+        let mut agenda = Agenda::of(&[Duty::Opened(side), Duty::Live(side)]);
+        agenda.put_last(&things_heard(side)[..count]);
+        agenda.put_last(Agenda::payload_came(side).as_slice());
+        agenda
+    }
+
+    /// The SYN came again: so does the SYN/ACK.
+    pub fn syn_again(side: Side) -> Self
+        ensures { result ≡ syn_again side }
+    {
+        Agenda::before_emission(Duty::SynAck(side), side)
+    }
+
+    /// A copy came that is answered.
+    pub fn answers(side: Side) -> Self
+        ensures { result ≡ answers side }
+    {
+        Agenda::before_emission(Duty::Answer(side), side)
+    }
+
+    /// A copy came at a dead end, which answers by a reset.
+    pub fn answers_dead(side: Side) -> Self
+        ensures { result ≡ answers_dead side }
+    {
+        Agenda::before_rest(Duty::ResetAnswer(side))
+    }
+
+    /// The timer ran out: what isn't acknowledged is given back, and what was lost is sent again.
+    pub fn expired(side: Side) -> Self
+        ensures { result ≡ expired side }
+    {
+        Agenda::of(&[
+            Duty::Return(side),
+            Duty::Resend(side),
+            Duty::Syn(side),
+            Duty::Data(side),
+            Duty::DataFin(side),
+            Duty::Fin(side),
+            Duty::Timer(side),
+            Duty::Events,
+            Duty::End,
+        ])
+    }
+
+    /// The timer ran out for the sixth time in a row: a reset, and nothing more is sent.
+    pub fn expired_for_ever(side: Side) -> Self
+        ensures { result ≡ expired_for_ever side }
+    {
+        Agenda::before_rest(Duty::Reset(side))
+    }
+
+    /// The end died: it leaves.
+    pub fn leaves(side: Side) -> Self
+        ensures { result ≡ leaves side }
+    {
+        Agenda::before_rest(Duty::Leave(side))
+    }
+
+    /// The path breaks, with this reason (RFC 8684, section 3.6): it is asked once more what is to be acknowledged.
+    pub fn breaks(side: Side, reason: u8) -> Self
+        ensures { result ≡ breaks side reason }
+    {
+        Agenda::before_rest(Duty::BreakAck { side, reason })
+    }
+
+    /// The path breaks, and what is to be acknowledged was told: a reset with this reason (RFC 8684, section 3.6).
+    pub fn resets(side: Side, reason: u8) -> Self
+        ensures { result ≡ resets side reason }
+    {
+        Agenda::before_rest(Duty::BreakReset { side, reason })
+    }
+}
+
+/// The things that a copy may say, in their order.
+fn things_heard(side: Side) -> [Duty; 10]
+    ensures { result ≡ things_heard side }
+{
+    [
+        Duty::Heard { side, index: 0 },
+        Duty::Heard { side, index: 1 },
+        Duty::Heard { side, index: 2 },
+        Duty::Heard { side, index: 3 },
+        Duty::Heard { side, index: 4 },
+        Duty::Heard { side, index: 5 },
+        Duty::Heard { side, index: 6 },
+        Duty::Heard { side, index: 7 },
+        Duty::Heard { side, index: 8 },
+        Duty::Heard { side, index: 9 },
+    ]
+}

@@ -1,0 +1,172 @@
+-- A reset far ahead of what an end expects does the same to it, whether its position is heard or not.
+use Rattle.std.proofs.Common.{◌≡◌, refl, sym, ◌∙◌, ap, ℕ, ◌+◌, ◌-◌, ◌^◌, ◌<◌, ◌≤◌, ◌⊎◌, inl, inr, ⊎_elim, nat_lt, ◌&&◌, ◌||◌, Bool, true, false, if◌then◌else◌, Option, Some, None, option_map, unwrap_or, arith}
+use Rattle.std.proofs.lemmas.Bool.{cases_lt}
+use Rattle.std.proofs.lemmas.Int.{ints}
+use Rattle.std.specs.Option.{IsSome}
+use Rattle.std.specs.Result.{result_ok}
+use Rattle.seq_units.specs.Number.{number_of, position_near}
+use Rattle.segment_wire.proofs.Again.{segment_meaning-written}
+use Rattle.outside_kit.specs.declared.side.Side.{Side}
+use Rattle.path_segments.specs.declared.expected.Expected.{Expected}
+use Rattle.path_segments.specs.declared.spelling.Side.{Side as SpelledSide}
+use Rattle.path_segments.specs.declared.spelling.Spelling.{Spelling}
+use Rattle.path_segments.specs.Spelling.{numbers_of, peer_of, addresses_from}
+use Rattle.path_segments.specs.Spelled.{PlainSegment, CanSay, spelled, spelled_text}
+use Rattle.path_segments.specs.Heard.{heard_in, heard_segment}
+use Rattle.path_segments.specs.HeardLent.{IsExpected}
+use Rattle.path_segments.specs.Laws.{IsPositionFresh, meant}
+use Rattle.path_segments.proofs.SegmentsAgain.{four, written, heard_as_meant}
+use Rattle.subflow_tcp.specs.declared.handshake.State.{State as EndPhase}
+use Rattle.subflow_tcp.specs.declared.handshake.State.TheVariants as phase
+use Rattle.subflow_tcp.specs.declared.segments.Outgoing.{Outgoing}
+use Rattle.subflow_tcp.specs.declared.verdicts.Meaning.{Meaning}
+use Rattle.subflow_tcp.specs.declared.verdicts.Meaning.TheVariants as means
+use Rattle.subflow_tcp.specs.Judging.{is_in_window, is_acceptable, is_repeated_syn, meaning_answering, meaning_within, meaning_connected, meaning_at, meaning_of}
+use Rattle.subflow_tcp.specs.Segments.{Copy, occupied}
+use Rattle.subflow_tcp.specs.State.{EndState, is_at_limit}
+use Rattle.path_core.specs.Arriving.{acknowledged_in, copy_of, items_of, held_of, zero_position, reset_by, reset_for, with_held, after_copy, after_meaning, template_of}
+use Rattle.path_core.specs.Codec.{HeardSegment}
+use Rattle.path_core.specs.Ends.{PathEnd}
+use Rattle.path_core.specs.Events.{copy_heard}
+use Rattle.path_core.specs.Shown.{IsFarReset}
+use Rattle.path_core.specs.State.{PathState, Profile, end_at, goes_on}
+
+-- without its position
+abbrev pub unplaced : HeardSegment → HeardSegment
+unplaced h = record h { position = None }
+
+-- ---- what octets tell
+
+far_is_nowhere : (base expected position : ℕ) → expected + 2 ^ 31 ≤ position → position < 2 ^ 32
+    → position_near (2 ^ 32) base expected (number_of (2 ^ 32) base position) ≡ None
+unfolding position_near
+far_is_nowhere base expected position ahead low = grind arith
+
+module _ (spelling : Spelling) (from : SpelledSide) (expected : Expected) where
+  from_text : (s : PlainSegment) → CanSay spelling from s
+      → heard_in spelling from expected (spelled_text spelling from s) ≡ Some (heard_segment spelling from expected (spelled spelling from s))
+  from_text s can =
+      ap (λ r. option_map (heard_segment spelling from expected) (result_ok r))
+      (segment_meaning-written (addresses_from spelling.path from) (spelled spelling from s)
+      (four spelling.path from) (four spelling.path (peer_of from)) (written spelling from s can))
+
+  module _ (s : PlainSegment) (can : CanSay spelling from s) (far : IsFarReset spelling from expected s) where
+    -- the same reset at the position that is expected
+    abbrev moved : PlainSegment
+    moved = record s { position = expected.edge }
+
+    can_move : CanSay spelling from moved
+    can_move = record { path = can.path; window = can.window; options = can.options; room = can.room; fits = can.fits }
+
+    position_alone : heard_segment spelling from expected (spelled spelling from s)
+        ≡ unplaced (heard_segment spelling from expected (spelled spelling from moved))
+    unfolding spelled
+    position_alone = rw (far_is_nowhere (numbers_of spelling from).initial.0 expected.edge s.position far.ahead far.low) refl
+
+    pub far_heard : IsExpected expected → heard_in spelling from expected (spelled_text spelling from s) ≡ Some (unplaced (meant s))
+    far_heard is =
+        from_text s can ∙ ap (λ h. Some h) position_alone
+        ∙ ap (option_map unplaced) (sym (from_text moved can_move) ∙ heard_as_meant spelling from expected moved can_move is far.others)
+
+-- ---- what it means for the subflow
+
+far_outside : (edge pos : ℕ) → edge + 2 ^ 31 ≤ pos → is_in_window edge pos ≡ false
+far_outside edge pos far = grind arith
+
+far_unacceptable : (edge pos len : ℕ) → edge + 2 ^ 31 ≤ pos → is_acceptable edge pos len ≡ false
+far_unacceptable edge pos len far = by (nat_lt 0 len) (far_outside edge pos far) (far_outside edge (pos + (len - 1)) (omega (arith, far)))
+  where
+    by : (b : Bool) → is_in_window edge pos ≡ false → is_in_window edge (pos + (len - 1)) ≡ false
+        → (is_in_window edge pos || (b && is_in_window edge (pos + (len - 1)))) ≡ false
+    by true first last = rw (first, last) refl
+    by false first last = rw first refl
+
+module _ (c : Copy) (pos : ℕ) (tcp : EndState) (far : tcp.recv.edge + 2 ^ 31 ≤ pos) where
+  abbrev placed : Copy
+  placed = record c { rst = true; position = Some pos }
+
+  abbrev nowhere : Copy
+  nowhere = record c { rst = true; position = None }
+
+  connected : meaning_connected nowhere tcp ≡ meaning_connected placed tcp
+  connected =
+      ap (λ (b : Bool). if is_at_limit tcp then means.Ignored
+      else (if is_repeated_syn placed tcp then means.RepeatedSyn else (if b then meaning_within pos placed tcp else means.Ignored)))
+      (sym (far_unacceptable tcp.recv.edge pos (occupied c) far))
+
+  answering : (acknowledged : Option ℕ) → meaning_answering acknowledged nowhere tcp ≡ meaning_answering acknowledged placed tcp
+  answering None = refl
+  answering (Some acknowledged) = refl
+
+  by_phase : (state : EndPhase) → meaning_at state nowhere tcp ≡ meaning_at state placed tcp
+  by_phase phase.Dead = refl
+  by_phase phase.Waiting = refl
+  by_phase phase.Listen = refl
+  by_phase phase.SynSent = ap (λ (m : Meaning). if is_at_limit tcp then means.Ignored else m) (answering c.acknowledged)
+  by_phase phase.SynReceived = connected
+  by_phase phase.Established = connected
+  by_phase phase.FinWait1 = connected
+  by_phase phase.FinWait2 = connected
+  by_phase phase.CloseWait = connected
+  by_phase phase.Closing = connected
+  by_phase phase.LastAck = connected
+  by_phase phase.TimeWait = connected
+
+  pub same_meaning : meaning_of nowhere tcp ≡ meaning_of placed tcp
+  same_meaning = by_phase tcp.state
+
+-- ---- what it makes of the end
+
+same_answer : (c : Profile) (s : Side) (position another occupied : ℕ) (acknowledged : Option (Option ℕ)) → IsSome acknowledged
+    → reset_by c s (acknowledged_in acknowledged) position occupied ≡ reset_by c s (acknowledged_in acknowledged) another occupied
+same_answer c s position another occupied (Some heard) some = refl
+same_answer c s position another occupied None some = absurd (cc some)
+
+module _ (s : Side) (now : ℕ) (h : HeardSegment) where
+  same_effect : (answer : Outgoing) (m : Meaning) (e : PathEnd) → after_copy answer s now (unplaced h) m e ≡ after_copy answer s now h m e
+  same_effect answer means.Ignored e = refl
+  same_effect answer means.Unwanted e = refl
+  same_effect answer means.Opens e = refl
+  same_effect answer (means.Accepts acknowledged) e = refl
+  same_effect answer means.RepeatedSyn e = refl
+  same_effect answer means.Outside e = refl
+  same_effect answer means.Kills e = refl
+  same_effect answer means.Challenged e = refl
+  same_effect answer means.Unacknowledging e = refl
+  same_effect answer means.Ahead e = refl
+  same_effect answer (means.Taken position acknowledged) e = refl
+
+  same_end : (c : Profile) (m : Meaning) (e : PathEnd) → IsSome h.acknowledged → after_meaning c s now (unplaced h) m e ≡ after_meaning c s now h m e
+  same_end c m e some =
+      ap (λ (answer : Outgoing). after_copy answer s now (unplaced h) m (with_held (held_of c s h) h m e))
+      (same_answer c s 0 (unwrap_or h.position 0) (occupied (copy_of h)) h.acknowledged some)
+      ∙ same_effect (reset_for c s (copy_of h)) m (with_held (held_of c s h) h m e)
+
+module _ (h : HeardSegment) (pos : ℕ) (reset : h.rst ≡ true) (at : h.position ≡ Some pos) where
+  heard_meaning : (tcp : EndState) → tcp.recv.edge + 2 ^ 31 ≤ pos → meaning_of (copy_of (unplaced h)) tcp ≡ meaning_of (copy_of h) tcp
+  heard_meaning tcp far =
+      ap (λ (b : Bool). meaning_of (record (copy_of (unplaced h)) { rst = b }) tcp) reset
+      ∙ same_meaning (copy_of h) pos tcp far
+      ∙ sym (ap (λ (b : Bool). meaning_of (record (copy_of h) { rst = b }) tcp) reset
+      ∙ ap (λ (o : Option ℕ). meaning_of (record (copy_of h) { rst = true; position = o }) tcp) at)
+
+  pub far_treated : {C : Type 0} (s : Side) (p : PathState C) → IsSome h.acknowledged → (end_at s p).tcp.recv.edge + 2 ^ 31 ≤ pos
+      → copy_heard s (Some (unplaced h)) p ≡ copy_heard s (Some h) p
+  far_treated s p some far =
+      let e = end_at s p in
+      ap (λ (m : Meaning). goes_on s (after_meaning p.profile s p.clock (unplaced h) m e) (template_of s (items_of s h) m) p)
+      (heard_meaning e.tcp far)
+      ∙ ap (λ (after : PathEnd). goes_on s after (template_of s (items_of s h) (meaning_of (copy_of h) e.tcp)) p)
+      (same_end s p.clock h p.profile (meaning_of (copy_of h) e.tcp) e some)
+
+-- ---- which resets are far
+
+-- to an end that expects at most position 2^31 each position below 2^32 is near, or far ahead
+pub near_or_far : (edge position : ℕ) → edge ≤ 2 ^ 31 → position < 2 ^ 32 → IsPositionFresh edge position ⊎ (edge + 2 ^ 31 ≤ position)
+near_or_far edge position few low =
+    ⊎_elim (λ near. inl (record { behind = omega (arith, ints, few); ahead = omega (arith, ints, near) })) (λ far. inr far)
+    (cases_lt position (edge + 2 ^ 31))
+
+-- that of number 0 is below 2^32
+pub zero_is_low : (c : Profile) (s : Side) → zero_position c s < 2 ^ 32
+zero_is_low c s = omega arith

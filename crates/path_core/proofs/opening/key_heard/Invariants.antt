@@ -1,6 +1,0 @@
-use Rattle.std.proofs.Common.{◌≡◌, drop}
-use Rattle.path_core.specs.Opening.{key_heard}
-use Rattle.path_core.proofs.opening.key_heard.Given as goal
-
-abbrev pub invariant-loop-item : goal.invariant-loop-item
-invariant-loop-item l = key_heard (drop l.item-index l.items) ≡ key_heard l.items

@@ -1,0 +1,238 @@
+-- A copy that arrives at an end: its payload is heard on the lane, and what the subflow makes of it shows there.
+use Rattle.std.proofs.Common.{◌≡◌, refl, sym, ap, subst, ℕ, ◌+◌, ◌-◌, inl, inr, ⊎_elim, Bool, true, false, if◌then◌else◌, Option, Some, None, List, [], ◌∷◌, length, arith}
+use Rattle.std.proofs.lemmas.Bool.{false≢true}
+use Rattle.std.proofs.lemmas.Option.{same_Some}
+use Rattle.outside_kit.specs.declared.side.Side.{Side}
+use Rattle.dss_mapping.specs.declared.kept.KeptMapping.{KeptMapping}
+use Rattle.path_segments.specs.Laws.{meant, window_told}
+use Rattle.path_segments.specs.Spelled.{PlainSegment}
+use Rattle.subflow_tcp.specs.declared.handshake.State.TheVariants as phase
+use Rattle.subflow_tcp.specs.declared.segments.Hint.{Hint}
+use Rattle.subflow_tcp.specs.declared.verdicts.Meaning.{Meaning}
+use Rattle.subflow_tcp.specs.declared.verdicts.Meaning.TheVariants as means
+use Rattle.subflow_tcp.specs.Segments.{Copy}
+use Rattle.subflow_tcp.specs.Judging.{meaning_of}
+use Rattle.subflow_tcp.specs.State.{EndState}
+use Rattle.subflow_tcp.specs.Taking as taking
+use Rattle.stream_lanes.specs.Holding.{LaneHolds}
+use Rattle.stream_lanes.specs.Lane.{Lane}
+use Rattle.stream_lanes.specs.View.{View}
+use Rattle.stream_lanes.proofs.Lists.{Every-nil}
+use Rattle.actor_desk.specs.Words.{is_nil}
+use Rattle.path_core.specs.Arriving.{copy_of, items_of, hint_of, reset_by, owing_if, owes_by, with_payload, after_meaning}
+use Rattle.path_core.specs.Ends.{PathEnd}
+use Rattle.path_core.specs.State.{Profile}
+use Rattle.world_laws.proofs.Arriving.{Halves, options_say, taken_say, options_hold, taken_both, syn_both, syn_ack_both}
+use Rattle.world_laws.proofs.Ending.{Did}
+use Rattle.world_laws.proofs.Growing.{SenderGoes, ReceiverGoes, Longer, sender_stays, receiver_stays, heard_longer, segment_longer}
+use Rattle.world_laws.proofs.Hearing.{Fits, meaning_fits, state_shows, cut_shows}
+use Rattle.world_laws.proofs.Records.{acknowledged_shows}
+use Rattle.world_laws.proofs.Roads.{Strolls, stays}
+use Rattle.world_laws.proofs.Showing.{HasAck, HasData, HasFin, is_unfinished, WindowShows, SegmentShows, EndShows}
+use Rattle.world_laws.proofs.Taking.{heard_lane, hears, heard_goes, heard_under, heard_more}
+
+-- the octets of a payload are on the lane, where they are held
+pub record Holding (c : Profile) (s : Side) (known : Option ℕ) (acked : Bool) (live : List KeptMapping) (out back : Lane) (tcp : EndState) : Type 0 where
+  pub back_after : Lane
+  pub back_moves : Strolls back back_after
+  pub receiver : ReceiverGoes back back_after
+  pub acks : back_after.acks ≡ back.acks
+  pub halves : Halves c s known acked live out back_after tcp
+
+module _ (c : Profile) (s : Side) (known : Option ℕ) (acked : Bool) (live : List KeptMapping) (out back : Lane) (v : View) (holds : LaneHolds v 0 back) where
+  abbrev Held : EndState → Type 0
+  Held tcp = Holding c s known acked live out back tcp
+
+  not_held : (tcp : EndState) → Halves c s known acked live out back tcp → Held tcp
+  not_held tcp h = record { back_after = back; back_moves = stays back; receiver = receiver_stays back; acks = refl; halves = h }
+
+  -- at the edge the lane hears the copy, and behind the FIN nothing counts
+  hold : (pos : ℕ) (payload : List ℕ) (tcp : EndState) → HasData back.datas pos payload → Halves c s known acked live out back tcp → Held (taking.after_holding pos payload tcp)
+  hold pos payload tcp has h = ⊎_elim
+      (λ at.
+      let count = (tcp.recv.edge + tcp.recv.window) - pos in
+      let q : Lane = heard_lane back v holds pos payload has count in
+      record {
+        back_after = q;
+        back_moves = hears back v holds pos payload has count;
+        receiver = heard_goes back v holds pos payload has count;
+        acks = refl;
+        halves = record {
+          sender = h.sender;
+          receiver = record {
+            edge = inl (record {
+              edge_is = at.edge_is;
+              under = heard_more back v holds pos payload has count tcp.recv.places at.under;
+              held = heard_under back v holds pos payload has count tcp.recv.edge tcp.recv.places at.edge_is at.under;
+            });
+            fin = h.receiver.fin;
+            mapped = h.receiver.mapped;
+          };
+        };
+      })
+      (λ past. not_held (taking.after_holding pos payload tcp) (record {
+        sender = h.sender;
+        receiver = record { edge = inr (record { passed_is = past.passed_is; none = past.none }); fin = h.receiver.fin; mapped = h.receiver.mapped };
+      }))
+      h.receiver.edge
+
+  pub payload_held : (sg : PlainSegment) (m : Meaning) (tcp : EndState) → Fits (copy_of (meant sg)) (is_unfinished tcp.state) m → SegmentShows out.acks back sg → Halves c s known acked live out back tcp
+      → Held (with_payload m sg.payload tcp)
+  payload_held sg (means.Taken pos acknowledged) tcp fits said h = by (is_nil sg.payload) refl
+    where
+      nonempty : (xs : List ℕ) → is_nil xs ≡ false → xs ≡ [] → ⊥
+      nonempty [] is e = false≢true (sym is)
+      nonempty (x ∷ xs) is e = cc
+
+      by : (b : Bool) → is_nil sg.payload ≡ b → Held (if b then tcp else taking.after_holding pos sg.payload tcp)
+      by true is = not_held tcp h
+      by false is = ⊎_elim
+          (λ none. absurd (nonempty sg.payload is none))
+          (λ has. hold pos sg.payload tcp (subst (λ n. HasData back.datas n sg.payload) (same_Some sg.position pos fits) has) h)
+          said.payload
+  payload_held sg means.Ignored tcp fits said h = not_held tcp h
+  payload_held sg means.Unwanted tcp fits said h = not_held tcp h
+  payload_held sg means.Opens tcp fits said h = not_held tcp h
+  payload_held sg (means.Accepts acknowledged) tcp fits said h = not_held tcp h
+  payload_held sg means.RepeatedSyn tcp fits said h = not_held tcp h
+  payload_held sg means.Outside tcp fits said h = not_held tcp h
+  payload_held sg means.Kills tcp fits said h = not_held tcp h
+  payload_held sg means.Challenged tcp fits said h = not_held tcp h
+  payload_held sg means.Unacknowledging tcp fits said h = not_held tcp h
+  payload_held sg means.Ahead tcp fits said h = not_held tcp h
+
+-- ---- each meaning
+
+same_phase : (m : Meaning) (octets : List ℕ) (tcp : EndState) → (with_payload m octets tcp).state ≡ tcp.state
+same_phase (means.Taken pos acknowledged) octets tcp = by (is_nil octets)
+  where
+    by : (b : Bool) → (if b then tcp else taking.after_holding pos octets tcp).state ≡ tcp.state
+    by true = refl
+    by false = refl
+same_phase means.Ignored octets tcp = refl
+same_phase means.Unwanted octets tcp = refl
+same_phase means.Opens octets tcp = refl
+same_phase (means.Accepts acknowledged) octets tcp = refl
+same_phase means.RepeatedSyn octets tcp = refl
+same_phase means.Outside octets tcp = refl
+same_phase means.Kills octets tcp = refl
+same_phase means.Challenged octets tcp = refl
+same_phase means.Unacknowledging octets tcp = refl
+same_phase means.Ahead octets tcp = refl
+
+same_told : (m : Meaning) (octets : List ℕ) (tcp : EndState) → (with_payload m octets tcp).congestion ≡ tcp.congestion
+same_told (means.Taken pos acknowledged) octets tcp = by (is_nil octets)
+  where
+    by : (b : Bool) → (if b then tcp else taking.after_holding pos octets tcp).congestion ≡ tcp.congestion
+    by true = refl
+    by false = refl
+same_told means.Ignored octets tcp = refl
+same_told means.Unwanted octets tcp = refl
+same_told means.Opens octets tcp = refl
+same_told (means.Accepts acknowledged) octets tcp = refl
+same_told means.RepeatedSyn octets tcp = refl
+same_told means.Outside octets tcp = refl
+same_told means.Kills octets tcp = refl
+same_told means.Challenged octets tcp = refl
+same_told means.Unacknowledging octets tcp = refl
+same_told means.Ahead octets tcp = refl
+
+module _ (c : Profile) (s : Side) (known : Option ℕ) (acked : Bool) (live : List KeptMapping) (out back : Lane) where
+  abbrev Both : EndState → Type 0
+  Both tcp = Halves c s known acked live out back tcp
+
+  killed : (tcp : EndState) → Both tcp → Both (taking.after_death false tcp)
+  killed tcp h = record {
+    sender = state_shows c s known acked out tcp.state phase.Dead _ (λ no_more. absurd (false≢true no_more)) (acknowledged_shows c s known acked out tcp.send.nxt tcp.state tcp.send h.sender);
+    receiver = cut_shows tcp.fin_at live back (tcp.recv.edge - tcp.recv.edge) tcp.recv h.receiver;
+  }
+
+  arrived_both : (sg : PlainSegment) (m : Meaning) (hint : Hint) (now : ℕ) (tcp : EndState) → hint.keep ≡ false → Fits (copy_of (meant sg)) (is_unfinished tcp.state) m
+      → SegmentShows out.acks back sg → Both tcp → Both (taking.after_arrival m hint now (copy_of (meant sg)) tcp)
+  arrived_both sg (means.Taken pos acknowledged) hint now tcp keep fits said h = taken_both c s known acked live out back pos acknowledged hint now (copy_of (meant sg)) tcp keep fin h
+    where
+      fin : sg.fin ≡ true → HasFin back.fins (pos + length sg.payload)
+      fin is =
+          let f = said.fin is in
+          let none : length sg.payload ≡ 0 = ap (λ (xs : List ℕ). length xs) f.0 in
+          let same : sg.position ≡ pos = same_Some sg.position pos fits in
+          let there : sg.position ≡ pos + length sg.payload = omega (arith, none, same) in
+          subst (HasFin back.fins) there f.1
+  arrived_both sg (means.Accepts acknowledged) hint now tcp keep fits said h = syn_ack_both c s known acked live out back acknowledged hint now (copy_of (meant sg)) tcp keep (said.plain fits.0) fits.1 h
+  arrived_both sg means.Opens hint now tcp keep fits said h = syn_both c s known acked live out back hint (copy_of (meant sg)) tcp keep (said.plain fits.0) fits.1 h
+  arrived_both sg means.Kills hint now tcp keep fits said h = killed tcp h
+  arrived_both sg means.Ignored hint now tcp keep fits said h = h
+  arrived_both sg means.Unwanted hint now tcp keep fits said h = h
+  arrived_both sg means.RepeatedSyn hint now tcp keep fits said h = record { sender = h.sender; receiver = h.receiver }
+  arrived_both sg means.Outside hint now tcp keep fits said h = record { sender = h.sender; receiver = h.receiver }
+  arrived_both sg means.Challenged hint now tcp keep fits said h = record { sender = h.sender; receiver = h.receiver }
+  arrived_both sg means.Unacknowledging hint now tcp keep fits said h = record { sender = h.sender; receiver = h.receiver }
+  arrived_both sg means.Ahead hint now tcp keep fits said h = record { sender = h.sender; receiver = h.receiver }
+
+  owing_both : (b : Bool) (tcp : EndState) → Both tcp → Both (owing_if b tcp)
+  owing_both true tcp h = record { sender = h.sender; receiver = h.receiver }
+  owing_both false tcp h = h
+
+-- the window that was told last is the copy's, or stays
+told_after : (P : ℕ → Type 0) (m : Meaning) (hint : Hint) (now : ℕ) (copy : Copy) (tcp : EndState) → P copy.window → P tcp.congestion.told.window
+    → P (taking.after_arrival m hint now copy tcp).congestion.told.window
+told_after P (means.Taken pos acknowledged) hint now copy tcp new old = new
+told_after P (means.Accepts acknowledged) hint now copy tcp new old = new
+told_after P means.Opens hint now copy tcp new old = new
+told_after P means.Ignored hint now copy tcp new old = old
+told_after P means.Unwanted hint now copy tcp new old = old
+told_after P means.RepeatedSyn hint now copy tcp new old = old
+told_after P means.Outside hint now copy tcp new old = old
+told_after P means.Kills hint now copy tcp new old = old
+told_after P means.Challenged hint now copy tcp new old = old
+told_after P means.Unacknowledging hint now copy tcp new old = old
+told_after P means.Ahead hint now copy tcp new old = old
+
+told_owing : (P : ℕ → Type 0) (b : Bool) (tcp : EndState) → P tcp.congestion.told.window → P (owing_if b tcp).congestion.told.window
+told_owing P true tcp h = h
+told_owing P false tcp h = h
+
+reset_none : (c : Profile) (s : Side) (o : Option ℕ) (position occupied : ℕ) → (reset_by c s o position occupied).fin ≡ false
+reset_none c s None position occupied = refl
+reset_none c s (Some acknowledged) position occupied = refl
+
+-- ---- the end
+
+pub arrived_end : (c : Profile) (s : Side) (now : ℕ) (sg : PlainSegment) (e : PathEnd) (out back : Lane) (v : View) → LaneHolds v 0 back → SegmentShows out.acks back sg → EndShows c s e out back
+    → Did c s (after_meaning c s now (meant sg) (meaning_of (copy_of (meant sg)) e.tcp) e) out out back back
+arrived_end c s now sg e out back v holds said h =
+    let m : Meaning = meaning_of (copy_of (meant sg)) e.tcp in
+    let known = e.sending.known_end in let acked = e.sending.close.own_acked in let live = e.receiving.mappings.live in
+    let fits = meaning_fits (copy_of (meant sg)) e.tcp in
+    let kept : Holding c s known acked live out back (with_payload m sg.payload e.tcp) =
+    payload_held c s known acked live out back v holds sg m e.tcp fits said (record { sender = h.sender; receiver = h.receiver }) in
+    let q : Lane = kept.back_after in
+    let g : SenderGoes out out = sender_stays out in
+    let l : Longer out.acks out.acks back q = heard_longer out out back q g kept.receiver in
+    let told : SegmentShows out.acks q sg = segment_longer l sg said in
+    let tcp : EndState = with_payload m sg.payload e.tcp in
+    let still = subst (λ state. Fits (copy_of (meant sg)) (is_unfinished state) m) (sym (same_phase m sg.payload e.tcp)) fits in
+    let both = arrived_both c s known acked live out q sg m (hint_of s (meant sg)) now tcp refl still told kept.halves in
+    let owed = owing_both c s known acked live out q (owes_by m (items_of s (meant sg))) (taking.after_arrival m (hint_of s (meant sg)) now (copy_of (meant sg)) tcp) both in
+    record {
+      out_after = out;
+      back_after = q;
+      out_moves = stays out;
+      back_moves = kept.back_moves;
+      sender = g;
+      receiver = kept.receiver;
+      shows = record {
+        sender = owed.sender;
+        receiver = owed.receiver;
+        window = subst (WindowShows e.receiving.next e.receiving.window) (sym kept.acks) h.window;
+        told = told_owing (HasAck out.acks 0) (owes_by m (items_of s (meant sg))) (taking.after_arrival m (hint_of s (meant sg)) now (copy_of (meant sg)) tcp)
+            (told_after (HasAck out.acks 0) m (hint_of s (meant sg)) now (copy_of (meant sg)) tcp said.window
+            (subst (λ congestion. HasAck out.acks 0 congestion.told.window) (sym (same_told m sg.payload e.tcp)) h.told));
+        treated = record {
+          items = taken_say out.acks q (window_told sg.syn sg.window) 10 _ (options_say out.acks q (window_told sg.syn sg.window) s sg.options told.options);
+          fins = Every-nil _;
+          answer = reset_none c s (copy_of (meant sg)).acknowledged _ _;
+        };
+        held = options_hold c (window_told sg.syn sg.window) out.acks q s sg.options told.options;
+      };
+    }

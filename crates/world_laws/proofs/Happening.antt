@@ -1,0 +1,172 @@
+-- What happens on a path by itself: lines of its script, copies that arrive, timers that run out.
+use Rattle.std.proofs.Common.{◌≡◌, refl, sym, subst, ℕ, suc, ◌+◌, ◌&&◌, ◌==◌, Bool, true, false, if◌then◌else◌, Option, Some, None, List, [], ◌∷◌, remove, find, position}
+use Rattle.std.proofs.lemmas.Bool.{and_parts, false≢true}
+use Rattle.std.specs.Option.{IfSome}
+use Rattle.outside_kit.specs.declared.side.Side.{Side}
+use Rattle.outside_kit.specs.declared.side.Side.TheVariants.{A, B}
+use Rattle.link_model.specs.declared.flight.Due.{Due}
+use Rattle.link_model.specs.declared.flight.Flight.{Flight}
+use Rattle.link_model.specs.Steps.{is_due, arriving, without, after_delivery}
+use Rattle.link_script.specs.Places.{same_side}
+use Rattle.path_segments.specs.Laws.{meant}
+use Rattle.path_segments.specs.Spelled.{PlainSegment}
+use Rattle.subflow_tcp.specs.Expiring.{is_sixth}
+use Rattle.subflow_tcp.specs.Judging.{meaning_of}
+use Rattle.stream_lanes.specs.Lane.{Lane}
+use Rattle.stream_lanes.specs.Holding.{Holds}
+use Rattle.stream_lanes.specs.Streams.{Reader}
+use Rattle.stream_lanes.specs.Words.{Every}
+use Rattle.stream_lanes.proofs.Lists.{Every-nil, Every-append, in_take, in_drop}
+use Rattle.actor_desk.specs.declared.ask.Ask.{Ask}
+use Rattle.actor_desk.specs.Desk.{SixBooks}
+use Rattle.actor_desk.specs.Words.{pick, tail_of}
+use Rattle.path_core.specs.declared.event.Event.{Event}
+use Rattle.path_core.specs.declared.event.Event.TheVariants as happenings
+use Rattle.path_core.specs.declared.lines.LineLeft.{LineLeft}
+use Rattle.path_agenda.specs.Agenda.{rest_of_turn, emission}
+use Rattle.path_core.specs.Arriving.{copy_of, items_of, after_meaning, template_of}
+use Rattle.path_core.specs.Ends.{PathEnd}
+use Rattle.path_core.specs.Events.{step_for, is_death, at_tick, path_died, after_line, line_taken, heard_in, copy_heard, copy_taken, after_firing, template_fired, timer_fired, happens, happens_if}
+use Rattle.path_core.specs.State.{PathState, end_at, goes_on, with_agenda}
+use Rattle.path_core.specs.Values.{Carried, values}
+use Rattle.world_laws.proofs.Arrived.{arrived_end}
+use Rattle.world_laws.proofs.Ending.{Did, did_nothing}
+use Rattle.world_laws.proofs.Lanes.{duo_of}
+use Rattle.world_laws.proofs.Records.{every_find}
+use Rattle.world_laws.proofs.Roads.{stays}
+use Rattle.world_laws.proofs.Rules.{died_unless_shows, fired_shows}
+use Rattle.world_laws.proofs.Showing.{FlightShows, SegmentShows, PathShows}
+use Rattle.world_laws.proofs.Sides.{Answered, IsQuiet, side_kept, quiet, quiet_side}
+use Rattle.world_laws.proofs.Strolling.{Strolled, side_shows, back_holds}
+
+-- ---- copies
+
+removed_kept : {X : Type 0} {P : X → Type 0} (xs : List X) (i : ℕ) → Every P xs → Every P (remove xs i)
+removed_kept xs i h = Every-append
+    (record { each = λ k x is. h.each k x (in_take i xs k x is).0 })
+    (record { each = λ k x is. h.each (suc i + k) x (in_drop (suc i) xs k (suc i + k) x refl is) })
+
+without_kept : {P : Flight Carried → Type 0} (o : Option ℕ) (flights : List (Flight Carried)) → Every P flights → Every P (without o flights)
+without_kept None flights h = h
+without_kept (Some place) flights h = removed_kept flights place h
+
+found_due : (due : Due) (flights : List (Flight Carried)) (f : Flight Carried) → find (is_due due) flights ≡ Some f → is_due due f ≡ true
+found_due due [] f is = cc
+found_due due (g ∷ flights) f is = by (is_due due g) refl is (λ rest. found_due due flights f rest)
+  where
+    by : (b : Bool) → is_due due g ≡ b → (if b then Some g else find (is_due due) flights) ≡ Some f → (find (is_due due) flights ≡ Some f → is_due due f ≡ true) → is_due due f ≡ true
+    by true passes is more = let same : g ≡ f = cc in subst (λ x. is_due due x ≡ true) same passes
+    by false passes is more = more is
+
+-- a copy to a side is heard by the end of that side
+heard_by : (s to : Side) (ab ba : Lane) (sg : PlainSegment) → same_side to s ≡ true → FlightShows ab ba to sg → SegmentShows (pick s ab ba).acks (pick s ba ab) sg
+heard_by A A ab ba sg same h = h
+heard_by B B ab ba sg same h = h
+heard_by A B ab ba sg same h = absurd (false≢true same)
+heard_by B A ab ba sg same h = absurd (false≢true same)
+
+side_is : (due : Due) (f : Flight Carried) → is_due due f ≡ true → same_side f.to due.to ≡ true
+side_is due f is = (and_parts (same_side f.to due.to) (f.number == due.copy) (and_parts (f.tick == due.tick) (same_side f.to due.to && f.number == due.copy) is).1).0
+
+module _ (six : SixBooks) (reader_a reader_b : Reader) (p : PathState Carried) (ab ba : Lane) (h : PathShows p.profile p ab ba) (holds : Holds (duo_of six ab ba reader_a reader_b)) where
+  abbrev Steps : Ask → PathState Carried → Type 0
+  Steps ask q = Answered p.profile six reader_a reader_b ask q ab ba
+
+  -- the path at a tick, with other lines left
+  ticked : (tick : ℕ) (lines : List LineLeft) → PathShows p.profile (record (at_tick tick p) { lines = lines }) ab ba
+  ticked tick lines = record { profile = h.profile; path = h.path; unchanged = h.unchanged; a = h.a; b = h.b; copies = h.copies }
+
+  -- ---- lines
+
+  died_shows : (q : PathState Carried) → PathShows p.profile q ab ba → Strolled p.profile (path_died q) ab ba
+  died_shows q x = record {
+    ab_after = ab;
+    ba_after = ba;
+    ab_moves = stays ab;
+    ba_moves = stays ba;
+    shows = record {
+      profile = x.profile;
+      path = x.path;
+      unchanged = x.unchanged;
+      a = died_unless_shows p.profile A ab ba q.a x.a;
+      b = died_unless_shows p.profile B ba ab q.b x.b;
+      copies = Every-nil _;
+    };
+  }
+
+  rest_shows : (q : PathState Carried) → PathShows p.profile q ab ba → Strolled p.profile (with_agenda rest_of_turn q) ab ba
+  rest_shows q x = record {
+    ab_after = ab;
+    ba_after = ba;
+    ab_moves = stays ab;
+    ba_moves = stays ba;
+    shows = record { profile = x.profile; path = x.path; unchanged = x.unchanged; a = x.a; b = x.b; copies = x.copies };
+  }
+
+  line_shows : (death : Bool) (q : PathState Carried) → PathShows p.profile q ab ba → Strolled p.profile (after_line death q) ab ba
+  line_shows true q x = died_shows q x
+  line_shows false q x = rest_shows q x
+
+  -- ---- copies
+
+  delivered : (due : Due) → PathShows p.profile (record (at_tick due.tick p) { link = after_delivery due p.link }) ab ba
+  delivered due = record {
+    profile = h.profile;
+    path = h.path;
+    unchanged = h.unchanged;
+    a = h.a;
+    b = h.b;
+    copies = without_kept (position (is_due due) p.link.under_way) p.link.under_way h.copies;
+  }
+
+  arrives : (s : Side) (ask : Ask) (q : PathState Carried) (sg : PlainSegment) → IsQuiet ask → PathShows p.profile q ab ba → q.profile ≡ p.profile → SegmentShows (pick s ab ba).acks (pick s ba ab) sg
+      → Steps ask (copy_heard s (Some (meant sg)) q)
+  arrives s ask q sg is x same said =
+      let e : PathEnd = end_at s q in
+      let f : PathEnd = after_meaning q.profile s q.clock (meant sg) (meaning_of (copy_of (meant sg)) e.tcp) e in
+      let ds = template_of s (items_of s (meant sg)) (meaning_of (copy_of (meant sg)) e.tcp) in
+      let d : Did p.profile s f (pick s ab ba) (pick s ab ba) (pick s ba ab) (pick s ba ab) =
+      subst (λ c. Did p.profile s (after_meaning c s q.clock (meant sg) (meaning_of (copy_of (meant sg)) e.tcp) e) (pick s ab ba) (pick s ab ba) (pick s ba ab) (pick s ba ab)) (sym same)
+      (arrived_end p.profile s q.clock sg e (pick s ab ba) (pick s ba ab) _ (back_holds six reader_a reader_b s ab ba holds) said (side_shows p.profile s q ab ba x)) in
+      quiet_side p.profile six reader_a reader_b s q (goes_on s f ds q) ab ba ask x is (side_kept p.profile q ab ba x s (pick s ab ba) (pick s ba ab) f ds d)
+
+  unheard : (s : Side) (ask : Ask) (q : PathState Carried) → IsQuiet ask → PathShows p.profile q ab ba → Steps ask (with_agenda (emission s) q)
+  unheard s ask q is x = quiet p.profile six reader_a reader_b ask (with_agenda (emission s) q) ab ba is (record {
+    ab_after = ab;
+    ba_after = ba;
+    ab_moves = stays ab;
+    ba_moves = stays ba;
+    shows = record { profile = x.profile; path = x.path; unchanged = x.unchanged; a = x.a; b = x.b; copies = x.copies };
+  })
+
+  copy_step : (due : Due) (ask : Ask) → IsQuiet ask → Steps ask (copy_taken values due p)
+  copy_step due ask is = by (arriving due p.link) refl (every_find (is_due due) p.link.under_way h.copies)
+    where
+      by : (o : Option (Flight Carried)) → find (is_due due) p.link.under_way ≡ o → IfSome o (λ f. FlightShows ab ba f.to f.carried.segment)
+          → Steps ask (copy_heard due.to (heard_in values due.to o p) (record (at_tick due.tick p) { link = after_delivery due p.link }))
+      by None found shows = unheard due.to ask (record (at_tick due.tick p) { link = after_delivery due p.link }) is (delivered due)
+      by (Some f) found shows =
+          arrives due.to ask (record (at_tick due.tick p) { link = after_delivery due p.link }) f.carried.segment is (delivered due) refl
+          (heard_by due.to f.to ab ba f.carried.segment (side_is due f (found_due due p.link.under_way f found)) shows)
+
+  -- ---- timers
+
+  fire_step : (s : Side) (tick : ℕ) (ask : Ask) → IsQuiet ask → Steps ask (timer_fired s (at_tick tick p))
+  fire_step s tick ask is =
+      let q : PathState Carried = at_tick tick p in
+      let x = ticked tick p.lines in
+      quiet_side p.profile six reader_a reader_b s q (timer_fired s q) ab ba ask x is
+      (side_kept p.profile q ab ba x s (pick s ab ba) (pick s ba ab) (after_firing q.clock (end_at s q)) (template_fired (is_sixth (end_at s q).tcp) s)
+      (did_nothing p.profile s (pick s ab ba) (pick s ba ab) (after_firing q.clock (end_at s q)) (fired_shows p.profile s (pick s ab ba) (pick s ba ab) q.clock (end_at s q) (side_shows p.profile s q ab ba x))))
+
+  -- ---- the earliest
+
+  event_step : (event : Event) → Steps (step_for (Some event)) (happens values event p)
+  event_step (happenings.Takes line) =
+      quiet p.profile six reader_a reader_b (step_for (Some (happenings.Takes line))) (line_taken line p) ab ba tt (line_shows (is_death line.line) (record (at_tick line.tick p) { lines = tail_of p.lines }) (ticked line.tick (tail_of p.lines)))
+  event_step (happenings.Arrives due) = copy_step due (step_for (Some (happenings.Arrives due))) tt
+  event_step (happenings.Fires s tick) = fire_step s tick (step_for (Some (happenings.Fires s tick))) tt
+
+  pub events_step : (o : Option Event) → Steps (step_for o) (happens_if values o p)
+  events_step None = quiet p.profile six reader_a reader_b (step_for None) (with_agenda rest_of_turn p) ab ba tt (rest_shows p h)
+  events_step (Some event) = event_step event

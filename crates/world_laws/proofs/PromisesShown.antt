@@ -1,0 +1,84 @@
+-- What a world over segments as values promises, it promises shown over octets: books and notes are the same.
+use Rattle.std.proofs.Common.{◌≡◌, refl, sym, ◌∙◌, ap, subst, ℕ, zero, suc, List, [], ◌∷◌, ◌++◌, map}
+use Rattle.outside_kit.specs.declared.side.Side.{Side}
+use Rattle.outside_kit.specs.declared.side.Side.TheVariants.{A, B}
+use Rattle.reassembly_book.specs.State.{received}
+use Rattle.stream_lanes.specs.Laws.{StepsOrStays}
+use Rattle.actor_desk.specs.Words.{pick}
+use Rattle.stream_apps.specs.Starts.{first_app_turn}
+use Rattle.path_agenda.specs.Agenda.{start_of_turn}
+use Rattle.path_core.specs.Octets.{octets}
+use Rattle.path_core.specs.Starts.{waiting_path}
+use Rattle.path_core.specs.State.{with_agenda}
+use Rattle.path_core.specs.Values.{Carried, values}
+use Rattle.path_core.proofs.Showing.{same_settled}
+use Rattle.world_laws.specs.declared.member.Member.TheVariants.{App, Path}
+use Rattle.world_laws.specs.Actors.{ActorCrew}
+use Rattle.world_laws.specs.Fresh.{AreFresh, shown_crew, shown_world}
+use Rattle.world_laws.specs.Openings.{Start, new_crew, opened_world}
+use Rattle.world_laws.specs.Outcomes.{notes_at, notes_of, output_of, pipe_of, read_by, was_told, tells_end}
+use Rattle.world_laws.specs.Promises.{tells_refusal, tells_other_key, arrived_at, was_told_end, KeepsItsWord, BothKeepTheirWord, NothingCame, IsOneStep, NothingWasRefused, KeysNeverDiffer}
+use Rattle.world_laws.specs.Worlds.{WorldState, Turn, world_run}
+use Rattle.world_laws.proofs.Carrying.{run_same}
+
+-- ---- notes
+
+same_notes_at : (i : ℕ) (crew : List (ActorCrew Carried)) → notes_at i (map shown_crew crew) ≡ notes_at i crew
+same_notes_at i [] = refl
+same_notes_at zero (c ∷ crew) = refl
+same_notes_at (suc i) (c ∷ crew) = same_notes_at i crew
+
+same_notes_of : (s : Side) (w : WorldState Carried) → notes_of s (shown_world w).crew ≡ notes_of s w.crew
+same_notes_of s w = same_notes_at (pick s 0 1) w.crew
+
+same_output : (s : Side) (w : WorldState Carried) → output_of s (shown_world w) ≡ output_of s w
+same_output s w = ap read_by (same_notes_of s w)
+
+pub same_told : (s : Side) (w : WorldState Carried) → was_told_end s (shown_world w) ≡ was_told_end s w
+same_told s w = ap (was_told tells_end) (same_notes_of s w)
+
+-- ---- promises
+
+word_shown : (writer reader : Side) (w : WorldState Carried) → KeepsItsWord writer reader w → KeepsItsWord writer reader (shown_world w)
+word_shown writer reader w h = record {
+  prefix = record { rest = h.prefix.rest; whole_is = h.prefix.whole_is ∙ ap (λ xs. xs ++ h.prefix.rest) (sym (same_output reader w)) };
+  acked = h.acked;
+  arrived = h.arrived;
+  fin = h.fin;
+  told = λ is. let whole = h.told (sym (same_told reader w) ∙ is) in (whole.0, same_output reader w ∙ whole.1);
+}
+
+pub both_shown : (w : WorldState Carried) → BothKeepTheirWord w → BothKeepTheirWord (shown_world w)
+both_shown w h = record { ab = word_shown A B w h.ab; ba = word_shown B A w h.ba }
+
+pub came_shown : (writer reader : Side) (w v : WorldState Carried) → NothingCame writer reader w v → NothingCame writer reader (shown_world w) (shown_world v)
+came_shown writer reader w v h = record { read = same_output reader v ∙ h.read ∙ sym (same_output reader w); written = h.written }
+
+same_pipe : (writer reader : Side) (w : WorldState Carried) → pipe_of writer reader (shown_world w) ≡ pipe_of writer reader w
+same_pipe writer reader w = ap (λ told. record (pipe_of writer reader w) { told_end = told }) (same_told reader w)
+
+pub step_shown : (writer reader : Side) (w v : WorldState Carried) → IsOneStep writer reader w v → IsOneStep writer reader (shown_world w) (shown_world v)
+step_shown writer reader w v h =
+    subst (λ p. StepsOrStays (received (arrived_at reader w)) p (pipe_of writer reader (shown_world v))) (sym (same_pipe writer reader w))
+    (subst (λ q. StepsOrStays (received (arrived_at reader w)) (pipe_of writer reader w) q) (sym (same_pipe writer reader v)) h)
+
+pub refused_shown : (w : WorldState Carried) → NothingWasRefused w → NothingWasRefused (shown_world w)
+refused_shown w h actor = ap (was_told tells_refusal) (same_notes_at actor w.crew) ∙ h actor
+
+pub keys_shown : (w : WorldState Carried) → KeysNeverDiffer w → KeysNeverDiffer (shown_world w)
+keys_shown w h actor = ap (was_told tells_other_key) (same_notes_at actor w.crew) ∙ h actor
+
+-- ---- from the opening on
+
+opened_same : (start : Start) → shown_world (opened_world start) ≡ opened_world start
+opened_same start =
+    ap (λ p. record (opened_world {C = List ℕ} start) {
+      crew = shown_crew (new_crew 0 (App (first_app_turn A start.profile.buffer start.file_a))) ∷ shown_crew (new_crew 1 (App (first_app_turn B start.profile.buffer start.file_b)))
+          ∷ new_crew 2 (Path p) ∷ [];
+    })
+    (sym (same_settled start_of_turn (with_agenda start_of_turn (waiting_path start.profile start.drawn start.delay start.lines))))
+
+-- after fresh turns
+pub run_shown : (start : Start) (turns : List Turn) → AreFresh turns (opened_world start)
+    → world_run octets turns (opened_world start) ≡ shown_world (world_run values turns (opened_world start))
+run_shown start turns fresh = ap (world_run octets turns) (sym (opened_same start)) ∙ run_same turns (opened_world start) fresh

@@ -1,0 +1,129 @@
+-- What an actor asks: a grant for some bytes at least.
+use Rattle.std.proofs.Common.{◌≤◌, Bool, true, false, if◌then◌else◌, ℕ, Option, Some, None}
+use Rattle.outside_kit.specs.declared.side.Side.{Side}
+use Rattle.subflow_send.specs.Records.{Record}
+use Rattle.loss_recovery.specs.declared.windows.Pending.{Pending}
+use Rattle.reassembly_book.specs.declared.call.ReassemblyCall.TheVariants as reassembly_calls
+use Rattle.fallback_state.specs.declared.fall.Event.TheVariants as events
+use Rattle.actor_desk.specs.declared.ask.Ask.TheVariants as asks
+use Rattle.stream_apps.specs.declared.duty.AppDuty.{AppDuty}
+use Rattle.stream_apps.specs.declared.duty.AppDuty.TheVariants as app_duties
+use Rattle.stream_apps.specs.Apps.{AppState}
+use Rattle.stream_apps.specs.AppSteps.{app_ask}
+use Rattle.path_agenda.specs.declared.duty.Duty.{Duty}
+use Rattle.path_agenda.specs.declared.duty.Duty.TheVariants as duties
+use Rattle.path_core.specs.declared.event.Event.{Event}
+use Rattle.path_core.specs.declared.event.Event.TheVariants as happening
+use Rattle.path_agenda.specs.declared.heard.Heard.{Heard}
+use Rattle.path_agenda.specs.declared.heard.Heard.TheVariants as says
+use Rattle.path_agenda.specs.declared.keys.KeyPair.{KeyPair}
+use Rattle.path_core.specs.Breaking.{break_ask, reset_of}
+use Rattle.path_core.specs.Codec.{Codec}
+use Rattle.path_core.specs.Duties.{ask_for}
+use Rattle.path_core.specs.Emission.{first_unsent, data_ask, payload_size}
+use Rattle.path_core.specs.Events.{next_event, step_for}
+use Rattle.path_agenda.specs.Items.{key_heard, keys_heard}
+use Rattle.path_core.specs.Opening.{peer_key_ask, keys_ask}
+use Rattle.path_core.specs.Passing.{piece_of, piece_ask, fin_of, fin_ask, rate_ask}
+use Rattle.path_core.specs.Placing.{Piece}
+use Rattle.path_core.specs.Sends.{sends}
+use Rattle.path_core.specs.State.{PathState, end_at}
+use Rattle.path_core.specs.Treating.{is_clash, fell_ask, mapping_ask, item_ask, item_of}
+use Rattle.world_laws.proofs.RoundReplies.{AsksSome}
+
+pub app_asks_some : (d : AppDuty) (a : AppState) → AsksSome (app_ask d a)
+app_asks_some app_duties.Write a = tt
+app_asks_some app_duties.Close a = tt
+app_asks_some app_duties.Read a = tt
+app_asks_some app_duties.End a = tt
+
+module _ {C : Type 0} (k : Codec C) (p : PathState C) (some : 1 ≤ payload_size p.profile) where
+  data_some : (s : Side) (o : Option Record) → AsksSome (data_ask k s o p)
+  data_some s None = some
+  data_some s (Some r) = tt
+
+  step_some : (o : Option Event) → AsksSome (step_for o)
+  step_some None = tt
+  step_some (Some (happening.Takes line)) = tt
+  step_some (Some (happening.Arrives due)) = tt
+  step_some (Some (happening.Fires s tick)) = tt
+
+  key_some : (s : Side) (o : Option ℕ) → AsksSome (peer_key_ask s o)
+  key_some s None = tt
+  key_some s (Some key) = tt
+
+  keys_some : (s : Side) (o : Option KeyPair) → AsksSome (keys_ask s o)
+  keys_some s None = tt
+  keys_some s (Some keys) = tt
+
+  break_some : (s : Side) (reason : ℕ) → AsksSome (break_ask k s reason p)
+  break_some s reason = by (end_at s p).treated.asked
+    where
+      by : (b : Bool) → AsksSome (if b then asks.Reassembly s reassembly_calls.AckOut else sends k s (reset_of s (Some reason) p) p)
+      by true = tt
+      by false = tt
+
+  mapping_some : (s : Side) → AsksSome (mapping_ask k s p)
+  mapping_some s = by (is_clash (end_at s p))
+    where
+      by : (b : Bool) → AsksSome (if b then break_ask k s 1 p else fell_ask s events.MappingHeard p)
+      by true = break_some s 1
+      by false = tt
+
+  item_some : (s : Side) (o : Option Heard) → AsksSome (item_ask k s o p)
+  item_some s None = tt
+  item_some s (Some says.Dss) = tt
+  item_some s (Some (says.DataAck next window)) = tt
+  item_some s (Some says.Mapping) = mapping_some s
+  item_some s (Some (says.DataFin place)) = tt
+  item_some s (Some (says.PeerKey key)) = tt
+  item_some s (Some (says.Keys own peer)) = tt
+
+  piece_some : (s : Side) (o : Option Piece) → AsksSome (piece_ask s o)
+  piece_some s None = tt
+  piece_some s (Some piece) = tt
+
+  fin_some : (s : Side) (o : Option ℕ) → AsksSome (fin_ask s o)
+  fin_some s None = tt
+  fin_some s (Some place) = tt
+
+  rate_some : (s : Side) (o : Option Pending) → AsksSome (rate_ask s o p)
+  rate_some s None = tt
+  rate_some s (Some pending) = tt
+
+  pub asks_some : (d : Duty) → AsksSome (ask_for k d p)
+  asks_some (duties.Look s) = tt
+  asks_some (duties.Window s) = tt
+  asks_some (duties.Update s) = tt
+  asks_some (duties.Syn s) = tt
+  asks_some (duties.Data s) = data_some s (first_unsent (end_at s p))
+  asks_some (duties.DataFin s) = tt
+  asks_some (duties.Fin s) = tt
+  asks_some (duties.Timer s) = tt
+  asks_some duties.Events = step_some (next_event p)
+  asks_some (duties.SynHeard s) = tt
+  asks_some (duties.SynAnswered s) = tt
+  asks_some (duties.PeerKey s) = key_some s (key_heard (end_at s p).treated.items)
+  asks_some (duties.SynAck s) = tt
+  asks_some (duties.Opened s) = keys_some s (keys_heard (end_at s p).treated.items)
+  asks_some (duties.Live s) = tt
+  asks_some (duties.Heard s index) = item_some s (item_of index (end_at s p))
+  asks_some (duties.AckHeard s) = tt
+  asks_some (duties.Keep s) = tt
+  asks_some (duties.Edge s) = piece_some s (piece_of s p)
+  asks_some (duties.HeardFin s index) = fin_some s (fin_of index (end_at s p))
+  asks_some (duties.PassFin s) = tt
+  asks_some (duties.AckOut s) = tt
+  asks_some (duties.Rate s) = rate_some s (end_at s p).tcp.congestion.pending
+  asks_some (duties.Acknowledge s) = tt
+  asks_some (duties.Again s) = tt
+  asks_some (duties.Answer s) = tt
+  asks_some (duties.ResetAnswer s) = tt
+  asks_some (duties.Return s) = tt
+  asks_some (duties.Resend s) = tt
+  asks_some (duties.BreakAck s reason) = tt
+  asks_some (duties.BreakReset s reason) = tt
+  asks_some (duties.Reset s) = tt
+  asks_some (duties.Leave s) = tt
+  asks_some (duties.Dead s) = tt
+  asks_some duties.End = tt

@@ -1,0 +1,137 @@
+-- What a path keeps: no reply moves the end of its round or changes its profile. A round's beginning moves the end by 100 ticks.
+use Rattle.std.proofs.Common.{◌≡◌, refl, ◌∙◌, ℕ, Bool, true, false, if◌then◌else◌, Option, Some, None, List, [], ◌∷◌}
+use Rattle.outside_kit.specs.declared.side.Side.{Side}
+use Rattle.actor_desk.specs.declared.ask.Reply.{Reply}
+use Rattle.actor_desk.specs.Words.{is_nil, tail_of}
+use Rattle.path_agenda.specs.Agenda.{start_of_turn}
+use Rattle.path_agenda.specs.declared.duty.Duty.{Duty}
+use Rattle.path_agenda.specs.declared.duty.Duty.TheVariants as duties
+use Rattle.path_agenda.specs.declared.heard.Heard.{Heard}
+use Rattle.path_agenda.specs.declared.heard.Heard.TheVariants as says
+use Rattle.path_core.specs.Breaking.{answered_break}
+use Rattle.path_core.specs.Codec.{Codec, HeardSegment}
+use Rattle.path_core.specs.Duties.{stands, passed, answered}
+use Rattle.path_core.specs.Emission.{Grant, grant_in, answered_grant, answered_data, first_unsent}
+use Rattle.path_core.specs.Events.{next_event, after_line, is_death, at_tick, copy_heard, heard_in, happens_if}
+use Rattle.path_core.specs.declared.event.Event.{Event}
+use Rattle.path_core.specs.declared.event.Event.TheVariants as happenings
+use Rattle.path_core.specs.Passing.{answered_piece, is_placed, is_fin_set, piece_of}
+use Rattle.path_core.specs.Placing.{Piece}
+use Rattle.path_core.specs.State.{PathState, end_at, with_agenda}
+use Rattle.path_core.specs.Steps.{settled, settles_down, answers, takes, begins_turn}
+use Rattle.path_core.specs.Treating.{answered_heard, answered_item, item_of}
+use Rattle.subflow_send.specs.Records.{Record}
+use Rattle.link_model.specs.Steps.{arriving, after_delivery}
+
+module _ {C : Type 0} where
+  -- the round ends at the same tick, and the profile is the same
+  abbrev pub Keeps : PathState C → PathState C → Type 0
+  Keeps p q = (q.until ≡ p.until) × (q.profile ≡ p.profile)
+
+  then_keeps : (p q r : PathState C) → Keeps p q → Keeps q r → Keeps p r
+  then_keeps p q r x y = (y.0 ∙ x.0, y.1 ∙ x.1)
+
+  either_keeps : (b : Bool) (q r p : PathState C) → Keeps p q → Keeps p r → Keeps p (if b then q else r)
+  either_keeps true q r p x y = x
+  either_keeps false q r p x y = y
+
+  passed_keeps : (d : Duty) (p : PathState C) → Keeps p (passed d p)
+  passed_keeps (duties.Timer s) p = (refl, refl)
+  passed_keeps (duties.Heard s index) p = (refl, refl)
+  passed_keeps (duties.Keep s) p = (refl, refl)
+  passed_keeps (duties.Edge s) p = (refl, refl)
+  passed_keeps (duties.PassFin s) p = (refl, refl)
+  passed_keeps _ p = (refl, refl)
+
+  settled_keeps : (ds : List Duty) (p : PathState C) → Keeps p (settled ds p)
+  settled_keeps [] p = (refl, refl)
+  settled_keeps (d ∷ ds) p =
+      either_keeps (stands d p) (with_agenda (d ∷ ds) p) (settled ds (passed d p)) p (refl, refl) (then_keeps p (passed d p) (settled ds (passed d p)) (passed_keeps d p) (settled_keeps ds (passed d p)))
+
+  grant_keeps : (s : Side) (grant : Option Grant) (r : Reply) (p : PathState C) → Keeps p (answered_grant s grant r p)
+  grant_keeps s None r p = (refl, refl)
+  grant_keeps s (Some grant) r p = (refl, refl)
+
+  data_keeps : (k : Codec C) (s : Side) (first : Option Record) (r : Reply) (p : PathState C) → Keeps p (answered_data k s first r p)
+  data_keeps k s (Some record_of) r p = (refl, refl)
+  data_keeps k s None r p = grant_keeps s (grant_in r) r p
+
+  line_keeps : (death : Bool) (p : PathState C) → Keeps p (after_line death p)
+  line_keeps true p = (refl, refl)
+  line_keeps false p = (refl, refl)
+
+  copy_keeps : (s : Side) (heard : Option HeardSegment) (p : PathState C) → Keeps p (copy_heard s heard p)
+  copy_keeps s None p = (refl, refl)
+  copy_keeps s (Some h) p = (refl, refl)
+
+  happens_keeps : (k : Codec C) (event : Option Event) (p : PathState C) → Keeps p (happens_if k event p)
+  happens_keeps k None p = (refl, refl)
+  happens_keeps k (Some (happenings.Takes line)) p = line_keeps (is_death line.line) (record (at_tick line.tick p) { lines = tail_of p.lines })
+  happens_keeps k (Some (happenings.Arrives due)) p =
+      copy_keeps due.to (heard_in k due.to (arriving due p.link) p) (record (at_tick due.tick p) { link = after_delivery due p.link })
+  happens_keeps k (Some (happenings.Fires s tick)) p = (refl, refl)
+
+  break_keeps : (k : Codec C) (s : Side) (reason : ℕ) (r : Reply) (p : PathState C) → Keeps p (answered_break k s reason r p)
+  break_keeps k s reason r p = either_keeps (end_at s p).treated.asked _ _ p ((refl, refl)) ((refl, refl))
+
+  heard_keeps : (k : Codec C) (s : Side) (item : Heard) (r : Reply) (p : PathState C) → Keeps p (answered_heard k s item r p)
+  heard_keeps k s (says.DataAck next window) r p = (refl, refl)
+  heard_keeps k s says.Mapping r p = either_keeps _ _ _ p (break_keeps k s 1 r p) ((refl, refl))
+  heard_keeps k s (says.DataFin place) r p = (refl, refl)
+  heard_keeps k s (says.Keys own peer) r p = (refl, refl)
+  heard_keeps k s _ r p = (refl, refl)
+
+  item_keeps : (k : Codec C) (s : Side) (item : Option Heard) (r : Reply) (p : PathState C) → Keeps p (answered_item k s item r p)
+  item_keeps k s None r p = (refl, refl)
+  item_keeps k s (Some item) r p = heard_keeps k s item r p
+
+  piece_keeps : (s : Side) (piece : Option Piece) (taken : Bool) (p : PathState C) → Keeps p (answered_piece s piece taken p)
+  piece_keeps s None taken p = (refl, refl)
+  piece_keeps s (Some piece) taken p = either_keeps taken _ _ p ((refl, refl)) ((refl, refl))
+
+  answered_keeps : (k : Codec C) (d : Duty) (r : Reply) (p : PathState C) → Keeps p (answered k d r p)
+  answered_keeps k (duties.Look s) r p = (refl, refl)
+  answered_keeps k (duties.Window s) r p = (refl, refl)
+  answered_keeps k (duties.Update s) r p = (refl, refl)
+  answered_keeps k (duties.Syn s) r p = (refl, refl)
+  answered_keeps k (duties.Data s) r p = data_keeps k s (first_unsent (end_at s p)) r p
+  answered_keeps k (duties.DataFin s) r p = (refl, refl)
+  answered_keeps k (duties.Fin s) r p = (refl, refl)
+  answered_keeps k duties.Events r p = happens_keeps k (next_event p) p
+  answered_keeps k (duties.PeerKey s) r p = (refl, refl)
+  answered_keeps k (duties.SynAck s) r p = (refl, refl)
+  answered_keeps k (duties.Opened s) r p = (refl, refl)
+  answered_keeps k (duties.Heard s index) r p = item_keeps k s (item_of index (end_at s p)) r p
+  answered_keeps k (duties.AckHeard s) r p = (refl, refl)
+  answered_keeps k (duties.Edge s) r p = piece_keeps s (piece_of s p) (is_placed r) p
+  answered_keeps k (duties.HeardFin s index) r p = either_keeps (is_fin_set r) _ _ p ((refl, refl)) ((refl, refl))
+  answered_keeps k (duties.AckOut s) r p = (refl, refl)
+  answered_keeps k (duties.Rate s) r p = (refl, refl)
+  answered_keeps k (duties.Acknowledge s) r p = (refl, refl)
+  answered_keeps k (duties.Again s) r p = (refl, refl)
+  answered_keeps k (duties.Answer s) r p = (refl, refl)
+  answered_keeps k (duties.ResetAnswer s) r p = (refl, refl)
+  answered_keeps k (duties.Resend s) r p = (refl, refl)
+  answered_keeps k (duties.BreakAck s reason) r p = (refl, refl)
+  answered_keeps k (duties.BreakReset s reason) r p = (refl, refl)
+  answered_keeps k (duties.Reset s) r p = (refl, refl)
+  answered_keeps k (duties.Leave s) r p = (refl, refl)
+  answered_keeps k duties.End r p = (refl, refl)
+  answered_keeps k _ r p = (refl, refl)
+
+  answers_keeps : (k : Codec C) (ds : List Duty) (r : Reply) (p : PathState C) → Keeps p (answers k ds r p)
+  answers_keeps k [] r p = (refl, refl)
+  answers_keeps k (d ∷ ds) r p = answered_keeps k d r p
+
+  -- so does a reply
+  pub takes_keeps : (k : Codec C) (r : Reply) (p : PathState C) → Keeps p (takes k r p)
+  takes_keeps k r p =
+      let q : PathState C = answers k p.agenda r p in
+      then_keeps p q (settles_down q) (answers_keeps k p.agenda r p) (settled_keeps q.agenda q)
+
+  pub first_keeps : (p : PathState C) → Keeps p (begins_turn p)
+  first_keeps p = settled_keeps start_of_turn (with_agenda start_of_turn p)
+
+  -- something is to be done when a round begins
+  pub first_stands : (p : PathState C) → is_nil (begins_turn p).agenda ≡ false
+  first_stands p = refl

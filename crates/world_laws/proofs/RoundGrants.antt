@@ -1,0 +1,579 @@
+-- An end of a path ends its turn only where it may ask for nothing more, or was refused: after each thing that could let it ask
+-- the duty that asks is ahead, or the end is to die.
+use Rattle.std.proofs.Common.{◌≡◌, refl, sym, ◌∙◌, ℕ, zero, suc, ◌+◌, ◌&&◌, ◌||◌, not, inl, inr, ◌⊎◌, ⊎_elim, Bool, true, false, if◌then◌else◌, Option, Some, None, List, [], ◌∷◌, ◌++◌, length}
+use Rattle.std.proofs.lemmas.Bool.{and_parts, not-true, both_ways, true≢false, false≢true}
+use Rattle.outside_kit.specs.declared.side.Side.{Side}
+use Rattle.outside_kit.specs.declared.side.Side.TheVariants.{A, B}
+use Rattle.link_script.specs.Places.{same_side}
+use Rattle.link_model.specs.Steps.{peer, arriving, after_delivery}
+use Rattle.path_segments.specs.Spelled.{PlainSegment}
+use Rattle.subflow_send.specs.Records.{Record}
+use Rattle.subflow_tcp.specs.declared.handshake.State.{State as EndPhase}
+use Rattle.subflow_tcp.specs.declared.handshake.State.TheVariants as phase
+use Rattle.subflow_tcp.specs.declared.verdicts.Meaning.{Meaning}
+use Rattle.subflow_tcp.specs.declared.verdicts.Meaning.TheVariants as means
+use Rattle.subflow_tcp.specs.Expiring.{is_sixth}
+use Rattle.subflow_tcp.specs.Judging.{meaning_of}
+use Rattle.subflow_tcp.specs.States as states
+use Rattle.actor_desk.specs.declared.ask.Reply.{Reply}
+use Rattle.actor_desk.specs.Words.{tail_of}
+use Rattle.path_agenda.specs.declared.duty.Duty.{Duty}
+use Rattle.path_agenda.specs.declared.duty.Duty.TheVariants as duties
+use Rattle.path_core.specs.declared.event.Event.{Event}
+use Rattle.path_core.specs.declared.event.Event.TheVariants as happenings
+use Rattle.path_agenda.specs.declared.heard.Heard.{Heard}
+use Rattle.path_agenda.specs.declared.heard.Heard.TheVariants as says
+use Rattle.path_agenda.specs.Agenda.{rest_of_turn, emission, heard_and, payload_came, copy_came, expired, expired_for_ever, leaves, breaks, resets}
+use Rattle.path_core.specs.Arriving.{copy_of, items_of, reset_for, after_copy, with_held, held_of, template_by}
+use Rattle.path_core.specs.Breaking.{reset_of, reset_on, answered_break}
+use Rattle.path_core.specs.Codec.{Codec, HeardSegment}
+use Rattle.path_core.specs.Duties.{stands, passed, answered}
+use Rattle.path_core.specs.Emission.{first_unsent, may_ask, Grant, answered_grant, answered_data, data_stands}
+use Rattle.path_core.specs.Ends.{PathEnd}
+use Rattle.path_core.specs.Events.{next_event, heard_in, at_tick, died, died_unless_dead, path_died, is_death, after_line, copy_heard, template_fired, happens_if}
+use Rattle.path_core.specs.Passing.{piece_of, is_placed, answered_piece, is_fin_set, answered_fin_heard}
+use Rattle.path_core.specs.Placing.{Piece, with_learned}
+use Rattle.path_core.specs.Sends.{sent_on}
+use Rattle.path_core.specs.Standing.{answered_ack_out}
+use Rattle.path_core.specs.State.{PathState, Profile, end_at, with_end, with_agenda, goes_on}
+use Rattle.path_core.specs.Steps.{settled}
+use Rattle.path_core.specs.Treating.{is_clash, after_verdict, told_next, answered_item, item_of}
+use Rattle.world_laws.proofs.RoundGrantAsks.{MayNotAsk}
+
+-- ---- what is ahead
+
+-- the duty lets the end of this side ask, or its end die
+abbrev pub pays : Side → Duty → Bool
+pays s (duties.Data t) = same_side s t
+pays s (duties.BreakAck t reason) = same_side s t
+pays s (duties.BreakReset t reason) = same_side s t
+pays s (duties.Reset t) = same_side s t
+pays s _ = false
+
+abbrev pub is_owed : Side → List Duty → Bool
+is_owed s [] = false
+is_owed s (d ∷ ds) = pays s d || is_owed s ds
+
+abbrev none_owed : List Duty → Bool
+none_owed ds = not (is_owed A ds) && not (is_owed B ds)
+
+-- what has to come after a duty
+abbrev pub needs : Duty → List Duty → Bool
+needs (duties.Look s) ds = is_owed s ds
+needs (duties.Update s) ds = is_owed s ds
+needs (duties.Syn s) ds = is_owed s ds
+needs (duties.PeerKey s) ds = is_owed s ds
+needs (duties.SynAck s) ds = is_owed s ds
+needs (duties.Opened s) ds = is_owed s ds
+needs (duties.Heard s index) ds = is_owed s ds && not (is_owed (peer s) ds)
+needs (duties.AckHeard s) ds = is_owed s ds
+needs (duties.Keep s) ds = is_owed s ds
+needs (duties.Edge s) ds = is_owed s ds && not (is_owed (peer s) ds)
+needs (duties.HeardFin s index) ds = is_owed s ds && not (is_owed (peer s) ds)
+needs (duties.PassFin s) ds = is_owed s ds
+needs (duties.Rate s) ds = is_owed s ds
+needs (duties.Acknowledge s) ds = is_owed s ds
+needs (duties.Again s) ds = is_owed s ds
+needs (duties.Answer s) ds = is_owed s ds
+needs (duties.Resend s) ds = is_owed s ds
+needs (duties.BreakAck s reason) ds = none_owed ds
+needs (duties.BreakReset s reason) ds = none_owed ds
+needs (duties.Reset s) ds = none_owed ds
+needs duties.Events ds = none_owed ds
+needs duties.End ds = none_owed ds
+needs _ ds = true
+
+abbrev pub is_followed : List Duty → Bool
+is_followed [] = true
+is_followed (d ∷ ds) = needs d ds && is_followed ds
+
+-- ---- templates
+
+emission_followed : (s : Side) → is_followed (emission s) ≡ true
+emission_followed A = refl
+emission_followed B = refl
+
+emission_owed : (s : Side) → is_owed s (emission s) ≡ true
+emission_owed A = refl
+emission_owed B = refl
+
+-- so many things that a copy said, and its payload
+record IsCopy (s : Side) (ds : List Duty) : Type 0 where
+  followed : is_followed ds ≡ true
+  owed : is_owed s ds ≡ true
+  other : is_owed (peer s) ds ≡ false
+
+things_heard : (s : Side) (from count : ℕ) (ds : List Duty) → IsCopy s ds → IsCopy s (heard_and s from count ds)
+things_heard s from zero ds h = h
+things_heard s from (suc count) ds h =
+    let rest = things_heard s (from + 1) count ds h in
+    record { followed = rw (rest.owed, rest.other, rest.followed) refl; owed = rest.owed; other = rest.other }
+
+payload_is : (s : Side) → IsCopy s (payload_came s)
+payload_is A = record { followed = refl; owed = refl; other = refl }
+payload_is B = record { followed = refl; owed = refl; other = refl }
+
+copy_is : (s : Side) (count : ℕ) → IsCopy s (copy_came s count)
+copy_is s count =
+    let rest = things_heard s 0 count (payload_came s) (payload_is s) in
+    record { followed = rw (rest.owed, rest.followed) refl; owed = rest.owed; other = rest.other }
+
+-- ---- an end
+
+-- where it has no record to send and may ask, it was refused
+pub record IsPaid (c : Profile) (s : Side) (e : PathEnd) (refused : Bool) : Type 0 where
+  pub paid : first_unsent e ≡ None → may_ask c s e ≡ true → refused ≡ true
+
+finished : (state : EndPhase) → states.may_finish (states.after_finish state) ≡ false
+finished phase.Waiting = refl
+finished phase.Listen = refl
+finished phase.SynSent = refl
+finished phase.SynReceived = refl
+finished phase.Established = refl
+finished phase.FinWait1 = refl
+finished phase.FinWait2 = refl
+finished phase.CloseWait = refl
+finished phase.Closing = refl
+finished phase.LastAck = refl
+finished phase.TimeWait = refl
+finished phase.Dead = refl
+
+dead_is_done : (state : EndPhase) → states.is_dead state ≡ true → states.may_finish state ≡ false
+dead_is_done phase.Dead is = refl
+dead_is_done phase.Waiting is = absurd (false≢true is)
+dead_is_done phase.Listen is = absurd (false≢true is)
+dead_is_done phase.SynSent is = absurd (false≢true is)
+dead_is_done phase.SynReceived is = absurd (false≢true is)
+dead_is_done phase.Established is = absurd (false≢true is)
+dead_is_done phase.FinWait1 is = absurd (false≢true is)
+dead_is_done phase.FinWait2 is = absurd (false≢true is)
+dead_is_done phase.CloseWait is = absurd (false≢true is)
+dead_is_done phase.Closing is = absurd (false≢true is)
+dead_is_done phase.LastAck is = absurd (false≢true is)
+dead_is_done phase.TimeWait is = absurd (false≢true is)
+
+-- an end that can't push a FIN asks for nothing
+closed_paid : (c : Profile) (s : Side) (e : PathEnd) (refused : Bool) → states.may_finish e.tcp.state ≡ false → IsPaid c s e refused
+closed_paid c s e refused over = record { paid = λ none may. absurd (both_ways (states.may_finish e.tcp.state) over (and_parts (states.may_finish e.tcp.state) _ may).0) }
+
+unless_dead_paid : (c : Profile) (s : Side) (e : PathEnd) (refused : Bool) → IsPaid c s (died_unless_dead e) refused
+unless_dead_paid c s e refused = by (states.is_dead e.tcp.state) refl
+  where
+    by : (b : Bool) → states.is_dead e.tcp.state ≡ b → IsPaid c s (if b then e else died e) refused
+    by true is = closed_paid c s e refused (dead_is_done e.tcp.state is)
+    by false is = closed_paid c s (died e) refused refl
+
+-- what isn't asked
+not_asking : (c : Profile) (s : Side) (e : PathEnd) (refused : Bool) (o : Option Record) → first_unsent e ≡ o → data_stands c s e o ≡ false → IsPaid c s e refused
+not_asking c s e refused None is none = record { paid = λ same may. absurd (both_ways (may_ask c s e) none may) }
+not_asking c s e refused (Some r) is none = record { paid = λ same may. (let never : None ≡ Some r = sym same ∙ is in cc) }
+
+-- ---- what follows from what is ahead
+
+none_for : (s : Side) (ds : List Duty) → none_owed ds ≡ true → is_owed s ds ≡ false
+none_for A ds none = not-true (is_owed A ds) (and_parts (not (is_owed A ds)) (not (is_owed B ds)) none).0
+none_for B ds none = not-true (is_owed B ds) (and_parts (not (is_owed A ds)) (not (is_owed B ds)) none).1
+
+first_need : (d : Duty) (ds : List Duty) → is_followed (d ∷ ds) ≡ true → needs d ds ≡ true
+first_need d ds h = (and_parts (needs d ds) (is_followed ds) h).0
+
+rest_followed : (d : Duty) (ds : List Duty) → is_followed (d ∷ ds) ≡ true → is_followed ds ≡ true
+rest_followed d ds h = (and_parts (needs d ds) (is_followed ds) h).1
+
+-- a side that this duty doesn't pay
+unpaid_side : (s t : Side) (ds : List Duty) → same_side s t ≡ false → (same_side s t || is_owed s ds) ≡ true → is_owed s ds ≡ true
+unpaid_side A B ds other owed = owed
+unpaid_side B A ds other owed = owed
+unpaid_side A A ds other owed = absurd (true≢false other)
+unpaid_side B B ds other owed = absurd (true≢false other)
+
+-- of the duties by which an end dies, the other side isn't paid
+others_none : (s : Side) (ds : List Duty) → none_owed ds ≡ true → (same_side (peer s) s || is_owed (peer s) ds) ≡ false
+others_none A ds none = none_for B ds none
+others_none B ds none = none_for A ds none
+
+-- ---- a path
+
+module _ {C : Type 0} where
+  -- the side's end has what it needs ahead, or is paid
+  abbrev pub Pays : PathState C → List Duty → (Side → Bool) → Side → Type 0
+  Pays p ds refused s = (is_owed s ds ≡ true) ⊎ IsPaid p.profile s (end_at s p) (refused s)
+
+  pub record Granting (p : PathState C) (refused : Side → Bool) : Type 0 where
+    pub followed : is_followed p.agenda ≡ true
+    pub each : (s : Side) → Pays p p.agenda refused s
+
+  -- paid where nothing is ahead
+  pub is_paid : (p : PathState C) (ds : List Duty) (refused : Side → Bool) (s : Side) → is_owed s ds ≡ false → Pays p ds refused s → IsPaid p.profile s (end_at s p) (refused s)
+  is_paid p ds refused s none (inl owed) = absurd (both_ways (is_owed s ds) none owed)
+  is_paid p ds refused s none (inr paid) = paid
+
+  -- an end goes on, and these are to be done
+  goes_each : (s : Side) (e : PathEnd) (ds : List Duty) (p : PathState C) (refused : Side → Bool) → (is_owed s ds ≡ true) ⊎ IsPaid p.profile s e (refused s)
+      → (is_owed (peer s) ds ≡ true) ⊎ IsPaid p.profile (peer s) (end_at (peer s) p) (refused (peer s)) → (t : Side) → Pays (goes_on s e ds p) ds refused t
+  goes_each A e ds p refused own other A = own
+  goes_each A e ds p refused own other B = other
+  goes_each B e ds p refused own other A = other
+  goes_each B e ds p refused own other B = own
+
+  module _ (p : PathState C) (refused : Side → Bool) where
+    -- the end of this side goes on
+    on : (s : Side) (e : PathEnd) (ds : List Duty) → is_followed ds ≡ true → (is_owed s ds ≡ true) ⊎ IsPaid p.profile s e (refused s)
+        → (is_owed (peer s) ds ≡ true) ⊎ IsPaid p.profile (peer s) (end_at (peer s) p) (refused (peer s)) → Granting (goes_on s e ds p) refused
+    on s e ds followed own other = record { followed = followed; each = goes_each s e ds p refused own other }
+
+    -- and a segment goes out
+    sent : (k : Codec C) (s : Side) (segment : PlainSegment) (e : PathEnd) (ds : List Duty) → is_followed ds ≡ true → (is_owed s ds ≡ true) ⊎ IsPaid p.profile s e (refused s)
+        → (is_owed (peer s) ds ≡ true) ⊎ IsPaid p.profile (peer s) (end_at (peer s) p) (refused (peer s)) → Granting (sent_on k s segment e ds p) refused
+    sent k s segment e ds followed own other = record { followed = followed; each = at s own other }
+      where
+        at : (s : Side) → (is_owed s ds ≡ true) ⊎ IsPaid p.profile s e (refused s) → (is_owed (peer s) ds ≡ true) ⊎ IsPaid p.profile (peer s) (end_at (peer s) p) (refused (peer s))
+            → (t : Side) → Pays (sent_on k s segment e ds p) ds refused t
+        at A own other A = own
+        at A own other B = other
+        at B own other A = other
+        at B own other B = own
+
+    agenda_on : (ds : List Duty) → is_followed ds ≡ true → ((s : Side) → Pays p ds refused s) → Granting (with_agenda ds p) refused
+    agenda_on ds followed each = record { followed = followed; each = at }
+      where
+        at : (s : Side) → Pays (with_agenda ds p) ds refused s
+        at A = each A
+        at B = each B
+
+    -- ---- a break, a reset
+
+    reset_done : (k : Codec C) (s : Side) (reason : Option ℕ) → IsPaid p.profile (peer s) (end_at (peer s) p) (refused (peer s)) → Granting (reset_on k s reason (leaves s) p) refused
+    reset_done k s reason other = sent k s (reset_of s reason p) (died (end_at s p)) (leaves s) refl (inr (closed_paid p.profile s (died (end_at s p)) (refused s) refl)) (inr other)
+
+    resets_done : (s : Side) (reason : ℕ) (r : Reply) → IsPaid p.profile (peer s) (end_at (peer s) p) (refused (peer s)) → Granting (answered_ack_out s r (resets s reason) p) refused
+    resets_done A reason r other = on A _ (resets A reason) refl (inl refl) (inr other)
+    resets_done B reason r other = on B _ (resets B reason) refl (inl refl) (inr other)
+
+    breaks_done : (s : Side) (e : PathEnd) (reason : ℕ) → IsPaid p.profile (peer s) (end_at (peer s) p) (refused (peer s)) → Granting (goes_on s e (breaks s reason) p) refused
+    breaks_done A e reason other = on A e (breaks A reason) refl (inl refl) (inr other)
+    breaks_done B e reason other = on B e (breaks B reason) refl (inl refl) (inr other)
+
+    break_done : (k : Codec C) (s : Side) (reason : ℕ) (r : Reply) → IsPaid p.profile (peer s) (end_at (peer s) p) (refused (peer s)) → Granting (answered_break k s reason r p) refused
+    break_done k s reason r other = by (end_at s p).treated.asked
+      where
+        by : (b : Bool) → Granting (if b then answered_ack_out s r (resets s reason) p else reset_on k s (Some reason) (leaves s) p) refused
+        by true = resets_done s reason r other
+        by false = reset_done k s (Some reason) other
+
+  -- ---- events, where nothing is ahead
+
+  module _ (p : PathState C) (refused : Side → Bool) (paid : (s : Side) → IsPaid p.profile s (end_at s p) (refused s)) where
+    line_done : (death : Bool) → Granting (after_line death p) refused
+    line_done false = agenda_on p refused rest_of_turn refl (λ s. inr (paid s))
+    line_done true = record { followed = by (states.is_dead p.a.tcp.state) (states.is_dead p.b.tcp.state); each = at }
+      where
+        by : (a b : Bool) → is_followed ((if a then [] else duties.Leave A ∷ []) ++ ((if b then [] else duties.Leave B ∷ []) ++ rest_of_turn)) ≡ true
+        by true true = refl
+        by true false = refl
+        by false true = refl
+        by false false = refl
+
+        at : (s : Side) → Pays (path_died p) (path_died p).agenda refused s
+        at A = inr (unless_dead_paid p.profile A p.a (refused A))
+        at B = inr (unless_dead_paid p.profile B p.b (refused B))
+
+    -- the end of the side to which a copy came
+    came : (s : Side) (e : PathEnd) (count : ℕ) (m : Meaning) → (is_owed s (template_by s count m) ≡ true) ⊎ IsPaid p.profile s e (refused s) → is_followed (template_by s count m) ≡ true
+        → Granting (goes_on s e (template_by s count m) p) refused
+    came s e count m own followed = on p refused s e (template_by s count m) followed own (inr (paid (peer s)))
+
+    -- the end after a copy that means this
+    abbrev ended : Side → ℕ → HeardSegment → Meaning → PathEnd
+    ended s now h m = after_copy (reset_for p.profile s (copy_of h)) s now h m (with_held (held_of p.profile s h) h m (end_at s p))
+
+    heard_done : (s : Side) (now count : ℕ) (h : HeardSegment) (m : Meaning) → Granting (goes_on s (ended s now h m) (template_by s count m) p) refused
+    heard_done A now count h means.Ignored = came A (ended A now h means.Ignored) count means.Ignored (inl refl) refl
+    heard_done B now count h means.Ignored = came B (ended B now h means.Ignored) count means.Ignored (inl refl) refl
+    heard_done s now count h means.Unwanted = came s (ended s now h means.Unwanted) count means.Unwanted (inr (record { paid = (paid s).paid })) refl
+    heard_done A now count h means.Opens = came A (ended A now h means.Opens) count means.Opens (inl refl) refl
+    heard_done B now count h means.Opens = came B (ended B now h means.Opens) count means.Opens (inl refl) refl
+    heard_done A now count h (means.Accepts acknowledged) = came A (ended A now h (means.Accepts acknowledged)) count (means.Accepts acknowledged) (inl refl) refl
+    heard_done B now count h (means.Accepts acknowledged) = came B (ended B now h (means.Accepts acknowledged)) count (means.Accepts acknowledged) (inl refl) refl
+    heard_done A now count h means.RepeatedSyn = came A (ended A now h means.RepeatedSyn) count means.RepeatedSyn (inl refl) refl
+    heard_done B now count h means.RepeatedSyn = came B (ended B now h means.RepeatedSyn) count means.RepeatedSyn (inl refl) refl
+    heard_done A now count h means.Outside = came A (ended A now h means.Outside) count means.Outside (inl refl) refl
+    heard_done B now count h means.Outside = came B (ended B now h means.Outside) count means.Outside (inl refl) refl
+    heard_done s now count h means.Kills = came s (ended s now h means.Kills) count means.Kills (inr (closed_paid p.profile s (ended s now h means.Kills) (refused s) refl)) refl
+    heard_done A now count h means.Challenged = came A (ended A now h means.Challenged) count means.Challenged (inl refl) refl
+    heard_done B now count h means.Challenged = came B (ended B now h means.Challenged) count means.Challenged (inl refl) refl
+    heard_done A now count h means.Unacknowledging = came A (ended A now h means.Unacknowledging) count means.Unacknowledging (inl refl) refl
+    heard_done B now count h means.Unacknowledging = came B (ended B now h means.Unacknowledging) count means.Unacknowledging (inl refl) refl
+    heard_done A now count h means.Ahead = came A (ended A now h means.Ahead) count means.Ahead (inl refl) refl
+    heard_done B now count h means.Ahead = came B (ended B now h means.Ahead) count means.Ahead (inl refl) refl
+    heard_done s now count h (means.Taken position acknowledged) =
+        let copy = copy_is s count in
+        came s (ended s now h (means.Taken position acknowledged)) count (means.Taken position acknowledged) (inl copy.owed) copy.followed
+
+    emission_done : (s : Side) → Granting (with_agenda (emission s) p) refused
+    emission_done A = agenda_on p refused (emission A) refl at
+      where
+        at : (s : Side) → Pays p (emission A) refused s
+        at A = inl refl
+        at B = inr (paid B)
+    emission_done B = agenda_on p refused (emission B) refl at
+      where
+        at : (s : Side) → Pays p (emission B) refused s
+        at A = inr (paid A)
+        at B = inl refl
+
+    copy_done : (s : Side) (o : Option HeardSegment) → Granting (copy_heard s o p) refused
+    copy_done s None = emission_done s
+    copy_done s (Some h) = heard_done s p.clock (length (items_of s h)) h (meaning_of (copy_of h) (end_at s p).tcp)
+
+    fired_done : (s : Side) (e : PathEnd) (sixth : Bool) → Granting (goes_on s e (template_fired sixth s) p) refused
+    fired_done A e true = on p refused A e (expired_for_ever A) refl (inl refl) (inr (paid B))
+    fired_done B e true = on p refused B e (expired_for_ever B) refl (inl refl) (inr (paid A))
+    fired_done A e false = on p refused A e (expired A) refl (inl refl) (inr (paid B))
+    fired_done B e false = on p refused B e (expired B) refl (inl refl) (inr (paid A))
+
+  event_done : (k : Codec C) (o : Option Event) (p : PathState C) (refused : Side → Bool) → ((s : Side) → IsPaid p.profile s (end_at s p) (refused s)) → Granting (happens_if k o p) refused
+  event_done k None p refused paid = agenda_on p refused rest_of_turn refl (λ s. inr (paid s))
+  event_done k (Some (happenings.Takes line)) p refused paid =
+      line_done (record (at_tick line.tick p) { lines = tail_of p.lines }) refused at (is_death line.line)
+    where
+      at : (s : Side) → IsPaid p.profile s (end_at s (record (at_tick line.tick p) { lines = tail_of p.lines })) (refused s)
+      at A = paid A
+      at B = paid B
+  event_done k (Some (happenings.Arrives due)) p refused paid =
+      copy_done (record (at_tick due.tick p) { link = after_delivery due p.link }) refused at due.to (heard_in k due.to (arriving due p.link) p)
+    where
+      at : (s : Side) → IsPaid p.profile s (end_at s (record (at_tick due.tick p) { link = after_delivery due p.link })) (refused s)
+      at A = paid A
+      at B = paid B
+  event_done k (Some (happenings.Fires s tick)) p refused paid = fired_done (at_tick tick p) refused at s _ (is_sixth (end_at s (at_tick tick p)).tcp)
+    where
+      at : (t : Side) → IsPaid p.profile t (end_at t (at_tick tick p)) (refused t)
+      at A = paid A
+      at B = paid B
+
+  -- ---- passing
+
+  own_passed : (s : Side) (e : PathEnd) (ds : List Duty) (p : PathState C) (refused : Side → Bool) → (is_owed s ds ≡ true) ⊎ IsPaid p.profile s e (refused s)
+      → (is_owed (peer s) ds ≡ true) ⊎ IsPaid p.profile (peer s) (end_at (peer s) p) (refused (peer s)) → (t : Side) → Pays (with_end s e p) ds refused t
+  own_passed A e ds p refused own other A = own
+  own_passed A e ds p refused own other B = other
+  own_passed B e ds p refused own other A = other
+  own_passed B e ds p refused own other B = own
+
+  data_passed : (s : Side) (ds : List Duty) (p : PathState C) (refused : Side → Bool) → stands (duties.Data s) p ≡ false → ((t : Side) → Pays p (duties.Data s ∷ ds) refused t) → (t : Side) → Pays p ds refused t
+  data_passed A ds p refused none each A = inr (not_asking p.profile A p.a (refused A) (first_unsent p.a) refl none)
+  data_passed A ds p refused none each B = each B
+  data_passed B ds p refused none each A = each A
+  data_passed B ds p refused none each B = inr (not_asking p.profile B p.b (refused B) (first_unsent p.b) refl none)
+
+  passed_pays : (d : Duty) (ds : List Duty) (p : PathState C) (refused : Side → Bool) → stands d p ≡ false → is_followed (d ∷ ds) ≡ true → ((t : Side) → Pays p (d ∷ ds) refused t)
+      → (t : Side) → Pays (passed d p) ds refused t
+  passed_pays (duties.Data s) ds p refused none f each = data_passed s ds p refused none each
+  passed_pays (duties.Timer s) ds p refused none f each = own_passed s _ ds p refused (⊎_elim (λ owed. inl owed) (λ h. inr (record { paid = h.paid })) (each s)) (each (peer s))
+  passed_pays (duties.Heard s index) ds p refused none f each =
+      own_passed s _ ds p refused (inl (and_parts (is_owed s ds) (not (is_owed (peer s) ds)) (first_need (duties.Heard s index) ds f)).0) (each (peer s))
+  passed_pays (duties.Keep s) ds p refused none f each = own_passed s _ ds p refused (inl (first_need (duties.Keep s) ds f)) (each (peer s))
+  passed_pays (duties.Edge s) ds p refused none f each =
+      own_passed s _ ds p refused (inl (and_parts (is_owed s ds) (not (is_owed (peer s) ds)) (first_need (duties.Edge s) ds f)).0) (each (peer s))
+  passed_pays (duties.PassFin s) ds p refused none f each = own_passed s _ ds p refused (inl (first_need (duties.PassFin s) ds f)) (each (peer s))
+  passed_pays (duties.BreakAck s reason) ds p refused none f each = absurd (true≢false none)
+  passed_pays (duties.BreakReset s reason) ds p refused none f each = absurd (true≢false none)
+  passed_pays (duties.Reset s) ds p refused none f each = absurd (true≢false none)
+  passed_pays (duties.Look s) ds p refused none f each = each
+  passed_pays (duties.Window s) ds p refused none f each = each
+  passed_pays (duties.Update s) ds p refused none f each = each
+  passed_pays (duties.Syn s) ds p refused none f each = each
+  passed_pays (duties.DataFin s) ds p refused none f each = each
+  passed_pays (duties.Fin s) ds p refused none f each = each
+  passed_pays duties.Events ds p refused none f each = each
+  passed_pays (duties.SynHeard s) ds p refused none f each = each
+  passed_pays (duties.SynAnswered s) ds p refused none f each = each
+  passed_pays (duties.PeerKey s) ds p refused none f each = each
+  passed_pays (duties.SynAck s) ds p refused none f each = each
+  passed_pays (duties.Opened s) ds p refused none f each = each
+  passed_pays (duties.Live s) ds p refused none f each = each
+  passed_pays (duties.AckHeard s) ds p refused none f each = each
+  passed_pays (duties.HeardFin s index) ds p refused none f each = each
+  passed_pays (duties.AckOut s) ds p refused none f each = each
+  passed_pays (duties.Rate s) ds p refused none f each = each
+  passed_pays (duties.Acknowledge s) ds p refused none f each = each
+  passed_pays (duties.Again s) ds p refused none f each = each
+  passed_pays (duties.Answer s) ds p refused none f each = each
+  passed_pays (duties.ResetAnswer s) ds p refused none f each = each
+  passed_pays (duties.Return s) ds p refused none f each = each
+  passed_pays (duties.Resend s) ds p refused none f each = each
+  passed_pays (duties.Leave s) ds p refused none f each = each
+  passed_pays (duties.Dead s) ds p refused none f each = each
+  passed_pays duties.End ds p refused none f each = each
+
+  pub settled_done : (ds : List Duty) (p : PathState C) (refused : Side → Bool) → is_followed ds ≡ true → ((t : Side) → Pays p ds refused t) → Granting (settled ds p) refused
+  settled_done [] p refused f each = agenda_on p refused [] refl each
+  settled_done (d ∷ ds) p refused f each =
+      by (stands d p) refl (λ none. settled_done ds (passed d p) refused (rest_followed d ds f) (passed_pays d ds p refused none f each))
+    where
+      by : (b : Bool) → stands d p ≡ b → (stands d p ≡ false → Granting (settled ds (passed d p)) refused) → Granting (if b then with_agenda (d ∷ ds) p else settled ds (passed d p)) refused
+      by true is rest = agenda_on p refused (d ∷ ds) f each
+      by false is rest = rest is
+
+  -- ---- replies
+
+  module _ (k : Codec C) (r : Reply) (p : PathState C) (refused : Side → Bool) where
+    -- a path whose agenda this is
+    abbrev at : List Duty → PathState C
+    at ds = with_agenda ds p
+
+    -- the end of this side goes on, and has what it needs ahead
+    touched : (s : Side) (e : PathEnd) (ds : List Duty) → is_followed ds ≡ true → is_owed s ds ≡ true → (xs : List Duty) → Pays (at xs) ds refused (peer s) → Granting (goes_on s e ds (at xs)) refused
+    touched s e ds f owed xs other = on (at xs) refused s e ds f (inl owed) other
+
+    touched_sent : (s : Side) (segment : PlainSegment) (e : PathEnd) (ds : List Duty) → is_followed ds ≡ true → is_owed s ds ≡ true → (xs : List Duty) → Pays (at xs) ds refused (peer s)
+        → Granting (sent_on k s segment e ds (at xs)) refused
+    touched_sent s segment e ds f owed xs other = sent (at xs) refused k s segment e ds f (inl owed) other
+
+    -- what is done changes nothing that the end may ask
+    done_on : (ds xs : List Duty) → is_followed ds ≡ true → ((t : Side) → Pays (at xs) ds refused t) → Granting (with_agenda ds (at xs)) refused
+    done_on ds xs f each = agenda_on (at xs) refused ds f each
+
+    other_paid : (d : Duty) (s : Side) (ds : List Duty) → is_owed (peer s) (d ∷ ds) ≡ false → ((t : Side) → Pays (at (d ∷ ds)) (d ∷ ds) refused t) → IsPaid p.profile (peer s) (end_at (peer s) p) (refused (peer s))
+    other_paid d s ds none each = is_paid (at (d ∷ ds)) (d ∷ ds) refused (peer s) none (each (peer s))
+
+    item_done : (s : Side) (index : ℕ) (ds : List Duty) → is_followed (duties.Heard s index ∷ ds) ≡ true → ((t : Side) → Pays (at (duties.Heard s index ∷ ds)) (duties.Heard s index ∷ ds) refused t)
+        → (o : Option Heard) → Granting (answered_item k s o r (at (duties.Heard s index ∷ ds))) refused
+    item_done s index ds f each = by
+      where
+        xs : List Duty
+        xs = duties.Heard s index ∷ ds
+
+        need : (is_owed s ds ≡ true) × (not (is_owed (peer s) ds) ≡ true)
+        need = and_parts (is_owed s ds) (not (is_owed (peer s) ds)) (first_need (duties.Heard s index) ds f)
+
+        rest : is_followed ds ≡ true
+        rest = rest_followed (duties.Heard s index) ds f
+
+        paid : IsPaid p.profile (peer s) (end_at (peer s) p) (refused (peer s))
+        paid = is_paid (at xs) xs refused (peer s) (not-true (is_owed (peer s) ds) need.1) (each (peer s))
+
+        told : (b : Bool) (e : PathEnd) → Granting (goes_on s e (told_next s b (at xs)) (at xs)) refused
+        told true e = touched s e (duties.AckHeard s ∷ ds) (rw (need.0, rest) refl) need.0 xs (inr paid)
+        told false e = touched s e ds rest need.0 xs (inr paid)
+
+        mapping : (b : Bool) → Granting (if b then answered_break k s 1 r (at xs) else goes_on s (with_learned (after_verdict r (end_at s p))) ds (at xs)) refused
+        mapping true = break_done (at xs) refused k s 1 r paid
+        mapping false = touched s _ ds rest need.0 xs (inr paid)
+
+        by : (o : Option Heard) → Granting (answered_item k s o r (at xs)) refused
+        by None = done_on ds xs rest (λ t. each t)
+        by (Some says.Dss) = done_on ds xs rest (λ t. each t)
+        by (Some (says.DataAck next window)) = told _ _
+        by (Some says.Mapping) = mapping (is_clash (end_at s p))
+        by (Some (says.DataFin place)) = touched s _ ds rest need.0 xs (inr paid)
+        by (Some (says.PeerKey key)) = done_on ds xs rest (λ t. each t)
+        by (Some (says.Keys own other)) = touched s _ ds rest need.0 xs (inr paid)
+
+    piece_done : (s : Side) (ds : List Duty) → is_followed (duties.Edge s ∷ ds) ≡ true → ((t : Side) → Pays (at (duties.Edge s ∷ ds)) (duties.Edge s ∷ ds) refused t)
+        → (o : Option Piece) (taken : Bool) → Granting (answered_piece s o taken (at (duties.Edge s ∷ ds))) refused
+    piece_done s ds f each = by
+      where
+        xs : List Duty
+        xs = duties.Edge s ∷ ds
+
+        need : (is_owed s ds ≡ true) × (not (is_owed (peer s) ds) ≡ true)
+        need = and_parts (is_owed s ds) (not (is_owed (peer s) ds)) (first_need (duties.Edge s) ds f)
+
+        paid : IsPaid p.profile (peer s) (end_at (peer s) p) (refused (peer s))
+        paid = is_paid (at xs) xs refused (peer s) (not-true (is_owed (peer s) ds) need.1) (each (peer s))
+
+        by : (o : Option Piece) (taken : Bool) → Granting (answered_piece s o taken (at xs)) refused
+        by (Some piece) true = touched s _ xs f need.0 xs (inr paid)
+        by (Some piece) false = breaks_done (at xs) refused s _ 1 paid
+        by None taken = breaks_done (at xs) refused s _ 1 paid
+
+    fin_done : (s : Side) (index : ℕ) (ds : List Duty) → is_followed (duties.HeardFin s index ∷ ds) ≡ true
+        → ((t : Side) → Pays (at (duties.HeardFin s index ∷ ds)) (duties.HeardFin s index ∷ ds) refused t) → (set : Bool) → Granting (answered_fin_heard s set (at (duties.HeardFin s index ∷ ds))) refused
+    fin_done s index ds f each = by
+      where
+        xs : List Duty
+        xs = duties.HeardFin s index ∷ ds
+
+        need : (is_owed s ds ≡ true) × (not (is_owed (peer s) ds) ≡ true)
+        need = and_parts (is_owed s ds) (not (is_owed (peer s) ds)) (first_need (duties.HeardFin s index) ds f)
+
+        paid : IsPaid p.profile (peer s) (end_at (peer s) p) (refused (peer s))
+        paid = is_paid (at xs) xs refused (peer s) (not-true (is_owed (peer s) ds) need.1) (each (peer s))
+
+        by : (set : Bool) → Granting (answered_fin_heard s set (at xs)) refused
+        by true = touched s _ ds (rest_followed (duties.HeardFin s index) ds f) need.0 xs (inr paid)
+        by false = breaks_done (at xs) refused s _ 1 paid
+
+    -- an end that asks for bytes, where the reply leaves the duty
+    own_data : (s : Side) (ds : List Duty) → is_owed s (duties.Data s ∷ ds) ≡ true
+    own_data A ds = refl
+    own_data B ds = refl
+
+    pub data_sent : (s : Side) (ds : List Duty) (u : Record) → is_followed (duties.Data s ∷ ds) ≡ true → ((t : Side) → Pays (at (duties.Data s ∷ ds)) (duties.Data s ∷ ds) refused t)
+        → Granting (answered_data k s (Some u) r (at (duties.Data s ∷ ds))) refused
+    data_sent s ds u f each = touched_sent s _ _ (duties.Data s ∷ ds) f (own_data s ds) (duties.Data s ∷ ds) (each (peer s))
+
+    pub granted_done : (s : Side) (ds : List Duty) (grant : Grant) → is_followed (duties.Data s ∷ ds) ≡ true → ((t : Side) → Pays (at (duties.Data s ∷ ds)) (duties.Data s ∷ ds) refused t)
+        → Granting (answered_grant s (Some grant) r (at (duties.Data s ∷ ds))) refused
+    granted_done s ds grant f each = touched s _ (duties.Data s ∷ ds) f (own_data s ds) (duties.Data s ∷ ds) (each (peer s))
+
+    -- a refusal ends the asking
+    pub refused_done : (s : Side) (ds : List Duty) → refused s ≡ true → is_followed (duties.Data s ∷ ds) ≡ true → ((t : Side) → (t ≡ s → ⊥) → Pays (at (duties.Data s ∷ ds)) (duties.Data s ∷ ds) refused t)
+        → Granting (answered_grant s None r (at (duties.Data s ∷ ds))) refused
+    refused_done A ds is f each =
+        on (at (duties.Data A ∷ ds)) refused A _ ds (rest_followed (duties.Data A) ds f) (inr (record { paid = λ none may. is })) (each B (λ same. (let never : B ≡ A = same in cc)))
+    refused_done B ds is f each =
+        on (at (duties.Data B ∷ ds)) refused B _ ds (rest_followed (duties.Data B) ds f) (inr (record { paid = λ none may. is })) (each A (λ same. (let never : A ≡ B = same in cc)))
+
+    -- every other duty
+    pub answered_done : (d : Duty) (ds : List Duty) → MayNotAsk d → is_followed (d ∷ ds) ≡ true → ((t : Side) → Pays (at (d ∷ ds)) (d ∷ ds) refused t) → Granting (answered k d r (at (d ∷ ds))) refused
+    answered_done (duties.Data s) ds other f each = absurd other
+    answered_done (duties.Look s) ds other f each = touched s _ ds (rest_followed (duties.Look s) ds f) (first_need (duties.Look s) ds f) (duties.Look s ∷ ds) (each (peer s))
+    answered_done (duties.Window s) ds other f each =
+        on (at (duties.Window s ∷ ds)) refused s _ ds (rest_followed (duties.Window s) ds f) (⊎_elim (λ owed. inl owed) (λ h. inr (record { paid = h.paid })) (each s)) (each (peer s))
+    answered_done (duties.Update s) ds other f each = touched_sent s _ _ ds (rest_followed (duties.Update s) ds f) (first_need (duties.Update s) ds f) (duties.Update s ∷ ds) (each (peer s))
+    answered_done (duties.Syn s) ds other f each = touched_sent s _ _ ds (rest_followed (duties.Syn s) ds f) (first_need (duties.Syn s) ds f) (duties.Syn s ∷ ds) (each (peer s))
+    answered_done (duties.DataFin s) ds other f each =
+        sent (at (duties.DataFin s ∷ ds)) refused k s _ _ ds (rest_followed (duties.DataFin s) ds f) (⊎_elim (λ owed. inl owed) (λ h. inr (record { paid = h.paid })) (each s)) (each (peer s))
+    answered_done (duties.Fin s) ds other f each =
+        sent (at (duties.Fin s ∷ ds)) refused k s _ _ ds (rest_followed (duties.Fin s) ds f) (inr (closed_paid p.profile s _ (refused s) (finished (end_at s p).tcp.state))) (each (peer s))
+    answered_done (duties.Timer s) ds other f each = done_on ds (duties.Timer s ∷ ds) (rest_followed (duties.Timer s) ds f) (λ t. each t)
+    answered_done duties.Events ds other f each =
+        event_done k (next_event p) (at (duties.Events ∷ ds)) refused
+        (λ s. is_paid (at (duties.Events ∷ ds)) (duties.Events ∷ ds) refused s (none_for s ds (first_need duties.Events ds f)) (each s))
+    answered_done (duties.SynHeard s) ds other f each = done_on ds (duties.SynHeard s ∷ ds) (rest_followed (duties.SynHeard s) ds f) (λ t. each t)
+    answered_done (duties.SynAnswered s) ds other f each = done_on ds (duties.SynAnswered s ∷ ds) (rest_followed (duties.SynAnswered s) ds f) (λ t. each t)
+    answered_done (duties.PeerKey s) ds other f each = touched s _ ds (rest_followed (duties.PeerKey s) ds f) (first_need (duties.PeerKey s) ds f) (duties.PeerKey s ∷ ds) (each (peer s))
+    answered_done (duties.SynAck s) ds other f each = touched_sent s _ _ ds (rest_followed (duties.SynAck s) ds f) (first_need (duties.SynAck s) ds f) (duties.SynAck s ∷ ds) (each (peer s))
+    answered_done (duties.Opened s) ds other f each = touched s _ ds (rest_followed (duties.Opened s) ds f) (first_need (duties.Opened s) ds f) (duties.Opened s ∷ ds) (each (peer s))
+    answered_done (duties.Live s) ds other f each = done_on ds (duties.Live s ∷ ds) (rest_followed (duties.Live s) ds f) (λ t. each t)
+    answered_done (duties.Heard s index) ds other f each = item_done s index ds f each (item_of index (end_at s p))
+    answered_done (duties.AckHeard s) ds other f each = touched s _ ds (rest_followed (duties.AckHeard s) ds f) (first_need (duties.AckHeard s) ds f) (duties.AckHeard s ∷ ds) (each (peer s))
+    answered_done (duties.Keep s) ds other f each = done_on ds (duties.Keep s ∷ ds) (rest_followed (duties.Keep s) ds f) (λ t. each t)
+    answered_done (duties.Edge s) ds other f each = piece_done s ds f each (piece_of s p) (is_placed r)
+    answered_done (duties.HeardFin s index) ds other f each = fin_done s index ds f each (is_fin_set r)
+    answered_done (duties.PassFin s) ds other f each = done_on ds (duties.PassFin s ∷ ds) (rest_followed (duties.PassFin s) ds f) (λ t. each t)
+    answered_done (duties.AckOut s) ds other f each =
+        on (at (duties.AckOut s ∷ ds)) refused s _ ds (rest_followed (duties.AckOut s) ds f) (⊎_elim (λ owed. inl owed) (λ h. inr (record { paid = h.paid })) (each s)) (each (peer s))
+    answered_done (duties.Rate s) ds other f each = touched s _ ds (rest_followed (duties.Rate s) ds f) (first_need (duties.Rate s) ds f) (duties.Rate s ∷ ds) (each (peer s))
+    answered_done (duties.Acknowledge s) ds other f each = touched_sent s _ _ ds (rest_followed (duties.Acknowledge s) ds f) (first_need (duties.Acknowledge s) ds f) (duties.Acknowledge s ∷ ds) (each (peer s))
+    answered_done (duties.Again s) ds other f each = touched_sent s _ _ ds (rest_followed (duties.Again s) ds f) (first_need (duties.Again s) ds f) (duties.Again s ∷ ds) (each (peer s))
+    answered_done (duties.Answer s) ds other f each = touched_sent s _ _ ds (rest_followed (duties.Answer s) ds f) (first_need (duties.Answer s) ds f) (duties.Answer s ∷ ds) (each (peer s))
+    answered_done (duties.ResetAnswer s) ds other f each =
+        sent (at (duties.ResetAnswer s ∷ ds)) refused k s _ _ ds (rest_followed (duties.ResetAnswer s) ds f) (each s) (each (peer s))
+    answered_done (duties.Return s) ds other f each = done_on ds (duties.Return s ∷ ds) (rest_followed (duties.Return s) ds f) (λ t. each t)
+    answered_done (duties.Resend s) ds other f each = touched_sent s _ _ ds (rest_followed (duties.Resend s) ds f) (first_need (duties.Resend s) ds f) (duties.Resend s ∷ ds) (each (peer s))
+    answered_done (duties.BreakAck s reason) ds other f each =
+        resets_done (at (duties.BreakAck s reason ∷ ds)) refused s reason r
+        (other_paid (duties.BreakAck s reason) s ds (others_none s ds (first_need (duties.BreakAck s reason) ds f)) each)
+    answered_done (duties.BreakReset s reason) ds other f each =
+        reset_done (at (duties.BreakReset s reason ∷ ds)) refused k s (Some reason)
+        (other_paid (duties.BreakReset s reason) s ds (others_none s ds (first_need (duties.BreakReset s reason) ds f)) each)
+    answered_done (duties.Reset s) ds other f each =
+        reset_done (at (duties.Reset s ∷ ds)) refused k s None (other_paid (duties.Reset s) s ds (others_none s ds (first_need (duties.Reset s) ds f)) each)
+    answered_done (duties.Leave s) ds other f each = done_on (duties.Dead s ∷ ds) (duties.Leave s ∷ ds) (rest_followed (duties.Leave s) ds f) (λ t. each t)
+    answered_done (duties.Dead s) ds other f each = done_on ds (duties.Dead s ∷ ds) (rest_followed (duties.Dead s) ds f) (λ t. each t)
+    answered_done duties.End ds other f each =
+        done_on [] (duties.End ∷ ds) refl (λ t. inr (is_paid (at (duties.End ∷ ds)) (duties.End ∷ ds) refused t (none_for t ds (first_need duties.End ds f)) (each t)))

@@ -1,0 +1,240 @@
+-- What a book answers is of the asked kind, whatever the numbers in the call.
+use Rattle.std.proofs.Common.{◌≡◌, refl, ◌∙◌, ap, ℕ, ◌-◌, ◌≤◌, min, Bool, true, false, if◌then◌else◌, ◌||◌, not, List, [], ◌∷◌, ◌++◌, length, length-append, take, drop, map, replicate, Option, Some, None, Result, Ok, Err, arith}
+use Rattle.std.proofs.lemmas.List.{length-take, length-drop, length-map, length-replicate}
+use Rattle.outside_kit.specs.declared.side.Side.TheVariants.{A, B}
+use Rattle.send_book.specs.declared.call.Span.{Span}
+use Rattle.send_book.specs.declared.call.Why.{Why}
+use Rattle.send_book.specs.declared.call.SendCall.{SendCall}
+use Rattle.send_book.specs.declared.call.SendCall.TheVariants as send_calls
+use Rattle.send_book.specs.declared.call.SendReply.TheVariants as send_replies
+use Rattle.send_book.specs.declared.mark.ByteMark.TheVariants.{Acked, Free}
+use Rattle.send_book.specs.Marks.{given, returned}
+use Rattle.send_book.specs.Tried.{no_paths}
+use Rattle.send_book.specs.State.{Sending, Tile, acked_len, opened}
+use Rattle.send_book.specs.Steps as send
+use Rattle.send_book.proofs.Decisions.{decision-MayTake}
+use Rattle.reassembly_book.specs.declared.call.ReassemblyCall.{ReassemblyCall}
+use Rattle.reassembly_book.specs.declared.call.ReassemblyCall.TheVariants as reassembly_calls
+use Rattle.reassembly_book.specs.declared.call.ReassemblyReply.TheVariants as reassembly_replies
+use Rattle.reassembly_book.specs.State.{Arriving, filled}
+use Rattle.reassembly_book.specs.State.{opened as none}
+use Rattle.reassembly_book.specs.Steps as reassembly
+use Rattle.control_book.specs.declared.call.ControlCall.{ControlCall}
+use Rattle.control_book.specs.declared.call.ControlCall.TheVariants as control_calls
+use Rattle.control_book.specs.declared.call.ControlReply.{ControlReply}
+use Rattle.control_book.specs.declared.call.ControlReply.TheVariants as control_replies
+use Rattle.control_book.specs.Calls.{can_ask}
+use Rattle.control_book.specs.Control.{Control}
+use Rattle.control_book.specs.Replies as control
+use Rattle.actor_desk.specs.declared.ask.Ask.{Ask}
+use Rattle.actor_desk.specs.declared.ask.Ask.TheVariants as asks
+use Rattle.actor_desk.specs.Desk.{SixBooks, reply_of, after_ask}
+use Rattle.actor_desk.specs.Kinds.{IsSendKind, IsReassemblyKind, IsControlKind, IsOfKind}
+use Rattle.actor_desk.proofs.InKind.{books_answer}
+
+-- ---- one mark a byte
+
+pub record IsMarked (b : Sending) : Type 0 where
+  pub whole : length b.marks ≡ length b.written
+
+either_marked : (c : Bool) (x y : Sending) → IsMarked x → IsMarked y → IsMarked (if c then x else y)
+either_marked true x y p q = p
+either_marked false x y p q = q
+
+given_marked : (path max : ℕ) (standby : Bool) (b : Sending) → IsMarked b → (r : Result Span Why) → send.decision path max standby b ≡ r
+    → IsMarked (send.given_by path r b)
+given_marked path max standby b h (Err why) is = h
+given_marked path max standby b h (Ok span) is =
+    let may = decision-MayTake path max standby b span is in
+    let part = take (span.to - span.from) (drop span.from b.marks) in
+    let size : length part ≡ may.count = omega (arith, length-take (span.to - span.from) (drop span.from b.marks), length-drop span.from b.marks, may.whole, may.within) in
+    record {
+      whole = omega (
+        arith,
+        h.whole,
+        may.whole,
+        may.within,
+        size,
+        length-append (take span.from b.marks) (map (given path) part ++ drop span.to b.marks),
+        length-append (map (given path) part) (drop span.to b.marks),
+        length-take span.from b.marks,
+        length-drop span.to b.marks,
+        length-map part (given path),
+      );
+    }
+
+call_marked : (b : Sending) (call : SendCall) → IsMarked b → IsMarked (send.after_call b call)
+call_marked b (send_calls.Write bytes) h =
+    either_marked (b.closed || b.aborted) _ _ h
+    (record {
+      whole = omega (
+        arith,
+        h.whole,
+        length-append b.written (take (send.taken bytes b) bytes),
+        length-take (send.taken bytes b) bytes,
+        length-append b.marks (replicate (send.taken bytes b) (Free no_paths)),
+        length-replicate (send.taken bytes b) (Free no_paths),
+      );
+    })
+call_marked b send_calls.Close h = either_marked b.aborted _ _ h (record { whole = h.whole })
+call_marked b (send_calls.Grant path max standby) h = given_marked path max standby b h (send.decision path max standby b) refl
+call_marked b (send_calls.AckIn next window) h =
+    either_marked (send.is_future next b) _ _ h
+    (record {
+      whole = omega (
+        arith,
+        h.whole,
+        length-append (replicate (min next (length b.marks)) Acked) (drop next b.marks),
+        length-replicate (min next (length b.marks)) Acked,
+        length-drop next b.marks,
+      );
+    })
+call_marked b (send_calls.Return path) h = record { whole = length-map b.marks (returned path) ∙ h.whole }
+call_marked b send_calls.GoIdentity h = record { whole = h.whole }
+call_marked b (send_calls.GoInfinite path) h = either_marked (send.is_gathered path b) _ _ (record { whole = h.whole }) h
+call_marked b send_calls.Abort h = record { whole = h.whole }
+
+-- both send books are so
+pub record AreMarked (six : SixBooks) : Type 0 where
+  pub a : IsMarked six.send_a
+  pub b : IsMarked six.send_b
+
+pub ask_marked : (six : SixBooks) (x : Ask) → AreMarked six → AreMarked (after_ask x six)
+ask_marked six (asks.Send A call) h = record { a = call_marked six.send_a call h.a; b = h.b }
+ask_marked six (asks.Send B call) h = record { a = h.a; b = call_marked six.send_b call h.b }
+ask_marked six (asks.Reassembly s call) h = record { a = h.a; b = h.b }
+ask_marked six (asks.Control s call) h = record { a = h.a; b = h.b }
+ask_marked six (asks.Local step) h = h
+
+-- ---- the send book
+
+-- a grant is asked for some bytes
+abbrev pub WantsSome : SendCall → Type 0
+WantsSome (send_calls.Grant path max standby) = 1 ≤ max
+WantsSome _ = Unit {0}
+
+abbrev pub AsksSome : Ask → Type 0
+AsksSome (asks.Send s call) = WantsSome call
+AsksSome _ = Unit {0}
+
+granted_kind : (path max : ℕ) (standby : Bool) (b : Sending) → IsMarked b → 1 ≤ max → (r : Result Span Why) → send.decision path max standby b ≡ r
+    → IsSendKind (send_calls.Grant path max standby) (send.reply_by r b)
+granted_kind path max standby b h some (Err why) is = tt
+granted_kind path max standby b h some (Ok span) is =
+    let may = decision-MayTake path max standby b span is in
+    let len : length (send.part_of span b.written) ≡ min (span.to - span.from) (length b.written - span.from)
+    = rw (length-take (span.to - span.from) (drop span.from b.written), length-drop span.from b.written) refl in
+    let least : 1 ≤ may.count = may.some some in (
+      record { some = omega (arith, len, least, may.whole, may.within, h.whole); most = omega (arith, len, may.whole, may.most) },
+      record { whole = omega (arith, len, may.whole, may.within, h.whole) },
+    )
+
+send_kind : (b : Sending) (call : SendCall) → IsMarked b → WantsSome call → IsSendKind call (send.reply_to b call)
+send_kind b (send_calls.Write bytes) h some = by (b.closed || b.aborted)
+  where
+    by : (c : Bool) → IsSendKind (send_calls.Write bytes) (if c then send_replies.Shut else send_replies.Taken (send.taken bytes b))
+    by true = tt
+    by false = omega arith
+send_kind b send_calls.Close h some = by b.aborted
+  where
+    by : (c : Bool) → IsSendKind send_calls.Close (if c then send_replies.Shut else send_replies.Closed)
+    by true = tt
+    by false = tt
+send_kind b (send_calls.Grant path max standby) h some = granted_kind path max standby b h some (send.decision path max standby b) refl
+send_kind b (send_calls.AckIn next window) h some = by (send.is_future next b)
+  where
+    by : (c : Bool) → IsSendKind (send_calls.AckIn next window) (if c then send_replies.AckFuture (length b.written) else send_replies.Acked (min next (length b.written) - acked_len b.marks) (send.fin_after next b))
+    by true = tt
+    by false = tt
+send_kind b (send_calls.Return path) h some = tt
+send_kind b send_calls.GoIdentity h some = tt
+send_kind b (send_calls.GoInfinite path) h some = by (send.is_gathered path b)
+  where
+    by : (c : Bool) → IsSendKind (send_calls.GoInfinite path) (if c then send_replies.Infinite (acked_len b.marks) else send_replies.Scattered)
+    by true = tt
+    by false = tt
+send_kind b send_calls.Abort h some = tt
+
+-- ---- the reassembly book
+
+read_kind : (max : ℕ) (b : Arriving) (bytes : List ℕ) → bytes ≡ take max (filled b.places) → IsReassemblyKind (reassembly_calls.Read max) (reassembly.bytes_reply bytes b)
+read_kind max b [] is = by (reassembly.is_end b.known_end b.read)
+  where
+    by : (c : Bool) → IsReassemblyKind (reassembly_calls.Read max) (if c then reassembly_replies.End else reassembly_replies.NoneYet)
+    by true = tt
+    by false = tt
+read_kind max b (byte ∷ bytes) is =
+    let len : length (byte ∷ bytes) ≡ min max (length (filled b.places)) = ap length is ∙ length-take max (filled b.places) in
+    record { some = omega arith; most = omega (arith, len) }
+
+reading_kind : (aborted : Option Bool) (max : ℕ) (b : Arriving) → IsReassemblyKind (reassembly_calls.Read max) (reassembly.reading aborted max b)
+reading_kind None max b = read_kind max b (take max (filled b.places)) refl
+reading_kind (Some by_peer) max b = tt
+
+pub reassembly_kind : (b : Arriving) (call : ReassemblyCall) → IsReassemblyKind call (reassembly.reply_to b call)
+reassembly_kind b (reassembly_calls.Place at bytes) = by (reassembly.reaches_past (reassembly.edge b) at bytes) (reassembly.clash b.known_end at bytes)
+  where
+    by : (c : Bool) (o : Option ℕ) → IsReassemblyKind (reassembly_calls.Place at bytes)
+        (if c then reassembly_replies.Beyond (reassembly.edge b) else reassembly.placed_reply o at bytes b)
+    by true o = tt
+    by false None = tt
+    by false (Some e) = tt
+reassembly_kind b (reassembly_calls.Fin at) = by (reassembly.fin_clash b.known_end at b)
+  where
+    by : (o : Option ℕ) → IsReassemblyKind (reassembly_calls.Fin at) (reassembly.fin_reply_by o at)
+    by None = tt
+    by (Some e) = tt
+reassembly_kind b (reassembly_calls.Read max) = reading_kind b.aborted max b
+reassembly_kind b reassembly_calls.AckOut = tt
+reassembly_kind b (reassembly_calls.Abort by_peer) = tt
+
+-- ---- the control book
+
+either_kind : (call : ControlCall) (c : Bool) (x y : ControlReply) → IsControlKind call x → IsControlKind call y → IsControlKind call (if c then x else y)
+either_kind call true x y p q = p
+either_kind call false x y p q = q
+
+tiled : Tile (opened 0)
+tiled = record { whole = refl; acked_first = refl; held = refl }
+
+-- a call that the book takes whatever its numbers
+free_kind : (c : Control) (call : ControlCall) → can_ask call → IsControlKind call (control.reply_to c call)
+free_kind c call can =
+    books_answer
+    (record { send_a = opened 0; send_b = opened 0; reassembly_a = none 0; reassembly_b = none 0; control_a = c; control_b = c })
+    (asks.Control A call) (record { a = tiled; b = tiled }) can
+
+pub control_kind : (c : Control) (call : ControlCall) → IsControlKind call (control.reply_to c call)
+control_kind c (control_calls.Look path) = tt
+control_kind c (control_calls.PeerKey key) = tt
+control_kind c (control_calls.Keys own peer) = free_kind c (control_calls.Keys own peer) tt
+control_kind c (control_calls.Fell path event) = tt
+control_kind c (control_calls.JoinBegin path) =
+    either_kind (control_calls.JoinBegin path) (control.is_sure c.fall.mode) _ _ tt
+    (either_kind (control_calls.JoinBegin path) _ control_replies.NotYet (control_replies.Never c.fall.mode) tt tt)
+control_kind c (control_calls.JoinHeard path token) =
+    either_kind (control_calls.JoinHeard path token) _ (control_replies.UnknownToken _) _ tt
+    (either_kind (control_calls.JoinHeard path token) (not c.fall.confirmed) control_replies.NotConfirmed _ tt
+    (either_kind (control_calls.JoinHeard path token) _ (control.begin c) (control_replies.Fallen c.fall.mode) tt tt))
+control_kind c (control_calls.Live path backup) = tt
+control_kind c (control_calls.Dead path) = tt
+control_kind c (control_calls.Backup path on) = tt
+control_kind c (control_calls.Rate path window rtt) = tt
+control_kind c (control_calls.Announce id) = tt
+control_kind c (control_calls.Withdraw id) = tt
+control_kind c (control_calls.Heard id address port hmac) = free_kind c (control_calls.Heard id address port hmac) tt
+control_kind c (control_calls.Echoed id) = tt
+control_kind c (control_calls.Removed id) = tt
+control_kind c control_calls.FastClose = tt
+control_kind c (control_calls.FastHeard key) = free_kind c (control_calls.FastHeard key) tt
+
+-- ---- all six
+
+pub answers_in_kind : (six : SixBooks) (x : Ask) → AreMarked six → AsksSome x → IsOfKind x (reply_of six x)
+answers_in_kind six (asks.Send A call) h some = send_kind six.send_a call h.a some
+answers_in_kind six (asks.Send B call) h some = send_kind six.send_b call h.b some
+answers_in_kind six (asks.Reassembly A call) h some = reassembly_kind six.reassembly_a call
+answers_in_kind six (asks.Reassembly B call) h some = reassembly_kind six.reassembly_b call
+answers_in_kind six (asks.Control A call) h some = control_kind six.control_a call
+answers_in_kind six (asks.Control B call) h some = control_kind six.control_b call
+answers_in_kind six (asks.Local step) h some = tt

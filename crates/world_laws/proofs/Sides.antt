@@ -1,0 +1,267 @@
+-- A step of the path that one side's end makes: moves of the lanes, the call of a book, moves again, and what the path shows then.
+use Rattle.std.proofs.Common.{◌≡◌, refl, ap, ℕ, Bool, Option, Some, None, List, [], length}
+use Rattle.outside_kit.specs.declared.side.Side.{Side}
+use Rattle.outside_kit.specs.declared.side.Side.TheVariants.{A, B}
+use Rattle.link_model.specs.Steps.{peer}
+use Rattle.path_segments.specs.Spelled.{PlainSegment}
+use Rattle.send_book.specs.declared.call.SendCall.TheVariants.{Grant, AckIn, Return as ReturnBytes}
+use Rattle.send_book.specs.declared.call.SendReply.{SendReply}
+use Rattle.send_book.specs.declared.call.SendReply.TheVariants as send_replies
+use Rattle.send_book.specs.Steps.{reply_to as send_reply}
+use Rattle.reassembly_book.specs.declared.call.ReassemblyCall.TheVariants.{Place, Fin, AckOut}
+use Rattle.reassembly_book.specs.declared.call.ReassemblyReply.{ReassemblyReply}
+use Rattle.reassembly_book.specs.declared.call.ReassemblyReply.TheVariants as reassembly_replies
+use Rattle.reassembly_book.specs.Steps.{reply_to as arrival_reply}
+use Rattle.stream_lanes.specs.Lane.{Ask as LaneAsk, Lane}
+use Rattle.stream_lanes.specs.Lane.Ask.{AskGrant, AskAckIn, AskPlace, AskFin, AskAckOut}
+use Rattle.stream_lanes.specs.Moves.{takes_grant, takes_ack, takes_placed, takes_fin, takes_ack_out}
+use Rattle.stream_lanes.specs.Streams.{Reader}
+use Rattle.stream_lanes.specs.Streams.StreamEvent.{Asks, Return}
+use Rattle.stream_lanes.specs.Duo.{Duo, Event, after_events}
+use Rattle.stream_lanes.specs.Duo.Event.{ToB, ToA}
+use Rattle.actor_desk.specs.declared.ask.Ask.{Ask}
+use Rattle.actor_desk.specs.declared.ask.Ask.TheVariants as asks
+use Rattle.actor_desk.specs.Desk.{SixBooks, send_of, reassembly_of, after_ask}
+use Rattle.actor_desk.specs.Words.{pick}
+use Rattle.path_agenda.specs.declared.duty.Duty.{Duty}
+use Rattle.path_core.specs.Ends.{PathEnd}
+use Rattle.path_core.specs.Sends.{sent_on}
+use Rattle.path_core.specs.State.{PathState, Profile, end_at, goes_on}
+use Rattle.path_core.specs.Values.{Carried, values}
+use Rattle.world_laws.proofs.Ending.{Did}
+use Rattle.world_laws.proofs.Lanes.{duo_of, CallIs, call_events}
+use Rattle.world_laws.proofs.Roads.{Strolls}
+use Rattle.world_laws.proofs.Showing.{SegmentShows, PathShows}
+use Rattle.world_laws.proofs.Strolling.{Strolled, LinkShows, side_link, link_longer, handed_shows, did_on_path}
+
+-- ---- the path after it
+
+pub record SideDid (c : Profile) (s : Side) (p q : PathState Carried) (ab ba out_called back_called : Lane) : Type 0 where
+  pub did : Did c s (end_at s q) (pick s ab ba) out_called (pick s ba ab) back_called
+  pub profile : q.profile ≡ p.profile
+  pub same : end_at (peer s) q ≡ end_at (peer s) p
+  pub link : LinkShows (pick s did.out_after did.back_after) (pick s did.back_after did.out_after) q.link
+
+module _ (c : Profile) (p : PathState Carried) (ab ba : Lane) (h : PathShows c p ab ba) where
+  pub longer_link : (s : Side) (out_called back_called : Lane) (e : PathEnd) (d : Did c s e (pick s ab ba) out_called (pick s ba ab) back_called)
+      → LinkShows (pick s d.out_after d.back_after) (pick s d.back_after d.out_after) p.link
+  longer_link s out_called back_called e d =
+      link_longer s (pick s ab ba) d.out_after (pick s ba ab) d.back_after p.link d.sender d.receiver (side_link c s p ab ba h)
+
+  -- the end became this, and nothing was sent
+  pub side_kept : (s : Side) (out_called back_called : Lane) (e : PathEnd) (ds : List Duty) → Did c s e (pick s ab ba) out_called (pick s ba ab) back_called
+      → SideDid c s p (goes_on s e ds p) ab ba out_called back_called
+  side_kept A out_called back_called e ds d = record { did = d; profile = refl; same = refl; link = longer_link A out_called back_called e d }
+  side_kept B out_called back_called e ds d = record { did = d; profile = refl; same = refl; link = longer_link B out_called back_called e d }
+
+  -- and this segment was sent
+  pub side_sent : (s : Side) (out_called back_called : Lane) (e : PathEnd) (ds : List Duty) (sg : PlainSegment) (d : Did c s e (pick s ab ba) out_called (pick s ba ab) back_called)
+      → SegmentShows d.back_after.acks d.out_after sg → SideDid c s p (sent_on values s sg e ds p) ab ba out_called back_called
+  side_sent A out_called back_called e ds sg d said = record {
+    did = d;
+    profile = refl;
+    same = refl;
+    link = handed_shows A d.out_after d.back_after sg p said (longer_link A out_called back_called e d);
+  }
+  side_sent B out_called back_called e ds sg d said = record {
+    did = d;
+    profile = refl;
+    same = refl;
+    link = handed_shows B d.out_after d.back_after sg p said (longer_link B out_called back_called e d);
+  }
+
+-- ---- the step
+
+pub record Answered (c : Profile) (six : SixBooks) (reader_a reader_b : Reader) (ask : Ask) (q : PathState Carried) (ab ba : Lane) : Type 0 where
+  pub ab_before : Lane
+  pub ba_before : Lane
+  pub ab_moves : Strolls ab ab_before
+  pub ba_moves : Strolls ba ba_before
+  pub call : Option Event
+  pub calls : CallIs (Some ask) (duo_of six ab_before ba_before reader_a reader_b) call
+  pub ab_called : Lane
+  pub ba_called : Lane
+  pub called : after_events (call_events call) (duo_of six ab_before ba_before reader_a reader_b) ≡ duo_of (after_ask ask six) ab_called ba_called reader_a reader_b
+  pub after : Strolled c q ab_called ba_called
+
+-- an ask that is no call of a send book or of a reassembly book
+abbrev pub IsQuiet : Ask → Type 0
+IsQuiet (asks.Send s call) = ⊥
+IsQuiet (asks.Reassembly s call) = ⊥
+IsQuiet (asks.Control s call) = Unit {0}
+IsQuiet (asks.Local step) = Unit {0}
+
+module _ (c : Profile) (six : SixBooks) (reader_a reader_b : Reader) where
+  -- the duo, by the lane that a side sends on and the one that it hears
+  abbrev pub Sided : Side → SixBooks → Lane → Lane → Duo
+  Sided s books out back = duo_of books (pick s out back) (pick s back out) reader_a reader_b
+
+  pub side_answered : (s : Side) (p q : PathState Carried) (ab ba out_before back_before out_called back_called : Lane) (ask : Ask) (call : Option Event) → PathShows c p ab ba
+      → Strolls (pick s ab ba) out_before → Strolls (pick s ba ab) back_before
+      → CallIs (Some ask) (Sided s six out_before back_before) call
+      → after_events (call_events call) (Sided s six out_before back_before) ≡ Sided s (after_ask ask six) out_called back_called
+      → SideDid c s p q ab ba out_called back_called → Answered c six reader_a reader_b ask q ab ba
+  side_answered A p q ab ba out_before back_before out_called back_called ask call h out_moves back_moves calls called d = record {
+    ab_before = out_before;
+    ba_before = back_before;
+    ab_moves = out_moves;
+    ba_moves = back_moves;
+    call = call;
+    calls = calls;
+    ab_called = out_called;
+    ba_called = back_called;
+    called = called;
+    after = did_on_path c p q ab ba h d.profile A out_called back_called d.did d.same d.link;
+  }
+  side_answered B p q ab ba out_before back_before out_called back_called ask call h out_moves back_moves calls called d = record {
+    ab_before = back_before;
+    ba_before = out_before;
+    ab_moves = back_moves;
+    ba_moves = out_moves;
+    call = call;
+    calls = calls;
+    ab_called = back_called;
+    ba_called = out_called;
+    called = called;
+    after = did_on_path c p q ab ba h d.profile B out_called back_called d.did d.same d.link;
+  }
+
+  -- nothing is called
+  quiet_calls : (ask : Ask) (d : Duo) → IsQuiet ask → CallIs (Some ask) d None
+  quiet_calls (asks.Send s call) d quiet = absurd quiet
+  quiet_calls (asks.Reassembly s call) d quiet = absurd quiet
+  quiet_calls (asks.Control s call) d quiet = refl
+  quiet_calls (asks.Local step) d quiet = refl
+
+  quiet_books : (ask : Ask) (ab ba : Lane) → IsQuiet ask → duo_of six ab ba reader_a reader_b ≡ duo_of (after_ask ask six) ab ba reader_a reader_b
+  quiet_books (asks.Send s call) ab ba quiet = absurd quiet
+  quiet_books (asks.Reassembly s call) ab ba quiet = absurd quiet
+  quiet_books (asks.Control s call) ab ba quiet = refl
+  quiet_books (asks.Local step) ab ba quiet = refl
+
+  pub quiet : (ask : Ask) (q : PathState Carried) (ab ba : Lane) → IsQuiet ask → Strolled c q ab ba → Answered c six reader_a reader_b ask q ab ba
+  quiet ask q ab ba is w = record {
+    ab_before = ab;
+    ba_before = ba;
+    ab_moves = record { by = []; to = refl };
+    ba_moves = record { by = []; to = refl };
+    call = None;
+    calls = quiet_calls ask _ is;
+    ab_called = ab;
+    ba_called = ba;
+    called = quiet_books ask ab ba is;
+    after = w;
+  }
+
+  pub quiet_side : (s : Side) (p q : PathState Carried) (ab ba : Lane) (ask : Ask) → PathShows c p ab ba → IsQuiet ask → SideDid c s p q ab ba (pick s ab ba) (pick s ba ab)
+      → Answered c six reader_a reader_b ask q ab ba
+  quiet_side A p q ab ba ask h is d = quiet ask q ab ba is (did_on_path c p q ab ba h d.profile A ab ba d.did d.same d.link)
+  quiet_side B p q ab ba ask h is d = quiet ask q ab ba is (did_on_path c p q ab ba h d.profile B ba ab d.did d.same d.link)
+
+  -- ---- calls of the side's send book
+
+  grant_asking : (r : SendReply) (p : Lane) (x : LaneAsk) → takes_grant r (record p { asking = x }) ≡ takes_grant r p
+  grant_asking (send_replies.Granted span piece) p x = refl
+  grant_asking (send_replies.NoGrant why told) p x = refl
+  grant_asking _ p x = refl
+
+  ack_asking : (next : ℕ) (r : SendReply) (p : Lane) (x : LaneAsk) → takes_ack next r (record p { asking = x }) ≡ takes_ack next r p
+  ack_asking next (send_replies.Acked bytes fin) p x = refl
+  ack_asking next _ p x = refl
+
+  module _ (most : ℕ) (standby : Bool) where
+    abbrev pub grant_reply_at : Side → SendReply
+    grant_reply_at s = send_reply (send_of s six) (Grant 0 most standby)
+
+    pub grant_side : (s : Side) (p q : PathState Carried) (ab ba : Lane) → PathShows c p ab ba → Strolls (pick s ab ba) (record (pick s ab ba) { asking = AskGrant most standby })
+        → SideDid c s p q ab ba (takes_grant (grant_reply_at s) (pick s ab ba)) (pick s ba ab) → Answered c six reader_a reader_b (asks.Send s (Grant 0 most standby)) q ab ba
+    grant_side A p q ab ba h strolls d =
+        side_answered A p q ab ba (record ab { asking = AskGrant most standby }) ba _ ba (asks.Send A (Grant 0 most standby)) (Some (ToB (Asks 0))) h strolls (record { by = []; to = refl })
+        (Asks 0, refl, (refl, refl, record { lane = _; there = refl; asks = refl }))
+        (ap (λ x. Sided A (after_ask (asks.Send A (Grant 0 most standby)) six) x ba) (grant_asking (grant_reply_at A) ab (AskGrant most standby))) d
+    grant_side B p q ab ba h strolls d =
+        side_answered B p q ab ba (record ba { asking = AskGrant most standby }) ab _ ab (asks.Send B (Grant 0 most standby)) (Some (ToA (Asks 0))) h strolls (record { by = []; to = refl })
+        (Asks 0, refl, (refl, refl, record { lane = _; there = refl; asks = refl }))
+        (ap (λ x. Sided B (after_ask (asks.Send B (Grant 0 most standby)) six) x ab) (grant_asking (grant_reply_at B) ba (AskGrant most standby))) d
+
+  module _ (next window : ℕ) where
+    abbrev pub ack_reply_at : Side → SendReply
+    ack_reply_at s = send_reply (send_of s six) (AckIn next window)
+
+    pub ack_side : (s : Side) (p q : PathState Carried) (ab ba : Lane) → PathShows c p ab ba → Strolls (pick s ab ba) (record (pick s ab ba) { asking = AskAckIn next window })
+        → SideDid c s p q ab ba (takes_ack next (ack_reply_at s) (pick s ab ba)) (pick s ba ab) → Answered c six reader_a reader_b (asks.Send s (AckIn next window)) q ab ba
+    ack_side A p q ab ba h strolls d =
+        side_answered A p q ab ba (record ab { asking = AskAckIn next window }) ba _ ba (asks.Send A (AckIn next window)) (Some (ToB (Asks 0))) h strolls (record { by = []; to = refl })
+        (Asks 0, refl, (refl, record { lane = _; there = refl; asks = refl }))
+        (ap (λ x. Sided A (after_ask (asks.Send A (AckIn next window)) six) x ba) (ack_asking next (ack_reply_at A) ab (AskAckIn next window))) d
+    ack_side B p q ab ba h strolls d =
+        side_answered B p q ab ba (record ba { asking = AskAckIn next window }) ab _ ab (asks.Send B (AckIn next window)) (Some (ToA (Asks 0))) h strolls (record { by = []; to = refl })
+        (Asks 0, refl, (refl, record { lane = _; there = refl; asks = refl }))
+        (ap (λ x. Sided B (after_ask (asks.Send B (AckIn next window)) six) x ab) (ack_asking next (ack_reply_at B) ba (AskAckIn next window))) d
+
+  pub return_side : (s : Side) (p q : PathState Carried) (ab ba : Lane) → PathShows c p ab ba → SideDid c s p q ab ba (pick s ab ba) (pick s ba ab)
+      → Answered c six reader_a reader_b (asks.Send s (ReturnBytes 0)) q ab ba
+  return_side A p q ab ba h d =
+      side_answered A p q ab ba ab ba ab ba (asks.Send A (ReturnBytes 0)) (Some (ToB (Return 0))) h (record { by = []; to = refl }) (record { by = []; to = refl })
+      (Return 0, refl, refl) refl d
+  return_side B p q ab ba h d =
+      side_answered B p q ab ba ba ab ba ab (asks.Send B (ReturnBytes 0)) (Some (ToA (Return 0))) h (record { by = []; to = refl }) (record { by = []; to = refl })
+      (Return 0, refl, refl) refl d
+
+  -- ---- calls of its reassembly book
+
+  placed_asking : (count : ℕ) (r : ReassemblyReply) (p : Lane) (x : LaneAsk) → takes_placed count r (record p { asking = x }) ≡ takes_placed count r p
+  placed_asking count (reassembly_replies.Placed new) p x = refl
+  placed_asking count _ p x = refl
+
+  fin_asking : (r : ReassemblyReply) (p : Lane) (x : LaneAsk) → takes_fin r (record p { asking = x }) ≡ takes_fin r p
+  fin_asking reassembly_replies.FinSet p x = refl
+  fin_asking _ p x = refl
+
+  told_asking : (r : ReassemblyReply) (p : Lane) (x : LaneAsk) → takes_ack_out r (record p { asking = x }) ≡ takes_ack_out r p
+  told_asking (reassembly_replies.Ack next window) p x = refl
+  told_asking _ p x = refl
+
+  module _ (at : ℕ) (bytes : List ℕ) where
+    abbrev pub place_reply_at : Side → ReassemblyReply
+    place_reply_at s = arrival_reply (reassembly_of s six) (Place at bytes)
+
+    pub place_side : (s : Side) (p q : PathState Carried) (ab ba : Lane) → PathShows c p ab ba → Strolls (pick s ba ab) (record (pick s ba ab) { asking = AskPlace at bytes })
+        → SideDid c s p q ab ba (pick s ab ba) (takes_placed (length bytes) (place_reply_at s) (pick s ba ab)) → Answered c six reader_a reader_b (asks.Reassembly s (Place at bytes)) q ab ba
+    place_side A p q ab ba h strolls d =
+        side_answered A p q ab ba ab (record ba { asking = AskPlace at bytes }) ab _ (asks.Reassembly A (Place at bytes)) (Some (ToA (Asks 0))) h (record { by = []; to = refl }) strolls
+        (Asks 0, refl, (refl, record { lane = _; there = refl; asks = refl }))
+        (ap (λ x. Sided A (after_ask (asks.Reassembly A (Place at bytes)) six) ab x) (placed_asking (length bytes) (place_reply_at A) ba (AskPlace at bytes))) d
+    place_side B p q ab ba h strolls d =
+        side_answered B p q ab ba ba (record ab { asking = AskPlace at bytes }) ba _ (asks.Reassembly B (Place at bytes)) (Some (ToB (Asks 0))) h (record { by = []; to = refl }) strolls
+        (Asks 0, refl, (refl, record { lane = _; there = refl; asks = refl }))
+        (ap (λ x. Sided B (after_ask (asks.Reassembly B (Place at bytes)) six) ba x) (placed_asking (length bytes) (place_reply_at B) ab (AskPlace at bytes))) d
+
+  module _ (at : ℕ) where
+    abbrev pub fin_reply_at : Side → ReassemblyReply
+    fin_reply_at s = arrival_reply (reassembly_of s six) (Fin at)
+
+    pub fin_side : (s : Side) (p q : PathState Carried) (ab ba : Lane) → PathShows c p ab ba → Strolls (pick s ba ab) (record (pick s ba ab) { asking = AskFin at })
+        → SideDid c s p q ab ba (pick s ab ba) (takes_fin (fin_reply_at s) (pick s ba ab)) → Answered c six reader_a reader_b (asks.Reassembly s (Fin at)) q ab ba
+    fin_side A p q ab ba h strolls d =
+        side_answered A p q ab ba ab (record ba { asking = AskFin at }) ab _ (asks.Reassembly A (Fin at)) (Some (ToA (Asks 0))) h (record { by = []; to = refl }) strolls
+        (Asks 0, refl, (refl, record { lane = _; there = refl; asks = refl }))
+        (ap (λ x. Sided A (after_ask (asks.Reassembly A (Fin at)) six) ab x) (fin_asking (fin_reply_at A) ba (AskFin at))) d
+    fin_side B p q ab ba h strolls d =
+        side_answered B p q ab ba ba (record ab { asking = AskFin at }) ba _ (asks.Reassembly B (Fin at)) (Some (ToB (Asks 0))) h (record { by = []; to = refl }) strolls
+        (Asks 0, refl, (refl, record { lane = _; there = refl; asks = refl }))
+        (ap (λ x. Sided B (after_ask (asks.Reassembly B (Fin at)) six) ba x) (fin_asking (fin_reply_at B) ab (AskFin at))) d
+
+  abbrev pub told_reply_at : Side → ReassemblyReply
+  told_reply_at s = arrival_reply (reassembly_of s six) AckOut
+
+  pub told_side : (s : Side) (p q : PathState Carried) (ab ba : Lane) → PathShows c p ab ba → Strolls (pick s ba ab) (record (pick s ba ab) { asking = AskAckOut })
+      → SideDid c s p q ab ba (pick s ab ba) (takes_ack_out (told_reply_at s) (pick s ba ab)) → Answered c six reader_a reader_b (asks.Reassembly s AckOut) q ab ba
+  told_side A p q ab ba h strolls d =
+      side_answered A p q ab ba ab (record ba { asking = AskAckOut }) ab _ (asks.Reassembly A AckOut) (Some (ToA (Asks 0))) h (record { by = []; to = refl }) strolls
+      (Asks 0, refl, (refl, record { lane = _; there = refl; asks = refl }))
+      (ap (λ x. Sided A (after_ask (asks.Reassembly A AckOut) six) ab x) (told_asking (told_reply_at A) ba AskAckOut)) d
+  told_side B p q ab ba h strolls d =
+      side_answered B p q ab ba ba (record ab { asking = AskAckOut }) ba _ (asks.Reassembly B AckOut) (Some (ToB (Asks 0))) h (record { by = []; to = refl }) strolls
+      (Asks 0, refl, (refl, record { lane = _; there = refl; asks = refl }))
+      (ap (λ x. Sided B (after_ask (asks.Reassembly B AckOut) six) ba x) (told_asking (told_reply_at B) ab AskAckOut)) d

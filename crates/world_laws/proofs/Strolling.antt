@@ -1,0 +1,208 @@
+-- Moves of the two lanes in the duo of a world, and what a rule of one side's end makes of what the path shows.
+use Rattle.std.proofs.Common.{◌≡◌, refl, sym, ◌∙◌, ap, subst, ℕ, ◌+◌, Bool, true, false, List, [], ◌∷◌}
+use Rattle.std.specs.List.{slice_get}
+use Rattle.outside_kit.specs.declared.side.Side.{Side}
+use Rattle.outside_kit.specs.declared.side.Side.TheVariants.{A, B}
+use Rattle.link_model.specs.State.{LinkState}
+use Rattle.link_model.specs.Steps.{peer, changed, arrivals, next_number, with_flights, one_more}
+use Rattle.link_model.specs.Fate.{is_stripped, is_altered, fate_of}
+use Rattle.path_segments.specs.Spelled.{PlainSegment}
+use Rattle.stream_lanes.specs.Lane.{Lane}
+use Rattle.stream_lanes.specs.Laws.{copy_clashes}
+use Rattle.stream_lanes.specs.Moves.{Move}
+use Rattle.stream_lanes.specs.Moves.Move.{Learn}
+use Rattle.stream_lanes.specs.Streams.{Reader}
+use Rattle.stream_lanes.specs.Streams.StreamEvent.{Moves}
+use Rattle.stream_lanes.specs.Duo.{Duo, Event, after_event, after_events}
+use Rattle.stream_lanes.specs.Holding.{Holds, LaneHolds}
+use Rattle.stream_lanes.specs.View.{view_of}
+use Rattle.stream_lanes.specs.Words.{Every}
+use Rattle.stream_lanes.proofs.Duos.{after_event_held}
+use Rattle.stream_lanes.proofs.Lists.{Every-map}
+use Rattle.stream_lanes.proofs.Refusals.{never_refused}
+use Rattle.actor_desk.specs.Desk.{SixBooks, send_of, reassembly_of}
+use Rattle.actor_desk.specs.Words.{pick}
+use Rattle.path_core.specs.Sends.{handed}
+use Rattle.path_core.specs.Shown.{ChangesNothing}
+use Rattle.path_core.specs.State.{PathState, Profile, end_at}
+use Rattle.path_core.specs.Values.{Carried, carried_by, stripped, altered, values}
+use Rattle.world_laws.proofs.Ending.{Did}
+use Rattle.world_laws.proofs.Growing.{SenderGoes, ReceiverGoes, sent_longer, heard_longer, segment_longer, peer_shows}
+use Rattle.world_laws.proofs.Lanes.{duo_of, LaneMoves, moves_to_b, moves_to_a, move_events, events_append}
+use Rattle.world_laws.proofs.Roads.{no_flags, direction, moves, Strolls}
+use Rattle.world_laws.proofs.Saying.{flights_kept}
+use Rattle.world_laws.proofs.Showing.{EndShows, SegmentShows, FlightShows, PathShows}
+
+-- ---- moves in the duo
+
+module _ (six : SixBooks) (reader_a reader_b : Reader) where
+  abbrev pub Pair : Lane → Lane → Duo
+  Pair ab ba = duo_of six ab ba reader_a reader_b
+
+  pub moved_to_b : (ms : List Move) (ab ba : Lane) → after_events (moves_to_b ms) (Pair ab ba) ≡ Pair (moves ms ab) ba
+  moved_to_b [] ab ba = refl
+  moved_to_b (m ∷ ms) ab ba = moved_to_b ms (moves (m ∷ []) ab) ba
+
+  pub moved_to_a : (ms : List Move) (ab ba : Lane) → after_events (moves_to_a ms) (Pair ab ba) ≡ Pair ab (moves ms ba)
+  moved_to_a [] ab ba = refl
+  moved_to_a (m ∷ ms) ab ba = moved_to_a ms ab (moves (m ∷ []) ba)
+
+  pub moved_both : (ms : LaneMoves) (ab ba : Lane) → after_events (move_events ms) (Pair ab ba) ≡ Pair (moves ms.ab ab) (moves ms.ba ba)
+  moved_both ms ab ba =
+      events_append (moves_to_b ms.ab) (moves_to_a ms.ba) (Pair ab ba)
+      ∙ ap (after_events (moves_to_a ms.ba)) (moved_to_b ms.ab ab ba)
+      ∙ moved_to_a ms.ba (moves ms.ab ab) ba
+
+  abbrev pub moves_of : {ab ab_after ba ba_after : Lane} → Strolls ab ab_after → Strolls ba ba_after → LaneMoves
+  moves_of x y = record { ab = x.by; ba = y.by }
+
+  pub strolled_both : (ab ab_after ba ba_after : Lane) (x : Strolls ab ab_after) (y : Strolls ba ba_after)
+      → after_events (move_events (moves_of x y)) (Pair ab ba) ≡ Pair ab_after ba_after
+  strolled_both ab ab_after ba ba_after x y = moved_both (moves_of x y) ab ba ∙ ap (λ p. Pair p (moves y.by ba)) (sym x.to) ∙ ap (Pair ab_after) (sym y.to)
+
+pub events_held : (events : List Event) (d : Duo) → Holds d → Holds (after_events events d)
+events_held [] d h = h
+events_held (event ∷ events) d h = events_held events (after_event event d) (after_event_held event d h)
+
+module _ (six : SixBooks) (reader_a reader_b : Reader) where
+  pub strolls_held : (ab ab_after ba ba_after : Lane) → Strolls ab ab_after → Strolls ba ba_after → Holds (duo_of six ab ba reader_a reader_b)
+      → Holds (duo_of six ab_after ba_after reader_a reader_b)
+  strolls_held ab ab_after ba ba_after x y h =
+      subst Holds (strolled_both six reader_a reader_b ab ab_after ba ba_after x y)
+      (events_held (move_events (moves_of six reader_a reader_b x y)) (duo_of six ab ba reader_a reader_b) h)
+
+  -- what holds of the lane that a side sends on, and of the one that it hears
+  pub out_holds : (s : Side) (ab ba : Lane) → Holds (duo_of six ab ba reader_a reader_b)
+      → LaneHolds (view_of no_flags (send_of s six) (reassembly_of (peer s) six)) 0 (pick s ab ba)
+  out_holds A ab ba h = h.ab.lanes.each 0 0 ab refl refl
+  out_holds B ab ba h = h.ba.lanes.each 0 0 ba refl refl
+
+  pub back_holds : (s : Side) (ab ba : Lane) → Holds (duo_of six ab ba reader_a reader_b)
+      → LaneHolds (view_of no_flags (send_of (peer s) six) (reassembly_of s six)) 0 (pick s ba ab)
+  back_holds A ab ba h = h.ba.lanes.each 0 0 ba refl refl
+  back_holds B ab ba h = h.ab.lanes.each 0 0 ab refl refl
+
+  -- a mapping that comes on a lane never clashes
+  pub agrees : (s : Side) (ab ba : Lane) → Holds (duo_of six ab ba reader_a reader_b) → (copy : ℕ) → copy_clashes (slice_get (pick s ba ab).datas copy) (pick s ba ab) ≡ false
+  agrees A ab ba h copy = never_refused no_flags (direction six.send_b six.reassembly_a ba reader_a) h.ba (Moves 0 (Learn copy))
+  agrees B ab ba h copy = never_refused no_flags (direction six.send_a six.reassembly_b ab reader_b) h.ab (Moves 0 (Learn copy))
+
+-- ---- the link
+
+pub record LinkShows (ab ba : Lane) (link : LinkState Carried) : Type 0 where
+  pub path : link.path ≡ 0
+  pub unchanged : ChangesNothing link.lines
+  pub copies : Every (λ f. FlightShows ab ba f.to f.carried.segment) link.under_way
+
+pub link_shows : (c : Profile) (p : PathState Carried) (ab ba : Lane) → PathShows c p ab ba → LinkShows ab ba p.link
+link_shows c p ab ba h = record { path = h.path; unchanged = h.unchanged; copies = h.copies }
+
+-- a segment of a side, on the lanes
+abbrev pub SaidShows : Side → Lane → Lane → PlainSegment → Type 0
+SaidShows s out back sg = SegmentShows back.acks out sg
+
+pub link_longer : (s : Side) (out out_after back back_after : Lane) (link : LinkState Carried) → SenderGoes out out_after → ReceiverGoes back back_after
+    → LinkShows (pick s out back) (pick s back out) link → LinkShows (pick s out_after back_after) (pick s back_after out_after) link
+link_longer A out out_after back back_after link g r h = record {
+  path = h.path;
+  unchanged = h.unchanged;
+  copies = Every-map (λ f shows. at f.to f.carried.segment shows) h.copies;
+}
+  where
+    at : (to : Side) (sg : PlainSegment) → FlightShows out back to sg → FlightShows out_after back_after to sg
+    at B sg shows = segment_longer (sent_longer out out_after back back_after g r) sg shows
+    at A sg shows = segment_longer (heard_longer out out_after back back_after g r) sg shows
+link_longer B out out_after back back_after link g r h = record {
+  path = h.path;
+  unchanged = h.unchanged;
+  copies = Every-map (λ f shows. at f.to f.carried.segment shows) h.copies;
+}
+  where
+    at : (to : Side) (sg : PlainSegment) → FlightShows back out to sg → FlightShows back_after out_after to sg
+    at A sg shows = segment_longer (sent_longer out out_after back back_after g r) sg shows
+    at B sg shows = segment_longer (heard_longer out out_after back back_after g r) sg shows
+
+-- a segment more
+sent_link : (s : Side) (ab ba : Lane) (sg : PlainSegment) (carried : Carried) (ticks : List ℕ) (link : LinkState Carried) → carried.segment ≡ sg → FlightShows ab ba (peer s) sg
+    → LinkShows ab ba link → LinkShows ab ba (one_more s (record link { under_way = with_flights (peer s) (next_number s link) carried ticks link.under_way }))
+sent_link s ab ba sg carried ticks link is shows h = by s kept
+  where
+    kept : Every (λ f. FlightShows ab ba f.to f.carried.segment) (with_flights (peer s) (next_number s link) carried ticks link.under_way)
+    kept = flights_kept (λ f. FlightShows ab ba f.to f.carried.segment) (peer s) (next_number s link) carried
+        (λ tick. subst (FlightShows ab ba (peer s)) (sym is) shows) ticks link.under_way h.copies
+
+    by : (t : Side) → Every (λ f. FlightShows ab ba f.to f.carried.segment) (with_flights (peer s) (next_number s link) carried ticks link.under_way)
+        → LinkShows ab ba (one_more t (record link { under_way = with_flights (peer s) (next_number s link) carried ticks link.under_way }))
+    by A copies = record { path = h.path; unchanged = h.unchanged; copies = copies }
+    by B copies = record { path = h.path; unchanged = h.unchanged; copies = copies }
+
+pub handed_shows : (s : Side) (out back : Lane) (sg : PlainSegment) (p : PathState Carried) → SegmentShows back.acks out sg
+    → LinkShows (pick s out back) (pick s back out) p.link → LinkShows (pick s out back) (pick s back out) (handed values s sg p)
+handed_shows s out back sg p shows h =
+    sent_link s (pick s out back) (pick s back out) sg
+    (changed stripped altered (is_stripped s (next_number s p.link) p.clock p.link.lines) (is_altered s (next_number s p.link) p.link.lines) (carried_by p.profile.spelling s sg))
+    (arrivals (fate_of s (next_number s p.link) p.link.lines) (p.clock + p.link.delay)) p.link
+    (same _ _ (h.unchanged.strips s (next_number s p.link) p.clock) (h.unchanged.alters s (next_number s p.link)))
+    (to_peer s shows) h
+  where
+    same : (strips alters : Bool) → strips ≡ false → alters ≡ false → (changed stripped altered strips alters (carried_by p.profile.spelling s sg)).segment ≡ sg
+    same false false x y = refl
+    same true alters x y = cc
+    same false true x y = cc
+
+    to_peer : (s : Side) → SegmentShows back.acks out sg → FlightShows (pick s out back) (pick s back out) (peer s) sg
+    to_peer A shows = shows
+    to_peer B shows = shows
+
+-- ---- a side's end did something
+
+-- a path that shows on lanes reached by moves alone
+pub record Strolled (c : Profile) (q : PathState Carried) (ab ba : Lane) : Type 0 where
+  pub ab_after : Lane
+  pub ba_after : Lane
+  pub ab_moves : Strolls ab ab_after
+  pub ba_moves : Strolls ba ba_after
+  pub shows : PathShows c q ab_after ba_after
+
+-- the end of a side, on its lanes
+pub side_shows : (c : Profile) (s : Side) (p : PathState Carried) (ab ba : Lane) → PathShows c p ab ba → EndShows c s (end_at s p) (pick s ab ba) (pick s ba ab)
+side_shows c A p ab ba h = h.a
+side_shows c B p ab ba h = h.b
+
+pub side_link : (c : Profile) (s : Side) (p : PathState Carried) (ab ba : Lane) → PathShows c p ab ba
+    → LinkShows (pick s (pick s ab ba) (pick s ba ab)) (pick s (pick s ba ab) (pick s ab ba)) p.link
+side_link c A p ab ba h = link_shows c p ab ba h
+side_link c B p ab ba h = link_shows c p ab ba h
+
+module _ (c : Profile) (p q : PathState Carried) (ab ba : Lane) (h : PathShows c p ab ba) (profile : q.profile ≡ p.profile) where
+  pub did_on_path : (s : Side) (out_called back_called : Lane) (d : Did c s (end_at s q) (pick s ab ba) out_called (pick s ba ab) back_called)
+      → end_at (peer s) q ≡ end_at (peer s) p → LinkShows (pick s d.out_after d.back_after) (pick s d.back_after d.out_after) q.link
+      → Strolled c q (pick s out_called back_called) (pick s back_called out_called)
+  did_on_path A out_called back_called d same link = record {
+    ab_after = d.out_after;
+    ba_after = d.back_after;
+    ab_moves = d.out_moves;
+    ba_moves = d.back_moves;
+    shows = record {
+      profile = profile ∙ h.profile;
+      path = link.path;
+      unchanged = link.unchanged;
+      a = d.shows;
+      b = subst (λ e. EndShows c B e d.back_after d.out_after) (sym same) (peer_shows c B p.b ab d.out_after ba d.back_after d.sender d.receiver h.b);
+      copies = link.copies;
+    };
+  }
+  did_on_path B out_called back_called d same link = record {
+    ab_after = d.back_after;
+    ba_after = d.out_after;
+    ab_moves = d.back_moves;
+    ba_moves = d.out_moves;
+    shows = record {
+      profile = profile ∙ h.profile;
+      path = link.path;
+      unchanged = link.unchanged;
+      a = subst (λ e. EndShows c A e d.back_after d.out_after) (sym same) (peer_shows c A p.a ba d.out_after ab d.back_after d.sender d.receiver h.a);
+      b = d.shows;
+      copies = link.copies;
+    };
+  }

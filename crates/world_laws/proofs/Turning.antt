@@ -1,0 +1,184 @@
+-- A turn of the path and of the applications, in the two directions.
+use Rattle.std.proofs.Common.{◌≡◌, refl, sym, ◌∙◌, ap, subst, ℕ, not, Bool, true, false, if◌then◌else◌, Option, Some, None, List, [], ◌∷◌, ◌++◌}
+use Rattle.std.proofs.lemmas.Bool.{not-true}
+use Rattle.outside_kit.specs.declared.side.Side.TheVariants.{A, B}
+use Rattle.reassembly_book.specs.declared.call.ReassemblyCall.TheVariants as reassembly_calls
+use Rattle.reassembly_book.specs.declared.call.ReassemblyReply.{ReassemblyReply}
+use Rattle.reassembly_book.specs.Steps as arriving
+use Rattle.stream_lanes.specs.Holding.{Holds}
+use Rattle.stream_lanes.specs.Lane.{Lane}
+use Rattle.stream_lanes.specs.Streams.{Reader, Direction, is_done, reads, takes_read}
+use Rattle.stream_lanes.specs.Streams.StreamEvent.{Write, Close, Read}
+use Rattle.stream_lanes.specs.Duo.{Duo, Event, after_events}
+use Rattle.stream_lanes.specs.Duo.Event.{ToB, ToA}
+use Rattle.actor_desk.specs.declared.ask.Ask.{Ask}
+use Rattle.actor_desk.specs.declared.ask.Note.{Note}
+use Rattle.actor_desk.specs.declared.ask.Reply.{Reply}
+use Rattle.actor_desk.specs.Desk.{SixBooks, reply_of, after_ask}
+use Rattle.stream_apps.specs.declared.duty.AppDuty.{AppDuty}
+use Rattle.stream_apps.specs.declared.duty.AppDuty.TheVariants as app_duties
+use Rattle.stream_apps.specs.Apps.{AppState}
+use Rattle.stream_apps.specs.AppSteps.{app_stands, app_ask, app_answered, app_answers, app_settles_down, app_takes, offered}
+use Rattle.path_agenda.specs.declared.duty.Duty.{Duty}
+use Rattle.path_core.specs.State.{PathState, Profile}
+use Rattle.path_core.specs.Steps.{settled}
+use Rattle.path_core.specs.Values.{Carried}
+use Rattle.world_laws.proofs.Applying.{Reads, settled_app, reads_more, reads_on}
+use Rattle.world_laws.proofs.Lanes.{duo_of, CallIs, call_events, move_events, TurnShows}
+use Rattle.world_laws.proofs.Settling.{then_strolled, settles}
+use Rattle.world_laws.proofs.Showing.{PathShows}
+use Rattle.world_laws.proofs.Sides.{Answered}
+use Rattle.world_laws.proofs.Strolling.{Strolled, strolled_both, strolls_held, events_held}
+
+-- ---- the path
+
+-- what a turn of the path comes to
+pub record PathTurn (c : Profile) (six : SixBooks) (reader_a reader_b : Reader) (ask : Ask) (q : PathState Carried) (ab ba : Lane) : Type 0 where
+  pub ab_end : Lane
+  pub ba_end : Lane
+  pub turn : TurnShows (Some ask) (duo_of six ab ba reader_a reader_b) (duo_of (after_ask ask six) ab_end ba_end reader_a reader_b)
+  pub shows : PathShows c q ab_end ba_end
+
+module _ (c : Profile) (six : SixBooks) (reader_a reader_b : Reader) (ask : Ask) (q : PathState Carried) (ab ba : Lane) where
+  -- a reply was taken, and duties are passed
+  pub path_turn : (ds : List Duty) → Holds (duo_of six ab ba reader_a reader_b) → Answered c six reader_a reader_b ask q ab ba → PathTurn c six reader_a reader_b ask (settled ds q) ab ba
+  path_turn ds holds a =
+      let asked_holds = strolls_held six reader_a reader_b ab a.ab_before ba a.ba_before a.ab_moves a.ba_moves holds in
+      let called_holds = subst Holds a.called (events_held (call_events a.call) (duo_of six a.ab_before a.ba_before reader_a reader_b) asked_holds) in
+      let after = a.after in
+      let rest = settles (after_ask ask six) reader_a reader_b c ds q after.ab_after after.ba_after after.shows
+      (strolls_held (after_ask ask six) reader_a reader_b a.ab_called after.ab_after a.ba_called after.ba_after after.ab_moves after.ba_moves called_holds) in
+      let w : Strolled c (settled ds q) a.ab_called a.ba_called = then_strolled c q (settled ds q) a.ab_called a.ba_called after rest in
+      let before_is = strolled_both six reader_a reader_b ab a.ab_before ba a.ba_before a.ab_moves a.ba_moves in
+      record {
+        ab_end = w.ab_after;
+        ba_end = w.ba_after;
+        turn = record {
+          before = record { ab = a.ab_moves.by; ba = a.ba_moves.by };
+          call = a.call;
+          after = record { ab = w.ab_moves.by; ba = w.ba_moves.by };
+          calls = subst (λ d. CallIs (Some ask) d a.call) (sym before_is) a.calls;
+          to =
+              sym (strolled_both (after_ask ask six) reader_a reader_b a.ab_called w.ab_after a.ba_called w.ba_after w.ab_moves w.ba_moves)
+              ∙ ap (after_events (move_events (record { ab = w.ab_moves.by; ba = w.ba_moves.by }))) (sym a.called)
+              ∙ ap (λ d. after_events (move_events (record { ab = w.ab_moves.by; ba = w.ba_moves.by })) (after_events (call_events a.call) d)) (sym before_is);
+        };
+        shows = w.shows;
+      }
+
+-- moves alone
+pub moves_turn : (c : Profile) (six : SixBooks) (reader_a reader_b : Reader) (q : PathState Carried) (ab ba : Lane) (w : Strolled c q ab ba)
+    → TurnShows None (duo_of six ab ba reader_a reader_b) (duo_of six w.ab_after w.ba_after reader_a reader_b)
+moves_turn c six reader_a reader_b q ab ba w = record {
+  before = record { ab = w.ab_moves.by; ba = w.ba_moves.by };
+  call = None;
+  after = record { ab = []; ba = [] };
+  calls = refl;
+  to = sym (strolled_both six reader_a reader_b ab w.ab_after ba w.ba_after w.ab_moves w.ba_moves);
+}
+
+-- nothing at all
+pub still : (d : Duo) → TurnShows None d d
+still d = record { before = record { ab = []; ba = [] }; call = None; after = record { ab = []; ba = [] }; calls = refl; to = refl }
+
+-- ---- an application
+
+-- a call without moves
+pub call_turn : (ask : Ask) (call : Option Event) (d e : Duo) → CallIs (Some ask) d call → e ≡ after_events (call_events call) d → TurnShows (Some ask) d e
+call_turn ask call d e calls to = record { before = record { ab = []; ba = [] }; call = call; after = record { ab = []; ba = [] }; calls = calls; to = to }
+
+-- whether it was told that the stream ended
+pub taken_told : (d : AppDuty) (ds : List AppDuty) (r : Reply) (a : AppState) → a.agenda ≡ d ∷ ds → (app_takes r a).told ≡ (app_answered d r a).told
+taken_told d ds r a is =
+    ap (λ xs. (app_settles_down (app_answers xs r a)).told) is
+    ∙ ap (λ x. x.told) (settled_app (app_answered d r a).agenda (app_answered d r a)).is
+
+unread : (a : AppState) (notes : List Note) (reader : Reader) → not a.told ≡ true → Reads a.told notes reader → is_done reader ≡ false
+unread a notes reader is h = sym h.done_is ∙ not-true a.told is
+
+-- a reader that isn't done reads
+reads_if : (b : Bool) (most : ℕ) (d : Direction) → b ≡ false → (if b then d else reads most d) ≡ reads most d
+reads_if true most d is = cc
+reads_if false most d is = refl
+
+module _ (six : SixBooks) (reader_a reader_b : Reader) (ab ba : Lane) (x : AppState) (notes : List Note) (n : Note) where
+  -- that of A reads from B, and writes to it
+  pub record TurnOfA (a : AppState) (d : AppDuty) : Type 0 where
+    pub reader : Reader
+    pub turn : TurnShows (Some (app_ask d a)) (duo_of six ab ba reader_a reader_b) (duo_of (after_ask (app_ask d a) six) ab ba reader reader_b)
+    pub reads : Reads (app_answered d (reply_of six (app_ask d a)) a).told (notes ++ n ∷ []) reader
+
+  abbrev a_at : AppState
+  a_at = record x { side = A }
+
+  as_a : (d : AppDuty) → app_stands d a_at ≡ true → n.reply ≡ reply_of six (app_ask d a_at) → Reads x.told notes reader_a → TurnOfA a_at d
+  as_a app_duties.Write stands is h = record {
+    reader = reader_a;
+    turn = call_turn _ (Some (ToB (Write (offered a_at)))) _ _ (Write (offered a_at), refl, refl) refl;
+    reads = reads_on x.told notes reader_a n (rw is refl) (rw is refl) (rw is refl) h;
+  }
+  as_a app_duties.Close stands is h = record {
+    reader = reader_a;
+    turn = call_turn _ (Some (ToB Close)) _ _ (Close, refl, refl) refl;
+    reads = reads_on x.told notes reader_a n (rw is refl) (rw is refl) (rw is refl) h;
+  }
+  as_a app_duties.Read stands is h =
+      let reply : ReassemblyReply = arriving.reply_to six.reassembly_a (reassembly_calls.Read 65536) in
+      let open_reader : is_done reader_a ≡ false = unread x notes reader_a stands h in
+      record {
+        reader = takes_read reply reader_a;
+        turn = call_turn _ (Some (ToA (Read 65536))) _ _ (Read 65536, refl, (refl, open_reader))
+            (sym (ap (λ d. record (duo_of six ab ba reader_a reader_b) { ba = d }) (reads_if (is_done reader_a) 65536 (duo_of six ab ba reader_a reader_b).ba open_reader)));
+        reads = reads_more x.told notes reader_a reply n is h;
+      }
+  as_a app_duties.End stands is h = record {
+    reader = reader_a;
+    turn = call_turn _ None _ _ refl refl;
+    reads = reads_on x.told notes reader_a n (rw is refl) (rw is refl) (rw is refl) h;
+  }
+
+  -- that of B the other way round
+  pub record TurnOfB (a : AppState) (d : AppDuty) : Type 0 where
+    pub reader : Reader
+    pub turn : TurnShows (Some (app_ask d a)) (duo_of six ab ba reader_a reader_b) (duo_of (after_ask (app_ask d a) six) ab ba reader_a reader)
+    pub reads : Reads (app_answered d (reply_of six (app_ask d a)) a).told (notes ++ n ∷ []) reader
+
+  abbrev b_at : AppState
+  b_at = record x { side = B }
+
+  as_b : (d : AppDuty) → app_stands d b_at ≡ true → n.reply ≡ reply_of six (app_ask d b_at) → Reads x.told notes reader_b → TurnOfB b_at d
+  as_b app_duties.Write stands is h = record {
+    reader = reader_b;
+    turn = call_turn _ (Some (ToA (Write (offered b_at)))) _ _ (Write (offered b_at), refl, refl) refl;
+    reads = reads_on x.told notes reader_b n (rw is refl) (rw is refl) (rw is refl) h;
+  }
+  as_b app_duties.Close stands is h = record {
+    reader = reader_b;
+    turn = call_turn _ (Some (ToA Close)) _ _ (Close, refl, refl) refl;
+    reads = reads_on x.told notes reader_b n (rw is refl) (rw is refl) (rw is refl) h;
+  }
+  as_b app_duties.Read stands is h =
+      let reply : ReassemblyReply = arriving.reply_to six.reassembly_b (reassembly_calls.Read 65536) in
+      let open_reader : is_done reader_b ≡ false = unread x notes reader_b stands h in
+      record {
+        reader = takes_read reply reader_b;
+        turn = call_turn _ (Some (ToB (Read 65536))) _ _ (Read 65536, refl, (refl, open_reader))
+            (sym (ap (λ d. record (duo_of six ab ba reader_a reader_b) { ab = d }) (reads_if (is_done reader_b) 65536 (duo_of six ab ba reader_a reader_b).ab open_reader)));
+        reads = reads_more x.told notes reader_b reply n is h;
+      }
+  as_b app_duties.End stands is h = record {
+    reader = reader_b;
+    turn = call_turn _ None _ _ refl refl;
+    reads = reads_on x.told notes reader_b n (rw is refl) (rw is refl) (rw is refl) h;
+  }
+
+  -- an application of a side
+  pub turn_of_a : (d : AppDuty) → x.side ≡ A → app_stands d x ≡ true → n.reply ≡ reply_of six (app_ask d x) → Reads x.told notes reader_a → TurnOfA x d
+  turn_of_a d side =
+      let same : x ≡ a_at = ap (λ s. record x { side = s }) side in
+      subst (λ y. app_stands d y ≡ true → n.reply ≡ reply_of six (app_ask d y) → Reads x.told notes reader_a → TurnOfA y d) (sym same) (as_a d)
+
+  pub turn_of_b : (d : AppDuty) → x.side ≡ B → app_stands d x ≡ true → n.reply ≡ reply_of six (app_ask d x) → Reads x.told notes reader_b → TurnOfB x d
+  turn_of_b d side =
+      let same : x ≡ b_at = ap (λ s. record x { side = s }) side in
+      subst (λ y. app_stands d y ≡ true → n.reply ≡ reply_of six (app_ask d y) → Reads x.told notes reader_b → TurnOfB y d) (sym same) (as_b d)

@@ -1,0 +1,118 @@
+-- What a connection promises at every moment, whatever the order of the steps: of each direction, from a writer's side to the
+-- reader's.
+use Rattle.std.specs.Prelude.{ℕ, ◌≡◌, ◌-◌, ◌^◌, ◌<◌, ◌≤◌, Bool, true, false, List, [], ◌∷◌, ◌++◌, length}
+use Rattle.outside_kit.specs.declared.side.Side.{Side}
+use Rattle.outside_kit.specs.declared.side.Side.TheVariants.{A, B}
+use Rattle.pipe_model.specs.Prefix.{IsPrefix}
+use Rattle.send_book.specs.declared.call.SendReply.TheVariants as send_replies
+use Rattle.send_book.specs.State.{Sending, acked_len}
+use Rattle.reassembly_book.specs.declared.call.ReassemblyReply.TheVariants as reassembly_replies
+use Rattle.reassembly_book.specs.State.{Arriving, received}
+use Rattle.control_book.specs.declared.call.ControlReply.TheVariants as control_replies
+use Rattle.stream_lanes.specs.Laws.{StepsOrStays}
+use Rattle.actor_desk.specs.declared.ask.Reply.{Reply}
+use Rattle.actor_desk.specs.declared.ask.Reply.TheVariants as replies
+use Rattle.actor_desk.specs.Books.{books_in}
+use Rattle.actor_desk.specs.Desk.{send_of, reassembly_of}
+use Rattle.link_model.specs.Steps.{lines_of}
+use Rattle.path_core.specs.Codec.{Codec}
+use Rattle.path_core.specs.Octets.{octets}
+use Rattle.path_core.specs.Shown.{ChangesNothing}
+use Rattle.path_core.specs.Values.{Carried, values}
+use Rattle.world_laws.specs.Fresh.{AreFresh}
+use Rattle.world_laws.specs.Openings.{Start, opened_world}
+use Rattle.world_laws.specs.Outcomes.{tells_end, was_told, notes_at, notes_of, output_of, pipe_of}
+use Rattle.world_laws.specs.Worlds.{WorldState, Turn, after_turn, world_run}
+
+-- Where it is promised: the script strips and alters nothing on path 0, a full segment has room for octets beside its options, and
+-- both files are shorter than 2^31 - 2 octets.
+pub record IsPlain (start : Start) : Type 0 where
+  pub unchanged : ChangesNothing (lines_of 0 start.lines)
+  pub size : 29 ≤ start.profile.mss
+  pub short_a : length start.file_a < 2 ^ 31 - 2
+  pub short_b : length start.file_b < 2 ^ 31 - 2
+
+-- the answers that would say that the two sides don't agree
+abbrev pub tells_refusal : Reply → Bool
+tells_refusal (replies.Send (send_replies.AckFuture written)) = true
+tells_refusal (replies.Reassembly (reassembly_replies.Beyond edge)) = true
+tells_refusal (replies.Reassembly (reassembly_replies.FinClash fin at)) = true
+tells_refusal _ = false
+
+-- the answer to a key that isn't the own one
+abbrev pub tells_other_key : Reply → Bool
+tells_other_key (replies.Control (control_replies.KeysDiffer key)) = true
+tells_other_key _ = false
+
+module _ {C : Type 0} where
+  abbrev pub written_by : Side → WorldState C → Sending
+  written_by writer w = send_of writer (books_in w.books)
+
+  abbrev pub arrived_at : Side → WorldState C → Arriving
+  arrived_at reader w = reassembly_of reader (books_in w.books)
+
+  abbrev pub was_told_end : Side → WorldState C → Bool
+  was_told_end reader w = was_told tells_end (notes_of reader w.crew)
+
+  -- What the reader got is a prefix of what the writer wrote. What is acknowledged was received, and that was written. The end is
+  -- told only where the stream is closed, and the reader has the whole.
+  pub record KeepsItsWord (writer reader : Side) (w : WorldState C) : Type 0 where
+    pub prefix : IsPrefix (output_of reader w) (written_by writer w).written
+    pub acked : acked_len (written_by writer w).marks ≤ received (arrived_at reader w)
+    pub arrived : received (arrived_at reader w) ≤ length (written_by writer w).written
+    pub fin : (written_by writer w).fin ≡ true → ((written_by writer w).closed ≡ true) × (received (arrived_at reader w) ≡ length (written_by writer w).written)
+    pub told : was_told_end reader w ≡ true → ((written_by writer w).closed ≡ true) × (output_of reader w ≡ (written_by writer w).written)
+
+  pub record BothKeepTheirWord (w : WorldState C) : Type 0 where
+    pub ab : KeepsItsWord A B w
+    pub ba : KeepsItsWord B A w
+
+  -- after the end was told nothing is read, and nothing was written, at any later moment
+  pub record NothingCame (writer reader : Side) (w later : WorldState C) : Type 0 where
+    pub read : output_of reader later ≡ output_of reader w
+    pub written : (written_by writer later).written ≡ (written_by writer w).written
+
+  abbrev pub NothingFollows : Codec C → WorldState C → Type 0
+  NothingFollows k w = (more : List Turn) → (was_told_end B w ≡ true → NothingCame A B w (world_run k more w)) × (was_told_end A w ≡ true → NothingCame B A w (world_run k more w))
+
+  -- each turn is on each pipe one step that the pipe allows, or none
+  abbrev pub IsOneStep : Side → Side → WorldState C → WorldState C → Type 0
+  IsOneStep writer reader w later = StepsOrStays (received (arrived_at reader w)) (pipe_of writer reader w) (pipe_of writer reader later)
+
+  abbrev pub EachTurnIsOneStep : Codec C → WorldState C → Type 0
+  EachTurnIsOneStep k w = (turn : Turn) → IsOneStep A B w (after_turn k turn w) × IsOneStep B A w (after_turn k turn w)
+
+  -- no step of an actor was answered by such an answer
+  abbrev pub NothingWasRefused : WorldState C → Type 0
+  NothingWasRefused w = (actor : ℕ) → was_told tells_refusal (notes_at actor w.crew) ≡ false
+
+  -- no control book was told another key for its own
+  abbrev pub KeysNeverDiffer : WorldState C → Type 0
+  KeysNeverDiffer w = (actor : ℕ) → was_told tells_other_key (notes_at actor w.crew) ≡ false
+
+-- ---- at every moment
+
+-- P holds over segments as values
+abbrev pub IsPromised : (WorldState Carried → Type 0) → Type 0
+IsPromised P = (start : Start) (turns : List Turn) → IsPlain start → P (world_run values turns (opened_world start))
+
+-- and over octets, where the turns were fresh
+abbrev pub IsPromisedOfOctets : (WorldState (List ℕ) → Type 0) → Type 0
+IsPromisedOfOctets P =
+    (start : Start) (turns : List Turn) → IsPlain start → AreFresh turns (opened_world start) → P (world_run octets turns (opened_world start))
+
+-- after the end was told nothing comes by fresh turns
+abbrev pub NothingFollowsInOctets : Type 0
+NothingFollowsInOctets =
+    (start : Start) (turns more : List Turn) → IsPlain start → AreFresh (turns ++ more) (opened_world start)
+    → (was_told_end B (world_run octets turns (opened_world start)) ≡ true
+    → NothingCame A B (world_run octets turns (opened_world start)) (world_run octets more (world_run octets turns (opened_world start))))
+    × (was_told_end A (world_run octets turns (opened_world start)) ≡ true
+    → NothingCame B A (world_run octets turns (opened_world start)) (world_run octets more (world_run octets turns (opened_world start))))
+
+-- each fresh turn is one step or none
+abbrev pub FreshTurnsAreSteps : Type 0
+FreshTurnsAreSteps =
+    (start : Start) (turns : List Turn) (turn : Turn) → IsPlain start → AreFresh (turns ++ turn ∷ []) (opened_world start)
+    → IsOneStep A B (world_run octets turns (opened_world start)) (after_turn octets turn (world_run octets turns (opened_world start)))
+    × IsOneStep B A (world_run octets turns (opened_world start)) (after_turn octets turn (world_run octets turns (opened_world start)))
