@@ -41,7 +41,7 @@ sent_if : (c : Bool) (p q : Lane) → q.sent ≡ p.sent → (if c then q else p)
 sent_if true p q same = same
 sent_if false p q same = refl
 
-moved_sent : (f : Flags) (path : ℕ) (move : Move) (p : Lane) → (moved f path move p).sent ≡ p.sent
+pub moved_sent : (f : Flags) (path : ℕ) (move : Move) (p : Lane) → (moved f path move p).sent ≡ p.sent
 moved_sent f path Open p = sent_if (f.answered || path == 0) p (record p { opened = true }) refl
 moved_sent f path LookAtSender p = refl
 moved_sent f path LookAtReceiver p = refl
@@ -105,15 +105,15 @@ granted_more : (r : Result Span Why) (s : Sending) (p : Lane) (place : ℕ) → 
 granted_more (Ok span) s p place has = Has-more _ has
 granted_more (Err why) s p place has = has
 
-acked_sent : (next : ℕ) (r : SendReply) (p : Lane) → (takes_ack next r p).sent ≡ p.sent
+pub acked_sent : (next : ℕ) (r : SendReply) (p : Lane) → (takes_ack next r p).sent ≡ p.sent
 acked_sent next (AckedBytes bytes fin) p = refl
 acked_sent next _ p = refl
 
-placed_sent : (count : ℕ) (r : ReassemblyReply) (p : Lane) → (takes_placed count r p).sent ≡ p.sent
+pub placed_sent : (count : ℕ) (r : ReassemblyReply) (p : Lane) → (takes_placed count r p).sent ≡ p.sent
 placed_sent count (Placed new) p = refl
 placed_sent count _ p = refl
 
-fin_sent : (r : ReassemblyReply) (p : Lane) → (takes_fin r p).sent ≡ p.sent
+pub fin_sent : (r : ReassemblyReply) (p : Lane) → (takes_fin r p).sent ≡ p.sent
 fin_sent FinSet p = refl
 fin_sent _ p = refl
 

@@ -97,7 +97,7 @@ verdict_leaves (replies.Control reply) m = by reply
 -- ---- what is under way
 
 -- a copy that is found is one of them, and is what was looked for
-find_every : {X : Type 0} (P : X → Type 0) (test : X → Bool) (xs : List X) (x : X) → Every P xs → find test xs ≡ Some x → P x × (test x ≡ true)
+pub find_every : {X : Type 0} (P : X → Type 0) (test : X → Bool) (xs : List X) (x : X) → Every P xs → find test xs ≡ Some x → P x × (test x ≡ true)
 find_every P test [] x h is = cc
 find_every P test (y ∷ xs) x h is = by (test y) refl is (λ later. find_every P test xs x (record { each = λ i z at. h.each (suc i) z at }) later)
   where
@@ -112,7 +112,7 @@ in_removed (y ∷ xs) zero k x is = (suc k, is)
 in_removed (y ∷ xs) (suc i) zero x is = (0, is)
 in_removed (y ∷ xs) (suc i) (suc k) x is = let rest = in_removed xs i k x is in (suc rest.0, rest.1)
 
-one_side : (a b : Side) → same_side a b ≡ true → a ≡ b
+pub one_side : (a b : Side) → same_side a b ≡ true → a ≡ b
 one_side A A is = refl
 one_side B B is = refl
 one_side A B is = absurd (false≢true is)

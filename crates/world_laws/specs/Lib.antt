@@ -10,4 +10,7 @@ pub mod Timely
 pub mod RoundEnd
 pub mod Weaving
 pub mod Promises
+pub mod PlainScripts
+pub mod Granted
+pub mod Agreement
 pub mod Laws

@@ -1,0 +1,10 @@
+use Rattle.path_core.specs.Octets.{octets}
+use Rattle.path_core.specs.Values.{values}
+use Rattle.world_laws.proofs.GrantingOnce.{granted_once}
+use Rattle.world_laws.proofs.laws.bytes_are_granted_once.Goals as goal
+
+pub returns-clause-octets : goal.returns-clause-octets
+returns-clause-octets c = granted_once octets
+
+pub returns-clause-values : goal.returns-clause-values
+returns-clause-values c = granted_once values
