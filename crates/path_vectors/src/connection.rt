@@ -90,13 +90,14 @@ impl Connection {
     pub fn open(alloc: Global, case: Case) -> Result<Self, AllocError>
         requires { HasRanges case.script }
     {
-        let keys = Keys::drawn(case.script.seed);
-        let books = Books::open(alloc, case.script.buffer, keys.a, keys.b)?;
+        let (file_a, file_b, injected) = (case.file_a, case.file_b, case.injected);
+        let script = case.script;
+        let keys = Keys::drawn(script.seed);
         Ok(Connection {
             alloc,
-            actors: actors_of(alloc, &case.script, case.file_a, case.file_b)?,
-            books,
-            injected: case.injected,
+            actors: actors_of(alloc, &script, file_a, file_b)?,
+            books: Books::open(alloc, script.buffer, keys.a, keys.b)?,
+            injected,
         })
     }
 

@@ -24,10 +24,11 @@ use Rattle.path_core.specs.Starts.{waiting_path, first_turn}
 use Rattle.path_core.specs.State.{PathState, Profile, with_agenda}
 use Rattle.path_core.specs.Values.{Carried, values}
 use Rattle.world_laws.specs.Openings.{Start, opened_world}
+use Rattle.world_laws.specs.Promises.{IsPlain}
 use Rattle.world_laws.specs.Worlds.{WorldState, Turn, after_turn, world_run}
 use Rattle.world_laws.proofs.Applying.{Reads, settled_app}
 use Rattle.world_laws.proofs.Joining.{settled_first, each_turn_shows}
-use Rattle.world_laws.proofs.Lanes.{CanShow, duo_of, WorldShows, Shown, OpenedShows, EachOpeningShows, Reached, EachRunShows, move_events, events_append, turn_events, turn_is}
+use Rattle.world_laws.proofs.Lanes.{duo_of, WorldShows, Shown, OpenedShows, EachOpeningShows, Reached, EachRunShows, move_events, events_append, turn_events, turn_is}
 use Rattle.world_laws.proofs.Saying.{every_one}
 use Rattle.world_laws.proofs.Settling.{then_strolled, settles}
 use Rattle.world_laws.proofs.Showing.{HasAck, Under, EndShows, PathShows}
@@ -40,10 +41,10 @@ use Rattle.world_laws.proofs.Trios.{first_trio, first_fare}
 abbrev first_moves : List Move
 first_moves = Open ∷ SendAck 0 0 0 ∷ []
 
-abbrev first_ack : AckCopy
+abbrev pub first_ack : AckCopy
 first_ack = record { next = 0; window = 0; sub = 0 }
 
-abbrev first_lane : Lane
+abbrev pub first_lane : Lane
 first_lane = record new_lane { opened = true; acks = first_ack ∷ [] }
 
 first_has : HasAck first_lane.acks 0 0
@@ -74,11 +75,11 @@ opening_shows c s state opens path own key = record {
   held = Every-nil _;
 }
 
-module _ (start : Start) (can : CanShow start) where
-  abbrev waiting : PathState Carried
+module _ (start : Start) (can : IsPlain start) where
+  abbrev pub waiting : PathState Carried
   waiting = waiting_path start.profile start.drawn start.delay start.lines
 
-  waiting_shows : PathShows start.profile (with_agenda start_of_turn waiting) first_lane first_lane
+  pub waiting_shows : PathShows start.profile (with_agenda start_of_turn waiting) first_lane first_lane
   waiting_shows = record {
     profile = refl;
     path = refl;
@@ -88,10 +89,10 @@ module _ (start : Start) (can : CanShow start) where
     copies = Every-nil _;
   }
 
-  abbrev no_reader : Reader
+  abbrev pub no_reader : Reader
   no_reader = record { out = []; told = false; stopped = false }
 
-  abbrev six : SixBooks
+  abbrev pub six : SixBooks
   six = opened_books start.profile.buffer start.drawn.key_a start.drawn.key_b
 
   abbrev first_strolled : Strolled start.profile (with_agenda start_of_turn waiting) new_lane new_lane
@@ -103,7 +104,7 @@ module _ (start : Start) (can : CanShow start) where
     shows = waiting_shows;
   }
 
-  first_holds : Holds (duo_of six first_lane first_lane no_reader no_reader)
+  pub first_holds : Holds (duo_of six first_lane first_lane no_reader no_reader)
   first_holds = strolls_held six no_reader no_reader new_lane first_lane new_lane first_lane first_strolled.ab_moves first_strolled.ba_moves (all_held 1 start.profile.buffer start.profile.buffer [])
 
   turn_strolled : Strolled start.profile (first_turn start.profile start.drawn start.delay start.lines) new_lane new_lane
@@ -144,8 +145,8 @@ each_opening_shows start can = opened_shows start can
 
 -- ---- every list of turns
 
-module _ (start : Start) (can : CanShow start) where
-  turn_reached : (turn : Turn) (w : WorldState Carried) → Reached start w → Reached start (after_turn values turn w)
+module _ (start : Start) (can : IsPlain start) where
+  pub turn_reached : (turn : Turn) (w : WorldState Carried) → Reached start w → Reached start (after_turn values turn w)
   turn_reached turn w r =
       let first = opening 1 start.profile.buffer start.profile.buffer in
       let d : Duo = after_events r.events first in
@@ -159,7 +160,7 @@ module _ (start : Start) (can : CanShow start) where
   run_reached [] w r = r
   run_reached (turn ∷ turns) w r = run_reached turns (after_turn values turn w) (turn_reached turn w r)
 
-  opened_reached : Reached start (opened_world start)
+  pub opened_reached : Reached start (opened_world start)
   opened_reached = let o = opened_shows start can in record { events = o.0; shows = o.1 }
 
 pub each_run_shows : EachRunShows

@@ -46,11 +46,11 @@ removed_kept xs i h = Every-append
     (record { each = λ k x is. h.each k x (in_take i xs k x is).0 })
     (record { each = λ k x is. h.each (suc i + k) x (in_drop (suc i) xs k (suc i + k) x refl is) })
 
-without_kept : {P : Flight Carried → Type 0} (o : Option ℕ) (flights : List (Flight Carried)) → Every P flights → Every P (without o flights)
+pub without_kept : {P : Flight Carried → Type 0} (o : Option ℕ) (flights : List (Flight Carried)) → Every P flights → Every P (without o flights)
 without_kept None flights h = h
 without_kept (Some place) flights h = removed_kept flights place h
 
-found_due : (due : Due) (flights : List (Flight Carried)) (f : Flight Carried) → find (is_due due) flights ≡ Some f → is_due due f ≡ true
+pub found_due : (due : Due) (flights : List (Flight Carried)) (f : Flight Carried) → find (is_due due) flights ≡ Some f → is_due due f ≡ true
 found_due due [] f is = cc
 found_due due (g ∷ flights) f is = by (is_due due g) refl is (λ rest. found_due due flights f rest)
   where
@@ -65,7 +65,7 @@ heard_by B B ab ba sg same h = h
 heard_by A B ab ba sg same h = absurd (false≢true same)
 heard_by B A ab ba sg same h = absurd (false≢true same)
 
-side_is : (due : Due) (f : Flight Carried) → is_due due f ≡ true → same_side f.to due.to ≡ true
+pub side_is : (due : Due) (f : Flight Carried) → is_due due f ≡ true → same_side f.to due.to ≡ true
 side_is due f is = (and_parts (same_side f.to due.to) (f.number == due.copy) (and_parts (f.tick == due.tick) (same_side f.to due.to && f.number == due.copy) is).1).0
 
 module _ (six : SixBooks) (reader_a reader_b : Reader) (p : PathState Carried) (ab ba : Lane) (h : PathShows p.profile p ab ba) (holds : Holds (duo_of six ab ba reader_a reader_b)) where

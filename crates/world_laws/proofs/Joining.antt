@@ -24,11 +24,12 @@ use Rattle.path_core.specs.Turns.{FirstStands, IsSettled}
 use Rattle.path_core.specs.Values.{Carried, values}
 use Rattle.world_laws.specs.declared.member.Member.TheVariants.{App, Path}
 use Rattle.world_laws.specs.Openings.{Start}
+use Rattle.world_laws.specs.Promises.{IsPlain}
 use Rattle.world_laws.specs.StampedBooks.{answer_to}
 use Rattle.world_laws.specs.Worlds.{WorldState, Turn, note_of, asked, all_over, greatest, begins, end_round}
 use Rattle.world_laws.proofs.Applying.{Reads, Writes, settled_app}
 use Rattle.world_laws.proofs.Journaling.{books_after}
-use Rattle.world_laws.proofs.Lanes.{CanShow, duo_of, WorldShows, TurnShows, Shown, EachTurnShows}
+use Rattle.world_laws.proofs.Lanes.{duo_of, WorldShows, TurnShows, Shown, EachTurnShows}
 use Rattle.world_laws.proofs.Settling.{stands_anyway, settles}
 use Rattle.world_laws.proofs.Showing.{PathShows}
 use Rattle.world_laws.proofs.Stepping.{duty_step}
@@ -46,13 +47,13 @@ settled_first (d ∷ ds) p = by (stands d p) refl (settled_first ds (passed d p)
     by false is rest = rest
 
 -- a book has no more marks than its file has bytes
-few_marks : (file rest : List ℕ) (b : Sending) → length file < 2 ^ 31 - 2 → Writes file rest b → length b.marks ≡ length b.written → length b.marks < 2 ^ 63
+pub few_marks : (file rest : List ℕ) (b : Sending) → length file < 2 ^ 31 - 2 → Writes file rest b → length b.marks ≡ length b.written → length b.marks < 2 ^ 63
 few_marks file rest b short w whole =
     let l : length file ≡ length (b.written ++ rest) = ap (λ (xs : List ℕ). length xs) w.front in
     let more = length-append b.written rest in
     omega (arith, short, l, more, whole)
 
-module _ (start : Start) (can : CanShow start) where
+module _ (start : Start) (can : IsPlain start) where
   -- a step as it is, whatever is asked
   record Stepped (o : Option Ask) (d : Duo) (w : WorldState Carried) : Type 0 where
     duo : Duo

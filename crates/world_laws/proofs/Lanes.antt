@@ -1,9 +1,8 @@
 -- What the two directions of a connection with path 0 alone show of its world, and what a step of the world is there: moves of the
 -- lanes, at most one call of a book, and moves again.
-use Rattle.std.proofs.Common.{◌≡◌, refl, sym, ◌∙◌, ◌-◌, ◌^◌, ◌<◌, ◌≤◌, false, Option, Some, None, List, [], ◌∷◌, ◌++◌, length}
+use Rattle.std.proofs.Common.{◌≡◌, refl, sym, ◌∙◌, false, Option, Some, None, List, [], ◌∷◌, ◌++◌}
 use Rattle.std.specs.List.{slice_get}
 use Rattle.outside_kit.specs.declared.side.Side.TheVariants.{A, B}
-use Rattle.link_model.specs.Steps.{lines_of}
 use Rattle.send_book.specs.declared.call.SendCall.{SendCall}
 use Rattle.send_book.specs.declared.call.SendCall.TheVariants as send_calls
 use Rattle.reassembly_book.specs.declared.call.ReassemblyCall.{ReassemblyCall}
@@ -20,25 +19,16 @@ use Rattle.actor_desk.specs.declared.ask.Ask.{Ask}
 use Rattle.actor_desk.specs.declared.ask.Ask.TheVariants as asks
 use Rattle.actor_desk.specs.Books.{books_in}
 use Rattle.actor_desk.specs.Desk.{SixBooks}
-use Rattle.path_core.specs.Shown.{ChangesNothing}
 use Rattle.path_core.specs.Turns.{IsSettled}
 use Rattle.path_core.specs.Values.{Carried, values}
 use Rattle.world_laws.specs.Actors.{ActorCrew, member_asks}
 use Rattle.world_laws.specs.Openings.{Start, opened_world}
+use Rattle.world_laws.specs.Promises.{IsPlain}
 use Rattle.world_laws.specs.Worlds.{WorldState, Turn, after_turn, world_run}
 use Rattle.world_laws.proofs.Applying.{Reads}
 use Rattle.world_laws.proofs.Roads.{direction}
 use Rattle.world_laws.proofs.Showing.{PathShows}
 use Rattle.world_laws.proofs.Trios.{Trio, world_of, Fare}
-
--- ---- the premises
-
--- the script strips and alters nothing on path 0, a full segment has room for octets, and both files are short
-pub record CanShow (start : Start) : Type 0 where
-  pub unchanged : ChangesNothing (lines_of 0 start.lines)
-  pub size : 29 ≤ start.profile.mss
-  pub short_a : length start.file_a < 2 ^ 31 - 2
-  pub short_b : length start.file_b < 2 ^ 31 - 2
 
 -- ---- what is shown
 
@@ -155,11 +145,11 @@ pub record Shown (start : Start) (turn : Turn) (d : Duo) (w : WorldState Carried
 
 -- the opened world shows
 abbrev pub EachOpeningShows : Type 0
-EachOpeningShows = (start : Start) → CanShow start → OpenedShows start
+EachOpeningShows = (start : Start) → IsPlain start → OpenedShows start
 
 -- and every turn keeps it, lawful or not
 abbrev pub EachTurnShows : Type 0
-EachTurnShows = (start : Start) → CanShow start → (turn : Turn) (d : Duo) (w : WorldState Carried) → Holds d → WorldShows start d w → Shown start turn d w
+EachTurnShows = (start : Start) → IsPlain start → (turn : Turn) (d : Duo) (w : WorldState Carried) → Holds d → WorldShows start d w → Shown start turn d w
 
 -- after each list of turns the world shows in a connection that comes about by events from the opening
 pub record Reached (start : Start) (w : WorldState Carried) : Type 0 where
@@ -167,7 +157,7 @@ pub record Reached (start : Start) (w : WorldState Carried) : Type 0 where
   pub shows : WorldShows start (after_events events (opening 1 start.profile.buffer start.profile.buffer)) w
 
 abbrev pub EachRunShows : Type 0
-EachRunShows = (start : Start) → CanShow start → (turns : List Turn) → Reached start (world_run values turns (opened_world start))
+EachRunShows = (start : Start) → IsPlain start → (turns : List Turn) → Reached start (world_run values turns (opened_world start))
 
 -- ---- events
 

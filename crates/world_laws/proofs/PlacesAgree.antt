@@ -34,16 +34,16 @@ use Rattle.world_laws.specs.Actors.{Actor, ActorCrew, member_asks, member_takes,
 use Rattle.world_laws.specs.Agreement.{EndsAgree, MappingsAgree, NothingClashes}
 use Rattle.world_laws.specs.Fresh.{shown_crew, shown_member, shown_world}
 use Rattle.world_laws.specs.Openings.{Start, opened_world}
-use Rattle.world_laws.specs.Promises.{IsPromised, IsPromisedOfOctets}
+use Rattle.world_laws.specs.Promises.{IsPlain, IsPromised, IsPromisedOfOctets}
 use Rattle.world_laws.specs.StampedBooks.{answer_to}
 use Rattle.world_laws.specs.Worlds.{WorldState, Turn, crew_after, asked, stepped, world_step, all_over, greatest, begins, end_round, after_turn, world_run}
 use Rattle.world_laws.proofs.Arriving.{options_hold}
 use Rattle.world_laws.proofs.Beginning.{each_opening_shows}
 use Rattle.world_laws.proofs.Joining.{each_turn_shows}
-use Rattle.world_laws.proofs.Lanes.{CanShow, duo_of, WorldShows, asked_in, TurnShows, turn_events, turn_is}
+use Rattle.world_laws.proofs.Lanes.{duo_of, WorldShows, asked_in, TurnShows, turn_events, turn_is}
 use Rattle.world_laws.proofs.PlacesKept.{Tells, Knows, AllTell, PathKnows, CopiesTell, end_knows, takes_knows, begins_knows, more_known}
 use Rattle.world_laws.proofs.PlacesSent.{IsLonger, BothLast, all_last, only_lasts, only_longer, IsPlaceOf, one_place, longer_places, held_tells}
-use Rattle.world_laws.proofs.PromisesShown.{run_shown}
+use Rattle.world_laws.proofs.PromisesMade.{run_fresh}
 use Rattle.world_laws.proofs.Showing.{FlightShows, PathShows}
 use Rattle.world_laws.proofs.Strolling.{events_held}
 use Rattle.world_laws.proofs.Trios.{Trio, world_of}
@@ -175,7 +175,7 @@ member_agrees ab ba (Path p) h = λ s. nothing_clashes (record_of ab ba s) (one_
 
 -- ---- worlds
 
-module _ (start : Start) (can : CanShow start) where
+module _ (start : Start) (can : IsPlain start) where
   -- the world shows in this connection, and its ends know the records of the lanes
   pub record KnownIn (d : Duo) (w : WorldState Carried) : Type 0 where
     pub holds : Holds d
@@ -250,8 +250,7 @@ module _ (start : Start) (can : CanShow start) where
 -- ---- the law
 
 pub mappings_agree : IsPromised MappingsAgree
-mappings_agree start turns plain =
-    always_agree start (record { unchanged = plain.unchanged; size = plain.size; short_a = plain.short_a; short_b = plain.short_b }) turns
+mappings_agree start turns plain = always_agree start plain turns
 
 shown_agrees : (m : Actor Carried) → EndsAgree m → EndsAgree (shown_member m)
 shown_agrees (App a) h = tt
@@ -266,5 +265,5 @@ world_agrees w h = record {
 }
 
 pub mappings_agree_in_octets : IsPromisedOfOctets MappingsAgree
-mappings_agree_in_octets start turns plain fresh =
-    subst MappingsAgree (sym (run_shown start turns fresh)) (world_agrees (world_run values turns (opened_world start)) (mappings_agree start turns plain))
+mappings_agree_in_octets start turns plain fit =
+    subst MappingsAgree (sym (run_fresh start turns plain fit)) (world_agrees (world_run values turns (opened_world start)) (mappings_agree start turns plain))

@@ -10,9 +10,9 @@ use Rattle.reassembly_book.specs.State.{received}
 use Rattle.actor_desk.specs.Books.{books_in}
 use Rattle.path_core.specs.Values.{Carried, values}
 use Rattle.world_laws.specs.Openings.{Start, opened_world}
-use Rattle.world_laws.specs.Promises.{tells_refusal, BothKeepTheirWord, NothingFollows, EachTurnIsOneStep, NothingWasRefused}
+use Rattle.world_laws.specs.Promises.{IsPlain, tells_refusal, BothKeepTheirWord, NothingFollows, EachTurnIsOneStep, NothingWasRefused}
 use Rattle.world_laws.specs.Worlds.{WorldState, Turn, after_turn, world_run}
-use Rattle.world_laws.proofs.Lanes.{CanShow, WorldShows, asked_by, asked_in, CallIs, move_events, events_append, turn_events, turn_is}
+use Rattle.world_laws.proofs.Lanes.{WorldShows, asked_by, asked_in, CallIs, move_events, events_append, turn_events, turn_is}
 use Rattle.world_laws.proofs.Beginning.{each_opening_shows}
 use Rattle.world_laws.proofs.Joining.{each_turn_shows}
 use Rattle.world_laws.proofs.PromisesNotes.{NoneTold, Untold, from_each, turn_none, opened_none}
@@ -20,7 +20,7 @@ use Rattle.world_laws.proofs.PromisesKept.{keeps_its_word, same_as_shown, before
 
 -- ---- every list of turns
 
-module _ (start : Start) (can : CanShow start) where
+module _ (start : Start) (can : IsPlain start) where
   abbrev begun : Duo
   begun = opening 1 start.profile.buffer start.profile.buffer
 

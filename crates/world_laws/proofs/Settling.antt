@@ -128,7 +128,7 @@ module _ (six : SixBooks) (reader_a reader_b : Reader) (c : Profile) where
       maybe_did None has = did_nothing c s out back e shows
       maybe_did (Some item) has = item_did item has
 
-    passes : (d : Duty) → Strolled c (passed d p) ab ba
+    pub passes : (d : Duty) → Strolled c (passed d p) ab ba
     passes (duties.Timer s) = same_lanes s (after_timer p.clock (end_at s p)) (timer_shows c s (pick s ab ba) (pick s ba ab) p.clock (end_at s p) (side_shows c s p ab ba h))
     passes (duties.Heard s index) =
         end_strolled s (item_passed s (item_of index (end_at s p)) (end_at s p)) (maybe_did s (item_of index (end_at s p)) (every_item index (end_at s p).treated.items (side_shows c s p ab ba h).treated.items))

@@ -11,6 +11,7 @@ pub mod RoundEnd
 pub mod Weaving
 pub mod Promises
 pub mod RoundNumbers
+pub mod PlainScripts
 pub mod Granted
 pub mod Agreement
 pub mod Laws

@@ -1,6 +1,6 @@
 -- What a connection promises at every moment, whatever the order of the steps: of each direction, from a writer's side to the
 -- reader's.
-use Rattle.std.specs.Prelude.{ℕ, ◌≡◌, ◌-◌, ◌^◌, ◌<◌, ◌≤◌, Bool, true, false, List, [], ◌∷◌, ◌++◌, length}
+use Rattle.std.specs.Prelude.{ℕ, ◌≡◌, ◌-◌, ◌^◌, ◌<◌, ◌≤◌, Bool, true, false, List, length}
 use Rattle.outside_kit.specs.declared.side.Side.{Side}
 use Rattle.outside_kit.specs.declared.side.Side.TheVariants.{A, B}
 use Rattle.pipe_model.specs.Prefix.{IsPrefix}
@@ -19,7 +19,7 @@ use Rattle.path_core.specs.Codec.{Codec}
 use Rattle.path_core.specs.Octets.{octets}
 use Rattle.path_core.specs.Shown.{ChangesNothing}
 use Rattle.path_core.specs.Values.{Carried, values}
-use Rattle.world_laws.specs.Fresh.{AreFresh}
+use Rattle.world_laws.specs.Fresh.{AreFresh, shown_world}
 use Rattle.world_laws.specs.Openings.{Start, opened_world}
 use Rattle.world_laws.specs.Outcomes.{tells_end, was_told, notes_at, notes_of, output_of, pipe_of}
 use Rattle.world_laws.specs.Worlds.{WorldState, Turn, after_turn, world_run}
@@ -31,6 +31,15 @@ pub record IsPlain (start : Start) : Type 0 where
   pub size : 29 ≤ start.profile.mss
   pub short_a : length start.file_a < 2 ^ 31 - 2
   pub short_b : length start.file_b < 2 ^ 31 - 2
+
+-- Where every segment can be said, and heard as it was meant: the path is one of sixteen, a full segment with its header has 65,535
+-- octets at most, a side buffers 2^20 octets at most, and keys have 64 bits. It is so by each script.
+pub record NumbersFit (start : Start) : Type 0 where
+  pub path : start.profile.spelling.path ≤ 15
+  pub size : start.profile.mss ≤ 65503
+  pub buffer : start.profile.buffer ≤ 2 ^ 20
+  pub key_a : start.drawn.key_a < 2 ^ 64
+  pub key_b : start.drawn.key_b < 2 ^ 64
 
 -- the answers that would say that the two sides don't agree
 abbrev pub tells_refusal : Reply → Bool
@@ -96,23 +105,18 @@ module _ {C : Type 0} where
 abbrev pub IsPromised : (WorldState Carried → Type 0) → Type 0
 IsPromised P = (start : Start) (turns : List Turn) → IsPlain start → P (world_run values turns (opened_world start))
 
--- and over octets, where the turns were fresh
+-- and over octets
 abbrev pub IsPromisedOfOctets : (WorldState (List ℕ) → Type 0) → Type 0
-IsPromisedOfOctets P =
-    (start : Start) (turns : List Turn) → IsPlain start → AreFresh turns (opened_world start) → P (world_run octets turns (opened_world start))
+IsPromisedOfOctets P = (start : Start) (turns : List Turn) → IsPlain start → NumbersFit start → P (world_run octets turns (opened_world start))
 
--- after the end was told nothing comes by fresh turns
-abbrev pub NothingFollowsInOctets : Type 0
-NothingFollowsInOctets =
-    (start : Start) (turns more : List Turn) → IsPlain start → AreFresh (turns ++ more) (opened_world start)
-    → (was_told_end B (world_run octets turns (opened_world start)) ≡ true
-    → NothingCame A B (world_run octets turns (opened_world start)) (world_run octets more (world_run octets turns (opened_world start))))
-    × (was_told_end A (world_run octets turns (opened_world start)) ≡ true
-    → NothingCame B A (world_run octets turns (opened_world start)) (world_run octets more (world_run octets turns (opened_world start))))
+-- ---- so nothing that arrives is heard otherwise than it was meant
 
--- each fresh turn is one step or none
-abbrev pub FreshTurnsAreSteps : Type 0
-FreshTurnsAreSteps =
-    (start : Start) (turns : List Turn) (turn : Turn) → IsPlain start → AreFresh (turns ++ turn ∷ []) (opened_world start)
-    → IsOneStep A B (world_run octets turns (opened_world start)) (after_turn octets turn (world_run octets turns (opened_world start)))
-    × IsOneStep B A (world_run octets turns (opened_world start)) (after_turn octets turn (world_run octets turns (opened_world start)))
+-- every list of turns is fresh
+abbrev pub EveryListIsFresh : Type 0
+EveryListIsFresh = (start : Start) (turns : List Turn) → IsPlain start → NumbersFit start → AreFresh turns (opened_world start)
+
+-- so a world over octets is the world over segments as values, shown in octets
+abbrev pub OctetsAreValuesShown : Type 0
+OctetsAreValuesShown =
+    (start : Start) (turns : List Turn) → IsPlain start → NumbersFit start
+    → world_run octets turns (opened_world start) ≡ shown_world (world_run values turns (opened_world start))

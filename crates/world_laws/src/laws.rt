@@ -2,7 +2,8 @@
 ghost use Rattle.world_laws.specs.Agreement.{MappingsAgree};
 ghost use Rattle.world_laws.specs.Granted.{GrantedOnce};
 ghost use Rattle.world_laws.specs.Laws.{AfterFreshTurns, Always, NothingDueIsLeft, SerialExists, SerialIsOne, StaysFine, OctetsDoAsValues, WritesTheFiles};
-ghost use Rattle.world_laws.specs.Promises.{BothKeepTheirWord, EachTurnIsOneStep, FreshTurnsAreSteps, IsPromised, IsPromisedOfOctets, KeysNeverDiffer, NothingFollows, NothingFollowsInOctets, NothingWasRefused};
+ghost use Rattle.world_laws.specs.PlainScripts.{PlainScriptsKeepAllPromises, PlainScriptsStartPlainly};
+ghost use Rattle.world_laws.specs.Promises.{BothKeepTheirWord, EachTurnIsOneStep, EveryListIsFresh, IsPromised, IsPromisedOfOctets, KeysNeverDiffer, NothingFollows, NothingWasRefused, OctetsAreValuesShown};
 ghost use Rattle.world_laws.specs.RoundEnd.{GrantsAreDone, ReadersAreDone};
 ghost use Rattle.world_laws.specs.RoundNumbers.{InEachRound, PathsAskForAll, ReadersCaughtUp};
 ghost use Rattle.world_laws.specs.Timely.{EachRoundHasAStep};
@@ -87,6 +88,15 @@ pub fn octets_do_as_values()
     ensures { OctetsDoAsValues }
 {}
 
+/// A law: every list of turns is fresh, lawful or not, where the script strips and alters nothing on path 0, both files are shorter
+/// than 2^31 - 2 octets, and the numbers of the start fit: the maximum segment size is 29 to 65,503 octets, a side buffers 2^20
+/// octets at most, the path's number is 15 at most, and keys have 64 bits. So such a world over octets is always the world over
+/// segments as values, shown in octets.
+pub fn turns_are_fresh()
+    ensures fresh { EveryListIsFresh }
+    ensures same { OctetsAreValuesShown }
+{}
+
 /// A law: at every moment, whatever the order of the steps, what a send book has as written is the front of its side's file,
 /// and it is closed only where that is the whole file.
 pub fn files_are_written()
@@ -103,10 +113,11 @@ pub fn nothing_due_is_left()
 
 /// A law: no control book is told another key for its own, as each key that an end hears is one that was drawn (RFC 8684, section
 /// 3.1). Over segments as values this holds whatever the script strips, alters, drops or repeats; over octets where the turns are
-/// fresh.
+/// fresh, as they are of each plain start.
 pub fn keys_never_differ()
     ensures values { Always values (λ start w. KeysNeverDiffer w) }
     ensures octets { AfterFreshTurns (λ w. KeysNeverDiffer w) }
+    ensures plain { IsPromisedOfOctets KeysNeverDiffer }
 {}
 
 /// A law: at every moment, in each direction, what the reader got is a prefix of what the writer wrote; what is acknowledged was
@@ -114,7 +125,7 @@ pub fn keys_never_differ()
 /// and the end is told only where the stream is closed and the reader has all of it.
 ///
 /// The script strips and alters nothing on path 0, the maximum segment size is 29 octets or more, and both files are shorter than
-/// 2^31 - 2 octets. The steps are in any order. Over octets the turns have to be fresh.
+/// 2^31 - 2 octets. The steps are in any order. Over octets the numbers of the start have to fit, as those of each script do.
 pub fn both_sides_keep_their_word()
     ensures values { IsPromised BothKeepTheirWord }
     ensures octets { IsPromisedOfOctets BothKeepTheirWord }
@@ -123,19 +134,27 @@ pub fn both_sides_keep_their_word()
 /// A law: once a reader was told the end it reads nothing more, and nothing more is written for it, by whatever turns follow.
 pub fn nothing_follows_the_end()
     ensures values { IsPromised (NothingFollows values) }
-    ensures octets { NothingFollowsInOctets }
+    ensures octets { IsPromisedOfOctets (NothingFollows octets) }
 {}
 
 /// A law: each turn is on each of the two pipes one step that the pipe allows, or none.
 pub fn each_turn_is_one_pipe_step_or_none()
     ensures values { IsPromised (EachTurnIsOneStep values) }
-    ensures octets { FreshTurnsAreSteps }
+    ensures octets { IsPromisedOfOctets (EachTurnIsOneStep octets) }
 {}
 
 /// A law: no step of an actor is answered `Beyond`, `FinClash` or `AckFuture`.
 pub fn nothing_is_refused()
     ensures values { IsPromised NothingWasRefused }
     ensures octets { IsPromisedOfOctets NothingWasRefused }
+{}
+
+/// A law: a connection by a script that strips and alters nothing, with files shorter than 2^31 - 2 octets, starts plainly, with
+/// numbers that fit; so over octets it keeps every promise, in whatever order its actors go: both sides keep their word, nothing
+/// follows the end, each turn is on each pipe one step or none, nothing is refused, keys never differ, and mappings agree.
+pub fn plain_scripts_keep_all_promises()
+    ensures starts { PlainScriptsStartPlainly }
+    ensures promises { PlainScriptsKeepAllPromises }
 {}
 
 /// A law: at every moment each byte of a stream was granted to a path once at most, by whichever steps of all actors.

@@ -4,6 +4,7 @@ use Rattle.world_laws.specs.Openings.{opened_world}
 use Rattle.world_laws.specs.Promises.{KeysNeverDiffer}
 use Rattle.world_laws.specs.Worlds.{world_run}
 use Rattle.world_laws.proofs.KeysAgree as agree
+use Rattle.world_laws.proofs.PromisesMade.{keys_in_octets}
 use Rattle.world_laws.proofs.PromisesShown.{keys_shown, run_shown}
 use Rattle.world_laws.proofs.laws.keys_never_differ.Goals as goal
 
@@ -13,3 +14,6 @@ returns-clause-values c = agree.keys_never_differ
 pub returns-clause-octets : goal.returns-clause-octets
 returns-clause-octets c = λ start turns fresh.
     subst KeysNeverDiffer (sym (run_shown start turns fresh)) (keys_shown (world_run values turns (opened_world start)) (agree.keys_never_differ start turns))
+
+pub returns-clause-plain : goal.returns-clause-plain
+returns-clause-plain c = keys_in_octets

@@ -1,0 +1,7 @@
+mod Lists
+mod AbleAsks
+mod AsValues
+mod Showing
+mod StepMade
+mod Ending
+pub mod RoundsMade

@@ -1,0 +1,19 @@
+use Rattle.std.proofs.Common.{sym, ◌∙◌, ◌-◌, ◌+◌, arith}
+use Rattle.path_core.specs.Octets.{octets}
+use Rattle.world_core.proofs.RoundsMade.{rounds_more, rounds_last}
+use Rattle.world_core.proofs.whole_turns.rounds.Goals as goal
+
+pub returns-then-not-goes_on-clause-ok : goal.returns-then-not-goes_on-clause-ok
+returns-then-not-goes_on-clause-ok c =
+    c.loop-round.invariant.2 c.round.new.world.state
+    (rounds_last octets (c.args.most - c.loop-round._round) (c.args.most - (c.loop-round._round + 1)) c.loop-round.world.state c.round.new.world.state
+    (omega (arith, c.loop-round-test.true)) c.in_ok-round.ensures.ok (sym c.goes_on.ensures ∙ c.if-not-goes_on.true))
+
+pub loop-round-preserved : goal.loop-round-preserved
+loop-round-preserved c = (
+  c.in_ok-round.ensures.stands,
+  omega (arith, c.loop-round-test.true),
+  λ v h. c.loop-round.invariant.2 v
+      (rounds_more octets (c.args.most - c.loop-round._round) (c.args.most - (c.loop-round._round + 1)) c.loop-round.world.state c.round.new.world.state v
+      (omega (arith, c.loop-round-test.true)) c.in_ok-round.ensures.ok (sym c.goes_on.ensures ∙ c.if-not-goes_on.false) h),
+)

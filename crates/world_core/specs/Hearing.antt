@@ -1,0 +1,39 @@
+-- What the readers of both sides were told, as far as the outcome asks for it.
+use Rattle.std.specs.Prelude.{ℕ, zero, suc, ◌≡◌, ◌||◌, Option, Some, None, List, length}
+use Rattle.outside_kit.specs.declared.side.Side.TheVariants.{A, B}
+use Rattle.actor_desk.specs.declared.ask.Note.{Note}
+use Rattle.actor_desk.specs.declared.ask.Reply.{Reply}
+use Rattle.world_laws.specs.Actors.{ActorCrew}
+use Rattle.world_laws.specs.Outcomes.{tells_end, tells_abort, was_told, notes_of, are_all_dead}
+use Rattle.world_core.specs.declared.hearing.Told.{Told}
+use Rattle.world_core.specs.declared.hearing.Hearing.{Hearing}
+
+-- by these steps
+abbrev pub told_by : List Note → Told
+told_by notes = record { end = was_told tells_end notes; abort = was_told tells_abort notes }
+
+-- and by one more
+abbrev pub told_more : Reply → Told → Told
+told_more reply told = record { end = told.end || tells_end reply; abort = told.abort || tells_abort reply }
+
+-- the readers are the actors 0 and 1
+abbrev pub heard_more : ℕ → Reply → Hearing → Hearing
+heard_more zero reply h = record h { a = told_more reply h.a }
+heard_more (suc zero) reply h = record h { b = told_more reply h.b }
+heard_more (suc (suc other)) reply h = h
+
+-- by the step that was made, if one was
+abbrev pub heard_with : Option Note → ℕ → Hearing → Hearing
+heard_with None actor h = h
+heard_with (Some note) actor h = heard_more actor note.reply h
+
+module _ {C : Type 0} where
+  abbrev pub heard_by : List (ActorCrew C) → Hearing
+  heard_by crew = record { a = told_by (notes_of A crew); b = told_by (notes_of B crew) }
+
+  -- the outcome is the same, and what the readers were told
+  pub record ShowsTheSame (before after : List (ActorCrew C)) : Type 0 where
+    pub a : notes_of A after ≡ notes_of A before
+    pub b : notes_of B after ≡ notes_of B before
+    pub dead : are_all_dead after ≡ are_all_dead before
+    pub many : length after ≡ length before

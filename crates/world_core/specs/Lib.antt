@@ -1,0 +1,6 @@
+pub mod Timely
+pub mod Kept
+pub mod Steps
+pub mod Hearing
+pub mod Rounds
+pub mod AsValues

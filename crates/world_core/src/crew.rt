@@ -1,0 +1,72 @@
+//! One step of an actor with the books.
+
+ghost use Rattle.std.specs.Prelude.{◌≡◌, ◌^◌, ◌<◌, ◌++◌, [], ◌∷◌, length, nat_lt, false, List, IfOk, OnOk, OnErr};
+ghost use Rattle.actor_desk.specs.declared.ask.Note.{Note};
+ghost use Rattle.path_core.specs.Octets.{octets};
+ghost use Rattle.world_core.specs.Steps.{GoesUp, note_if, crew_if, books_if};
+ghost use Rattle.path_core.specs.Replies.{TakesReply};
+ghost use Rattle.world_laws.specs.Actors.{member_asks, member_takes, is_over};
+
+use crate::asking::serve;
+use crate::member::{Crew, ask_of, take};
+use actor_desk::{Books, Note, Notes, Reply};
+use stamped_book::Refusal;
+use std::alloc::{AllocError, Global};
+
+// The most notes that a list has. 2^57 are longer than a vector can be.
+const MOST_NOTES: u64 = (1 << 57) - 1;
+
+// Whether the actor's list has room for a note.
+fn has_room(crew: &Crew) -> bool
+    ensures { result ≡ nat_lt (length crew.now.list) 144115188075855871 }
+{
+    (crew.list.len() as u64) < MOST_NOTES
+}
+
+// The last note leaves the list.
+fn take_back(list: &mut Notes)
+    ensures { (notes : List Note) (note : Note) → list.old ≡ notes ++ note ∷ [] → list.new ≡ notes }
+{
+    list.pop();
+}
+
+// Notes a step, and takes its reply, which is the last that can fail: the actor is then as it was.
+fn keep(crew: &mut Crew, note: Note, reply: &Reply) -> Result<(), AllocError>
+    requires { TakesReply (member_asks octets crew.old.member) reply.now }
+    ensures ok { OnOk result (crew.new ≡ record crew.old { member = member_takes octets reply.now crew.old.member; list = crew.old.list ++ note ∷ [] }) }
+    ensures err { OnErr result (crew.new ≡ crew.old) }
+{
+    crew.list.push(note)?;
+    let taken = take(&mut crew.member, reply);
+    if taken.is_err() {
+        take_back(&mut crew.list);
+    }
+    taken
+}
+
+/// One step of the actor, and its note; none where its turn ended, and then nothing changes. Where there is no memory the
+/// books may have an entry more, and the actor's pass the stamp of it; its list and the actor itself are as before.
+pub(crate) fn step(
+    alloc: Global,
+    crew: &mut Crew,
+    books: &mut Books,
+) -> Result<Option<Note>, Refusal>
+    ensures note { IfOk result (λ note. note ≡ note_if (member_asks octets crew.old.member) books.old crew.old.pass) }
+    ensures crew { OnOk result (crew.new ≡ crew_if (member_asks octets crew.old.member) books.old crew.old) }
+    ensures books { OnOk result (books.new ≡ books_if (member_asks octets crew.old.member) crew.old.pass books.old) }
+    ensures rises { OnOk result (is_over crew.old.member ≡ false → GoesUp crew.old.pass.stamp crew.new.pass.stamp) }
+    ensures few { OnOk result (length crew.old.list < 2 ^ 57 → length crew.new.list < 2 ^ 57) }
+    ensures member_err { OnErr result (crew.new.member ≡ crew.old.member) }
+    ensures list_err { OnErr result (crew.new.list ≡ crew.old.list) }
+{
+    let Some(ask) = ask_of(alloc, &crew.member)? else {
+        return Ok(None);
+    };
+    if !has_room(crew) {
+        return Err(Refusal::Memory);
+    }
+    let note = serve(books, &mut crew.pass, ask)?;
+    let made = note.copy()?;
+    keep(crew, note, &made.reply)?;
+    Ok(Some(made))
+}

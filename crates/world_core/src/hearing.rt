@@ -1,0 +1,123 @@
+//! What the readers were told: the outcome of a connection asks for it after each round.
+
+ghost use Rattle.std.specs.Prelude.{◌≡◌};
+ghost use Rattle.world_core.specs.Hearing.{told_by, told_more, heard_by, heard_more};
+ghost use Rattle.world_laws.specs.Outcomes.{tells_end, tells_abort, note_tells, was_told, notes_at};
+
+use crate::member::Crew;
+use actor_desk::{Note, Reply};
+use reassembly_book::ReassemblyReply;
+
+/// What a reader was told.
+#[derive(Clone, Copy, Debug, PartialEq, Eq)]
+pub(crate) struct Told {
+    /// The end of its stream.
+    pub end: bool,
+    /// That the peer aborted the connection.
+    pub abort: bool,
+}
+
+/// What both readers were told.
+#[derive(Clone, Copy, Debug, PartialEq, Eq)]
+pub(crate) struct Hearing {
+    pub a: Told,
+    pub b: Told,
+}
+
+fn tells_end(reply: &Reply) -> bool
+    ensures { result ≡ tells_end reply.now }
+{
+    matches!(reply, Reply::Reassembly(ReassemblyReply::End))
+}
+
+fn tells_abort(reply: &Reply) -> bool
+    ensures { result ≡ tells_abort reply.now }
+{
+    match reply {
+        Reply::Reassembly(ReassemblyReply::Aborted { by_peer }) => *by_peer,
+        _ => false,
+    }
+}
+
+// Whether the step told the reader the end.
+fn is_end(note: &Note) -> bool
+    ensures { result ≡ note_tells tells_end note.now }
+{
+    tells_end(&note.reply)
+}
+
+// Whether it told the reader that the peer aborted the connection.
+fn is_abort(note: &Note) -> bool
+    ensures { result ≡ note_tells tells_abort note.now }
+{
+    tells_abort(&note.reply)
+}
+
+impl Told {
+    // One reply more.
+    fn with(self, reply: &Reply) -> Told
+        ensures { result ≡ told_more reply.now self }
+    {
+        Told {
+            end: self.end || tells_end(reply),
+            abort: self.abort || tells_abort(reply),
+        }
+    }
+}
+
+// Whether one of these steps told the reader the end.
+fn has_end(notes: &[Note]) -> bool
+    ensures { result ≡ was_told tells_end notes.now }
+{
+    notes.iter().any(|note| is_end(note))
+}
+
+// Whether one of them told it that the peer aborted the connection.
+fn has_abort(notes: &[Note]) -> bool
+    ensures { result ≡ was_told tells_abort notes.now }
+{
+    notes.iter().any(|note| is_abort(note))
+}
+
+// What a reader was told by these steps.
+fn told_by(notes: &[Note]) -> Told
+    ensures { result ≡ told_by notes.now }
+{
+    Told {
+        end: has_end(notes),
+        abort: has_abort(notes),
+    }
+}
+
+// The steps of an actor, none where there is no such actor.
+pub(crate) fn notes_at(crew: &[Crew], actor: usize) -> &[Note]
+    ensures { result.now ≡ notes_at actor crew.now }
+{
+    match crew.get(actor) {
+        Some(crew) => crew.list.as_slice(),
+        None => &[],
+    }
+}
+
+impl Hearing {
+    /// What the readers among these were told, the actors 0 and 1.
+    pub fn of(crew: &[Crew]) -> Hearing
+        ensures { result ≡ heard_by crew.now }
+    {
+        Hearing {
+            a: told_by(notes_at(crew, 0)),
+            b: told_by(notes_at(crew, 1)),
+        }
+    }
+
+    /// One reply more, to this actor.
+    pub fn hear(&mut self, actor: u8, reply: &Reply)
+        ensures { self.new ≡ heard_more actor reply.now self.old }
+    {
+        match actor {
+            0 => self.a = self.a.with(reply),
+            1 => self.b = self.b.with(reply),
+            _ => {}
+        }
+    }
+}

@@ -1,0 +1,116 @@
+//! What a connection begins with.
+
+ghost use Rattle.std.specs.Prelude.{◌≡◌, ◌<◌, ◌≤◌, ◌^◌, IfOk};
+ghost use Rattle.link_script.specs.Scripts.{HasRanges};
+ghost use Rattle.path_core.specs.Starts.{key_of, first_turn_of};
+ghost use Rattle.stream_apps.specs.Starts.{first_app_turn};
+ghost use Rattle.world_core.specs.Kept.{standing};
+ghost use Rattle.world_laws.specs.declared.member.Member.TheVariants as members;
+ghost use Rattle.world_laws.specs.Openings.{new_crew, opened_world, start_of};
+ghost use Rattle.actor_desk.specs.Books.{unasked};
+ghost use Rattle.actor_desk.specs.Desk.{opened_books};
+
+use crate::member::{Crew, Member};
+use crate::world::World;
+use actor_desk::{Books, Notes};
+use key_material::drawn;
+use link_script::Script;
+use outside_kit::Side;
+use path_core::Path;
+use pipe_model::Text;
+use stamped_book::Pass;
+use std::alloc::{AllocError, Global};
+use stream_apps::App;
+
+/// What a connection begins with: how it is to run, and what each side writes.
+#[derive(Drop)]
+pub struct Input {
+    pub script: Script,
+    /// What A writes.
+    pub file_a: Text,
+    /// What B writes.
+    pub file_b: Text,
+}
+
+// The key whose halves are two words of stream 0.
+fn key_of(seed: u64, first: u64) -> u64
+    requires { first < 2 ^ 32 }
+    ensures { result ≡ key_of seed first }
+{
+    let high = u64::from(drawn(seed, 0, first));
+    let low = u64::from(drawn(seed, 0, first + 1));
+    high * (1 << 32) + low
+}
+
+// The books before the first call.
+fn opened_books(alloc: Global, script: &Script) -> Result<Books, AllocError>
+    requires { HasRanges script.now }
+    ensures { IfOk result (λ books. books ≡ unasked (opened_books script.now.buffer (key_of script.now.seed 0) (key_of script.now.seed 2))) }
+{
+    let (key_a, key_b) = (key_of(script.seed, 0), key_of(script.seed, 2));
+    Books::open(alloc, script.buffer, key_a, key_b)
+}
+
+// The application of a side, which has made no step.
+fn new_app(script: &Script, side: Side, file: &Text) -> Result<Member, AllocError>
+    requires { HasRanges script.now }
+    ensures { IfOk result (λ member. member ≡ members.App (first_app_turn side script.now.buffer file.now)) }
+{
+    let file = file.copy()?;
+    Ok(Member::App(App::new(side, script.buffer, file)))
+}
+
+// Path 0, which has made no step.
+fn new_path(alloc: Global, script: &Script) -> Result<Member, AllocError>
+    requires { HasRanges script.now }
+    ensures { IfOk result (λ member. member ≡ members.Path (first_turn_of script.now)) }
+{
+    Ok(Member::Path(Path::new(alloc, script, 0)?))
+}
+
+// An actor that has made no step.
+fn new_crew(alloc: Global, number: u8, member: Member) -> Crew
+    ensures { result ≡ new_crew number member }
+{
+    Crew {
+        member,
+        pass: Pass {
+            actor: number,
+            stamp: 0,
+        },
+        list: Notes::new(alloc),
+        refused: None,
+    }
+}
+
+// The two applications and path 0.
+fn opened_crew(alloc: Global, input: &Input) -> Result<Vec<Crew>, AllocError>
+    requires { HasRanges input.now.script }
+    ensures { IfOk result (λ crew. crew.items ≡ (opened_world (start_of input.now.script input.now.file_a input.now.file_b)).crew) }
+{
+    let a = new_app(&input.script, Side::A, &input.file_a)?;
+    let b = new_app(&input.script, Side::B, &input.file_b)?;
+    let path = new_path(alloc, &input.script)?;
+    let crew = vec![in alloc;
+        new_crew(alloc, 0, a),
+        new_crew(alloc, 1, b),
+        new_crew(alloc, 2, path),
+    ]?;
+    Ok(crew)
+}
+
+impl World {
+    /// A connection before its first step: both applications, path 0 and the books are at the start of round 0.
+    ///
+    /// # Errors
+    ///
+    /// Only where there is no memory.
+    pub fn open(alloc: Global, input: &Input) -> Result<World, AllocError>
+        requires { HasRanges input.now.script }
+        ensures { IfOk result (λ world. world ≡ standing (opened_world (start_of input.now.script input.now.file_a input.now.file_b))) }
+    {
+        let crew = opened_crew(alloc, input)?;
+        let books = opened_books(alloc, &input.script)?;
+        Ok(World::from_parts(books, crew))
+    }
+}

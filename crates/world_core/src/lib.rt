@@ -1,0 +1,23 @@
+//! The world of one connection: its two applications, its path and the six books, as they go on step by step.
+//!
+//! The actors make steps in any order. Where a turn has ended nothing changes, and where each has, the next round begins. A
+//! step that wants memory fails the world for good.
+#![tactic(auto)]
+
+mod asking;
+mod crew;
+mod hearing;
+mod input;
+mod member;
+mod round_end;
+mod stepped;
+mod stepping;
+mod whole_turns;
+mod world;
+
+pub use input::Input;
+pub use member::{Crew, Member};
+pub use stepped::Stepped;
+pub use whole_turns::{round, serial, turn};
+pub use world::World;
+pub use world_laws::Outcome;

@@ -1,0 +1,117 @@
+//! The steps of a connection.
+
+ghost use Rattle.std.specs.Prelude.{◌≡◌, ◌^◌, ◌<◌, length, true, false, is_some, None, IfOk, OnOk, OnErr};
+ghost use Rattle.path_core.specs.Octets.{octets};
+ghost use Rattle.world_core.specs.AsValues.{StepsAsValues};
+ghost use Rattle.world_core.specs.Hearing.{ShowsTheSame, heard_by, heard_with};
+ghost use Rattle.world_core.specs.Kept.{IsSound, standing, world};
+ghost use Rattle.world_core.specs.Steps.{StampRises, next_note, stepped_by, is_made};
+ghost use Rattle.world_laws.specs.Outcomes.{outcome_of};
+ghost use Rattle.world_laws.specs.Worlds.{RunTo, world_step, is_going};
+ghost use Rattle.world_core.specs.declared.stepped.Stepped.TheVariants.{Ended};
+
+use crate::crew;
+use crate::member::Crew;
+use crate::stepped::Stepped;
+use crate::world::World;
+use actor_desk::{Books, Note};
+use stamped_book::Refusal;
+use std::alloc::{AllocError, Global};
+
+// One step of this actor, where there is such a one.
+fn advance(
+    alloc: Global,
+    crew: &mut Vec<Crew>,
+    books: &mut Books,
+    actor: u8,
+) -> Result<Option<Note>, Refusal>
+    ensures note { IfOk result (λ note. note ≡ next_note actor (world crew.old.items books.old)) }
+    ensures going { IfOk result (λ note. is_some note ≡ is_going actor (world crew.old.items books.old)) }
+    ensures ok { OnOk result (world crew.new.items books.new ≡ world_step octets actor (world crew.old.items books.old)) }
+    ensures still { IfOk result (λ note. note ≡ None → world crew.new.items books.new ≡ world crew.old.items books.old) }
+    ensures rises { OnOk result (StampRises actor (world crew.old.items books.old) (world crew.new.items books.new)) }
+    ensures hears { IfOk result (λ note. heard_by crew.new.items ≡ heard_with note actor (heard_by crew.old.items)) }
+    ensures sound { OnOk result (IsSound (world crew.old.items books.old) → IsSound (world crew.new.items books.new)) }
+    ensures many { length crew.new.items ≡ length crew.old.items }
+    ensures err { OnErr result (ShowsTheSame crew.old.items crew.new.items) }
+{
+    match crew.get_mut(usize::from(actor)) {
+        Some(actor) => crew::step(alloc, actor, books),
+        None => Ok(None),
+    }
+}
+
+impl World {
+    /// Makes one step of an actor and answers its note, or that its turn has ended.
+    ///
+    /// # Errors
+    ///
+    /// Where there is no memory. The world has failed then: every later step answers so too, and the outcome stays.
+    pub fn step(&mut self, actor: u8) -> Result<Stepped, AllocError>
+        ensures told { IfOk result (λ stepped. stepped ≡ stepped_by (next_note actor self.old.state)) }
+        ensures going { IfOk result (λ stepped. is_made stepped ≡ is_going actor self.old.state) }
+        ensures ok { OnOk result (self.new ≡ standing (world_step octets actor self.old.state)) }
+        ensures values { OnOk result (StepsAsValues actor self.old.state self.new.state) }
+        ensures still { IfOk result (λ stepped. stepped ≡ Ended → self.new.state ≡ self.old.state) }
+        ensures rises { OnOk result (StampRises actor self.old.state self.new.state) }
+        ensures was { OnOk result (self.old.failed ≡ false) }
+        ensures err { OnErr result (self.new.failed ≡ true) }
+        ensures outcome { OnErr result (outcome_of self.new.state.crew ≡ outcome_of self.old.state.crew) }
+    {
+        if self.failed {
+            return Err(AllocError);
+        }
+        let alloc = *self.crew.allocator();
+        match advance(alloc, &mut self.crew, &mut self.books, actor) {
+            Ok(Some(note)) => {
+                self.hearing.hear(actor, &note.reply);
+                Ok(Stepped::Made(note))
+            }
+            Ok(None) => Ok(Stepped::Ended),
+            Err(_) => {
+                self.failed = true;
+                Err(AllocError)
+            }
+        }
+    }
+
+    // Makes one step of an actor, and answers whether its turn hadn't ended.
+    pub(crate) fn go(&mut self, actor: u8) -> Result<bool, AllocError>
+        ensures going { IfOk result (λ went. went ≡ is_going actor self.old.state) }
+        ensures ok { OnOk result (self.new ≡ standing (world_step octets actor self.old.state)) }
+        ensures still { IfOk result (λ went. went ≡ false → self.new.state ≡ self.old.state) }
+        ensures rises { OnOk result (StampRises actor self.old.state self.new.state) }
+        ensures was { OnOk result (self.old.failed ≡ false) }
+        ensures err { OnErr result (self.new.failed ≡ true) }
+    {
+        match self.step(actor)? {
+            Stepped::Made(_) => Ok(true),
+            Stepped::Ended => Ok(false),
+        }
+    }
+
+    /// Makes the steps of these actors, one after the other, up to the first whose turn has ended or that doesn't exist, and
+    /// answers how many were made.
+    ///
+    /// # Errors
+    ///
+    /// Where there is no memory. The world has failed then.
+    pub fn run(&mut self, order: &[u8]) -> Result<u64, AllocError>
+        ensures ok { IfOk result (λ count. RunTo octets order.now count self.old.state self.new.state) }
+        ensures was { OnOk result (self.old.failed ≡ false) }
+        ensures stands { OnOk result (self.new.failed ≡ false) }
+        ensures err { OnErr result (self.new.failed ≡ true) }
+    {
+        if self.failed {
+            return Err(AllocError);
+        }
+        let mut count = 0;
+        for actor in order {
+            if !self.go(*actor)? {
+                return Ok(count);
+            }
+            count += 1;
+        }
+        Ok(count)
+    }
+}

@@ -1,0 +1,121 @@
+//! A connection at a moment.
+
+ghost use Rattle.std.specs.Prelude.{◌≡◌, ◌<◌, false, length};
+ghost use Rattle.std.specs.List.{list_all};
+ghost use Rattle.world_core.specs.Kept.{IsSound, standing, world};
+ghost use Rattle.world_laws.specs.Outcomes.{are_all_dead, is_no_live_path, notes_at, outcome_of};
+
+use crate::hearing::{Hearing, notes_at};
+use crate::member::{Crew, is_no_live_path};
+use actor_desk::{Books, Note};
+use outside_kit::Side;
+use std::marker::Model;
+use world_laws::Outcome;
+
+/// A connection: its actors and the books. The actor of number n is the n-th of them, the first being 0: 0 and 1 are the
+/// applications of A and B, and 2 + i is path i.
+///
+/// Unless it failed for want of memory, its lists and journals are paired at every stamp, stamps rise in each, and they are
+/// chained above the greatest stamp at the last round's end.
+#[derive(Drop)]
+pub struct World {
+    pub(crate) crew: Vec<Crew>,
+    pub(crate) books: Books,
+    pub(crate) hearing: Hearing,
+    /// A step wanted memory: the last entry of a book may stand without its actor having taken the reply.
+    pub(crate) failed: bool,
+}
+
+impl Model for World {
+    ghost use Rattle.dss_mapping.specs.Mappings.{mappings_code};
+    ghost use Rattle.std.specs.Coded.{codes};
+    ghost use Rattle.world_core.specs.Kept.{Kept, IsKept, world};
+
+    ghost Value = { Kept };
+
+    ghost coded = { Prim.hlevel (codes, mappings_code) };
+
+    ghost view = { λ w. record { failed = w.failed; state = world w.crew.items w.books } };
+
+    ghost invariant = { λ w. IsKept w.failed (world w.crew.items w.books) w.hearing };
+}
+
+// Whether the actor is no path, or a dead one.
+fn is_no_live_crew(crew: &Crew) -> bool
+    ensures { result ≡ is_no_live_path crew.now.member }
+{
+    is_no_live_path(&crew.member)
+}
+
+fn none_is_live(crew: &[Crew]) -> bool
+    ensures { result ≡ list_all (λ c. is_no_live_path c.member) crew.now }
+{
+    crew.iter().all(|crew| is_no_live_crew(crew))
+}
+
+// Whether each path is dead.
+fn are_all_dead(crew: &[Crew]) -> bool
+    ensures { result ≡ are_all_dead crew.now }
+{
+    none_is_live(crew)
+}
+
+impl World {
+    /// How the connection stands. Takes no memory.
+    pub fn outcome(&self) -> Outcome
+        ensures { result ≡ outcome_of self.now.state.crew }
+    {
+        if self.hearing.a.abort {
+            Outcome::Aborted(Side::A)
+        } else if self.hearing.b.abort {
+            Outcome::Aborted(Side::B)
+        } else if self.hearing.a.end && self.hearing.b.end {
+            Outcome::Delivered
+        } else if are_all_dead(&self.crew) {
+            Outcome::NoPath
+        } else {
+            Outcome::Going
+        }
+    }
+
+    /// The steps that an actor made, in order; none where there is no such actor.
+    pub fn notes(&self, actor: u8) -> &[Note]
+        ensures { result.now ≡ notes_at actor self.now.state.crew }
+    {
+        notes_at(&self.crew, usize::from(actor))
+    }
+
+    /// How many actors there are.
+    pub fn actors(&self) -> u8
+        ensures { result ≡ length self.now.state.crew }
+    {
+        self.crew.len() as u8
+    }
+
+    /// Its books and its actors. It hasn't failed.
+    pub fn into_parts(self) -> (Books, Vec<Crew>)
+        requires { self.failed ≡ false }
+        ensures parts { self ≡ standing (world result.1.items result.0) }
+        ensures sound { IsSound (world result.1.items result.0) }
+        ensures few { length result.1.items < 32 }
+    {
+        (self.books, self.crew)
+    }
+
+    /// The connection of these parts, whose lists and journals are paired at every stamp, rise, and are chained above the
+    /// greatest stamp at the last round's end; there are fewer than 32 actors, each of which has fewer than 2^57 notes and
+    /// began no more rounds.
+    pub fn from_parts(books: Books, crew: Vec<Crew>) -> World
+        requires sound { IsSound (world crew.items books) }
+        requires few { length crew.items < 32 }
+        ensures { result ≡ standing (world crew.items books) }
+    {
+        let hearing = Hearing::of(&crew);
+        World {
+            crew,
+            books,
+            hearing,
+            failed: false,
+        }
+    }
+}

@@ -1,0 +1,472 @@
+-- The numbers that a path tells: each is below 2^31, so that each is near every one that may be expected.
+use Rattle.std.proofs.Common.{◌≡◌, refl, ap, ℕ, ◌+◌, ◌%◌, ◌^◌, ◌<◌, ◌≤◌, ◌⊎◌, inl, inr, ⊎_elim, Bool, true, false, if◌then◌else◌, is_some, Option, Some, None, List, [], ◌∷◌, ◌++◌, length, arith}
+use Rattle.std.proofs.lemmas.Bool.{ne_eqb, cases_lt}
+use Rattle.std.proofs.lemmas.Int.{ints}
+use Rattle.std.proofs.lemmas.List.{append-nil}
+use Rattle.std.proofs.lemmas.List.Elements.{All-nil, All-cons, All-weaker}
+use Rattle.std.specs.Prelude.{All}
+use Rattle.std.specs.Option.{IfSome, IsSome}
+use Rattle.outside_kit.specs.declared.side.Side.{Side}
+use Rattle.outside_kit.specs.declared.side.Side.TheVariants.{A, B}
+use Rattle.seq_units.specs.declared.mapping.Mapping.{Mapping}
+use Rattle.mptcp_options.specs.declared.capable.CapableKeys.{CapableKeys}
+use Rattle.mptcp_options.specs.declared.capable.CapableKeys.TheVariants.{NoKey, Sender, Both, WithData}
+use Rattle.mptcp_options.specs.declared.dss.DataNumber.{DataNumber}
+use Rattle.mptcp_options.specs.declared.dss.DataNumber.TheVariants.{Whole, Low}
+use Rattle.mptcp_options.specs.Dss.{DataNumberFits}
+use Rattle.mptcp_options.specs.Octets.{IsBelow}
+use Rattle.mptcp_options.specs.Text.{option_text, Fits}
+use Rattle.mptcp_options.specs.Value as wire
+use Rattle.path_segments.specs.declared.expected.Expected.{Expected}
+use Rattle.path_segments.specs.declared.segment.PathMapping.{PathMapping}
+use Rattle.path_segments.specs.declared.segment.PathMapping.TheVariants.{Bytes, End, Infinite}
+use Rattle.path_segments.specs.declared.segment.PathOption.TheVariants.{Dss, Fail}
+use Rattle.path_segments.specs.declared.spelling.Side.{Side as SpelledSide}
+use Rattle.path_segments.specs.declared.spelling.Spelling.{Spelling}
+use Rattle.path_segments.specs.HeardLent.{IsExpected}
+use Rattle.path_segments.specs.Laws.{meant, IsPositionFresh, IsPlaceFresh, IsBytes, IsMappingFresh, IsOptionFresh, IsHearable, IsFresh}
+use Rattle.path_segments.specs.Options.{PlainOption, said_option, relative_number}
+use Rattle.path_segments.specs.Spelled.{syn_text, options_text, PlainSegment, CanSayOption, CanSay}
+use Rattle.path_segments.specs.Spelling.{peer_of, whole_number, data_number}
+use Rattle.subflow_send.specs.declared.record.RecordKind.{RecordKind}
+use Rattle.subflow_send.specs.declared.record.RecordKind.TheVariants.{Syn, Data, Fin}
+use Rattle.subflow_send.specs.Records.{Record, SendState}
+use Rattle.subflow_tcp.specs.declared.segments.Outgoing.{Outgoing}
+use Rattle.subflow_tcp.specs.Emitting.{ack_at, syn_ack_segment, reset_segment, fin_position, fin_segment, is_syn, record_segment}
+use Rattle.subflow_send.specs.Rules.{is_fin}
+use Rattle.subflow_tcp.specs.Segments.{one_if, occupied}
+use Rattle.subflow_tcp.specs.States.{is_opening}
+use Rattle.stream_lanes.specs.Words.{Every}
+use Rattle.path_agenda.specs.declared.heard.Heard.{Heard}
+use Rattle.path_agenda.specs.declared.heard.Heard.TheVariants as says
+use Rattle.path_core.specs.Arriving.{copy_of, expected_by}
+use Rattle.path_core.specs.declared.modes.Modes.{Modes}
+use Rattle.path_core.specs.Ends.{PathEnd, Sending, Receiving, Treated}
+use Rattle.path_core.specs.Passing.{outgoing_or}
+use Rattle.path_core.specs.Segments.{spelled_by, bare_mapping, checksum_in, place_numbered, checksum_told, syn_options, key_options, end_mapping, ack_options, piece_mapping, is_first_piece, first_piece_options, piece_options, fin_options, record_options, reset_options, segment_of, ack_said, record_said, syn_ack_said, fin_said, reset_said, record_or_ack}
+use Rattle.path_core.specs.Shown.{IsFarReset}
+use Rattle.path_core.specs.State.{Profile}
+
+abbrev pub IsShort : ℕ → Type 0
+IsShort n = n < 2 ^ 31
+
+-- ---- what a segment tells
+
+abbrev pub MappingIsShort : PathMapping ℕ → Type 0
+MappingIsShort (Bytes place position len fin checksum) = IsShort place × IsShort position × IsBytes position len fin
+MappingIsShort (End place checksum) = IsShort place
+MappingIsShort (Infinite place position) = IsShort place × IsShort position
+
+abbrev pub OptionIsShort : PlainOption → Type 0
+OptionIsShort (Dss next mapping) = IfSome next IsShort × IfSome mapping MappingIsShort
+OptionIsShort (Fail place) = IsShort place
+OptionIsShort _ = Unit {0}
+
+-- an option whose numbers fit their fields, and are small
+pub record OptionTells (c : Profile) (s : Side) (o : PlainOption) : Type 0 where
+  pub fits : Fits (said_option c.spelling (spelled_by s) o)
+  pub short : OptionIsShort o
+
+-- A reset of a dead end, which answers a SYN at number 0: that may be any position below 2^32.
+pub record IsStray (rst : Bool) (acknowledged : Option ℕ) (position : ℕ) : Type 0 where
+  pub reset : rst ≡ true
+  pub acknowledging : IsSome acknowledged
+  pub low : position < 2 ^ 32
+
+-- a segment of a side that can be said, with small numbers, but for the position of a stray reset
+pub record SegmentTells (c : Profile) (s : Side) (sg : PlainSegment) : Type 0 where
+  pub sayable : CanSay c.spelling (spelled_by s) sg
+  pub position : IsStray sg.rst sg.acknowledged sg.position ⊎ IsShort sg.position
+  pub acknowledged : IfSome sg.acknowledged IsShort
+  -- where it acknowledges nothing, the position after it is small too
+  pub reaches : sg.acknowledged ≡ None → IsShort (sg.position + occupied (copy_of (meant sg)))
+  pub syn : is_some sg.mss ≡ sg.syn
+  pub mss : IfSome sg.mss (λ n. n < 2 ^ 16)
+  pub options : All (OptionTells c s) sg.options
+
+-- ---- near
+
+-- also where it is less than 2^31 ahead
+near_below : (expected n : ℕ) → IsShort expected → n < expected + 2 ^ 31 → IsPositionFresh expected n
+near_below expected n a b = record { behind = omega (arith, ints); ahead = omega (arith, ints) }
+
+near : (expected n : ℕ) → IsShort expected → IsShort n → IsPositionFresh expected n
+near expected n a b = near_below expected n a (omega (arith, b))
+
+near_place : (short : Bool) (expected n : ℕ) → IsShort expected → IsShort n → IsPlaceFresh short expected n
+near_place short expected n a b = record { below = omega (arith, b); near = λ is. near expected n a b }
+
+-- what an end expects is small
+pub record IsShortly (x : Expected) : Type 0 where
+  pub edge : IsShort x.edge
+  pub unacknowledged : IsShort x.unacknowledged
+  pub told : IsShort x.told
+  pub place : IsShort x.place
+
+pub expected_from : (x : Expected) → IsShortly x → IsExpected x
+expected_from x h =
+    let a = h.edge in let b = h.unacknowledged in let c = h.told in let d = h.place in
+    record { edge = omega (arith, a); unacknowledged = omega (arith, b); told = omega (arith, c); place = omega (arith, d) }
+
+module _ (short : Bool) (x : Expected) (h : IsShortly x) where
+  mapping_near : (m : PathMapping ℕ) → MappingIsShort m → IsMappingFresh short x m
+  mapping_near (Bytes place position len fin checksum) m = (near_place short x.place place h.place m.0, near x.edge position h.edge m.1, m.2)
+  mapping_near (End place checksum) m = near_place short x.place place h.place m
+  mapping_near (Infinite place position) m = (near_place short x.place place h.place m.0, near x.edge position h.edge m.1)
+
+  mappings_near : (o : Option (PathMapping ℕ)) → IfSome o MappingIsShort → IfSome o (IsMappingFresh short x)
+  mappings_near None m = tt
+  mappings_near (Some mapping) m = mapping_near mapping m
+
+  numbers_near : (o : Option ℕ) → IfSome o IsShort → IfSome o (IsPlaceFresh short x.told)
+  numbers_near None n = tt
+  numbers_near (Some next) n = near_place short x.told next h.told n
+
+  option_near : (o : PlainOption) → OptionIsShort o → IsOptionFresh short x o
+  option_near (Dss next mapping) o = (numbers_near next o.0, mappings_near mapping o.1)
+  option_near (Fail place) o = near_place false x.told place h.told o
+  option_near _ o = tt
+
+-- a segment that tells is fresh, at each position that is
+fresh_at : (c : Profile) (s : Side) (x : Expected) (sg : PlainSegment) (position : ℕ) → SegmentTells c s sg → IsPositionFresh x.edge position → IsShortly x
+    → IsFresh c.spelling (spelled_by s) x (record sg { position = position })
+fresh_at c s x sg position tells at h = record {
+  position = at;
+  acknowledged = acknowledged_near sg.acknowledged tells.acknowledged;
+  syn = tells.syn;
+  mss = tells.mss;
+  options = All-weaker (OptionTells c s) (IsHearable c.spelling (spelled_by s) x) (λ o t. record { fits = t.fits; fresh = option_near c.spelling.short x h o t.short }) sg.options tells.options;
+}
+  where
+    acknowledged_near : (o : Option ℕ) → IfSome o IsShort → IfSome o (IsPositionFresh x.unacknowledged)
+    acknowledged_near None n = tt
+    acknowledged_near (Some n) short = near x.unacknowledged n h.unacknowledged short
+
+-- and so it is at its own, unless it is a reset that is far
+pub fresh_or_far : (c : Profile) (s : Side) (x : Expected) (sg : PlainSegment) → SegmentTells c s sg → IsShortly x
+    → IsFresh c.spelling (spelled_by s) x sg ⊎ IsFarReset c.spelling (spelled_by s) x sg
+fresh_or_far c s x sg tells h = ⊎_elim
+    (λ stray. ⊎_elim
+    (λ below. inl (fresh_at c s x sg sg.position tells (near_below x.edge sg.position h.edge below) h))
+    (λ ahead. inr (record { reset = stray.reset; acknowledging = stray.acknowledging; ahead = ahead; low = stray.low; others = fresh_at c s x sg x.edge tells (near x.edge x.edge h.edge h.edge) h }))
+    (cases_lt sg.position (x.edge + 2 ^ 31)))
+    (λ short. inl (fresh_at c s x sg sg.position tells (near x.edge sg.position h.edge short) h))
+    tells.position
+
+-- ---- an end
+
+-- a record that may be sent again
+abbrev pub RecordKindTells : Profile → Side → RecordKind → Record → Type 0
+RecordKindTells c s Syn r = Unit {0}
+RecordKindTells c s Data r = (1 ≤ r.mapping.length) × (r.mapping.length < 2 ^ 16) × (r.mapping.checksum < 2 ^ 16) × IsShort (place_numbered c s r.mapping.number)
+RecordKindTells c s Fin r = Unit {0}
+
+pub record RecordTells (c : Profile) (s : Side) (r : Record) : Type 0 where
+  pub reaches : IsShort (r.pos + length r.piece + 1)
+  pub octets : length r.piece ≤ 65475
+  pub mapped : RecordKindTells c s r.kind r
+
+abbrev pub IsKey : ℕ → Type 0
+IsKey key = key < 2 ^ 64
+
+-- a thing that a copy said
+abbrev pub ItemTells : Heard → Type 0
+ItemTells (says.DataAck next window) = IsShort next
+ItemTells (says.DataFin place) = IsShort place
+ItemTells (says.PeerKey key) = IsKey key
+ItemTells (says.Keys own peer) = IsKey own × IsKey peer
+ItemTells _ = Unit {0}
+
+-- the answer of a dead end is a reset
+pub record AnswerTells (o : Outgoing) : Type 0 where
+  pub rst : o.rst ≡ true
+  pub low : o.position < 2 ^ 32
+  pub acknowledged : IfSome o.acknowledged IsShort
+  pub reaches : o.acknowledged ≡ None → IsShort o.position
+  pub syn : o.syn ≡ false
+  pub fin : o.fin ≡ false
+
+pub record SenderTells (c : Profile) (s : Side) (v : SendState) : Type 0 where
+  pub next : IsShort v.nxt
+  pub unacknowledged : v.una ≤ v.nxt
+  pub records : Every (RecordTells c s) v.records
+
+pub record StreamTells (v : Sending) : Type 0 where
+  pub heard : IsShort v.heard
+  pub known_end : IfSome v.known_end IsShort
+
+pub record WindowTells (v : Receiving) : Type 0 where
+  pub next : IsShort v.next
+  pub window : v.window ≤ 2 ^ 20
+
+pub record ModesTell (m : Modes) : Type 0 where
+  pub own_key : IsKey m.own_key
+  pub peer_key : IfSome m.peer_key IsKey
+
+pub record TreatedTells (t : Treated) : Type 0 where
+  pub items : Every ItemTells t.items
+  pub answer : IfSome t.answer AnswerTells
+
+pub record EndTells (c : Profile) (s : Side) (e : PathEnd) : Type 0 where
+  pub sender : SenderTells c s e.tcp.send
+  pub edge : IsShort e.tcp.recv.edge
+  pub stream : StreamTells e.sending
+  pub window : WindowTells e.receiving
+  pub modes : ModesTell e.modes
+  pub treated : TreatedTells e.treated
+
+pub expected_shortly : (c : Profile) (s : Side) (e : PathEnd) → EndTells c s e → IsShortly (expected_by e)
+expected_shortly c s e h =
+    let una = h.sender.unacknowledged in let nxt = h.sender.next in
+    record { edge = h.edge; unacknowledged = omega (arith, una, nxt); told = h.stream.heard; place = h.window.next }
+
+-- ---- what an end says
+
+data_fits : (spelling : Spelling) (side : SpelledSide) (place : ℕ) → DataNumberFits (data_number spelling side place)
+data_fits spelling side place = by spelling.short
+  where
+    by : (short : Bool) → DataNumberFits (if short then Low (whole_number spelling side place % 2 ^ 32) else Whole (whole_number spelling side place))
+    by true = omega arith
+    by false = omega arith
+
+pub sum_small : (c : Profile) (mapping : Mapping) (octets : List ℕ) → checksum_in c mapping octets < 2 ^ 16
+sum_small c mapping octets = by c.spelling.checksums refl
+  where
+    by : (b : Bool) → c.spelling.checksums ≡ b → checksum_in c mapping octets < 2 ^ 16
+    by true is = rw is (omega arith)
+    by false is = rw is (omega arith)
+
+told_below : (c : Profile) (n : ℕ) → n < 2 ^ 16 → IsBelow (2 ^ 16) (checksum_told c n)
+told_below c n low = by c.spelling.checksums
+  where
+    by : (b : Bool) → IsBelow (2 ^ 16) (if b then Some n else None)
+    by true = low
+    by false = tt
+
+capable_length : (flag_a flag_c : Bool) (keys : CapableKeys) → length (option_text (wire.Capable flag_a flag_c keys)) ≤ 28
+unfolding option_text
+capable_length flag_a flag_c NoKey = omega arith
+capable_length flag_a flag_c (Sender sender) = omega arith
+capable_length flag_a flag_c (Both sender receiver) = omega arith
+capable_length flag_a flag_c (WithData sender receiver len None) = omega arith
+capable_length flag_a flag_c (WithData sender receiver len (Some checksum)) = omega arith
+
+ack_length : (ack : DataNumber) (fin : Bool) → length (option_text (wire.Dss (Some ack) None fin)) ≤ 28
+unfolding option_text
+ack_length (Whole ack) fin = omega arith
+ack_length (Low ack) fin = omega arith
+
+dss_length : (ack number : DataNumber) (relative len : ℕ) (checksum : Option ℕ) (fin : Bool)
+    → length (option_text (wire.Dss (Some ack) (Some (record { number = number; relative = relative; length = len; checksum = checksum })) fin)) ≤ 28
+unfolding option_text
+dss_length (Whole ack) (Whole number) relative len None fin = omega arith
+dss_length (Whole ack) (Whole number) relative len (Some checksum) fin = omega arith
+dss_length (Whole ack) (Low number) relative len None fin = omega arith
+dss_length (Whole ack) (Low number) relative len (Some checksum) fin = omega arith
+dss_length (Low ack) (Whole number) relative len None fin = omega arith
+dss_length (Low ack) (Whole number) relative len (Some checksum) fin = omega arith
+dss_length (Low ack) (Low number) relative len None fin = omega arith
+dss_length (Low ack) (Low number) relative len (Some checksum) fin = omega arith
+
+reset_length : (transient : Bool) (reason : ℕ) → length (option_text (wire.Reset transient reason)) ≤ 28
+unfolding option_text
+reset_length transient reason = omega arith
+
+-- a checksum stands exactly where checksums are used
+told_form : (used : Bool) (checksum : ℕ) → is_some (if used then Some checksum else None) ≡ used
+told_form true checksum = refl
+told_form false checksum = refl
+
+-- an option that can be said in 28 octets, and tells
+record Says (c : Profile) (s : Side) (o : PlainOption) : Type 0 where
+  can : CanSayOption c.spelling (spelled_by s) o
+  few : length (option_text (said_option c.spelling (spelled_by s) o)) ≤ 28
+  tells : OptionTells c s o
+
+-- one option at most
+abbrev OneSays : Profile → Side → List PlainOption → Type 0
+OneSays c s [] = Unit {0}
+OneSays c s (o ∷ []) = Says c s o
+OneSays c s (o ∷ other ∷ others) = ⊥
+
+module _ (c : Profile) (s : Side) where
+  each_said : (os : List PlainOption) → OneSays c s os → All (CanSayOption c.spelling (spelled_by s)) os
+  each_said [] h = All-nil (CanSayOption c.spelling (spelled_by s))
+  each_said (o ∷ []) h = All-cons (CanSayOption c.spelling (spelled_by s)) o [] h.can (All-nil (CanSayOption c.spelling (spelled_by s)))
+  each_said (o ∷ other ∷ others) h = absurd h
+
+  each_told : (os : List PlainOption) → OneSays c s os → All (OptionTells c s) os
+  each_told [] h = All-nil (OptionTells c s)
+  each_told (o ∷ []) h = All-cons (OptionTells c s) o [] h.tells (All-nil (OptionTells c s))
+  each_told (o ∷ other ∷ others) h = absurd h
+
+  room_of : (syn : Bool) (mss : ℕ) (os : List PlainOption) → OneSays c s os
+      → length (syn_text (if syn then Some mss else None) ++ options_text c.spelling (spelled_by s) os) ≤ 40
+  room_of true mss [] h = omega arith
+  room_of false mss [] h = omega arith
+  room_of true mss (o ∷ []) h = let few = h.few in omega (arith, few, ap length (append-nil (option_text (said_option c.spelling (spelled_by s) o))))
+  room_of false mss (o ∷ []) h = let few = h.few in omega (arith, few, ap length (append-nil (option_text (said_option c.spelling (spelled_by s) o))))
+  room_of syn mss (o ∷ other ∷ others) h = absurd h
+
+module _ (c : Profile) (s : Side) (path : c.spelling.path ≤ 15) (mss : c.mss < 2 ^ 16) (e : PathEnd) (h : EndTells c s e) where
+  abbrev One : List PlainOption → Type 0
+  One os = OneSays c s os
+
+  abbrev ack_number : DataNumber
+  ack_number = data_number c.spelling (peer_of (spelled_by s)) e.receiving.next
+
+  syn_tells : (t : Side) → One (syn_options c t e)
+  syn_tells A = record { can = record { form = tt }; few = capable_length c.spelling.checksums false NoKey; tells = record { fits = tt; short = tt } }
+  syn_tells B = record { can = record { form = tt }; few = capable_length c.spelling.checksums false (Sender e.modes.own_key); tells = record { fits = h.modes.own_key; short = tt } }
+
+  key_tells : (t : Side) (o : Option ℕ) → IfSome o IsKey → One (key_options c t o e)
+  key_tells A None k = tt
+  key_tells A (Some key) k = record {
+    can = record { form = tt };
+    few = capable_length c.spelling.checksums false (Both e.modes.own_key key);
+    tells = record { fits = (h.modes.own_key, k); short = tt };
+  }
+  key_tells B o k = tt
+
+  end_tells : (o : Option ℕ) → IfSome o IsShort → Says c s (Dss (Some e.receiving.next) (end_mapping c s o))
+  end_tells None n = record {
+    can = record { form = (tt, refl) };
+    few = ack_length ack_number false;
+    tells = record { fits = (data_fits c.spelling (peer_of (spelled_by s)) e.receiving.next, tt); short = (h.window.next, tt) };
+  }
+  end_tells (Some place) n = record {
+    can = record { form = (told_form c.spelling.checksums _, tt) };
+    few = dss_length ack_number (data_number c.spelling (spelled_by s) place) 0 1 _ true;
+    tells = record {
+      fits = (
+        data_fits c.spelling (peer_of (spelled_by s)) e.receiving.next,
+        (data_fits c.spelling (spelled_by s) place, omega arith, omega arith, told_below c _ (sum_small c (bare_mapping c s place 0 1) [])),
+      );
+      short = (h.window.next, n);
+    };
+  }
+
+  ack_tells : (fin : Option ℕ) → IfSome fin IsShort → One (ack_options c s fin e)
+  ack_tells fin n = by e.modes.clear
+    where
+      by : (b : Bool) → One (if b then Dss (Some e.receiving.next) (end_mapping c s fin) ∷ [] else key_options c s e.modes.peer_key e)
+      by true = end_tells fin n
+      by false = key_tells s e.modes.peer_key h.modes.peer_key
+
+  bytes_of : (position len : ℕ) → 1 ≤ len → IsBytes position len false
+  bytes_of position len some = record { some = ne_eqb len 0 (λ is. absurd (omega (arith, some, is))); no_end = refl }
+
+  first_tells : (o : Option ℕ) (r : Record) → IfSome o IsKey → RecordKindTells c s Data r → One (first_piece_options c o r e)
+  first_tells None r k m = tt
+  first_tells (Some key) r k m = record {
+    can = record { form = told_form c.spelling.checksums r.mapping.checksum };
+    few = capable_length c.spelling.checksums false (WithData e.modes.own_key key r.mapping.length (checksum_told c r.mapping.checksum));
+    tells = record { fits = (h.modes.own_key, k, m.1, told_below c r.mapping.checksum m.2); short = tt };
+  }
+
+  piece_tells : (r : Record) → IsShort r.pos → RecordKindTells c s Data r → One (piece_options c s r e)
+  piece_tells r at m = by (is_first_piece s r e)
+    where
+      by : (b : Bool) → One (if b then first_piece_options c e.modes.peer_key r e else Dss (Some e.receiving.next) (Some (piece_mapping c s r)) ∷ [])
+      by true = first_tells e.modes.peer_key r h.modes.peer_key m
+      by false = record {
+        can = record { form = (told_form c.spelling.checksums r.mapping.checksum, tt) };
+        few = dss_length ack_number _ (relative_number r.pos) r.mapping.length (checksum_told c r.mapping.checksum) false;
+        tells = record {
+          fits = (
+            data_fits c.spelling (peer_of (spelled_by s)) e.receiving.next,
+            (data_fits c.spelling (spelled_by s) (place_numbered c s r.mapping.number), omega arith, m.1, told_below c r.mapping.checksum m.2),
+          );
+          short = (h.window.next, (m.3, at, bytes_of r.pos r.mapping.length m.0));
+        };
+      }
+
+  record_options_tell : (kind : RecordKind) (r : Record) → IsShort r.pos → RecordKindTells c s kind r → One (record_options kind c s r e)
+  record_options_tell Syn r at m = syn_tells s
+  record_options_tell Data r at m = piece_tells r at m
+  record_options_tell Fin r at m = end_tells None tt
+
+  mss_is : (syn : Bool) → is_some (if syn then Some c.mss else None) ≡ syn
+  mss_is true = refl
+  mss_is false = refl
+
+  mss_low : (syn : Bool) → IfSome (if syn then Some c.mss else None) (λ n. n < 2 ^ 16)
+  mss_low true = mss
+  mss_low false = tt
+
+  segment_tells : (o : Outgoing) (options : List PlainOption) (payload : List ℕ) → length payload ≤ 65475
+      → IsStray o.rst o.acknowledged o.position ⊎ IsShort o.position → IfSome o.acknowledged IsShort → (o.acknowledged ≡ None → IsShort (o.position + occupied (copy_of (meant (segment_of c o options payload e)))))
+      → One options → SegmentTells c s (segment_of c o options payload e)
+  segment_tells o options payload most at ack reaches one = record {
+    sayable = record { path = path; window = h.window.window; options = each_said c s options one; room = room_of c s o.syn c.mss options one; fits = most };
+    position = at;
+    acknowledged = ack;
+    reaches = reaches;
+    syn = mss_is o.syn;
+    mss = mss_low o.syn;
+    options = each_told c s options one;
+  }
+
+  none_is : (n : ℕ) {X : Type 0} → Some n ≡ None → X
+  none_is n is = cc
+
+  pub ack_said_tells : (position : ℕ) (fin : Option ℕ) → IsShort position → IfSome fin IsShort → SegmentTells c s (ack_said c s position fin e)
+  ack_said_tells position fin at n = segment_tells (ack_at position e.tcp) (ack_options c s fin e) [] (omega arith) (inr at) h.edge (λ is. none_is _ is) (ack_tells fin n)
+
+  ack_or_none : (opening : Bool) → IfSome (if opening then None else Some e.tcp.recv.edge) IsShort
+  ack_or_none true = tt
+  ack_or_none false = h.edge
+
+  at_of : (r : Record) → RecordTells c s r → IsShort r.pos
+  at_of r t = let reaches = t.reaches in omega (arith, reaches)
+
+  one_at_most : (kind : RecordKind) (n : ℕ) → n + (one_if (is_syn kind) + one_if (is_fin kind)) ≤ n + 1
+  one_at_most Syn n = omega arith
+  one_at_most Data n = omega arith
+  one_at_most Fin n = omega arith
+
+  record_reaches : (r : Record) → RecordTells c s r → IsShort (r.pos + occupied (copy_of (meant (record_said c s r e))))
+  record_reaches r t = let reaches = t.reaches in let most = one_at_most r.kind (r.pos + length r.piece) in omega (arith, reaches, most)
+
+  pub record_said_tells : (o : Option Record) → IfSome o (RecordTells c s) → SegmentTells c s (record_or_ack c s o e)
+  record_said_tells None t = ack_said_tells e.tcp.send.nxt None h.sender.next tt
+  record_said_tells (Some r) t =
+      segment_tells (record_segment e.tcp r) (record_options r.kind c s r e) r.piece t.octets (inr (at_of r t)) (ack_or_none (is_opening e.tcp.state)) (λ is. record_reaches r t)
+      (record_options_tell r.kind r (at_of r t) t.mapped)
+
+  pub syn_ack_tells : SegmentTells c s (syn_ack_said c s e)
+  syn_ack_tells = segment_tells (syn_ack_segment e.tcp) (syn_options c s e) [] (omega arith) (inr (omega arith)) h.edge (λ is. none_is _ is) (syn_tells s)
+
+  pub fin_said_tells : IsShort (fin_position e.tcp.send) → SegmentTells c s (fin_said c e)
+  fin_said_tells at = segment_tells (fin_segment e.tcp) (fin_options e) [] (omega arith) (inr at) h.edge (λ is. none_is _ is) (end_tells None tt)
+
+  reset_options_tell : (o : Option ℕ) → IfSome o (λ n. n < 256) → One (reset_options o)
+  reset_options_tell None low = tt
+  reset_options_tell (Some reason) low = record { can = record { form = tt }; few = reset_length false reason; tells = record { fits = low; short = tt } }
+
+  none_more : (n : ℕ) → IsShort n → IsShort (n + (0 + (0 + 0)))
+  none_more n short = omega (arith, short)
+
+  pub reset_tells : (reason : Option ℕ) → IfSome reason (λ n. n < 256) → SegmentTells c s (reset_said c reason e)
+  reset_tells reason low = segment_tells (reset_segment e.tcp) (reset_options reason) [] (omega arith) (inr h.sender.next) tt (λ is. none_more e.tcp.send.nxt h.sender.next) (reset_options_tell reason low)
+
+  answer_tells : (o : Outgoing) → AnswerTells o → SegmentTells c s (segment_of c o [] [] e)
+  answer_tells o a = segment_tells o [] [] (omega arith) (stands o.acknowledged refl) a.acknowledged reaches tt
+    where
+      stands : (ack : Option ℕ) → o.acknowledged ≡ ack → IsStray o.rst o.acknowledged o.position ⊎ IsShort o.position
+      stands None is = inr (a.reaches is)
+      stands (Some n) is = inl (record { reset = a.rst; acknowledging = rw is refl; low = a.low })
+
+      reaches : o.acknowledged ≡ None → IsShort (o.position + occupied (copy_of (meant (segment_of c o [] [] e))))
+      reaches is =
+          let short = a.reaches is in
+          let syn : one_if o.syn ≡ 0 = ap one_if a.syn in
+          let fin : one_if o.fin ≡ 0 = ap one_if a.fin in
+          omega (arith, short, syn, fin)
+
+  pub dead_answer_tells : SegmentTells c s (segment_of c (outgoing_or e.treated.answer (reset_segment e.tcp)) [] [] e)
+  dead_answer_tells = by e.treated.answer h.treated.answer
+    where
+      by : (o : Option Outgoing) → IfSome o AnswerTells → SegmentTells c s (segment_of c (outgoing_or o (reset_segment e.tcp)) [] [] e)
+      by None a = answer_tells (reset_segment e.tcp) (record { rst = refl; low = let next = h.sender.next in omega (arith, next); acknowledged = tt; reaches = λ is. h.sender.next; syn = refl; fin = refl })
+      by (Some o) a = answer_tells o a

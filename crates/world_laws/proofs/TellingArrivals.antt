@@ -1,0 +1,205 @@
+-- What a copy that arrives tells, and what it leaves of the numbers that its end tells.
+use Rattle.std.proofs.Common.{◌≡◌, refl, ℕ, ◌+◌, ◌^◌, ◌<◌, nat_le, nat_lt, Bool, true, false, if◌then◌else◌, option_map, Option, Some, None, List, [], ◌∷◌, take, map, flat_map, arith}
+use Rattle.std.specs.Prelude.{All}
+use Rattle.std.specs.Option.{IfSome}
+use Rattle.std.proofs.lemmas.List.Elements.{All-head, All-tail}
+use Rattle.outside_kit.specs.declared.side.Side.{Side}
+use Rattle.outside_kit.specs.declared.side.Side.TheVariants.{A, B}
+use Rattle.link_model.specs.Steps.{peer}
+use Rattle.mptcp_options.specs.declared.capable.CapableKeys.{CapableKeys}
+use Rattle.mptcp_options.specs.declared.capable.CapableKeys.TheVariants.{NoKey, Sender, Both, WithData}
+use Rattle.mptcp_options.specs.Capable.{KeysFit}
+use Rattle.path_segments.specs.declared.segment.PathMapping.{PathMapping}
+use Rattle.path_segments.specs.declared.segment.PathMapping.TheVariants.{Bytes, End, Infinite}
+use Rattle.path_segments.specs.declared.segment.PathOption.TheVariants.{Capable, Join, Dss, AddAddr, Remove, Prio, Fail, FastClose, Reset}
+use Rattle.path_segments.specs.Laws.{meant, meant_option, meant_mapping}
+use Rattle.path_segments.specs.Options.{PlainOption}
+use Rattle.path_segments.specs.Spelled.{PlainSegment}
+use Rattle.subflow_send.specs.declared.record.AckKind.{AckKind}
+use Rattle.subflow_send.specs.declared.record.AckKind.TheVariants as acks
+use Rattle.subflow_send.specs.Rules.{after_acknowledge, ack_kind, sample_of}
+use Rattle.subflow_tcp.specs.declared.segments.Hint.{Hint}
+use Rattle.subflow_tcp.specs.declared.verdicts.Meaning.{Meaning}
+use Rattle.subflow_tcp.specs.declared.verdicts.Meaning.TheVariants as means
+use Rattle.subflow_tcp.specs.Judging.{meaning_of}
+use Rattle.subflow_tcp.specs.Segments.{Copy, occupied}
+use Rattle.subflow_tcp.specs.State.{EndState}
+use Rattle.subflow_tcp.specs.Taking as taking
+use Rattle.loss_recovery.specs.declared.windows.Told.{Told}
+use Rattle.stream_lanes.specs.Words.{Every}
+use Rattle.stream_lanes.proofs.Lists.{Every-nil, Every-append, in_take}
+use Rattle.actor_desk.specs.Words.{is_nil}
+use Rattle.path_agenda.specs.declared.heard.Heard.{Heard}
+use Rattle.path_agenda.specs.declared.heard.Heard.TheVariants as says
+use Rattle.path_core.specs.Arriving.{copy_of, ack_items, is_mapping, mapping_items, map_items, key_items, items_in, items_of, hint_of, reset_for, reset_by, owing_if, owes_by, with_payload, after_meaning, zero_position}
+use Rattle.path_core.specs.Ends.{PathEnd}
+use Rattle.path_core.specs.State.{Profile}
+use Rattle.world_laws.proofs.Records.{every_cons}
+use Rattle.world_laws.proofs.Telling.{IsShort, MappingIsShort, OptionTells, SegmentTells, ItemTells, AnswerTells, SenderTells, EndTells}
+use Rattle.world_laws.proofs.TellingRules.{acknowledged_tells}
+
+-- ---- what it says
+
+abbrev Tell : List Heard → Type 0
+Tell items = Every ItemTells items
+
+one : (item : Heard) → ItemTells item → Tell (item ∷ [])
+one item h = every_cons item [] h (Every-nil ItemTells)
+
+tell_if : (b : Bool) (item : Heard) → ItemTells item → Tell (if b then item ∷ [] else [])
+tell_if true item h = one item h
+tell_if false item h = Every-nil ItemTells
+
+acks_tell : (o : Option ℕ) (window : ℕ) → IfSome o IsShort → Tell (ack_items (option_map (λ n. Some n) o) window)
+acks_tell None window h = Every-nil ItemTells
+acks_tell (Some n) window h = tell_if (nat_lt n (2 ^ 62)) (says.DataAck n window) h
+
+mapping_tells : (place position len : ℕ) → Tell (mapping_items place position len)
+mapping_tells place position len = tell_if (is_mapping place position len) says.Mapping tt
+
+map_tells : (o : Option (PathMapping ℕ)) → IfSome o MappingIsShort → Tell (map_items (option_map meant_mapping o))
+map_tells None h = Every-nil ItemTells
+map_tells (Some (Bytes place position len true checksum)) h = Every-nil ItemTells
+map_tells (Some (Bytes place position len false checksum)) h = mapping_tells place position len
+map_tells (Some (End place checksum)) h = tell_if (nat_le place (2 ^ 62)) (says.DataFin place) h
+map_tells (Some (Infinite place position)) h = Every-nil ItemTells
+
+keys_tell : (s : Side) (keys : CapableKeys) → KeysFit keys → Tell (key_items s keys)
+keys_tell A NoKey h = Every-nil ItemTells
+keys_tell A (Sender sender) h = one (says.PeerKey sender) h
+keys_tell A (Both sender receiver) h = Every-nil ItemTells
+keys_tell A (WithData sender receiver len checksum) h = Every-nil ItemTells
+keys_tell B NoKey h = Every-nil ItemTells
+keys_tell B (Sender sender) h = Every-nil ItemTells
+keys_tell B (Both sender receiver) h = one (says.Keys receiver sender) (h.1, h.0)
+keys_tell B (WithData sender receiver len checksum) h = every_cons (says.Keys receiver sender) (mapping_items 0 1 len) (h.1, h.0) (mapping_tells 0 1 len)
+
+module _ (c : Profile) (from s : Side) (window : ℕ) where
+  option_tells : (o : PlainOption) → OptionTells c from o → Tell (items_in s window (meant_option o))
+  option_tells (Capable flag_a flag_c keys) h = keys_tell s keys h.fits
+  option_tells (Dss next mapping) h = every_cons says.Dss _ tt (Every-append (acks_tell next window h.short.0) (map_tells mapping h.short.1))
+  option_tells (Join form) h = Every-nil ItemTells
+  option_tells (AddAddr echo id address port hmac) h = Every-nil ItemTells
+  option_tells (Remove ids) h = Every-nil ItemTells
+  option_tells (Prio backup) h = Every-nil ItemTells
+  option_tells (Fail place) h = Every-nil ItemTells
+  option_tells (FastClose key) h = Every-nil ItemTells
+  option_tells (Reset transient reason) h = Every-nil ItemTells
+
+  options_tell : (os : List PlainOption) → All (OptionTells c from) os → Tell (flat_map (items_in s window) (map meant_option os))
+  options_tell [] h = Every-nil ItemTells
+  options_tell (o ∷ os) h = Every-append (option_tells o (All-head (OptionTells c from) o os h)) (options_tell os (All-tail (OptionTells c from) o os h))
+
+taken_tell : (n : ℕ) (items : List Heard) → Tell items → Tell (take n items)
+taken_tell n items h = record { each = λ i x is. h.each i x (in_take n items i x is).0 }
+
+-- ---- the answer of a dead end
+
+zero_low : (c : Profile) (s : Side) → zero_position c s < 2 ^ 32
+zero_low c s = omega arith
+
+answer_tells : (c : Profile) (s : Side) (o : Option ℕ) (position occupied : ℕ) → IfSome o IsShort → (o ≡ None → IsShort (position + occupied)) → AnswerTells (reset_by c s o position occupied)
+answer_tells c s None position occupied short reaches = record { rst = refl; low = zero_low c s; acknowledged = reaches refl; reaches = λ is. cc; syn = refl; fin = refl }
+answer_tells c s (Some acknowledged) position occupied short reaches = record { rst = refl; low = omega (arith, short); acknowledged = tt; reaches = λ is. short; syn = refl; fin = refl }
+
+-- ---- the subflow
+
+record Subflow (c : Profile) (s : Side) (tcp : EndState) : Type 0 where
+  sender : SenderTells c s tcp.send
+  edge : IsShort tcp.recv.edge
+
+module _ (c : Profile) (s : Side) where
+  abbrev Flows : EndState → Type 0
+  Flows tcp = Subflow c s tcp
+
+  held_flows : (m : Meaning) (octets : List ℕ) (tcp : EndState) → Flows tcp → Flows (with_payload m octets tcp)
+  held_flows (means.Taken pos acknowledged) octets tcp h = by (is_nil octets)
+    where
+      by : (b : Bool) → Flows (if b then tcp else taking.after_holding pos octets tcp)
+      by true = h
+      by false = record { sender = h.sender; edge = h.edge }
+  held_flows means.Ignored octets tcp h = h
+  held_flows means.Unwanted octets tcp h = h
+  held_flows means.Opens octets tcp h = h
+  held_flows (means.Accepts acknowledged) octets tcp h = h
+  held_flows means.RepeatedSyn octets tcp h = h
+  held_flows means.Outside octets tcp h = h
+  held_flows means.Kills octets tcp h = h
+  held_flows means.Challenged octets tcp h = h
+  held_flows means.Unacknowledging octets tcp h = h
+  held_flows means.Ahead octets tcp h = h
+
+  payload_flows : (pos : ℕ) (hint : Hint) (copy : Copy) (tcp : EndState) → hint.keep ≡ false → Flows tcp → Flows (taking.after_payload pos hint copy tcp)
+  payload_flows pos hint copy tcp keep h = record { sender = h.sender; edge = by hint.keep keep }
+    where
+      by : (b : Bool) → b ≡ false → IsShort (taking.after_keeping b pos copy.payload tcp).recv.edge
+      by false is = h.edge
+      by true is = cc
+
+  acknowledged_flows : (pos now : ℕ) (tcp : EndState) → Flows tcp → Flows (taking.after_acknowledgement pos now tcp)
+  acknowledged_flows pos now tcp h = by (ack_kind pos tcp.send)
+    where
+      by : (kind : AckKind) → Flows (taking.after_ack_kind kind (sample_of pos tcp.send) now (record tcp { send = after_acknowledge pos tcp.send }))
+      by (acks.New octets) = record { sender = acknowledged_tells c s tcp.send h.sender pos; edge = h.edge }
+      by acks.Duplicate = record { sender = acknowledged_tells c s tcp.send h.sender pos; edge = h.edge }
+      by acks.Old = record { sender = acknowledged_tells c s tcp.send h.sender pos; edge = h.edge }
+      by acks.Future = record { sender = acknowledged_tells c s tcp.send h.sender pos; edge = h.edge }
+
+  row_flows : (kind : AckKind) (told : Told) (copy : Copy) (tcp : EndState) → Flows tcp → Flows (taking.after_row kind told copy tcp)
+  row_flows kind told copy tcp h = by (taking.is_duplicate kind told copy tcp)
+    where
+      by : (b : Bool) → Flows (if b then taking.after_duplicate tcp else taking.after_interruption tcp)
+      by true = record { sender = h.sender; edge = h.edge }
+      by false = record { sender = h.sender; edge = h.edge }
+
+  arrived_flows : (m : Meaning) (hint : Hint) (now : ℕ) (copy : Copy) (tcp : EndState) → hint.keep ≡ false → Flows tcp → Flows (taking.after_arrival m hint now copy tcp)
+  arrived_flows (means.Taken pos acknowledged) hint now copy tcp keep h =
+      let p = payload_flows pos hint copy tcp keep h in
+      let t : EndState = taking.after_established (taking.after_hearing (taking.after_payload pos hint copy tcp)) in
+      let a = acknowledged_flows acknowledged now t (record { sender = p.sender; edge = p.edge }) in
+      let r = row_flows (ack_kind acknowledged t.send) (taking.told_by hint copy) copy (taking.after_acknowledgement acknowledged now t) a in
+      record { sender = r.sender; edge = r.edge }
+  arrived_flows (means.Accepts acknowledged) hint now copy tcp keep h =
+      let p = payload_flows 1 hint copy tcp keep h in
+      let a = acknowledged_flows acknowledged now _ (record { sender = p.sender; edge = p.edge }) in
+      record { sender = a.sender; edge = a.edge }
+  arrived_flows means.Opens hint now copy tcp keep h = let p = payload_flows 1 hint copy tcp keep h in record { sender = p.sender; edge = p.edge }
+  arrived_flows means.Kills hint now copy tcp keep h = record { sender = acknowledged_tells c s tcp.send h.sender tcp.send.nxt; edge = h.edge }
+  arrived_flows means.Ignored hint now copy tcp keep h = h
+  arrived_flows means.Unwanted hint now copy tcp keep h = h
+  arrived_flows means.RepeatedSyn hint now copy tcp keep h = record { sender = h.sender; edge = h.edge }
+  arrived_flows means.Outside hint now copy tcp keep h = record { sender = h.sender; edge = h.edge }
+  arrived_flows means.Challenged hint now copy tcp keep h = record { sender = h.sender; edge = h.edge }
+  arrived_flows means.Unacknowledging hint now copy tcp keep h = record { sender = h.sender; edge = h.edge }
+  arrived_flows means.Ahead hint now copy tcp keep h = record { sender = h.sender; edge = h.edge }
+
+  owing_flows : (b : Bool) (tcp : EndState) → Flows tcp → Flows (owing_if b tcp)
+  owing_flows true tcp h = record { sender = h.sender; edge = h.edge }
+  owing_flows false tcp h = h
+
+-- ---- the end
+
+pub arrived_tells : (c : Profile) (s : Side) (now : ℕ) (sg : PlainSegment) (e : PathEnd) → SegmentTells c (peer s) sg → EndTells c s e
+    → EndTells c s (after_meaning c s now (meant sg) (meaning_of (copy_of (meant sg)) e.tcp) e)
+arrived_tells c s now sg e tells h =
+    let m : Meaning = meaning_of (copy_of (meant sg)) e.tcp in
+    let held = held_flows c s m sg.payload e.tcp (record { sender = h.sender; edge = h.edge }) in
+    let tcp : EndState = with_payload m sg.payload e.tcp in
+    let arrived = arrived_flows c s m (hint_of s (meant sg)) now (copy_of (meant sg)) tcp refl held in
+    let owed = owing_flows c s (owes_by m (items_of s (meant sg))) (taking.after_arrival m (hint_of s (meant sg)) now (copy_of (meant sg)) tcp) arrived in
+    record {
+      sender = owed.sender;
+      edge = owed.edge;
+      stream = h.stream;
+      window = record { next = h.window.next; window = h.window.window };
+      modes = h.modes;
+      treated = record {
+        items = taken_tell 10 _ (options_tell c (peer s) s _ sg.options tells.options);
+        answer = by sg.acknowledged tells.acknowledged tells.reaches;
+      };
+    }
+  where
+    by : (o : Option ℕ) → IfSome o IsShort → (o ≡ None → IsShort (sg.position + occupied (copy_of (meant sg))))
+        → AnswerTells (reset_for c s (record (copy_of (meant sg)) { acknowledged = (copy_of (record (meant sg) { acknowledged = option_map (λ n. Some n) o })).acknowledged }))
+    by None short reaches = answer_tells c s None sg.position (occupied (copy_of (meant sg))) tt reaches
+    by (Some n) short reaches = answer_tells c s (Some n) sg.position (occupied (copy_of (meant sg))) short (λ is. cc)

@@ -1,0 +1,446 @@
+-- What each duty's reply leaves of the numbers that a path's ends and copies tell.
+use Rattle.std.proofs.Common.{◌≡◌, refl, ap, subst, ℕ, suc, ◌+◌, ◌-◌, ◌^◌, ◌<◌, ◌≤◌, min, ◌&&◌, nat_lt, not, Bool, true, false, if◌then◌else◌, Option, Some, None, Result, Ok, Err, List, [], length, take, drop, arith}
+use Rattle.std.proofs.lemmas.Bool.{and_parts, and_from, ltb-true}
+use Rattle.std.proofs.lemmas.List.{length-take, length-drop}
+use Rattle.std.specs.Option.{IfSome}
+use Rattle.outside_kit.specs.declared.side.Side.{Side}
+use Rattle.outside_kit.specs.declared.side.Side.TheVariants.{A, B}
+use Rattle.link_model.specs.Steps.{peer}
+use Rattle.path_segments.specs.Spelled.{PlainSegment}
+use Rattle.reassembly_book.specs.Steps.{next_wanted, window}
+use Rattle.send_book.specs.declared.call.SendCall.TheVariants.{Grant}
+use Rattle.send_book.specs.declared.call.SendReply.{SendReply}
+use Rattle.send_book.specs.declared.call.SendReply.TheVariants as send_replies
+use Rattle.send_book.specs.declared.call.Span.{Span}
+use Rattle.send_book.specs.declared.call.Why.{Why}
+use Rattle.send_book.specs.State.{Sending as SendBook}
+use Rattle.send_book.specs.Steps.{decision, reply_by, given_by, grant_reply, end_of, part_of, ack_reply}
+use Rattle.send_book.proofs.Decisions.{decision-MayTake}
+use Rattle.fallback_state.specs.declared.fall.Event.TheVariants as events
+use Rattle.subflow_send.specs.Records.{Record}
+use Rattle.subflow_send.specs.Rules.{is_unsent}
+use Rattle.subflow_tcp.specs.declared.segments.Occasion.{Occasion}
+use Rattle.subflow_tcp.specs.declared.segments.Occasion.TheVariants as to_send
+use Rattle.subflow_tcp.specs.Closing.{after_finishing}
+use Rattle.subflow_tcp.specs.State.{has_records}
+use Rattle.subflow_tcp.specs.States as states
+use Rattle.stream_lanes.specs.Holding.{Holds, LaneHolds}
+use Rattle.stream_lanes.specs.Lane.{Lane}
+use Rattle.stream_lanes.specs.Lane.Ask.{AskPlace}
+use Rattle.stream_lanes.specs.Laws.{LaneIsShort}
+use Rattle.stream_lanes.specs.Streams.{Reader}
+use Rattle.stream_lanes.specs.View.{view_of}
+use Rattle.stream_lanes.proofs.Promises.{paths_short}
+use Rattle.actor_desk.specs.declared.ask.Ask.{Ask}
+use Rattle.actor_desk.specs.declared.ask.Ask.TheVariants as asks
+use Rattle.actor_desk.specs.declared.ask.Reply.{Reply}
+use Rattle.actor_desk.specs.declared.ask.Reply.TheVariants as replies
+use Rattle.actor_desk.specs.Desk.{SixBooks, send_of, reassembly_of, reply_of, after_ask}
+use Rattle.actor_desk.specs.Words.{pick}
+use Rattle.path_agenda.specs.declared.duty.Duty.{Duty}
+use Rattle.path_agenda.specs.declared.duty.Duty.TheVariants as duties
+use Rattle.path_agenda.specs.declared.heard.Heard.{Heard}
+use Rattle.path_agenda.specs.declared.heard.Heard.TheVariants as says
+use Rattle.path_agenda.specs.declared.keys.KeyPair.{KeyPair}
+use Rattle.path_agenda.specs.Agenda.{leaves, resets, breaks}
+use Rattle.path_agenda.specs.Items.{key_heard, keys_heard}
+use Rattle.path_agenda.specs.Words.{replaced}
+use Rattle.path_core.specs.Breaking.{reset_of, reset_on, break_ask, answered_break}
+use Rattle.path_core.specs.Closing.{owes_end}
+use Rattle.path_core.specs.Duties.{stands, ask_for, answered}
+use Rattle.path_core.specs.Emission.{payload_size, first_unsent, unsent_segment, data_stands, data_ask, answered_data, grant_in, granted, refused, answered_grant, end_segment, having_sent_end, answered_end, fin_segment_of, having_sent_fin, answered_fin}
+use Rattle.path_core.specs.Ends.{PathEnd}
+use Rattle.path_core.specs.Events.{next_event, died}
+use Rattle.path_core.specs.Opening.{with_peer_key, keys_ask, after_keys, syn_ack_of}
+use Rattle.path_core.specs.Passing.{having_asked, with_peer_end, piece_ask, answered_piece, is_placed, piece_of, fin_of, fin_ask, answered_fin_heard, is_fin_set, rate_ask, after_rate, first_record, first_segment, answer_of, answer_occasion, dead_answer, answered_dead, resend_occasion, resend_of}
+use Rattle.path_core.specs.Placing.{Piece, after_piece, with_learned}
+use Rattle.path_core.specs.Segments.{ack_said, syn_ack_said, record_or_ack}
+use Rattle.path_core.specs.Sends.{sends, having_sent, sent_on}
+use Rattle.path_core.specs.Standing.{look_ask, after_look, ack_out_ask, after_ack_out, answered_ack_out, ack_segment}
+use Rattle.path_core.specs.State.{PathState, Profile, end_at, goes_on, left, path_of, with_agenda}
+use Rattle.path_core.specs.Treating.{fell_ask, after_verdict, is_clash, told_next, is_acked, mapping_ask, answered_mapping, heard_ask, answered_heard, with_acked, with_fin, item_ask, answered_item, item_of}
+use Rattle.path_core.specs.Values.{Carried, values}
+use Rattle.world_laws.proofs.Ending.{unfinished_if}
+use Rattle.world_laws.proofs.Lanes.{duo_of, call_events}
+use Rattle.world_laws.proofs.Placing.{NextPiece, piece_from, at_edge, wants_piece}
+use Rattle.world_laws.proofs.Records.{every_find, every_at}
+use Rattle.world_laws.proofs.Replying.{every_item, granted_step}
+use Rattle.world_laws.proofs.Roads.{Strolls, stays, no_flags, direction}
+use Rattle.world_laws.proofs.Showing.{EndShows, PathShows}
+use Rattle.world_laws.proofs.Sides.{Answered}
+use Rattle.world_laws.proofs.Strolling.{side_shows, strolls_held, back_holds, events_held}
+use Rattle.world_laws.proofs.Telling.{IsShort, IsKey, ItemTells, SegmentTells, EndTells, ack_said_tells, record_said_tells, syn_ack_tells, fin_said_tells, reset_tells, dead_answer_tells}
+use Rattle.world_laws.proofs.TellingEvents.{events_tell}
+use Rattle.world_laws.proofs.TellingRules as rules
+use Rattle.world_laws.proofs.TellingRules.{heard_key, heard_keys}
+use Rattle.world_laws.proofs.TellingSteps.{is_fair, AreFair, PathTells, BooksAreShort, tail_fair, replaced_fair, next_short, window_short, out_short, back_short, tells_at, tells_on, tells_agenda, tells_sent}
+
+-- ---- grants
+
+-- a granted piece has octets, no more than were asked for, and lies within what is written
+record Within (most : ℕ) (b : SendBook) (span : Span) (piece : List ℕ) : Type 0 where
+  some : 1 ≤ length piece
+  few : length piece ≤ most
+  place : span.from ≤ length b.written
+
+granted_within : (path most : ℕ) (standby : Bool) (b : SendBook) (span : Span) (piece : List ℕ) → 1 ≤ most → length b.marks ≡ length b.written
+    → grant_reply path most standby b ≡ send_replies.Granted span piece → Within most b span piece
+granted_within path most standby b span piece some whole is = by (decision path most standby b) refl is
+  where
+    by : (d : Result Span Why) → decision path most standby b ≡ d → reply_by d b ≡ send_replies.Granted span piece → Within most b span piece
+    by (Ok x) decided e =
+        let same : x ≡ span = cc in
+        let part : part_of x b.written ≡ piece = cc in
+        let may = decision-MayTake path most standby b x decided in
+        let to = may.whole in let within = may.within in let least = may.some some in let limit = may.most in
+        let l : length piece ≡ min (x.to - x.from) (length b.written - x.from) =
+        subst (λ ys. length ys ≡ min (x.to - x.from) (length b.written - x.from)) part
+        (subst (λ n. length (take (x.to - x.from) (drop x.from b.written)) ≡ min (x.to - x.from) n) (length-drop x.from b.written) (length-take (x.to - x.from) (drop x.from b.written))) in
+        record {
+          some = omega (arith, l, to, within, least, whole);
+          few = omega (arith, l, to, limit);
+          place = subst (λ y. y.from ≤ length b.written) same (omega (arith, to, within, whole));
+        }
+    by (Err why) decided e = cc
+
+-- where no more is written, the end is the number of octets
+end_short : (b : SendBook) → IsShort (length b.written) → IfSome (end_of b) IsShort
+end_short b short = by (b.closed && not b.aborted)
+  where
+    by : (c : Bool) → IfSome (if c then Some (length b.written) else None) IsShort
+    by true = short
+    by false = tt
+
+-- a grant writes nothing
+given_written : (path : ℕ) (d : Result Span Why) (b : SendBook) → (given_by path d b).written ≡ b.written
+given_written path (Ok span) b = refl
+given_written path (Err why) b = refl
+
+grant_written : (s : Side) (path most : ℕ) (standby : Bool) (six : SixBooks) → (send_of s (after_ask (asks.Send s (Grant path most standby)) six)).written ≡ (send_of s six).written
+grant_written A path most standby six = given_written path (decision path most standby six.send_a) six.send_a
+grant_written B path most standby six = given_written path (decision path most standby six.send_b) six.send_b
+
+-- ---- after a step of the path
+
+end_on : (s : Side) (f : PathEnd) (ds : List Duty) (p : PathState Carried) → end_at s (goes_on s f ds p) ≡ f
+end_on A f ds p = refl
+end_on B f ds p = refl
+
+-- the lanes hold
+pub after_holds : (c : Profile) (six : SixBooks) (reader_a reader_b : Reader) (ask : Ask) (q : PathState Carried) (ab ba : Lane) (a : Answered c six reader_a reader_b ask q ab ba)
+    → Holds (duo_of six ab ba reader_a reader_b) → Holds (duo_of (after_ask ask six) a.after.ab_after a.after.ba_after reader_a reader_b)
+after_holds c six reader_a reader_b ask q ab ba a holds =
+    let asked = strolls_held six reader_a reader_b ab a.ab_before ba a.ba_before a.ab_moves a.ba_moves holds in
+    let called = subst Holds a.called (events_held (call_events a.call) (duo_of six a.ab_before a.ba_before reader_a reader_b) asked) in
+    strolls_held (after_ask ask six) reader_a reader_b a.ab_called a.after.ab_after a.ba_called a.after.ba_after a.after.ab_moves a.after.ba_moves called
+
+-- the lane that a side sends on has no more octets than were written
+sent_short : (s : Side) (six : SixBooks) (reader_a reader_b : Reader) (ab ba : Lane) → Holds (duo_of six ab ba reader_a reader_b) → LaneIsShort (length (send_of s six).written) (pick s ab ba)
+sent_short A six reader_a reader_b ab ba holds = (paths_short no_flags (direction six.send_a six.reassembly_b ab reader_b) holds.ab).each 0 ab refl
+sent_short B six reader_a reader_b ab ba holds = (paths_short no_flags (direction six.send_b six.reassembly_a ba reader_a) holds.ba).each 0 ba refl
+
+module _ (six : SixBooks) (reader_a reader_b : Reader) (p : PathState Carried) (ab ba : Lane) (h : PathShows p.profile p ab ba) (holds : Holds (duo_of six ab ba reader_a reader_b))
+    (short : BooksAreShort six) (path : p.profile.spelling.path ≤ 15) (size : 29 ≤ p.profile.mss) (mss : p.profile.mss ≤ 65503) (t : PathTells p.profile p) where
+  abbrev Tells : PathState Carried → Type 0
+  Tells q = PathTells p.profile q
+
+  left_fair : AreFair (left p)
+  left_fair = tail_fair p.agenda t.agenda
+
+  done_tells : Tells (with_agenda (left p) p)
+  done_tells = tells_agenda p.profile p t (left p) left_fair
+
+  module _ (s : Side) where
+    abbrev e : PathEnd
+    e = end_at s p
+
+    abbrev tells : EndTells p.profile s e
+    tells = tells_at p.profile p t s
+
+    abbrev out : Lane
+    out = pick s ab ba
+
+    abbrev back : Lane
+    back = pick s ba ab
+
+    abbrev shows : EndShows p.profile s e out back
+    shows = side_shows p.profile s p ab ba h
+
+    abbrev out_is : LaneIsShort (length (send_of s six).written) out
+    out_is = out_short six reader_a reader_b ab ba holds short s
+
+    abbrev back_is : LaneIsShort (length (send_of (peer s) six).written) back
+    back_is = back_short six reader_a reader_b ab ba holds short s
+
+    -- the end becomes this
+    on : (f : PathEnd) (ds : List Duty) → EndTells p.profile s f → AreFair ds → Tells (goes_on s f ds p)
+    on f ds x fair = tells_on p.profile p t s f ds x fair
+
+    -- ---- a segment is sent
+
+    on_occasion : (sg : PlainSegment) (occasion : Occasion) (ds : List Duty) → SegmentTells p.profile s sg → AreFair ds
+        → Tells (sent_on values s sg (having_sent occasion p.clock sg e) ds p)
+    on_occasion sg occasion ds said fair =
+        tells_sent p.profile p t h.unchanged s sg (having_sent occasion p.clock sg e) ds said (rules.sent_end_tells p.profile s e tells occasion p.clock sg) fair
+
+    abbrev wide : p.profile.mss < 2 ^ 16
+    wide = omega (arith, mss)
+
+    ack_tells : (position : ℕ) (fin : Option ℕ) → IsShort position → IfSome fin IsShort → SegmentTells p.profile s (ack_said p.profile s position fin e)
+    ack_tells position fin at n = ack_said_tells p.profile s path wide e tells position fin at n
+
+    acknowledged : (ds : List Duty) → AreFair ds → Tells (sent_on values s (ack_segment s p) (having_sent to_send.Ack p.clock (ack_segment s p) e) ds p)
+    acknowledged ds fair = on_occasion (ack_segment s p) to_send.Ack ds (ack_tells e.tcp.send.nxt None tells.sender.next tt) fair
+
+    unsent_told : (ds : List Duty) → AreFair ds → Tells (sent_on values s (unsent_segment s p) (having_sent to_send.Unsent p.clock (unsent_segment s p) e) ds p)
+    unsent_told ds fair =
+        on_occasion (unsent_segment s p) to_send.Unsent ds (record_said_tells p.profile s path wide e tells (first_unsent e) (every_find is_unsent e.tcp.send.records tells.sender.records)) fair
+
+    first_told : SegmentTells p.profile s (record_or_ack p.profile s (first_record e) e)
+    first_told = record_said_tells p.profile s path wide e tells (first_record e) (every_at 0 e.tcp.send.records tells.sender.records)
+
+    syn_ack_told : (ds : List Duty) → AreFair ds → Tells (sent_on values s (syn_ack_of s p) (having_sent to_send.SynAck p.clock (syn_ack_of s p) e) ds p)
+    syn_ack_told ds fair = on_occasion (syn_ack_of s p) to_send.SynAck ds (syn_ack_tells p.profile s path wide e tells) fair
+
+    answer_told : SegmentTells p.profile s (answer_of s p)
+    answer_told = by e.tcp.due.syn_ack
+      where
+        by : (b : Bool) → SegmentTells p.profile s (if b then syn_ack_said p.profile s e else ack_said p.profile s e.tcp.send.nxt None e)
+        by true = syn_ack_tells p.profile s path wide e tells
+        by false = ack_tells e.tcp.send.nxt None tells.sender.next tt
+
+    resend_told : SegmentTells p.profile s (resend_of s p)
+    resend_told = by (has_records e.tcp) (owes_end e.sending)
+      where
+        by : (some owes : Bool) → SegmentTells p.profile s (if some then record_or_ack p.profile s (first_record e) e
+            else (if owes then ack_said p.profile s e.tcp.send.nxt e.sending.known_end e else ack_said p.profile s (e.tcp.send.una - 1) None e))
+        by true owes = first_told
+        by false true = ack_tells e.tcp.send.nxt e.sending.known_end tells.sender.next tells.stream.known_end
+        by false false = ack_tells (e.tcp.send.una - 1) None (let una = tells.sender.unacknowledged in let next = tells.sender.next in omega (arith, una, next)) tt
+
+    reset_told : (reason : Option ℕ) → IfSome reason (λ n. n < 256) → Tells (reset_on values s reason (leaves s) p)
+    reset_told reason low =
+        tells_sent p.profile p t h.unchanged s (reset_of s reason p) (died e) (leaves s) (reset_tells p.profile s path wide e tells reason low) (rules.died_tells p.profile s e tells) refl
+
+    dead_told : Tells (answered_dead values s p)
+    dead_told = tells_sent p.profile p t h.unchanged s (dead_answer s p) e (left p) (dead_answer_tells p.profile s path wide e tells) tells left_fair
+
+    -- ---- what is to be acknowledged, and a break
+
+    ack_out_told : (ds : List Duty) → AreFair ds → Tells (answered_ack_out s (reply_of six (ack_out_ask s)) ds p)
+    ack_out_told ds fair =
+        on (after_ack_out (reply_of six (ack_out_ask s)) e) ds
+        (rules.told_tells p.profile s e tells (next_wanted (reassembly_of s six)) (window (reassembly_of s six)) (next_short six reader_a reader_b ab ba holds short s) (window_short six reader_a reader_b ab ba holds short s)) fair
+
+    break_told : Tells (answered_break values s 1 (reply_of six (break_ask values s 1 p)) p)
+    break_told = by e.treated.asked
+      where
+        by : (b : Bool) → Tells (if b then answered_ack_out s (reply_of six (if b then ack_out_ask s else sends values s (reset_of s (Some 1) p) p)) (resets s 1) p else reset_on values s (Some 1) (leaves s) p)
+        by true = ack_out_told (resets s 1) refl
+        by false = reset_told (Some 1) (omega arith)
+
+    -- ---- keys, and what a copy said
+
+    keyed : (r : Reply) (keys : Option KeyPair) → IfSome keys (λ k. IsKey k.peer) → Tells (goes_on s (after_keys r keys e) (left p) p)
+    keyed r keys key = on (after_keys r keys e) (left p) (rules.keys_tell p.profile s e tells r keys key) left_fair
+
+    acked_fair : (covers : Bool) → AreFair (told_next s covers p)
+    acked_fair true = replaced_fair (duties.AckHeard s) p.agenda refl t.agenda
+    acked_fair false = left_fair
+
+    mapping_told : Tells (answered_mapping values s (reply_of six (mapping_ask values s p)) p)
+    mapping_told = by (is_clash e)
+      where
+        by : (b : Bool) → Tells (if b then answered_break values s 1 (reply_of six (if b then break_ask values s 1 p else fell_ask s events.MappingHeard p)) p
+            else goes_on s (with_learned (after_verdict (reply_of six (if b then break_ask values s 1 p else fell_ask s events.MappingHeard p)) e)) (left p) p)
+        by true = break_told
+        by false =
+            let f : PathEnd = after_verdict (reply_of six (fell_ask s events.MappingHeard p)) e in
+            on (with_learned f) (left p) (rules.learned_tells p.profile s f (rules.verdict_tells p.profile s e tells (reply_of six (fell_ask s events.MappingHeard p)))) left_fair
+
+    heard_told : (item : Heard) → ItemTells item → Tells (answered_heard values s item (reply_of six (heard_ask values s item p)) p)
+    heard_told (says.DataAck next window) x =
+        let r : SendReply = ack_reply next (send_of s six) in
+        on (with_acked next (replies.Send r) e) (told_next s (is_acked (replies.Send r) && nat_lt 0 next) p) (rules.stream_acked p.profile s e tells next r x) (acked_fair (is_acked (replies.Send r) && nat_lt 0 next))
+    heard_told says.Mapping x = mapping_told
+    heard_told (says.DataFin place) x =
+        let f : PathEnd = after_verdict (reply_of six (fell_ask s events.MappingHeard p)) e in
+        on (with_fin place f) (left p) (rules.fin_tells p.profile s f (rules.verdict_tells p.profile s e tells (reply_of six (fell_ask s events.MappingHeard p))) place) left_fair
+    heard_told (says.Keys own peer) x =
+        let keys : Option KeyPair = Some (record { own = own; peer = peer }) in keyed (reply_of six (keys_ask s keys)) keys x.1
+    heard_told says.Dss x = done_tells
+    heard_told (says.PeerKey key) x = done_tells
+
+    item_by : (o : Option Heard) → IfSome o ItemTells → Tells (answered_item values s o (reply_of six (item_ask values s o p)) p)
+    item_by None x = done_tells
+    item_by (Some item) x = heard_told item x
+
+    item_told : (index : ℕ) → Tells (answered_item values s (item_of index e) (reply_of six (item_ask values s (item_of index e) p)) p)
+    item_told index = item_by (item_of index e) (every_item index e.treated.items tells.treated.items)
+
+    -- ---- grants
+
+    -- an end that may finish has sent all positions of its lane
+    next_is : states.may_finish e.tcp.state ≡ true → e.tcp.send.nxt ≡ suc (length out.sent)
+    next_is may = shows.sender.next (unfinished_if e.tcp.state may)
+
+    marks_whole : length (send_of s six).marks ≡ length (send_of s six).written
+    marks_whole = by s
+      where
+        by : (s : Side) → length (send_of s six).marks ≡ length (send_of s six).written
+        by A = holds.ab.send.whole
+        by B = holds.ba.send.whole
+
+    module _ (may : states.may_finish e.tcp.state ≡ true) where
+      abbrev grant : Ask
+      grant = asks.Send s (Grant (path_of p) (payload_size p.profile) e.modes.standby)
+
+      abbrev Grants : SendReply → Type 0
+      Grants r = Answered p.profile six reader_a reader_b grant (answered_grant s (grant_in (replies.Send r)) (replies.Send r) p) ab ba
+
+      grants : (r : SendReply) → grant_reply (path_of p) (payload_size p.profile) e.modes.standby (send_of s six) ≡ r → Grants r
+      grants r is =
+          let whole = marks_whole in let written = short.written s in
+          subst Grants is (granted_step six reader_a reader_b p ab ba h holds s (payload_size p.profile) e.modes.standby (omega (arith, size)) (omega (arith, whole, written)) may)
+
+      -- all that was granted was written
+      granted_reaches : (span : Span) (piece : List ℕ) → Grants (send_replies.Granted span piece) → IsShort (e.tcp.send.nxt + length piece + 1)
+      granted_reaches span piece a =
+          let w = a.after in
+          let lane : LaneIsShort (length (send_of s (after_ask grant six)).written) (pick s w.ab_after w.ba_after) =
+          sent_short s (after_ask grant six) reader_a reader_b w.ab_after w.ba_after (after_holds p.profile six reader_a reader_b grant _ ab ba a holds) in
+          let shown : EndShows p.profile s (granted p.profile s span piece e) (pick s w.ab_after w.ba_after) (pick s w.ba_after w.ab_after) =
+          subst (λ f. EndShows p.profile s f (pick s w.ab_after w.ba_after) (pick s w.ba_after w.ab_after)) (end_on s (granted p.profile s span piece e) p.agenda p)
+          (side_shows p.profile s (goes_on s (granted p.profile s span piece e) p.agenda p) w.ab_after w.ba_after w.shows) in
+          let next : e.tcp.send.nxt + length piece ≡ suc (length (pick s w.ab_after w.ba_after).sent) = shown.sender.next (unfinished_if e.tcp.state may) in
+          let sent = lane.sent in let same = ap (λ (xs : List ℕ). length xs) (grant_written s (path_of p) (payload_size p.profile) e.modes.standby six) in let written = short.written s in
+          omega (arith, next, sent, same, written)
+
+      grant_by : (r : SendReply) → grant_reply (path_of p) (payload_size p.profile) e.modes.standby (send_of s six) ≡ r → Tells (answered_grant s (grant_in (replies.Send r)) (replies.Send r) p)
+      grant_by (send_replies.Granted span piece) is = on (granted p.profile s span piece e) p.agenda granted_told t.agenda
+        where
+          granted_told : EndTells p.profile s (granted p.profile s span piece e)
+          granted_told =
+              let w = granted_within (path_of p) (payload_size p.profile) e.modes.standby (send_of s six) span piece (omega (arith, size)) marks_whole is in
+              let few = w.few in let place = w.place in let written = short.written s in
+              let reaches = granted_reaches span piece (grants (send_replies.Granted span piece) is) in
+              rules.granted_tells p.profile s e tells span piece w.some (omega (arith, few, mss)) (omega (arith, place, written)) reaches
+      grant_by (send_replies.NoGrant why told) is = refused_by (decision (path_of p) (payload_size p.profile) e.modes.standby (send_of s six)) is
+        where
+          refused_by : (d : Result Span Why) → reply_by d (send_of s six) ≡ send_replies.NoGrant why told → Tells (goes_on s (refused (replies.Send (send_replies.NoGrant why told)) e) (left p) p)
+          refused_by (Ok span) same = cc
+          refused_by (Err reason) same =
+              let known : end_of (send_of s six) ≡ told = cc in let written = short.written s in
+              on (refused (replies.Send (send_replies.NoGrant why told)) e) (left p)
+              (rules.refused_tells p.profile s e tells why told (subst (λ o. IfSome o IsShort) known (end_short (send_of s six) (omega (arith, written))))) left_fair
+      grant_by (send_replies.Acked bytes fin) is = on e (left p) tells left_fair
+      grant_by (send_replies.Taken count) is = on e (left p) tells left_fair
+      grant_by send_replies.Shut is = on e (left p) tells left_fair
+      grant_by send_replies.Closed is = on e (left p) tells left_fair
+      grant_by (send_replies.AckFuture written) is = on e (left p) tells left_fair
+      grant_by (send_replies.Returned count) is = on e (left p) tells left_fair
+      grant_by send_replies.Noted is = on e (left p) tells left_fair
+      grant_by (send_replies.Infinite from) is = on e (left p) tells left_fair
+      grant_by send_replies.Scattered is = on e (left p) tells left_fair
+
+    -- ---- bytes
+
+    -- the lane that the side hears, with other fields
+    heard_holds : (q : Lane) → Strolls back q → LaneHolds (view_of no_flags (send_of (peer s) six) (reassembly_of s six)) 0 q
+    heard_holds = by s
+      where
+        by : (s : Side) (q : Lane) → Strolls (pick s ba ab) q → LaneHolds (view_of no_flags (send_of (peer s) six) (reassembly_of s six)) 0 q
+        by A q x = back_holds six reader_a reader_b A ab q (strolls_held six reader_a reader_b ab ab ba q (stays ab) x holds)
+        by B q x = back_holds six reader_a reader_b B q ba (strolls_held six reader_a reader_b ab q ba ba x (stays ba) holds)
+
+    broken : Tells (goes_on s (having_asked e) (breaks s 1) p)
+    broken = on (having_asked e) (breaks s 1) (rules.asked_tells p.profile s e tells) refl
+
+    -- the bytes that the edge passes were sent
+    piece_reaches : (piece : Piece) → NextPiece p.profile s out back e piece → IsShort (e.tcp.recv.edge + length piece.octets)
+    piece_reaches piece n =
+        let at = (at_edge p.profile s out back e piece n shows).edge_is in
+        let asks = (heard_holds (record back { asking = AskPlace piece.place piece.octets }) (wants_piece p.profile s out back e piece n shows)).ask.within in
+        let sent = back_is.sent in let written = short.written (peer s) in
+        omega (arith, at, asks, sent, written)
+
+    piece_by : (o : Option Piece) → piece_of s p ≡ o → (taken : Bool) → Tells (answered_piece s o taken p)
+    piece_by None is taken = broken
+    piece_by (Some piece) is false = broken
+    piece_by (Some piece) is true =
+        let f : PathEnd = after_piece piece e in
+        on (having_asked f) p.agenda (rules.asked_tells p.profile s f (rules.piece_tells p.profile s e tells piece (piece_reaches piece (piece_from p.profile s out back e piece is shows)))) t.agenda
+
+    fin_told : (set : Bool) → Tells (answered_fin_heard s set p)
+    fin_told false = broken
+    fin_told true =
+        let f : PathEnd = with_peer_end e in
+        on (having_asked f) (left p) (rules.asked_tells p.profile s f (rules.peer_end_tells p.profile s e tells)) left_fair
+
+    -- ---- the ends of the streams
+
+    data_fin_told : Tells (answered_end values s p)
+    data_fin_told =
+        let f : PathEnd = having_sent to_send.Ack p.clock (end_segment s p) e in
+        tells_sent p.profile p t h.unchanged s (end_segment s p) (having_sent_end s p) (left p) (ack_tells e.tcp.send.nxt e.sending.known_end tells.sender.next tells.stream.known_end)
+        (rules.end_sent_tells p.profile s f (rules.sent_end_tells p.profile s e tells to_send.Ack p.clock (end_segment s p))) left_fair
+
+    fin_at : (finished : Bool) → IsShort (if finished then e.tcp.send.nxt - 1 else e.tcp.send.nxt)
+    fin_at true = let next = tells.sender.next in omega (arith, next)
+    fin_at false = tells.sender.next
+
+    fin_due : stands (duties.Fin s) p ≡ true → Tells (answered_fin values s p)
+    fin_due is =
+        let may = (and_parts (states.may_finish e.tcp.state) _ is).0 in
+        let next = next_is may in let sent = out_is.sent in let written = short.written s in
+        let f : PathEnd = record e { tcp = after_finishing e.tcp } in
+        tells_sent p.profile p t h.unchanged s (fin_segment_of s p) (having_sent_fin s p) (left p) (fin_said_tells p.profile s path wide e tells (fin_at e.tcp.send.finished))
+        (rules.sent_end_tells p.profile s f (rules.finished_tells p.profile s e tells (omega (arith, next, sent, written))) to_send.Fin p.clock (fin_segment_of s p)) left_fair
+
+    data_by : (o : Option Record) → first_unsent e ≡ o → data_stands p.profile s e o ≡ true → Tells (answered_data values s o (reply_of six (data_ask values s o p)) p)
+    data_by (Some r) is stands = unsent_told p.agenda t.agenda
+    data_by None is stands = grant_by (and_parts (states.may_finish e.tcp.state) _ stands).0 (grant_reply (path_of p) (payload_size p.profile) e.modes.standby (send_of s six)) refl
+
+  pub duty_tells : (d : Duty) → stands d p ≡ true → is_fair d ≡ true → Tells (answered values d (reply_of six (ask_for values d p)) p)
+  duty_tells (duties.Look s) is fair = let r : Reply = reply_of six (look_ask s p) in on s (after_look r (end_at s p)) (left p) (rules.look_tells p.profile s (end_at s p) (tells s) r) left_fair
+  duty_tells (duties.Window s) is fair = ack_out_told s (left p) left_fair
+  duty_tells (duties.Update s) is fair = acknowledged s (left p) left_fair
+  duty_tells (duties.Syn s) is fair = unsent_told s (left p) left_fair
+  duty_tells (duties.Data s) is fair = data_by s (first_unsent (end_at s p)) refl is
+  duty_tells (duties.DataFin s) is fair = data_fin_told s
+  duty_tells (duties.Fin s) is fair = fin_due s is
+  duty_tells (duties.Timer s) is fair = done_tells
+  duty_tells duties.Events is fair = events_tell p t (next_event p)
+  duty_tells (duties.SynHeard s) is fair = done_tells
+  duty_tells (duties.SynAnswered s) is fair = done_tells
+  duty_tells (duties.PeerKey s) is fair =
+      let key = key_heard (end_at s p).treated.items in
+      on s (with_peer_key key (end_at s p)) (left p) (rules.peer_key_tells p.profile s (end_at s p) (tells s) key (heard_key (end_at s p).treated.items (tells s).treated.items)) left_fair
+  duty_tells (duties.SynAck s) is fair = syn_ack_told s (left p) left_fair
+  duty_tells (duties.Opened s) is fair =
+      let keys = keys_heard (end_at s p).treated.items in
+      keyed s (reply_of six (keys_ask s keys)) keys (heard_keys (end_at s p).treated.items (tells s).treated.items)
+  duty_tells (duties.Live s) is fair = done_tells
+  duty_tells (duties.Heard s index) is fair = item_told s index
+  duty_tells (duties.AckHeard s) is fair =
+      let r : Reply = reply_of six (fell_ask s events.AckHeard p) in on s (after_verdict r (end_at s p)) (left p) (rules.verdict_tells p.profile s (end_at s p) (tells s) r) left_fair
+  duty_tells (duties.Keep s) is fair = done_tells
+  duty_tells (duties.Edge s) is fair = piece_by s (piece_of s p) refl (is_placed (reply_of six (piece_ask s (piece_of s p))))
+  duty_tells (duties.HeardFin s index) is fair = fin_told s (is_fin_set (reply_of six (fin_ask s (fin_of index (end_at s p)))))
+  duty_tells (duties.PassFin s) is fair = done_tells
+  duty_tells (duties.AckOut s) is fair = ack_out_told s (left p) left_fair
+  duty_tells (duties.Rate s) is fair =
+      let r : Reply = reply_of six (rate_ask s (end_at s p).tcp.congestion.pending p) in
+      on s (after_rate (path_of p) p.profile.mss r (end_at s p)) (left p) (rules.rate_tells p.profile s (end_at s p) (tells s) (path_of p) p.profile.mss r) left_fair
+  duty_tells (duties.Acknowledge s) is fair = acknowledged s (left p) left_fair
+  duty_tells (duties.Again s) is fair = on_occasion s (first_segment s p) to_send.First (left p) (first_told s) left_fair
+  duty_tells (duties.Answer s) is fair = on_occasion s (answer_of s p) (answer_occasion (end_at s p)) (left p) (answer_told s) left_fair
+  duty_tells (duties.ResetAnswer s) is fair = dead_told s
+  duty_tells (duties.Return s) is fair = done_tells
+  duty_tells (duties.Resend s) is fair = on_occasion s (resend_of s p) (resend_occasion (end_at s p)) (left p) (resend_told s) left_fair
+  duty_tells (duties.BreakAck s reason) is fair = ack_out_told s (resets s reason) (and_from (nat_lt reason 256) true fair refl)
+  duty_tells (duties.BreakReset s reason) is fair = reset_told s (Some reason) (ltb-true reason 256 fair)
+  duty_tells (duties.Reset s) is fair = reset_told s None tt
+  duty_tells (duties.Leave s) is fair = tells_agenda p.profile p t (replaced (duties.Dead s) p.agenda) (replaced_fair (duties.Dead s) p.agenda refl t.agenda)
+  duty_tells (duties.Dead s) is fair = done_tells
+  duty_tells duties.End is fair = tells_agenda p.profile p t [] refl

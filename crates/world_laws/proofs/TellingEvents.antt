@@ -1,0 +1,130 @@
+-- What happens on a path by itself leaves the numbers that its ends and its copies tell small.
+use Rattle.std.proofs.Common.{◌≡◌, refl, ℕ, zero, suc, ◌+◌, Bool, true, false, if◌then◌else◌, Option, Some, None, List, [], ◌∷◌, ◌++◌, length, find, position}
+use Rattle.std.specs.Option.{IfSome}
+use Rattle.std.proofs.lemmas.Bool.{false≢true}
+use Rattle.outside_kit.specs.declared.side.Side.{Side}
+use Rattle.outside_kit.specs.declared.side.Side.TheVariants.{A, B}
+use Rattle.link_model.specs.declared.flight.Due.{Due}
+use Rattle.link_model.specs.declared.flight.Flight.{Flight}
+use Rattle.link_model.specs.Steps.{is_due, arriving, after_delivery}
+use Rattle.link_script.specs.Places.{same_side}
+use Rattle.path_segments.specs.Laws.{meant}
+use Rattle.subflow_tcp.specs.declared.verdicts.Meaning.{Meaning}
+use Rattle.subflow_tcp.specs.declared.verdicts.Meaning.TheVariants as means
+use Rattle.subflow_tcp.specs.Expiring.{is_sixth}
+use Rattle.subflow_tcp.specs.Judging.{meaning_of}
+use Rattle.subflow_tcp.specs.States.{is_dead}
+use Rattle.stream_lanes.proofs.Lists.{Every-nil}
+use Rattle.actor_desk.specs.Words.{tail_of}
+use Rattle.path_agenda.specs.declared.duty.Duty.{Duty}
+use Rattle.path_agenda.specs.declared.duty.Duty.TheVariants as duties
+use Rattle.path_agenda.specs.Agenda.{rest_of_turn, emission, heard_and, payload_came}
+use Rattle.path_core.specs.declared.event.Event.{Event}
+use Rattle.path_core.specs.declared.event.Event.TheVariants as happenings
+use Rattle.path_core.specs.Arriving.{copy_of, items_of, after_meaning, template_by, template_of}
+use Rattle.path_core.specs.Ends.{PathEnd}
+use Rattle.path_core.specs.Events.{is_death, at_tick, after_line, heard_in, copy_heard, copy_taken, after_firing, template_fired, timer_fired, happens, happens_if}
+use Rattle.path_core.specs.State.{PathState, Profile, end_at}
+use Rattle.path_core.specs.Values.{Carried, values}
+use Rattle.world_laws.proofs.Happening.{without_kept, found_due, side_is}
+use Rattle.world_laws.proofs.Records.{every_find}
+use Rattle.world_laws.proofs.TellingArrivals.{arrived_tells}
+use Rattle.world_laws.proofs.TellingRules.{died_unless_tells, fired_tells}
+use Rattle.world_laws.proofs.TellingSteps.{CopyTells, AreFair, PathTells, tells_at, tells_on, tells_agenda}
+
+-- ---- templates
+
+heard_fair : (s : Side) (from count : ℕ) (ds : List Duty) → AreFair ds → AreFair (heard_and s from count ds)
+heard_fair s from zero ds h = h
+heard_fair s from (suc count) ds h = heard_fair s (from + 1) count ds h
+
+template_fair : (s : Side) (count : ℕ) (m : Meaning) → AreFair (template_by s count m)
+template_fair s count means.Ignored = refl
+template_fair s count means.Unwanted = refl
+template_fair s count means.Opens = refl
+template_fair s count (means.Accepts acknowledged) = refl
+template_fair s count means.RepeatedSyn = refl
+template_fair s count means.Outside = refl
+template_fair s count means.Kills = refl
+template_fair s count means.Challenged = refl
+template_fair s count means.Unacknowledging = refl
+template_fair s count means.Ahead = refl
+template_fair s count (means.Taken position acknowledged) = heard_fair s 0 count (payload_came s) refl
+
+fired_fair : (sixth : Bool) (s : Side) → AreFair (template_fired sixth s)
+fired_fair true s = refl
+fired_fair false s = refl
+
+died_fair : (a b : Bool) → AreFair ((if a then [] else duties.Leave A ∷ []) ++ ((if b then [] else duties.Leave B ∷ []) ++ rest_of_turn))
+died_fair true true = refl
+died_fair true false = refl
+died_fair false true = refl
+died_fair false false = refl
+
+-- a copy to this side
+pub told_to : (c : Profile) (s to : Side) (carried : Carried) → same_side to s ≡ true → CopyTells c to carried → CopyTells c s carried
+told_to c A A carried same h = h
+told_to c B B carried same h = h
+told_to c A B carried same h = absurd (false≢true same)
+told_to c B A carried same h = absurd (false≢true same)
+
+-- the copy that is due
+pub due_tells : (c : Profile) (p : PathState Carried) → PathTells c p → (due : Due) → IfSome (arriving due p.link) (λ f. CopyTells c due.to f.carried)
+due_tells c p h due = by (find (is_due due) p.link.under_way) refl (every_find (is_due due) p.link.under_way h.copies)
+  where
+    by : (o : Option (Flight Carried)) → find (is_due due) p.link.under_way ≡ o → IfSome o (λ f. CopyTells c f.to f.carried) → IfSome o (λ f. CopyTells c due.to f.carried)
+    by None found tells = tt
+    by (Some f) found tells = told_to c due.to f.to f.carried (side_is due f (found_due due p.link.under_way f found)) tells
+
+module _ (p : PathState Carried) (h : PathTells p.profile p) where
+  abbrev Tells : PathState Carried → Type 0
+  Tells q = PathTells p.profile q
+
+  -- ---- lines
+
+  line_tells : (death : Bool) (q : PathState Carried) → Tells q → Tells (after_line death q)
+  line_tells true q x = record {
+    a = died_unless_tells p.profile A q.a x.a;
+    b = died_unless_tells p.profile B q.b x.b;
+    copies = Every-nil _;
+    agenda = died_fair (is_dead q.a.tcp.state) (is_dead q.b.tcp.state);
+  }
+  line_tells false q x = tells_agenda p.profile q x rest_of_turn refl
+
+  -- ---- copies
+
+  abbrev after : Due → PathState Carried
+  after due = record (at_tick due.tick p) { link = after_delivery due p.link }
+
+  delivered : (due : Due) → Tells (after due)
+  delivered due = record { a = h.a; b = h.b; copies = without_kept (position (is_due due) p.link.under_way) p.link.under_way h.copies; agenda = h.agenda }
+
+  copy_tells : (due : Due) → Tells (copy_taken values due p)
+  copy_tells due = by (arriving due p.link) (due_tells p.profile p h due)
+    where
+      by : (o : Option (Flight Carried)) → IfSome o (λ f. CopyTells p.profile due.to f.carried) → Tells (copy_heard due.to (heard_in values due.to o p) (after due))
+      by None tells = tells_agenda p.profile (after due) (delivered due) (emission due.to) refl
+      by (Some f) tells =
+          let s = due.to in let sg = f.carried.segment in
+          let e : PathEnd = end_at s (after due) in
+          let m : Meaning = meaning_of (copy_of (meant sg)) e.tcp in
+          tells_on p.profile (after due) (delivered due) s (after_meaning p.profile s (after due).clock (meant sg) m e) (template_of s (items_of s (meant sg)) m)
+          (arrived_tells p.profile s (after due).clock sg e tells.segment (tells_at p.profile (after due) (delivered due) s))
+          (template_fair s (length (items_of s (meant sg))) m)
+
+  -- ---- timers
+
+  fire_tells : (s : Side) (q : PathState Carried) → Tells q → Tells (timer_fired s q)
+  fire_tells s q x = tells_on p.profile q x s (after_firing q.clock (end_at s q)) (template_fired (is_sixth (end_at s q).tcp) s)
+      (fired_tells p.profile s (end_at s q) (tells_at p.profile q x s) q.clock) (fired_fair (is_sixth (end_at s q).tcp) s)
+
+  -- ---- the earliest
+
+  event_tells : (event : Event) → Tells (happens values event p)
+  event_tells (happenings.Takes line) = line_tells (is_death line.line) (record (at_tick line.tick p) { lines = tail_of p.lines }) (record { a = h.a; b = h.b; copies = h.copies; agenda = h.agenda })
+  event_tells (happenings.Arrives due) = copy_tells due
+  event_tells (happenings.Fires s tick) = fire_tells s (at_tick tick p) (record { a = h.a; b = h.b; copies = h.copies; agenda = h.agenda })
+
+  pub events_tell : (o : Option Event) → Tells (happens_if values o p)
+  events_tell None = tells_agenda p.profile p h rest_of_turn refl
+  events_tell (Some event) = event_tells event

@@ -1,0 +1,356 @@
+-- What each rule of an end leaves of the numbers that it tells.
+use Rattle.std.proofs.Common.{◌≡◌, refl, sym, subst, ℕ, ◌+◌, ◌^◌, ◌≤◌, ◌==◌, ◌&&◌, nat_lt, nat_le, Bool, true, false, if◌then◌else◌, Option, Some, None, List, [], ◌∷◌, length, arith}
+use Rattle.std.proofs.lemmas.Bool.{and_parts, leb-true}
+use Rattle.std.specs.Option.{IfSome, option_or}
+use Rattle.outside_kit.specs.declared.side.Side.{Side}
+use Rattle.control_book.specs.declared.call.ControlReply.TheVariants as control_replies
+use Rattle.dss_mapping.specs.declared.kept.KeptMapping.{KeptMapping}
+use Rattle.fallback_state.specs.declared.fall.Verdict.TheVariants as verdicts
+use Rattle.reassembly_book.specs.declared.call.ReassemblyReply.TheVariants as reassembly_replies
+use Rattle.send_book.specs.declared.call.SendReply.{SendReply}
+use Rattle.send_book.specs.declared.call.SendReply.TheVariants as send_replies
+use Rattle.send_book.specs.declared.call.Span.{Span}
+use Rattle.send_book.specs.declared.call.Why.{Why}
+use Rattle.subflow_send.specs.declared.record.RecordKind.{RecordKind}
+use Rattle.subflow_send.specs.declared.record.RecordKind.TheVariants.{Syn, Data, Fin}
+use Rattle.subflow_send.specs.declared.record.Sending.{Sending as RecordSending}
+use Rattle.subflow_send.specs.Records.{Record, SendState}
+use Rattle.subflow_send.specs.Rules.{after_acknowledge, after_sent, after_resent, after_expired, after_fin_sent, uncovered}
+use Rattle.subflow_tcp.specs.declared.segments.Occasion.{Occasion}
+use Rattle.subflow_tcp.specs.declared.segments.Occasion.TheVariants as to_send
+use Rattle.subflow_tcp.specs.Closing.{is_fin_next, after_finishing, after_passing_fin}
+use Rattle.subflow_tcp.specs.Emitting.{syn_resent}
+use Rattle.subflow_tcp.specs.Expiring as expiring
+use Rattle.subflow_recv.specs.Receiving.{after_forget_from, without_held, after_keep_held}
+use Rattle.subflow_tcp.specs.State.{EndState, is_fin_passed}
+use Rattle.subflow_tcp.specs.States as states
+use Rattle.subflow_tcp.specs.Taking as taking
+use Rattle.stream_lanes.specs.Words.{Every}
+use Rattle.stream_lanes.proofs.Lists.{Every-nil, Every-push}
+use Rattle.actor_desk.specs.declared.ask.Reply.{Reply}
+use Rattle.actor_desk.specs.declared.ask.Reply.TheVariants as replies
+use Rattle.path_agenda.specs.declared.heard.Heard.{Heard}
+use Rattle.path_agenda.specs.declared.heard.Heard.TheVariants as says
+use Rattle.path_agenda.specs.declared.keys.KeyPair.{KeyPair}
+use Rattle.path_core.specs.declared.modes.Modes.{Modes}
+use Rattle.path_core.specs.Closing.{with_end_sent}
+use Rattle.path_core.specs.Emission.{granted, refused, after_timer}
+use Rattle.path_core.specs.Ends.{PathEnd, Treated, nothing_treated}
+use Rattle.path_core.specs.Events.{died, died_unless_dead, after_firing}
+use Rattle.path_agenda.specs.Items.{key_in, key_heard, pair_in, keys_heard}
+use Rattle.path_core.specs.Opening.{with_peer_key, keys_in, after_keys}
+use Rattle.path_core.specs.Passing.{having_asked, with_peer_end, after_rate, after_pass_fin}
+use Rattle.path_core.specs.Placing.{Piece, is_wrong, forgotten_by, after_piece, with_learned, with_skipped}
+use Rattle.path_core.specs.Segments.{bare_mapping}
+use Rattle.path_core.specs.Sends.{with_edge_told, having_sent}
+use Rattle.path_core.specs.Standing.{modes_told, after_look, after_ack_out}
+use Rattle.path_core.specs.State.{Profile}
+use Rattle.path_core.specs.Treating.{mode_in, after_verdict, with_acked, with_fin, after_dss, is_dropped, after_keep}
+use Rattle.path_core.specs.Words.{told_last}
+use Rattle.path_segments.specs.Spelled.{PlainSegment}
+use Rattle.world_laws.proofs.Doing.{place_is}
+use Rattle.world_laws.proofs.Records.{unsent_sent_kept, first_sent_kept, fin_sent_kept, expired_kept, uncovered_kept, every_first, every_rest}
+use Rattle.world_laws.proofs.Telling.{IsShort, RecordKindTells, RecordTells, IsKey, ItemTells, SenderTells, ModesTell, TreatedTells, EndTells, sum_small}
+
+-- ---- records
+
+same_kind : (c : Profile) (s : Side) (kind : RecordKind) (r : Record) (x : RecordSending) → RecordKindTells c s kind r → RecordKindTells c s kind (record r { sending = x })
+same_kind c s Syn r x h = h
+same_kind c s Data r x h = h
+same_kind c s Fin r x h = h
+
+same_record : (c : Profile) (s : Side) (r : Record) (x : RecordSending) → RecordTells c s r → RecordTells c s (record r { sending = x })
+same_record c s r x h = record { reaches = h.reaches; octets = h.octets; mapped = same_kind c s r.kind r x h.mapped }
+
+module _ (c : Profile) (s : Side) (v : SendState) (h : SenderTells c s v) where
+  with_records : (rs : List Record) → Every (RecordTells c s) rs → SenderTells c s (record v { records = rs })
+  with_records rs records = record { next = h.next; unacknowledged = h.unacknowledged; records = records }
+
+  sent_tells : (now : ℕ) → SenderTells c s (after_sent now v)
+  sent_tells now = with_records _ (unsent_sent_kept _ (same_record c s) now v.records h.records)
+
+  resent_tells : (now : ℕ) → SenderTells c s (after_resent now v)
+  resent_tells now = with_records _ (first_sent_kept _ (same_record c s) now v.records h.records)
+
+  fin_sent_tells : (now : ℕ) → SenderTells c s (after_fin_sent now v)
+  fin_sent_tells now = with_records _ (fin_sent_kept _ (same_record c s) now v.records h.records)
+
+  expired_tells : SenderTells c s (after_expired v)
+  expired_tells = with_records _ (expired_kept _ (same_record c s) v.records h.records)
+
+  syn_resent_tells : (now : ℕ) → SenderTells c s (syn_resent now v)
+  syn_resent_tells now = by (v.una == 0)
+    where
+      by : (b : Bool) → SenderTells c s (if b then after_resent now v else v)
+      by true = resent_tells now
+      by false = h
+
+  pub acknowledged_tells : (pos : ℕ) → SenderTells c s (after_acknowledge pos v)
+  acknowledged_tells pos = by (nat_lt v.una pos && nat_le pos v.nxt) refl
+    where
+      by : (b : Bool) → (nat_lt v.una pos && nat_le pos v.nxt) ≡ b → SenderTells c s (if b then record v { una = pos; records = uncovered pos v.records } else v)
+      by true is = record { next = h.next; unacknowledged = leb-true pos v.nxt (and_parts (nat_lt v.una pos) (nat_le pos v.nxt) is).1; records = uncovered_kept pos v.records h.records }
+      by false is = h
+
+-- ---- modes
+
+told_modes : (r : Reply) (m : Modes) → ModesTell m → ModesTell (modes_told r m)
+told_modes (replies.Control (control_replies.Standing mode standby sole notice)) m h = record { own_key = h.own_key; peer_key = h.peer_key }
+told_modes _ m h = h
+
+went_modes : (r : Reply) (m : Modes) → ModesTell m → ModesTell (mode_in r m)
+went_modes (replies.Control (control_replies.Verdict (verdicts.Went mode))) m h = record { own_key = h.own_key; peer_key = h.peer_key }
+went_modes _ m h = h
+
+keyed_modes : (r : Reply) (o : Option KeyPair) (m : Modes) → IfSome o (λ k. IsKey k.peer) → ModesTell m → ModesTell (keys_in r o m)
+keyed_modes (replies.Control control_replies.Noted) (Some keys) m k h = record { own_key = h.own_key; peer_key = k }
+keyed_modes _ _ m k h = h
+
+-- a key that was heard
+key_of : (item : Heard) → ItemTells item → IfSome (key_in item) IsKey
+key_of (says.PeerKey key) h = h
+key_of _ h = tt
+
+first_key : (o other : Option ℕ) → IfSome o IsKey → IfSome other IsKey → IfSome (option_or o other) IsKey
+first_key None other a b = b
+first_key (Some key) other a b = a
+
+pub heard_key : (items : List Heard) → Every ItemTells items → IfSome (key_heard items) IsKey
+heard_key [] h = tt
+heard_key (item ∷ items) h = first_key (key_in item) (key_heard items) (key_of item (every_first item items h)) (heard_key items (every_rest item items h))
+
+pair_of : (item : Heard) → ItemTells item → IfSome (pair_in item) (λ k. IsKey k.peer)
+pair_of (says.Keys own peer) h = h.1
+pair_of _ h = tt
+
+first_pair : (o other : Option KeyPair) → IfSome o (λ k. IsKey k.peer) → IfSome other (λ k. IsKey k.peer) → IfSome (option_or o other) (λ k. IsKey k.peer)
+first_pair None other a b = b
+first_pair (Some keys) other a b = a
+
+pub heard_keys : (items : List Heard) → Every ItemTells items → IfSome (keys_heard items) (λ k. IsKey k.peer)
+heard_keys [] h = tt
+heard_keys (item ∷ items) h = first_pair (pair_in item) (keys_heard items) (pair_of item (every_first item items h)) (heard_keys items (every_rest item items h))
+
+-- ---- an end
+
+module _ (c : Profile) (s : Side) (e : PathEnd) (h : EndTells c s e) where
+  with_modes : (m : Modes) → ModesTell m → EndTells c s (record e { modes = m })
+  with_modes m modes = record { sender = h.sender; edge = h.edge; stream = h.stream; window = h.window; modes = modes; treated = h.treated }
+
+  pub look_tells : (r : Reply) → EndTells c s (after_look r e)
+  look_tells r = with_modes (modes_told r e.modes) (told_modes r e.modes h.modes)
+
+  pub verdict_tells : (r : Reply) → EndTells c s (after_verdict r e)
+  verdict_tells r = with_modes (mode_in r e.modes) (went_modes r e.modes h.modes)
+
+  pub peer_key_tells : (o : Option ℕ) → IfSome o IsKey → EndTells c s (with_peer_key o e)
+  peer_key_tells o key = with_modes (record e.modes { peer_key = o }) (record { own_key = h.modes.own_key; peer_key = key })
+
+  pub dss_tells : EndTells c s (after_dss s e)
+  dss_tells = with_modes _ (record { own_key = h.modes.own_key; peer_key = h.modes.peer_key })
+
+  pub keys_tell : (r : Reply) (o : Option KeyPair) → IfSome o (λ k. IsKey k.peer) → EndTells c s (after_keys r o e)
+  keys_tell r o key = record {
+    sender = h.sender;
+    edge = h.edge;
+    stream = h.stream;
+    window = h.window;
+    modes = keyed_modes r o e.modes key h.modes;
+    treated = record { items = h.treated.items; answer = h.treated.answer };
+  }
+
+  -- ---- what is to be acknowledged
+
+  pub told_tells : (next window : ℕ) → IsShort next → window ≤ 2 ^ 20 → EndTells c s (after_ack_out (replies.Reassembly (reassembly_replies.Ack next window)) e)
+  told_tells next window short most = record {
+    sender = h.sender;
+    edge = h.edge;
+    stream = h.stream;
+    window = record { next = short; window = most };
+    modes = h.modes;
+    treated = record { items = h.treated.items; answer = h.treated.answer };
+  }
+
+  -- ---- what was heard
+
+  pub stream_acked : (next : ℕ) (r : SendReply) → IsShort next → EndTells c s (with_acked next (replies.Send r) e)
+  stream_acked next (send_replies.Acked bytes fin) short = record {
+    sender = h.sender;
+    edge = h.edge;
+    stream = record { heard = let heard = h.stream.heard in omega (arith, heard, short); known_end = h.stream.known_end };
+    window = h.window;
+    modes = h.modes;
+    treated = h.treated;
+  }
+  stream_acked next _ short = h
+
+  pub fin_tells : (place : ℕ) → EndTells c s (with_fin place e)
+  fin_tells place = record { sender = h.sender; edge = h.edge; stream = h.stream; window = h.window; modes = h.modes; treated = record { items = h.treated.items; answer = h.treated.answer } }
+
+  pub learned_tells : EndTells c s (with_learned e)
+  learned_tells = record { sender = h.sender; edge = h.edge; stream = h.stream; window = record { next = h.window.next; window = h.window.window }; modes = h.modes; treated = h.treated }
+
+  pub skipped_tells : EndTells c s (with_skipped e)
+  skipped_tells = record { sender = h.sender; edge = h.edge; stream = h.stream; window = record { next = h.window.next; window = h.window.window }; modes = h.modes; treated = h.treated }
+
+  pub asked_tells : EndTells c s (having_asked e)
+  asked_tells = record { sender = h.sender; edge = h.edge; stream = h.stream; window = h.window; modes = h.modes; treated = record { items = h.treated.items; answer = h.treated.answer } }
+
+  pub peer_end_tells : EndTells c s (with_peer_end e)
+  peer_end_tells = record { sender = h.sender; edge = h.edge; stream = record { heard = h.stream.heard; known_end = h.stream.known_end }; window = h.window; modes = h.modes; treated = h.treated }
+
+  pub piece_tells : (piece : Piece) → IsShort (e.tcp.recv.edge + length piece.octets) → EndTells c s (after_piece piece e)
+  piece_tells piece short = record { sender = h.sender; edge = short; stream = h.stream; window = record { next = h.window.next; window = h.window.window }; modes = h.modes; treated = h.treated }
+
+  pub rate_tells : (path mss : ℕ) (r : Reply) → EndTells c s (after_rate path mss r e)
+  rate_tells path mss r = record { sender = h.sender; edge = h.edge; stream = h.stream; window = h.window; modes = h.modes; treated = h.treated }
+
+  pub timer_tells : (now : ℕ) → EndTells c s (after_timer now e)
+  timer_tells now = record { sender = h.sender; edge = h.edge; stream = record { heard = h.stream.heard; known_end = h.stream.known_end }; window = h.window; modes = h.modes; treated = h.treated }
+
+  -- ---- grants
+
+  pub granted_tells : (span : Span) (piece : List ℕ) → 1 ≤ length piece → length piece ≤ 65475 → IsShort span.from → IsShort (e.tcp.send.nxt + length piece + 1)
+      → EndTells c s (granted c s span piece e)
+  granted_tells span piece some most place reaches =
+      let una = h.sender.unacknowledged in
+      record {
+        sender = record {
+          next = omega (arith, reaches);
+          unacknowledged = omega (arith, una);
+          records = Every-push _ h.sender.records (record {
+            reaches = reaches;
+            octets = most;
+            mapped = (
+              some,
+              omega (arith, most),
+              sum_small c (bare_mapping c s span.from e.tcp.send.nxt (length piece)) piece,
+              subst IsShort (sym (place_is c s span.from e.tcp.send.nxt (length piece) (omega (arith, place)))) place,
+            );
+          });
+        };
+        edge = h.edge;
+        stream = record { heard = h.stream.heard; known_end = h.stream.known_end };
+        window = h.window;
+        modes = h.modes;
+        treated = h.treated;
+      }
+
+  pub refused_tells : (why : Why) (known : Option ℕ) → IfSome known IsShort → EndTells c s (refused (replies.Send (send_replies.NoGrant why known)) e)
+  refused_tells why known short = record {
+    sender = h.sender;
+    edge = h.edge;
+    stream = record { heard = h.stream.heard; known_end = by known short };
+    window = h.window;
+    modes = h.modes;
+    treated = h.treated;
+  }
+    where
+      by : (known : Option ℕ) → IfSome known IsShort → IfSome (told_last known e.sending.known_end) IsShort
+      by None short = h.stream.known_end
+      by (Some place) short = short
+
+  -- ---- sendings
+
+  with_sender : (tcp : EndState) → tcp.recv ≡ e.tcp.recv → SenderTells c s tcp.send → (sg : PlainSegment) → EndTells c s (record (with_edge_told sg e) { tcp = tcp })
+  with_sender tcp same sender sg = record {
+    sender = sender;
+    edge = subst (λ recv. IsShort recv.edge) (sym same) h.edge;
+    stream = h.stream;
+    window = record { next = h.window.next; window = h.window.window };
+    modes = h.modes;
+    treated = h.treated;
+  }
+
+  pub sent_end_tells : (occasion : Occasion) (now : ℕ) (sg : PlainSegment) → EndTells c s (having_sent occasion now sg e)
+  sent_end_tells to_send.Reset now sg = with_sender _ refl h.sender sg
+  sent_end_tells to_send.Answer now sg = with_sender _ refl h.sender sg
+  sent_end_tells to_send.SynAck now sg = with_sender _ refl (syn_resent_tells c s e.tcp.send h.sender now) sg
+  sent_end_tells to_send.Ack now sg = with_sender _ refl h.sender sg
+  sent_end_tells to_send.Probe now sg = with_sender _ refl h.sender sg
+  sent_end_tells to_send.First now sg = with_sender _ refl (resent_tells c s e.tcp.send h.sender now) sg
+  sent_end_tells to_send.Unsent now sg = with_sender _ refl (sent_tells c s e.tcp.send h.sender now) sg
+  sent_end_tells to_send.Fin now sg = with_sender _ refl (fin_sent_tells c s e.tcp.send h.sender now) sg
+
+  pub end_sent_tells : EndTells c s (record e { sending = with_end_sent e.sending })
+  end_sent_tells = record { sender = h.sender; edge = h.edge; stream = record { heard = h.stream.heard; known_end = h.stream.known_end }; window = h.window; modes = h.modes; treated = h.treated }
+
+  pub finished_tells : IsShort (e.tcp.send.nxt + 1) → EndTells c s (record e { tcp = after_finishing e.tcp })
+  finished_tells short =
+      let una = h.sender.unacknowledged in
+      record {
+        sender = record {
+          next = short;
+          unacknowledged = omega (arith, una);
+          records = Every-push _ h.sender.records (record { reaches = omega (arith, short); octets = omega arith; mapped = tt });
+        };
+        edge = h.edge;
+        stream = h.stream;
+        window = h.window;
+        modes = h.modes;
+        treated = h.treated;
+      }
+
+  -- ---- death and the timer
+
+  dead_tells : (reset : Bool) (t : Treated) → TreatedTells t → EndTells c s (record e { tcp = taking.after_death reset e.tcp; treated = t })
+  dead_tells reset t treated = record { sender = acknowledged_tells c s e.tcp.send h.sender e.tcp.send.nxt; edge = h.edge; stream = h.stream; window = h.window; modes = h.modes; treated = treated }
+
+  pub died_tells : EndTells c s (died e)
+  died_tells = dead_tells false nothing_treated (record { items = Every-nil _; answer = tt })
+
+  pub died_unless_tells : EndTells c s (died_unless_dead e)
+  died_unless_tells = by (states.is_dead e.tcp.state)
+    where
+      by : (b : Bool) → EndTells c s (if b then e else died e)
+      by true = h
+      by false = died_tells
+
+  pub fired_tells : (now : ℕ) → EndTells c s (after_firing now e)
+  fired_tells now = by (expiring.is_sixth e.tcp)
+    where
+      by : (b : Bool) → EndTells c s (record e { tcp = if b then taking.after_death true e.tcp else expiring.after_expiry now e.tcp })
+      by true = dead_tells true e.treated h.treated
+      by false = record { sender = expired_tells c s e.tcp.send h.sender; edge = h.edge; stream = h.stream; window = h.window; modes = h.modes; treated = h.treated }
+
+  -- ---- what is kept
+
+  same_edge : (tcp : EndState) → tcp.send ≡ e.tcp.send → tcp.recv.edge ≡ e.tcp.recv.edge → EndTells c s (record e { tcp = tcp })
+  same_edge tcp send edge = record {
+    sender = subst (SenderTells c s) (sym send) h.sender;
+    edge = subst IsShort (sym edge) h.edge;
+    stream = h.stream;
+    window = h.window;
+    modes = h.modes;
+    treated = h.treated;
+  }
+
+  pub check_tells : (checksums : Bool) (o : Option KeptMapping) → EndTells c s (forgotten_by checksums o e)
+  check_tells checksums None = h
+  check_tells checksums (Some kept) = by (is_wrong checksums kept e.tcp)
+    where
+      by : (b : Bool) → EndTells c s (if b then record e { tcp = record e.tcp { recv = after_forget_from kept.pos e.tcp.recv } } else e)
+      by false = h
+      by true = same_edge (record e.tcp { recv = after_forget_from kept.pos e.tcp.recv }) refl refl
+
+  pub keep_tells : EndTells c s (after_keep s e)
+  keep_tells = by (is_dropped s e)
+    where
+      kept : (b : Bool) → (if b then taking.after_dropping_held e.tcp else taking.after_keeping_held e.tcp).recv.edge ≡ e.tcp.recv.edge
+      kept true = refl
+      kept false = passed (is_fin_passed e.tcp)
+        where
+          passed : (b : Bool) → (if b then without_held e.tcp.recv else after_keep_held e.tcp.recv).edge ≡ e.tcp.recv.edge
+          passed true = refl
+          passed false = refl
+
+      by : (b : Bool) → EndTells c s (record e { tcp = if b then taking.after_dropping_held e.tcp else taking.after_keeping_held e.tcp })
+      by true = same_edge (taking.after_dropping_held e.tcp) refl (kept true)
+      by false = same_edge (taking.after_keeping_held e.tcp) refl (kept false)
+
+  pub pass_fin_tells : (is_fin_next e.tcp ≡ true → IsShort (e.tcp.recv.edge + 1)) → EndTells c s (after_pass_fin e)
+  pass_fin_tells short = by (is_fin_next e.tcp) refl
+    where
+      by : (b : Bool) → is_fin_next e.tcp ≡ b → EndTells c s (record e { tcp = if b then after_passing_fin e.tcp else e.tcp })
+      by false is = h
+      by true is = record { sender = h.sender; edge = short is; stream = h.stream; window = h.window; modes = h.modes; treated = h.treated }

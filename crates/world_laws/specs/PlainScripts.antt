@@ -1,0 +1,46 @@
+-- Connections by scripts that strip and alter nothing, and what is promised of them.
+use Rattle.std.specs.Prelude.{ℕ, ◌≡◌, ◌-◌, ◌^◌, ◌<◌, Bool, true, false, List, length}
+use Rattle.std.specs.List.{list_any}
+use Rattle.link_script.specs.declared.script.Script.{Script}
+use Rattle.link_script.specs.declared.script.ScriptLine.{ScriptLine}
+use Rattle.link_script.specs.declared.script.ScriptLine.TheVariants.{Strip, Alter, StripAll}
+use Rattle.link_script.specs.Scripts.{HasRanges}
+use Rattle.path_core.specs.Octets.{octets}
+use Rattle.world_laws.specs.Agreement.{MappingsAgree}
+use Rattle.world_laws.specs.Openings.{opened_world, start_of}
+use Rattle.world_laws.specs.Promises.{IsPlain, NumbersFit, BothKeepTheirWord, NothingFollows, EachTurnIsOneStep, NothingWasRefused, KeysNeverDiffer}
+use Rattle.world_laws.specs.Worlds.{WorldState, Turn, world_run}
+
+-- by this line segments lose their options, or their payload is altered
+abbrev pub changes_segments : ScriptLine → Bool
+changes_segments (Strip path from number) = true
+changes_segments (Alter path from number) = true
+changes_segments (StripAll path from tick) = true
+changes_segments _ = false
+
+-- a script by whose lines no segment is changed, and two files shorter than 2^31 - 2 octets
+pub record IsPlainScript (script : Script) (file_a file_b : List ℕ) : Type 0 where
+  pub ranges : HasRanges script
+  pub unchanged : list_any changes_segments script.lines ≡ false
+  pub short_a : length file_a < 2 ^ 31 - 2
+  pub short_b : length file_b < 2 ^ 31 - 2
+
+-- a connection by such a script starts plainly, with numbers that fit
+abbrev pub PlainScriptsStartPlainly : Type 0
+PlainScriptsStartPlainly =
+    (script : Script) (file_a file_b : List ℕ) → IsPlainScript script file_a file_b → IsPlain (start_of script file_a file_b) × NumbersFit (start_of script file_a file_b)
+
+-- all that is promised of a connection over octets
+pub record KeepsAllPromises (w : WorldState (List ℕ)) : Type 0 where
+  pub word : BothKeepTheirWord w
+  pub end : NothingFollows octets w
+  pub steps : EachTurnIsOneStep octets w
+  pub refused : NothingWasRefused w
+  pub keys : KeysNeverDiffer w
+  pub mappings : MappingsAgree w
+
+-- so it keeps all promises, whatever the order of the steps
+abbrev pub PlainScriptsKeepAllPromises : Type 0
+PlainScriptsKeepAllPromises =
+    (script : Script) (file_a file_b : List ℕ) (turns : List Turn) → IsPlainScript script file_a file_b
+    → KeepsAllPromises (world_run octets turns (opened_world (start_of script file_a file_b)))
