@@ -1,90 +1,184 @@
 -- What ports hold over several puts.
-use Rattle.std.proofs.Common.{◌≡◌, refl, sym, ◌∙◌, ap, ℕ, ◌+◌, min, length, List, [], ◌++◌, take, drop, Option, Some, None, append_assoc, subst, inl, inr, Result, Ok, Err, OnErr, IfSome, arith}
-use Rattle.std.proofs.Math.Seq.{take-append-add, take-nil, take-length}
-use Rattle.std.proofs.lemmas.List.{append-nil, take-append-drop, take-append-le, take_min}
+use Rattle.std.proofs.Common.{◌≡◌, refl, sym, ◌∙◌, ap, ℕ, List, [], ◌++◌, take, drop, length, Option, Some, None, append_assoc, subst, inl, inr, Result, Ok, Err, OnErr, OnOk, IfOk, IfErr, IfSome, ◌<◌, ◌≤◌, ◌⊎◌, arith}
+use Rattle.std.proofs.Math.Seq.{take-length}
+use Rattle.std.proofs.lemmas.List.{append-nil, take-append-drop}
 use Rattle.pipe_model.specs.Prefix.{IsPrefix}
-use Rattle.outside_kit.specs.Outside.{HoldsAfter, HoldsPrefix}
-use Rattle.mptcp_run.specs.Ports.{HoldsBound}
+use Rattle.outside_kit.specs.declared.port.Port.{Port}
+use Rattle.outside_kit.specs.declared.port.Port.TheVariants as port
+use Rattle.outside_kit.specs.Outside.{HasRisen, HoldsAfter, HoldsPrefix}
+use Rattle.std.proofs.lemmas.Bool.{cases_lt}
+use Rattle.mptcp_run.specs.declared.status.Status.{Status}
+use Rattle.mptcp_run.specs.declared.status.Status.TheVariants.{Delivered, Rounds, NoPath, Aborted, Usage, Script, Load, Put, TooLong, Memory, Log}
+use Rattle.mptcp_run.specs.Ports.{NeverFall, IsPortsFault, HoldsMore, HoldsWithin, IsBetween}
 
-pub IsPrefix-take : (count : ℕ) (text : List ℕ) → IsPrefix (take count text) text
-IsPrefix-take count text = record { rest = drop count text; whole_is = sym (take-append-drop count text) }
+-- ---- prefixes
 
--- after one change of what a port holds comes another
-pub HoldsAfter-then : (a b c : Option (List ℕ)) (f g : List ℕ → List ℕ) → HoldsAfter a b f → HoldsAfter b c g → HoldsAfter a c (λ held. g (f held))
-HoldsAfter-then None b c f g h k = tt
-HoldsAfter-then (Some held) b c f g h k = subst (λ (told : Option (List ℕ)). HoldsAfter told c g) h k
+pub IsPrefix-refl : (xs : List ℕ) → IsPrefix xs xs
+IsPrefix-refl xs = record { rest = []; whole_is = sym (append-nil xs) }
 
--- what is put after a text, as far as it goes, is a prefix of the longer text
-pub HoldsPrefix-then : (a b c : Option (List ℕ)) (text more : List ℕ) → HoldsAfter a b (λ held. held ++ text) → HoldsPrefix b c more
-    → HoldsPrefix a c (text ++ more)
-HoldsPrefix-then None b c text more h k = tt
-HoldsPrefix-then (Some held) b c text more h k =
-    let put : (count : ℕ) × (c ≡ Some ((held ++ text) ++ take count more)) = subst (λ (told : Option (List ℕ)). HoldsPrefix told c more) h k in
-    (length text + put.0, put.1 ∙ ap (λ xs. Some xs) (append_assoc held text (take put.0 more) ∙ ap (λ xs. held ++ xs) (sym (take-append-add text more put.0))))
+pub IsPrefix-front : (xs more : List ℕ) → IsPrefix xs (xs ++ more)
+IsPrefix-front xs more = record { rest = more; whole_is = refl }
 
--- as many octets of a text are as many of a longer one, or all of the shorter one
-shorter_take : (count : ℕ) (text whole : List ℕ) → IsPrefix text whole → take (min count (length text)) whole ≡ take count text
-shorter_take count text whole within =
-    ap (take (min count (length text))) within.whole_is ∙ take-append-le (min count (length text)) text within.rest (omega arith) ∙ take_min count text
+pub IsPrefix-trans : (xs ys zs : List ℕ) → IsPrefix xs ys → IsPrefix ys zs → IsPrefix xs zs
+IsPrefix-trans xs ys zs h k = record {
+  rest = h.rest ++ k.rest;
+  whole_is = k.whole_is ∙ ap (λ ws. ws ++ k.rest) h.whole_is ∙ append_assoc xs h.rest k.rest;
+}
 
--- a prefix of a prefix is a prefix of the whole
-pub HoldsPrefix-longer : (a b : Option (List ℕ)) (text whole : List ℕ) → HoldsPrefix a b text → IsPrefix text whole → HoldsPrefix a b whole
-HoldsPrefix-longer None b text whole h within = tt
-HoldsPrefix-longer (Some held) b text whole h within =
-    (min h.0 (length text), h.1 ∙ ap (λ xs. Some (held ++ xs)) (sym (shorter_take h.0 text whole within)))
+-- the same in front of both
+pub IsPrefix-behind : (front xs ys : List ℕ) → IsPrefix xs ys → IsPrefix (front ++ xs) (front ++ ys)
+IsPrefix-behind front xs ys h = record { rest = h.rest; whole_is = ap (λ zs. front ++ zs) h.whole_is ∙ sym (append_assoc front xs h.rest) }
 
--- where the port is the same before, a prefix of a text is a prefix of a longer one
-pub HoldsPrefix-grows : (a b c : Option (List ℕ)) (text more : List ℕ) → b ≡ a → HoldsPrefix b c text → HoldsPrefix a c (text ++ more)
-HoldsPrefix-grows a b c text more e h =
-    HoldsPrefix-longer a c text (text ++ more) (subst (λ (told : Option (List ℕ)). HoldsPrefix told c text) e h) (record { rest = more; whole_is = refl })
+-- a part of a text, behind a front
+pub taken_part : (front text : List ℕ) (count : ℕ) → IsPrefix (front ++ take count text) (front ++ text)
+taken_part front text count = record {
+  rest = drop count text;
+  whole_is = ap (λ zs. front ++ zs) (sym (take-append-drop count text)) ∙ sym (append_assoc front (take count text) (drop count text));
+}
 
-pub HoldsAfter-nothing : (a : Option (List ℕ)) (text : List ℕ) → text ≡ [] → HoldsAfter a a (λ held. held ++ text)
-HoldsAfter-nothing None text e = tt
-HoldsAfter-nothing (Some held) text e = ap (λ xs. Some xs) (sym (append-nil held) ∙ ap (λ xs. held ++ xs) (sym e))
+-- ---- one put
 
--- two texts that were put are the longer one
-pub HoldsAfter-append : (a b c : Option (List ℕ)) (x y whole : List ℕ) → HoldsAfter a b (λ held. held ++ x) → HoldsAfter b c (λ held. held ++ y)
-    → x ++ y ≡ whole → HoldsAfter a c (λ held. held ++ whole)
-HoldsAfter-append None b c x y whole h k e = tt
-HoldsAfter-append (Some held) b c x y whole h k e =
-    let put : c ≡ Some (held ++ x ++ y) = subst (λ (told : Option (List ℕ)). HoldsAfter told c (λ held. held ++ y)) h k in
-    put ∙ ap (λ xs. Some xs) (append_assoc held x y ∙ ap (λ xs. held ++ xs) e)
+-- a text that was put whole
+pub whole_more : (a b : Option (List ℕ)) (front text high : List ℕ) → HoldsAfter a b (λ held. held ++ text) → high ≡ front ++ text
+    → HoldsMore a b front (λ all. all ≡ high)
+whole_more None b front text high h is = tt
+whole_more (Some held) b front text high h is = (text, (h, sym is))
 
--- after a text that was put, a prefix of more is a prefix of the whole
-pub HoldsPrefix-grown : (a b c : Option (List ℕ)) (x more whole : List ℕ) → HoldsAfter a b (λ held. held ++ x) → HoldsPrefix b c more
-    → IsPrefix (x ++ more) whole → HoldsPrefix a c whole
-HoldsPrefix-grown a b c x more whole h k within = HoldsPrefix-longer a c (x ++ more) whole (HoldsPrefix-then a b c x more h k) within
+-- a part of it
+pub part_more : (a b : Option (List ℕ)) (front text high : List ℕ) → HoldsPrefix a b text → high ≡ front ++ text
+    → HoldsMore a b front (IsBetween front high)
+part_more None b front text high h is = tt
+part_more (Some held) b front text high h is = (
+  take h.0 text,
+  (
+    h.1,
+    record {
+      least = IsPrefix-front front (take h.0 text);
+      most = subst (IsPrefix (front ++ take h.0 text)) (sym is) (taken_part front text h.0);
+    },
+  ),
+)
+
+-- nothing
+pub nothing_more : (a b : Option (List ℕ)) (front : List ℕ) (P : List ℕ → Type 0) → b ≡ a → P front → HoldsMore a b front P
+nothing_more None b front P same p = tt
+nothing_more (Some held) b front P same p = ([], (same ∙ ap Some (sym (append-nil held)), subst P (sym (append-nil front)) p))
+
+-- ---- one after the other
+
+-- what holds of more is weaker
+pub more_weaker : (a b : Option (List ℕ)) (front : List ℕ) (P Q : List ℕ → Type 0) → ((text : List ℕ) → P text → Q text) → HoldsMore a b front P → HoldsMore a b front Q
+more_weaker None b front P Q f h = tt
+more_weaker (Some held) b front P Q f h = (h.0, (h.1.0, f (front ++ h.0) h.1.1))
+
+-- the port grew with a text, and goes on growing with it
+pub more_then : (a b c : Option (List ℕ)) (front middle : List ℕ) (P : List ℕ → Type 0) → HoldsMore a b front (λ all. all ≡ middle) → HoldsMore b c middle P
+    → HoldsMore a c front P
+more_then None b c front middle P h k = tt
+more_then (Some held) b c front middle P h k =
+    let next : (more : List ℕ) × ((c ≡ Some ((held ++ h.0) ++ more)) × P (middle ++ more)) = subst (λ o. HoldsMore o c middle P) h.1.0 k in (
+      h.0 ++ next.0,
+      (
+        next.1.0 ∙ ap Some (append_assoc held h.0 next.0),
+        subst P (ap (λ xs. xs ++ next.0) (sym h.1.1) ∙ append_assoc front h.0 next.0) next.1.1,
+      ),
+    )
+
+-- a text was put, and more behind it
+pub more_behind : (a b c : Option (List ℕ)) (first : List ℕ) (Q R : List ℕ → Type 0) → HoldsMore a b [] (λ all. all ≡ first) → HoldsMore b c [] Q
+    → ((text : List ℕ) → Q text → R (first ++ text)) → HoldsMore a c [] R
+more_behind None b c first Q R h k f = tt
+more_behind (Some held) b c first Q R h k f =
+    let next : (more : List ℕ) × ((c ≡ Some ((held ++ h.0) ++ more)) × Q more) = subst (λ o. HoldsMore o c [] Q) h.1.0 k in (
+      h.0 ++ next.0,
+      (
+        next.1.0 ∙ ap Some (append_assoc held h.0 next.0),
+        subst R (ap (λ xs. xs ++ next.0) (sym h.1.1)) (f next.0 next.1.1),
+      ),
+    )
+
+-- all that grew is all that a port has that held nothing
+pub all_held : (a b c : Option (List ℕ)) (text : List ℕ) → HoldsAfter a b (λ _. []) → HoldsMore b c [] (λ all. all ≡ text) → HoldsAfter a c (λ _. text)
+all_held None b c text h k = tt
+all_held (Some held) b c text h k =
+    let next : (more : List ℕ) × ((c ≡ Some ([] ++ more)) × (more ≡ text)) = subst (λ o. HoldsMore o c [] (λ all. all ≡ text)) h k in
+    next.1.0 ∙ ap Some next.1.1
+
+-- or a part
+pub part_held : (unbegun : Type 0) (a b c : Option (List ℕ)) (low high : List ℕ) → HoldsAfter a b (λ _. []) → HoldsMore b c [] (IsBetween low high)
+    → HoldsWithin unbegun a c low high
+part_held unbegun None b c low high h k = tt
+part_held unbegun (Some held) b c low high h k =
+    let next : (more : List ℕ) × ((c ≡ Some ([] ++ more)) × IsBetween low high more) = subst (λ o. HoldsMore o c [] (IsBetween low high)) h k in
+    inr next
+
+-- a port that wasn't bound yet
+pub unbound_held : (unbegun : Type 0) (a b : Option (List ℕ)) (low high : List ℕ) → unbegun → b ≡ a → HoldsWithin unbegun a b low high
+unbound_held unbegun None b low high u same = tt
+unbound_held unbegun (Some held) b low high u same = inl (u, same)
+
+-- the text put behind what was held
+pub all_behind : (a b : Option (List ℕ)) (text : List ℕ) → HoldsMore a b [] (λ all. all ≡ text) → HoldsAfter a b (λ held. held ++ text)
+all_behind None b text h = tt
+all_behind (Some held) b text h = h.1.0 ∙ ap (λ more. Some (held ++ more)) h.1.1
 
 -- what holds at all holds of an error
 pub OnErr-holds : {T E : Type 0} (r : Result T E) (P : Type 0) → P → OnErr r P
 OnErr-holds (Ok x) P h = tt
 OnErr-holds (Err e) P h = h
 
-pub IsPrefix-same : (xs ys : List ℕ) → xs ≡ ys → IsPrefix xs ys
-IsPrefix-same xs ys e = record { rest = []; whole_is = sym e ∙ sym (append-nil xs) }
+pub OnOk-holds : {T E : Type 0} (r : Result T E) (P : Type 0) → P → OnOk r P
+OnOk-holds (Ok x) P h = h
+OnOk-holds (Err e) P h = tt
 
--- no octet of nothing is no octet of every text
-pub HoldsBound-longer : (a b : Option (List ℕ)) (text : List ℕ) → HoldsBound a b [] → HoldsBound a b text
-HoldsBound-longer None b text h = tt
-HoldsBound-longer (Some held) b text (inl h) = inl h
-HoldsBound-longer (Some held) b text (inr h) = inr (0, h.1 ∙ ap (λ xs. Some xs) (take-nil h.0))
+-- a text that was put whole is a part of itself
+pub whole_part : (a b c : Option (List ℕ)) (text : List ℕ) → HoldsAfter a b (λ held. held ++ text) → c ≡ b → HoldsPrefix a c text
+whole_part None b c text h same = tt
+whole_part (Some held) b c text h same = (length text, same ∙ h ∙ ap (λ xs. Some (held ++ xs)) (sym (take-length text)))
 
--- what is as it was holds a prefix of every text put to it
-pub HoldsPrefix-unchanged : (a b : Option (List ℕ)) (text : List ℕ) → b ≡ a → HoldsPrefix a b text
-HoldsPrefix-unchanged None b text e = tt
-HoldsPrefix-unchanged (Some held) b text e = (0, e ∙ ap (λ xs. Some xs) (sym (append-nil held)))
+pub after_from : (a b c : Option (List ℕ)) (f : List ℕ → List ℕ) → b ≡ a → HoldsAfter b c f → HoldsAfter a c f
+after_from a b c f same h = subst (λ o. HoldsAfter o c f) same h
 
--- what holds of each value holds of an optional one
-pub IfSome-each : {T : Type 0} (o : Option T) (P : T → Type 0) → ((x : T) → P x) → IfSome o P
-IfSome-each None P h = tt
-IfSome-each (Some x) P h = h x
+-- ---- faults
 
--- a text that was put whole is a prefix of itself
-pub HoldsPrefix-whole : (a b c : Option (List ℕ)) (text : List ℕ) → HoldsAfter a b (λ held. held ++ text) → c ≡ b → HoldsPrefix a c text
-HoldsPrefix-whole None b c text h e = tt
-HoldsPrefix-whole (Some held) b c text h e = (length text, e ∙ h ∙ ap (λ xs. Some (held ++ xs)) (sym (take-length text)))
+pub IfOk-with : {T E S : Type 0} {P Q : T → Type 0} (r : Result T E) → ((x : T) → P x → S → Q x) → IfOk r P → OnOk r S → IfOk r Q
+IfOk-with (Ok x) f p s = f x p s
+IfOk-with (Err e) f p s = tt
 
--- a port that was bound, and stays so, holds no octet of a text
-pub HoldsBound-emptied : (a b c : Option (List ℕ)) → HoldsAfter a b (λ _. []) → c ≡ b → HoldsBound a c []
-HoldsBound-emptied None b c h e = tt
-HoldsBound-emptied (Some held) b c h e = inr (0, e ∙ h)
+pub IfErr-map : {T E : Type 0} {P Q : E → Type 0} (r : Result T E) → ((e : E) → P e → Q e) → IfErr r P → IfErr r Q
+IfErr-map (Ok x) f p = tt
+IfErr-map (Err e) f p = f e p
+
+pub IfErr-both : {T E S : Type 0} {P Q : E → Type 0} (r : Result T E) → ((e : E) → P e → S → Q e) → IfErr r P → OnErr r S → IfErr r Q
+IfErr-both (Ok x) f p s = tt
+IfErr-both (Err e) f p s = f e p s
+
+-- a count that has risen later has risen
+pub risen_later : (old middle new : ℕ) → old ≤ middle → HasRisen middle new → HasRisen old new
+risen_later old middle new few (inl less) = inl (omega (arith, few, less))
+risen_later old middle new few (inr most) = by (cases_lt old new)
+  where
+    by : (old < new) ⊎ (new ≤ old) → HasRisen old new
+    by (inl less) = inl less
+    by (inr least) = let a = most.0 in let b = most.1 in inr (omega (arith, few, least, a, b), b)
+
+pub fault_after : (old middle new : Port → ℕ) (status : Status) → NeverFall old middle → IsPortsFault middle new status → IsPortsFault old new status
+fault_after old middle new (Put p) few fault = risen_later (old p) (middle p) (new p) (few p) fault
+fault_after old middle new Memory few fault = tt
+fault_after old middle new Delivered few fault = absurd fault
+fault_after old middle new Rounds few fault = absurd fault
+fault_after old middle new NoPath few fault = absurd fault
+fault_after old middle new (Aborted reader) few fault = absurd fault
+fault_after old middle new Usage few fault = absurd fault
+fault_after old middle new (Script at kind) few fault = absurd fault
+fault_after old middle new (Load named) few fault = absurd fault
+fault_after old middle new (TooLong named) few fault = absurd fault
+fault_after old middle new (Log at) few fault = absurd fault
+
+-- ---- ports are distinct
+
+pub b_isnt_log : port.ReadByB ≡ port.Log → ⊥
+b_isnt_log e = cc (e)
+
+pub a_isnt_log : port.ReadByA ≡ port.Log → ⊥
+a_isnt_log e = cc (e)

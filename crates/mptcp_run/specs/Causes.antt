@@ -1,17 +1,22 @@
 -- Why a run ends as it does: the cause of each status.
-use Rattle.std.specs.Prelude.{◌≡◌, ℕ, ◌<◌, List, length, Option, IfSome}
+use Rattle.std.specs.Prelude.{◌≡◌, ℕ, ◌<◌, List, length, Err, Option, IfSome}
+use Rattle.link_script.specs.declared.fault.ScriptFault.TheVariants as script_fault
+use Rattle.run_log.specs.declared.fault.LogFault.TheVariants as log_fault
+use Rattle.run_log.specs.Form.{reading}
 use Rattle.outside_kit.specs.declared.port.Port.{Port}
 use Rattle.outside_kit.specs.Outside.{HasRisen}
 use Rattle.mptcp_run.specs.declared.status.Named.{Named}
 use Rattle.mptcp_run.specs.declared.status.Named.TheVariants as input
 use Rattle.mptcp_run.specs.declared.status.Status.{Status}
-use Rattle.mptcp_run.specs.declared.status.Status.TheVariants.{Load, Put, TooLong, Memory}
+use Rattle.mptcp_run.specs.Script.{script_meaning}
+use Rattle.mptcp_run.specs.declared.status.Status.TheVariants.{Script, Load, Put, TooLong, Memory, Log}
 
--- how many octets an input may have; what B sends isn't read yet
+-- how many octets an input may have
 abbrev pub limit_of : Named → ℕ
 limit_of input.Script = 65536
 limit_of input.FileA = 16777216
-limit_of input.FileB = 0
+limit_of input.FileB = 16777216
+limit_of input.Order = 268435456
 
 -- a load of this input, whose content may be told, ends a run with this status
 abbrev pub IsLoadFault : Named → Option (List ℕ) → ℕ → ℕ → Status → Type 0
@@ -28,3 +33,15 @@ abbrev pub IsPutFault : Port → ℕ → ℕ → Status → Type 0
 IsPutFault port old new (Put named) = (named ≡ port) × HasRisen old new
 IsPutFault port old new Memory = Unit {0}
 IsPutFault port old new _ = ⊥
+
+-- the script ends a run with this status: it is refused at this line, for this kind
+abbrev pub IsScriptFault : List ℕ → Status → Type 0
+IsScriptFault script (Script line kind) = script_meaning script ≡ Err (script_fault.Line line kind)
+IsScriptFault script Memory = Unit {0}
+IsScriptFault script _ = ⊥
+
+-- the form of a log ends a run with this status: it is refused at this line
+abbrev pub IsFormFault : List ℕ → Status → Type 0
+IsFormFault log (Log line) = reading 3 8 log ≡ Err (log_fault.Line line)
+IsFormFault log Memory = Unit {0}
+IsFormFault log _ = ⊥

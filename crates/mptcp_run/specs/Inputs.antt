@@ -1,39 +1,72 @@
--- What a run reads: which contents are within their limits, and which refusal each fault of them is.
-use Rattle.std.specs.Prelude.{◌≡◌, ℕ, Err, ◌<◌, ◌≤◌, List, length, Option, IfSome}
-use Rattle.link_script.specs.declared.fault.ScriptFault.TheVariants.{Line}
+-- What a run reads: which contents are within their limits, and which fault of a load ends it.
+use Rattle.std.specs.Prelude.{◌≡◌, ℕ, ◌<◌, ◌≤◌, List, length, Option, Some, None, option_and_then, IfSome, IsSome, Err, IsOk}
+use Rattle.link_script.specs.declared.fault.ScriptFault.TheVariants as script_fault
+use Rattle.run_log.specs.declared.fault.LogFault.TheVariants as log_fault
+use Rattle.run_log.specs.Form.{reading}
 use Rattle.outside_kit.specs.Outside.{HasRisen}
+use Rattle.run_words.specs.Lines.{Line, Work, replay}
 use Rattle.mptcp_run.specs.declared.status.Named.{Named}
 use Rattle.mptcp_run.specs.declared.status.Named.TheVariants as input
 use Rattle.mptcp_run.specs.declared.status.Status.{Status}
-use Rattle.mptcp_run.specs.declared.status.Status.TheVariants.{Script, Load, TooLong, Memory}
+use Rattle.mptcp_run.specs.declared.status.Status.TheVariants.{Script, Load, TooLong, Memory, Log}
 use Rattle.mptcp_run.specs.Causes.{limit_of}
-use Rattle.mptcp_run.specs.Words.{Names}
-use Rattle.mptcp_run.specs.Script.{connection_in}
+use Rattle.mptcp_run.specs.Script.{script_meaning}
 
-abbrev pub name_of : Named → Names → List ℕ
-name_of input.Script names = names.script
-name_of input.FileA names = names.file_a
-name_of input.FileB names = names.file_b
+-- the name of the log whose steps are made again
+abbrev pub order_of : Work → Option (List ℕ)
+order_of (replay log) = Some log
+order_of work = None
+
+-- the name of an input; only `replay` reads a log
+abbrev pub name_of : Named → Line → Option (List ℕ)
+name_of input.Script line = Some line.names.script
+name_of input.FileA line = Some line.names.file_a
+name_of input.FileB line = Some line.names.file_b
+name_of input.Order line = order_of line.work
+
+-- its content, where that is told
+abbrev pub content_of : (List ℕ → Option (List ℕ)) → Line → Named → Option (List ℕ)
+content_of content line named = option_and_then content (name_of named line)
 
 -- the content of this input, where it is told, is within its limit
-abbrev pub IsWithinLimit : (List ℕ → Option (List ℕ)) → Names → Named → Type 0
-IsWithinLimit content names named = IfSome (content (name_of named names)) (λ told. length told ≤ limit_of named)
+abbrev pub IsWithinLimit : (List ℕ → Option (List ℕ)) → Line → Named → Type 0
+IsWithinLimit content line named = IfSome (content_of content line named) (λ told. length told ≤ limit_of named)
 
 -- the inputs that are loaded before this one are within their limits
-abbrev pub AreWithinLimitsBefore : (List ℕ → Option (List ℕ)) → Names → Named → Type 0
-AreWithinLimitsBefore content names input.Script = Unit {0}
-AreWithinLimitsBefore content names input.FileA = IsWithinLimit content names input.Script
-AreWithinLimitsBefore content names input.FileB = IsWithinLimit content names input.Script × IsWithinLimit content names input.FileA
+abbrev pub AreWithinLimitsBefore : (List ℕ → Option (List ℕ)) → Line → Named → Type 0
+AreWithinLimitsBefore content line input.Script = Unit {0}
+AreWithinLimitsBefore content line input.FileA = IsWithinLimit content line input.Script
+AreWithinLimitsBefore content line input.FileB = IsWithinLimit content line input.Script × IsWithinLimit content line input.FileA
+AreWithinLimitsBefore content line input.Order =
+    IsWithinLimit content line input.Script × (IsWithinLimit content line input.FileA × IsWithinLimit content line input.FileB)
 
--- the inputs end a run with this status
-abbrev pub IsInputFault : (List ℕ → Option (List ℕ)) → Names → ℕ → ℕ → Status → Type 0
--- the device failed, and counted it; what was loaded before is within its limits
-IsInputFault content names old new (Load named) = HasRisen old new × AreWithinLimitsBefore content names named
+-- the script and both files are within their limits
+abbrev pub AreFirstWithinLimits : (List ℕ → Option (List ℕ)) → Line → Type 0
+AreFirstWithinLimits content line = AreWithinLimitsBefore content line input.Order
+
+-- a load ends a run with this status
+abbrev pub IsLoadsFault : (List ℕ → Option (List ℕ)) → Line → ℕ → ℕ → Status → Type 0
+-- the device failed at an input of the run, and counted it; what was loaded before is within its limits
+IsLoadsFault content line old new (Load named) = IsSome (name_of named line) × (HasRisen old new × AreWithinLimitsBefore content line named)
 -- the content is longer than its limit, and the first such one
-IsInputFault content names old new (TooLong named) =
-    IfSome (content (name_of named names)) (λ told. limit_of named < length told) × AreWithinLimitsBefore content names named
--- all contents are within their limits, and this is the first line that the script's grammar refuses
-IsInputFault content names old new (Script line kind) =
-    IfSome (content names.script) (λ told. connection_in told ≡ Err (Line line kind)) × ((named : Named) → IsWithinLimit content names named)
-IsInputFault content names old new Memory = Unit {0}
-IsInputFault content names old new _ = ⊥
+IsLoadsFault content line old new (TooLong named) =
+    IsSome (name_of named line)
+    × (IfSome (content_of content line named) (λ told. limit_of named < length told) × AreWithinLimitsBefore content line named)
+IsLoadsFault content line old new Memory = Unit {0}
+IsLoadsFault content line old new _ = ⊥
+
+-- what a run reads ends it with this status: a load, or the script, all loads being done
+abbrev pub IsInputFault : (List ℕ → Option (List ℕ)) → Line → ℕ → ℕ → Status → Type 0
+IsInputFault content line old new (Script at kind) =
+    AreFirstWithinLimits content line × IfSome (content line.names.script) (λ told. script_meaning told ≡ Err (script_fault.Line at kind))
+IsInputFault content line old new status = IsLoadsFault content line old new status
+
+-- or the form of the log, all loads being done and the script being valid
+abbrev pub IsReplayInputFault : (List ℕ → Option (List ℕ)) → Line → ℕ → ℕ → Status → Type 0
+IsReplayInputFault content line old new (Script at kind) =
+    ((named : Named) → IsWithinLimit content line named) × IfSome (content line.names.script) (λ told. script_meaning told ≡ Err (script_fault.Line at kind))
+IsReplayInputFault content line old new (Log at) =
+    ((named : Named) → IsWithinLimit content line named)
+    × (IfSome (content line.names.script) (λ told. IsOk (script_meaning told))
+    × IfSome (content_of content line input.Order) (λ told. reading 3 8 told ≡ Err (log_fault.Line at)))
+IsReplayInputFault content line old new status = IsLoadsFault content line old new status

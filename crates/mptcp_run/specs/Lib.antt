@@ -1,9 +1,13 @@
+pub mod Answers
+pub mod Asked
 pub mod Causes
 pub mod Inputs
-pub mod Log
 pub mod Ports
+pub mod Promised
+pub mod Putting
+pub mod Replaying
+pub mod Rounds
 pub mod Script
-pub mod Sending
 pub mod Status
 pub mod Task
-pub mod Words
+pub mod Weaving

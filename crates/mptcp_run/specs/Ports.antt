@@ -1,7 +1,8 @@
 -- What is said of the ports of an outside over several binds and puts.
-use Rattle.std.specs.Prelude.{◌≡◌, ℕ, ◌≤◌, ◌⊎◌, List, take, Option, Some, IfSome}
+use Rattle.std.specs.Prelude.{◌≡◌, ℕ, ◌≤◌, ◌⊎◌, List, ◌++◌, Option, Some, IfSome}
 use Rattle.outside_kit.specs.declared.port.Port.{Port}
 use Rattle.outside_kit.specs.Outside.{HasRisen}
+use Rattle.pipe_model.specs.Prefix.{IsPrefix}
 use Rattle.mptcp_run.specs.declared.status.Status.{Status}
 use Rattle.mptcp_run.specs.declared.status.Status.TheVariants.{Put, Memory}
 
@@ -19,6 +20,16 @@ IsPortsFault old new (Put port) = HasRisen (old port) (new port)
 IsPortsFault old new Memory = Unit {0}
 IsPortsFault old new _ = ⊥
 
--- a reader's port, which may be bound: where it told what it held, it holds that still, or a prefix of the text
-abbrev pub HoldsBound : Option (List ℕ) → Option (List ℕ) → List ℕ → Type 0
-HoldsBound old new text = IfSome old (λ held. (new ≡ Some held) ⊎ ((count : ℕ) × (new ≡ Some (take count text))))
+-- where a port told what it held, it holds that and more; so much more, behind this front, is a text of this kind
+abbrev pub HoldsMore : Option (List ℕ) → Option (List ℕ) → List ℕ → (List ℕ → Type 0) → Type 0
+HoldsMore old new front P = IfSome old (λ held. (more : List ℕ) × ((new ≡ Some (held ++ more)) × P (front ++ more)))
+
+-- a text has this one in front, and that one goes on from it
+pub record IsBetween (low high text : List ℕ) : Type 0 where
+  pub least : IsPrefix low text
+  pub most : IsPrefix text high
+
+-- a port that was bound and told what it held holds the low text at least and the high one at most; while nothing has begun it
+-- may hold what it held
+abbrev pub HoldsWithin : Type 0 → Option (List ℕ) → Option (List ℕ) → List ℕ → List ℕ → Type 0
+HoldsWithin unbegun old new low high = IfSome old (λ held. (unbegun × (new ≡ Some held)) ⊎ ((text : List ℕ) × ((new ≡ Some text) × IsBetween low high text)))

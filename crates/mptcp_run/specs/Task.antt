@@ -1,68 +1,106 @@
--- What a run is to do, and how far it came.
-use Rattle.std.specs.Prelude.{ℕ, ◌≤◌, List, length, Option, option_map, option_and_then, IfSome, IsSomeAnd, IsOk}
+-- What a run is to do: a connection with its files, and which turns its actors take.
+use Rattle.std.specs.Prelude.{◌≡◌, ℕ, List, map, Option, Some, None, option_map, option_and_then, IfSome, IsSome, IsSomeAnd, IsOk, if◌then◌else◌, codes}
+use Rattle.std.specs.Str.{bytes_eq}
 use Rattle.std.specs.Result.{result_ok}
-use Rattle.straight_segments.specs.declared.connection.Connection.{Connection}
-use Rattle.mptcp_run.specs.declared.status.Status.{Status}
-use Rattle.mptcp_run.specs.declared.status.Status.TheVariants.{Delivered, Usage, Script, Load, Put, TooLong, Memory}
+use Rattle.link_script.specs.declared.script.Script.{Script}
+use Rattle.run_words.specs.Lines.{Line, Work, run, serial, replay, bench, ◌>>=◌}
+use Rattle.run_log.specs.declared.turn.Turn as logged_turn
+use Rattle.run_log.specs.declared.turn.Turn.TheVariants as logged
+use Rattle.run_log.specs.Form.{reading}
+use Rattle.path_core.specs.Octets.{octets}
+use Rattle.world_core.specs.declared.input.Input.{Input}
+use Rattle.world_laws.specs.Openings.{start_of, opened_world}
+use Rattle.world_laws.specs.Serial.{IsSerial}
+use Rattle.world_laws.specs.Worlds.{WorldState, Turn, AreLawful}
+use Rattle.mptcp_run.specs.Asked.{asked_in}
+use Rattle.mptcp_run.specs.Script.{parted_at, script_meaning}
 use Rattle.mptcp_run.specs.declared.status.Named.{Named}
-use Rattle.mptcp_run.specs.Causes.{limit_of}
-use Rattle.mptcp_run.specs.Inputs.{name_of, IsWithinLimit}
-use Rattle.mptcp_run.specs.Words.{Names, names_in}
-use Rattle.mptcp_run.specs.Script.{connection_in}
+use Rattle.mptcp_run.specs.declared.status.Named.TheVariants as input
+use Rattle.mptcp_run.specs.Inputs.{order_of, content_of, IsWithinLimit}
 
--- the connection that the script tells of, and the file that A sends
+-- a connection whose links carry octets
+abbrev pub Connection : Type 0
+Connection = WorldState (List ℕ)
+
+-- whole turns in order of number, at most so many rounds; or these turns
+pub data Course : Type 0 where
+  rounds : ℕ → Course
+  told : List Turn → Course
+
 pub record Task : Type 0 where
-  pub connection : Connection
+  pub script : Script
+  -- what each side writes
   pub file_a : List ℕ
+  pub file_b : List ℕ
+  pub course : Course
 
--- the connection that the script of these names tells of, where its content is told and valid
-abbrev pub connection_of : (List ℕ → Option (List ℕ)) → Names → Option Connection
-connection_of content names = option_and_then (λ (told : List ℕ). result_ok (connection_in told)) (content names.script)
+-- the connection before its first step
+abbrev pub opened : Task → Connection
+opened task = opened_world (start_of task.script task.file_a task.file_b)
 
--- with the file that A sends, where that is told
-abbrev pub task_with : Option (List ℕ) → Connection → Option Task
-task_with file_a connection = option_map (λ (told : List ℕ). record { connection = connection; file_a = told }) file_a
+-- these are all turns of a course
+abbrev pub AreTurnsOf : Course → List Turn → Connection → Type 0
+AreTurnsOf (rounds most) turns w = IsSerial octets most turns w
+AreTurnsOf (told order) turns w = (turns ≡ order) × AreLawful octets turns w
 
-abbrev pub task_named : (List ℕ → Option (List ℕ)) → Names → Option Task
-task_named content names = option_and_then (task_with (content names.file_a)) (connection_of content names)
+-- with what is read of it
+abbrev pub task_from : Input → Course → Task
+task_from input course = record { script = input.script; file_a = input.file_a; file_b = input.file_b; course = course }
 
--- the task of a command line, where the words have their form, the contents are told and the script is valid
-abbrev pub task_of : (List ℕ → Option (List ℕ)) → List (List ℕ) → Option Task
-task_of content words = option_and_then (task_named content) (names_in words)
+-- ---- from the words and contents
 
--- nothing was bound or put yet
-abbrev pub IsRefusal : Status → Type 0
-IsRefusal Usage = Unit {0}
-IsRefusal (Load input) = Unit {0}
-IsRefusal (TooLong input) = Unit {0}
-IsRefusal (Script line kind) = Unit {0}
-IsRefusal _ = ⊥
+abbrev pub turn_of : logged_turn.Turn → Turn
+turn_of (logged.Step actor) = Turn.Step actor
+turn_of logged.Round = Turn.Round
 
--- all was loaded
-abbrev pub HasLoaded : Status → Type 0
-HasLoaded (Script line kind) = Unit {0}
-HasLoaded Delivered = Unit {0}
-HasLoaded (Put port) = Unit {0}
-HasLoaded _ = ⊥
+-- the turns that a log tells of a run of three actors, whose data numbers have eight octets
+abbrev pub turns_in : List ℕ → Option (List Turn)
+turns_in log = option_map (map turn_of) (result_ok (reading 3 8 log))
 
--- all was loaded, and the script is valid
-abbrev pub HasBegun : Status → Type 0
-HasBegun Delivered = Unit {0}
-HasBegun (Put port) = Unit {0}
-HasBegun _ = ⊥
+-- how many lines of a log stand before its first turn: one less where the first line names the format without a width
+abbrev pub opening_count : List ℕ → ℕ
+opening_count log = if bytes_eq (parted_at 10 log).0 (codes "mptcp-log 1") then 2 else 3
 
--- the run stopped before its end
-abbrev pub IsCutOff : Status → Type 0
-IsCutOff (Put port) = Unit {0}
-IsCutOff Memory = Unit {0}
-IsCutOff _ = ⊥
+abbrev pub script_in : List ℕ → Option Script
+script_in text = result_ok (script_meaning text)
 
--- the contents of the three inputs, where they are told, are within their limits, and the script is valid
-pub record MayBegin (content : List ℕ → Option (List ℕ)) (names : Names) : Type 0 where
-  pub within : (input : Named) → IsWithinLimit content names input
-  pub script : IfSome (content names.script) (λ told. IsOk (connection_in told))
+abbrev pub course_of : (List ℕ → Option (List ℕ)) → Work → Option Course
+course_of content (serial most) = Some (rounds most)
+course_of content (replay log) = option_map told (option_and_then turns_in (content log))
+course_of content (run most) = None
+course_of content (bench most number) = None
 
--- the contents of the three inputs are told and within their limits, and the script is valid
-pub record IsValid (content : List ℕ → Option (List ℕ)) (names : Names) : Type 0 where
-  pub within : (input : Named) → IsSomeAnd (content (name_of input names)) (λ told. length told ≤ limit_of input)
-  pub script : IsSomeAnd (content names.script) (λ told. IsOk (connection_in told))
+-- the task of a command line, where the contents are told and valid
+abbrev pub task_of : (List ℕ → Option (List ℕ)) → Line → Option Task
+task_of content line = do
+  script ← option_and_then script_in (content line.names.script)
+  file_a ← content line.names.file_a
+  file_b ← content line.names.file_b
+  course ← course_of content line.work
+  Some (record { script = script; file_a = file_a; file_b = file_b; course = course })
+
+-- the task of the words, where they ask for one
+abbrev pub task_in : (List ℕ → Option (List ℕ)) → List (List ℕ) → Option Task
+task_in content words = option_and_then (task_of content) (asked_in words)
+
+-- ---- what of the contents is told, and within its limit
+
+-- each input is within its limit
+abbrev pub AreWithinLimits : (List ℕ → Option (List ℕ)) → Line → Type 0
+AreWithinLimits content line = (named : Named) → IsWithinLimit content line named
+
+-- the script is valid
+abbrev pub HasValidScript : (List ℕ → Option (List ℕ)) → Line → Type 0
+HasValidScript content line = IfSome (content line.names.script) (λ told. IsOk (script_meaning told))
+
+-- a log of `replay` has its form
+abbrev pub HasValidOrder : (List ℕ → Option (List ℕ)) → Line → Type 0
+HasValidOrder content line = IfSome (content_of content line input.Order) (λ told. IsOk (reading 3 8 told))
+
+-- all contents are told, within their limits, and valid
+pub record IsValid (content : List ℕ → Option (List ℕ)) (line : Line) : Type 0 where
+  pub script : IsSomeAnd (content line.names.script) (λ told. IsOk (script_meaning told))
+  pub file_a : IsSome (content line.names.file_a)
+  pub file_b : IsSome (content line.names.file_b)
+  pub order : IfSome (order_of line.work) (λ log. IsSomeAnd (content log) (λ told. IsOk (reading 3 8 told)))
+  pub within : AreWithinLimits content line

@@ -17,7 +17,8 @@ impl Named {
         match self {
             Named::Script => 65_536,
             Named::FileA => 16_777_216,
-            Named::FileB => 0,
+            Named::FileB => 16_777_216,
+            Named::Order => 268_435_456,
         }
     }
 }

@@ -1,53 +1,162 @@
 //! What a run reads before it begins.
 
-ghost use Rattle.std.specs.Prelude.{◌≡◌, ◌≤◌, IfOk, IfErr, IfSome, OnOk, vec_len};
+ghost use Rattle.std.specs.Prelude.{◌≡◌, ◌≤◌, ℕ, List, Ok, IfOk, IfErr, IfSome, OnOk, vec_len};
 ghost use Rattle.outside_kit.specs.declared.port.Port.{Port};
-ghost use Rattle.mptcp_run.specs.declared.status.Named.{Named};
-ghost use Rattle.mptcp_run.specs.Script.{connection_in};
-ghost use Rattle.straight_segments.specs.Drawn.{FitsFields};
-ghost use Rattle.mptcp_run.specs.Words.{names_of};
-ghost use Rattle.mptcp_run.specs.Inputs.{IsWithinLimit, IsInputFault};
+ghost use Rattle.link_script.specs.Scripts.{HasRanges};
+ghost use Rattle.run_words.specs.Lines.{replay, shown};
+ghost use Rattle.mptcp_run.specs.declared.status.Named.TheVariants as named;
+ghost use Rattle.mptcp_run.specs.Causes.{IsScriptFault};
+ghost use Rattle.mptcp_run.specs.Inputs.{IsWithinLimit, IsLoadsFault, AreFirstWithinLimits, IsInputFault, IsReplayInputFault};
+ghost use Rattle.run_log.specs.Form.{reading};
+ghost use Rattle.mptcp_run.specs.Task.{AreWithinLimits, opening_count};
+ghost use Rattle.mptcp_run.specs.Script.{script_meaning};
 
 use crate::device::load;
-use crate::script::read_connection;
+use crate::order::{opening_count, read_order};
+use crate::script::read_script;
 use crate::status::{Named, Status};
-use crate::words::Command;
 use link_script::ScriptFault;
 use outside_kit::Outside;
+use pipe_model::Text;
+use run_log::Turn;
+use run_words::CommandLine;
 use std::alloc::Global;
-use straight_segments::Connection;
+use world_core::Input;
 
-/// The inputs of a run, all within their limits.
+/// The contents that every run loads, each within its limit.
 #[derive(Debug, Drop)]
-pub struct Input {
-    /// The connection that the script tells of.
-    pub connection: Connection,
+pub struct Contents {
+    /// The text of the script: at most 65,536 octets.
+    pub script: Vec<u8>,
     /// What A sends: at most 16,777,216 octets.
     pub file_a: Vec<u8>,
+    /// What B sends: at most 16,777,216 octets.
+    pub file_b: Vec<u8>,
 }
 
-/// Loads the script, FILE_A and FILE_B in this order, and reads the script.
-pub fn load_input<O: Outside>(
+/// Loads the script, FILE_A and FILE_B, in this order.
+pub fn load_contents<O: Outside>(
     alloc: Global,
     outside: &mut O,
-    command: &Command<'_>,
-) -> Result<Input, Status>
-    ensures script { IfOk result (λ input. IfSome (O.content outside.old command.now.script.now) (λ told. connection_in told ≡ Ok input.connection)) }
-    ensures file_a { IfOk result (λ input. IfSome (O.content outside.old command.now.file_a.now) (λ told. input.file_a.items ≡ told)) }
-    ensures fits { IfOk result (λ input. FitsFields input.connection) }
-    ensures within { IfOk result (λ input. vec_len input.file_a ≤ 16777216) }
-    ensures all_within { OnOk result ((named : Named) → IsWithinLimit (O.content outside.old) (names_of command.now) named) }
-    ensures fault { IfErr result (IsInputFault (O.content outside.old) (names_of command.now) (O.load_faults outside.old) (O.load_faults outside.new)) }
+    line: &CommandLine<'_>,
+) -> Result<Contents, Status>
+    ensures script { IfOk result (λ contents. IfSome (O.content outside.old line.now.script.now) (λ told. contents.script.items ≡ told)) }
+    ensures file_a { IfOk result (λ contents. IfSome (O.content outside.old line.now.file_a.now) (λ told. contents.file_a.items ≡ told)) }
+    ensures file_b { IfOk result (λ contents. IfSome (O.content outside.old line.now.file_b.now) (λ told. contents.file_b.items ≡ told)) }
+    ensures script_within { IfOk result (λ contents. vec_len contents.script ≤ 65536) }
+    ensures within { OnOk result (AreFirstWithinLimits (O.content outside.old) (shown line.now)) }
+    ensures fault { IfErr result (IsLoadsFault (O.content outside.old) (shown line.now) (O.load_faults outside.old) (O.load_faults outside.new)) }
+    ensures counted { O.load_faults outside.old ≤ O.load_faults outside.new }
+    ensures same_contents { (other : List ℕ) → O.content outside.new other ≡ O.content outside.old other }
+    ensures same_ports { (port : Port) → O.holds outside.new port ≡ O.holds outside.old port }
+    ensures same_counts { (port : Port) → O.port_faults outside.new port ≡ O.port_faults outside.old port }
+{
+    let script = load(alloc, outside, Named::Script, line.script)?;
+    let file_a = load(alloc, outside, Named::FileA, line.file_a)?;
+    let file_b = load(alloc, outside, Named::FileB, line.file_b)?;
+    Ok(Contents {
+        script,
+        file_a,
+        file_b,
+    })
+}
+
+/// Loads the log whose steps are made again, once the other contents are loaded.
+pub fn load_order<O: Outside>(
+    alloc: Global,
+    outside: &mut O,
+    line: &CommandLine<'_>,
+    order: &str,
+) -> Result<Vec<u8>, Status>
+    requires named { (shown line.now).work ≡ replay order.now }
+    requires before { AreFirstWithinLimits (O.content outside.old) (shown line.now) }
+    ensures whole { IfOk result (λ log. IfSome (O.content outside.old order.now) (λ told. log.items ≡ told)) }
+    ensures within { OnOk result (IsWithinLimit (O.content outside.old) (shown line.now) named.Order) }
+    ensures fault { IfErr result (IsLoadsFault (O.content outside.old) (shown line.now) (O.load_faults outside.old) (O.load_faults outside.new)) }
     ensures counted { O.load_faults outside.old ≤ O.load_faults outside.new }
     ensures same_ports { (port : Port) → O.holds outside.new port ≡ O.holds outside.old port }
     ensures same_counts { (port : Port) → O.port_faults outside.new port ≡ O.port_faults outside.old port }
 {
-    let script = load(alloc, outside, Named::Script, command.script)?;
-    let file_a = load(alloc, outside, Named::FileA, command.file_a)?;
-    let _ = load(alloc, outside, Named::FileB, command.file_b)?;
-    match read_connection(alloc, &script) {
-        Ok(connection) => Ok(Input { connection, file_a }),
+    load(alloc, outside, Named::Order, order)
+}
+
+/// What the contents say: the script is read.
+pub fn input_of(alloc: Global, contents: Contents) -> Result<Input, Status>
+    requires { vec_len contents.script ≤ 65536 }
+    ensures script { IfOk result (λ input. script_meaning contents.script.items ≡ Ok input.script) }
+    ensures file_a { IfOk result (λ input. input.file_a ≡ contents.file_a.items) }
+    ensures file_b { IfOk result (λ input. input.file_b ≡ contents.file_b.items) }
+    ensures ranges { IfOk result (λ input. HasRanges input.script) }
+    ensures fault { IfErr result (IsScriptFault contents.script.items) }
+{
+    match read_script(alloc, &contents.script) {
+        Ok(script) => Ok(Input {
+            script,
+            file_a: Text::from(contents.file_a),
+            file_b: Text::from(contents.file_b),
+        }),
         Err(ScriptFault::Line { line, kind }) => Err(Status::Script { line, kind }),
         Err(ScriptFault::Memory) => Err(Status::Memory),
     }
+}
+
+/// What a run of whole turns reads: the script and both files.
+pub fn load_input<O: Outside>(
+    alloc: Global,
+    outside: &mut O,
+    line: &CommandLine<'_>,
+) -> Result<Input, Status>
+    ensures script { IfOk result (λ input. IfSome (O.content outside.old line.now.script.now) (λ told. script_meaning told ≡ Ok input.script)) }
+    ensures file_a { IfOk result (λ input. IfSome (O.content outside.old line.now.file_a.now) (λ told. input.file_a ≡ told)) }
+    ensures file_b { IfOk result (λ input. IfSome (O.content outside.old line.now.file_b.now) (λ told. input.file_b ≡ told)) }
+    ensures ranges { IfOk result (λ input. HasRanges input.script) }
+    ensures within { OnOk result (AreFirstWithinLimits (O.content outside.old) (shown line.now)) }
+    ensures fault { IfErr result (IsInputFault (O.content outside.old) (shown line.now) (O.load_faults outside.old) (O.load_faults outside.new)) }
+    ensures counted { O.load_faults outside.old ≤ O.load_faults outside.new }
+    ensures same_ports { (port : Port) → O.holds outside.new port ≡ O.holds outside.old port }
+    ensures same_counts { (port : Port) → O.port_faults outside.new port ≡ O.port_faults outside.old port }
+{
+    let contents = load_contents(alloc, outside, line)?;
+    input_of(alloc, contents)
+}
+
+/// What a run of the steps of a log reads.
+#[derive(Drop)]
+pub struct Replay {
+    pub input: Input,
+    /// The turns of the log.
+    pub turns: Vec<Turn>,
+    /// How many lines of the log stand before its first turn.
+    pub lines: u64,
+}
+
+/// What a run of the steps of a log reads: the script, both files and the log.
+pub fn load_replay<O: Outside>(
+    alloc: Global,
+    outside: &mut O,
+    line: &CommandLine<'_>,
+    order: &str,
+) -> Result<Replay, Status>
+    requires named { (shown line.now).work ≡ replay order.now }
+    ensures script { IfOk result (λ replay. IfSome (O.content outside.old line.now.script.now) (λ told. script_meaning told ≡ Ok replay.input.script)) }
+    ensures file_a { IfOk result (λ replay. IfSome (O.content outside.old line.now.file_a.now) (λ told. replay.input.file_a ≡ told)) }
+    ensures file_b { IfOk result (λ replay. IfSome (O.content outside.old line.now.file_b.now) (λ told. replay.input.file_b ≡ told)) }
+    ensures turns { IfOk result (λ replay. IfSome (O.content outside.old order.now) (λ told. reading 3 8 told ≡ Ok replay.turns.items)) }
+    ensures lines { IfOk result (λ replay. IfSome (O.content outside.old order.now) (λ told. replay.lines ≡ opening_count told)) }
+    ensures few { IfOk result (λ replay. replay.lines ≤ 3) }
+    ensures ranges { IfOk result (λ replay. HasRanges replay.input.script) }
+    ensures within { OnOk result (AreWithinLimits (O.content outside.old) (shown line.now)) }
+    ensures fault { IfErr result (IsReplayInputFault (O.content outside.old) (shown line.now) (O.load_faults outside.old) (O.load_faults outside.new)) }
+    ensures counted { O.load_faults outside.old ≤ O.load_faults outside.new }
+    ensures same_ports { (port : Port) → O.holds outside.new port ≡ O.holds outside.old port }
+    ensures same_counts { (port : Port) → O.port_faults outside.new port ≡ O.port_faults outside.old port }
+{
+    let contents = load_contents(alloc, outside, line)?;
+    let log = load_order(alloc, outside, line, order)?;
+    let input = input_of(alloc, contents)?;
+    Ok(Replay {
+        input,
+        turns: read_order(alloc, &log)?,
+        lines: opening_count(&log),
+    })
 }

@@ -2,15 +2,20 @@
 #![tactic(auto)]
 
 mod device;
-mod handshake;
 mod input;
-mod log;
+mod laws;
+mod order;
+mod outcome;
+mod readers;
+mod replay;
+mod rounds;
 mod script;
+mod serial;
 mod status;
 mod top_call;
-mod transfer;
-mod words;
+mod weaving;
 
+pub use laws::{loaded_tasks_are_plain, plain_runs_keep_their_word};
 pub use link_script::ScriptKind;
 pub use status::{Named, Status, fault_text};
 pub use top_call::run;

@@ -5,28 +5,15 @@ ghost use Rattle.std.specs.List.{slice_split};
 ghost use Rattle.link_script.specs.Words.{is_passed_over};
 ghost use Rattle.link_script.specs.Reading.{Gives};
 ghost use Rattle.link_script.specs.Scripts.{HasRanges};
-ghost use Rattle.mptcp_run.specs.Script.{parted_at, parts_of, is_run_word, is_zero, is_held_back, script_meaning, settings_of, connection_in};
-ghost use Rattle.straight_segments.specs.Drawn.{FitsFields};
+ghost use Rattle.mptcp_run.specs.Script.{parted_at, parts_of, is_setting, is_event, is_zero, is_held_back, script_meaning};
 
 use link_script::{Script, ScriptFault, ScriptKind, parse};
 use std::alloc::Global;
-use straight_segments::{Connection, Settings};
-
-/// The connection that a script tells of, its ends drawn from the seed, or the first line that is refused.
-#[tactic(auto, unfolding(crate::specs::Script::connection_in))]
-pub fn read_connection(alloc: Global, text: &[u8]) -> Result<Connection, ScriptFault>
-    requires { length text.now ≤ 65536 }
-    ensures meaning { Gives (λ connection. connection) result (connection_in text.now) }
-    ensures fits { IfOk result FitsFields }
-{
-    let script = read_script(alloc, text)?;
-    Ok(Connection::drawn(script.seed, settings_of(&script)))
-}
 
 /// Reads a script, or says which line is refused first: a line that isn't run yet is a wrong word, where all lines
 /// are read.
 #[tactic(auto, unfolding(crate::specs::Script::script_meaning))]
-fn read_script(alloc: Global, text: &[u8]) -> Result<Script, ScriptFault>
+pub fn read_script(alloc: Global, text: &[u8]) -> Result<Script, ScriptFault>
     requires { length text.now ≤ 65536 }
     ensures meaning { Gives (λ script. script) result (script_meaning text.now) }
     ensures ranges { IfOk result HasRanges }
@@ -50,14 +37,17 @@ fn held_back_place(text: &[u8]) -> Option<usize>
         .position(|line| is_held_back(line))
 }
 
-/// Whether a line of a script isn't run yet: it is no empty line, no comment, not the first line, and not of `seed`,
-/// `buffer`, path 0 or `end`.
+/// Whether a line of a script isn't run yet: it is no empty line and no comment, not the first line, not of path 0, not `end`,
+/// and no `seed`, `checksum`, `buffer`, `drop`, `dup`, `late` or `die`.
 fn is_held_back(line: &[u8]) -> bool
     ensures { result ≡ is_held_back line.now }
 {
     let (word, rest) = split_at_first(line, b' ');
     let (number, _) = split_at_first(rest, b' ');
-    !(is_passed_over(line) || is_run_word(word) || word == b"path".as_slice() && is_zero(number))
+    !(is_passed_over(line)
+        || is_setting(word)
+        || is_event(word)
+        || word == b"path".as_slice() && is_zero(number))
 }
 
 fn is_passed_over(line: &[u8]) -> bool
@@ -69,14 +59,25 @@ fn is_passed_over(line: &[u8]) -> bool
     }
 }
 
-/// Whether every line that begins with this word is run.
-fn is_run_word(word: &[u8]) -> bool
-    ensures { result ≡ is_run_word word.now }
+/// Whether a line that begins with this word tells of the whole script, and is run.
+fn is_setting(word: &[u8]) -> bool
+    ensures { result ≡ is_setting word.now }
 {
     word == b"mptcp-script".as_slice()
         || word == b"seed".as_slice()
+        || word == b"checksum".as_slice()
         || word == b"buffer".as_slice()
         || word == b"end".as_slice()
+}
+
+/// Whether a line that begins with this word tells what happens on a path, and is run.
+fn is_event(word: &[u8]) -> bool
+    ensures { result ≡ is_event word.now }
+{
+    word == b"drop".as_slice()
+        || word == b"dup".as_slice()
+        || word == b"late".as_slice()
+        || word == b"die".as_slice()
 }
 
 /// Whether the digits write 0.
@@ -87,7 +88,7 @@ fn is_zero(digits: &[u8]) -> bool
 }
 
 /// What stands before the first such octet, and what stands after it.
-fn split_at_first(text: &[u8], separator: u8) -> (&[u8], &[u8])
+pub fn split_at_first(text: &[u8], separator: u8) -> (&[u8], &[u8])
     ensures { parts_of result ≡ parted_at separator text.now }
 {
     match first_place(text, separator) {
@@ -101,20 +102,4 @@ fn first_place(text: &[u8], separator: u8) -> Option<usize>
     ensures { result ≡ position (λ octet. octet == separator) text.now }
 {
     text.iter().position(|octet| *octet == separator)
-}
-
-/// What the script tells of both ends.
-fn settings_of(script: &Script) -> Settings
-    requires { HasRanges script.now }
-    ensures settings { result ≡ settings_of script.now }
-    ensures mss { (200 ≤ result.mss) × (result.mss ≤ 1460) }
-    ensures buffer { result.buffer ≤ 2 ^ 20 }
-{
-    match script.paths.as_slice() {
-        [path, ..] => Settings {
-            mss: path.mss,
-            buffer: script.buffer as u32,
-        },
-        [] => unreachable!(),
-    }
 }

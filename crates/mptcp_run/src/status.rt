@@ -2,23 +2,34 @@ ghost use Rattle.std.specs.Prelude.{◌≡◌, IfOk, string_bytes};
 ghost use Rattle.mptcp_run.specs.Status.{code_of, fault_line, input_word, port_word};
 
 use link_script::ScriptKind;
-use outside_kit::Port;
+use outside_kit::{Port, Side};
 use std::alloc::{AllocError, Global};
 
 /// An input of a run.
 #[derive(Clone, Copy, Debug, PartialEq, Eq)]
 pub enum Named {
+    /// What happens on the path.
     Script,
+    /// What A sends.
     FileA,
+    /// What B sends.
     FileB,
+    /// The log whose steps are made again.
+    Order,
 }
 
 /// How a run has ended.
 #[derive(Clone, Copy, Debug, PartialEq, Eq)]
 pub enum Status {
-    /// B's reader has read FILE_A to its end, and A's reader nothing, which is all that B sends.
+    /// Both readers were told the end of what the other side sends.
     Delivered,
-    /// The words break the form of the command line.
+    /// The rounds are used up.
+    Rounds,
+    /// Every path is dead, and not both readers were told the end.
+    NoPath,
+    /// The reader of this side was told that its peer aborted the connection (RFC 8684, section 3.5).
+    Aborted { reader: Side },
+    /// The words break the form of the command line, or ask for a mode that isn't run yet.
     Usage,
     /// The script is refused at this line, counted from 1.
     Script { line: u64, kind: ScriptKind },
@@ -30,6 +41,8 @@ pub enum Status {
     TooLong { input: Named },
     /// There is no memory.
     Memory,
+    /// The log is refused at this line, counted from 1: it breaks the form of a log, or its turn can't be made.
+    Log { line: u64 },
 }
 
 impl Status {
@@ -39,12 +52,16 @@ impl Status {
     {
         match self {
             Status::Delivered => 0,
+            Status::Rounds => 1,
+            Status::NoPath => 2,
+            Status::Aborted { .. } => 3,
             Status::Usage => 4,
             Status::Script { .. } => 5,
             Status::Load { .. } => 6,
             Status::Put { .. } => 7,
             Status::TooLong { .. } => 8,
             Status::Memory => 9,
+            Status::Log { .. } => 12,
         }
     }
 }
@@ -58,6 +75,7 @@ impl Named {
             Named::Script => "script",
             Named::FileA => "file-a",
             Named::FileB => "file-b",
+            Named::Order => "order",
         }
     }
 }
@@ -79,6 +97,9 @@ pub fn fault_text(alloc: Global, status: &Status) -> Result<String, AllocError>
 {
     match status {
         Status::Delivered => Ok(String::new(alloc)),
+        Status::Rounds => Ok(String::new(alloc)),
+        Status::NoPath => Ok(String::new(alloc)),
+        Status::Aborted { .. } => Ok(String::new(alloc)),
         Status::Usage => String::from_str(
             alloc,
             "mptcp_sim: usage: --mode run|serial|replay|bench SCRIPT FILE_A FILE_B READ_BY_B READ_BY_A [--rounds N] [--order LOG] [--number N]",
@@ -90,5 +111,6 @@ pub fn fault_text(alloc: Global, status: &Status) -> Result<String, AllocError>
         Status::Put { port } => format!(in alloc; "mptcp_sim: cannot write {}", word_of(*port)),
         Status::TooLong { input } => format!(in alloc; "mptcp_sim: too long: {}", input.word()),
         Status::Memory => String::from_str(alloc, "mptcp_sim: out of memory"),
+        Status::Log { line } => format!(in alloc; "mptcp_sim: log line {line}"),
     }
 }

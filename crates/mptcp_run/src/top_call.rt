@@ -1,76 +1,206 @@
 //! The top call.
 
-ghost use Rattle.std.specs.Prelude.{◌≡◌, ◌≤◌, ◌<◌, ◌++◌, ◌↔◌, ◌⊎◌, ℕ, [], length, map, Err, IsNone, IsSomeAnd, IsOk, IfErr, IfSome, OnOk, OnErr, vec_len, string_bytes};
+ghost use Rattle.std.specs.Prelude.{◌≡◌, ◌≢◌, ◌≤◌, ◌<◌, ◌++◌, ◌⊎◌, ℕ, List, [], length, map, Some, Ok, Err, IsNone, IsSome, IsSomeAnd, IsOk, IfOk, IfErr, IfSome, OnOk, OnErr, string_bytes};
 ghost use Rattle.outside_kit.specs.declared.port.Port.{Port};
 ghost use Rattle.outside_kit.specs.Outside.{HasRisen, HoldsAfter, HoldsPrefix};
-ghost use Rattle.mptcp_run.specs.declared.status.Named.{Named};
 ghost use Rattle.link_script.specs.declared.fault.ScriptKind.{ScriptKind};
-ghost use Rattle.link_script.specs.declared.fault.ScriptFault.TheVariants.{Line};
-ghost use Rattle.straight_segments.specs.Drawn.{FitsFields};
-ghost use Rattle.mptcp_run.specs.Words.{names_in};
+ghost use Rattle.link_script.specs.declared.fault.ScriptFault.TheVariants as script_fault;
+ghost use Rattle.link_script.specs.Scripts.{HasRanges};
+ghost use Rattle.run_words.specs.Lines.{Line, serial, replay, shown};
+ghost use Rattle.world_laws.specs.Outcomes.{outcome_of};
+ghost use Rattle.mptcp_run.specs.declared.status.Named.{Named};
+ghost use Rattle.mptcp_run.specs.declared.status.Named.TheVariants as named;
+ghost use Rattle.mptcp_run.specs.Answers.{HasEnded, IsRefusal, HasLoaded, HasRead, HasBegun, IsRefusedLine, IsAnswer};
+ghost use Rattle.mptcp_run.specs.Asked.{asked_in, if_run};
 ghost use Rattle.mptcp_run.specs.Causes.{limit_of};
-ghost use Rattle.mptcp_run.specs.Inputs.{name_of, IsWithinLimit, AreWithinLimitsBefore};
-ghost use Rattle.mptcp_run.specs.Script.{connection_in};
-ghost use Rattle.mptcp_run.specs.Log.{log_text};
-ghost use Rattle.mptcp_run.specs.Ports.{NeverFall, IsUntouched, IsPortsFault, HoldsBound};
-ghost use Rattle.mptcp_run.specs.Task.{task_of, IsRefusal, HasLoaded, HasBegun, IsCutOff, IsValid, MayBegin};
+ghost use Rattle.mptcp_run.specs.Inputs.{name_of, order_of, content_of, AreWithinLimitsBefore};
+ghost use Rattle.mptcp_run.specs.Ports.{NeverFall, IsUntouched, IsPortsFault, HoldsWithin};
+ghost use Rattle.mptcp_run.specs.Putting.{last_line, status_of, IsWhole, IsCut, ReplayEnds};
+ghost use Rattle.mptcp_run.specs.Replaying.{IsReplayFault};
+ghost use Rattle.mptcp_run.specs.Rounds.{IsOpened};
+ghost use Rattle.mptcp_run.specs.Script.{script_meaning};
+ghost use Rattle.mptcp_run.specs.Task.{task_from, task_of, task_in, opening_count, AreWithinLimits, HasValidScript, HasValidOrder, IsValid};
+ghost use Rattle.mptcp_run.specs.Rounds.{all_turns};
+ghost use Rattle.mptcp_run.specs.Task as course;
 
-use crate::device::bind;
-use crate::handshake::open_path;
-use crate::input::{Input, load_input};
+use crate::input::{Replay, load_input, load_replay};
+use crate::outcome::{put_outcome, status_of};
+use crate::readers::bind_readers;
+use crate::replay::make_turns;
+use crate::rounds::Run;
+use crate::serial::make_rounds;
 use crate::status::Status;
-use crate::transfer::transfer;
-use crate::words::{Command, command_of};
 use outside_kit::{Gate, Outside, Port};
+use run_words::{CommandLine, Mode, WordsFault, read};
 use std::alloc::Global;
+use world_core::Input;
 
-/// Binds the readers' ports, B's first.
-fn bind_readers<O: Outside>(outside: &mut O, command: &Command<'_>) -> Result<(), Status>
+/// Opens the connection, and binds the readers' ports.
+fn begin<O: Outside>(
+    alloc: Global,
+    outside: &mut O,
+    line: &CommandLine<'_>,
+    input: &Input,
+) -> Result<Run, Status>
+    requires { HasRanges input.now.script }
+    ensures run { IfOk result (IsOpened input.now) }
     ensures read_by_b { OnOk result (HoldsAfter (O.holds outside.old Port.ReadByB) (O.holds outside.new Port.ReadByB) (λ _. [])) }
     ensures read_by_a { OnOk result (HoldsAfter (O.holds outside.old Port.ReadByA) (O.holds outside.new Port.ReadByA) (λ _. [])) }
-    ensures read_by_b_prefix { OnErr result (HoldsBound (O.holds outside.old Port.ReadByB) (O.holds outside.new Port.ReadByB) []) }
-    ensures read_by_a_prefix { OnErr result (HoldsBound (O.holds outside.old Port.ReadByA) (O.holds outside.new Port.ReadByA) []) }
+    ensures read_by_b_err { OnErr result (HoldsWithin (Unit {0}) (O.holds outside.old Port.ReadByB) (O.holds outside.new Port.ReadByB) [] []) }
+    ensures read_by_a_err { OnErr result (HoldsWithin (Unit {0}) (O.holds outside.old Port.ReadByA) (O.holds outside.new Port.ReadByA) [] []) }
     ensures log { O.holds outside.new Port.Log ≡ O.holds outside.old Port.Log }
     ensures fault { IfErr result (IsPortsFault (O.port_faults outside.old) (O.port_faults outside.new)) }
     ensures counted { NeverFall (O.port_faults outside.old) (O.port_faults outside.new) }
     ensures load_counts { O.load_faults outside.new ≡ O.load_faults outside.old }
 {
-    bind(outside, Port::ReadByB, command.read_by_b)?;
-    bind(outside, Port::ReadByA, command.read_by_a)
+    match Run::open(alloc, input) {
+        Ok(run) => match bind_readers(outside, line) {
+            Ok(()) => Ok(run),
+            Err(status) => Err(status),
+        },
+        Err(_) => Err(Status::Memory),
+    }
 }
 
-/// Binds the readers' ports, opens path 0 and sends the file.
-fn send<O: Outside>(
+/// Puts the last line of the log of a run whose rounds were made, and answers how it ended.
+fn end<O: Outside>(alloc: Global, outside: &mut O, run: &Run) -> Result<Status, Status>
+    ensures status { IfOk result (λ status. status ≡ status_of (outcome_of run.now.world.state.crew)) }
+    ensures ok { OnOk result (HoldsAfter (O.holds outside.old Port.Log) (O.holds outside.new Port.Log) (λ held. held ++ last_line run.now.world.state)) }
+    ensures err { OnErr result (HoldsPrefix (O.holds outside.old Port.Log) (O.holds outside.new Port.Log) (last_line run.now.world.state)) }
+    ensures fault { IfErr result (IsPortsFault (O.port_faults outside.old) (O.port_faults outside.new)) }
+    ensures counted { NeverFall (O.port_faults outside.old) (O.port_faults outside.new) }
+    ensures other_ports { (other : Port) → other ≢ Port.Log → O.holds outside.new other ≡ O.holds outside.old other }
+    ensures load_counts { O.load_faults outside.new ≡ O.load_faults outside.old }
+{
+    let outcome = run.world.outcome();
+    put_outcome(alloc, outside, outcome)?;
+    Ok(status_of(outcome))
+}
+
+/// Makes whole turns, at most so many rounds.
+fn perform_serial<O: Outside>(
     alloc: Global,
     outside: &mut O,
-    command: &Command<'_>,
-    input: Input,
-) -> Result<(), Status>
-    requires fits { FitsFields input.connection }
-    requires limit { vec_len input.file_a ≤ 16777216 }
-
-    ensures read_by_b { OnOk result (HoldsAfter (O.holds outside.old Port.ReadByB) (O.holds outside.new Port.ReadByB) (λ _. input.file_a.items)) }
-    ensures read_by_a { OnOk result (HoldsAfter (O.holds outside.old Port.ReadByA) (O.holds outside.new Port.ReadByA) (λ _. [])) }
-    ensures log { OnOk result (HoldsAfter (O.holds outside.old Port.Log) (O.holds outside.new Port.Log) (λ held. held ++ log_text input.connection input.file_a.items)) }
-
-    ensures read_by_b_prefix { OnErr result (HoldsBound (O.holds outside.old Port.ReadByB) (O.holds outside.new Port.ReadByB) input.file_a.items) }
-    ensures read_by_a_prefix { OnErr result (HoldsBound (O.holds outside.old Port.ReadByA) (O.holds outside.new Port.ReadByA) []) }
-    ensures log_prefix { OnErr result (HoldsPrefix (O.holds outside.old Port.Log) (O.holds outside.new Port.Log) (log_text input.connection input.file_a.items)) }
-
+    line: &CommandLine<'_>,
+    input: &Input,
+    rounds: u32,
+) -> Result<Status, Status>
+    requires { HasRanges input.now.script }
+    ensures ended { IfOk result HasEnded }
+    ensures whole { IfOk result (λ status. IsWhole (task_from input.now (course.rounds rounds)) status (O.holds outside.old) (O.holds outside.new)) }
+    ensures cut { OnErr result (IsCut (task_from input.now (course.rounds rounds)) (O.holds outside.old) (O.holds outside.new)) }
     ensures fault { IfErr result (IsPortsFault (O.port_faults outside.old) (O.port_faults outside.new)) }
     ensures counted { NeverFall (O.port_faults outside.old) (O.port_faults outside.new) }
     ensures load_counts { O.load_faults outside.new ≡ O.load_faults outside.old }
 {
-    bind_readers(outside, command)?;
-    let opened = open_path(alloc, outside, &input.connection)?;
-    transfer(alloc, outside, &opened, input.file_a)
+    let mut run = begin(alloc, outside, line, input)?;
+    make_rounds(alloc, outside, &mut run, rounds)?;
+    end(alloc, outside, &run)
 }
 
-/// Sends FILE_A from A to B as the words say: `--mode serial SCRIPT FILE_A FILE_B READ_BY_B READ_BY_A`.
+/// Makes the turns of a log.
+fn perform_replay<O: Outside>(
+    alloc: Global,
+    outside: &mut O,
+    line: &CommandLine<'_>,
+    replay: &Replay,
+) -> Result<Status, Status>
+    requires ranges { HasRanges replay.now.input.script }
+    requires few { replay.now.lines ≤ 3 }
+    ensures ended { IfOk result HasEnded }
+    ensures whole { IfOk result (λ status. IsWhole (task_from replay.now.input (course.told (all_turns replay.now.turns.items))) status (O.holds outside.old) (O.holds outside.new)) }
+    ensures err { IfErr result (ReplayEnds (task_from replay.now.input (course.told (all_turns replay.now.turns.items))) replay.now.lines (O.holds outside.old) (O.holds outside.new)) }
+    ensures fault { IfErr result (IsReplayFault (O.port_faults outside.old) (O.port_faults outside.new)) }
+    ensures counted { NeverFall (O.port_faults outside.old) (O.port_faults outside.new) }
+    ensures load_counts { O.load_faults outside.new ≡ O.load_faults outside.old }
+{
+    let mut run = begin(alloc, outside, line, &replay.input)?;
+    make_turns(alloc, outside, &mut run, &replay.turns, replay.lines)?;
+    end(alloc, outside, &run)
+}
+
+/// A run of whole turns, at most so many rounds.
+fn run_serial<O: Outside>(
+    alloc: Global,
+    outside: &mut O,
+    line: &CommandLine<'_>,
+    rounds: u32,
+) -> Status
+    requires { (shown line.now).work ≡ serial rounds }
+    ensures { IsAnswer (O.content outside.old) (shown line.now) (O.load_faults outside.old) (O.load_faults outside.new)
+        (O.port_faults outside.old) (O.port_faults outside.new) (O.holds outside.old) (O.holds outside.new) result }
+{
+    let input = match load_input(alloc, outside, line) {
+        Ok(input) => input,
+        Err(status) => return status,
+    };
+    match perform_serial(alloc, outside, line, &input, rounds) {
+        Ok(status) => status,
+        Err(status) => status,
+    }
+}
+
+/// A run of the turns of a log.
+fn run_replay<O: Outside>(
+    alloc: Global,
+    outside: &mut O,
+    line: &CommandLine<'_>,
+    order: &str,
+) -> Status
+    requires { (shown line.now).work ≡ replay order.now }
+    ensures { IsAnswer (O.content outside.old) (shown line.now) (O.load_faults outside.old) (O.load_faults outside.new)
+        (O.port_faults outside.old) (O.port_faults outside.new) (O.holds outside.old) (O.holds outside.new) result }
+{
+    let replay = match load_replay(alloc, outside, line, order) {
+        Ok(replay) => replay,
+        Err(status) => return status,
+    };
+    match perform_replay(alloc, outside, line, &replay) {
+        Ok(status) => status,
+        Err(status) => status,
+    }
+}
+
+/// What a command line asks for, if it is run.
+fn run_line<O: Outside>(alloc: Global, outside: &mut O, line: &CommandLine<'_>) -> Status
+    ensures run { IfSome (if_run (shown line.now)) (λ asked. IsAnswer (O.content outside.old) asked (O.load_faults outside.old) (O.load_faults outside.new)
+        (O.port_faults outside.old) (O.port_faults outside.new) (O.holds outside.old) (O.holds outside.new) result) }
+    ensures other { IsNone (if_run (shown line.now)) → result ≡ Status.Usage }
+    ensures untouched { IsNone (if_run (shown line.now)) → IsUntouched (O.holds outside.old) (O.holds outside.new) (O.port_faults outside.old) (O.port_faults outside.new) }
+    ensures unloaded { IsNone (if_run (shown line.now)) → O.load_faults outside.new ≡ O.load_faults outside.old }
+{
+    match line.mode {
+        Mode::Serial { rounds } => run_serial(alloc, outside, line, rounds),
+        Mode::Replay { order } => run_replay(alloc, outside, line, order),
+        Mode::Run { .. } => Status::Usage,
+        Mode::Bench { .. } => Status::Usage,
+    }
+}
+
+/// What the words ask for, and how that ended.
+fn run_words<O: Outside>(alloc: Global, outside: &mut O, words: &[String]) -> Status
+    ensures asked { IfSome (asked_in (map string_bytes words.now)) (λ line. IsAnswer (O.content outside.old) line (O.load_faults outside.old) (O.load_faults outside.new)
+        (O.port_faults outside.old) (O.port_faults outside.new) (O.holds outside.old) (O.holds outside.new) result) }
+    ensures usage { result ≡ Status.Usage → IsNone (asked_in (map string_bytes words.now)) }
+    ensures other { IsNone (asked_in (map string_bytes words.now)) → (result ≡ Status.Usage) ⊎ (result ≡ Status.Memory) }
+    ensures untouched { IsNone (asked_in (map string_bytes words.now)) → IsUntouched (O.holds outside.old) (O.holds outside.new) (O.port_faults outside.old) (O.port_faults outside.new) }
+    ensures unloaded { IsNone (asked_in (map string_bytes words.now)) → O.load_faults outside.new ≡ O.load_faults outside.old }
+{
+    match read(alloc, words) {
+        Ok(line) => run_line(alloc, outside, &line),
+        Err(WordsFault::Usage) => Status::Usage,
+        Err(WordsFault::Memory) => Status::Memory,
+    }
+}
+
+/// Runs a connection as the words say: `--mode serial SCRIPT FILE_A FILE_B READ_BY_B READ_BY_A [--rounds N]`, or `--mode replay`
+/// with `--order LOG` in the place of the rounds.
 ///
-/// Path 0 opens before the readers read. What B's reader reads is put to `ReadByB`, the octets of each segment and the
-/// outcome to `Log`. The promises on what `outside` holds are kept as far as it tells it. No thread is started, and
-/// `gate` isn't passed.
+/// In `serial` the actors take whole turns, one after the other, round by round, until both readers were told the end, each path
+/// is dead, or N rounds were made (1 to 65,536; 4,096 where nothing is said). In `replay` they take the turns that a log tells.
+/// After each round what B's reader and A's reader have read in it is put to `ReadByB` and `ReadByA`, if it is anything, and the
+/// lines of the round's steps to `Log`, by stamp, then actor; and last the outcome. The modes `run` and `bench` aren't run yet. The
+/// promises on what `outside` holds are kept as far as it tells it. No thread is started, and `gate` isn't passed.
 pub fn run<O: Outside, G: Gate + Sync>(
     alloc: Global,
     words: &[String],
@@ -78,58 +208,42 @@ pub fn run<O: Outside, G: Gate + Sync>(
     _gate: &G,
 ) -> Status
     // The answers and their causes.
-    ensures usage { (result ≡ Status.Usage) ↔ IsNone (names_in (map string_bytes words.now)) }
+    ensures usage { result ≡ Status.Usage → IsNone (asked_in (map string_bytes words.now)) }
+    ensures unasked { IsNone (asked_in (map string_bytes words.now)) → (result ≡ Status.Usage) ⊎ (result ≡ Status.Memory) }
     ensures load { (input : Named) → result ≡ Status.Load input → HasRisen (O.load_faults outside.old) (O.load_faults outside.new) }
-    ensures too_long { (input : Named) → result ≡ Status.TooLong input → IfSome (names_in (map string_bytes words.now)) (λ names.
-        IfSome (O.content outside.old (name_of input names)) (λ told. limit_of input < length told)) }
-    ensures script { (line : ℕ) (kind : ScriptKind) → result ≡ Status.Script line kind → IfSome (names_in (map string_bytes words.now)) (λ names.
-        IfSome (O.content outside.old names.script) (λ told. connection_in told ≡ Err (Line line kind))) }
+    ensures too_long { (input : Named) → result ≡ Status.TooLong input → IfSome (asked_in (map string_bytes words.now)) (λ line.
+        IfSome (content_of (O.content outside.old) line input) (λ told. limit_of input < length told)) }
+    ensures script { (at : ℕ) (kind : ScriptKind) → result ≡ Status.Script at kind → IfSome (asked_in (map string_bytes words.now)) (λ line.
+        IfSome (O.content outside.old line.names.script) (λ told. script_meaning told ≡ Err (script_fault.Line at kind))) }
     ensures put { (port : Port) → result ≡ Status.Put port → HasRisen (O.port_faults outside.old port) (O.port_faults outside.new port) }
+    ensures log { (at : ℕ) → result ≡ Status.Log at → IfSome (asked_in (map string_bytes words.now)) (λ line.
+        IsSome (order_of line.work) × IfSome (content_of (O.content outside.old) line named.Order) (λ log. IsRefusedLine (task_of (O.content outside.old) line) log at
+        (IsUntouched (O.holds outside.old) (O.holds outside.new) (O.port_faults outside.old) (O.port_faults outside.new)) (O.holds outside.old) (O.holds outside.new))) }
 
-    // An answer comes only where no earlier one does: what is loaded before is within its limits, and the script valid.
-    ensures loaded_before { (input : Named) → (result ≡ Status.Load input) ⊎ (result ≡ Status.TooLong input) →
-        IfSome (names_in (map string_bytes words.now)) (λ names. AreWithinLimitsBefore (O.content outside.old) names input) }
-    ensures all_loaded { HasLoaded result → IfSome (names_in (map string_bytes words.now)) (λ names.
-        (input : Named) → IsWithinLimit (O.content outside.old) names input) }
-    ensures valid { HasBegun result → IfSome (names_in (map string_bytes words.now)) (λ names.
-        IfSome (O.content outside.old names.script) (λ told. IsOk (connection_in told))) }
-    ensures complete { IsSomeAnd (names_in (map string_bytes words.now)) (IsValid (O.content outside.old))
+    // An answer comes only where no earlier one does: what is loaded before is within its limits, and what was read is valid.
+    ensures loaded_before { (input : Named) → (result ≡ Status.Load input) ⊎ (result ≡ Status.TooLong input) → IfSome (asked_in (map string_bytes words.now)) (λ line.
+        IsSome (name_of input line) × AreWithinLimitsBefore (O.content outside.old) line input) }
+    ensures all_loaded { HasLoaded result → IfSome (asked_in (map string_bytes words.now)) (AreWithinLimits (O.content outside.old)) }
+    ensures valid_script { HasRead result → IfSome (asked_in (map string_bytes words.now)) (HasValidScript (O.content outside.old)) }
+    ensures valid_order { HasBegun result → IfSome (asked_in (map string_bytes words.now)) (HasValidOrder (O.content outside.old)) }
+    ensures complete { (line : Line) → asked_in (map string_bytes words.now) ≡ Some line → IsValid (O.content outside.old) line
         → ¬ HasRisen (O.load_faults outside.old) (O.load_faults outside.new)
         → ((port : Port) → ¬ HasRisen (O.port_faults outside.old port) (O.port_faults outside.new port))
-        → (result ≡ Status.Delivered) ⊎ (result ≡ Status.Memory) }
-
-    // Out of memory: nothing was bound or put, or else all was loaded within its limits and the script is valid.
-    ensures memory { result ≡ Status.Memory → IsUntouched (O.holds outside.old) (O.holds outside.new) (O.port_faults outside.old) (O.port_faults outside.new)
-        ⊎ IfSome (names_in (map string_bytes words.now)) (MayBegin (O.content outside.old)) }
-
-    // Delivered: B's reader has FILE_A, A's reader has nothing, and the log has grown by the lines of the segments and
-    // the outcome.
-    ensures delivered_to_b { result ≡ Status.Delivered → IfSome (task_of (O.content outside.old) (map string_bytes words.now)) (λ task.
-        HoldsAfter (O.holds outside.old Port.ReadByB) (O.holds outside.new Port.ReadByB) (λ _. task.file_a)) }
-    ensures delivered_to_a { result ≡ Status.Delivered →
-        HoldsAfter (O.holds outside.old Port.ReadByA) (O.holds outside.new Port.ReadByA) (λ _. []) }
-    ensures delivered_log { result ≡ Status.Delivered → IfSome (task_of (O.content outside.old) (map string_bytes words.now)) (λ task.
-        HoldsAfter (O.holds outside.old Port.Log) (O.holds outside.new Port.Log) (λ held. held ++ log_text task.connection task.file_a)) }
+        → HasEnded result ⊎ ((result ≡ Status.Memory) ⊎ ((at : ℕ) × ((result ≡ Status.Log at) × IsSome (order_of line.work)))) }
 
     // Refused: nothing was bound or put, and for wrong words nothing was loaded.
-    ensures untouched { IsRefusal result → IsUntouched (O.holds outside.old) (O.holds outside.new) (O.port_faults outside.old) (O.port_faults outside.new) }
     ensures unloaded { result ≡ Status.Usage → O.load_faults outside.new ≡ O.load_faults outside.old }
+    ensures untouched { IsRefusal result → IsUntouched (O.holds outside.old) (O.holds outside.new) (O.port_faults outside.old) (O.port_faults outside.new) }
 
-    // Cut off: each reader's port is as it was or holds a prefix of its text, and the log has grown by a prefix of its own.
-    ensures cut_off_b { IsCutOff result → IfSome (task_of (O.content outside.old) (map string_bytes words.now)) (λ task.
-        HoldsBound (O.holds outside.old Port.ReadByB) (O.holds outside.new Port.ReadByB) task.file_a) }
-    ensures cut_off_a { IsCutOff result → HoldsBound (O.holds outside.old Port.ReadByA) (O.holds outside.new Port.ReadByA) [] }
-    ensures cut_off_log { IsCutOff result → IfSome (task_of (O.content outside.old) (map string_bytes words.now)) (λ task.
-        HoldsPrefix (O.holds outside.old Port.Log) (O.holds outside.new Port.Log) (log_text task.connection task.file_a)) }
+    // At its own end: all turns were made, the status is what the connection shows then, and the ports hold the run.
+    ensures whole { HasEnded result → IfSome (task_in (O.content outside.old) (map string_bytes words.now)) (λ task.
+        IsWhole task result (O.holds outside.old) (O.holds outside.new)) }
+
+    // Cut off by a port that failed, or by want of memory.
+    ensures cut_off { (port : Port) → result ≡ Status.Put port → IfSome (task_in (O.content outside.old) (map string_bytes words.now)) (λ task.
+        IsCut task (O.holds outside.old) (O.holds outside.new)) }
+    ensures memory { result ≡ Status.Memory → IsUntouched (O.holds outside.old) (O.holds outside.new) (O.port_faults outside.old) (O.port_faults outside.new)
+        ⊎ IfSome (task_in (O.content outside.old) (map string_bytes words.now)) (λ task. IsCut task (O.holds outside.old) (O.holds outside.new)) }
 {
-    let Some(command) = command_of(words) else {
-        return Status::Usage;
-    };
-    match load_input(alloc, outside, &command) {
-        Ok(input) => match send(alloc, outside, &command, input) {
-            Ok(()) => Status::Delivered,
-            Err(status) => status,
-        },
-        Err(status) => status,
-    }
+    run_words(alloc, outside, words)
 }

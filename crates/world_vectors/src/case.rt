@@ -1,139 +1,129 @@
-//! A case is `SCRIPT | FILE_A | FILE_B | FAILS`. In the script `;` stands for LF. A file is `-` where it is empty, `text`
-//! and its text, `hex` and its octets, or `NxCC`, which is N times the octet CC. `FAILS` is `-`, or the number of the
-//! call of the outside that fails, and how many octets that call keeps of what it is to put.
+//! A case is `WORDS | SCRIPT | FILE_A | FILE_B | ORDER | FAILS | SHOWN`.
+//!
+//! `WORDS` are those before the five names `script a b to-b to-a`, or `-` for none. In the script `;` stands for LF. A file's
+//! octets are told as `content.rt` says. `ORDER` is what the name `log` holds: `-` where there is no such content, `log` for
+//! the log of the last case that began with `--mode serial`, or `log` and edits of it, as `order.rt` says. `FAILS` is `-`, or
+//! the number of the call of the outside that fails, and how many octets it keeps of what it is to put. `SHOWN` is `log`,
+//! `sums` or `calls`.
 
-use case_fields::CaseFault;
+use crate::content::{content, with_line_ends};
+use crate::order::edited;
+use case_fields::{CaseFault, parsed_at, word_at};
 use outside_kit::{FailAt, MemoryOutside, NamedFile};
 use std::alloc::{AllocError, Global};
+
+/// What is shown of a run.
+#[derive(Clone, Copy)]
+pub enum Shown {
+    /// What each port holds.
+    Log,
+    /// How much each port holds, and digests.
+    Sums,
+    /// The sums, and the calls that were made on the outside.
+    Calls,
+}
 
 /// The fields of a case.
 #[derive(Clone, Copy)]
 pub struct Case<'a> {
+    words: &'a str,
     script: &'a str,
     file_a: &'a str,
     file_b: &'a str,
+    order: &'a str,
     fails: &'a str,
+    pub shown: Shown,
 }
 
 impl<'a> Case<'a> {
     /// The case that a line tells.
-    pub fn read(line: &'a str) -> Result<Self, CaseFault> {
-        let Some((script, rest)) = line.split_once(" | ") else {
-            return Err(CaseFault::Form);
-        };
-        let Some((file_a, rest)) = rest.split_once(" | ") else {
-            return Err(CaseFault::Form);
-        };
-        let Some((file_b, fails)) = rest.split_once(" | ") else {
-            return Err(CaseFault::Form);
-        };
+    pub fn read(alloc: Global, line: &'a str) -> Result<Self, CaseFault> {
+        let fields: Vec<&'a str> = line.split(" | ").collect(alloc)?;
+        let fields = fields.as_slice();
         Ok(Case {
-            script,
-            file_a,
-            file_b,
-            fails,
+            words: word_at(fields, 0)?,
+            script: word_at(fields, 1)?,
+            file_a: word_at(fields, 2)?,
+            file_b: word_at(fields, 3)?,
+            order: word_at(fields, 4)?,
+            fails: word_at(fields, 5)?,
+            shown: shown_of(word_at(fields, 6)?)?,
         })
     }
 
-    /// The outside that the case tells of.
-    pub fn outside(&self, alloc: Global) -> Result<MemoryOutside, CaseFault> {
-        let script = with_line_ends(alloc, self.script)?.into_bytes();
-        let file_a = content(alloc, self.file_a)?;
-        let file_b = content(alloc, self.file_b)?;
-        let fails = fail_at(self.fails)?;
-        Ok(memory(alloc, script, file_a, file_b, fails)?)
+    /// Whether later cases may make the steps of its log again.
+    pub fn is_serial(&self) -> bool {
+        self.words.starts_with("--mode serial")
     }
-}
 
-fn memory(
-    alloc: Global,
-    script: Vec<u8>,
-    file_a: Vec<u8>,
-    file_b: Vec<u8>,
-    fails: Option<FailAt>,
-) -> Result<MemoryOutside, AllocError> {
-    let mut files = Vec::new(alloc);
-    files.push(file(alloc, "script", script)?)?;
-    files.push(file(alloc, "a", file_a)?)?;
-    files.push(file(alloc, "b", file_b)?)?;
-    let mut failing = Vec::new(alloc);
-    if let Some(fail) = fails {
-        failing.push(fail)?;
-    }
-    Ok(MemoryOutside::new(alloc, files, failing))
-}
-
-/// A text with LF for each `;`.
-fn with_line_ends(alloc: Global, field: &str) -> Result<String, AllocError> {
-    let mut text = String::new(alloc);
-    for (place, line) in field.split(';').enumerate() {
-        if place > 0 {
-            text.push('\n')?;
+    /// The words of the command line.
+    pub fn words(&self, alloc: Global) -> Result<Vec<String>, AllocError> {
+        let mut words = Vec::new(alloc);
+        if self.words != "-" {
+            push_words(alloc, &mut words, self.words)?;
         }
-        text.push_str(line)?;
+        push_words(alloc, &mut words, "script a b to-b to-a")?;
+        Ok(words)
     }
-    Ok(text)
+
+    /// The outside that the case tells of, where `log` is that of the last serial case.
+    pub fn outside(&self, alloc: Global, log: &[u8]) -> Result<MemoryOutside, CaseFault> {
+        let mut files = Vec::new(alloc);
+        let script = with_line_ends(alloc, self.script)?;
+        push_file(alloc, &mut files, "script", script)?;
+        push_file(alloc, &mut files, "a", content(alloc, self.file_a)?)?;
+        push_file(alloc, &mut files, "b", content(alloc, self.file_b)?)?;
+        if let Some(order) = order(alloc, self.order, log)? {
+            push_file(alloc, &mut files, "log", order)?;
+        }
+        Ok(MemoryOutside::new(alloc, files, failing(alloc, self.fails)?))
+    }
 }
 
-fn file(alloc: Global, name: &str, content: Vec<u8>) -> Result<NamedFile, AllocError> {
-    Ok(NamedFile {
-        name: String::from_str(alloc, name)?,
-        content,
-    })
+fn shown_of(field: &str) -> Result<Shown, CaseFault> {
+    match field {
+        "log" => Ok(Shown::Log),
+        "sums" => Ok(Shown::Sums),
+        "calls" => Ok(Shown::Calls),
+        _ => Err(CaseFault::Form),
+    }
 }
 
-/// The octets of a file.
-fn content(alloc: Global, field: &str) -> Result<Vec<u8>, CaseFault> {
-    if field == "-" {
-        return Ok(Vec::new(alloc));
+/// Puts each word of a text at the end of the words.
+fn push_words(alloc: Global, words: &mut Vec<String>, text: &str) -> Result<(), AllocError> {
+    for word in text.split(' ') {
+        words.push(String::from_str(alloc, word)?)?;
     }
+    Ok(())
+}
+
+fn push_file(
+    alloc: Global,
+    files: &mut Vec<NamedFile>,
+    name: &str,
+    content: Vec<u8>,
+) -> Result<(), AllocError> {
+    let name = String::from_str(alloc, name)?;
+    Ok(files.push(NamedFile { name, content })?)
+}
+
+/// The content of the name `log`, where there is one.
+fn order(alloc: Global, field: &str, log: &[u8]) -> Result<Option<Vec<u8>>, CaseFault> {
     match field.split_once(" ") {
-        Some(("text", text)) => Ok(Vec::from_slice(alloc, text.as_bytes())?),
-        Some(("hex", digits)) => octets(alloc, digits),
-        Some(_) => Err(CaseFault::Form),
-        None => repeated(alloc, field),
+        Some(("log", edits)) => Ok(Some(edited(alloc, log, edits)?)),
+        None if field == "log" => Ok(Some(Vec::from_slice(alloc, log)?)),
+        None if field == "-" => Ok(None),
+        _ => Err(CaseFault::Form),
     }
-}
-
-/// The octets that hexadecimal digits tell.
-fn octets(alloc: Global, digits: &str) -> Result<Vec<u8>, CaseFault> {
-    match hex::decode(alloc, digits) {
-        Ok(octets) => Ok(octets),
-        Err(hex::FromHexError::OutOfMemory) => Err(CaseFault::Memory),
-        Err(_) => Err(CaseFault::Form),
-    }
-}
-
-/// So many times the same octet.
-fn repeated(alloc: Global, field: &str) -> Result<Vec<u8>, CaseFault> {
-    let Some((count, digits)) = field.split_once("x") else {
-        return Err(CaseFault::Form);
-    };
-    let octet = octets(alloc, digits)?;
-    let mut content = Vec::new(alloc);
-    for _ in 0..number(count)? {
-        content.extend_from_slice(&octet)?;
-    }
-    Ok(content)
 }
 
 /// The call that fails, if any, and how many octets it keeps.
-fn fail_at(field: &str) -> Result<Option<FailAt>, CaseFault> {
+fn failing(alloc: Global, field: &str) -> Result<Vec<FailAt>, CaseFault> {
     if field == "-" {
-        return Ok(None);
+        return Ok(Vec::new(alloc));
     }
-    match field.split_once(" ") {
-        Some((call, kept)) => Ok(Some(FailAt {
-            call: number(call)?,
-            kept: number(kept)?,
-        })),
-        None => Err(CaseFault::Form),
-    }
-}
-
-fn number(digits: &str) -> Result<u64, CaseFault> {
-    match digits.parse() {
-        Ok(number) => Ok(number),
-        Err(_) => Err(CaseFault::Form),
-    }
+    let fields: Vec<&str> = field.split(' ').collect(alloc)?;
+    let call = parsed_at(fields.as_slice(), 0)?;
+    let kept = parsed_at(fields.as_slice(), 1)?;
+    Ok(Vec::from_slice(alloc, &[FailAt { call, kept }])?)
 }

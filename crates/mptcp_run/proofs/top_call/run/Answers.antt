@@ -1,7 +1,86 @@
-use Rattle.outside_kit.specs.declared.port.Port.TheVariants.{Log}
-use Rattle.mptcp_run.proofs.PortsLemmas.{HoldsPrefix-unchanged, IfSome-each}
+use Rattle.mptcp_run.proofs.Causing.{load_cause, too_long_cause, script_cause, put_cause, log_cause, loaded_before, all_loaded, valid_script, valid_order, refused_untouched, ended_whole, put_cut, memory_cut, complete}
 use Rattle.mptcp_run.proofs.top_call.run.Goals as goal
 
-pub returns-in-Err-clause-cut_off_log : goal.returns-in-Err-clause-cut_off_log
-returns-in-Err-clause-cut_off_log g c cut =
-    IfSome-each _ _ (λ task. HoldsPrefix-unchanged _ _ _ (c.load_input.ensures.same_ports Log))
+pub returns-clause-load : goal.returns-clause-load
+returns-clause-load g c named is =
+    load_cause (g.O.Outside.content c.args.outside.now) (g.O.Outside.load_faults c.args.outside.now) (g.O.Outside.load_faults c.run_words.new.outside) (g.O.Outside.port_faults c.args.outside.now)
+    (g.O.Outside.port_faults c.run_words.new.outside) (g.O.Outside.holds c.args.outside.now) (g.O.Outside.holds c.run_words.new.outside)
+    _ c.run_words.result named (record { answer = c.run_words.ensures.asked; other = c.run_words.ensures.other; untouched = c.run_words.ensures.untouched }) is
+
+pub returns-clause-too_long : goal.returns-clause-too_long
+returns-clause-too_long g c named is =
+    too_long_cause (g.O.Outside.content c.args.outside.now) (g.O.Outside.load_faults c.args.outside.now) (g.O.Outside.load_faults c.run_words.new.outside) (g.O.Outside.port_faults c.args.outside.now)
+    (g.O.Outside.port_faults c.run_words.new.outside) (g.O.Outside.holds c.args.outside.now) (g.O.Outside.holds c.run_words.new.outside)
+    _ c.run_words.result named (record { answer = c.run_words.ensures.asked; other = c.run_words.ensures.other; untouched = c.run_words.ensures.untouched }) is
+
+pub returns-clause-script : goal.returns-clause-script
+returns-clause-script g c at kind is =
+    script_cause (g.O.Outside.content c.args.outside.now) (g.O.Outside.load_faults c.args.outside.now) (g.O.Outside.load_faults c.run_words.new.outside) (g.O.Outside.port_faults c.args.outside.now)
+    (g.O.Outside.port_faults c.run_words.new.outside) (g.O.Outside.holds c.args.outside.now) (g.O.Outside.holds c.run_words.new.outside)
+    _ c.run_words.result at kind (record { answer = c.run_words.ensures.asked; other = c.run_words.ensures.other; untouched = c.run_words.ensures.untouched }) is
+
+pub returns-clause-put : goal.returns-clause-put
+returns-clause-put g c port is =
+    put_cause (g.O.Outside.content c.args.outside.now) (g.O.Outside.load_faults c.args.outside.now) (g.O.Outside.load_faults c.run_words.new.outside) (g.O.Outside.port_faults c.args.outside.now)
+    (g.O.Outside.port_faults c.run_words.new.outside) (g.O.Outside.holds c.args.outside.now) (g.O.Outside.holds c.run_words.new.outside)
+    _ c.run_words.result port (record { answer = c.run_words.ensures.asked; other = c.run_words.ensures.other; untouched = c.run_words.ensures.untouched }) is
+
+pub returns-clause-log : goal.returns-clause-log
+returns-clause-log g c at is =
+    log_cause (g.O.Outside.content c.args.outside.now) (g.O.Outside.load_faults c.args.outside.now) (g.O.Outside.load_faults c.run_words.new.outside) (g.O.Outside.port_faults c.args.outside.now)
+    (g.O.Outside.port_faults c.run_words.new.outside) (g.O.Outside.holds c.args.outside.now) (g.O.Outside.holds c.run_words.new.outside)
+    _ c.run_words.result at (record { answer = c.run_words.ensures.asked; other = c.run_words.ensures.other; untouched = c.run_words.ensures.untouched }) is
+
+pub returns-clause-loaded_before : goal.returns-clause-loaded_before
+returns-clause-loaded_before g c named is =
+    loaded_before (g.O.Outside.content c.args.outside.now) (g.O.Outside.load_faults c.args.outside.now) (g.O.Outside.load_faults c.run_words.new.outside) (g.O.Outside.port_faults c.args.outside.now)
+    (g.O.Outside.port_faults c.run_words.new.outside) (g.O.Outside.holds c.args.outside.now) (g.O.Outside.holds c.run_words.new.outside)
+    _ c.run_words.result named (record { answer = c.run_words.ensures.asked; other = c.run_words.ensures.other; untouched = c.run_words.ensures.untouched }) is
+
+pub returns-clause-all_loaded : goal.returns-clause-all_loaded
+returns-clause-all_loaded g c has =
+    all_loaded (g.O.Outside.content c.args.outside.now) (g.O.Outside.load_faults c.args.outside.now) (g.O.Outside.load_faults c.run_words.new.outside) (g.O.Outside.port_faults c.args.outside.now)
+    (g.O.Outside.port_faults c.run_words.new.outside) (g.O.Outside.holds c.args.outside.now) (g.O.Outside.holds c.run_words.new.outside)
+    _ c.run_words.result (record { answer = c.run_words.ensures.asked; other = c.run_words.ensures.other; untouched = c.run_words.ensures.untouched }) has
+
+pub returns-clause-valid_script : goal.returns-clause-valid_script
+returns-clause-valid_script g c has =
+    valid_script (g.O.Outside.content c.args.outside.now) (g.O.Outside.load_faults c.args.outside.now) (g.O.Outside.load_faults c.run_words.new.outside) (g.O.Outside.port_faults c.args.outside.now)
+    (g.O.Outside.port_faults c.run_words.new.outside) (g.O.Outside.holds c.args.outside.now) (g.O.Outside.holds c.run_words.new.outside)
+    _ c.run_words.result (record { answer = c.run_words.ensures.asked; other = c.run_words.ensures.other; untouched = c.run_words.ensures.untouched }) has
+
+pub returns-clause-valid_order : goal.returns-clause-valid_order
+returns-clause-valid_order g c has =
+    valid_order (g.O.Outside.content c.args.outside.now) (g.O.Outside.load_faults c.args.outside.now) (g.O.Outside.load_faults c.run_words.new.outside) (g.O.Outside.port_faults c.args.outside.now)
+    (g.O.Outside.port_faults c.run_words.new.outside) (g.O.Outside.holds c.args.outside.now) (g.O.Outside.holds c.run_words.new.outside)
+    _ c.run_words.result (record { answer = c.run_words.ensures.asked; other = c.run_words.ensures.other; untouched = c.run_words.ensures.untouched }) has
+
+pub returns-clause-untouched : goal.returns-clause-untouched
+returns-clause-untouched g c has =
+    refused_untouched (g.O.Outside.content c.args.outside.now) (g.O.Outside.load_faults c.args.outside.now) (g.O.Outside.load_faults c.run_words.new.outside) (g.O.Outside.port_faults c.args.outside.now)
+    (g.O.Outside.port_faults c.run_words.new.outside) (g.O.Outside.holds c.args.outside.now) (g.O.Outside.holds c.run_words.new.outside)
+    _ c.run_words.result (record { answer = c.run_words.ensures.asked; other = c.run_words.ensures.other; untouched = c.run_words.ensures.untouched }) has
+
+pub returns-clause-whole : goal.returns-clause-whole
+returns-clause-whole g c has =
+    ended_whole (g.O.Outside.content c.args.outside.now) (g.O.Outside.load_faults c.args.outside.now) (g.O.Outside.load_faults c.run_words.new.outside) (g.O.Outside.port_faults c.args.outside.now)
+    (g.O.Outside.port_faults c.run_words.new.outside) (g.O.Outside.holds c.args.outside.now) (g.O.Outside.holds c.run_words.new.outside)
+    _ c.run_words.result (record { answer = c.run_words.ensures.asked; other = c.run_words.ensures.other; untouched = c.run_words.ensures.untouched }) has
+
+pub returns-clause-cut_off : goal.returns-clause-cut_off
+returns-clause-cut_off g c port is =
+    put_cut (g.O.Outside.content c.args.outside.now) (g.O.Outside.load_faults c.args.outside.now) (g.O.Outside.load_faults c.run_words.new.outside) (g.O.Outside.port_faults c.args.outside.now)
+    (g.O.Outside.port_faults c.run_words.new.outside) (g.O.Outside.holds c.args.outside.now) (g.O.Outside.holds c.run_words.new.outside)
+    _ c.run_words.result port (record { answer = c.run_words.ensures.asked; other = c.run_words.ensures.other; untouched = c.run_words.ensures.untouched }) is
+
+pub returns-clause-memory : goal.returns-clause-memory
+returns-clause-memory g c is =
+    memory_cut (g.O.Outside.content c.args.outside.now) (g.O.Outside.load_faults c.args.outside.now) (g.O.Outside.load_faults c.run_words.new.outside) (g.O.Outside.port_faults c.args.outside.now)
+    (g.O.Outside.port_faults c.run_words.new.outside) (g.O.Outside.holds c.args.outside.now) (g.O.Outside.holds c.run_words.new.outside)
+    _ c.run_words.result (record { answer = c.run_words.ensures.asked; other = c.run_words.ensures.other; untouched = c.run_words.ensures.untouched }) is
+
+pub returns-clause-complete : goal.returns-clause-complete
+returns-clause-complete g c line is valid loads_fine ports_fine =
+    complete (g.O.Outside.content c.args.outside.now) (g.O.Outside.load_faults c.args.outside.now) (g.O.Outside.load_faults c.run_words.new.outside) (g.O.Outside.port_faults c.args.outside.now)
+    (g.O.Outside.port_faults c.run_words.new.outside) (g.O.Outside.holds c.args.outside.now) (g.O.Outside.holds c.run_words.new.outside)
+    _ c.run_words.result (record { answer = c.run_words.ensures.asked; other = c.run_words.ensures.other; untouched = c.run_words.ensures.untouched }) line is valid loads_fine ports_fine

@@ -1,0 +1,59 @@
+-- The task of a command line is plain, and its last turn is the end of a round.
+use Rattle.std.proofs.Common.{◌≡◌, refl, sym, ◌∙◌, ap, subst, ℕ, ◌<◌, ◌≤◌, ◌^◌, ◌-◌, List, length, map, Option, Some, None, Result, Ok, Err, IfSome, arith}
+use Rattle.std.specs.Prelude.{option_and_then, option_map}
+use Rattle.std.specs.Result.{result_ok}
+use Rattle.link_script.specs.declared.fault.ScriptFault.{ScriptFault}
+use Rattle.link_script.specs.declared.script.Script.{Script}
+use Rattle.link_script.proofs.ReadRanges.{read_has_ranges}
+use Rattle.run_words.specs.Lines.{Line, Work, run, serial, replay, bench, ◌>>=◌}
+use Rattle.run_log.specs.declared.fault.LogFault.{LogFault}
+use Rattle.run_log.specs.declared.turn.Turn as logged_turn
+use Rattle.run_log.specs.Form.{reading}
+use Rattle.mptcp_run.specs.declared.status.Named.TheVariants as input
+use Rattle.mptcp_run.specs.Promised.{IsPlainTask, EndsWithRound, IsPromisedTask, LoadedTasksArePlain}
+use Rattle.mptcp_run.specs.Script.{script_meaning}
+use Rattle.mptcp_run.specs.Task.{Task, Course, rounds, told, turn_of, turns_in, script_in, course_of, task_of, AreWithinLimits}
+use Rattle.mptcp_run.proofs.LogEnds.{turns_end}
+use Rattle.mptcp_run.proofs.Unchanging.{run_script_is}
+
+turns_of_log : (text : List ℕ) (r : Result (List logged_turn.Turn) LogFault) → reading 3 8 text ≡ r
+    → IfSome (option_map told (option_map (map turn_of) (result_ok r))) EndsWithRound
+turns_of_log text (Ok turns) e = turns_end text turns e
+turns_of_log text (Err f) e = tt
+
+turns_of_content : (o : Option (List ℕ)) → IfSome (option_map told (option_and_then turns_in o)) EndsWithRound
+turns_of_content None = tt
+turns_of_content (Some text) = turns_of_log text (reading 3 8 text) refl
+
+course_ends : (content : List ℕ → Option (List ℕ)) (work : Work) → IfSome (course_of content work) EndsWithRound
+course_ends content (serial most) = tt
+course_ends content (replay log) = turns_of_content (content log)
+course_ends content (run most) = tt
+course_ends content (bench most number) = tt
+
+task_is : (s a b : Option (List ℕ)) (c : Option Course) → IfSome a (λ file. length file ≤ 16777216) → IfSome b (λ file. length file ≤ 16777216) → IfSome c EndsWithRound
+    → IfSome (option_and_then script_in s >>= λ script. a >>= λ file_a. b >>= λ file_b. c >>= λ x. Some (record { script = script; file_a = file_a; file_b = file_b; course = x })) IsPromisedTask
+task_is None a b c few_a few_b ends = tt
+task_is (Some text) a b c few_a few_b ends = by (script_meaning text) refl a b c few_a few_b ends
+  where
+    by : (r : Result Script ScriptFault) → script_meaning text ≡ r → (a b : Option (List ℕ)) (c : Option Course)
+        → IfSome a (λ file. length file ≤ 16777216) → IfSome b (λ file. length file ≤ 16777216) → IfSome c EndsWithRound
+        → IfSome (result_ok r >>= λ script. a >>= λ file_a. b >>= λ file_b. c >>= λ x. Some (record { script = script; file_a = file_a; file_b = file_b; course = x })) IsPromisedTask
+    by (Err f) e a b c few_a few_b ends = tt
+    by (Ok script) e None b c few_a few_b ends = tt
+    by (Ok script) e (Some a) None c few_a few_b ends = tt
+    by (Ok script) e (Some a) (Some b) None few_a few_b ends = tt
+    by (Ok script) e (Some a) (Some b) (Some x) few_a few_b ends = let said = run_script_is text script e in record {
+      plain = record {
+        ranges = read_has_ranges text script said.0;
+        unchanged = said.1;
+        short_a = omega (arith, few_a);
+        short_b = omega (arith, few_b);
+      };
+      ends = ends;
+    }
+
+pub loaded_tasks_are_plain : LoadedTasksArePlain
+loaded_tasks_are_plain content line within =
+    task_is (content line.names.script) (content line.names.file_a) (content line.names.file_b) (course_of content line.work)
+    (within input.FileA) (within input.FileB) (course_ends content line.work)

@@ -1,0 +1,194 @@
+-- The reader ports hold fronts of the files.
+use Rattle.std.proofs.Common.{◌≡◌, refl, sym, ◌∙◌, ap, subst, ℕ, zero, suc, inl, inr, ◌⊎◌, Bool, true, false, ◌&&◌, List, [], ◌∷◌, ◌++◌, Option, Some, None}
+use Rattle.std.specs.Prelude.{IfSome, IsSomeAnd}
+use Rattle.std.proofs.lemmas.List.{append_assoc}
+use Rattle.outside_kit.specs.Outside.{HoldsAfter}
+use Rattle.outside_kit.specs.declared.port.Port.{Port}
+use Rattle.outside_kit.specs.declared.side.Side.{Side}
+use Rattle.outside_kit.specs.declared.side.Side.TheVariants.{A, B}
+use Rattle.pipe_model.specs.Prefix.{IsPrefix}
+use Rattle.path_core.specs.Octets.{octets}
+use Rattle.world_laws.specs.declared.outcome.Outcome.{Outcome}
+use Rattle.world_laws.specs.declared.outcome.Outcome.TheVariants as outcome
+use Rattle.world_laws.specs.Openings.{start_of}
+use Rattle.world_laws.specs.Outcomes.{outcome_by, outcome_of, output_of, tells_end, was_told, notes_of}
+use Rattle.world_laws.specs.Serial.{steps_and, round_and, spelled}
+use Rattle.world_laws.specs.Worlds.{Turn, world_step, end_round, world_run}
+use Rattle.world_laws.proofs.PromisesOfScripts.{plain_scripts_keep_all_promises}
+use Rattle.world_laws.proofs.Trios.{writes_the_files}
+use Rattle.mptcp_run.specs.declared.status.Status.{Status}
+use Rattle.mptcp_run.specs.declared.status.Status.TheVariants.{Delivered}
+use Rattle.mptcp_run.specs.Ports.{IsBetween, HoldsWithin}
+use Rattle.mptcp_run.specs.Putting.{round_ends, last_end, status_of, read_so_far, world_after, AreFirstOf}
+use Rattle.mptcp_run.specs.Promised.{IsPlainTask, EndsWithRound, HoldsFront, HoldsFrontIfBound, IsKept, PlainTasksAreKept, WholeRunsGiveFronts, DeliveredRunsGiveFiles, StoppedRunsGiveFronts, CutRunsGiveFronts}
+use Rattle.mptcp_run.specs.Task.{Connection, Task, Course, rounds, told, opened, AreTurnsOf}
+
+-- ---- prefixes
+
+prefix_of_prefix : (xs ys zs : List ℕ) → IsPrefix xs ys → IsPrefix ys zs → IsPrefix xs zs
+prefix_of_prefix xs ys zs p q =
+    record { rest = p.rest ++ q.rest; whole_is = q.whole_is ∙ ap (λ front. front ++ q.rest) p.whole_is ∙ append_assoc xs p.rest q.rest }
+
+front_held : (old new : Option (List ℕ)) (text file : List ℕ) → HoldsAfter old new (λ _. text) → IsPrefix text file → HoldsFront old new file
+front_held None new text file holds front = tt
+front_held (Some held) new text file holds front = subst (λ (o : Option (List ℕ)). IsSomeAnd o (λ text. IsPrefix text file)) (sym holds) front
+
+file_held : (old new : Option (List ℕ)) (text file : List ℕ) → HoldsAfter old new (λ _. text) → text ≡ file → HoldsAfter old new (λ _. file)
+file_held None new text file holds is = tt
+file_held (Some held) new text file holds is = holds ∙ ap (λ xs. Some xs) is
+
+cut_held : (unbegun : Type 0) (old new : Option (List ℕ)) (low high file : List ℕ) → HoldsWithin unbegun old new low high → IsPrefix high file
+    → HoldsFrontIfBound old new file
+cut_held unbegun None new low high file holds front = tt
+cut_held unbegun (Some held) new low high file (inl before) front = inl before.1
+cut_held unbegun (Some held) new low high file (inr (text, both)) front =
+    inr (subst (λ (o : Option (List ℕ)). IsSomeAnd o (λ text. IsPrefix text file)) (sym both.0) (prefix_of_prefix text high file both.1.most front))
+
+-- ---- the last round's end
+
+-- it is the connection after some turns
+last_end_after : (turns : List Turn) (w first : Connection) → (last_end first (round_ends turns w) ≡ first)
+    ⊎ ((front : List Turn) × (last_end first (round_ends turns w) ≡ world_run octets front w))
+last_end_after [] w first = inl refl
+last_end_after (Turn.Step actor ∷ turns) w first = by (last_end_after turns (world_step octets actor w) first)
+  where
+    by : (last_end first (round_ends turns (world_step octets actor w)) ≡ first)
+        ⊎ ((front : List Turn) × (last_end first (round_ends turns (world_step octets actor w)) ≡ world_run octets front (world_step octets actor w)))
+        → (last_end first (round_ends turns (world_step octets actor w)) ≡ first)
+        ⊎ ((front : List Turn) × (last_end first (round_ends turns (world_step octets actor w)) ≡ world_run octets front w))
+    by (inl is) = inl is
+    by (inr (front, is)) = inr (Turn.Step actor ∷ front, is)
+last_end_after (Turn.Round ∷ turns) w first = by (last_end_after turns (end_round w) (end_round w))
+  where
+    by : (last_end (end_round w) (round_ends turns (end_round w)) ≡ end_round w)
+        ⊎ ((front : List Turn) × (last_end (end_round w) (round_ends turns (end_round w)) ≡ world_run octets front (end_round w)))
+        → (last_end (end_round w) (round_ends turns (end_round w)) ≡ first)
+        ⊎ ((front : List Turn) × (last_end (end_round w) (round_ends turns (end_round w)) ≡ world_run octets front w))
+    by (inl is) = inr (Turn.Round ∷ [], is)
+    by (inr (front, is)) = inr (Turn.Round ∷ front, is)
+
+-- where the last turn is the end of a round, it is the connection after all turns
+last_end_at_round : (front : List Turn) (w first : Connection)
+    → last_end first (round_ends (front ++ Turn.Round ∷ []) w) ≡ world_run octets (front ++ Turn.Round ∷ []) w
+last_end_at_round [] w first = refl
+last_end_at_round (Turn.Step actor ∷ front) w first = last_end_at_round front (world_step octets actor w) first
+last_end_at_round (Turn.Round ∷ front) w first = last_end_at_round front (end_round w) (end_round w)
+
+last_end_of_steps : (actor n : ℕ) (rest : List Turn) (w first : Connection)
+    → ((v : Connection) → last_end first (round_ends rest v) ≡ world_run octets rest v)
+    → last_end first (round_ends (steps_and actor n rest) w) ≡ world_run octets (steps_and actor n rest) w
+last_end_of_steps actor zero rest w first behind = behind w
+last_end_of_steps actor (suc n) rest w first behind = last_end_of_steps actor n rest (world_step octets actor w) first behind
+
+last_end_of_round : (counts : List ℕ) (actor : ℕ) (rest : List Turn) (w first : Connection)
+    → ((v : Connection) → last_end v (round_ends rest v) ≡ world_run octets rest v)
+    → last_end first (round_ends (round_and actor counts rest) w) ≡ world_run octets (round_and actor counts rest) w
+last_end_of_round [] actor rest w first behind = behind (end_round w)
+last_end_of_round (n ∷ counts) actor rest w first behind =
+    last_end_of_steps actor n (round_and (suc actor) counts rest) w first (λ v. last_end_of_round counts (suc actor) rest v first behind)
+
+last_end_of_rounds : (counted : List (List ℕ)) (w : Connection) → last_end w (round_ends (spelled counted) w) ≡ world_run octets (spelled counted) w
+last_end_of_rounds [] w = refl
+last_end_of_rounds (counts ∷ counted) w = last_end_of_round counts 0 (spelled counted) w w (last_end_of_rounds counted)
+
+last_end_of_course : (course : Course) (turns : List Turn) (w : Connection) → EndsWithRound course → AreTurnsOf course turns w
+    → last_end w (round_ends turns w) ≡ world_run octets turns w
+last_end_of_course (rounds most) turns w ends (counted, are, is) =
+    subst (λ (ts : List Turn). last_end w (round_ends ts w) ≡ world_run octets ts w) (sym is) (last_end_of_rounds counted w)
+last_end_of_course (told order) turns w (front, order_is) are =
+    subst (λ (ts : List Turn). last_end w (round_ends ts w) ≡ world_run octets ts w) (sym (are.0 ∙ order_is)) (last_end_at_round front w w)
+
+-- ---- promises
+
+pub plain_tasks_are_kept : PlainTasksAreKept
+plain_tasks_are_kept task turns plain = record {
+  promises = plain_scripts_keep_all_promises task.script task.file_a task.file_b turns plain;
+  files = writes_the_files octets (start_of task.script task.file_a task.file_b) turns;
+}
+
+module _ (task : Task) (plain : IsPlainTask task) where
+  -- after turns
+  b_reads_a_front : (turns : List Turn) → IsPrefix (output_of B (world_after task turns)) task.file_a
+  b_reads_a_front turns =
+      let kept = plain_tasks_are_kept task turns plain in prefix_of_prefix _ _ task.file_a kept.promises.word.ab.prefix kept.files.a.front
+
+  a_reads_a_front : (turns : List Turn) → IsPrefix (output_of A (world_after task turns)) task.file_b
+  a_reads_a_front turns =
+      let kept = plain_tasks_are_kept task turns plain in prefix_of_prefix _ _ task.file_b kept.promises.word.ba.prefix kept.files.b.front
+
+  -- at the last round's end
+  module _ (P : Connection → Type 0) (always : (turns : List Turn) → P (world_after task turns)) where
+    at_last_end : (turns : List Turn) → P (last_end (opened task) (round_ends turns (opened task)))
+    at_last_end turns = by (last_end_after turns (opened task) (opened task))
+      where
+        by : (last_end (opened task) (round_ends turns (opened task)) ≡ opened task)
+            ⊎ ((front : List Turn) × (last_end (opened task) (round_ends turns (opened task)) ≡ world_run octets front (opened task)))
+            → P (last_end (opened task) (round_ends turns (opened task)))
+        by (inl is) = subst P (sym is) (always [])
+        by (inr (front, is)) = subst P (sym is) (always front)
+
+  b_has_a_front : (turns : List Turn) → IsPrefix (read_so_far B task turns) task.file_a
+  b_has_a_front = at_last_end (λ w. IsPrefix (output_of B w) task.file_a) b_reads_a_front
+
+  a_has_a_front : (turns : List Turn) → IsPrefix (read_so_far A task turns) task.file_b
+  a_has_a_front = at_last_end (λ w. IsPrefix (output_of A w) task.file_b) a_reads_a_front
+
+pub whole_runs_give_fronts : WholeRunsGiveFronts
+whole_runs_give_fronts task status old new plain whole = record {
+  read_by_b = front_held _ _ (read_so_far B task whole.turns) task.file_a whole.ports.read_by_b (b_has_a_front task plain whole.turns);
+  read_by_a = front_held _ _ (read_so_far A task whole.turns) task.file_b whole.ports.read_by_a (a_has_a_front task plain whole.turns);
+}
+
+pub stopped_runs_give_fronts : StoppedRunsGiveFronts
+stopped_runs_give_fronts task opening line old new plain stopped = record {
+  read_by_b = front_held _ _ (read_so_far B task stopped.before) task.file_a stopped.ports.read_by_b (b_has_a_front task plain stopped.before);
+  read_by_a = front_held _ _ (read_so_far A task stopped.before) task.file_b stopped.ports.read_by_a (a_has_a_front task plain stopped.before);
+}
+
+pub cut_runs_give_fronts : CutRunsGiveFronts
+cut_runs_give_fronts task old new plain cut = record {
+  read_by_b = cut_held _ _ _ (read_so_far B task cut.turns) (read_so_far B task (cut.turns ++ cut.more)) task.file_a cut.ports.read_by_b
+      (b_has_a_front task plain (cut.turns ++ cut.more));
+  read_by_a = cut_held _ _ _ (read_so_far A task cut.turns) (read_so_far A task (cut.turns ++ cut.more)) task.file_b cut.ports.read_by_a
+      (a_has_a_front task plain (cut.turns ++ cut.more));
+}
+
+-- ---- delivered
+
+told_both : (aborted_a aborted_b delivered dead : Bool) → Delivered ≡ status_of (outcome_by aborted_a aborted_b delivered dead) → delivered ≡ true
+told_both true b both dead is = cc
+told_both false true both dead is = cc
+told_both false false true dead is = refl
+told_both false false false true is = cc
+told_both false false false false is = cc
+
+both_parts : (a b : Bool) → a && b ≡ true → (a ≡ true) × (b ≡ true)
+both_parts true true is = (refl, refl)
+both_parts true false is = cc
+both_parts false b is = cc
+
+module _ (task : Task) (plain : IsPlainTask task) (turns : List Turn) (is : Delivered ≡ status_of (outcome_of (world_after task turns).crew)) where
+  were_told : (was_told tells_end (notes_of A (world_after task turns).crew) ≡ true) × (was_told tells_end (notes_of B (world_after task turns).crew) ≡ true)
+  were_told = both_parts _ _ (told_both _ _ _ _ is)
+
+  b_read_all : output_of B (world_after task turns) ≡ task.file_a
+  b_read_all =
+      let kept = plain_tasks_are_kept task turns plain in
+      let told = kept.promises.word.ab.told were_told.1 in
+      told.1 ∙ kept.files.a.whole told.0
+
+  a_read_all : output_of A (world_after task turns) ≡ task.file_b
+  a_read_all =
+      let kept = plain_tasks_are_kept task turns plain in
+      let told = kept.promises.word.ba.told were_told.0 in
+      told.1 ∙ kept.files.b.whole told.0
+
+pub delivered_runs_give_files : DeliveredRunsGiveFiles
+delivered_runs_give_files task old new plain ends whole =
+    let last = last_end_of_course task.course whole.turns (opened task) ends whole.are in
+    record {
+      read_by_b = file_held _ _ (read_so_far B task whole.turns) task.file_a whole.ports.read_by_b
+          (ap (λ w. output_of B w) last ∙ b_read_all task plain whole.turns whole.status_is);
+      read_by_a = file_held _ _ (read_so_far A task whole.turns) task.file_b whole.ports.read_by_a
+          (ap (λ w. output_of A w) last ∙ a_read_all task plain whole.turns whole.status_is);
+    }

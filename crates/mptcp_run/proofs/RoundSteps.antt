@@ -1,0 +1,176 @@
+-- A round that was made: its steps, what its readers have read, and what the ports hold then.
+use Rattle.std.proofs.Common.{◌≡◌, refl, sym, ◌∙◌, ap, subst, ℕ, zero, suc, ◌+◌, ◌<◌, ◌≤◌, Bool, true, false, nat_lt, Option, Some, None, inl, inr, List, [], ◌∷◌, ◌++◌, map, drop, length, get_or, filter, arith}
+use Rattle.std.specs.List.{slice_get, flat_map}
+use Rattle.std.proofs.Math.Seq.{drop-append_seam}
+use Rattle.std.proofs.lemmas.Grind.{flat_map-append}
+use Rattle.std.proofs.lemmas.List.{append-nil, append_assoc}
+use Rattle.std.proofs.lemmas.List.Elements.{filter-append}
+use Rattle.outside_kit.specs.declared.port.Port.{Port}
+use Rattle.outside_kit.specs.declared.port.Port.TheVariants as port
+use Rattle.outside_kit.specs.declared.side.Side.TheVariants.{A, B}
+use Rattle.outside_kit.specs.Outside.{HoldsAfter, HoldsPrefix}
+use Rattle.pipe_model.specs.Prefix.{IsPrefix}
+use Rattle.stream_lanes.specs.Words.{Every}
+use Rattle.actor_desk.specs.declared.ask.Note.{Note}
+use Rattle.actor_desk.specs.Journals.{above, with_notes, in_order}
+use Rattle.world_laws.specs.Actors.{ActorCrew}
+use Rattle.world_laws.specs.Fine.{lists_of}
+use Rattle.world_laws.specs.Outcomes.{bytes_noted, read_by, notes_at, output_of}
+use Rattle.world_laws.specs.Worlds.{greatest}
+use Rattle.mptcp_run.specs.Ports.{HoldsMore, IsBetween}
+use Rattle.mptcp_run.specs.Putting.{round_steps, steps_by_round, last_end, round_text, log_text}
+use Rattle.mptcp_run.specs.Rounds.{HoldsRound, HoldsEnds, HoldsPart}
+use Rattle.mptcp_run.specs.Task.{Connection}
+use Rattle.mptcp_run.specs.Weaving.{GrewAbove, AllGrewAbove, IsSince, made_at, since}
+use Rattle.mptcp_run.proofs.PortsLemmas.{IsPrefix-refl, IsPrefix-behind, whole_more, part_more, nothing_more, more_then, more_behind}
+
+-- ---- the steps of a round
+
+none_above : (top : ℕ) (notes : List Note) → Every (λ n. n.stamp ≤ top) notes → above top notes ≡ []
+none_above top [] below = refl
+none_above top (note ∷ notes) below = by (none_above top notes (record { each = λ i n there. below.each (suc i) n there })) (nat_lt top note.stamp) refl
+  where
+    by : above top notes ≡ [] → (b : Bool) → nat_lt top note.stamp ≡ b → above top (note ∷ notes) ≡ []
+    by rest true is = let low = below.each 0 note refl in absurd (grind arith)
+    by rest false is = rw is rest
+
+all_above : (top : ℕ) (notes : List Note) → Every (λ n. top < n.stamp) notes → above top notes ≡ notes
+all_above top [] high = refl
+all_above top (note ∷ notes) high = by (all_above top notes (record { each = λ i n there. high.each (suc i) n there })) (nat_lt top note.stamp) refl
+  where
+    by : above top notes ≡ notes → (b : Bool) → nat_lt top note.stamp ≡ b → above top (note ∷ notes) ≡ note ∷ notes
+    by rest true is = rw is (ap (λ xs. note ∷ xs) rest)
+    by rest false is = let up = high.each 0 note refl in absurd (grind arith)
+
+above_is : (top : ℕ) (before list : List Note) → GrewAbove top before list → drop (length before) list ≡ above top list
+above_is top before list h =
+    ap (drop (length before)) h.is ∙ drop-append_seam before h.more
+    ∙ sym (ap (above top) h.is ∙ filter-append (λ note. nat_lt top note.stamp) before h.more
+    ∙ ap (λ xs. xs ++ above top h.more) (none_above top before h.below) ∙ all_above top h.more h.above)
+
+since_is : (top : ℕ) (lasts lists : List (List Note)) → AllGrewAbove top lasts lists → since (map length lasts) lists ≡ in_order top lists
+since_is top [] [] h = refl
+since_is top [] (list ∷ lists) h = absurd h
+since_is top (before ∷ lasts) [] h = absurd h
+since_is top (before ∷ lasts) (list ∷ lists) h =
+    ap (λ xs. with_notes xs (since (map length lasts) lists)) (above_is top before list h.0)
+    ∙ ap (with_notes (above top list)) (since_is top lasts lists h.1)
+
+-- the notes that were made since are the steps of the round
+pub steps_since : (made : List ℕ) (last w : Connection) → IsSince last made w → since made (lists_of w.crew) ≡ round_steps last w
+steps_since made last w h =
+    ap (λ ns. since ns (lists_of w.crew)) h.made_is ∙ since_is (greatest 0 last.crew) (lists_of last.crew) (lists_of w.crew) h.grew
+
+-- ---- what a reader has read
+
+pub notes_at-is : (actor : ℕ) (crew : List (ActorCrew (List ℕ))) → notes_at actor crew ≡ get_or (lists_of crew) actor []
+notes_at-is actor [] = refl
+notes_at-is zero (c ∷ crew) = refl
+notes_at-is (suc actor) (c ∷ crew) = notes_at-is actor crew
+
+grown_at : (top actor : ℕ) (lasts lists : List (List Note)) → AllGrewAbove top lasts lists
+    → get_or lists actor [] ≡ get_or lasts actor [] ++ drop (get_or (map length lasts) actor 0) (get_or lists actor [])
+grown_at top actor [] [] h = refl
+grown_at top actor [] (list ∷ lists) h = absurd h
+grown_at top actor (before ∷ lasts) [] h = absurd h
+grown_at top zero (before ∷ lasts) (list ∷ lists) h =
+    h.0.is ∙ ap (λ xs. before ++ xs) (sym (ap (drop (length before)) h.0.is ∙ drop-append_seam before h.0.more))
+grown_at top (suc actor) (before ∷ lasts) (list ∷ lists) h = grown_at top actor lasts lists h.1
+
+notes_grew : (made : List ℕ) (last w : Connection) (actor : ℕ) → IsSince last made w
+    → notes_at actor w.crew ≡ notes_at actor last.crew ++ drop (made_at actor made) (notes_at actor w.crew)
+notes_grew made last w actor h =
+    notes_at-is actor w.crew ∙ grown_at (greatest 0 last.crew) actor (lists_of last.crew) (lists_of w.crew) h.grew
+    ∙ ap (λ xs. xs ++ drop (get_or (map length (lists_of last.crew)) actor 0) (get_or (lists_of w.crew) actor [])) (sym (notes_at-is actor last.crew))
+    ∙ ap (λ ns. notes_at actor last.crew ++ drop (get_or ns actor 0) (get_or (lists_of w.crew) actor [])) (sym h.made_is)
+    ∙ ap (λ xs. notes_at actor last.crew ++ drop (made_at actor made) xs) (sym (notes_at-is actor w.crew))
+
+read_grew : (made : List ℕ) (last w : Connection) (actor : ℕ) → IsSince last made w
+    → read_by (notes_at actor w.crew) ≡ read_by (notes_at actor last.crew) ++ read_by (drop (made_at actor made) (notes_at actor w.crew))
+read_grew made last w actor h =
+    ap read_by (notes_grew made last w actor h) ∙ flat_map-append bytes_noted (notes_at actor last.crew) (drop (made_at actor made) (notes_at actor w.crew))
+
+-- ---- the ports
+
+module _ (made : List ℕ) (last w : Connection) (opening : List ℕ) (number : ℕ) (old new : Port → Option (List ℕ)) (read_by_b read_by_a lines : List ℕ)
+    (b_is : read_by_b ≡ read_by (drop (made_at 1 made) (notes_at 1 w.crew))) (a_is : read_by_a ≡ read_by (drop (made_at 0 made) (notes_at 0 w.crew)))
+    (lines_are : lines ≡ round_text opening number (since made (lists_of w.crew))) where
+  -- a round that was put whole
+  pub round_held : IsSince last made w → HoldsAfter (old port.ReadByB) (new port.ReadByB) (λ held. held ++ read_by_b)
+      → HoldsAfter (old port.ReadByA) (new port.ReadByA) (λ held. held ++ read_by_a) → HoldsAfter (old port.Log) (new port.Log) (λ held. held ++ lines)
+      → HoldsRound opening number last w old new
+  round_held h b a log = record {
+    read_by_b = whole_more (old port.ReadByB) (new port.ReadByB) (output_of B last) read_by_b (output_of B w) b
+        (read_grew made last w 1 h ∙ ap (λ xs. output_of B last ++ xs) (sym b_is));
+    read_by_a = whole_more (old port.ReadByA) (new port.ReadByA) (output_of A last) read_by_a (output_of A w) a
+        (read_grew made last w 0 h ∙ ap (λ xs. output_of A last ++ xs) (sym a_is));
+    log = whole_more (old port.Log) (new port.Log) [] lines (round_text opening number (round_steps last w)) log
+        (ap (round_text opening number) (sym (steps_since made last w h)) ∙ sym lines_are);
+  }
+
+  -- or a part of it
+  pub round_part : IsSince last made w → HoldsPrefix (old port.ReadByB) (new port.ReadByB) read_by_b
+      → HoldsPrefix (old port.ReadByA) (new port.ReadByA) read_by_a → HoldsPrefix (old port.Log) (new port.Log) lines
+      → HoldsPart opening number last [] (w ∷ []) old new
+  round_part h b a log = record {
+    read_by_b = part_more (old port.ReadByB) (new port.ReadByB) (output_of B last) read_by_b (output_of B w) b
+        (read_grew made last w 1 h ∙ ap (λ xs. output_of B last ++ xs) (sym b_is));
+    read_by_a = part_more (old port.ReadByA) (new port.ReadByA) (output_of A last) read_by_a (output_of A w) a
+        (read_grew made last w 0 h ∙ ap (λ xs. output_of A last ++ xs) (sym a_is));
+    log = part_more (old port.Log) (new port.Log) [] lines (round_text opening number (round_steps last w) ++ []) log
+        (append-nil (round_text opening number (round_steps last w)) ∙ ap (round_text opening number) (sym (steps_since made last w h)) ∙ sym lines_are);
+  }
+
+-- nothing was put
+pub nothing_part : (opening : List ℕ) (number : ℕ) (w : Connection) (high : List Connection) (old new : Port → Option (List ℕ)) → ((p : Port) → new p ≡ old p)
+    → IsPrefix (output_of B w) (output_of B (last_end w high)) → IsPrefix (output_of A w) (output_of A (last_end w high))
+    → HoldsPart opening number w [] high old new
+nothing_part opening number w high old new same b a = record {
+  read_by_b = nothing_more (old port.ReadByB) (new port.ReadByB) (output_of B w) (IsBetween (output_of B w) (output_of B (last_end w high))) (same port.ReadByB) (record { least = IsPrefix-refl (output_of B w); most = b });
+  read_by_a = nothing_more (old port.ReadByA) (new port.ReadByA) (output_of A w) (IsBetween (output_of A w) (output_of A (last_end w high))) (same port.ReadByA) (record { least = IsPrefix-refl (output_of A w); most = a });
+  log = nothing_more (old port.Log) (new port.Log) [] (IsBetween [] (log_text opening number (steps_by_round w high))) (same port.Log) (record {
+    least = IsPrefix-refl [];
+    most = record { rest = log_text opening number (steps_by_round w high); whole_is = refl };
+  });
+}
+
+pub nothing_ends : (opening : List ℕ) (number : ℕ) (w : Connection) (old new : Port → Option (List ℕ)) → ((p : Port) → new p ≡ old p) → HoldsEnds opening number w [] old new
+nothing_ends opening number w old new same = record {
+  read_by_b = nothing_more (old port.ReadByB) (new port.ReadByB) (output_of B w) (λ text. text ≡ output_of B w) (same port.ReadByB) refl;
+  read_by_a = nothing_more (old port.ReadByA) (new port.ReadByA) (output_of A w) (λ text. text ≡ output_of A w) (same port.ReadByA) refl;
+  log = nothing_more (old port.Log) (new port.Log) [] (λ text. text ≡ []) (same port.Log) refl;
+}
+
+-- a round in front of others
+pub ends_more : (opening : List ℕ) (number : ℕ) (w v : Connection) (ends : List Connection) (a b c : Port → Option (List ℕ)) → HoldsRound opening number w v a b
+    → HoldsEnds opening (suc number) v ends b c → HoldsEnds opening number w (v ∷ ends) a c
+ends_more opening number w v ends a b c h k = record {
+  read_by_b = more_then (a port.ReadByB) (b port.ReadByB) (c port.ReadByB) (output_of B w) (output_of B v) (λ text. text ≡ output_of B (last_end v ends)) h.read_by_b k.read_by_b;
+  read_by_a = more_then (a port.ReadByA) (b port.ReadByA) (c port.ReadByA) (output_of A w) (output_of A v) (λ text. text ≡ output_of A (last_end v ends)) h.read_by_a k.read_by_a;
+  log = more_behind (a port.Log) (b port.Log) (c port.Log) (round_text opening number (round_steps w v)) (λ text. text ≡ log_text opening (suc number) (steps_by_round v ends))
+      (λ text. text ≡ log_text opening number (steps_by_round w (v ∷ ends))) h.log k.log
+      (λ text is. ap (λ xs. round_text opening number (round_steps w v) ++ xs) is);
+}
+
+-- in front of some, and of a part
+pub part_behind : (opening : List ℕ) (number : ℕ) (w v : Connection) (low high : List Connection) (a b c : Port → Option (List ℕ)) → HoldsRound opening number w v a b
+    → HoldsPart opening (suc number) v low high b c → HoldsPart opening number w (v ∷ low) (v ∷ high) a c
+part_behind opening number w v low high a b c h k = record {
+  read_by_b = more_then (a port.ReadByB) (b port.ReadByB) (c port.ReadByB) (output_of B w) (output_of B v) (IsBetween (output_of B (last_end v low)) (output_of B (last_end v high))) h.read_by_b k.read_by_b;
+  read_by_a = more_then (a port.ReadByA) (b port.ReadByA) (c port.ReadByA) (output_of A w) (output_of A v) (IsBetween (output_of A (last_end v low)) (output_of A (last_end v high))) h.read_by_a k.read_by_a;
+  log = more_behind (a port.Log) (b port.Log) (c port.Log) (round_text opening number (round_steps w v))
+      (IsBetween (log_text opening (suc number) (steps_by_round v low)) (log_text opening (suc number) (steps_by_round v high)))
+      (IsBetween (log_text opening number (steps_by_round w (v ∷ low))) (log_text opening number (steps_by_round w (v ∷ high)))) h.log k.log
+      (λ text between. record {
+        least = IsPrefix-behind (round_text opening number (round_steps w v)) _ text between.least;
+        most = IsPrefix-behind (round_text opening number (round_steps w v)) text _ between.most;
+      });
+}
+
+-- of a round nothing was put
+pub round_untouched : (made : List ℕ) (last w : Connection) (opening : List ℕ) (number : ℕ) (old new : Port → Option (List ℕ)) → ((p : Port) → new p ≡ old p)
+    → IsSince last made w → HoldsPart opening number last [] (w ∷ []) old new
+round_untouched made last w opening number old new same h =
+    nothing_part opening number last (w ∷ []) old new same
+    (record { rest = read_by (drop (made_at 1 made) (notes_at 1 w.crew)); whole_is = read_grew made last w 1 h })
+    (record { rest = read_by (drop (made_at 0 made) (notes_at 0 w.crew)); whole_is = read_grew made last w 0 h })

@@ -1,0 +1,151 @@
+-- A run from its opening to its end.
+use Rattle.std.proofs.Common.{◌≡◌, refl, sym, ◌∙◌, ap, subst, ℕ, ◌+◌, List, [], Option, Result, Ok, Err, IfErr, IfOk, OnErr}
+use Rattle.outside_kit.specs.declared.port.Port.{Port}
+use Rattle.outside_kit.specs.declared.port.Port.TheVariants as port
+use Rattle.world_core.specs.declared.input.Input.{Input}
+use Rattle.world_core.specs.Kept.{Kept}
+use Rattle.world_laws.specs.Openings.{start_of}
+use Rattle.world_laws.specs.declared.outcome.Outcome.{Outcome}
+use Rattle.world_laws.specs.declared.outcome.Outcome.TheVariants as outcome
+use Rattle.world_laws.specs.Outcomes.{outcome_of}
+use Rattle.world_laws.specs.Worlds.{Turn}
+use Rattle.mptcp_run.specs.declared.rounds.Run.{Run}
+use Rattle.mptcp_run.specs.declared.status.Status.{Status}
+use Rattle.mptcp_run.specs.declared.status.Status.TheVariants.{Delivered, Rounds, NoPath, Aborted, Usage, Script, Load, Put, TooLong, Memory, Log}
+use Rattle.mptcp_run.specs.Answers.{HasEnded}
+use Rattle.mptcp_run.specs.Ports.{NeverFall, IsPortsFault, HoldsWithin}
+use Rattle.mptcp_run.proofs.PortsLemmas.{risen_later}
+use Rattle.mptcp_run.specs.Putting.{status_of, last_line, log_opening, IsWhole, IsCut, ReplayEnds}
+use Rattle.mptcp_run.specs.Replaying.{IsReplayFault}
+use Rattle.mptcp_run.specs.Rounds.{Begins, AtRound, IsOpened, RoundsPut, RoundsCut, TurnsPut, TurnsFault}
+use Rattle.mptcp_run.specs.Task.{Connection, Task, task_from, opened}
+use Rattle.mptcp_run.specs.Task as course
+use Rattle.mptcp_run.proofs.UnderWay.{opened_begins}
+use Rattle.mptcp_run.proofs.Performing.{AreBound, LogGrew, LogGrewPart, begin_cut, serial_whole, serial_cut, serial_begin_cut, serial_end_cut, replay_whole, replay_cut, replay_begin_cut, replay_end_cut, replay_stopped}
+
+abbrev Ports : Type 0
+Ports = Port → Option (List ℕ)
+
+-- a run that was opened begins its first round
+pub opened_at : (input : Input) (run : Run) → IsOpened input run → AtRound run
+opened_at input run h = record {
+  stands = ap (λ (k : Kept). k.failed) h.world;
+  begins = subst (λ (k : Kept). Begins k.state) (sym h.world) (opened_begins (start_of input.script input.file_a input.file_b));
+  made_is = h.made_is;
+}
+
+pub has_ended : (o : Outcome) (status : Status) → status ≡ status_of o → HasEnded status
+has_ended outcome.Going status is = subst HasEnded (sym is) tt
+has_ended outcome.Delivered status is = subst HasEnded (sym is) tt
+has_ended (outcome.Aborted reader) status is = subst HasEnded (sym is) tt
+has_ended outcome.NoPath status is = subst HasEnded (sym is) tt
+
+module _ (input : Input) (run : Run) (h : IsOpened input run) (most : ℕ) where
+  start_put : (v : Connection) (b c : Ports) → RoundsPut run.opening most 0 run.world.state v b c
+      → RoundsPut (log_opening input.script) most 0 (opened (task_from input (course.rounds most))) v b c
+  start_put v b c put = subst (λ o. RoundsPut o most 0 (opened (task_from input (course.rounds most))) v b c) h.opening (subst (λ (k : Kept). RoundsPut run.opening most 0 k.state v b c) h.world put)
+
+  start_cut : (b c : Ports) → RoundsCut run.opening most 0 run.world.state b c
+      → RoundsCut (log_opening input.script) most 0 (opened (task_from input (course.rounds most))) b c
+  start_cut b c cut = subst (λ o. RoundsCut o most 0 (opened (task_from input (course.rounds most))) b c) h.opening (subst (λ (k : Kept). RoundsCut run.opening most 0 k.state b c) h.world cut)
+
+  pub serial_ends : (v : Connection) (status : Status) (a b c d : Ports) → AreBound a b → RoundsPut run.opening most 0 run.world.state v b c
+      → status ≡ status_of (outcome_of v.crew) → LogGrew (last_line v) c d → IsWhole (task_from input (course.rounds most)) status a d
+  serial_ends v status a b c d bound put shown grew =
+      serial_whole (task_from input (course.rounds most)) most refl v status a b c d bound (start_put v b c put) shown grew
+
+  pub serial_is_cut : (a b c : Ports) → AreBound a b → RoundsCut run.opening most 0 run.world.state b c → IsCut (task_from input (course.rounds most)) a c
+  serial_is_cut a b c bound cut = serial_cut (task_from input (course.rounds most)) most refl a b c bound (start_cut b c cut)
+
+  pub serial_line_cut : (v : Connection) (a b c d : Ports) → AreBound a b → RoundsPut run.opening most 0 run.world.state v b c → LogGrewPart (last_line v) c d
+      → IsCut (task_from input (course.rounds most)) a d
+  serial_line_cut v a b c d bound put grew =
+      serial_end_cut (task_from input (course.rounds most)) most refl v a b c d bound (start_put v b c put) grew
+
+pub serial_unbegun : (input : Input) (most : ℕ) (a b : Ports) → HoldsWithin (Unit {0}) (a port.ReadByB) (b port.ReadByB) [] []
+    → HoldsWithin (Unit {0}) (a port.ReadByA) (b port.ReadByA) [] [] → b port.Log ≡ a port.Log → IsCut (task_from input (course.rounds most)) a b
+serial_unbegun input most a b read_by_b read_by_a log =
+    serial_begin_cut (task_from input (course.rounds most)) most refl a b (begin_cut (task_from input (course.rounds most)) a b read_by_b read_by_a log)
+
+module _ (input : Input) (run : Run) (h : IsOpened input run) (order : List Turn) where
+  turns_put : (v : Connection) (b c : Ports) → TurnsPut run.opening 0 order run.world.state run.world.state v b c
+      → TurnsPut (log_opening input.script) 0 order (opened (task_from input (course.told order))) (opened (task_from input (course.told order))) v b c
+  turns_put v b c put = subst (λ o. TurnsPut o 0 order (opened (task_from input (course.told order))) (opened (task_from input (course.told order))) v b c) h.opening (subst (λ (k : Kept). TurnsPut run.opening 0 order k.state k.state v b c) h.world put)
+
+  pub replay_ends : (v : Connection) (status : Status) (a b c d : Ports) → AreBound a b → TurnsPut run.opening 0 order run.world.state run.world.state v b c
+      → status ≡ status_of (outcome_of v.crew) → LogGrew (last_line v) c d → IsWhole (task_from input (course.told order)) status a d
+  replay_ends v status a b c d bound put shown grew =
+      replay_whole (task_from input (course.told order)) order refl v status a b c d bound (turns_put v b c put) shown grew
+
+  pub replay_line_cut : (v : Connection) (a b c d : Ports) → AreBound a b → TurnsPut run.opening 0 order run.world.state run.world.state v b c → LogGrewPart (last_line v) c d
+      → IsCut (task_from input (course.told order)) a d
+  replay_line_cut v a b c d bound put grew =
+      replay_end_cut (task_from input (course.told order)) order refl v a b c d bound (turns_put v b c put) grew
+
+  by_fault : (lines : ℕ) (a b c : Ports) (status : Status) → AreBound a b
+      → TurnsFault (log_opening input.script) 0 order (opened (task_from input (course.told order))) (opened (task_from input (course.told order))) lines b c status
+      → ReplayEnds (task_from input (course.told order)) lines a c status
+  by_fault lines a b c (Log line) bound fault = replay_stopped (task_from input (course.told order)) order refl lines fault.0 line a b c bound fault.1.0 fault.1.1
+  by_fault lines a b c (Put p) bound fault = replay_cut (task_from input (course.told order)) order refl a b c bound fault
+  by_fault lines a b c Memory bound fault = replay_cut (task_from input (course.told order)) order refl a b c bound fault
+  by_fault lines a b c Delivered bound fault = absurd fault
+  by_fault lines a b c Rounds bound fault = absurd fault
+  by_fault lines a b c NoPath bound fault = absurd fault
+  by_fault lines a b c (Aborted reader) bound fault = absurd fault
+  by_fault lines a b c Usage bound fault = absurd fault
+  by_fault lines a b c (Script at kind) bound fault = absurd fault
+  by_fault lines a b c (Load named) bound fault = absurd fault
+  by_fault lines a b c (TooLong named) bound fault = absurd fault
+
+  pub replay_faults : (lines : ℕ) (a b c : Ports) (status : Status) → AreBound a b → TurnsFault run.opening 0 order run.world.state run.world.state lines b c status
+      → ReplayEnds (task_from input (course.told order)) lines a c status
+  replay_faults lines a b c status bound fault =
+      by_fault lines a b c status bound
+      (subst (λ o. TurnsFault o 0 order (opened (task_from input (course.told order))) (opened (task_from input (course.told order))) lines b c status) h.opening (subst (λ (k : Kept). TurnsFault run.opening 0 order k.state k.state lines b c status) h.world fault))
+
+-- a run that was cut off by a port
+pub ends_cut : (task : Task) (lines : ℕ) (a b : Ports) (before faults : Port → ℕ) (status : Status) → IsPortsFault before faults status → IsCut task a b → ReplayEnds task lines a b status
+ends_cut task lines a b before faults (Put p) cause cut = cut
+ends_cut task lines a b before faults Memory cause cut = cut
+ends_cut task lines a b before faults Delivered cause cut = absurd cause
+ends_cut task lines a b before faults Rounds cause cut = absurd cause
+ends_cut task lines a b before faults NoPath cause cut = absurd cause
+ends_cut task lines a b before faults (Aborted reader) cause cut = absurd cause
+ends_cut task lines a b before faults Usage cause cut = absurd cause
+ends_cut task lines a b before faults (Script at kind) cause cut = absurd cause
+ends_cut task lines a b before faults (Load named) cause cut = absurd cause
+ends_cut task lines a b before faults (TooLong named) cause cut = absurd cause
+ends_cut task lines a b before faults (Log at) cause cut = absurd cause
+
+pub replay_unbegun : (input : Input) (order : List Turn) (a b : Ports) → HoldsWithin (Unit {0}) (a port.ReadByB) (b port.ReadByB) [] []
+    → HoldsWithin (Unit {0}) (a port.ReadByA) (b port.ReadByA) [] [] → b port.Log ≡ a port.Log → IsCut (task_from input (course.told order)) a b
+replay_unbegun input order a b read_by_b read_by_a log =
+    replay_begin_cut (task_from input (course.told order)) order refl a b (begin_cut (task_from input (course.told order)) a b read_by_b read_by_a log)
+
+-- ---- causes
+
+pub replay_cause : (before faults : Port → ℕ) (status : Status) → IsPortsFault before faults status → IsReplayFault before faults status
+replay_cause before faults (Put p) cause = cause
+replay_cause before faults Memory cause = tt
+replay_cause before faults (Log at) cause = tt
+replay_cause before faults Delivered cause = absurd cause
+replay_cause before faults Rounds cause = absurd cause
+replay_cause before faults NoPath cause = absurd cause
+replay_cause before faults (Aborted reader) cause = absurd cause
+replay_cause before faults Usage cause = absurd cause
+replay_cause before faults (Script at kind) cause = absurd cause
+replay_cause before faults (Load named) cause = absurd cause
+replay_cause before faults (TooLong named) cause = absurd cause
+
+pub cause_after : (old middle new : Port → ℕ) (status : Status) → NeverFall old middle → IsReplayFault middle new status → IsReplayFault old new status
+cause_after old middle new (Put p) few cause = risen_later (old p) (middle p) (new p) (few p) cause
+cause_after old middle new Memory few cause = tt
+cause_after old middle new (Log at) few cause = tt
+cause_after old middle new Delivered few cause = absurd cause
+cause_after old middle new Rounds few cause = absurd cause
+cause_after old middle new NoPath few cause = absurd cause
+cause_after old middle new (Aborted reader) few cause = absurd cause
+cause_after old middle new Usage few cause = absurd cause
+cause_after old middle new (Script at kind) few cause = absurd cause
+cause_after old middle new (Load named) few cause = absurd cause
+cause_after old middle new (TooLong named) few cause = absurd cause

@@ -1,0 +1,97 @@
+-- What a turn of a log makes of a run under way.
+use Rattle.std.proofs.Common.{◌≡◌, refl, sym, ◌∙◌, ap, subst, ℕ, Bool, true, false, not, ◌&&◌, inl, inr, List, [], ◌∷◌, map, length, Result, Ok, Err, IfErr, OnErr, Option}
+use Rattle.std.proofs.lemmas.List.{length-map}
+use Rattle.outside_kit.specs.declared.port.Port.{Port}
+use Rattle.path_core.specs.Octets.{octets}
+use Rattle.world_core.specs.Kept.{Kept, standing}
+use Rattle.world_laws.specs.Actors.{ActorCrew}
+use Rattle.world_laws.specs.Fine.{lists_of}
+use Rattle.world_laws.specs.Worlds.{world_step, all_over, end_round, greatest}
+use Rattle.mptcp_run.specs.declared.rounds.Run.{Run}
+use Rattle.mptcp_run.specs.declared.status.Status.{Status}
+use Rattle.mptcp_run.specs.declared.status.Status.TheVariants.{Delivered, Rounds, NoPath, Aborted, Usage, Script, Load, Put, TooLong, Memory, Log}
+use Rattle.mptcp_run.specs.Ports.{IsPortsFault}
+use Rattle.mptcp_run.specs.Replaying.{GoesOn, UnderWay, TurnFault, round_turn, last_after}
+use Rattle.run_log.specs.declared.turn.Turn as log_turn
+use Rattle.run_log.specs.declared.turn.Turn.TheVariants as logged
+use Rattle.mptcp_run.specs.Rounds.{AtRound, HoldsPart}
+use Rattle.mptcp_run.specs.Task.{Connection, turn_of}
+use Rattle.mptcp_run.specs.Weaving.{AllGrewAbove, IsSince}
+use Rattle.mptcp_run.proofs.UnderWay.{step_goes, begins_going, lists_at_end, next_begins}
+use Rattle.mptcp_run.proofs.AllTurns.{since_length}
+
+pub under_since : (last : Connection) (run : Run) → UnderWay last run → IsSince last run.made.items run.world.state
+under_since last run h = record { made_is = h.made_is; grew = h.goes_on.grew }
+
+pub under_length : (last : Connection) (run : Run) → UnderWay last run → length run.made.items ≡ length run.world.state.crew
+under_length last run h = since_length run.made.items last run.world.state (under_since last run h)
+
+pub end_since : (last : Connection) (run : Run) → UnderWay last run → IsSince last run.made.items (end_round run.world.state)
+end_since last run h = record {
+  made_is = h.made_is;
+  grew = subst (λ lists. AllGrewAbove (greatest 0 last.crew) (lists_of last.crew) lists) (sym (lists_at_end run.world.state)) h.goes_on.grew;
+}
+
+pub end_length : (w : Connection) → length (end_round w).crew ≡ length w.crew
+end_length w =
+    sym (length-map (end_round w).crew (λ (c : ActorCrew (List ℕ)). c.list)) ∙ ap (λ lists. length lists) (lists_at_end w)
+    ∙ length-map w.crew (λ (c : ActorCrew (List ℕ)). c.list)
+
+-- a round begins
+pub under_begins : (run : Run) → AtRound run → UnderWay run.world.state run
+under_begins run h = record { stands = h.stands; begins = h.begins; made_is = h.made_is; goes_on = begins_going run.world.state h.begins }
+
+-- a step
+pub under_step : (last : Connection) (run new : Run) (actor : ℕ) → UnderWay last run → new.world ≡ standing (world_step octets actor run.world.state)
+    → new.made.items ≡ run.made.items → UnderWay last new
+under_step last run new actor h world made = record {
+  stands = ap (λ (k : Kept). k.failed) world;
+  begins = h.begins;
+  made_is = made ∙ h.made_is;
+  goes_on = subst (λ (k : Kept). GoesOn last k.state) (sym world) (step_goes last run.world.state actor h.goes_on);
+}
+
+-- the end of a round
+pub under_end : (last : Connection) (run new : Run) → UnderWay last run → all_over run.world.state.crew ≡ true → new.world ≡ standing (end_round run.world.state)
+    → new.made.items ≡ map length (lists_of (end_round run.world.state).crew) → UnderWay (end_round run.world.state) new
+under_end last run new h over world made =
+    let begins = next_begins run.world.state h.goes_on.fine over in
+    record {
+      stands = ap (λ (k : Kept). k.failed) world;
+      begins = begins;
+      made_is = made;
+      goes_on = subst (λ (k : Kept). GoesOn (end_round run.world.state) k.state) (sym world) (begins_going (end_round run.world.state) begins);
+    }
+
+-- a round that wasn't put whole
+pub put_fault : (opening : List ℕ) (number : ℕ) (last w : Connection) (line : ℕ) (old new : Port → Option (List ℕ)) (before faults : Port → ℕ) (r : Result (Unit {0}) Status)
+    → all_over w.crew ≡ true → IfErr r (IsPortsFault before faults) → OnErr r (HoldsPart opening number last [] (end_round w ∷ []) old new)
+    → IfErr r (TurnFault opening number round_turn last w line old new)
+put_fault opening number last w line old new before faults (Ok x) over cause part = tt
+put_fault opening number last w line old new before faults (Err status) over cause part = by status cause
+  where
+    by : (status : Status) → IsPortsFault before faults status → TurnFault opening number round_turn last w line old new status
+    by (Put p) cause = inr (over, part)
+    by Memory cause = inr (over, part)
+    by Delivered cause = absurd cause
+    by Rounds cause = absurd cause
+    by NoPath cause = absurd cause
+    by (Aborted reader) cause = absurd cause
+    by Usage cause = absurd cause
+    by (Script at kind) cause = absurd cause
+    by (Load input) cause = absurd cause
+    by (TooLong input) cause = absurd cause
+    by (Log at) cause = absurd cause
+
+-- a round ended: the world hadn't failed, and each turn was over
+pub ended_parts : (failed over result : Bool) → result ≡ (not failed && over) → result ≡ true → (failed ≡ false) × (over ≡ true)
+ended_parts false true result is told = (refl, refl)
+ended_parts false false result is told = cc (is, told)
+ended_parts true over result is told = cc (is, told)
+
+-- a step of the log, as the run goes on with a new world
+pub step_under : (last : Connection) (run : Run) (world : Kept) (turn : log_turn.Turn) (actor : ℕ) → turn ≡ logged.Step actor → UnderWay last run
+    → world ≡ standing (world_step octets actor run.world.state) → UnderWay (last_after (turn_of turn) last run.world.state) (record run { world = world })
+step_under last run world turn actor is h ok =
+    subst (λ t. UnderWay (last_after (turn_of t) last run.world.state) (record run { world = world })) (sym is)
+    (under_step last run (record run { world = world }) actor h ok refl)

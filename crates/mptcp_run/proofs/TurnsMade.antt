@@ -1,0 +1,200 @@
+-- The turns of a log, made and put one after the other.
+use Rattle.std.proofs.Common.{◌≡◌, refl, sym, ◌∙◌, ap, subst, ℕ, zero, suc, ◌+◌, ◌<◌, ◌≤◌, Bool, true, false, inl, inr, ◌⊎◌, List, [], ◌∷◌, ◌++◌, length, Option, arith}
+use Rattle.outside_kit.specs.declared.port.Port.{Port}
+use Rattle.outside_kit.specs.declared.port.Port.TheVariants as port
+use Rattle.outside_kit.specs.declared.side.Side.TheVariants.{A, B}
+use Rattle.path_core.specs.Octets.{octets}
+use Rattle.world_laws.specs.Outcomes.{output_of}
+use Rattle.world_core.specs.Kept.{Kept, standing}
+use Rattle.world_laws.specs.Worlds.{Turn, world_step, end_round, after_turn, world_run, AreLawful, IsLawfulTurn}
+use Rattle.mptcp_run.specs.declared.status.Status.{Status}
+use Rattle.mptcp_run.specs.declared.status.Status.TheVariants.{Delivered, Rounds, NoPath, Aborted, Usage, Script, Load, Put, TooLong, Memory, Log}
+use Rattle.mptcp_run.specs.Ports.{HoldsMore, IsBetween}
+use Rattle.mptcp_run.specs.Putting.{round_ends, last_end, steps_by_round, log_text}
+use Rattle.mptcp_run.specs.Replaying.{last_after, rounds_after, TurnHolds, IsUnchanged, TurnCut, TurnFault}
+use Rattle.mptcp_run.specs.Rounds.{HoldsRound, HoldsEnds, HoldsPart, TurnsPut, TurnRefused, TurnsCut, TurnsFault}
+use Rattle.mptcp_run.specs.Task.{Connection}
+use Rattle.mptcp_run.proofs.PortsLemmas.{IsPrefix-refl}
+use Rattle.mptcp_run.proofs.RoundSteps.{nothing_part, nothing_ends, ends_more, part_behind}
+
+abbrev Ports : Type 0
+Ports = Port → Option (List ℕ)
+
+-- from ports that hold the same
+more_from : (a b c : Option (List ℕ)) (front : List ℕ) (P : List ℕ → Type 0) → b ≡ a → HoldsMore b c front P → HoldsMore a c front P
+more_from a b c front P same h = subst (λ o. HoldsMore o c front P) same h
+
+ends_from : (opening : List ℕ) (number : ℕ) (w : Connection) (ends : List Connection) (a b c : Ports) → ((p : Port) → b p ≡ a p) → HoldsEnds opening number w ends b c
+    → HoldsEnds opening number w ends a c
+ends_from opening number w ends a b c same h = record {
+  read_by_b = more_from (a port.ReadByB) (b port.ReadByB) (c port.ReadByB) (output_of B w) (λ text. text ≡ output_of B (last_end w ends)) (same port.ReadByB) h.read_by_b;
+  read_by_a = more_from (a port.ReadByA) (b port.ReadByA) (c port.ReadByA) (output_of A w) (λ text. text ≡ output_of A (last_end w ends)) (same port.ReadByA) h.read_by_a;
+  log = more_from (a port.Log) (b port.Log) (c port.Log) [] (λ text. text ≡ log_text opening number (steps_by_round w ends)) (same port.Log) h.log;
+}
+
+part_from : (opening : List ℕ) (number : ℕ) (w : Connection) (low high : List Connection) (a b c : Ports) → ((p : Port) → b p ≡ a p) → HoldsPart opening number w low high b c
+    → HoldsPart opening number w low high a c
+part_from opening number w low high a b c same h = record {
+  read_by_b = more_from (a port.ReadByB) (b port.ReadByB) (c port.ReadByB) (output_of B w) (IsBetween (output_of B (last_end w low)) (output_of B (last_end w high))) (same port.ReadByB) h.read_by_b;
+  read_by_a = more_from (a port.ReadByA) (b port.ReadByA) (c port.ReadByA) (output_of A w) (IsBetween (output_of A (last_end w low)) (output_of A (last_end w high))) (same port.ReadByA) h.read_by_a;
+  log = more_from (a port.Log) (b port.Log) (c port.Log) [] (IsBetween (log_text opening number (steps_by_round w low)) (log_text opening number (steps_by_round w high))) (same port.Log) h.log;
+}
+
+module _ (opening : List ℕ) where
+  -- a turn in front of what others put
+  ends_behind : (number : ℕ) (turn : Turn) (rest : List Turn) (last w : Connection) (a b c : Ports) → TurnHolds opening number turn last w a b
+      → HoldsEnds opening (rounds_after turn number) (last_after turn last w) (round_ends rest (after_turn octets turn w)) b c
+      → HoldsEnds opening number last (round_ends (turn ∷ rest) w) a c
+  ends_behind number (Turn.Step actor) rest last w a b c holds h = ends_from opening number last _ a b c holds h
+  ends_behind number Turn.Round rest last w a b c holds h = ends_more opening number last (end_round w) _ a b c holds h
+
+  parts_behind : (number : ℕ) (turn : Turn) (low high : List Turn) (last w : Connection) (a b c : Ports) → TurnHolds opening number turn last w a b
+      → HoldsPart opening (rounds_after turn number) (last_after turn last w) (round_ends low (after_turn octets turn w)) (round_ends high (after_turn octets turn w)) b c
+      → HoldsPart opening number last (round_ends (turn ∷ low) w) (round_ends (turn ∷ high) w) a c
+  parts_behind number (Turn.Step actor) low high last w a b c holds h = part_from opening number last _ _ a b c holds h
+  parts_behind number Turn.Round low high last w a b c holds h = part_behind opening number last (end_round w) _ _ a b c holds h
+
+  -- ---- all turns
+
+  pub turns_more : (number : ℕ) (turn : Turn) (rest : List Turn) (last w x : Connection) (a b c : Ports) → IsLawfulTurn turn w → TurnHolds opening number turn last w a b
+      → TurnsPut opening (rounds_after turn number) rest (last_after turn last w) (after_turn octets turn w) x b c → TurnsPut opening number (turn ∷ rest) last w x a c
+  turns_more number turn rest last w x a b c lawful holds h = record {
+    lawful = (lawful, h.lawful);
+    world = h.world;
+    ports = ends_behind number turn rest last w a b c holds h.ports;
+  }
+
+  pub turns_over : (number : ℕ) (last w : Connection) (a : Ports) → TurnsPut opening number [] last w w a a
+  turns_over number last w a = record { lawful = tt; world = refl; ports = nothing_ends opening number last a a (λ p. refl) }
+
+  -- ---- up to a fault
+
+  refused_more : (number : ℕ) (turn : Turn) (rest : List Turn) (count : ℕ) (last w : Connection) (a b c : Ports) → IsLawfulTurn turn w → TurnHolds opening number turn last w a b
+      → TurnRefused opening (rounds_after turn number) rest count (last_after turn last w) (after_turn octets turn w) b c
+      → TurnRefused opening number (turn ∷ rest) (suc count) last w a c
+  refused_more number turn rest count last w a b c lawful holds h = record {
+    before = turn ∷ h.before;
+    turn = h.turn;
+    behind = h.behind;
+    order_is = ap (λ ts. turn ∷ ts) h.order_is;
+    count_is = ap suc h.count_is;
+    lawful = (lawful, h.lawful);
+    refused = h.refused;
+    ports = ends_behind number turn h.before last w a b c holds h.ports;
+  }
+
+  cut_more : (number : ℕ) (turn : Turn) (rest : List Turn) (last w : Connection) (a b c : Ports) → IsLawfulTurn turn w → TurnHolds opening number turn last w a b
+      → TurnsCut opening (rounds_after turn number) rest (last_after turn last w) (after_turn octets turn w) b c → TurnsCut opening number (turn ∷ rest) last w a c
+  cut_more number turn rest last w a b c lawful holds h = record {
+    turns = turn ∷ h.turns;
+    more = h.more;
+    behind = h.behind;
+    order_is = ap (λ ts. turn ∷ ts) h.order_is;
+    lawful = (lawful, h.lawful);
+    one = h.one;
+    ports = parts_behind number turn h.turns (h.turns ++ h.more) last w a b c holds h.ports;
+  }
+
+  pub fault_more : (number : ℕ) (turn : Turn) (rest : List Turn) (last w : Connection) (lines : ℕ) (a b c : Ports) (status : Status) → IsLawfulTurn turn w
+      → TurnHolds opening number turn last w a b
+      → TurnsFault opening (rounds_after turn number) rest (last_after turn last w) (after_turn octets turn w) (lines + 1) b c status
+      → TurnsFault opening number (turn ∷ rest) last w lines a c status
+  fault_more number turn rest last w lines a b c (Log line) lawful holds h =
+      (suc h.0, (let is = h.1.0 in omega (arith, is), refused_more number turn rest h.0 last w a b c lawful holds h.1.1))
+  fault_more number turn rest last w lines a b c (Put p) lawful holds h = cut_more number turn rest last w a b c lawful holds h
+  fault_more number turn rest last w lines a b c Memory lawful holds h = cut_more number turn rest last w a b c lawful holds h
+  fault_more number turn rest last w lines a b c Delivered lawful holds h = absurd h
+  fault_more number turn rest last w lines a b c Rounds lawful holds h = absurd h
+  fault_more number turn rest last w lines a b c NoPath lawful holds h = absurd h
+  fault_more number turn rest last w lines a b c (Aborted reader) lawful holds h = absurd h
+  fault_more number turn rest last w lines a b c Usage lawful holds h = absurd h
+  fault_more number turn rest last w lines a b c (Script at kind) lawful holds h = absurd h
+  fault_more number turn rest last w lines a b c (Load input) lawful holds h = absurd h
+  fault_more number turn rest last w lines a b c (TooLong input) lawful holds h = absurd h
+
+  cut_here : (number : ℕ) (turn : Turn) (rest : List Turn) (last w : Connection) (a b : Ports) → TurnCut opening number turn last w a b
+      → TurnsCut opening number (turn ∷ rest) last w a b
+  cut_here number turn rest last w a b (inl same) = record {
+    turns = [];
+    more = [];
+    behind = turn ∷ rest;
+    order_is = refl;
+    lawful = tt;
+    one = omega arith;
+    ports = nothing_part opening number last [] a b same (IsPrefix-refl (output_of B last)) (IsPrefix-refl (output_of A last));
+  }
+  cut_here number turn rest last w a b (inr (lawful, part)) = record {
+    turns = [];
+    more = turn ∷ [];
+    behind = rest;
+    order_is = refl;
+    lawful = (lawful, tt);
+    one = one turn;
+    ports = part;
+  }
+    where
+      one : (turn : Turn) → length (round_ends (turn ∷ []) w) ≤ 1
+      one (Turn.Step actor) = omega arith
+      one Turn.Round = omega arith
+
+  pub fault_here : (number : ℕ) (turn : Turn) (rest : List Turn) (last w : Connection) (lines line : ℕ) (a b : Ports) (status : Status) → line ≡ lines + 1
+      → TurnFault opening number turn last w line a b status → TurnsFault opening number (turn ∷ rest) last w lines a b status
+  fault_here number turn rest last w lines line a b (Log at) is h = (
+    0,
+    (
+      let at_is = h.0 in omega (arith, is, at_is),
+      record {
+        before = [];
+        turn = turn;
+        behind = rest;
+        order_is = refl;
+        count_is = refl;
+        lawful = tt;
+        refused = h.1.0;
+        ports = nothing_ends opening number last a b h.1.1;
+      },
+    ),
+  )
+  fault_here number turn rest last w lines line a b (Put p) is h = cut_here number turn rest last w a b h
+  fault_here number turn rest last w lines line a b Memory is h = cut_here number turn rest last w a b h
+  fault_here number turn rest last w lines line a b Delivered is h = absurd h
+  fault_here number turn rest last w lines line a b Rounds is h = absurd h
+  fault_here number turn rest last w lines line a b NoPath is h = absurd h
+  fault_here number turn rest last w lines line a b (Aborted reader) is h = absurd h
+  fault_here number turn rest last w lines line a b Usage is h = absurd h
+  fault_here number turn rest last w lines line a b (Script at kind) is h = absurd h
+  fault_here number turn rest last w lines line a b (Load input) is h = absurd h
+  fault_here number turn rest last w lines line a b (TooLong input) is h = absurd h
+
+-- ---- the same, as a loop has them
+
+pub put_turn : (op next_op : List ℕ) (n m : ℕ) (turn : Turn) (rest order : List Turn) (last w : Connection) (k : Kept) (x : Connection) (a b c : Ports) → next_op ≡ op
+    → m ≡ rounds_after turn n → order ≡ turn ∷ rest → k ≡ standing (after_turn octets turn w) → IsLawfulTurn turn w → TurnHolds op n turn last w a b
+    → TurnsPut next_op m rest (last_after turn last w) k.state x b c → TurnsPut op n order last w x a c
+put_turn op next_op n m turn rest order last w k x a b c same many order_is world lawful holds h =
+    subst (λ ts. TurnsPut op n ts last w x a c) (sym order_is)
+    (turns_more op n turn rest last w x a b c lawful holds
+    (subst (λ (z : Kept). TurnsPut op (rounds_after turn n) rest (last_after turn last w) z.state x b c) world
+    (subst (λ i. TurnsPut op i rest (last_after turn last w) k.state x b c) many
+    (subst (λ o. TurnsPut o m rest (last_after turn last w) k.state x b c) same h))))
+
+pub fault_later : (op next_op : List ℕ) (n m line next : ℕ) (turn : Turn) (rest order : List Turn) (last w : Connection) (k : Kept) (a b c : Ports) (status : Status) → next_op ≡ op
+    → m ≡ rounds_after turn n → next ≡ line + 1 → order ≡ turn ∷ rest → k ≡ standing (after_turn octets turn w) → IsLawfulTurn turn w → TurnHolds op n turn last w a b
+    → TurnsFault next_op m rest (last_after turn last w) k.state next b c status → TurnsFault op n order last w line a c status
+fault_later op next_op n m line next turn rest order last w k a b c status same many next_is order_is world lawful holds h =
+    subst (λ ts. TurnsFault op n ts last w line a c status) (sym order_is)
+    (fault_more op n turn rest last w line a b c status lawful holds
+    (subst (λ (z : Kept). TurnsFault op (rounds_after turn n) rest (last_after turn last w) z.state (line + 1) b c status) world
+    (subst (λ i. TurnsFault op (rounds_after turn n) rest (last_after turn last w) k.state i b c status) next_is
+    (subst (λ i. TurnsFault op i rest (last_after turn last w) k.state next b c status) many
+    (subst (λ o. TurnsFault o m rest (last_after turn last w) k.state next b c status) same h)))))
+
+pub fault_now : (op : List ℕ) (n line at : ℕ) (turn : Turn) (rest order : List Turn) (last w : Connection) (a b : Ports) (status : Status) → at ≡ line + 1 → order ≡ turn ∷ rest
+    → TurnFault op n turn last w at a b status → TurnsFault op n order last w line a b status
+fault_now op n line at turn rest order last w a b status at_is order_is h =
+    subst (λ ts. TurnsFault op n ts last w line a b status) (sym order_is) (fault_here op n turn rest last w line at a b status at_is h)
+
+-- a turn ends one round at most
+pub rounds_few : (turn : Turn) (n i m : ℕ) → n ≤ i → m ≡ rounds_after turn n → m ≤ i + 1
+rounds_few (Turn.Step actor) n i m few is = omega (arith, few, is)
+rounds_few Turn.Round n i m few is = omega (arith, few, is)

@@ -1,0 +1,39 @@
+use Rattle.std.proofs.Common.{◌≡◌, ◌∙◌, refl, sym, ap, subst, List, map, length, ◌∷◌, []}
+use Rattle.std.proofs.lemmas.Result.{on_ok_weaker, on_err_weaker}
+use Rattle.world_core.specs.Kept.{Kept}
+use Rattle.world_laws.specs.Fine.{lists_of}
+use Rattle.mptcp_run.specs.Rounds.{HoldsRound, HoldsPart}
+use Rattle.mptcp_run.specs.Weaving.{IsSince}
+use Rattle.mptcp_run.proofs.Turning.{end_since, end_length, under_end, put_fault, ended_parts}
+use Rattle.mptcp_run.proofs.replay.end_round.Goals as goal
+
+pub put_round-requires-clause-made : goal.put_round-requires-clause-made
+put_round-requires-clause-made g c =
+    let ended = ended_parts _ _ _ c.end_round.ensures.over c.if-not-end_round.false in
+    c.requires.made ∙ sym (end_length c.args.run.now.world.state) ∙ ap (λ (k : Kept). length k.state.crew) (sym (c.end_round.ensures.next ended.0))
+
+pub returns-clause-ports : goal.returns-clause-ports
+returns-clause-ports g c last under =
+    let ended = ended_parts _ _ _ c.end_round.ensures.over c.if-not-end_round.false in
+    let is = c.end_round.ensures.next ended.0 in
+    on_ok_weaker c.put_round.result
+    (λ held. subst (λ (k : Kept). HoldsRound c.args.run.now.opening c.args.run.now.rounds last k.state (g.O.Outside.holds c.args.outside.now) (g.O.Outside.holds c.put_round.new.outside)) is held)
+    (c.put_round.ensures.ok last (subst (λ (k : Kept). IsSince last c.args.run.now.made.items k.state) (sym is) (end_since last c.args.run.now under)))
+
+pub returns-clause-under : goal.returns-clause-under
+returns-clause-under g c last under =
+    let ended = ended_parts _ _ _ c.end_round.ensures.over c.if-not-end_round.false in
+    let is = c.end_round.ensures.next ended.0 in
+    on_ok_weaker c.put_round.result
+    (λ made. under_end last c.args.run.now c.put_round.new.self under ended.1 (c.put_round.ensures.world ∙ is) (made ∙ ap (λ (k : Kept). map length (lists_of k.state.crew)) is))
+    c.put_round.ensures.made
+
+pub returns-clause-fault : goal.returns-clause-fault
+returns-clause-fault g c last under =
+    let ended = ended_parts _ _ _ c.end_round.ensures.over c.if-not-end_round.false in
+    let is = c.end_round.ensures.next ended.0 in
+    put_fault c.args.run.now.opening c.args.run.now.rounds last c.args.run.now.world.state c.args.line (g.O.Outside.holds c.args.outside.now) (g.O.Outside.holds c.put_round.new.outside) _ _
+    c.put_round.result ended.1 c.put_round.ensures.fault
+    (on_err_weaker c.put_round.result
+    (λ part. subst (λ (k : Kept). HoldsPart c.args.run.now.opening c.args.run.now.rounds last [] (k.state ∷ []) (g.O.Outside.holds c.args.outside.now) (g.O.Outside.holds c.put_round.new.outside)) is part)
+    (c.put_round.ensures.err last (subst (λ (k : Kept). IsSince last c.args.run.now.made.items k.state) (sym is) (end_since last c.args.run.now under))))

@@ -1,0 +1,63 @@
+use Rattle.std.proofs.Common.{◌≡◌, ◌∙◌, refl, sym, subst, ap, arith, map, drop, ◌+◌}
+use Rattle.std.proofs.lemmas.List.{drop_more, at_drop_all}
+use Rattle.std.proofs.lemmas.Result.{err_from_is_err_and}
+use Rattle.mptcp_run.specs.Task.{turn_of}
+use Rattle.mptcp_run.specs.Rounds.{TurnsPut, TurnsFault, all_turns}
+use Rattle.mptcp_run.specs.Replaying.{last_after}
+use Rattle.mptcp_run.proofs.Turning.{under_length, under_begins}
+use Rattle.mptcp_run.proofs.TurnsMade.{put_turn, turns_over, fault_later, fault_now, rounds_few}
+use Rattle.mptcp_run.proofs.replay.make_turns.Goals as goal
+
+pub loop-turn-init : goal.loop-turn-init
+loop-turn-init g c = (
+  c.args.run.now.world.state,
+  record {
+    under = under_begins c.args.run.now c.requires.begins;
+    put = λ v new h. subst (λ n. TurnsPut c.args.run.now.opening n (all_turns c.args.order.now) c.args.run.now.world.state c.args.run.now.world.state v (g.O.Outside.holds c.args.outside.now) new) c.requires.none h;
+    fault = λ status new h. subst (λ n. TurnsFault c.args.run.now.opening n (all_turns c.args.order.now) c.args.run.now.world.state c.args.run.now.world.state c.args.lines (g.O.Outside.holds c.args.outside.now) new status) c.requires.none h;
+    rounds = let none = c.requires.none in omega (arith, none);
+    line = omega arith;
+    few = omega arith;
+    counted = λ port. omega arith;
+    load_counts = refl;
+  },
+)
+
+pub make_turn-requires-clause-made : goal.make_turn-requires-clause-made
+make_turn-requires-clause-made g c = under_length c.loop-turn.invariant.0 c.loop-turn.run c.loop-turn.invariant.1.under
+
+pub returns-in_err-make_turn-clause-fault : goal.returns-in_err-make_turn-clause-fault
+returns-in_err-make_turn-clause-fault g c =
+    let inv = c.loop-turn.invariant.1 in let fault = c.in_err-make_turn.ensures.fault c.loop-turn.invariant.0 inv.under in
+    let p = err_from_is_err_and c.from_residual.result c.from_residual.ensures.1 in
+    rw (p.1, p.2) (inv.fault c.in_err-make_turn.field-0.0 _
+    (fault_now c.loop-turn.run.opening c.loop-turn.run.rounds c.loop-turn.line (c.loop-turn.line + 1) _ _ (all_turns (drop c.loop-turn.turn-index c.args.order.now)) c.loop-turn.invariant.0
+    c.loop-turn.run.world.state _ _ c.in_err-make_turn.field-0.0 refl (ap (map turn_of) (drop_more c.args.order.now c.loop-turn.turn-index _ c.loop-turn-test.true)) fault))
+
+pub loop-turn-preserved : goal.loop-turn-preserved
+loop-turn-preserved g c =
+    let inv = c.loop-turn.invariant.1 in let made = c.in_ok-make_turn.ensures in let last = c.loop-turn.invariant.0 in
+    let within = c.loop-turn-test.true in
+    let order_is = ap (map turn_of) (drop_more c.args.order.now c.loop-turn.turn-index _ within) in (
+      _,
+      record {
+        under = made.under last inv.under;
+        put = λ v new rest. inv.put v new (put_turn c.loop-turn.run.opening c.make_turn.new.run.opening c.loop-turn.run.rounds c.make_turn.new.run.rounds _ _ (all_turns (drop c.loop-turn.turn-index c.args.order.now))
+            last c.loop-turn.run.world.state c.make_turn.new.run.world v _ _ new made.opening made.rounds order_is made.ok made.lawful (made.ports last inv.under) rest);
+        fault = λ status new rest. inv.fault status new (fault_later c.loop-turn.run.opening c.make_turn.new.run.opening c.loop-turn.run.rounds c.make_turn.new.run.rounds c.loop-turn.line (c.loop-turn.line + 1) _ _
+            (all_turns (drop c.loop-turn.turn-index c.args.order.now)) last c.loop-turn.run.world.state c.make_turn.new.run.world _ _ new status made.opening made.rounds refl order_is made.ok made.lawful (made.ports last inv.under) rest);
+        rounds = rounds_few _ c.loop-turn.run.rounds c.loop-turn.turn-index c.make_turn.new.run.rounds inv.rounds made.rounds;
+        line = let line = inv.line in omega (arith, line);
+        few = omega (arith, within);
+        counted = λ port. omega (arith, inv.counted port, made.counted port);
+        load_counts = made.load_counts ∙ inv.load_counts;
+      },
+    )
+
+pub returns-clause-ok : goal.returns-clause-ok
+returns-clause-ok g c =
+    c.loop-turn.invariant.1.put _ _
+    (subst (λ ts. TurnsPut c.loop-turn.run.opening c.loop-turn.run.rounds (all_turns ts) c.loop-turn.invariant.0 c.loop-turn.run.world.state c.loop-turn.run.world.state
+    (g.O.Outside.holds c.loop-turn.outside) (g.O.Outside.holds c.loop-turn.outside))
+    (sym (at_drop_all (λ ts. ts) c.args.order.now c.loop-turn.turn-index (let over = c.loop-turn-test.false in omega (arith, over))))
+    (turns_over c.loop-turn.run.opening c.loop-turn.run.rounds c.loop-turn.invariant.0 c.loop-turn.run.world.state (g.O.Outside.holds c.loop-turn.outside)))

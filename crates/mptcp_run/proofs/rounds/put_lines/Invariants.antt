@@ -1,0 +1,8 @@
+use Rattle.std.proofs.Common.{◌≡◌, ◌++◌, drop, map}
+use Rattle.std.specs.List.{flat_map}
+use Rattle.run_log.specs.Lines.{ended, step_text}
+use Rattle.mptcp_run.proofs.rounds.put_lines.Given as goal
+
+abbrev pub invariant-loop-note : goal.invariant-loop-note
+invariant-loop-note l =
+    l.text ++ flat_map ended (map (λ note. step_text note.now) (drop l.note-index l.notes)) ≡ l.fn.text ++ flat_map ended (map (λ note. step_text note.now) l.notes)

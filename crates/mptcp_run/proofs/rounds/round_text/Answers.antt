@@ -1,0 +1,7 @@
+use Rattle.mptcp_run.proofs.Gathering.{gathered}
+use Rattle.mptcp_run.proofs.rounds.round_text.Goals as goal
+
+pub returns : goal.returns
+returns c =
+    gathered c.args.opening.now c.args.number c.args.steps.now c.in_ok-text.text c.put_lines.new.text c.append.new.self c.in_ok-text.ensures c.in_ok-put_lines.ensures
+    (search (c.in_ok-append.ensures.ok, c.in_ok-round_line.ensures.exact, c.as_bytes.ensures))

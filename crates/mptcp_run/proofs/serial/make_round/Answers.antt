@@ -1,0 +1,37 @@
+use Rattle.std.proofs.Common.{◌≡◌, ◌∙◌, refl, sym, ap, subst, List, map, length, inl, inr}
+use Rattle.std.proofs.lemmas.Result.{on_ok_weaker, on_err_weaker}
+use Rattle.world_laws.specs.Fine.{lists_of}
+use Rattle.world_core.specs.Kept.{Kept}
+use Rattle.mptcp_run.specs.Rounds.{Begins, HoldsRound}
+use Rattle.mptcp_run.proofs.AllTurns.{round_begins, round_since, since_length}
+use Rattle.mptcp_run.proofs.serial.make_round.Goals as goal
+
+pub put_round-requires-clause-made : goal.put_round-requires-clause-made
+put_round-requires-clause-made g c =
+    since_length c.args.run.now.made.items c.args.run.now.world.state c.round.new.world.state
+    (round_since c.args.run.now.made.items c.args.run.now.world.state c.round.new.world.state c.requires.begins.made_is c.requires.begins.begins c.in-Ok.ensures.ok)
+
+pub returns-in-Ok-clause-ok : goal.returns-in-Ok-clause-ok
+returns-in-Ok-clause-ok g c =
+    on_ok_weaker c.put_round.result
+    (λ held. subst (λ (k : Kept). HoldsRound c.args.run.now.opening c.args.run.now.rounds c.args.run.now.world.state k.state (g.O.Outside.holds c.args.outside.now) (g.O.Outside.holds c.put_round.new.outside))
+    (sym c.put_round.ensures.world) held)
+    (c.put_round.ensures.ok c.args.run.now.world.state
+    (round_since c.args.run.now.made.items c.args.run.now.world.state c.round.new.world.state c.requires.begins.made_is c.requires.begins.begins c.in-Ok.ensures.ok))
+
+pub returns-in-Ok-clause-err : goal.returns-in-Ok-clause-err
+returns-in-Ok-clause-err g c =
+    on_err_weaker c.put_round.result (λ part. inr (c.round.new.world.state, (c.in-Ok.ensures.ok, part)))
+    (c.put_round.ensures.err c.args.run.now.world.state
+    (round_since c.args.run.now.made.items c.args.run.now.world.state c.round.new.world.state c.requires.begins.made_is c.requires.begins.begins c.in-Ok.ensures.ok))
+
+pub returns-in-Ok-clause-begins : goal.returns-in-Ok-clause-begins
+returns-in-Ok-clause-begins g c =
+    on_ok_weaker c.put_round.result
+    (λ made. record {
+      stands = ap (λ (k : Kept). k.failed) c.put_round.ensures.world ∙ c.in-Ok.ensures.stands;
+      begins = subst (λ (k : Kept). Begins k.state) (sym c.put_round.ensures.world)
+          (round_begins c.args.run.now.world.state c.round.new.world.state c.requires.begins.begins c.in-Ok.ensures.ok);
+      made_is = made ∙ ap (λ (k : Kept). map length (lists_of k.state.crew)) (sym c.put_round.ensures.world);
+    })
+    c.put_round.ensures.made

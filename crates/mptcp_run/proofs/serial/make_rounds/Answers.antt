@@ -1,0 +1,43 @@
+use Rattle.std.proofs.Common.{◌≡◌, ◌∙◌, refl, sym, ap, subst, ◌+◌, ◌-◌, arith}
+use Rattle.mptcp_run.specs.Rounds.{RoundsPut}
+use Rattle.mptcp_run.proofs.PortsLemmas.{OnErr-holds, OnOk-holds}
+use Rattle.mptcp_run.proofs.RoundsMade.{put_more, put_last, cut_later, cut_now, rounds_over}
+use Rattle.mptcp_run.proofs.serial.make_rounds.Goals as goal
+
+pub loop-round-preserved : goal.loop-round-preserved
+loop-round-preserved g c =
+    let inv = c.loop-round.invariant in let made = c.in_ok-make_round.ensures in
+    let going = sym c.goes_on.ensures ∙ c.if-not-goes_on.false in
+    record {
+      begins = made.begins;
+      opening = made.opening ∙ inv.opening;
+      rounds = made.rounds ∙ ap (λ n. n + 1) inv.rounds;
+      few = omega (arith, c.loop-round-test.true);
+      put = λ v new rest. inv.put v new
+          (put_more c.loop-round.run.opening c.make_round.new.run.opening (c.args.most - c.loop-round._round) (c.args.most - (c.loop-round._round + 1)) c.loop-round._round (c.loop-round._round + 1)
+          c.loop-round.run.rounds c.loop-round.run.world.state c.make_round.new.run.world.state v _ _ new made.opening (omega (arith, c.loop-round-test.true)) (omega arith) inv.rounds made.round going made.ok rest);
+      cut = λ new rest. inv.cut new
+          (cut_later c.loop-round.run.opening c.make_round.new.run.opening (c.args.most - c.loop-round._round) (c.args.most - (c.loop-round._round + 1)) c.loop-round._round (c.loop-round._round + 1)
+          c.loop-round.run.rounds c.loop-round.run.world.state c.make_round.new.run.world.state _ _ new made.opening (omega (arith, c.loop-round-test.true)) (omega arith) inv.rounds made.round going made.ok rest);
+      counted = λ port. omega (arith, inv.counted port, made.counted port);
+      load_counts = made.load_counts ∙ inv.load_counts;
+    }
+
+pub returns-in_err-make_round-clause-err : goal.returns-in_err-make_round-clause-err
+returns-in_err-make_round-clause-err g c =
+    let inv = c.loop-round.invariant in
+    OnErr-holds _ _ (inv.cut _
+    (cut_now c.loop-round.run.opening (c.args.most - c.loop-round._round) (c.args.most - (c.loop-round._round + 1)) c.loop-round._round c.loop-round.run.rounds c.loop-round.run.world.state _ _
+    (omega (arith, c.loop-round-test.true)) inv.rounds c.in_err-make_round.ensures.err))
+
+pub returns-then-not-goes_on-clause-ok : goal.returns-then-not-goes_on-clause-ok
+returns-then-not-goes_on-clause-ok g c =
+    let inv = c.loop-round.invariant in let made = c.in_ok-make_round.ensures in
+    inv.put _ _
+    (put_last c.loop-round.run.opening (c.args.most - c.loop-round._round) (c.args.most - (c.loop-round._round + 1)) c.loop-round._round c.loop-round.run.rounds c.loop-round.run.world.state
+    c.make_round.new.run.world.state _ _ (omega (arith, c.loop-round-test.true)) inv.rounds made.round (sym c.goes_on.ensures ∙ c.if-not-goes_on.true) made.ok)
+
+pub returns-clause-ok : goal.returns-clause-ok
+returns-clause-ok g c =
+    let inv = c.loop-round.invariant in
+    inv.put _ _ (rounds_over c.loop-round.run.opening (c.args.most - c.loop-round._round) c.loop-round._round c.loop-round.run.world.state _ (omega (arith, c.loop-round-test.false)))

@@ -1,0 +1,20 @@
+use Rattle.std.proofs.Common.{◌≡◌, ◌≤◌, ◌-◌}
+use Rattle.outside_kit.specs.declared.port.Port.{Port}
+use Rattle.mptcp_run.specs.Ports.{NeverFall}
+use Rattle.mptcp_run.specs.Rounds.{AtRound, RoundsPut, RoundsCut}
+use Rattle.mptcp_run.proofs.serial.make_rounds.Given as goal
+
+-- what the rounds that are left come to, all rounds do
+abbrev pub invariant-loop-round : goal.invariant-loop-round
+invariant-loop-round g l = record {
+  begins : AtRound l.run;
+  opening : l.run.opening ≡ l.initial.run.opening;
+  rounds : l.run.rounds ≡ l._round;
+  few : l._round ≤ l.most;
+  put : (v : _) (new : _) → RoundsPut l.run.opening (l.most - l._round) l._round l.run.world.state v (g.O.Outside.holds l.outside) new
+      → RoundsPut l.initial.run.opening l.most 0 l.initial.run.world.state v (g.O.Outside.holds l.initial.outside) new;
+  cut : (new : _) → RoundsCut l.run.opening (l.most - l._round) l._round l.run.world.state (g.O.Outside.holds l.outside) new
+      → RoundsCut l.initial.run.opening l.most 0 l.initial.run.world.state (g.O.Outside.holds l.initial.outside) new;
+  counted : NeverFall (g.O.Outside.port_faults l.initial.outside) (g.O.Outside.port_faults l.outside);
+  load_counts : g.O.Outside.load_faults l.outside ≡ g.O.Outside.load_faults l.initial.outside;
+}

@@ -1,0 +1,67 @@
+use Rattle.std.proofs.Common.{◌≡◌, ◌∙◌, ◌≤◌, refl, sym, ap, subst, arith}
+use Rattle.std.proofs.lemmas.Result.{on_err_weaker, err_from_is_err_and}
+use Rattle.outside_kit.specs.declared.port.Port.TheVariants.{ReadByA, ReadByB}
+use Rattle.world_laws.specs.Outcomes.{outcome_of}
+use Rattle.mptcp_run.proofs.PortsLemmas.{OnErr-holds, IfOk-with, IfErr-map, fault_after, b_isnt_log, a_isnt_log}
+use Rattle.mptcp_run.proofs.Starting.{opened_at, has_ended, serial_ends, serial_is_cut, serial_line_cut, serial_unbegun}
+use Rattle.mptcp_run.proofs.top_call.perform_serial.Goals as goal
+
+pub make_rounds-requires-clause-begins : goal.make_rounds-requires-clause-begins
+make_rounds-requires-clause-begins g c = opened_at c.args.input.now c.in_ok-run.run' c.in_ok-run.ensures.run
+
+pub returns-in_err-run-clause-cut : goal.returns-in_err-run-clause-cut
+returns-in_err-run-clause-cut g c =
+    OnErr-holds _ _ (serial_unbegun c.args.input.now c.args.rounds _ _ c.in_err-run.ensures.read_by_b_err c.in_err-run.ensures.read_by_a_err c.begin.ensures.log)
+
+pub returns-in_err-make_rounds-clause-cut : goal.returns-in_err-make_rounds-clause-cut
+returns-in_err-make_rounds-clause-cut g c =
+    let begun = c.in_ok-run.ensures in
+    OnErr-holds _ _ (serial_is_cut c.args.input.now c.in_ok-run.run' begun.run c.args.rounds (g.O.Outside.holds c.args.outside.now) (g.O.Outside.holds c.begin.new.outside) (g.O.Outside.holds c.make_rounds.new.outside)
+    (record { read_by_b = begun.read_by_b; read_by_a = begun.read_by_a; log = c.begin.ensures.log }) c.in_err-make_rounds.ensures.err)
+
+pub returns-in_err-make_rounds-clause-fault : goal.returns-in_err-make_rounds-clause-fault
+returns-in_err-make_rounds-clause-fault g c =
+    let p = err_from_is_err_and c.from_residual-in_err-make_rounds.result c.from_residual-in_err-make_rounds.ensures.1 in
+    rw (p.1, p.2) (fault_after (g.O.Outside.port_faults c.args.outside.now) (g.O.Outside.port_faults c.begin.new.outside) (g.O.Outside.port_faults c.make_rounds.new.outside)
+    c.in_err-make_rounds.field-0.0 c.begin.ensures.counted c.in_err-make_rounds.ensures.fault)
+
+pub returns-clause-fault : goal.returns-clause-fault
+returns-clause-fault g c =
+    IfErr-map c.end.result
+    (λ status fault. fault_after (g.O.Outside.port_faults c.args.outside.now) (g.O.Outside.port_faults c.make_rounds.new.outside) (g.O.Outside.port_faults c.end.new.outside) status
+    (λ port. omega (arith, c.begin.ensures.counted port, c.make_rounds.ensures.counted port)) fault)
+    c.end.ensures.fault
+
+pub returns-clause-counted : goal.returns-clause-counted
+returns-clause-counted g c port = omega (arith, c.begin.ensures.counted port, c.make_rounds.ensures.counted port, c.end.ensures.counted port)
+
+pub returns-clause-ended : goal.returns-clause-ended
+returns-clause-ended g c = IfOk-with c.end.result (λ status shown grew. has_ended (outcome_of c.make_rounds.new.run.world.state.crew) status shown) c.end.ensures.status c.end.ensures.ok
+
+pub returns-clause-whole : goal.returns-clause-whole
+returns-clause-whole g c =
+    let begun = c.in_ok-run.ensures in
+    IfOk-with c.end.result
+    (λ status shown grew. serial_ends c.args.input.now c.in_ok-run.run' begun.run c.args.rounds c.make_rounds.new.run.world.state status (g.O.Outside.holds c.args.outside.now) (g.O.Outside.holds c.begin.new.outside)
+    (g.O.Outside.holds c.make_rounds.new.outside) (g.O.Outside.holds c.end.new.outside)
+    (record { read_by_b = begun.read_by_b; read_by_a = begun.read_by_a; log = c.begin.ensures.log }) c.in_ok-make_rounds.ensures.ok shown
+    (record {
+      read_by_b = c.end.ensures.other_ports ReadByB b_isnt_log;
+      read_by_a = c.end.ensures.other_ports ReadByA a_isnt_log;
+      log = grew;
+    }))
+    c.end.ensures.status c.end.ensures.ok
+
+pub returns-clause-cut : goal.returns-clause-cut
+returns-clause-cut g c =
+    let begun = c.in_ok-run.ensures in
+    on_err_weaker c.end.result
+    (λ part. serial_line_cut c.args.input.now c.in_ok-run.run' begun.run c.args.rounds c.make_rounds.new.run.world.state (g.O.Outside.holds c.args.outside.now) (g.O.Outside.holds c.begin.new.outside)
+    (g.O.Outside.holds c.make_rounds.new.outside) (g.O.Outside.holds c.end.new.outside)
+    (record { read_by_b = begun.read_by_b; read_by_a = begun.read_by_a; log = c.begin.ensures.log }) c.in_ok-make_rounds.ensures.ok
+    (record {
+      read_by_b = c.end.ensures.other_ports ReadByB b_isnt_log;
+      read_by_a = c.end.ensures.other_ports ReadByA a_isnt_log;
+      log = part;
+    }))
+    c.end.ensures.err

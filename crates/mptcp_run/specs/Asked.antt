@@ -1,0 +1,16 @@
+-- What of a command line is run: the modes `serial` and `replay`.
+use Rattle.std.specs.Prelude.{ℕ, Bool, true, false, List, Option, Some, None, option_and_then, if◌then◌else◌}
+use Rattle.run_words.specs.Lines.{Line, Work, run, serial, replay, bench, line_of}
+
+abbrev pub is_run : Work → Bool
+is_run (serial rounds) = true
+is_run (replay log) = true
+is_run (run rounds) = false
+is_run (bench rounds number) = false
+
+abbrev pub if_run : Line → Option Line
+if_run line = if is_run line.work then Some line else None
+
+-- what the words behind the program's name ask for; None where they break the line form, or name another mode
+unfoldable pub asked_in : List (List ℕ) → Option Line
+asked_in words = option_and_then if_run (line_of words)

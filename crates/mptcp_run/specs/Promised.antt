@@ -1,0 +1,92 @@
+-- What users of a run rely on, where its script changes no segment: what the readers have is what the other side writes.
+use Rattle.std.specs.Prelude.{◌≡◌, ℕ, ◌⊎◌, List, [], ◌∷◌, ◌++◌, Option, Some, IfSome, IsSomeAnd}
+use Rattle.run_words.specs.Lines.{Line}
+use Rattle.outside_kit.specs.declared.port.Port.{Port}
+use Rattle.outside_kit.specs.declared.port.Port.TheVariants.{ReadByA, ReadByB}
+use Rattle.outside_kit.specs.Outside.{HoldsAfter}
+use Rattle.pipe_model.specs.Prefix.{IsPrefix}
+use Rattle.world_laws.specs.Laws.{WritesTheFiles}
+use Rattle.world_laws.specs.Openings.{start_of}
+use Rattle.world_laws.specs.PlainScripts.{IsPlainScript, KeepsAllPromises}
+use Rattle.world_laws.specs.Worlds.{Turn}
+use Rattle.mptcp_run.specs.declared.status.Status.{Status}
+use Rattle.mptcp_run.specs.declared.status.Status.TheVariants.{Delivered}
+use Rattle.mptcp_run.specs.Putting.{world_after, IsWhole, IsStopped, IsCut}
+use Rattle.mptcp_run.specs.Task.{Task, Course, rounds, told, task_of, AreWithinLimits}
+
+-- no line of the script changes a segment, and both files are shorter than 2^31 - 2 octets
+abbrev pub IsPlainTask : Task → Type 0
+IsPlainTask task = IsPlainScript task.script task.file_a task.file_b
+
+-- the last turn is the end of a round, as it is of each serial run and in each log
+abbrev pub EndsWithRound : Course → Type 0
+EndsWithRound (rounds most) = Unit {0}
+EndsWithRound (told order) = (front : List Turn) × (order ≡ front ++ Turn.Round ∷ [])
+
+pub record IsPromisedTask (task : Task) : Type 0 where
+  pub plain : IsPlainTask task
+  pub ends : EndsWithRound task.course
+
+-- a port that told what it held holds a front of this file
+abbrev pub HoldsFront : Option (List ℕ) → Option (List ℕ) → List ℕ → Type 0
+HoldsFront old new file = IfSome old (λ _. IsSomeAnd new (λ text. IsPrefix text file))
+
+-- or what it held, where it wasn't bound
+abbrev pub HoldsFrontIfBound : Option (List ℕ) → Option (List ℕ) → List ℕ → Type 0
+HoldsFrontIfBound old new file = IfSome old (λ held. (new ≡ Some held) ⊎ IsSomeAnd new (λ text. IsPrefix text file))
+
+module _ (task : Task) (old new : Port → Option (List ℕ)) where
+  -- what each side's reader has is a front of what the other side writes
+  pub record ReadersHaveFronts : Type 0 where
+    pub read_by_b : HoldsFront (old ReadByB) (new ReadByB) task.file_a
+    pub read_by_a : HoldsFront (old ReadByA) (new ReadByA) task.file_b
+
+  pub record ReadersHaveFrontsIfBound : Type 0 where
+    pub read_by_b : HoldsFrontIfBound (old ReadByB) (new ReadByB) task.file_a
+    pub read_by_a : HoldsFrontIfBound (old ReadByA) (new ReadByA) task.file_b
+
+  -- it is all that the other side writes
+  pub record ReadersHaveFiles : Type 0 where
+    pub read_by_b : HoldsAfter (old ReadByB) (new ReadByB) (λ _. task.file_a)
+    pub read_by_a : HoldsAfter (old ReadByA) (new ReadByA) (λ _. task.file_b)
+
+-- The connection after these turns keeps all promises: in each direction what was read is a prefix of what was written, what was
+-- acknowledged was received, the end was told only at the whole, and nothing follows it. And what was written is a front of the
+-- side's file, and all of it where the stream was closed.
+pub record IsKept (task : Task) (turns : List Turn) : Type 0 where
+  pub promises : KeepsAllPromises (world_after task turns)
+  pub files : WritesTheFiles (start_of task.script task.file_a task.file_b) (world_after task turns)
+
+-- so it is after all turns, in whatever order
+abbrev pub IsAlwaysKept : Task → Type 0
+IsAlwaysKept task = (turns : List Turn) → IsKept task turns
+
+-- ---- laws
+
+-- the task of a command line, where its files are within their limits: each script that is run is plain
+abbrev pub LoadedTasksArePlain : Type 0
+LoadedTasksArePlain = (content : List ℕ → Option (List ℕ)) (line : Line) → AreWithinLimits content line → IfSome (task_of content line) IsPromisedTask
+
+abbrev pub PlainTasksAreKept : Type 0
+PlainTasksAreKept = (task : Task) (turns : List Turn) → IsPlainTask task → IsKept task turns
+
+-- a run that came to its own end
+abbrev pub WholeRunsGiveFronts : Type 0
+WholeRunsGiveFronts =
+    (task : Task) (status : Status) (old new : Port → Option (List ℕ)) → IsPlainTask task → IsWhole task status old new → ReadersHaveFronts task old new
+
+abbrev pub DeliveredRunsGiveFiles : Type 0
+DeliveredRunsGiveFiles =
+    (task : Task) (old new : Port → Option (List ℕ)) → IsPlainTask task → EndsWithRound task.course → IsWhole task Delivered old new
+    → ReadersHaveFiles task old new
+
+-- a run that stopped at a turn that can't be made
+abbrev pub StoppedRunsGiveFronts : Type 0
+StoppedRunsGiveFronts =
+    (task : Task) (opening line : ℕ) (old new : Port → Option (List ℕ)) → IsPlainTask task → IsStopped task opening line old new
+    → ReadersHaveFronts task old new
+
+-- a run that was cut off
+abbrev pub CutRunsGiveFronts : Type 0
+CutRunsGiveFronts =
+    (task : Task) (old new : Port → Option (List ℕ)) → IsPlainTask task → IsCut task old new → ReadersHaveFrontsIfBound task old new

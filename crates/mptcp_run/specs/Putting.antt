@@ -1,0 +1,171 @@
+-- What a run puts: what the readers read, and its log, of the rounds that have ended.
+use Rattle.std.specs.Prelude.{◌≡◌, ℕ, zero, suc, ◌+◌, ◌≤◌, ◌⊎◌, List, [], ◌∷◌, ◌++◌, flat_map, length, Option}
+use Rattle.outside_kit.specs.declared.side.Side.{Side}
+use Rattle.outside_kit.specs.declared.side.Side.TheVariants.{A, B}
+use Rattle.outside_kit.specs.declared.port.Port.{Port}
+use Rattle.outside_kit.specs.declared.port.Port.TheVariants.{ReadByA, ReadByB, Log}
+use Rattle.outside_kit.specs.Outside.{HoldsAfter}
+use Rattle.link_script.specs.declared.script.Script.{Script}
+use Rattle.actor_desk.specs.declared.ask.Note.{Note}
+use Rattle.actor_desk.specs.Journals.{in_order}
+use Rattle.run_log.specs.declared.outcome.Outcome as log_outcome
+use Rattle.run_log.specs.declared.outcome.Outcome.TheVariants as told
+use Rattle.run_log.specs.Lines.{ended, opening_lines, round_lines, outcome_text}
+use Rattle.path_core.specs.Octets.{octets}
+use Rattle.path_core.specs.Starts.{drawn_of}
+use Rattle.world_laws.specs.declared.outcome.Outcome.{Outcome}
+use Rattle.world_laws.specs.declared.outcome.Outcome.TheVariants as outcome
+use Rattle.world_laws.specs.Fine.{lists_of}
+use Rattle.world_laws.specs.Outcomes.{outcome_of, output_of}
+use Rattle.world_laws.specs.Serial.{IsSerial}
+use Rattle.world_laws.specs.Worlds.{Turn, world_step, end_round, world_run, greatest, AreLawful, IsLawfulTurn}
+use Rattle.mptcp_run.specs.declared.status.Status.{Status}
+use Rattle.mptcp_run.specs.declared.status.Status.TheVariants.{Delivered, Rounds, NoPath, Aborted, Put, Memory}
+use Rattle.mptcp_run.specs.declared.status.Status.TheVariants as status_is
+use Rattle.mptcp_run.specs.Task.{Connection, Task, Course, opened, AreTurnsOf}
+use Rattle.mptcp_run.specs.Task as way
+use Rattle.mptcp_run.specs.Ports.{HoldsMore, HoldsWithin, IsBetween}
+
+-- ---- rounds
+
+-- the connection at the end of each round of these turns
+abbrev pub round_ends : List Turn → Connection → List Connection
+round_ends [] w = []
+round_ends (Turn.Step actor ∷ turns) w = round_ends turns (world_step octets actor w)
+round_ends (Turn.Round ∷ turns) w = end_round w ∷ round_ends turns (end_round w)
+
+-- at the end of the last one, or before all of them
+abbrev pub last_end : Connection → List Connection → Connection
+last_end w [] = w
+last_end w (v ∷ ends) = last_end v ends
+
+-- the steps of a round, by stamp, then actor: those above the greatest stamp at its beginning
+abbrev pub round_steps : Connection → Connection → List Note
+round_steps w v = in_order (greatest 0 w.crew) (lists_of v.crew)
+
+-- those of each round
+abbrev pub steps_by_round : Connection → List Connection → List (List Note)
+steps_by_round w [] = []
+steps_by_round w (v ∷ ends) = round_steps w v ∷ steps_by_round v ends
+
+-- ---- the log
+
+-- the lines with which a log opens; a data number has eight octets
+abbrev pub log_opening : Script → List ℕ
+log_opening script = flat_map ended (opening_lines 8 (drawn_of script).key_a (drawn_of script).key_b)
+
+-- what the first round puts before its lines
+abbrev pub opening_at : List ℕ → ℕ → List ℕ
+opening_at opening zero = opening
+opening_at opening (suc number) = []
+
+-- what the end of a round puts
+abbrev pub round_text : List ℕ → ℕ → List Note → List ℕ
+round_text opening number steps = opening_at opening number ++ flat_map ended (round_lines number steps)
+
+-- the log of rounds, of which the first has this number
+abbrev pub log_text : List ℕ → ℕ → List (List Note) → List ℕ
+log_text opening number [] = []
+log_text opening number (steps ∷ more) = round_text opening number steps ++ log_text opening (suc number) more
+
+-- ---- how a run ends
+
+abbrev pub status_of : Outcome → Status
+status_of outcome.Going = Rounds
+status_of outcome.Delivered = Delivered
+status_of (outcome.Aborted reader) = Aborted reader
+status_of outcome.NoPath = NoPath
+
+abbrev pub told_outcome : Outcome → log_outcome.Outcome
+told_outcome outcome.Going = told.Rounds
+told_outcome outcome.Delivered = told.Delivered
+told_outcome (outcome.Aborted reader) = told.Aborted
+told_outcome outcome.NoPath = told.NoPath
+
+-- the last line of a log
+abbrev pub last_line : Connection → List ℕ
+last_line w = ended (outcome_text (told_outcome (outcome_of w.crew)))
+
+-- ---- the turns of a task
+
+abbrev pub ends_of : Task → List Turn → List Connection
+ends_of task turns = round_ends turns (opened task)
+
+-- all that the reader of a side has read at the last round's end
+abbrev pub read_so_far : Side → Task → List Turn → List ℕ
+read_so_far s task turns = output_of s (last_end (opened task) (ends_of task turns))
+
+abbrev pub log_so_far : Task → List Turn → List ℕ
+log_so_far task turns = log_text (log_opening task.script) 0 (steps_by_round (opened task) (ends_of task turns))
+
+abbrev pub world_after : Task → List Turn → Connection
+world_after task turns = world_run octets turns (opened task)
+
+-- ---- what the ports hold
+
+-- of the rounds that ended
+pub record HoldsRounds (task : Task) (turns : List Turn) (old new : Port → Option (List ℕ)) : Type 0 where
+  pub read_by_b : HoldsAfter (old ReadByB) (new ReadByB) (λ _. read_so_far B task turns)
+  pub read_by_a : HoldsAfter (old ReadByA) (new ReadByA) (λ _. read_so_far A task turns)
+  pub log : HoldsAfter (old Log) (new Log) (λ held. held ++ log_so_far task turns)
+
+-- of a run that came to its end
+pub record HoldsRun (task : Task) (turns : List Turn) (old new : Port → Option (List ℕ)) : Type 0 where
+  pub read_by_b : HoldsAfter (old ReadByB) (new ReadByB) (λ _. read_so_far B task turns)
+  pub read_by_a : HoldsAfter (old ReadByA) (new ReadByA) (λ _. read_so_far A task turns)
+  pub log : HoldsAfter (old Log) (new Log) (λ held. held ++ (log_so_far task turns ++ last_line (world_after task turns)))
+
+-- all turns of the task were made, the status is the one that the connection shows then, and the ports hold the run
+pub record IsWhole (task : Task) (status : Status) (old new : Port → Option (List ℕ)) : Type 0 where
+  pub turns : List Turn
+  pub are : AreTurnsOf task.course turns (opened task)
+  pub status_is : status ≡ status_of (outcome_of (world_after task turns).crew)
+  pub ports : HoldsRun task turns old new
+
+-- ---- early ends
+
+-- a turn of the log can't be made, and stands in this line, where so many lines open the log; the ports hold the rounds before
+pub record IsStopped (task : Task) (opening line : ℕ) (old new : Port → Option (List ℕ)) : Type 0 where
+  pub before : List Turn
+  pub turn : Turn
+  pub behind : List Turn
+  pub order : task.course ≡ way.told (before ++ turn ∷ behind)
+  pub lawful : AreLawful octets before (opened task)
+  pub refused : IsLawfulTurn turn (world_after task before) → ⊥
+  pub line_is : line ≡ opening + length before + 1
+  pub ports : HoldsRounds task before old new
+
+-- these are the turns of the first rounds of a task, and those of the next one, or none
+abbrev pub AreFirstOf : Course → List Turn → List Turn → Connection → Type 0
+AreFirstOf (way.rounds most) turns more w =
+    (n : ℕ) × ((n ≤ most) × (IsSerial octets n turns w × ((more ≡ []) ⊎ ((suc n ≤ most) × IsSerial octets (suc n) (turns ++ more) w))))
+AreFirstOf (way.told order) turns more w = (behind : List Turn) × ((order ≡ turns ++ (more ++ behind)) × AreLawful octets (turns ++ more) w)
+
+-- the last line is that of a run that came to its end
+abbrev pub IsLastLine : Task → List Turn → List ℕ → Type 0
+IsLastLine task turns line = (line ≡ []) ⊎ (AreTurnsOf task.course turns (opened task) × (line ≡ last_line (world_after task turns)))
+
+-- each port that was bound, and the log, holds its text for the rounds of these turns, and of the next round, or of this line, a part
+pub record HoldsCut (task : Task) (turns more : List Turn) (line : List ℕ) (old new : Port → Option (List ℕ)) : Type 0 where
+  pub read_by_b : HoldsWithin (turns ++ more ≡ []) (old ReadByB) (new ReadByB) (read_so_far B task turns) (read_so_far B task (turns ++ more))
+  pub read_by_a : HoldsWithin (turns ++ more ≡ []) (old ReadByA) (new ReadByA) (read_so_far A task turns) (read_so_far A task (turns ++ more))
+  pub log : HoldsMore (old Log) (new Log) [] (IsBetween (log_so_far task turns) (log_so_far task (turns ++ more) ++ line))
+
+-- A run that was cut off, while it was bound, in a round or at the last line: the ports hold the rounds before, and of what was
+-- put then a part.
+pub record IsCut (task : Task) (old new : Port → Option (List ℕ)) : Type 0 where
+  pub turns : List Turn
+  pub more : List Turn
+  pub are : AreFirstOf task.course turns more (opened task)
+  -- one round at most
+  pub one : length (round_ends more (world_after task turns)) ≤ 1
+  pub line : List ℕ
+  pub line_is : IsLastLine task turns line
+  pub ports : HoldsCut task turns more line old new
+
+-- the turns of a log end a run with this status; so many lines stand before the first of them
+abbrev pub ReplayEnds : Task → ℕ → (Port → Option (List ℕ)) → (Port → Option (List ℕ)) → Status → Type 0
+ReplayEnds task opening old new (status_is.Log line) = IsStopped task opening line old new
+ReplayEnds task opening old new (Put port) = IsCut task old new
+ReplayEnds task opening old new Memory = IsCut task old new
+ReplayEnds task opening old new status = ⊥

@@ -1,0 +1,109 @@
+//! The steps of a log, in its order.
+
+ghost use Rattle.std.specs.Prelude.{◌≡◌, ◌+◌, ◌-◌, ◌^◌, ◌≤◌, ◌<◌, length, true, IfErr, OnOk, OnErr};
+ghost use Rattle.outside_kit.specs.declared.port.Port.{Port};
+ghost use Rattle.path_core.specs.Octets.{octets};
+ghost use Rattle.world_core.specs.Kept.{standing};
+ghost use Rattle.world_laws.specs.Worlds.{is_going, world_step, IsLawfulTurn, after_turn};
+ghost use Rattle.mptcp_run.specs.Ports.{NeverFall};
+ghost use Rattle.mptcp_run.specs.Rounds.{AtRound, TurnsPut, TurnsFault, all_turns};
+ghost use Rattle.mptcp_run.specs.Replaying.{UnderWay, StepFault, TurnHolds, TurnFault, last_after, rounds_after, round_turn, IsReplayFault};
+ghost use Rattle.mptcp_run.specs.Task.{Connection, turn_of};
+
+use crate::rounds::Run;
+use crate::status::Status;
+use outside_kit::Outside;
+use run_log::Turn;
+use std::alloc::Global;
+use world_core::{Stepped, World};
+
+/// Makes the step that a line of the log tells.
+fn make_step(world: &mut World, actor: u8, line: u64) -> Result<(), Status>
+    ensures ok { OnOk result (world.new ≡ standing (world_step octets actor world.old.state)) }
+    ensures going { OnOk result (is_going actor world.old.state ≡ true) }
+    ensures fault { IfErr result (StepFault actor world.old.state line) }
+{
+    match world.step(actor) {
+        Ok(Stepped::Made(_)) => Ok(()),
+        Ok(Stepped::Ended) => Err(Status::Log { line }),
+        Err(_) => Err(Status::Memory),
+    }
+}
+
+/// Ends the round that a line of the log ends, and puts it.
+fn end_round<O: Outside>(
+    alloc: Global,
+    outside: &mut O,
+    run: &mut Run,
+    line: u64,
+) -> Result<(), Status>
+    requires few { run.old.rounds < 2 ^ 64 - 1 }
+    requires made { length run.old.made.items ≡ length run.old.world.state.crew }
+    ensures ok { OnOk result (run.new.world ≡ standing (after_turn octets round_turn run.old.world.state)) }
+    ensures over { OnOk result (IsLawfulTurn round_turn run.old.world.state) }
+    ensures ports { (last : Connection) → UnderWay last run.old → OnOk result (TurnHolds run.old.opening run.old.rounds round_turn last run.old.world.state (O.holds outside.old) (O.holds outside.new)) }
+    ensures under { (last : Connection) → UnderWay last run.old → OnOk result (UnderWay (last_after round_turn last run.old.world.state) run.new) }
+    ensures fault { (last : Connection) → UnderWay last run.old → IfErr result (TurnFault run.old.opening run.old.rounds round_turn last run.old.world.state line (O.holds outside.old) (O.holds outside.new)) }
+    ensures rounds { OnOk result (run.new.rounds ≡ rounds_after round_turn run.old.rounds) }
+    ensures opening { run.new.opening ≡ run.old.opening }
+    ensures cause { IfErr result (IsReplayFault (O.port_faults outside.old) (O.port_faults outside.new)) }
+    ensures counted { NeverFall (O.port_faults outside.old) (O.port_faults outside.new) }
+    ensures load_counts { O.load_faults outside.new ≡ O.load_faults outside.old }
+{
+    if !run.world.end_round() {
+        return Err(Status::Log { line });
+    }
+    run.put_round(alloc, outside)
+}
+
+/// Makes the turn that a line of the log tells.
+fn make_turn<O: Outside>(
+    alloc: Global,
+    outside: &mut O,
+    run: &mut Run,
+    turn: Turn,
+    line: u64,
+) -> Result<(), Status>
+    requires few { run.old.rounds < 2 ^ 64 - 1 }
+    requires made { length run.old.made.items ≡ length run.old.world.state.crew }
+    ensures ok { OnOk result (run.new.world ≡ standing (after_turn octets (turn_of turn) run.old.world.state)) }
+    ensures lawful { OnOk result (IsLawfulTurn (turn_of turn) run.old.world.state) }
+    ensures ports { (last : Connection) → UnderWay last run.old → OnOk result (TurnHolds run.old.opening run.old.rounds (turn_of turn) last run.old.world.state (O.holds outside.old) (O.holds outside.new)) }
+    ensures under { (last : Connection) → UnderWay last run.old → OnOk result (UnderWay (last_after (turn_of turn) last run.old.world.state) run.new) }
+    ensures fault { (last : Connection) → UnderWay last run.old → IfErr result (TurnFault run.old.opening run.old.rounds (turn_of turn) last run.old.world.state line (O.holds outside.old) (O.holds outside.new)) }
+    ensures rounds { OnOk result (run.new.rounds ≡ rounds_after (turn_of turn) run.old.rounds) }
+    ensures opening { run.new.opening ≡ run.old.opening }
+    ensures cause { IfErr result (IsReplayFault (O.port_faults outside.old) (O.port_faults outside.new)) }
+    ensures counted { NeverFall (O.port_faults outside.old) (O.port_faults outside.new) }
+    ensures load_counts { O.load_faults outside.new ≡ O.load_faults outside.old }
+{
+    match turn {
+        Turn::Step(actor) => make_step(&mut run.world, actor, line),
+        Turn::Round => end_round(alloc, outside, run, line),
+    }
+}
+
+/// Makes the turns of a log, the first of which stands behind so many lines, and puts each round at its end.
+pub fn make_turns<O: Outside>(
+    alloc: Global,
+    outside: &mut O,
+    run: &mut Run,
+    order: &[Turn],
+    lines: u64,
+) -> Result<(), Status>
+    requires begins { AtRound run.old }
+    requires none { run.old.rounds ≡ 0 }
+    requires few { lines ≤ 3 }
+    ensures ok { OnOk result (TurnsPut run.old.opening 0 (all_turns order.now) run.old.world.state run.old.world.state run.new.world.state (O.holds outside.old) (O.holds outside.new)) }
+    ensures fault { IfErr result (TurnsFault run.old.opening 0 (all_turns order.now) run.old.world.state run.old.world.state lines (O.holds outside.old) (O.holds outside.new)) }
+    ensures cause { IfErr result (IsReplayFault (O.port_faults outside.old) (O.port_faults outside.new)) }
+    ensures counted { NeverFall (O.port_faults outside.old) (O.port_faults outside.new) }
+    ensures load_counts { O.load_faults outside.new ≡ O.load_faults outside.old }
+{
+    let mut line = lines;
+    for turn in order {
+        line += 1;
+        make_turn(alloc, outside, run, *turn, line)?;
+    }
+    Ok(())
+}

@@ -1,0 +1,66 @@
+//! Rounds in which the actors take whole turns, one after the other.
+
+ghost use Rattle.std.specs.Prelude.{◌≡◌, ◌+◌, ◌-◌, ◌^◌, ◌<◌, IfErr, OnOk, OnErr};
+ghost use Rattle.path_core.specs.Octets.{octets};
+ghost use Rattle.world_core.specs.Rounds.{RoundTo};
+ghost use Rattle.world_laws.specs.Outcomes.{outcome_of};
+ghost use Rattle.world_laws.specs.Serial.{goes_on};
+ghost use Rattle.mptcp_run.specs.Ports.{NeverFall, IsPortsFault};
+ghost use Rattle.mptcp_run.specs.Rounds.{AtRound, HoldsRound, RoundCut, RoundsPut, RoundsCut};
+
+use crate::rounds::Run;
+use crate::status::Status;
+use outside_kit::Outside;
+use std::alloc::Global;
+use world_core::{Outcome, World, round};
+
+/// Makes one round, and puts it.
+fn make_round<O: Outside>(alloc: Global, outside: &mut O, run: &mut Run) -> Result<(), Status>
+    requires begins { AtRound run.old }
+    requires few { run.old.rounds < 2 ^ 64 - 1 }
+    ensures round { OnOk result (RoundTo octets run.old.world.state run.new.world.state) }
+    ensures ok { OnOk result (HoldsRound run.old.opening run.old.rounds run.old.world.state run.new.world.state (O.holds outside.old) (O.holds outside.new)) }
+    ensures err { OnErr result (RoundCut run.old.opening run.old.rounds run.old.world.state (O.holds outside.old) (O.holds outside.new)) }
+    ensures begins { OnOk result (AtRound run.new) }
+    ensures rounds { OnOk result (run.new.rounds ≡ run.old.rounds + 1) }
+    ensures opening { run.new.opening ≡ run.old.opening }
+    ensures fault { IfErr result (IsPortsFault (O.port_faults outside.old) (O.port_faults outside.new)) }
+    ensures counted { NeverFall (O.port_faults outside.old) (O.port_faults outside.new) }
+    ensures load_counts { O.load_faults outside.new ≡ O.load_faults outside.old }
+{
+    match round(&mut run.world) {
+        Ok(()) => run.put_round(alloc, outside),
+        Err(_) => Err(Status::Memory),
+    }
+}
+
+/// Whether the connection goes on.
+fn goes_on(world: &World) -> bool
+    ensures { result ≡ goes_on (outcome_of world.now.state.crew) }
+{
+    matches!(world.outcome(), Outcome::Going)
+}
+
+/// Makes at most so many rounds, and puts each; the last one is the first after which the connection doesn't go on.
+pub fn make_rounds<O: Outside>(
+    alloc: Global,
+    outside: &mut O,
+    run: &mut Run,
+    most: u32,
+) -> Result<(), Status>
+    requires begins { AtRound run.old }
+    requires none { run.old.rounds ≡ 0 }
+    ensures ok { OnOk result (RoundsPut run.old.opening most 0 run.old.world.state run.new.world.state (O.holds outside.old) (O.holds outside.new)) }
+    ensures err { OnErr result (RoundsCut run.old.opening most 0 run.old.world.state (O.holds outside.old) (O.holds outside.new)) }
+    ensures fault { IfErr result (IsPortsFault (O.port_faults outside.old) (O.port_faults outside.new)) }
+    ensures counted { NeverFall (O.port_faults outside.old) (O.port_faults outside.new) }
+    ensures load_counts { O.load_faults outside.new ≡ O.load_faults outside.old }
+{
+    for _round in 0..most {
+        make_round(alloc, outside, run)?;
+        if !goes_on(&run.world) {
+            return Ok(());
+        }
+    }
+    Ok(())
+}

@@ -1,5 +1,0 @@
-use Rattle.straight_segments.proofs.Said.{says_syn_ack}
-use Rattle.straight_segments.proofs.saying.write_syn_ack.Goals as goal
-
-pub write-requires : goal.write-requires
-write-requires c = rw (c.spelling.ensures, c.segment-segment.ensures, c.capable.ensures) (says_syn_ack c.args.connection.now c.requires)

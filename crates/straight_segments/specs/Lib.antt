@@ -1,3 +1,0 @@
-pub mod Drawn
-pub mod Segments
-pub mod Hearing
