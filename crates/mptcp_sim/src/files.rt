@@ -127,6 +127,8 @@ impl<R: Files + Print + Alloc<A = Global>> Outside for FileOutside<'_, R> {
 
     ghost port_faults = { λ outside port. count_of outside.read_by_a_faults outside.read_by_b_faults outside.log_faults port };
 
+    ghost calls = { λ _. None };
+
     fn load(&mut self, alloc: Global, name: &str, limit: u64) -> Result<Vec<u8>, LoadFault> {
         match read_front(self.rt, alloc, name, limit) {
             Ok(bytes) if bytes.len() as u64 <= limit => Ok(bytes),

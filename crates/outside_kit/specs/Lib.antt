@@ -1,3 +1,4 @@
 pub mod Faults
 pub mod Outside
+pub mod Calls
 pub mod Memory

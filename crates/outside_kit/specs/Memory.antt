@@ -5,6 +5,7 @@ use Rattle.outside_kit.specs.declared.port.Port.{Port}
 use Rattle.outside_kit.specs.declared.port.Port.TheVariants.{ReadByA, ReadByB, Log}
 use Rattle.outside_kit.specs.declared.files.FailAt.{FailAt}
 use Rattle.outside_kit.specs.declared.files.NamedFile.{NamedFile}
+use Rattle.outside_kit.specs.Calls.{Made}
 
 -- a file by its name and its content
 pub record StoredFile : Type 0 where
@@ -25,6 +26,11 @@ pub record Memory : Type 0 where
   pub read_by_a : StoredPort
   pub read_by_b : StoredPort
   pub log : StoredPort
+
+-- an outside in memory, and the calls that were made on it, where it tells them
+pub record Recorded : Type 0 where
+  pub memory : Memory
+  pub made : Option (List Made)
 
 abbrev pub stored : NamedFile → StoredFile
 stored file = record { name = string_bytes file.name; content = file.content.items }

@@ -1,10 +1,12 @@
 //! What a connection touches of the world around it: the sides and objects that it names, the files that it
 //! reads, the ports that it writes, and the gate that its threads pass.
 //!
-//! An [`Outside`] is told to contracts by what it tells: the content of each name, what each port holds, and how
-//! many faults there were. [`MemoryOutside`] tells all of it; an outside over real files tells none.
+//! An [`Outside`] is told to contracts by what it tells: the content of each name, what each port holds, how many
+//! faults there were, and the calls that were made on it. [`MemoryOutside`] tells all of it; an outside over real files
+//! tells none but the faults.
 #![tactic(auto)]
 
+mod calls;
 mod files;
 mod gate;
 mod memory;
@@ -12,6 +14,7 @@ mod outside;
 mod port;
 mod side;
 
+pub use calls::{OutsideCall, RecordedCall};
 pub use files::{FailAt, NamedFile};
 pub use gate::{Gate, OpenGate};
 pub use memory::MemoryOutside;

@@ -1,14 +1,17 @@
 ghost use Rattle.outside_kit.specs.Memory.{content_named, kept_at, stored, emptied, grown, after_fault};
+ghost use Rattle.outside_kit.specs.Calls.{Load, Bind, Put, AreCallsAfter, made_of};
 ghost use Rattle.outside_kit.specs.Outside.{HasRisen};
-ghost use Rattle.std.specs.Prelude.{◌≡◌, ◌≢◌, ◌≤◌, ◌<◌, ◌↔◌, ◌⊎◌, [], length, map, Option, Some, None, take, IsSome, IsNone, IfOk, IfSome, OnOk, OnErr, vec_len, option_copied, IsTrue, IsErrOf, IsSomeAnd};
+ghost use Rattle.std.specs.Prelude.{◌≡◌, ◌≢◌, ◌≤◌, ◌<◌, ◌↔◌, ◌⊎◌, [], length, map, Option, Some, None, take, IsSome, IsNone, IfOk, IfSome, OnOk, OnErr, vec_len, option_copied, option_map, IsTrue, IsErrOf, IsSomeAnd};
 
+use crate::calls::{CallRecord, RecordedCall};
 use crate::files::{FailAt, NamedFile};
 use crate::outside::{LoadFault, Outside, PutFault};
 use crate::port::Port;
 use std::alloc::Global;
 use std::marker::Model;
 
-/// An outside whose files and ports lie in memory. It tells everything, and fails where it is told to.
+/// An outside whose files and ports lie in memory. It tells everything, and fails where it is told to. Of the calls that were
+/// made on it, it tells nothing more once memory for one of them was wanting.
 #[derive(Debug, Drop)]
 pub struct MemoryOutside {
     files: Vec<NamedFile>,
@@ -19,6 +22,7 @@ pub struct MemoryOutside {
     read_by_a: MemoryPort,
     read_by_b: MemoryPort,
     log: MemoryPort,
+    made: CallRecord,
 }
 
 /// What was put to a port, and how many of its binds and puts have failed.
@@ -38,18 +42,21 @@ impl Model for MemoryPort {
 
 impl Model for MemoryOutside {
     ghost use Rattle.std.specs.Prelude.{map};
-    ghost use Rattle.outside_kit.specs.Memory.{Memory, stored};
+    ghost use Rattle.outside_kit.specs.Memory.{Recorded, stored};
 
-    ghost Value = { Memory };
+    ghost Value = { Recorded };
 
     ghost view = { λ outside. record {
-      files = map stored outside.files.items;
-      failing = outside.failing.items;
-      calls = outside.calls;
-      load_faults = outside.load_faults;
-      read_by_a = outside.read_by_a;
-      read_by_b = outside.read_by_b;
-      log = outside.log;
+      memory = record {
+        files = map stored outside.files.items;
+        failing = outside.failing.items;
+        calls = outside.calls;
+        load_faults = outside.load_faults;
+        read_by_a = outside.read_by_a;
+        read_by_b = outside.read_by_b;
+        log = outside.log;
+      };
+      made = outside.made;
     } };
 }
 
@@ -119,9 +126,9 @@ impl MemoryOutside {
     ghost use Rattle.outside_kit.specs.Memory.{new_memory, stored, port_of, after_call, kept_next};
 
     /// An outside with these files, whose calls of these numbers fail. Its ports are empty, and it has counted no
-    /// fault. It takes no memory.
+    /// fault. It tells that no call was made. It takes no memory.
     pub fn new(alloc: Global, files: Vec<NamedFile>, failing: Vec<FailAt>) -> Self
-        ensures { result ≡ new_memory (map stored files.items) failing.items }
+        ensures { result ≡ record { memory = new_memory (map stored files.items) failing.items; made = Some [] } }
     {
         MemoryOutside {
             files,
@@ -131,12 +138,13 @@ impl MemoryOutside {
             read_by_a: MemoryPort::new(alloc),
             read_by_b: MemoryPort::new(alloc),
             log: MemoryPort::new(alloc),
+            made: CallRecord::new(alloc),
         }
     }
 
     /// What the port holds, lent.
     pub fn port(&self, port: Port) -> &[u8]
-        ensures { result.now ≡ (port_of port self.now).held }
+        ensures { result.now ≡ (port_of port self.now.memory).held }
     {
         match port {
             Port::ReadByA => self.read_by_a.held.as_slice(),
@@ -145,10 +153,18 @@ impl MemoryOutside {
         }
     }
 
+    /// The calls that were made on it, in order, where it tells them.
+    pub fn calls(&self) -> Option<&[RecordedCall]>
+        ensures { option_map (λ calls. map made_of calls.now) result ≡ self.now.made }
+    {
+        self.made.calls()
+    }
+
     /// Counts a call, and says how much of its piece it keeps, where it is to fail.
     fn start_call(&mut self) -> Option<u64>
-        ensures counted { self.new ≡ after_call self.old }
-        ensures kept { result ≡ kept_next self.old }
+        ensures counted { self.new.memory ≡ after_call self.old.memory }
+        ensures kept { result ≡ kept_next self.old.memory }
+        ensures made { self.new.made ≡ self.old.made }
     {
         self.calls = self.calls.saturating_add(1);
         kept_of(&self.failing, self.calls)
@@ -216,76 +232,87 @@ fn prefix(piece: &[u8], count: u64) -> &[u8]
 }
 
 impl Outside for MemoryOutside {
+    ghost use Rattle.std.specs.Prelude.{is_ok};
     ghost use Rattle.outside_kit.specs.Memory.{content_named, port_of, kept_next, with_port, emptied, grown, after_fault, after_call, after_failed_load};
     ghost use Rattle.outside_kit.specs.declared.port.Port.{Port};
 
-    ghost content = { λ outside name. content_named outside.files name };
+    ghost content = { λ outside name. content_named outside.memory.files name };
 
-    ghost holds = { λ outside port. Some (port_of port outside).held };
+    ghost holds = { λ outside port. Some (port_of port outside.memory).held };
 
-    ghost load_faults = { λ outside. outside.load_faults };
+    ghost load_faults = { λ outside. outside.memory.load_faults };
 
-    ghost port_faults = { λ outside port. (port_of port outside).faults };
+    ghost port_faults = { λ outside port. (port_of port outside.memory).faults };
+
+    ghost calls = { λ outside. outside.made };
 
     /// As [`Outside::load`] says. It fails where this call is to fail, and for a name that no file has.
     fn load(&mut self, alloc: Global, name: &str, limit: u64) -> Result<Vec<u8>, LoadFault>
-        ensures whole { IfOk result (λ bytes. content_named self.old.files name.now ≡ Some bytes.items) }
+        ensures whole { IfOk result (λ bytes. content_named self.old.memory.files name.now ≡ Some bytes.items) }
         ensures within { IfOk result (λ bytes. vec_len bytes ≤ limit) }
         ensures too_long { result ≡ Err LoadFault.TooLong →
-            IfSome (content_named self.old.files name.now) (λ told. limit < length told) }
+            IfSome (content_named self.old.memory.files name.now) (λ told. limit < length told) }
         ensures fits { result ≡ Err LoadFault.Memory →
-            IfSome (content_named self.old.files name.now) (λ told. length told ≤ limit) }
+            IfSome (content_named self.old.memory.files name.now) (λ told. length told ≤ limit) }
         ensures fails { result ≡ Err LoadFault.Failed ↔
-            (IsSome (kept_next self.old) ⊎ IsNone (content_named self.old.files name.now)) }
-        ensures failed { result ≡ Err LoadFault.Failed → HasRisen self.old.load_faults self.new.load_faults }
-        ensures after_failed { result ≡ Err LoadFault.Failed → self.new ≡ after_failed_load self.old }
-        ensures after { result ≢ Err LoadFault.Failed → self.new ≡ after_call self.old }
+            (IsSome (kept_next self.old.memory) ⊎ IsNone (content_named self.old.memory.files name.now)) }
+        ensures failed { result ≡ Err LoadFault.Failed → HasRisen self.old.memory.load_faults self.new.memory.load_faults }
+        ensures after_failed { result ≡ Err LoadFault.Failed → self.new.memory ≡ after_failed_load self.old.memory }
+        ensures after { result ≢ Err LoadFault.Failed → self.new.memory ≡ after_call self.old.memory }
+        ensures recorded { AreCallsAfter (Load name.now) (is_ok result) self.old.made self.new.made }
     {
         let fails = self.start_call().is_some();
         match content_of(&self.files, name) {
-            Some(content) if !fails => copy_within(alloc, content, limit),
+            Some(content) if !fails => {
+                self.made
+                    .note_load(name, copy_within(alloc, content, limit))
+            }
             _ => {
                 self.load_faults = self.load_faults.saturating_add(1);
-                Err(LoadFault::Failed)
+                self.made.note_load(name, Err(LoadFault::Failed))
             }
         }
     }
 
     /// As [`Outside::bind`] says. It fails exactly where this call is to fail.
-    fn bind(&mut self, port: Port, _name: &str) -> Result<(), PutFault>
-        ensures ok { OnOk result (self.new ≡ with_port port (emptied (port_of port self.old)) (after_call self.old)) }
-        ensures err { OnErr result (self.new ≡ with_port port (after_fault (port_of port self.old)) (after_call self.old)) }
-        ensures fails { result ≡ Err PutFault.Failed ↔ IsSome (kept_next self.old) }
+    fn bind(&mut self, port: Port, name: &str) -> Result<(), PutFault>
+        ensures ok { OnOk result (self.new.memory ≡ with_port port (emptied (port_of port self.old.memory)) (after_call self.old.memory)) }
+        ensures err { OnErr result (self.new.memory ≡ with_port port (after_fault (port_of port self.old.memory)) (after_call self.old.memory)) }
+        ensures fails { result ≡ Err PutFault.Failed ↔ IsSome (kept_next self.old.memory) }
         ensures memory { result ≢ Err PutFault.Memory }
-        ensures counted { (port_of port self.old).faults ≤ (port_of port self.new).faults }
+        ensures counted { (port_of port self.old.memory).faults ≤ (port_of port self.new.memory).faults }
         ensures failed { result ≡ Err PutFault.Failed →
-            HasRisen (port_of port self.old).faults (port_of port self.new).faults }
+            HasRisen (port_of port self.old.memory).faults (port_of port self.new.memory).faults }
+        ensures recorded { AreCallsAfter (Bind port name.now) (is_ok result) self.old.made self.new.made }
     {
         let fails = self.start_call().is_some();
+        let made = &mut self.made;
         match port {
-            Port::ReadByA => bind_port(&mut self.read_by_a, fails),
-            Port::ReadByB => bind_port(&mut self.read_by_b, fails),
-            Port::Log => bind_port(&mut self.log, fails),
+            Port::ReadByA => made.note_bind(port, name, bind_port(&mut self.read_by_a, fails)),
+            Port::ReadByB => made.note_bind(port, name, bind_port(&mut self.read_by_b, fails)),
+            Port::Log => made.note_bind(port, name, bind_port(&mut self.log, fails)),
         }
     }
 
     /// As [`Outside::put`] says. It fails where this call is to fail, and then keeps as much of the piece as that
     /// call is to keep.
     fn put(&mut self, port: Port, piece: &[u8]) -> Result<(), PutFault>
-        ensures ok { OnOk result (self.new ≡ with_port port (grown piece.now (port_of port self.old)) (after_call self.old)) }
-        ensures allowed { OnOk result (kept_next self.old ≡ None) }
-        ensures kept { result ≡ Err PutFault.Failed → IsSomeAnd (kept_next self.old) (λ count.
-            self.new ≡ with_port port (after_fault (grown (take count piece.now) (port_of port self.old))) (after_call self.old)) }
-        ensures memory { result ≡ Err PutFault.Memory → self.new ≡ after_call self.old }
-        ensures counted { (port_of port self.old).faults ≤ (port_of port self.new).faults }
+        ensures ok { OnOk result (self.new.memory ≡ with_port port (grown piece.now (port_of port self.old.memory)) (after_call self.old.memory)) }
+        ensures allowed { OnOk result (kept_next self.old.memory ≡ None) }
+        ensures kept { result ≡ Err PutFault.Failed → IsSomeAnd (kept_next self.old.memory) (λ count.
+            self.new.memory ≡ with_port port (after_fault (grown (take count piece.now) (port_of port self.old.memory))) (after_call self.old.memory)) }
+        ensures memory { result ≡ Err PutFault.Memory → self.new.memory ≡ after_call self.old.memory }
+        ensures counted { (port_of port self.old.memory).faults ≤ (port_of port self.new.memory).faults }
         ensures failed { result ≡ Err PutFault.Failed →
-            HasRisen (port_of port self.old).faults (port_of port self.new).faults }
+            HasRisen (port_of port self.old.memory).faults (port_of port self.new.memory).faults }
+        ensures recorded { AreCallsAfter (Put port piece.now) (is_ok result) self.old.made self.new.made }
     {
         let kept = self.start_call();
+        let made = &mut self.made;
         match port {
-            Port::ReadByA => put_port(&mut self.read_by_a, kept, piece),
-            Port::ReadByB => put_port(&mut self.read_by_b, kept, piece),
-            Port::Log => put_port(&mut self.log, kept, piece),
+            Port::ReadByA => made.note_put(port, piece, put_port(&mut self.read_by_a, kept, piece)),
+            Port::ReadByB => made.note_put(port, piece, put_port(&mut self.read_by_b, kept, piece)),
+            Port::Log => made.note_put(port, piece, put_port(&mut self.log, kept, piece)),
         }
     }
 }

@@ -1,5 +1,6 @@
-ghost use Rattle.std.specs.Prelude.{◌≡◌, ◌≢◌, ◌≤◌, ◌<◌, ◌^◌, ◌++◌, ℕ, List, [], length, Option, Some, IsSome, IfOk, IfSome, OnOk, OnErr, vec_len};
+ghost use Rattle.std.specs.Prelude.{◌≡◌, ◌≢◌, ◌≤◌, ◌<◌, ◌^◌, ◌++◌, ℕ, List, [], length, Option, Some, is_ok, IsSome, IfOk, IfSome, OnOk, OnErr, vec_len};
 ghost use Rattle.outside_kit.specs.declared.port.Port.{Port};
+ghost use Rattle.outside_kit.specs.Calls.{Made, Load, Bind, Put, AreCallsAfter};
 ghost use Rattle.outside_kit.specs.Faults.{load_words, put_words};
 ghost use Rattle.outside_kit.specs.Outside.{HasRisen, HoldsAfter, HoldsPrefix};
 
@@ -90,6 +91,9 @@ pub trait Outside {
     /// How many binds and puts of a port have failed.
     ghost port_faults: { Self → Port → ℕ };
 
+    /// The calls that were made on it, in order, where it tells them. It may cease to tell them.
+    ghost calls: { Self → Option (List Made) };
+
     /// The whole content of `name`, of at most `limit` octets.
     fn load(&mut self, alloc: Global, name: &str, limit: u64) -> Result<Vec<u8>, LoadFault>
         requires { limit < 2 ^ 32 }
@@ -109,7 +113,10 @@ pub trait Outside {
         // All else is as it was.
         ensures same_contents { (other : List ℕ) → content self.new other ≡ content self.old other }
         ensures same_ports { (port : Port) → holds self.new port ≡ holds self.old port }
-        ensures same_counts { (port : Port) → port_faults self.new port ≡ port_faults self.old port };
+        ensures same_counts { (port : Port) → port_faults self.new port ≡ port_faults self.old port }
+
+        // Where the calls are still told, this one is the last.
+        ensures recorded { AreCallsAfter (Load name.now) (is_ok result) (calls self.old) (calls self.new) };
 
     /// Keeps under `name` what is put to the port from now on, and leaves the port empty.
     fn bind(&mut self, port: Port, name: &str) -> Result<(), PutFault>
@@ -123,7 +130,9 @@ pub trait Outside {
         ensures told { (other : List ℕ) → IsSome (content self.old other) → IsSome (content self.new other) }
         ensures other_ports { (other : Port) → other ≢ port → holds self.new other ≡ holds self.old other }
         ensures other_counts { (other : Port) → other ≢ port → port_faults self.new other ≡ port_faults self.old other }
-        ensures load_counts { load_faults self.new ≡ load_faults self.old };
+        ensures load_counts { load_faults self.new ≡ load_faults self.old }
+
+        ensures recorded { AreCallsAfter (Bind port name.now) (is_ok result) (calls self.old) (calls self.new) };
 
     /// Puts the piece at the end of what the port holds. Where it can't, the port has a prefix of the piece.
     fn put(&mut self, port: Port, piece: &[u8]) -> Result<(), PutFault>
@@ -137,5 +146,7 @@ pub trait Outside {
         ensures told { (other : List ℕ) → IsSome (content self.old other) → IsSome (content self.new other) }
         ensures other_ports { (other : Port) → other ≢ port → holds self.new other ≡ holds self.old other }
         ensures other_counts { (other : Port) → other ≢ port → port_faults self.new other ≡ port_faults self.old other }
-        ensures load_counts { load_faults self.new ≡ load_faults self.old };
+        ensures load_counts { load_faults self.new ≡ load_faults self.old }
+
+        ensures recorded { AreCallsAfter (Put port piece.now) (is_ok result) (calls self.old) (calls self.new) };
 }

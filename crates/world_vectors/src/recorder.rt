@@ -67,9 +67,11 @@ impl Outside for Recorder {
 
     ghost holds = { λ _ _. None };
 
-    ghost load_faults = { λ recorder. recorder.outside.load_faults };
+    ghost load_faults = { λ recorder. recorder.outside.memory.load_faults };
 
-    ghost port_faults = { λ recorder port. (port_of port recorder.outside).faults };
+    ghost port_faults = { λ recorder port. (port_of port recorder.outside.memory).faults };
+
+    ghost calls = { λ _. None };
 
     fn load(&mut self, alloc: Global, name: &str, limit: u64) -> Result<Vec<u8>, LoadFault> {
         if note_load(self.alloc, &mut self.calls, name, limit).is_err() {
