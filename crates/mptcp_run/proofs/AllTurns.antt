@@ -59,7 +59,7 @@ length-set [] i x = refl
 length-set (y ∷ xs) zero x = refl
 length-set (y ∷ xs) (suc i) x = ap suc (length-set xs i x)
 
-step_length : (actor : ℕ) (w : Connection) → length (world_step octets actor w).crew ≡ length w.crew
+pub step_length : (actor : ℕ) (w : Connection) → length (world_step octets actor w).crew ≡ length w.crew
 step_length actor w = by (slice_get w.crew actor)
   where
     asks : (o : Option Ask) (c : ActorCrew (List ℕ)) → length (asked octets actor o c w).crew ≡ length w.crew

@@ -1,11 +1,13 @@
 -- The texts and the order of a round, gathered part by part.
 use Rattle.std.proofs.Common.{◌≡◌, refl, sym, ◌∙◌, ap, subst, ℕ, zero, suc, ◌+◌, ◌-◌, ◌<◌, ◌≤◌, List, [], ◌∷◌, ◌++◌, map, drop, take, length, get_or, arith}
-use Rattle.std.specs.List.{flat_map}
+use Rattle.std.specs.Prelude.{All}
+use Rattle.std.specs.List.{flat_map, AllByRecursion}
 use Rattle.std.proofs.lemmas.Grind.{flat_map-append}
 use Rattle.std.proofs.lemmas.List.{append-nil, append_assoc, length-map}
 use Rattle.std.specs.Borrow.{Bor}
 use Rattle.actor_desk.specs.declared.ask.Note.{Note}
 use Rattle.actor_desk.specs.Journals.{with_notes}
+use Rattle.run_log.specs.Fitting.{NoteFits}
 use Rattle.run_log.specs.Lines.{ended, step_text}
 use Rattle.run_log.specs.Lines as lines
 use Rattle.world_laws.specs.Actors.{ActorCrew}
@@ -31,6 +33,11 @@ gathered opening number steps first middle all is then last =
     (ap (λ xs. flat_map ended xs ++ ended (lines.round_text number)) (same_lines steps)
     ∙ ap (λ xs. flat_map ended (map step_text (lent steps)) ++ xs) (sym (append-nil (ended (lines.round_text number))))
     ∙ sym (flat_map-append ended (map step_text (lent steps)) (lines.round_text number ∷ [])))
+
+-- numbers fit, one note after the other
+pub lent_fit : (steps : List (Bor Note)) → All (λ note. NoteFits note.now) steps → AllByRecursion NoteFits (lent steps)
+lent_fit [] h = tt
+lent_fit (step ∷ steps) h = (h 0 step (omega arith), lent_fit steps (λ i d within. h (suc i) d (omega (arith, within))))
 
 -- ---- list by list
 

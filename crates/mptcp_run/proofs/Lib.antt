@@ -17,3 +17,8 @@ mod LogEnds
 mod PlainTasks
 mod Promising
 mod Starting
+mod RowsInRange
+mod LogWoven
+mod LogAgain
+mod Logged
+mod AskedRounds

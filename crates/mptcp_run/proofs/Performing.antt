@@ -14,7 +14,7 @@ use Rattle.world_laws.specs.Worlds.{Turn, world_step, end_round, world_run, AreL
 use Rattle.world_core.specs.Rounds.{after_rounds}
 use Rattle.mptcp_run.specs.declared.status.Status.{Status}
 use Rattle.mptcp_run.specs.Ports.{HoldsMore, HoldsWithin, IsBetween}
-use Rattle.mptcp_run.specs.Putting.{round_ends, last_end, steps_by_round, log_opening, log_text, status_of, last_line, ends_of, read_so_far, log_so_far, world_after, HoldsRounds, HoldsRun, IsWhole, IsStopped, AreFirstOf, HoldsCut, IsCut}
+use Rattle.mptcp_run.specs.Putting.{round_ends, last_end, steps_by_round, log_opening, log_text, RoundsFit, status_of, last_line, ends_of, read_so_far, log_so_far, world_after, HoldsRounds, HoldsRun, IsWhole, IsStopped, AreFirstOf, HoldsCut, IsCut}
 use Rattle.mptcp_run.specs.Putting as putting
 use Rattle.mptcp_run.specs.Rounds.{HoldsEnds, HoldsPart, ends_by, RoundsPut, RoundsCut, TurnsPut, TurnRefused, TurnsCut}
 use Rattle.mptcp_run.specs.Task.{Connection, Task, Course, opened, AreTurnsOf}
@@ -61,6 +61,7 @@ rounds_held task turns ends a b c is bound h = record {
   log = subst (λ es. HoldsAfter (a port.Log) (c port.Log) (λ held. held ++ log_text (log_opening task.script) 0 (steps_by_round (opened task) es))) is
       (all_behind (a port.Log) (c port.Log) (log_text (log_opening task.script) 0 (steps_by_round (opened task) ends))
       (more_from (a port.Log) (b port.Log) (c port.Log) [] _ bound.log h.log));
+  fits = subst (λ es. RoundsFit 0 (steps_by_round (opened task) es)) is h.fits;
 }
 
 after_append : (a c d : Option (List ℕ)) (x y : List ℕ) → HoldsAfter a c (λ held. held ++ x) → HoldsAfter c d (λ held. held ++ y) → HoldsAfter a d (λ held. held ++ (x ++ y))
@@ -75,6 +76,7 @@ run_held task turns v a c d is h k = record {
   read_by_a = subst (λ o. HoldsAfter (a port.ReadByA) o (λ _. read_so_far A task turns)) (sym k.read_by_a) h.read_by_a;
   log = subst (λ w. HoldsAfter (a port.Log) (d port.Log) (λ held. held ++ (log_so_far task turns ++ last_line w))) is
       (after_append (a port.Log) (c port.Log) (d port.Log) (log_so_far task turns) (last_line v) h.log k.log);
+  fits = h.fits;
 }
 
 -- ---- early ends
@@ -147,7 +149,7 @@ steps_ends : (actor n : ℕ) (rest : List Turn) (w : Connection) → round_ends 
 steps_ends actor zero rest w = refl
 steps_ends actor (suc n) rest w = steps_ends actor n rest (world_step octets actor w)
 
-counts_ends : (actor : ℕ) (counts : List ℕ) (rest : List Turn) (w : Connection)
+pub counts_ends : (actor : ℕ) (counts : List ℕ) (rest : List Turn) (w : Connection)
     → round_ends (round_and actor counts rest) w ≡ end_round (after_turns octets actor counts w) ∷ round_ends rest (end_round (after_turns octets actor counts w))
 counts_ends actor [] rest w = refl
 counts_ends actor (n ∷ counts) rest w =

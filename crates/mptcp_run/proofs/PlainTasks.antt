@@ -25,7 +25,7 @@ turns_of_content : (o : Option (List ℕ)) → IfSome (option_map told (option_a
 turns_of_content None = tt
 turns_of_content (Some text) = turns_of_log text (reading 3 8 text) refl
 
-course_ends : (content : List ℕ → Option (List ℕ)) (work : Work) → IfSome (course_of content work) EndsWithRound
+pub course_ends : (content : List ℕ → Option (List ℕ)) (work : Work) → IfSome (course_of content work) EndsWithRound
 course_ends content (serial most) = tt
 course_ends content (replay log) = turns_of_content (content log)
 course_ends content (run most) = tt

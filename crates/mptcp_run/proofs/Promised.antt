@@ -91,7 +91,7 @@ last_end_of_rounds : (counted : List (List ℕ)) (w : Connection) → last_end w
 last_end_of_rounds [] w = refl
 last_end_of_rounds (counts ∷ counted) w = last_end_of_round counts 0 (spelled counted) w w (last_end_of_rounds counted)
 
-last_end_of_course : (course : Course) (turns : List Turn) (w : Connection) → EndsWithRound course → AreTurnsOf course turns w
+pub last_end_of_course : (course : Course) (turns : List Turn) (w : Connection) → EndsWithRound course → AreTurnsOf course turns w
     → last_end w (round_ends turns w) ≡ world_run octets turns w
 last_end_of_course (rounds most) turns w ends (counted, are, is) =
     subst (λ (ts : List Turn). last_end w (round_ends ts w) ≡ world_run octets ts w) (sym is) (last_end_of_rounds counted w)

@@ -1,18 +1,26 @@
 -- What each run promises of the readers' ports and of its connection, from what its parts say.
-use Rattle.std.proofs.Common.{◌≡◌, refl, subst, ℕ, inl, inr, ◌⊎◌, ⊎_elim, List, Option, Some, None, IfSome}
-use Rattle.std.specs.Prelude.{option_and_then}
+use Rattle.std.proofs.Common.{◌≡◌, refl, ap, sym, ◌∙◌, subst, ℕ, inl, inr, ◌⊎◌, ⊎_elim, List, Option, Some, None, IfSome}
+use Rattle.std.specs.Prelude.{option_map, option_and_then}
+use Rattle.std.proofs.lemmas.Option.{same_Some}
 use Rattle.outside_kit.specs.declared.port.Port.{Port}
-use Rattle.run_words.specs.Lines.{Line}
+use Rattle.link_script.specs.declared.script.Script.{Script}
+use Rattle.run_words.specs.Lines.{Line, Work, run, serial, replay, bench, ◌>>=◌}
+use Rattle.world_laws.specs.Worlds.{Turn}
 use Rattle.mptcp_run.specs.declared.status.Status.{Status}
 use Rattle.mptcp_run.specs.declared.status.Status.TheVariants.{Delivered, Rounds, NoPath, Aborted, Usage, Script, Load, Put, TooLong, Memory, Log}
-use Rattle.mptcp_run.specs.Answers.{HasEnded, IsAnswer, EndAnswer}
+use Rattle.mptcp_run.specs.declared.status.Named.TheVariants as input
+use Rattle.mptcp_run.specs.Answers.{HasEnded, IsRefusedLine, IsAnswer, EndAnswer}
+use Rattle.mptcp_run.specs.Inputs.{order_of, content_of}
 use Rattle.mptcp_run.specs.Ports.{IsUntouched}
-use Rattle.mptcp_run.specs.Promised.{IsPromisedTask, ReadersHaveFronts, ReadersHaveFrontsIfBound, ReadersHaveFiles, IsAlwaysKept}
-use Rattle.mptcp_run.specs.Putting.{IsWhole, IsCut}
-use Rattle.mptcp_run.specs.Task.{Task, task_of, AreWithinLimits}
+use Rattle.mptcp_run.specs.Logged.{HasRounds, LogTellsTheRun}
+use Rattle.mptcp_run.specs.Promised.{EndsWithRound, IsPromisedTask, ReadersHaveFronts, ReadersHaveFrontsIfBound, ReadersHaveFiles, IsAlwaysKept}
+use Rattle.mptcp_run.specs.Putting.{IsWhole, IsStopped, IsCut}
+use Rattle.mptcp_run.specs.Task.{Task, Course, script_in, turns_in, course_of, told, opening_count, task_of, AreWithinLimits}
 use Rattle.mptcp_run.proofs.Causing.{Ended}
-use Rattle.mptcp_run.proofs.PlainTasks.{loaded_tasks_are_plain}
-use Rattle.mptcp_run.proofs.Promised.{plain_tasks_are_kept, whole_runs_give_fronts, delivered_runs_give_files, cut_runs_give_fronts}
+use Rattle.mptcp_run.proofs.AskedRounds.{AsksRounds}
+use Rattle.mptcp_run.proofs.Logged.{whole_runs_are_told}
+use Rattle.mptcp_run.proofs.PlainTasks.{course_ends, loaded_tasks_are_plain}
+use Rattle.mptcp_run.proofs.Promised.{plain_tasks_are_kept, whole_runs_give_fronts, delivered_runs_give_files, stopped_runs_give_fronts, cut_runs_give_fronts}
 
 abbrev Ports : Type 0
 Ports = Port → Option (List ℕ)
@@ -20,6 +28,44 @@ Ports = Port → Option (List ℕ)
 both : {X : Type 0} (o : Option X) (P Q R : X → Type 0) → ((x : X) → P x → Q x → R x) → IfSome o P → IfSome o Q → IfSome o R
 both None P Q R f p q = tt
 both (Some x) P Q R f p q = f x p q
+
+-- ---- the task of a log that isn't told
+
+abbrev task_by : Option Script → Option (List ℕ) → Option (List ℕ) → Option Course → Option Task
+task_by script file_a file_b course = do
+  script ← script
+  file_a ← file_a
+  file_b ← file_b
+  course ← course
+  Some (record { script = script; file_a = file_a; file_b = file_b; course = course })
+
+module _ (content : List ℕ → Option (List ℕ)) where
+  untold_course : (work : Work) (log : List ℕ) → order_of work ≡ Some log → content log ≡ None → course_of content work ≡ None
+  untold_course (replay name) log is untold =
+      ap (λ o. option_map told (option_and_then turns_in o)) (ap content (same_Some name log is) ∙ untold)
+  untold_course (serial most) log is untold = cc (is)
+  untold_course (run most) log is untold = cc (is)
+  untold_course (bench most number) log is untold = cc (is)
+
+-- ---- the course of a task
+
+by_course : (script : Option Script) (file_a file_b : Option (List ℕ)) (course : Option Course) → IfSome course HasRounds
+    → IfSome (task_by script file_a file_b course) (λ task. HasRounds task.course)
+by_course None file_a file_b course h = tt
+by_course (Some s) None file_b course h = tt
+by_course (Some s) (Some a) None course h = tt
+by_course (Some s) (Some a) (Some b) None h = tt
+by_course (Some s) (Some a) (Some b) (Some c) h = h
+
+told_has : (o : Option (List Turn)) → IfSome (option_map told o) EndsWithRound → IfSome (option_map told o) HasRounds
+told_has None h = tt
+told_has (Some order) h = h
+
+course_has : (content : List ℕ → Option (List ℕ)) (work : Work) → AsksRounds work → IfSome (course_of content work) HasRounds
+course_has content (serial most) some = some
+course_has content (replay name) some = told_has (option_and_then turns_in (content name)) (course_ends content (replay name))
+course_has content (run most) some = tt
+course_has content (bench most number) some = tt
 
 module _ (content : List ℕ → Option (List ℕ)) (loads_before loads : ℕ) (faults_before faults : Port → ℕ) (held holds : Ports) where
   abbrev Answer : Line → Status → Type 0
@@ -80,3 +126,50 @@ module _ (content : List ℕ → Option (List ℕ)) (loads_before loads : ℕ) (
       → IsUntouched held holds faults_before faults ⊎ IfSome (option_and_then (task_of content) asked) (λ task. ReadersHaveFrontsIfBound task held holds)
   memory_fronts None status h is = inl (h.untouched refl)
   memory_fronts (Some line) status h is = ⊎_elim (λ still. inl still) (λ a. inr (cut_fronts line a.read.within a.cut)) (subst (Answer line) is h.answer)
+
+  -- ---- a log whose line is refused
+
+  -- of a log that isn't told there is no task
+  no_course : (script : Option Script) (file_a file_b : Option (List ℕ)) (course : Option Course) → course ≡ None → task_by script file_a file_b course ≡ None
+  no_course None file_a file_b course is = refl
+  no_course (Some s) None file_b course is = refl
+  no_course (Some s) (Some a) None course is = refl
+  no_course (Some s) (Some a) (Some b) None is = refl
+  no_course (Some s) (Some a) (Some b) (Some c) is = cc (is)
+
+  untold_task : (line : Line) (log : List ℕ) → order_of line.work ≡ Some log → content log ≡ None → task_of content line ≡ None
+  untold_task line log is untold =
+      no_course (option_and_then script_in (content line.names.script)) (content line.names.file_a) (content line.names.file_b) (course_of content line.work) (untold_course line.work log is untold)
+
+  refused_fronts : (line : Line) (log : List ℕ) (at : ℕ) → AreWithinLimits content line
+      → IsRefusedLine (task_of content line) log at (IsUntouched held holds faults_before faults) held holds
+      → IsUntouched held holds faults_before faults ⊎ IfSome (task_of content line) (λ task. ReadersHaveFronts task held holds)
+  refused_fronts line log at within (inl broken) = inl broken.1
+  refused_fronts line log at within (inr stopped) = inr (both (task_of content line) IsPromisedTask (λ task. IsStopped task (opening_count log) at held holds) (λ task. ReadersHaveFronts task held holds)
+      (λ task promised stopped. stopped_runs_give_fronts task (opening_count log) at held holds promised.plain stopped) (loaded_tasks_are_plain content line within) stopped)
+
+  line_fronts : (line : Line) (log : List ℕ) (at : ℕ) → AreWithinLimits content line → order_of line.work ≡ Some log → (o : Option (List ℕ)) → content log ≡ o
+      → IfSome o (λ log. IsRefusedLine (task_of content line) log at (IsUntouched held holds faults_before faults) held holds)
+      → IsUntouched held holds faults_before faults ⊎ IfSome (task_of content line) (λ task. ReadersHaveFronts task held holds)
+  line_fronts line log at within is None untold cause =
+      inr (subst (λ (o : Option Task). IfSome o (λ task. ReadersHaveFronts task held holds)) (sym (untold_task line log is untold)) tt)
+  line_fronts line log at within is (Some text) told cause = refused_fronts line text at within cause
+
+  pub log_fronts : (asked : Option Line) (status : Status) (at : ℕ) → HasBegun asked status → status ≡ Log at
+      → IsUntouched held holds faults_before faults ⊎ IfSome (option_and_then (task_of content) asked) (λ task. ReadersHaveFronts task held holds)
+  log_fronts None status at h is = inr tt
+  log_fronts (Some line) status at h is =
+      let a = subst (Answer line) is h.answer in
+      line_fronts line a.replay.0 at a.read.within a.replay.1 (content a.replay.0) refl
+      (subst (λ (o : Option (List ℕ)). IfSome (option_and_then content o) (λ log. IsRefusedLine (task_of content line) log at (IsUntouched held holds faults_before faults) held holds)) a.replay.1 a.cause)
+
+  -- ---- a log that tells its run
+
+  pub ended_logged : (asked : Option Line) (status : Status) → IfSome asked (λ line. AsksRounds line.work) → HasBegun asked status → HasEnded status
+      → IfSome (option_and_then (task_of content) asked) (λ task. LogTellsTheRun task status held holds)
+  ended_logged None status some h has = tt
+  ended_logged (Some line) status some h has =
+      let a = read_of line status has h.answer in
+      both (task_of content line) (λ task. HasRounds task.course) (λ task. IsWhole task status held holds) (λ task. LogTellsTheRun task status held holds)
+      (λ task rounds whole. whole_runs_are_told task status held holds rounds whole)
+      (by_course (option_and_then script_in (content line.names.script)) (content line.names.file_a) (content line.names.file_b) (course_of content line.work) (course_has content line.work some)) a.whole

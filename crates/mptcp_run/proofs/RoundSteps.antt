@@ -1,6 +1,6 @@
 -- A round that was made: its steps, what its readers have read, and what the ports hold then.
 use Rattle.std.proofs.Common.{◌≡◌, refl, sym, ◌∙◌, ap, subst, ℕ, zero, suc, ◌+◌, ◌<◌, ◌≤◌, Bool, true, false, nat_lt, Option, Some, None, inl, inr, List, [], ◌∷◌, ◌++◌, map, drop, length, get_or, filter, arith}
-use Rattle.std.specs.List.{slice_get, flat_map}
+use Rattle.std.specs.List.{slice_get, flat_map, AllByRecursion}
 use Rattle.std.proofs.Math.Seq.{drop-append_seam}
 use Rattle.std.proofs.lemmas.Grind.{flat_map-append}
 use Rattle.std.proofs.lemmas.List.{append-nil, append_assoc}
@@ -13,6 +13,7 @@ use Rattle.pipe_model.specs.Prefix.{IsPrefix}
 use Rattle.stream_lanes.specs.Words.{Every}
 use Rattle.actor_desk.specs.declared.ask.Note.{Note}
 use Rattle.actor_desk.specs.Journals.{above, with_notes, in_order}
+use Rattle.run_log.specs.Fitting.{IsLong, NoteFits}
 use Rattle.world_laws.specs.Actors.{ActorCrew}
 use Rattle.world_laws.specs.Fine.{lists_of}
 use Rattle.world_laws.specs.Outcomes.{bytes_noted, read_by, notes_at, output_of}
@@ -96,16 +97,17 @@ module _ (made : List ℕ) (last w : Connection) (opening : List ℕ) (number : 
     (b_is : read_by_b ≡ read_by (drop (made_at 1 made) (notes_at 1 w.crew))) (a_is : read_by_a ≡ read_by (drop (made_at 0 made) (notes_at 0 w.crew)))
     (lines_are : lines ≡ round_text opening number (since made (lists_of w.crew))) where
   -- a round that was put whole
-  pub round_held : IsSince last made w → HoldsAfter (old port.ReadByB) (new port.ReadByB) (λ held. held ++ read_by_b)
+  pub round_held : IsSince last made w → IsLong number → AllByRecursion NoteFits (since made (lists_of w.crew)) → HoldsAfter (old port.ReadByB) (new port.ReadByB) (λ held. held ++ read_by_b)
       → HoldsAfter (old port.ReadByA) (new port.ReadByA) (λ held. held ++ read_by_a) → HoldsAfter (old port.Log) (new port.Log) (λ held. held ++ lines)
       → HoldsRound opening number last w old new
-  round_held h b a log = record {
+  round_held h few fit b a log = record {
     read_by_b = whole_more (old port.ReadByB) (new port.ReadByB) (output_of B last) read_by_b (output_of B w) b
         (read_grew made last w 1 h ∙ ap (λ xs. output_of B last ++ xs) (sym b_is));
     read_by_a = whole_more (old port.ReadByA) (new port.ReadByA) (output_of A last) read_by_a (output_of A w) a
         (read_grew made last w 0 h ∙ ap (λ xs. output_of A last ++ xs) (sym a_is));
     log = whole_more (old port.Log) (new port.Log) [] lines (round_text opening number (round_steps last w)) log
         (ap (round_text opening number) (sym (steps_since made last w h)) ∙ sym lines_are);
+    fits = (few, subst (AllByRecursion NoteFits) (steps_since made last w h) fit);
   }
 
   -- or a part of it
@@ -139,6 +141,7 @@ nothing_ends opening number w old new same = record {
   read_by_b = nothing_more (old port.ReadByB) (new port.ReadByB) (output_of B w) (λ text. text ≡ output_of B w) (same port.ReadByB) refl;
   read_by_a = nothing_more (old port.ReadByA) (new port.ReadByA) (output_of A w) (λ text. text ≡ output_of A w) (same port.ReadByA) refl;
   log = nothing_more (old port.Log) (new port.Log) [] (λ text. text ≡ []) (same port.Log) refl;
+  fits = tt;
 }
 
 -- a round in front of others
@@ -150,6 +153,7 @@ ends_more opening number w v ends a b c h k = record {
   log = more_behind (a port.Log) (b port.Log) (c port.Log) (round_text opening number (round_steps w v)) (λ text. text ≡ log_text opening (suc number) (steps_by_round v ends))
       (λ text. text ≡ log_text opening number (steps_by_round w (v ∷ ends))) h.log k.log
       (λ text is. ap (λ xs. round_text opening number (round_steps w v) ++ xs) is);
+  fits = (h.fits, k.fits);
 }
 
 -- in front of some, and of a part

@@ -30,6 +30,7 @@ ends_from opening number w ends a b c same h = record {
   read_by_b = more_from (a port.ReadByB) (b port.ReadByB) (c port.ReadByB) (output_of B w) (λ text. text ≡ output_of B (last_end w ends)) (same port.ReadByB) h.read_by_b;
   read_by_a = more_from (a port.ReadByA) (b port.ReadByA) (c port.ReadByA) (output_of A w) (λ text. text ≡ output_of A (last_end w ends)) (same port.ReadByA) h.read_by_a;
   log = more_from (a port.Log) (b port.Log) (c port.Log) [] (λ text. text ≡ log_text opening number (steps_by_round w ends)) (same port.Log) h.log;
+  fits = h.fits;
 }
 
 part_from : (opening : List ℕ) (number : ℕ) (w : Connection) (low high : List Connection) (a b c : Ports) → ((p : Port) → b p ≡ a p) → HoldsPart opening number w low high b c

@@ -2,6 +2,7 @@ pub mod Answers
 pub mod Asked
 pub mod Causes
 pub mod Inputs
+pub mod Logged
 pub mod Ports
 pub mod Promised
 pub mod Putting

@@ -10,6 +10,8 @@ use Rattle.actor_desk.specs.declared.ask.Note.{Note}
 use Rattle.actor_desk.specs.Journals.{in_order}
 use Rattle.run_log.specs.declared.outcome.Outcome as log_outcome
 use Rattle.run_log.specs.declared.outcome.Outcome.TheVariants as told
+use Rattle.std.specs.List.{AllByRecursion}
+use Rattle.run_log.specs.Fitting.{IsLong, NoteFits}
 use Rattle.run_log.specs.Lines.{ended, opening_lines, round_lines, outcome_text}
 use Rattle.path_core.specs.Octets.{octets}
 use Rattle.path_core.specs.Starts.{drawn_of}
@@ -68,6 +70,17 @@ abbrev pub log_text : List ℕ → ℕ → List (List Note) → List ℕ
 log_text opening number [] = []
 log_text opening number (steps ∷ more) = round_text opening number steps ++ log_text opening (suc number) more
 
+-- ---- numbers
+
+-- the number of a round and those of its notes are numbers of their types
+abbrev pub RoundFits : ℕ → List Note → Type 0
+RoundFits number steps = IsLong number × AllByRecursion NoteFits steps
+
+-- those of rounds, of which the first has this number
+abbrev pub RoundsFit : ℕ → List (List Note) → Type 0
+RoundsFit number [] = Unit {0}
+RoundsFit number (steps ∷ more) = RoundFits number steps × RoundsFit (suc number) more
+
 -- ---- how a run ends
 
 abbrev pub status_of : Outcome → Status
@@ -95,8 +108,12 @@ ends_of task turns = round_ends turns (opened task)
 abbrev pub read_so_far : Side → Task → List Turn → List ℕ
 read_so_far s task turns = output_of s (last_end (opened task) (ends_of task turns))
 
+-- the steps of each round that ended
+abbrev pub steps_so_far : Task → List Turn → List (List Note)
+steps_so_far task turns = steps_by_round (opened task) (ends_of task turns)
+
 abbrev pub log_so_far : Task → List Turn → List ℕ
-log_so_far task turns = log_text (log_opening task.script) 0 (steps_by_round (opened task) (ends_of task turns))
+log_so_far task turns = log_text (log_opening task.script) 0 (steps_so_far task turns)
 
 abbrev pub world_after : Task → List Turn → Connection
 world_after task turns = world_run octets turns (opened task)
@@ -108,12 +125,14 @@ pub record HoldsRounds (task : Task) (turns : List Turn) (old new : Port → Opt
   pub read_by_b : HoldsAfter (old ReadByB) (new ReadByB) (λ _. read_so_far B task turns)
   pub read_by_a : HoldsAfter (old ReadByA) (new ReadByA) (λ _. read_so_far A task turns)
   pub log : HoldsAfter (old Log) (new Log) (λ held. held ++ log_so_far task turns)
+  pub fits : RoundsFit 0 (steps_so_far task turns)
 
 -- of a run that came to its end
 pub record HoldsRun (task : Task) (turns : List Turn) (old new : Port → Option (List ℕ)) : Type 0 where
   pub read_by_b : HoldsAfter (old ReadByB) (new ReadByB) (λ _. read_so_far B task turns)
   pub read_by_a : HoldsAfter (old ReadByA) (new ReadByA) (λ _. read_so_far A task turns)
   pub log : HoldsAfter (old Log) (new Log) (λ held. held ++ (log_so_far task turns ++ last_line (world_after task turns)))
+  pub fits : RoundsFit 0 (steps_so_far task turns)
 
 -- all turns of the task were made, the status is the one that the connection shows then, and the ports hold the run
 pub record IsWhole (task : Task) (status : Status) (old new : Port → Option (List ℕ)) : Type 0 where

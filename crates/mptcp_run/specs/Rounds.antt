@@ -18,7 +18,7 @@ use Rattle.mptcp_run.specs.declared.rounds.Run.{Run}
 use Rattle.mptcp_run.specs.declared.status.Status.{Status}
 use Rattle.mptcp_run.specs.declared.status.Status.TheVariants.{Put, Memory, Log}
 use Rattle.mptcp_run.specs.Ports.{HoldsMore, IsBetween}
-use Rattle.mptcp_run.specs.Putting.{round_steps, steps_by_round, round_ends, last_end, log_opening, round_text, log_text}
+use Rattle.mptcp_run.specs.Putting.{round_steps, steps_by_round, round_ends, last_end, log_opening, round_text, log_text, RoundFits, RoundsFit}
 use Rattle.mptcp_run.specs.Task.{Connection, turn_of}
 
 -- a round begins: each actor knows the greatest stamp so far
@@ -46,12 +46,14 @@ pub record HoldsRound (opening : List ℕ) (number : ℕ) (w v : Connection) (ol
   pub read_by_b : HoldsMore (old port.ReadByB) (new port.ReadByB) (output_of B w) (λ text. text ≡ output_of B v)
   pub read_by_a : HoldsMore (old port.ReadByA) (new port.ReadByA) (output_of A w) (λ text. text ≡ output_of A v)
   pub log : HoldsMore (old port.Log) (new port.Log) [] (λ text. text ≡ round_text opening number (round_steps w v))
+  pub fits : RoundFits number (round_steps w v)
 
 -- some were
 pub record HoldsEnds (opening : List ℕ) (number : ℕ) (w : Connection) (ends : List Connection) (old new : Port → Option (List ℕ)) : Type 0 where
   pub read_by_b : HoldsMore (old port.ReadByB) (new port.ReadByB) (output_of B w) (λ text. text ≡ output_of B (last_end w ends))
   pub read_by_a : HoldsMore (old port.ReadByA) (new port.ReadByA) (output_of A w) (λ text. text ≡ output_of A (last_end w ends))
   pub log : HoldsMore (old port.Log) (new port.Log) [] (λ text. text ≡ log_text opening number (steps_by_round w ends))
+  pub fits : RoundsFit number (steps_by_round w ends)
 
 -- these were put whole, and of those a part
 pub record HoldsPart (opening : List ℕ) (number : ℕ) (w : Connection) (low high : List Connection) (old new : Port → Option (List ℕ)) : Type 0 where

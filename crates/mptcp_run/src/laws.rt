@@ -1,4 +1,5 @@
 //! What holds of every run, as clauses of functions that do nothing.
+ghost use Rattle.mptcp_run.specs.Logged.{WholeRunsAgree, WholeRunsAreTold};
 ghost use Rattle.mptcp_run.specs.Promised.{LoadedTasksArePlain, PlainTasksAreKept, WholeRunsGiveFronts, DeliveredRunsGiveFiles, StoppedRunsGiveFronts, CutRunsGiveFronts};
 
 /// A law: where the script changes no segment, each reader has a prefix of what the other side writes, at whichever end of a run,
@@ -15,4 +16,15 @@ pub fn plain_runs_keep_their_word()
 /// shorter than 2^31 - 2 octets, and the last turn is the end of a round.
 pub fn loaded_tasks_are_plain()
     ensures { LoadedTasksArePlain }
+{}
+
+/// A law: where a run of at least one round came to its own end, what its log grew by is read as a log. Its turns, those of the
+/// steps in their order, are lawful from the opening on, and drive the connection to the same end; a run of these turns has the same
+/// status, and leaves the same ports, the log among them (`told`).
+///
+/// Two runs of one task that came to their own ends have one status, and put the same to each port; so a `replay` of that log
+/// comes to the same (`agree`).
+pub fn logs_tell_their_runs()
+    ensures told { WholeRunsAreTold }
+    ensures agree { WholeRunsAgree }
 {}

@@ -1,9 +1,11 @@
 //! A run under way: its connection, and how far it was put.
 
-ghost use Rattle.std.specs.Prelude.{◌≡◌, ◌+◌, ◌-◌, ◌^◌, ◌<◌, ◌≢◌, ◌++◌, [], ◌∷◌, length, map, drop, flat_map, IfOk, IfErr, OnOk, OnErr};
+ghost use Rattle.std.specs.Prelude.{◌≡◌, ◌+◌, ◌-◌, ◌^◌, ◌<◌, ◌≢◌, ◌++◌, [], ◌∷◌, length, map, drop, flat_map, All, IfOk, IfErr, OnOk, OnErr};
+ghost use Rattle.std.specs.List.{AllByRecursion};
 ghost use Rattle.outside_kit.specs.declared.port.Port.{Port};
 ghost use Rattle.outside_kit.specs.Outside.{HoldsAfter, HoldsPrefix};
 ghost use Rattle.link_script.specs.Scripts.{HasRanges};
+ghost use Rattle.run_log.specs.Fitting.{NoteFits};
 ghost use Rattle.run_log.specs.Lines.{ended, step_text};
 ghost use Rattle.world_core.specs.Kept.{standing};
 ghost use Rattle.world_laws.specs.Fine.{lists_of};
@@ -94,7 +96,9 @@ fn put_read_by(text: &mut Text, reply: &Reply) -> Result<(), AllocError>
 
 /// Puts the lines of steps, in this order, at the end of a text.
 fn put_lines(alloc: Global, text: &mut Text, notes: &[&Note]) -> Result<(), AllocError>
-    ensures { OnOk result (text.new ≡ text.old ++ flat_map ended (map (λ note. step_text note.now) notes.now)) }
+    ensures text { OnOk result (text.new ≡ text.old ++ flat_map ended (map (λ note. step_text note.now) notes.now)) }
+    // Their numbers are numbers of their types.
+    ensures fits { OnOk result (All (λ note. NoteFits note.now) notes.now) }
 {
     for note in notes {
         text.append(line(alloc, *note)?.as_bytes())?;
@@ -119,7 +123,8 @@ fn round_text(
     number: u64,
     steps: &[&Note],
 ) -> Result<Text, AllocError>
-    ensures { IfOk result (λ text. text ≡ round_text opening.now number (map (λ note. note.now) steps.now)) }
+    ensures text { IfOk result (λ text. text ≡ round_text opening.now number (map (λ note. note.now) steps.now)) }
+    ensures fits { OnOk result (AllByRecursion NoteFits (map (λ note. note.now) steps.now)) }
 {
     let mut text = opening_at(alloc, opening, number)?;
     put_lines(alloc, &mut text, steps)?;
@@ -164,6 +169,7 @@ impl Run {
         ensures read_by_b { IfOk result (λ piece. piece.read_by_b ≡ read_by (drop (made_at 1 self.now.made.items) (notes_at 1 self.now.world.state.crew))) }
         ensures read_by_a { IfOk result (λ piece. piece.read_by_a ≡ read_by (drop (made_at 0 self.now.made.items) (notes_at 0 self.now.world.state.crew))) }
         ensures lines { IfOk result (λ piece. piece.lines ≡ round_text self.now.opening self.now.rounds (since self.now.made.items (lists_of self.now.world.state.crew))) }
+        ensures fits { OnOk result (AllByRecursion NoteFits (since self.now.made.items (lists_of self.now.world.state.crew))) }
     {
         let steps = woven(alloc, &self.world, &self.made)?;
         Ok(Piece {

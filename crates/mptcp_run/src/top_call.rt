@@ -14,7 +14,9 @@ ghost use Rattle.mptcp_run.specs.Answers.{HasEnded, IsRefusal, HasLoaded, HasRea
 ghost use Rattle.mptcp_run.specs.Asked.{asked_in, if_run};
 ghost use Rattle.mptcp_run.specs.Causes.{limit_of};
 ghost use Rattle.mptcp_run.specs.Inputs.{name_of, order_of, content_of, AreWithinLimitsBefore};
+ghost use Rattle.mptcp_run.specs.Logged.{LogTellsTheRun};
 ghost use Rattle.mptcp_run.specs.Ports.{NeverFall, IsUntouched, IsPortsFault, HoldsWithin};
+ghost use Rattle.mptcp_run.specs.Promised.{IsAlwaysKept, ReadersHaveFronts, ReadersHaveFrontsIfBound, ReadersHaveFiles};
 ghost use Rattle.mptcp_run.specs.Putting.{last_line, status_of, IsWhole, IsCut, ReplayEnds};
 ghost use Rattle.mptcp_run.specs.Replaying.{IsReplayFault};
 ghost use Rattle.mptcp_run.specs.Rounds.{IsOpened};
@@ -244,6 +246,23 @@ pub fn run<O: Outside, G: Gate + Sync>(
         IsCut task (O.holds outside.old) (O.holds outside.new)) }
     ensures memory { result ≡ Status.Memory → IsUntouched (O.holds outside.old) (O.holds outside.new) (O.port_faults outside.old) (O.port_faults outside.new)
         ⊎ IfSome (task_in (O.content outside.old) (map string_bytes words.now)) (λ task. IsCut task (O.holds outside.old) (O.holds outside.new)) }
+
+    // What that says of what was read: no script that is run changes a segment, so the connection keeps all its promises.
+    ensures kept { HasEnded result → IfSome (task_in (O.content outside.old) (map string_bytes words.now)) IsAlwaysKept }
+    ensures fronts { HasEnded result → IfSome (task_in (O.content outside.old) (map string_bytes words.now)) (λ task. ReadersHaveFronts task (O.holds outside.old) (O.holds outside.new)) }
+    ensures delivered { result ≡ Status.Delivered → IfSome (task_in (O.content outside.old) (map string_bytes words.now)) (λ task. ReadersHaveFiles task (O.holds outside.old) (O.holds outside.new)) }
+    ensures put_fronts { (port : Port) → result ≡ Status.Put port → IfSome (task_in (O.content outside.old) (map string_bytes words.now)) (λ task.
+        ReadersHaveFrontsIfBound task (O.holds outside.old) (O.holds outside.new)) }
+    ensures memory_fronts { result ≡ Status.Memory → IsUntouched (O.holds outside.old) (O.holds outside.new) (O.port_faults outside.old) (O.port_faults outside.new)
+        ⊎ IfSome (task_in (O.content outside.old) (map string_bytes words.now)) (λ task. ReadersHaveFrontsIfBound task (O.holds outside.old) (O.holds outside.new)) }
+    // Where the log of `replay` has no right form nothing was bound or put.
+    ensures log_fronts { (at : ℕ) → result ≡ Status.Log at → IsUntouched (O.holds outside.old) (O.holds outside.new) (O.port_faults outside.old) (O.port_faults outside.new)
+        ⊎ IfSome (task_in (O.content outside.old) (map string_bytes words.now)) (λ task. ReadersHaveFronts task (O.holds outside.old) (O.holds outside.new)) }
+
+    // What `Log` grew by is read as a log of turns that are lawful from the opening on. As a run of their own they drive the
+    // connection to the same end, with the same status, and leave the same ports.
+    ensures logged { HasEnded result → IfSome (task_in (O.content outside.old) (map string_bytes words.now)) (λ task.
+        LogTellsTheRun task result (O.holds outside.old) (O.holds outside.new)) }
 {
     run_words(alloc, outside, words)
 }

@@ -1,4 +1,7 @@
+use Rattle.std.specs.Prelude.{map, string_bytes}
+use Rattle.mptcp_run.proofs.AskedRounds.{asked_rounds}
 use Rattle.mptcp_run.proofs.Causing.{load_cause, too_long_cause, script_cause, put_cause, log_cause, loaded_before, all_loaded, valid_script, valid_order, refused_untouched, ended_whole, put_cut, memory_cut, complete}
+use Rattle.mptcp_run.proofs.Promising.{ended_kept, ended_fronts, delivered_files, put_fronts, memory_fronts, log_fronts, ended_logged}
 use Rattle.mptcp_run.proofs.top_call.run.Goals as goal
 
 pub returns-clause-load : goal.returns-clause-load
@@ -84,3 +87,45 @@ returns-clause-complete g c line is valid loads_fine ports_fine =
     complete (g.O.Outside.content c.args.outside.now) (g.O.Outside.load_faults c.args.outside.now) (g.O.Outside.load_faults c.run_words.new.outside) (g.O.Outside.port_faults c.args.outside.now)
     (g.O.Outside.port_faults c.run_words.new.outside) (g.O.Outside.holds c.args.outside.now) (g.O.Outside.holds c.run_words.new.outside)
     _ c.run_words.result (record { answer = c.run_words.ensures.asked; other = c.run_words.ensures.other; untouched = c.run_words.ensures.untouched }) line is valid loads_fine ports_fine
+
+pub returns-clause-kept : goal.returns-clause-kept
+returns-clause-kept g c has =
+    ended_kept (g.O.Outside.content c.args.outside.now) (g.O.Outside.load_faults c.args.outside.now) (g.O.Outside.load_faults c.run_words.new.outside) (g.O.Outside.port_faults c.args.outside.now)
+    (g.O.Outside.port_faults c.run_words.new.outside) (g.O.Outside.holds c.args.outside.now) (g.O.Outside.holds c.run_words.new.outside)
+    _ c.run_words.result (record { answer = c.run_words.ensures.asked; other = c.run_words.ensures.other; untouched = c.run_words.ensures.untouched }) has
+
+pub returns-clause-fronts : goal.returns-clause-fronts
+returns-clause-fronts g c has =
+    ended_fronts (g.O.Outside.content c.args.outside.now) (g.O.Outside.load_faults c.args.outside.now) (g.O.Outside.load_faults c.run_words.new.outside) (g.O.Outside.port_faults c.args.outside.now)
+    (g.O.Outside.port_faults c.run_words.new.outside) (g.O.Outside.holds c.args.outside.now) (g.O.Outside.holds c.run_words.new.outside)
+    _ c.run_words.result (record { answer = c.run_words.ensures.asked; other = c.run_words.ensures.other; untouched = c.run_words.ensures.untouched }) has
+
+pub returns-clause-delivered : goal.returns-clause-delivered
+returns-clause-delivered g c is =
+    delivered_files (g.O.Outside.content c.args.outside.now) (g.O.Outside.load_faults c.args.outside.now) (g.O.Outside.load_faults c.run_words.new.outside) (g.O.Outside.port_faults c.args.outside.now)
+    (g.O.Outside.port_faults c.run_words.new.outside) (g.O.Outside.holds c.args.outside.now) (g.O.Outside.holds c.run_words.new.outside)
+    _ c.run_words.result (record { answer = c.run_words.ensures.asked; other = c.run_words.ensures.other; untouched = c.run_words.ensures.untouched }) is
+
+pub returns-clause-put_fronts : goal.returns-clause-put_fronts
+returns-clause-put_fronts g c port is =
+    put_fronts (g.O.Outside.content c.args.outside.now) (g.O.Outside.load_faults c.args.outside.now) (g.O.Outside.load_faults c.run_words.new.outside) (g.O.Outside.port_faults c.args.outside.now)
+    (g.O.Outside.port_faults c.run_words.new.outside) (g.O.Outside.holds c.args.outside.now) (g.O.Outside.holds c.run_words.new.outside)
+    _ c.run_words.result port (record { answer = c.run_words.ensures.asked; other = c.run_words.ensures.other; untouched = c.run_words.ensures.untouched }) is
+
+pub returns-clause-memory_fronts : goal.returns-clause-memory_fronts
+returns-clause-memory_fronts g c is =
+    memory_fronts (g.O.Outside.content c.args.outside.now) (g.O.Outside.load_faults c.args.outside.now) (g.O.Outside.load_faults c.run_words.new.outside) (g.O.Outside.port_faults c.args.outside.now)
+    (g.O.Outside.port_faults c.run_words.new.outside) (g.O.Outside.holds c.args.outside.now) (g.O.Outside.holds c.run_words.new.outside)
+    _ c.run_words.result (record { answer = c.run_words.ensures.asked; other = c.run_words.ensures.other; untouched = c.run_words.ensures.untouched }) is
+
+pub returns-clause-log_fronts : goal.returns-clause-log_fronts
+returns-clause-log_fronts g c at is =
+    log_fronts (g.O.Outside.content c.args.outside.now) (g.O.Outside.load_faults c.args.outside.now) (g.O.Outside.load_faults c.run_words.new.outside) (g.O.Outside.port_faults c.args.outside.now)
+    (g.O.Outside.port_faults c.run_words.new.outside) (g.O.Outside.holds c.args.outside.now) (g.O.Outside.holds c.run_words.new.outside)
+    _ c.run_words.result at (record { answer = c.run_words.ensures.asked; other = c.run_words.ensures.other; untouched = c.run_words.ensures.untouched }) is
+
+pub returns-clause-logged : goal.returns-clause-logged
+returns-clause-logged g c has =
+    ended_logged (g.O.Outside.content c.args.outside.now) (g.O.Outside.load_faults c.args.outside.now) (g.O.Outside.load_faults c.run_words.new.outside) (g.O.Outside.port_faults c.args.outside.now)
+    (g.O.Outside.port_faults c.run_words.new.outside) (g.O.Outside.holds c.args.outside.now) (g.O.Outside.holds c.run_words.new.outside)
+    _ c.run_words.result (asked_rounds (map string_bytes c.args.words.now)) (record { answer = c.run_words.ensures.asked; other = c.run_words.ensures.other; untouched = c.run_words.ensures.untouched }) has

@@ -1,4 +1,4 @@
-use Rattle.std.proofs.Common.{refl}
+use Rattle.std.proofs.Common.{refl, arith}
 use Rattle.mptcp_run.proofs.PortsLemmas.{OnErr-holds}
 use Rattle.mptcp_run.proofs.RoundSteps.{round_held, round_part, round_untouched}
 use Rattle.mptcp_run.proofs.rounds.Run.put_round.Goals as goal
@@ -7,7 +7,7 @@ pub returns-clause-ok : goal.returns-clause-ok
 returns-clause-ok g c last since =
     let piece = c.in-Ok-Ok.ensures in let put = c.in_ok-put.ensures in
     round_held c.args.self.now.made.items last c.args.self.now.world.state c.args.self.now.opening c.args.self.now.rounds _ _ _ _ _
-    piece.read_by_b piece.read_by_a piece.lines since put.read_by_b put.read_by_a put.log
+    piece.read_by_b piece.read_by_a piece.lines since (let few = c.requires.few in omega (arith, few)) piece.fits put.read_by_b put.read_by_a put.log
 
 pub returns-in_default-clause-err : goal.returns-in_default-clause-err
 returns-in_default-clause-err g c last since =

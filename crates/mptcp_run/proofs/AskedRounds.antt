@@ -1,0 +1,97 @@
+-- A serial run is asked for one round at least.
+use Rattle.std.proofs.Common.{◌≡◌, refl, ℕ, ◌≤◌, Bool, true, false, ◌&&◌, if◌then◌else◌, List, Option, Some, None, IfSome, arith}
+use Rattle.std.specs.Prelude.{nat_le, codes, option_map, option_and_then}
+use Rattle.std.specs.Str.{bytes_eq}
+use Rattle.std.specs.Str.Parse.{digits_value}
+use Rattle.std.proofs.lemmas.Bool.{and_parts, leb-true}
+use Rattle.run_words.specs.Numbers.{is_numeral, number_within}
+use Rattle.run_words.specs.Parts.{Word, Part, parts_of}
+use Rattle.run_words.specs.Lines.{Work, run, serial, replay, bench, Names, Line, ◌>>=◌, is_given, rounds_in, plain_work, replay_work, bench_work, work_in, line_of_parts, line_of}
+use Rattle.mptcp_run.specs.Asked.{is_run, if_run, asked_in}
+
+abbrev pub AsksRounds : Work → Type 0
+AsksRounds (serial most) = 1 ≤ most
+AsksRounds (run most) = Unit {0}
+AsksRounds (replay log) = Unit {0}
+AsksRounds (bench most number) = Unit {0}
+
+abbrev Asks : Line → Type 0
+Asks line = AsksRounds line.work
+
+bind_has : {X Y : Type 0} (o : Option X) (f : X → Option Y) (P : Y → Type 0) → ((x : X) → IfSome (f x) P) → IfSome (o >>= f) P
+bind_has None f P h = tt
+bind_has (Some x) f P h = h x
+
+-- ---- the number of rounds
+
+within_least : (least most : ℕ) (word : List ℕ) → IfSome (number_within least most word) (λ n. least ≤ n)
+unfolding number_within
+within_least least most word =
+    by (is_numeral word && nat_le least (digits_value 10 word) && nat_le (digits_value 10 word) most) refl
+  where
+    by : (b : Bool) → (is_numeral word && nat_le least (digits_value 10 word) && nat_le (digits_value 10 word) most) ≡ b
+        → IfSome (if b then Some (digits_value 10 word) else None) (λ n. least ≤ n)
+    by true is =
+        let front = and_parts (is_numeral word && nat_le least (digits_value 10 word)) (nat_le (digits_value 10 word) most) is in
+        let both = and_parts (is_numeral word) (nat_le least (digits_value 10 word)) front.0 in
+        leb-true least (digits_value 10 word) both.1
+    by false is = tt
+
+some_rounds : (o : Option Word) → IfSome (rounds_in o) (λ n. 1 ≤ n)
+some_rounds None = omega arith
+some_rounds (Some word) = within_least 1 65536 word
+
+-- ---- the work
+
+plain_asks : (b c : Bool) (o : Option ℕ) → IfSome o (λ n. 1 ≤ n) → IfSome (if b then option_map run o else (if c then option_map serial o else None)) AsksRounds
+plain_asks true c None h = tt
+plain_asks true c (Some n) h = tt
+plain_asks false true None h = tt
+plain_asks false true (Some n) h = h
+plain_asks false false o h = tt
+
+replay_asks : (b : Bool) (log : Word) → IfSome (if b then Some (replay log) else None) AsksRounds
+replay_asks true log = tt
+replay_asks false log = tt
+
+bench_asks : (b : Bool) (most number : Option ℕ) → IfSome (if b then (most >>= λ n. number >>= λ input. Some (bench n input)) else None) AsksRounds
+bench_asks true None number = tt
+bench_asks true (Some n) None = tt
+bench_asks true (Some n) (Some input) = tt
+bench_asks false most number = tt
+
+work_asks : (word : Word) (rounds log number : Option Word) → IfSome (work_in word rounds log number) AsksRounds
+work_asks word rounds None None = plain_asks (bytes_eq word (codes "run")) (bytes_eq word (codes "serial")) (rounds_in rounds) (some_rounds rounds)
+work_asks word None (Some log) None = replay_asks (bytes_eq word (codes "replay") && is_given log) log
+work_asks word (Some most) (Some log) None = tt
+work_asks word rounds None (Some number) = bench_asks (bytes_eq word (codes "bench")) (rounds_in rounds) (number_within 1 256 number)
+work_asks word None (Some log) (Some number) = tt
+work_asks word (Some most) (Some log) (Some number) = tt
+
+-- ---- the line
+
+line_with : (o : Option Work) (names : Names) → IfSome o AsksRounds → IfSome (o >>= λ work. Some (record { work = work; names = names })) Asks
+line_with None names h = tt
+line_with (Some work) names h = h
+
+parts_ask : (parts : List Part) → IfSome (line_of_parts parts) Asks
+unfolding line_of_parts
+parts_ask parts =
+    bind_has _ _ Asks (λ word. bind_has _ _ Asks (λ most. bind_has _ _ Asks (λ log. bind_has _ _ Asks (λ input. bind_has _ _ Asks (λ names. bind_has _ _ Asks (λ given.
+    line_with (work_in given most log input) names (work_asks given most log input)))))))
+
+line_asks : (words : List Word) → IfSome (line_of words) Asks
+unfolding line_of
+line_asks words = bind_has (parts_of None words) line_of_parts Asks parts_ask
+
+run_asks : (o : Option Line) → IfSome o Asks → IfSome (option_and_then if_run o) Asks
+run_asks None h = tt
+run_asks (Some line) h = by (is_run line.work)
+  where
+    by : (b : Bool) → IfSome (if b then Some line else None) Asks
+    by true = h
+    by false = tt
+
+pub asked_rounds : (words : List (List ℕ)) → IfSome (asked_in words) (λ line. AsksRounds line.work)
+unfolding asked_in
+asked_rounds words = run_asks (line_of words) (line_asks words)

@@ -1,0 +1,130 @@
+-- The log of a run that came to its own end tells that run.
+use Rattle.std.proofs.Common.{◌≡◌, refl, sym, ◌∙◌, ap, subst, ℕ, zero, suc, ◌≤◌, Option, Some, List, [], ◌∷◌, ◌++◌, arith}
+use Rattle.outside_kit.specs.Outside.{HoldsAfter}
+use Rattle.outside_kit.specs.declared.port.Port.{Port}
+use Rattle.outside_kit.specs.declared.port.Port.TheVariants.{ReadByA, ReadByB, Log}
+use Rattle.outside_kit.specs.declared.side.Side.TheVariants.{A, B}
+use Rattle.actor_desk.specs.declared.ask.Note.{Note}
+use Rattle.path_core.specs.Octets.{octets}
+use Rattle.path_core.specs.Starts.{drawn_of}
+use Rattle.world_laws.specs.Openings.{start_of}
+use Rattle.world_laws.specs.Outcomes.{outcome_of, output_of}
+use Rattle.world_laws.specs.Serial.{round_and, spelled, after_round, AreRounds}
+use Rattle.world_laws.specs.Worlds.{Turn, world_step, end_round, world_run}
+use Rattle.world_laws.proofs.Serially.{serial_is_one}
+use Rattle.mptcp_run.specs.declared.status.Status.{Status}
+use Rattle.mptcp_run.specs.Logged.{HasRounds, replayed, TellsTheRun, LogTellsTheRun, HoldTheSame, WholeRunsAreTold, WholeRunsAgree}
+use Rattle.mptcp_run.specs.Promised.{EndsWithRound}
+use Rattle.mptcp_run.specs.Putting.{round_ends, last_end, steps_by_round, log_opening, log_text, status_of, told_outcome, last_line, RoundsFit, ends_of, steps_so_far, read_so_far, log_so_far, world_after, IsWhole}
+use Rattle.mptcp_run.specs.Task.{Connection, Task, Course, rounds, told, opened, turns_in, AreTurnsOf}
+use Rattle.mptcp_run.proofs.LogAgain.{log_read, rounds_logged}
+use Rattle.mptcp_run.proofs.LogWoven.{told_turns, AreWoven, turns_woven, told_to_the_end, course_lawful}
+use Rattle.mptcp_run.proofs.Performing.{counts_ends}
+use Rattle.mptcp_run.proofs.PortsLemmas.{whole_more, more_weaker}
+use Rattle.mptcp_run.proofs.Promised.{last_end_of_course}
+use Rattle.mptcp_run.proofs.UnderWay.{opened_begins}
+
+-- ---- at least one round has ended
+
+record SomeEnded (ends : List Connection) : Type 0 where
+  first : Connection
+  more : List Connection
+  is : ends ≡ first ∷ more
+
+at_round : (front : List Turn) (w : Connection) → SomeEnded (round_ends (front ++ Turn.Round ∷ []) w)
+at_round [] w = record { first = end_round w; more = []; is = refl }
+at_round (Turn.Step actor ∷ front) w = at_round front (world_step octets actor w)
+at_round (Turn.Round ∷ front) w = record { first = end_round w; more = round_ends (front ++ Turn.Round ∷ []) (end_round w); is = refl }
+
+serial_round : (most : ℕ) (counted : List (List ℕ)) (w : Connection) → 1 ≤ most → AreRounds octets most counted w → SomeEnded (round_ends (spelled counted) w)
+serial_round zero counted w some are = absurd (omega (arith, some))
+serial_round (suc most) [] w some are = absurd are
+serial_round (suc most) (counts ∷ counted) w some are = record {
+  first = after_round octets counts w;
+  more = round_ends (spelled counted) (after_round octets counts w);
+  is = counts_ends 0 counts (spelled counted) w;
+}
+
+course_round : (course : Course) (turns : List Turn) (w : Connection) → HasRounds course → AreTurnsOf course turns w → SomeEnded (round_ends turns w)
+course_round (rounds most) turns w has (counted, are, is) = subst (λ ts. SomeEnded (round_ends ts w)) (sym is) (serial_round most counted w has are)
+course_round (told order) turns w (front, order_is) are = subst (λ ts. SomeEnded (round_ends ts w)) (sym (are.0 ∙ order_is)) (at_round front w)
+
+-- ---- the run that the log tells
+
+module _ (task : Task) (status : Status) (old new : Port → Option (List ℕ)) (has : HasRounds task.course) (whole : IsWhole task status old new) where
+  abbrev made : List (List Note)
+  made = steps_so_far task whole.turns
+
+  abbrev noted : List Turn
+  noted = told_turns made
+
+  again : AreWoven whole.turns (opened task) (opened task)
+  again = turns_woven whole.turns [] (opened task) (opened task) (opened_begins (start_of task.script task.file_a task.file_b)) refl
+      (course_lawful task.course whole.turns (opened task) whole.are)
+
+  same_world : world_after task noted ≡ world_after task whole.turns
+  same_world =
+      sym (told_to_the_end made (opened task)) ∙ ap (last_end (opened task)) again.ends
+      ∙ last_end_of_course task.course whole.turns (opened task) (ends task.course has) whole.are
+    where
+      ends : (course : Course) → HasRounds course → EndsWithRound course
+      ends (rounds most) has = tt
+      ends (told order) has = has
+
+  read_again : turns_in (log_so_far task whole.turns ++ last_line (world_after task whole.turns)) ≡ Some noted
+  read_again =
+      let some = course_round task.course whole.turns (opened task) has whole.are in
+      log_read (drawn_of task.script).key_a (drawn_of task.script).key_b made _ _ (told_outcome (outcome_of (world_after task whole.turns).crew))
+      (ap (steps_by_round (opened task)) some.is) whole.ports.fits
+      (rounds_logged (start_of task.script task.file_a task.file_b) whole.turns [] (opened task) (opened task) 0 refl whole.ports.fits)
+
+  replay_whole : IsWhole (replayed task noted) status old new
+  replay_whole = record {
+    turns = noted;
+    are = (refl, again.lawful);
+    status_is = whole.status_is ∙ ap (λ w. status_of (outcome_of w.crew)) (sym same_world);
+    ports = record {
+      read_by_b = subst (λ es. HoldsAfter (old ReadByB) (new ReadByB) (λ _. output_of B (last_end (opened task) es))) (sym again.ends) whole.ports.read_by_b;
+      read_by_a = subst (λ es. HoldsAfter (old ReadByA) (new ReadByA) (λ _. output_of A (last_end (opened task) es))) (sym again.ends) whole.ports.read_by_a;
+      log = subst (λ es. HoldsAfter (old Log) (new Log) (λ held. held ++ (log_text (log_opening task.script) 0 (steps_by_round (opened task) es) ++ last_line (world_after task noted)))) (sym again.ends)
+          (subst (λ w. HoldsAfter (old Log) (new Log) (λ held. held ++ (log_so_far task whole.turns ++ last_line w))) (sym same_world) whole.ports.log);
+      fits = subst (λ es. RoundsFit 0 (steps_by_round (opened task) es)) (sym again.ends) whole.ports.fits;
+    };
+  }
+
+  pub whole_run_is_told : LogTellsTheRun task status old new
+  whole_run_is_told =
+      let text : List ℕ = log_so_far task whole.turns ++ last_line (world_after task whole.turns) in
+      let tells : TellsTheRun task whole.turns status old new text = record { order = noted; read = read_again; whole = replay_whole; same = same_world } in
+      record {
+        turns = whole.turns;
+        are = whole.are;
+        log = more_weaker (old Log) (new Log) [] (λ all. all ≡ text) (TellsTheRun task whole.turns status old new) (λ all is. subst (TellsTheRun task whole.turns status old new) (sym is) tells)
+            (whole_more (old Log) (new Log) [] text text whole.ports.log refl);
+      }
+
+pub whole_runs_are_told : WholeRunsAreTold
+whole_runs_are_told task status old new has whole = whole_run_is_told task status old new has whole
+
+-- ---- runs of one task
+
+turns_are_one : (course : Course) (ts us : List Turn) (w : Connection) → AreTurnsOf course ts w → AreTurnsOf course us w → ts ≡ us
+turns_are_one (rounds most) ts us w x y = serial_is_one octets most ts us w x y
+turns_are_one (told order) ts us w x y = x.0 ∙ sym y.0
+
+pub whole_runs_agree : WholeRunsAgree
+whole_runs_agree task status other old new before after one two =
+    let same : two.turns ≡ one.turns = turns_are_one task.course two.turns one.turns (opened task) two.are one.are in (
+      one.status_is ∙ sym (two.status_is ∙ ap (λ ts. status_of (outcome_of (world_after task ts).crew)) same),
+      record {
+        text_b = read_so_far B task one.turns;
+        read_by_b = (one.ports.read_by_b, subst (λ ts. HoldsAfter (before ReadByB) (after ReadByB) (λ _. read_so_far B task ts)) same two.ports.read_by_b);
+        text_a = read_so_far A task one.turns;
+        read_by_a = (one.ports.read_by_a, subst (λ ts. HoldsAfter (before ReadByA) (after ReadByA) (λ _. read_so_far A task ts)) same two.ports.read_by_a);
+        text = log_so_far task one.turns ++ last_line (world_after task one.turns);
+        log = (
+          one.ports.log,
+          subst (λ ts. HoldsAfter (before Log) (after Log) (λ held. held ++ (log_so_far task ts ++ last_line (world_after task ts)))) same two.ports.log,
+        );
+      },
+    )
