@@ -17,3 +17,7 @@ mod LogEnds
 mod PlainTasks
 mod Promising
 mod Starting
+mod Calls
+mod Loading
+mod PutsMade
+mod Planning

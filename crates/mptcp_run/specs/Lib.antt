@@ -1,7 +1,9 @@
+pub mod Adding
 pub mod Answers
 pub mod Asked
 pub mod Causes
 pub mod Inputs
+pub mod Plan
 pub mod Ports
 pub mod Promised
 pub mod Putting
