@@ -22,3 +22,7 @@ mod LogWoven
 mod LogAgain
 mod Logged
 mod AskedRounds
+mod Calls
+mod Loading
+mod PutsMade
+mod Planning

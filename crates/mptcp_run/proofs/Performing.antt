@@ -155,7 +155,7 @@ counts_ends actor [] rest w = refl
 counts_ends actor (n ∷ counts) rest w =
     steps_ends actor n (round_and (suc actor) counts rest) w ∙ counts_ends (suc actor) counts rest (after_steps octets actor n w)
 
-spelled_ends : (rounds : List (List ℕ)) (w : Connection) → ends_by rounds w ≡ round_ends (spelled rounds) w
+pub spelled_ends : (rounds : List (List ℕ)) (w : Connection) → ends_by rounds w ≡ round_ends (spelled rounds) w
 spelled_ends [] w = refl
 spelled_ends (counts ∷ rounds) w =
     ap (λ es. after_round octets counts w ∷ es) (spelled_ends rounds (after_round octets counts w)) ∙ sym (counts_ends 0 counts (spelled rounds) w)
@@ -183,7 +183,7 @@ counts_run actor [] rest w = refl
 counts_run actor (n ∷ counts) rest w =
     steps_run actor n (round_and (suc actor) counts rest) w ∙ counts_run (suc actor) counts rest (after_steps octets actor n w)
 
-spelled_run : (rounds : List (List ℕ)) (w : Connection) → world_run octets (spelled rounds) w ≡ after_rounds octets rounds w
+pub spelled_run : (rounds : List (List ℕ)) (w : Connection) → world_run octets (spelled rounds) w ≡ after_rounds octets rounds w
 spelled_run [] w = refl
 spelled_run (counts ∷ rounds) w = counts_run 0 counts (spelled rounds) w ∙ spelled_run rounds (after_round octets counts w)
 
@@ -192,7 +192,7 @@ abbrev pub IsSerialTask : Task → ℕ → Type 0
 IsSerialTask task most = task.course ≡ course.rounds most
 
 module _ (task : Task) (most : ℕ) (is : task.course ≡ course.rounds most) where
-  are_turns : (rounds : List (List ℕ)) → AreRounds octets most rounds (opened task) → AreTurnsOf task.course (spelled rounds) (opened task)
+  pub are_turns : (rounds : List (List ℕ)) → AreRounds octets most rounds (opened task) → AreTurnsOf task.course (spelled rounds) (opened task)
   are_turns rounds h = subst (λ c. AreTurnsOf c (spelled rounds) (opened task)) (sym is) (rounds, h, refl)
 
   pub serial_whole : (v : Connection) (status : Status) (a b c d : Ports) → AreBound a b → RoundsPut (log_opening task.script) most 0 (opened task) v b c
@@ -206,7 +206,7 @@ module _ (task : Task) (most : ℕ) (is : task.course ≡ course.rounds most) wh
         ports = run_held task (spelled h.rounds) v a c d end (rounds_held task (spelled h.rounds) (ends_by h.rounds (opened task)) a b c (spelled_ends h.rounds (opened task)) bound h.ports) grew;
       }
 
-  first_of : (n : ℕ) (rounds more : List (List ℕ)) → n ≤ most → AreRounds octets n rounds (opened task)
+  pub first_of : (n : ℕ) (rounds more : List (List ℕ)) → n ≤ most → AreRounds octets n rounds (opened task)
       → (more ≡ []) ⊎ ((suc n ≤ most) × (((counts : List ℕ) × (more ≡ counts ∷ [])) × AreRounds octets (suc n) (rounds ++ more) (opened task)))
       → AreFirstOf task.course (spelled rounds) (spelled more) (opened task)
   first_of n rounds more few are next = subst (λ c. AreFirstOf c (spelled rounds) (spelled more) (opened task)) (sym is) (n, (few, ((rounds, are, refl), by next)))
@@ -266,7 +266,7 @@ lawful-append [] ys w h = tt
 lawful-append (x ∷ xs) ys w h = (h.0, lawful-append xs ys _ h.1)
 
 module _ (task : Task) (order : List Turn) (is : task.course ≡ course.told order) where
-  are_told : AreLawful octets order (opened task) → AreTurnsOf task.course order (opened task)
+  pub are_told : AreLawful octets order (opened task) → AreTurnsOf task.course order (opened task)
   are_told h = subst (λ c. AreTurnsOf c order (opened task)) (sym is) (refl, h)
 
   pub replay_whole : (v : Connection) (status : Status) (a b c d : Ports) → AreBound a b → TurnsPut (log_opening task.script) 0 order (opened task) (opened task) v b c
@@ -278,7 +278,7 @@ module _ (task : Task) (order : List Turn) (is : task.course ≡ course.told ord
     ports = run_held task order v a c d h.world (rounds_held task order (round_ends order (opened task)) a b c refl bound h.ports) grew;
   }
 
-  told_first : (turns more behind : List Turn) → order ≡ turns ++ (more ++ behind) → AreLawful octets (turns ++ more) (opened task)
+  pub told_first : (turns more behind : List Turn) → order ≡ turns ++ (more ++ behind) → AreLawful octets (turns ++ more) (opened task)
       → AreFirstOf task.course turns more (opened task)
   told_first turns more behind parts lawful = subst (λ c. AreFirstOf c turns more (opened task)) (sym is) (behind, (parts, lawful))
 

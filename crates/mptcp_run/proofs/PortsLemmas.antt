@@ -153,6 +153,10 @@ pub IfErr-both : {T E S : Type 0} {P Q : E → Type 0} (r : Result T E) → ((e 
 IfErr-both (Ok x) f p s = tt
 IfErr-both (Err e) f p s = f e p s
 
+pub IfErr-two : {T E : Type 0} {P Q R : E → Type 0} (r : Result T E) → ((e : E) → P e → Q e → R e) → IfErr r P → IfErr r Q → IfErr r R
+IfErr-two (Ok x) f p q = tt
+IfErr-two (Err e) f p q = f e p q
+
 -- a count that has risen later has risen
 pub risen_later : (old middle new : ℕ) → old ≤ middle → HasRisen middle new → HasRisen old new
 risen_later old middle new few (inl less) = inl (omega (arith, few, less))

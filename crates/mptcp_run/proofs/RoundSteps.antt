@@ -86,7 +86,7 @@ notes_grew made last w actor h =
     ∙ ap (λ ns. notes_at actor last.crew ++ drop (get_or ns actor 0) (get_or (lists_of w.crew) actor [])) (sym h.made_is)
     ∙ ap (λ xs. notes_at actor last.crew ++ drop (made_at actor made) xs) (sym (notes_at-is actor w.crew))
 
-read_grew : (made : List ℕ) (last w : Connection) (actor : ℕ) → IsSince last made w
+pub read_grew : (made : List ℕ) (last w : Connection) (actor : ℕ) → IsSince last made w
     → read_by (notes_at actor w.crew) ≡ read_by (notes_at actor last.crew) ++ read_by (drop (made_at actor made) (notes_at actor w.crew))
 read_grew made last w actor h =
     ap read_by (notes_grew made last w actor h) ∙ flat_map-append bytes_noted (notes_at actor last.crew) (drop (made_at actor made) (notes_at actor w.crew))

@@ -11,13 +11,13 @@ use Rattle.mptcp_run.specs.Task.{Connection}
 use Rattle.mptcp_run.proofs.PortsLemmas.{IsPrefix-refl}
 use Rattle.mptcp_run.proofs.RoundSteps.{nothing_part, nothing_ends, ends_more, part_behind}
 
-one_true : (b : Bool) (this that : Type 0) → b ≡ true → this → OneOf b this that
+pub one_true : (b : Bool) (this that : Type 0) → b ≡ true → this → OneOf b this that
 one_true b this that is x = subst (λ c. OneOf c this that) (sym is) x
 
-one_false : (b : Bool) (this that : Type 0) → b ≡ false → that → OneOf b this that
+pub one_false : (b : Bool) (this that : Type 0) → b ≡ false → that → OneOf b this that
 one_false b this that is x = subst (λ c. OneOf c this that) (sym is) x
 
-one_both : (b : Bool) (this that : Type 0) → this → that → OneOf b this that
+pub one_both : (b : Bool) (this that : Type 0) → this → that → OneOf b this that
 one_both true this that x y = x
 one_both false this that x y = y
 

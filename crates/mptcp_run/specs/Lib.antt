@@ -1,8 +1,10 @@
+pub mod Adding
 pub mod Answers
 pub mod Asked
 pub mod Causes
 pub mod Inputs
 pub mod Logged
+pub mod Plan
 pub mod Ports
 pub mod Promised
 pub mod Putting

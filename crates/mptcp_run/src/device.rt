@@ -1,9 +1,11 @@
 //! The calls of an outside, each fault of which is the status that names it.
 
-ghost use Rattle.std.specs.Prelude.{◌≡◌, ◌≢◌, ◌≤◌, ◌<◌, ◌++◌, ℕ, List, [], IfOk, IfErr, IfSome, OnOk, OnErr, vec_len};
+ghost use Rattle.std.specs.Prelude.{◌≡◌, ◌≢◌, ◌≤◌, ◌<◌, ◌++◌, ℕ, List, [], ◌∷◌, IfOk, IfErr, IfSome, OnOk, OnErr, vec_len};
 ghost use Rattle.outside_kit.specs.Outside.{HoldsAfter, HoldsPrefix};
 ghost use Rattle.outside_kit.specs.declared.port.Port.{Port};
+ghost use Rattle.outside_kit.specs.Calls as call;
 ghost use Rattle.mptcp_run.specs.Causes.{limit_of, IsLoadFault, IsPutFault};
+ghost use Rattle.mptcp_run.specs.Plan.{failed, Adds, AddsAll, AddsCut};
 
 use crate::status::{Named, Status};
 use outside_kit::{LoadFault, Outside, Port, PutFault};
@@ -37,6 +39,8 @@ pub fn load<O: Outside>(
     ensures same_contents { (other : List ℕ) → O.content outside.new other ≡ O.content outside.old other }
     ensures same_ports { (port : Port) → O.holds outside.new port ≡ O.holds outside.old port }
     ensures same_counts { (port : Port) → O.port_faults outside.new port ≡ O.port_faults outside.old port }
+    ensures calls { OnOk result (AddsAll (call.Load name.now ∷ []) (O.calls outside.old) (O.calls outside.new)) }
+    ensures calls_cut { OnErr result (Adds (failed (call.Load name.now) ∷ []) (O.calls outside.old) (O.calls outside.new)) }
 {
     match outside.load(alloc, name, input.limit()) {
         Ok(bytes) => Ok(bytes),
@@ -55,6 +59,8 @@ pub fn bind<O: Outside>(outside: &mut O, port: Port, name: &str) -> Result<(), S
     ensures other_ports { (other : Port) → other ≢ port → O.holds outside.new other ≡ O.holds outside.old other }
     ensures other_counts { (other : Port) → other ≢ port → O.port_faults outside.new other ≡ O.port_faults outside.old other }
     ensures load_counts { O.load_faults outside.new ≡ O.load_faults outside.old }
+    ensures calls { OnOk result (AddsAll (call.Bind port name.now ∷ []) (O.calls outside.old) (O.calls outside.new)) }
+    ensures calls_cut { IfErr result (λ status. AddsCut (call.Bind port name.now ∷ []) status (O.calls outside.old) (O.calls outside.new)) }
 {
     match outside.bind(port, name) {
         Ok(()) => Ok(()),
@@ -72,6 +78,8 @@ pub fn put<O: Outside>(outside: &mut O, port: Port, piece: &[u8]) -> Result<(), 
     ensures other_ports { (other : Port) → other ≢ port → O.holds outside.new other ≡ O.holds outside.old other }
     ensures other_counts { (other : Port) → other ≢ port → O.port_faults outside.new other ≡ O.port_faults outside.old other }
     ensures load_counts { O.load_faults outside.new ≡ O.load_faults outside.old }
+    ensures calls { OnOk result (AddsAll (call.Put port piece.now ∷ []) (O.calls outside.old) (O.calls outside.new)) }
+    ensures calls_cut { IfErr result (λ status. AddsCut (call.Put port piece.now ∷ []) status (O.calls outside.old) (O.calls outside.new)) }
 {
     match outside.put(port, piece) {
         Ok(()) => Ok(()),

@@ -1,12 +1,15 @@
 //! What a run reads before it begins.
 
-ghost use Rattle.std.specs.Prelude.{◌≡◌, ◌≤◌, ℕ, List, Ok, IfOk, IfErr, IfSome, OnOk, vec_len};
+ghost use Rattle.std.specs.Prelude.{◌≡◌, ◌≤◌, ℕ, List, [], ◌∷◌, Ok, IfOk, IfErr, IfSome, OnOk, OnErr, vec_len};
 ghost use Rattle.outside_kit.specs.declared.port.Port.{Port};
 ghost use Rattle.link_script.specs.Scripts.{HasRanges};
 ghost use Rattle.run_words.specs.Lines.{replay, shown};
 ghost use Rattle.mptcp_run.specs.declared.status.Named.TheVariants as named;
-ghost use Rattle.mptcp_run.specs.Causes.{IsScriptFault};
+ghost use Rattle.mptcp_run.specs.Causes.{IsLoadFault, IsScriptFault};
 ghost use Rattle.mptcp_run.specs.Inputs.{IsWithinLimit, IsLoadsFault, AreFirstWithinLimits, IsInputFault, IsReplayInputFault};
+ghost use Rattle.outside_kit.specs.Calls as call;
+ghost use Rattle.mptcp_run.specs.Plan.{failed, Adds, AddsAll, first_loads, loads_of};
+ghost use Rattle.mptcp_run.specs.Adding.{LoadsAdd, InputAdds};
 ghost use Rattle.run_log.specs.Form.{reading};
 ghost use Rattle.mptcp_run.specs.Task.{AreWithinLimits, opening_count};
 ghost use Rattle.mptcp_run.specs.Script.{script_meaning};
@@ -50,6 +53,8 @@ pub fn load_contents<O: Outside>(
     ensures same_contents { (other : List ℕ) → O.content outside.new other ≡ O.content outside.old other }
     ensures same_ports { (port : Port) → O.holds outside.new port ≡ O.holds outside.old port }
     ensures same_counts { (port : Port) → O.port_faults outside.new port ≡ O.port_faults outside.old port }
+    ensures calls { OnOk result (AddsAll (first_loads (shown line.now)) (O.calls outside.old) (O.calls outside.new)) }
+    ensures calls_cut { IfErr result (LoadsAdd (shown line.now) (first_loads (shown line.now)) (O.calls outside.old) (O.calls outside.new)) }
 {
     let script = load(alloc, outside, Named::Script, line.script)?;
     let file_a = load(alloc, outside, Named::FileA, line.file_a)?;
@@ -76,6 +81,9 @@ pub fn load_order<O: Outside>(
     ensures counted { O.load_faults outside.old ≤ O.load_faults outside.new }
     ensures same_ports { (port : Port) → O.holds outside.new port ≡ O.holds outside.old port }
     ensures same_counts { (port : Port) → O.port_faults outside.new port ≡ O.port_faults outside.old port }
+    ensures named { IfErr result (IsLoadFault named.Order (O.content outside.old order.now) (O.load_faults outside.old) (O.load_faults outside.new)) }
+    ensures calls { OnOk result (AddsAll (call.Load order.now ∷ []) (O.calls outside.old) (O.calls outside.new)) }
+    ensures calls_cut { OnErr result (Adds (failed (call.Load order.now) ∷ []) (O.calls outside.old) (O.calls outside.new)) }
 {
     load(alloc, outside, Named::Order, order)
 }
@@ -115,6 +123,8 @@ pub fn load_input<O: Outside>(
     ensures counted { O.load_faults outside.old ≤ O.load_faults outside.new }
     ensures same_ports { (port : Port) → O.holds outside.new port ≡ O.holds outside.old port }
     ensures same_counts { (port : Port) → O.port_faults outside.new port ≡ O.port_faults outside.old port }
+    ensures calls { OnOk result (AddsAll (first_loads (shown line.now)) (O.calls outside.old) (O.calls outside.new)) }
+    ensures calls_cut { IfErr result (InputAdds (shown line.now) (first_loads (shown line.now)) (O.calls outside.old) (O.calls outside.new)) }
 {
     let contents = load_contents(alloc, outside, line)?;
     input_of(alloc, contents)
@@ -150,6 +160,8 @@ pub fn load_replay<O: Outside>(
     ensures counted { O.load_faults outside.old ≤ O.load_faults outside.new }
     ensures same_ports { (port : Port) → O.holds outside.new port ≡ O.holds outside.old port }
     ensures same_counts { (port : Port) → O.port_faults outside.new port ≡ O.port_faults outside.old port }
+    ensures calls { OnOk result (AddsAll (loads_of (shown line.now)) (O.calls outside.old) (O.calls outside.new)) }
+    ensures calls_cut { IfErr result (InputAdds (shown line.now) (loads_of (shown line.now)) (O.calls outside.old) (O.calls outside.new)) }
 {
     let contents = load_contents(alloc, outside, line)?;
     let log = load_order(alloc, outside, line, order)?;

@@ -1,9 +1,11 @@
 //! How a run ends where all its rounds were made.
 
-ghost use Rattle.std.specs.Prelude.{◌≡◌, ◌≢◌, ◌++◌, OnOk, OnErr, IfErr};
+ghost use Rattle.std.specs.Prelude.{◌≡◌, ◌≢◌, ◌++◌, [], ◌∷◌, OnOk, OnErr, IfErr};
 ghost use Rattle.outside_kit.specs.declared.port.Port.{Port};
 ghost use Rattle.outside_kit.specs.Outside.{HoldsAfter, HoldsPrefix};
 ghost use Rattle.run_log.specs.Lines.{ended, outcome_text};
+ghost use Rattle.outside_kit.specs.Calls as call;
+ghost use Rattle.mptcp_run.specs.Plan.{AddsAll, AddsCut};
 ghost use Rattle.mptcp_run.specs.Ports.{NeverFall, IsPortsFault};
 ghost use Rattle.mptcp_run.specs.Putting.{status_of, told_outcome};
 
@@ -49,6 +51,8 @@ pub fn put_outcome<O: Outside>(
     ensures counted { NeverFall (O.port_faults outside.old) (O.port_faults outside.new) }
     ensures other_ports { (other : Port) → other ≢ Port.Log → O.holds outside.new other ≡ O.holds outside.old other }
     ensures load_counts { O.load_faults outside.new ≡ O.load_faults outside.old }
+    ensures calls { OnOk result (AddsAll (call.Put Port.Log (ended (outcome_text (told_outcome outcome))) ∷ []) (O.calls outside.old) (O.calls outside.new)) }
+    ensures calls_cut { IfErr result (λ status. AddsCut (call.Put Port.Log (ended (outcome_text (told_outcome outcome))) ∷ []) status (O.calls outside.old) (O.calls outside.new)) }
 {
     match run_log::outcome_line(alloc, told_outcome(outcome)) {
         Ok(line) => put(outside, Port::Log, line.as_bytes()),

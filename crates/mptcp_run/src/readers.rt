@@ -3,6 +3,8 @@
 ghost use Rattle.std.specs.Prelude.{◌≡◌, [], OnOk, OnErr, IfErr};
 ghost use Rattle.outside_kit.specs.declared.port.Port.{Port};
 ghost use Rattle.outside_kit.specs.Outside.{HoldsAfter};
+ghost use Rattle.run_words.specs.Lines.{shown};
+ghost use Rattle.mptcp_run.specs.Plan.{AddsAll, AddsCut, binds_of};
 ghost use Rattle.mptcp_run.specs.Ports.{NeverFall, IsPortsFault, HoldsWithin};
 
 use crate::device::bind;
@@ -20,6 +22,8 @@ pub fn bind_readers<O: Outside>(outside: &mut O, line: &CommandLine<'_>) -> Resu
     ensures fault { IfErr result (IsPortsFault (O.port_faults outside.old) (O.port_faults outside.new)) }
     ensures counted { NeverFall (O.port_faults outside.old) (O.port_faults outside.new) }
     ensures load_counts { O.load_faults outside.new ≡ O.load_faults outside.old }
+    ensures calls { OnOk result (AddsAll (binds_of (shown line.now)) (O.calls outside.old) (O.calls outside.new)) }
+    ensures calls_cut { IfErr result (λ status. AddsCut (binds_of (shown line.now)) status (O.calls outside.old) (O.calls outside.new)) }
 {
     bind(outside, Port::ReadByB, line.read_by_b)?;
     bind(outside, Port::ReadByA, line.read_by_a)

@@ -5,6 +5,9 @@ ghost use Rattle.outside_kit.specs.declared.port.Port.{Port};
 ghost use Rattle.path_core.specs.Octets.{octets};
 ghost use Rattle.world_core.specs.Kept.{standing};
 ghost use Rattle.world_laws.specs.Worlds.{is_going, world_step, IsLawfulTurn, after_turn};
+ghost use Rattle.mptcp_run.specs.Adding.{turn_puts, TurnEnds, TurnsEnd};
+ghost use Rattle.mptcp_run.specs.Plan.{AddsAll, puts_by_round};
+ghost use Rattle.mptcp_run.specs.Putting.{round_ends};
 ghost use Rattle.mptcp_run.specs.Ports.{NeverFall};
 ghost use Rattle.mptcp_run.specs.Rounds.{AtRound, TurnsPut, TurnsFault, all_turns};
 ghost use Rattle.mptcp_run.specs.Replaying.{UnderWay, StepFault, TurnHolds, TurnFault, last_after, rounds_after, round_turn, IsReplayFault};
@@ -49,6 +52,8 @@ fn end_round<O: Outside>(
     ensures cause { IfErr result (IsReplayFault (O.port_faults outside.old) (O.port_faults outside.new)) }
     ensures counted { NeverFall (O.port_faults outside.old) (O.port_faults outside.new) }
     ensures load_counts { O.load_faults outside.new ≡ O.load_faults outside.old }
+    ensures calls { (last : Connection) → UnderWay last run.old → OnOk result (AddsAll (turn_puts run.old.opening run.old.rounds round_turn last run.old.world.state) (O.calls outside.old) (O.calls outside.new)) }
+    ensures calls_cut { (last : Connection) → UnderWay last run.old → IfErr result (TurnEnds run.old.opening run.old.rounds round_turn last run.old.world.state (O.calls outside.old) (O.calls outside.new)) }
 {
     if !run.world.end_round() {
         return Err(Status::Log { line });
@@ -76,6 +81,8 @@ fn make_turn<O: Outside>(
     ensures cause { IfErr result (IsReplayFault (O.port_faults outside.old) (O.port_faults outside.new)) }
     ensures counted { NeverFall (O.port_faults outside.old) (O.port_faults outside.new) }
     ensures load_counts { O.load_faults outside.new ≡ O.load_faults outside.old }
+    ensures calls { (last : Connection) → UnderWay last run.old → OnOk result (AddsAll (turn_puts run.old.opening run.old.rounds (turn_of turn) last run.old.world.state) (O.calls outside.old) (O.calls outside.new)) }
+    ensures calls_cut { (last : Connection) → UnderWay last run.old → IfErr result (TurnEnds run.old.opening run.old.rounds (turn_of turn) last run.old.world.state (O.calls outside.old) (O.calls outside.new)) }
 {
     match turn {
         Turn::Step(actor) => make_step(&mut run.world, actor, line),
@@ -99,6 +106,8 @@ pub fn make_turns<O: Outside>(
     ensures cause { IfErr result (IsReplayFault (O.port_faults outside.old) (O.port_faults outside.new)) }
     ensures counted { NeverFall (O.port_faults outside.old) (O.port_faults outside.new) }
     ensures load_counts { O.load_faults outside.new ≡ O.load_faults outside.old }
+    ensures calls { OnOk result (AddsAll (puts_by_round run.old.opening 0 run.old.world.state (round_ends (all_turns order.now) run.old.world.state)) (O.calls outside.old) (O.calls outside.new)) }
+    ensures calls_cut { IfErr result (TurnsEnd run.old.opening 0 (all_turns order.now) run.old.world.state run.old.world.state (O.calls outside.old) (O.calls outside.new)) }
 {
     let mut line = lines;
     for turn in order {

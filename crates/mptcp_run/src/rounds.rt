@@ -12,6 +12,7 @@ ghost use Rattle.world_laws.specs.Fine.{lists_of};
 ghost use Rattle.world_laws.specs.Openings.{opened_world, start_of};
 ghost use Rattle.world_laws.specs.Outcomes.{notes_at, read_by};
 ghost use Rattle.path_core.specs.Starts.{key_of};
+ghost use Rattle.mptcp_run.specs.Plan.{AddsAll, AddsCut, put_of, puts_of, round_puts};
 ghost use Rattle.mptcp_run.specs.Ports.{NeverFall, IsPortsFault};
 ghost use Rattle.mptcp_run.specs.Putting.{log_opening, opening_at, round_text};
 ghost use Rattle.mptcp_run.specs.Weaving.{since, made_at, IsSince};
@@ -194,6 +195,10 @@ impl Run {
         ensures fault { IfErr result (IsPortsFault (O.port_faults outside.old) (O.port_faults outside.new)) }
         ensures counted { NeverFall (O.port_faults outside.old) (O.port_faults outside.new) }
         ensures load_counts { O.load_faults outside.new ≡ O.load_faults outside.old }
+        ensures calls { (last : Connection) → IsSince last self.old.made.items self.old.world.state →
+            OnOk result (AddsAll (round_puts self.old.opening self.old.rounds last self.old.world.state) (O.calls outside.old) (O.calls outside.new)) }
+        ensures calls_cut { (last : Connection) → IsSince last self.old.made.items self.old.world.state →
+            IfErr result (λ status. AddsCut (round_puts self.old.opening self.old.rounds last self.old.world.state) status (O.calls outside.old) (O.calls outside.new)) }
     {
         let (Ok(piece), Ok(made)) = (self.piece(alloc), made_by(alloc, &self.world)) else {
             return Err(Status::Memory);
@@ -213,6 +218,8 @@ fn put_read<O: Outside>(outside: &mut O, port: Port, read: &Text) -> Result<(), 
     ensures counted { NeverFall (O.port_faults outside.old) (O.port_faults outside.new) }
     ensures other_ports { (other : Port) → other ≢ port → O.holds outside.new other ≡ O.holds outside.old other }
     ensures load_counts { O.load_faults outside.new ≡ O.load_faults outside.old }
+    ensures calls { OnOk result (AddsAll (put_of port read.now) (O.calls outside.old) (O.calls outside.new)) }
+    ensures calls_cut { IfErr result (λ status. AddsCut (put_of port read.now) status (O.calls outside.old) (O.calls outside.new)) }
 {
     if read.is_empty() {
         return Ok(());
@@ -232,6 +239,8 @@ impl Piece {
         ensures fault { IfErr result (IsPortsFault (O.port_faults outside.old) (O.port_faults outside.new)) }
         ensures counted { NeverFall (O.port_faults outside.old) (O.port_faults outside.new) }
         ensures load_counts { O.load_faults outside.new ≡ O.load_faults outside.old }
+        ensures calls { OnOk result (AddsAll (puts_of self.now.read_by_b self.now.read_by_a self.now.lines) (O.calls outside.old) (O.calls outside.new)) }
+        ensures calls_cut { IfErr result (λ status. AddsCut (puts_of self.now.read_by_b self.now.read_by_a self.now.lines) status (O.calls outside.old) (O.calls outside.new)) }
     {
         put_read(outside, Port::ReadByB, &self.read_by_b)?;
         put_read(outside, Port::ReadByA, &self.read_by_a)?;

@@ -5,6 +5,8 @@ ghost use Rattle.path_core.specs.Octets.{octets};
 ghost use Rattle.world_core.specs.Rounds.{RoundTo};
 ghost use Rattle.world_laws.specs.Outcomes.{outcome_of};
 ghost use Rattle.world_laws.specs.Serial.{goes_on};
+ghost use Rattle.mptcp_run.specs.Adding.{RoundsAdd, RoundAddsCut, RoundsAddCut};
+ghost use Rattle.mptcp_run.specs.Plan.{AddsAll, round_puts};
 ghost use Rattle.mptcp_run.specs.Ports.{NeverFall, IsPortsFault};
 ghost use Rattle.mptcp_run.specs.Rounds.{AtRound, HoldsRound, RoundCut, RoundsPut, RoundsCut};
 
@@ -27,6 +29,8 @@ fn make_round<O: Outside>(alloc: Global, outside: &mut O, run: &mut Run) -> Resu
     ensures fault { IfErr result (IsPortsFault (O.port_faults outside.old) (O.port_faults outside.new)) }
     ensures counted { NeverFall (O.port_faults outside.old) (O.port_faults outside.new) }
     ensures load_counts { O.load_faults outside.new ≡ O.load_faults outside.old }
+    ensures calls { OnOk result (AddsAll (round_puts run.old.opening run.old.rounds run.old.world.state run.new.world.state) (O.calls outside.old) (O.calls outside.new)) }
+    ensures calls_cut { IfErr result (RoundAddsCut run.old.opening run.old.rounds run.old.world.state (O.calls outside.old) (O.calls outside.new)) }
 {
     match round(&mut run.world) {
         Ok(()) => run.put_round(alloc, outside),
@@ -55,6 +59,8 @@ pub fn make_rounds<O: Outside>(
     ensures fault { IfErr result (IsPortsFault (O.port_faults outside.old) (O.port_faults outside.new)) }
     ensures counted { NeverFall (O.port_faults outside.old) (O.port_faults outside.new) }
     ensures load_counts { O.load_faults outside.new ≡ O.load_faults outside.old }
+    ensures calls { OnOk result (RoundsAdd run.old.opening most 0 run.old.world.state run.new.world.state (O.calls outside.old) (O.calls outside.new)) }
+    ensures calls_cut { IfErr result (RoundsAddCut run.old.opening most 0 run.old.world.state (O.calls outside.old) (O.calls outside.new)) }
 {
     for _round in 0..most {
         make_round(alloc, outside, run)?;

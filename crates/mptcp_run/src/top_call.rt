@@ -1,6 +1,6 @@
 //! The top call.
 
-ghost use Rattle.std.specs.Prelude.{◌≡◌, ◌≢◌, ◌≤◌, ◌<◌, ◌++◌, ◌⊎◌, ℕ, List, [], length, map, Some, Ok, Err, IsNone, IsSome, IsSomeAnd, IsOk, IfOk, IfErr, IfSome, OnOk, OnErr, string_bytes};
+ghost use Rattle.std.specs.Prelude.{◌≡◌, ◌≢◌, ◌≤◌, ◌<◌, ◌++◌, ◌⊎◌, ℕ, List, [], ◌∷◌, length, map, Some, Ok, Err, IsNone, IsSome, IsSomeAnd, IsOk, IfOk, IfErr, IfSome, OnOk, OnErr, string_bytes};
 ghost use Rattle.outside_kit.specs.declared.port.Port.{Port};
 ghost use Rattle.outside_kit.specs.Outside.{HasRisen, HoldsAfter, HoldsPrefix};
 ghost use Rattle.link_script.specs.declared.fault.ScriptKind.{ScriptKind};
@@ -15,6 +15,9 @@ ghost use Rattle.mptcp_run.specs.Asked.{asked_in, if_run};
 ghost use Rattle.mptcp_run.specs.Causes.{limit_of};
 ghost use Rattle.mptcp_run.specs.Inputs.{name_of, order_of, content_of, AreWithinLimitsBefore};
 ghost use Rattle.mptcp_run.specs.Logged.{LogTellsTheRun};
+ghost use Rattle.outside_kit.specs.Calls as call;
+ghost use Rattle.mptcp_run.specs.Adding.{AddsWork, AddsWorkCut, ReplayAdds};
+ghost use Rattle.mptcp_run.specs.Plan.{AddsAll, AddsCut, binds_of, ArePuts, AreCallsAt, AreCallsOf};
 ghost use Rattle.mptcp_run.specs.Ports.{NeverFall, IsUntouched, IsPortsFault, HoldsWithin};
 ghost use Rattle.mptcp_run.specs.Promised.{IsAlwaysKept, ReadersHaveFronts, ReadersHaveFrontsIfBound, ReadersHaveFiles};
 ghost use Rattle.mptcp_run.specs.Putting.{last_line, status_of, IsWhole, IsCut, ReplayEnds};
@@ -54,6 +57,8 @@ fn begin<O: Outside>(
     ensures fault { IfErr result (IsPortsFault (O.port_faults outside.old) (O.port_faults outside.new)) }
     ensures counted { NeverFall (O.port_faults outside.old) (O.port_faults outside.new) }
     ensures load_counts { O.load_faults outside.new ≡ O.load_faults outside.old }
+    ensures calls { OnOk result (AddsAll (binds_of (shown line.now)) (O.calls outside.old) (O.calls outside.new)) }
+    ensures calls_cut { IfErr result (λ status. AddsCut (binds_of (shown line.now)) status (O.calls outside.old) (O.calls outside.new)) }
 {
     match Run::open(alloc, input) {
         Ok(run) => match bind_readers(outside, line) {
@@ -73,6 +78,8 @@ fn end<O: Outside>(alloc: Global, outside: &mut O, run: &Run) -> Result<Status, 
     ensures counted { NeverFall (O.port_faults outside.old) (O.port_faults outside.new) }
     ensures other_ports { (other : Port) → other ≢ Port.Log → O.holds outside.new other ≡ O.holds outside.old other }
     ensures load_counts { O.load_faults outside.new ≡ O.load_faults outside.old }
+    ensures calls { OnOk result (AddsAll (call.Put Port.Log (last_line run.now.world.state) ∷ []) (O.calls outside.old) (O.calls outside.new)) }
+    ensures calls_cut { IfErr result (λ status. AddsCut (call.Put Port.Log (last_line run.now.world.state) ∷ []) status (O.calls outside.old) (O.calls outside.new)) }
 {
     let outcome = run.world.outcome();
     put_outcome(alloc, outside, outcome)?;
@@ -94,6 +101,8 @@ fn perform_serial<O: Outside>(
     ensures fault { IfErr result (IsPortsFault (O.port_faults outside.old) (O.port_faults outside.new)) }
     ensures counted { NeverFall (O.port_faults outside.old) (O.port_faults outside.new) }
     ensures load_counts { O.load_faults outside.new ≡ O.load_faults outside.old }
+    ensures calls { OnOk result (AddsWork ArePuts (shown line.now) (task_from input.now (course.rounds rounds)) (O.calls outside.old) (O.calls outside.new)) }
+    ensures calls_cut { IfErr result (AddsWorkCut (shown line.now) (task_from input.now (course.rounds rounds)) (O.calls outside.old) (O.calls outside.new)) }
 {
     let mut run = begin(alloc, outside, line, input)?;
     make_rounds(alloc, outside, &mut run, rounds)?;
@@ -115,6 +124,8 @@ fn perform_replay<O: Outside>(
     ensures fault { IfErr result (IsReplayFault (O.port_faults outside.old) (O.port_faults outside.new)) }
     ensures counted { NeverFall (O.port_faults outside.old) (O.port_faults outside.new) }
     ensures load_counts { O.load_faults outside.new ≡ O.load_faults outside.old }
+    ensures calls { OnOk result (AddsWork ArePuts (shown line.now) (task_from replay.now.input (course.told (all_turns replay.now.turns.items))) (O.calls outside.old) (O.calls outside.new)) }
+    ensures calls_cut { IfErr result (ReplayAdds (shown line.now) (task_from replay.now.input (course.told (all_turns replay.now.turns.items))) (O.calls outside.old) (O.calls outside.new)) }
 {
     let mut run = begin(alloc, outside, line, &replay.input)?;
     make_turns(alloc, outside, &mut run, &replay.turns, replay.lines)?;
@@ -129,8 +140,9 @@ fn run_serial<O: Outside>(
     rounds: u32,
 ) -> Status
     requires { (shown line.now).work ≡ serial rounds }
-    ensures { IsAnswer (O.content outside.old) (shown line.now) (O.load_faults outside.old) (O.load_faults outside.new)
+    ensures answer { IsAnswer (O.content outside.old) (shown line.now) (O.load_faults outside.old) (O.load_faults outside.new)
         (O.port_faults outside.old) (O.port_faults outside.new) (O.holds outside.old) (O.holds outside.new) result }
+    ensures calls { AreCallsAt (O.content outside.old) (shown line.now) (O.calls outside.old) (O.calls outside.new) result }
 {
     let input = match load_input(alloc, outside, line) {
         Ok(input) => input,
@@ -150,8 +162,9 @@ fn run_replay<O: Outside>(
     order: &str,
 ) -> Status
     requires { (shown line.now).work ≡ replay order.now }
-    ensures { IsAnswer (O.content outside.old) (shown line.now) (O.load_faults outside.old) (O.load_faults outside.new)
+    ensures answer { IsAnswer (O.content outside.old) (shown line.now) (O.load_faults outside.old) (O.load_faults outside.new)
         (O.port_faults outside.old) (O.port_faults outside.new) (O.holds outside.old) (O.holds outside.new) result }
+    ensures calls { AreCallsAt (O.content outside.old) (shown line.now) (O.calls outside.old) (O.calls outside.new) result }
 {
     let replay = match load_replay(alloc, outside, line, order) {
         Ok(replay) => replay,
@@ -170,6 +183,7 @@ fn run_line<O: Outside>(alloc: Global, outside: &mut O, line: &CommandLine<'_>) 
     ensures other { IsNone (if_run (shown line.now)) → result ≡ Status.Usage }
     ensures untouched { IsNone (if_run (shown line.now)) → IsUntouched (O.holds outside.old) (O.holds outside.new) (O.port_faults outside.old) (O.port_faults outside.new) }
     ensures unloaded { IsNone (if_run (shown line.now)) → O.load_faults outside.new ≡ O.load_faults outside.old }
+    ensures calls { AreCallsOf (O.content outside.old) (if_run (shown line.now)) result (O.calls outside.old) (O.calls outside.new) }
 {
     match line.mode {
         Mode::Serial { rounds } => run_serial(alloc, outside, line, rounds),
@@ -187,6 +201,7 @@ fn run_words<O: Outside>(alloc: Global, outside: &mut O, words: &[String]) -> St
     ensures other { IsNone (asked_in (map string_bytes words.now)) → (result ≡ Status.Usage) ⊎ (result ≡ Status.Memory) }
     ensures untouched { IsNone (asked_in (map string_bytes words.now)) → IsUntouched (O.holds outside.old) (O.holds outside.new) (O.port_faults outside.old) (O.port_faults outside.new) }
     ensures unloaded { IsNone (asked_in (map string_bytes words.now)) → O.load_faults outside.new ≡ O.load_faults outside.old }
+    ensures calls { AreCallsOf (O.content outside.old) (asked_in (map string_bytes words.now)) result (O.calls outside.old) (O.calls outside.new) }
 {
     match read(alloc, words) {
         Ok(line) => run_line(alloc, outside, &line),
@@ -263,6 +278,9 @@ pub fn run<O: Outside, G: Gate + Sync>(
     // connection to the same end, with the same status, and leave the same ports.
     ensures logged { HasEnded result → IfSome (task_in (O.content outside.old) (map string_bytes words.now)) (λ task.
         LogTellsTheRun task result (O.holds outside.old) (O.holds outside.new)) }
+
+    // The order of work: where the outside tells its calls, they are those of a plan, in its order, and none follows one that failed.
+    ensures calls { AreCallsOf (O.content outside.old) (asked_in (map string_bytes words.now)) result (O.calls outside.old) (O.calls outside.new) }
 {
     run_words(alloc, outside, words)
 }

@@ -1,4 +1,4 @@
-//! An outside that notes which calls are made on it: no clause tells their order, nor under which name a port is kept.
+//! An outside that notes which calls are made on it, as lines for a reader: what the clause on the order of work promises.
 
 use outside_kit::{LoadFault, MemoryOutside, Outside, Port, PutFault};
 use std::alloc::{AllocError, Global};

@@ -1,10 +1,13 @@
-use Rattle.std.proofs.Common.{◌≡◌, ◌∙◌, refl, sym, ap, subst, List, map, length, ◌∷◌, []}
+use Rattle.std.proofs.Common.{◌∙◌, sym, ap, subst, map, length, ◌∷◌, []}
 use Rattle.std.proofs.lemmas.Result.{on_ok_weaker, on_err_weaker}
 use Rattle.world_core.specs.Kept.{Kept}
 use Rattle.world_laws.specs.Fine.{lists_of}
+use Rattle.mptcp_run.specs.Plan.{AddsAll, AddsCut, round_puts}
 use Rattle.mptcp_run.specs.Rounds.{HoldsRound, HoldsPart}
 use Rattle.mptcp_run.specs.Weaving.{IsSince}
 use Rattle.mptcp_run.proofs.Turning.{end_since, end_length, under_end, put_fault, ended_parts}
+use Rattle.mptcp_run.proofs.PortsLemmas.{IfErr-map}
+use Rattle.mptcp_run.proofs.PutsMade.{round_cut}
 use Rattle.mptcp_run.proofs.replay.end_round.Goals as goal
 
 pub put_round-requires-clause-made : goal.put_round-requires-clause-made
@@ -37,3 +40,21 @@ returns-clause-fault g c last under =
     (on_err_weaker c.put_round.result
     (λ part. subst (λ (k : Kept). HoldsPart c.args.run.now.opening c.args.run.now.rounds last [] (k.state ∷ []) (g.O.Outside.holds c.args.outside.now) (g.O.Outside.holds c.put_round.new.outside)) is part)
     (c.put_round.ensures.err last (subst (λ (k : Kept). IsSince last c.args.run.now.made.items k.state) (sym is) (end_since last c.args.run.now under))))
+
+pub returns-clause-calls : goal.returns-clause-calls
+returns-clause-calls g c last under =
+    let ended = ended_parts _ _ _ c.end_round.ensures.over c.if-not-end_round.false in
+    let is = c.end_round.ensures.next ended.0 in
+    on_ok_weaker c.put_round.result
+    (λ all. subst (λ (k : Kept). AddsAll (round_puts c.args.run.now.opening c.args.run.now.rounds last k.state) (g.O.Outside.calls c.args.outside.now) (g.O.Outside.calls c.put_round.new.outside)) is all)
+    (c.put_round.ensures.calls last (subst (λ (k : Kept). IsSince last c.args.run.now.made.items k.state) (sym is) (end_since last c.args.run.now under)))
+
+pub returns-clause-calls_cut : goal.returns-clause-calls_cut
+returns-clause-calls_cut g c last under =
+    let ended = ended_parts _ _ _ c.end_round.ensures.over c.if-not-end_round.false in
+    let is = c.end_round.ensures.next ended.0 in
+    round_cut c.args.run.now.opening c.args.run.now.rounds last c.args.run.now.world.state (g.O.Outside.calls c.args.outside.now) (g.O.Outside.calls c.put_round.new.outside) _ _
+    c.put_round.result ended.1 c.put_round.ensures.fault
+    (IfErr-map c.put_round.result
+    (λ status cut. subst (λ (k : Kept). AddsCut (round_puts c.args.run.now.opening c.args.run.now.rounds last k.state) status (g.O.Outside.calls c.args.outside.now) (g.O.Outside.calls c.put_round.new.outside)) is cut)
+    (c.put_round.ensures.calls_cut last (subst (λ (k : Kept). IsSince last c.args.run.now.made.items k.state) (sym is) (end_since last c.args.run.now under))))

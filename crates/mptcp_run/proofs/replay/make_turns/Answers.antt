@@ -1,11 +1,15 @@
-use Rattle.std.proofs.Common.{◌≡◌, ◌∙◌, refl, sym, subst, ap, arith, map, drop, ◌+◌}
+use Rattle.std.proofs.Common.{◌∙◌, refl, sym, subst, ap, arith, map, drop, ◌+◌}
 use Rattle.std.proofs.lemmas.List.{drop_more, at_drop_all}
 use Rattle.std.proofs.lemmas.Result.{err_from_is_err_and}
+use Rattle.mptcp_run.specs.Adding.{TurnsEnd}
+use Rattle.mptcp_run.specs.Plan.{AddsAll, puts_by_round}
+use Rattle.mptcp_run.specs.Putting.{round_ends}
 use Rattle.mptcp_run.specs.Task.{turn_of}
 use Rattle.mptcp_run.specs.Rounds.{TurnsPut, TurnsFault, all_turns}
-use Rattle.mptcp_run.specs.Replaying.{last_after}
 use Rattle.mptcp_run.proofs.Turning.{under_length, under_begins}
 use Rattle.mptcp_run.proofs.TurnsMade.{put_turn, turns_over, fault_later, fault_now, rounds_few}
+use Rattle.mptcp_run.proofs.Calls.{adds_none}
+use Rattle.mptcp_run.proofs.PutsMade.{add_turn, end_later, end_now}
 use Rattle.mptcp_run.proofs.replay.make_turns.Goals as goal
 
 pub loop-turn-init : goal.loop-turn-init
@@ -15,6 +19,8 @@ loop-turn-init g c = (
     under = under_begins c.args.run.now c.requires.begins;
     put = λ v new h. subst (λ n. TurnsPut c.args.run.now.opening n (all_turns c.args.order.now) c.args.run.now.world.state c.args.run.now.world.state v (g.O.Outside.holds c.args.outside.now) new) c.requires.none h;
     fault = λ status new h. subst (λ n. TurnsFault c.args.run.now.opening n (all_turns c.args.order.now) c.args.run.now.world.state c.args.run.now.world.state c.args.lines (g.O.Outside.holds c.args.outside.now) new status) c.requires.none h;
+    added = λ new h. subst (λ n. AddsAll (puts_by_round c.args.run.now.opening n c.args.run.now.world.state (round_ends (all_turns c.args.order.now) c.args.run.now.world.state)) (g.O.Outside.calls c.args.outside.now) new) c.requires.none h;
+    ended = λ status new h. subst (λ n. TurnsEnd c.args.run.now.opening n (all_turns c.args.order.now) c.args.run.now.world.state c.args.run.now.world.state (g.O.Outside.calls c.args.outside.now) new status) c.requires.none h;
     rounds = let none = c.requires.none in omega (arith, none);
     line = omega arith;
     few = omega arith;
@@ -46,6 +52,10 @@ loop-turn-preserved g c =
             last c.loop-turn.run.world.state c.make_turn.new.run.world v _ _ new made.opening made.rounds order_is made.ok made.lawful (made.ports last inv.under) rest);
         fault = λ status new rest. inv.fault status new (fault_later c.loop-turn.run.opening c.make_turn.new.run.opening c.loop-turn.run.rounds c.make_turn.new.run.rounds c.loop-turn.line (c.loop-turn.line + 1) _ _
             (all_turns (drop c.loop-turn.turn-index c.args.order.now)) last c.loop-turn.run.world.state c.make_turn.new.run.world _ _ new status made.opening made.rounds refl order_is made.ok made.lawful (made.ports last inv.under) rest);
+        added = λ new rest. inv.added new (add_turn c.loop-turn.run.opening c.make_turn.new.run.opening c.loop-turn.run.rounds c.make_turn.new.run.rounds _ _ (all_turns (drop c.loop-turn.turn-index c.args.order.now))
+            last c.loop-turn.run.world.state c.make_turn.new.run.world _ _ new made.opening made.rounds order_is made.ok (made.calls last inv.under) rest);
+        ended = λ status new rest. inv.ended status new (end_later c.loop-turn.run.opening c.make_turn.new.run.opening c.loop-turn.run.rounds c.make_turn.new.run.rounds _ _
+            (all_turns (drop c.loop-turn.turn-index c.args.order.now)) last c.loop-turn.run.world.state c.make_turn.new.run.world _ _ new status made.opening made.rounds order_is made.ok made.lawful (made.calls last inv.under) rest);
         rounds = rounds_few _ c.loop-turn.run.rounds c.loop-turn.turn-index c.make_turn.new.run.rounds inv.rounds made.rounds;
         line = let line = inv.line in omega (arith, line);
         few = omega (arith, within);
@@ -61,3 +71,18 @@ returns-clause-ok g c =
     (g.O.Outside.holds c.loop-turn.outside) (g.O.Outside.holds c.loop-turn.outside))
     (sym (at_drop_all (λ ts. ts) c.args.order.now c.loop-turn.turn-index (let over = c.loop-turn-test.false in omega (arith, over))))
     (turns_over c.loop-turn.run.opening c.loop-turn.run.rounds c.loop-turn.invariant.0 c.loop-turn.run.world.state (g.O.Outside.holds c.loop-turn.outside)))
+
+pub returns-in_err-make_turn-clause-calls_cut : goal.returns-in_err-make_turn-clause-calls_cut
+returns-in_err-make_turn-clause-calls_cut g c =
+    let inv = c.loop-turn.invariant.1 in
+    let p = err_from_is_err_and c.from_residual.result c.from_residual.ensures.1 in
+    rw (p.1, p.2) (inv.ended c.in_err-make_turn.field-0.0 _
+    (end_now c.loop-turn.run.opening c.loop-turn.run.rounds _ _ (all_turns (drop c.loop-turn.turn-index c.args.order.now)) c.loop-turn.invariant.0 c.loop-turn.run.world.state _ _ c.in_err-make_turn.field-0.0
+    (ap (map turn_of) (drop_more c.args.order.now c.loop-turn.turn-index _ c.loop-turn-test.true)) (c.in_err-make_turn.ensures.calls_cut c.loop-turn.invariant.0 inv.under)))
+
+pub returns-clause-calls : goal.returns-clause-calls
+returns-clause-calls g c =
+    c.loop-turn.invariant.1.added _
+    (subst (λ ts. AddsAll (puts_by_round c.loop-turn.run.opening c.loop-turn.run.rounds c.loop-turn.invariant.0 (round_ends (all_turns ts) c.loop-turn.run.world.state)) (g.O.Outside.calls c.loop-turn.outside)
+    (g.O.Outside.calls c.loop-turn.outside))
+    (sym (at_drop_all (λ ts. ts) c.args.order.now c.loop-turn.turn-index (let over = c.loop-turn-test.false in omega (arith, over)))) (adds_none (g.O.Outside.calls c.loop-turn.outside)))

@@ -1,4 +1,7 @@
 use Rattle.std.proofs.Common.{◌≡◌, ◌≤◌, ◌+◌, drop, length}
+use Rattle.mptcp_run.specs.Adding.{TurnsEnd}
+use Rattle.mptcp_run.specs.Plan.{AddsAll, puts_by_round}
+use Rattle.mptcp_run.specs.Putting.{round_ends}
 use Rattle.mptcp_run.specs.Ports.{NeverFall}
 use Rattle.mptcp_run.specs.Replaying.{UnderWay}
 use Rattle.mptcp_run.specs.Rounds.{TurnsPut, TurnsFault, all_turns}
@@ -14,6 +17,10 @@ invariant-loop-turn g l =
           → TurnsPut l.initial.run.opening 0 (all_turns l.order) l.initial.run.world.state l.initial.run.world.state v (g.O.Outside.holds l.initial.outside) new;
       fault : (status : _) (new : _) → TurnsFault l.run.opening l.run.rounds (all_turns (drop l.turn-index l.order)) last l.run.world.state l.line (g.O.Outside.holds l.outside) new status
           → TurnsFault l.initial.run.opening 0 (all_turns l.order) l.initial.run.world.state l.initial.run.world.state l.lines (g.O.Outside.holds l.initial.outside) new status;
+      added : (new : _) → AddsAll (puts_by_round l.run.opening l.run.rounds last (round_ends (all_turns (drop l.turn-index l.order)) l.run.world.state)) (g.O.Outside.calls l.outside) new
+          → AddsAll (puts_by_round l.initial.run.opening 0 l.initial.run.world.state (round_ends (all_turns l.order) l.initial.run.world.state)) (g.O.Outside.calls l.initial.outside) new;
+      ended : (status : _) (new : _) → TurnsEnd l.run.opening l.run.rounds (all_turns (drop l.turn-index l.order)) last l.run.world.state (g.O.Outside.calls l.outside) new status
+          → TurnsEnd l.initial.run.opening 0 (all_turns l.order) l.initial.run.world.state l.initial.run.world.state (g.O.Outside.calls l.initial.outside) new status;
       rounds : l.run.rounds ≤ l.turn-index;
       line : l.line ≡ l.lines + l.turn-index;
       few : l.turn-index ≤ length l.order;

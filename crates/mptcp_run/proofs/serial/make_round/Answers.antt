@@ -1,9 +1,12 @@
-use Rattle.std.proofs.Common.{◌≡◌, ◌∙◌, refl, sym, ap, subst, List, map, length, inl, inr}
+use Rattle.std.proofs.Common.{◌∙◌, refl, sym, ap, subst, map, length, inl, inr}
 use Rattle.std.proofs.lemmas.Result.{on_ok_weaker, on_err_weaker}
 use Rattle.world_laws.specs.Fine.{lists_of}
 use Rattle.world_core.specs.Kept.{Kept}
+use Rattle.mptcp_run.specs.Plan.{AddsAll, round_puts}
 use Rattle.mptcp_run.specs.Rounds.{Begins, HoldsRound}
 use Rattle.mptcp_run.proofs.AllTurns.{round_begins, round_since, since_length}
+use Rattle.mptcp_run.proofs.Calls.{adds_none}
+use Rattle.mptcp_run.proofs.PortsLemmas.{IfErr-map}
 use Rattle.mptcp_run.proofs.serial.make_round.Goals as goal
 
 pub put_round-requires-clause-made : goal.put_round-requires-clause-made
@@ -35,3 +38,20 @@ returns-in-Ok-clause-begins g c =
       made_is = made ∙ ap (λ (k : Kept). map length (lists_of k.state.crew)) (sym c.put_round.ensures.world);
     })
     c.put_round.ensures.made
+
+pub returns-in-Ok-clause-calls : goal.returns-in-Ok-clause-calls
+returns-in-Ok-clause-calls g c =
+    on_ok_weaker c.put_round.result
+    (λ all. subst (λ (k : Kept). AddsAll (round_puts c.args.run.now.opening c.args.run.now.rounds c.args.run.now.world.state k.state) (g.O.Outside.calls c.args.outside.now) (g.O.Outside.calls c.put_round.new.outside))
+    (sym c.put_round.ensures.world) all)
+    (c.put_round.ensures.calls c.args.run.now.world.state
+    (round_since c.args.run.now.made.items c.args.run.now.world.state c.round.new.world.state c.requires.begins.made_is c.requires.begins.begins c.in-Ok.ensures.ok))
+
+pub returns-in-Ok-clause-calls_cut : goal.returns-in-Ok-clause-calls_cut
+returns-in-Ok-clause-calls_cut g c =
+    IfErr-map c.put_round.result (λ status cut. inr (c.round.new.world.state, (c.in-Ok.ensures.ok, cut)))
+    (c.put_round.ensures.calls_cut c.args.run.now.world.state
+    (round_since c.args.run.now.made.items c.args.run.now.world.state c.round.new.world.state c.requires.begins.made_is c.requires.begins.begins c.in-Ok.ensures.ok))
+
+pub returns-in-Err-clause-calls_cut : goal.returns-in-Err-clause-calls_cut
+returns-in-Err-clause-calls_cut g c = inl (refl, adds_none _)

@@ -1,7 +1,8 @@
-use Rattle.std.proofs.Common.{◌≡◌, ◌∙◌, refl, sym, ap, subst, ◌+◌, ◌-◌, arith}
-use Rattle.mptcp_run.specs.Rounds.{RoundsPut}
-use Rattle.mptcp_run.proofs.PortsLemmas.{OnErr-holds, OnOk-holds}
+use Rattle.std.proofs.Common.{◌∙◌, sym, ap, ◌+◌, ◌-◌, arith}
+use Rattle.std.proofs.lemmas.Result.{err_from_is_err_and}
+use Rattle.mptcp_run.proofs.PortsLemmas.{OnErr-holds}
 use Rattle.mptcp_run.proofs.RoundsMade.{put_more, put_last, cut_later, cut_now, rounds_over}
+use Rattle.mptcp_run.proofs.PutsMade.{add_more, add_last, add_cut_later, add_cut_now, adds_over}
 use Rattle.mptcp_run.proofs.serial.make_rounds.Goals as goal
 
 pub loop-round-preserved : goal.loop-round-preserved
@@ -19,6 +20,12 @@ loop-round-preserved g c =
       cut = λ new rest. inv.cut new
           (cut_later c.loop-round.run.opening c.make_round.new.run.opening (c.args.most - c.loop-round._round) (c.args.most - (c.loop-round._round + 1)) c.loop-round._round (c.loop-round._round + 1)
           c.loop-round.run.rounds c.loop-round.run.world.state c.make_round.new.run.world.state _ _ new made.opening (omega (arith, c.loop-round-test.true)) (omega arith) inv.rounds made.round going made.ok rest);
+      added = λ v new rest. inv.added v new
+          (add_more c.loop-round.run.opening c.make_round.new.run.opening (c.args.most - c.loop-round._round) (c.args.most - (c.loop-round._round + 1)) c.loop-round._round (c.loop-round._round + 1)
+          c.loop-round.run.rounds c.loop-round.run.world.state c.make_round.new.run.world.state v _ _ new made.opening (omega (arith, c.loop-round-test.true)) (omega arith) inv.rounds made.round going made.calls rest);
+      added_cut = λ status new rest. inv.added_cut status new
+          (add_cut_later c.loop-round.run.opening c.make_round.new.run.opening (c.args.most - c.loop-round._round) (c.args.most - (c.loop-round._round + 1)) c.loop-round._round (c.loop-round._round + 1)
+          c.loop-round.run.rounds c.loop-round.run.world.state c.make_round.new.run.world.state _ _ new status made.opening (omega (arith, c.loop-round-test.true)) (omega arith) inv.rounds made.round going made.calls rest);
       counted = λ port. omega (arith, inv.counted port, made.counted port);
       load_counts = made.load_counts ∙ inv.load_counts;
     }
@@ -41,3 +48,22 @@ pub returns-clause-ok : goal.returns-clause-ok
 returns-clause-ok g c =
     let inv = c.loop-round.invariant in
     inv.put _ _ (rounds_over c.loop-round.run.opening (c.args.most - c.loop-round._round) c.loop-round._round c.loop-round.run.world.state _ (omega (arith, c.loop-round-test.false)))
+
+pub returns-in_err-make_round-clause-calls_cut : goal.returns-in_err-make_round-clause-calls_cut
+returns-in_err-make_round-clause-calls_cut g c =
+    let inv = c.loop-round.invariant in let p = err_from_is_err_and c.from_residual.result c.from_residual.ensures.1 in
+    rw (p.1, p.2) (inv.added_cut c.in_err-make_round.field-0.0 _
+    (add_cut_now c.loop-round.run.opening (c.args.most - c.loop-round._round) (c.args.most - (c.loop-round._round + 1)) c.loop-round._round c.loop-round.run.rounds c.loop-round.run.world.state _ _
+    c.in_err-make_round.field-0.0 (omega (arith, c.loop-round-test.true)) inv.rounds c.in_err-make_round.ensures.calls_cut))
+
+pub returns-then-not-goes_on-clause-calls : goal.returns-then-not-goes_on-clause-calls
+returns-then-not-goes_on-clause-calls g c =
+    let inv = c.loop-round.invariant in let made = c.in_ok-make_round.ensures in
+    inv.added _ _
+    (add_last c.loop-round.run.opening (c.args.most - c.loop-round._round) (c.args.most - (c.loop-round._round + 1)) c.loop-round._round c.loop-round.run.rounds c.loop-round.run.world.state
+    c.make_round.new.run.world.state _ _ (omega (arith, c.loop-round-test.true)) inv.rounds made.round (sym c.goes_on.ensures ∙ c.if-not-goes_on.true) made.calls)
+
+pub returns-clause-calls : goal.returns-clause-calls
+returns-clause-calls g c =
+    let inv = c.loop-round.invariant in
+    inv.added _ _ (adds_over c.loop-round.run.opening (c.args.most - c.loop-round._round) c.loop-round._round c.loop-round.run.world.state _ (omega (arith, c.loop-round-test.false)))

@@ -1,13 +1,18 @@
-use Rattle.std.proofs.Common.{◌≡◌, ◌∙◌, ◌≤◌, refl, sym, ap, subst, List, arith}
-use Rattle.std.proofs.lemmas.Result.{err_from_is_err_and}
+use Rattle.std.proofs.Common.{subst, List, arith}
+use Rattle.std.proofs.lemmas.Result.{on_ok_weaker, err_from_is_err_and}
 use Rattle.outside_kit.specs.declared.port.Port.TheVariants.{ReadByA, ReadByB}
+use Rattle.run_words.specs.Lines.{shown}
 use Rattle.world_laws.specs.Outcomes.{outcome_of}
-use Rattle.mptcp_run.proofs.PortsLemmas.{IfOk-with, IfErr-map, IfErr-both, fault_after, b_isnt_log, a_isnt_log}
+use Rattle.mptcp_run.proofs.PortsLemmas.{IfOk-with, IfErr-map, IfErr-both, IfErr-two, fault_after, b_isnt_log, a_isnt_log}
 use Rattle.mptcp_run.proofs.Starting.{opened_at, has_ended, ends_cut, replay_ends, replay_faults, replay_line_cut, replay_unbegun, replay_cause, cause_after}
+use Rattle.mptcp_run.specs.Adding.{TurnsEnd}
+use Rattle.mptcp_run.specs.Plan.{AddsAll, puts_by_round}
+use Rattle.mptcp_run.specs.Putting.{round_ends}
 use Rattle.mptcp_run.specs.Rounds.{TurnsPut, TurnsFault, all_turns}
 use Rattle.run_log.specs.declared.turn.Turn.{Turn}
 use Rattle.mptcp_run.specs.Task.{task_from}
 use Rattle.mptcp_run.specs.Task as course
+use Rattle.mptcp_run.proofs.Planning.{replay_adds, replay_adds_line, replay_ends as replay_ended, replay_binds_cut, replay_is_cut}
 use Rattle.mptcp_run.proofs.top_call.perform_replay.Goals as goal
 
 pub make_turns-requires-clause-begins : goal.make_turns-requires-clause-begins
@@ -75,3 +80,40 @@ returns-clause-err g c =
     (g.O.Outside.holds c.begin.new.outside) (g.O.Outside.holds c.make_turns.new.outside)) c.deref.ensures.value c.in_ok-make_turns.ensures.ok)
     (record { read_by_b = c.end.ensures.other_ports ReadByB b_isnt_log; read_by_a = c.end.ensures.other_ports ReadByA a_isnt_log; log = part })))
     c.end.ensures.fault c.end.ensures.err
+
+pub returns-in_err-run-clause-calls_cut : goal.returns-in_err-run-clause-calls_cut
+returns-in_err-run-clause-calls_cut g c =
+    let p = err_from_is_err_and c.from_residual.result c.from_residual.ensures.1 in
+    rw (p.1, p.2) (replay_is_cut (shown c.args.line.now) (task_from c.args.replay.now.input (course.told (all_turns c.args.replay.now.turns.items))) _ _ _ _ c.in_err-run.field-0.0 c.in_err-run.ensures.fault
+    (replay_binds_cut c.args.replay.now.input (shown c.args.line.now) (all_turns c.args.replay.now.turns.items) _ _ c.in_err-run.field-0.0 c.in_err-run.ensures.calls_cut))
+
+pub returns-in_err-make_turns-clause-calls_cut : goal.returns-in_err-make_turns-clause-calls_cut
+returns-in_err-make_turns-clause-calls_cut g c =
+    let p = err_from_is_err_and c.from_residual-in_err-make_turns.result c.from_residual-in_err-make_turns.ensures.1 in
+    rw (p.1, p.2) (replay_ended c.args.replay.now.input c.in_ok-run.run' c.in_ok-run.ensures.run (shown c.args.line.now) (all_turns c.args.replay.now.turns.items) _ _ _ c.in_ok-run.ensures.calls
+    c.in_err-make_turns.field-0.0
+    (subst (λ (ts : List Turn). TurnsEnd c.in_ok-run.run'.opening 0 (all_turns ts) c.in_ok-run.run'.world.state c.in_ok-run.run'.world.state (g.O.Outside.calls c.begin.new.outside)
+    (g.O.Outside.calls c.make_turns.new.outside) c.in_err-make_turns.field-0.0) c.deref.ensures.value c.in_err-make_turns.ensures.calls_cut))
+
+pub returns-clause-calls : goal.returns-clause-calls
+returns-clause-calls g c =
+    let put = subst (λ (ts : List Turn). TurnsPut c.in_ok-run.run'.opening 0 (all_turns ts) c.in_ok-run.run'.world.state c.in_ok-run.run'.world.state c.make_turns.new.run.world.state
+    (g.O.Outside.holds c.begin.new.outside) (g.O.Outside.holds c.make_turns.new.outside)) c.deref.ensures.value c.in_ok-make_turns.ensures.ok in
+    on_ok_weaker c.end.result
+    (λ grew. replay_adds c.args.replay.now.input c.in_ok-run.run' c.in_ok-run.ensures.run (shown c.args.line.now) (all_turns c.args.replay.now.turns.items) _ _ _ c.in_ok-run.ensures.calls
+    c.make_turns.new.run.world.state _ put.lawful put.world
+    (subst (λ (ts : List Turn). AddsAll (puts_by_round c.in_ok-run.run'.opening 0 c.in_ok-run.run'.world.state (round_ends (all_turns ts) c.in_ok-run.run'.world.state)) (g.O.Outside.calls c.begin.new.outside)
+    (g.O.Outside.calls c.make_turns.new.outside)) c.deref.ensures.value c.in_ok-make_turns.ensures.calls) grew)
+    c.end.ensures.calls
+
+pub returns-clause-calls_cut : goal.returns-clause-calls_cut
+returns-clause-calls_cut g c =
+    let put = subst (λ (ts : List Turn). TurnsPut c.in_ok-run.run'.opening 0 (all_turns ts) c.in_ok-run.run'.world.state c.in_ok-run.run'.world.state c.make_turns.new.run.world.state
+    (g.O.Outside.holds c.begin.new.outside) (g.O.Outside.holds c.make_turns.new.outside)) c.deref.ensures.value c.in_ok-make_turns.ensures.ok in
+    IfErr-two c.end.result
+    (λ status fault cut. replay_is_cut (shown c.args.line.now) (task_from c.args.replay.now.input (course.told (all_turns c.args.replay.now.turns.items))) _ _ _ _ status fault
+    (replay_adds_line c.args.replay.now.input c.in_ok-run.run' c.in_ok-run.ensures.run (shown c.args.line.now) (all_turns c.args.replay.now.turns.items) _ _ _ c.in_ok-run.ensures.calls
+    c.make_turns.new.run.world.state _ put.lawful put.world
+    (subst (λ (ts : List Turn). AddsAll (puts_by_round c.in_ok-run.run'.opening 0 c.in_ok-run.run'.world.state (round_ends (all_turns ts) c.in_ok-run.run'.world.state)) (g.O.Outside.calls c.begin.new.outside)
+    (g.O.Outside.calls c.make_turns.new.outside)) c.deref.ensures.value c.in_ok-make_turns.ensures.calls) status cut))
+    c.end.ensures.fault c.end.ensures.calls_cut

@@ -1,9 +1,11 @@
-use Rattle.std.proofs.Common.{◌≡◌, ◌∙◌, ◌≤◌, refl, sym, ap, subst, arith}
-use Rattle.std.proofs.lemmas.Result.{on_err_weaker, err_from_is_err_and}
+use Rattle.std.proofs.Common.{arith}
+use Rattle.std.proofs.lemmas.Result.{on_ok_weaker, on_err_weaker, err_from_is_err_and}
 use Rattle.outside_kit.specs.declared.port.Port.TheVariants.{ReadByA, ReadByB}
+use Rattle.run_words.specs.Lines.{shown}
 use Rattle.world_laws.specs.Outcomes.{outcome_of}
 use Rattle.mptcp_run.proofs.PortsLemmas.{OnErr-holds, IfOk-with, IfErr-map, fault_after, b_isnt_log, a_isnt_log}
 use Rattle.mptcp_run.proofs.Starting.{opened_at, has_ended, serial_ends, serial_is_cut, serial_line_cut, serial_unbegun}
+use Rattle.mptcp_run.proofs.Planning.{serial_adds, serial_adds_line, serial_adds_cut, serial_binds_cut}
 use Rattle.mptcp_run.proofs.top_call.perform_serial.Goals as goal
 
 pub make_rounds-requires-clause-begins : goal.make_rounds-requires-clause-begins
@@ -65,3 +67,28 @@ returns-clause-cut g c =
       log = part;
     }))
     c.end.ensures.err
+
+pub returns-in_err-run-clause-calls_cut : goal.returns-in_err-run-clause-calls_cut
+returns-in_err-run-clause-calls_cut g c =
+    let p = err_from_is_err_and c.from_residual.result c.from_residual.ensures.1 in
+    rw (p.1, p.2) (serial_binds_cut c.args.input.now (shown c.args.line.now) c.args.rounds _ _ c.in_err-run.field-0.0 c.in_err-run.ensures.calls_cut)
+
+pub returns-in_err-make_rounds-clause-calls_cut : goal.returns-in_err-make_rounds-clause-calls_cut
+returns-in_err-make_rounds-clause-calls_cut g c =
+    let p = err_from_is_err_and c.from_residual-in_err-make_rounds.result c.from_residual-in_err-make_rounds.ensures.1 in
+    rw (p.1, p.2) (serial_adds_cut c.args.input.now c.in_ok-run.run' c.in_ok-run.ensures.run (shown c.args.line.now) c.args.rounds _ _ _ c.in_ok-run.ensures.calls c.in_err-make_rounds.field-0.0
+    c.in_err-make_rounds.ensures.calls_cut)
+
+pub returns-clause-calls : goal.returns-clause-calls
+returns-clause-calls g c =
+    on_ok_weaker c.end.result
+    (λ grew. serial_adds c.args.input.now c.in_ok-run.run' c.in_ok-run.ensures.run (shown c.args.line.now) c.args.rounds _ _ _ c.in_ok-run.ensures.calls c.make_rounds.new.run.world.state _
+    c.in_ok-make_rounds.ensures.calls grew)
+    c.end.ensures.calls
+
+pub returns-clause-calls_cut : goal.returns-clause-calls_cut
+returns-clause-calls_cut g c =
+    IfErr-map c.end.result
+    (λ status cut. serial_adds_line c.args.input.now c.in_ok-run.run' c.in_ok-run.ensures.run (shown c.args.line.now) c.args.rounds _ _ _ c.in_ok-run.ensures.calls c.make_rounds.new.run.world.state _ status
+    c.in_ok-make_rounds.ensures.calls cut)
+    c.end.ensures.calls_cut

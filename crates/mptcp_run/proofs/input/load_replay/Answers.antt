@@ -1,0 +1,37 @@
+use Rattle.std.proofs.Common.{sym, ap, subst, [], ◌∷◌}
+use Rattle.std.proofs.lemmas.Result.{err_from_is_err_and}
+use Rattle.outside_kit.specs.Calls as call
+use Rattle.run_words.specs.Lines.{shown}
+use Rattle.mptcp_run.specs.declared.status.Named.TheVariants as named
+use Rattle.mptcp_run.specs.Inputs.{order_of}
+use Rattle.mptcp_run.specs.Plan.{AddsAll, load_of, first_loads, loads_of}
+use Rattle.mptcp_run.proofs.Calls.{all_then}
+use Rattle.mptcp_run.proofs.Loading.{load_cut, loads_longer, input_adds, script_adds, form_adds, replay_loads}
+use Rattle.mptcp_run.proofs.input.load_replay.Goals as goal
+
+pub returns-in_err-contents-clause-calls_cut : goal.returns-in_err-contents-clause-calls_cut
+returns-in_err-contents-clause-calls_cut g c =
+    let line = shown c.args.line.now in let p = err_from_is_err_and c.from_residual.result c.from_residual.ensures.1 in
+    rw (p.1, p.2) (input_adds line (loads_of line) _ _ c.in_err-contents.field-0.0
+    (loads_longer line (first_loads line) (load_of (order_of line.work)) _ _ c.in_err-contents.field-0.0 c.in_err-contents.ensures.calls_cut))
+
+pub returns-in_err-log-clause-calls_cut : goal.returns-in_err-log-clause-calls_cut
+returns-in_err-log-clause-calls_cut g c =
+    let line = shown c.args.line.now in let p = err_from_is_err_and c.from_residual-in_err-log.result c.from_residual-in_err-log.ensures.1 in
+    rw (p.1, p.2) (input_adds line (loads_of line) _ _ c.in_err-log.field-0.0
+    (load_cut line named.Order c.args.order.now (ap order_of c.requires.named) _ _ _ c.in_ok-contents.ensures.calls c.in_err-log.ensures.calls_cut (loads_of line) [] _ _ _ c.in_err-log.field-0.0
+    (sym (replay_loads line c.args.order.now c.requires.named)) c.in_err-log.ensures.named))
+
+pub returns-in_err-input-clause-calls_cut : goal.returns-in_err-input-clause-calls_cut
+returns-in_err-input-clause-calls_cut g c =
+    let line = shown c.args.line.now in let p = err_from_is_err_and c.from_residual-in_err-input.result c.from_residual-in_err-input.ensures.1 in
+    let loaded = subst (λ plan. AddsAll plan (g.O.Outside.calls c.args.outside.now) (g.O.Outside.calls c.load_order.new.outside)) (replay_loads line c.args.order.now c.requires.named)
+    (all_then (first_loads line) (call.Load c.args.order.now ∷ []) _ _ _ c.in_ok-contents.ensures.calls c.in_ok-log.ensures.calls) in
+    rw (p.1, p.2) (script_adds line (loads_of line) _ _ _ c.in_err-input.field-0.0 loaded c.in_err-input.ensures.fault)
+
+pub returns-in_err-read_order-clause-calls_cut : goal.returns-in_err-read_order-clause-calls_cut
+returns-in_err-read_order-clause-calls_cut g c =
+    let line = shown c.args.line.now in let p = err_from_is_err_and c.from_residual-in_err-read_order.result c.from_residual-in_err-read_order.ensures.1 in
+    let loaded = subst (λ plan. AddsAll plan (g.O.Outside.calls c.args.outside.now) (g.O.Outside.calls c.load_order.new.outside)) (replay_loads line c.args.order.now c.requires.named)
+    (all_then (first_loads line) (call.Load c.args.order.now ∷ []) _ _ _ c.in_ok-contents.ensures.calls c.in_ok-log.ensures.calls) in
+    rw (p.1, p.2) (form_adds line (loads_of line) _ _ _ c.in_err-read_order.field-0.0 loaded c.in_err-read_order.ensures.fault)

@@ -1,0 +1,169 @@
+-- The order of work: which calls a run makes on its outside.
+use Rattle.std.specs.Prelude.{◌≡◌, ℕ, suc, ◌⊎◌, List, [], ◌∷◌, ◌++◌, map, drop, length, true, false, Option, Some, None, IfSome, IsSomeAnd}
+use Rattle.outside_kit.specs.declared.port.Port.{Port}
+use Rattle.outside_kit.specs.declared.port.Port.TheVariants as port
+use Rattle.outside_kit.specs.declared.side.Side.{Side}
+use Rattle.outside_kit.specs.declared.side.Side.TheVariants.{A, B}
+use Rattle.outside_kit.specs.Calls.{Call, Made}
+use Rattle.outside_kit.specs.Calls as call
+use Rattle.run_words.specs.Lines.{Line}
+use Rattle.path_core.specs.Octets.{octets}
+use Rattle.world_laws.specs.Outcomes.{output_of}
+use Rattle.world_laws.specs.Serial.{OneOf}
+use Rattle.world_laws.specs.Worlds.{Turn, AreLawful, IsLawfulTurn}
+use Rattle.mptcp_run.specs.declared.status.Named.{Named}
+use Rattle.mptcp_run.specs.declared.status.Named.TheVariants as input
+use Rattle.mptcp_run.specs.declared.status.Status.{Status}
+use Rattle.mptcp_run.specs.declared.status.Status.TheVariants.{Delivered, Rounds, NoPath, Aborted, Usage, Script, Load, Put, TooLong, Memory, Log}
+use Rattle.mptcp_run.specs.Inputs.{order_of, name_of}
+use Rattle.mptcp_run.specs.Putting.{round_steps, round_text, log_opening, last_line, ends_of, world_after, AreFirstOf}
+use Rattle.mptcp_run.specs.Task.{Connection, Task, opened, AreTurnsOf, task_of}
+use Rattle.mptcp_run.specs.Task as way
+
+-- ---- calls that were made
+
+abbrev pub succeeded : Call → Made
+succeeded call = record { call = call; ok = true }
+
+abbrev pub failed : Call → Made
+failed call = record { call = call; ok = false }
+
+-- where the calls are told afterwards, they were told before, and these were added
+abbrev pub Adds : List Made → Option (List Made) → Option (List Made) → Type 0
+Adds made old new = IfSome new (λ after. IsSomeAnd old (λ before. after ≡ before ++ made))
+
+-- all calls of a plan were made, in its order, and succeeded
+abbrev pub AddsAll : List Call → Option (List Made) → Option (List Made) → Type 0
+AddsAll plan old new = Adds (map succeeded plan) old new
+
+-- a call that fails ends a run with this status
+abbrev pub Ends : Call → Status → Type 0
+Ends (call.Load name) (Load input) = Unit {0}
+Ends (call.Load name) (TooLong input) = Unit {0}
+Ends (call.Bind port name) (Put named) = named ≡ port
+Ends (call.Put port piece) (Put named) = named ≡ port
+Ends call Memory = Unit {0}
+Ends call status = ⊥
+
+-- The first calls of a plan were made, in its order: up to one that failed and ended the run with this status, or to the want of
+-- memory between two.
+abbrev pub AreCutAt : List Call → Status → List Made → Type 0
+AreCutAt plan status [] = status ≡ Memory
+AreCutAt [] status (made ∷ more) = ⊥
+AreCutAt (call ∷ plan) status (made ∷ more) = (made.call ≡ call) × OneOf made.ok (AreCutAt plan status more) ((more ≡ []) × Ends call status)
+
+abbrev pub AddsCut : List Call → Status → Option (List Made) → Option (List Made) → Type 0
+AddsCut plan status old new = (made : List Made) × (AreCutAt plan status made × Adds made old new)
+
+-- ---- the plan: loads
+
+abbrev pub load_of : Option (List ℕ) → List Call
+load_of None = []
+load_of (Some name) = call.Load name ∷ []
+
+-- the script and both files
+abbrev pub first_loads : Line → List Call
+first_loads line = call.Load line.names.script ∷ call.Load line.names.file_a ∷ call.Load line.names.file_b ∷ []
+
+-- and the log, in `replay`
+abbrev pub loads_of : Line → List Call
+loads_of line = first_loads line ++ load_of (order_of line.work)
+
+-- the loads before that of an input
+abbrev pub loads_before : Named → Line → List Call
+loads_before input.Script line = []
+loads_before input.FileA line = call.Load line.names.script ∷ []
+loads_before input.FileB line = call.Load line.names.script ∷ call.Load line.names.file_a ∷ []
+loads_before input.Order line = first_loads line
+
+-- the load of an input failed, and those before it succeeded
+abbrev pub AddsLoadsTo : Named → Line → Option (List Made) → Option (List Made) → Type 0
+AddsLoadsTo named line old new =
+    IsSomeAnd (name_of named line) (λ name. Adds (map succeeded (loads_before named line) ++ failed (call.Load name) ∷ []) old new)
+
+-- ---- binds
+
+-- the readers' ports, B's first
+abbrev pub binds_of : Line → List Call
+binds_of line = call.Bind port.ReadByB line.names.read_by_b ∷ call.Bind port.ReadByA line.names.read_by_a ∷ []
+
+-- ---- puts
+
+-- what the reader of a side has read, from this world to that one
+abbrev pub read_in : Side → Connection → Connection → List ℕ
+read_in s last w = drop (length (output_of s last)) (output_of s w)
+
+-- it is put, if it is anything
+abbrev pub put_of : Port → List ℕ → List Call
+put_of port [] = []
+put_of port (octet ∷ more) = call.Put port (octet ∷ more) ∷ []
+
+-- the puts of a round's end, where these are what B's reader has read, what A's has, and the lines
+abbrev pub puts_of : List ℕ → List ℕ → List ℕ → List Call
+puts_of read_by_b read_by_a lines = put_of port.ReadByB read_by_b ++ (put_of port.ReadByA read_by_a ++ call.Put port.Log lines ∷ [])
+
+-- those of the round from this world to that one
+abbrev pub round_puts : List ℕ → ℕ → Connection → Connection → List Call
+round_puts opening number last w = puts_of (read_in B last w) (read_in A last w) (round_text opening number (round_steps last w))
+
+-- those of rounds, of which the first has this number
+abbrev pub puts_by_round : List ℕ → ℕ → Connection → List Connection → List Call
+puts_by_round opening number last [] = []
+puts_by_round opening number last (w ∷ ends) = round_puts opening number last w ++ puts_by_round opening (suc number) w ends
+
+-- those of the rounds that these turns end
+abbrev pub puts_so_far : Task → List Turn → List Call
+puts_so_far task turns = puts_by_round (log_opening task.script) 0 (opened task) (ends_of task turns)
+
+-- all puts of a run: those of all its rounds, and the line of the outcome
+abbrev pub ArePuts : Task → List Call → Type 0
+ArePuts task puts =
+    (turns : List Turn) × (AreTurnsOf task.course turns (opened task) × (puts ≡ puts_so_far task turns ++ call.Put port.Log (last_line (world_after task turns)) ∷ []))
+
+-- those of its first rounds, or all of them
+abbrev pub AreFirstPuts : Task → List Call → Type 0
+AreFirstPuts task puts = ArePuts task puts ⊎ ((turns : List Turn) × (AreFirstOf task.course turns [] (opened task) × (puts ≡ puts_so_far task turns)))
+
+-- those of the rounds that ended before a turn that can't be made
+pub record ArePutsBefore (task : Task) (puts : List Call) : Type 0 where
+  pub before : List Turn
+  pub turn : Turn
+  pub behind : List Turn
+  pub order : task.course ≡ way.told (before ++ turn ∷ behind)
+  pub lawful : AreLawful octets before (opened task)
+  pub refused : IsLawfulTurn turn (world_after task before) → ⊥
+  pub puts_are : puts ≡ puts_so_far task before
+
+-- ---- all calls of a run
+
+-- loads, binds, and these puts
+abbrev pub plan_with : Line → List Call → List Call
+plan_with line puts = loads_of line ++ (binds_of line ++ puts)
+
+module _ (content : List ℕ → Option (List ℕ)) (line : Line) (old new : Option (List Made)) where
+  -- all of a plan was made whose puts are such ones of the task, where that is told and valid
+  abbrev pub AddsPlan : (Task → List Call → Type 0) → Type 0
+  AddsPlan Are = (puts : List Call) × (IfSome (task_of content line) (λ task. Are task puts) × AddsAll (plan_with line puts) old new)
+
+  -- or its first calls
+  abbrev pub AddsFirst : Status → Type 0
+  AddsFirst status = (puts : List Call) × (IfSome (task_of content line) (λ task. AreFirstPuts task puts) × AddsCut (plan_with line puts) status old new)
+
+  -- the calls that were made by a run of these words that ends with this status
+  abbrev pub AreCallsAt : Status → Type 0
+  AreCallsAt Usage = ⊥
+  AreCallsAt (Load named) = AddsLoadsTo named line old new
+  AreCallsAt (TooLong named) = AddsLoadsTo named line old new
+  AreCallsAt (Script at kind) = AddsAll (loads_of line) old new
+  AreCallsAt (Log at) = AddsAll (loads_of line) old new ⊎ AddsPlan ArePutsBefore
+  AreCallsAt (Put port) = AddsFirst (Put port)
+  AreCallsAt Memory = AddsCut (loads_of line) Memory old new ⊎ AddsFirst Memory
+  AreCallsAt Delivered = AddsPlan ArePuts
+  AreCallsAt Rounds = AddsPlan ArePuts
+  AreCallsAt NoPath = AddsPlan ArePuts
+  AreCallsAt (Aborted reader) = AddsPlan ArePuts
+
+-- those of a run of words that ask for this, if they ask for anything that is run
+abbrev pub AreCallsOf : (List ℕ → Option (List ℕ)) → Option Line → Status → Option (List Made) → Option (List Made) → Type 0
+AreCallsOf content None status old new = AddsAll [] old new
+AreCallsOf content (Some line) status old new = AreCallsAt content line old new status
