@@ -105,6 +105,7 @@ module _ (a b c : Ports) (same : (p : Port) → b p ≡ a p) where
       read_by_b = after_from (a port.ReadByB) (b port.ReadByB) (c port.ReadByB) _ (same port.ReadByB) h.ports.read_by_b;
       read_by_a = after_from (a port.ReadByA) (b port.ReadByA) (c port.ReadByA) _ (same port.ReadByA) h.ports.read_by_a;
       log = after_from (a port.Log) (b port.Log) (c port.Log) _ (same port.Log) h.ports.log;
+      fits = h.ports.fits;
     };
   }
 
@@ -136,6 +137,7 @@ module _ (a b c : Ports) (same : (p : Port) → b p ≡ a p) where
       read_by_b = after_from (a port.ReadByB) (b port.ReadByB) (c port.ReadByB) _ (same port.ReadByB) h.ports.read_by_b;
       read_by_a = after_from (a port.ReadByA) (b port.ReadByA) (c port.ReadByA) _ (same port.ReadByA) h.ports.read_by_a;
       log = after_from (a port.Log) (b port.Log) (c port.Log) _ (same port.Log) h.ports.log;
+      fits = h.ports.fits;
     };
   }
 

@@ -5,8 +5,8 @@ use Rattle.std.specs.Str.{bytes_eq}
 use Rattle.std.specs.Str.Parse.{digits_value}
 use Rattle.std.proofs.lemmas.Bool.{and_parts, leb-true}
 use Rattle.run_words.specs.Numbers.{is_numeral, number_within}
-use Rattle.run_words.specs.Parts.{Word, Part, parts_of}
-use Rattle.run_words.specs.Lines.{Work, run, serial, replay, bench, Names, Line, ◌>>=◌, is_given, rounds_in, plain_work, replay_work, bench_work, work_in, line_of_parts, line_of}
+use Rattle.run_words.specs.Parts.{Word, Part, parts_of, mode_option, rounds_option, order_option, number_option}
+use Rattle.run_words.specs.Lines.{at_most_once, values_of, names_of, names_in, Work, run, serial, replay, bench, Names, Line, ◌>>=◌, is_given, rounds_in, plain_work, replay_work, bench_work, work_in, line_of_parts, line_of}
 use Rattle.mptcp_run.specs.Asked.{is_run, if_run, asked_in}
 
 abbrev pub AsksRounds : Work → Type 0
@@ -74,11 +74,35 @@ line_with : (o : Option Work) (names : Names) → IfSome o AsksRounds → IfSome
 line_with None names h = tt
 line_with (Some work) names h = h
 
-parts_ask : (parts : List Part) → IfSome (line_of_parts parts) Asks
-unfolding line_of_parts
-parts_ask parts =
-    bind_has _ _ Asks (λ word. bind_has _ _ Asks (λ most. bind_has _ _ Asks (λ log. bind_has _ _ Asks (λ input. bind_has _ _ Asks (λ names. bind_has _ _ Asks (λ given.
-    line_with (work_in given most log input) names (work_asks given most log input)))))))
+module _ (parts : List Part) where
+  abbrev by_work : Option Word → Option Word → Option Word → Names → Word → Option Line
+  by_work most log input names given = work_in given most log input >>= λ work. Some (record { work = work; names = names })
+
+  abbrev by_names : Option Word → Option Word → Option Word → Option Word → Names → Option Line
+  by_names word most log input names = word >>= by_work most log input names
+
+  abbrev by_number : Option Word → Option Word → Option Word → Option Word → Option Line
+  by_number word most log input = names_in (names_of parts) >>= by_names word most log input
+
+  abbrev by_order : Option Word → Option Word → Option Word → Option Line
+  by_order word most log = at_most_once (values_of number_option parts) >>= by_number word most log
+
+  abbrev by_rounds : Option Word → Option Word → Option Line
+  by_rounds word most = at_most_once (values_of order_option parts) >>= by_order word most
+
+  abbrev by_mode : Option Word → Option Line
+  by_mode word = at_most_once (values_of rounds_option parts) >>= by_rounds word
+
+  parts_ask : IfSome (line_of_parts parts) Asks
+  unfolding line_of_parts
+  parts_ask =
+      bind_has (at_most_once (values_of mode_option parts)) by_mode Asks (λ word.
+      bind_has (at_most_once (values_of rounds_option parts)) (by_rounds word) Asks (λ most.
+      bind_has (at_most_once (values_of order_option parts)) (by_order word most) Asks (λ log.
+      bind_has (at_most_once (values_of number_option parts)) (by_number word most log) Asks (λ input.
+      bind_has (names_in (names_of parts)) (by_names word most log input) Asks (λ names.
+      bind_has word (by_work most log input names) Asks (λ given.
+      line_with (work_in given most log input) names (work_asks given most log input)))))))
 
 line_asks : (words : List Word) → IfSome (line_of words) Asks
 unfolding line_of

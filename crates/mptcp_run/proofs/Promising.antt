@@ -3,7 +3,7 @@ use Rattle.std.proofs.Common.{◌≡◌, refl, ap, sym, ◌∙◌, subst, ℕ, i
 use Rattle.std.specs.Prelude.{option_map, option_and_then}
 use Rattle.std.proofs.lemmas.Option.{same_Some}
 use Rattle.outside_kit.specs.declared.port.Port.{Port}
-use Rattle.link_script.specs.declared.script.Script.{Script}
+use Rattle.link_script.specs.declared.script.Script.{Script as ScriptValue}
 use Rattle.run_words.specs.Lines.{Line, Work, run, serial, replay, bench, ◌>>=◌}
 use Rattle.world_laws.specs.Worlds.{Turn}
 use Rattle.mptcp_run.specs.declared.status.Status.{Status}
@@ -31,7 +31,7 @@ both (Some x) P Q R f p q = f x p q
 
 -- ---- the task of a log that isn't told
 
-abbrev task_by : Option Script → Option (List ℕ) → Option (List ℕ) → Option Course → Option Task
+abbrev task_by : Option ScriptValue → Option (List ℕ) → Option (List ℕ) → Option Course → Option Task
 task_by script file_a file_b course = do
   script ← script
   file_a ← file_a
@@ -49,7 +49,7 @@ module _ (content : List ℕ → Option (List ℕ)) where
 
 -- ---- the course of a task
 
-by_course : (script : Option Script) (file_a file_b : Option (List ℕ)) (course : Option Course) → IfSome course HasRounds
+by_course : (script : Option ScriptValue) (file_a file_b : Option (List ℕ)) (course : Option Course) → IfSome course HasRounds
     → IfSome (task_by script file_a file_b course) (λ task. HasRounds task.course)
 by_course None file_a file_b course h = tt
 by_course (Some s) None file_b course h = tt
@@ -130,7 +130,7 @@ module _ (content : List ℕ → Option (List ℕ)) (loads_before loads : ℕ) (
   -- ---- a log whose line is refused
 
   -- of a log that isn't told there is no task
-  no_course : (script : Option Script) (file_a file_b : Option (List ℕ)) (course : Option Course) → course ≡ None → task_by script file_a file_b course ≡ None
+  no_course : (script : Option ScriptValue) (file_a file_b : Option (List ℕ)) (course : Option Course) → course ≡ None → task_by script file_a file_b course ≡ None
   no_course None file_a file_b course is = refl
   no_course (Some s) None file_b course is = refl
   no_course (Some s) (Some a) None course is = refl
@@ -139,7 +139,7 @@ module _ (content : List ℕ → Option (List ℕ)) (loads_before loads : ℕ) (
 
   untold_task : (line : Line) (log : List ℕ) → order_of line.work ≡ Some log → content log ≡ None → task_of content line ≡ None
   untold_task line log is untold =
-      no_course (option_and_then script_in (content line.names.script)) (content line.names.file_a) (content line.names.file_b) (course_of content line.work) (untold_course line.work log is untold)
+      no_course (option_and_then script_in (content line.names.script)) (content line.names.file_a) (content line.names.file_b) (course_of content line.work) (untold_course content line.work log is untold)
 
   refused_fronts : (line : Line) (log : List ℕ) (at : ℕ) → AreWithinLimits content line
       → IsRefusedLine (task_of content line) log at (IsUntouched held holds faults_before faults) held holds
@@ -153,7 +153,7 @@ module _ (content : List ℕ → Option (List ℕ)) (loads_before loads : ℕ) (
       → IsUntouched held holds faults_before faults ⊎ IfSome (task_of content line) (λ task. ReadersHaveFronts task held holds)
   line_fronts line log at within is None untold cause =
       inr (subst (λ (o : Option Task). IfSome o (λ task. ReadersHaveFronts task held holds)) (sym (untold_task line log is untold)) tt)
-  line_fronts line log at within is (Some text) told cause = refused_fronts line text at within cause
+  line_fronts line log at within is (Some text) found cause = refused_fronts line text at within cause
 
   pub log_fronts : (asked : Option Line) (status : Status) (at : ℕ) → HasBegun asked status → status ≡ Log at
       → IsUntouched held holds faults_before faults ⊎ IfSome (option_and_then (task_of content) asked) (λ task. ReadersHaveFronts task held holds)

@@ -11,7 +11,7 @@ use Rattle.mptcp_run.proofs.rounds.put_lines.Goals as goal
 pub loop-note-preserved : goal.loop-note-preserved
 loop-note-preserved c = record {
   text = grind (arith, common_steps);
-  fits = All-more (λ (note : Bor Note). NoteFits note.now) c.args.notes.now c.loop-note.note-index _ c.loop-note-test.true c.loop-note.invariant.fits c.in_ok-line.ensures.fits;
+  fits = All-more (λ (note : Bor Note). NoteFits note.now) c.args.notes.now c.loop-note.note-index _ c.loop-note-test.true c.loop-note.invariant.fits (subst (λ (note : Bor Note). NoteFits note.now) c.note-item.is c.in_ok-line.ensures.fits);
 }
 
 pub returns-clause-fits : goal.returns-clause-fits
