@@ -8,10 +8,9 @@ use Rattle.actor_desk.specs.declared.ask.Ask.{Ask}
 use Rattle.path_core.specs.Octets.{octets}
 use Rattle.world_laws.specs.Actors.{ActorCrew, member_asks, is_over}
 use Rattle.world_laws.specs.Serial.{after_steps, IsTurn, AreTurns, after_turns}
-use Rattle.world_laws.specs.Worlds.{WorldState, crew_after, asked, stepped, world_step, goes, is_going, all_over, end_round, greatest}
+use Rattle.world_laws.specs.Worlds.{crew_after, asked, stepped, world_step, goes, is_going, all_over, greatest}
 use Rattle.world_laws.specs.Fine.{lists_of}
 use Rattle.world_core.specs.Rounds.{RoundTo}
-use Rattle.mptcp_run.specs.Replaying.{GoesOn}
 use Rattle.mptcp_run.specs.Rounds.{Begins}
 use Rattle.mptcp_run.specs.Task.{Connection}
 use Rattle.mptcp_run.specs.Weaving.{AllGrewAbove, IsSince}

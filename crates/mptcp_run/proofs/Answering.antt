@@ -1,25 +1,24 @@
 -- What each status of a run says, from what its parts say.
-use Rattle.std.proofs.Common.{◌≡◌, refl, sym, ◌∙◌, ap, subst, ℕ, ◌<◌, ◌≤◌, inl, inr, ◌⊎◌, List, [], Option, Some, None, Result, Ok, Err, IfSome, IsSome, IsNone, length, arith}
-use Rattle.std.specs.Prelude.{option_and_then, option_map, map, IsOk, IsSomeAnd}
+use Rattle.std.proofs.Common.{◌≡◌, refl, sym, ap, subst, ℕ, ◌≤◌, inl, inr, List, [], Option, Some, None, Result, Ok, IfSome, length}
+use Rattle.std.specs.Prelude.{option_and_then, option_map, map, IsOk}
 use Rattle.std.specs.Result.{result_ok}
 use Rattle.outside_kit.specs.declared.port.Port.{Port}
 use Rattle.outside_kit.specs.declared.port.Port.TheVariants as port
-use Rattle.outside_kit.specs.Outside.{HasRisen, HoldsAfter}
+use Rattle.outside_kit.specs.Outside.{HoldsAfter}
 use Rattle.link_script.specs.declared.script.Script.{Script}
-use Rattle.run_words.specs.Lines.{Line, Work, run, serial, replay, bench, ◌>>=◌}
+use Rattle.run_words.specs.Lines.{Line, serial, replay, ◌>>=◌}
 use Rattle.run_log.specs.declared.turn.Turn as log_turn
 use Rattle.run_log.specs.Form.{reading}
 use Rattle.world_core.specs.declared.input.Input.{Input}
 use Rattle.world_laws.specs.Worlds.{Turn}
-use Rattle.mptcp_run.specs.declared.status.Named.{Named}
 use Rattle.mptcp_run.specs.declared.status.Named.TheVariants as input
 use Rattle.mptcp_run.specs.declared.status.Status.{Status}
 use Rattle.mptcp_run.specs.declared.status.Status.TheVariants.{Delivered, Rounds, NoPath, Aborted, Usage, Script as ScriptStatus, Load, Put, TooLong, Memory, Log}
-use Rattle.mptcp_run.specs.Answers.{HasEnded, IsRefusedLine, HasBeenRead, HasBeenReadWhole, LoadAnswer, ScriptAnswer, LogAnswer, PutAnswer, MemoryAnswer, EndAnswer, IsAnswer}
+use Rattle.mptcp_run.specs.Answers.{HasEnded, IsRefusedLine, HasBeenReadWhole, IsAnswer}
 use Rattle.mptcp_run.specs.Causes.{limit_of}
-use Rattle.mptcp_run.specs.Inputs.{order_of, content_of, IsWithinLimit, AreFirstWithinLimits, IsLoadsFault, IsInputFault, IsReplayInputFault}
+use Rattle.mptcp_run.specs.Inputs.{order_of, content_of, AreFirstWithinLimits, IsInputFault, IsReplayInputFault}
 use Rattle.mptcp_run.specs.Ports.{IsUntouched, IsPortsFault, HoldsMore, HoldsWithin}
-use Rattle.mptcp_run.specs.Putting.{HoldsRounds, HoldsRun, IsWhole, IsStopped, HoldsCut, IsCut, ReplayEnds}
+use Rattle.mptcp_run.specs.Putting.{IsWhole, IsStopped, IsCut, ReplayEnds}
 use Rattle.mptcp_run.specs.Replaying.{IsReplayFault}
 use Rattle.mptcp_run.specs.Script.{script_meaning}
 use Rattle.mptcp_run.specs.Task.{Task, Course, rounds, told, task_from, turn_of, turns_in, script_in, course_of, task_of, opening_count, AreWithinLimits, HasValidScript, HasValidOrder}

@@ -6,7 +6,7 @@ use Rattle.std.specs.Str.Parse.{digits_value}
 use Rattle.std.proofs.lemmas.Bool.{and_parts, leb-true}
 use Rattle.run_words.specs.Numbers.{is_numeral, number_within}
 use Rattle.run_words.specs.Parts.{Word, Part, parts_of, mode_option, rounds_option, order_option, number_option}
-use Rattle.run_words.specs.Lines.{at_most_once, values_of, names_of, names_in, Work, run, serial, replay, bench, Names, Line, ◌>>=◌, is_given, rounds_in, plain_work, replay_work, bench_work, work_in, line_of_parts, line_of}
+use Rattle.run_words.specs.Lines.{at_most_once, values_of, names_of, names_in, Work, run, serial, replay, bench, Names, Line, ◌>>=◌, is_given, rounds_in, work_in, line_of_parts, line_of}
 use Rattle.mptcp_run.specs.Asked.{is_run, if_run, asked_in}
 
 abbrev pub AsksRounds : Work → Type 0

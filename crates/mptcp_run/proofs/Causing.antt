@@ -1,24 +1,23 @@
 -- The cause of each status, and what stands at it.
-use Rattle.std.proofs.Common.{◌≡◌, refl, sym, ◌∙◌, ap, subst, ℕ, ◌<◌, ◌≤◌, inl, inr, ◌⊎◌, ⊎_elim, List, [], Option, Some, None, Result, Ok, Err, IfSome, IsSome, IsNone, length, arith}
+use Rattle.std.proofs.Common.{◌≡◌, refl, sym, ap, subst, ℕ, ◌<◌, ◌≤◌, inl, inr, ◌⊎◌, ⊎_elim, List, Option, Some, None, Result, Ok, Err, IfSome, IsSome, IsNone, length, arith}
 use Rattle.std.specs.Prelude.{option_and_then, IsOk, IsSomeAnd}
 use Rattle.outside_kit.specs.declared.port.Port.{Port}
 use Rattle.outside_kit.specs.Outside.{HasRisen}
 use Rattle.link_script.specs.declared.fault.ScriptKind.{ScriptKind}
 use Rattle.link_script.specs.declared.fault.ScriptFault.TheVariants as script_fault
-use Rattle.run_log.specs.Form.{reading}
 use Rattle.run_words.specs.Lines.{Line, line_of}
 use Rattle.mptcp_run.specs.Asked.{asked_in, if_run}
 use Rattle.mptcp_run.specs.declared.status.Named.{Named}
 use Rattle.mptcp_run.specs.declared.status.Named.TheVariants as input
 use Rattle.mptcp_run.specs.declared.status.Status.{Status}
 use Rattle.mptcp_run.specs.declared.status.Status.TheVariants.{Delivered, Rounds, NoPath, Aborted, Usage, Script, Load, Put, TooLong, Memory, Log}
-use Rattle.mptcp_run.specs.Answers.{HasEnded, IsRefusal, HasLoaded, HasRead, HasBegun, IsRefusedLine, HasBeenReadWhole, IsAnswer}
+use Rattle.mptcp_run.specs.Answers.{HasEnded, IsRefusal, HasLoaded, HasRead, HasBegun, IsRefusedLine, IsAnswer}
 use Rattle.mptcp_run.specs.Causes.{limit_of}
 use Rattle.mptcp_run.specs.Inputs.{name_of, order_of, content_of, AreWithinLimitsBefore}
 use Rattle.mptcp_run.specs.Ports.{IsUntouched}
 use Rattle.mptcp_run.specs.Putting.{IsWhole, IsCut}
 use Rattle.mptcp_run.specs.Script.{script_meaning}
-use Rattle.mptcp_run.specs.Task.{Task, task_of, AreWithinLimits, HasValidScript, HasValidOrder, IsValid}
+use Rattle.mptcp_run.specs.Task.{task_of, AreWithinLimits, HasValidScript, HasValidOrder, IsValid}
 
 abbrev Ports : Type 0
 Ports = Port → Option (List ℕ)

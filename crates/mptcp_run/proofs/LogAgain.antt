@@ -1,5 +1,5 @@
 -- The text of a run's log is read as the turns that its notes tell.
-use Rattle.std.proofs.Common.{◌≡◌, refl, sym, ◌∙◌, ap, subst, ℕ, zero, suc, ◌+◌, ◌<◌, ◌≤◌, ◌^◌, Option, Some, None, inl, inr, ⊎_elim, List, [], ◌∷◌, ◌++◌, map, length, arith}
+use Rattle.std.proofs.Common.{◌≡◌, refl, sym, ◌∙◌, ap, subst, ℕ, suc, ◌+◌, ◌<◌, ◌^◌, Some, inl, inr, List, [], ◌∷◌, ◌++◌, map, length, arith}
 use Rattle.std.specs.Prelude.{option_map}
 use Rattle.std.specs.List.{slice_get, flat_map, AllByRecursion}
 use Rattle.std.specs.Result.{result_ok}
@@ -9,8 +9,8 @@ use Rattle.std.proofs.lemmas.Option.{slice_get_within}
 use Rattle.actor_desk.specs.declared.ask.Note.{Note}
 use Rattle.actor_desk.specs.Journals.{in_order}
 use Rattle.run_log.specs.declared.outcome.Outcome.{Outcome}
-use Rattle.run_log.specs.Fitting.{IsLong, NoteFits}
-use Rattle.run_log.specs.Laws.{HasRowsInRange, CanBeLogged, turns_of, log_behind}
+use Rattle.run_log.specs.Fitting.{NoteFits}
+use Rattle.run_log.specs.Laws.{HasRowsInRange, CanBeLogged, log_behind}
 use Rattle.run_log.specs.Lines.{ended, opening_lines, round_lines, rounds_lines, outcome_text}
 use Rattle.run_log.proofs.LogReads.{reads_to_its_turns}
 use Rattle.path_core.specs.Octets.{octets}

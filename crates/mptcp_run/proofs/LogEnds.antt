@@ -1,12 +1,11 @@
 -- The last turn of a log is the end of a round.
-use Rattle.std.proofs.Common.{◌≡◌, refl, sym, ◌∙◌, ap, subst, ℕ, suc, Bool, true, false, ◌&&◌, cond, List, [], ◌∷◌, ◌++◌, map, Option, Some, None, Result, Ok, Err}
+use Rattle.std.proofs.Common.{◌≡◌, refl, sym, ◌∙◌, ap, subst, ℕ, suc, Bool, true, false, cond, List, [], ◌∷◌, ◌++◌, map, Option, Some, None, Result, Ok}
 use Rattle.std.specs.Prelude.{codes}
 use Rattle.std.specs.Str.{bytes_eq}
 use Rattle.std.proofs.lemmas.List.{append-nil}
 use Rattle.link_script.specs.Steps.{◌>>=◌}
 use Rattle.link_script.specs.Words.{text_lines}
 use Rattle.run_log.specs.declared.fault.LogFault.{LogFault}
-use Rattle.run_log.specs.declared.fault.LogFault.TheVariants as fault
 use Rattle.run_log.specs.declared.form.Expected.{Expected}
 use Rattle.run_log.specs.declared.form.Expected.TheVariants.{Format, Width, Keys, Turns, Nothing}
 use Rattle.run_log.specs.declared.form.Taken.{Taken}

@@ -1,14 +1,12 @@
 -- The turns that the steps of each round tell, by stamp, then actor: they are lawful, and each round ends as it did.
-use Rattle.std.proofs.Common.{◌≡◌, refl, sym, ◌∙◌, ap, subst, ℕ, zero, suc, ◌≤◌, true, List, [], ◌∷◌, ◌++◌, map, arith}
+use Rattle.std.proofs.Common.{◌≡◌, refl, sym, ◌∙◌, ap, subst, ℕ, true, List, [], ◌∷◌, ◌++◌, map}
 use Rattle.actor_desk.specs.declared.ask.Note.{Note}
 use Rattle.actor_desk.specs.Journals.{order_of}
 use Rattle.run_log.specs.declared.turn.Turn as log_turn
 use Rattle.run_log.specs.Laws.{turns_of_round, turns_of}
 use Rattle.path_core.specs.Octets.{octets}
 use Rattle.world_laws.specs.Fine.{IsFine, lists_of}
-use Rattle.world_laws.specs.Serial.{spelled, AreRounds}
 use Rattle.world_laws.specs.Weaving.{steps_by, woven}
-use Rattle.world_laws.specs.Weaving as weaving
 use Rattle.world_laws.specs.Worlds.{Turn, world_step, all_over, end_round, greatest, world_run, AreLawful}
 use Rattle.world_laws.proofs.Pairing.{step_fine}
 use Rattle.world_laws.proofs.RoundTurns.{rounds_lawful}

@@ -9,13 +9,13 @@ use Rattle.path_core.specs.Octets.{octets}
 use Rattle.path_core.specs.Starts.{drawn_of}
 use Rattle.world_laws.specs.Openings.{start_of}
 use Rattle.world_laws.specs.Outcomes.{outcome_of, output_of}
-use Rattle.world_laws.specs.Serial.{round_and, spelled, after_round, AreRounds}
-use Rattle.world_laws.specs.Worlds.{Turn, world_step, end_round, world_run}
+use Rattle.world_laws.specs.Serial.{spelled, after_round, AreRounds}
+use Rattle.world_laws.specs.Worlds.{Turn, world_step, end_round}
 use Rattle.world_laws.proofs.Serially.{serial_is_one}
 use Rattle.mptcp_run.specs.declared.status.Status.{Status}
-use Rattle.mptcp_run.specs.Logged.{HasRounds, replayed, TellsTheRun, LogTellsTheRun, HoldTheSame, WholeRunsAreTold, WholeRunsAgree}
+use Rattle.mptcp_run.specs.Logged.{HasRounds, replayed, TellsTheRun, LogTellsTheRun, WholeRunsAreTold, WholeRunsAgree}
 use Rattle.mptcp_run.specs.Promised.{EndsWithRound}
-use Rattle.mptcp_run.specs.Putting.{round_ends, last_end, steps_by_round, log_opening, log_text, status_of, told_outcome, last_line, RoundsFit, ends_of, steps_so_far, read_so_far, log_so_far, world_after, IsWhole}
+use Rattle.mptcp_run.specs.Putting.{round_ends, last_end, steps_by_round, log_opening, log_text, status_of, told_outcome, last_line, RoundsFit, steps_so_far, read_so_far, log_so_far, world_after, IsWhole}
 use Rattle.mptcp_run.specs.Task.{Connection, Task, Course, rounds, told, opened, turns_in, AreTurnsOf}
 use Rattle.mptcp_run.proofs.LogAgain.{log_read, rounds_logged}
 use Rattle.mptcp_run.proofs.LogWoven.{told_turns, AreWoven, turns_woven, told_to_the_end, course_lawful}

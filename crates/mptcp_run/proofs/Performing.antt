@@ -1,9 +1,8 @@
 -- A run from its binds to its last line.
-use Rattle.std.proofs.Common.{◌≡◌, refl, sym, ◌∙◌, ap, subst, ℕ, zero, suc, ◌+◌, ◌<◌, ◌≤◌, inl, inr, ◌⊎◌, List, [], ◌∷◌, ◌++◌, length, take, Option, Some, None, arith}
+use Rattle.std.proofs.Common.{◌≡◌, refl, sym, ◌∙◌, ap, subst, ℕ, zero, suc, ◌+◌, ◌≤◌, inl, inr, ◌⊎◌, List, [], ◌∷◌, ◌++◌, length, take, Option, Some, None, arith}
 use Rattle.std.proofs.lemmas.List.{append-nil, append_assoc}
 use Rattle.outside_kit.specs.declared.port.Port.{Port}
 use Rattle.outside_kit.specs.declared.port.Port.TheVariants as port
-use Rattle.outside_kit.specs.declared.side.Side.{Side}
 use Rattle.outside_kit.specs.declared.side.Side.TheVariants.{A, B}
 use Rattle.outside_kit.specs.Outside.{HoldsAfter, HoldsPrefix}
 use Rattle.pipe_model.specs.Prefix.{IsPrefix}
@@ -15,11 +14,10 @@ use Rattle.world_core.specs.Rounds.{after_rounds}
 use Rattle.mptcp_run.specs.declared.status.Status.{Status}
 use Rattle.mptcp_run.specs.Ports.{HoldsMore, HoldsWithin, IsBetween}
 use Rattle.mptcp_run.specs.Putting.{round_ends, last_end, steps_by_round, log_opening, log_text, RoundsFit, status_of, last_line, ends_of, read_so_far, log_so_far, world_after, HoldsRounds, HoldsRun, IsWhole, IsStopped, AreFirstOf, HoldsCut, IsCut}
-use Rattle.mptcp_run.specs.Putting as putting
 use Rattle.mptcp_run.specs.Rounds.{HoldsEnds, HoldsPart, ends_by, RoundsPut, RoundsCut, TurnsPut, TurnRefused, TurnsCut}
 use Rattle.mptcp_run.specs.Task.{Connection, Task, Course, opened, AreTurnsOf}
 use Rattle.mptcp_run.specs.Task as course
-use Rattle.mptcp_run.proofs.PortsLemmas.{IsPrefix-refl, IsPrefix-front, IsPrefix-behind, IsPrefix-trans, whole_more, part_more, nothing_more, more_weaker, more_behind, all_held, part_held, unbound_held, all_behind, taken_part}
+use Rattle.mptcp_run.proofs.PortsLemmas.{IsPrefix-refl, IsPrefix-front, IsPrefix-trans, nothing_more, more_weaker, all_held, part_held, all_behind, taken_part}
 
 abbrev Ports : Type 0
 Ports = Port → Option (List ℕ)

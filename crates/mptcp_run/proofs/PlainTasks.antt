@@ -1,18 +1,18 @@
 -- The task of a command line is plain, and its last turn is the end of a round.
-use Rattle.std.proofs.Common.{◌≡◌, refl, sym, ◌∙◌, ap, subst, ℕ, ◌<◌, ◌≤◌, ◌^◌, ◌-◌, List, length, map, Option, Some, None, Result, Ok, Err, IfSome, arith}
+use Rattle.std.proofs.Common.{◌≡◌, refl, ℕ, ◌≤◌, List, length, map, Option, Some, None, Result, Ok, Err, IfSome, arith}
 use Rattle.std.specs.Prelude.{option_and_then, option_map}
 use Rattle.std.specs.Result.{result_ok}
 use Rattle.link_script.specs.declared.fault.ScriptFault.{ScriptFault}
 use Rattle.link_script.specs.declared.script.Script.{Script}
 use Rattle.link_script.proofs.ReadRanges.{read_has_ranges}
-use Rattle.run_words.specs.Lines.{Line, Work, run, serial, replay, bench, ◌>>=◌}
+use Rattle.run_words.specs.Lines.{Work, run, serial, replay, bench, ◌>>=◌}
 use Rattle.run_log.specs.declared.fault.LogFault.{LogFault}
 use Rattle.run_log.specs.declared.turn.Turn as logged_turn
 use Rattle.run_log.specs.Form.{reading}
 use Rattle.mptcp_run.specs.declared.status.Named.TheVariants as input
-use Rattle.mptcp_run.specs.Promised.{IsPlainTask, EndsWithRound, IsPromisedTask, LoadedTasksArePlain}
+use Rattle.mptcp_run.specs.Promised.{EndsWithRound, IsPromisedTask, LoadedTasksArePlain}
 use Rattle.mptcp_run.specs.Script.{script_meaning}
-use Rattle.mptcp_run.specs.Task.{Task, Course, rounds, told, turn_of, turns_in, script_in, course_of, task_of, AreWithinLimits}
+use Rattle.mptcp_run.specs.Task.{Course, told, turn_of, turns_in, script_in, course_of}
 use Rattle.mptcp_run.proofs.LogEnds.{turns_end}
 use Rattle.mptcp_run.proofs.Unchanging.{run_script_is}
 

@@ -1,5 +1,5 @@
 -- What ports hold over several puts.
-use Rattle.std.proofs.Common.{◌≡◌, refl, sym, ◌∙◌, ap, ℕ, List, [], ◌++◌, take, drop, length, Option, Some, None, append_assoc, subst, inl, inr, Result, Ok, Err, OnErr, OnOk, IfOk, IfErr, IfSome, ◌<◌, ◌≤◌, ◌⊎◌, arith}
+use Rattle.std.proofs.Common.{◌≡◌, refl, sym, ◌∙◌, ap, ℕ, List, [], ◌++◌, take, drop, length, Option, Some, None, append_assoc, subst, inl, inr, Result, Ok, Err, OnErr, OnOk, IfOk, IfErr, ◌<◌, ◌≤◌, ◌⊎◌, arith}
 use Rattle.std.proofs.Math.Seq.{take-length}
 use Rattle.std.proofs.lemmas.List.{append-nil, take-append-drop}
 use Rattle.pipe_model.specs.Prefix.{IsPrefix}

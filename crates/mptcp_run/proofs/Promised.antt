@@ -1,26 +1,21 @@
 -- The reader ports hold fronts of the files.
 use Rattle.std.proofs.Common.{◌≡◌, refl, sym, ◌∙◌, ap, subst, ℕ, zero, suc, inl, inr, ◌⊎◌, Bool, true, false, ◌&&◌, List, [], ◌∷◌, ◌++◌, Option, Some, None}
-use Rattle.std.specs.Prelude.{IfSome, IsSomeAnd}
+use Rattle.std.specs.Prelude.{IsSomeAnd}
 use Rattle.std.proofs.lemmas.List.{append_assoc}
 use Rattle.outside_kit.specs.Outside.{HoldsAfter}
-use Rattle.outside_kit.specs.declared.port.Port.{Port}
-use Rattle.outside_kit.specs.declared.side.Side.{Side}
 use Rattle.outside_kit.specs.declared.side.Side.TheVariants.{A, B}
 use Rattle.pipe_model.specs.Prefix.{IsPrefix}
 use Rattle.path_core.specs.Octets.{octets}
-use Rattle.world_laws.specs.declared.outcome.Outcome.{Outcome}
-use Rattle.world_laws.specs.declared.outcome.Outcome.TheVariants as outcome
 use Rattle.world_laws.specs.Openings.{start_of}
 use Rattle.world_laws.specs.Outcomes.{outcome_by, outcome_of, output_of, tells_end, was_told, notes_of}
 use Rattle.world_laws.specs.Serial.{steps_and, round_and, spelled}
 use Rattle.world_laws.specs.Worlds.{Turn, world_step, end_round, world_run}
 use Rattle.world_laws.proofs.PromisesOfScripts.{plain_scripts_keep_all_promises}
 use Rattle.world_laws.proofs.Trios.{writes_the_files}
-use Rattle.mptcp_run.specs.declared.status.Status.{Status}
 use Rattle.mptcp_run.specs.declared.status.Status.TheVariants.{Delivered}
-use Rattle.mptcp_run.specs.Ports.{IsBetween, HoldsWithin}
-use Rattle.mptcp_run.specs.Putting.{round_ends, last_end, status_of, read_so_far, world_after, AreFirstOf}
-use Rattle.mptcp_run.specs.Promised.{IsPlainTask, EndsWithRound, HoldsFront, HoldsFrontIfBound, IsKept, PlainTasksAreKept, WholeRunsGiveFronts, DeliveredRunsGiveFiles, StoppedRunsGiveFronts, CutRunsGiveFronts}
+use Rattle.mptcp_run.specs.Ports.{HoldsWithin}
+use Rattle.mptcp_run.specs.Putting.{round_ends, last_end, status_of, read_so_far, world_after}
+use Rattle.mptcp_run.specs.Promised.{IsPlainTask, EndsWithRound, HoldsFront, HoldsFrontIfBound, PlainTasksAreKept, WholeRunsGiveFronts, DeliveredRunsGiveFiles, StoppedRunsGiveFronts, CutRunsGiveFronts}
 use Rattle.mptcp_run.specs.Task.{Connection, Task, Course, rounds, told, opened, AreTurnsOf}
 
 -- ---- prefixes

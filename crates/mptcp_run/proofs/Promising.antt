@@ -8,9 +8,8 @@ use Rattle.run_words.specs.Lines.{Line, Work, run, serial, replay, bench, ◌>>=
 use Rattle.world_laws.specs.Worlds.{Turn}
 use Rattle.mptcp_run.specs.declared.status.Status.{Status}
 use Rattle.mptcp_run.specs.declared.status.Status.TheVariants.{Delivered, Rounds, NoPath, Aborted, Usage, Script, Load, Put, TooLong, Memory, Log}
-use Rattle.mptcp_run.specs.declared.status.Named.TheVariants as input
 use Rattle.mptcp_run.specs.Answers.{HasEnded, IsRefusedLine, IsAnswer, EndAnswer}
-use Rattle.mptcp_run.specs.Inputs.{order_of, content_of}
+use Rattle.mptcp_run.specs.Inputs.{order_of}
 use Rattle.mptcp_run.specs.Ports.{IsUntouched}
 use Rattle.mptcp_run.specs.Logged.{HasRounds, LogTellsTheRun}
 use Rattle.mptcp_run.specs.Promised.{EndsWithRound, IsPromisedTask, ReadersHaveFronts, ReadersHaveFrontsIfBound, ReadersHaveFiles, IsAlwaysKept}

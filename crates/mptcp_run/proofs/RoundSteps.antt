@@ -1,9 +1,9 @@
 -- A round that was made: its steps, what its readers have read, and what the ports hold then.
-use Rattle.std.proofs.Common.{◌≡◌, refl, sym, ◌∙◌, ap, subst, ℕ, zero, suc, ◌+◌, ◌<◌, ◌≤◌, Bool, true, false, nat_lt, Option, Some, None, inl, inr, List, [], ◌∷◌, ◌++◌, map, drop, length, get_or, filter, arith}
-use Rattle.std.specs.List.{slice_get, flat_map, AllByRecursion}
+use Rattle.std.proofs.Common.{◌≡◌, refl, sym, ◌∙◌, ap, subst, ℕ, zero, suc, ◌<◌, ◌≤◌, Bool, true, false, nat_lt, Option, List, [], ◌∷◌, ◌++◌, map, drop, length, get_or, arith}
+use Rattle.std.specs.List.{AllByRecursion}
 use Rattle.std.proofs.Math.Seq.{drop-append_seam}
 use Rattle.std.proofs.lemmas.Grind.{flat_map-append}
-use Rattle.std.proofs.lemmas.List.{append-nil, append_assoc}
+use Rattle.std.proofs.lemmas.List.{append-nil}
 use Rattle.std.proofs.lemmas.List.Elements.{filter-append}
 use Rattle.outside_kit.specs.declared.port.Port.{Port}
 use Rattle.outside_kit.specs.declared.port.Port.TheVariants as port
@@ -18,7 +18,7 @@ use Rattle.world_laws.specs.Actors.{ActorCrew}
 use Rattle.world_laws.specs.Fine.{lists_of}
 use Rattle.world_laws.specs.Outcomes.{bytes_noted, read_by, notes_at, output_of}
 use Rattle.world_laws.specs.Worlds.{greatest}
-use Rattle.mptcp_run.specs.Ports.{HoldsMore, IsBetween}
+use Rattle.mptcp_run.specs.Ports.{IsBetween}
 use Rattle.mptcp_run.specs.Putting.{round_steps, steps_by_round, last_end, round_text, log_text}
 use Rattle.mptcp_run.specs.Rounds.{HoldsRound, HoldsEnds, HoldsPart}
 use Rattle.mptcp_run.specs.Task.{Connection}

@@ -1,12 +1,12 @@
 -- Rounds of whole turns, made and put one after the other.
-use Rattle.std.proofs.Common.{◌≡◌, refl, sym, ◌∙◌, ap, subst, ℕ, zero, suc, ◌<◌, ◌≤◌, Bool, true, false, inl, inr, ◌⊎◌, List, [], ◌∷◌, ◌++◌, length, Option, arith}
+use Rattle.std.proofs.Common.{◌≡◌, refl, sym, subst, ℕ, suc, ◌≤◌, Bool, true, false, inl, inr, ◌⊎◌, List, [], ◌∷◌, ◌++◌, Option, arith}
 use Rattle.outside_kit.specs.declared.port.Port.{Port}
 use Rattle.outside_kit.specs.declared.side.Side.TheVariants.{A, B}
 use Rattle.path_core.specs.Octets.{octets}
 use Rattle.world_laws.specs.Outcomes.{outcome_of, output_of}
-use Rattle.world_laws.specs.Serial.{goes_on, OneOf, AreTurns, AreRounds, after_round}
-use Rattle.world_core.specs.Rounds.{RoundTo, after_rounds}
-use Rattle.mptcp_run.specs.Rounds.{HoldsRound, HoldsEnds, HoldsPart, ends_by, RoundsPut, RoundCut, RoundsCut}
+use Rattle.world_laws.specs.Serial.{goes_on, OneOf, AreRounds, after_round}
+use Rattle.world_core.specs.Rounds.{RoundTo}
+use Rattle.mptcp_run.specs.Rounds.{HoldsRound, HoldsPart, ends_by, RoundsPut, RoundCut, RoundsCut}
 use Rattle.mptcp_run.specs.Task.{Connection}
 use Rattle.mptcp_run.proofs.PortsLemmas.{IsPrefix-refl}
 use Rattle.mptcp_run.proofs.RoundSteps.{nothing_part, nothing_ends, ends_more, part_behind}

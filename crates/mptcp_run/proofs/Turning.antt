@@ -1,5 +1,5 @@
 -- What a turn of a log makes of a run under way.
-use Rattle.std.proofs.Common.{◌≡◌, refl, sym, ◌∙◌, ap, subst, ℕ, Bool, true, false, not, ◌&&◌, inl, inr, List, [], ◌∷◌, map, length, Result, Ok, Err, IfErr, OnErr, Option}
+use Rattle.std.proofs.Common.{◌≡◌, refl, sym, ◌∙◌, ap, subst, ℕ, Bool, true, false, not, ◌&&◌, inr, List, [], ◌∷◌, map, length, Result, Ok, Err, IfErr, OnErr, Option}
 use Rattle.std.proofs.lemmas.List.{length-map}
 use Rattle.outside_kit.specs.declared.port.Port.{Port}
 use Rattle.path_core.specs.Octets.{octets}

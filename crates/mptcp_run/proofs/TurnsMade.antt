@@ -1,18 +1,18 @@
 -- The turns of a log, made and put one after the other.
-use Rattle.std.proofs.Common.{◌≡◌, refl, sym, ◌∙◌, ap, subst, ℕ, zero, suc, ◌+◌, ◌<◌, ◌≤◌, Bool, true, false, inl, inr, ◌⊎◌, List, [], ◌∷◌, ◌++◌, length, Option, arith}
+use Rattle.std.proofs.Common.{◌≡◌, refl, sym, ap, subst, ℕ, suc, ◌+◌, ◌≤◌, inl, inr, List, [], ◌∷◌, ◌++◌, length, Option, arith}
 use Rattle.outside_kit.specs.declared.port.Port.{Port}
 use Rattle.outside_kit.specs.declared.port.Port.TheVariants as port
 use Rattle.outside_kit.specs.declared.side.Side.TheVariants.{A, B}
 use Rattle.path_core.specs.Octets.{octets}
 use Rattle.world_laws.specs.Outcomes.{output_of}
 use Rattle.world_core.specs.Kept.{Kept, standing}
-use Rattle.world_laws.specs.Worlds.{Turn, world_step, end_round, after_turn, world_run, AreLawful, IsLawfulTurn}
+use Rattle.world_laws.specs.Worlds.{Turn, end_round, after_turn, IsLawfulTurn}
 use Rattle.mptcp_run.specs.declared.status.Status.{Status}
 use Rattle.mptcp_run.specs.declared.status.Status.TheVariants.{Delivered, Rounds, NoPath, Aborted, Usage, Script, Load, Put, TooLong, Memory, Log}
 use Rattle.mptcp_run.specs.Ports.{HoldsMore, IsBetween}
 use Rattle.mptcp_run.specs.Putting.{round_ends, last_end, steps_by_round, log_text}
-use Rattle.mptcp_run.specs.Replaying.{last_after, rounds_after, TurnHolds, IsUnchanged, TurnCut, TurnFault}
-use Rattle.mptcp_run.specs.Rounds.{HoldsRound, HoldsEnds, HoldsPart, TurnsPut, TurnRefused, TurnsCut, TurnsFault}
+use Rattle.mptcp_run.specs.Replaying.{last_after, rounds_after, TurnHolds, TurnCut, TurnFault}
+use Rattle.mptcp_run.specs.Rounds.{HoldsEnds, HoldsPart, TurnsPut, TurnRefused, TurnsCut, TurnsFault}
 use Rattle.mptcp_run.specs.Task.{Connection}
 use Rattle.mptcp_run.proofs.PortsLemmas.{IsPrefix-refl}
 use Rattle.mptcp_run.proofs.RoundSteps.{nothing_part, nothing_ends, ends_more, part_behind}

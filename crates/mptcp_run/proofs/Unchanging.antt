@@ -21,9 +21,9 @@ use Rattle.link_script.specs.Lines.{seed_line, checksum_line, short_line, buffer
 use Rattle.link_script.specs.Numbers.{within}
 use Rattle.link_script.specs.Places.{is_end, is_out_of_order, is_repeated}
 use Rattle.link_script.specs.Ranges.{most_lines, seeds, buffers, path_numbers, segment_sizes, delays, latenesses, run_ticks, address_ids}
-use Rattle.link_script.specs.Reading.{first_line, in_place, later_line, next_line, at_line, seen_after, read_on, blank, with_line, script_of, reading}
+use Rattle.link_script.specs.Reading.{in_place, later_line, next_line, at_line, seen_after, read_on, blank, with_line, script_of, reading}
 use Rattle.link_script.specs.Steps.{◌>>=◌}
-use Rattle.link_script.specs.Words.{text_lines, words_of, is_passed_over, keyword_word, keywords, keyword, chosen, fixed, direction, side, switch}
+use Rattle.link_script.specs.Words.{text_lines, words_of, is_passed_over, keyword_word, keywords, keyword, fixed, side, switch}
 use Rattle.world_laws.specs.PlainScripts.{changes_segments}
 use Rattle.mptcp_run.specs.Script.{is_setting, is_event, is_zero, parted_at, is_held_back, unless_held_back, script_meaning}
 

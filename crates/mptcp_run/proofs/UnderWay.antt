@@ -1,5 +1,5 @@
 -- A round goes on: lists grow by notes above the greatest stamp at its beginning, and the next round begins with them.
-use Rattle.std.proofs.Common.{◌≡◌, refl, sym, ◌∙◌, ap, subst, ℕ, zero, suc, ◌+◌, ◌<◌, ◌≤◌, max, Bool, true, false, ◌&&◌, not, if◌then◌else◌, Option, Some, None, List, [], ◌∷◌, ◌++◌, map, set, length, arith, ⊎_elim}
+use Rattle.std.proofs.Common.{◌≡◌, refl, sym, ◌∙◌, ap, subst, ℕ, zero, suc, ◌<◌, ◌≤◌, max, Bool, true, false, if◌then◌else◌, Option, Some, None, List, [], ◌∷◌, ◌++◌, map, set, arith, ⊎_elim}
 use Rattle.std.proofs.lemmas.List.{append-nil, append_assoc}
 use Rattle.std.proofs.lemmas.Option.{same_Some}
 use Rattle.std.specs.List.{slice_get}
@@ -7,13 +7,13 @@ use Rattle.stream_lanes.specs.Words.{Every}
 use Rattle.stream_lanes.proofs.Lists.{Every-nil, Every-map, Every-push, in_map, in_set}
 use Rattle.actor_desk.specs.declared.ask.Ask.{Ask}
 use Rattle.actor_desk.specs.declared.ask.Note.{Note}
-use Rattle.actor_desk.specs.Books.{StampedBooks, stamp_of}
+use Rattle.actor_desk.specs.Books.{StampedBooks}
 use Rattle.path_core.specs.Octets.{octets}
-use Rattle.world_laws.specs.Actors.{ActorCrew, member_asks, is_over}
-use Rattle.world_laws.specs.Fine.{IsFine, IsFineCrew, NotesRise, last_noted, lists_of}
+use Rattle.world_laws.specs.Actors.{ActorCrew, member_asks}
+use Rattle.world_laws.specs.Fine.{IsFine, lists_of}
 use Rattle.world_laws.specs.Openings.{Start, opened_world}
 use Rattle.world_laws.specs.Serial.{after_steps, after_turns}
-use Rattle.world_laws.specs.Worlds.{WorldState, Turn, note_of, crew_after, asked, stepped, world_step, all_over, greatest, begins, end_round}
+use Rattle.world_laws.specs.Worlds.{note_of, crew_after, asked, stepped, world_step, all_over, greatest, begins, end_round}
 use Rattle.world_laws.proofs.Chaining.{stamp_rises, stamps_below}
 use Rattle.world_laws.proofs.Pairing.{step_fine, round_fine, greatest_above, stays_fine}
 use Rattle.mptcp_run.specs.Rounds.{Begins}

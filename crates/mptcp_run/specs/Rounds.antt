@@ -12,7 +12,7 @@ use Rattle.world_laws.specs.Outcomes.{output_of}
 use Rattle.world_core.specs.declared.input.Input.{Input}
 use Rattle.world_core.specs.Kept.{standing}
 use Rattle.world_laws.specs.Serial.{AreRounds, after_round}
-use Rattle.world_laws.specs.Worlds.{Turn, world_run, end_round, greatest, AreLawful, IsLawfulTurn}
+use Rattle.world_laws.specs.Worlds.{Turn, world_run, greatest, AreLawful, IsLawfulTurn}
 use Rattle.world_core.specs.Rounds.{RoundTo, after_rounds}
 use Rattle.mptcp_run.specs.declared.rounds.Run.{Run}
 use Rattle.mptcp_run.specs.declared.status.Status.{Status}

@@ -1,5 +1,5 @@
 -- What a run takes from its script.
-use Rattle.std.specs.Prelude.{ℕ, Bool, ◌+◌, ◌&&◌, ◌||◌, not, ◌==◌, List, [], ◌∷◌, codes, Result, Ok, Err, Option, Some, None, position}
+use Rattle.std.specs.Prelude.{ℕ, Bool, ◌+◌, ◌&&◌, ◌||◌, not, ◌==◌, List, codes, Result, Ok, Err, Option, Some, None, position}
 use Rattle.std.specs.List.{before_first, after_first, list_all, slice_split}
 use Rattle.std.specs.Str.{bytes_eq}
 use Rattle.std.specs.Borrow.{Bor}
