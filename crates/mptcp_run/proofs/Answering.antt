@@ -1,5 +1,5 @@
 -- What each status of a run says, from what its parts say.
-use Rattle.std.proofs.Common.{◌≡◌, refl, sym, ap, subst, ℕ, ◌≤◌, inl, inr, List, [], Option, Some, None, Result, Ok, IfSome, length}
+use Rattle.std.proofs.Common.{◌≡◌, refl, sym, ap, subst, ℕ, ◌≤◌, inl, inr, List, [], Option, Some, None, Result, Ok, Err, IfSome, length}
 use Rattle.std.specs.Prelude.{option_and_then, option_map, map, IsOk}
 use Rattle.std.specs.Result.{result_ok}
 use Rattle.outside_kit.specs.declared.port.Port.{Port}
@@ -8,20 +8,21 @@ use Rattle.outside_kit.specs.Outside.{HoldsAfter}
 use Rattle.link_script.specs.declared.script.Script.{Script}
 use Rattle.run_words.specs.Lines.{Line, serial, replay, ◌>>=◌}
 use Rattle.run_log.specs.declared.turn.Turn as log_turn
-use Rattle.run_log.specs.Form.{reading}
+use Rattle.run_log.specs.declared.fault.LogFault.TheVariants as log_fault
 use Rattle.world_core.specs.declared.input.Input.{Input}
 use Rattle.world_laws.specs.Worlds.{Turn}
+use Rattle.mptcp_run.specs.declared.report.Report.TheVariants as report
 use Rattle.mptcp_run.specs.declared.status.Named.TheVariants as input
 use Rattle.mptcp_run.specs.declared.status.Status.{Status}
 use Rattle.mptcp_run.specs.declared.status.Status.TheVariants.{Delivered, Rounds, NoPath, Aborted, Usage, Script as ScriptStatus, Load, Put, TooLong, Memory, Log}
-use Rattle.mptcp_run.specs.Answers.{HasEnded, IsRefusedLine, HasBeenReadWhole, IsAnswer}
+use Rattle.mptcp_run.specs.Answers.{HasEnded, IsRefusedLine, HasBeenReadWhole, IsAnswer, IsMadeAnswer}
 use Rattle.mptcp_run.specs.Causes.{limit_of}
 use Rattle.mptcp_run.specs.Inputs.{order_of, content_of, AreFirstWithinLimits, IsInputFault, IsReplayInputFault}
 use Rattle.mptcp_run.specs.Ports.{IsUntouched, IsPortsFault, HoldsMore, HoldsWithin}
 use Rattle.mptcp_run.specs.Putting.{IsWhole, IsStopped, IsCut, ReplayEnds}
 use Rattle.mptcp_run.specs.Replaying.{IsReplayFault}
-use Rattle.mptcp_run.specs.Script.{script_meaning}
-use Rattle.mptcp_run.specs.Task.{Task, Course, rounds, told, task_from, turn_of, turns_in, script_in, course_of, task_of, opening_count, AreWithinLimits, HasValidScript, HasValidOrder}
+use Rattle.mptcp_run.specs.Script.{script_meaning, script_in, script_of, log_reading}
+use Rattle.mptcp_run.specs.Task.{Task, Course, rounds, told, task_from, turn_of, turns_in, course_of, task_of, opening_count, AreWithinLimits, HasValidScript, HasValidOrder}
 use Rattle.mptcp_run.specs.Rounds.{all_turns}
 
 abbrev Ports : Type 0
@@ -34,21 +35,25 @@ module _ {X : Type 0} where
   some_is None x P is p = tt
   some_is (Some y) x P is p = subst P (sym is) p
 
+  pub some_always : (o : Option X) (P : X → Type 0) → ((x : X) → P x) → IfSome o P
+  some_always None P p = tt
+  some_always (Some x) P p = p x
+
   pub some_weaker : (o : Option X) (P Q : X → Type 0) → ((x : X) → P x → Q x) → IfSome o P → IfSome o Q
   some_weaker None P Q f h = tt
   some_weaker (Some x) P Q f h = f x h
 
-task_known : (s a b : Option (List ℕ)) (c : Option Course) (input : Input) (course : Course)
-    → IfSome s (λ text. script_meaning text ≡ Ok input.script) → IfSome a (λ text. input.file_a ≡ text) → IfSome b (λ text. input.file_b ≡ text) → IfSome c (λ x. x ≡ course)
-    → IfSome (option_and_then script_in s >>= λ script. a >>= λ file_a. b >>= λ file_b. c >>= λ x. Some (record { script = script; file_a = file_a; file_b = file_b; course = x }))
+task_known : (s a b : Option (List ℕ)) (c : Script → Option Course) (input : Input) (course : Course)
+    → IfSome s (λ text. script_meaning text ≡ Ok input.script) → IfSome a (λ text. input.file_a ≡ text) → IfSome b (λ text. input.file_b ≡ text) → IfSome (c input.script) (λ x. x ≡ course)
+    → IfSome (option_and_then script_in s >>= λ script. a >>= λ file_a. b >>= λ file_b. c script >>= λ x. Some (record { script = script; file_a = file_a; file_b = file_b; course = x; report = report.Log }))
     (λ (t : Task). t ≡ task_from input course)
 task_known None a b c input course script file_a file_b way = tt
 task_known (Some s) a b c input course script file_a file_b way =
-    subst (λ (o : Option Script). IfSome (o >>= λ script. a >>= λ file_a. b >>= λ file_b. c >>= λ x. Some (record { script = script; file_a = file_a; file_b = file_b; course = x }))
-    (λ (t : Task). t ≡ task_from input course)) (sym (ap result_ok script)) (by a b c file_a file_b way)
+    subst (λ (o : Option Script). IfSome (o >>= λ script. a >>= λ file_a. b >>= λ file_b. c script >>= λ x. Some (record { script = script; file_a = file_a; file_b = file_b; course = x; report = report.Log }))
+    (λ (t : Task). t ≡ task_from input course)) (sym (ap result_ok script)) (by a b (c input.script) file_a file_b way)
   where
     by : (a b : Option (List ℕ)) (c : Option Course) → IfSome a (λ text. input.file_a ≡ text) → IfSome b (λ text. input.file_b ≡ text) → IfSome c (λ x. x ≡ course)
-        → IfSome (a >>= λ file_a. b >>= λ file_b. c >>= λ x. Some (record { script = input.script; file_a = file_a; file_b = file_b; course = x })) (λ (t : Task). t ≡ task_from input course)
+        → IfSome (a >>= λ file_a. b >>= λ file_b. c >>= λ x. Some (record { script = input.script; file_a = file_a; file_b = file_b; course = x; report = report.Log })) (λ (t : Task). t ≡ task_from input course)
     by None b c file_a file_b way = tt
     by (Some a) None c file_a file_b way = tt
     by (Some a) (Some b) None file_a file_b way = tt
@@ -60,13 +65,13 @@ pub serial_task : (content : List ℕ → Option (List ℕ)) (line : Line) (most
     → IfSome (content line.names.file_a) (λ text. input.file_a ≡ text) → IfSome (content line.names.file_b) (λ text. input.file_b ≡ text)
     → IfSome (task_of content line) (λ t. t ≡ task_from input (rounds most))
 serial_task content line most input is script file_a file_b =
-    task_known (content line.names.script) (content line.names.file_a) (content line.names.file_b) (course_of content line.work) input (rounds most) script file_a file_b
-    (subst (λ w. IfSome (course_of content w) (λ x. x ≡ rounds most)) (sym is) refl)
+    task_known (content line.names.script) (content line.names.file_a) (content line.names.file_b) (λ s. course_of content s line.work) input (rounds most) script file_a file_b
+    (subst (λ w. IfSome (course_of content input.script w) (λ x. x ≡ rounds most)) (sym is) refl)
 
-told_course : (o : Option (List ℕ)) (turns : List log_turn.Turn) → IfSome o (λ text. reading 3 8 text ≡ Ok turns)
-    → IfSome (option_and_then turns_in o) (λ ts. ts ≡ all_turns turns)
-told_course None turns h = tt
-told_course (Some text) turns h = subst (λ r. IfSome (option_map (map turn_of) (result_ok r)) (λ ts. ts ≡ all_turns turns)) (sym h) refl
+told_course : (script : Script) (o : Option (List ℕ)) (turns : List log_turn.Turn) → IfSome o (λ text. log_reading script text ≡ Ok turns)
+    → IfSome (option_and_then (turns_in script) o) (λ ts. ts ≡ all_turns turns)
+told_course script None turns h = tt
+told_course script (Some text) turns h = subst (λ r. IfSome (option_map (map turn_of) (result_ok r)) (λ ts. ts ≡ all_turns turns)) (sym h) refl
 
 told_way : (o : Option (List Turn)) (turns : List Turn) → IfSome o (λ ts. ts ≡ turns) → IfSome (option_map told o) (λ x. x ≡ told turns)
 told_way None turns h = tt
@@ -76,12 +81,12 @@ told_way (Some ts) turns h = ap told h
 pub replay_task : (content : List ℕ → Option (List ℕ)) (line : Line) (log : List ℕ) (turns : List log_turn.Turn) (input : Input) → line.work ≡ replay log
     → IfSome (content line.names.script) (λ text. script_meaning text ≡ Ok input.script)
     → IfSome (content line.names.file_a) (λ text. input.file_a ≡ text) → IfSome (content line.names.file_b) (λ text. input.file_b ≡ text)
-    → IfSome (content log) (λ text. reading 3 8 text ≡ Ok turns)
+    → IfSome (content log) (λ text. log_reading input.script text ≡ Ok turns)
     → IfSome (task_of content line) (λ t. t ≡ task_from input (told (all_turns turns)))
 replay_task content line log turns input is script file_a file_b order =
-    task_known (content line.names.script) (content line.names.file_a) (content line.names.file_b) (course_of content line.work) input (told (all_turns turns)) script file_a file_b
-    (subst (λ w. IfSome (course_of content w) (λ x. x ≡ told (all_turns turns))) (sym is)
-    (told_way (option_and_then turns_in (content log)) (all_turns turns) (told_course (content log) turns order)))
+    task_known (content line.names.script) (content line.names.file_a) (content line.names.file_b) (λ s. course_of content s line.work) input (told (all_turns turns)) script file_a file_b
+    (subst (λ w. IfSome (course_of content input.script w) (λ x. x ≡ told (all_turns turns))) (sym is)
+    (told_way (option_and_then (turns_in input.script) (content log)) (all_turns turns) (told_course input.script (content log) turns order)))
 
 -- ---- from ports that hold the same
 
@@ -142,6 +147,12 @@ module _ (a b c : Ports) (same : (p : Port) → b p ≡ a p) where
 
 -- ---- what was read
 
+-- the script that was read is the one that the line names
+pub known_script : (o : Option (List ℕ)) (script : Script) (P : Script → Type 0) → IfSome o (λ text. script_meaning text ≡ Ok script) → P script
+    → IfSome (option_and_then script_in o) P
+known_script None script P is p = tt
+known_script (Some text) script P is p = subst (λ r. IfSome (result_ok r) P) (sym is) p
+
 ok_known : {X E : Type 0} (r : Result X E) (x : X) → r ≡ Ok x → IsOk r
 ok_known r x is = subst (λ q. IsOk q) (sym is) refl
 
@@ -156,11 +167,23 @@ module _ (content : List ℕ → Option (List ℕ)) (line : Line) where
   script_valid script h = some_weaker (content line.names.script) _ _ (λ text is. ok_known (script_meaning text) script is) h
 
   pub serial_order : (most : ℕ) → line.work ≡ serial most → HasValidOrder content line
-  serial_order most is = subst (λ w. IfSome (option_and_then content (order_of w)) (λ told. IsOk (reading 3 8 told))) (sym is) tt
+  serial_order most is = some_always (script_of content line) _
+      (λ script. subst (λ w. IfSome (option_and_then content (order_of w)) (λ told. IsOk (log_reading script told))) (sym is) tt)
 
-  pub replay_order : (log : List ℕ) (turns : List log_turn.Turn) → line.work ≡ replay log → IfSome (content log) (λ text. reading 3 8 text ≡ Ok turns) → HasValidOrder content line
-  replay_order log turns is h = subst (λ w. IfSome (option_and_then content (order_of w)) (λ told. IsOk (reading 3 8 told))) (sym is)
-      (some_weaker (content log) _ _ (λ text same. ok_known (reading 3 8 text) turns same) h)
+  pub replay_order : (log : List ℕ) (turns : List log_turn.Turn) (script : Script) → line.work ≡ replay log
+      → IfSome (content line.names.script) (λ text. script_meaning text ≡ Ok script) → IfSome (content log) (λ text. log_reading script text ≡ Ok turns)
+      → HasValidOrder content line
+  replay_order log turns script is read h =
+      known_script (content line.names.script) script (λ s. IfSome (content_of content line input.Order) (λ told. IsOk (log_reading s told))) read
+      (subst (λ w. IfSome (option_and_then content (order_of w)) (λ told. IsOk (log_reading script told))) (sym is)
+      (some_weaker (content log) _ _ (λ text same. ok_known (log_reading script text) turns same) h))
+
+-- of two that may be known, in the other order
+turned : {X Y : Type 0} (o : Option X) (p : Option Y) (P : X → Y → Type 0) → IfSome o (λ x. IfSome p (λ y. P x y)) → IfSome p (λ y. IfSome o (λ x. P x y))
+turned None None P h = tt
+turned None (Some y) P h = tt
+turned (Some x) None P h = tt
+turned (Some x) (Some y) P h = h
 
 -- ---- answers
 
@@ -192,7 +215,8 @@ module _ (content : List ℕ → Option (List ℕ)) (line : Line) (loads_before 
   replay_input_answer log (Log at) is still h = record {
     read = record { within = h.0; script = h.1.0 };
     replay = (log, ap order_of is);
-    cause = some_weaker (content_of content line input.Order) _ _ (λ text form. inl (form, still)) h.1.1;
+    cause = some_weaker (content_of content line input.Order) _ _ (λ text form. inl (form, still))
+        (turned (script_of content line) (content_of content line input.Order) (λ script text. log_reading script text ≡ Err (log_fault.Line at)) h.1.1);
   }
   replay_input_answer log Memory is still h = inl still
   replay_input_answer log Delivered is still h = absurd h
@@ -239,8 +263,8 @@ module _ (content : List ℕ → Option (List ℕ)) (line : Line) (loads_before 
   replay_answer log opening task (Log at) is read count known fault h = record {
     read = record { within = read.within; script = read.script };
     replay = (log, ap order_of is);
-    cause = subst (λ w. IfSome (option_and_then content (order_of w)) (λ text. IsRefusedLine (task_of content line) text at (IsUntouched held holds faults_before faults) held holds)) (sym is)
-        (some_weaker (content log) (λ text. opening ≡ opening_count text) (λ text. IsRefusedLine (task_of content line) text at (IsUntouched held holds faults_before faults) held holds)
+    cause = subst (λ w. IfSome (option_and_then content (order_of w)) (λ text. IsRefusedLine (script_of content line) (task_of content line) text at (IsUntouched held holds faults_before faults) held holds)) (sym is)
+        (some_weaker (content log) (λ text. opening ≡ opening_count text) (λ text. IsRefusedLine (script_of content line) (task_of content line) text at (IsUntouched held holds faults_before faults) held holds)
         (λ text same. inr (some_is (task_of content line) task (λ t. IsStopped t (opening_count text) at held holds) known (subst (λ n. IsStopped task n at held holds) same h))) count);
   }
   replay_answer log opening task (Put p) is read count known fault h = record { read = read; cause = fault; cut = some_is (task_of content line) task (λ t. IsCut t held holds) known h }
@@ -267,3 +291,32 @@ ends_from a b c same task lines Usage h = absurd h
 ends_from a b c same task lines (ScriptStatus at kind) h = absurd h
 ends_from a b c same task lines (Load named) h = absurd h
 ends_from a b c same task lines (TooLong named) h = absurd h
+
+-- ---- the made input
+
+module _ (task : Task) (faults_before faults : Port → ℕ) (held holds : Ports) where
+  pub made_end_answer : (status : Status) → HasEnded status → IsWhole task status held holds → IsMadeAnswer task faults_before faults held holds status
+  made_end_answer Delivered ended whole = whole
+  made_end_answer Rounds ended whole = whole
+  made_end_answer NoPath ended whole = whole
+  made_end_answer (Aborted reader) ended whole = whole
+  made_end_answer Usage ended whole = absurd ended
+  made_end_answer (ScriptStatus at kind) ended whole = absurd ended
+  made_end_answer (Load named) ended whole = absurd ended
+  made_end_answer (Put p) ended whole = absurd ended
+  made_end_answer (TooLong named) ended whole = absurd ended
+  made_end_answer Memory ended whole = absurd ended
+  made_end_answer (Log at) ended whole = absurd ended
+
+  pub made_cut_answer : (status : Status) → IsPortsFault faults_before faults status → IsCut task held holds → IsMadeAnswer task faults_before faults held holds status
+  made_cut_answer (Put p) fault cut = record { cause = fault; cut = cut }
+  made_cut_answer Memory fault cut = cut
+  made_cut_answer Delivered fault cut = absurd fault
+  made_cut_answer Rounds fault cut = absurd fault
+  made_cut_answer NoPath fault cut = absurd fault
+  made_cut_answer (Aborted reader) fault cut = absurd fault
+  made_cut_answer Usage fault cut = absurd fault
+  made_cut_answer (ScriptStatus at kind) fault cut = absurd fault
+  made_cut_answer (Load named) fault cut = absurd fault
+  made_cut_answer (TooLong named) fault cut = absurd fault
+  made_cut_answer (Log at) fault cut = absurd fault

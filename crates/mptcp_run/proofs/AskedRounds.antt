@@ -1,4 +1,4 @@
--- A serial run is asked for one round at least.
+-- A serial run is asked for one round at least, and the number of a made input is at most 256.
 use Rattle.std.proofs.Common.{◌≡◌, refl, ℕ, ◌≤◌, Bool, true, false, ◌&&◌, if◌then◌else◌, List, Option, Some, None, IfSome, arith}
 use Rattle.std.specs.Prelude.{nat_le, codes, option_map, option_and_then}
 use Rattle.std.specs.Str.{bytes_eq}
@@ -13,7 +13,7 @@ abbrev pub AsksRounds : Work → Type 0
 AsksRounds (serial most) = 1 ≤ most
 AsksRounds (run most) = Unit {0}
 AsksRounds (replay log) = Unit {0}
-AsksRounds (bench most number) = Unit {0}
+AsksRounds (bench most number) = number ≤ 256
 
 abbrev Asks : Line → Type 0
 Asks line = AsksRounds line.work
@@ -37,6 +37,18 @@ within_least least most word =
         leb-true least (digits_value 10 word) both.1
     by false is = tt
 
+within_most : (least most : ℕ) (word : List ℕ) → IfSome (number_within least most word) (λ n. n ≤ most)
+unfolding number_within
+within_most least most word =
+    by (is_numeral word && nat_le least (digits_value 10 word) && nat_le (digits_value 10 word) most) refl
+  where
+    by : (b : Bool) → (is_numeral word && nat_le least (digits_value 10 word) && nat_le (digits_value 10 word) most) ≡ b
+        → IfSome (if b then Some (digits_value 10 word) else None) (λ n. n ≤ most)
+    by true is =
+        let front = and_parts (is_numeral word && nat_le least (digits_value 10 word)) (nat_le (digits_value 10 word) most) is in
+        leb-true (digits_value 10 word) most front.1
+    by false is = tt
+
 some_rounds : (o : Option Word) → IfSome (rounds_in o) (λ n. 1 ≤ n)
 some_rounds None = omega arith
 some_rounds (Some word) = within_least 1 65536 word
@@ -54,17 +66,17 @@ replay_asks : (b : Bool) (log : Word) → IfSome (if b then Some (replay log) el
 replay_asks true log = tt
 replay_asks false log = tt
 
-bench_asks : (b : Bool) (most number : Option ℕ) → IfSome (if b then (most >>= λ n. number >>= λ input. Some (bench n input)) else None) AsksRounds
-bench_asks true None number = tt
-bench_asks true (Some n) None = tt
-bench_asks true (Some n) (Some input) = tt
-bench_asks false most number = tt
+bench_asks : (b : Bool) (most number : Option ℕ) → IfSome number (λ n. n ≤ 256) → IfSome (if b then (most >>= λ n. number >>= λ input. Some (bench n input)) else None) AsksRounds
+bench_asks true None number few = tt
+bench_asks true (Some n) None few = tt
+bench_asks true (Some n) (Some input) few = few
+bench_asks false most number few = tt
 
 work_asks : (word : Word) (rounds log number : Option Word) → IfSome (work_in word rounds log number) AsksRounds
 work_asks word rounds None None = plain_asks (bytes_eq word (codes "run")) (bytes_eq word (codes "serial")) (rounds_in rounds) (some_rounds rounds)
 work_asks word None (Some log) None = replay_asks (bytes_eq word (codes "replay") && is_given log) log
 work_asks word (Some most) (Some log) None = tt
-work_asks word rounds None (Some number) = bench_asks (bytes_eq word (codes "bench")) (rounds_in rounds) (number_within 1 256 number)
+work_asks word rounds None (Some number) = bench_asks (bytes_eq word (codes "bench")) (rounds_in rounds) (number_within 1 256 number) (within_most 1 256 number)
 work_asks word None (Some log) (Some number) = tt
 work_asks word (Some most) (Some log) (Some number) = tt
 
@@ -104,7 +116,7 @@ module _ (parts : List Part) where
       bind_has word (by_work most log input names) Asks (λ given.
       line_with (work_in given most log input) names (work_asks given most log input)))))))
 
-line_asks : (words : List Word) → IfSome (line_of words) Asks
+pub line_asks : (words : List Word) → IfSome (line_of words) Asks
 unfolding line_of
 line_asks words = bind_has (parts_of None words) line_of_parts Asks parts_ask
 

@@ -1,8 +1,9 @@
 -- The texts and the order of a round, gathered part by part.
 use Rattle.std.proofs.Common.{◌≡◌, refl, sym, ◌∙◌, ap, ℕ, zero, suc, ◌+◌, ◌<◌, ◌≤◌, List, [], ◌∷◌, ◌++◌, map, drop, take, length, get_or, arith}
 use Rattle.std.specs.Prelude.{All}
-use Rattle.std.specs.List.{flat_map, AllByRecursion}
+use Rattle.std.specs.List.{flat_map, AllByRecursion, sum}
 use Rattle.std.proofs.lemmas.Grind.{flat_map-append}
+use Rattle.std.proofs.lemmas.List.Sums.{sum_by-append}
 use Rattle.std.proofs.lemmas.List.{append-nil, append_assoc, length-map}
 use Rattle.std.specs.Borrow.{Bor}
 use Rattle.actor_desk.specs.declared.ask.Note.{Note}
@@ -13,7 +14,7 @@ use Rattle.run_log.specs.Lines as lines
 use Rattle.world_laws.specs.Actors.{ActorCrew}
 use Rattle.world_laws.specs.Fine.{lists_of}
 use Rattle.world_laws.specs.Outcomes.{notes_at}
-use Rattle.mptcp_run.specs.Putting.{opening_at, round_text}
+use Rattle.mptcp_run.specs.Putting.{opening_at, logged_text}
 use Rattle.mptcp_run.specs.Weaving.{since}
 use Rattle.mptcp_run.proofs.Inserting.{lent}
 use Rattle.mptcp_run.proofs.RoundSteps.{notes_at-is}
@@ -25,7 +26,7 @@ same_lines (step ∷ steps) = ap (λ xs. step_text step.now ∷ xs) (same_lines 
 -- the opening, the lines of the steps, and that of the round's end
 pub gathered : (opening : List ℕ) (number : ℕ) (steps : List (Bor Note)) (first middle all : List ℕ) → first ≡ opening_at opening number
     → middle ≡ first ++ flat_map ended (map (λ note. step_text note.now) steps) → all ≡ middle ++ ended (lines.round_text number)
-    → all ≡ round_text opening number (lent steps)
+    → all ≡ logged_text opening number (lent steps)
 gathered opening number steps first middle all is then last =
     last ∙ ap (λ xs. xs ++ ended (lines.round_text number)) (then ∙ ap (λ xs. xs ++ flat_map ended (map (λ note. step_text note.now) steps)) is)
     ∙ append_assoc (opening_at opening number) (flat_map ended (map (λ note. step_text note.now) steps)) (ended (lines.round_text number))
@@ -75,3 +76,13 @@ made_more crew i count old new within count_is old_is new_is =
     ∙ sym (map-append-one (take i (lists_of crew)) (get_or (lists_of crew) i []))
     ∙ sym (ap (map length) (ap (λ n. take n (lists_of crew)) (let e : i + 1 ≡ suc i = omega arith in e)
     ∙ get_or-more (lists_of crew) i [] (let many = length-map crew (λ (c : ActorCrew (List ℕ)). c.list) in omega (arith, within, many))))
+
+sum_push : (counts : List ℕ) (count : ℕ) → sum (counts ++ count ∷ []) ≡ sum counts + count
+sum_push counts count = sum_by-append (λ n. n) counts (count ∷ []) ∙ ap (λ n. sum counts + n) (let e : 0 + count ≡ count = omega arith in e)
+
+-- and how many all of them have
+pub steps_more : (crew : List (ActorCrew (List ℕ))) (i count old new : ℕ) → i < length crew → count ≡ length (notes_at i crew)
+    → old ≡ sum (map length (take i (lists_of crew))) → new ≡ old + count → new ≡ sum (map length (take (i + 1) (lists_of crew)))
+steps_more crew i count old new within count_is old_is new_is =
+    let before = map length (take i (lists_of crew)) in
+    new_is ∙ ap (λ n. n + count) old_is ∙ sym (sum_push before count) ∙ ap sum (made_more crew i count before (before ++ count ∷ []) within count_is refl refl)

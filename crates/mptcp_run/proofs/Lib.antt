@@ -22,6 +22,7 @@ mod LogWoven
 mod LogAgain
 mod Logged
 mod AskedRounds
+mod MadeTasks
 mod Calls
 mod Loading
 mod PutsMade

@@ -3,6 +3,7 @@ use Rattle.std.proofs.Common.{◌≡◌, sym, ap, subst, ℕ, List, [], ◌∷�
 use Rattle.std.specs.Prelude.{IsSomeAnd}
 use Rattle.outside_kit.specs.Calls.{Call, Made}
 use Rattle.outside_kit.specs.Calls as call
+use Rattle.link_script.specs.declared.script.Script as link
 use Rattle.run_words.specs.Lines.{Line, serial, replay}
 use Rattle.mptcp_run.specs.declared.status.Named.{Named}
 use Rattle.mptcp_run.specs.declared.status.Status.{Status}
@@ -79,18 +80,18 @@ script_adds line plan a b script (TooLong named) h fault = absurd fault
 script_adds line plan a b script (Log at) h fault = absurd fault
 
 -- a log that is
-pub form_adds : (line : Line) (plan : List Call) (a b : Told) (log : List ℕ) (status : Status) → AddsAll plan a b → IsFormFault log status → InputAdds line plan a b status
-form_adds line plan a b log (Log at) h fault = h
-form_adds line plan a b log Memory h fault = cut_over plan a b h
-form_adds line plan a b log Delivered h fault = absurd fault
-form_adds line plan a b log Rounds h fault = absurd fault
-form_adds line plan a b log NoPath h fault = absurd fault
-form_adds line plan a b log (Aborted reader) h fault = absurd fault
-form_adds line plan a b log Usage h fault = absurd fault
-form_adds line plan a b log (Script at kind) h fault = absurd fault
-form_adds line plan a b log (Load named) h fault = absurd fault
-form_adds line plan a b log (Put p) h fault = absurd fault
-form_adds line plan a b log (TooLong named) h fault = absurd fault
+pub form_adds : (line : Line) (plan : List Call) (a b : Told) (script : link.Script) (log : List ℕ) (status : Status) → AddsAll plan a b → IsFormFault script log status → InputAdds line plan a b status
+form_adds line plan a b script log (Log at) h fault = h
+form_adds line plan a b script log Memory h fault = cut_over plan a b h
+form_adds line plan a b script log Delivered h fault = absurd fault
+form_adds line plan a b script log Rounds h fault = absurd fault
+form_adds line plan a b script log NoPath h fault = absurd fault
+form_adds line plan a b script log (Aborted reader) h fault = absurd fault
+form_adds line plan a b script log Usage h fault = absurd fault
+form_adds line plan a b script log (Script at kind) h fault = absurd fault
+form_adds line plan a b script log (Load named) h fault = absurd fault
+form_adds line plan a b script log (Put p) h fault = absurd fault
+form_adds line plan a b script log (TooLong named) h fault = absurd fault
 
 -- ---- all loads
 

@@ -1,5 +1,5 @@
 -- The text of a run's log is read as the turns that its notes tell.
-use Rattle.std.proofs.Common.{◌≡◌, refl, sym, ◌∙◌, ap, subst, ℕ, suc, ◌+◌, ◌<◌, ◌^◌, Some, inl, inr, List, [], ◌∷◌, ◌++◌, map, length, arith}
+use Rattle.std.proofs.Common.{◌≡◌, refl, sym, ◌∙◌, ap, subst, ℕ, suc, ◌+◌, ◌<◌, ◌≤◌, ◌^◌, Option, Some, inl, inr, List, [], ◌∷◌, ◌++◌, map, length, arith}
 use Rattle.std.specs.Prelude.{option_map}
 use Rattle.std.specs.List.{slice_get, flat_map, AllByRecursion}
 use Rattle.std.specs.Result.{result_ok}
@@ -23,6 +23,8 @@ use Rattle.world_laws.proofs.Pairing.{stays_fine}
 use Rattle.world_laws.proofs.WeavingOrder.{in_order_of}
 use Rattle.world_laws.proofs.WeavingRounds.{run_append}
 use Rattle.mptcp_run.specs.Putting.{round_ends, round_steps, steps_by_round, log_text, RoundsFit}
+use Rattle.link_script.specs.declared.script.Script.{Script}
+use Rattle.mptcp_run.specs.Script.{actors_of, width_of}
 use Rattle.mptcp_run.specs.Task.{Connection, turn_of, turns_in}
 use Rattle.mptcp_run.proofs.AllTurns.{step_length}
 use Rattle.mptcp_run.proofs.LogWoven.{told_turns}
@@ -31,7 +33,7 @@ use Rattle.mptcp_run.proofs.Turning.{end_length}
 
 -- ---- the text
 
-later_lines : (opening : List ℕ) (number : ℕ) (steps : List (List Note)) → log_text opening (suc number) steps ≡ flat_map ended (rounds_lines (suc number) steps)
+later_lines : (opening : List ℕ) (number : ℕ) (steps : List (List Note)) → log_text (Some opening) (suc number) steps ≡ flat_map ended (rounds_lines (suc number) steps)
 later_lines opening number [] = refl
 later_lines opening number (notes ∷ more) =
     ap (λ xs. flat_map ended (round_lines (suc number) notes) ++ xs) (later_lines opening (suc number) more)
@@ -42,7 +44,7 @@ grouped a b c d = append_assoc (a ++ b) c d ∙ append_assoc a b (c ++ d) ∙ ap
 
 -- the opening, the rounds and the outcome, line by line
 lines_are : (opening : List (List ℕ)) (first : List Note) (more : List (List Note)) (outcome : Outcome)
-    → log_text (flat_map ended opening) 0 (first ∷ more) ++ ended (outcome_text outcome) ≡ log_behind opening (first ∷ more) outcome
+    → log_text (Some (flat_map ended opening)) 0 (first ∷ more) ++ ended (outcome_text outcome) ≡ log_behind opening (first ∷ more) outcome
 lines_are opening first more outcome =
     let a = flat_map ended opening in
     let b = flat_map ended (round_lines 0 first) in
@@ -55,21 +57,22 @@ lines_are opening first more outcome =
     ∙ sym (flat_map-append ended opening (rounds_lines 0 (first ∷ more) ++ outcome_text outcome ∷ []))
 
 -- the number of each round fits, so there are few
-few_rounds : (number : ℕ) (steps : List Note) (more : List (List Note)) → RoundsFit number (steps ∷ more) → number + length more < 2 ^ 64
-few_rounds number steps [] fits = let small = fits.0.0 in omega (arith, small)
-few_rounds number steps (next ∷ more) fits = let rest = few_rounds (suc number) next more fits.1 in omega (arith, rest)
+few_rounds : (opening : Option (List ℕ)) (number : ℕ) (steps : List Note) (more : List (List Note)) → RoundsFit opening number (steps ∷ more) → number + length more < 2 ^ 64
+few_rounds opening number steps [] fits = let small = fits.0.0 in omega (arith, small)
+few_rounds opening number steps (next ∷ more) fits = let rest = few_rounds opening (suc number) next more fits.1 in omega (arith, rest)
 
--- the log of some rounds, whose notes can be logged
-pub log_read : (key_a key_b : ℕ) (steps more : List (List Note)) (first : List Note) (outcome : Outcome) → steps ≡ first ∷ more → RoundsFit 0 steps
-    → AllByRecursion (AllByRecursion (CanBeLogged 3)) steps
-    → turns_in (log_text (flat_map ended (opening_lines 8 key_a key_b)) 0 steps ++ ended (outcome_text outcome)) ≡ Some (told_turns steps)
-log_read key_a key_b steps more first outcome is fits logged =
-    subst (λ ss. turns_in (log_text (flat_map ended (opening_lines 8 key_a key_b)) 0 ss ++ ended (outcome_text outcome)) ≡ Some (told_turns ss)) (sym is)
-    (ap turns_in (lines_are (opening_lines 8 key_a key_b) first more outcome)
+-- the log of some rounds of a script's run, whose notes can be logged
+pub log_read : (script : Script) (key_a key_b : ℕ) (steps more : List (List Note)) (first : List Note) (outcome : Outcome) → width_of script < 256 → steps ≡ first ∷ more
+    → RoundsFit (Some (flat_map ended (opening_lines (width_of script) key_a key_b))) 0 steps → AllByRecursion (AllByRecursion (CanBeLogged (actors_of script))) steps
+    → turns_in script (log_text (Some (flat_map ended (opening_lines (width_of script) key_a key_b))) 0 steps ++ ended (outcome_text outcome)) ≡ Some (told_turns steps)
+log_read script key_a key_b steps more first outcome byte is fits logged =
+    let lines = opening_lines (width_of script) key_a key_b in
+    subst (λ ss. turns_in script (log_text (Some (flat_map ended lines)) 0 ss ++ ended (outcome_text outcome)) ≡ Some (told_turns ss)) (sym is)
+    (ap (turns_in script) (lines_are lines first more outcome)
     ∙ ap (λ r. option_map (map turn_of) (result_ok r))
-    (reads_to_its_turns 3 8 key_a key_b first more outcome (omega arith)
-    (let few = few_rounds 0 first more (subst (RoundsFit 0) is fits) in omega (arith, few))
-    (subst (AllByRecursion (AllByRecursion (CanBeLogged 3))) is logged)).0)
+    (reads_to_its_turns (actors_of script) (width_of script) key_a key_b first more outcome byte
+    (let few : 0 + length more < 2 ^ 64 = few_rounds (Some (flat_map ended lines)) 0 first more (subst (RoundsFit (Some (flat_map ended lines)) 0) is fits) in omega (arith, few))
+    (subst (AllByRecursion (AllByRecursion (CanBeLogged (actors_of script)))) is logged)).0)
 
 -- ---- each note can be logged
 
@@ -99,39 +102,39 @@ run_length : (turns : List Turn) (w : Connection) → length (world_run octets t
 run_length [] w = refl
 run_length (turn ∷ turns) w = run_length turns (after_turn octets turn w) ∙ turn_length turn w
 
-record IsKnown (n : Note) : Type 0 where
-  actor : n.actor < 3
+record IsKnown (actors : ℕ) (n : Note) : Type 0 where
+  actor : n.actor < actors
   rows : HasRowsInRange n.reply
 
-module _ (start : Start) where
+module _ (start : Start) (few : length start.paths ≤ 16) (actors : ℕ) (many_is : length (opened_world {C = List ℕ} start).crew ≡ actors) where
   abbrev after : List Turn → Connection
   after turns = world_run octets turns (opened_world start)
 
-  note_known : (turns : List Turn) (top : ℕ) (n : Note) → In n (in_order top (lists_of (after turns).crew)) → IsKnown n
+  note_known : (turns : List Turn) (top : ℕ) (n : Note) → In n (in_order top (lists_of (after turns).crew)) → IsKnown actors n
   note_known turns top n there =
       let one = note_of_one (after turns).crew n (in_order_of top (lists_of (after turns).crew) n there).0 in
       let fine = (stays_fine octets).always start turns in
       let place = at_place one.actor.list n one.noted in
       let number : n.actor ≡ one.number = (fine.crew.each one.number one.number one.actor (omega arith) one.there).ours.each place.0 n place.1 in
       let within = slice_get_within (after turns).crew one.number one.actor one.there in
-      let many : length (after turns).crew ≡ 3 = run_length turns (opened_world start) in
-      record { actor = omega (arith, number, within, many); rows = rows_in_range octets start turns one.number one.actor one.there n one.noted }
+      let many : length (after turns).crew ≡ actors = run_length turns (opened_world start) ∙ many_is in
+      record { actor = omega (arith, number, within, many); rows = rows_in_range octets start few turns one.number one.actor one.there n one.noted }
 
-  all_logged : (notes : List Note) → AllByRecursion NoteFits notes → ((n : Note) → In n notes → IsKnown n) → AllByRecursion (CanBeLogged 3) notes
+  all_logged : (notes : List Note) → AllByRecursion NoteFits notes → ((n : Note) → In n notes → IsKnown actors n) → AllByRecursion (CanBeLogged actors) notes
   all_logged [] fits known = tt
   all_logged (n ∷ notes) fits known =
       let own = known n (inl refl) in
       (record { actor = own.actor; fits = fits.0; rows = own.rows }, all_logged notes fits.1 (λ m there. known m (inr there)))
 
-  pub rounds_logged : (turns front : List Turn) (last w : Connection) (number : ℕ) → w ≡ after front → RoundsFit number (steps_by_round last (round_ends turns w))
-      → AllByRecursion (AllByRecursion (CanBeLogged 3)) (steps_by_round last (round_ends turns w))
-  rounds_logged [] front last w number is fits = tt
-  rounds_logged (Turn.Step actor ∷ turns) front last w number is fits =
-      rounds_logged turns (front ++ Turn.Step actor ∷ []) last (world_step octets actor w) number
+  pub rounds_logged : (opening : List ℕ) (turns front : List Turn) (last w : Connection) (number : ℕ) → w ≡ after front → RoundsFit (Some opening) number (steps_by_round last (round_ends turns w))
+      → AllByRecursion (AllByRecursion (CanBeLogged actors)) (steps_by_round last (round_ends turns w))
+  rounds_logged opening [] front last w number is fits = tt
+  rounds_logged opening (Turn.Step actor ∷ turns) front last w number is fits =
+      rounds_logged opening turns (front ++ Turn.Step actor ∷ []) last (world_step octets actor w) number
       (ap (world_step octets actor) is ∙ sym (run_append octets front (Turn.Step actor ∷ []) (opened_world start))) fits
-  rounds_logged (Turn.Round ∷ turns) front last w number is fits =
+  rounds_logged opening (Turn.Round ∷ turns) front last w number is fits =
       let next : end_round w ≡ after (front ++ Turn.Round ∷ []) = ap end_round is ∙ sym (run_append octets front (Turn.Round ∷ []) (opened_world start)) in (
         all_logged (round_steps last (end_round w)) fits.0.1
-            (subst (λ v. (n : Note) → In n (round_steps last v) → IsKnown n) (sym next) (λ n there. note_known (front ++ Turn.Round ∷ []) (greatest 0 last.crew) n there)),
-        rounds_logged turns (front ++ Turn.Round ∷ []) (end_round w) (end_round w) (suc number) next fits.1,
+            (subst (λ v. (n : Note) → In n (round_steps last v) → IsKnown actors n) (sym next) (λ n there. note_known (front ++ Turn.Round ∷ []) (greatest 0 last.crew) n there)),
+        rounds_logged opening turns (front ++ Turn.Round ∷ []) (end_round w) (end_round w) (suc number) next fits.1,
       )

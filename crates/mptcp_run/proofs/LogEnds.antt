@@ -97,5 +97,6 @@ map_push [] = refl
 map_push (turn ∷ front) = ap (λ ts. turn_of turn ∷ ts) (map_push front)
 
 -- as turns of a connection
-pub turns_end : (text : List ℕ) (all : LogTurns) → reading 3 8 text ≡ Ok all → (front : List Turn) × (map turn_of all ≡ front ++ Turn.Round ∷ [])
-turns_end text all e = let ends = log_ends 3 8 text all e in (map turn_of ends.0, ap (map turn_of) ends.1 ∙ map_push ends.0)
+pub turns_end : (actors width : ℕ) (text : List ℕ) (all : LogTurns) → reading actors width text ≡ Ok all
+    → (front : List Turn) × (map turn_of all ≡ front ++ Turn.Round ∷ [])
+turns_end actors width text all e = let ends = log_ends actors width text all e in (map turn_of ends.0, ap (map turn_of) ends.1 ∙ map_push ends.0)

@@ -1,5 +1,5 @@
 -- The log of a run that came to its own end tells that run.
-use Rattle.std.proofs.Common.{◌≡◌, refl, sym, ◌∙◌, ap, subst, ℕ, zero, suc, ◌≤◌, Option, Some, List, [], ◌∷◌, ◌++◌, arith}
+use Rattle.std.proofs.Common.{◌≡◌, refl, sym, ◌∙◌, ap, subst, ℕ, zero, suc, ◌≤◌, ◌<◌, Bool, true, false, if◌then◌else◌, Option, Some, List, [], ◌∷◌, ◌++◌, length, arith}
 use Rattle.outside_kit.specs.Outside.{HoldsAfter}
 use Rattle.outside_kit.specs.declared.port.Port.{Port}
 use Rattle.outside_kit.specs.declared.port.Port.TheVariants.{ReadByA, ReadByB, Log}
@@ -7,15 +7,19 @@ use Rattle.outside_kit.specs.declared.side.Side.TheVariants.{A, B}
 use Rattle.actor_desk.specs.declared.ask.Note.{Note}
 use Rattle.path_core.specs.Octets.{octets}
 use Rattle.path_core.specs.Starts.{drawn_of}
-use Rattle.world_laws.specs.Openings.{start_of}
+use Rattle.link_script.specs.declared.script.PathLine.{PathLine}
+use Rattle.link_script.specs.declared.script.Script.{Script}
+use Rattle.world_laws.specs.Openings.{Start, PathPlan, plans_from, paths_from, opened_world, start_of}
 use Rattle.world_laws.specs.Outcomes.{outcome_of, output_of}
 use Rattle.world_laws.specs.Serial.{spelled, after_round, AreRounds}
 use Rattle.world_laws.specs.Worlds.{Turn, world_step, end_round}
 use Rattle.world_laws.proofs.Serially.{serial_is_one}
+use Rattle.mptcp_run.specs.declared.report.Report.TheVariants as report
 use Rattle.mptcp_run.specs.declared.status.Status.{Status}
 use Rattle.mptcp_run.specs.Logged.{HasRounds, replayed, TellsTheRun, LogTellsTheRun, WholeRunsAreTold, WholeRunsAgree}
 use Rattle.mptcp_run.specs.Promised.{EndsWithRound}
-use Rattle.mptcp_run.specs.Putting.{round_ends, last_end, steps_by_round, log_opening, log_text, status_of, told_outcome, last_line, RoundsFit, steps_so_far, read_so_far, log_so_far, world_after, IsWhole}
+use Rattle.mptcp_run.specs.Putting.{round_ends, last_end, steps_by_round, log_opening, opening_in, log_text, status_of, told_outcome, last_line_of, last_line, RoundsFit, steps_so_far, read_so_far, log_so_far, world_after, IsWhole}
+use Rattle.mptcp_run.specs.Script.{actors_of, width_of}
 use Rattle.mptcp_run.specs.Task.{Connection, Task, Course, rounds, told, opened, turns_in, AreTurnsOf}
 use Rattle.mptcp_run.proofs.LogAgain.{log_read, rounds_logged}
 use Rattle.mptcp_run.proofs.LogWoven.{told_turns, AreWoven, turns_woven, told_to_the_end, course_lawful}
@@ -51,7 +55,43 @@ course_round (told order) turns w (front, order_is) are = subst (λ ts. SomeEnde
 
 -- ---- the run that the log tells
 
-module _ (task : Task) (status : Status) (old new : Port → Option (List ℕ)) (has : HasRounds task.course) (whole : IsWhole task status old new) where
+-- how many actors a connection has
+paths_many : (start : Start) (number : ℕ) (plans : List PathPlan) → length (paths_from {C = List ℕ} start number plans) ≡ length plans
+paths_many start number [] = refl
+paths_many start number (plan ∷ plans) = ap suc (paths_many start (suc number) plans)
+
+plans_many : (script : Script) (number : ℕ) (lines : List PathLine) → length (plans_from script number lines) ≡ length lines
+plans_many script number [] = refl
+plans_many script number (line ∷ lines) = ap suc (plans_many script (suc number) lines)
+
+actors_many : (script : Script) (file_a file_b : List ℕ) → length (opened_world {C = List ℕ} (start_of script file_a file_b)).crew ≡ actors_of script
+actors_many script file_a file_b =
+    let many = paths_many (start_of script file_a file_b) 0 (plans_from script 0 script.paths) ∙ plans_many script 0 script.paths in omega (arith, many)
+
+width_fits : (script : Script) → width_of script < 256
+width_fits script = by script.short
+  where
+    by : (b : Bool) → (if b then 4 else 8) < 256
+    by true = omega arith
+    by false = omega arith
+
+-- a task with a log
+abbrev logged : Script → List ℕ → List ℕ → Course → Task
+logged script file_a file_b course = record { script = script; file_a = file_a; file_b = file_b; course = course; report = report.Log }
+
+as_logged : (task : Task) → task.report ≡ report.Log → logged task.script task.file_a task.file_b task.course ≡ task
+as_logged task kept =
+    ap (λ r. record { script = task.script; file_a = task.file_a; file_b = task.file_b; course = task.course; report = r }) (sym kept)
+
+-- the line of the outcome
+abbrev outcome_line : Connection → List ℕ
+outcome_line w = last_line_of report.Log 0 w
+
+module _ (script : Script) (file_a file_b : List ℕ) (way : Course) (status : Status) (old new : Port → Option (List ℕ)) (few : length script.paths ≤ 16) (has : HasRounds way)
+    (whole : IsWhole (logged script file_a file_b way) status old new) where
+  abbrev task : Task
+  task = logged script file_a file_b way
+
   abbrev made : List (List Note)
   made = steps_so_far task whole.turns
 
@@ -71,12 +111,12 @@ module _ (task : Task) (status : Status) (old new : Port → Option (List ℕ)) 
       ends (rounds most) has = tt
       ends (told order) has = has
 
-  read_again : turns_in (log_so_far task whole.turns ++ last_line (world_after task whole.turns)) ≡ Some noted
+  read_again : turns_in script (log_so_far task whole.turns ++ outcome_line (world_after task whole.turns)) ≡ Some noted
   read_again =
       let some = course_round task.course whole.turns (opened task) has whole.are in
-      log_read (drawn_of task.script).key_a (drawn_of task.script).key_b made _ _ (told_outcome (outcome_of (world_after task whole.turns).crew))
+      log_read script (drawn_of script 0).key_a (drawn_of script 0).key_b made _ _ (told_outcome (outcome_of (world_after task whole.turns).crew)) (width_fits script)
       (ap (steps_by_round (opened task)) some.is) whole.ports.fits
-      (rounds_logged (start_of task.script task.file_a task.file_b) whole.turns [] (opened task) (opened task) 0 refl whole.ports.fits)
+      (rounds_logged (start_of script file_a file_b) (let many = plans_many script 0 script.paths in omega (arith, many, few)) (actors_of script) (actors_many script file_a file_b) (log_opening script) whole.turns [] (opened task) (opened task) 0 refl whole.ports.fits)
 
   replay_whole : IsWhole (replayed task noted) status old new
   replay_whole = record {
@@ -86,15 +126,15 @@ module _ (task : Task) (status : Status) (old new : Port → Option (List ℕ)) 
     ports = record {
       read_by_b = subst (λ es. HoldsAfter (old ReadByB) (new ReadByB) (λ _. output_of B (last_end (opened task) es))) (sym again.ends) whole.ports.read_by_b;
       read_by_a = subst (λ es. HoldsAfter (old ReadByA) (new ReadByA) (λ _. output_of A (last_end (opened task) es))) (sym again.ends) whole.ports.read_by_a;
-      log = subst (λ es. HoldsAfter (old Log) (new Log) (λ held. held ++ (log_text (log_opening task.script) 0 (steps_by_round (opened task) es) ++ last_line (world_after task noted)))) (sym again.ends)
-          (subst (λ w. HoldsAfter (old Log) (new Log) (λ held. held ++ (log_so_far task whole.turns ++ last_line w))) (sym same_world) whole.ports.log);
-      fits = subst (λ es. RoundsFit 0 (steps_by_round (opened task) es)) (sym again.ends) whole.ports.fits;
+      log = subst (λ es. HoldsAfter (old Log) (new Log) (λ held. held ++ (log_text (opening_in task) 0 (steps_by_round (opened task) es) ++ outcome_line (world_after task noted)))) (sym again.ends)
+          (subst (λ w. HoldsAfter (old Log) (new Log) (λ held. held ++ (log_so_far task whole.turns ++ outcome_line w))) (sym same_world) whole.ports.log);
+      fits = subst (λ es. RoundsFit (opening_in task) 0 (steps_by_round (opened task) es)) (sym again.ends) whole.ports.fits;
     };
   }
 
   pub whole_run_is_told : LogTellsTheRun task status old new
   whole_run_is_told =
-      let text : List ℕ = log_so_far task whole.turns ++ last_line (world_after task whole.turns) in
+      let text : List ℕ = log_so_far task whole.turns ++ outcome_line (world_after task whole.turns) in
       let tells : TellsTheRun task whole.turns status old new text = record { order = noted; read = read_again; whole = replay_whole; same = same_world } in
       record {
         turns = whole.turns;
@@ -104,7 +144,10 @@ module _ (task : Task) (status : Status) (old new : Port → Option (List ℕ)) 
       }
 
 pub whole_runs_are_told : WholeRunsAreTold
-whole_runs_are_told task status old new has whole = whole_run_is_told task status old new has whole
+whole_runs_are_told task status old new kept few has whole =
+    let same = as_logged task kept in
+    subst (λ t. LogTellsTheRun t status old new) same
+    (whole_run_is_told task.script task.file_a task.file_b task.course status old new few has (subst (λ t. IsWhole t status old new) (sym same) whole))
 
 -- ---- runs of one task
 
@@ -121,10 +164,10 @@ whole_runs_agree task status other old new before after one two =
         read_by_b = (one.ports.read_by_b, subst (λ ts. HoldsAfter (before ReadByB) (after ReadByB) (λ _. read_so_far B task ts)) same two.ports.read_by_b);
         text_a = read_so_far A task one.turns;
         read_by_a = (one.ports.read_by_a, subst (λ ts. HoldsAfter (before ReadByA) (after ReadByA) (λ _. read_so_far A task ts)) same two.ports.read_by_a);
-        text = log_so_far task one.turns ++ last_line (world_after task one.turns);
+        text = log_so_far task one.turns ++ last_line task one.turns;
         log = (
           one.ports.log,
-          subst (λ ts. HoldsAfter (before Log) (after Log) (λ held. held ++ (log_so_far task ts ++ last_line (world_after task ts)))) same two.ports.log,
+          subst (λ ts. HoldsAfter (before Log) (after Log) (λ held. held ++ (log_so_far task ts ++ last_line task ts))) same two.ports.log,
         );
       },
     )

@@ -11,9 +11,11 @@ use Rattle.world_laws.specs.Outcomes.{output_of, outcome_of}
 use Rattle.world_laws.specs.Serial.{round_and, steps_and, spelled, after_steps, after_turns, after_round, AreRounds, IsSerial}
 use Rattle.world_laws.specs.Worlds.{Turn, world_step, end_round, world_run, AreLawful}
 use Rattle.world_core.specs.Rounds.{after_rounds}
+use Rattle.world_laws.proofs.Serially.{serial_is_one}
+use Rattle.mptcp_run.specs.declared.report.Report.TheVariants as report
 use Rattle.mptcp_run.specs.declared.status.Status.{Status}
 use Rattle.mptcp_run.specs.Ports.{HoldsMore, HoldsWithin, IsBetween}
-use Rattle.mptcp_run.specs.Putting.{round_ends, last_end, steps_by_round, log_opening, log_text, RoundsFit, status_of, last_line, ends_of, read_so_far, log_so_far, world_after, HoldsRounds, HoldsRun, IsWhole, IsStopped, AreFirstOf, HoldsCut, IsCut}
+use Rattle.mptcp_run.specs.Putting.{round_ends, last_end, steps_by_round, opening_in, log_text, RoundsFit, status_of, last_line_of, last_line, ends_of, read_so_far, log_so_far, world_after, HoldsRounds, HoldsRun, IsWhole, IsStopped, AreFirstOf, HoldsCut, IsCut}
 use Rattle.mptcp_run.specs.Rounds.{HoldsEnds, HoldsPart, ends_by, RoundsPut, RoundsCut, TurnsPut, TurnRefused, TurnsCut}
 use Rattle.mptcp_run.specs.Task.{Connection, Task, Course, opened, AreTurnsOf}
 use Rattle.mptcp_run.specs.Task as course
@@ -50,16 +52,16 @@ more_to a b c front P same h = subst (λ o. HoldsMore a o front P) (sym same) h
 
 -- the rounds that were put, as those of the turns
 pub rounds_held : (task : Task) (turns : List Turn) (ends : List Connection) (a b c : Ports) → ends ≡ ends_of task turns → AreBound a b
-    → HoldsEnds (log_opening task.script) 0 (opened task) ends b c → HoldsRounds task turns a c
+    → HoldsEnds (opening_in task) 0 (opened task) ends b c → HoldsRounds task turns a c
 rounds_held task turns ends a b c is bound h = record {
   read_by_b = subst (λ es. HoldsAfter (a port.ReadByB) (c port.ReadByB) (λ _. output_of B (last_end (opened task) es))) is
       (all_held (a port.ReadByB) (b port.ReadByB) (c port.ReadByB) (output_of B (last_end (opened task) ends)) bound.read_by_b h.read_by_b);
   read_by_a = subst (λ es. HoldsAfter (a port.ReadByA) (c port.ReadByA) (λ _. output_of A (last_end (opened task) es))) is
       (all_held (a port.ReadByA) (b port.ReadByA) (c port.ReadByA) (output_of A (last_end (opened task) ends)) bound.read_by_a h.read_by_a);
-  log = subst (λ es. HoldsAfter (a port.Log) (c port.Log) (λ held. held ++ log_text (log_opening task.script) 0 (steps_by_round (opened task) es))) is
-      (all_behind (a port.Log) (c port.Log) (log_text (log_opening task.script) 0 (steps_by_round (opened task) ends))
+  log = subst (λ es. HoldsAfter (a port.Log) (c port.Log) (λ held. held ++ log_text (opening_in task) 0 (steps_by_round (opened task) es))) is
+      (all_behind (a port.Log) (c port.Log) (log_text (opening_in task) 0 (steps_by_round (opened task) ends))
       (more_from (a port.Log) (b port.Log) (c port.Log) [] _ bound.log h.log));
-  fits = subst (λ es. RoundsFit 0 (steps_by_round (opened task) es)) is h.fits;
+  fits = subst (λ es. RoundsFit (opening_in task) 0 (steps_by_round (opened task) es)) is h.fits;
 }
 
 after_append : (a c d : Option (List ℕ)) (x y : List ℕ) → HoldsAfter a c (λ held. held ++ x) → HoldsAfter c d (λ held. held ++ y) → HoldsAfter a d (λ held. held ++ (x ++ y))
@@ -67,13 +69,13 @@ after_append None c d x y h k = tt
 after_append (Some held) c d x y h k = subst (λ o. HoldsAfter o d (λ all. all ++ y)) h k ∙ ap Some (append_assoc held x y)
 
 -- with the last line behind them
-pub run_held : (task : Task) (turns : List Turn) (v : Connection) (a c d : Ports) → v ≡ world_after task turns → HoldsRounds task turns a c → LogGrew (last_line v) c d
+pub run_held : (task : Task) (turns : List Turn) (line : List ℕ) (a c d : Ports) → line ≡ last_line task turns → HoldsRounds task turns a c → LogGrew line c d
     → HoldsRun task turns a d
-run_held task turns v a c d is h k = record {
+run_held task turns line a c d is h k = record {
   read_by_b = subst (λ o. HoldsAfter (a port.ReadByB) o (λ _. read_so_far B task turns)) (sym k.read_by_b) h.read_by_b;
   read_by_a = subst (λ o. HoldsAfter (a port.ReadByA) o (λ _. read_so_far A task turns)) (sym k.read_by_a) h.read_by_a;
-  log = subst (λ w. HoldsAfter (a port.Log) (d port.Log) (λ held. held ++ (log_so_far task turns ++ last_line w))) is
-      (after_append (a port.Log) (c port.Log) (d port.Log) (log_so_far task turns) (last_line v) h.log k.log);
+  log = subst (λ last. HoldsAfter (a port.Log) (d port.Log) (λ held. held ++ (log_so_far task turns ++ last))) is
+      (after_append (a port.Log) (c port.Log) (d port.Log) (log_so_far task turns) line h.log k.log);
   fits = h.fits;
 }
 
@@ -84,7 +86,7 @@ between_more low high text h = record { least = h.least; most = IsPrefix-trans t
 
 -- some rounds, and a part of the next one
 pub part_cut : (task : Task) (turns more : List Turn) (low high : List Connection) (a b c : Ports) → low ≡ ends_of task turns → high ≡ ends_of task (turns ++ more)
-    → AreBound a b → HoldsPart (log_opening task.script) 0 (opened task) low high b c → HoldsCut task turns more [] a c
+    → AreBound a b → HoldsPart (opening_in task) 0 (opened task) low high b c → HoldsCut task turns more [] a c
 part_cut task turns more low high a b c low_is high_is bound h = record {
   read_by_b = subst (λ es. HoldsWithin (turns ++ more ≡ []) (a port.ReadByB) (c port.ReadByB) (output_of B (last_end (opened task) es)) (read_so_far B task (turns ++ more))) low_is
       (subst (λ es. HoldsWithin (turns ++ more ≡ []) (a port.ReadByB) (c port.ReadByB) (output_of B (last_end (opened task) low)) (output_of B (last_end (opened task) es))) high_is
@@ -92,8 +94,8 @@ part_cut task turns more low high a b c low_is high_is bound h = record {
   read_by_a = subst (λ es. HoldsWithin (turns ++ more ≡ []) (a port.ReadByA) (c port.ReadByA) (output_of A (last_end (opened task) es)) (read_so_far A task (turns ++ more))) low_is
       (subst (λ es. HoldsWithin (turns ++ more ≡ []) (a port.ReadByA) (c port.ReadByA) (output_of A (last_end (opened task) low)) (output_of A (last_end (opened task) es))) high_is
       (part_held (turns ++ more ≡ []) (a port.ReadByA) (b port.ReadByA) (c port.ReadByA) _ _ bound.read_by_a h.read_by_a));
-  log = subst (λ es. HoldsMore (a port.Log) (c port.Log) [] (IsBetween (log_text (log_opening task.script) 0 (steps_by_round (opened task) es)) (log_so_far task (turns ++ more) ++ []))) low_is
-      (subst (λ es. HoldsMore (a port.Log) (c port.Log) [] (IsBetween (log_text (log_opening task.script) 0 (steps_by_round (opened task) low)) (log_text (log_opening task.script) 0 (steps_by_round (opened task) es) ++ []))) high_is
+  log = subst (λ es. HoldsMore (a port.Log) (c port.Log) [] (IsBetween (log_text (opening_in task) 0 (steps_by_round (opened task) es)) (log_so_far task (turns ++ more) ++ []))) low_is
+      (subst (λ es. HoldsMore (a port.Log) (c port.Log) [] (IsBetween (log_text (opening_in task) 0 (steps_by_round (opened task) low)) (log_text (opening_in task) 0 (steps_by_round (opened task) es) ++ []))) high_is
       (more_weaker (a port.Log) (c port.Log) [] _ _ (λ text between. between_more _ _ text between)
       (more_from (a port.Log) (b port.Log) (c port.Log) [] _ bound.log h.log)));
 }
@@ -158,6 +160,10 @@ spelled_ends [] w = refl
 spelled_ends (counts ∷ rounds) w =
     ap (λ es. after_round octets counts w ∷ es) (spelled_ends rounds (after_round octets counts w)) ∙ sym (counts_ends 0 counts (spelled rounds) w)
 
+ends_many : (rounds : List (List ℕ)) (w : Connection) → length (ends_by rounds w) ≡ length rounds
+ends_many [] w = refl
+ends_many (counts ∷ rounds) w = ap suc (ends_many rounds (after_round octets counts w))
+
 steps-append : (actor n : ℕ) (rest more : List Turn) → steps_and actor n rest ++ more ≡ steps_and actor n (rest ++ more)
 steps-append actor zero rest more = refl
 steps-append actor (suc n) rest more = ap (λ ts. Turn.Step actor ∷ ts) (steps-append actor n rest more)
@@ -193,16 +199,33 @@ module _ (task : Task) (most : ℕ) (is : task.course ≡ course.rounds most) wh
   pub are_turns : (rounds : List (List ℕ)) → AreRounds octets most rounds (opened task) → AreTurnsOf task.course (spelled rounds) (opened task)
   are_turns rounds h = subst (λ c. AreTurnsOf c (spelled rounds) (opened task)) (sym is) (rounds, h, refl)
 
-  pub serial_whole : (v : Connection) (status : Status) (a b c d : Ports) → AreBound a b → RoundsPut (log_opening task.script) most 0 (opened task) v b c
-      → status ≡ status_of (outcome_of v.crew) → LogGrew (last_line v) c d → IsWhole task status a d
-  serial_whole v status a b c d bound h shown grew =
+  -- how many rounds ended, and with which line
+  many_ended : (rounds : List (List ℕ)) → length (ends_of task (spelled rounds)) ≡ length rounds
+  many_ended rounds = sym (ap length (spelled_ends rounds (opened task))) ∙ ends_many rounds (opened task)
+
+  line_after : (count : ℕ) (v : Connection) (rounds : List (List ℕ)) → count ≡ 0 + length rounds → v ≡ world_after task (spelled rounds)
+      → last_line_of task.report count v ≡ last_line task (spelled rounds)
+  line_after count v rounds many end =
+      let same : count ≡ length rounds = omega (arith, many) in
+      ap (λ n. last_line_of task.report n v) (same ∙ sym (many_ended rounds)) ∙ ap (last_line_of task.report (length (ends_of task (spelled rounds)))) end
+
+  pub serial_whole : (count : ℕ) (v : Connection) (status : Status) (a b c d : Ports) → AreBound a b → RoundsPut (opening_in task) most 0 count (opened task) v b c
+      → status ≡ status_of (outcome_of v.crew) → LogGrew (last_line_of task.report count v) c d → IsWhole task status a d
+  serial_whole count v status a b c d bound h shown grew =
       let end : v ≡ world_after task (spelled h.rounds) = h.world ∙ sym (spelled_run h.rounds (opened task)) in
       record {
         turns = spelled h.rounds;
         are = are_turns h.rounds h.are;
         status_is = shown ∙ ap (λ w. status_of (outcome_of w.crew)) end;
-        ports = run_held task (spelled h.rounds) v a c d end (rounds_held task (spelled h.rounds) (ends_by h.rounds (opened task)) a b c (spelled_ends h.rounds (opened task)) bound h.ports) grew;
+        ports = run_held task (spelled h.rounds) _ a c d (line_after count v h.rounds h.count_is end) (rounds_held task (spelled h.rounds) (ends_by h.rounds (opened task)) a b c (spelled_ends h.rounds (opened task)) bound h.ports) grew;
       }
+
+  -- the last line by the turns of any such run: there is one
+  pub line_of_serial : (count : ℕ) (v : Connection) (b c : Ports) → RoundsPut (opening_in task) most 0 count (opened task) v b c
+      → (turns : List Turn) → IsSerial octets most turns (opened task) → last_line_of task.report count v ≡ last_line task turns
+  line_of_serial count v b c h turns serial =
+      line_after count v h.rounds h.count_is (h.world ∙ sym (spelled_run h.rounds (opened task)))
+      ∙ ap (last_line task) (serial_is_one octets most (spelled h.rounds) turns (opened task) (h.rounds, h.are, refl) serial)
 
   pub first_of : (n : ℕ) (rounds more : List (List ℕ)) → n ≤ most → AreRounds octets n rounds (opened task)
       → (more ≡ []) ⊎ ((suc n ≤ most) × (((counts : List ℕ) × (more ≡ counts ∷ [])) × AreRounds octets (suc n) (rounds ++ more) (opened task)))
@@ -214,7 +237,7 @@ module _ (task : Task) (most : ℕ) (is : task.course ≡ course.rounds most) wh
       by (inl none) = inl (ap spelled none)
       by (inr (low, (one, are))) = inr (low, (rounds ++ more, are, sym (spelled-append rounds more)))
 
-  pub serial_cut : (a b c : Ports) → AreBound a b → RoundsCut (log_opening task.script) most 0 (opened task) b c → IsCut task a c
+  pub serial_cut : (a b c : Ports) → AreBound a b → RoundsCut (opening_in task) most 0 (opened task) b c → IsCut task a c
   serial_cut a b c bound h = record {
     turns = spelled h.rounds;
     more = spelled h.more;
@@ -243,17 +266,18 @@ module _ (task : Task) (most : ℕ) (is : task.course ≡ course.rounds most) wh
     ports = h;
   }
 
-  pub serial_end_cut : (v : Connection) (a b c d : Ports) → AreBound a b → RoundsPut (log_opening task.script) most 0 (opened task) v b c → LogGrewPart (last_line v) c d → IsCut task a d
-  serial_end_cut v a b c d bound h grew =
+  pub serial_end_cut : (count : ℕ) (v : Connection) (a b c d : Ports) → AreBound a b → RoundsPut (opening_in task) most 0 count (opened task) v b c
+      → LogGrewPart (last_line_of task.report count v) c d → IsCut task a d
+  serial_end_cut count v a b c d bound h grew =
       let end : v ≡ world_after task (spelled h.rounds) = h.world ∙ sym (spelled_run h.rounds (opened task)) in
       record {
         turns = spelled h.rounds;
         more = [];
         are = first_of most h.rounds [] (omega arith) h.are (inl refl);
         one = omega arith;
-        line = last_line v;
-        line_is = inr (are_turns h.rounds h.are, ap last_line end);
-        ports = end_cut task (spelled h.rounds) (last_line v) a c d
+        line = last_line_of task.report count v;
+        line_is = inr (are_turns h.rounds h.are, line_after count v h.rounds h.count_is end);
+        ports = end_cut task (spelled h.rounds) (last_line_of task.report count v) a c d
             (rounds_held task (spelled h.rounds) (ends_by h.rounds (opened task)) a b c (spelled_ends h.rounds (opened task)) bound h.ports) grew;
       }
 
@@ -263,24 +287,30 @@ lawful-append : (xs ys : List Turn) (w : Connection) → AreLawful octets (xs ++
 lawful-append [] ys w h = tt
 lawful-append (x ∷ xs) ys w h = (h.0, lawful-append xs ys _ h.1)
 
+-- the line of a log doesn't tell how many rounds ended
+pub logged_line : (task : Task) (turns : List Turn) (count : ℕ) (v : Connection) → task.report ≡ report.Log → v ≡ world_after task turns
+    → last_line_of report.Log count v ≡ last_line task turns
+logged_line task turns count v kept end =
+    ap (last_line_of report.Log (length (ends_of task turns))) end ∙ ap (λ r. last_line_of r (length (ends_of task turns)) (world_after task turns)) (sym kept)
+
 module _ (task : Task) (order : List Turn) (is : task.course ≡ course.told order) where
   pub are_told : AreLawful octets order (opened task) → AreTurnsOf task.course order (opened task)
   are_told h = subst (λ c. AreTurnsOf c order (opened task)) (sym is) (refl, h)
 
-  pub replay_whole : (v : Connection) (status : Status) (a b c d : Ports) → AreBound a b → TurnsPut (log_opening task.script) 0 order (opened task) (opened task) v b c
-      → status ≡ status_of (outcome_of v.crew) → LogGrew (last_line v) c d → IsWhole task status a d
-  replay_whole v status a b c d bound h shown grew = record {
+  pub replay_whole : (count : ℕ) (v : Connection) (status : Status) (a b c d : Ports) → task.report ≡ report.Log → AreBound a b → TurnsPut (opening_in task) 0 order (opened task) (opened task) v b c
+      → status ≡ status_of (outcome_of v.crew) → LogGrew (last_line_of report.Log count v) c d → IsWhole task status a d
+  replay_whole count v status a b c d kept bound h shown grew = record {
     turns = order;
     are = are_told h.lawful;
     status_is = shown ∙ ap (λ w. status_of (outcome_of w.crew)) h.world;
-    ports = run_held task order v a c d h.world (rounds_held task order (round_ends order (opened task)) a b c refl bound h.ports) grew;
+    ports = run_held task order _ a c d (logged_line task order count v kept h.world) (rounds_held task order (round_ends order (opened task)) a b c refl bound h.ports) grew;
   }
 
   pub told_first : (turns more behind : List Turn) → order ≡ turns ++ (more ++ behind) → AreLawful octets (turns ++ more) (opened task)
       → AreFirstOf task.course turns more (opened task)
   told_first turns more behind parts lawful = subst (λ c. AreFirstOf c turns more (opened task)) (sym is) (behind, (parts, lawful))
 
-  pub replay_cut : (a b c : Ports) → AreBound a b → TurnsCut (log_opening task.script) 0 order (opened task) (opened task) b c → IsCut task a c
+  pub replay_cut : (a b c : Ports) → AreBound a b → TurnsCut (opening_in task) 0 order (opened task) (opened task) b c → IsCut task a c
   replay_cut a b c bound h = record {
     turns = h.turns;
     more = h.more;
@@ -302,20 +332,20 @@ module _ (task : Task) (order : List Turn) (is : task.course ≡ course.told ord
     ports = h;
   }
 
-  pub replay_end_cut : (v : Connection) (a b c d : Ports) → AreBound a b → TurnsPut (log_opening task.script) 0 order (opened task) (opened task) v b c
-      → LogGrewPart (last_line v) c d → IsCut task a d
-  replay_end_cut v a b c d bound h grew = record {
+  pub replay_end_cut : (count : ℕ) (v : Connection) (a b c d : Ports) → task.report ≡ report.Log → AreBound a b → TurnsPut (opening_in task) 0 order (opened task) (opened task) v b c
+      → LogGrewPart (last_line_of report.Log count v) c d → IsCut task a d
+  replay_end_cut count v a b c d kept bound h grew = record {
     turns = order;
     more = [];
     are = told_first order [] [] (sym (append-nil order)) (subst (λ ts. AreLawful octets ts (opened task)) (sym (append-nil order)) h.lawful);
     one = omega arith;
-    line = last_line v;
-    line_is = inr (are_told h.lawful, ap last_line h.world);
-    ports = end_cut task order (last_line v) a c d (rounds_held task order (round_ends order (opened task)) a b c refl bound h.ports) grew;
+    line = last_line_of report.Log count v;
+    line_is = inr (are_told h.lawful, logged_line task order count v kept h.world);
+    ports = end_cut task order (last_line_of report.Log count v) a c d (rounds_held task order (round_ends order (opened task)) a b c refl bound h.ports) grew;
   }
 
   pub replay_stopped : (lines count line : ℕ) (a b c : Ports) → AreBound a b → line ≡ lines + count + 1
-      → TurnRefused (log_opening task.script) 0 order count (opened task) (opened task) b c → IsStopped task lines line a c
+      → TurnRefused (opening_in task) 0 order count (opened task) (opened task) b c → IsStopped task lines line a c
   replay_stopped lines count line a b c bound line_is h = record {
     before = h.before;
     turn = h.turn;

@@ -8,42 +8,43 @@ use Rattle.link_script.proofs.ReadRanges.{read_has_ranges}
 use Rattle.run_words.specs.Lines.{Work, run, serial, replay, bench, ◌>>=◌}
 use Rattle.run_log.specs.declared.fault.LogFault.{LogFault}
 use Rattle.run_log.specs.declared.turn.Turn as logged_turn
-use Rattle.run_log.specs.Form.{reading}
+use Rattle.mptcp_run.specs.declared.report.Report.TheVariants as report
 use Rattle.mptcp_run.specs.declared.status.Named.TheVariants as input
 use Rattle.mptcp_run.specs.Promised.{EndsWithRound, IsPromisedTask, LoadedTasksArePlain}
-use Rattle.mptcp_run.specs.Script.{script_meaning}
-use Rattle.mptcp_run.specs.Task.{Course, told, turn_of, turns_in, script_in, course_of}
+use Rattle.mptcp_run.specs.Script.{script_meaning, script_in, actors_of, width_of, log_reading}
+use Rattle.mptcp_run.specs.Task.{Course, told, turn_of, turns_in, course_of}
 use Rattle.mptcp_run.proofs.LogEnds.{turns_end}
 use Rattle.mptcp_run.proofs.Unchanging.{run_script_is}
 
-turns_of_log : (text : List ℕ) (r : Result (List logged_turn.Turn) LogFault) → reading 3 8 text ≡ r
+turns_of_log : (script : Script) (text : List ℕ) (r : Result (List logged_turn.Turn) LogFault) → log_reading script text ≡ r
     → IfSome (option_map told (option_map (map turn_of) (result_ok r))) EndsWithRound
-turns_of_log text (Ok turns) e = turns_end text turns e
-turns_of_log text (Err f) e = tt
+turns_of_log script text (Ok turns) e = turns_end (actors_of script) (width_of script) text turns e
+turns_of_log script text (Err f) e = tt
 
-turns_of_content : (o : Option (List ℕ)) → IfSome (option_map told (option_and_then turns_in o)) EndsWithRound
-turns_of_content None = tt
-turns_of_content (Some text) = turns_of_log text (reading 3 8 text) refl
+turns_of_content : (script : Script) (o : Option (List ℕ)) → IfSome (option_map told (option_and_then (turns_in script) o)) EndsWithRound
+turns_of_content script None = tt
+turns_of_content script (Some text) = turns_of_log script text (log_reading script text) refl
 
-pub course_ends : (content : List ℕ → Option (List ℕ)) (work : Work) → IfSome (course_of content work) EndsWithRound
-course_ends content (serial most) = tt
-course_ends content (replay log) = turns_of_content (content log)
-course_ends content (run most) = tt
-course_ends content (bench most number) = tt
+pub course_ends : (content : List ℕ → Option (List ℕ)) (script : Script) (work : Work) → IfSome (course_of content script work) EndsWithRound
+course_ends content script (serial most) = tt
+course_ends content script (replay log) = turns_of_content script (content log)
+course_ends content script (run most) = tt
+course_ends content script (bench most number) = tt
 
-task_is : (s a b : Option (List ℕ)) (c : Option Course) → IfSome a (λ file. length file ≤ 16777216) → IfSome b (λ file. length file ≤ 16777216) → IfSome c EndsWithRound
-    → IfSome (option_and_then script_in s >>= λ script. a >>= λ file_a. b >>= λ file_b. c >>= λ x. Some (record { script = script; file_a = file_a; file_b = file_b; course = x })) IsPromisedTask
+task_is : (s a b : Option (List ℕ)) (c : Script → Option Course) → IfSome a (λ file. length file ≤ 16777216) → IfSome b (λ file. length file ≤ 16777216)
+    → ((script : Script) → IfSome (c script) EndsWithRound)
+    → IfSome (option_and_then script_in s >>= λ script. a >>= λ file_a. b >>= λ file_b. c script >>= λ x. Some (record { script = script; file_a = file_a; file_b = file_b; course = x; report = report.Log }))
+    IsPromisedTask
 task_is None a b c few_a few_b ends = tt
-task_is (Some text) a b c few_a few_b ends = by (script_meaning text) refl a b c few_a few_b ends
+task_is (Some text) a b c few_a few_b ends = by (script_meaning text) refl
   where
-    by : (r : Result Script ScriptFault) → script_meaning text ≡ r → (a b : Option (List ℕ)) (c : Option Course)
-        → IfSome a (λ file. length file ≤ 16777216) → IfSome b (λ file. length file ≤ 16777216) → IfSome c EndsWithRound
-        → IfSome (result_ok r >>= λ script. a >>= λ file_a. b >>= λ file_b. c >>= λ x. Some (record { script = script; file_a = file_a; file_b = file_b; course = x })) IsPromisedTask
-    by (Err f) e a b c few_a few_b ends = tt
-    by (Ok script) e None b c few_a few_b ends = tt
-    by (Ok script) e (Some a) None c few_a few_b ends = tt
-    by (Ok script) e (Some a) (Some b) None few_a few_b ends = tt
-    by (Ok script) e (Some a) (Some b) (Some x) few_a few_b ends = let said = run_script_is text script e in record {
+    with : (script : Script) → script_meaning text ≡ Ok script → (a b : Option (List ℕ)) (x : Option Course)
+        → IfSome a (λ file. length file ≤ 16777216) → IfSome b (λ file. length file ≤ 16777216) → IfSome x EndsWithRound
+        → IfSome (a >>= λ file_a. b >>= λ file_b. x >>= λ y. Some (record { script = script; file_a = file_a; file_b = file_b; course = y; report = report.Log })) IsPromisedTask
+    with script e None b x few_a few_b ends = tt
+    with script e (Some a) None x few_a few_b ends = tt
+    with script e (Some a) (Some b) None few_a few_b ends = tt
+    with script e (Some a) (Some b) (Some x) few_a few_b ends = let said = run_script_is text script e in record {
       plain = record {
         ranges = read_has_ranges text script said.0;
         unchanged = said.1;
@@ -53,7 +54,12 @@ task_is (Some text) a b c few_a few_b ends = by (script_meaning text) refl a b c
       ends = ends;
     }
 
+    by : (r : Result Script ScriptFault) → script_meaning text ≡ r
+        → IfSome (result_ok r >>= λ script. a >>= λ file_a. b >>= λ file_b. c script >>= λ x. Some (record { script = script; file_a = file_a; file_b = file_b; course = x; report = report.Log })) IsPromisedTask
+    by (Err f) e = tt
+    by (Ok script) e = with script e a b (c script) few_a few_b (ends script)
+
 pub loaded_tasks_are_plain : LoadedTasksArePlain
 loaded_tasks_are_plain content line within =
-    task_is (content line.names.script) (content line.names.file_a) (content line.names.file_b) (course_of content line.work)
-    (within input.FileA) (within input.FileB) (course_ends content line.work)
+    task_is (content line.names.script) (content line.names.file_a) (content line.names.file_b) (λ script. course_of content script line.work)
+    (within input.FileA) (within input.FileB) (λ script. course_ends content script line.work)

@@ -1,5 +1,5 @@
 -- The calls of a run, from its binds to its last line, and behind its loads.
-use Rattle.std.proofs.Common.{◌≡◌, refl, sym, ◌∙◌, ap, subst, ℕ, inl, inr, List, [], ◌∷◌, ◌++◌, Option, Some, None, IfSome, arith}
+use Rattle.std.proofs.Common.{◌≡◌, refl, sym, ap, subst, ℕ, inl, inr, List, [], ◌∷◌, ◌++◌, Option, Some, None, IfSome, arith}
 use Rattle.std.proofs.lemmas.List.{append-nil}
 use Rattle.outside_kit.specs.Calls.{Call, Made}
 use Rattle.outside_kit.specs.Calls as call
@@ -10,79 +10,83 @@ use Rattle.path_core.specs.Octets.{octets}
 use Rattle.world_core.specs.declared.input.Input.{Input}
 use Rattle.world_core.specs.Kept.{Kept}
 use Rattle.world_laws.specs.Openings.{start_of, opened_world}
-use Rattle.world_laws.specs.Serial.{spelled}
+use Rattle.world_laws.specs.Serial.{spelled, IsSerial}
 use Rattle.world_laws.specs.Worlds.{Turn, world_run, AreLawful}
+use Rattle.mptcp_run.specs.declared.report.Report.{Report}
+use Rattle.mptcp_run.specs.declared.report.Report.TheVariants as report
 use Rattle.mptcp_run.specs.declared.rounds.Run.{Run}
 use Rattle.mptcp_run.specs.declared.status.Status.{Status}
 use Rattle.mptcp_run.specs.declared.status.Status.TheVariants.{Delivered, Rounds, NoPath, Aborted, Usage, Script, Load, Put, TooLong, Memory, Log}
-use Rattle.mptcp_run.specs.Adding.{InputAdds, RoundsAdd, RoundsAddCut, TurnsAddCut, TurnsEnd, AddsWork, AddsWorkCut, ReplayAdds}
+use Rattle.mptcp_run.specs.Adding.{InputAdds, RoundsAdd, RoundsAddCut, TurnsAddCut, TurnsEnd, AddsWork, AddsWorkCut, MadeAdds, ReplayAdds}
 use Rattle.mptcp_run.specs.Answers.{HasEnded}
 use Rattle.mptcp_run.specs.Plan.{AddsAll, AddsCut, loads_of, binds_of, puts_by_round, puts_so_far, ArePuts, AreFirstPuts, ArePutsBefore, AddsPlan, AddsFirst, AreCallsAt, AreCallsOf}
 use Rattle.mptcp_run.specs.Ports.{IsPortsFault}
-use Rattle.mptcp_run.specs.Putting.{round_ends, log_opening, last_line, world_after}
+use Rattle.mptcp_run.specs.Putting.{round_ends, log_opening, opening_of, last_line, last_line_of}
 use Rattle.mptcp_run.specs.Rounds.{IsOpened}
-use Rattle.mptcp_run.specs.Task.{Connection, Task, task_from, task_of, opened}
+use Rattle.mptcp_run.specs.Task.{Connection, Task, task_from, task_with, task_of, opened}
 use Rattle.mptcp_run.specs.Task as course
 use Rattle.mptcp_run.proofs.Answering.{some_is}
 use Rattle.mptcp_run.proofs.Calls.{Told, adds_none, all_then, cut_then, cut_longer, cut_none}
-use Rattle.mptcp_run.proofs.Performing.{spelled_ends, spelled_run, are_turns, first_of, are_told, told_first}
+use Rattle.mptcp_run.proofs.Performing.{spelled_ends, are_turns, first_of, are_told, told_first, logged_line}
 
--- the line of the outcome
-abbrev pub line_put : Connection → List Call
-line_put v = call.Put port.Log (last_line v) ∷ []
+-- the last line
+abbrev pub line_put : List ℕ → List Call
+line_put line = call.Put port.Log line ∷ []
 
 -- ---- binds, puts and the last line
 
-module _ (line : Line) (task : Task) (turns : List Turn) (v : Connection) (is : v ≡ world_after task turns) (a b c d : Told) (bound : AddsAll (binds_of line) a b)
+module _ (line : Line) (task : Task) (turns : List Turn) (last : List ℕ) (is : last ≡ last_line task turns) (a b c d : Told) (bound : AddsAll (binds_of line) a b)
     (put : AddsAll (puts_so_far task turns) b c) where
   -- all of them
-  all_made : course.AreTurnsOf task.course turns (opened task) → AddsAll (line_put v) c d → AddsWork ArePuts line task a d
+  all_made : course.AreTurnsOf task.course turns (opened task) → AddsAll (line_put last) c d → AddsWork ArePuts line task a d
   all_made are grew = (
-    puts_so_far task turns ++ line_put (world_after task turns),
+    puts_so_far task turns ++ line_put (last_line task turns),
     (
       (turns, (are, refl)),
-      all_then (binds_of line) _ a b d bound (all_then (puts_so_far task turns) _ b c d put (subst (λ w. AddsAll (line_put w) c d) is grew)),
+      all_then (binds_of line) _ a b d bound (all_then (puts_so_far task turns) _ b c d put (subst (λ text. AddsAll (line_put text) c d) is grew)),
     ),
   )
 
   -- the last line was cut off
-  line_cut : (status : Status) → course.AreTurnsOf task.course turns (opened task) → AddsCut (line_put v) status c d → AddsWorkCut line task a d status
+  line_cut : (status : Status) → course.AreTurnsOf task.course turns (opened task) → AddsCut (line_put last) status c d → AddsWorkCut line task a d status
   line_cut status are cut = (
-    puts_so_far task turns ++ line_put (world_after task turns),
+    puts_so_far task turns ++ line_put (last_line task turns),
     (
       inl (turns, (are, refl)),
-      cut_then (binds_of line) _ status a b d bound (cut_then (puts_so_far task turns) _ status b c d put (subst (λ w. AddsCut (line_put w) status c d) is cut)),
+      cut_then (binds_of line) _ status a b d bound (cut_then (puts_so_far task turns) _ status b c d put (subst (λ text. AddsCut (line_put text) status c d) is cut)),
     ),
   )
 
 -- ---- from what is read
 
-module _ (input : Input) (run : Run) (h : IsOpened input run) where
-  as_opened : (P : List ℕ → Connection → Type 0) → P run.opening run.world.state → P (log_opening input.script) (opened_world (start_of input.script input.file_a input.file_b))
+module _ (input : Input) (kind : Report) (run : Run) (h : IsOpened input kind run) where
+  as_opened : (P : Option (List ℕ) → Connection → Type 0) → P run.opening run.world.state → P (opening_of kind input.script) (opened_world (start_of input.script input.file_a input.file_b))
   as_opened P p = subst (λ o. P o (opened_world (start_of input.script input.file_a input.file_b))) h.opening (subst (λ (k : Kept). P run.opening k.state) h.world p)
 
   -- ---- whole turns
 
   module _ (line : Line) (most : ℕ) (a b c : Told) (bound : AddsAll (binds_of line) a b) where
     abbrev serial_run : Task
-    serial_run = task_from input (course.rounds most)
+    serial_run = task_with input (course.rounds most) kind
 
-    started : (v : Connection) → RoundsAdd run.opening most 0 run.world.state v b c → RoundsAdd (log_opening input.script) most 0 (opened serial_run) v b c
+    started : (v : Connection) → RoundsAdd run.opening most 0 run.world.state v b c → RoundsAdd (opening_of kind input.script) most 0 (opened serial_run) v b c
     started v put = as_opened (λ o w. RoundsAdd o most 0 w v b c) put
 
-    pub serial_adds : (v : Connection) (d : Told) → RoundsAdd run.opening most 0 run.world.state v b c → AddsAll (line_put v) c d → AddsWork ArePuts line serial_run a d
-    serial_adds v d put grew =
+    pub serial_adds : (last : List ℕ) (v : Connection) (d : Told) → ((turns : List Turn) → IsSerial octets most turns (opened serial_run) → last ≡ last_line serial_run turns)
+        → RoundsAdd run.opening most 0 run.world.state v b c → AddsAll (line_put last) c d → AddsWork ArePuts line serial_run a d
+    serial_adds last v d is put grew =
         let k = started v put in
-        all_made line serial_run (spelled k.rounds) v (k.world ∙ sym (spelled_run k.rounds (opened serial_run))) a b c d bound
-        (subst (λ es. AddsAll (puts_by_round (log_opening input.script) 0 (opened serial_run) es) b c) (spelled_ends k.rounds (opened serial_run)) k.calls)
+        all_made line serial_run (spelled k.rounds) last (is (spelled k.rounds) (k.rounds, k.are, refl)) a b c d bound
+        (subst (λ es. AddsAll (puts_by_round (opening_of kind input.script) 0 (opened serial_run) es) b c) (spelled_ends k.rounds (opened serial_run)) k.calls)
         (are_turns serial_run most refl k.rounds k.are) grew
 
-    pub serial_adds_line : (v : Connection) (d : Told) (status : Status) → RoundsAdd run.opening most 0 run.world.state v b c → AddsCut (line_put v) status c d
-        → AddsWorkCut line serial_run a d status
-    serial_adds_line v d status put cut =
+    pub serial_adds_line : (last : List ℕ) (v : Connection) (d : Told) (status : Status)
+        → ((turns : List Turn) → IsSerial octets most turns (opened serial_run) → last ≡ last_line serial_run turns)
+        → RoundsAdd run.opening most 0 run.world.state v b c → AddsCut (line_put last) status c d → AddsWorkCut line serial_run a d status
+    serial_adds_line last v d status is put cut =
         let k = started v put in
-        line_cut line serial_run (spelled k.rounds) v (k.world ∙ sym (spelled_run k.rounds (opened serial_run))) a b c d bound
-        (subst (λ es. AddsAll (puts_by_round (log_opening input.script) 0 (opened serial_run) es) b c) (spelled_ends k.rounds (opened serial_run)) k.calls)
+        line_cut line serial_run (spelled k.rounds) last (is (spelled k.rounds) (k.rounds, k.are, refl)) a b c d bound
+        (subst (λ es. AddsAll (puts_by_round (opening_of kind input.script) 0 (opened serial_run) es) b c) (spelled_ends k.rounds (opened serial_run)) k.calls)
         status (are_turns serial_run most refl k.rounds k.are) cut
 
     pub serial_adds_cut : (status : Status) → RoundsAddCut run.opening most 0 run.world.state b c status → AddsWorkCut line serial_run a c status
@@ -92,32 +96,37 @@ module _ (input : Input) (run : Run) (h : IsOpened input run) where
           (
             inr (spelled k.rounds, (first_of serial_run most refl k.n k.rounds [] k.few k.are (inl refl), refl)),
             cut_then (binds_of line) _ status a b c bound
-                (subst (λ es. AddsCut (puts_by_round (log_opening input.script) 0 (opened serial_run) es) status b c) (spelled_ends k.rounds (opened serial_run)) k.calls),
+                (subst (λ es. AddsCut (puts_by_round (opening_of kind input.script) 0 (opened serial_run) es) status b c) (spelled_ends k.rounds (opened serial_run)) k.calls),
           ),
         )
 
-  -- ---- the turns of a log
+-- ---- the turns of a log
+
+module _ (input : Input) (run : Run) (h : IsOpened input report.Log run) where
+  by_opened : (P : Option (List ℕ) → Connection → Type 0) → P run.opening run.world.state
+      → P (Some (log_opening input.script)) (opened_world (start_of input.script input.file_a input.file_b))
+  by_opened P p = as_opened input report.Log run h P p
 
   module _ (line : Line) (order : List Turn) (a b c : Told) (bound : AddsAll (binds_of line) a b) where
     abbrev replay_run : Task
     replay_run = task_from input (course.told order)
 
     ran : (turns : List Turn) → AddsAll (puts_by_round run.opening 0 run.world.state (round_ends turns run.world.state)) b c → AddsAll (puts_so_far replay_run turns) b c
-    ran turns put = as_opened (λ o w. AddsAll (puts_by_round o 0 w (round_ends turns w)) b c) put
+    ran turns put = by_opened (λ o w. AddsAll (puts_by_round o 0 w (round_ends turns w)) b c) put
 
-    module _ (v : Connection) (d : Told) (lawful : AreLawful octets order run.world.state) (is : v ≡ world_run octets order run.world.state)
+    module _ (count : ℕ) (v : Connection) (d : Told) (lawful : AreLawful octets order run.world.state) (is : v ≡ world_run octets order run.world.state)
         (put : AddsAll (puts_by_round run.opening 0 run.world.state (round_ends order run.world.state)) b c) where
-      pub replay_adds : AddsAll (line_put v) c d → AddsWork ArePuts line replay_run a d
+      pub replay_adds : AddsAll (line_put (last_line_of report.Log count v)) c d → AddsWork ArePuts line replay_run a d
       replay_adds grew =
-          all_made line replay_run order v (as_opened (λ o w. v ≡ world_run octets order w) is) a b c d bound (ran order put)
-          (are_told replay_run order refl (as_opened (λ o w. AreLawful octets order w) lawful)) grew
+          all_made line replay_run order _ (logged_line replay_run order count v refl (by_opened (λ o w. v ≡ world_run octets order w) is)) a b c d bound (ran order put)
+          (are_told replay_run order refl (by_opened (λ o w. AreLawful octets order w) lawful)) grew
 
-      pub replay_adds_line : (status : Status) → AddsCut (line_put v) status c d → AddsWorkCut line replay_run a d status
+      pub replay_adds_line : (status : Status) → AddsCut (line_put (last_line_of report.Log count v)) status c d → AddsWorkCut line replay_run a d status
       replay_adds_line status cut =
-          line_cut line replay_run order v (as_opened (λ o w. v ≡ world_run octets order w) is) a b c d bound (ran order put) status
-          (are_told replay_run order refl (as_opened (λ o w. AreLawful octets order w) lawful)) cut
+          line_cut line replay_run order _ (logged_line replay_run order count v refl (by_opened (λ o w. v ≡ world_run octets order w) is)) a b c d bound (ran order put) status
+          (are_told replay_run order refl (by_opened (λ o w. AreLawful octets order w) lawful)) cut
 
-    turns_cut : (status : Status) → TurnsAddCut (log_opening input.script) 0 order (opened replay_run) (opened replay_run) b c status → AddsWorkCut line replay_run a c status
+    turns_cut : (status : Status) → TurnsAddCut (Some (log_opening input.script)) 0 order (opened replay_run) (opened replay_run) b c status → AddsWorkCut line replay_run a c status
     turns_cut status k = (
       puts_so_far replay_run k.turns,
       (
@@ -126,7 +135,7 @@ module _ (input : Input) (run : Run) (h : IsOpened input run) where
       ),
     )
 
-    by_status : (status : Status) → TurnsEnd (log_opening input.script) 0 order (opened replay_run) (opened replay_run) b c status → ReplayAdds line replay_run a c status
+    by_status : (status : Status) → TurnsEnd (Some (log_opening input.script)) 0 order (opened replay_run) (opened replay_run) b c status → ReplayAdds line replay_run a c status
     by_status (Log at) k = (
       puts_so_far replay_run k.before,
       (
@@ -154,14 +163,14 @@ module _ (input : Input) (run : Run) (h : IsOpened input run) where
     by_status (TooLong named) k = absurd k
 
     pub replay_ends : (status : Status) → TurnsEnd run.opening 0 order run.world.state run.world.state b c status → ReplayAdds line replay_run a c status
-    replay_ends status k = by_status status (as_opened (λ o w. TurnsEnd o 0 order w w b c status) k)
+    replay_ends status k = by_status status (by_opened (λ o w. TurnsEnd o 0 order w w b c status) k)
 
 -- ---- binds that were cut off
 
-pub serial_binds_cut : (input : Input) (line : Line) (most : ℕ) (a b : Told) (status : Status) → AddsCut (binds_of line) status a b
-    → AddsWorkCut line (task_from input (course.rounds most)) a b status
-serial_binds_cut input line most a b status h =
-    ([], (inr ([], (first_of (task_from input (course.rounds most)) most refl 0 [] [] (omega arith) refl (inl refl), refl)), cut_longer (binds_of line) [] status a b h))
+pub serial_binds_cut : (task : Task) (line : Line) (most : ℕ) (a b : Told) (status : Status) → task.course ≡ course.rounds most → AddsCut (binds_of line) status a b
+    → AddsWorkCut line task a b status
+serial_binds_cut task line most a b status is h =
+    ([], (inr ([], (first_of task most is 0 [] [] (omega arith) refl (inl refl), refl)), cut_longer (binds_of line) [] status a b h))
 
 pub replay_binds_cut : (input : Input) (line : Line) (order : List Turn) (a b : Told) (status : Status) → AddsCut (binds_of line) status a b
     → AddsWorkCut line (task_from input (course.told order)) a b status
@@ -253,3 +262,36 @@ input_calls content line plan a b (Put p) is h = absurd h
 pub memory_calls : (content : List ℕ → Option (List ℕ)) (asked : Option Line) (a : Told) → AreCallsOf content asked Memory a a
 memory_calls content None a = adds_none a
 memory_calls content (Some line) a = inl (cut_none (loads_of line) Memory a a refl (adds_none a))
+
+-- ---- the made input
+
+module _ (line : Line) (task : Task) (a b : Told) where
+  pub made_end_adds : (status : Status) → HasEnded status → AddsWork ArePuts line task a b → MadeAdds line task a b status
+  made_end_adds Delivered ended h = h
+  made_end_adds Rounds ended h = h
+  made_end_adds NoPath ended h = h
+  made_end_adds (Aborted reader) ended h = h
+  made_end_adds Usage ended h = absurd ended
+  made_end_adds (Script at kind) ended h = absurd ended
+  made_end_adds (Load named) ended h = absurd ended
+  made_end_adds (Put p) ended h = absurd ended
+  made_end_adds (TooLong named) ended h = absurd ended
+  made_end_adds Memory ended h = absurd ended
+  made_end_adds (Log at) ended h = absurd ended
+
+  pub made_cut_adds : (before faults : Port → ℕ) (status : Status) → IsPortsFault before faults status → AddsWorkCut line task a b status → MadeAdds line task a b status
+  made_cut_adds before faults (Put p) cause h = h
+  made_cut_adds before faults Memory cause h = h
+  made_cut_adds before faults Delivered cause h = absurd cause
+  made_cut_adds before faults Rounds cause h = absurd cause
+  made_cut_adds before faults NoPath cause h = absurd cause
+  made_cut_adds before faults (Aborted reader) cause h = absurd cause
+  made_cut_adds before faults Usage cause h = absurd cause
+  made_cut_adds before faults (Script at kind) cause h = absurd cause
+  made_cut_adds before faults (Load named) cause h = absurd cause
+  made_cut_adds before faults (TooLong named) cause h = absurd cause
+  made_cut_adds before faults (Log at) cause h = absurd cause
+
+-- no call was made, for want of memory
+pub made_memory_adds : (line : Line) (task : Task) (most : ℕ) (a : Told) → task.course ≡ course.rounds most → MadeAdds line task a a Memory
+made_memory_adds line task most a is = serial_binds_cut task line most a a Memory is (cut_none (binds_of line) Memory a a refl (adds_none a))

@@ -11,7 +11,7 @@ use Rattle.world_laws.specs.Outcomes.{outcome_by, outcome_of, output_of, tells_e
 use Rattle.world_laws.specs.Serial.{steps_and, round_and, spelled}
 use Rattle.world_laws.specs.Worlds.{Turn, world_step, end_round, world_run}
 use Rattle.world_laws.proofs.PromisesOfScripts.{plain_scripts_keep_all_promises}
-use Rattle.world_laws.proofs.Trios.{writes_the_files}
+use Rattle.world_laws.proofs.CastLifting.{writes_the_files}
 use Rattle.mptcp_run.specs.declared.status.Status.TheVariants.{Delivered}
 use Rattle.mptcp_run.specs.Ports.{HoldsWithin}
 use Rattle.mptcp_run.specs.Putting.{round_ends, last_end, status_of, read_so_far, world_after}

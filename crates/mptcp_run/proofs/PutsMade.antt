@@ -1,5 +1,5 @@
 -- The calls of rounds and of turns, made one after the other.
-use Rattle.std.proofs.Common.{◌≡◌, refl, sym, ◌∙◌, ap, subst, ℕ, suc, true, false, inl, inr, List, [], ◌∷◌, ◌++◌, drop, length, Result, Ok, Err, IfErr, arith}
+use Rattle.std.proofs.Common.{◌≡◌, refl, sym, ◌∙◌, ap, subst, ℕ, suc, true, false, inl, inr, List, [], ◌∷◌, ◌++◌, drop, length, Option, Result, Ok, Err, IfErr, arith}
 use Rattle.std.proofs.Math.Seq.{drop-append_seam}
 use Rattle.outside_kit.specs.declared.port.Port.{Port}
 use Rattle.outside_kit.specs.declared.side.Side.TheVariants.{A, B}
@@ -35,14 +35,14 @@ read_is made last w actor h =
     sym (ap (drop (length (read_by (notes_at actor last.crew)))) (read_grew made last w actor h)
     ∙ drop-append_seam (read_by (notes_at actor last.crew)) (read_by (drop (made_at actor made) (notes_at actor w.crew))))
 
-pub puts_are : (made : List ℕ) (last w : Connection) (opening : List ℕ) (number : ℕ) (read_by_b read_by_a lines : List ℕ)
+pub puts_are : (made : List ℕ) (last w : Connection) (opening : Option (List ℕ)) (number : ℕ) (read_by_b read_by_a lines : List ℕ)
     → read_by_b ≡ read_by (drop (made_at 1 made) (notes_at 1 w.crew)) → read_by_a ≡ read_by (drop (made_at 0 made) (notes_at 0 w.crew))
     → lines ≡ round_text opening number (since made (lists_of w.crew)) → IsSince last made w → puts_of read_by_b read_by_a lines ≡ round_puts opening number last w
 puts_are made last w opening number read_by_b read_by_a lines b_is a_is lines_are h =
     ap (λ xs. puts_of xs read_by_a lines) (b_is ∙ read_is made last w 1 h) ∙ ap (λ xs. puts_of (read_in B last w) xs lines) (a_is ∙ read_is made last w 0 h)
     ∙ ap (puts_of (read_in B last w) (read_in A last w)) (lines_are ∙ ap (round_text opening number) (steps_since made last w h))
 
-module _ (opening : List ℕ) where
+module _ (opening : Option (List ℕ)) where
   -- ---- rounds of whole turns
 
   rounds_more : (most left number : ℕ) (w v x : Connection) (a b c : Told) → most ≡ suc left → RoundTo octets w v → goes_on (outcome_of v.crew) ≡ true
@@ -206,27 +206,27 @@ module _ (opening : List ℕ) where
 
 -- ---- the same, as a loop has them
 
-pub add_more : (op next_op : List ℕ) (most left i next n : ℕ) (w v x : Connection) (a b c : Told) → next_op ≡ op → most ≡ suc left → next ≡ suc i → n ≡ i
+pub add_more : (op next_op : Option (List ℕ)) (most left i next n : ℕ) (w v x : Connection) (a b c : Told) → next_op ≡ op → most ≡ suc left → next ≡ suc i → n ≡ i
     → RoundTo octets w v → goes_on (outcome_of v.crew) ≡ true → AddsAll (round_puts op n w v) a b → RoundsAdd next_op left next v x b c → RoundsAdd op most i w x a c
 add_more op next_op most left i next n w v x a b c same e f g r going round rest =
     rounds_more op most left i w v x a b c e r going (subst (λ m. AddsAll (round_puts op m w v) a b) g round)
     (subst (λ m. RoundsAdd op left m v x b c) f (subst (λ o. RoundsAdd o left next v x b c) same rest))
 
-pub add_last : (op : List ℕ) (most left i n : ℕ) (w v : Connection) (a b : Told) → most ≡ suc left → n ≡ i → RoundTo octets w v
+pub add_last : (op : Option (List ℕ)) (most left i n : ℕ) (w v : Connection) (a b : Told) → most ≡ suc left → n ≡ i → RoundTo octets w v
     → goes_on (outcome_of v.crew) ≡ false → AddsAll (round_puts op n w v) a b → RoundsAdd op most i w v a b
 add_last op most left i n w v a b e g r over round = rounds_last op most left i w v a b e r over (subst (λ m. AddsAll (round_puts op m w v) a b) g round)
 
-pub add_cut_later : (op next_op : List ℕ) (most left i next n : ℕ) (w v : Connection) (a b c : Told) (status : Status) → next_op ≡ op → most ≡ suc left → next ≡ suc i → n ≡ i
+pub add_cut_later : (op next_op : Option (List ℕ)) (most left i next n : ℕ) (w v : Connection) (a b c : Told) (status : Status) → next_op ≡ op → most ≡ suc left → next ≡ suc i → n ≡ i
     → RoundTo octets w v → goes_on (outcome_of v.crew) ≡ true → AddsAll (round_puts op n w v) a b → RoundsAddCut next_op left next v b c status → RoundsAddCut op most i w a c status
 add_cut_later op next_op most left i next n w v a b c status same e f g r going round rest =
     cut_more op most left i w v a b c status e r going (subst (λ m. AddsAll (round_puts op m w v) a b) g round)
     (subst (λ m. RoundsAddCut op left m v b c status) f (subst (λ o. RoundsAddCut o left next v b c status) same rest))
 
-pub add_cut_now : (op : List ℕ) (most left i n : ℕ) (w : Connection) (a b : Told) (status : Status) → most ≡ suc left → n ≡ i → RoundAddsCut op n w a b status
+pub add_cut_now : (op : Option (List ℕ)) (most left i n : ℕ) (w : Connection) (a b : Told) (status : Status) → most ≡ suc left → n ≡ i → RoundAddsCut op n w a b status
     → RoundsAddCut op most i w a b status
 add_cut_now op most left i n w a b status e g cut = cut_here op most left i w a b status e (subst (λ m. RoundAddsCut op m w a b status) g cut)
 
-pub add_turn : (op next_op : List ℕ) (n m : ℕ) (turn : Turn) (rest order : List Turn) (last w : Connection) (k : Kept) (a b c : Told) → next_op ≡ op
+pub add_turn : (op next_op : Option (List ℕ)) (n m : ℕ) (turn : Turn) (rest order : List Turn) (last w : Connection) (k : Kept) (a b c : Told) → next_op ≡ op
     → m ≡ rounds_after turn n → order ≡ turn ∷ rest → k ≡ standing (after_turn octets turn w) → AddsAll (turn_puts op n turn last w) a b
     → AddsAll (puts_by_round next_op m (last_after turn last w) (round_ends rest k.state)) b c → AddsAll (puts_by_round op n last (round_ends order w)) a c
 add_turn op next_op n m turn rest order last w k a b c same many order_is world one h =
@@ -236,7 +236,7 @@ add_turn op next_op n m turn rest order last w k a b c same many order_is world 
     (subst (λ i. AddsAll (puts_by_round op i (last_after turn last w) (round_ends rest k.state)) b c) many
     (subst (λ o. AddsAll (puts_by_round o m (last_after turn last w) (round_ends rest k.state)) b c) same h))))
 
-pub end_later : (op next_op : List ℕ) (n m : ℕ) (turn : Turn) (rest order : List Turn) (last w : Connection) (k : Kept) (a b c : Told) (status : Status) → next_op ≡ op
+pub end_later : (op next_op : Option (List ℕ)) (n m : ℕ) (turn : Turn) (rest order : List Turn) (last w : Connection) (k : Kept) (a b c : Told) (status : Status) → next_op ≡ op
     → m ≡ rounds_after turn n → order ≡ turn ∷ rest → k ≡ standing (after_turn octets turn w) → IsLawfulTurn turn w → AddsAll (turn_puts op n turn last w) a b
     → TurnsEnd next_op m rest (last_after turn last w) k.state b c status → TurnsEnd op n order last w a c status
 end_later op next_op n m turn rest order last w k a b c status same many order_is world lawful one h =
@@ -246,7 +246,7 @@ end_later op next_op n m turn rest order last w k a b c status same many order_i
     (subst (λ i. TurnsEnd op i rest (last_after turn last w) k.state b c status) many
     (subst (λ o. TurnsEnd o m rest (last_after turn last w) k.state b c status) same h))))
 
-pub end_now : (op : List ℕ) (n : ℕ) (turn : Turn) (rest order : List Turn) (last w : Connection) (a b : Told) (status : Status) → order ≡ turn ∷ rest
+pub end_now : (op : Option (List ℕ)) (n : ℕ) (turn : Turn) (rest order : List Turn) (last w : Connection) (a b : Told) (status : Status) → order ≡ turn ∷ rest
     → TurnEnds op n turn last w a b status → TurnsEnd op n order last w a b status
 end_now op n turn rest order last w a b status order_is h =
     subst (λ ts. TurnsEnd op n ts last w a b status) (sym order_is) (now op n turn rest last w a b status h)
@@ -254,7 +254,7 @@ end_now op n turn rest order last w a b status order_is h =
 -- ---- a turn
 
 -- a round that wasn't put whole
-pub round_cut : (opening : List ℕ) (number : ℕ) (last w : Connection) (old new : Told) (before faults : Port → ℕ) (r : Result (Unit {0}) Status) → IsLawfulTurn round_turn w
+pub round_cut : (opening : Option (List ℕ)) (number : ℕ) (last w : Connection) (old new : Told) (before faults : Port → ℕ) (r : Result (Unit {0}) Status) → IsLawfulTurn round_turn w
     → IfErr r (IsPortsFault before faults) → IfErr r (λ status. AddsCut (round_puts opening number last (end_round w)) status old new)
     → IfErr r (TurnEnds opening number round_turn last w old new)
 round_cut opening number last w old new before faults (Ok x) over cause cut = tt
@@ -275,11 +275,11 @@ round_cut opening number last w old new before faults (Err status) over cause cu
     by (Log at) cause cut = absurd cause
 
 -- a step makes no call
-pub step_adds : (opening : List ℕ) (number : ℕ) (turn : log_turn.Turn) (actor : ℕ) (last w : Connection) (a : Told) → turn ≡ logged.Step actor
+pub step_adds : (opening : Option (List ℕ)) (number : ℕ) (turn : log_turn.Turn) (actor : ℕ) (last w : Connection) (a : Told) → turn ≡ logged.Step actor
     → AddsAll (turn_puts opening number (turn_of turn) last w) a a
 step_adds opening number turn actor last w a is = subst (λ t. AddsAll (turn_puts opening number (turn_of t) last w) a a) (sym is) (adds_none a)
 
-step_ends : (opening : List ℕ) (number actor : ℕ) (last w : Connection) (a : Told) (line : ℕ) (status : Status) → StepFault actor w line status
+step_ends : (opening : Option (List ℕ)) (number actor : ℕ) (last w : Connection) (a : Told) (line : ℕ) (status : Status) → StepFault actor w line status
     → TurnEnds opening number (Turn.Step actor) last w a a status
 step_ends opening number actor last w a line (Log at) h = (λ going. let stopped = h.1 in cc (going, stopped), adds_none a)
 step_ends opening number actor last w a line Memory h = inl (refl, adds_none a)
@@ -293,7 +293,7 @@ step_ends opening number actor last w a line (Load named) h = absurd h
 step_ends opening number actor last w a line (Put p) h = absurd h
 step_ends opening number actor last w a line (TooLong named) h = absurd h
 
-pub step_stops : (opening : List ℕ) (number : ℕ) (turn : log_turn.Turn) (actor : ℕ) (last w : Connection) (a : Told) (line : ℕ) (status : Status) → turn ≡ logged.Step actor
+pub step_stops : (opening : Option (List ℕ)) (number : ℕ) (turn : log_turn.Turn) (actor : ℕ) (last w : Connection) (a : Told) (line : ℕ) (status : Status) → turn ≡ logged.Step actor
     → StepFault actor w line status → TurnEnds opening number (turn_of turn) last w a a status
 step_stops opening number turn actor last w a line status is h =
     subst (λ t. TurnEnds opening number (turn_of t) last w a a status) (sym is) (step_ends opening number actor last w a line status h)

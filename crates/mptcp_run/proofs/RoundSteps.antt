@@ -1,6 +1,5 @@
 -- A round that was made: its steps, what its readers have read, and what the ports hold then.
 use Rattle.std.proofs.Common.{◌≡◌, refl, sym, ◌∙◌, ap, subst, ℕ, zero, suc, ◌<◌, ◌≤◌, Bool, true, false, nat_lt, Option, List, [], ◌∷◌, ◌++◌, map, drop, length, get_or, arith}
-use Rattle.std.specs.List.{AllByRecursion}
 use Rattle.std.proofs.Math.Seq.{drop-append_seam}
 use Rattle.std.proofs.lemmas.Grind.{flat_map-append}
 use Rattle.std.proofs.lemmas.List.{append-nil}
@@ -13,13 +12,13 @@ use Rattle.pipe_model.specs.Prefix.{IsPrefix}
 use Rattle.stream_lanes.specs.Words.{Every}
 use Rattle.actor_desk.specs.declared.ask.Note.{Note}
 use Rattle.actor_desk.specs.Journals.{above, with_notes, in_order}
-use Rattle.run_log.specs.Fitting.{IsLong, NoteFits}
+use Rattle.run_log.specs.Fitting.{IsLong}
 use Rattle.world_laws.specs.Actors.{ActorCrew}
 use Rattle.world_laws.specs.Fine.{lists_of}
 use Rattle.world_laws.specs.Outcomes.{bytes_noted, read_by, notes_at, output_of}
 use Rattle.world_laws.specs.Worlds.{greatest}
 use Rattle.mptcp_run.specs.Ports.{IsBetween}
-use Rattle.mptcp_run.specs.Putting.{round_steps, steps_by_round, last_end, round_text, log_text}
+use Rattle.mptcp_run.specs.Putting.{NotesFit, round_steps, steps_by_round, last_end, round_text, log_text}
 use Rattle.mptcp_run.specs.Rounds.{HoldsRound, HoldsEnds, HoldsPart}
 use Rattle.mptcp_run.specs.Task.{Connection}
 use Rattle.mptcp_run.specs.Weaving.{GrewAbove, AllGrewAbove, IsSince, made_at, since}
@@ -93,11 +92,11 @@ read_grew made last w actor h =
 
 -- ---- the ports
 
-module _ (made : List ℕ) (last w : Connection) (opening : List ℕ) (number : ℕ) (old new : Port → Option (List ℕ)) (read_by_b read_by_a lines : List ℕ)
+module _ (made : List ℕ) (last w : Connection) (opening : Option (List ℕ)) (number : ℕ) (old new : Port → Option (List ℕ)) (read_by_b read_by_a lines : List ℕ)
     (b_is : read_by_b ≡ read_by (drop (made_at 1 made) (notes_at 1 w.crew))) (a_is : read_by_a ≡ read_by (drop (made_at 0 made) (notes_at 0 w.crew)))
     (lines_are : lines ≡ round_text opening number (since made (lists_of w.crew))) where
   -- a round that was put whole
-  pub round_held : IsSince last made w → IsLong number → AllByRecursion NoteFits (since made (lists_of w.crew)) → HoldsAfter (old port.ReadByB) (new port.ReadByB) (λ held. held ++ read_by_b)
+  pub round_held : IsSince last made w → IsLong number → NotesFit opening (since made (lists_of w.crew)) → HoldsAfter (old port.ReadByB) (new port.ReadByB) (λ held. held ++ read_by_b)
       → HoldsAfter (old port.ReadByA) (new port.ReadByA) (λ held. held ++ read_by_a) → HoldsAfter (old port.Log) (new port.Log) (λ held. held ++ lines)
       → HoldsRound opening number last w old new
   round_held h few fit b a log = record {
@@ -107,7 +106,7 @@ module _ (made : List ℕ) (last w : Connection) (opening : List ℕ) (number : 
         (read_grew made last w 0 h ∙ ap (λ xs. output_of A last ++ xs) (sym a_is));
     log = whole_more (old port.Log) (new port.Log) [] lines (round_text opening number (round_steps last w)) log
         (ap (round_text opening number) (sym (steps_since made last w h)) ∙ sym lines_are);
-    fits = (few, subst (AllByRecursion NoteFits) (steps_since made last w h) fit);
+    fits = (few, subst (NotesFit opening) (steps_since made last w h) fit);
   }
 
   -- or a part of it
@@ -124,7 +123,7 @@ module _ (made : List ℕ) (last w : Connection) (opening : List ℕ) (number : 
   }
 
 -- nothing was put
-pub nothing_part : (opening : List ℕ) (number : ℕ) (w : Connection) (high : List Connection) (old new : Port → Option (List ℕ)) → ((p : Port) → new p ≡ old p)
+pub nothing_part : (opening : Option (List ℕ)) (number : ℕ) (w : Connection) (high : List Connection) (old new : Port → Option (List ℕ)) → ((p : Port) → new p ≡ old p)
     → IsPrefix (output_of B w) (output_of B (last_end w high)) → IsPrefix (output_of A w) (output_of A (last_end w high))
     → HoldsPart opening number w [] high old new
 nothing_part opening number w high old new same b a = record {
@@ -136,7 +135,7 @@ nothing_part opening number w high old new same b a = record {
   });
 }
 
-pub nothing_ends : (opening : List ℕ) (number : ℕ) (w : Connection) (old new : Port → Option (List ℕ)) → ((p : Port) → new p ≡ old p) → HoldsEnds opening number w [] old new
+pub nothing_ends : (opening : Option (List ℕ)) (number : ℕ) (w : Connection) (old new : Port → Option (List ℕ)) → ((p : Port) → new p ≡ old p) → HoldsEnds opening number w [] old new
 nothing_ends opening number w old new same = record {
   read_by_b = nothing_more (old port.ReadByB) (new port.ReadByB) (output_of B w) (λ text. text ≡ output_of B w) (same port.ReadByB) refl;
   read_by_a = nothing_more (old port.ReadByA) (new port.ReadByA) (output_of A w) (λ text. text ≡ output_of A w) (same port.ReadByA) refl;
@@ -145,7 +144,7 @@ nothing_ends opening number w old new same = record {
 }
 
 -- a round in front of others
-pub ends_more : (opening : List ℕ) (number : ℕ) (w v : Connection) (ends : List Connection) (a b c : Port → Option (List ℕ)) → HoldsRound opening number w v a b
+pub ends_more : (opening : Option (List ℕ)) (number : ℕ) (w v : Connection) (ends : List Connection) (a b c : Port → Option (List ℕ)) → HoldsRound opening number w v a b
     → HoldsEnds opening (suc number) v ends b c → HoldsEnds opening number w (v ∷ ends) a c
 ends_more opening number w v ends a b c h k = record {
   read_by_b = more_then (a port.ReadByB) (b port.ReadByB) (c port.ReadByB) (output_of B w) (output_of B v) (λ text. text ≡ output_of B (last_end v ends)) h.read_by_b k.read_by_b;
@@ -157,7 +156,7 @@ ends_more opening number w v ends a b c h k = record {
 }
 
 -- in front of some, and of a part
-pub part_behind : (opening : List ℕ) (number : ℕ) (w v : Connection) (low high : List Connection) (a b c : Port → Option (List ℕ)) → HoldsRound opening number w v a b
+pub part_behind : (opening : Option (List ℕ)) (number : ℕ) (w v : Connection) (low high : List Connection) (a b c : Port → Option (List ℕ)) → HoldsRound opening number w v a b
     → HoldsPart opening (suc number) v low high b c → HoldsPart opening number w (v ∷ low) (v ∷ high) a c
 part_behind opening number w v low high a b c h k = record {
   read_by_b = more_then (a port.ReadByB) (b port.ReadByB) (c port.ReadByB) (output_of B w) (output_of B v) (IsBetween (output_of B (last_end v low)) (output_of B (last_end v high))) h.read_by_b k.read_by_b;
@@ -172,7 +171,7 @@ part_behind opening number w v low high a b c h k = record {
 }
 
 -- of a round nothing was put
-pub round_untouched : (made : List ℕ) (last w : Connection) (opening : List ℕ) (number : ℕ) (old new : Port → Option (List ℕ)) → ((p : Port) → new p ≡ old p)
+pub round_untouched : (made : List ℕ) (last w : Connection) (opening : Option (List ℕ)) (number : ℕ) (old new : Port → Option (List ℕ)) → ((p : Port) → new p ≡ old p)
     → IsSince last made w → HoldsPart opening number last [] (w ∷ []) old new
 round_untouched made last w opening number old new same h =
     nothing_part opening number last (w ∷ []) old new same

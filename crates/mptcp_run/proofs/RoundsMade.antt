@@ -1,5 +1,5 @@
 -- Rounds of whole turns, made and put one after the other.
-use Rattle.std.proofs.Common.{◌≡◌, refl, sym, subst, ℕ, suc, ◌≤◌, Bool, true, false, inl, inr, ◌⊎◌, List, [], ◌∷◌, ◌++◌, Option, arith}
+use Rattle.std.proofs.Common.{◌≡◌, refl, sym, subst, ℕ, suc, ◌+◌, ◌≤◌, Bool, true, false, inl, inr, ◌⊎◌, List, [], ◌∷◌, ◌++◌, Option, arith}
 use Rattle.outside_kit.specs.declared.port.Port.{Port}
 use Rattle.outside_kit.specs.declared.side.Side.TheVariants.{A, B}
 use Rattle.path_core.specs.Octets.{octets}
@@ -24,39 +24,42 @@ one_both false this that x y = y
 abbrev Ports : Type 0
 Ports = Port → Option (List ℕ)
 
-module _ (opening : List ℕ) where
+module _ (opening : Option (List ℕ)) where
   -- ---- all of them
 
   -- a round in front, whose outcome is Going
-  pub rounds_more : (most left number : ℕ) (w v x : Connection) (a b c : Ports) → most ≡ suc left → RoundTo octets w v → goes_on (outcome_of v.crew) ≡ true
-      → HoldsRound opening number w v a b → RoundsPut opening left (suc number) v x b c → RoundsPut opening most number w x a c
-  rounds_more most left number w v x a b c e r going round rest = subst (λ m. RoundsPut opening m number w x a c) (sym e)
+  pub rounds_more : (most left number count : ℕ) (w v x : Connection) (a b c : Ports) → most ≡ suc left → RoundTo octets w v → goes_on (outcome_of v.crew) ≡ true
+      → HoldsRound opening number w v a b → RoundsPut opening left (suc number) count v x b c → RoundsPut opening most number count w x a c
+  rounds_more most left number count w v x a b c e r going round rest = subst (λ m. RoundsPut opening m number count w x a c) (sym e)
       (by (subst (λ z. goes_on (outcome_of z.crew) ≡ true) r.2 going) (subst (λ z. HoldsRound opening number w z a b) r.2 round)
-      (subst (λ z. RoundsPut opening left (suc number) z x b c) r.2 rest))
+      (subst (λ z. RoundsPut opening left (suc number) count z x b c) r.2 rest))
     where
       by : goes_on (outcome_of (after_round octets r.0 w).crew) ≡ true → HoldsRound opening number w (after_round octets r.0 w) a b
-          → RoundsPut opening left (suc number) (after_round octets r.0 w) x b c → RoundsPut opening (suc left) number w x a c
+          → RoundsPut opening left (suc number) count (after_round octets r.0 w) x b c → RoundsPut opening (suc left) number count w x a c
       by going round rest = record {
         rounds = r.0 ∷ rest.rounds;
+        count_is = let many = rest.count_is in omega (arith, many);
         are = (r.1, one_true _ _ _ going rest.are);
         world = rest.world;
         ports = ends_more opening number w (after_round octets r.0 w) (ends_by rest.rounds (after_round octets r.0 w)) a b c round rest.ports;
       }
 
   -- the last one
-  pub rounds_last : (most left number : ℕ) (w v : Connection) (a b : Ports) → most ≡ suc left → RoundTo octets w v → goes_on (outcome_of v.crew) ≡ false
-      → HoldsRound opening number w v a b → RoundsPut opening most number w v a b
-  rounds_last most left number w v a b e r over round = subst (λ m. RoundsPut opening m number w v a b) (sym e) (record {
+  pub rounds_last : (most left number count : ℕ) (w v : Connection) (a b : Ports) → most ≡ suc left → RoundTo octets w v → goes_on (outcome_of v.crew) ≡ false
+      → HoldsRound opening number w v a b → count ≡ number + 1 → RoundsPut opening most number count w v a b
+  rounds_last most left number count w v a b e r over round many = subst (λ m. RoundsPut opening m number count w v a b) (sym e) (record {
     rounds = r.0 ∷ [];
+    count_is = many;
     are = (r.1, one_false _ _ _ (subst (λ z. goes_on (outcome_of z.crew) ≡ false) r.2 over) refl);
     world = r.2;
     ports = ends_more opening number w (after_round octets r.0 w) [] a b b (subst (λ z. HoldsRound opening number w z a b) r.2 round)
         (nothing_ends opening (suc number) (after_round octets r.0 w) b b (λ p. refl));
   })
 
-  pub rounds_over : (most number : ℕ) (w : Connection) (a : Ports) → most ≡ 0 → RoundsPut opening most number w w a a
-  rounds_over most number w a none = subst (λ m. RoundsPut opening m number w w a a) (sym none) (record {
+  pub rounds_over : (most number count : ℕ) (w : Connection) (a : Ports) → most ≡ 0 → count ≡ number → RoundsPut opening most number count w w a a
+  rounds_over most number count w a none many = subst (λ m. RoundsPut opening m number count w w a a) (sym none) (record {
     rounds = [];
+    count_is = omega (arith, many);
     are = refl;
     world = refl;
     ports = nothing_ends opening number w a a (λ p. refl);
@@ -111,21 +114,21 @@ module _ (opening : List ℕ) where
 
 -- ---- the same, with numbers as a loop counts them
 
-pub put_more : (op next_op : List ℕ) (most left i next n : ℕ) (w v x : Connection) (a b c : Ports) → next_op ≡ op → most ≡ suc left → next ≡ suc i → n ≡ i
-    → RoundTo octets w v → goes_on (outcome_of v.crew) ≡ true → HoldsRound op n w v a b → RoundsPut next_op left next v x b c → RoundsPut op most i w x a c
-put_more op next_op most left i next n w v x a b c same e f g r going round rest =
-    rounds_more op most left i w v x a b c e r going (subst (λ m. HoldsRound op m w v a b) g round)
-    (subst (λ m. RoundsPut op left m v x b c) f (subst (λ o. RoundsPut o left next v x b c) same rest))
+pub put_more : (op next_op : Option (List ℕ)) (most left i next n count : ℕ) (w v x : Connection) (a b c : Ports) → next_op ≡ op → most ≡ suc left → next ≡ suc i → n ≡ i
+    → RoundTo octets w v → goes_on (outcome_of v.crew) ≡ true → HoldsRound op n w v a b → RoundsPut next_op left next count v x b c → RoundsPut op most i count w x a c
+put_more op next_op most left i next n count w v x a b c same e f g r going round rest =
+    rounds_more op most left i count w v x a b c e r going (subst (λ m. HoldsRound op m w v a b) g round)
+    (subst (λ m. RoundsPut op left m count v x b c) f (subst (λ o. RoundsPut o left next count v x b c) same rest))
 
-pub put_last : (op : List ℕ) (most left i n : ℕ) (w v : Connection) (a b : Ports) → most ≡ suc left → n ≡ i → RoundTo octets w v
-    → goes_on (outcome_of v.crew) ≡ false → HoldsRound op n w v a b → RoundsPut op most i w v a b
-put_last op most left i n w v a b e g r over round = rounds_last op most left i w v a b e r over (subst (λ m. HoldsRound op m w v a b) g round)
+pub put_last : (op : Option (List ℕ)) (most left i n count : ℕ) (w v : Connection) (a b : Ports) → most ≡ suc left → n ≡ i → RoundTo octets w v
+    → goes_on (outcome_of v.crew) ≡ false → HoldsRound op n w v a b → count ≡ i + 1 → RoundsPut op most i count w v a b
+put_last op most left i n count w v a b e g r over round many = rounds_last op most left i count w v a b e r over (subst (λ m. HoldsRound op m w v a b) g round) many
 
-pub cut_later : (op next_op : List ℕ) (most left i next n : ℕ) (w v : Connection) (a b c : Ports) → next_op ≡ op → most ≡ suc left → next ≡ suc i → n ≡ i
+pub cut_later : (op next_op : Option (List ℕ)) (most left i next n : ℕ) (w v : Connection) (a b c : Ports) → next_op ≡ op → most ≡ suc left → next ≡ suc i → n ≡ i
     → RoundTo octets w v → goes_on (outcome_of v.crew) ≡ true → HoldsRound op n w v a b → RoundsCut next_op left next v b c → RoundsCut op most i w a c
 cut_later op next_op most left i next n w v a b c same e f g r going round rest =
     cut_more op most left i w v a b c e r going (subst (λ m. HoldsRound op m w v a b) g round)
     (subst (λ m. RoundsCut op left m v b c) f (subst (λ o. RoundsCut o left next v b c) same rest))
 
-pub cut_now : (op : List ℕ) (most left i n : ℕ) (w : Connection) (a b : Ports) → most ≡ suc left → n ≡ i → RoundCut op n w a b → RoundsCut op most i w a b
+pub cut_now : (op : Option (List ℕ)) (most left i n : ℕ) (w : Connection) (a b : Ports) → most ≡ suc left → n ≡ i → RoundCut op n w a b → RoundsCut op most i w a b
 cut_now op most left i n w a b e g cut = cut_here op most left i w a b e (subst (λ m. RoundCut op m w a b) g cut)

@@ -1,7 +1,8 @@
 -- The rows that a note tells are in range, in every connection: a path tells its window and its round-trip time within their ranges.
-use Rattle.std.proofs.Common.{◌≡◌, refl, sym, subst, ℕ, ◌+◌, ◌<◌, ⊎_elim, Bool, true, false, if◌then◌else◌, Option, Some, None, List, [], ◌∷◌, map, arith}
+use Rattle.std.proofs.Common.{◌≡◌, refl, sym, subst, ℕ, ◌+◌, ◌<◌, ⊎_elim, Bool, true, false, if◌then◌else◌, Option, Some, None, List, [], ◌∷◌, map, arith, length, ◌≤◌}
 use Rattle.std.proofs.lemmas.Option.{same_Some}
 use Rattle.std.specs.List.{slice_get}
+use Rattle.std.proofs.lemmas.Option.{slice_get_within}
 use Rattle.outside_kit.specs.declared.side.Side.{Side}
 use Rattle.outside_kit.specs.declared.side.Side.TheVariants.{A, B}
 use Rattle.subflow_send.specs.Records.{Record}
@@ -43,6 +44,8 @@ use Rattle.path_core.specs.Codec.{Codec}
 use Rattle.path_core.specs.Duties.{ask_for}
 use Rattle.path_core.specs.Emission.{first_unsent, data_ask}
 use Rattle.path_core.specs.Events.{next_event, step_for}
+use Rattle.path_core.specs.Joining.{join_heard_ask, asked_at}
+use Rattle.join_handshake.specs.declared.hearing.JoinSyn.{JoinSyn}
 use Rattle.path_agenda.specs.Items.{key_heard, keys_heard}
 use Rattle.path_core.specs.Opening.{peer_key_ask, keys_ask}
 use Rattle.path_core.specs.Passing.{piece_of, piece_ask, fin_of, fin_ask, rate_ask}
@@ -55,7 +58,7 @@ use Rattle.path_core.specs.Treating.{is_clash, fell_ask, mapping_ask, item_ask, 
 use Rattle.run_log.specs.Laws.{HasRowsInRange}
 use Rattle.world_laws.specs.declared.member.Member.TheVariants.{App, Path}
 use Rattle.world_laws.specs.Actors.{Actor, ActorCrew, member_asks, member_takes, member_next}
-use Rattle.world_laws.specs.Openings.{Start, opened_world}
+use Rattle.world_laws.specs.Openings.{Start, path_begins, opened_world}
 use Rattle.world_laws.specs.StampedBooks.{answer_to}
 use Rattle.world_laws.specs.Worlds.{WorldState, Turn, note_of, crew_after, asked, stepped, world_step, all_over, greatest, begins, end_round, after_turn, world_run}
 use Rattle.world_laws.proofs.Journaling.{books_after}
@@ -82,11 +85,16 @@ module _ {C : Type 0} (k : Codec C) (p : PathState C) (low : path_of p < 16) whe
   data_fair s None = tt
   data_fair s (Some r) = tt
 
-  event_fair : (o : Option Event) → IsFair (step_for o)
+  event_fair : (o : Option Event) → IsFair (step_for (path_of p) o)
   event_fair None = tt
   event_fair (Some (happening.Takes line)) = tt
   event_fair (Some (happening.Arrives due)) = tt
   event_fair (Some (happening.Fires s tick)) = tt
+  event_fair (Some (happening.Joins tick)) = low
+
+  join_heard_fair : (s : Side) (o : Option JoinSyn) → IsFair (join_heard_ask s o p)
+  join_heard_fair s None = tt
+  join_heard_fair s (Some asked) = low
 
   key_fair : (s : Side) (o : Option ℕ) → IsFair (peer_key_ask s o)
   key_fair s None = tt
@@ -118,6 +126,7 @@ module _ {C : Type 0} (k : Codec C) (p : PathState C) (low : path_of p < 16) whe
   item_fair s (Some (says.DataFin place)) = low
   item_fair s (Some (says.PeerKey key)) = tt
   item_fair s (Some (says.Keys own peer)) = tt
+  item_fair s (Some (says.Join form)) = tt
 
   piece_fair : (s : Side) (o : Option Piece) → IsFair (piece_ask s o)
   piece_fair s None = tt
@@ -132,6 +141,10 @@ module _ {C : Type 0} (k : Codec C) (p : PathState C) (low : path_of p < 16) whe
   rate_fair s (Some pending) = (low, omega arith, omega arith, omega arith, omega arith)
 
   path_asks_fair : (d : Duty) → IsFair (ask_for k d p)
+  path_asks_fair duties.JoinAgain = low
+  path_asks_fair (duties.JoinHeard s) = join_heard_fair s (asked_at s p)
+  path_asks_fair (duties.Refuse s) = tt
+  path_asks_fair (duties.PlainAck s) = break_fair s 6
   path_asks_fair (duties.Look s) = low
   path_asks_fair (duties.Window s) = tt
   path_asks_fair (duties.Update s) = tt
@@ -320,14 +333,18 @@ module _ {C : Type 0} where
   run_fair k [] w h = h
   run_fair k (turn ∷ turns) w h = run_fair k turns (after_turn k turn w) (turn_fair k turn w h)
 
-  opened_fair : (start : Start) → IsFairWorld (opened_world {C = C} start)
-  opened_fair start = record {
+  opened_fair : (start : Start) → length start.paths ≤ 16 → IsFairWorld (opened_world {C = C} start)
+  opened_fair start few = record {
     crew = opened_lifted IsFairCrew start (record { member = tt; notes = no_notes }) (record { member = tt; notes = no_notes })
-        (record { member = begun_fair (waiting_path start.profile start.drawn start.delay start.lines) (omega arith); notes = no_notes });
-    books = record { a = rows_stay_right [] A start.drawn.key_a tt; b = rows_stay_right [] B start.drawn.key_b tt };
+        (λ number plan there. record {
+          member = begun_fair (waiting_path (path_begins start number plan) start.lines)
+              (let within = slice_get_within start.paths number plan there in omega (arith, within, few));
+          notes = no_notes;
+        });
+    books = record { a = rows_stay_right [] A start.key_a tt; b = rows_stay_right [] B start.key_b tt };
   }
 
   -- in each connection
-  pub rows_in_range : (k : Codec C) (start : Start) (turns : List Turn) (actor : ℕ) (c : ActorCrew C) → slice_get (world_run k turns (opened_world start)).crew actor ≡ Some c
+  pub rows_in_range : (k : Codec C) (start : Start) (few : length start.paths ≤ 16) (turns : List Turn) (actor : ℕ) (c : ActorCrew C) → slice_get (world_run k turns (opened_world start)).crew actor ≡ Some c
       → (n : Note) → In n c.list → HasRowsInRange n.reply
-  rows_in_range k start turns actor c there = ((run_fair k turns (opened_world start) (opened_fair start)).crew.each actor c there).notes
+  rows_in_range k start few turns actor c there = ((run_fair k turns (opened_world start) (opened_fair start few)).crew.each actor c there).notes

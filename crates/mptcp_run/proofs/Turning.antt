@@ -64,7 +64,7 @@ under_end last run new h over world made =
     }
 
 -- a round that wasn't put whole
-pub put_fault : (opening : List ℕ) (number : ℕ) (last w : Connection) (line : ℕ) (old new : Port → Option (List ℕ)) (before faults : Port → ℕ) (r : Result (Unit {0}) Status)
+pub put_fault : (opening : Option (List ℕ)) (number : ℕ) (last w : Connection) (line : ℕ) (old new : Port → Option (List ℕ)) (before faults : Port → ℕ) (r : Result (Unit {0}) Status)
     → all_over w.crew ≡ true → IfErr r (IsPortsFault before faults) → OnErr r (HoldsPart opening number last [] (end_round w ∷ []) old new)
     → IfErr r (TurnFault opening number round_turn last w line old new)
 put_fault opening number last w line old new before faults (Ok x) over cause part = tt

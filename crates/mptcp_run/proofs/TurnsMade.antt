@@ -24,7 +24,7 @@ Ports = Port → Option (List ℕ)
 more_from : (a b c : Option (List ℕ)) (front : List ℕ) (P : List ℕ → Type 0) → b ≡ a → HoldsMore b c front P → HoldsMore a c front P
 more_from a b c front P same h = subst (λ o. HoldsMore o c front P) same h
 
-ends_from : (opening : List ℕ) (number : ℕ) (w : Connection) (ends : List Connection) (a b c : Ports) → ((p : Port) → b p ≡ a p) → HoldsEnds opening number w ends b c
+ends_from : (opening : Option (List ℕ)) (number : ℕ) (w : Connection) (ends : List Connection) (a b c : Ports) → ((p : Port) → b p ≡ a p) → HoldsEnds opening number w ends b c
     → HoldsEnds opening number w ends a c
 ends_from opening number w ends a b c same h = record {
   read_by_b = more_from (a port.ReadByB) (b port.ReadByB) (c port.ReadByB) (output_of B w) (λ text. text ≡ output_of B (last_end w ends)) (same port.ReadByB) h.read_by_b;
@@ -33,7 +33,7 @@ ends_from opening number w ends a b c same h = record {
   fits = h.fits;
 }
 
-part_from : (opening : List ℕ) (number : ℕ) (w : Connection) (low high : List Connection) (a b c : Ports) → ((p : Port) → b p ≡ a p) → HoldsPart opening number w low high b c
+part_from : (opening : Option (List ℕ)) (number : ℕ) (w : Connection) (low high : List Connection) (a b c : Ports) → ((p : Port) → b p ≡ a p) → HoldsPart opening number w low high b c
     → HoldsPart opening number w low high a c
 part_from opening number w low high a b c same h = record {
   read_by_b = more_from (a port.ReadByB) (b port.ReadByB) (c port.ReadByB) (output_of B w) (IsBetween (output_of B (last_end w low)) (output_of B (last_end w high))) (same port.ReadByB) h.read_by_b;
@@ -41,7 +41,7 @@ part_from opening number w low high a b c same h = record {
   log = more_from (a port.Log) (b port.Log) (c port.Log) [] (IsBetween (log_text opening number (steps_by_round w low)) (log_text opening number (steps_by_round w high))) (same port.Log) h.log;
 }
 
-module _ (opening : List ℕ) where
+module _ (opening : Option (List ℕ)) where
   -- a turn in front of what others put
   ends_behind : (number : ℕ) (turn : Turn) (rest : List Turn) (last w : Connection) (a b c : Ports) → TurnHolds opening number turn last w a b
       → HoldsEnds opening (rounds_after turn number) (last_after turn last w) (round_ends rest (after_turn octets turn w)) b c
@@ -169,7 +169,7 @@ module _ (opening : List ℕ) where
 
 -- ---- the same, as a loop has them
 
-pub put_turn : (op next_op : List ℕ) (n m : ℕ) (turn : Turn) (rest order : List Turn) (last w : Connection) (k : Kept) (x : Connection) (a b c : Ports) → next_op ≡ op
+pub put_turn : (op next_op : Option (List ℕ)) (n m : ℕ) (turn : Turn) (rest order : List Turn) (last w : Connection) (k : Kept) (x : Connection) (a b c : Ports) → next_op ≡ op
     → m ≡ rounds_after turn n → order ≡ turn ∷ rest → k ≡ standing (after_turn octets turn w) → IsLawfulTurn turn w → TurnHolds op n turn last w a b
     → TurnsPut next_op m rest (last_after turn last w) k.state x b c → TurnsPut op n order last w x a c
 put_turn op next_op n m turn rest order last w k x a b c same many order_is world lawful holds h =
@@ -179,7 +179,7 @@ put_turn op next_op n m turn rest order last w k x a b c same many order_is worl
     (subst (λ i. TurnsPut op i rest (last_after turn last w) k.state x b c) many
     (subst (λ o. TurnsPut o m rest (last_after turn last w) k.state x b c) same h))))
 
-pub fault_later : (op next_op : List ℕ) (n m line next : ℕ) (turn : Turn) (rest order : List Turn) (last w : Connection) (k : Kept) (a b c : Ports) (status : Status) → next_op ≡ op
+pub fault_later : (op next_op : Option (List ℕ)) (n m line next : ℕ) (turn : Turn) (rest order : List Turn) (last w : Connection) (k : Kept) (a b c : Ports) (status : Status) → next_op ≡ op
     → m ≡ rounds_after turn n → next ≡ line + 1 → order ≡ turn ∷ rest → k ≡ standing (after_turn octets turn w) → IsLawfulTurn turn w → TurnHolds op n turn last w a b
     → TurnsFault next_op m rest (last_after turn last w) k.state next b c status → TurnsFault op n order last w line a c status
 fault_later op next_op n m line next turn rest order last w k a b c status same many next_is order_is world lawful holds h =
@@ -190,7 +190,7 @@ fault_later op next_op n m line next turn rest order last w k a b c status same 
     (subst (λ i. TurnsFault op i rest (last_after turn last w) k.state next b c status) many
     (subst (λ o. TurnsFault o m rest (last_after turn last w) k.state next b c status) same h)))))
 
-pub fault_now : (op : List ℕ) (n line at : ℕ) (turn : Turn) (rest order : List Turn) (last w : Connection) (a b : Ports) (status : Status) → at ≡ line + 1 → order ≡ turn ∷ rest
+pub fault_now : (op : Option (List ℕ)) (n line at : ℕ) (turn : Turn) (rest order : List Turn) (last w : Connection) (a b : Ports) (status : Status) → at ≡ line + 1 → order ≡ turn ∷ rest
     → TurnFault op n turn last w at a b status → TurnsFault op n order last w line a b status
 fault_now op n line at turn rest order last w a b status at_is order_is h =
     subst (λ ts. TurnsFault op n ts last w line a b status) (sym order_is) (fault_here op n turn rest last w line at a b status at_is h)

@@ -1,5 +1,5 @@
 -- No line of a script that is run changes a segment.
-use Rattle.std.proofs.Common.{◌≡◌, refl, sym, ◌∙◌, ap, subst, ℕ, suc, ◌+◌, ◌<◌, ◌≤◌, ◌==◌, inl, inr, ◌⊎◌, Bool, true, false, ◌||◌, ◌&&◌, not, cond, nat_lt, List, [], ◌∷◌, ◌++◌, length, get_or, take, Option, Some, None, Result, Ok, Err, arith}
+use Rattle.std.proofs.Common.{◌≡◌, refl, sym, ◌∙◌, ap, subst, ℕ, suc, ◌+◌, ◌<◌, ◌≤◌, ◌==◌, inl, inr, ◌⊎◌, Bool, true, false, ◌||◌, not, cond, nat_lt, List, [], ◌∷◌, ◌++◌, length, get_or, take, Option, Some, None, Result, Ok, Err, arith}
 use Rattle.std.specs.Prelude.{IfOk, codes, fold, position}
 use Rattle.std.specs.List.{find, list_any, slice_split, onto_first, position_or_len}
 use Rattle.std.specs.Option.{ok_or}
@@ -25,7 +25,7 @@ use Rattle.link_script.specs.Reading.{in_place, later_line, next_line, at_line, 
 use Rattle.link_script.specs.Steps.{◌>>=◌}
 use Rattle.link_script.specs.Words.{text_lines, words_of, is_passed_over, keyword_word, keywords, keyword, fixed, side, switch}
 use Rattle.world_laws.specs.PlainScripts.{changes_segments}
-use Rattle.mptcp_run.specs.Script.{is_setting, is_event, is_zero, parted_at, is_held_back, unless_held_back, script_meaning}
+use Rattle.mptcp_run.specs.Script.{is_setting, is_event, parted_at, is_held_back, unless_held_back, script_meaning}
 
 abbrev changes : Line → Bool
 changes (Event event) = changes_segments event
@@ -173,27 +173,27 @@ fast_close_keeps (which ∷ tick ∷ []) = after (side which) _ (λ s. after (wi
 fast_close_keeps (which ∷ tick ∷ m ∷ words) = tt
 
 -- a line that begins with this word is run, unless it is one of another path
-abbrev is_run : List ℕ → Bool → Bool
-is_run word main = is_setting word || is_event word || (bytes_eq word (codes "path") && main)
+abbrev is_run : List ℕ → Bool
+is_run word = is_setting word || is_event word
 
-after_keeps : (which : Keyword) (main : Bool) (words : List (List ℕ)) → is_run (keyword_word which) main ≡ true → Keeps (line_after which words)
-after_keeps first.Seed main words run = seed_keeps words
-after_keeps first.Checksum main words run = checksum_keeps words
-after_keeps first.Short main words run = short_keeps words
-after_keeps first.Buffer main words run = buffer_keeps words
-after_keeps first.Path main words run = path_keeps words
-after_keeps first.Drop main words run = drop_keeps words
-after_keeps first.Strip main words run = absurd cc
-after_keeps first.Alter main words run = absurd cc
-after_keeps first.Dup main words run = dup_keeps words
-after_keeps first.Late main words run = late_keeps words
-after_keeps first.StripAll main words run = absurd cc
-after_keeps first.Die main words run = die_keeps words
-after_keeps first.Prio main words run = prio_keeps words
-after_keeps first.Add main words run = add_keeps words
-after_keeps first.Remove main words run = remove_keeps words
-after_keeps first.FastClose main words run = fast_close_keeps words
-after_keeps first.End main words run = end_keeps words
+after_keeps : (which : Keyword) (words : List (List ℕ)) → is_run (keyword_word which) ≡ true → Keeps (line_after which words)
+after_keeps first.Seed words run = seed_keeps words
+after_keeps first.Checksum words run = checksum_keeps words
+after_keeps first.Short words run = short_keeps words
+after_keeps first.Buffer words run = buffer_keeps words
+after_keeps first.Path words run = path_keeps words
+after_keeps first.Drop words run = drop_keeps words
+after_keeps first.Strip words run = absurd cc
+after_keeps first.Alter words run = absurd cc
+after_keeps first.Dup words run = dup_keeps words
+after_keeps first.Late words run = late_keeps words
+after_keeps first.StripAll words run = absurd cc
+after_keeps first.Die words run = die_keeps words
+after_keeps first.Prio words run = prio_keeps words
+after_keeps first.Add words run = add_keeps words
+after_keeps first.Remove words run = remove_keeps words
+after_keeps first.FastClose words run = fast_close_keeps words
+after_keeps first.End words run = end_keeps words
 
 -- ---- the first word
 
@@ -229,20 +229,18 @@ not_false : (b : Bool) → not b ≡ false → b ≡ true
 not_false true e = refl
 not_false false e = absurd cc
 
-run_of : (over setting event path : Bool) → over ≡ false → not (over || setting || event || path) ≡ false → (setting || event || path) ≡ true
-run_of true setting event path e h = absurd cc
-run_of false setting event path e h = not_false (setting || event || path) h
+run_of : (over setting event : Bool) → over ≡ false → not (over || setting || event) ≡ false → (setting || event) ≡ true
+run_of true setting event e h = absurd cc
+run_of false setting event e h = not_false (setting || event) h
 
 line_keeps : (text : List ℕ) (line : Line) → is_held_back text ≡ false → is_passed_over text ≡ false → line_of (words_of text) ≡ Ok line → changes line ≡ false
 unfolding line_of
 line_keeps text line held over e =
-    let main : Bool = is_zero (parted_at 32 (parted_at 32 text).1).0 in
-    let run : is_run (parted_at 32 text).0 main ≡ true =
-    run_of (is_passed_over text) (is_setting (parted_at 32 text).0) (is_event (parted_at 32 text).0) (bytes_eq (parted_at 32 text).0 (codes "path") && main) over held in
+    let run : is_run (parted_at 32 text).0 ≡ true = run_of (is_passed_over text) (is_setting (parted_at 32 text).0) (is_event (parted_at 32 text).0) over held in
     let part = first_part text in
     let read = bind_ok (keyword (parted_at 32 text).0) (λ which. line_after which part.0) line (ap line_of (sym part.1) ∙ e) in
     let is : keyword_word read.0 ≡ (parted_at 32 text).0 = keyword_is _ read.0 read.1 in
-    kept (line_after read.0 part.0) line (after_keeps read.0 main part.0 (ap (λ word. is_run word main) is ∙ run)) read.2
+    kept (line_after read.0 part.0) line (after_keeps read.0 part.0 (ap is_run is ∙ run)) read.2
 
 -- ---- from line to line
 

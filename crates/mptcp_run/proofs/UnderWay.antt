@@ -15,6 +15,7 @@ use Rattle.world_laws.specs.Openings.{Start, opened_world}
 use Rattle.world_laws.specs.Serial.{after_steps, after_turns}
 use Rattle.world_laws.specs.Worlds.{note_of, crew_after, asked, stepped, world_step, all_over, greatest, begins, end_round}
 use Rattle.world_laws.proofs.Chaining.{stamp_rises, stamps_below}
+use Rattle.world_laws.proofs.Opened.{opened_actors}
 use Rattle.world_laws.proofs.Pairing.{step_fine, round_fine, greatest_above, stays_fine}
 use Rattle.mptcp_run.specs.Rounds.{Begins}
 use Rattle.mptcp_run.specs.Replaying.{GoesOn}
@@ -147,13 +148,10 @@ next_begins w fine over = record { fine = round_fine w fine; known = by (all_ove
 
 -- a connection that opens begins its first round
 pub opened_begins : (start : Start) → Begins (opened_world start)
-opened_begins start = record {
-  fine = (stays_fine octets).always start [];
-  known = record { each = at };
-}
-  where
-    at : (i : ℕ) (c : ActorCrew (List ℕ)) → slice_get (opened_world start).crew i ≡ Some c → c.pass.stamp ≡ 0
-    at zero c there = subst (λ x. x.pass.stamp ≡ 0) (same_Some _ c there) refl
-    at (suc zero) c there = subst (λ x. x.pass.stamp ≡ 0) (same_Some _ c there) refl
-    at (suc (suc zero)) c there = subst (λ x. x.pass.stamp ≡ 0) (same_Some _ c there) refl
-    at (suc (suc (suc i))) c there = cc
+opened_begins start =
+    let unstamped = opened_actors (λ actor c. c.pass.stamp ≡ 0) start refl refl (λ number plan there. refl) in
+    let none = greatest_at_most 0 0 (opened_world start).crew (omega arith) (λ i c there. let first = unstamped i c there in omega (arith, first)) in
+    record {
+      fine = (stays_fine octets).always start [];
+      known = record { each = λ i c there. let first = unstamped i c there in omega (arith, first, none) };
+    }

@@ -7,8 +7,8 @@ use Rattle.world_core.specs.Rounds.{RoundTo, after_rounds}
 use Rattle.world_laws.specs.Serial.{AreRounds}
 use Rattle.world_laws.specs.Worlds.{Turn, end_round, world_run, AreLawful, IsLawfulTurn}
 use Rattle.mptcp_run.specs.declared.status.Status.{Status}
-use Rattle.mptcp_run.specs.declared.status.Status.TheVariants.{Script, Load, Put, TooLong, Memory, Log}
-use Rattle.mptcp_run.specs.Plan.{AddsAll, AddsCut, AddsLoadsTo, binds_of, round_puts, puts_by_round, ArePutsBefore, AreFirstPuts}
+use Rattle.mptcp_run.specs.declared.status.Status.TheVariants.{Delivered, Rounds, NoPath, Aborted, Usage, Script, Load, Put, TooLong, Memory, Log}
+use Rattle.mptcp_run.specs.Plan.{AddsAll, AddsCut, AddsLoadsTo, binds_of, round_puts, puts_by_round, ArePuts, ArePutsBefore, AreFirstPuts}
 use Rattle.mptcp_run.specs.Putting.{round_ends}
 use Rattle.mptcp_run.specs.Rounds.{ends_by}
 use Rattle.mptcp_run.specs.Task.{Connection, Task}
@@ -31,19 +31,19 @@ InputAdds line plan old new status = LoadsAdd line plan old new status
 -- ---- rounds
 
 -- at most so many rounds were made, from this world to that one
-pub record RoundsAdd (opening : List ℕ) (most number : ℕ) (w v : Connection) (old new : Option (List Made)) : Type 0 where
+pub record RoundsAdd (opening : Option (List ℕ)) (most number : ℕ) (w v : Connection) (old new : Option (List Made)) : Type 0 where
   pub rounds : List (List ℕ)
   pub are : AreRounds octets most rounds w
   pub world : v ≡ after_rounds octets rounds w
   pub calls : AddsAll (puts_by_round opening number w (ends_by rounds w)) old new
 
 -- the round after this world ends a run with this status: it wasn't made for want of memory, or was cut off
-abbrev pub RoundAddsCut : List ℕ → ℕ → Connection → Option (List Made) → Option (List Made) → Status → Type 0
+abbrev pub RoundAddsCut : Option (List ℕ) → ℕ → Connection → Option (List Made) → Option (List Made) → Status → Type 0
 RoundAddsCut opening number w old new status =
     ((status ≡ Memory) × AddsAll [] old new) ⊎ ((v : Connection) × (RoundTo octets w v × AddsCut (round_puts opening number w v) status old new))
 
 -- the last of some of at most so many rounds was cut off
-pub record RoundsAddCut (opening : List ℕ) (most number : ℕ) (w : Connection) (old new : Option (List Made)) (status : Status) : Type 0 where
+pub record RoundsAddCut (opening : Option (List ℕ)) (most number : ℕ) (w : Connection) (old new : Option (List Made)) (status : Status) : Type 0 where
   pub n : ℕ
   pub rounds : List (List ℕ)
   pub few : n ≤ most
@@ -53,24 +53,24 @@ pub record RoundsAddCut (opening : List ℕ) (most number : ℕ) (w : Connection
 -- ---- the turns of a log
 
 -- a step makes none
-abbrev pub turn_puts : List ℕ → ℕ → Turn → Connection → Connection → List Call
+abbrev pub turn_puts : Option (List ℕ) → ℕ → Turn → Connection → Connection → List Call
 turn_puts opening number (Turn.Step actor) last w = []
 turn_puts opening number Turn.Round last w = round_puts opening number last (end_round w)
 
 -- a turn wasn't made for want of memory, or the round that it ends was cut off
-abbrev pub TurnAddsCut : List ℕ → ℕ → Turn → Connection → Connection → Option (List Made) → Option (List Made) → Status → Type 0
+abbrev pub TurnAddsCut : Option (List ℕ) → ℕ → Turn → Connection → Connection → Option (List Made) → Option (List Made) → Status → Type 0
 TurnAddsCut opening number turn last w old new status =
     ((status ≡ Memory) × AddsAll [] old new) ⊎ (IsLawfulTurn turn w × AddsCut (turn_puts opening number turn last w) status old new)
 
 -- a turn ends a run with this status
-abbrev pub TurnEnds : List ℕ → ℕ → Turn → Connection → Connection → Option (List Made) → Option (List Made) → Status → Type 0
+abbrev pub TurnEnds : Option (List ℕ) → ℕ → Turn → Connection → Connection → Option (List Made) → Option (List Made) → Status → Type 0
 TurnEnds opening number turn last w old new (Log at) = (IsLawfulTurn turn w → ⊥) × AddsAll [] old new
 TurnEnds opening number turn last w old new (Put port) = TurnAddsCut opening number turn last w old new (Put port)
 TurnEnds opening number turn last w old new Memory = TurnAddsCut opening number turn last w old new Memory
 TurnEnds opening number turn last w old new status = ⊥
 
 -- one of these turns can't be made; those before it were
-pub record TurnsAddBefore (opening : List ℕ) (number : ℕ) (order : List Turn) (last w : Connection) (old new : Option (List Made)) : Type 0 where
+pub record TurnsAddBefore (opening : Option (List ℕ)) (number : ℕ) (order : List Turn) (last w : Connection) (old new : Option (List Made)) : Type 0 where
   pub before : List Turn
   pub turn : Turn
   pub behind : List Turn
@@ -80,7 +80,7 @@ pub record TurnsAddBefore (opening : List ℕ) (number : ℕ) (order : List Turn
   pub calls : AddsAll (puts_by_round opening number last (round_ends before w)) old new
 
 -- the last round of some of these turns was cut off
-pub record TurnsAddCut (opening : List ℕ) (number : ℕ) (order : List Turn) (last w : Connection) (old new : Option (List Made)) (status : Status) : Type 0 where
+pub record TurnsAddCut (opening : Option (List ℕ)) (number : ℕ) (order : List Turn) (last w : Connection) (old new : Option (List Made)) (status : Status) : Type 0 where
   pub turns : List Turn
   pub behind : List Turn
   pub order_is : order ≡ turns ++ behind
@@ -88,7 +88,7 @@ pub record TurnsAddCut (opening : List ℕ) (number : ℕ) (order : List Turn) (
   pub calls : AddsCut (puts_by_round opening number last (round_ends turns w)) status old new
 
 -- the turns of a log end a run with this status
-abbrev pub TurnsEnd : List ℕ → ℕ → List Turn → Connection → Connection → Option (List Made) → Option (List Made) → Status → Type 0
+abbrev pub TurnsEnd : Option (List ℕ) → ℕ → List Turn → Connection → Connection → Option (List Made) → Option (List Made) → Status → Type 0
 TurnsEnd opening number order last w old new (Log at) = TurnsAddBefore opening number order last w old new
 TurnsEnd opening number order last w old new (Put port) = TurnsAddCut opening number order last w old new (Put port)
 TurnsEnd opening number order last w old new Memory = TurnsAddCut opening number order last w old new Memory
@@ -110,3 +110,17 @@ ReplayAdds line task old new (Log at) = AddsWork ArePutsBefore line task old new
 ReplayAdds line task old new (Put port) = AddsWorkCut line task old new (Put port)
 ReplayAdds line task old new Memory = AddsWorkCut line task old new Memory
 ReplayAdds line task old new status = ⊥
+
+-- the calls that were made by a run of the made input that ends with this status
+abbrev pub MadeAdds : Line → Task → Option (List Made) → Option (List Made) → Status → Type 0
+MadeAdds line task old new (Put port) = AddsWorkCut line task old new (Put port)
+MadeAdds line task old new Memory = AddsWorkCut line task old new Memory
+MadeAdds line task old new Delivered = AddsWork ArePuts line task old new
+MadeAdds line task old new Rounds = AddsWork ArePuts line task old new
+MadeAdds line task old new NoPath = AddsWork ArePuts line task old new
+MadeAdds line task old new (Aborted reader) = AddsWork ArePuts line task old new
+MadeAdds line task old new Usage = ⊥
+MadeAdds line task old new (Load named) = ⊥
+MadeAdds line task old new (TooLong named) = ⊥
+MadeAdds line task old new (Script at kind) = ⊥
+MadeAdds line task old new (Log at) = ⊥

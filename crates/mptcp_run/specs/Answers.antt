@@ -4,8 +4,8 @@ use Rattle.outside_kit.specs.declared.port.Port.{Port}
 use Rattle.outside_kit.specs.Outside.{HasRisen}
 use Rattle.link_script.specs.declared.fault.ScriptKind.{ScriptKind}
 use Rattle.link_script.specs.declared.fault.ScriptFault.TheVariants as script_fault
+use Rattle.link_script.specs.declared.script.Script as link
 use Rattle.run_log.specs.declared.fault.LogFault.TheVariants as log_fault
-use Rattle.run_log.specs.Form.{reading}
 use Rattle.run_words.specs.Lines.{Line}
 use Rattle.mptcp_run.specs.declared.status.Named.TheVariants as input
 use Rattle.mptcp_run.specs.declared.status.Status.{Status}
@@ -13,7 +13,7 @@ use Rattle.mptcp_run.specs.declared.status.Status.TheVariants.{Delivered, Rounds
 use Rattle.mptcp_run.specs.Inputs.{order_of, content_of, IsLoadsFault}
 use Rattle.mptcp_run.specs.Ports.{IsUntouched}
 use Rattle.mptcp_run.specs.Putting.{IsWhole, IsStopped, IsCut}
-use Rattle.mptcp_run.specs.Script.{script_meaning}
+use Rattle.mptcp_run.specs.Script.{script_meaning, script_of, log_reading}
 use Rattle.mptcp_run.specs.Task.{Task, task_of, opening_count, AreWithinLimits, HasValidScript, HasValidOrder}
 
 -- the run came to one of its own ends
@@ -51,9 +51,10 @@ HasBegun (Log line) = ⊥
 HasBegun status = HasRead status
 
 -- a line of the log is refused: it has no right form there, or is the first turn that can't be made
-abbrev pub IsRefusedLine : Option Task → List ℕ → ℕ → Type 0 → (Port → Option (List ℕ)) → (Port → Option (List ℕ)) → Type 0
-IsRefusedLine task log line untouched held holds =
-    ((reading 3 8 log ≡ Err (log_fault.Line line)) × untouched) ⊎ IfSome task (λ task. IsStopped task (opening_count log) line held holds)
+abbrev pub IsRefusedLine : Option link.Script → Option Task → List ℕ → ℕ → Type 0 → (Port → Option (List ℕ)) → (Port → Option (List ℕ)) → Type 0
+IsRefusedLine script task log line untouched held holds =
+    (IfSome script (λ script. log_reading script log ≡ Err (log_fault.Line line)) × untouched)
+    ⊎ IfSome task (λ task. IsStopped task (opening_count log) line held holds)
 
 -- ---- all of it, as one fact of a status
 
@@ -81,7 +82,7 @@ module _ (content : List ℕ → Option (List ℕ)) (line : Line) (loads_before 
     pub read : HasBeenRead
     pub replay : (log : List ℕ) × (order_of line.work ≡ Some log)
     pub cause : IfSome (content_of content line input.Order)
-        (λ log. IsRefusedLine (task_of content line) log at (IsUntouched held holds faults_before faults) held holds)
+        (λ log. IsRefusedLine (script_of content line) (task_of content line) log at (IsUntouched held holds faults_before faults) held holds)
 
   pub record PutAnswer (port : Port) : Type 0 where
     pub read : HasBeenReadWhole
@@ -108,3 +109,23 @@ module _ (content : List ℕ → Option (List ℕ)) (line : Line) (loads_before 
   IsAnswer Rounds = EndAnswer Rounds
   IsAnswer NoPath = EndAnswer NoPath
   IsAnswer (Aborted reader) = EndAnswer (Aborted reader)
+
+-- ---- the made input: nothing is read
+
+module _ (task : Task) (faults_before faults : Port → ℕ) (held holds : Port → Option (List ℕ)) where
+  pub record MadePutAnswer (port : Port) : Type 0 where
+    pub cause : HasRisen (faults_before port) (faults port)
+    pub cut : IsCut task held holds
+
+  abbrev pub IsMadeAnswer : Status → Type 0
+  IsMadeAnswer (Put port) = MadePutAnswer port
+  IsMadeAnswer Memory = IsCut task held holds
+  IsMadeAnswer Delivered = IsWhole task Delivered held holds
+  IsMadeAnswer Rounds = IsWhole task Rounds held holds
+  IsMadeAnswer NoPath = IsWhole task NoPath held holds
+  IsMadeAnswer (Aborted reader) = IsWhole task (Aborted reader) held holds
+  IsMadeAnswer Usage = ⊥
+  IsMadeAnswer (Load named) = ⊥
+  IsMadeAnswer (TooLong named) = ⊥
+  IsMadeAnswer (Script at kind) = ⊥
+  IsMadeAnswer (Log at) = ⊥

@@ -1,14 +1,14 @@
 -- Why a run ends as it does: the cause of each status.
 use Rattle.std.specs.Prelude.{◌≡◌, ℕ, ◌<◌, List, length, Err, Option, IfSome}
 use Rattle.link_script.specs.declared.fault.ScriptFault.TheVariants as script_fault
+use Rattle.link_script.specs.declared.script.Script as link
 use Rattle.run_log.specs.declared.fault.LogFault.TheVariants as log_fault
-use Rattle.run_log.specs.Form.{reading}
 use Rattle.outside_kit.specs.declared.port.Port.{Port}
 use Rattle.outside_kit.specs.Outside.{HasRisen}
 use Rattle.mptcp_run.specs.declared.status.Named.{Named}
 use Rattle.mptcp_run.specs.declared.status.Named.TheVariants as input
 use Rattle.mptcp_run.specs.declared.status.Status.{Status}
-use Rattle.mptcp_run.specs.Script.{script_meaning}
+use Rattle.mptcp_run.specs.Script.{script_meaning, log_reading}
 use Rattle.mptcp_run.specs.declared.status.Status.TheVariants.{Script, Load, Put, TooLong, Memory, Log}
 
 -- how many octets an input may have
@@ -40,8 +40,8 @@ IsScriptFault script (Script line kind) = script_meaning script ≡ Err (script_
 IsScriptFault script Memory = Unit {0}
 IsScriptFault script _ = ⊥
 
--- the form of a log ends a run with this status: it is refused at this line
-abbrev pub IsFormFault : List ℕ → Status → Type 0
-IsFormFault log (Log line) = reading 3 8 log ≡ Err (log_fault.Line line)
-IsFormFault log Memory = Unit {0}
-IsFormFault log _ = ⊥
+-- the form of a log ends a run of a script with this status: it is refused at this line
+abbrev pub IsFormFault : link.Script → List ℕ → Status → Type 0
+IsFormFault script log (Log line) = log_reading script log ≡ Err (log_fault.Line line)
+IsFormFault script log Memory = Unit {0}
+IsFormFault script log _ = ⊥

@@ -2,7 +2,6 @@
 use Rattle.std.specs.Prelude.{◌≡◌, ℕ, ◌<◌, ◌≤◌, List, length, Option, Some, None, option_and_then, IfSome, IsSome, Err, IsOk}
 use Rattle.link_script.specs.declared.fault.ScriptFault.TheVariants as script_fault
 use Rattle.run_log.specs.declared.fault.LogFault.TheVariants as log_fault
-use Rattle.run_log.specs.Form.{reading}
 use Rattle.outside_kit.specs.Outside.{HasRisen}
 use Rattle.run_words.specs.Lines.{Line, Work, replay}
 use Rattle.mptcp_run.specs.declared.status.Named.{Named}
@@ -10,7 +9,7 @@ use Rattle.mptcp_run.specs.declared.status.Named.TheVariants as input
 use Rattle.mptcp_run.specs.declared.status.Status.{Status}
 use Rattle.mptcp_run.specs.declared.status.Status.TheVariants.{Script, Load, TooLong, Memory, Log}
 use Rattle.mptcp_run.specs.Causes.{limit_of}
-use Rattle.mptcp_run.specs.Script.{script_meaning}
+use Rattle.mptcp_run.specs.Script.{script_meaning, script_of, log_reading}
 
 -- the name of the log whose steps are made again
 abbrev pub order_of : Work → Option (List ℕ)
@@ -68,5 +67,5 @@ IsReplayInputFault content line old new (Script at kind) =
 IsReplayInputFault content line old new (Log at) =
     ((named : Named) → IsWithinLimit content line named)
     × (IfSome (content line.names.script) (λ told. IsOk (script_meaning told))
-    × IfSome (content_of content line input.Order) (λ told. reading 3 8 told ≡ Err (log_fault.Line at)))
+    × IfSome (script_of content line) (λ script. IfSome (content_of content line input.Order) (λ told. log_reading script told ≡ Err (log_fault.Line at))))
 IsReplayInputFault content line old new status = IsLoadsFault content line old new status

@@ -4,6 +4,7 @@ pub mod Asked
 pub mod Causes
 pub mod Inputs
 pub mod Logged
+pub mod Made
 pub mod Plan
 pub mod Ports
 pub mod Promised

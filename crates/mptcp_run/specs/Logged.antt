@@ -1,9 +1,10 @@
 -- What the log of a run tells: turns that drive the same connection to the same outputs.
-use Rattle.std.specs.Prelude.{◌≡◌, ℕ, ◌≤◌, List, [], ◌∷◌, ◌++◌, Option, Some}
+use Rattle.std.specs.Prelude.{◌≡◌, ℕ, ◌≤◌, List, [], ◌∷◌, ◌++◌, Option, Some, length}
 use Rattle.outside_kit.specs.declared.port.Port.{Port}
 use Rattle.outside_kit.specs.declared.port.Port.TheVariants.{ReadByA, ReadByB, Log}
 use Rattle.outside_kit.specs.Outside.{HoldsAfter}
 use Rattle.world_laws.specs.Worlds.{Turn}
+use Rattle.mptcp_run.specs.declared.report.Report.TheVariants as report
 use Rattle.mptcp_run.specs.declared.status.Status.{Status}
 use Rattle.mptcp_run.specs.Ports.{HoldsMore}
 use Rattle.mptcp_run.specs.Putting.{world_after, IsWhole}
@@ -16,13 +17,13 @@ HasRounds (told order) = (front : List Turn) × (order ≡ front ++ Turn.Round �
 
 -- the same connection, and these turns
 abbrev pub replayed : Task → List Turn → Task
-replayed task order = record { script = task.script; file_a = task.file_a; file_b = task.file_b; course = told order }
+replayed task order = record { script = task.script; file_a = task.file_a; file_b = task.file_b; course = told order; report = report.Log }
 
 -- A text is read as a log of turns, those of its steps in their order. From the opening on they are lawful, drive the connection to
 -- where these turns drove it, and as a run of their own end with this status and leave just these ports, the log among them.
 pub record TellsTheRun (task : Task) (turns : List Turn) (status : Status) (old new : Port → Option (List ℕ)) (text : List ℕ) : Type 0 where
   pub order : List Turn
-  pub read : turns_in text ≡ Some order
+  pub read : turns_in task.script text ≡ Some order
   pub whole : IsWhole (replayed task order) status old new
   pub same : world_after task order ≡ world_after task turns
 
@@ -43,9 +44,10 @@ pub record HoldTheSame (old new before after : Port → Option (List ℕ)) : Typ
 
 -- ---- laws
 
--- so it is of each run that came to its own end
+-- so it is of each run of at most sixteen paths that keeps a log and came to its own end
 abbrev pub WholeRunsAreTold : Type 0
-WholeRunsAreTold = (task : Task) (status : Status) (old new : Port → Option (List ℕ)) → HasRounds task.course → IsWhole task status old new
+WholeRunsAreTold = (task : Task) (status : Status) (old new : Port → Option (List ℕ)) → task.report ≡ report.Log → length task.script.paths ≤ 16 → HasRounds task.course
+    → IsWhole task status old new
     → LogTellsTheRun task status old new
 
 -- two runs of one task that came to their own ends came to the same

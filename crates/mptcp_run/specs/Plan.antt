@@ -16,7 +16,7 @@ use Rattle.mptcp_run.specs.declared.status.Named.TheVariants as input
 use Rattle.mptcp_run.specs.declared.status.Status.{Status}
 use Rattle.mptcp_run.specs.declared.status.Status.TheVariants.{Delivered, Rounds, NoPath, Aborted, Usage, Script, Load, Put, TooLong, Memory, Log}
 use Rattle.mptcp_run.specs.Inputs.{order_of, name_of}
-use Rattle.mptcp_run.specs.Putting.{round_steps, round_text, log_opening, last_line, ends_of, world_after, AreFirstOf}
+use Rattle.mptcp_run.specs.Putting.{round_steps, round_text, opening_in, last_line, ends_of, world_after, AreFirstOf}
 use Rattle.mptcp_run.specs.Task.{Connection, Task, opened, AreTurnsOf, task_of}
 use Rattle.mptcp_run.specs.Task as way
 
@@ -100,25 +100,25 @@ put_of port (octet ∷ more) = call.Put port (octet ∷ more) ∷ []
 
 -- the puts of a round's end, where these are what B's reader has read, what A's has, and the lines
 abbrev pub puts_of : List ℕ → List ℕ → List ℕ → List Call
-puts_of read_by_b read_by_a lines = put_of port.ReadByB read_by_b ++ (put_of port.ReadByA read_by_a ++ call.Put port.Log lines ∷ [])
+puts_of read_by_b read_by_a lines = put_of port.ReadByB read_by_b ++ (put_of port.ReadByA read_by_a ++ put_of port.Log lines)
 
 -- those of the round from this world to that one
-abbrev pub round_puts : List ℕ → ℕ → Connection → Connection → List Call
+abbrev pub round_puts : Option (List ℕ) → ℕ → Connection → Connection → List Call
 round_puts opening number last w = puts_of (read_in B last w) (read_in A last w) (round_text opening number (round_steps last w))
 
 -- those of rounds, of which the first has this number
-abbrev pub puts_by_round : List ℕ → ℕ → Connection → List Connection → List Call
+abbrev pub puts_by_round : Option (List ℕ) → ℕ → Connection → List Connection → List Call
 puts_by_round opening number last [] = []
 puts_by_round opening number last (w ∷ ends) = round_puts opening number last w ++ puts_by_round opening (suc number) w ends
 
 -- those of the rounds that these turns end
 abbrev pub puts_so_far : Task → List Turn → List Call
-puts_so_far task turns = puts_by_round (log_opening task.script) 0 (opened task) (ends_of task turns)
+puts_so_far task turns = puts_by_round (opening_in task) 0 (opened task) (ends_of task turns)
 
--- all puts of a run: those of all its rounds, and the line of the outcome
+-- all puts of a run: those of all its rounds, and the last line
 abbrev pub ArePuts : Task → List Call → Type 0
 ArePuts task puts =
-    (turns : List Turn) × (AreTurnsOf task.course turns (opened task) × (puts ≡ puts_so_far task turns ++ call.Put port.Log (last_line (world_after task turns)) ∷ []))
+    (turns : List Turn) × (AreTurnsOf task.course turns (opened task) × (puts ≡ puts_so_far task turns ++ call.Put port.Log (last_line task turns) ∷ []))
 
 -- those of its first rounds, or all of them
 abbrev pub AreFirstPuts : Task → List Call → Type 0

@@ -1,5 +1,5 @@
 -- What a run puts: what the readers read, and its log, of the rounds that have ended.
-use Rattle.std.specs.Prelude.{◌≡◌, ℕ, zero, suc, ◌+◌, ◌≤◌, ◌⊎◌, List, [], ◌∷◌, ◌++◌, flat_map, length, Option}
+use Rattle.std.specs.Prelude.{◌≡◌, ℕ, zero, suc, ◌+◌, ◌≤◌, ◌⊎◌, List, [], ◌∷◌, ◌++◌, flat_map, map, length, codes, Option, Some, None}
 use Rattle.outside_kit.specs.declared.side.Side.{Side}
 use Rattle.outside_kit.specs.declared.side.Side.TheVariants.{A, B}
 use Rattle.outside_kit.specs.declared.port.Port.{Port}
@@ -10,9 +10,10 @@ use Rattle.actor_desk.specs.declared.ask.Note.{Note}
 use Rattle.actor_desk.specs.Journals.{in_order}
 use Rattle.run_log.specs.declared.outcome.Outcome as log_outcome
 use Rattle.run_log.specs.declared.outcome.Outcome.TheVariants as told
-use Rattle.std.specs.List.{AllByRecursion}
+use Rattle.std.specs.Fmt.{decimal}
+use Rattle.std.specs.List.{AllByRecursion, sum}
 use Rattle.run_log.specs.Fitting.{IsLong, NoteFits}
-use Rattle.run_log.specs.Lines.{ended, opening_lines, round_lines, outcome_text}
+use Rattle.run_log.specs.Lines.{ended, opening_lines, round_lines, outcome_text, outcome_word}
 use Rattle.path_core.specs.Octets.{octets}
 use Rattle.path_core.specs.Starts.{drawn_of}
 use Rattle.world_laws.specs.declared.outcome.Outcome.{Outcome}
@@ -21,9 +22,12 @@ use Rattle.world_laws.specs.Fine.{lists_of}
 use Rattle.world_laws.specs.Outcomes.{outcome_of, output_of}
 use Rattle.world_laws.specs.Serial.{IsSerial}
 use Rattle.world_laws.specs.Worlds.{Turn, world_step, end_round, world_run, greatest, AreLawful, IsLawfulTurn}
+use Rattle.mptcp_run.specs.declared.report.Report.{Report}
+use Rattle.mptcp_run.specs.declared.report.Report.TheVariants as report
 use Rattle.mptcp_run.specs.declared.status.Status.{Status}
 use Rattle.mptcp_run.specs.declared.status.Status.TheVariants.{Delivered, Rounds, NoPath, Aborted, Put, Memory}
 use Rattle.mptcp_run.specs.declared.status.Status.TheVariants as status_is
+use Rattle.mptcp_run.specs.Script.{width_of}
 use Rattle.mptcp_run.specs.Task.{Connection, Task, Course, opened, AreTurnsOf}
 use Rattle.mptcp_run.specs.Task as way
 use Rattle.mptcp_run.specs.Ports.{HoldsMore, HoldsWithin, IsBetween}
@@ -52,34 +56,49 @@ steps_by_round w (v ∷ ends) = round_steps w v ∷ steps_by_round v ends
 
 -- ---- the log
 
--- the lines with which a log opens; a data number has eight octets
+-- the lines with which a log opens
 abbrev pub log_opening : Script → List ℕ
-log_opening script = flat_map ended (opening_lines 8 (drawn_of script).key_a (drawn_of script).key_b)
+log_opening script = flat_map ended (opening_lines (width_of script) (drawn_of script 0).key_a (drawn_of script 0).key_b)
+
+-- for a task that keeps one
+abbrev pub opening_of : Report → Script → Option (List ℕ)
+opening_of report.Log script = Some (log_opening script)
+opening_of (report.Summary number) script = None
 
 -- what the first round puts before its lines
 abbrev pub opening_at : List ℕ → ℕ → List ℕ
 opening_at opening zero = opening
 opening_at opening (suc number) = []
 
--- what the end of a round puts
-abbrev pub round_text : List ℕ → ℕ → List Note → List ℕ
-round_text opening number steps = opening_at opening number ++ flat_map ended (round_lines number steps)
+-- what the end of a round puts to a log
+abbrev pub logged_text : List ℕ → ℕ → List Note → List ℕ
+logged_text opening number steps = opening_at opening number ++ flat_map ended (round_lines number steps)
+
+-- nothing, where none is kept
+abbrev pub round_text : Option (List ℕ) → ℕ → List Note → List ℕ
+round_text None number steps = []
+round_text (Some opening) number steps = logged_text opening number steps
 
 -- the log of rounds, of which the first has this number
-abbrev pub log_text : List ℕ → ℕ → List (List Note) → List ℕ
+abbrev pub log_text : Option (List ℕ) → ℕ → List (List Note) → List ℕ
 log_text opening number [] = []
 log_text opening number (steps ∷ more) = round_text opening number steps ++ log_text opening (suc number) more
 
 -- ---- numbers
 
--- the number of a round and those of its notes are numbers of their types
-abbrev pub RoundFits : ℕ → List Note → Type 0
-RoundFits number steps = IsLong number × AllByRecursion NoteFits steps
+-- the numbers of logged notes are numbers of their types
+abbrev pub NotesFit : Option (List ℕ) → List Note → Type 0
+NotesFit None steps = Unit {0}
+NotesFit (Some opening) steps = AllByRecursion NoteFits steps
+
+-- the number of a round is one, and so are those of its logged notes
+abbrev pub RoundFits : Option (List ℕ) → ℕ → List Note → Type 0
+RoundFits opening number steps = IsLong number × NotesFit opening steps
 
 -- those of rounds, of which the first has this number
-abbrev pub RoundsFit : ℕ → List (List Note) → Type 0
-RoundsFit number [] = Unit {0}
-RoundsFit number (steps ∷ more) = RoundFits number steps × RoundsFit (suc number) more
+abbrev pub RoundsFit : Option (List ℕ) → ℕ → List (List Note) → Type 0
+RoundsFit opening number [] = Unit {0}
+RoundsFit opening number (steps ∷ more) = RoundFits opening number steps × RoundsFit opening (suc number) more
 
 -- ---- how a run ends
 
@@ -95,9 +114,19 @@ told_outcome outcome.Delivered = told.Delivered
 told_outcome (outcome.Aborted reader) = told.Aborted
 told_outcome outcome.NoPath = told.NoPath
 
--- the last line of a log
-abbrev pub last_line : Connection → List ℕ
-last_line w = ended (outcome_text (told_outcome (outcome_of w.crew)))
+-- how many steps the actors have made
+abbrev pub steps_made : Connection → ℕ
+steps_made w = sum (map length (lists_of w.crew))
+
+-- what came of the made input of a number
+abbrev pub summary_text : ℕ → ℕ → ℕ → log_outcome.Outcome → List ℕ
+summary_text number rounds steps outcome =
+    codes "bench " ++ (decimal number ++ (codes " rounds " ++ (decimal rounds ++ (codes " steps " ++ (decimal steps ++ (codes " outcome " ++ outcome_word outcome))))))
+
+-- the last line, after so many rounds
+abbrev pub last_line_of : Report → ℕ → Connection → List ℕ
+last_line_of report.Log rounds w = ended (outcome_text (told_outcome (outcome_of w.crew)))
+last_line_of (report.Summary number) rounds w = ended (summary_text number rounds (steps_made w) (told_outcome (outcome_of w.crew)))
 
 -- ---- the turns of a task
 
@@ -112,11 +141,18 @@ read_so_far s task turns = output_of s (last_end (opened task) (ends_of task tur
 abbrev pub steps_so_far : Task → List Turn → List (List Note)
 steps_so_far task turns = steps_by_round (opened task) (ends_of task turns)
 
+-- the lines with which the log opens, where one is kept
+abbrev pub opening_in : Task → Option (List ℕ)
+opening_in task = opening_of task.report task.script
+
 abbrev pub log_so_far : Task → List Turn → List ℕ
-log_so_far task turns = log_text (log_opening task.script) 0 (steps_so_far task turns)
+log_so_far task turns = log_text (opening_in task) 0 (steps_so_far task turns)
 
 abbrev pub world_after : Task → List Turn → Connection
 world_after task turns = world_run octets turns (opened task)
+
+abbrev pub last_line : Task → List Turn → List ℕ
+last_line task turns = last_line_of task.report (length (ends_of task turns)) (world_after task turns)
 
 -- ---- what the ports hold
 
@@ -125,14 +161,14 @@ pub record HoldsRounds (task : Task) (turns : List Turn) (old new : Port → Opt
   pub read_by_b : HoldsAfter (old ReadByB) (new ReadByB) (λ _. read_so_far B task turns)
   pub read_by_a : HoldsAfter (old ReadByA) (new ReadByA) (λ _. read_so_far A task turns)
   pub log : HoldsAfter (old Log) (new Log) (λ held. held ++ log_so_far task turns)
-  pub fits : RoundsFit 0 (steps_so_far task turns)
+  pub fits : RoundsFit (opening_in task) 0 (steps_so_far task turns)
 
 -- of a run that came to its end
 pub record HoldsRun (task : Task) (turns : List Turn) (old new : Port → Option (List ℕ)) : Type 0 where
   pub read_by_b : HoldsAfter (old ReadByB) (new ReadByB) (λ _. read_so_far B task turns)
   pub read_by_a : HoldsAfter (old ReadByA) (new ReadByA) (λ _. read_so_far A task turns)
-  pub log : HoldsAfter (old Log) (new Log) (λ held. held ++ (log_so_far task turns ++ last_line (world_after task turns)))
-  pub fits : RoundsFit 0 (steps_so_far task turns)
+  pub log : HoldsAfter (old Log) (new Log) (λ held. held ++ (log_so_far task turns ++ last_line task turns))
+  pub fits : RoundsFit (opening_in task) 0 (steps_so_far task turns)
 
 -- all turns of the task were made, the status is the one that the connection shows then, and the ports hold the run
 pub record IsWhole (task : Task) (status : Status) (old new : Port → Option (List ℕ)) : Type 0 where
@@ -162,7 +198,7 @@ AreFirstOf (way.told order) turns more w = (behind : List Turn) × ((order ≡ t
 
 -- the last line is that of a run that came to its end
 abbrev pub IsLastLine : Task → List Turn → List ℕ → Type 0
-IsLastLine task turns line = (line ≡ []) ⊎ (AreTurnsOf task.course turns (opened task) × (line ≡ last_line (world_after task turns)))
+IsLastLine task turns line = (line ≡ []) ⊎ (AreTurnsOf task.course turns (opened task) × (line ≡ last_line task turns))
 
 -- each port that was bound, and the log, holds its text for the rounds of these turns, and of the next round, or of this line, a part
 pub record HoldsCut (task : Task) (turns more : List Turn) (line : List ℕ) (old new : Port → Option (List ℕ)) : Type 0 where

@@ -37,7 +37,7 @@ rounds_after (Turn.Step actor) rounds = rounds
 rounds_after Turn.Round rounds = suc rounds
 
 -- a turn was made: a step puts nothing
-abbrev pub TurnHolds : List ℕ → ℕ → Turn → Connection → Connection → (Port → Option (List ℕ)) → (Port → Option (List ℕ)) → Type 0
+abbrev pub TurnHolds : Option (List ℕ) → ℕ → Turn → Connection → Connection → (Port → Option (List ℕ)) → (Port → Option (List ℕ)) → Type 0
 TurnHolds opening number (Turn.Step actor) last w old new = (port : Port) → new port ≡ old port
 TurnHolds opening number Turn.Round last w old new = HoldsRound opening number last (end_round w) old new
 
@@ -45,12 +45,12 @@ abbrev pub IsUnchanged : (Port → Option (List ℕ)) → (Port → Option (List
 IsUnchanged old new = (port : Port) → new port ≡ old port
 
 -- nothing was put, or a part of the round that the turn ends
-abbrev pub TurnCut : List ℕ → ℕ → Turn → Connection → Connection → (Port → Option (List ℕ)) → (Port → Option (List ℕ)) → Type 0
+abbrev pub TurnCut : Option (List ℕ) → ℕ → Turn → Connection → Connection → (Port → Option (List ℕ)) → (Port → Option (List ℕ)) → Type 0
 TurnCut opening number turn last w old new =
     IsUnchanged old new ⊎ (IsLawfulTurn turn w × HoldsPart opening number last [] (round_ends (turn ∷ []) w) old new)
 
 -- a turn of a log ends a run with this status: it can't be made and stands in this line, or its round isn't put whole
-abbrev pub TurnFault : List ℕ → ℕ → Turn → Connection → Connection → ℕ → (Port → Option (List ℕ)) → (Port → Option (List ℕ)) → Status → Type 0
+abbrev pub TurnFault : Option (List ℕ) → ℕ → Turn → Connection → Connection → ℕ → (Port → Option (List ℕ)) → (Port → Option (List ℕ)) → Status → Type 0
 TurnFault opening number turn last w line old new (Log at) = (at ≡ line) × ((IsLawfulTurn turn w → ⊥) × IsUnchanged old new)
 TurnFault opening number turn last w line old new (Put port) = TurnCut opening number turn last w old new
 TurnFault opening number turn last w line old new Memory = TurnCut opening number turn last w old new

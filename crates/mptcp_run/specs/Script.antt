@@ -1,6 +1,7 @@
 -- What a run takes from its script.
-use Rattle.std.specs.Prelude.{ℕ, Bool, ◌+◌, ◌&&◌, ◌||◌, not, ◌==◌, List, codes, Result, Ok, Err, Option, Some, None, position}
-use Rattle.std.specs.List.{before_first, after_first, list_all, slice_split}
+use Rattle.std.specs.Prelude.{ℕ, Bool, ◌+◌, ◌||◌, not, ◌==◌, List, length, codes, Result, Ok, Err, Option, Some, None, option_and_then, position, if◌then◌else◌}
+use Rattle.std.specs.List.{before_first, after_first, slice_split}
+use Rattle.std.specs.Result.{result_ok}
 use Rattle.std.specs.Str.{bytes_eq}
 use Rattle.std.specs.Borrow.{Bor}
 use Rattle.link_script.specs.declared.fault.ScriptFault.{ScriptFault}
@@ -10,6 +11,10 @@ use Rattle.link_script.specs.declared.script.Script.{Script}
 use Rattle.link_script.specs.Reading.{reading}
 use Rattle.link_script.specs.Steps.{◌>>=◌}
 use Rattle.link_script.specs.Words.{is_passed_over}
+use Rattle.run_log.specs.declared.fault.LogFault.{LogFault}
+use Rattle.run_log.specs.declared.turn.Turn.{Turn}
+use Rattle.run_log.specs.Form as form
+use Rattle.run_words.specs.Lines.{Line}
 
 -- what stands before the first such octet, and what stands after it
 abbrev pub parted_at : ℕ → List ℕ → List ℕ × List ℕ
@@ -19,26 +24,22 @@ parted_at separator text = (before_first (λ octet. octet == separator) text, af
 abbrev pub parts_of : Bor (List ℕ) × Bor (List ℕ) → List ℕ × List ℕ
 parts_of parts = (parts.0.now, parts.1.now)
 
--- a line that begins with one of these words tells of the whole script, and is run
+-- a line that begins with one of these words tells of the whole script or sets up a path, and is run
 abbrev pub is_setting : List ℕ → Bool
 is_setting word =
-    bytes_eq word (codes "mptcp-script") || bytes_eq word (codes "seed") || bytes_eq word (codes "checksum")
-    || bytes_eq word (codes "buffer") || bytes_eq word (codes "end")
+    bytes_eq word (codes "mptcp-script") || bytes_eq word (codes "seed") || bytes_eq word (codes "checksum") || bytes_eq word (codes "short")
+    || bytes_eq word (codes "buffer") || bytes_eq word (codes "path") || bytes_eq word (codes "end")
 
 -- a line that begins with one of these words tells what happens on a path, and is run
 abbrev pub is_event : List ℕ → Bool
 is_event word = bytes_eq word (codes "drop") || bytes_eq word (codes "dup") || bytes_eq word (codes "late") || bytes_eq word (codes "die")
 
--- digits that write 0
-abbrev pub is_zero : List ℕ → Bool
-is_zero digits = list_all (λ digit. digit == 48) digits
-
--- A line of a script isn't run yet, unless it is empty, a comment, the first line, that of path 0, `end`, or one of `seed`,
--- `checksum`, `buffer`, `drop`, `dup`, `late` and `die`.
+-- A line of a script isn't run yet, unless it is empty, a comment, the first line, `end`, or one of `seed`, `checksum`, `short`,
+-- `buffer`, `path`, `drop`, `dup`, `late` and `die`.
 abbrev pub is_held_back : List ℕ → Bool
 is_held_back line =
-    let words = parted_at 32 line in
-    not (is_passed_over line || is_setting words.0 || is_event words.0 || (bytes_eq words.0 (codes "path") && is_zero (parted_at 32 words.1).0))
+    let word = (parted_at 32 line).0 in
+    not (is_passed_over line || is_setting word || is_event word)
 
 -- the script, where no line of its text is held back; lines count from 1
 abbrev pub unless_held_back : Option ℕ → Script → Result Script ScriptFault
@@ -48,3 +49,24 @@ unless_held_back (Some place) script = Err (fault.Line (place + 1) kind.Word)
 -- the script that a text says, or the first line that the grammar refuses, or else the first one that isn't run yet
 unfoldable pub script_meaning : List ℕ → Result Script ScriptFault
 script_meaning text = reading text >>= unless_held_back (position is_held_back (slice_split (λ octet. octet == 10) text))
+
+abbrev pub script_in : List ℕ → Option Script
+script_in text = result_ok (script_meaning text)
+
+-- the script that a command line names, where it is told and valid
+abbrev pub script_of : (List ℕ → Option (List ℕ)) → Line → Option Script
+script_of content line = option_and_then script_in (content line.names.script)
+
+-- ---- the log of its run
+
+-- how many actors a run has: two applications, and each path
+abbrev pub actors_of : Script → ℕ
+actors_of script = 2 + length script.paths
+
+-- how many octets a data number has
+abbrev pub width_of : Script → ℕ
+width_of script = if script.short then 4 else 8
+
+-- the turns that a log tells of a run of this script, or the first line that is refused
+abbrev pub log_reading : Script → List ℕ → Result (List Turn) LogFault
+log_reading script log = form.reading (actors_of script) (width_of script) log

@@ -10,9 +10,8 @@ ghost use Rattle.mptcp_run.specs.Inputs.{IsWithinLimit, IsLoadsFault, AreFirstWi
 ghost use Rattle.outside_kit.specs.Calls as call;
 ghost use Rattle.mptcp_run.specs.Plan.{failed, Adds, AddsAll, first_loads, loads_of};
 ghost use Rattle.mptcp_run.specs.Adding.{LoadsAdd, InputAdds};
-ghost use Rattle.run_log.specs.Form.{reading};
 ghost use Rattle.mptcp_run.specs.Task.{AreWithinLimits, opening_count};
-ghost use Rattle.mptcp_run.specs.Script.{script_meaning};
+ghost use Rattle.mptcp_run.specs.Script.{script_meaning, log_reading};
 
 use crate::device::load;
 use crate::order::{opening_count, read_order};
@@ -151,7 +150,7 @@ pub fn load_replay<O: Outside>(
     ensures script { IfOk result (λ replay. IfSome (O.content outside.old line.now.script.now) (λ told. script_meaning told ≡ Ok replay.input.script)) }
     ensures file_a { IfOk result (λ replay. IfSome (O.content outside.old line.now.file_a.now) (λ told. replay.input.file_a ≡ told)) }
     ensures file_b { IfOk result (λ replay. IfSome (O.content outside.old line.now.file_b.now) (λ told. replay.input.file_b ≡ told)) }
-    ensures turns { IfOk result (λ replay. IfSome (O.content outside.old order.now) (λ told. reading 3 8 told ≡ Ok replay.turns.items)) }
+    ensures turns { IfOk result (λ replay. IfSome (O.content outside.old order.now) (λ told. log_reading replay.input.script told ≡ Ok replay.turns.items)) }
     ensures lines { IfOk result (λ replay. IfSome (O.content outside.old order.now) (λ told. replay.lines ≡ opening_count told)) }
     ensures few { IfOk result (λ replay. replay.lines ≤ 3) }
     ensures ranges { IfOk result (λ replay. HasRanges replay.input.script) }
@@ -166,9 +165,10 @@ pub fn load_replay<O: Outside>(
     let contents = load_contents(alloc, outside, line)?;
     let log = load_order(alloc, outside, line, order)?;
     let input = input_of(alloc, contents)?;
+    let turns = read_order(alloc, &input.script, &log)?;
     Ok(Replay {
         input,
-        turns: read_order(alloc, &log)?,
+        turns,
         lines: opening_count(&log),
     })
 }

@@ -18,7 +18,7 @@ pub fn loaded_tasks_are_plain()
     ensures { LoadedTasksArePlain }
 {}
 
-/// A law: where a run of at least one round came to its own end, what its log grew by is read as a log. Its turns, those of the
+/// A law: where a run of at least one round over at most sixteen paths, which keeps a log, came to its own end, what its log grew by is read as a log. Its turns, those of the
 /// steps in their order, are lawful from the opening on, and drive the connection to the same end; a run of these turns has the same
 /// status, and leaves the same ports, the log among them (`told`).
 ///

@@ -4,10 +4,12 @@
 mod device;
 mod input;
 mod laws;
+mod made;
 mod order;
 mod outcome;
 mod readers;
 mod replay;
+mod report;
 mod rounds;
 mod script;
 mod serial;

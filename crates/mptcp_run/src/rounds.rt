@@ -14,13 +14,15 @@ ghost use Rattle.world_laws.specs.Outcomes.{notes_at, read_by};
 ghost use Rattle.path_core.specs.Starts.{key_of};
 ghost use Rattle.mptcp_run.specs.Plan.{AddsAll, AddsCut, put_of, puts_of, round_puts};
 ghost use Rattle.mptcp_run.specs.Ports.{NeverFall, IsPortsFault};
-ghost use Rattle.mptcp_run.specs.Putting.{log_opening, opening_at, round_text};
+ghost use Rattle.mptcp_run.specs.Putting.{log_opening, opening_of, opening_at, logged_text, round_text, NotesFit};
 ghost use Rattle.mptcp_run.specs.Weaving.{since, made_at, IsSince};
 ghost use Rattle.mptcp_run.specs.Rounds.{HoldsRound, HoldsPart};
 ghost use Rattle.stream_apps.specs.AppSteps.{bytes_in};
 ghost use Rattle.mptcp_run.specs.Task.{Connection};
 
 use crate::device::put;
+use crate::order::width_of;
+use crate::report::Report;
 use crate::status::Status;
 use crate::weaving::{made_by, notes_from, woven};
 use actor_desk::{Note, Reply};
@@ -38,8 +40,8 @@ use world_core::{Input, World};
 pub struct Run {
     /// The connection.
     pub world: World,
-    /// The lines with which the log opens.
-    pub opening: Text,
+    /// The lines with which the log opens, where one is kept.
+    pub opening: Option<Text>,
     /// How many steps each actor had made when the last round was put.
     pub made: Vec<usize>,
     /// How many rounds were put.
@@ -53,7 +55,7 @@ pub struct Piece {
     pub read_by_b: Text,
     /// What A's reader has read in the round.
     pub read_by_a: Text,
-    /// The lines of the round.
+    /// The lines of the round; no octet where no log is kept.
     pub lines: Text,
 }
 
@@ -67,11 +69,26 @@ fn key_of(seed: u64, first: u64) -> u64
     high * (1 << 32) + low
 }
 
-/// The lines with which the log opens: a data number has eight octets.
-fn opening_of(alloc: Global, script: &Script) -> Result<Text, AllocError>
+/// The lines with which the log opens.
+fn log_opening(alloc: Global, script: &Script) -> Result<Text, AllocError>
     ensures { IfOk result (λ text. text ≡ log_opening script.now) }
 {
-    opening(alloc, 8, key_of(script.seed, 0), key_of(script.seed, 2))
+    opening(
+        alloc,
+        width_of(script),
+        key_of(script.seed, 0),
+        key_of(script.seed, 2),
+    )
+}
+
+/// The lines with which the log opens, if one is kept.
+fn opening_of(alloc: Global, script: &Script, report: Report) -> Result<Option<Text>, AllocError>
+    ensures { IfOk result (λ opening. opening ≡ opening_of report script.now) }
+{
+    match report {
+        Report::Log => Ok(Some(log_opening(alloc, script)?)),
+        Report::Summary { .. } => Ok(None),
+    }
 }
 
 /// The octets that steps of a reader have read.
@@ -117,14 +134,14 @@ fn opening_at(alloc: Global, opening: &Text, number: u64) -> Result<Text, AllocE
     }
 }
 
-/// The text that the end of a round puts to the log.
-fn round_text(
+/// The text that the end of a round puts to a log.
+fn logged_text(
     alloc: Global,
     opening: &Text,
     number: u64,
     steps: &[&Note],
 ) -> Result<Text, AllocError>
-    ensures text { IfOk result (λ text. text ≡ round_text opening.now number (map (λ note. note.now) steps.now)) }
+    ensures text { IfOk result (λ text. text ≡ logged_text opening.now number (map (λ note. note.now) steps.now)) }
     ensures fits { OnOk result (AllByRecursion NoteFits (map (λ note. note.now) steps.now)) }
 {
     let mut text = opening_at(alloc, opening, number)?;
@@ -146,16 +163,16 @@ fn read_since(alloc: Global, world: &World, made: &[usize], actor: u8) -> Result
 
 impl Run {
     /// A run before its first step.
-    pub fn open(alloc: Global, input: &Input) -> Result<Run, AllocError>
+    pub fn open(alloc: Global, input: &Input, report: Report) -> Result<Run, AllocError>
         requires { HasRanges input.now.script }
         ensures world { IfOk result (λ run. run.world ≡ standing (opened_world (start_of input.now.script input.now.file_a input.now.file_b))) }
-        ensures opening { IfOk result (λ run. run.opening ≡ log_opening input.now.script) }
+        ensures opening { IfOk result (λ run. run.opening ≡ opening_of report input.now.script) }
         ensures made { IfOk result (λ run. run.made.items ≡ map length (lists_of run.world.state.crew)) }
         ensures rounds { IfOk result (λ run. run.rounds ≡ 0) }
     {
         let world = World::open(alloc, input)?;
         let made = made_by(alloc, &world)?;
-        let opening = opening_of(alloc, &input.script)?;
+        let opening = opening_of(alloc, &input.script, report)?;
         Ok(Run {
             world,
             opening,
@@ -164,19 +181,33 @@ impl Run {
         })
     }
 
+    /// The text that the end of the round puts to the log: no octet where none is kept.
+    fn lines(&self, alloc: Global) -> Result<Text, AllocError>
+        requires { length self.now.made.items ≡ length self.now.world.state.crew }
+        ensures text { IfOk result (λ lines. lines ≡ round_text self.now.opening self.now.rounds (since self.now.made.items (lists_of self.now.world.state.crew))) }
+        ensures fits { OnOk result (NotesFit self.now.opening (since self.now.made.items (lists_of self.now.world.state.crew))) }
+    {
+        match &self.opening {
+            Some(opening) => {
+                let steps = woven(alloc, &self.world, &self.made)?;
+                logged_text(alloc, opening, self.rounds, &steps)
+            }
+            None => Ok(Text::new(alloc)),
+        }
+    }
+
     /// What the end of the round puts.
     fn piece(&self, alloc: Global) -> Result<Piece, AllocError>
         requires { length self.now.made.items ≡ length self.now.world.state.crew }
         ensures read_by_b { IfOk result (λ piece. piece.read_by_b ≡ read_by (drop (made_at 1 self.now.made.items) (notes_at 1 self.now.world.state.crew))) }
         ensures read_by_a { IfOk result (λ piece. piece.read_by_a ≡ read_by (drop (made_at 0 self.now.made.items) (notes_at 0 self.now.world.state.crew))) }
         ensures lines { IfOk result (λ piece. piece.lines ≡ round_text self.now.opening self.now.rounds (since self.now.made.items (lists_of self.now.world.state.crew))) }
-        ensures fits { OnOk result (AllByRecursion NoteFits (since self.now.made.items (lists_of self.now.world.state.crew))) }
+        ensures fits { OnOk result (NotesFit self.now.opening (since self.now.made.items (lists_of self.now.world.state.crew))) }
     {
-        let steps = woven(alloc, &self.world, &self.made)?;
         Ok(Piece {
             read_by_b: read_since(alloc, &self.world, &self.made, 1)?,
             read_by_a: read_since(alloc, &self.world, &self.made, 0)?,
-            lines: round_text(alloc, &self.opening, self.rounds, &steps)?,
+            lines: self.lines(alloc)?,
         })
     }
 
@@ -210,21 +241,21 @@ impl Run {
     }
 }
 
-/// Puts what a reader has read, if it has read anything.
-fn put_read<O: Outside>(outside: &mut O, port: Port, read: &Text) -> Result<(), Status>
-    ensures ok { OnOk result (HoldsAfter (O.holds outside.old port) (O.holds outside.new port) (λ held. held ++ read.now)) }
-    ensures err { OnErr result (HoldsPrefix (O.holds outside.old port) (O.holds outside.new port) read.now) }
+/// Puts a text, if it has any octet.
+fn put_text<O: Outside>(outside: &mut O, port: Port, text: &Text) -> Result<(), Status>
+    ensures ok { OnOk result (HoldsAfter (O.holds outside.old port) (O.holds outside.new port) (λ held. held ++ text.now)) }
+    ensures err { OnErr result (HoldsPrefix (O.holds outside.old port) (O.holds outside.new port) text.now) }
     ensures fault { IfErr result (IsPortsFault (O.port_faults outside.old) (O.port_faults outside.new)) }
     ensures counted { NeverFall (O.port_faults outside.old) (O.port_faults outside.new) }
     ensures other_ports { (other : Port) → other ≢ port → O.holds outside.new other ≡ O.holds outside.old other }
     ensures load_counts { O.load_faults outside.new ≡ O.load_faults outside.old }
-    ensures calls { OnOk result (AddsAll (put_of port read.now) (O.calls outside.old) (O.calls outside.new)) }
-    ensures calls_cut { IfErr result (λ status. AddsCut (put_of port read.now) status (O.calls outside.old) (O.calls outside.new)) }
+    ensures calls { OnOk result (AddsAll (put_of port text.now) (O.calls outside.old) (O.calls outside.new)) }
+    ensures calls_cut { IfErr result (λ status. AddsCut (put_of port text.now) status (O.calls outside.old) (O.calls outside.new)) }
 {
-    if read.is_empty() {
+    if text.is_empty() {
         return Ok(());
     }
-    put(outside, port, read.as_bytes())
+    put(outside, port, text.as_bytes())
 }
 
 impl Piece {
@@ -242,8 +273,8 @@ impl Piece {
         ensures calls { OnOk result (AddsAll (puts_of self.now.read_by_b self.now.read_by_a self.now.lines) (O.calls outside.old) (O.calls outside.new)) }
         ensures calls_cut { IfErr result (λ status. AddsCut (puts_of self.now.read_by_b self.now.read_by_a self.now.lines) status (O.calls outside.old) (O.calls outside.new)) }
     {
-        put_read(outside, Port::ReadByB, &self.read_by_b)?;
-        put_read(outside, Port::ReadByA, &self.read_by_a)?;
-        put(outside, Port::Log, self.lines.as_bytes())
+        put_text(outside, Port::ReadByB, &self.read_by_b)?;
+        put_text(outside, Port::ReadByA, &self.read_by_a)?;
+        put_text(outside, Port::Log, &self.lines)
     }
 }

@@ -5,7 +5,7 @@ ghost use Rattle.std.specs.List.{slice_split};
 ghost use Rattle.link_script.specs.Words.{is_passed_over};
 ghost use Rattle.link_script.specs.Reading.{Gives};
 ghost use Rattle.link_script.specs.Scripts.{HasRanges};
-ghost use Rattle.mptcp_run.specs.Script.{parted_at, parts_of, is_setting, is_event, is_zero, is_held_back, script_meaning};
+ghost use Rattle.mptcp_run.specs.Script.{parted_at, parts_of, is_setting, is_event, is_held_back, script_meaning};
 
 use link_script::{Script, ScriptFault, ScriptKind, parse};
 use std::alloc::Global;
@@ -37,17 +37,13 @@ fn held_back_place(text: &[u8]) -> Option<usize>
         .position(|line| is_held_back(line))
 }
 
-/// Whether a line of a script isn't run yet: it is no empty line and no comment, not the first line, not of path 0, not `end`,
-/// and no `seed`, `checksum`, `buffer`, `drop`, `dup`, `late` or `die`.
+/// Whether a line of a script isn't run yet: it is no empty line and no comment, not the first line, not `end`, and no `seed`,
+/// `checksum`, `short`, `buffer`, `path`, `drop`, `dup`, `late` or `die`.
 fn is_held_back(line: &[u8]) -> bool
     ensures { result ≡ is_held_back line.now }
 {
-    let (word, rest) = split_at_first(line, b' ');
-    let (number, _) = split_at_first(rest, b' ');
-    !(is_passed_over(line)
-        || is_setting(word)
-        || is_event(word)
-        || word == b"path".as_slice() && is_zero(number))
+    let (word, _) = split_at_first(line, b' ');
+    !(is_passed_over(line) || is_setting(word) || is_event(word))
 }
 
 fn is_passed_over(line: &[u8]) -> bool
@@ -59,14 +55,16 @@ fn is_passed_over(line: &[u8]) -> bool
     }
 }
 
-/// Whether a line that begins with this word tells of the whole script, and is run.
+/// Whether a line that begins with this word tells of the whole script or sets up a path, and is run.
 fn is_setting(word: &[u8]) -> bool
     ensures { result ≡ is_setting word.now }
 {
     word == b"mptcp-script".as_slice()
         || word == b"seed".as_slice()
         || word == b"checksum".as_slice()
+        || word == b"short".as_slice()
         || word == b"buffer".as_slice()
+        || word == b"path".as_slice()
         || word == b"end".as_slice()
 }
 
@@ -78,13 +76,6 @@ fn is_event(word: &[u8]) -> bool
         || word == b"dup".as_slice()
         || word == b"late".as_slice()
         || word == b"die".as_slice()
-}
-
-/// Whether the digits write 0.
-fn is_zero(digits: &[u8]) -> bool
-    ensures { result ≡ is_zero digits.now }
-{
-    digits.iter().all(|digit| *digit == b'0')
 }
 
 /// What stands before the first such octet, and what stands after it.

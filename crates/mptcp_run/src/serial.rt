@@ -54,7 +54,7 @@ pub fn make_rounds<O: Outside>(
 ) -> Result<(), Status>
     requires begins { AtRound run.old }
     requires none { run.old.rounds ≡ 0 }
-    ensures ok { OnOk result (RoundsPut run.old.opening most 0 run.old.world.state run.new.world.state (O.holds outside.old) (O.holds outside.new)) }
+    ensures ok { OnOk result (RoundsPut run.old.opening most 0 run.new.rounds run.old.world.state run.new.world.state (O.holds outside.old) (O.holds outside.new)) }
     ensures err { OnErr result (RoundsCut run.old.opening most 0 run.old.world.state (O.holds outside.old) (O.holds outside.new)) }
     ensures fault { IfErr result (IsPortsFault (O.port_faults outside.old) (O.port_faults outside.new)) }
     ensures counted { NeverFall (O.port_faults outside.old) (O.port_faults outside.new) }

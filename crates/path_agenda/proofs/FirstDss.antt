@@ -11,6 +11,7 @@ dss_here says.Mapping items is = cc
 dss_here (says.DataFin place) items is = cc
 dss_here (says.PeerKey key) items is = cc
 dss_here (says.Keys own peer) items is = cc
+dss_here (says.Join form) items is = cc
 
 pub dss_later : (item : Heard) (items : List Heard) → is_dss item ≡ false → place_in_first (item ∷ items) ≡ place_in_first items
 dss_later says.Dss items is = cc
@@ -19,3 +20,4 @@ dss_later says.Mapping items is = refl
 dss_later (says.DataFin place) items is = refl
 dss_later (says.PeerKey key) items is = refl
 dss_later (says.Keys own peer) items is = refl
+dss_later (says.Join form) items is = refl

@@ -18,7 +18,7 @@ emission s = emission_and s rest_of_turn
 
 abbrev pub start_of_turn : List Duty
 start_of_turn =
-    duties.Look A ∷ duties.Look B ∷ duties.Window A ∷ duties.Update A ∷ duties.Window B ∷ duties.Update B
+    duties.JoinAgain ∷ duties.Look A ∷ duties.Look B ∷ duties.Window A ∷ duties.Update A ∷ duties.Window B ∷ duties.Update B
     ∷ emission_and A (emission B)
 
 -- the SYN of the peer; the SYN/ACK
@@ -27,6 +27,16 @@ syn_came s = duties.SynHeard s ∷ duties.SynAck s ∷ emission s
 
 abbrev pub syn_ack_came : Side → List Duty
 syn_ack_came s = duties.SynAnswered s ∷ duties.PeerKey s ∷ duties.Live s ∷ duties.Acknowledge s ∷ emission s
+
+-- the SYN of a path that joins, with an MP_JOIN and without one; the SYN/ACK
+abbrev pub join_came : Side → List Duty
+join_came s = duties.JoinHeard s ∷ emission s
+
+abbrev pub refuses : Side → List Duty
+refuses s = duties.Refuse s ∷ emission s
+
+abbrev pub join_answered : Side → List Duty
+join_answered s = duties.Live s ∷ duties.Acknowledge s ∷ emission s
 
 -- what a copy says, so many things from this number on, and then these
 abbrev pub heard_and : Side → ℕ → ℕ → List Duty → List Duty
@@ -37,10 +47,10 @@ heard_and s from (suc count) ds = duties.Heard s from ∷ heard_and s (from + 1)
 abbrev pub things_heard : Side → List Duty
 things_heard s = heard_and s 0 10 []
 
--- its payload and what follows from it
+-- its acknowledgement, its payload, and what follows from them
 abbrev pub payload_came : Side → List Duty
 payload_came s =
-    duties.Keep s ∷ duties.Edge s ∷ duties.HeardFin s 0 ∷ duties.HeardFin s 1 ∷ duties.PassFin s ∷ duties.AckOut s
+    duties.PlainAck s ∷ duties.Keep s ∷ duties.Edge s ∷ duties.HeardFin s 0 ∷ duties.HeardFin s 1 ∷ duties.PassFin s ∷ duties.AckOut s
     ∷ duties.Rate s ∷ duties.Acknowledge s ∷ duties.Again s ∷ emission s
 
 -- a copy that is taken, which says so many things

@@ -1,8 +1,12 @@
 -- The things that a copy says, one after the other: the first ten count.
 use Rattle.std.specs.Prelude.{ℕ, ◌^◌, ◌<◌, ◌≤◌, nat_lt, if◌then◌else◌, Bool, true, false, Option, Some, None, List, [], ◌∷◌, ◌++◌, length}
 use Rattle.std.specs.Option.{option_or}
+use Rattle.mptcp_options.specs.declared.join.JoinForm.{JoinForm}
+use Rattle.mptcp_options.specs.declared.join.JoinForm.TheVariants.{Syn, Answer, Third}
 use Rattle.path_agenda.specs.declared.heard.Heard.{Heard}
 use Rattle.path_agenda.specs.declared.heard.Heard.TheVariants as says
+use Rattle.path_agenda.specs.declared.heard.JoinStep.{JoinStep}
+use Rattle.path_agenda.specs.declared.heard.JoinStep.TheVariants as step
 use Rattle.path_agenda.specs.declared.keys.KeyPair.{KeyPair}
 
 abbrev pub with_item : List Heard → Heard → List Heard
@@ -33,6 +37,7 @@ place_in_first (item ∷ items) = place_in_first items
 abbrev pub wants_ack : Heard → Bool
 wants_ack (says.DataFin place) = true
 wants_ack (says.Keys own peer) = true
+wants_ack (says.Join (Third hmac)) = true
 wants_ack _ = false
 
 -- ---- keys
@@ -53,3 +58,21 @@ pair_in _ = None
 abbrev pub keys_heard : List Heard → Option KeyPair
 keys_heard [] = None
 keys_heard (item ∷ items) = option_or (pair_in item) (keys_heard items)
+
+-- ---- joins
+
+-- the form is that of the segment
+abbrev pub is_of_step : JoinStep → JoinForm → Bool
+is_of_step step.Syn (Syn backup id token nonce) = true
+is_of_step step.Answer (Answer backup id hmac nonce) = true
+is_of_step step.Third (Third hmac) = true
+is_of_step _ _ = false
+
+abbrev pub join_in : JoinStep → Heard → Option JoinForm
+join_in step (says.Join form) = if is_of_step step form then Some form else None
+join_in step _ = None
+
+-- the first MP_JOIN of the form
+abbrev pub join_heard : JoinStep → List Heard → Option JoinForm
+join_heard step [] = None
+join_heard step (item ∷ items) = option_or (join_in step item) (join_heard step items)

@@ -4,7 +4,7 @@ use Rattle.std.specs.List.{list_all}
 use Rattle.outside_kit.specs.declared.side.Side.{Side}
 use Rattle.path_agenda.specs.declared.duty.Duty.{Duty}
 use Rattle.path_agenda.specs.declared.duty.Duty.TheVariants as duties
-use Rattle.path_agenda.specs.Agenda.{rest_of_turn, emission, start_of_turn, syn_came, syn_ack_came, copy_came, syn_again, answers, answers_dead, expired, expired_for_ever, leaves, breaks, resets}
+use Rattle.path_agenda.specs.Agenda.{rest_of_turn, emission, start_of_turn, syn_came, syn_ack_came, join_came, refuses, join_answered, copy_came, syn_again, answers, answers_dead, expired, expired_for_ever, leaves, breaks, resets}
 use Rattle.path_agenda.specs.Weights.{weights}
 
 -- ---- the end of a turn
@@ -19,7 +19,7 @@ ends_once (d ∷ ds) = ends_once ds
 -- all templates, at an end of this side, for a copy that says so many things and a break with this reason
 abbrev pub templates : Side → ℕ → ℕ → List (List Duty)
 templates s count reason =
-    start_of_turn ∷ rest_of_turn ∷ emission s ∷ syn_came s ∷ syn_ack_came s ∷ copy_came s count ∷ syn_again s ∷ answers s
+    start_of_turn ∷ rest_of_turn ∷ emission s ∷ syn_came s ∷ syn_ack_came s ∷ join_came s ∷ refuses s ∷ join_answered s ∷ copy_came s count ∷ syn_again s ∷ answers s
     ∷ answers_dead s ∷ expired s ∷ expired_for_ever s ∷ leaves s ∷ breaks s reason ∷ resets s reason ∷ []
 
 abbrev pub EveryTemplateEnds : Type 0
@@ -33,6 +33,11 @@ pub record ChainsEnd (s : Side) (index reason : ℕ) : Type 0 where
   pub heard : weights (breaks s reason) < weights (duties.Heard s index ∷ [])
   pub edge : weights (breaks s reason) < weights (duties.Edge s ∷ [])
   pub heard_fin : weights (breaks s reason) < weights (duties.HeardFin s index ∷ [])
+  pub plain_ack : weights (breaks s reason) < weights (duties.PlainAck s ∷ [])
+  -- the answer to a SYN that joins, and the death of an end that may not join any more
+  pub join_taken : weights (duties.SynAck s ∷ []) < weights (duties.JoinHeard s ∷ [])
+  pub join_refused : weights (duties.Refuse s ∷ []) < weights (duties.JoinHeard s ∷ [])
+  pub join_ended : weights (duties.Leave s ∷ []) < weights (duties.JoinAgain ∷ [])
   -- a Data ACK that covers something
   pub ack_heard : weights (duties.AckHeard s ∷ []) < weights (duties.Heard s index ∷ [])
   -- from a break to the reset, and from a reset to the death

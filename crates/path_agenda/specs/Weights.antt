@@ -8,10 +8,13 @@ abbrev pub weight : Duty → ℕ
 weight (duties.Heard s index) = 11
 weight (duties.Edge s) = 11
 weight (duties.HeardFin s index) = 11
+weight (duties.PlainAck s) = 11
 weight (duties.BreakAck s reason) = 7
 weight (duties.BreakReset s reason) = 4
 weight (duties.Reset s) = 4
 weight (duties.Leave s) = 1
+weight duties.JoinAgain = 2
+weight (duties.JoinHeard s) = 1
 weight _ = 0
 
 -- and each duty itself

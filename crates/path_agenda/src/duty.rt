@@ -7,6 +7,8 @@ use outside_kit::Side;
 #[derive(Clone, Copy, Debug, Default, PartialEq, Eq)]
 pub enum Duty {
     // ---- the start of a turn
+    /// Asks at A whether the path may join the connection, where it had to wait.
+    JoinAgain,
     /// Asks how the side stands.
     Look(Side),
     /// Asks what is to be acknowledged, and how much more is taken.
@@ -36,6 +38,10 @@ pub enum Duty {
     PeerKey(Side),
     /// Sends the SYN/ACK.
     SynAck(Side),
+    /// The SYN of a path that joins came: asks whether it may.
+    JoinHeard(Side),
+    /// Sends the reset that refuses a path which joins (RFC 8684, section 3.2).
+    Refuse(Side),
     /// The end left SynReceived: tells both keys, where they came.
     Opened(Side),
     /// The end was established: tells that the path lives.
@@ -45,6 +51,8 @@ pub enum Duty {
     Heard { side: Side, index: u64 },
     /// A Data ACK that covers something was taken: tells it.
     AckHeard(Side),
+    /// An acknowledgement of data came without a Data ACK: breaks a path that joined, where none ever came.
+    PlainAck(Side),
     /// Keeps the payload. Silent.
     Keep(Side),
     /// Places the bytes that are in order and mapped: as long as there are some.
@@ -68,7 +76,7 @@ pub enum Duty {
     // ---- an expiry
     /// Gives back the bytes that aren't acknowledged.
     Return(Side),
-    /// Sends what was lost: the first record, or else the DATA_FIN, or else a probe.
+    /// Sends what was lost: the first record, or else the third MP_JOIN, or else the DATA_FIN, or else a probe.
     Resend(Side),
     // ---- death
     /// The path is broken: asks once more what is to be acknowledged.

@@ -1,5 +1,7 @@
 //! What a copy says beside its header and payload.
 
+use mptcp_options::JoinForm;
+
 /// One of the things that the options of a copy say, by places of the streams (RFC 8684, section 3).
 #[derive(Clone, Copy, Debug, Default, PartialEq, Eq)]
 pub enum Heard {
@@ -16,4 +18,17 @@ pub enum Heard {
     PeerKey { key: u64 },
     /// Both keys: the hearer's own one, and the peer's.
     Keys { own: u64, peer: u64 },
+    /// An MP_JOIN (section 3.2).
+    Join { form: JoinForm },
+}
+
+/// The segments of the handshake that joins a path, by the form of their MP_JOIN (RFC 8684, section 3.2).
+#[derive(Clone, Copy, Debug, PartialEq, Eq)]
+pub enum JoinStep {
+    /// The SYN.
+    Syn,
+    /// The SYN/ACK.
+    Answer,
+    /// The third one.
+    Third,
 }

@@ -3,11 +3,12 @@
 ghost use Rattle.std.specs.Prelude.{◌≡◌, ◌∷◌};
 ghost use Rattle.std.specs.List.{list_any};
 ghost use Rattle.path_agenda.specs.declared.heard.Heard.TheVariants as says;
-ghost use Rattle.path_agenda.specs.Items.{is_dss, place_in_first, wants_ack, key_in, key_heard, pair_in, keys_heard};
+ghost use Rattle.path_agenda.specs.Items.{is_dss, place_in_first, wants_ack, key_in, key_heard, pair_in, keys_heard, is_of_step, join_in, join_heard};
 
-use crate::heard::Heard;
+use crate::heard::{Heard, JoinStep};
 use crate::keys::KeyPair;
 use arrayvec::ArrayVec;
+use mptcp_options::JoinForm;
 
 /// The things that a copy says. There are at most ten in forty octets of options.
 pub type Items = ArrayVec<Heard, 10>;
@@ -45,10 +46,18 @@ fn place_in(items: &[Heard]) -> Option<u64>
 fn wants_ack(item: Heard) -> bool
     ensures { result ≡ wants_ack item }
 {
-    matches!(item, Heard::DataFin { .. } | Heard::Keys { .. })
+    matches!(
+        item,
+        Heard::DataFin { .. }
+            | Heard::Keys { .. }
+            | Heard::Join {
+                form: JoinForm::Third { .. }
+            }
+    )
 }
 
-/// Whether one of these things wants an acknowledgement though it occupies no position: a DATA_FIN, or both keys.
+/// Whether one of these things wants an acknowledgement though it occupies no position: a DATA_FIN, both keys, or the
+/// MP_JOIN of the third segment of a join.
 pub fn one_wants_ack(items: &[Heard]) -> bool
     ensures { result ≡ list_any wants_ack items.now }
 {
@@ -94,6 +103,40 @@ pub fn keys_heard(items: &[Heard]) -> Option<KeyPair>
     for item in items {
         if let Some(keys) = pair_in(*item) {
             return Some(keys);
+        }
+    }
+    None
+}
+
+/// Whether an MP_JOIN has the form of that segment of the handshake.
+fn is_of_step(step: JoinStep, form: JoinForm) -> bool
+    ensures { result ≡ is_of_step step form }
+{
+    matches!(
+        (step, form),
+        (JoinStep::Syn, JoinForm::Syn { .. })
+            | (JoinStep::Answer, JoinForm::Answer { .. })
+            | (JoinStep::Third, JoinForm::Third { .. })
+    )
+}
+
+/// The MP_JOIN of that form that a thing is.
+fn join_in(step: JoinStep, item: Heard) -> Option<JoinForm>
+    ensures { result ≡ join_in step item }
+{
+    match item {
+        Heard::Join { form } if is_of_step(step, form) => Some(form),
+        _ => None,
+    }
+}
+
+/// The first MP_JOIN among these things that has the form of that segment of the handshake (RFC 8684, section 3.2).
+pub fn join_heard(step: JoinStep, items: &[Heard]) -> Option<JoinForm>
+    ensures { result ≡ join_heard step items.now }
+{
+    for item in items {
+        if let Some(form) = join_in(step, *item) {
+            return Some(form);
         }
     }
     None

@@ -1,7 +1,7 @@
 //! What is to be done in a turn, and after each kind of event. A rule that is added to one of them has to be a duty.
 
 ghost use Rattle.std.specs.Prelude.{◌≡◌, ◌≤◌, ◌∷◌};
-ghost use Rattle.path_agenda.specs.Agenda.{things_heard, rest_of_turn, emission, start_of_turn, syn_came, syn_ack_came, payload_came, copy_came, syn_again, answers, answers_dead, expired, expired_for_ever, leaves, breaks, resets};
+ghost use Rattle.path_agenda.specs.Agenda.{things_heard, rest_of_turn, emission, start_of_turn, syn_came, syn_ack_came, join_came, refuses, join_answered, payload_came, copy_came, syn_again, answers, answers_dead, expired, expired_for_ever, leaves, breaks, resets};
 
 use crate::agenda::Agenda;
 use crate::duty::Duty;
@@ -30,12 +30,13 @@ impl Agenda {
         ])
     }
 
-    /// A turn, from its start: both ends look at how their sides stand, tell their windows, and send what they may.
+    /// A turn, from its start: a path that had to wait asks to join, and both ends look at how their sides stand, tell their windows, and send what they may.
     pub fn start_of_turn() -> Self
         ensures { result ≡ start_of_turn }
     {
         let (a, b) = (Side::A, Side::B);
         Agenda::of(&[
+            Duty::JoinAgain,
             Duty::Look(a),
             Duty::Look(b),
             Duty::Window(a),
@@ -116,11 +117,43 @@ impl Agenda {
         ])
     }
 
-    /// What follows what a copy says: its payload, and the answers.
+    /// The SYN of a path that joins came, with an MP_JOIN: it is asked whether it may (RFC 8684, section 3.2).
+    pub fn join_came(side: Side) -> Self
+        ensures { result ≡ join_came side }
+    {
+        Agenda::before_emission(Duty::JoinHeard(side), side)
+    }
+
+    /// The SYN of a path that joins came without an MP_JOIN: it is refused.
+    pub fn refuses(side: Side) -> Self
+        ensures { result ≡ refuses side }
+    {
+        Agenda::before_emission(Duty::Refuse(side), side)
+    }
+
+    /// The SYN/ACK of a path that joins came: it is told that the path lives, and then the SYN/ACK is acknowledged.
+    pub fn join_answered(side: Side) -> Self
+        ensures { result ≡ join_answered side }
+    {
+        Agenda::of(&[
+            Duty::Live(side),
+            Duty::Acknowledge(side),
+            Duty::Syn(side),
+            Duty::Data(side),
+            Duty::DataFin(side),
+            Duty::Fin(side),
+            Duty::Timer(side),
+            Duty::Events,
+            Duty::End,
+        ])
+    }
+
+    /// What follows what a copy says: its acknowledgement, its payload, and the answers.
     fn payload_came(side: Side) -> Self
         ensures { result ≡ payload_came side }
     {
         Agenda::of(&[
+            Duty::PlainAck(side),
             Duty::Keep(side),
             Duty::Edge(side),
             Duty::HeardFin { side, index: 0 },

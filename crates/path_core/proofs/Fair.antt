@@ -5,13 +5,15 @@ use Rattle.std.proofs.lemmas.Bool.{ltb-true, leb-true}
 use Rattle.std.proofs.lemmas.List.Elements.{All-nil, All-cons, All-append, All-take}
 use Rattle.outside_kit.specs.declared.side.Side.{Side}
 use Rattle.outside_kit.specs.declared.side.Side.TheVariants.{A, B}
+use Rattle.mptcp_options.specs.declared.join.JoinForm.{JoinForm}
+use Rattle.mptcp_options.specs.declared.join.JoinForm.TheVariants.{Syn, Answer, Third}
 use Rattle.mptcp_options.specs.declared.capable.CapableKeys.{CapableKeys}
 use Rattle.mptcp_options.specs.declared.capable.CapableKeys.TheVariants.{NoKey, Sender, Both, WithData}
 use Rattle.path_segments.specs.declared.segment.PathOption.TheVariants.{Capable, Join, Dss, AddAddr, Remove, Prio, Fail, FastClose, Reset}
 use Rattle.path_segments.specs.declared.segment.PathMapping.{PathMapping}
 use Rattle.path_segments.specs.declared.segment.PathMapping.TheVariants.{Bytes, End, Infinite}
 use Rattle.path_agenda.specs.declared.heard.Heard.TheVariants as says
-use Rattle.path_core.specs.Arriving.{HeardOption, is_mapping, mapping_items, ack_items, end_items, map_items, key_items, items_in}
+use Rattle.path_core.specs.Arriving.{HeardOption, is_mapping, mapping_items, ack_items, end_items, map_items, key_items, join_items, items_in}
 use Rattle.path_agenda.specs.Items.{IsFair}
 
 fair_ack : (next : Option (Option ℕ)) (window : ℕ) → All IsFair (ack_items next window)
@@ -57,23 +59,32 @@ fair_keys B (Sender sender) = All-nil IsFair
 fair_keys B (Both sender receiver) = All-cons IsFair (says.Keys receiver sender) [] tt (All-nil IsFair)
 fair_keys B (WithData sender receiver len checksum) = All-cons IsFair (says.Keys receiver sender) (mapping_items 0 1 len) tt (fair_mapping 0 1 len)
 
-fair_in : (s : Side) (window : ℕ) (option : HeardOption) → All IsFair (items_in s window option)
-fair_in s window (Capable flag_a flag_c keys) = fair_keys s keys
-fair_in s window (Join form) = All-nil IsFair
-fair_in s window (Dss next mapping) =
+fair_join : (s : Side) (form : JoinForm) → All IsFair (join_items s form)
+fair_join A (Syn backup id token nonce) = All-nil IsFair
+fair_join A (Answer backup id hmac nonce) = All-cons IsFair (says.Join (Answer backup id hmac nonce)) [] tt (All-nil IsFair)
+fair_join A (Third hmac) = All-nil IsFair
+fair_join B (Syn backup id token nonce) = All-cons IsFair (says.Join (Syn backup id token nonce)) [] tt (All-nil IsFair)
+fair_join B (Answer backup id hmac nonce) = All-nil IsFair
+fair_join B (Third hmac) = All-cons IsFair (says.Join (Third hmac)) [] tt (All-nil IsFair)
+
+fair_in : (joined : Bool) (s : Side) (window : ℕ) (option : HeardOption) → All IsFair (items_in joined s window option)
+fair_in true s window (Capable flag_a flag_c keys) = All-nil IsFair
+fair_in false s window (Capable flag_a flag_c keys) = fair_keys s keys
+fair_in joined s window (Join form) = fair_join s form
+fair_in joined s window (Dss next mapping) =
     All-cons IsFair says.Dss (ack_items next window ++ map_items mapping) tt
     (All-append IsFair (ack_items next window) (map_items mapping) (fair_ack next window) (fair_map mapping))
-fair_in s window (AddAddr echo id address port hmac) = All-nil IsFair
-fair_in s window (Remove ids) = All-nil IsFair
-fair_in s window (Prio backup) = All-nil IsFair
-fair_in s window (Fail place) = All-nil IsFair
-fair_in s window (FastClose key) = All-nil IsFair
-fair_in s window (Reset transient reason) = All-nil IsFair
+fair_in joined s window (AddAddr echo id address port hmac) = All-nil IsFair
+fair_in joined s window (Remove ids) = All-nil IsFair
+fair_in joined s window (Prio backup) = All-nil IsFair
+fair_in joined s window (Fail place) = All-nil IsFair
+fair_in joined s window (FastClose key) = All-nil IsFair
+fair_in joined s window (Reset transient reason) = All-nil IsFair
 
-fair_all : (s : Side) (window : ℕ) (options : List HeardOption) → All IsFair (flat_map (items_in s window) options)
-fair_all s window [] = All-nil IsFair
-fair_all s window (option ∷ options) =
-    All-append IsFair (items_in s window option) (flat_map (items_in s window) options) (fair_in s window option) (fair_all s window options)
+fair_all : (joined : Bool) (s : Side) (window : ℕ) (options : List HeardOption) → All IsFair (flat_map (items_in joined s window) options)
+fair_all joined s window [] = All-nil IsFair
+fair_all joined s window (option ∷ options) =
+    All-append IsFair (items_in joined s window option) (flat_map (items_in joined s window) options) (fair_in joined s window option) (fair_all joined s window options)
 
-pub items_are_fair : (s : Side) (window : ℕ) (options : List HeardOption) → All IsFair (take 10 (flat_map (items_in s window) options))
-items_are_fair s window options = All-take IsFair 10 (flat_map (items_in s window) options) (fair_all s window options)
+pub items_are_fair : (joined : Bool) (s : Side) (window : ℕ) (options : List HeardOption) → All IsFair (take 10 (flat_map (items_in joined s window) options))
+items_are_fair joined s window options = All-take IsFair 10 (flat_map (items_in joined s window) options) (fair_all joined s window options)

@@ -1,5 +1,5 @@
 -- A reset far ahead of what an end expects does the same to it, whether its position is heard or not.
-use Rattle.std.proofs.Common.{◌≡◌, refl, sym, ◌∙◌, ap, ℕ, ◌+◌, ◌-◌, ◌^◌, ◌<◌, ◌≤◌, ◌⊎◌, inl, inr, ⊎_elim, nat_lt, ◌&&◌, ◌||◌, Bool, true, false, if◌then◌else◌, Option, Some, None, option_map, unwrap_or, arith}
+use Rattle.std.proofs.Common.{◌≡◌, refl, sym, ◌∙◌, ap, ℕ, ◌+◌, ◌-◌, ◌^◌, ◌<◌, ◌≤◌, ◌⊎◌, inl, inr, ⊎_elim, nat_lt, ◌&&◌, ◌||◌, Bool, true, false, if◌then◌else◌, List, Option, Some, None, option_map, unwrap_or, arith}
 use Rattle.std.proofs.lemmas.Bool.{cases_lt}
 use Rattle.std.proofs.lemmas.Int.{ints}
 use Rattle.std.specs.Option.{IsSome}
@@ -24,7 +24,10 @@ use Rattle.subflow_tcp.specs.declared.verdicts.Meaning.TheVariants as means
 use Rattle.subflow_tcp.specs.Judging.{is_in_window, is_acceptable, is_repeated_syn, meaning_answering, meaning_within, meaning_connected, meaning_at, meaning_of}
 use Rattle.subflow_tcp.specs.Segments.{Copy, occupied}
 use Rattle.subflow_tcp.specs.State.{EndState, is_at_limit}
-use Rattle.path_core.specs.Arriving.{acknowledged_in, copy_of, items_of, held_of, zero_position, reset_by, reset_for, with_held, after_copy, after_meaning, template_of}
+use Rattle.path_agenda.specs.declared.heard.Heard.{Heard}
+use Rattle.path_core.specs.declared.judged.Judged.{Judged}
+use Rattle.path_core.specs.Joins.{is_joined}
+use Rattle.path_core.specs.Arriving.{acknowledged_in, copy_of, items_of, held_of, zero_position, reset_by, reset_for, with_held, after_copy, after_join, judged_of, judged_in, taken_as, after_judged, template_of}
 use Rattle.path_core.specs.Codec.{HeardSegment}
 use Rattle.path_core.specs.Ends.{PathEnd}
 use Rattle.path_core.specs.Events.{copy_heard}
@@ -122,8 +125,8 @@ same_answer : (c : Profile) (s : Side) (position another occupied : ℕ) (acknow
 same_answer c s position another occupied (Some heard) some = refl
 same_answer c s position another occupied None some = absurd (cc some)
 
-module _ (s : Side) (now : ℕ) (h : HeardSegment) where
-  same_effect : (answer : Outgoing) (m : Meaning) (e : PathEnd) → after_copy answer s now (unplaced h) m e ≡ after_copy answer s now h m e
+module _ (items : List Heard) (now : ℕ) (h : HeardSegment) where
+  same_effect : (answer : Outgoing) (m : Meaning) (e : PathEnd) → after_copy items answer now (unplaced h) m e ≡ after_copy items answer now h m e
   same_effect answer means.Ignored e = refl
   same_effect answer means.Unwanted e = refl
   same_effect answer means.Opens e = refl
@@ -136,11 +139,15 @@ module _ (s : Side) (now : ℕ) (h : HeardSegment) where
   same_effect answer means.Ahead e = refl
   same_effect answer (means.Taken position acknowledged) e = refl
 
-  same_end : (c : Profile) (m : Meaning) (e : PathEnd) → IsSome h.acknowledged → after_meaning c s now (unplaced h) m e ≡ after_meaning c s now h m e
-  same_end c m e some =
-      ap (λ (answer : Outgoing). after_copy answer s now (unplaced h) m (with_held (held_of c s h) h m e))
+module _ (s : Side) (now : ℕ) (h : HeardSegment) where
+  same_end : (c : Profile) (verdict : Judged) (e : PathEnd) → IsSome h.acknowledged
+      → after_judged c s now (unplaced h) verdict e ≡ after_judged c s now h verdict e
+  same_end c verdict e some =
+      let items = items_of (is_joined c) s h in let m = taken_as verdict in
+      let before : PathEnd = after_join (is_joined c) items m (with_held (held_of c s h) h m e) in
+      ap (λ (answer : Outgoing). after_copy items answer now (unplaced h) m before)
       (same_answer c s 0 (unwrap_or h.position 0) (occupied (copy_of h)) h.acknowledged some)
-      ∙ same_effect (reset_for c s (copy_of h)) m (with_held (held_of c s h) h m e)
+      ∙ same_effect items now h (reset_for c s (copy_of h)) m before
 
 module _ (h : HeardSegment) (pos : ℕ) (reset : h.rst ≡ true) (at : h.position ≡ Some pos) where
   heard_meaning : (tcp : EndState) → tcp.recv.edge + 2 ^ 31 ≤ pos → meaning_of (copy_of (unplaced h)) tcp ≡ meaning_of (copy_of h) tcp
@@ -153,11 +160,12 @@ module _ (h : HeardSegment) (pos : ℕ) (reset : h.rst ≡ true) (at : h.positio
   pub far_treated : {C : Type 0} (s : Side) (p : PathState C) → IsSome h.acknowledged → (end_at s p).tcp.recv.edge + 2 ^ 31 ≤ pos
       → copy_heard s (Some (unplaced h)) p ≡ copy_heard s (Some h) p
   far_treated s p some far =
-      let e = end_at s p in
-      ap (λ (m : Meaning). goes_on s (after_meaning p.profile s p.clock (unplaced h) m e) (template_of s (items_of s h) m) p)
+      let e = end_at s p in let joined = is_joined p.profile in let items = items_of joined s h in
+      ap (λ (m : Meaning).
+      let verdict = judged_of joined h.rst items m e in goes_on s (after_judged p.profile s p.clock (unplaced h) verdict e) (template_of joined s items verdict) p)
       (heard_meaning e.tcp far)
-      ∙ ap (λ (after : PathEnd). goes_on s after (template_of s (items_of s h) (meaning_of (copy_of h) e.tcp)) p)
-      (same_end s p.clock h p.profile (meaning_of (copy_of h) e.tcp) e some)
+      ∙ ap (λ (after : PathEnd). goes_on s after (template_of joined s items (judged_in joined s h e)) p)
+      (same_end s p.clock h p.profile (judged_in joined s h e) e some)
 
 -- ---- which resets are far
 

@@ -6,18 +6,22 @@ use Rattle.outside_kit.specs.declared.side.Side.TheVariants.{A, B}
 use Rattle.link_script.specs.Places.{same_side}
 use Rattle.link_model.specs.declared.flight.Flight.{Flight}
 use Rattle.link_model.specs.Steps.{due_of, is_due, without, next_due, arriving, after_delivery}
-use Rattle.subflow_tcp.specs.Judging.{meaning_of}
-use Rattle.subflow_tcp.specs.States.{is_dead}
+use Rattle.subflow_tcp.specs.States.{is_dead, is_waiting}
+use Rattle.subflow_tcp.specs.declared.handshake.State.{State as EndPhase}
 use Rattle.subflow_tcp.specs.Taking.{after_arrival}
-use Rattle.path_core.specs.Arriving.{copy_of, hint_of, items_of, owes_by, with_payload, after_meaning, template_of}
-use Rattle.path_agenda.specs.Agenda.{rest_of_turn, emission}
+use Rattle.path_core.specs.Arriving.{copy_of, hint_of, items_of, owes_by, with_payload, judged_in, taken_as, after_judged, template_of}
+use Rattle.path_core.specs.Joining.{is_never, keys_begun, opened_by}
+use Rattle.path_core.specs.Joins.{is_joined}
+use Rattle.path_core.proofs.Joined.{died_rests, opened_rests}
+use Rattle.actor_desk.specs.declared.ask.Reply.{Reply}
+use Rattle.path_agenda.specs.Agenda.{rest_of_turn, emission, leaves}
 use Rattle.path_core.specs.Codec.{Codec, HeardSegment}
 use Rattle.path_core.specs.Ends.{PathEnd}
-use Rattle.path_core.specs.Events.{tick_of, next_line, next_copy, next_fire, earlier, earliest, before, next_event, is_death, died, died_unless_dead, after_line, line_taken, at_tick, copy_heard, heard_in, copy_taken, timer_fired, happens, happens_if}
+use Rattle.path_core.specs.Events.{tick_of, next_join, next_line, next_copy, next_fire, earlier, earliest, before, next_event, is_death, died, died_unless_dead, after_line, line_taken, at_tick, joins_at_tick, copy_heard, heard_in, copy_taken, timer_fired, happens, happens_if, CanHappen}
 use Rattle.path_core.specs.declared.event.Event.{Event}
 use Rattle.path_core.specs.declared.event.Event.TheVariants as happenings
 use Rattle.path_core.specs.Ranks.{ticks_left, one_if_due, due_copies, due_lines, due_timer, due_by_now}
-use Rattle.path_core.specs.State.{PathState, end_at}
+use Rattle.path_core.specs.State.{PathState, end_at, goes_on}
 use Rattle.path_core.specs.declared.lines.LineLeft.{LineLeft}
 use Rattle.path_core.specs.Turns.{TakesTime}
 use Rattle.actor_desk.specs.Words.{tail_of}
@@ -100,6 +104,39 @@ module _ {C : Type 0} where
       by (Then.Falls less) = Then.Falls (omega (arith, less, calm.ticks))
       by (Then.Stays most less) = Then.Stays (omega (arith, most, calm.ticks)) (Then.Falls (omega (arith, less, calm.due)))
 
+  -- ---- the join
+
+  join_passes : (tick : ℕ) (p : PathState C) → TakesTime p → p.joined_at ≡ Some tick → tick < p.until
+      → Passes p (record (at_tick tick p) { joined_at = None })
+  join_passes tick p t is soon =
+      let was : due_timer p.clock p.joined_at ≡ one_if_due p.clock tick = rw is refl in
+      passes_by p (record (at_tick tick p) { joined_at = None }) tick soon refl refl
+      (λ same now. rw same (omega (arith, was, due_now p.clock tick now)))
+      (record { delay = t.delay; timer_a = t.timer_a; timer_b = t.timer_b })
+
+  join_calm : (r : Reply) (p : PathState C) → TakesTime p → Calm p (joins_at_tick r p)
+  join_calm r p t = by (is_never r)
+    where
+      after : PathState C
+      after = record p { joined_at = None }
+
+      first : Calm p after
+      first = record { ticks = omega arith; due = omega arith; time = record { delay = t.delay; timer_a = t.timer_a; timer_b = t.timer_b } }
+
+      both : (q : PathState C) → Calm after q → Calm p q
+      both q next = record { ticks = omega (arith, first.ticks, next.ticks); due = omega (arith, first.due, next.due); time = next.time }
+
+      by : (b : Bool) → Calm p (if b then goes_on A (died p.a) (leaves A) after else goes_on A (opened_by (keys_begun r) p.a) (emission A) after)
+      by true = both _ (goes_calm A (died p.a) (leaves A) after first.time (died_rests p.clock p.a))
+      by false = both _ (goes_calm A (opened_by (keys_begun r) p.a) (emission A) after first.time (opened_rests p.clock (keys_begun r) p.a))
+
+  join_lowers : (r : Reply) (tick : ℕ) (p : PathState C) → TakesTime p → p.joined_at ≡ Some tick → tick < p.until
+      → Lowers p (joins_at_tick r (at_tick tick p))
+  join_lowers r tick p t is soon =
+      let first = join_passes tick p t is soon in
+      passes_on p (record (at_tick tick p) { joined_at = None }) (joins_at_tick r (at_tick tick p)) first
+      (join_calm r (record (at_tick tick p) { joined_at = None }) first.time)
+
   -- ---- a line
 
   line_passes : (line : LineLeft) (lines : List LineLeft) (p : PathState C) → TakesTime p → p.lines ≡ line ∷ lines → line.tick < p.until
@@ -145,11 +182,12 @@ module _ {C : Type 0} where
   copy_calm : (s : Side) (heard : Option HeardSegment) (p : PathState C) → TakesTime p → Calm p (copy_heard s heard p)
   copy_calm s None p t = agenda_calm (emission s) p t
   copy_calm s (Some h) p t =
-      let e = end_at s p in let meaning = meaning_of (copy_of h) e.tcp in
-      goes_calm s (after_meaning p.profile s p.clock h meaning e) (template_of s (items_of s h) meaning) p t
-      (to_rests p.clock e (after_meaning p.profile s p.clock h meaning e)
-      (owing_settles p.clock (owes_by meaning (items_of s h)) e.tcp.timing (after_arrival meaning (hint_of s h) p.clock (copy_of h) (with_payload meaning h.payload e.tcp))
-      (held_settles p.clock meaning h.payload (hint_of s h) p.clock (copy_of h) e.tcp)))
+      let e = end_at s p in let joined = is_joined p.profile in let items = items_of joined s h in let verdict = judged_in joined s h e in
+      let meaning = taken_as verdict in
+      goes_calm s (after_judged p.profile s p.clock h verdict e) (template_of joined s items verdict) p t
+      (to_rests p.clock e (after_judged p.profile s p.clock h verdict e)
+      (owing_settles p.clock (owes_by meaning items) e.tcp.timing (after_arrival meaning (hint_of items) p.clock (copy_of h) (with_payload meaning h.payload e.tcp))
+      (held_settles p.clock meaning h.payload (hint_of items) p.clock (copy_of h) e.tcp)))
 
   copy_lowers : (k : Codec C) (f : Flight C) (flights : List (Flight C)) (p : PathState C) → TakesTime p → p.link.under_way ≡ f ∷ flights → f.tick < p.until
       → Lowers p (copy_taken k (due_of f) p)
@@ -182,42 +220,105 @@ module _ {C : Type 0} where
 
   -- ---- the earliest
 
-  by_line : (k : Codec C) (p : PathState C) (lines : List LineLeft) (event : Event) → TakesTime p → p.lines ≡ lines → next_line lines ≡ Some event
-      → tick_of event < p.until → Lowers p (happens k event p)
-  by_line k p [] event t is e soon = cc
-  by_line k p (line ∷ lines) event t is e soon =
-      let same : happenings.Takes line ≡ event = cc in
-      subst (λ x. tick_of x < p.until → Lowers p (happens k x p)) same (λ soon. line_lowers line lines p t is soon) soon
-
-  by_copy : (k : Codec C) (p : PathState C) (flights : List (Flight C)) (event : Event) → TakesTime p → p.link.under_way ≡ flights
-      → next_copy (next_due flights) ≡ Some event → tick_of event < p.until → Lowers p (happens k event p)
-  by_copy k p [] event t is e soon = cc
-  by_copy k p (f ∷ flights) event t is e soon =
-      let same : happenings.Arrives (due_of f) ≡ event = cc in
-      subst (λ x. tick_of x < p.until → Lowers p (happens k x p)) same (λ soon. copy_lowers k f flights p t is soon) soon
-
-  by_timer : (k : Codec C) (s : Side) (p : PathState C) (timer : Option ℕ) (event : Event) → TakesTime p → (end_at s p).tcp.timing.timer ≡ timer
-      → next_fire s timer ≡ Some event → tick_of event < p.until → Lowers p (happens k event p)
-  by_timer k s p None event t is e soon = cc
-  by_timer k s p (Some tick) event t is e soon =
-      let same : happenings.Fires s tick ≡ event = cc in
-      subst (λ x. tick_of x < p.until → Lowers p (happens k x p)) same (λ soon. fire_lowers s tick p t is soon) soon
-
-  pub event_lowers : (k : Codec C) (p : PathState C) → TakesTime p → is_some (next_event p) ≡ true → Lowers p (happens_if k (next_event p) p)
-  event_lowers k p t some = by (next_event p) refl some
+  by_join : (k : Codec C) (r : Reply) (p : PathState C) (state : EndPhase) (joined_at : Option ℕ) (event : Event) → TakesTime p → p.joined_at ≡ joined_at
+      → next_join state joined_at ≡ Some event → tick_of event < p.until → Lowers p (happens k event r p)
+  by_join k r p state None event t is e soon = cc
+  by_join k r p state (Some tick) event t is e soon = by (is_waiting state) e
     where
-      chosen : (event : Event) → earliest p ≡ Some event → tick_of event < p.until → Lowers p (happens k event p)
+      by : (b : Bool) → (if b then Some (happenings.Joins tick) else None) ≡ Some event → Lowers p (happens k event r p)
+      by true e =
+          let same : happenings.Joins tick ≡ event = cc in
+          subst (λ x. tick_of x < p.until → Lowers p (happens k x r p)) same (λ soon. join_lowers r tick p t is soon) soon
+      by false e = cc
+
+  by_line : (k : Codec C) (r : Reply) (p : PathState C) (lines : List LineLeft) (event : Event) → TakesTime p → p.lines ≡ lines → next_line lines ≡ Some event
+      → tick_of event < p.until → Lowers p (happens k event r p)
+  by_line k r p [] event t is e soon = cc
+  by_line k r p (line ∷ lines) event t is e soon =
+      let same : happenings.Takes line ≡ event = cc in
+      subst (λ x. tick_of x < p.until → Lowers p (happens k x r p)) same (λ soon. line_lowers line lines p t is soon) soon
+
+  by_copy : (k : Codec C) (r : Reply) (p : PathState C) (flights : List (Flight C)) (event : Event) → TakesTime p → p.link.under_way ≡ flights
+      → next_copy (next_due flights) ≡ Some event → tick_of event < p.until → Lowers p (happens k event r p)
+  by_copy k r p [] event t is e soon = cc
+  by_copy k r p (f ∷ flights) event t is e soon =
+      let same : happenings.Arrives (due_of f) ≡ event = cc in
+      subst (λ x. tick_of x < p.until → Lowers p (happens k x r p)) same (λ soon. copy_lowers k f flights p t is soon) soon
+
+  by_timer : (k : Codec C) (s : Side) (r : Reply) (p : PathState C) (timer : Option ℕ) (event : Event) → TakesTime p → (end_at s p).tcp.timing.timer ≡ timer
+      → next_fire s timer ≡ Some event → tick_of event < p.until → Lowers p (happens k event r p)
+  by_timer k s r p None event t is e soon = cc
+  by_timer k s r p (Some tick) event t is e soon =
+      let same : happenings.Fires s tick ≡ event = cc in
+      subst (λ x. tick_of x < p.until → Lowers p (happens k x r p)) same (λ soon. fire_lowers s tick p t is soon) soon
+
+  pub event_lowers : (k : Codec C) (r : Reply) (p : PathState C) → TakesTime p → is_some (next_event p) ≡ true → Lowers p (happens_if k (next_event p) r p)
+  event_lowers k r p t some = by (next_event p) refl some
+    where
+      chosen : (event : Event) → earliest p ≡ Some event → tick_of event < p.until → Lowers p (happens k event r p)
       chosen event e soon = ⊎_elim
-          (λ line. by_line k p p.lines event t refl line soon)
+          (λ join. by_join k r p p.a.tcp.state p.joined_at event t refl join soon)
+          (λ later. ⊎_elim
+          (λ line. by_line k r p p.lines event t refl line soon)
           (λ others. ⊎_elim
-          (λ copy. by_copy k p p.link.under_way event t refl copy soon)
+          (λ copy. by_copy k r p p.link.under_way event t refl copy soon)
           (λ timers. ⊎_elim
-          (λ a. by_timer k A p p.a.tcp.timing.timer event t refl a soon)
-          (λ b. by_timer k B p p.b.tcp.timing.timer event t refl b soon)
+          (λ a. by_timer k A r p p.a.tcp.timing.timer event t refl a soon)
+          (λ b. by_timer k B r p p.b.tcp.timing.timer event t refl b soon)
           (one_of_both _ _ event timers))
           (one_of_both _ _ event others))
+          (one_of_both _ _ event later))
           (one_of_both _ _ event e)
 
-      by : (x : Option Event) → next_event p ≡ x → is_some x ≡ true → Lowers p (happens_if k x p)
+      by : (x : Option Event) → next_event p ≡ x → is_some x ≡ true → Lowers p (happens_if k x r p)
       by None is some = cc
       by (Some event) is some = let found = soon_enough p.until (earliest p) event is in chosen event found.0 found.1
+
+  -- ---- what can happen
+
+  can_join : (p : PathState C) (state : EndPhase) (joined_at : Option ℕ) (event : Event) → next_join state joined_at ≡ Some event
+      → tick_of event < p.until → CanHappen event p
+  can_join p state None event e soon = cc
+  can_join p state (Some tick) event e soon = by (is_waiting state) e
+    where
+      by : (b : Bool) → (if b then Some (happenings.Joins tick) else None) ≡ Some event → CanHappen event p
+      by true e =
+          let same : happenings.Joins tick ≡ event = cc in subst (λ x. tick_of x < p.until → CanHappen x p) same (λ soon. soon) soon
+      by false e = cc
+
+  can_take : (p : PathState C) (lines : List LineLeft) (event : Event) → next_line lines ≡ Some event → tick_of event < p.until → CanHappen event p
+  can_take p [] event e soon = cc
+  can_take p (line ∷ lines) event e soon =
+      let same : happenings.Takes line ≡ event = cc in subst (λ x. tick_of x < p.until → CanHappen x p) same (λ soon. soon) soon
+
+  can_arrive : (p : PathState C) (flights : List (Flight C)) (event : Event) → p.link.under_way ≡ flights → next_copy (next_due flights) ≡ Some event
+      → tick_of event < p.until → CanHappen event p
+  can_arrive p [] event is e soon = cc
+  can_arrive p (f ∷ flights) event is e soon =
+      let same : happenings.Arrives (due_of f) ≡ event = cc in subst (λ x. tick_of x < p.until → CanHappen x p) same (λ soon. (soon, there)) soon
+    where
+      there : is_some (arriving (due_of f) p.link) ≡ true
+      there = rw (is, head_is_due f) refl
+
+  can_fire : (s : Side) (p : PathState C) (timer : Option ℕ) (event : Event) → (end_at s p).tcp.timing.timer ≡ timer → next_fire s timer ≡ Some event
+      → tick_of event < p.until → CanHappen event p
+  can_fire s p None event is e soon = cc
+  can_fire s p (Some tick) event is e soon =
+      let same : happenings.Fires s tick ≡ event = cc in
+      subst (λ x. tick_of x < p.until → CanHappen x p) same (λ soon. (soon, rw is refl)) soon
+
+  -- the earliest event can happen where it comes before the round's end
+  pub can_happen : (p : PathState C) (event : Event) → earliest p ≡ Some event → tick_of event < p.until → CanHappen event p
+  can_happen p event e soon = ⊎_elim
+      (λ join. can_join p p.a.tcp.state p.joined_at event join soon)
+      (λ later. ⊎_elim
+      (λ line. can_take p p.lines event line soon)
+      (λ others. ⊎_elim
+      (λ copy. can_arrive p p.link.under_way event refl copy soon)
+      (λ timers. ⊎_elim
+      (λ a. can_fire A p p.a.tcp.timing.timer event refl a soon)
+      (λ b. can_fire B p p.b.tcp.timing.timer event refl b soon)
+      (one_of_both _ _ event timers))
+      (one_of_both _ _ event others))
+      (one_of_both _ _ event later))
+      (one_of_both _ _ event e)

@@ -1,8 +1,10 @@
 pub mod Ranking
 pub mod Resting
+pub mod Joined
 pub mod Passed
 pub mod Fair
 pub mod Meanings
+pub mod Judgements
 pub mod Parts
 pub mod Mapped
 pub mod Filling
@@ -17,3 +19,4 @@ mod InBounds
 mod Settling
 mod FirstDuty
 mod Ordered
+mod LinesOf

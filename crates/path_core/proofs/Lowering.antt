@@ -26,7 +26,11 @@ use Rattle.path_core.specs.Codec.{Codec}
 use Rattle.path_core.specs.Duties.{stands, ask_for, answered}
 use Rattle.path_core.specs.Emission.{first_unsent, unsent_segment, having_sent_unsent, end_segment, having_sent_end, fin_segment_of, having_sent_fin, may_ask, data_stands, payload_size, grant_ask, data_ask, Grant, grant_in, granted, refused, answered_grant, answered_data}
 use Rattle.path_core.specs.Ends.{PathEnd}
-use Rattle.path_core.specs.Events.{died}
+use Rattle.path_core.specs.Events.{died, join_begun}
+use Rattle.path_core.specs.Joining.{is_never, keys_begun, opened_by, joined_by, asked_at, join_taken, refusal_of}
+use Rattle.path_agenda.specs.declared.keys.KeyPair.{KeyPair}
+use Rattle.join_handshake.specs.declared.hearing.JoinSyn.{JoinSyn}
+use Rattle.path_core.proofs.Joined.{died_rests, opened_rests, joined_rests}
 use Rattle.actor_desk.specs.Kinds.{IsOfKind, IsSomeOf}
 use Rattle.path_agenda.specs.Items.{key_heard, keys_heard}
 use Rattle.path_core.specs.Opening.{syn_ack_of, with_peer_key, after_keys}
@@ -244,11 +248,32 @@ module _ {C : Type 0} where
   heard_lowers k s (Some (says.Keys own peer)) r p t less next heavy =
       goes_less s (after_keys r (Some (record { own = own; peer = peer })) (end_at s p)) (left p) p t
       (same_rests p.clock (end_at s p) (after_keys r (Some (record { own = own; peer = peer })) (end_at s p)) refl) less
+  heard_lowers k s (Some (says.Join form)) r p t less next heavy = agenda_less (left p) p t less
+
+  -- ---- joins
+
+  join_less : (r : Reply) (dead living : List Duty) (p : PathState C) → TakesTime p → weights dead < weights p.agenda → weights living < weights p.agenda
+      → Lowers p (join_begun r dead living p)
+  join_less r dead living p t less_dead less_living = by (is_never r)
+    where
+      by : (b : Bool) → Lowers p (if b then goes_on A (died (end_at A p)) dead p else goes_on A (opened_by (keys_begun r) (end_at A p)) living p)
+      by true = goes_less A (died p.a) dead p t (died_rests p.clock p.a) less_dead
+      by false = goes_less A (opened_by (keys_begun r) p.a) living p t (opened_rests p.clock (keys_begun r) p.a) less_living
+
+  taken_less : (s : Side) (keys : Option KeyPair) (asked : Option JoinSyn) (p : PathState C) → TakesTime p
+      → weights (replaced (duties.SynAck s) p.agenda) < weights p.agenda → weights (replaced (duties.Refuse s) p.agenda) < weights p.agenda
+      → Lowers p (join_taken s keys asked p)
+  taken_less s (Some keys) (Some asked) p t less_taken less_refused =
+      goes_less s (joined_by keys asked (end_at s p)) (replaced (duties.SynAck s) p.agenda) p t (joined_rests p.clock keys asked (end_at s p)) less_taken
+  taken_less s (Some keys) None p t less_taken less_refused = agenda_less (replaced (duties.Refuse s) p.agenda) p t less_refused
+  taken_less s None asked p t less_taken less_refused = agenda_less (replaced (duties.Refuse s) p.agenda) p t less_refused
 
   -- ---- every duty
 
   pub answered_lowers : (k : Codec C) (d : Duty) (ds : List Duty) (r : Reply) (p : PathState C) → TakesTime p → p.agenda ≡ d ∷ ds → stands d p ≡ true
       → IsOfKind (ask_for k d p) r → Lowers p (answered k d r p)
+  answered_lowers k duties.JoinAgain ds r p t is stands kind =
+      join_less r (replaced (duties.Leave A) p.agenda) (left p) p t (rw is (omega arith)) (left_less _ ds p is)
   answered_lowers k (duties.Look s) ds r p t is stands kind =
       goes_less s (after_look r (end_at s p)) (left p) p t (same_rests p.clock (end_at s p) (after_look r (end_at s p)) refl) (left_less _ ds p is)
   answered_lowers k (duties.Window s) ds r p t is stands kind =
@@ -262,7 +287,7 @@ module _ {C : Type 0} where
   answered_lowers k (duties.Fin s) ds r p t is stands kind =
       sent_less k s (fin_segment_of s p) (having_sent_fin s p) (left p) p t (same_rests p.clock (end_at s p) (having_sent_fin s p) refl) (left_less _ ds p is)
   answered_lowers k (duties.Timer s) ds r p t is stands kind = agenda_less (left p) p t (left_less _ ds p is)
-  answered_lowers k duties.Events ds r p t is stands kind = event_lowers k p t stands
+  answered_lowers k duties.Events ds r p t is stands kind = event_lowers k r p t stands
   answered_lowers k (duties.SynHeard s) ds r p t is stands kind = agenda_less (left p) p t (left_less _ ds p is)
   answered_lowers k (duties.SynAnswered s) ds r p t is stands kind = agenda_less (left p) p t (left_less _ ds p is)
   answered_lowers k (duties.PeerKey s) ds r p t is stands kind =
@@ -271,6 +296,10 @@ module _ {C : Type 0} where
   answered_lowers k (duties.SynAck s) ds r p t is stands kind =
       let e = end_at s p in let f : PathEnd = having_sent to_send.SynAck p.clock (syn_ack_of s p) e in
       sent_less k s (syn_ack_of s p) f (left p) p t (same_rests p.clock e f refl) (left_less _ ds p is)
+  answered_lowers k (duties.JoinHeard s) ds r p t is stands kind =
+      taken_less s (keys_begun r) (asked_at s p) p t (rw is (omega arith)) (rw is (omega arith))
+  answered_lowers k (duties.Refuse s) ds r p t is stands kind =
+      sent_less k s (refusal_of s p) (end_at s p) (left p) p t (same_rests p.clock (end_at s p) (end_at s p) refl) (left_less _ ds p is)
   answered_lowers k (duties.Opened s) ds r p t is stands kind =
       let e = end_at s p in let f : PathEnd = after_keys r (keys_heard e.treated.items) e in
       goes_less s f (left p) p t (same_rests p.clock e f refl) (left_less _ ds p is)
@@ -279,6 +308,7 @@ module _ {C : Type 0} where
       heard_lowers k s (item_of index (end_at s p)) r p t (left_less _ ds p is) (rw is (omega arith)) (rw is (omega arith))
   answered_lowers k (duties.AckHeard s) ds r p t is stands kind =
       goes_less s (after_verdict r (end_at s p)) (left p) p t (same_rests p.clock (end_at s p) (after_verdict r (end_at s p)) refl) (left_less _ ds p is)
+  answered_lowers k (duties.PlainAck s) ds r p t is stands kind = break_lowers k s 6 r p t (rw is (omega arith))
   answered_lowers k (duties.Keep s) ds r p t is stands kind = agenda_less (left p) p t (left_less _ ds p is)
   answered_lowers k (duties.Edge s) ds r p t is stands kind = piece_lowers s (piece_of s p) (is_placed r) p t (rw is (omega arith)) refl
   answered_lowers k (duties.HeardFin s index) ds r p t is stands kind =

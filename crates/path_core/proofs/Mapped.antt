@@ -15,6 +15,7 @@ use Rattle.path_segments.specs.declared.segment.PathOption.TheVariants.{Capable,
 use Rattle.path_segments.specs.declared.segment.PathMapping.{PathMapping}
 use Rattle.path_segments.specs.declared.segment.PathMapping.TheVariants.{Bytes, End, Infinite}
 use Rattle.path_core.specs.Arriving.{HeardOption, checksum_heard, held_if, key_held, map_held, held_in}
+use Rattle.path_core.specs.Joins.{is_joined}
 use Rattle.path_core.specs.Placing.{kept_of}
 use Rattle.path_core.specs.State.{Profile}
 
@@ -72,7 +73,11 @@ within_map c s (Some (End place checksum)) = All-nil IsWithin
 within_map c s (Some (Infinite place position)) = All-nil IsWithin
 
 within_in : (c : Profile) (s : Side) (option : HeardOption) → All IsWithin (held_in c s option)
-within_in c s (Capable flag_a flag_c keys) = within_keys c s keys
+within_in c s (Capable flag_a flag_c keys) = by (is_joined c)
+  where
+    by : (joined : Bool) → All IsWithin (if joined then [] else key_held c s keys)
+    by true = All-nil IsWithin
+    by false = within_keys c s keys
 within_in c s (Join form) = All-nil IsWithin
 within_in c s (Dss next mapping) = within_map c s mapping
 within_in c s (AddAddr echo id address port hmac) = All-nil IsWithin

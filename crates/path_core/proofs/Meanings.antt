@@ -1,5 +1,5 @@
 -- What is held doesn't change what a copy means.
-use Rattle.std.proofs.Common.{◌≡◌, refl, ap, ℕ, ◌==◌, Bool, true, false, if◌then◌else◌, Option, Some, None, List}
+use Rattle.std.proofs.Common.{◌≡◌, refl, sym, ap, ◌∙◌, inl, inr, ℕ, ◌==◌, Bool, true, false, if◌then◌else◌, Option, Some, None, List}
 use Rattle.actor_desk.specs.Words.{is_nil}
 use Rattle.subflow_tcp.specs.declared.handshake.State.{State}
 use Rattle.subflow_tcp.specs.declared.handshake.State.TheVariants as phase
@@ -9,7 +9,7 @@ use Rattle.subflow_tcp.specs.Judging.{is_acceptable, is_repeated_syn, meaning_an
 use Rattle.subflow_tcp.specs.Segments.{Copy, occupied}
 use Rattle.subflow_tcp.specs.State.{EndState, is_at_limit}
 use Rattle.subflow_tcp.specs.Taking.{after_holding}
-use Rattle.path_core.specs.Arriving.{with_payload}
+use Rattle.path_core.specs.Arriving.{IsTakenAs, with_payload}
 
 module _ (position : ℕ) (octets : List ℕ) (s : EndState) where
   abbrev held : EndState
@@ -69,3 +69,8 @@ means_the_same means.Challenged octets c s = refl
 means_the_same means.Unacknowledging octets c s = refl
 means_the_same means.Ahead octets c s = refl
 means_the_same (means.Taken position acknowledged) octets c s = holding_means position octets s c (is_nil octets)
+
+-- so a copy is taken as before
+pub taken_the_same : (meaning : Meaning) (octets : List ℕ) (c : Copy) (s : EndState) → IsTakenAs meaning c s → IsTakenAs meaning c (with_payload meaning octets s)
+taken_the_same meaning octets c s (inl ignored) = inl ignored
+taken_the_same meaning octets c s (inr means) = inr (means ∙ sym (means_the_same meaning octets c s))

@@ -1,5 +1,5 @@
 -- Duties that are passed: the first two numbers don't rise, and the third falls.
-use Rattle.std.proofs.Common.{◌≡◌, refl, ap, ◌<◌, ◌≤◌, ◌⊎◌, inl, inr, Bool, true, false, if◌then◌else◌, List, [], ◌∷◌, arith}
+use Rattle.std.proofs.Common.{◌≡◌, refl, ap, ◌<◌, ◌≤◌, ◌⊎◌, inl, inr, ◌||◌, Bool, true, false, if◌then◌else◌, List, [], ◌∷◌, arith}
 use Rattle.outside_kit.specs.declared.side.Side.{Side}
 use Rattle.outside_kit.specs.declared.side.Side.TheVariants.{A, B}
 use Rattle.dss_mapping.specs.Mappings.{mapping_at}
@@ -49,7 +49,7 @@ module _ {C : Type 0} where
       let e = end_at s p in
       end_calm s (after_timer p.clock e) p t
       (to_rests p.clock e (after_timer p.clock e)
-      (settled_settles p.clock (is_timed (is_waiting e.sending) e.tcp) e.sending.news e.tcp.timing (timeout_at s p t)))
+      (settled_settles p.clock (is_timed (is_waiting e.sending || e.modes.owes_third) e.tcp) e.sending.news e.tcp.timing (timeout_at s p t)))
   passed_calm (duties.Heard s index) p t =
       let e = end_at s p in
       let f : PathEnd = item_passed s (item_of index e) e in
@@ -63,6 +63,7 @@ module _ {C : Type 0} where
   passed_calm (duties.PassFin s) p t =
       let e = end_at s p in
       end_calm s (after_pass_fin e) p t (same_rests p.clock e (after_pass_fin e) (pass_fin_same (is_fin_next e.tcp) e.tcp))
+  passed_calm duties.JoinAgain p t = unchanged p t
   passed_calm (duties.Look s) p t = unchanged p t
   passed_calm (duties.Window s) p t = unchanged p t
   passed_calm (duties.Update s) p t = unchanged p t
@@ -75,9 +76,12 @@ module _ {C : Type 0} where
   passed_calm (duties.SynAnswered s) p t = unchanged p t
   passed_calm (duties.PeerKey s) p t = unchanged p t
   passed_calm (duties.SynAck s) p t = unchanged p t
+  passed_calm (duties.JoinHeard s) p t = unchanged p t
+  passed_calm (duties.Refuse s) p t = unchanged p t
   passed_calm (duties.Opened s) p t = unchanged p t
   passed_calm (duties.Live s) p t = unchanged p t
   passed_calm (duties.AckHeard s) p t = unchanged p t
+  passed_calm (duties.PlainAck s) p t = unchanged p t
   passed_calm (duties.HeardFin s index) p t = unchanged p t
   passed_calm (duties.AckOut s) p t = unchanged p t
   passed_calm (duties.Rate s) p t = unchanged p t

@@ -164,6 +164,7 @@ item_same s (Some says.Mapping) e = mapping_same (counts e) e
 item_same s (Some (says.DataFin place)) e = either_same (counts e) (with_fin place e) e refl
 item_same s (Some (says.PeerKey key)) e = refl
 item_same s (Some (says.Keys own peer)) e = refl
+item_same s (Some (says.Join form)) e = refl
 
 pub keep_same : (s : Side) (e : PathEnd) → (after_keep s e).tcp.timing ≡ e.tcp.timing
 keep_same s e = by (is_dropped s e)

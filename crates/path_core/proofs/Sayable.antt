@@ -7,6 +7,11 @@ use Rattle.outside_kit.specs.declared.side.Side.{Side}
 use Rattle.outside_kit.specs.declared.side.Side.TheVariants.{A, B}
 use Rattle.mptcp_options.specs.declared.capable.CapableKeys.{CapableKeys}
 use Rattle.mptcp_options.specs.declared.capable.CapableKeys.TheVariants.{NoKey, Sender, Both, WithData}
+use Rattle.mptcp_options.specs.declared.join.JoinForm.TheVariants.{Answer, Third}
+use Rattle.mptcp_options.specs.declared.join.JoinForm.TheVariants as join
+use Rattle.key_material.specs.JoinHmac.{join_a160_of, join_b64_of}
+use Rattle.key_material.specs.KeyDigest.{token_of}
+use Rattle.key_material.proofs.Bounds.{length-join_a160_of}
 use Rattle.mptcp_options.specs.declared.dss.DataNumber.{DataNumber}
 use Rattle.mptcp_options.specs.declared.dss.DataNumber.TheVariants.{Whole, Low}
 use Rattle.mptcp_options.specs.Text.{option_text}
@@ -24,14 +29,16 @@ use Rattle.subflow_send.specs.declared.record.RecordRef.{RecordRef}
 use Rattle.std.specs.Option.{option_map}
 use Rattle.subflow_tcp.specs.declared.segments.Outgoing.{Outgoing}
 use Rattle.path_core.specs.Ends.{PathEnd}
-use Rattle.path_core.specs.Segments.{spelled_by, checksum_told, syn_options, key_options, end_mapping, ack_options, is_first_piece, first_piece_options, piece_options, fin_options, record_options, reset_options, segment_of, piece_mapping, ack_said, record_or_ack, syn_ack_said}
+use Rattle.path_core.specs.Joins.{is_joined, peer_key_of, join_options, third_options}
+use Rattle.path_core.specs.declared.modes.Modes.{Modes}
+use Rattle.path_core.specs.Segments.{spelled_by, checksum_told, capable_options, syn_options, key_options, opening_options, end_mapping, ack_options, is_first_piece, first_piece_options, piece_options, fin_options, record_options, reset_options, segment_of, piece_mapping, ack_said, record_or_ack, syn_ack_said}
 use Rattle.path_core.specs.declared.segment_kind.SegmentKind.{SegmentKind}
 use Rattle.path_core.specs.declared.segment_kind.SegmentKind.TheVariants as to_say
 use Rattle.subflow_tcp.specs.Emitting.{ack_at, record_segment, syn_ack_segment, fin_segment, reset_segment}
 use Rattle.subflow_tcp.specs.State.{has_records}
 use Rattle.path_core.specs.Closing.{owes_end}
 use Rattle.path_core.specs.Emission.{first_unsent}
-use Rattle.path_core.specs.Passing.{first_record, outgoing_or}
+use Rattle.path_core.specs.Passing.{first_record, outgoing_or, ack_resent}
 use Rattle.path_core.specs.Said.{CanBeSaid, said_by}
 use Rattle.path_core.specs.State.{Profile}
 
@@ -66,6 +73,18 @@ reset_length : (transient : Bool) (reason : ℕ) → length (option_text (wire.R
 unfolding option_text
 reset_length transient reason = omega arith
 
+join_syn_length : (backup : Bool) (id token nonce : ℕ) → length (option_text (wire.Join (join.Syn backup id token nonce))) ≤ 28
+unfolding option_text
+join_syn_length backup id token nonce = omega arith
+
+join_answer_length : (backup : Bool) (id hmac nonce : ℕ) → length (option_text (wire.Join (Answer backup id hmac nonce))) ≤ 28
+unfolding option_text
+join_answer_length backup id hmac nonce = omega arith
+
+third_length : (key_a key_b nonce_a nonce_b : ℕ) → length (option_text (wire.Join (Third (join_a160_of key_a key_b nonce_a nonce_b)))) ≤ 28
+unfolding option_text
+third_length key_a key_b nonce_a nonce_b = omega (arith, length-join_a160_of key_a key_b nonce_a nonce_b)
+
 -- a checksum stands exactly where checksums are used
 told_form : (used : Bool) (checksum : ℕ) → is_some (if used then Some checksum else None) ≡ used
 told_form true checksum = refl
@@ -92,14 +111,38 @@ room_of true mss spelling from (o ∷ []) short = omega (arith, short.1, ap leng
 room_of false mss spelling from (o ∷ []) short = omega (arith, short.1, ap length (append-nil (option_text (said_option spelling from o))))
 room_of syn mss spelling from (o ∷ other ∷ others) short = absurd short
 
+join_short : (c : Profile) (s : Side) (m : Modes) → AreShort c.spelling (spelled_by s) (join_options c s m)
+join_short c A m = (record { form = tt }, join_syn_length c.backup c.spelling.path (token_of (peer_key_of m)) m.own_nonce)
+join_short c B m = (
+  record { form = tt },
+  join_answer_length c.backup c.spelling.path (join_b64_of (peer_key_of m) m.own_key m.peer_nonce m.own_nonce) m.own_nonce,
+)
+
+third_short : (c : Profile) (s : Side) (m : Modes) → AreShort c.spelling (spelled_by s) (third_options m)
+third_short c s m = (record { form = tt }, third_length m.own_key (peer_key_of m) m.own_nonce m.peer_nonce)
+
+capable_short : (c : Profile) (s : Side) (e : PathEnd) → AreShort c.spelling (spelled_by s) (capable_options c s e)
+capable_short c A e = (record { form = tt }, capable_length c.spelling.checksums false NoKey)
+capable_short c B e = (record { form = tt }, capable_length c.spelling.checksums false (Sender e.modes.own_key))
+
 syn_short : (c : Profile) (s : Side) (e : PathEnd) → AreShort c.spelling (spelled_by s) (syn_options c s e)
-syn_short c A e = (record { form = tt }, capable_length c.spelling.checksums false NoKey)
-syn_short c B e = (record { form = tt }, capable_length c.spelling.checksums false (Sender e.modes.own_key))
+syn_short c s e = by (is_joined c)
+  where
+    by : (joined : Bool) → AreShort c.spelling (spelled_by s) (if joined then join_options c s e.modes else capable_options c s e)
+    by true = join_short c s e.modes
+    by false = capable_short c s e
 
 key_short : (c : Profile) (s : Side) (peer : Option ℕ) (e : PathEnd) → AreShort c.spelling (spelled_by s) (key_options c s peer e)
 key_short c A None e = tt
 key_short c A (Some peer) e = (record { form = tt }, capable_length c.spelling.checksums false (Both e.modes.own_key peer))
 key_short c B peer e = tt
+
+opening_short : (c : Profile) (s : Side) (e : PathEnd) → AreShort c.spelling (spelled_by s) (opening_options c s e)
+opening_short c s e = by e.modes.owes_third
+  where
+    by : (owes : Bool) → AreShort c.spelling (spelled_by s) (if owes then third_options e.modes else key_options c s e.modes.peer_key e)
+    by true = third_short c s e.modes
+    by false = key_short c s e.modes.peer_key e
 
 end_short : (c : Profile) (s : Side) (fin : Option ℕ) (next : ℕ) → AreShort c.spelling (spelled_by s) (Dss (Some next) (end_mapping c s fin) ∷ [])
 end_short c s None next = (record { form = (tt, refl) }, ack_length (data_number c.spelling (peer_of (spelled_by s)) next) false)
@@ -112,9 +155,9 @@ ack_short : (c : Profile) (s : Side) (fin : Option ℕ) (e : PathEnd) → AreSho
 ack_short c s fin e = by e.modes.clear
   where
     by : (clear : Bool) → AreShort c.spelling (spelled_by s)
-        (if clear then Dss (Some e.receiving.next) (end_mapping c s fin) ∷ [] else key_options c s e.modes.peer_key e)
+        (if clear then Dss (Some e.receiving.next) (end_mapping c s fin) ∷ [] else opening_options c s e)
     by true = end_short c s fin e.receiving.next
-    by false = key_short c s e.modes.peer_key e
+    by false = opening_short c s e
 
 first_short : (c : Profile) (s : Side) (peer : Option ℕ) (r : Record) (e : PathEnd) → AreShort c.spelling (spelled_by s) (first_piece_options c peer r e)
 first_short c s None r e = tt
@@ -180,12 +223,16 @@ module _ (c : Profile) (s : Side) (e : PathEnd) (path : c.spelling.path ≤ 15) 
   answer_can true = syn_ack_can
   answer_can false = ack_can e.tcp.send.nxt None
 
-  resend_can : (first end : Bool) → IfSome (first_record e) (λ r. length r.piece ≤ 65475)
-      → CanBeSaid c.spelling s (if first then record_or_ack c s (first_record e) e
+  resent_can : (third end : Bool) → CanBeSaid c.spelling s (if third then ack_said c s e.tcp.send.nxt None e
       else (if end then ack_said c s e.tcp.send.nxt e.sending.known_end e else ack_said c s (e.tcp.send.una - 1) None e))
-  resend_can true end few = record_can (first_record e) few
-  resend_can false true few = ack_can e.tcp.send.nxt e.sending.known_end
-  resend_can false false few = ack_can (e.tcp.send.una - 1) None
+  resent_can true end = ack_can e.tcp.send.nxt None
+  resent_can false true = ack_can e.tcp.send.nxt e.sending.known_end
+  resent_can false false = ack_can (e.tcp.send.una - 1) None
+
+  resend_can : (first : Bool) → IfSome (first_record e) (λ r. length r.piece ≤ 65475)
+      → CanBeSaid c.spelling s (if first then record_or_ack c s (first_record e) e else ack_resent c s e)
+  resend_can true few = record_can (first_record e) few
+  resend_can false few = resent_can e.modes.owes_third (owes_end e.sending)
 
   said_can : (kind : SegmentKind) → IfSome (first_unsent e) (λ r. length r.piece ≤ 65475)
       → IfSome (first_record e) (λ r. length r.piece ≤ 65475) → CanBeSaid c.spelling s (said_by kind c s e)
@@ -197,7 +244,9 @@ module _ (c : Profile) (s : Side) (e : PathEnd) (path : c.spelling.path ≤ 15) 
   said_can to_say.SynAck unsent first = syn_ack_can
   said_can to_say.Answer unsent first = answer_can e.tcp.due.syn_ack
   said_can to_say.DeadAnswer unsent first = says (outgoing_or e.treated.answer (reset_segment e.tcp)) [] [] tt (omega arith)
-  said_can to_say.Resend unsent first = resend_can (has_records e.tcp) (owes_end e.sending) first
+  said_can to_say.Resend unsent first = resend_can (has_records e.tcp) first
+  said_can to_say.Refusal unsent first =
+      says (outgoing_or e.treated.answer (reset_segment e.tcp)) (reset_options (Some 1)) [] (reset_short c s (Some 1)) (omega arith)
   said_can (to_say.Reset reason) unsent first = says (reset_segment e.tcp) (reset_options reason) [] (reset_short c s reason) (omega arith)
 
   -- records that are lent fit in a segment

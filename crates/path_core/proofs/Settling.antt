@@ -8,6 +8,7 @@ use Rattle.path_core.specs.Steps.{settled}
 
 module _ {C : Type 0} where
   pub stands_anyway : (d : Duty) (es : List Duty) (p : PathState C) → stands d (with_agenda es p) ≡ stands d p
+  stands_anyway duties.JoinAgain es p = refl
   stands_anyway (duties.Look s) es p = refl
   stands_anyway (duties.Window s) es p = refl
   stands_anyway (duties.Update s) es p = refl
@@ -21,10 +22,13 @@ module _ {C : Type 0} where
   stands_anyway (duties.SynAnswered s) es p = refl
   stands_anyway (duties.PeerKey s) es p = refl
   stands_anyway (duties.SynAck s) es p = refl
+  stands_anyway (duties.JoinHeard s) es p = refl
+  stands_anyway (duties.Refuse s) es p = refl
   stands_anyway (duties.Opened s) es p = refl
   stands_anyway (duties.Live s) es p = refl
   stands_anyway (duties.Heard s index) es p = refl
   stands_anyway (duties.AckHeard s) es p = refl
+  stands_anyway (duties.PlainAck s) es p = refl
   stands_anyway (duties.Keep s) es p = refl
   stands_anyway (duties.Edge s) es p = refl
   stands_anyway (duties.HeardFin s index) es p = refl
@@ -45,6 +49,7 @@ module _ {C : Type 0} where
   stands_anyway duties.End es p = refl
 
   pub passes_anyway : (d : Duty) (es : List Duty) (p : PathState C) → passed d (with_agenda es p) ≡ with_agenda es (passed d p)
+  passes_anyway duties.JoinAgain es p = refl
   passes_anyway (duties.Look s) es p = refl
   passes_anyway (duties.Window s) es p = refl
   passes_anyway (duties.Update s) es p = refl
@@ -58,10 +63,13 @@ module _ {C : Type 0} where
   passes_anyway (duties.SynAnswered s) es p = refl
   passes_anyway (duties.PeerKey s) es p = refl
   passes_anyway (duties.SynAck s) es p = refl
+  passes_anyway (duties.JoinHeard s) es p = refl
+  passes_anyway (duties.Refuse s) es p = refl
   passes_anyway (duties.Opened s) es p = refl
   passes_anyway (duties.Live s) es p = refl
   passes_anyway (duties.Heard s index) es p = refl
   passes_anyway (duties.AckHeard s) es p = refl
+  passes_anyway (duties.PlainAck s) es p = refl
   passes_anyway (duties.Keep s) es p = refl
   passes_anyway (duties.Edge s) es p = refl
   passes_anyway (duties.HeardFin s index) es p = refl

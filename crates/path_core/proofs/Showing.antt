@@ -33,7 +33,11 @@ use Rattle.fallback_state.specs.declared.fall.Event.TheVariants as events
 use Rattle.subflow_send.specs.Records.{Record}
 use Rattle.path_agenda.specs.declared.heard.Heard.{Heard}
 use Rattle.path_agenda.specs.declared.heard.Heard.TheVariants as says
-use Rattle.path_agenda.specs.Agenda.{resets, leaves}
+use Rattle.path_agenda.specs.Agenda.{resets, leaves, emission}
+use Rattle.path_agenda.specs.Words.{replaced}
+use Rattle.path_agenda.specs.declared.keys.KeyPair.{KeyPair}
+use Rattle.join_handshake.specs.declared.hearing.JoinSyn.{JoinSyn}
+use Rattle.path_core.specs.Joining.{is_never, keys_begun, opened_by, asked_at, join_heard_ask, join_taken, refusal_of}
 use Rattle.path_core.specs.Breaking.{reset_of, reset_on, break_ask, answered_break}
 use Rattle.path_core.specs.Emission.{first_unsent, data_ask, unsent_segment, having_sent_unsent, end_segment, having_sent_end, fin_segment_of, having_sent_fin, Grant, grant_in, answered_grant, answered_data}
 use Rattle.path_core.specs.Opening.{syn_ack_of}
@@ -46,7 +50,7 @@ use Rattle.path_core.specs.Octets.{octets}
 use Rattle.path_core.specs.Sends.{sends, having_sent, handed, sent_on}
 use Rattle.path_core.specs.Ends.{PathEnd}
 use Rattle.path_core.specs.Shown.{octets_of, shown_path, ChangesNothing, IsFarReset, IsFreshCopy, NextIsFresh}
-use Rattle.path_core.specs.State.{PathState, end_at, with_agenda, goes_on, left}
+use Rattle.path_core.specs.State.{PathState, end_at, with_agenda, goes_on, left, path_of}
 use Rattle.path_core.specs.Steps.{settled, settles_down, asks_first, asks_of, answers, takes, next_round}
 use Rattle.path_agenda.specs.Agenda.{start_of_turn}
 use Rattle.path_core.specs.Values.{Carried, values}
@@ -63,6 +67,7 @@ same_event p = rw (same_due p p.link.under_way) refl
 -- ---- what stands, and what is passed
 
 same_stands : (d : Duty) (p : PathState Carried) → stands d (shown_path p) ≡ stands d p
+same_stands duties.JoinAgain p = refl
 same_stands (duties.Look s) p = refl
 same_stands (duties.Window s) p = refl
 same_stands (duties.Update s) p = refl
@@ -76,10 +81,13 @@ same_stands (duties.SynHeard s) p = refl
 same_stands (duties.SynAnswered s) p = refl
 same_stands (duties.PeerKey s) p = refl
 same_stands (duties.SynAck s) p = refl
+same_stands (duties.JoinHeard s) p = refl
+same_stands (duties.Refuse s) p = refl
 same_stands (duties.Opened s) p = refl
 same_stands (duties.Live s) p = refl
 same_stands (duties.Heard s index) p = refl
 same_stands (duties.AckHeard s) p = refl
+same_stands (duties.PlainAck s) p = refl
 same_stands (duties.Keep s) p = refl
 same_stands (duties.Edge s) p = refl
 same_stands (duties.HeardFin s index) p = refl
@@ -134,8 +142,14 @@ same_item s (Some says.Mapping) p = same_mapping s (is_clash (end_at s p)) p
 same_item s (Some (says.DataFin place)) p = refl
 same_item s (Some (says.PeerKey key)) p = refl
 same_item s (Some (says.Keys own peer)) p = refl
+same_item s (Some (says.Join form)) p = refl
+
+same_join : (s : Side) (asked : Option JoinSyn) (p : PathState Carried) → join_heard_ask s asked (shown_path p) ≡ join_heard_ask s asked p
+same_join s None p = refl
+same_join s (Some asked) p = refl
 
 same_asks : (d : Duty) (p : PathState Carried) → ask_for octets d (shown_path p) ≡ ask_for values d p
+same_asks duties.JoinAgain p = refl
 same_asks (duties.Look s) p = refl
 same_asks (duties.Window s) p = refl
 same_asks (duties.Update s) p = same_sends s (ack_segment s p) p
@@ -144,15 +158,18 @@ same_asks (duties.Data s) p = same_data s (first_unsent (end_at s p)) p
 same_asks (duties.DataFin s) p = same_sends s (end_segment s p) p
 same_asks (duties.Fin s) p = same_sends s (fin_segment_of s p) p
 same_asks (duties.Timer s) p = refl
-same_asks duties.Events p = ap step_for (same_event p)
+same_asks duties.Events p = ap (step_for (path_of p)) (same_event p)
 same_asks (duties.SynHeard s) p = refl
 same_asks (duties.SynAnswered s) p = refl
 same_asks (duties.PeerKey s) p = refl
 same_asks (duties.SynAck s) p = same_sends s (syn_ack_of s p) p
+same_asks (duties.JoinHeard s) p = same_join s (asked_at s p) p
+same_asks (duties.Refuse s) p = same_sends s (refusal_of s p) p
 same_asks (duties.Opened s) p = refl
 same_asks (duties.Live s) p = refl
 same_asks (duties.Heard s index) p = same_item s (item_of index (end_at s p)) p
 same_asks (duties.AckHeard s) p = refl
+same_asks (duties.PlainAck s) p = same_break s (end_at s p).treated.asked 6 p
 same_asks (duties.Keep s) p = refl
 same_asks (duties.Edge s) p = refl
 same_asks (duties.HeardFin s index) p = refl
@@ -173,6 +190,7 @@ same_asks (duties.Dead s) p = refl
 same_asks duties.End p = refl
 
 same_passed : (d : Duty) (p : PathState Carried) → passed d (shown_path p) ≡ shown_path (passed d p)
+same_passed duties.JoinAgain p = refl
 same_passed (duties.Look s) p = refl
 same_passed (duties.Window s) p = refl
 same_passed (duties.Update s) p = refl
@@ -186,10 +204,13 @@ same_passed (duties.SynHeard s) p = refl
 same_passed (duties.SynAnswered s) p = refl
 same_passed (duties.PeerKey s) p = refl
 same_passed (duties.SynAck s) p = refl
+same_passed (duties.JoinHeard s) p = refl
+same_passed (duties.Refuse s) p = refl
 same_passed (duties.Opened s) p = refl
 same_passed (duties.Live s) p = refl
 same_passed (duties.Heard s index) p = refl
 same_passed (duties.AckHeard s) p = refl
+same_passed (duties.PlainAck s) p = refl
 same_passed (duties.Keep s) p = refl
 same_passed (duties.Edge s) p = refl
 same_passed (duties.HeardFin s index) p = refl
@@ -280,6 +301,7 @@ same_heard s (Some says.Mapping) r p nothing = same_learned s (is_clash (end_at 
 same_heard s (Some (says.DataFin place)) r p nothing = refl
 same_heard s (Some (says.PeerKey key)) r p nothing = refl
 same_heard s (Some (says.Keys own peer)) r p nothing = refl
+same_heard s (Some (says.Join form)) r p nothing = refl
 
 same_grant : (s : Side) (o : Option Grant) (r : Reply) (p : PathState Carried) → answered_grant s o r (shown_path p) ≡ shown_path (answered_grant s o r p)
 same_grant s None r p = refl
@@ -298,6 +320,27 @@ same_piece s (Some piece) false p = refl
 same_fin : (s : Side) (set : Bool) (p : PathState Carried) → answered_fin_heard s set (shown_path p) ≡ shown_path (answered_fin_heard s set p)
 same_fin s true p = refl
 same_fin s false p = refl
+
+-- ---- joins
+
+same_begun : (never : Bool) (r : Reply) (dead living : List Duty) (p : PathState Carried)
+    → (if never then goes_on A (died (end_at A p)) dead (shown_path p) else goes_on A (opened_by (keys_begun r) (end_at A p)) living (shown_path p))
+    ≡ shown_path (if never then goes_on A (died (end_at A p)) dead p else goes_on A (opened_by (keys_begun r) (end_at A p)) living p)
+same_begun true r dead living p = refl
+same_begun false r dead living p = refl
+
+same_join_again : (never : Bool) (r : Reply) (p : PathState Carried)
+    → (if never then goes_on A (died (end_at A p)) (replaced (duties.Leave A) p.agenda) (shown_path p)
+    else goes_on A (opened_by (keys_begun r) (end_at A p)) (left p) (shown_path p))
+    ≡ shown_path (if never then goes_on A (died (end_at A p)) (replaced (duties.Leave A) p.agenda) p
+    else goes_on A (opened_by (keys_begun r) (end_at A p)) (left p) p)
+same_join_again never r p = same_begun never r (replaced (duties.Leave A) p.agenda) (left p) p
+
+same_join_taken : (s : Side) (keys : Option KeyPair) (asked : Option JoinSyn) (p : PathState Carried)
+    → join_taken s keys asked (shown_path p) ≡ shown_path (join_taken s keys asked p)
+same_join_taken s (Some keys) (Some asked) p = refl
+same_join_taken s (Some keys) None p = refl
+same_join_taken s None asked p = refl
 
 -- ---- events
 
@@ -376,18 +419,21 @@ same_copy due p fresh =
     ∙ ap (λ link. copy_heard due.to heard (record (at_tick due.tick (shown_path p)) { link = link })) (same_delivery show due p.link)
     ∙ same_copy_heard due.to heard (record (at_tick due.tick p) { link = after_delivery due p.link })
 
-same_happening : (o : Option Event) (p : PathState Carried)
+same_happening : (o : Option Event) (r : Reply) (p : PathState Carried)
     → ((due : Due) (flight : Flight Carried) → o ≡ Some (happenings.Arrives due) → arriving due p.link ≡ Some flight → IsFreshCopy p due.to flight.carried)
-    → happens_if octets o (shown_path p) ≡ shown_path (happens_if values o p)
-same_happening None p fresh = refl
-same_happening (Some (happenings.Takes line)) p fresh = same_line (is_death line.line) (record (at_tick line.tick p) { lines = tail_of p.lines })
-same_happening (Some (happenings.Arrives due)) p fresh = same_copy due p (λ flight is. fresh due flight refl is)
-same_happening (Some (happenings.Fires s tick)) p fresh = refl
+    → happens_if octets o r (shown_path p) ≡ shown_path (happens_if values o r p)
+same_happening None r p fresh = refl
+same_happening (Some (happenings.Joins tick)) r p fresh =
+    same_begun (is_never r) r (leaves A) (emission A) (record (at_tick tick p) { joined_at = None })
+same_happening (Some (happenings.Takes line)) r p fresh = same_line (is_death line.line) (record (at_tick line.tick p) { lines = tail_of p.lines })
+same_happening (Some (happenings.Arrives due)) r p fresh = same_copy due p (λ flight is. fresh due flight refl is)
+same_happening (Some (happenings.Fires s tick)) r p fresh = refl
 
 -- ---- every duty
 
 same_answered : (d : Duty) (r : Reply) (p : PathState Carried) → ChangesNothing p.link.lines → NextIsFresh p
     → answered octets d r (shown_path p) ≡ shown_path (answered values d r p)
+same_answered duties.JoinAgain r p nothing fresh = same_join_again (is_never r) r p
 same_answered (duties.Look s) r p nothing fresh = refl
 same_answered (duties.Window s) r p nothing fresh = refl
 same_answered (duties.Update s) r p nothing fresh = same_sent s (ack_segment s p) (having_sent to_send.Ack p.clock (ack_segment s p) (end_at s p)) (left p) p nothing
@@ -397,15 +443,18 @@ same_answered (duties.DataFin s) r p nothing fresh = same_sent s (end_segment s 
 same_answered (duties.Fin s) r p nothing fresh = same_sent s (fin_segment_of s p) (having_sent_fin s p) (left p) p nothing
 same_answered (duties.Timer s) r p nothing fresh = refl
 same_answered duties.Events r p nothing fresh =
-    ap (λ o. happens_if octets o (shown_path p)) (same_event p) ∙ same_happening (next_event p) p fresh
+    ap (λ o. happens_if octets o r (shown_path p)) (same_event p) ∙ same_happening (next_event p) r p fresh
 same_answered (duties.SynHeard s) r p nothing fresh = refl
 same_answered (duties.SynAnswered s) r p nothing fresh = refl
 same_answered (duties.PeerKey s) r p nothing fresh = refl
 same_answered (duties.SynAck s) r p nothing fresh = same_sent s (syn_ack_of s p) (having_sent to_send.SynAck p.clock (syn_ack_of s p) (end_at s p)) (left p) p nothing
+same_answered (duties.JoinHeard s) r p nothing fresh = same_join_taken s (keys_begun r) (asked_at s p) p
+same_answered (duties.Refuse s) r p nothing fresh = same_sent s (refusal_of s p) (end_at s p) (left p) p nothing
 same_answered (duties.Opened s) r p nothing fresh = refl
 same_answered (duties.Live s) r p nothing fresh = refl
 same_answered (duties.Heard s index) r p nothing fresh = same_heard s (item_of index (end_at s p)) r p nothing
 same_answered (duties.AckHeard s) r p nothing fresh = refl
+same_answered (duties.PlainAck s) r p nothing fresh = same_broken s (end_at s p).treated.asked 6 r p nothing
 same_answered (duties.Keep s) r p nothing fresh = refl
 same_answered (duties.Edge s) r p nothing fresh = same_piece s (piece_of s p) (is_placed r) p
 same_answered (duties.HeardFin s index) r p nothing fresh = same_fin s (is_fin_set r) p

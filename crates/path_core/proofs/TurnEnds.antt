@@ -48,6 +48,7 @@ module _ {C : Type 0} where
 
   -- the agenda is of no account
   same_stands : (d : Duty) (ds : List Duty) (p : PathState C) → stands d p ≡ true → stands d (with_agenda (d ∷ ds) p) ≡ true
+  same_stands duties.JoinAgain ds p is = is
   same_stands (duties.Look s) ds p is = is
   same_stands (duties.Window s) ds p is = is
   same_stands (duties.Update s) ds p is = is
@@ -61,10 +62,13 @@ module _ {C : Type 0} where
   same_stands (duties.SynAnswered s) ds p is = is
   same_stands (duties.PeerKey s) ds p is = is
   same_stands (duties.SynAck s) ds p is = is
+  same_stands (duties.JoinHeard s) ds p is = is
+  same_stands (duties.Refuse s) ds p is = is
   same_stands (duties.Opened s) ds p is = is
   same_stands (duties.Live s) ds p is = is
   same_stands (duties.Heard s index) ds p is = is
   same_stands (duties.AckHeard s) ds p is = is
+  same_stands (duties.PlainAck s) ds p is = is
   same_stands (duties.Keep s) ds p is = is
   same_stands (duties.Edge s) ds p is = is
   same_stands (duties.HeardFin s index) ds p is = is

@@ -1,20 +1,26 @@
 -- A copy that arrives: what it says, and what it makes of the end at once. The rest is treated duty by duty.
-use Rattle.std.specs.Prelude.{ℕ, ◌+◌, ◌-◌, ◌%◌, ◌^◌, ◌<◌, ◌≤◌, ◌&&◌, not, Bool, true, false, nat_lt, nat_le, if◌then◌else◌, unwrap_or, Option, Some, None, List, [], ◌∷◌, ◌++◌, length, take}
+use Rattle.std.specs.Prelude.{ℕ, ◌≡◌, ◌⊎◌, ◌+◌, ◌-◌, ◌%◌, ◌^◌, ◌<◌, ◌≤◌, ◌&&◌, ◌||◌, not, Bool, true, false, nat_lt, nat_le, if◌then◌else◌, unwrap_or, is_some, is_none, Option, Some, None, List, [], ◌∷◌, ◌++◌, length, take}
 use Rattle.std.specs.List.{flat_map, list_any}
 use Rattle.outside_kit.specs.declared.side.Side.{Side}
 use Rattle.outside_kit.specs.declared.side.Side.TheVariants.{A, B}
 use Rattle.dss_mapping.specs.declared.kept.KeptMapping.{KeptMapping}
 use Rattle.dss_mapping.specs.Learning.{after_hold}
+use Rattle.join_handshake.specs.declared.hearing.JoinAnswer.{JoinAnswer}
+use Rattle.mptcp_options.specs.declared.join.JoinForm.{JoinForm}
+use Rattle.mptcp_options.specs.declared.join.JoinForm.TheVariants.{Syn, Answer, Third}
 use Rattle.mptcp_options.specs.declared.capable.CapableKeys.{CapableKeys}
 use Rattle.mptcp_options.specs.declared.capable.CapableKeys.TheVariants.{Sender, Both, WithData}
 use Rattle.path_segments.specs.declared.expected.Expected.{Expected}
 use Rattle.path_segments.specs.declared.segment.PathOption.{PathOption}
-use Rattle.path_segments.specs.declared.segment.PathOption.TheVariants.{Capable, Dss}
+use Rattle.path_segments.specs.declared.segment.PathOption.TheVariants.{Capable, Dss, Join}
 use Rattle.path_segments.specs.declared.segment.PathMapping.{PathMapping}
 use Rattle.path_segments.specs.declared.segment.PathMapping.TheVariants.{Bytes, End}
 use Rattle.path_segments.specs.Spelling.{numbers_of}
+use Rattle.subflow_send.specs.declared.record.AckKind.TheVariants.{New}
 use Rattle.subflow_tcp.specs.declared.segments.Hint.{Hint}
 use Rattle.subflow_tcp.specs.declared.segments.Outgoing.{Outgoing}
+use Rattle.subflow_tcp.specs.declared.verdicts.Arrival.{Arrival}
+use Rattle.subflow_tcp.specs.declared.verdicts.Arrival.TheVariants.{Took}
 use Rattle.subflow_tcp.specs.declared.verdicts.Meaning.{Meaning}
 use Rattle.subflow_tcp.specs.declared.verdicts.Meaning.TheVariants as means
 use Rattle.subflow_tcp.specs.declared.handshake.State.{State as EndPhase}
@@ -22,15 +28,19 @@ use Rattle.subflow_tcp.specs.State.{EndState}
 use Rattle.subflow_tcp.specs.Segments.{Copy, occupied}
 use Rattle.subflow_tcp.specs.States.{is_half_open}
 use Rattle.subflow_tcp.specs.Judging.{meaning_of}
-use Rattle.subflow_tcp.specs.Taking.{after_arrival, after_holding}
+use Rattle.subflow_tcp.specs.Taking.{after_arrival, arrival_of, after_holding}
 use Rattle.subflow_tcp.specs.Closing.{after_owing}
 use Rattle.path_agenda.specs.declared.duty.Duty.{Duty}
 use Rattle.path_agenda.specs.declared.heard.Heard.{Heard}
 use Rattle.path_agenda.specs.declared.heard.Heard.TheVariants as says
 use Rattle.path_agenda.specs.Items.{place_in_first, wants_ack}
-use Rattle.path_agenda.specs.Agenda.{emission, syn_came, syn_ack_came, copy_came, syn_again, answers, answers_dead, leaves}
+use Rattle.path_agenda.specs.Agenda.{emission, syn_came, syn_ack_came, join_came, refuses, join_answered, copy_came, syn_again, answers, answers_dead, leaves, resets}
 use Rattle.path_core.specs.Codec.{HeardSegment}
+use Rattle.path_core.specs.declared.judged.Judged.{Judged}
+use Rattle.path_core.specs.declared.judged.Judged.TheVariants as judged
+use Rattle.path_core.specs.declared.modes.Modes.{Modes}
 use Rattle.path_core.specs.Ends.{PathEnd, Treated, nothing_treated}
+use Rattle.path_core.specs.Joins.{is_joined, join_asked, join_answer, third_in, is_third_right}
 use Rattle.path_core.specs.Placing.{kept_of}
 use Rattle.path_core.specs.Segments.{spelled_by}
 use Rattle.path_core.specs.State.{Profile}
@@ -99,14 +109,23 @@ key_items B (Both sender receiver) = says.Keys receiver sender ∷ []
 key_items B (WithData sender receiver len checksum) = says.Keys receiver sender ∷ mapping_items 0 1 len
 key_items _ _ = []
 
-abbrev pub items_in : Side → ℕ → HeardOption → List Heard
-items_in s window (Capable flag_a flag_c keys) = key_items s keys
-items_in s window (Dss next mapping) = says.Dss ∷ (ack_items next window ++ map_items mapping)
-items_in s window _ = []
+-- A hears the answer to its SYN, and B the SYN and the third segment
+abbrev pub join_items : Side → JoinForm → List Heard
+join_items A (Answer backup id hmac nonce) = says.Join (Answer backup id hmac nonce) ∷ []
+join_items B (Syn backup id token nonce) = says.Join (Syn backup id token nonce) ∷ []
+join_items B (Third hmac) = says.Join (Third hmac) ∷ []
+join_items _ _ = []
+
+-- MP_CAPABLE says nothing on a path that joins
+abbrev pub items_in : Bool → Side → ℕ → HeardOption → List Heard
+items_in joined s window (Capable flag_a flag_c keys) = if joined then [] else key_items s keys
+items_in joined s window (Dss next mapping) = says.Dss ∷ (ack_items next window ++ map_items mapping)
+items_in joined s window (Join form) = join_items s form
+items_in joined s window _ = []
 
 -- all that a copy says to the end of this side, in the order of its options; forty octets of options say ten things at most
-abbrev pub items_of : Side → HeardSegment → List Heard
-items_of s h = take 10 (flat_map (items_in s h.window) h.options)
+abbrev pub items_of : Bool → Side → HeardSegment → List Heard
+items_of joined s h = take 10 (flat_map (items_in joined s h.window) h.options)
 
 -- ---- the mappings among them, which the end holds
 
@@ -123,7 +142,7 @@ key_held c B (WithData sender receiver len checksum) = held_if c B 0 1 len check
 key_held c _ _ = []
 
 abbrev pub held_in : Profile → Side → HeardOption → List KeptMapping
-held_in c s (Capable flag_a flag_c keys) = key_held c s keys
+held_in c s (Capable flag_a flag_c keys) = if is_joined c then [] else key_held c s keys
 held_in c s (Dss next mapping) = map_held c s mapping
 held_in c s _ = []
 
@@ -161,16 +180,21 @@ reset_for c s copy = reset_by c s copy.acknowledged (unwrap_or copy.position 0) 
 -- ---- what it makes of the end at once
 
 -- its payload is kept later, if at all
-abbrev pub hint_of : Side → HeardSegment → Hint
-hint_of s h = record { data_ack = place_in_first (items_of s h); keep = false }
+abbrev pub hint_of : List Heard → Hint
+hint_of items = record { data_ack = place_in_first items; keep = false }
 
-abbrev pub treated_of : Side → Bool → HeardSegment → Outgoing → Treated
-treated_of s opened h answer = record nothing_treated {
-  items = items_of s h;
-  opened = opened;
-  has_option = not (is_nil h.options);
-  answer = Some answer;
-}
+-- a DSS with a Data ACK, whatever that names
+abbrev pub has_data_ack : HeardOption → Bool
+has_data_ack (Dss (Some next) mapping) = true
+has_data_ack _ = false
+
+-- so many octets of data are acknowledged for the first time; what opens an end acknowledges its SYN alone
+abbrev pub octets_acked : Arrival → ℕ
+octets_acked (Took (New octets) new fin) = octets
+octets_acked _ = 0
+
+abbrev pub is_plain_ack : Arrival → HeardSegment → Bool
+is_plain_ack arrival h = nat_lt 0 (octets_acked arrival) && not (list_any has_data_ack h.options)
 
 abbrev pub owing_if : Bool → EndState → EndState
 owing_if owing tcp = if owing then after_owing false tcp else tcp
@@ -198,35 +222,123 @@ with_held told h meaning e = record e {
   receiving = record e.receiving { mappings = after_hold told e.receiving.mappings };
 }
 
--- the subflow takes it, and the rest is still to be treated
-abbrev pub after_copy : Outgoing → Side → ℕ → HeardSegment → Meaning → PathEnd → PathEnd
-after_copy answer s now h meaning e = record e {
-  tcp = owing_if (owes_by meaning (items_of s h)) (after_arrival meaning (hint_of s h) now (copy_of h) e.tcp);
-  treated = treated_of s (opens_by meaning e.tcp.state) h answer;
+-- what is still to be treated of a copy that says these things
+abbrev pub treated_of : List Heard → Meaning → HeardSegment → Outgoing → EndState → Treated
+treated_of items meaning h answer s = record nothing_treated {
+  items = items;
+  opened = opens_by meaning s.state;
+  has_option = not (is_nil h.options);
+  answer = Some answer;
+  window = h.window;
+  plain_ack = is_plain_ack (arrival_of meaning (hint_of items) (copy_of h) s) h;
 }
 
-abbrev pub after_meaning : Profile → Side → ℕ → HeardSegment → Meaning → PathEnd → PathEnd
-after_meaning c s now h meaning e = after_copy (reset_for c s (copy_of h)) s now h meaning (with_held (held_of c s h) h meaning e)
+-- the subflow takes it, and the rest is still to be treated
+abbrev pub after_copy : List Heard → Outgoing → ℕ → HeardSegment → Meaning → PathEnd → PathEnd
+after_copy items answer now h meaning e = record e {
+  tcp = owing_if (owes_by meaning items) (after_arrival meaning (hint_of items) now (copy_of h) e.tcp);
+  treated = treated_of items meaning h answer e.tcp;
+}
 
--- a segment that says these mappings, and is answered so at a dead end, whatever it means
-abbrev pub segment_heard : List KeptMapping → Outgoing → Side → ℕ → HeardSegment → PathEnd → PathEnd
-segment_heard told answer s now h e =
-    let meaning = meaning_of (copy_of h) e.tcp in after_copy answer s now h meaning (with_held told h meaning e)
+-- ---- at an end of a path that joins
+
+-- B's end passes a copy over in silence until the third MP_JOIN comes, unless it is a reset
+abbrev pub is_passed_over : Bool → List Heard → PathEnd → Bool
+is_passed_over rst items e = is_half_open e.tcp.state && (not rst && is_none (third_in items))
+
+-- the third MP_JOIN isn't A's
+abbrev pub is_forged : List Heard → PathEnd → Bool
+is_forged items e = is_half_open e.tcp.state && not (is_third_right items e.modes)
+
+abbrev pub unless_passed_over : Bool → List Heard → Meaning → PathEnd → Judged
+unless_passed_over rst items meaning e = if is_passed_over rst items e then judged.As means.Ignored else judged.As meaning
+
+-- A SYN has to ask to join, its answer needs B's HMAC, and the third segment A's. The SYN may be repeated.
+abbrev pub join_judged : Bool → List Heard → Meaning → PathEnd → Judged
+join_judged rst items means.Opens e = if is_some (join_asked items) then judged.Asks else judged.Lacks
+join_judged rst items (means.Accepts acknowledged) e =
+    if is_some (join_answer items e.modes) then judged.As (means.Accepts acknowledged) else judged.Forged
+join_judged rst items means.RepeatedSyn e = judged.As means.RepeatedSyn
+join_judged rst items (means.Taken position acknowledged) e =
+    if is_passed_over rst items e then judged.As means.Ignored
+    else (if is_forged items e then judged.Forged else judged.As (means.Taken position acknowledged))
+join_judged rst items meaning e = unless_passed_over rst items meaning e
+
+-- what a copy is to an end by what it means to the subflow
+abbrev pub judged_of : Bool → Bool → List Heard → Meaning → PathEnd → Judged
+judged_of joined rst items meaning e = if joined then join_judged rst items meaning e else judged.As meaning
+
+-- the subflow takes nothing of a copy that waits for the control book or is refused
+abbrev pub taken_as : Judged → Meaning
+taken_as (judged.As meaning) = meaning
+taken_as judged.Asks = means.Ignored
+taken_as judged.Lacks = means.Ignored
+taken_as judged.Forged = means.Ignored
+
+abbrev pub is_ignored : Meaning → Bool
+is_ignored means.Ignored = true
+is_ignored _ = false
+
+-- the subflow takes a copy as what it means, or not at all
+abbrev pub IsTakenAs : Meaning → Copy → EndState → Type 0
+IsTakenAs meaning c s = (meaning ≡ means.Ignored) ⊎ (meaning ≡ meaning_of c s)
+
+-- A has B's nonce and flag now, and owes the third MP_JOIN
+abbrev pub with_answer : Option JoinAnswer → Modes → Modes
+with_answer None m = m
+with_answer (Some answer) m = record m { peer_nonce = answer.nonce; backup_heard = answer.backup; owes_third = true }
+
+abbrev pub answered_in : Meaning → List Heard → Modes → Modes
+answered_in (means.Accepts acknowledged) items m = with_answer (join_answer items m) m
+answered_in _ items m = m
+
+-- B may send a DSS once A's third segment came
+abbrev pub cleared_in : Meaning → EndPhase → Modes → Modes
+cleared_in (means.Taken position acknowledged) state m = record m { clear = m.clear || is_half_open state }
+cleared_in _ state m = m
+
+abbrev pub after_join : Bool → List Heard → Meaning → PathEnd → PathEnd
+after_join joined items meaning e =
+    record e { modes = (if joined then cleared_in meaning e.tcp.state (answered_in meaning items e.modes) else e.modes) }
+
+-- ---- all
+
+-- a segment that says these mappings, and is answered so at a dead end
+abbrev pub copy_judged : Bool → List KeptMapping → Outgoing → Side → ℕ → HeardSegment → Meaning → PathEnd → PathEnd
+copy_judged joined told answer s now h meaning e =
+    let items = items_of joined s h in
+    after_copy items answer now h meaning (after_join joined items meaning (with_held told h meaning e))
+
+abbrev pub judged_in : Bool → Side → HeardSegment → PathEnd → Judged
+judged_in joined s h e = judged_of joined h.rst (items_of joined s h) (meaning_of (copy_of h) e.tcp) e
+
+abbrev pub after_judged : Profile → Side → ℕ → HeardSegment → Judged → PathEnd → PathEnd
+after_judged c s now h verdict e =
+    copy_judged (is_joined c) (held_of c s h) (reset_for c s (copy_of h)) s now h (taken_as verdict) e
+
+abbrev pub segment_heard : Bool → List KeptMapping → Outgoing → Side → ℕ → HeardSegment → PathEnd → PathEnd
+segment_heard joined told answer s now h e = copy_judged joined told answer s now h (taken_as (judged_in joined s h e)) e
 
 -- and what is to be done then
-abbrev pub template_by : Side → ℕ → Meaning → List Duty
-template_by s count means.Ignored = emission s
-template_by s count means.Unwanted = answers_dead s
-template_by s count means.Opens = syn_came s
-template_by s count (means.Accepts acknowledged) = syn_ack_came s
-template_by s count means.RepeatedSyn = syn_again s
-template_by s count means.Outside = answers s
-template_by s count means.Kills = leaves s
-template_by s count means.Challenged = answers s
-template_by s count means.Unacknowledging = emission s
-template_by s count means.Ahead = answers s
-template_by s count (means.Taken position acknowledged) = copy_came s count
+abbrev pub template_by : Bool → Side → ℕ → Meaning → List Duty
+template_by joined s count means.Ignored = emission s
+template_by joined s count means.Unwanted = answers_dead s
+template_by joined s count means.Opens = syn_came s
+template_by joined s count (means.Accepts acknowledged) = if joined then join_answered s else syn_ack_came s
+template_by joined s count means.RepeatedSyn = syn_again s
+template_by joined s count means.Outside = answers s
+template_by joined s count means.Kills = leaves s
+template_by joined s count means.Challenged = answers s
+template_by joined s count means.Unacknowledging = emission s
+template_by joined s count means.Ahead = answers s
+template_by joined s count (means.Taken position acknowledged) = copy_came s count
+
+abbrev pub template_judged : Bool → Side → ℕ → Judged → List Duty
+template_judged joined s count (judged.As meaning) = template_by joined s count meaning
+template_judged joined s count judged.Asks = join_came s
+template_judged joined s count judged.Lacks = refuses s
+template_judged joined s count judged.Forged = resets s 1
 
 -- by how many things it says
-abbrev pub template_of : Side → List Heard → Meaning → List Duty
-template_of s items meaning = template_by s (length items) meaning
+abbrev pub template_of : Bool → Side → List Heard → Judged → List Duty
+template_of joined s items verdict = template_judged joined s (length items) verdict

@@ -71,7 +71,7 @@ is_fin_due e = may_finish e.tcp.state && closing.may_finish e.sending.close
 
 -- ---- the timer
 
--- what the timer runs for beside the records: a byte or a DATA_FIN that isn't acknowledged, or a window that is shut
+-- what the timer runs for beside the records and a join: a byte or a DATA_FIN that isn't acknowledged, or a window that is shut
 abbrev pub is_waiting : Sending → Bool
 is_waiting v = owes_end v || (not (is_nil v.granted) || v.shut)
 

@@ -11,26 +11,28 @@ use Rattle.actor_desk.specs.declared.ask.Reply.{Reply}
 use Rattle.path_agenda.specs.declared.duty.Duty.{Duty}
 use Rattle.path_agenda.specs.declared.duty.Duty.TheVariants as duties
 use Rattle.path_agenda.specs.Agenda.{leaves}
-use Rattle.path_core.specs.Breaking.{reset_of, reset_on, return_ask, dead_ask}
+use Rattle.path_core.specs.Breaking.{reset_of, reset_on, break_ask, answered_break, return_ask, dead_ask}
 use Rattle.path_agenda.specs.Agenda.{resets}
 use Rattle.path_core.specs.Closing.{is_end_due, is_fin_due}
 use Rattle.path_core.specs.Codec.{Codec}
 use Rattle.path_core.specs.Emission.{is_syn_due, data_stands, first_unsent, unsent_segment, data_ask, answered_syn, answered_data, end_segment, answered_end, fin_segment_of, answered_fin, after_timer}
-use Rattle.path_core.specs.Events.{next_event, step_for, happens_if}
+use Rattle.path_core.specs.Events.{next_event, step_for, happens_if, answered_join_again}
+use Rattle.path_core.specs.Joining.{is_join_pending, join_begin_ask, asked_at, join_heard_ask, answered_join_heard, refusal_of, answered_refusal}
 use Rattle.path_agenda.specs.Items.{key_heard, keys_heard}
 use Rattle.path_core.specs.Opening.{syn_window_ask, syn_ack_of, answered_syn_ack, peer_key_ask, with_peer_key, keys_ask, after_keys, is_opened_by_keys, live_ask}
 use Rattle.path_core.specs.Passing.{piece_of, piece_ask, is_placed, answered_piece, is_fin_set, fin_of, fin_ask, answered_fin_heard, after_pass_fin, rate_ask, answered_rate, first_segment, answered_again, answer_of, answered_answer, dead_answer, answered_dead, resend_of, answered_resend}
 use Rattle.path_core.specs.Placing.{after_check}
 use Rattle.path_core.specs.Sends.{sends}
 use Rattle.path_core.specs.Standing.{look_ask, answered_look, ack_out_ask, answered_ack_out, is_update_due, ack_segment, acknowledges}
-use Rattle.path_core.specs.State.{PathState, end_at, with_end, goes_on, left, with_agenda}
-use Rattle.path_core.specs.Treating.{item_of, item_stands, item_ask, answered_item, item_passed, fell_ask, after_verdict, after_keep}
+use Rattle.path_core.specs.State.{PathState, end_at, with_end, goes_on, left, path_of, with_agenda}
+use Rattle.path_core.specs.Treating.{item_of, item_stands, item_ask, answered_item, item_passed, fell_ask, after_verdict, breaks_by_ack, after_keep}
 use Rattle.actor_desk.specs.Words.{is_nil}
 use Rattle.path_agenda.specs.Words.{replaced}
 
 -- ---- whether it comes to something
 
 abbrev pub stands : {C : Type 0} → Duty → PathState C → Bool
+stands duties.JoinAgain p = is_join_pending p
 stands (duties.Look s) p = true
 stands (duties.Window s) p = true
 stands (duties.Update s) p = is_update_due p.profile (end_at s p)
@@ -44,10 +46,13 @@ stands (duties.SynHeard s) p = true
 stands (duties.SynAnswered s) p = true
 stands (duties.PeerKey s) p = is_some (key_heard (end_at s p).treated.items)
 stands (duties.SynAck s) p = true
+stands (duties.JoinHeard s) p = is_some (asked_at s p)
+stands (duties.Refuse s) p = true
 stands (duties.Opened s) p = is_opened_by_keys (end_at s p)
 stands (duties.Live s) p = (end_at s p).treated.opened
 stands (duties.Heard s index) p = item_stands (item_of index (end_at s p)) (end_at s p)
 stands (duties.AckHeard s) p = is_starting (end_at s p).modes.mode
+stands (duties.PlainAck s) p = breaks_by_ack p.profile (end_at s p)
 stands (duties.Keep s) p = false
 stands (duties.Edge s) p = is_some (piece_of s p)
 stands (duties.HeardFin s index) p = is_some (fin_of index (end_at s p))
@@ -70,6 +75,7 @@ stands duties.End p = true
 -- ---- to what
 
 abbrev pub ask_for : {C : Type 0} → Codec C → Duty → PathState C → Ask
+ask_for k duties.JoinAgain p = join_begin_ask (path_of p)
 ask_for k (duties.Look s) p = look_ask s p
 ask_for k (duties.Window s) p = ack_out_ask s
 ask_for k (duties.Update s) p = sends k s (ack_segment s p) p
@@ -78,15 +84,18 @@ ask_for k (duties.Data s) p = data_ask k s (first_unsent (end_at s p)) p
 ask_for k (duties.DataFin s) p = sends k s (end_segment s p) p
 ask_for k (duties.Fin s) p = sends k s (fin_segment_of s p) p
 ask_for k (duties.Timer s) p = asks.Local steps.End
-ask_for k duties.Events p = step_for (next_event p)
+ask_for k duties.Events p = step_for (path_of p) (next_event p)
 ask_for k (duties.SynHeard s) p = syn_window_ask s (end_at s p)
 ask_for k (duties.SynAnswered s) p = syn_window_ask s (end_at s p)
 ask_for k (duties.PeerKey s) p = peer_key_ask s (key_heard (end_at s p).treated.items)
 ask_for k (duties.SynAck s) p = sends k s (syn_ack_of s p) p
+ask_for k (duties.JoinHeard s) p = join_heard_ask s (asked_at s p) p
+ask_for k (duties.Refuse s) p = sends k s (refusal_of s p) p
 ask_for k (duties.Opened s) p = keys_ask s (keys_heard (end_at s p).treated.items)
 ask_for k (duties.Live s) p = live_ask s p
 ask_for k (duties.Heard s index) p = item_ask k s (item_of index (end_at s p)) p
 ask_for k (duties.AckHeard s) p = fell_ask s events.AckHeard p
+ask_for k (duties.PlainAck s) p = break_ask k s 6 p
 ask_for k (duties.Keep s) p = asks.Local steps.End
 ask_for k (duties.Edge s) p = piece_ask s (piece_of s p)
 ask_for k (duties.HeardFin s index) p = fin_ask s (fin_of index (end_at s p))
@@ -123,6 +132,7 @@ abbrev pub done : {C : Type 0} → PathState C → PathState C
 done p = with_agenda (left p) p
 
 abbrev pub answered : {C : Type 0} → Codec C → Duty → Reply → PathState C → PathState C
+answered k duties.JoinAgain r p = answered_join_again r p
 answered k (duties.Look s) r p = answered_look s r p
 answered k (duties.Window s) r p = answered_ack_out s r (left p) p
 answered k (duties.Update s) r p = acknowledges k s p
@@ -130,12 +140,15 @@ answered k (duties.Syn s) r p = answered_syn k s p
 answered k (duties.Data s) r p = answered_data k s (first_unsent (end_at s p)) r p
 answered k (duties.DataFin s) r p = answered_end k s p
 answered k (duties.Fin s) r p = answered_fin k s p
-answered k duties.Events r p = happens_if k (next_event p) p
+answered k duties.Events r p = happens_if k (next_event p) r p
 answered k (duties.PeerKey s) r p = goes_on s (with_peer_key (key_heard (end_at s p).treated.items) (end_at s p)) (left p) p
 answered k (duties.SynAck s) r p = answered_syn_ack k s p
+answered k (duties.JoinHeard s) r p = answered_join_heard s r p
+answered k (duties.Refuse s) r p = answered_refusal k s p
 answered k (duties.Opened s) r p = goes_on s (after_keys r (keys_heard (end_at s p).treated.items) (end_at s p)) (left p) p
 answered k (duties.Heard s index) r p = answered_item k s (item_of index (end_at s p)) r p
 answered k (duties.AckHeard s) r p = goes_on s (after_verdict r (end_at s p)) (left p) p
+answered k (duties.PlainAck s) r p = answered_break k s 6 r p
 answered k (duties.Edge s) r p = answered_piece s (piece_of s p) (is_placed r) p
 answered k (duties.HeardFin s index) r p = answered_fin_heard s (is_fin_set r) p
 answered k (duties.AckOut s) r p = answered_ack_out s r (left p) p

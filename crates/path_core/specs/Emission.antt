@@ -22,6 +22,7 @@ use Rattle.actor_desk.specs.declared.ask.Reply.TheVariants as replies
 use Rattle.path_core.specs.Closing.{after_granted, after_refusal, with_end_sent, is_waiting, without_news}
 use Rattle.path_core.specs.Codec.{Codec}
 use Rattle.path_core.specs.Ends.{PathEnd, Sending}
+use Rattle.path_core.specs.Joins.{is_joined}
 use Rattle.path_core.specs.Segments.{ack_said, fin_said, record_or_ack, mapping_of}
 use Rattle.path_core.specs.Sends.{sends, having_sent, sent_on, with_edge_told}
 use Rattle.path_core.specs.State.{PathState, Profile, end_at, goes_on, left, path_of}
@@ -53,11 +54,14 @@ fits s r = nat_le 1 s.send.una && nat_le (length r.piece) (room s)
 abbrev pub payload_size : Profile → ℕ
 payload_size c = c.mss - 28
 
--- both SYNs are acknowledged, no FIN was sent, there is room for a full segment, positions are left, and the end may send a
--- DSS or is the one that opened
+-- the end may send a DSS, or it is the one that opened the connection
+abbrev pub may_send_data : Profile → Side → PathEnd → Bool
+may_send_data c s e = e.modes.clear || (is_side_a s && not (is_joined c))
+
+-- both SYNs are acknowledged, no FIN was sent, there is room for a full segment, and positions are left
 abbrev pub may_ask : Profile → Side → PathEnd → Bool
 may_ask c s e =
-    may_finish e.tcp.state && (nat_le (payload_size c) (room e.tcp) && (not (is_at_limit e.tcp) && (e.modes.clear || is_side_a s)))
+    may_finish e.tcp.state && (nat_le (payload_size c) (room e.tcp) && (not (is_at_limit e.tcp) && may_send_data c s e))
 
 abbrev pub data_stands : Profile → Side → PathEnd → Option Record → Bool
 data_stands c s e (Some r) = not (is_closed_to_segments e.tcp.state) && fits e.tcp r
@@ -137,9 +141,9 @@ answered_fin k s p = sent_on k s (fin_segment_of s p) (having_sent_fin s p) (lef
 
 -- ---- the timer
 
--- it is settled by the reasons of the subflow and of the streams
+-- it is settled by the reasons of the subflow and of the streams, and by the third MP_JOIN
 abbrev pub after_timer : ℕ → PathEnd → PathEnd
 after_timer now e = record e {
-  tcp = after_settling (is_waiting e.sending) e.sending.news now e.tcp;
+  tcp = after_settling (is_waiting e.sending || e.modes.owes_third) e.sending.news now e.tcp;
   sending = without_news e.sending;
 }

@@ -56,8 +56,12 @@ pub record Treated : Type 0 where
   pub fins : List ℕ
   -- bytes or an end were told since the book was asked last what is to be acknowledged
   pub asked : Bool
-  -- the reset that answers it at a dead end
+  -- the reset that answers it at a dead end, and at an end that refuses it
   pub answer : Option Outgoing
+  -- the window that it told
+  pub window : ℕ
+  -- it acknowledges data for the first time, and has no Data ACK
+  pub plain_ack : Bool
 
 -- one end
 pub record PathEnd : Type 0 where
@@ -91,24 +95,31 @@ nothing_treated = record {
   fins = [];
   asked = false;
   answer = None;
+  window = 0;
+  plain_ack = false;
 }
 
-abbrev pub first_modes : ℕ → Modes
-first_modes own_key = record {
+abbrev pub first_modes : ℕ → ℕ → Modes
+first_modes own_key own_nonce = record {
   mode = Starting;
   standby = false;
   sole = false;
   clear = false;
   own_key = own_key;
   peer_key = None;
+  own_nonce = own_nonce;
+  peer_nonce = 0;
+  backup_heard = false;
+  owes_third = false;
+  covered = false;
 }
 
 -- an end of which nothing happened yet
-abbrev pub opening_end : EndState → ℕ → PathEnd
-opening_end tcp own_key = record {
+abbrev pub opening_end : EndState → ℕ → ℕ → PathEnd
+opening_end tcp own_key own_nonce = record {
   tcp = tcp;
   sending = no_sending;
   receiving = no_receiving;
-  modes = first_modes own_key;
+  modes = first_modes own_key own_nonce;
   treated = nothing_treated;
 }

@@ -1,4 +1,4 @@
--- What happens on a path by itself: lines of the script, copies that arrive, timers that run out.
+-- What happens on a path by itself: its join, lines of the script, copies that arrive, timers that run out.
 use Rattle.std.specs.Prelude.{ℕ, max, ◌<◌, ◌&&◌, IsSome, Bool, true, false, nat_lt, nat_le, if◌then◌else◌, Option, Some, None, List, [], ◌∷◌, ◌++◌}
 use Rattle.std.specs.Option.{option_and_then}
 use Rattle.outside_kit.specs.declared.side.Side.{Side}
@@ -10,9 +10,8 @@ use Rattle.link_model.specs.declared.flight.Flight.{Flight}
 use Rattle.link_model.specs.Steps.{next_due, arriving, after_delivery, after_cut, peer}
 use Rattle.subflow_tcp.specs.declared.handshake.State.{State as EndPhase}
 use Rattle.subflow_tcp.specs.declared.handshake.State.TheVariants as phase
-use Rattle.subflow_tcp.specs.States.{is_dead}
+use Rattle.subflow_tcp.specs.States.{is_dead, is_waiting}
 use Rattle.subflow_tcp.specs.Expiring.{is_sixth, after_fire}
-use Rattle.subflow_tcp.specs.Judging.{meaning_of}
 use Rattle.subflow_tcp.specs.Taking.{after_death}
 use Rattle.actor_desk.specs.declared.ask.Ask.{Ask}
 use Rattle.actor_desk.specs.declared.ask.Ask.TheVariants as asks
@@ -21,20 +20,30 @@ use Rattle.path_agenda.specs.declared.duty.Duty.{Duty}
 use Rattle.path_core.specs.declared.event.Event.{Event}
 use Rattle.path_core.specs.declared.event.Event.TheVariants as happenings
 use Rattle.path_agenda.specs.declared.duty.Duty.TheVariants as duties
-use Rattle.path_agenda.specs.Agenda.{rest_of_turn, emission, expired, expired_for_ever}
-use Rattle.path_core.specs.Arriving.{expected_by, copy_of, items_of, after_meaning, template_of}
+use Rattle.actor_desk.specs.declared.ask.Reply.{Reply}
+use Rattle.path_agenda.specs.Agenda.{rest_of_turn, emission, expired, expired_for_ever, leaves}
+use Rattle.path_agenda.specs.Words.{replaced}
+use Rattle.path_core.specs.Arriving.{expected_by, items_of, judged_in, after_judged, template_of}
 use Rattle.path_core.specs.Codec.{Codec, HeardSegment}
 use Rattle.path_core.specs.Ends.{PathEnd, nothing_treated}
-use Rattle.path_core.specs.State.{PathState, end_at, with_agenda, goes_on}
+use Rattle.path_core.specs.Joining.{join_begin_ask, keys_begun, is_never, opened_by}
+use Rattle.path_core.specs.Joins.{is_joined}
+use Rattle.path_core.specs.State.{PathState, end_at, with_agenda, goes_on, left}
 use Rattle.path_core.specs.declared.lines.LineLeft.{LineLeft}
 use Rattle.actor_desk.specs.Words.{tail_of}
 
 abbrev pub tick_of : Event → ℕ
+tick_of (happenings.Joins tick) = tick
 tick_of (happenings.Takes line) = line.tick
 tick_of (happenings.Arrives due) = due.tick
 tick_of (happenings.Fires s tick) = tick
 
 -- ---- which is next
+
+-- A joins the path, as long as its end waits for that
+abbrev pub next_join : EndPhase → Option ℕ → Option Event
+next_join state None = None
+next_join state (Some tick) = if is_waiting state then Some (happenings.Joins tick) else None
 
 abbrev pub next_line : List LineLeft → Option Event
 next_line [] = None
@@ -54,11 +63,11 @@ earlier None other = other
 earlier (Some x) None = Some x
 earlier (Some x) (Some y) = if nat_le (tick_of x) (tick_of y) then Some x else Some y
 
--- at one tick lines come before copies, and copies before timers, that of A first
+-- at one tick the join comes before lines, lines before copies, and copies before timers, that of A first
 abbrev pub earliest : {C : Type 0} → PathState C → Option Event
 earliest p =
-    earlier (next_line p.lines) (earlier (next_copy (next_due p.link.under_way))
-    (earlier (next_fire A p.a.tcp.timing.timer) (next_fire B p.b.tcp.timing.timer)))
+    earlier (next_join p.a.tcp.state p.joined_at) (earlier (next_line p.lines) (earlier (next_copy (next_due p.link.under_way))
+    (earlier (next_fire A p.a.tcp.timing.timer) (next_fire B p.b.tcp.timing.timer))))
 
 -- an event that comes before this tick
 abbrev pub before : ℕ → Event → Option Event
@@ -68,18 +77,21 @@ before until event = if nat_lt (tick_of event) until then Some event else None
 abbrev pub next_event : {C : Type 0} → PathState C → Option Event
 next_event p = option_and_then (before p.until) (earliest p)
 
-abbrev pub step_of : Event → Ask
-step_of (happenings.Takes line) = asks.Local (steps.Line line.number)
-step_of (happenings.Arrives due) = asks.Local (steps.Arrive due.to due.copy)
-step_of (happenings.Fires s tick) = asks.Local (steps.Fire s)
+-- the step of an event on the path of this number
+abbrev pub step_of : ℕ → Event → Ask
+step_of path (happenings.Joins tick) = join_begin_ask path
+step_of path (happenings.Takes line) = asks.Local (steps.Line line.number)
+step_of path (happenings.Arrives due) = asks.Local (steps.Arrive due.to due.copy)
+step_of path (happenings.Fires s tick) = asks.Local (steps.Fire s)
 
 -- the step of an event that may be there
-abbrev pub step_for : Option Event → Ask
-step_for None = asks.Local steps.End
-step_for (Some event) = step_of event
+abbrev pub step_for : ℕ → Option Event → Ask
+step_for path None = asks.Local steps.End
+step_for path (Some event) = step_of path event
 
 -- it comes before the round's end, and is there: a copy is under way, and a timer runs
 abbrev pub CanHappen : {C : Type 0} → Event → PathState C → Type 0
+CanHappen (happenings.Joins tick) p = tick < p.until
 CanHappen (happenings.Takes line) p = line.tick < p.until
 CanHappen (happenings.Arrives due) p = (due.tick < p.until) × IsSome (arriving due p.link)
 CanHappen (happenings.Fires s tick) p = (tick < p.until) × IsSome (end_at s p).tcp.timing.timer
@@ -96,6 +108,18 @@ died e = record e { tcp = after_death false e.tcp; treated = nothing_treated }
 
 abbrev pub died_unless_dead : PathEnd → PathEnd
 died_unless_dead e = if is_dead e.tcp.state then e else died e
+
+-- A's end opens, or waits on, or it is dead where the path won't be joined
+abbrev pub join_begun : {C : Type 0} → Reply → List Duty → List Duty → PathState C → PathState C
+join_begun r dead living p =
+    if is_never r then goes_on A (died (end_at A p)) dead p else goes_on A (opened_by (keys_begun r) (end_at A p)) living p
+
+abbrev pub answered_join_again : {C : Type 0} → Reply → PathState C → PathState C
+answered_join_again r p = join_begun r (replaced (duties.Leave A) p.agenda) (left p) p
+
+-- at the path's tick
+abbrev pub joins_at_tick : {C : Type 0} → Reply → PathState C → PathState C
+joins_at_tick r p = join_begun r (leaves A) (emission A) (record p { joined_at = None })
 
 -- an end that dies gives back its bytes and tells it
 abbrev pub leaves_unless_dead : Side → PathEnd → List Duty
@@ -135,8 +159,8 @@ line_taken line p = after_line (is_death line.line) (record (at_tick line.tick p
 abbrev pub heard_at : {C : Type 0} → ℕ → Side → Option HeardSegment → PathState C → PathState C
 heard_at now s None p = with_agenda (emission s) p
 heard_at now s (Some h) p =
-    let e = end_at s p in let meaning = meaning_of (copy_of h) e.tcp in
-    goes_on s (after_meaning p.profile s now h meaning e) (template_of s (items_of s h) meaning) p
+    let e = end_at s p in let joined = is_joined p.profile in let verdict = judged_in joined s h e in
+    goes_on s (after_judged p.profile s now h verdict e) (template_of joined s (items_of joined s h) verdict) p
 
 abbrev pub copy_heard : {C : Type 0} → Side → Option HeardSegment → PathState C → PathState C
 copy_heard s heard p = heard_at p.clock s heard p
@@ -159,11 +183,12 @@ after_firing now e = record e { tcp = after_fire now e.tcp }
 abbrev pub timer_fired : {C : Type 0} → Side → PathState C → PathState C
 timer_fired s p = goes_on s (after_firing p.clock (end_at s p)) (template_fired (is_sixth (end_at s p).tcp) s) p
 
-abbrev pub happens : {C : Type 0} → Codec C → Event → PathState C → PathState C
-happens k (happenings.Takes line) p = line_taken line p
-happens k (happenings.Arrives due) p = copy_taken k due p
-happens k (happenings.Fires s tick) p = timer_fired s (at_tick tick p)
+abbrev pub happens : {C : Type 0} → Codec C → Event → Reply → PathState C → PathState C
+happens k (happenings.Joins tick) r p = joins_at_tick r (at_tick tick p)
+happens k (happenings.Takes line) r p = line_taken line p
+happens k (happenings.Arrives due) r p = copy_taken k due p
+happens k (happenings.Fires s tick) r p = timer_fired s (at_tick tick p)
 
-abbrev pub happens_if : {C : Type 0} → Codec C → Option Event → PathState C → PathState C
-happens_if k None p = with_agenda rest_of_turn p
-happens_if k (Some event) p = happens k event p
+abbrev pub happens_if : {C : Type 0} → Codec C → Option Event → Reply → PathState C → PathState C
+happens_if k None r p = with_agenda rest_of_turn p
+happens_if k (Some event) r p = happens k event r p

@@ -8,7 +8,8 @@ use Rattle.actor_desk.specs.declared.ask.Ask.{Ask}
 use Rattle.actor_desk.specs.declared.ask.Ask.TheVariants as asks
 use Rattle.path_core.specs.Codec.{Codec}
 use Rattle.actor_desk.specs.Desk.{SixBooks, Step, step_told, reply_of, after_ask, opened_books}
-use Rattle.path_core.specs.Starts.{Drawn, first_turn}
+use Rattle.path_core.specs.declared.drawn.Drawn.{Drawn}
+use Rattle.path_core.specs.Starts.{PathStart, first_turn}
 use Rattle.path_core.specs.State.{PathState, Profile}
 use Rattle.path_core.specs.Steps.{asks_of, takes}
 
@@ -22,6 +23,8 @@ abbrev pub drawn : Drawn
 drawn = record {
   initial_a = 34611174;
   initial_b = 1782856242;
+  nonce_a = 849373392;
+  nonce_b = 3620216889;
   key_a = 8938189255999614177;
   key_b = 5210603713849882493;
 }
@@ -31,6 +34,7 @@ abbrev pub profile : Profile
 profile = record {
   mss = 1400;
   buffer = 65536;
+  backup = false;
   spelling = record {
     path = 0;
     a = record { initial = record { 0 = 34611174 }; idsn = record { 0 = 5765362236527719691 } };
@@ -39,6 +43,10 @@ profile = record {
     short = false;
   };
 }
+
+-- path 0 opens the connection
+abbrev pub start : PathStart
+start = record { profile = profile; drawn = drawn; delay = 10; joined_at = None }
 
 -- ---- steps at the books
 
@@ -70,4 +78,4 @@ books_at_first =
     (after_ask (asks.Send side.A (send_calls.Write hello)) (opened_books 65536 drawn.key_a drawn.key_b)))))
 
 abbrev pub path_at_first : {C : Type 0} → PathRun C
-path_at_first = record { path = first_turn profile drawn 10 []; books = books_at_first }
+path_at_first = record { path = first_turn start []; books = books_at_first }

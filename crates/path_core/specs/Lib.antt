@@ -2,6 +2,7 @@ pub mod Words
 pub mod Codec
 pub mod Ends
 pub mod State
+pub mod Joins
 pub mod Segments
 pub mod Sends
 pub mod Closing
@@ -11,6 +12,7 @@ pub mod Events
 pub mod Standing
 pub mod Emission
 pub mod Opening
+pub mod Joining
 pub mod Breaking
 pub mod Treating
 pub mod Passing

@@ -61,7 +61,7 @@ after_keys r keys e = record e { modes = keys_in r keys e.modes; treated = recor
 abbrev pub is_opened_by_keys : PathEnd → Bool
 is_opened_by_keys e = e.treated.opened && is_some (keys_heard e.treated.items)
 
--- ---- the path lives
+-- ---- the path lives, as a backup where the peer's SYN said so
 
 abbrev pub live_ask : {C : Type 0} → Side → PathState C → Ask
-live_ask s p = asks.Control s (control_calls.Live (path_of p) false)
+live_ask s p = asks.Control s (control_calls.Live (path_of p) (end_at s p).modes.backup_heard)

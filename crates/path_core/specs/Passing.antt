@@ -1,6 +1,6 @@
 -- What the payload of a copy makes of an end: bytes and ends that are told, the window's growth, answers, and what an expiry
 -- sends again.
-use Rattle.std.specs.Prelude.{ℕ, ◌-◌, min, max, Bool, true, false, ◌==◌, if◌then◌else◌, Option, Some, None, List, [], find, slice_get}
+use Rattle.std.specs.Prelude.{ℕ, ◌-◌, min, max, Bool, true, false, ◌||◌, ◌==◌, if◌then◌else◌, Option, Some, None, List, [], find, slice_get}
 use Rattle.outside_kit.specs.declared.side.Side.{Side}
 use Rattle.path_segments.specs.Spelled.{PlainSegment}
 use Rattle.reassembly_book.specs.declared.call.ReassemblyCall.TheVariants as reassembly_calls
@@ -155,15 +155,21 @@ answered_dead k s p = sent_on k s (dead_answer s p) (end_at s p) (left p) p
 
 -- ---- what an expiry sends again
 
--- the first record; without one the DATA_FIN, where it isn't acknowledged; else what a peer that is there answers
+-- the first record; without one the third MP_JOIN or the DATA_FIN, where that isn't answered; else what a peer that is there
+-- answers
 abbrev pub resend_occasion : PathEnd → Occasion
-resend_occasion e = if has_records e.tcp then to_send.First else (if owes_end e.sending then to_send.Ack else to_send.Probe)
+resend_occasion e =
+    if has_records e.tcp then to_send.First
+    else (if e.modes.owes_third || owes_end e.sending then to_send.Ack else to_send.Probe)
 
-abbrev pub resend_said : Profile → Side → PathEnd → PlainSegment
-resend_said c s e =
-    if has_records e.tcp then record_or_ack c s (first_record e) e
+abbrev pub ack_resent : Profile → Side → PathEnd → PlainSegment
+ack_resent c s e =
+    if e.modes.owes_third then ack_said c s e.tcp.send.nxt None e
     else (if owes_end e.sending then ack_said c s e.tcp.send.nxt e.sending.known_end e
     else ack_said c s (e.tcp.send.una - 1) None e)
+
+abbrev pub resend_said : Profile → Side → PathEnd → PlainSegment
+resend_said c s e = if has_records e.tcp then record_or_ack c s (first_record e) e else ack_resent c s e
 
 abbrev pub resend_of : {C : Type 0} → Side → PathState C → PlainSegment
 resend_of s p = resend_said p.profile s (end_at s p)

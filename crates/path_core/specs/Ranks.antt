@@ -31,8 +31,8 @@ due_timer clock (Some tick) = one_if_due clock tick
 
 abbrev pub due_by_now : {C : Type 0} → PathState C → ℕ
 due_by_now p =
-    due_copies p.clock p.link.under_way + (due_lines p.clock p.lines
-    + (due_timer p.clock p.a.tcp.timing.timer + due_timer p.clock p.b.tcp.timing.timer))
+    due_copies p.clock p.link.under_way + (due_lines p.clock p.lines + (due_timer p.clock p.joined_at
+    + (due_timer p.clock p.a.tcp.timing.timer + due_timer p.clock p.b.tcp.timing.timer)))
 
 -- ---- octets
 

@@ -42,6 +42,7 @@ AreRowsInRange _ = Unit {0}
 
 -- duties that send a segment, and those that come to nothing
 abbrev pub asks_segment : Duty → Bool
+asks_segment duties.JoinAgain = false
 asks_segment (duties.Look s) = false
 asks_segment (duties.Window s) = false
 asks_segment (duties.AckOut s) = false
@@ -55,6 +56,8 @@ asks_segment (duties.Opened s) = false
 asks_segment (duties.Live s) = false
 asks_segment (duties.Heard s index) = false
 asks_segment (duties.AckHeard s) = false
+asks_segment (duties.JoinHeard s) = false
+asks_segment (duties.PlainAck s) = false
 asks_segment (duties.Edge s) = false
 asks_segment (duties.HeardFin s index) = false
 asks_segment (duties.Rate s) = false
@@ -74,6 +77,8 @@ takes_memory (duties.Syn s) = true
 takes_memory (duties.DataFin s) = true
 takes_memory (duties.Fin s) = true
 takes_memory (duties.SynAck s) = true
+takes_memory (duties.Refuse s) = true
+takes_memory (duties.PlainAck s) = true
 takes_memory (duties.Again s) = true
 takes_memory (duties.Answer s) = true
 takes_memory (duties.ResetAnswer s) = true

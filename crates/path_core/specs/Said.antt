@@ -14,7 +14,7 @@ use Rattle.path_core.specs.declared.segment_kind.SegmentKind.TheVariants as to_s
 use Rattle.path_core.specs.Emission.{first_unsent}
 use Rattle.path_core.specs.Ends.{PathEnd}
 use Rattle.path_core.specs.Passing.{outgoing_or, first_record, answer_said, resend_said}
-use Rattle.path_core.specs.Segments.{spelled_by, segment_of, ack_said, fin_said, syn_ack_said, reset_said, record_or_ack}
+use Rattle.path_core.specs.Segments.{spelled_by, reset_options, segment_of, ack_said, fin_said, syn_ack_said, reset_said, record_or_ack}
 use Rattle.path_core.specs.Octets.{octets}
 use Rattle.path_core.specs.Sends.{having_sent, sent_on}
 use Rattle.path_core.specs.State.{PathState, Profile, end_at}
@@ -53,6 +53,7 @@ said_by to_say.SynAck c s e = syn_ack_said c s e
 said_by to_say.Answer c s e = answer_said c s e
 said_by to_say.DeadAnswer c s e = segment_of c (outgoing_or e.treated.answer (reset_segment e.tcp)) [] [] e
 said_by to_say.Resend c s e = resend_said c s e
+said_by to_say.Refusal c s e = segment_of c (outgoing_or e.treated.answer (reset_segment e.tcp)) (reset_options (Some 1)) [] e
 said_by (to_say.Reset reason) c s e = reset_said c reason e
 
 -- the segment of a kind is sent on an occasion

@@ -19,6 +19,7 @@ use Rattle.subflow_send.specs.Records.{Record}
 use Rattle.subflow_tcp.specs.declared.segments.Outgoing.{Outgoing}
 use Rattle.subflow_tcp.specs.Emitting.{ack_at, syn_ack_segment, reset_segment, fin_segment, record_segment}
 use Rattle.path_core.specs.Ends.{PathEnd}
+use Rattle.path_core.specs.Joins.{is_joined, join_options, third_options}
 use Rattle.path_core.specs.State.{Profile}
 use Rattle.path_core.specs.Words.{is_side_a}
 
@@ -59,10 +60,13 @@ checksum_told c checksum = if c.spelling.checksums then Some checksum else None
 
 -- ---- options
 
--- on a SYN: A asks for Multipath TCP, and B answers with its key (RFC 8684, section 3.1)
+-- on a SYN that opens the connection: A asks for Multipath TCP, and B answers with its key (RFC 8684, section 3.1)
+abbrev pub capable_options : Profile → Side → PathEnd → List PlainOption
+capable_options c A e = Capable c.spelling.checksums false NoKey ∷ []
+capable_options c B e = Capable c.spelling.checksums false (Sender e.modes.own_key) ∷ []
+
 abbrev pub syn_options : Profile → Side → PathEnd → List PlainOption
-syn_options c A e = Capable c.spelling.checksums false NoKey ∷ []
-syn_options c B e = Capable c.spelling.checksums false (Sender e.modes.own_key) ∷ []
+syn_options c s e = if is_joined c then join_options c s e.modes else capable_options c s e
 
 -- before A may send a DSS it shows both keys; B says nothing before it has them
 abbrev pub key_options : Profile → Side → Option ℕ → PathEnd → List PlainOption
@@ -75,10 +79,14 @@ abbrev pub end_mapping : Profile → Side → Option ℕ → Option (PathMapping
 end_mapping c s None = None
 end_mapping c s (Some place) = Some (End place (checksum_told c (checksum_in c (bare_mapping c s place 0 1) [])))
 
+-- before an end may send a DSS: the third MP_JOIN, as long as it is owed, or the keys
+abbrev pub opening_options : Profile → Side → PathEnd → List PlainOption
+opening_options c s e = if e.modes.owes_third then third_options e.modes else key_options c s e.modes.peer_key e
+
 -- on an acknowledgement, perhaps with the DATA_FIN
 abbrev pub ack_options : Profile → Side → Option ℕ → PathEnd → List PlainOption
 ack_options c s fin e =
-    if e.modes.clear then Dss (Some e.receiving.next) (end_mapping c s fin) ∷ [] else key_options c s e.modes.peer_key e
+    if e.modes.clear then Dss (Some e.receiving.next) (end_mapping c s fin) ∷ [] else opening_options c s e
 
 -- on data: the mapping that the piece was granted with
 abbrev pub piece_mapping : Profile → Side → Record → PathMapping ℕ

@@ -14,6 +14,8 @@ pub record Profile : Type 0 where
   pub mss : ℕ
   -- octets that each side buffers
   pub buffer : ℕ
+  -- the script's word: the path is a backup
+  pub backup : Bool
   -- how its segments are said
   pub spelling : Spelling
 
@@ -25,7 +27,7 @@ pub record PathState (C : Type 0) : Type 0 where
   pub until : ℕ
   -- the lines that aren't taken yet, in the order of their ticks
   pub lines : List LineLeft
-  -- the tick at which the path joins, where it joins
+  -- the tick at which A joins the path to the connection, as long as that is to come
   pub joined_at : Option ℕ
   pub a : PathEnd
   pub b : PathEnd

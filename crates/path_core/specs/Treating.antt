@@ -27,7 +27,8 @@ use Rattle.path_core.specs.declared.modes.Modes.{Modes}
 use Rattle.path_core.specs.Ends.{PathEnd, Sending}
 use Rattle.path_core.specs.Opening.{keys_ask, after_keys}
 use Rattle.path_core.specs.Placing.{with_learned, with_skipped}
-use Rattle.path_core.specs.State.{PathState, end_at, goes_on, left, path_of, with_agenda}
+use Rattle.path_core.specs.Joins.{is_joined}
+use Rattle.path_core.specs.State.{PathState, Profile, end_at, goes_on, left, path_of, with_agenda}
 use Rattle.path_agenda.specs.Words.{replaced}
 use Rattle.path_core.specs.Words.{is_side_a, item_at}
 
@@ -65,6 +66,7 @@ heard_stands says.Mapping e = mapping_stands e
 heard_stands (says.DataFin place) e = counts e && is_starting e.modes.mode
 heard_stands (says.PeerKey key) e = false
 heard_stands (says.Keys own peer) e = not e.treated.keys_told
+heard_stands (says.Join form) e = false
 
 abbrev pub mapping_ask : {C : Type 0} → Codec C → Side → PathState C → Ask
 mapping_ask k s p = if is_clash (end_at s p) then break_ask k s 1 p else fell_ask s events.MappingHeard p
@@ -88,8 +90,12 @@ abbrev pub acked_in : ℕ → Reply → Sending → Sending
 acked_in next (replies.Send (send_replies.Acked bytes fin)) v = after_acked next fin v
 acked_in next _ v = v
 
+-- a Data ACK that covers something was heard, whatever the book answers
+abbrev pub covered_by : ℕ → Modes → Modes
+covered_by next m = record m { covered = m.covered || nat_lt 0 next }
+
 abbrev pub with_acked : ℕ → Reply → PathEnd → PathEnd
-with_acked next r e = record e { sending = acked_in next r e.sending }
+with_acked next r e = record e { sending = acked_in next r e.sending; modes = covered_by next e.modes }
 
 abbrev pub answered_ack : {C : Type 0} → Side → ℕ → Reply → PathState C → PathState C
 answered_ack s next r p = goes_on s (with_acked next r (end_at s p)) (told_next s (is_acked r && nat_lt 0 next) p) p
@@ -112,9 +118,12 @@ answered_heard k s (says.Keys own peer) r p =
     goes_on s (after_keys r (Some (record { own = own; peer = peer })) (end_at s p)) (left p) p
 answered_heard k s _ r p = with_agenda (left p) p
 
--- at A the first DSS clears the end
+-- at A the first DSS clears the end, and answers the third MP_JOIN: that is news for the timer
 abbrev pub after_dss : Side → PathEnd → PathEnd
-after_dss s e = record e { modes = record e.modes { clear = e.modes.clear || is_side_a s } }
+after_dss s e = record e {
+  modes = record e.modes { clear = e.modes.clear || is_side_a s; owes_third = false };
+  sending = record e.sending { news = e.sending.news || e.modes.owes_third };
+}
 
 -- what is passed in silence
 abbrev pub heard_passed : Side → Heard → PathEnd → PathEnd
@@ -143,6 +152,12 @@ item_passed s (Some item) e = heard_passed s item e
 
 abbrev pub item_of : ℕ → PathEnd → Option Heard
 item_of index e = item_at index e.treated.items
+
+-- ---- an acknowledgement without a Data ACK
+
+-- it breaks a path that joined, as long as no Data ACK covered something on it
+abbrev pub breaks_by_ack : Profile → PathEnd → Bool
+breaks_by_ack c e = is_joined c && (e.treated.plain_ack && not e.modes.covered)
 
 -- ---- the payload
 

@@ -1,31 +1,37 @@
 //! A copy that arrives, and what it makes of the end at once. The rest is treated duty by duty.
 
-ghost use Rattle.std.specs.Prelude.{◌≡◌, ◌≤◌, length, All, Some, IfOk, IsTrue, OnOk, OnErr};
+ghost use Rattle.std.specs.Prelude.{◌≡◌, ◌≤◌, false, length, All, Some, IfOk, IsTrue, OnOk, OnErr};
 ghost use Rattle.dss_mapping.specs.Learning.{IsWithin};
 ghost use Rattle.link_model.specs.Steps.{peer};
 ghost use Rattle.path_segments.specs.HeardLent.{IsExpected};
 ghost use Rattle.path_segments.specs.HeardSegments.{heard_value};
-ghost use Rattle.subflow_tcp.specs.Judging.{meaning_of, IsBelow};
+ghost use Rattle.subflow_tcp.specs.Judging.{IsBelow};
+ghost use Rattle.subflow_tcp.specs.Taking.{after_arrival, arrival_of, unkept};
+ghost use Rattle.path_agenda.specs.Items.{IsFair};
 ghost use Rattle.subflow_tcp.specs.Segments as subflow;
 ghost use Rattle.path_core.specs.declared.event.Event.TheVariants as event;
-ghost use Rattle.path_core.specs.Arriving.{expected_by, acknowledged_in, copy_of, items_of, with_payload, with_held, after_copy, segment_heard, template_by, template_of};
+ghost use Rattle.path_core.specs.Arriving.{expected_by, acknowledged_in, copy_of, items_of, with_payload, with_held, after_copy, is_ignored, taken_as, judged_in, copy_judged, segment_heard, template_by, template_judged, template_of, IsTakenAs};
 ghost use Rattle.path_core.specs.Events.{heard_at, copy_taken, CanHappen};
 ghost use Rattle.path_core.specs.Octets.{octets, read};
 ghost use Rattle.path_core.specs.State.{end_at};
 
 use crate::end::PathEnd;
-use crate::hearing::{has_option, items_of, opens_by, owes_by};
+use crate::hearing::{has_option, is_plain_ack, items_of, opens_by, owes_by};
+use crate::judged::Judged;
 use crate::path::Path;
 use crate::profile::{peer, spelled_by};
 use crate::treated::Treated;
 use dss_mapping::KeptMapping;
 use link_model::Due;
 use outside_kit::Side;
-use path_agenda::{Agenda, place_in_first};
+use path_agenda::{Agenda, Items, place_in_first};
 use path_segments::{Expected, HeardSegment, hear};
 use seq_units::Pos;
 use std::alloc::AllocError;
-use subflow_tcp::{Arriving, Meaning, Outgoing, Subflow};
+use subflow_tcp::{Arrival, Arriving, Meaning, Outgoing, Subflow};
+
+/// A copy that joins the path by a wrong HMAC breaks it with this reason: an unspecific one (RFC 8684, section 3.6).
+const FORGED: u8 = 1;
 
 /// Positions and places that are expected lie below this one.
 const LIMIT: u64 = 1 << 62;
@@ -63,19 +69,33 @@ fn acknowledged_in(heard: Option<Option<u64>>) -> Option<Pos>
 }
 
 /// What is to be done after a copy of this meaning that says so many things, ten at most.
-fn template_of(side: Side, count: usize, meaning: Meaning) -> Agenda
+fn template_by(joined: bool, side: Side, count: usize, meaning: Meaning) -> Agenda
     requires { count ≤ 10 }
-    ensures { result ≡ template_by side count meaning }
+    ensures { result ≡ template_by joined side count meaning }
 {
     match meaning {
         Meaning::Ignored | Meaning::Unacknowledging => Agenda::emission(side),
         Meaning::Unwanted => Agenda::answers_dead(side),
         Meaning::Opens => Agenda::syn_came(side),
+        Meaning::Accepts { .. } if joined => Agenda::join_answered(side),
         Meaning::Accepts { .. } => Agenda::syn_ack_came(side),
         Meaning::RepeatedSyn => Agenda::syn_again(side),
         Meaning::Outside | Meaning::Challenged | Meaning::Ahead => Agenda::answers(side),
         Meaning::Kills => Agenda::leaves(side),
         Meaning::Taken { .. } => Agenda::copy_came(side, count),
+    }
+}
+
+/// What is to be done after a copy that is this to the end and says so many things, ten at most.
+fn template_judged(joined: bool, side: Side, count: usize, judged: Judged) -> Agenda
+    requires { count ≤ 10 }
+    ensures { result ≡ template_judged joined side count judged }
+{
+    match judged {
+        Judged::As(meaning) => template_by(joined, side, count, meaning),
+        Judged::Asks => Agenda::join_came(side),
+        Judged::Lacks => Agenda::refuses(side),
+        Judged::Forged => Agenda::resets(side, FORGED),
     }
 }
 
@@ -89,6 +109,40 @@ fn hold_payload(tcp: &mut Subflow, meaning: Meaning, payload: &[u8]) -> Result<(
     match meaning {
         Meaning::Taken { position, .. } if !payload.is_empty() => tcp.hold(position, payload),
         _ => Ok(()),
+    }
+}
+
+/// A subflow takes a copy that means this.
+fn hear_meant(
+    tcp: &mut Subflow,
+    meaning: Meaning,
+    arriving: &Arriving<'_>,
+    place: Option<u64>,
+    now: u64,
+) -> Arrival
+    requires taken { IsTakenAs meaning (subflow.copy_of arriving.now) tcp.old }
+    requires some { is_ignored meaning ≡ false }
+    ensures arrival { result ≡ arrival_of meaning (unkept place) (subflow.copy_of arriving.now) tcp.old }
+    ensures after { tcp.new ≡ after_arrival meaning (unkept place) now (subflow.copy_of arriving.now) tcp.old }
+{
+    tcp.hear(meaning, arriving, place, now)
+}
+
+/// A subflow takes a copy as this: as what it means, or as nothing.
+fn take_as(
+    tcp: &mut Subflow,
+    meaning: Meaning,
+    arriving: &Arriving<'_>,
+    place: Option<u64>,
+    now: u64,
+) -> Arrival
+    requires { IsTakenAs meaning (subflow.copy_of arriving.now) tcp.old }
+    ensures arrival { result ≡ arrival_of meaning (unkept place) (subflow.copy_of arriving.now) tcp.old }
+    ensures after { tcp.new ≡ after_arrival meaning (unkept place) now (subflow.copy_of arriving.now) tcp.old }
+{
+    match meaning {
+        Meaning::Ignored => Arrival::Dropped,
+        _ => hear_meant(tcp, meaning, arriving, place, now),
     }
 }
 
@@ -124,34 +178,70 @@ impl PathEnd {
         Ok(())
     }
 
-    /// The subflow takes a copy of this meaning; what it says is still to be treated.
+    /// The subflow takes a copy of this meaning, which says these things; they are still to be treated.
     fn hear_copy(
         &mut self,
-        side: Side,
+        items: Items,
         now: u64,
         heard: &HeardSegment<'_>,
         meaning: Meaning,
         answer: Outgoing,
-    ) -> Agenda
-        requires { meaning ≡ meaning_of (copy_of (heard_value heard.now)) self.old.tcp }
-        ensures agenda { result ≡ template_of side (items_of side (heard_value heard.now)) meaning }
-        ensures after { self.new ≡ after_copy answer side now (heard_value heard.now) meaning self.old }
+    )
+        requires fair { All IsFair items.items }
+        requires meaning { IsTakenAs meaning (copy_of (heard_value heard.now)) self.old.tcp }
+        ensures { self.new ≡ after_copy items.items answer now (heard_value heard.now) meaning self.old }
     {
-        let items = items_of(side, heard);
-        let agenda = template_of(side, items.len(), meaning);
         let opened = opens_by(meaning, self.tcp.state());
         let place = place_in_first(items.as_slice());
-        self.tcp.hear(meaning, &arriving_of(heard), place, now);
+        let arrival = take_as(&mut self.tcp, meaning, &arriving_of(heard), place, now);
         if owes_by(meaning, items.as_slice()) {
             self.tcp.ack_due(false);
         }
-        self.treated = Treated::of(items, opened, has_option(heard), answer);
-        agenda
+        self.treated = Treated::of(items, opened, has_option(heard), answer, heard.window);
+        self.treated.note_plain_ack(is_plain_ack(arrival, heard));
+    }
+
+    /// A copy that is this to the end, and says these mappings, is taken, and is answered so at a dead end. At an error all is
+    /// as it was.
+    fn hear_judged(
+        &mut self,
+        joined: bool,
+        side: Side,
+        now: u64,
+        heard: &HeardSegment<'_>,
+        meaning: Meaning,
+        told: Vec<KeptMapping>,
+        answer: Outgoing,
+    ) -> Result<(), AllocError>
+        requires small { length heard.now.payload.now ≤ 65535 }
+        requires within { All IsWithin told.items }
+        requires meaning { IsTakenAs meaning (copy_of (heard_value heard.now)) self.old.tcp }
+        requires below { IsBelow meaning }
+        ensures ok { OnOk result (self.new ≡ copy_judged joined told.items answer side now (heard_value heard.now) meaning self.old) }
+        ensures err { OnErr result (self.new ≡ self.old) }
+    {
+        let items = items_of(joined, side, heard);
+        self.hold(meaning, heard, told)?;
+        self.join_by(joined, items.as_slice(), meaning);
+        self.hear_copy(items, now, heard, meaning, answer);
+        Ok(())
+    }
+
+    /// What a copy is to the end.
+    fn judge(&self, joined: bool, side: Side, heard: &HeardSegment<'_>) -> Judged
+        ensures value { result ≡ judged_in joined side (heard_value heard.now) self.now }
+        ensures taken { IsTakenAs (taken_as result) (copy_of (heard_value heard.now)) self.now.tcp }
+        ensures below { IsBelow (taken_as result) }
+    {
+        let items = items_of(joined, side, heard);
+        let meaning = self.tcp.meaning(&arriving_of(heard));
+        self.judged_of(joined, heard.rst, items.as_slice(), meaning)
     }
 
     /// A segment is heard, which says these mappings, and is answered so at a dead end. At an error all is as it was.
     fn hear_segment(
         &mut self,
+        joined: bool,
         side: Side,
         now: u64,
         heard: &HeardSegment<'_>,
@@ -160,13 +250,15 @@ impl PathEnd {
     ) -> Result<Agenda, AllocError>
         requires small { length heard.now.payload.now ≤ 65535 }
         requires within { All IsWithin told.items }
-        ensures agenda { IfOk result (λ agenda. agenda ≡ template_of side (items_of side (heard_value heard.now)) (meaning_of (copy_of (heard_value heard.now)) self.old.tcp)) }
-        ensures ok { OnOk result (self.new ≡ segment_heard told.items answer side now (heard_value heard.now) self.old) }
+        ensures agenda { IfOk result (λ agenda. agenda ≡ template_of joined side (items_of joined side (heard_value heard.now)) (judged_in joined side (heard_value heard.now) self.old)) }
+        ensures ok { OnOk result (self.new ≡ segment_heard joined told.items answer side now (heard_value heard.now) self.old) }
         ensures err { OnErr result (self.new ≡ self.old) }
     {
-        let meaning = self.tcp.meaning(&arriving_of(heard));
-        self.hold(meaning, heard, told)?;
-        Ok(self.hear_copy(side, now, heard, meaning, answer))
+        let judged = self.judge(joined, side, heard);
+        let count = items_of(joined, side, heard).len();
+        let meaning = judged.taken_as();
+        self.hear_judged(joined, side, now, heard, meaning, told, answer)?;
+        Ok(template_judged(joined, side, count, judged))
     }
 }
 
@@ -185,9 +277,10 @@ impl Path {
             return Err(AllocError);
         };
         let told = self.profile.held_of(self.alloc, side, heard)?;
+        let joined = self.profile.is_joined();
         let agenda = self
             .end_mut(side)
-            .hear_segment(side, now, heard, told, answer)?;
+            .hear_segment(joined, side, now, heard, told, answer)?;
         self.sets_about(agenda);
         Ok(())
     }

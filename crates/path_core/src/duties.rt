@@ -7,6 +7,7 @@ ghost use Rattle.path_core.specs.Octets.{octets};
 ghost use Rattle.path_core.specs.Duties.{stands, ask_for, passed, answered};
 ghost use Rattle.path_core.specs.Replies.{IsAckBounded, AreRowsInRange, asks_bytes, asks_segment, takes_memory};
 
+use crate::joining::join_begin_ask;
 use crate::path::Path;
 use crate::segment_kind::SegmentKind;
 use crate::standing::ack_out_ask;
@@ -22,6 +23,7 @@ impl Path {
     {
         match duty {
             Duty::Timer(_) | Duty::Keep(_) | Duty::PassFin(_) => false,
+            Duty::JoinAgain => self.is_join_pending(),
             Duty::Update(side) => self.end(side).is_update_due(&self.profile),
             Duty::Syn(side) => self.end(side).is_syn_due(),
             Duty::Data(side) => self.end(side).data_stands(&self.profile, side),
@@ -29,10 +31,12 @@ impl Path {
             Duty::Fin(side) => self.end(side).is_fin_due(),
             Duty::Events => self.next_event().is_some(),
             Duty::PeerKey(side) => self.end(side).treated.key_heard().is_some(),
+            Duty::JoinHeard(side) => self.asked_at(side).is_some(),
             Duty::Opened(side) => self.end(side).is_opened_by_keys(),
             Duty::Live(side) => self.end(side).treated.is_opened(),
             Duty::Heard { side, index } => self.end(side).item_stands(index),
             Duty::AckHeard(side) => self.end(side).modes.mode == Mode::Starting,
+            Duty::PlainAck(side) => self.end(side).breaks_by_ack(&self.profile),
             Duty::Edge(side) => self.end(side).has_piece(&self.profile),
             Duty::HeardFin { side, index } => self.end(side).treated.fin(index).is_some(),
             Duty::AckOut(side) => self.end(side).treated.is_asked(),
@@ -67,6 +71,7 @@ impl Path {
         ensures able { CanBeAsked result }
     {
         match duty {
+            Duty::JoinAgain => join_begin_ask(self.number()),
             Duty::Look(side) => self.look_ask(side),
             Duty::Window(side) | Duty::AckOut(side) | Duty::BreakAck { side, .. } => {
                 ack_out_ask(side)
@@ -75,10 +80,12 @@ impl Path {
             Duty::Events => self.event_ask(),
             Duty::SynHeard(side) | Duty::SynAnswered(side) => self.syn_window_ask(side),
             Duty::PeerKey(side) => self.peer_key_ask(side),
+            Duty::JoinHeard(side) => self.join_heard_ask(side),
             Duty::Opened(side) => self.keys_ask(side),
             Duty::Live(side) => self.live_ask(side),
             Duty::Heard { side, index } => self.item_ask(side, index),
             Duty::AckHeard(side) => self.fell_ask(side, Event::AckHeard),
+            Duty::PlainAck(side) => self.plain_ack_ask(side),
             Duty::HeardFin { side, index } => self.fin_ask(side, index),
             Duty::Rate(side) => self.rate_ask(side),
             Duty::Return(side) | Duty::Leave(side) => self.return_ask(side),
@@ -94,11 +101,13 @@ impl Path {
         ensures able { CanBeAsked result }
     {
         match duty {
-            Duty::Update(side) | Duty::Acknowledge(side) => self.sent_step(side, SegmentKind::Ack),
+            Duty::Update(side) => self.sent_step(side, SegmentKind::Ack),
+            Duty::Acknowledge(side) => self.sent_step(side, SegmentKind::Ack),
             Duty::Syn(side) => self.sent_step(side, SegmentKind::Unsent),
             Duty::DataFin(side) => self.sent_step(side, SegmentKind::DataFin),
             Duty::Fin(side) => self.sent_step(side, SegmentKind::Fin),
             Duty::SynAck(side) => self.sent_step(side, SegmentKind::SynAck),
+            Duty::Refuse(side) => self.sent_step(side, SegmentKind::Refusal),
             Duty::Again(side) => self.sent_step(side, SegmentKind::First),
             Duty::Answer(side) => self.sent_step(side, SegmentKind::Answer),
             Duty::ResetAnswer(side) => self.sent_step(side, SegmentKind::DeadAnswer),
@@ -141,7 +150,7 @@ impl Path {
     {
         match duty {
             Duty::Data(side) => self.answer_data(side, reply),
-            Duty::Events => self.answer_event(),
+            Duty::Events => self.answer_event(reply),
             Duty::Heard { side, index } => self.answer_item(side, index, reply),
             Duty::Update(side) => self.acknowledge(side),
             Duty::Acknowledge(side) => self.acknowledge(side),
@@ -149,6 +158,8 @@ impl Path {
             Duty::DataFin(side) => self.send_data_fin(side),
             Duty::Fin(side) => self.send_fin(side),
             Duty::SynAck(side) => self.send_syn_ack(side),
+            Duty::Refuse(side) => self.send_refusal(side),
+            Duty::PlainAck(side) => self.answer_plain_ack(side, reply),
             Duty::Again(side) => self.send_again(side),
             Duty::Answer(side) => self.send_answer(side),
             Duty::ResetAnswer(side) => self.send_dead_answer(side),
@@ -170,9 +181,11 @@ impl Path {
         ensures { self.new ≡ answered octets duty reply.now self.old }
     {
         match duty {
+            Duty::JoinAgain => self.answer_join_again(reply),
             Duty::Look(side) => self.look(side, reply),
             Duty::Window(side) | Duty::AckOut(side) => self.ack_out(side, reply),
             Duty::PeerKey(side) => self.hear_peer_key(side),
+            Duty::JoinHeard(side) => self.answer_join_heard(side, reply),
             Duty::Opened(side) => self.hear_keys(side, reply),
             Duty::AckHeard(side) => self.hear_verdict(side, reply),
             Duty::Edge(side) => self.answer_piece(side, reply),

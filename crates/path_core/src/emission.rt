@@ -8,7 +8,7 @@ ghost use Rattle.subflow_tcp.specs.States.{may_finish};
 ghost use Rattle.subflow_tcp.specs.Closing.{after_finishing};
 ghost use Rattle.subflow_tcp.specs.Emitting.{after_sending};
 ghost use Rattle.path_core.specs.Octets.{octets};
-ghost use Rattle.path_core.specs.Emission.{first_unsent, is_syn_due, fits, may_ask, data_stands, grant_ask, data_ask, grant_in, with_piece, granted, refused, answered_grant, answered_data, answered_syn, answered_end, answered_fin, after_timer};
+ghost use Rattle.path_core.specs.Emission.{first_unsent, is_syn_due, fits, may_send_data, may_ask, data_stands, grant_ask, data_ask, grant_in, with_piece, granted, refused, answered_grant, answered_data, answered_syn, answered_end, answered_fin, after_timer};
 ghost use Rattle.path_core.specs.Replies.{IsSendable};
 ghost use Rattle.path_core.specs.State.{end_at, with_end, goes_on, left};
 
@@ -41,15 +41,22 @@ impl PathEnd {
         1 <= self.tcp.una() && lent.piece.len() as u64 <= u64::from(self.tcp.room())
     }
 
+    /// The end may send a DSS, or it is the one that opened the connection.
+    fn may_send_data(&self, profile: &Profile, side: Side) -> bool
+        ensures { result ≡ may_send_data profile.now side self.now }
+    {
+        self.modes.clear || side == Side::A && !profile.is_joined()
+    }
+
     /// Bytes may be asked for: both SYNs are acknowledged, no FIN was sent, there is room for a full segment, positions
-    /// are left, and the end may send a DSS or is the one that opened.
+    /// are left, and the end may send data.
     fn may_ask(&self, profile: &Profile, side: Side) -> bool
         ensures { result ≡ may_ask profile.now side self.now }
     {
         self.tcp.state().may_finish()
             && profile.payload_size() <= self.tcp.room()
             && !self.tcp.is_at_limit()
-            && (self.modes.clear || side == Side::A)
+            && self.may_send_data(profile, side)
     }
 
     /// A record is sent, or bytes are asked for.
@@ -89,13 +96,13 @@ impl PathEnd {
         }
     }
 
-    /// The timer is settled by the reasons of the subflow and of the streams.
+    /// The timer is settled by the reasons of the subflow and of the streams, and by the third MP_JOIN.
     pub fn settle_timer(&mut self, now: u64)
         requires { now < 2 ^ 64 - 2 ^ 20 }
         ensures { self.new ≡ after_timer now self.old }
     {
-        let (waiting, news) = (self.sending.is_waiting(), self.sending.has_news());
-        self.tcp.hold_timer(waiting, news, now);
+        let waiting = self.sending.is_waiting() || self.modes.owes_third;
+        self.tcp.hold_timer(waiting, self.sending.has_news(), now);
         self.sending.clear_news();
     }
 

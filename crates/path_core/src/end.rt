@@ -42,14 +42,14 @@ impl PathEnd {
     ghost use Rattle.path_core.specs.Ends.{opening_end};
 
     /// An end of which nothing happened yet. Takes no memory.
-    pub fn new(alloc: Global, tcp: Subflow, own_key: u64) -> Self
-        ensures { result ≡ opening_end tcp own_key }
+    pub fn new(alloc: Global, tcp: Subflow, own_key: u64, own_nonce: u32) -> Self
+        ensures { result ≡ opening_end tcp own_key own_nonce }
     {
         PathEnd {
             tcp,
             sending: Sending::new(alloc),
             receiving: Receiving::new(alloc),
-            modes: Modes::new(own_key),
+            modes: Modes::new(own_key, own_nonce),
             treated: Treated::nothing(),
         }
     }

@@ -7,6 +7,8 @@ use outside_kit::Side;
 /// What happens on a path by itself, at a tick.
 #[derive(Clone, Copy, Debug, PartialEq, Eq)]
 pub enum Event {
+    /// A joins the path to the connection, at this tick.
+    Joins(u64),
     /// A line comes due.
     Takes(LineLeft),
     /// A copy arrives.

@@ -1,4 +1,4 @@
-//! What happens on a path by itself: lines of the script, copies that arrive, timers that run out.
+//! What happens on a path by itself: its join, lines of the script, copies that arrive, timers that run out.
 
 ghost use Rattle.std.specs.Prelude.{◌≡◌, ◌&&◌, ◌∷◌, ◌++◌, ◌<◌, ◌^◌, ◌-◌, [], max, if◌then◌else◌, IfSome, IsSome, OnOk, OnErr};
 ghost use Rattle.actor_desk.specs.Kinds.{CanBeAsked};
@@ -9,15 +9,16 @@ ghost use Rattle.subflow_tcp.specs.States.{is_dead};
 ghost use Rattle.path_agenda.specs.declared.duty.Duty.TheVariants as duties;
 ghost use Rattle.path_core.specs.declared.event.Event.TheVariants as event;
 ghost use Rattle.path_agenda.specs.Agenda.{rest_of_turn};
-ghost use Rattle.path_core.specs.Events.{is_dead_or_listening, is_dead_path, tick_of, next_line, next_copy, next_fire, earlier, earliest, before, next_event, step_of, step_for, is_death, died_unless_dead, path_died, line_taken, after_firing, template_fired, timer_fired, at_tick, copy_taken, happens_if, CanHappen};
+ghost use Rattle.path_core.specs.Events.{is_dead_or_listening, is_dead_path, tick_of, next_join, next_line, next_copy, next_fire, earlier, earliest, before, next_event, step_of, step_for, is_death, died_unless_dead, path_died, line_taken, after_firing, template_fired, timer_fired, at_tick, copy_taken, joins_at_tick, happens_if, CanHappen};
 ghost use Rattle.path_core.specs.Octets.{octets};
-ghost use Rattle.path_core.specs.State.{end_at};
+ghost use Rattle.path_core.specs.State.{end_at, path_of};
 
 use crate::end::PathEnd;
 use crate::event::Event;
+use crate::joining::join_begin_ask;
 use crate::lines::LineLeft;
 use crate::path::Path;
-use actor_desk::{Ask, LocalStep};
+use actor_desk::{Ask, LocalStep, Reply};
 use link_script::ScriptLine;
 use outside_kit::Side;
 use path_agenda::{Agenda, Duty};
@@ -30,25 +31,28 @@ impl Event {
         ensures { result ≡ tick_of self }
     {
         match self {
+            Event::Joins(tick) => tick,
             Event::Takes(line) => line.tick,
             Event::Arrives(due) => due.tick,
             Event::Fires(_, tick) => tick,
         }
     }
 
-    /// Its step.
-    fn step(self) -> Ask
-        ensures value { result ≡ step_of self }
+    /// Its step on the path of this number.
+    fn step(self, path: u8) -> Ask
+        requires { path < 16 }
+        ensures value { result ≡ step_of path self }
         ensures able { CanBeAsked result }
     {
-        Ask::Local(match self {
-            Event::Takes(line) => LocalStep::Line(line.number),
-            Event::Arrives(due) => LocalStep::Arrive {
+        match self {
+            Event::Joins(_) => join_begin_ask(path),
+            Event::Takes(line) => Ask::Local(LocalStep::Line(line.number)),
+            Event::Arrives(due) => Ask::Local(LocalStep::Arrive {
                 to: due.to,
                 copy: due.copy,
-            },
-            Event::Fires(side, _) => LocalStep::Fire(side),
-        })
+            }),
+            Event::Fires(side, _) => Ask::Local(LocalStep::Fire(side)),
+        }
     }
 }
 
@@ -132,6 +136,18 @@ impl Path {
         self.a.is_dead() && self.b.is_dead_or_listening()
     }
 
+    /// A joins the path, as long as its end waits for that.
+    fn next_join(&self) -> Option<Event>
+        ensures { result ≡ next_join self.now.a.tcp.state self.now.joined_at }
+    {
+        let tick = self.joined_at?;
+        if self.a.tcp.state() == State::Waiting {
+            Some(Event::Joins(tick))
+        } else {
+            None
+        }
+    }
+
     /// The line that comes due next.
     fn next_line(&self) -> Option<Event>
         ensures { result ≡ next_line self.now.lines }
@@ -154,15 +170,18 @@ impl Path {
         Some(Event::Fires(side, self.end(side).tcp.timer()?))
     }
 
-    /// The earliest event. At one tick lines come before copies, and copies before timers, that of A first.
+    /// The earliest event. At one tick the join comes before lines, lines before copies, and copies before timers, that of A
+    /// first.
     fn earliest(&self) -> Option<Event>
         ensures { result ≡ earliest self.now }
     {
         let fires = earlier(self.next_fire(Side::A), self.next_fire(Side::B));
-        earlier(self.next_line(), earlier(self.next_copy(), fires))
+        let copies = earlier(self.next_copy(), fires);
+        earlier(self.next_join(), earlier(self.next_line(), copies))
     }
 
     /// The earliest event before the round's end.
+    #[tactic(auto, using(crate::proofs::Happening::can_happen))]
     pub(crate) fn next_event(&self) -> Option<Event>
         ensures value { result ≡ next_event self.now }
         ensures can { IfSome result (λ event. CanHappen event self.now) }
@@ -177,11 +196,11 @@ impl Path {
 
     /// The step of that event.
     pub(crate) fn event_ask(&self) -> Ask
-        ensures value { result ≡ step_for (next_event self.now) }
+        ensures value { result ≡ step_for (path_of self.now) (next_event self.now) }
         ensures able { CanBeAsked result }
     {
         match self.next_event() {
-            Some(event) => event.step(),
+            Some(event) => event.step(self.number()),
             None => Ask::Local(LocalStep::End),
         }
     }
@@ -211,6 +230,15 @@ impl Path {
         }
     }
 
+    /// A asked at this tick whether the path may join.
+    fn join(&mut self, tick: u64, reply: &Reply)
+        requires { CanHappen (event.Joins tick) self.old }
+        ensures { self.new ≡ joins_at_tick reply.now (at_tick tick self.old) }
+    {
+        self.clock.reach(tick);
+        self.join_at_tick(reply);
+    }
+
     /// The timer of a side runs out at this tick.
     fn fire(&mut self, side: Side, tick: u64)
         requires { CanHappen (event.Fires side tick) self.old }
@@ -226,11 +254,15 @@ impl Path {
     }
 
     /// The earliest event before the round's end happens. At an error all is as it was.
-    pub(crate) fn answer_event(&mut self) -> Result<(), AllocError>
-        ensures ok { OnOk result (self.new ≡ happens_if octets (next_event self.old) self.old) }
+    pub(crate) fn answer_event(&mut self, reply: &Reply) -> Result<(), AllocError>
+        ensures ok { OnOk result (self.new ≡ happens_if octets (next_event self.old) reply.now self.old) }
         ensures err { OnErr result (self.new ≡ self.old) }
     {
         match self.next_event() {
+            Some(Event::Joins(tick)) => {
+                self.join(tick, reply);
+                Ok(())
+            }
             Some(Event::Takes(line)) => {
                 self.take_line(line);
                 Ok(())

@@ -1,19 +1,20 @@
 //! What the options of a copy say (RFC 8684, section 3).
 
 ghost use Rattle.std.specs.Prelude.{◌≡◌, ◌∷◌, [], not, All};
+ghost use Rattle.std.specs.List.{list_any};
 ghost use Rattle.actor_desk.specs.Words.{is_nil};
 ghost use Rattle.path_segments.specs.HeardLent.{heard_plain};
 ghost use Rattle.path_segments.specs.HeardSegments.{heard_value};
 ghost use Rattle.path_agenda.specs.declared.heard.Heard.TheVariants as says;
 ghost use Rattle.path_agenda.specs.Items.{with_item, with_items, IsFair};
-ghost use Rattle.path_core.specs.Arriving.{ack_items, is_mapping, mapping_items, map_items, end_items, key_items, items_in, items_of, owes_by, opens_by};
+ghost use Rattle.path_core.specs.Arriving.{ack_items, is_mapping, mapping_items, map_items, end_items, key_items, join_items, items_in, items_of, owes_by, opens_by, has_data_ack, octets_acked, is_plain_ack};
 
-use mptcp_options::CapableKeys;
+use mptcp_options::{CapableKeys, JoinForm};
 use outside_kit::Side;
 use path_agenda::{Heard, Items, one_wants_ack};
 use path_segments::{HeardMapping, HeardOption, HeardSegment, PathMapping, PathOption};
 use seq_units::Pos;
-use subflow_tcp::{Meaning, State};
+use subflow_tcp::{AckKind, Arrival, Meaning, State};
 
 /// Places end at this one.
 const LIMIT: u64 = 1 << 62;
@@ -118,12 +119,31 @@ fn put_map(items: &mut Items, mapping: Option<HeardMapping>)
     }
 }
 
-/// What one option says.
-fn put_option(items: &mut Items, side: Side, window: u32, option: &HeardOption<'_>)
-    ensures { items.new.items ≡ with_items items.old.items (items_in side window (heard_plain option.now)) }
+/// What MP_JOIN says: A hears the answer to its SYN, and B the SYN and the third segment.
+fn put_join(items: &mut Items, side: Side, form: JoinForm)
+    ensures { items.new.items ≡ with_items items.old.items (join_items side form) }
+{
+    match (side, form) {
+        (Side::A, JoinForm::Answer { .. }) => put(items, Heard::Join { form }),
+        (Side::B, JoinForm::Syn { .. } | JoinForm::Third { .. }) => put(
+            items,
+            Heard::Join { form },
+        ),
+        _ => {}
+    }
+}
+
+/// What one option says; MP_CAPABLE says nothing on a path that joins.
+fn put_option(items: &mut Items, joined: bool, side: Side, window: u32, option: &HeardOption<'_>)
+    ensures { items.new.items ≡ with_items items.old.items (items_in joined side window (heard_plain option.now)) }
 {
     match *option {
-        PathOption::Capable { keys, .. } => put_keys(items, side, keys),
+        PathOption::Capable { keys, .. } => {
+            if !joined {
+                put_keys(items, side, keys);
+            }
+        }
+        PathOption::Join { form } => put_join(items, side, form),
         PathOption::Dss { next, mapping } => {
             put(items, Heard::Dss);
             put_ack(items, next, window);
@@ -134,13 +154,13 @@ fn put_option(items: &mut Items, side: Side, window: u32, option: &HeardOption<'
 }
 
 /// All that a copy says to the end of this side, in the order of its options.
-pub(crate) fn items_of(side: Side, heard: &HeardSegment<'_>) -> Items
-    ensures value { result.items ≡ items_of side (heard_value heard.now) }
+pub(crate) fn items_of(joined: bool, side: Side, heard: &HeardSegment<'_>) -> Items
+    ensures value { result.items ≡ items_of joined side (heard_value heard.now) }
     ensures fair { All IsFair result.items }
 {
     let mut items = Items::new();
     for option in heard.options {
-        put_option(&mut items, side, heard.window, &option);
+        put_option(&mut items, joined, side, heard.window, &option);
     }
     items
 }
@@ -172,4 +192,43 @@ pub(crate) fn has_option(heard: &HeardSegment<'_>) -> bool
 {
     let mut options = heard.options;
     options.next().is_some()
+}
+
+/// A DSS with a Data ACK, whatever that names.
+fn is_data_ack(option: &HeardOption<'_>) -> bool
+    ensures { result ≡ has_data_ack (heard_plain option.now) }
+{
+    matches!(*option, PathOption::Dss { next: Some(_), .. })
+}
+
+/// Whether there is a DSS with a Data ACK.
+fn has_data_ack(heard: &HeardSegment<'_>) -> bool
+    ensures { result ≡ list_any has_data_ack (heard_value heard.now).options }
+{
+    for option in heard.options {
+        if is_data_ack(&option) {
+            return true;
+        }
+    }
+    false
+}
+
+/// So many octets of data are acknowledged for the first time; what opens an end acknowledges its SYN alone.
+fn octets_acked(arrival: Arrival) -> u64
+    ensures { result ≡ octets_acked arrival }
+{
+    match arrival {
+        Arrival::Took {
+            ack: AckKind::New(octets),
+            ..
+        } => octets,
+        _ => 0,
+    }
+}
+
+/// Whether it acknowledges data for the first time, and has no Data ACK.
+pub(crate) fn is_plain_ack(arrival: Arrival, heard: &HeardSegment<'_>) -> bool
+    ensures { result ≡ is_plain_ack arrival (heard_value heard.now) }
+{
+    0 < octets_acked(arrival) && !has_data_ack(heard)
 }

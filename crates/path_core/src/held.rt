@@ -93,12 +93,12 @@ impl Profile {
         }
     }
 
-    /// The mapping that an option says.
+    /// The mapping that an option says; MP_CAPABLE says none on a path that joins.
     fn held_in(&self, side: Side, option: &HeardOption<'_>) -> Option<KeptMapping>
         ensures { option_to_list result ≡ held_in self.now side (heard_plain option.now) }
     {
         match *option {
-            PathOption::Capable { keys, .. } => self.key_held(side, keys),
+            PathOption::Capable { keys, .. } if !self.is_joined() => self.key_held(side, keys),
             PathOption::Dss { mapping, .. } => self.map_held(side, mapping),
             _ => None,
         }

@@ -142,7 +142,7 @@ impl Path {
         self.send_and_leave(side, SegmentKind::SynAck, Occasion::SynAck)
     }
 
-    /// It is told that the path lives.
+    /// It is told that the path lives, as a backup where the peer's SYN said so.
     pub(crate) fn live_ask(&self, side: Side) -> Ask
         ensures value { result ≡ live_ask side self.now }
         ensures able { CanBeAsked result }
@@ -151,7 +151,7 @@ impl Path {
             side,
             ControlCall::Live {
                 path: self.number(),
-                backup: false,
+                backup: self.end(side).modes.backup_heard,
             },
         )
     }

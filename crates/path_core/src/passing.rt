@@ -119,13 +119,14 @@ impl PathEnd {
         }
     }
 
-    /// An expiry sends the first record again, or else the DATA_FIN, or else what a peer that is there answers.
+    /// An expiry sends the first record again, or else the third MP_JOIN or the DATA_FIN, or else what a peer that is there
+    /// answers.
     fn resend_occasion(&self) -> Occasion
         ensures { result ≡ resend_occasion self.now }
     {
         if self.tcp.has_records() {
             Occasion::First
-        } else if self.sending.owes_end() {
+        } else if self.modes.owes_third || self.sending.owes_end() {
             Occasion::Ack
         } else {
             Occasion::Probe

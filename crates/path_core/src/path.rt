@@ -25,7 +25,7 @@ pub struct Path {
     pub(crate) clock: Clock,
     /// The lines of the script that aren't taken yet, in the order of their ticks.
     pub(crate) lines: VecDeque<LineLeft>,
-    /// The tick at which the path joins, where it joins.
+    /// The tick at which A joins the path to the connection, as long as that is to come.
     pub(crate) joined_at: Option<u64>,
     pub(crate) a: PathEnd,
     pub(crate) b: PathEnd,
@@ -97,7 +97,7 @@ impl Path {
     }
 
     /// The number of the path, below 16.
-    pub(crate) fn number(&self) -> u8
+    pub fn number(&self) -> u8
         ensures value { result ≡ path_of self.now }
         ensures bound { result < 16 }
     {

@@ -15,6 +15,8 @@ pub(crate) struct Profile {
     mss: u16,
     /// Octets that each side buffers.
     buffer: u32,
+    /// Whether the path is a backup, as the script has it.
+    backup: bool,
     /// How its segments are said.
     spelling: Spelling,
 }
@@ -25,7 +27,7 @@ impl Model for Profile {
 
     ghost Value = { Profile };
 
-    ghost view = { λ c. record { mss = c.mss; buffer = c.buffer; spelling = c.spelling } };
+    ghost view = { λ c. record { mss = c.mss; buffer = c.buffer; backup = c.backup; spelling = c.spelling } };
 
     ghost invariant = { λ c. (200 ≤ c.mss) × (c.mss ≤ 1460) × (c.buffer ≤ 2 ^ 20) × (c.spelling.path ≤ 15) };
 }
@@ -34,16 +36,17 @@ impl Profile {
     ghost use Rattle.path_core.specs.Emission.{payload_size};
 
     /// A profile of a maximum segment size of 200 to 1,460 octets, and a buffer of at most 1,048,576.
-    pub fn new(mss: u16, buffer: u32, spelling: Spelling) -> Self
+    pub fn new(mss: u16, buffer: u32, backup: bool, spelling: Spelling) -> Self
         requires least { 200 ≤ mss }
         requires most { mss ≤ 1460 }
         requires buffer { buffer ≤ 1048576 }
         requires path { spelling.path ≤ 15 }
-        ensures { result ≡ record { mss = mss; buffer = buffer; spelling = spelling } }
+        ensures { result ≡ record { mss = mss; buffer = buffer; backup = backup; spelling = spelling } }
     {
         Profile {
             mss,
             buffer,
+            backup,
             spelling,
         }
     }
@@ -63,6 +66,13 @@ impl Profile {
         ensures bound { result ≤ 1048576 }
     {
         self.buffer
+    }
+
+    /// Whether the path is a backup, as the script has it.
+    pub fn is_backup(&self) -> bool
+        ensures { result ≡ self.now.backup }
+    {
+        self.backup
     }
 
     /// How the path's segments are said.

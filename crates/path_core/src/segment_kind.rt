@@ -19,6 +19,8 @@ pub(crate) enum SegmentKind {
     Answer,
     /// The reset that answers a segment at a dead end.
     DeadAnswer,
+    /// The reset that refuses a path which joins (RFC 8684, section 3.2).
+    Refusal,
     /// What an expiry sends again.
     Resend,
     /// The reset of the end, perhaps with a reason (RFC 8684, section 3.6).

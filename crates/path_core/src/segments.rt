@@ -5,9 +5,9 @@ ghost use Rattle.dss_checksum.specs.Checksum.{dss_checksum};
 ghost use Rattle.outside_kit.specs.declared.side.Side.TheVariants.{A};
 ghost use Rattle.path_segments.specs.declared.segment.PathOption.TheVariants.{Capable};
 ghost use Rattle.subflow_send.specs.Records.{record_of};
-ghost use Rattle.path_core.specs.declared.segment_kind.SegmentKind.TheVariants.{DeadAnswer};
-ghost use Rattle.path_core.specs.Segments.{bare_mapping, checksum_in, mapping_of, place_numbered, checksum_told, syn_options, key_options, end_mapping, ack_options, piece_mapping, first_piece_options, piece_options, fin_options, record_options, reset_options, segment_of, ack_said, record_said, record_or_ack, syn_ack_said, fin_said, reset_said};
-ghost use Rattle.path_core.specs.Passing.{answer_said, resend_said};
+ghost use Rattle.path_core.specs.declared.segment_kind.SegmentKind.TheVariants.{DeadAnswer, Refusal};
+ghost use Rattle.path_core.specs.Segments.{bare_mapping, checksum_in, mapping_of, place_numbered, checksum_told, capable_options, syn_options, key_options, opening_options, end_mapping, ack_options, piece_mapping, first_piece_options, piece_options, fin_options, record_options, reset_options, segment_of, ack_said, record_said, record_or_ack, syn_ack_said, fin_said, reset_said};
+ghost use Rattle.path_core.specs.Passing.{answer_said, ack_resent, resend_said};
 ghost use Rattle.path_core.specs.Said.{options_by, plain_said, said_by, CanBeSaid};
 
 use crate::end::PathEnd;
@@ -22,7 +22,7 @@ use seq_units::{Mapping, Pos};
 use subflow_tcp::{Outgoing, RecordKind, RecordRef};
 
 /// An option that an end says: none of them has ids.
-type Saying = PathOption<u64, &'static [u8]>;
+pub(crate) type Saying = PathOption<u64, &'static [u8]>;
 
 impl Profile {
     /// The mapping of `length` bytes of a side's stream, before there is a checksum.
@@ -123,15 +123,26 @@ pub(crate) fn checksum_of(mapping: &Mapping, octets: &[u8]) -> u16
 }
 
 impl PathEnd {
-    /// On a SYN: A asks for Multipath TCP, and B answers with its key (RFC 8684, section 3.1).
-    fn syn_option(&self, profile: &Profile, side: Side) -> Option<Saying>
-        ensures value { options_by result ≡ syn_options profile.now side self.now }
+    /// On a SYN that opens the connection: A asks for Multipath TCP, and B answers with its key (RFC 8684, section 3.1).
+    fn capable_option(&self, profile: &Profile, side: Side) -> Option<Saying>
+        ensures value { options_by result ≡ capable_options profile.now side self.now }
     {
         match side {
             Side::A => Some(profile.capable(CapableKeys::NoKey)),
             Side::B => Some(profile.capable(CapableKeys::Sender {
                 sender: self.modes.own_key,
             })),
+        }
+    }
+
+    /// On a SYN.
+    fn syn_option(&self, profile: &Profile, side: Side) -> Option<Saying>
+        ensures value { options_by result ≡ syn_options profile.now side self.now }
+    {
+        if profile.is_joined() {
+            self.modes.join_option(profile, side)
+        } else {
+            self.capable_option(profile, side)
         }
     }
 
@@ -148,6 +159,17 @@ impl PathEnd {
         }
     }
 
+    /// Before the end may send a DSS: the third MP_JOIN, as long as it is owed, or the keys.
+    fn opening_option(&self, profile: &Profile, side: Side) -> Option<Saying>
+        ensures value { options_by result ≡ opening_options profile.now side self.now }
+    {
+        if self.modes.owes_third {
+            self.modes.third_option()
+        } else {
+            self.key_option(profile, side)
+        }
+    }
+
     /// On an acknowledgement, perhaps with the DATA_FIN.
     fn ack_option(&self, profile: &Profile, side: Side, fin: Option<u64>) -> Option<Saying>
         ensures value { options_by result ≡ ack_options profile.now side fin self.now }
@@ -158,7 +180,7 @@ impl PathEnd {
                 mapping: profile.end_mapping(side, fin),
             })
         } else {
-            self.key_option(profile, side)
+            self.opening_option(profile, side)
         }
     }
 
@@ -306,18 +328,41 @@ impl PathEnd {
         self.segment_of(profile, outgoing, None, &[])
     }
 
-    /// What an expiry sends again: the first record, or else the DATA_FIN, or else what a peer that is there answers.
-    fn resend_said(&self, profile: &Profile, side: Side) -> Said<'_>
-        ensures { plain_said result ≡ resend_said profile.now side self.now }
+    /// The reset that refuses a path which joins, with the reason 1 (RFC 8684, section 3.6).
+    fn refusal_said(&self, profile: &Profile) -> Said<'_>
+        ensures { plain_said result ≡ said_by Refusal profile.now A self.now }
     {
-        if self.tcp.has_records() {
-            return self.record_or_ack(profile, side, self.tcp.first_record());
+        let outgoing = match self.treated.answer() {
+            Some(outgoing) => outgoing,
+            None => self.tcp.reset_segment(),
+        };
+        self.segment_of(profile, outgoing, reset_option(Some(1)), &[])
+    }
+
+    /// What an expiry sends again where no record is left: the third MP_JOIN, or else the DATA_FIN, or else what a peer that
+    /// is there answers.
+    fn ack_resent(&self, profile: &Profile, side: Side) -> Said<'_>
+        ensures { plain_said result ≡ ack_resent profile.now side self.now }
+    {
+        if self.modes.owes_third {
+            return self.ack_said(profile, side, self.tcp.nxt(), None);
         }
         if self.sending.owes_end() {
             return self.ack_said(profile, side, self.tcp.nxt(), self.sending.known_end());
         }
         let probe = self.tcp.una().saturating_sub(1);
         self.ack_said(profile, side, probe, None)
+    }
+
+    /// What an expiry sends again: the first record, or else an acknowledgement.
+    fn resend_said(&self, profile: &Profile, side: Side) -> Said<'_>
+        ensures { plain_said result ≡ resend_said profile.now side self.now }
+    {
+        if self.tcp.has_records() {
+            self.record_or_ack(profile, side, self.tcp.first_record())
+        } else {
+            self.ack_resent(profile, side)
+        }
     }
 
     /// The segment of this kind.
@@ -335,6 +380,7 @@ impl PathEnd {
             SegmentKind::SynAck => self.syn_ack_said(profile, side),
             SegmentKind::Answer => self.answer_said(profile, side),
             SegmentKind::DeadAnswer => self.dead_answer_said(profile),
+            SegmentKind::Refusal => self.refusal_said(profile),
             SegmentKind::Resend => self.resend_said(profile, side),
             SegmentKind::Reset { reason } => self.reset_said(profile, reason),
         }

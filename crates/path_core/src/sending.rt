@@ -1,6 +1,6 @@
 //! What an end keeps of its side's own stream (RFC 8684, sections 3.3.2 and 3.3.3).
 
-ghost use Rattle.std.specs.Prelude.{◌≡◌, ◌&&◌, ◌++◌, ◌∷◌, [], false, true, not, is_some, List, OnOk, OnErr, filter};
+ghost use Rattle.std.specs.Prelude.{◌≡◌, ◌&&◌, ◌||◌, ◌++◌, ◌∷◌, [], false, true, not, is_some, List, OnOk, OnErr, filter};
 ghost use Rattle.std.specs.List.{list_any};
 ghost use Rattle.send_book.specs.declared.call.Span.{Span};
 ghost use Rattle.data_close.specs.Closing as closing;
@@ -156,6 +156,13 @@ impl Sending {
     {
         self.shut = why == Why::WindowShut;
         self.known_end = known.or(self.known_end);
+    }
+
+    /// Something else that the timer waits for was answered, or it wasn't.
+    pub fn note_news(&mut self, news: bool)
+        ensures { self.new ≡ record self.old { news = self.old.news || news } }
+    {
+        self.news |= news;
     }
 
     /// These places are granted. At an error all is as it was.

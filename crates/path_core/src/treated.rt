@@ -25,8 +25,12 @@ pub(crate) struct Treated {
     fins: ArrayVec<u64, 2>,
     /// Bytes or an end were told since the book was asked last what is to be acknowledged.
     asked: bool,
-    /// The reset that answers it at a dead end.
+    /// The reset that answers it at a dead end, and at an end that refuses it.
     answer: Option<Outgoing>,
+    /// The window that it told, in octets.
+    window: u32,
+    /// It acknowledges data for the first time, and has no Data ACK.
+    plain_ack: bool,
 }
 
 impl Model for Treated {
@@ -42,6 +46,8 @@ impl Model for Treated {
       fins = t.fins.items;
       asked = t.asked;
       answer = t.answer;
+      window = t.window;
+      plain_ack = t.plain_ack;
     } };
 
     ghost use Rattle.std.specs.Prelude.{◌^◌, ◌≤◌, All};
@@ -65,21 +71,45 @@ impl Treated {
             fins: ArrayVec::new(),
             asked: false,
             answer: None,
+            window: 0,
+            plain_ack: false,
         }
     }
 
-    /// What the copy said, with the answer to it, is to be treated.
-    pub fn of(items: Items, opened: bool, has_option: bool, answer: Outgoing) -> Self
+    /// What the copy said, with the answer to it and the window that it told, is to be treated.
+    pub fn of(items: Items, opened: bool, has_option: bool, answer: Outgoing, window: u32) -> Self
         requires { All IsFair items.items }
-        ensures { result ≡ record nothing_treated { items = items.items; opened = opened; has_option = has_option; answer = Some answer } }
+        ensures { result ≡ record nothing_treated { items = items.items; opened = opened; has_option = has_option; answer = Some answer; window = window } }
     {
         Treated {
             items,
             opened,
             has_option,
             answer: Some(answer),
+            window,
             ..Treated::nothing()
         }
+    }
+
+    /// Whether it acknowledges data for the first time without a Data ACK.
+    pub fn note_plain_ack(&mut self, plain_ack: bool)
+        ensures { self.new ≡ record self.old { plain_ack = plain_ack } }
+    {
+        self.plain_ack = plain_ack;
+    }
+
+    /// Whether it acknowledges data for the first time without a Data ACK.
+    pub fn is_plain_ack(&self) -> bool
+        ensures { result ≡ self.now.plain_ack }
+    {
+        self.plain_ack
+    }
+
+    /// The window that it told, in octets.
+    pub fn window(&self) -> u32
+        ensures { result ≡ self.now.window }
+    {
+        self.window
     }
 
     /// The thing of this number that it said, the first being 0.

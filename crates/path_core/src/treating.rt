@@ -4,17 +4,19 @@ ghost use Rattle.std.specs.Prelude.{◌≡◌, ◌≤◌, ◌^◌, ◌&&◌, not
 ghost use Rattle.actor_desk.specs.Kinds.{CanBeAsked};
 ghost use Rattle.actor_desk.specs.declared.ask.Reply.TheVariants as replies;
 ghost use Rattle.path_agenda.specs.Items.{IsFair};
+ghost use Rattle.path_core.specs.Breaking.{break_ask, answered_break};
 ghost use Rattle.path_core.specs.Octets.{octets};
 ghost use Rattle.path_core.specs.Opening.{after_keys};
 ghost use Rattle.path_core.specs.Placing.{with_learned, with_skipped};
 ghost use Rattle.path_core.specs.Replies.{IsAckBounded};
 ghost use Rattle.path_core.specs.State.{end_at, goes_on, left, with_agenda, with_end};
-ghost use Rattle.path_core.specs.Treating.{mode_in, after_verdict, counts, is_clash, mapping_stands, heard_stands, mapping_ask, heard_ask, is_acked, told_next, acked_in, with_acked, answered_ack, answered_mapping, with_fin, answered_heard, after_dss, heard_passed, item_stands, item_ask, answered_item, item_passed, item_of, is_dropped, after_keep, fell_ask};
+ghost use Rattle.path_core.specs.Treating.{mode_in, after_verdict, counts, is_clash, mapping_stands, heard_stands, mapping_ask, heard_ask, is_acked, told_next, acked_in, with_acked, answered_ack, answered_mapping, with_fin, answered_heard, after_dss, heard_passed, item_stands, item_ask, answered_item, item_passed, item_of, breaks_by_ack, is_dropped, after_keep, fell_ask};
 
 use crate::end::PathEnd;
 use crate::modes::Modes;
 use crate::opening::keys_ask;
 use crate::path::Path;
+use crate::profile::Profile;
 use crate::sending::Sending;
 use actor_desk::{Ask, LocalStep, Reply};
 use control_book::{ControlCall, ControlReply};
@@ -27,6 +29,10 @@ use std::alloc::AllocError;
 /// A mapping that gives a position another place breaks the path with this reason: an unspecific one (RFC 8684,
 /// section 3.6).
 const CLASH: u8 = 1;
+
+/// An acknowledgement without a Data ACK breaks a path that joined with this reason: options are lost on the way (RFC 8684,
+/// section 3.6).
+const STRIPPED: u8 = 6;
 
 /// A Data ACK was taken.
 fn is_acked(reply: &Reply) -> bool
@@ -87,7 +93,7 @@ impl PathEnd {
     {
         let starting = self.modes.mode == Mode::Starting;
         match item {
-            Heard::Dss | Heard::PeerKey { .. } => false,
+            Heard::Dss | Heard::PeerKey { .. } | Heard::Join { .. } => false,
             Heard::DataAck { .. } => true,
             Heard::Mapping => self.counts() && (self.is_clash() || starting),
             Heard::DataFin { .. } => self.counts() && starting,
@@ -138,20 +144,47 @@ impl PathEnd {
         self.treated.note_fin(place);
     }
 
+    /// So many bytes of the stream are acknowledged, where the Data ACK was taken.
+    fn hear_ack(&mut self, next: u64, reply: &Reply)
+        ensures { self.new ≡ with_acked next reply.now self.old }
+    {
+        self.sending.hear_ack(next, reply);
+        self.modes.covered |= 0 < next;
+    }
+
+    /// At A the first DSS clears the end, and answers the third MP_JOIN, which is news for the timer.
+    fn pass_dss(&mut self, side: Side)
+        ensures { self.new ≡ after_dss side self.old }
+    {
+        self.sending.note_news(self.modes.owes_third);
+        self.modes.clear |= side == Side::A;
+        self.modes.owes_third = false;
+    }
+
+    /// An acknowledgement without a Data ACK breaks a path that joined, as long as no Data ACK covered something on it.
+    pub fn breaks_by_ack(&self, profile: &Profile) -> bool
+        ensures { result ≡ breaks_by_ack profile.now self.now }
+    {
+        profile.is_joined() && self.treated.is_plain_ack() && !self.modes.covered
+    }
+
     /// What is passed in silence.
     fn pass_heard(&mut self, side: Side, item: Heard)
         requires { IsFair item }
         ensures { self.new ≡ heard_passed side item self.old }
     {
         match item {
-            Heard::Dss => self.modes.clear |= side == Side::A,
+            Heard::Dss => self.pass_dss(side),
             Heard::Mapping => self.pass_mapping(),
             Heard::DataFin { place } => {
                 if self.counts() {
                     self.note_fin(place);
                 }
             }
-            Heard::DataAck { .. } | Heard::PeerKey { .. } | Heard::Keys { .. } => {}
+            Heard::DataAck { .. }
+            | Heard::PeerKey { .. }
+            | Heard::Keys { .. }
+            | Heard::Join { .. } => {}
         }
     }
 
@@ -232,7 +265,9 @@ impl Path {
             Heard::Mapping => self.mapping_ask(side),
             Heard::DataFin { .. } => self.fell_ask(side, Event::MappingHeard),
             Heard::Keys { own, peer } => keys_ask(side, Some(KeyPair { own, peer })),
-            Heard::Dss | Heard::PeerKey { .. } => Ask::Local(LocalStep::End),
+            Heard::Dss | Heard::PeerKey { .. } | Heard::Join { .. } => {
+                Ask::Local(LocalStep::End)
+            }
         }
     }
 
@@ -251,7 +286,7 @@ impl Path {
     fn answer_ack(&mut self, side: Side, next: u64, reply: &Reply)
         ensures { self.new ≡ answered_ack side next reply.now self.old }
     {
-        self.end_mut(side).sending.hear_ack(next, reply);
+        self.end_mut(side).hear_ack(next, reply);
         if is_acked(reply) && 0 < next {
             self.turns_to(Duty::AckHeard(side));
         } else {
@@ -313,7 +348,7 @@ impl Path {
                 self.answer_keys(side, KeyPair { own, peer }, reply);
                 Ok(())
             }
-            Heard::Dss | Heard::PeerKey { .. } => {
+            Heard::Dss | Heard::PeerKey { .. } | Heard::Join { .. } => {
                 self.done();
                 Ok(())
             }
@@ -345,6 +380,23 @@ impl Path {
         ensures { self.new ≡ with_end side (item_passed side (item_of index (end_at side self.old)) (end_at side self.old)) self.old }
     {
         self.end_mut(side).pass_item(side, index);
+    }
+
+    /// The first step of the break by an acknowledgement without a Data ACK.
+    pub(crate) fn plain_ack_ask(&self, side: Side) -> Ask
+        ensures value { result ≡ break_ask octets side 6 self.now }
+        ensures able { CanBeAsked result }
+    {
+        self.break_ask(side, STRIPPED)
+    }
+
+    /// That step is made. At an error all is as it was.
+    pub(crate) fn answer_plain_ack(&mut self, side: Side, reply: &Reply) -> Result<(), AllocError>
+        requires { IsAckBounded reply.now }
+        ensures ok { OnOk result (self.new ≡ answered_break octets side 6 reply.now self.old) }
+        ensures err { OnErr result (self.new ≡ self.old) }
+    {
+        self.answer_break(side, STRIPPED, reply)
     }
 
     /// The payload that is held is kept or dropped.

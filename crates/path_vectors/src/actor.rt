@@ -1,5 +1,6 @@
 //! An actor, and its turns.
 
+use crate::case::Injected;
 use crate::journal::Journal;
 use crate::serving::serve;
 use actor_desk::{Books, Note};
@@ -16,7 +17,7 @@ const MOST_STEPS: u32 = 1_000_000;
 /// A later tick than any case comes to.
 const LAST_TICK: u64 = 1 << 62;
 
-/// An application, or path 0.
+/// An application, or a path.
 #[derive(Drop)]
 pub enum Member {
     App(App),
@@ -46,7 +47,7 @@ fn step_app(
     Ok(Some(note))
 }
 
-/// A step of path 0; none where its turn ended.
+/// A step of a path; none where its turn ended.
 fn step_path(
     path: &mut Path,
     pass: &mut Pass,
@@ -60,7 +61,7 @@ fn step_path(
     Ok(Some(note))
 }
 
-/// Path 0 begins its next round.
+/// A path begins its next round.
 fn begin_round(path: &mut Path) -> Result<(), CaseFault> {
     if !path.has_ended() || path.round_end() > LAST_TICK {
         return Err(CaseFault::Form);
@@ -94,10 +95,10 @@ impl Actor {
         }
     }
 
-    /// Whether it is a path that is dead.
+    /// Whether it isn't a path that lives or may live.
     pub fn is_dead(&self) -> bool {
         match &self.member {
-            Member::App(_) => false,
+            Member::App(_) => true,
             Member::Path(path) => path.is_dead(),
         }
     }
@@ -137,11 +138,13 @@ impl Actor {
         }
     }
 
-    /// A path's link takes these octets from A's side.
-    pub fn inject(&mut self, octets: &[u8]) -> Result<(), AllocError> {
+    /// The link of the path takes these octets from A's side, where the actor is that path.
+    pub fn inject(&mut self, injected: &Injected) -> Result<(), AllocError> {
         match &mut self.member {
-            Member::App(_) => Ok(()),
-            Member::Path(path) => path.inject(Side::A, octets),
+            Member::Path(path) if path.number() == injected.path => {
+                path.inject(Side::A, injected.octets.as_slice())
+            }
+            _ => Ok(()),
         }
     }
 }

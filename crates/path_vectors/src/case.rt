@@ -1,7 +1,7 @@
-//! A case is `SCRIPT | FILE_A | FILE_B | ROUNDS | SHOWN`, or so with ` | OCTETS`. In the script `;` stands for LF. A file is
+//! A case is `SCRIPT | FILE_A | FILE_B | ROUNDS | SHOWN`, or so with ` | OCTETS` or ` | OCTETS | PATH`. In the script `;` stands for LF. A file is
 //! `none` where the side has no application, `-` where it is empty, `text` and its text, `hex` and its octets, or `made`
 //! and how many octets: the one at place k is k modulo 251. `SHOWN` is `log`, `sums` or `places`. `OCTETS`, in hexadecimal
-//! digits, go to the link of path 0 from A's side after the first round, and A's end doesn't know of them.
+//! digits, go to the link of that path, or of path 0, from A's side after the first round, and A's end doesn't know of them.
 ghost use Rattle.std.specs.Prelude.{IfOk};
 ghost use Rattle.link_script.specs.Scripts.{HasRanges};
 
@@ -31,8 +31,15 @@ pub struct Case {
     /// How many rounds are made at most.
     pub rounds: u64,
     pub shown: Shown,
-    /// What goes to the link after the first round.
-    pub injected: Option<Vec<u8>>,
+    /// What goes to a link after the first round.
+    pub injected: Option<Injected>,
+}
+
+/// Octets that go to the link of a path.
+#[derive(Drop)]
+pub struct Injected {
+    pub octets: Vec<u8>,
+    pub path: u8,
 }
 
 impl Case {
@@ -48,7 +55,7 @@ impl Case {
             file_b: file(alloc, word_at(fields, 2)?)?,
             rounds: parsed_at(fields, 3)?,
             shown: shown_at(fields, 4)?,
-            injected: injected(alloc, fields)?,
+            injected: injection(alloc, fields)?,
         })
     }
 }
@@ -83,10 +90,21 @@ fn script(alloc: Global, field: &str) -> Result<Script, CaseFault>
     }
 }
 
-/// What goes to the link, where the case has a sixth field.
-fn injected(alloc: Global, fields: &[&str]) -> Result<Option<Vec<u8>>, CaseFault> {
+/// The path of the seventh field, or path 0.
+fn path_at(fields: &[&str]) -> Result<u8, CaseFault> {
+    match fields.get(6) {
+        Some(_) => parsed_at(fields, 6),
+        None => Ok(0),
+    }
+}
+
+/// What goes to a link, where the case has a sixth field.
+fn injection(alloc: Global, fields: &[&str]) -> Result<Option<Injected>, CaseFault> {
     match fields.get(5) {
-        Some(_) => Ok(Some(octets_at(alloc, fields, 5)?)),
+        Some(_) => Ok(Some(Injected {
+            octets: octets_at(alloc, fields, 5)?,
+            path: path_at(fields)?,
+        })),
         None => Ok(None),
     }
 }

@@ -3,7 +3,7 @@ ghost use Rattle.std.specs.Prelude.{◌≤◌};
 ghost use Rattle.link_script.specs.Scripts.{HasRanges};
 
 use crate::actor::{Actor, Member};
-use crate::case::Case;
+use crate::case::{Case, Injected};
 use crate::journal::Journal;
 use actor_desk::Books;
 use case_fields::CaseFault;
@@ -16,14 +16,14 @@ use run_log::Outcome;
 use std::alloc::{AllocError, Global};
 use stream_apps::App;
 
-/// The applications, path 0 and the six books.
+/// The applications, the paths and the six books.
 #[derive(Drop)]
 pub struct Connection {
     alloc: Global,
     actors: Vec<Actor>,
     books: Books,
-    /// What still goes to the link.
-    injected: Option<Vec<u8>>,
+    /// What still goes to a link.
+    injected: Option<Injected>,
 }
 
 /// The keys of A and B.
@@ -68,6 +68,18 @@ fn push_app(
     Ok(())
 }
 
+/// The paths of a script have the actors' numbers from 2 on.
+fn push_paths(alloc: Global, actors: &mut Vec<Actor>, script: &Script) -> Result<(), AllocError>
+    requires { HasRanges script.now }
+{
+    for number in 0..script.paths.as_slice().len() {
+        let path = number as u8;
+        let member = Member::Path(Path::new(alloc, script, path)?);
+        actors.push(Actor::new(path + 2, member))?;
+    }
+    Ok(())
+}
+
 /// The actors of a case.
 fn actors_of(
     alloc: Global,
@@ -80,8 +92,7 @@ fn actors_of(
     let mut actors = Vec::new(alloc);
     push_app(&mut actors, 0, Side::A, script.buffer, file_a)?;
     push_app(&mut actors, 1, Side::B, script.buffer, file_b)?;
-    let path = Path::new(alloc, script, 0)?;
-    actors.push(Actor::new(2, Member::Path(path)))?;
+    push_paths(alloc, &mut actors, script)?;
     Ok(actors)
 }
 
@@ -127,11 +138,11 @@ impl Connection {
         Ok(())
     }
 
-    /// What the case has for the link goes there, once.
+    /// What the case has for a link goes there, once.
     fn inject(&mut self) -> Result<(), AllocError> {
-        if let Some(octets) = self.injected.take() {
+        if let Some(injected) = self.injected.take() {
             for actor in self.actors.iter_mut() {
-                actor.inject(octets.as_slice())?;
+                actor.inject(&injected)?;
             }
         }
         Ok(())
@@ -142,9 +153,9 @@ impl Connection {
         self.actors.iter().all(|actor| actor.is_told())
     }
 
-    /// Whether the path is dead.
+    /// Whether every path is dead.
     fn has_no_path(&self) -> bool {
-        self.actors.iter().any(|actor| actor.is_dead())
+        self.actors.iter().all(|actor| actor.is_dead())
     }
 
     /// How the run ended, where it did.

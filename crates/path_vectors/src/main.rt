@@ -1,9 +1,9 @@
 //! Cases of the actors of one connection: reads one a line from standard input, makes whole turns of both applications and
-//! of path 0 over the six books, and prints the steps that they made. `stdin` holds the cases, `stdout` the wanted answers.
+//! of all paths over the six books, and prints the steps that they made. `stdin` holds the cases, `stdout` the wanted answers.
 //! Lines that begin with `#` are printed as they stand, and say how the answers were found.
 //!
-//! A case is `SCRIPT | FILE_A | FILE_B | ROUNDS | SHOWN`, or so with ` | OCTETS`; `case.rt` tells its form. The rounds are
-//! made up to the first after which both readers were told the end of their streams or the path is dead, but no more than
+//! A case is `SCRIPT | FILE_A | FILE_B | ROUNDS | SHOWN`, or so with octets for a link; `case.rt` tells its form. The rounds are
+//! made up to the first after which both readers were told the end of their streams or every path is dead, but no more than
 //! so many.
 //!
 //! Of what was made, `log` shows each line of the log, and `sums` how many steps and rounds there were, the SHA-256 of the

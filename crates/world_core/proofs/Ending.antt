@@ -12,7 +12,7 @@ use Rattle.stream_lanes.proofs.Lists.{in_map}
 use Rattle.world_laws.specs.Actors.{Actor, ActorCrew, member_next, is_over}
 use Rattle.world_laws.specs.declared.member.Member.TheVariants.{App, Path}
 use Rattle.world_laws.specs.Fine.{IsFine}
-use Rattle.world_laws.specs.Openings.{Start, opened_world}
+use Rattle.world_laws.specs.Openings.{Start, opened_world, path_begins}
 use Rattle.actor_desk.specs.Books.{StampedBooks}
 use Rattle.world_laws.specs.Worlds.{all_over, greatest, begins, end_round}
 use Rattle.world_laws.specs.Timely.{IsTimely, IsTimelyMember}
@@ -138,10 +138,11 @@ ended_kept crew books h failed k = record {
 pub opened_sound : (start : Start) → IsSound (opened_world start)
 opened_sound start = record {
   fine = (stays_fine octets).always start [];
-  timely = opened_lifted IsTimelyCrew start (record { few = omega arith; timely = tt }) (record { few = omega arith; timely = tt }) (record {
-    few = omega arith;
-    timely = first_timely (waiting_path start.profile start.drawn start.delay start.lines) 0 (omega arith);
-  });
+  timely = opened_lifted IsTimelyCrew start (record { few = omega arith; timely = tt }) (record { few = omega arith; timely = tt })
+      (λ number plan there. record {
+        few = omega arith;
+        timely = first_timely (waiting_path (path_begins start number plan) start.lines) 0 (omega (arith));
+      });
 }
 
 pub opened_parts : (start : Start) (crew : List (ActorCrew (List ℕ))) (books : StampedBooks) → crew ≡ (opened_world start).crew → books ≡ (opened_world {C = List ℕ} start).books

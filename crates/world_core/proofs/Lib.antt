@@ -4,4 +4,5 @@ mod AsValues
 mod Showing
 mod StepMade
 mod Ending
+mod Opening
 pub mod RoundsMade

@@ -1,6 +1,6 @@
 //! What a connection begins with.
 
-ghost use Rattle.std.specs.Prelude.{◌≡◌, ◌<◌, ◌≤◌, ◌^◌, IfOk};
+ghost use Rattle.std.specs.Prelude.{◌≡◌, ◌<◌, ◌≤◌, ◌^◌, length, IfOk};
 ghost use Rattle.link_script.specs.Scripts.{HasRanges};
 ghost use Rattle.path_core.specs.Starts.{key_of, first_turn_of};
 ghost use Rattle.stream_apps.specs.Starts.{first_app_turn};
@@ -60,12 +60,13 @@ fn new_app(script: &Script, side: Side, file: &Text) -> Result<Member, AllocErro
     Ok(Member::App(App::new(side, script.buffer, file)))
 }
 
-// Path 0, which has made no step.
-fn new_path(alloc: Global, script: &Script) -> Result<Member, AllocError>
-    requires { HasRanges script.now }
-    ensures { IfOk result (λ member. member ≡ members.Path (first_turn_of script.now)) }
+// A path that has made no step.
+fn new_path(alloc: Global, script: &Script, path: u8) -> Result<Member, AllocError>
+    requires ranges { HasRanges script.now }
+    requires path { path < length script.now.paths }
+    ensures { IfOk result (λ member. member ≡ members.Path (first_turn_of script.now path)) }
 {
-    Ok(Member::Path(Path::new(alloc, script, 0)?))
+    Ok(Member::Path(Path::new(alloc, script, path)?))
 }
 
 // An actor that has made no step.
@@ -83,24 +84,24 @@ fn new_crew(alloc: Global, number: u8, member: Member) -> Crew
     }
 }
 
-// The two applications and path 0.
+// The two applications and the paths of the script.
 fn opened_crew(alloc: Global, input: &Input) -> Result<Vec<Crew>, AllocError>
     requires { HasRanges input.now.script }
     ensures { IfOk result (λ crew. crew.items ≡ (opened_world (start_of input.now.script input.now.file_a input.now.file_b)).crew) }
 {
     let a = new_app(&input.script, Side::A, &input.file_a)?;
     let b = new_app(&input.script, Side::B, &input.file_b)?;
-    let path = new_path(alloc, &input.script)?;
-    let crew = vec![in alloc;
-        new_crew(alloc, 0, a),
-        new_crew(alloc, 1, b),
-        new_crew(alloc, 2, path),
-    ]?;
+    let mut crew = vec![in alloc; new_crew(alloc, 0, a), new_crew(alloc, 1, b)]?;
+    for path in 0..input.script.paths.as_slice().len() as u8 {
+        let member = new_path(alloc, &input.script, path)?;
+        crew.push(new_crew(alloc, 2 + path, member))?;
+    }
     Ok(crew)
 }
 
 impl World {
-    /// A connection before its first step: both applications, path 0 and the books are at the start of round 0.
+    /// A connection before its first step: both applications, each path of the script and the books are at the start of
+    /// round 0.
     ///
     /// # Errors
     ///

@@ -1,4 +1,4 @@
-//! The world of one connection: its two applications, its path and the six books, as they go on step by step.
+//! The world of one connection: its two applications, its paths and the six books, as they go on step by step.
 //!
 //! The actors make steps in any order. Where a turn has ended nothing changes, and where each has, the next round begins. A
 //! step that wants memory fails the world for good.

@@ -1,5 +1,5 @@
 -- What each duty's reply makes of the path and of its lanes: the duties that ask no event.
-use Rattle.std.proofs.Common.{◌≡◌, refl, sym, subst, ℕ, ◌+◌, ◌-◌, Bool, true, false, if◌then◌else◌, Option, Some, None, List, [], length, arith}
+use Rattle.std.proofs.Common.{◌≡◌, refl, sym, ℕ, ◌-◌, Bool, true, false, if◌then◌else◌, Option, Some, None, List, [], length}
 use Rattle.std.proofs.lemmas.Bool.{both_ways}
 use Rattle.std.specs.Option.{IfSome}
 use Rattle.outside_kit.specs.declared.side.Side.{Side}
@@ -16,15 +16,15 @@ use Rattle.subflow_tcp.specs.Emitting.{reset_segment, fin_position}
 use Rattle.subflow_tcp.specs.Closing.{after_finishing}
 use Rattle.subflow_tcp.specs.State.{has_records}
 use Rattle.subflow_tcp.specs.States as states
-use Rattle.stream_lanes.specs.Lane.{Cell, Lane}
-use Rattle.stream_lanes.specs.Holding.{Holds, LaneHolds, IsHonest, IsRight}
-use Rattle.stream_lanes.specs.Streams.{Reader}
-use Rattle.stream_lanes.specs.View.{View}
-use Rattle.stream_lanes.proofs.Lists.{in_map}
+use Rattle.stream_lanes.specs.Lane.{Lane}
 use Rattle.actor_desk.specs.declared.ask.Ask.{Ask}
+use Rattle.actor_desk.specs.declared.ask.Reply.{Reply}
 use Rattle.actor_desk.specs.Desk.{SixBooks, reassembly_of, reply_of}
 use Rattle.actor_desk.specs.Words.{pick}
+use Rattle.join_handshake.specs.declared.hearing.JoinSyn.{JoinSyn}
 use Rattle.path_agenda.specs.declared.duty.Duty.{Duty}
+use Rattle.path_agenda.specs.declared.duty.Duty.TheVariants as duties
+use Rattle.path_agenda.specs.Words.{replaced}
 use Rattle.path_agenda.specs.declared.keys.KeyPair.{KeyPair}
 use Rattle.path_core.specs.Breaking.{reset_of, reset_on, break_ask, answered_break}
 use Rattle.path_core.specs.Closing.{owes_end, with_end_sent}
@@ -33,46 +33,36 @@ use Rattle.path_core.specs.Emission.{first_unsent, unsent_segment, having_sent_u
 use Rattle.path_core.specs.Ends.{PathEnd}
 use Rattle.path_core.specs.Events.{died}
 use Rattle.path_core.specs.Opening.{peer_key_ask, keys_ask, syn_ack_of}
+use Rattle.path_core.specs.Joining.{keys_begun, asked_at, join_heard_ask, joined_by, join_taken, answered_join_heard, refusal_of, answered_refusal}
 use Rattle.path_core.specs.Passing.{first_record, first_segment, answer_of, answer_occasion, answered_answer, answered_again, outgoing_or, dead_answer, answered_dead, resend_occasion, resend_of, answered_resend, rate_ask}
-use Rattle.path_core.specs.Segments.{ack_said, syn_ack_said, record_or_ack, segment_of}
+use Rattle.path_core.specs.Segments.{ack_said, syn_ack_said, record_or_ack, reset_options, segment_of}
 use Rattle.path_core.specs.Sends.{sends, having_sent, sent_on}
 use Rattle.path_core.specs.Standing.{ack_out_ask, after_ack_out, answered_ack_out, ack_segment}
 use Rattle.path_core.specs.State.{PathState, Profile, end_at, goes_on, left, with_agenda}
 use Rattle.path_core.specs.Values.{Carried, values}
+use Rattle.path_core.specs.Words.{is_side_a}
 use Rattle.world_laws.proofs.Doing.{has_last, with_fin_sent, sends_the_fin, fin_goes, wants_ack_out}
 use Rattle.world_laws.proofs.Growing.{receiver_stays}
 use Rattle.world_laws.proofs.Ending.{Did, did_nothing, told_end, finished_shows, unfinished_if}
 use Rattle.world_laws.proofs.Records.{every_find, every_at, sent_end}
 use Rattle.world_laws.proofs.Roads.{stays}
-use Rattle.world_laws.proofs.Rules.{died_shows}
-use Rattle.world_laws.proofs.Lanes.{duo_of}
+use Rattle.world_laws.proofs.Rules.{died_shows, joined_shows}
+use Rattle.world_laws.proofs.Lanes.{Others}
 use Rattle.world_laws.proofs.Saying.{ack_says, syn_ack_says, fin_says, reset_says, outgoing_says, record_or_ack_says}
-use Rattle.world_laws.proofs.Showing.{HasMapping, HasFin, RecordShows, EndShows, SegmentShows, PathShows}
+use Rattle.world_laws.proofs.Showing.{HasAck, HasMapping, HasFin, RecordShows, EndShows, SegmentShows, PathShows}
 use Rattle.world_laws.proofs.Sides.{SideDid, Answered, IsQuiet, side_kept, side_sent, quiet, quiet_side, told_side}
-use Rattle.world_laws.proofs.Strolling.{Strolled, side_shows, out_holds}
+use Rattle.world_laws.proofs.Strolling.{Strolled, side_shows}
 
 -- ---- what holds of the lanes
 
--- on a lane with one path a mapping from the first position begins at the first place
-pub first_mapping : (v : View) (p : Lane) → v.alone ≡ true → LaneHolds v 0 p → (place len : ℕ) → HasMapping p.datas place 1 len → HasMapping p.datas 0 1 len
-first_mapping v p alone h place len has =
-    let honest : IsHonest p.sent has.item = h.bytes.honest.each has.at has.item has.there in
-    let right : IsRight p.sent has.holds.mapping = subst (λ o. IfSome o (IsRight p.sent)) has.holds.there honest.mapping in
-    let some = right.some in
-    let cell = in_map (λ (c : Cell). c.place) p.sent (has.holds.mapping.pos + 0) (has.holds.mapping.place + 0) (right.places 0 (omega (arith, some))) in
-    let position_is = has.holds.is.position_is in
-    let at = (h.alone alone).identity.each (has.holds.mapping.pos + 0) (has.holds.mapping.pos + 0) cell.0 (omega arith) cell.1 in
-    let place_is = cell.2 in
-    record {
-      at = has.at;
-      item = has.item;
-      there = has.there;
-      holds = record {
-        mapping = has.holds.mapping;
-        there = has.holds.there;
-        is = record { place_is = omega (arith, place_is, at, position_is); position_is = position_is; len_is = has.holds.is.len_is };
-      };
-    }
+-- As long as A may send no DSS, what it sent from the first position on begins at the first place.
+abbrev pub BeginsFirst : Side → PathEnd → Lane → Type 0
+BeginsFirst s e p = is_side_a s ≡ true → e.modes.clear ≡ false → (place len : ℕ) → HasMapping p.datas place 1 len → HasMapping p.datas 0 1 len
+
+-- so it is at both ends, and where an end may ask for bytes its lane is open
+pub record IsReady (p : PathState Carried) (ab ba : Lane) : Type 0 where
+  pub first : (s : Side) → BeginsFirst s (end_at s p) (pick s ab ba)
+  pub opened : (s : Side) → states.may_finish (end_at s p).tcp.state ≡ true → (pick s ab ba).opened ≡ true
 
 -- a rule more, which leaves the lanes alone
 pub did_then : (c : Profile) (s : Side) (e f : PathEnd) (out out_called back back_called : Lane) (d : Did c s e out out_called back back_called)
@@ -89,23 +79,23 @@ did_then c s e f out out_called back back_called d rule = record {
 
 -- ---- a step of the path
 
-module _ (six : SixBooks) (reader_a reader_b : Reader) (p : PathState Carried) (ab ba : Lane) (h : PathShows p.profile p ab ba) (holds : Holds (duo_of six ab ba reader_a reader_b)) where
+module _ (six : SixBooks) (others : Others) (p : PathState Carried) (ab ba : Lane) (h : PathShows p.profile p ab ba) (ready : IsReady p ab ba) where
   -- the path becomes this after this ask
   abbrev pub Steps : Ask → PathState Carried → Type 0
-  Steps ask q = Answered p.profile six reader_a reader_b ask q ab ba
+  Steps ask q = Answered p.profile six others ask q ab ba
 
   abbrev pub shows_at : (s : Side) → EndShows p.profile s (end_at s p) (pick s ab ba) (pick s ba ab)
   shows_at s = side_shows p.profile s p ab ba h
 
   -- the agenda changes alone
   pub agenda_shows : (ds : List Duty) → PathShows p.profile (with_agenda ds p) ab ba
-  agenda_shows ds = record { profile = h.profile; path = h.path; unchanged = h.unchanged; a = h.a; b = h.b; copies = h.copies }
+  agenda_shows ds = record { profile = h.profile; unchanged = h.unchanged; a = h.a; b = h.b; copies = h.copies }
 
   pub agenda_strolled : (ds : List Duty) → Strolled p.profile (with_agenda ds p) ab ba
   agenda_strolled ds = record { ab_after = ab; ba_after = ba; ab_moves = stays ab; ba_moves = stays ba; shows = agenda_shows ds }
 
   pub agenda_step : (ask : Ask) (ds : List Duty) → IsQuiet ask → Steps ask (with_agenda ds p)
-  agenda_step ask ds is = quiet p.profile six reader_a reader_b ask (with_agenda ds p) ab ba is (agenda_strolled ds)
+  agenda_step ask ds is = quiet p.profile six others ask (with_agenda ds p) ab ba is (agenda_strolled ds)
 
   -- after a call too
   pub agenda_side : (s : Side) (out_called back_called : Lane) (ds : List Duty) → Did p.profile s (end_at s p) (pick s ab ba) out_called (pick s ba ab) back_called
@@ -116,13 +106,13 @@ module _ (six : SixBooks) (reader_a reader_b : Reader) (p : PathState Carried) (
   -- the end becomes this, and nothing is called
   pub end_step : (s : Side) (ask : Ask) (e : PathEnd) (ds : List Duty) → IsQuiet ask → EndShows p.profile s e (pick s ab ba) (pick s ba ab) → Steps ask (goes_on s e ds p)
   end_step s ask e ds is shows =
-      quiet_side p.profile six reader_a reader_b s p (goes_on s e ds p) ab ba ask h is
+      quiet_side p.profile six others s p (goes_on s e ds p) ab ba ask h is
       (side_kept p.profile p ab ba h s (pick s ab ba) (pick s ba ab) e ds (did_nothing p.profile s (pick s ab ba) (pick s ba ab) e shows))
 
   -- or it does something by itself
   pub did_step : (s : Side) (ask : Ask) (e : PathEnd) (ds : List Duty) → IsQuiet ask → Did p.profile s e (pick s ab ba) (pick s ab ba) (pick s ba ab) (pick s ba ab) → Steps ask (goes_on s e ds p)
   did_step s ask e ds is d =
-      quiet_side p.profile six reader_a reader_b s p (goes_on s e ds p) ab ba ask h is
+      quiet_side p.profile six others s p (goes_on s e ds p) ab ba ask h is
       (side_kept p.profile p ab ba h s (pick s ab ba) (pick s ba ab) e ds d)
 
   -- ---- a segment is sent
@@ -131,7 +121,7 @@ module _ (six : SixBooks) (reader_a reader_b : Reader) (p : PathState Carried) (
   pub sent_step : (s : Side) (sg : PlainSegment) (e : PathEnd) (ds : List Duty) → SegmentShows (pick s ba ab).acks (pick s ab ba) sg → EndShows p.profile s e (pick s ab ba) (pick s ba ab)
       → Steps (sends values s sg p) (sent_on values s sg e ds p)
   sent_step s sg e ds said shows =
-      quiet_side p.profile six reader_a reader_b s p (sent_on values s sg e ds p) ab ba (sends values s sg p) h tt
+      quiet_side p.profile six others s p (sent_on values s sg e ds p) ab ba (sends values s sg p) h tt
       (side_sent p.profile p ab ba h s (pick s ab ba) (pick s ba ab) e ds sg (did_nothing p.profile s (pick s ab ba) (pick s ba ab) e shows) said)
 
   pub occasion_step : (s : Side) (sg : PlainSegment) (occasion : Occasion) (ds : List Duty) → SegmentShows (pick s ba ab).acks (pick s ab ba) sg
@@ -156,7 +146,7 @@ module _ (six : SixBooks) (reader_a reader_b : Reader) (p : PathState Carried) (
     ack_said_shows position = ack_says p.profile s e back.acks out shows.window position None tt
 
     record_said_shows : (o : Option Record) → IfSome o (RecordShows p.profile s out.datas out.fins) → SegmentShows back.acks out (record_or_ack p.profile s o e)
-    record_said_shows = record_or_ack_says p.profile s e back.acks out shows.window (first_mapping _ out refl (out_holds six reader_a reader_b s ab ba holds))
+    record_said_shows = record_or_ack_says p.profile s e back.acks out shows.window (ready.first s)
 
     pub acknowledges_step : (ds : List Duty) → Steps (sends values s (ack_segment s p) p) (sent_on values s (ack_segment s p) (having_sent to_send.Ack p.clock (ack_segment s p) e) ds p)
     acknowledges_step ds = occasion_step s (ack_segment s p) to_send.Ack ds (ack_said_shows e.tcp.send.nxt)
@@ -181,17 +171,26 @@ module _ (six : SixBooks) (reader_a reader_b : Reader) (p : PathState Carried) (
     dead_step = sent_step s (dead_answer s p) e _ (by e.treated.answer shows.treated.answer) shows
       where
         by : (o : Option Outgoing) → IfSome o (λ x. x.fin ≡ false) → SegmentShows back.acks out (segment_of p.profile (outgoing_or o (reset_segment e.tcp)) [] [] e)
-        by None none = outgoing_says p.profile s e back.acks out shows.window (reset_segment e.tcp) refl
-        by (Some o) none = outgoing_says p.profile s e back.acks out shows.window o none
+        by None none = outgoing_says p.profile s e back.acks out shows.window (reset_segment e.tcp) None refl
+        by (Some o) none = outgoing_says p.profile s e back.acks out shows.window o None none
+
+    pub refuse_step : Steps (sends values s (refusal_of s p) p) (answered_refusal values s p)
+    refuse_step = sent_step s (refusal_of s p) e _ (by e.treated.answer shows.treated.answer) shows
+      where
+        by : (o : Option Outgoing) → IfSome o (λ x. x.fin ≡ false) → SegmentShows back.acks out (segment_of p.profile (outgoing_or o (reset_segment e.tcp)) (reset_options (Some 1)) [] e)
+        by None none = outgoing_says p.profile s e back.acks out shows.window (reset_segment e.tcp) (Some 1) refl
+        by (Some o) none = outgoing_says p.profile s e back.acks out shows.window o (Some 1) none
 
     pub resend_step : Steps (sends values s (resend_of s p) p) (answered_resend values s p)
-    resend_step = occasion_step s (resend_of s p) (resend_occasion e) _ (by (has_records e.tcp) (owes_end e.sending))
+    resend_step = occasion_step s (resend_of s p) (resend_occasion e) _ (by (has_records e.tcp) e.modes.owes_third (owes_end e.sending))
       where
-        by : (some owes : Bool) → SegmentShows back.acks out (if some then record_or_ack p.profile s (first_record e) e
-            else (if owes then ack_said p.profile s e.tcp.send.nxt e.sending.known_end e else ack_said p.profile s (e.tcp.send.una - 1) None e))
-        by true owes = record_said_shows (first_record e) (every_at 0 e.tcp.send.records shows.sender.pieces)
-        by false true = ack_says p.profile s e back.acks out shows.window e.tcp.send.nxt e.sending.known_end shows.sender.known_end
-        by false false = ack_said_shows (e.tcp.send.una - 1)
+        by : (some third owes : Bool) → SegmentShows back.acks out (if some then record_or_ack p.profile s (first_record e) e
+            else (if third then ack_said p.profile s e.tcp.send.nxt None e
+            else (if owes then ack_said p.profile s e.tcp.send.nxt e.sending.known_end e else ack_said p.profile s (e.tcp.send.una - 1) None e)))
+        by true third owes = record_said_shows (first_record e) (every_at 0 e.tcp.send.records shows.sender.pieces)
+        by false true owes = ack_said_shows e.tcp.send.nxt
+        by false false true = ack_says p.profile s e back.acks out shows.window e.tcp.send.nxt e.sending.known_end shows.sender.known_end
+        by false false false = ack_said_shows (e.tcp.send.una - 1)
 
     pub reset_step : (reason : Option ℕ) (ds : List Duty) → Steps (sends values s (reset_of s reason p) p) (reset_on values s reason ds p)
     reset_step reason ds =
@@ -209,14 +208,14 @@ module _ (six : SixBooks) (reader_a reader_b : Reader) (p : PathState Carried) (
 
     pub fin_step : states.may_finish e.tcp.state ≡ true → e.sending.close.own_acked ≡ true → Steps (sends values s (fin_segment_of s p) p) (answered_fin values s p)
     fin_step may acked =
-        quiet_side p.profile six reader_a reader_b s p (answered_fin values s p) ab ba (sends values s (fin_segment_of s p) p) h tt
+        quiet_side p.profile six others s p (answered_fin values s p) ab ba (sends values s (fin_segment_of s p) p) h tt
         (side_sent p.profile p ab ba h s out back (having_sent_fin s p) (left p) (fin_segment_of s p) sent (fin_says p.profile s e back.acks (with_fin_sent out) shows.window at))
       where
         sent : Did p.profile s (having_sent_fin s p) out out back back
         sent = record {
           out_after = with_fin_sent out;
           back_after = back;
-          out_moves = sends_the_fin out shows.sender.opened shows.sender.plain (shows.sender.fin_acked acked);
+          out_moves = sends_the_fin out (ready.opened s may) shows.sender.plain (shows.sender.fin_acked acked);
           back_moves = stays back;
           sender = fin_goes out;
           receiver = receiver_stays back;
@@ -234,9 +233,26 @@ module _ (six : SixBooks) (reader_a reader_b : Reader) (p : PathState Carried) (
 
     pub told_step : (ds : List Duty) → Steps (ack_out_ask s) (answered_ack_out s (reply_of six (ack_out_ask s)) ds p)
     told_step ds =
-        told_side p.profile six reader_a reader_b s p (answered_ack_out s (reply_of six (ack_out_ask s)) ds p) ab ba h (wants_ack_out back)
+        told_side p.profile six others s p (answered_ack_out s (reply_of six (ack_out_ask s)) ds p) ab ba h (wants_ack_out back)
         (side_kept p.profile p ab ba h s out _ (after_ack_out (reply_of six (ack_out_ask s)) e) ds
         (told_end p.profile s out back (next_wanted (reassembly_of s six)) (window (reassembly_of s six)) e shows))
+
+    -- ---- a join
+
+    join_heard_quiet : (o : Option JoinSyn) → IsQuiet (join_heard_ask s o p)
+    join_heard_quiet None = tt
+    join_heard_quiet (Some asked) = tt
+
+    join_by : (keys : Option KeyPair) (o : Option JoinSyn) (ask : Ask) → IsQuiet ask → IfSome o (λ asked. HasAck out.acks 0 e.treated.window) → Steps ask (join_taken s keys o p)
+    join_by (Some keys) (Some asked) ask is has =
+        end_step s ask (joined_by keys asked e) (replaced (duties.SynAck s) p.agenda) is (joined_shows p.profile s out back keys asked e has shows)
+    join_by (Some keys) None ask is has = agenda_step ask (replaced (duties.Refuse s) p.agenda) is
+    join_by None (Some asked) ask is has = agenda_step ask (replaced (duties.Refuse s) p.agenda) is
+    join_by None None ask is has = agenda_step ask (replaced (duties.Refuse s) p.agenda) is
+
+    -- the reply to JoinHeard
+    pub join_heard_step : (r : Reply) → Steps (join_heard_ask s (asked_at s p) p) (answered_join_heard s r p)
+    join_heard_step r = join_by (keys_begun r) (asked_at s p) (join_heard_ask s (asked_at s p) p) (join_heard_quiet (asked_at s p)) shows.treated.window
 
     -- ---- a break
 

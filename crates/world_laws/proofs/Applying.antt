@@ -24,7 +24,7 @@ use Rattle.world_laws.specs.Outcomes.{note_tells, was_told, tells_end, bytes_not
 
 -- ---- lists that grow
 
-any_more : {X : Type 0} (test : X → Bool) (xs : List X) (x : X) → list_any test (xs ++ x ∷ []) ≡ (list_any test xs || test x)
+pub any_more : {X : Type 0} (test : X → Bool) (xs : List X) (x : X) → list_any test (xs ++ x ∷ []) ≡ (list_any test xs || test x)
 any_more test [] x = by (test x)
   where
     by : (b : Bool) → (b || false) ≡ b

@@ -2,6 +2,7 @@
 use Rattle.std.proofs.Common.{◌≡◌, refl, sym, ap, subst, ℕ, ◌+◌, ◌-◌, inl, inr, ⊎_elim, Bool, true, false, if◌then◌else◌, Option, Some, None, List, [], ◌∷◌, length, arith}
 use Rattle.std.proofs.lemmas.Bool.{false≢true}
 use Rattle.std.proofs.lemmas.Option.{same_Some}
+use Rattle.std.specs.Option.{IfSome}
 use Rattle.outside_kit.specs.declared.side.Side.{Side}
 use Rattle.dss_mapping.specs.declared.kept.KeptMapping.{KeptMapping}
 use Rattle.path_segments.specs.Laws.{meant, window_told}
@@ -19,9 +20,11 @@ use Rattle.stream_lanes.specs.Lane.{Lane}
 use Rattle.stream_lanes.specs.View.{View}
 use Rattle.stream_lanes.proofs.Lists.{Every-nil}
 use Rattle.actor_desk.specs.Words.{is_nil}
-use Rattle.path_core.specs.Arriving.{copy_of, items_of, hint_of, reset_by, owing_if, owes_by, with_payload, after_meaning}
+use Rattle.path_core.specs.Arriving.{copy_of, items_of, hint_of, reset_by, owing_if, owes_by, with_payload, judged_in, taken_as, after_judged}
 use Rattle.path_core.specs.Ends.{PathEnd}
+use Rattle.path_core.specs.Joins.{is_joined, join_asked}
 use Rattle.path_core.specs.State.{Profile}
+use Rattle.path_core.proofs.Judgements.{judged_taken}
 use Rattle.world_laws.proofs.Arriving.{Halves, options_say, taken_say, options_hold, taken_both, syn_both, syn_ack_both}
 use Rattle.world_laws.proofs.Ending.{Did}
 use Rattle.world_laws.proofs.Growing.{SenderGoes, ReceiverGoes, Longer, sender_stays, receiver_stays, heard_longer, segment_longer}
@@ -39,7 +42,7 @@ pub record Holding (c : Profile) (s : Side) (known : Option ℕ) (acked : Bool) 
   pub acks : back_after.acks ≡ back.acks
   pub halves : Halves c s known acked live out back_after tcp
 
-module _ (c : Profile) (s : Side) (known : Option ℕ) (acked : Bool) (live : List KeptMapping) (out back : Lane) (v : View) (holds : LaneHolds v 0 back) where
+module _ (c : Profile) (s : Side) (known : Option ℕ) (acked : Bool) (live : List KeptMapping) (out back : Lane) (v : View) (path : ℕ) (holds : LaneHolds v path back) where
   abbrev Held : EndState → Type 0
   Held tcp = Holding c s known acked live out back tcp
 
@@ -51,19 +54,19 @@ module _ (c : Profile) (s : Side) (known : Option ℕ) (acked : Bool) (live : Li
   hold pos payload tcp has h = ⊎_elim
       (λ at.
       let count = (tcp.recv.edge + tcp.recv.window) - pos in
-      let q : Lane = heard_lane back v holds pos payload has count in
+      let q : Lane = heard_lane back v path holds pos payload has count in
       record {
         back_after = q;
-        back_moves = hears back v holds pos payload has count;
-        receiver = heard_goes back v holds pos payload has count;
+        back_moves = hears back v path holds pos payload has count;
+        receiver = heard_goes back v path holds pos payload has count;
         acks = refl;
         halves = record {
           sender = h.sender;
           receiver = record {
             edge = inl (record {
               edge_is = at.edge_is;
-              under = heard_more back v holds pos payload has count tcp.recv.places at.under;
-              held = heard_under back v holds pos payload has count tcp.recv.edge tcp.recv.places at.edge_is at.under;
+              under = heard_more back v path holds pos payload has count tcp.recv.places at.under;
+              held = heard_under back v path holds pos payload has count tcp.recv.edge tcp.recv.places at.edge_is at.under;
             });
             fin = h.receiver.fin;
             mapped = h.receiver.mapped;
@@ -196,24 +199,32 @@ reset_none : (c : Profile) (s : Side) (o : Option ℕ) (position occupied : ℕ)
 reset_none c s None position occupied = refl
 reset_none c s (Some acknowledged) position occupied = refl
 
+-- where something is there, what holds anyway
+if_some : {X P : Type 0} (o : Option X) → P → IfSome o (λ x. P)
+if_some None h = tt
+if_some (Some x) h = h
+
 -- ---- the end
 
-pub arrived_end : (c : Profile) (s : Side) (now : ℕ) (sg : PlainSegment) (e : PathEnd) (out back : Lane) (v : View) → LaneHolds v 0 back → SegmentShows out.acks back sg → EndShows c s e out back
-    → Did c s (after_meaning c s now (meant sg) (meaning_of (copy_of (meant sg)) e.tcp) e) out out back back
-arrived_end c s now sg e out back v holds said h =
-    let m : Meaning = meaning_of (copy_of (meant sg)) e.tcp in
+pub arrived_end : (c : Profile) (s : Side) (now : ℕ) (sg : PlainSegment) (e : PathEnd) (out back : Lane) (v : View) (path : ℕ) → LaneHolds v path back → SegmentShows out.acks back sg → EndShows c s e out back
+    → Did c s (after_judged c s now (meant sg) (judged_in (is_joined c) s (meant sg) e) e) out out back back
+arrived_end c s now sg e out back v path holds said h =
+    let copy : Copy = copy_of (meant sg) in
+    let items = items_of (is_joined c) s (meant sg) in
+    let m : Meaning = taken_as (judged_in (is_joined c) s (meant sg) e) in
     let known = e.sending.known_end in let acked = e.sending.close.own_acked in let live = e.receiving.mappings.live in
-    let fits = meaning_fits (copy_of (meant sg)) e.tcp in
+    let fits : Fits copy (is_unfinished e.tcp.state) m =
+    judged_taken sg.rst items e (Fits copy (is_unfinished e.tcp.state)) tt (is_joined c) (meaning_of copy e.tcp) (meaning_fits copy e.tcp) in
     let kept : Holding c s known acked live out back (with_payload m sg.payload e.tcp) =
-    payload_held c s known acked live out back v holds sg m e.tcp fits said (record { sender = h.sender; receiver = h.receiver }) in
+    payload_held c s known acked live out back v path holds sg m e.tcp fits said (record { sender = h.sender; receiver = h.receiver }) in
     let q : Lane = kept.back_after in
     let g : SenderGoes out out = sender_stays out in
     let l : Longer out.acks out.acks back q = heard_longer out out back q g kept.receiver in
     let told : SegmentShows out.acks q sg = segment_longer l sg said in
     let tcp : EndState = with_payload m sg.payload e.tcp in
-    let still = subst (λ state. Fits (copy_of (meant sg)) (is_unfinished state) m) (sym (same_phase m sg.payload e.tcp)) fits in
-    let both = arrived_both c s known acked live out q sg m (hint_of s (meant sg)) now tcp refl still told kept.halves in
-    let owed = owing_both c s known acked live out q (owes_by m (items_of s (meant sg))) (taking.after_arrival m (hint_of s (meant sg)) now (copy_of (meant sg)) tcp) both in
+    let still = subst (λ state. Fits copy (is_unfinished state) m) (sym (same_phase m sg.payload e.tcp)) fits in
+    let both = arrived_both c s known acked live out q sg m (hint_of items) now tcp refl still told kept.halves in
+    let owed = owing_both c s known acked live out q (owes_by m items) (taking.after_arrival m (hint_of items) now copy tcp) both in
     record {
       out_after = out;
       back_after = q;
@@ -225,13 +236,14 @@ arrived_end c s now sg e out back v holds said h =
         sender = owed.sender;
         receiver = owed.receiver;
         window = subst (WindowShows e.receiving.next e.receiving.window) (sym kept.acks) h.window;
-        told = told_owing (HasAck out.acks 0) (owes_by m (items_of s (meant sg))) (taking.after_arrival m (hint_of s (meant sg)) now (copy_of (meant sg)) tcp)
-            (told_after (HasAck out.acks 0) m (hint_of s (meant sg)) now (copy_of (meant sg)) tcp said.window
+        told = told_owing (HasAck out.acks 0) (owes_by m items) (taking.after_arrival m (hint_of items) now copy tcp)
+            (told_after (HasAck out.acks 0) m (hint_of items) now copy tcp said.window
             (subst (λ congestion. HasAck out.acks 0 congestion.told.window) (sym (same_told m sg.payload e.tcp)) h.told));
         treated = record {
-          items = taken_say out.acks q (window_told sg.syn sg.window) 10 _ (options_say out.acks q (window_told sg.syn sg.window) s sg.options told.options);
+          items = taken_say out.acks q (window_told sg.syn sg.window) 10 _ (options_say out.acks q (window_told sg.syn sg.window) (is_joined c) s sg.options told.options);
           fins = Every-nil _;
-          answer = reset_none c s (copy_of (meant sg)).acknowledged _ _;
+          answer = reset_none c s copy.acknowledged _ _;
+          window = if_some (join_asked items) said.window;
         };
         held = options_hold c (window_told sg.syn sg.window) out.acks q s sg.options told.options;
       };

@@ -8,6 +8,8 @@ use Rattle.dss_mapping.specs.declared.kept.KeptMapping.{KeptMapping}
 use Rattle.loss_recovery.specs.declared.windows.Told.{Told}
 use Rattle.mptcp_options.specs.declared.capable.CapableKeys.{CapableKeys}
 use Rattle.mptcp_options.specs.declared.capable.CapableKeys.TheVariants.{NoKey, Sender, Both, WithData}
+use Rattle.mptcp_options.specs.declared.join.JoinForm.{JoinForm}
+use Rattle.mptcp_options.specs.declared.join.JoinForm.TheVariants as joins
 use Rattle.path_segments.specs.declared.segment.PathMapping.{PathMapping}
 use Rattle.path_segments.specs.declared.segment.PathMapping.TheVariants.{Bytes, End, Infinite}
 use Rattle.path_segments.specs.declared.segment.PathOption.TheVariants.{Capable, Join, Dss, AddAddr, Remove, Prio, Fail, FastClose, Reset}
@@ -28,7 +30,8 @@ use Rattle.stream_lanes.specs.Words.{Every}
 use Rattle.stream_lanes.proofs.Lists.{Every-nil, Every-append, in_take}
 use Rattle.path_agenda.specs.declared.heard.Heard.{Heard}
 use Rattle.path_agenda.specs.declared.heard.Heard.TheVariants as says
-use Rattle.path_core.specs.Arriving.{ack_items, is_mapping, mapping_items, map_items, key_items, items_in, held_if, map_held, key_held, held_in, checksum_heard}
+use Rattle.path_core.specs.Arriving.{ack_items, is_mapping, mapping_items, map_items, key_items, join_items, items_in, held_if, map_held, key_held, held_in, checksum_heard}
+use Rattle.path_core.specs.Joins.{is_joined}
 use Rattle.path_core.specs.Placing.{kept_of}
 use Rattle.path_core.specs.State.{Profile}
 use Rattle.world_laws.proofs.Hearing.{state_shows, handshake_back, fin_acked_back}
@@ -76,20 +79,32 @@ module _ (acks : List AckCopy) (p : Lane) (window : ℕ) where
   keys_say B (Both sender receiver) = one _ tt
   keys_say B (WithData sender receiver len checksum) = every_cons _ _ tt (mapping_says 0 1 len)
 
-  option_says : (s : Side) (o : PlainOption) → OptionShows window acks p o → Says (items_in s window (meant_option o))
-  option_says s (Capable flag_a flag_c keys) h = keys_say s keys
-  option_says s (Dss next mapping) h = every_cons says.Dss _ tt (Every-append (acks_say next h.0) (map_says mapping h.1))
-  option_says s (Join form) h = Every-nil _
-  option_says s (AddAddr echo id address port hmac) h = Every-nil _
-  option_says s (Remove ids) h = Every-nil _
-  option_says s (Prio backup) h = Every-nil _
-  option_says s (Fail place) h = Every-nil _
-  option_says s (FastClose key) h = Every-nil _
-  option_says s (Reset transient reason) h = Every-nil _
+  join_says : (s : Side) (form : JoinForm) → Says (join_items s form)
+  join_says A (joins.Answer backup id hmac nonce) = one _ tt
+  join_says A (joins.Syn backup id token nonce) = Every-nil _
+  join_says A (joins.Third hmac) = Every-nil _
+  join_says B (joins.Syn backup id token nonce) = one _ tt
+  join_says B (joins.Third hmac) = one _ tt
+  join_says B (joins.Answer backup id hmac nonce) = Every-nil _
 
-  pub options_say : (s : Side) (os : List PlainOption) → Every (OptionShows window acks p) os → Says (flat_map (items_in s window) (map meant_option os))
-  options_say s [] h = Every-nil _
-  options_say s (o ∷ os) h = Every-append (option_says s o (h.each 0 o refl)) (options_say s os (record { each = λ i x is. h.each (suc i) x is }))
+  key_items_say : (joined : Bool) (s : Side) (keys : CapableKeys) → Says (if joined then [] else key_items s keys)
+  key_items_say true s keys = Every-nil _
+  key_items_say false s keys = keys_say s keys
+
+  option_says : (joined : Bool) (s : Side) (o : PlainOption) → OptionShows window acks p o → Says (items_in joined s window (meant_option o))
+  option_says joined s (Capable flag_a flag_c keys) h = key_items_say joined s keys
+  option_says joined s (Dss next mapping) h = every_cons says.Dss _ tt (Every-append (acks_say next h.0) (map_says mapping h.1))
+  option_says joined s (Join form) h = join_says s form
+  option_says joined s (AddAddr echo id address port hmac) h = Every-nil _
+  option_says joined s (Remove ids) h = Every-nil _
+  option_says joined s (Prio backup) h = Every-nil _
+  option_says joined s (Fail place) h = Every-nil _
+  option_says joined s (FastClose key) h = Every-nil _
+  option_says joined s (Reset transient reason) h = Every-nil _
+
+  pub options_say : (joined : Bool) (s : Side) (os : List PlainOption) → Every (OptionShows window acks p) os → Says (flat_map (items_in joined s window) (map meant_option os))
+  options_say joined s [] h = Every-nil _
+  options_say joined s (o ∷ os) h = Every-append (option_says joined s o (h.each 0 o refl)) (options_say joined s os (record { each = λ i x is. h.each (suc i) x is }))
 
   pub taken_say : (n : ℕ) (items : List Heard) → Says items → Says (take n items)
   taken_say n items h = record { each = λ i x is. h.each i x (in_take n items i x is).0 }
@@ -124,7 +139,11 @@ module _ (c : Profile) (window : ℕ) (acks : List AckCopy) (p : Lane) where
   keys_hold B (WithData sender receiver len checksum) h = if_held B 0 1 len checksum h
 
   option_holds : (s : Side) (o : PlainOption) → OptionShows window acks p o → Held (held_in c s (meant_option o))
-  option_holds s (Capable flag_a flag_c keys) h = keys_hold s keys h
+  option_holds s (Capable flag_a flag_c keys) h = by (is_joined c)
+    where
+      by : (joined : Bool) → Held (if joined then [] else key_held c s keys)
+      by true = Every-nil _
+      by false = keys_hold s keys h
   option_holds s (Dss next mapping) h = map_holds s mapping h.1
   option_holds s (Join form) h = Every-nil _
   option_holds s (AddAddr echo id address port hmac) h = Every-nil _

@@ -24,13 +24,15 @@ use Rattle.path_core.specs.Codec.{Codec}
 use Rattle.path_core.specs.Duties.{ask_for}
 use Rattle.path_core.specs.Emission.{first_unsent, data_ask}
 use Rattle.path_core.specs.Events.{next_event, step_for}
+use Rattle.join_handshake.specs.declared.hearing.JoinSyn.{JoinSyn}
 use Rattle.path_agenda.specs.declared.keys.KeyPair.{KeyPair}
 use Rattle.path_agenda.specs.Items.{key_heard, keys_heard}
+use Rattle.path_core.specs.Joining.{asked_at, join_heard_ask}
 use Rattle.path_core.specs.Opening.{peer_key_ask, keys_ask}
 use Rattle.path_core.specs.Passing.{piece_of, piece_ask, fin_of, fin_ask, rate_ask}
 use Rattle.path_core.specs.Placing.{Piece}
 use Rattle.path_core.specs.Sends.{sends}
-use Rattle.path_core.specs.State.{PathState, end_at}
+use Rattle.path_core.specs.State.{PathState, end_at, path_of}
 use Rattle.path_core.specs.Treating.{is_clash, fell_ask, mapping_ask, item_ask, item_of}
 use Rattle.world_laws.proofs.Applying.{Writes}
 
@@ -49,8 +51,9 @@ module _ {C : Type 0} (k : Codec C) (p : PathState C) where
   data_leaves s None = tt
   data_leaves s (Some r) = tt
 
-  step_leaves : (o : Option Event) → AskLeavesFile (step_for o)
+  step_leaves : (o : Option Event) → AskLeavesFile (step_for (path_of p) o)
   step_leaves None = tt
+  step_leaves (Some (happening.Joins tick)) = tt
   step_leaves (Some (happening.Takes line)) = tt
   step_leaves (Some (happening.Arrives due)) = tt
   step_leaves (Some (happening.Fires s tick)) = tt
@@ -62,6 +65,10 @@ module _ {C : Type 0} (k : Codec C) (p : PathState C) where
   keys_leave : (s : Side) (o : Option KeyPair) → AskLeavesFile (keys_ask s o)
   keys_leave s None = tt
   keys_leave s (Some keys) = tt
+
+  join_leaves : (s : Side) (o : Option JoinSyn) → AskLeavesFile (join_heard_ask s o p)
+  join_leaves s None = tt
+  join_leaves s (Some asked) = tt
 
   break_leaves : (s : Side) (reason : ℕ) → AskLeavesFile (break_ask k s reason p)
   break_leaves s reason = by (end_at s p).treated.asked
@@ -85,6 +92,7 @@ module _ {C : Type 0} (k : Codec C) (p : PathState C) where
   item_leaves s (Some (says.DataFin place)) = tt
   item_leaves s (Some (says.PeerKey key)) = tt
   item_leaves s (Some (says.Keys own peer)) = tt
+  item_leaves s (Some (says.Join form)) = tt
 
   piece_leaves : (s : Side) (o : Option Piece) → AskLeavesFile (piece_ask s o)
   piece_leaves s None = tt
@@ -99,6 +107,7 @@ module _ {C : Type 0} (k : Codec C) (p : PathState C) where
   rate_leaves s (Some pending) = tt
 
   pub asks_leave : (d : Duty) → AskLeavesFile (ask_for k d p)
+  asks_leave duties.JoinAgain = tt
   asks_leave (duties.Look s) = tt
   asks_leave (duties.Window s) = tt
   asks_leave (duties.Update s) = tt
@@ -112,10 +121,13 @@ module _ {C : Type 0} (k : Codec C) (p : PathState C) where
   asks_leave (duties.SynAnswered s) = tt
   asks_leave (duties.PeerKey s) = key_leaves s (key_heard (end_at s p).treated.items)
   asks_leave (duties.SynAck s) = tt
+  asks_leave (duties.JoinHeard s) = join_leaves s (asked_at s p)
+  asks_leave (duties.Refuse s) = tt
   asks_leave (duties.Opened s) = keys_leave s (keys_heard (end_at s p).treated.items)
   asks_leave (duties.Live s) = tt
   asks_leave (duties.Heard s index) = item_leaves s (item_of index (end_at s p))
   asks_leave (duties.AckHeard s) = tt
+  asks_leave (duties.PlainAck s) = break_leaves s 6
   asks_leave (duties.Keep s) = tt
   asks_leave (duties.Edge s) = piece_leaves s (piece_of s p)
   asks_leave (duties.HeardFin s index) = fin_leaves s (fin_of index (end_at s p))

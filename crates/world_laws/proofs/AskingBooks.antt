@@ -1,7 +1,7 @@
--- What a refused grant says of a send book in numbers, and what the calls of two applications and one path make of it.
-use Rattle.std.proofs.Common.{◌≡◌, refl, sym, ◌∙◌, ap, subst, ℕ, suc, ◌+◌, ◌-◌, ◌≤◌, ◌&&◌, ◌||◌, ◌==◌, not, min, max, nat_lt, nat_le, inl, inr, ◌⊎◌, ⊎_elim, Bool, true, false, cond, if◌then◌else◌, Option, Some, None, Result, Ok, Err, List, [], ◌∷◌, ◌++◌, length, take, drop, map, replicate, arith}
+-- What a refused grant says of a send book in numbers, and what the calls of applications and paths make of it.
+use Rattle.std.proofs.Common.{◌≡◌, refl, sym, ◌∙◌, ap, subst, ℕ, zero, suc, ◌+◌, ◌-◌, ◌≤◌, ◌&&◌, ◌||◌, ◌==◌, not, min, max, nat_lt, nat_le, inl, inr, ◌⊎◌, ⊎_elim, Bool, true, false, cond, if◌then◌else◌, Option, Some, None, Result, Ok, Err, List, [], ◌∷◌, ◌++◌, length, take, drop, map, replicate, arith}
 use Rattle.std.proofs.lemmas.Bool.{and_parts, eqb-true, leb-true, ltb-false, false≢true}
-use Rattle.std.proofs.lemmas.List.{length-append, length-take, length-drop, length-map, length-replicate}
+use Rattle.std.proofs.lemmas.List.{drop-drop, length-append, length-take, length-drop, length-map, length-replicate}
 use Rattle.std.proofs.lemmas.List.Sums.{count_by-le-length, sum_by-cons}
 use Rattle.std.specs.List.{count_by, list_any, position}
 use Rattle.outside_kit.specs.declared.side.Side.{Side}
@@ -28,10 +28,10 @@ use Rattle.world_laws.specs.RoundNumbers.AskedForAll.{Taken, Standby}
 
 -- ---- marks
 
--- a byte that is held was tried by the path
+-- a byte that the path holds was tried by it
 abbrev pub IsTried : ℕ → ByteMark → Type 0
 IsTried path Acked = Unit {0}
-IsTried path (Held holder tried) = contains path tried ≡ true
+IsTried path (Held holder tried) = holder ≡ path → contains path tried ≡ true
 IsTried path (Free tried) = Unit {0}
 
 every_taken : {X : Type 0} {P : X → Type 0} (n : ℕ) (xs : List X) → Every P xs → Every P (take n xs)
@@ -51,7 +51,18 @@ every_same {X} {P} n x h = record { each = λ i y at. subst P (in_replicate n x 
 given_tried : (path : ℕ) (m : ByteMark) → IsTried path m → IsTried path (given path m)
 given_tried path Acked h = tt
 given_tried path (Held holder tried) h = h
-given_tried path (Free tried) h = contains-insert path tried
+given_tried path (Free tried) h = λ own. contains-insert path tried
+
+given_other : (path asker : ℕ) (m : ByteMark) → (asker ≡ path → ⊥) → IsTried path m → IsTried path (given asker m)
+given_other path asker Acked apart h = tt
+given_other path asker (Held holder tried) apart h = h
+given_other path asker (Free tried) apart h = λ own. absurd (apart own)
+
+-- what a path may not take it may not take when it is given to another
+given_taken : (path asker : ℕ) (m : ByteMark) → is_free_for path m ≡ false → is_free_for path (given asker m) ≡ false
+given_taken path asker Acked none = refl
+given_taken path asker (Held holder tried) none = refl
+given_taken path asker (Free tried) none = refl
 
 returned_tried : (path asker : ℕ) (m : ByteMark) → IsTried path m → IsTried path (returned asker m)
 returned_tried path asker Acked h = tt
@@ -62,15 +73,15 @@ returned_tried path asker (Held holder tried) h = by (holder == asker)
     by true = tt
     by false = h
 
--- a byte that the path may not take it may not take when it is given back
-returned_taken : (path asker : ℕ) (m : ByteMark) → IsTried path m → is_free_for path m ≡ false → is_free_for path (returned asker m) ≡ false
-returned_taken path asker Acked h none = refl
-returned_taken path asker (Free tried) h none = none
-returned_taken path asker (Held holder tried) h none = by (holder == asker)
+-- a byte that the path may not take it may not take when it gave it back
+returned_taken : (path : ℕ) (m : ByteMark) → IsTried path m → is_free_for path m ≡ false → is_free_for path (returned path m) ≡ false
+returned_taken path Acked h none = refl
+returned_taken path (Free tried) h none = none
+returned_taken path (Held holder tried) h none = by (holder == path) refl
   where
-    by : (b : Bool) → is_free_for path (if b then Free tried else Held holder tried) ≡ false
-    by true = ap not h
-    by false = refl
+    by : (b : Bool) → (holder == path) ≡ b → is_free_for path (if b then Free tried else Held holder tried) ≡ false
+    by true is = ap not (h (eqb-true holder path is))
+    by false is = refl
 
 -- ---- how many are taken
 
@@ -83,16 +94,39 @@ taken_written path count (m ∷ ms) = by (is_free_for path m) (taken_written pat
     by true rest = omega arith
     by false rest = omega (arith, rest)
 
-taken_returned : (path asker : ℕ) (ms : List ByteMark) → Every (IsTried path) ms → taken_len path ms ≤ taken_len path (map (returned asker) ms)
-taken_returned path asker [] h = omega arith
-taken_returned path asker (m ∷ ms) h = by (is_free_for path m) refl (taken_returned path asker ms (record { each = λ i x at. h.each (suc i) x at }))
-  where
-    by : (b : Bool) → is_free_for path m ≡ b → taken_len path ms ≤ taken_len path (map (returned asker) ms)
-        → cond (not b) (1 + taken_len path ms) 0 ≤ cond (not (is_free_for path (returned asker m))) (1 + taken_len path (map (returned asker) ms)) 0
-    by true is rest = omega arith
-    by false is rest =
-        let same : is_free_for path (returned asker m) ≡ false = returned_taken path asker m (h.each 0 m refl) is in
-        subst (λ (c : Bool). 1 + taken_len path ms ≤ cond (not c) (1 + taken_len path (map (returned asker) ms)) 0) (sym same) (omega (arith, rest))
+-- bytes that change, but none to one that the path may take
+module _ (path : ℕ) (change : ByteMark → ByteMark) where
+  abbrev Takes : ByteMark → Type 0
+  Takes m = is_free_for path m ≡ false → is_free_for path (change m) ≡ false
+
+  -- one byte more in front
+  taken_first : (m n : ByteMark) (ms ns : List ByteMark) → (is_free_for path m ≡ false → is_free_for path n ≡ false) → taken_len path ms ≤ taken_len path ns → taken_len path (m ∷ ms) ≤ taken_len path (n ∷ ns)
+  taken_first m n ms ns takes rest = by (is_free_for path m) refl
+    where
+      by : (b : Bool) → is_free_for path m ≡ b → cond (not b) (1 + taken_len path ms) 0 ≤ cond (not (is_free_for path n)) (1 + taken_len path ns) 0
+      by true is = omega arith
+      by false is =
+          let same : is_free_for path n ≡ false = takes is in
+          subst (λ (c : Bool). 1 + taken_len path ms ≤ cond (not c) (1 + taken_len path ns) 0) (sym same) (omega (arith, rest))
+
+  taken_changed : (ms : List ByteMark) → Every Takes ms → taken_len path ms ≤ taken_len path (map change ms)
+  taken_changed [] h = omega arith
+  taken_changed (m ∷ ms) h = taken_first m (change m) ms (map change ms) (h.each 0 m refl) (taken_changed ms (record { each = λ i x at. h.each (suc i) x at }))
+
+  -- so many of them change
+  taken_some : (n : ℕ) (ms : List ByteMark) → ((m : ByteMark) → Takes m) → taken_len path ms ≤ taken_len path (map change (take n ms) ++ drop n ms)
+  taken_some zero ms takes = omega arith
+  taken_some (suc n) [] takes = omega arith
+  taken_some (suc n) (m ∷ ms) takes = taken_first m (change m) ms (map change (take n ms) ++ drop n ms) (takes m) (taken_some n ms takes)
+
+  -- those from a place on
+  taken_within : (from n : ℕ) (ms : List ByteMark) → ((m : ByteMark) → Takes m) → taken_len path ms ≤ taken_len path (take from ms ++ (map change (take n (drop from ms)) ++ drop n (drop from ms)))
+  taken_within zero n ms takes = taken_some n ms takes
+  taken_within (suc from) n [] takes = taken_some n [] takes
+  taken_within (suc from) n (m ∷ ms) takes = taken_first m m ms (take from ms ++ (map change (take n (drop from ms)) ++ drop n (drop from ms))) (λ is. is) (taken_within from n ms takes)
+
+taken_returned : (path : ℕ) (ms : List ByteMark) → Every (IsTried path) ms → taken_len path ms ≤ taken_len path (map (returned path) ms)
+taken_returned path ms h = taken_changed path (returned path) ms (record { each = λ i m at. returned_taken path m (h.each i m at) })
 
 -- where all are acknowledged all are taken
 all_acked : (path : ℕ) (ms : List ByteMark) → length ms ≤ count_by is_acked ms → length ms ≤ taken_len path ms
@@ -109,7 +143,7 @@ all_acked path (Free tried ∷ ms) h =
 
 -- ---- steps
 
-any_last : (test : Note → Bool) (steps : List Note) (n : Note) → test n ≡ true → list_any test (steps ++ n ∷ []) ≡ true
+pub any_last : (test : Note → Bool) (steps : List Note) (n : Note) → test n ≡ true → list_any test (steps ++ n ∷ []) ≡ true
 any_last test [] n is = ap (λ b. b || false) is
 any_last test (m ∷ steps) n is = by (test m) (any_last test steps n is)
   where
@@ -125,7 +159,15 @@ any_before test (m ∷ steps) n is = by (test m) is (any_before test steps n)
     by true is rest = refl
     by false is rest = rest is
 
--- ---- a book of one path, of which so much was written as the round began
+pub any_more : (test : Note → Bool) (steps more : List Note) → list_any test steps ≡ true → list_any test (steps ++ more) ≡ true
+any_more test [] more is = absurd (false≢true is)
+any_more test (m ∷ steps) more is = by (test m) is (any_more test steps more)
+  where
+    by : (b : Bool) → (b || list_any test steps) ≡ true → (list_any test steps ≡ true → list_any test (steps ++ more) ≡ true) → (b || list_any test (steps ++ more)) ≡ true
+    by true is rest = refl
+    by false is rest = rest is
+
+-- ---- a book and a path, of which so much was written as the round began
 
 pub record IsOnes (path written : ℕ) (b : Sending) : Type 0 where
   pub aborted : b.aborted ≡ false
@@ -134,7 +176,7 @@ pub record IsOnes (path written : ℕ) (b : Sending) : Type 0 where
   pub whole : length b.marks ≡ length b.written
   pub grown : written ≤ length b.written
 
--- a call of an application, or of the path
+-- a call of an application, or of a path, and no grant to another path
 abbrev pub IsOrdinary : ℕ → SendCall → Type 0
 IsOrdinary path (Write bytes) = Unit {0}
 IsOrdinary path Close = Unit {0}
@@ -143,12 +185,12 @@ IsOrdinary path (AckIn next window) = Unit {0}
 IsOrdinary path (Return asker) = Unit {0}
 IsOrdinary path _ = ⊥
 
--- neither a grant nor an acknowledgement
-abbrev pub IsQuiet : SendCall → Type 0
-IsQuiet (Write bytes) = Unit {0}
-IsQuiet Close = Unit {0}
-IsQuiet (Return asker) = Unit {0}
-IsQuiet _ = ⊥
+-- neither a grant nor an acknowledgement, and no return of another path
+abbrev pub IsQuiet : ℕ → SendCall → Type 0
+IsQuiet path (Write bytes) = Unit {0}
+IsQuiet path Close = Unit {0}
+IsQuiet path (Return asker) = asker ≡ path
+IsQuiet path _ = ⊥
 
 module _ (path written : ℕ) (b : Sending) (h : IsOnes path written b) where
   ones_written : (bytes : List ℕ) (shut : Bool) → IsOnes path written (if shut then b else record b {
@@ -171,21 +213,21 @@ module _ (path written : ℕ) (b : Sending) (h : IsOnes path written b) where
   ones_closed true = h
   ones_closed false = record { aborted = h.aborted; owner = h.owner; tried = h.tried; whole = h.whole; grown = h.grown }
 
-  ones_granted : (max : ℕ) (standby : Bool) (o : Result Span Why) → decision path max standby b ≡ o → IsOnes path written (given_by path o b)
-  ones_granted max standby (Err why) is = h
-  ones_granted max standby (Ok span) is =
-      let m : MayTake path max b span = decision-MayTake path max standby b span is in
+  ones_granted : (asker max : ℕ) (standby : Bool) (o : Result Span Why) → ((m : ByteMark) → IsTried path m → IsTried path (given asker m)) → decision asker max standby b ≡ o → IsOnes path written (given_by asker o b)
+  ones_granted asker max standby (Err why) given_so is = h
+  ones_granted asker max standby (Ok span) given_so is =
+      let m : MayTake asker max b span = decision-MayTake asker max standby b span is in
       let part : List ByteMark = take (span.to - span.from) (drop span.from b.marks) in
       record {
         aborted = h.aborted;
         owner = h.owner;
         tried = Every-append (every_taken span.from b.marks h.tried)
-            (Every-append (every_mapped (given path) (given_tried path) part (every_taken (span.to - span.from) (drop span.from b.marks) (every_dropped span.from b.marks h.tried)))
+            (Every-append (every_mapped (given asker) given_so part (every_taken (span.to - span.from) (drop span.from b.marks) (every_dropped span.from b.marks h.tried)))
             (every_dropped span.to b.marks h.tried));
         whole = (
-            let one = length-append (take span.from b.marks) (map (given path) part ++ drop span.to b.marks) in
-            let two = length-append (map (given path) part) (drop span.to b.marks) in
-            let three = length-map part (given path) in
+            let one = length-append (take span.from b.marks) (map (given asker) part ++ drop span.to b.marks) in
+            let two = length-append (map (given asker) part) (drop span.to b.marks) in
+            let three = length-map part (given asker) in
             let four = length-take (span.to - span.from) (drop span.from b.marks) in
             let five = length-drop span.from b.marks in let six = length-drop span.to b.marks in let seven = length-take span.from b.marks in
             omega (arith, one, two, three, four, five, six, seven, m.whole, m.within, h.whole));
@@ -213,7 +255,7 @@ module _ (path written : ℕ) (b : Sending) (h : IsOnes path written b) where
   ones_after (Write bytes) is = ones_written bytes (b.closed || b.aborted)
   ones_after Close is = ones_closed b.aborted
   ones_after (Grant asker max standby) is =
-      subst (λ n. IsOnes path written (given_by n (decision n max standby b) b)) (sym is) (ones_granted max standby (decision path max standby b) refl)
+      subst (λ n. IsOnes path written (given_by n (decision n max standby b) b)) (sym is) (ones_granted path max standby (decision path max standby b) (given_tried path) refl)
   ones_after (AckIn next window) is = ones_acked next window (is_future next b)
   ones_after (Return asker) is = record {
     aborted = h.aborted;
@@ -231,7 +273,7 @@ module _ (path written : ℕ) (b : Sending) (h : IsOnes path written b) where
   abbrev AllTaken : Sending → Type 0
   AllTaken c = min written c.edge ≤ taken_len path c.marks
 
-  taken_after : (call : SendCall) → IsQuiet call → AllTaken b → AllTaken (after_call b call)
+  taken_after : (call : SendCall) → IsQuiet path call → AllTaken b → AllTaken (after_call b call)
   taken_after (Write bytes) is all = by (b.closed || b.aborted)
     where
       by : (shut : Bool) → AllTaken (if shut then b else record b {
@@ -245,16 +287,41 @@ module _ (path written : ℕ) (b : Sending) (h : IsOnes path written b) where
       by : (aborted : Bool) → AllTaken (if aborted then b else record b { closed = true })
       by true = all
       by false = all
-  taken_after (Return asker) is all = let more = taken_returned path asker b.marks h.tried in omega (arith, all, more)
+  taken_after (Return asker) is all =
+      let more = taken_returned path b.marks h.tried in
+      subst (λ n. AllTaken (record b { marks = map (returned n) b.marks })) (sym is) (omega (arith, all, more))
   taken_after (Grant asker max standby) is all = absurd is
   taken_after (AckIn next window) is all = absurd is
   taken_after GoIdentity is all = absurd is
   taken_after (GoInfinite asker) is all = absurd is
   taken_after Abort is all = absurd is
 
-  pub all_after : (s : Side) (steps : List Note) (call : SendCall) → IsQuiet call → AskedForAll path s steps written b → AskedForAll path s steps written (after_call b call)
+  pub all_after : (s : Side) (steps : List Note) (call : SendCall) → IsQuiet path call → AskedForAll path s steps written b → AskedForAll path s steps written (after_call b call)
   all_after s steps call is (Taken all) = Taken (taken_after call is all)
   all_after s steps call is (Standby told) = Standby told
+
+  -- ---- a grant to another path
+
+  module _ (asker max : ℕ) (standby : Bool) (apart : asker ≡ path → ⊥) where
+    pub ones_other : IsOnes path written (after_call b (Grant asker max standby))
+    ones_other = ones_granted asker max standby (decision asker max standby b) (λ m tried. given_other path asker m apart tried) refl
+
+    taken_other : AllTaken b → AllTaken (after_call b (Grant asker max standby))
+    taken_other all = by (decision asker max standby b) refl
+      where
+        by : (o : Result Span Why) → decision asker max standby b ≡ o → AllTaken (given_by asker o b)
+        by (Err why) is = all
+        by (Ok span) is =
+            let m : MayTake asker max b span = decision-MayTake asker max standby b span is in
+            let more = taken_within path (given asker) span.from (span.to - span.from) b.marks (given_taken path asker) in
+            let rest : drop (span.to - span.from) (drop span.from b.marks) ≡ drop span.to b.marks =
+            drop-drop (span.to - span.from) span.from b.marks ∙ (let end : span.from + (span.to - span.from) ≡ span.to = omega (arith, m.whole) in ap (λ n. drop n b.marks) end) in
+            let same = ap (λ xs. taken_len path (take span.from b.marks ++ (map (given asker) (take (span.to - span.from) (drop span.from b.marks)) ++ xs))) rest in
+            omega (arith, all, more, same)
+
+    pub all_other : (s : Side) (steps : List Note) → AskedForAll path s steps written b → AskedForAll path s steps written (after_call b (Grant asker max standby))
+    all_other s steps (Taken all) = Taken (taken_other all)
+    all_other s steps (Standby told) = Standby told
 
   -- ---- a refusal
 

@@ -1,15 +1,18 @@
 -- In each round, where the turn of a path is over, an end that may ask for bytes asked for all that was written as it began.
-use Rattle.std.proofs.Common.{◌≡◌, refl, sym, ◌∙◌, ap, subst, ℕ, zero, suc, ◌+◌, Bool, true, false, Some, List, [], ◌∷◌, ◌++◌, length, drop, arith}
+use Rattle.std.proofs.Common.{◌≡◌, refl, sym, ◌∙◌, ap, subst, ℕ, zero, suc, ◌+◌, ◌||◌, ◌⊎◌, inl, inr, ⊎_elim, Bool, true, false, Some, List, [], ◌∷◌, ◌++◌, length, drop, set, arith}
 use Rattle.std.proofs.lemmas.List.{append-nil, append_assoc}
 use Rattle.std.proofs.lemmas.Option.{same_Some}
-use Rattle.std.specs.List.{slice_get}
+use Rattle.std.specs.List.{slice_get, list_any}
+use Rattle.std.proofs.lemmas.Bool.{cases_eq}
 use Rattle.outside_kit.specs.declared.side.Side.{Side}
 use Rattle.outside_kit.specs.declared.side.Side.TheVariants.{A, B}
 use Rattle.send_book.specs.State.{Sending, opened}
-use Rattle.stream_lanes.proofs.Lists.{Every-nil}
+use Rattle.stream_lanes.proofs.Lists.{Every-nil, in_map, in_set, set_same, set_other}
+use Rattle.actor_desk.specs.declared.ask.Ask.{Ask}
 use Rattle.actor_desk.specs.declared.ask.Note.{Note}
 use Rattle.actor_desk.specs.Books.{books_in}
-use Rattle.actor_desk.specs.Desk.{send_of}
+use Rattle.actor_desk.specs.Desk.{send_of, after_ask}
+use Rattle.actor_desk.specs.Words.{pick}
 use Rattle.stream_apps.specs.declared.duty.AppDuty.{AppDuty}
 use Rattle.stream_apps.specs.AppSteps.{app_ask}
 use Rattle.path_agenda.specs.declared.duty.Duty.{Duty}
@@ -17,156 +20,328 @@ use Rattle.path_core.specs.Codec.{Codec}
 use Rattle.path_core.specs.Duties.{ask_for}
 use Rattle.path_core.specs.Starts.{waiting_path}
 use Rattle.path_core.specs.State.{PathState, path_of}
+use Rattle.path_core.specs.Steps.{begins_turn}
 use Rattle.world_laws.specs.declared.member.Member.TheVariants.{Path}
 use Rattle.world_laws.specs.Actors.{ActorCrew}
-use Rattle.world_laws.specs.Openings.{Start, opened_world}
-use Rattle.world_laws.specs.Outcomes.{notes_at}
+use Rattle.world_laws.specs.Openings.{Start, path_begins, opened_world}
+use Rattle.world_laws.specs.Outcomes.{notes_or, notes_at}
 use Rattle.world_laws.specs.Promises.{written_by}
-use Rattle.world_laws.specs.RoundNumbers.{after_steps, BeginsRound, InEachRound, AskForAll, AskedForAll, PathsAskForAll}
+use Rattle.world_laws.specs.RoundNumbers.{after_steps, BeginsRound, InEachRound, steps_since, frees_bytes, OthersFreed, AskForAll, AskedForAll, PathsAskForAll}
 use Rattle.world_laws.specs.StampedBooks.{answer_to}
-use Rattle.world_laws.specs.Worlds.{WorldState, Turn, note_of, world_run}
-use Rattle.world_laws.proofs.AskingBooks.{IsOnes}
+use Rattle.world_laws.specs.Worlds.{WorldState, Turn, note_of, greatest, world_run}
+use Rattle.world_laws.proofs.AskingBooks.{IsOnes, any_last, any_more}
 use Rattle.world_laws.proofs.Journaling.{books_after}
 use Rattle.world_laws.proofs.RoundAsking.{begun_grants}
-use Rattle.world_laws.proofs.RoundAsksAll.{SideAsks, BothAsk, own_a, own_b, other_a, other_b, path_step}
+use Rattle.world_laws.proofs.RoundAsksAll.{SideAsks, BothAsk, own_a, own_b, other_a, other_b, path_step, freed_then, other_both}
+use Rattle.world_laws.proofs.PathAsks.{own_calls}
 use Rattle.world_laws.proofs.RoundFrame.{takes_keeps, first_keeps}
 use Rattle.world_laws.proofs.RoundGrants.{Granting, is_owed, is_paid}
-use Rattle.world_laws.proofs.TrioLifting.{Has, Stepwise, steps_have, turns_have, ended_has}
-use Rattle.world_laws.proofs.Trios.{Trio, Fare, world_of, after_a, after_b, after_p, next_trio, first_trio, first_fare}
+use Rattle.world_laws.proofs.CastLifting.{Has, Stepwise, steps_have, turns_have, ended_has, path_actor}
+use Rattle.world_laws.proofs.Casts.{Seat, Walker, Cast, Fare, world_of, walking, walked, raised_to, new_seat, after_a, after_b, after_path, walks_on, next_cast, first_cast, first_fare, opened_is, walker_there}
+
+-- ---- lists of actors
+
+-- an actor's list went on from this one
+record Went (earlier list : List Note) : Type 0 where
+  steps : List Note
+  is : list ≡ earlier ++ steps
 
 module _ {C : Type 0} (k : Codec C) (start : Start) where
-  -- in a round that began with these steps of the path, and so much written
-  pub record RoundAsks (earlier : List Note) (written_a written_b : ℕ) (t : Trio C) : Type 0 where
-    pub steps : List Note
-    pub list_is : t.at_p.list ≡ earlier ++ steps
-    pub flags : Side → Bool
-    pub granting : Granting t.p flags
-    pub both : BothAsk (path_of t.p) written_a written_b steps flags (books_in t.books)
+  -- another path freed bytes in a round that began with these lists of the paths
+  record Freed (number : ℕ) (earlier : ℕ → List Note) (s : Side) (t : Cast C) : Type 0 where
+    other : ℕ
+    apart : other ≡ number → ⊥
+    walker : Walker C
+    there : slice_get t.paths other ≡ Some walker
+    steps : List Note
+    list_is : walker.at.list ≡ earlier other ++ steps
+    freed : list_any (λ note. frees_bytes s note.ask) steps ≡ true
 
-  module _ (earlier : List Note) (written_a written_b : ℕ) where
-    abbrev Q : Trio C → Type 0
-    Q t = RoundAsks earlier written_a written_b t
+  -- each path has its number, and its list went on
+  record AreGoing (earlier : ℕ → List Note) (t : Cast C) : Type 0 where
+    numbered : (n : ℕ) (y : Walker C) → slice_get t.paths n ≡ Some y → path_of y.path ≡ n
+    went : (n : ℕ) (y : Walker C) → slice_get t.paths n ≡ Some y → Went (earlier n) y.at.list
 
-    by_a : (t : Trio C) → Fare start t → (d : AppDuty) (ds : List AppDuty) → t.a.agenda ≡ d ∷ ds → Q t → Q (after_a (app_ask d t.a) t)
-    by_a t f d ds is h =
-        let six = books_in t.books in let path = path_of t.p in
-        record {
-          steps = h.steps;
-          list_is = h.list_is;
-          flags = h.flags;
-          granting = h.granting;
-          both = subst (BothAsk path written_a written_b h.steps h.flags) (sym (books_after (app_ask d t.a) t.at_a.pass t.books)) (record {
-            a = own_a path written_a h.steps (h.flags A) t.a six d f.a.side_is h.both.a;
-            b = other_b path written_b h.steps (h.flags B) t.a six d f.a.side_is h.both.b;
-          });
-        }
+  -- a path in such a round, in which so much was written as it began
+  record PathAsking (number : ℕ) (earlier : ℕ → List Note) (written_a written_b : ℕ) (x : Walker C) (t : Cast C) : Type 0 where
+    steps : List Note
+    list_is : x.at.list ≡ earlier number ++ steps
+    flags : Side → Bool
+    freed : Side → Bool
+    granting : Granting x.path flags
+    both : BothAsk (path_of x.path) written_a written_b steps flags freed (books_in t.books)
+    others : (s : Side) → freed s ≡ true → Freed number earlier s t
 
-    by_b : (t : Trio C) → Fare start t → (d : AppDuty) (ds : List AppDuty) → t.b.agenda ≡ d ∷ ds → Q t → Q (after_b (app_ask d t.b) t)
-    by_b t f d ds is h =
-        let six = books_in t.books in let path = path_of t.p in
-        record {
-          steps = h.steps;
-          list_is = h.list_is;
-          flags = h.flags;
-          granting = h.granting;
-          both = subst (BothAsk path written_a written_b h.steps h.flags) (sym (books_after (app_ask d t.b) t.at_b.pass t.books)) (record {
-            a = other_a path written_a h.steps (h.flags A) t.b six d f.b.side_is h.both.a;
-            b = own_b path written_b h.steps (h.flags B) t.b six d f.b.side_is h.both.b;
-          });
-        }
+  pub record RoundAsks (number : ℕ) (earlier : ℕ → List Note) (written_a written_b : ℕ) (t : Cast C) : Type 0 where
+    going : AreGoing earlier t
+    asking : (x : Walker C) → slice_get t.paths number ≡ Some x → PathAsking number earlier written_a written_b x t
 
-    by_p : (t : Trio C) → Fare start t → (d : Duty) (ds : List Duty) → t.p.agenda ≡ d ∷ ds → Q t → Q (after_p k (ask_for k d t.p) t)
-    by_p t f d ds is h =
-        let six = books_in t.books in let ask = ask_for k d t.p in
-        let n : Note = note_of t.books t.at_p.pass ask in
-        let then_is = path_step k t.p written_a written_b h.steps n h.flags six h.both d ds is refl h.granting in
-        record {
-          steps = h.steps ++ n ∷ [];
-          list_is = ap (λ xs. xs ++ n ∷ []) h.list_is ∙ append_assoc earlier h.steps (n ∷ []);
-          flags = then_is.flags;
-          granting = then_is.granting;
-          both = subst (λ path. BothAsk path written_a written_b (h.steps ++ n ∷ []) then_is.flags (books_in (after_p k ask t).books)) (sym (takes_keeps k (answer_to t.books ask) t.p).2)
-              (subst (BothAsk (path_of t.p) written_a written_b (h.steps ++ n ∷ []) then_is.flags) (sym (books_after ask t.at_p.pass t.books)) then_is.both);
-        }
+  -- what was freed stays so as other paths go on
+  freed_stays : (number : ℕ) (earlier : ℕ → List Note) (s : Side) (t u : Cast C) → ((n : ℕ) (y : Walker C) → slice_get t.paths n ≡ Some y → (z : Walker C) × (slice_get u.paths n ≡ Some z) × Went y.at.list z.at.list)
+      → Freed number earlier s t → Freed number earlier s u
+  freed_stays number earlier s t u goes h =
+      let next = goes h.other h.walker h.there in
+      record {
+        other = h.other;
+        apart = h.apart;
+        walker = next.0;
+        there = next.1;
+        steps = h.steps ++ next.2.steps;
+        list_is = next.2.is ∙ ap (λ xs. xs ++ next.2.steps) h.list_is ∙ append_assoc (earlier h.other) h.steps next.2.steps;
+        freed = any_more (λ note. frees_bytes s note.ask) h.steps next.2.steps h.freed;
+      }
+
+  module _ (number : ℕ) (earlier : ℕ → List Note) (written_a written_b : ℕ) where
+    abbrev Q : Cast C → Type 0
+    Q t = RoundAsks number earlier written_a written_b t
+
+    same_paths : (t u : Cast C) → u.paths ≡ t.paths → (n : ℕ) (y : Walker C) → slice_get t.paths n ≡ Some y → (z : Walker C) × (slice_get u.paths n ≡ Some z) × Went y.at.list z.at.list
+    same_paths t u same n y there = (y, ap (λ paths. slice_get paths n) same ∙ there, record { steps = []; is = sym (append-nil y.at.list) })
+
+    by_a : (t : Cast C) → Fare start t → (d : AppDuty) (ds : List AppDuty) → t.a.agenda ≡ d ∷ ds → Q t → Q (after_a (app_ask d t.a) t)
+    by_a t f d ds is h = record { going = record { numbered = h.going.numbered; went = h.going.went }; asking = λ x there. at x (h.asking x there) }
+      where
+        at : (x : Walker C) → PathAsking number earlier written_a written_b x t → PathAsking number earlier written_a written_b x (after_a (app_ask d t.a) t)
+        at x h =
+            let six = books_in t.books in let path = path_of x.path in
+            record {
+              steps = h.steps;
+              list_is = h.list_is;
+              flags = h.flags;
+              freed = h.freed;
+              granting = h.granting;
+              both = subst (BothAsk path written_a written_b h.steps h.flags h.freed) (sym (books_after (app_ask d t.a) t.at_a.pass t.books)) (record {
+                a = own_a path written_a h.steps (h.flags A) (h.freed A) t.a six d f.a.side_is h.both.a;
+                b = other_b path written_b h.steps (h.flags B) (h.freed B) t.a six d f.a.side_is h.both.b;
+              });
+              others = λ s on. freed_stays number earlier s t (after_a (app_ask d t.a) t) (same_paths t (after_a (app_ask d t.a) t) refl) (h.others s on);
+            }
+
+    by_b : (t : Cast C) → Fare start t → (d : AppDuty) (ds : List AppDuty) → t.b.agenda ≡ d ∷ ds → Q t → Q (after_b (app_ask d t.b) t)
+    by_b t f d ds is h = record { going = record { numbered = h.going.numbered; went = h.going.went }; asking = λ x there. at x (h.asking x there) }
+      where
+        at : (x : Walker C) → PathAsking number earlier written_a written_b x t → PathAsking number earlier written_a written_b x (after_b (app_ask d t.b) t)
+        at x h =
+            let six = books_in t.books in let path = path_of x.path in
+            record {
+              steps = h.steps;
+              list_is = h.list_is;
+              flags = h.flags;
+              freed = h.freed;
+              granting = h.granting;
+              both = subst (BothAsk path written_a written_b h.steps h.flags h.freed) (sym (books_after (app_ask d t.b) t.at_b.pass t.books)) (record {
+                a = other_a path written_a h.steps (h.flags A) (h.freed A) t.b six d f.b.side_is h.both.a;
+                b = own_b path written_b h.steps (h.flags B) (h.freed B) t.b six d f.b.side_is h.both.b;
+              });
+              others = λ s on. freed_stays number earlier s t (after_b (app_ask d t.b) t) (same_paths t (after_b (app_ask d t.b) t) refl) (h.others s on);
+            }
+
+    module _ (t : Cast C) (n : ℕ) (y : Walker C) (there : slice_get t.paths n ≡ Some y) (d : Duty) (ds : List Duty) (is : y.path.agenda ≡ d ∷ ds) (h : Q t) where
+      abbrev ask : Ask
+      ask = ask_for k d y.path
+
+      abbrev note : Note
+      note = note_of t.books y.at.pass ask
+
+      abbrev z : Walker C
+      z = walked k ask t.books y
+
+      abbrev u : Cast C
+      u = after_path k n y ask t
+
+      -- the lists of all paths go on
+      goes : (m : ℕ) (w : Walker C) → slice_get t.paths m ≡ Some w → (v : Walker C) × (slice_get u.paths m ≡ Some v) × Went w.at.list v.at.list
+      goes m w at = ⊎_elim
+          (λ same. let own : Some y ≡ Some w = sym there ∙ ap (slice_get t.paths) (sym same) ∙ at in
+          (z, ap (λ i. slice_get (set t.paths n z) i) same ∙ set_same t.paths n z y there, subst (λ v. Went v.at.list z.at.list) (same_Some y w own) (record { steps = note ∷ []; is = refl })))
+          (λ apart. (w, set_other t.paths n z m apart ∙ at, record { steps = []; is = sym (append-nil w.at.list) }))
+          (cases_eq m n)
+
+      number_of : path_of z.path ≡ n
+      number_of = (takes_keeps k (answer_to t.books ask) y.path).2 ∙ h.going.numbered n y there
+
+      going_on : AreGoing earlier u
+      going_on = record {
+        numbered = λ m w at. ⊎_elim (λ here. subst (λ v. path_of v.path ≡ m) here.1 (number_of ∙ sym here.0)) (λ other. h.going.numbered m w other.1) (in_set t.paths n z m w at);
+        went = λ m w at. ⊎_elim
+            (λ here. subst (λ v. Went (earlier m) v.at.list) here.1 (let old = h.going.went n y there in
+            subst (λ i. Went (earlier i) z.at.list) (sym here.0) (record { steps = old.steps ++ note ∷ []; is = ap (λ xs. xs ++ note ∷ []) old.is ∙ append_assoc (earlier n) old.steps (note ∷ []) })))
+            (λ other. h.going.went m w other.1)
+            (in_set t.paths n z m w at);
+      }
+
+      books_are : (path : ℕ) (steps : List Note) (flags freed : Side → Bool) → BothAsk path written_a written_b steps flags freed (after_ask ask (books_in t.books)) → BothAsk path written_a written_b steps flags freed (books_in u.books)
+      books_are path steps flags freed both = subst (BothAsk path written_a written_b steps flags freed) (sym (books_after ask y.at.pass t.books)) both
+
+      -- the path itself
+      own_step : PathAsking number earlier written_a written_b y t → PathAsking number earlier written_a written_b z u
+      own_step g =
+          let then_is = path_step k y.path written_a written_b g.steps note g.flags g.freed (books_in t.books) g.both d ds is refl g.granting in
+          record {
+            steps = g.steps ++ note ∷ [];
+            list_is = ap (λ xs. xs ++ note ∷ []) g.list_is ∙ append_assoc (earlier number) g.steps (note ∷ []);
+            flags = then_is.flags;
+            freed = g.freed;
+            granting = then_is.granting;
+            both = books_are (path_of z.path) (g.steps ++ note ∷ []) then_is.flags g.freed
+                (subst (λ path. BothAsk path written_a written_b (g.steps ++ note ∷ []) then_is.flags g.freed (after_ask ask (books_in t.books))) (sym (takes_keeps k (answer_to t.books ask) y.path).2) then_is.both);
+            others = λ s on. freed_stays number earlier s t u goes (g.others s on);
+          }
+
+      -- another one
+      freed_by : (n ≡ number → ⊥) → (s : Side) (before : Bool) → (before ≡ true → Freed number earlier s u) → before || frees_bytes s ask ≡ true → Freed number earlier s u
+      freed_by apart s true old on = old refl
+      freed_by apart s false old on =
+          let went = h.going.went n y there in
+          record {
+            other = n;
+            apart = apart;
+            walker = z;
+            there = set_same t.paths n z y there;
+            steps = went.steps ++ note ∷ [];
+            list_is = ap (λ xs. xs ++ note ∷ []) went.is ∙ append_assoc (earlier n) went.steps (note ∷ []);
+            freed = any_last (λ m. frees_bytes s m.ask) went.steps note on;
+          }
+
+      other_step : (n ≡ number → ⊥) → (x : Walker C) → slice_get t.paths number ≡ Some x → PathAsking number earlier written_a written_b x t → PathAsking number earlier written_a written_b x u
+      other_step apart x at g =
+          let mine = h.going.numbered number x at in let its = h.going.numbered n y there in
+          record {
+            steps = g.steps;
+            list_is = g.list_is;
+            flags = g.flags;
+            freed = freed_then ask g.freed;
+            granting = g.granting;
+            both = books_are (path_of x.path) g.steps g.flags (freed_then ask g.freed)
+                (other_both (path_of x.path) written_a written_b g.steps g.flags g.freed (books_in t.books) g.both (path_of y.path) ask (λ same. apart (sym its ∙ same ∙ mine)) (own_calls k y.path d));
+            others = λ s on. freed_by apart s (g.freed s) (λ old. freed_stays number earlier s t u goes (g.others s old)) on;
+          }
+
+      pub by_path : Q u
+      by_path = record {
+        going = going_on;
+        asking = λ x at. ⊎_elim
+            (λ here. subst (λ w. PathAsking number earlier written_a written_b w u) here.1 (own_step (h.asking y (ap (slice_get t.paths) here.0 ∙ there))))
+            (λ other. other_step (λ same. other.0 (sym same)) x other.1 (h.asking x other.1))
+            (in_set t.paths n z number x at);
+      }
 
     pub asks_stepwise : Stepwise k start Q
-    asks_stepwise = record { a = by_a; b = by_b; p = by_p }
+    asks_stepwise = record { a = by_a; b = by_b; path = λ t f n y there d ds is h. by_path t n y there d ds is h }
 
   -- in whatever round
-  pub record Asking (t : Trio C) : Type 0 where
-    pub earlier : List Note
+  pub record Asking (number : ℕ) (t : Cast C) : Type 0 where
+    pub earlier : ℕ → List Note
     pub written_a : ℕ
     pub written_b : ℕ
-    pub round : RoundAsks earlier written_a written_b t
+    pub round : RoundAsks number earlier written_a written_b t
 
-  asking_stepwise : Stepwise k start Asking
-  asking_stepwise = record {
-    a = λ t f d ds is h. record { earlier = h.earlier; written_a = h.written_a; written_b = h.written_b; round = by_a h.earlier h.written_a h.written_b t f d ds is h.round };
-    b = λ t f d ds is h. record { earlier = h.earlier; written_a = h.written_a; written_b = h.written_b; round = by_b h.earlier h.written_a h.written_b t f d ds is h.round };
-    p = λ t f d ds is h. record { earlier = h.earlier; written_a = h.written_a; written_b = h.written_b; round = by_p h.earlier h.written_a h.written_b t f d ds is h.round };
+  asking_stepwise : (number : ℕ) → Stepwise k start (Asking number)
+  asking_stepwise number = record {
+    a = λ t f d ds is h. record { earlier = h.earlier; written_a = h.written_a; written_b = h.written_b; round = by_a number h.earlier h.written_a h.written_b t f d ds is h.round };
+    b = λ t f d ds is h. record { earlier = h.earlier; written_a = h.written_a; written_b = h.written_b; round = by_b number h.earlier h.written_a h.written_b t f d ds is h.round };
+    path = λ t f n y there d ds is h. record { earlier = h.earlier; written_a = h.written_a; written_b = h.written_b; round = by_path number h.earlier h.written_a h.written_b t n y there d ds is h.round };
   }
 
-  -- as a round begins
-  abbrev Begun : Trio C → Type 0
-  Begun t = RoundAsks t.at_p.list (length (books_in t.books).send_a.written) (length (books_in t.books).send_b.written) t
+  -- ---- as a round begins
 
-  begun_side : (path written : ℕ) (s : Side) (b : Sending) → IsOnes path written b → SideAsks path (length b.written) s [] false b
+  -- the lists of the paths
+  abbrev lists_at : WorldState C → ℕ → List Note
+  lists_at w number = notes_at (suc (suc number)) w.crew
+
+  abbrev Begun : ℕ → Cast C → Type 0
+  Begun number t = RoundAsks number (lists_at (world_of t)) (length (books_in t.books).send_a.written) (length (books_in t.books).send_b.written) t
+
+  list_there : (t : Cast C) (number : ℕ) (x : Walker C) → slice_get t.paths number ≡ Some x → x.at.list ≡ lists_at (world_of t) number
+  list_there t number x there = sym (ap notes_or (path_actor t number x there))
+
+  begun_side : (path written : ℕ) (s : Side) (b : Sending) → IsOnes path written b → SideAsks path (length b.written) s [] false false b
   begun_side path written s b h = record {
     ones = record { aborted = h.aborted; owner = h.owner; tried = h.tried; whole = h.whole; grown = omega arith };
-    all = λ never. cc;
+    all = λ never alone. cc;
   }
 
-  next_begun : (t : Trio C) → Asking t → Begun (next_trio t)
-  next_begun t h =
-      let q : PathState C = record t.p { clock = t.p.until; until = t.p.until + 100 } in
-      record {
-        steps = [];
-        list_is = sym (append-nil t.at_p.list);
-        flags = λ s. false;
-        granting = begun_grants q (λ s. false);
-        both = subst (λ path. BothAsk path (length (books_in t.books).send_a.written) (length (books_in t.books).send_b.written) [] (λ s. false) (books_in t.books)) (sym (first_keeps q).2) (record {
-          a = begun_side (path_of t.p) h.written_a A (books_in t.books).send_a h.round.both.a.ones;
-          b = begun_side (path_of t.p) h.written_b B (books_in t.books).send_b h.round.both.b.ones;
-        });
-      }
+  -- a path begins a round with books that are its own, or another's
+  begun_path : (number written_a written_b : ℕ) (q : PathState C) (seat : Seat) (t : Cast C) → IsOnes (path_of q) written_a (books_in t.books).send_a → IsOnes (path_of q) written_b (books_in t.books).send_b
+      → seat.list ≡ lists_at (world_of t) number
+      → PathAsking number (lists_at (world_of t)) (length (books_in t.books).send_a.written) (length (books_in t.books).send_b.written) (record { path = begins_turn q; at = seat }) t
+  begun_path number written_a written_b q seat t a b list_is = record {
+    steps = [];
+    list_is = list_is ∙ sym (append-nil (lists_at (world_of t) number));
+    flags = λ s. false;
+    freed = λ s. false;
+    granting = begun_grants q (λ s. false);
+    both = subst (λ path. BothAsk path (length (books_in t.books).send_a.written) (length (books_in t.books).send_b.written) [] (λ s. false) (λ s. false) (books_in t.books)) (sym (first_keeps q).2) (record {
+      a = begun_side (path_of q) written_a A (books_in t.books).send_a a;
+      b = begun_side (path_of q) written_b B (books_in t.books).send_b b;
+    });
+    others = λ s never. cc;
+  }
+
+  going_anew : (t : Cast C) → ((n : ℕ) (y : Walker C) → slice_get t.paths n ≡ Some y → path_of y.path ≡ n) → AreGoing (lists_at (world_of t)) t
+  going_anew t numbered = record {
+    numbered = numbered;
+    went = λ n y there. record { steps = []; is = list_there t n y there ∙ sym (append-nil (lists_at (world_of t) n)) };
+  }
+
+  next_begun : (number : ℕ) (t : Cast C) → Asking number t → Begun number (next_cast t)
+  next_begun number t h = record { going = going_anew (next_cast t) numbered; asking = asking }
+    where
+      numbered : (n : ℕ) (y : Walker C) → slice_get (next_cast t).paths n ≡ Some y → path_of y.path ≡ n
+      numbered n y there =
+          let found = in_map (walks_on (greatest 0 (world_of t).crew)) t.paths n y there in
+          subst (λ z. path_of z.path ≡ n) found.2 ((first_keeps (record found.0.path { clock = found.0.path.until; until = found.0.path.until + 100 })).2 ∙ h.round.going.numbered n found.0 found.1)
+
+      asking : (x : Walker C) → slice_get (next_cast t).paths number ≡ Some x
+          → PathAsking number (lists_at (world_of (next_cast t))) (length (books_in t.books).send_a.written) (length (books_in t.books).send_b.written) x (next_cast t)
+      asking x there =
+          let found = in_map (walks_on (greatest 0 (world_of t).crew)) t.paths number x there in
+          let g = h.round.asking found.0 found.1 in
+          subst (λ z. PathAsking number (lists_at (world_of (next_cast t))) (length (books_in t.books).send_a.written) (length (books_in t.books).send_b.written) z (next_cast t)) found.2
+          (begun_path number h.written_a h.written_b (record found.0.path { clock = found.0.path.until; until = found.0.path.until + 100 }) (raised_to (greatest 0 (world_of t).crew) found.0.at) (next_cast t)
+          g.both.a.ones g.both.b.ones (ap (λ z. z.at.list) found.2 ∙ list_there (next_cast t) number x there))
 
   opened_ones : (path buffer : ℕ) → IsOnes path 0 (opened buffer)
   opened_ones path buffer = record { aborted = refl; owner = refl; tried = Every-nil _; whole = refl; grown = omega arith }
 
-  opened_begun : Begun (first_trio start)
-  opened_begun = record {
-    steps = [];
-    list_is = refl;
-    flags = λ s. false;
-    granting = begun_grants (waiting_path start.profile start.drawn start.delay start.lines) (λ s. false);
-    both = record {
-      a = begun_side (path_of (first_trio {C = C} start).p) 0 A (opened start.profile.buffer) (opened_ones (path_of (first_trio {C = C} start).p) start.profile.buffer);
-      b = begun_side (path_of (first_trio {C = C} start).p) 0 B (opened start.profile.buffer) (opened_ones (path_of (first_trio {C = C} start).p) start.profile.buffer);
-    };
-  }
+  opened_begun : (number : ℕ) → Begun number (first_cast start)
+  opened_begun number = record { going = going_anew (first_cast start) numbered; asking = asking }
+    where
+      numbered : (n : ℕ) (y : Walker C) → slice_get (first_cast {C = C} start).paths n ≡ Some y → path_of y.path ≡ n
+      numbered n y there =
+          let found = walker_there start 0 n n start.paths y (omega arith) there in
+          subst (λ z. path_of z.path ≡ n) (sym found.2) (first_keeps {C = C} (waiting_path (path_begins start n found.0) start.lines)).2
 
-  opened_has : Has {C = C} start Begun (opened_world start)
-  opened_has = record { trio = first_trio start; is = refl; fare = first_fare start; holds = opened_begun }
+      asking : (x : Walker C) → slice_get (first_cast {C = C} start).paths number ≡ Some x → PathAsking number (lists_at (world_of (first_cast start))) 0 0 x (first_cast start)
+      asking x there =
+          let found = walker_there start 0 number number start.paths x (omega arith) there in
+          subst (λ z. PathAsking number (lists_at (world_of (first_cast start))) 0 0 z (first_cast start)) (sym found.2)
+          (begun_path number 0 0 (waiting_path (path_begins start number found.0) start.lines) (new_seat (2 + number)) (first_cast start)
+          (opened_ones _ start.buffer) (opened_ones _ start.buffer) (ap (λ z. z.at.list) (sym found.2) ∙ list_there (first_cast start) number x there))
 
-  asking_from : (t : Trio C) → Begun t → Asking t
-  asking_from t h = record { earlier = _; written_a = _; written_b = _; round = h }
+  opened_has : (number : ℕ) → Has {C = C} start (Begun number) (opened_world start)
+  opened_has number = record { cast = first_cast start; is = opened_is start; fare = first_fare start; holds = opened_begun number }
 
-  always_asking : (turns : List Turn) → Has start Asking (world_run k turns (opened_world start))
-  always_asking turns =
-      turns_have k start Asking asking_stepwise (λ t f h. asking_from (next_trio t) (next_begun t h)) turns (opened_world start)
-      (record { trio = first_trio start; is = refl; fare = first_fare start; holds = asking_from (first_trio start) opened_begun })
+  asking_from : (number : ℕ) (t : Cast C) → Begun number t → Asking number t
+  asking_from number t h = record { earlier = _; written_a = _; written_b = _; round = h }
+
+  always_asking : (number : ℕ) (turns : List Turn) → Has start (Asking number) (world_run k turns (opened_world start))
+  always_asking number turns =
+      turns_have k start (Asking number) (asking_stepwise number) (λ t f h. asking_from number (next_cast t) (next_begun number t h)) turns (opened_world start)
+      (record { cast = first_cast start; is = opened_is start; fare = first_fare start; holds = asking_from number (first_cast start) (opened_begun number) })
 
   -- in a round that began in this world
-  abbrev Since : WorldState C → Trio C → Type 0
-  Since u t = RoundAsks (notes_at 2 u.crew) (length (written_by A u).written) (length (written_by B u).written) t
+  abbrev Since : ℕ → WorldState C → Cast C → Type 0
+  Since number u t = RoundAsks number (lists_at u) (length (written_by A u).written) (length (written_by B u).written) t
 
-  since_begun : (u : WorldState C) → Has start Begun u → Has start (Since u) u
-  since_begun u h = subst (λ v. Has start (Since v) v) (sym h.is) (record { trio = h.trio; is = refl; fare = h.fare; holds = h.holds })
+  since_begun : (number : ℕ) (u : WorldState C) → Has start (Begun number) u → Has start (Since number u) u
+  since_begun number u h = subst (λ v. Has start (Since number v) v) (sym h.is) (record { cast = h.cast; is = refl; fare = h.fare; holds = h.holds })
 
-  begun_has : (u : WorldState C) → BeginsRound k start u → Has start Begun u
-  begun_has u (BeginsRound.First is) = subst (Has start Begun) (sym is) opened_has
-  begun_has u (BeginsRound.Next turns over is) =
-      subst (Has start Begun) (sym is) (ended_has start Asking Begun (λ t f h. next_begun t h) (world_run k turns (opened_world start)) over (always_asking turns))
+  begun_has : (number : ℕ) (u : WorldState C) → BeginsRound k start u → Has start (Begun number) u
+  begun_has number u (BeginsRound.First is) = subst (Has start (Begun number)) (sym is) (opened_has number)
+  begun_has number u (BeginsRound.Next turns over is) =
+      subst (Has start (Begun number)) (sym is)
+      (ended_has start (Asking number) (Begun number) (λ t f h. next_begun number t h) (world_run k turns (opened_world start)) over (always_asking number turns))
 
   -- ---- where the turn is over
 
@@ -174,31 +349,59 @@ module _ {C : Type 0} (k : Codec C) (start : Start) where
   drop_front [] ys = refl
   drop_front (x ∷ xs) ys = drop_front xs ys
 
-  trio_asks : (u : WorldState C) (t : Trio C) → Since u t → PathsAskForAll u (world_of t)
-  trio_asks u t h = record { each = at }
+  -- the steps of a path since then
+  since_is : (u : WorldState C) (t : Cast C) (number : ℕ) (x : Walker C) (steps : List Note) → slice_get t.paths number ≡ Some x → x.at.list ≡ lists_at u number ++ steps
+      → steps_since (suc (suc number)) u (world_of t) ≡ steps
+  since_is u t number x steps there is =
+      ap (drop (length (lists_at u number))) (sym (list_there t number x there) ∙ is) ∙ drop_front (lists_at u number) steps
+
+  path_asked_all : (u : WorldState C) (t : Cast C) (number : ℕ) (x : Walker C) → slice_get t.paths number ≡ Some x → Since number u t → AskForAll u (world_of t) (suc (suc number)) (Path x.path)
+  path_asked_all u t number x there h over s none may = by (g.freed s) refl
     where
-      side_all : (s : Side) → h.flags s ≡ true → AskedForAll (path_of t.p) s h.steps (length (written_by s u).written) (send_of s (books_in t.books))
-      side_all A on = h.both.a.all on
-      side_all B on = h.both.b.all on
+      g : PathAsking number (lists_at u) (length (written_by A u).written) (length (written_by B u).written) x t
+      g = h.asking x there
 
-      path_all : AskForAll u (world_of t) 2 (Path t.p)
-      path_all over s none may =
-          let owed : is_owed s t.p.agenda ≡ false = ap (is_owed s) over in
-          let paid = is_paid t.p t.p.agenda h.flags s owed (h.granting.each s) in
-          subst (λ steps. AskedForAll (path_of t.p) s steps (length (written_by s u).written) (send_of s (books_in t.books)))
-          (sym (ap (drop (length (notes_at 2 u.crew))) h.list_is ∙ drop_front (notes_at 2 u.crew) h.steps)) (side_all s (paid.paid none may))
+      side_all : (s : Side) → g.flags s ≡ true → g.freed s ≡ false → AskedForAll (path_of x.path) s g.steps (length (written_by s u).written) (send_of s (books_in t.books))
+      side_all A on alone = g.both.a.all on alone
+      side_all B on alone = g.both.b.all on alone
 
-      at : (i : ℕ) (c : ActorCrew C) → slice_get (world_of t).crew i ≡ Some c → AskForAll u (world_of t) i c.member
-      at zero c there = subst (λ x. AskForAll u (world_of t) 0 x.member) (same_Some _ c there) tt
-      at (suc zero) c there = subst (λ x. AskForAll u (world_of t) 1 x.member) (same_Some _ c there) tt
-      at (suc (suc zero)) c there = subst (λ x. AskForAll u (world_of t) 2 x.member) (same_Some _ c there) path_all
-      at (suc (suc (suc i))) c there = cc
+      by : (b : Bool) → g.freed s ≡ b → AskedForAll (path_of x.path) s (steps_since (suc (suc number)) u (world_of t)) (length (written_by s u).written) (send_of s (books_in t.books)) ⊎ OthersFreed u (world_of t) (suc (suc number)) s
+      by false alone =
+          let owed : is_owed s x.path.agenda ≡ false = ap (is_owed s) over in
+          let paid = is_paid x.path x.path.agenda g.flags s owed (g.granting.each s) in
+          inl (subst (λ steps. AskedForAll (path_of x.path) s steps (length (written_by s u).written) (send_of s (books_in t.books))) (sym (since_is u t number x g.steps there g.list_is)) (side_all s (paid.paid none may) alone))
+      by true on =
+          let f = g.others s on in
+          inr (record {
+            other = suc (suc f.other);
+            apart = λ same. f.apart (omega (arith, same));
+            freed = subst (λ steps. list_any (λ note. frees_bytes s note.ask) steps ≡ true) (sym (since_is u t f.other f.walker f.steps f.there f.list_is)) f.freed;
+          })
 
-  has_asked : (u w : WorldState C) → Has start (Since u) w → PathsAskForAll u w
-  has_asked u w h = subst (PathsAskForAll u) (sym h.is) (trio_asks u h.trio h.holds)
+  has_asked : (u w : WorldState C) → ((number : ℕ) → Has start (Since number u) w) → PathsAskForAll u w
+  has_asked u w h = record { each = at }
+    where
+      paths : (number : ℕ) (c : ActorCrew C) → slice_get w.crew (suc (suc number)) ≡ Some c → AskForAll u w (suc (suc number)) c.member
+      paths number = let g = h number in
+          subst (λ v. (c : ActorCrew C) → slice_get v.crew (suc (suc number)) ≡ Some c → AskForAll u v (suc (suc number)) c.member) (sym g.is)
+          (λ c there. let found = in_map walking g.cast.paths number c there in
+          subst (λ y. AskForAll u (world_of g.cast) (suc (suc number)) y.member) found.2 (path_asked_all u g.cast number found.0 found.1 g.holds))
+
+      apps : (s : Side) (c : ActorCrew C) → slice_get w.crew (pick s 0 1) ≡ Some c → AskForAll u w (pick s 0 1) c.member
+      apps s = let g = h 0 in
+          subst (λ v. (c : ActorCrew C) → slice_get v.crew (pick s 0 1) ≡ Some c → AskForAll u v (pick s 0 1) c.member) (sym g.is) (on s g.cast)
+        where
+          on : (s : Side) (t : Cast C) (c : ActorCrew C) → slice_get (world_of t).crew (pick s 0 1) ≡ Some c → AskForAll u (world_of t) (pick s 0 1) c.member
+          on A t c there = subst (λ y. AskForAll u (world_of t) 0 y.member) (same_Some _ c there) tt
+          on B t c there = subst (λ y. AskForAll u (world_of t) 1 y.member) (same_Some _ c there) tt
+
+      at : (actor : ℕ) (c : ActorCrew C) → slice_get w.crew actor ≡ Some c → AskForAll u w actor c.member
+      at zero c there = apps A c there
+      at (suc zero) c there = apps B c there
+      at (suc (suc number)) c there = paths number c there
 
 pub paths_ask : {C : Type 0} (k : Codec C) → InEachRound k PathsAskForAll
 paths_ask k start begun order begins =
     has_asked k start begun (after_steps k order begun)
-    (steps_have k start (Since k start begun) (asks_stepwise k start (notes_at 2 begun.crew) (length (written_by A begun).written) (length (written_by B begun).written)) order begun
-    (since_begun k start begun (begun_has k start begun begins)))
+    (λ number. steps_have k start (Since k start number begun) (asks_stepwise k start number (lists_at k start begun) (length (written_by A begun).written) (length (written_by B begun).written)) order begun
+    (since_begun k start number begun (begun_has k start number begun begins)))

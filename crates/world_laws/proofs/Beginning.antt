@@ -1,62 +1,93 @@
 -- The opened world shows in the two directions, and so does the world after every list of turns.
-use Rattle.std.proofs.Common.{◌≡◌, refl, sym, ◌∙◌, ap, subst, ℕ, inl, Bool, true, false, Option, List, [], ◌∷◌, ◌++◌}
+use Rattle.std.proofs.Common.{◌≡◌, refl, sym, ◌∙◌, ap, subst, ℕ, zero, suc, ◌+◌, ◌<◌, inl, inr, Bool, true, false, Option, Some, List, [], ◌∷◌, ◌++◌, length, replicate, set, arith}
 use Rattle.std.proofs.lemmas.Bool.{false≢true}
+use Rattle.std.proofs.lemmas.Option.{same_Some, slice_get_within}
+use Rattle.std.specs.List.{slice_get}
 use Rattle.outside_kit.specs.declared.side.Side.{Side}
 use Rattle.outside_kit.specs.declared.side.Side.TheVariants.{A, B}
 use Rattle.subflow_tcp.specs.declared.handshake.State.{State as EndPhase}
-use Rattle.subflow_tcp.specs.declared.handshake.State.TheVariants.{Listen, SynSent}
+use Rattle.subflow_tcp.specs.declared.handshake.State.TheVariants.{Listen}
 use Rattle.subflow_tcp.specs.Opening.{new_end}
 use Rattle.stream_lanes.specs.Holding.{Holds}
 use Rattle.stream_lanes.specs.Lane.{AckCopy, Lane, new_lane}
-use Rattle.stream_lanes.specs.Moves.{Move}
 use Rattle.stream_lanes.specs.Moves.Move.{Open, SendAck}
 use Rattle.stream_lanes.specs.Streams.{Reader}
-use Rattle.stream_lanes.specs.Duo.{Duo, after_events, opening}
+use Rattle.stream_lanes.specs.Streams.StreamEvent.{Moves}
+use Rattle.stream_lanes.specs.Duo.{Duo, Event, after_events, opening}
+use Rattle.stream_lanes.specs.Duo.Event.{ToB, ToA}
 use Rattle.stream_lanes.proofs.Duos.{all_held}
-use Rattle.stream_lanes.proofs.Lists.{Every-nil}
+use Rattle.stream_lanes.proofs.Lists.{Every-nil, set_same, set_other}
 use Rattle.actor_desk.specs.Desk.{SixBooks, opened_books}
 use Rattle.stream_apps.specs.Apps.{AppState}
 use Rattle.stream_apps.specs.AppSteps.{start_of_app}
 use Rattle.stream_apps.specs.Starts.{first_app_turn}
 use Rattle.path_agenda.specs.Agenda.{start_of_turn}
 use Rattle.path_core.specs.Ends.{opening_end}
-use Rattle.path_core.specs.Starts.{waiting_path, first_turn}
+use Rattle.path_core.specs.Starts.{first_state, waiting_path, first_turn}
 use Rattle.path_core.specs.State.{PathState, Profile, with_agenda}
+use Rattle.path_core.specs.Turns.{IsSettled}
 use Rattle.path_core.specs.Values.{Carried, values}
-use Rattle.world_laws.specs.Openings.{Start, opened_world}
+use Rattle.world_laws.specs.Openings.{PathPlan, Start, path_begins, opened_world}
 use Rattle.world_laws.specs.Promises.{IsPlain}
 use Rattle.world_laws.specs.Worlds.{WorldState, Turn, after_turn, world_run}
 use Rattle.world_laws.proofs.Applying.{Reads, settled_app}
-use Rattle.world_laws.proofs.Joining.{settled_first, each_turn_shows}
-use Rattle.world_laws.proofs.Lanes.{duo_of, WorldShows, Shown, OpenedShows, EachOpeningShows, Reached, EachRunShows, move_events, events_append, turn_events, turn_is}
+use Rattle.world_laws.proofs.Asleep.{first_asleep}
+use Rattle.world_laws.proofs.Casts.{first_cast, first_fare, opened_is, walker_there}
+use Rattle.world_laws.proofs.Joining.{settled_first, beside, beside_is, same_there, same_there_sent, each_turn_shows}
+use Rattle.world_laws.proofs.Lanes.{duo_of, Others, duo_at, StandsSo, PathThere, WorldShows, SureIsClear, Shown, first_duo, OpenedShows, EachOpeningShows, Reached, EachRunShows, events_append, turn_events, turn_is}
+use Rattle.world_laws.proofs.PlacesKnown.{opens_those}
+use Rattle.world_laws.proofs.PlacesSent.{IsLonger, BothLast, all_last, there_lasts, last_longer}
+use Rattle.world_laws.proofs.Roads.{Strolls, there_again}
+use Rattle.world_laws.proofs.RoundFrame.{first_keeps}
 use Rattle.world_laws.proofs.Saying.{every_one}
-use Rattle.world_laws.proofs.Settling.{then_strolled, settles}
+use Rattle.world_laws.proofs.Settling.{settles}
 use Rattle.world_laws.proofs.Showing.{HasAck, Under, EndShows, PathShows}
-use Rattle.world_laws.proofs.Strolling.{Strolled, strolls_held, strolled_both}
-use Rattle.world_laws.proofs.Trios.{first_trio, first_fare}
+use Rattle.world_laws.proofs.Strolling.{Strolled, strolls_held, events_held}
+use Rattle.world_laws.proofs.Untouched.{Granted, silent_so}
+use Rattle.world_laws.proofs.Surely.{sure_is_clear}
+use Rattle.world_laws.proofs.Turning.{Moved, unmoved, then_moved, lanes_moved}
 
 -- ---- the lanes before the first turn
 
--- the sender's end may ask, and nothing is acknowledged
-abbrev first_moves : List Move
-first_moves = Open ∷ SendAck 0 0 0 ∷ []
+-- that of path 0 is open
+abbrev pub is_first : ℕ → Bool
+is_first zero = true
+is_first (suc number) = false
 
+abbrev pub fresh_lane : ℕ → Lane
+fresh_lane number = record new_lane { opened = is_first number }
+
+abbrev pub fresh_lanes : ℕ → List Lane
+fresh_lanes zero = []
+fresh_lanes (suc n) = record new_lane { opened = true } ∷ replicate n new_lane
+
+fresh_there : (n number : ℕ) → number < n → slice_get (fresh_lanes n) number ≡ Some (fresh_lane number)
+fresh_there zero number within = absurd (omega (arith, within))
+fresh_there (suc n) zero within = refl
+fresh_there (suc n) (suc number) within = among n number (omega (arith, within))
+  where
+    among : (n number : ℕ) → number < n → slice_get (replicate n new_lane) number ≡ Some new_lane
+    among zero number within = absurd (omega (arith, within))
+    among (suc n) zero within = refl
+    among (suc n) (suc number) within = among n number (omega (arith, within))
+
+-- nothing is acknowledged
 abbrev pub first_ack : AckCopy
 first_ack = record { next = 0; window = 0; sub = 0 }
 
-abbrev pub first_lane : Lane
-first_lane = record new_lane { opened = true; acks = first_ack ∷ [] }
+abbrev pub first_lane : ℕ → Lane
+first_lane number = record (fresh_lane number) { acks = first_ack ∷ [] }
 
-first_has : HasAck first_lane.acks 0 0
-first_has = record { at = 0; item = first_ack; there = refl; holds = record { next_is = refl; window_is = refl } }
+first_has : (number : ℕ) → HasAck (first_lane number).acks 0 0
+first_has number = record { at = 0; item = first_ack; there = refl; holds = record { next_is = refl; window_is = refl } }
 
 none_under : (kept : List (Option ℕ)) → Under [] kept
 none_under kept = record { each = λ i byte is. cc }
 
-opening_shows : (c : Profile) (s : Side) (state : EndPhase) (opens : Bool) (path own key : ℕ) → EndShows c s (opening_end (new_end state opens path own c.mss) key) first_lane first_lane
-opening_shows c s state opens path own key = record {
+opening_shows : (c : Profile) (s : Side) (number : ℕ) (state : EndPhase) (opens : Bool) (path own key nonce : ℕ)
+    → EndShows c s (opening_end (new_end state opens path own c.mss) key nonce) (first_lane number) (first_lane number)
+opening_shows c s number state opens path own key nonce = record {
   sender = record {
-    opened = refl;
     plain = refl;
     next = λ is. refl;
     unfinished = λ is. refl;
@@ -65,27 +96,33 @@ opening_shows c s state opens path own key = record {
     fin_acked = λ is. absurd (false≢true is);
   };
   receiver = record {
-    edge = inl (record { edge_is = refl; under = none_under first_lane.kept; held = tt });
+    edge = inl (record { edge_is = refl; under = none_under (first_lane number).kept; held = tt });
     fin = tt;
     mapped = Every-nil _;
   };
-  window = record { ack = first_has; alone = first_has; syn = first_has };
-  told = first_has;
-  treated = record { items = Every-nil _; fins = Every-nil _; answer = tt };
+  window = record { ack = first_has number; alone = first_has number; syn = first_has number };
+  told = first_has number;
+  treated = record { items = Every-nil _; fins = Every-nil _; answer = tt; window = tt };
   held = Every-nil _;
 }
 
 module _ (start : Start) (can : IsPlain start) where
-  abbrev pub waiting : PathState Carried
-  waiting = waiting_path start.profile start.drawn start.delay start.lines
+  -- the path of a number before its first turn
+  abbrev pub waiting : ℕ → PathPlan → PathState Carried
+  waiting number plan = waiting_path (path_begins start number plan) start.lines
 
-  pub waiting_shows : PathShows start.profile (with_agenda start_of_turn waiting) first_lane first_lane
-  waiting_shows = record {
+  abbrev pub first_path : ℕ → PathPlan → PathState Carried
+  first_path number plan = first_turn (path_begins start number plan) start.lines
+
+  abbrev pub profile_at : ℕ → PathPlan → Profile
+  profile_at number plan = (path_begins start number plan).profile
+
+  pub waiting_shows : (number : ℕ) (plan : PathPlan) → PathShows (profile_at number plan) (with_agenda start_of_turn (waiting number plan)) (first_lane number) (first_lane number)
+  waiting_shows number plan = record {
     profile = refl;
-    path = refl;
-    unchanged = can.unchanged;
-    a = opening_shows start.profile A SynSent true 0 start.drawn.initial_a start.drawn.key_a;
-    b = opening_shows start.profile B Listen false 0 start.drawn.initial_b start.drawn.key_b;
+    unchanged = can.unchanged number;
+    a = opening_shows (profile_at number plan) A number (first_state (path_begins start number plan).joined_at) true number plan.initial_a start.key_a plan.nonce_a;
+    b = opening_shows (profile_at number plan) B number Listen false number plan.initial_b start.key_b plan.nonce_b;
     copies = Every-nil _;
   }
 
@@ -93,51 +130,216 @@ module _ (start : Start) (can : IsPlain start) where
   no_reader = record { out = []; told = false; stopped = false }
 
   abbrev pub six : SixBooks
-  six = opened_books start.profile.buffer start.drawn.key_a start.drawn.key_b
+  six = opened_books start.buffer start.key_a start.key_b
 
-  abbrev first_strolled : Strolled start.profile (with_agenda start_of_turn waiting) new_lane new_lane
-  first_strolled = record {
-    ab_after = first_lane;
-    ba_after = first_lane;
-    ab_moves = record { by = first_moves; to = refl };
-    ba_moves = record { by = first_moves; to = refl };
-    shows = waiting_shows;
+  abbrev pub with_lanes : List Lane → List Lane → Duo
+  with_lanes lanes_ab lanes_ba = duo_of false six lanes_ab lanes_ba no_reader no_reader
+
+  -- path 0 opens
+  abbrev opens : List Event
+  opens = ToB (Moves 0 Open) ∷ ToA (Moves 0 Open) ∷ []
+
+  opens_many : (n : ℕ) → after_events opens (opening n start.buffer start.buffer) ≡ with_lanes (fresh_lanes n) (fresh_lanes n)
+  opens_many zero = refl
+  opens_many (suc n) = refl
+
+  -- ---- a path alone
+
+  pub fresh_count : (n : ℕ) → n < length (fresh_lanes (suc n))
+  fresh_count n = slice_get_within (fresh_lanes (suc n)) n (fresh_lane n) (fresh_there (suc n) n (omega arith))
+
+  -- so many lanes before it
+  abbrev pub alone : ℕ → Others
+  alone number = record {
+    joined = false;
+    number = number;
+    lanes_ab = fresh_lanes (suc number);
+    lanes_ba = fresh_lanes (suc number);
+    within_ab = fresh_count number;
+    within_ba = fresh_count number;
+    reader_a = no_reader;
+    reader_b = no_reader;
   }
 
-  pub first_holds : Holds (duo_of six first_lane first_lane no_reader no_reader)
-  first_holds = strolls_held six no_reader no_reader new_lane first_lane new_lane first_lane first_strolled.ab_moves first_strolled.ba_moves (all_held 1 start.profile.buffer start.profile.buffer [])
+  pub alone_holds : (number : ℕ) → Holds (duo_at six (first_lane number) (first_lane number) (alone number))
+  alone_holds number =
+      let here_is : duo_at six (fresh_lane number) (fresh_lane number) (alone number) ≡ with_lanes (fresh_lanes (suc number)) (fresh_lanes (suc number)) =
+      ap (λ lanes. with_lanes lanes lanes) (there_again (fresh_lanes (suc number)) number (fresh_lane number) (fresh_there (suc number) number (omega arith))) in
+      strolls_held six (alone number) (fresh_lane number) (first_lane number) (fresh_lane number) (first_lane number)
+      (record { by = SendAck 0 0 0 ∷ []; calm = refl; to = refl }) (record { by = SendAck 0 0 0 ∷ []; calm = refl; to = refl })
+      (subst Holds (sym here_is) (subst Holds (opens_many (suc number)) (all_held (suc number) start.buffer start.buffer opens)))
 
-  turn_strolled : Strolled start.profile (first_turn start.profile start.drawn start.delay start.lines) new_lane new_lane
-  turn_strolled =
-      then_strolled start.profile (with_agenda start_of_turn waiting) (first_turn start.profile start.drawn start.delay start.lines) new_lane new_lane first_strolled
-      (settles six no_reader no_reader start.profile start_of_turn (with_agenda start_of_turn waiting) first_lane first_lane waiting_shows first_holds)
+  -- ---- one path
 
-  nothing_read : (s : Side) (file : List ℕ) → Reads (first_app_turn s start.profile.buffer file).told [] no_reader
+  -- the first turn of a path, on lanes that are fresh
+  pub record OneOpened (number : ℕ) (plan : PathPlan) (lanes_ab lanes_ba : List Lane) : Type 0 where
+    pub ab : Lane
+    pub ba : Lane
+    pub moved : Moved (with_lanes lanes_ab lanes_ba) (with_lanes (set lanes_ab number ab) (set lanes_ba number ba))
+    pub path : PathThere start (set lanes_ab number ab) (set lanes_ba number ba) number (first_path number plan)
+
+  first_stands : (number : ℕ) (plan : PathPlan) (ab ba : Lane) → IsLonger (first_lane number) ab → IsLonger (first_lane number) ba → ab.sent ≡ [] → StandsSo number (first_path number plan) ab ba
+  first_stands zero plan ab ba x y unsent = (x.opened refl, y.opened refl)
+  first_stands (suc number) plan ab ba x y unsent = record { opened = inr (first_asleep (path_begins start (suc number) plan) start.lines plan.join refl); unsent = λ unclear. unsent }
+
+  module _ (number : ℕ) (plan : PathPlan) (plan_there : slice_get start.paths number ≡ Some plan) (lanes_ab lanes_ba : List Lane) (ab_there : slice_get lanes_ab number ≡ Some (fresh_lane number))
+      (ba_there : slice_get lanes_ba number ≡ Some (fresh_lane number)) (holds : Holds (with_lanes lanes_ab lanes_ba)) where
+    abbrev others : Others
+    others = beside start can false lanes_ab lanes_ba no_reader no_reader number (fresh_lane number) (fresh_lane number) ab_there ba_there
+
+    here_is : duo_at six (fresh_lane number) (fresh_lane number) others ≡ with_lanes lanes_ab lanes_ba
+    here_is = beside_is start can false lanes_ab lanes_ba no_reader no_reader number (fresh_lane number) (fresh_lane number) ab_there ba_there six
+
+    -- each end acknowledges nothing
+    first_moves : Strolls (fresh_lane number) (first_lane number)
+    first_moves = record { by = SendAck 0 0 0 ∷ []; calm = refl; to = refl }
+
+    pub first_holds : Holds (duo_at six (first_lane number) (first_lane number) others)
+    first_holds = strolls_held six others (fresh_lane number) (first_lane number) (fresh_lane number) (first_lane number) first_moves first_moves (subst Holds (sym here_is) holds)
+
+    turn_strolled : Strolled (profile_at number plan) (first_path number plan) (first_lane number) (first_lane number)
+    turn_strolled = settles six others (profile_at number plan) start_of_turn (with_agenda start_of_turn (waiting number plan)) (first_lane number) (first_lane number) (waiting_shows number plan) first_holds
+
+    pub one_opened : OneOpened number plan lanes_ab lanes_ba
+    one_opened =
+        let w = turn_strolled in
+        let d : Duo = duo_at six (first_lane number) (first_lane number) others in
+        let e : Duo = duo_at six w.ab_after w.ba_after others in
+        let later : Moved d e = lanes_moved six others (first_lane number) w.ab_after (first_lane number) w.ba_after w.ab_moves w.ba_moves in
+        let all : Moved (with_lanes lanes_ab lanes_ba) e =
+        subst (λ x. Moved x e) here_is (then_moved (duo_at six (fresh_lane number) (fresh_lane number) others) d e
+        (lanes_moved six others (fresh_lane number) (first_lane number) (fresh_lane number) (first_lane number) first_moves first_moves) later) in
+        let ab_set = λ (p : Lane). set_same lanes_ab number p (fresh_lane number) ab_there in
+        let ba_set = λ (p : Lane). set_same lanes_ba number p (fresh_lane number) ba_there in
+        let last : BothLast number (first_lane number) (first_lane number) e = subst (BothLast number (first_lane number) (first_lane number)) (sym later.to)
+        (all_last later.events number (first_lane number) (first_lane number) d
+        (record { ab = there_lasts number (first_lane number) d.ab (ab_set (first_lane number)); ba = there_lasts number (first_lane number) d.ba (ba_set (first_lane number)) })) in
+        let granted : Granted number [] e.ab =
+        subst (λ x. Granted number [] x.ab) (sym later.to) (silent_so number [] later.events later.silent d (record { lane = first_lane number; there = ab_set (first_lane number); same = refl })) in
+        record {
+          ab = w.ab_after;
+          ba = w.ba_after;
+          moved = all;
+          path = record {
+            plan = plan;
+            plan_there = plan_there;
+            numbered = (first_keeps (waiting number plan)).2;
+            ab = w.ab_after;
+            ba = w.ba_after;
+            ab_there = ab_set w.ab_after;
+            ba_there = ba_set w.ba_after;
+            shows = w.shows;
+            stands = first_stands number plan w.ab_after w.ba_after (last_longer number (first_lane number) w.ab_after e.ab (ab_set w.ab_after) last.ab)
+                (last_longer number (first_lane number) w.ba_after e.ba (ba_set w.ba_after) last.ba)
+                (same_there_sent start can number (first_lane number) w.ab_after e.ab granted (ab_set w.ab_after));
+            knows = opens_those w.ab_after w.ba_after (path_begins start number plan) start.lines;
+          };
+        }
+
+  -- ---- all paths
+
+  -- those of these plans, the first of which has this number
+  pub record AllOpened (first : ℕ) (plans : List PathPlan) (lanes_ab lanes_ba : List Lane) : Type 0 where
+    pub ab_after : List Lane
+    pub ba_after : List Lane
+    pub moved : Moved (with_lanes lanes_ab lanes_ba) (with_lanes ab_after ba_after)
+    pub paths : (i n : ℕ) (plan : PathPlan) → n ≡ first + i → slice_get plans i ≡ Some plan → PathThere start ab_after ba_after n (first_path n plan)
+    pub earlier_ab : (n : ℕ) → n < first → slice_get ab_after n ≡ slice_get lanes_ab n
+    pub earlier_ba : (n : ℕ) → n < first → slice_get ba_after n ≡ slice_get lanes_ba n
+
+  abbrev AreThere : ℕ → List PathPlan → Type 0
+  AreThere first plans = (i n : ℕ) (plan : PathPlan) → n ≡ first + i → slice_get plans i ≡ Some plan → slice_get start.paths n ≡ Some plan
+
+  abbrev AreFresh : ℕ → List PathPlan → List Lane → Type 0
+  AreFresh first plans lanes = (i n : ℕ) → n ≡ first + i → i < length plans → slice_get lanes n ≡ Some (fresh_lane n)
+
+  all_opened : (first : ℕ) (plans : List PathPlan) (lanes_ab lanes_ba : List Lane) → AreThere first plans → AreFresh first plans lanes_ab → AreFresh first plans lanes_ba
+      → Holds (with_lanes lanes_ab lanes_ba) → AllOpened first plans lanes_ab lanes_ba
+  all_opened first [] lanes_ab lanes_ba there fresh_ab fresh_ba holds = record {
+    ab_after = lanes_ab;
+    ba_after = lanes_ba;
+    moved = unmoved (with_lanes lanes_ab lanes_ba);
+    paths = λ i n plan n_is at. cc;
+    earlier_ab = λ n below. refl;
+    earlier_ba = λ n below. refl;
+  }
+  all_opened first (plan ∷ plans) lanes_ab lanes_ba there fresh_ab fresh_ba holds =
+      let one = one_opened first plan (there 0 first plan (omega arith) refl) lanes_ab lanes_ba (fresh_ab 0 first (omega arith) (omega arith)) (fresh_ba 0 first (omega arith) (omega arith)) holds in
+      let ab : List Lane = set lanes_ab first one.ab in let ba : List Lane = set lanes_ba first one.ba in
+      let rest = all_opened (suc first) plans ab ba
+      (λ i n q n_is at. there (suc i) n q (omega (arith, n_is)) at)
+      (λ i n n_is within. set_other lanes_ab first one.ab n (λ same. omega (arith, same, n_is)) ∙ fresh_ab (suc i) n (omega (arith, n_is)) (omega (arith, within)))
+      (λ i n n_is within. set_other lanes_ba first one.ba n (λ same. omega (arith, same, n_is)) ∙ fresh_ba (suc i) n (omega (arith, n_is)) (omega (arith, within)))
+      (subst Holds (sym one.moved.to) (events_held one.moved.events (with_lanes lanes_ab lanes_ba) holds)) in
+      record {
+        ab_after = rest.ab_after;
+        ba_after = rest.ba_after;
+        moved = then_moved (with_lanes lanes_ab lanes_ba) (with_lanes ab ba) (with_lanes rest.ab_after rest.ba_after) one.moved rest.moved;
+        paths = at one.path rest.paths (rest.earlier_ab first (omega arith)) (rest.earlier_ba first (omega arith));
+        earlier_ab = λ n below. rest.earlier_ab n (omega (arith, below)) ∙ set_other lanes_ab first one.ab n (λ same. omega (arith, same, below));
+        earlier_ba = λ n below. rest.earlier_ba n (omega (arith, below)) ∙ set_other lanes_ba first one.ba n (λ same. omega (arith, same, below));
+      }
+    where
+      at : {ab ba ab_after ba_after : List Lane} → PathThere start ab ba first (first_path first plan)
+          → ((i n : ℕ) (q : PathPlan) → n ≡ suc first + i → slice_get plans i ≡ Some q → PathThere start ab_after ba_after n (first_path n q))
+          → slice_get ab_after first ≡ slice_get ab first → slice_get ba_after first ≡ slice_get ba first
+          → (i n : ℕ) (q : PathPlan) → n ≡ first + i → slice_get (plan ∷ plans) i ≡ Some q → PathThere start ab_after ba_after n (first_path n q)
+      at {ab} {ba} {ab_after} {ba_after} path others same_ab same_ba zero n q n_is there =
+          let number : first ≡ n = omega (arith, n_is) in
+          subst (λ m. PathThere start ab_after ba_after m (first_path m q)) number
+          (subst (λ z. PathThere start ab_after ba_after first (first_path first z)) (same_Some plan q there) (same_there start can ab ba ab_after ba_after first (first_path first plan) same_ab same_ba path))
+      at path others same_ab same_ba (suc i) n q n_is there = others i n q (omega (arith, n_is)) there
+
+  -- ---- the opening
+
+  opens_to : after_events opens (first_duo start) ≡ with_lanes (fresh_lanes (length start.paths)) (fresh_lanes (length start.paths))
+  opens_to = opens_many (length start.paths)
+
+  fresh_holds : Holds (with_lanes (fresh_lanes (length start.paths)) (fresh_lanes (length start.paths)))
+  fresh_holds = subst Holds opens_to (all_held (length start.paths) start.buffer start.buffer opens)
+
+  opened_all : AllOpened 0 start.paths (fresh_lanes (length start.paths)) (fresh_lanes (length start.paths))
+  opened_all =
+      all_opened 0 start.paths (fresh_lanes (length start.paths)) (fresh_lanes (length start.paths))
+      (λ i n plan n_is at. let same : i ≡ n = omega (arith, n_is) in subst (λ m. slice_get start.paths m ≡ Some plan) same at)
+      (λ i n n_is within. fresh_there (length start.paths) n (omega (arith, n_is, within)))
+      (λ i n n_is within. fresh_there (length start.paths) n (omega (arith, n_is, within)))
+      fresh_holds
+
+  nothing_read : (s : Side) (file : List ℕ) → Reads (first_app_turn s start.buffer file).told [] no_reader
   nothing_read s file =
-      let m : AppState = record { side = s; buffer = start.profile.buffer; rest = file; closed = false; told = false; count = 0; agenda = start_of_app } in
-      let same : (first_app_turn s start.profile.buffer file).told ≡ false = ap (λ x. x.told) (settled_app start_of_app m).is in
+      let m : AppState = record { side = s; buffer = start.buffer; rest = file; closed = false; told = false; count = 0; agenda = start_of_app } in
+      let same : (first_app_turn s start.buffer file).told ≡ false = ap (λ x. x.told) (settled_app start_of_app m).is in
       record { out_is = refl; told_is = refl; stopped_is = refl; done_is = same }
 
   pub opened_shows : OpenedShows start
   opened_shows =
-      let w = turn_strolled in
-      let d : Duo = duo_of six w.ab_after w.ba_after no_reader no_reader in
+      let all = opened_all in
+      let d : Duo = with_lanes all.ab_after all.ba_after in
       let shows : WorldShows start d (opened_world start) = record {
-        trio = first_trio start;
-        is = refl;
+        cast = first_cast start;
+        is = opened_is start;
         fare = first_fare start;
-        settled = settled_first start_of_turn (with_agenda start_of_turn waiting);
-        ab = w.ab_after;
-        ba = w.ba_after;
+        settled = record {
+          each = λ i x there. let found = walker_there start 0 i i start.paths x (omega arith) there in
+              subst (λ y. IsSettled y.path) (sym found.2) (settled_first start_of_turn (with_agenda start_of_turn (waiting i found.0)));
+        };
+        joined = false;
+        clear = λ joins. absurd (false≢true joins);
+        lanes_ab = all.ab_after;
+        lanes_ba = all.ba_after;
         reader_a = no_reader;
         reader_b = no_reader;
         duo_is = refl;
         reads_a = nothing_read A start.file_a;
         reads_b = nothing_read B start.file_b;
-        path = w.shows;
+        paths = record {
+          each = λ i n x n_is there. let found = walker_there start 0 i n start.paths x n_is there in
+              subst (λ y. PathThere start all.ab_after all.ba_after n y.path) (sym found.2) (all.paths i n found.0 n_is found.1);
+        };
       } in (
-        move_events (record { ab = w.ab_moves.by; ba = w.ba_moves.by }),
-        subst (λ x. WorldShows start x (opened_world start)) (sym (strolled_both six no_reader no_reader new_lane w.ab_after new_lane w.ba_after w.ab_moves w.ba_moves)) shows,
+        opens ++ all.moved.events,
+        subst (λ x. WorldShows start x (opened_world start)) (all.moved.to ∙ ap (after_events all.moved.events) (sym opens_to) ∙ sym (events_append opens all.moved.events (first_duo start))) shows,
       )
 
 pub each_opening_shows : EachOpeningShows
@@ -146,22 +348,21 @@ each_opening_shows start can = opened_shows start can
 -- ---- every list of turns
 
 module _ (start : Start) (can : IsPlain start) where
-  pub turn_reached : (turn : Turn) (w : WorldState Carried) → Reached start w → Reached start (after_turn values turn w)
-  turn_reached turn w r =
-      let first = opening 1 start.profile.buffer start.profile.buffer in
-      let d : Duo = after_events r.events first in
-      let x : Shown start turn d w = each_turn_shows start can turn d w (all_held 1 start.profile.buffer start.profile.buffer r.events) r.shows in
+  pub turn_reached : (turn : Turn) (w : WorldState Carried) → SureIsClear w → Reached start w → Reached start (after_turn values turn w)
+  turn_reached turn w sure r =
+      let d : Duo = after_events r.events (first_duo start) in
+      let x : Shown start turn d w = each_turn_shows start can turn d w sure (all_held (length start.paths) start.buffer start.buffer r.events) r.shows in
       record {
         events = r.events ++ turn_events x.turn_shows;
-        shows = subst (λ y. WorldShows start y (after_turn values turn w)) (turn_is x.turn_shows ∙ sym (events_append r.events (turn_events x.turn_shows) first)) x.world_shows;
+        shows = subst (λ y. WorldShows start y (after_turn values turn w)) (turn_is x.turn_shows ∙ sym (events_append r.events (turn_events x.turn_shows) (first_duo start))) x.world_shows;
       }
 
-  run_reached : (turns : List Turn) (w : WorldState Carried) → Reached start w → Reached start (world_run values turns w)
-  run_reached [] w r = r
-  run_reached (turn ∷ turns) w r = run_reached turns (after_turn values turn w) (turn_reached turn w r)
+  run_reached : (turns : List Turn) (w : WorldState Carried) → ((more : List Turn) → SureIsClear (world_run values more w)) → Reached start w → Reached start (world_run values turns w)
+  run_reached [] w sure r = r
+  run_reached (turn ∷ turns) w sure r = run_reached turns (after_turn values turn w) (λ more. sure (turn ∷ more)) (turn_reached turn w (sure []) r)
 
   pub opened_reached : Reached start (opened_world start)
   opened_reached = let o = opened_shows start can in record { events = o.0; shows = o.1 }
 
 pub each_run_shows : EachRunShows
-each_run_shows start can turns = run_reached start can turns (opened_world start) (opened_reached start can)
+each_run_shows start can turns = run_reached start can turns (opened_world start) (sure_is_clear start) (opened_reached start can)

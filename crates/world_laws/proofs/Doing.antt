@@ -93,19 +93,19 @@ module _ (next window : ℕ) (p : Lane) where
 
 module _ (p : Lane) where
   pub wants_grant : (most : ℕ) (standby : Bool) → p.opened ≡ true → 1 ≤ most → Strolls p (record p { asking = AskGrant most standby })
-  wants_grant most standby opened some = one_move (WantGrant most standby) p _ (sym (ap (λ (b : Bool). if b && nat_lt 0 most then record p { asking = AskGrant most standby } else p) opened
+  wants_grant most standby opened some = one_move (WantGrant most standby) p _ refl (sym (ap (λ (b : Bool). if b && nat_lt 0 most then record p { asking = AskGrant most standby } else p) opened
       ∙ ap (λ (b : Bool). if b then record p { asking = AskGrant most standby } else p) (lt-ltb 0 most some)))
 
   pub hears_ack : (next window : ℕ) → p.sender_plain ≡ false → HasAck p.acks next window → Strolls p (record p { asking = AskAckIn next window })
-  hears_ack next window plain h = one_move (HearAck h.at) p _ (sym (ap (λ o. hears o p) h.there
+  hears_ack next window plain h = one_move (HearAck h.at) p _ refl (sym (ap (λ o. hears o p) h.there
       ∙ ap (λ (b : Bool). record p { asking = AskAckIn (if b then h.item.sub else h.item.next) h.item.window }) plain
       ∙ ap (λ n. record p { asking = AskAckIn n h.item.window }) h.holds.next_is ∙ ap (λ w. record p { asking = AskAckIn next w }) h.holds.window_is))
 
   pub wants_fin : (place : ℕ) → HasNumber p.data_fins place → Strolls p (record p { asking = AskFin place })
-  wants_fin place h = one_move (HearDataFin h.at) p _ (sym (ap (λ o. hears_data_fin o p) h.there ∙ ap (λ n. record p { asking = AskFin n }) h.holds))
+  wants_fin place h = one_move (HearDataFin h.at) p _ refl (sym (ap (λ o. hears_data_fin o p) h.there ∙ ap (λ n. record p { asking = AskFin n }) h.holds))
 
   pub wants_ack_out : Strolls p (record p { asking = AskAckOut })
-  wants_ack_out = one_move WantAckOut p _ refl
+  wants_ack_out = one_move WantAckOut p _ refl refl
 
 -- ---- a grant
 
@@ -131,7 +131,7 @@ module _ (span : Span) (piece : List ℕ) (p : Lane) where
   with_piece = record granted_lane { datas = p.datas ++ copy_granted ∷ [] }
 
   pub sends_the_piece : Strolls granted_lane with_piece
-  sends_the_piece = one_move (SendPiece (length p.pieces) true) granted_lane with_piece (sym (
+  sends_the_piece = one_move (SendPiece (length p.pieces) true) granted_lane with_piece refl (sym (
       ap (λ o. sends_piece true o granted_lane) (last_there p.pieces mapping_granted)
       ∙ ap (λ bytes. record granted_lane { datas = p.datas ++ record { pos = length p.sent; bytes = bytes; mapping = Some mapping_granted } ∷ [] })
       (ap (take (length piece)) (bytes_more p.sent span.from piece) ∙ take_whole piece)))
@@ -161,7 +161,7 @@ module _ (why : Why) (told : Option ℕ) (p : Lane) where
   with_end = record refused_lane { data_fins = p.data_fins ++ known (later_end told p.known_end) }
 
   pub sends_the_end : Strolls refused_lane with_end
-  sends_the_end = one_move SendDataFin refused_lane with_end refl
+  sends_the_end = one_move SendDataFin refused_lane with_end refl refl
 
   pub end_goes : SenderGoes p with_end
   end_goes = record {
@@ -184,7 +184,7 @@ module _ (p : Lane) where
   with_fin_sent = record p { fins = p.fins ++ length p.sent ∷ [] }
 
   pub sends_the_fin : p.opened ≡ true → p.sender_plain ≡ false → p.fin_acked ≡ true → Strolls p with_fin_sent
-  sends_the_fin opened plain acked = one_move SendFin p with_fin_sent (sym (
+  sends_the_fin opened plain acked = one_move SendFin p with_fin_sent refl (sym (
       ap (λ (b : Bool). if b && (if p.sender_plain then is_whole p.known_end p else p.fin_acked) then with_fin_sent else p) opened
       ∙ ap (λ (b : Bool). if (if b then is_whole p.known_end p else p.fin_acked) then with_fin_sent else p) plain
       ∙ ap (λ (b : Bool). if b then with_fin_sent else p) acked))

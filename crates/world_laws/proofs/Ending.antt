@@ -30,7 +30,7 @@ use Rattle.path_core.specs.Ends.{PathEnd}
 use Rattle.path_core.specs.Emission.{granted, refused}
 use Rattle.path_core.specs.Standing.{after_ack_out}
 use Rattle.path_core.specs.State.{Profile}
-use Rattle.path_core.specs.Treating.{with_acked}
+use Rattle.path_core.specs.Treating.{with_acked, covered_by}
 use Rattle.path_core.specs.Words.{told_last}
 use Rattle.world_laws.proofs.Doing.{told_lane, ack_moves, told_goes, told_windows, with_piece, granted_lane, sends_the_piece, piece_goes, refused_lane, with_end, sends_the_end, end_goes, with_fin_sent, fin_goes, place_is, length-granted, has_last}
 use Rattle.world_laws.proofs.Growing.{SenderGoes, ReceiverGoes, sender_stays, receiver_stays, Longer, sent_longer, data_longer, mapping_longer, fin_longer}
@@ -88,7 +88,7 @@ module _ (c : Profile) (s : Side) (out back : Lane) where
     out_after = out;
     back_after = moves (ack_moves next window) (told_lane next window back);
     out_moves = stays out;
-    back_moves = record { by = ack_moves next window; to = refl };
+    back_moves = record { by = ack_moves next window; calm = refl; to = refl };
     sender = sender_stays out;
     receiver = told_goes next window back;
     shows = record {
@@ -96,7 +96,7 @@ module _ (c : Profile) (s : Side) (out back : Lane) where
       receiver = record { edge = ⊎_elim (λ at. inl (record { edge_is = at.edge_is; under = at.under; held = at.held })) (λ past. inr past) h.receiver.edge; fin = h.receiver.fin; mapped = h.receiver.mapped };
       window = told_windows next window back;
       told = h.told;
-      treated = record { items = h.treated.items; fins = h.treated.fins; answer = h.treated.answer };
+      treated = record { items = h.treated.items; fins = h.treated.fins; answer = h.treated.answer; window = h.treated.window };
       held = h.held;
     };
   }
@@ -138,7 +138,6 @@ module _ (c : Profile) (s : Side) (out back : Lane) where
         receiver = receiver_stays back;
         shows = record {
           sender = record {
-            opened = h.sender.opened;
             plain = h.sender.plain;
             next = λ un. omega (arith, at, l);
             unfinished = h.sender.unfinished;
@@ -175,7 +174,6 @@ module _ (c : Profile) (s : Side) (out back : Lane) where
         receiver = receiver_stays back;
         shows = record {
           sender = record {
-            opened = h.sender.opened;
             plain = h.sender.plain;
             next = h.sender.next;
             unfinished = h.sender.unfinished;
@@ -225,7 +223,6 @@ module _ (c : Profile) (s : Side) (out back : Lane) where
     receiver = receiver_stays back;
     shows = record {
       sender = record {
-        opened = h.sender.opened;
         plain = h.sender.plain;
         next = h.sender.next;
         unfinished = h.sender.unfinished;
@@ -263,7 +260,6 @@ module _ (c : Profile) (s : Side) (out back : Lane) where
     receiver = receiver_stays back;
     shows = record {
       sender = record {
-        opened = h.sender.opened;
         plain = h.sender.plain;
         next = h.sender.next;
         unfinished = h.sender.unfinished;
@@ -278,16 +274,16 @@ module _ (c : Profile) (s : Side) (out back : Lane) where
       held = h.held;
     };
   }
-  acked_end next (send_replies.Taken count) e h = idle_end e h
-  acked_end next send_replies.Shut e h = idle_end e h
-  acked_end next send_replies.Closed e h = idle_end e h
-  acked_end next (send_replies.Granted span piece) e h = idle_end e h
-  acked_end next (send_replies.NoGrant why told) e h = idle_end e h
-  acked_end next (send_replies.AckFuture written) e h = idle_end e h
-  acked_end next (send_replies.Returned count) e h = idle_end e h
-  acked_end next send_replies.Noted e h = idle_end e h
-  acked_end next (send_replies.Infinite from) e h = idle_end e h
-  acked_end next send_replies.Scattered e h = idle_end e h
+  acked_end next (send_replies.Taken count) e h = idle_end (record e { modes = covered_by next e.modes }) (with_modes e (covered_by next e.modes) h)
+  acked_end next send_replies.Shut e h = idle_end (record e { modes = covered_by next e.modes }) (with_modes e (covered_by next e.modes) h)
+  acked_end next send_replies.Closed e h = idle_end (record e { modes = covered_by next e.modes }) (with_modes e (covered_by next e.modes) h)
+  acked_end next (send_replies.Granted span piece) e h = idle_end (record e { modes = covered_by next e.modes }) (with_modes e (covered_by next e.modes) h)
+  acked_end next (send_replies.NoGrant why told) e h = idle_end (record e { modes = covered_by next e.modes }) (with_modes e (covered_by next e.modes) h)
+  acked_end next (send_replies.AckFuture written) e h = idle_end (record e { modes = covered_by next e.modes }) (with_modes e (covered_by next e.modes) h)
+  acked_end next (send_replies.Returned count) e h = idle_end (record e { modes = covered_by next e.modes }) (with_modes e (covered_by next e.modes) h)
+  acked_end next send_replies.Noted e h = idle_end (record e { modes = covered_by next e.modes }) (with_modes e (covered_by next e.modes) h)
+  acked_end next (send_replies.Infinite from) e h = idle_end (record e { modes = covered_by next e.modes }) (with_modes e (covered_by next e.modes) h)
+  acked_end next send_replies.Scattered e h = idle_end (record e { modes = covered_by next e.modes }) (with_modes e (covered_by next e.modes) h)
 
   -- ---- the FIN
 
@@ -299,7 +295,6 @@ module _ (c : Profile) (s : Side) (out back : Lane) where
       let at : e.tcp.send.nxt ≡ suc (length out.sent) = h.sender.next (unfinished_if e.tcp.state may) in
       record {
         sender = record {
-          opened = h.sender.opened;
           plain = h.sender.plain;
           next = λ un. absurd (both_ways _ (finished_if e.tcp.state may) un);
           unfinished = λ un. absurd (both_ways _ (finished_if e.tcp.state may) un);

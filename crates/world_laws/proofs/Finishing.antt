@@ -6,7 +6,6 @@ use Rattle.outside_kit.specs.declared.side.Side.TheVariants.{A, B}
 use Rattle.subflow_tcp.specs.declared.verdicts.Meaning.{Meaning}
 use Rattle.subflow_tcp.specs.declared.verdicts.Meaning.TheVariants as means
 use Rattle.subflow_tcp.specs.Expiring.{is_sixth}
-use Rattle.subflow_tcp.specs.Judging.{meaning_of}
 use Rattle.subflow_tcp.specs.States.{is_dead}
 use Rattle.subflow_send.specs.Records.{Record}
 use Rattle.link_model.specs.Steps.{arriving, after_delivery}
@@ -18,13 +17,19 @@ use Rattle.path_core.specs.declared.event.Event.{Event}
 use Rattle.path_core.specs.declared.event.Event.TheVariants as happening
 use Rattle.path_agenda.specs.declared.heard.Heard.{Heard}
 use Rattle.path_agenda.specs.declared.heard.Heard.TheVariants as says
-use Rattle.path_agenda.specs.Agenda.{start_of_turn, heard_and, payload_came, rest_of_turn, resets, leaves}
-use Rattle.path_core.specs.Arriving.{items_of, copy_of, template_by}
+use Rattle.path_agenda.specs.declared.keys.KeyPair.{KeyPair}
+use Rattle.path_agenda.specs.Agenda.{start_of_turn, heard_and, payload_came, rest_of_turn, emission, resets, leaves}
+use Rattle.path_core.specs.Arriving.{items_of, judged_in, template_by, template_judged}
 use Rattle.path_core.specs.Breaking.{answered_break, reset_on}
 use Rattle.path_core.specs.Codec.{Codec, HeardSegment}
 use Rattle.path_core.specs.Duties.{stands, passed, answered}
 use Rattle.path_core.specs.Emission.{first_unsent, Grant, grant_in, answered_grant, answered_data}
-use Rattle.path_core.specs.Events.{next_event, heard_in, at_tick, is_death, after_line, copy_heard, template_fired, happens_if}
+use Rattle.path_core.specs.declared.judged.Judged.{Judged}
+use Rattle.path_core.specs.declared.judged.Judged.TheVariants as judged
+use Rattle.path_core.specs.Events.{next_event, heard_in, at_tick, is_death, died, join_begun, after_line, copy_heard, template_fired, happens_if}
+use Rattle.path_core.specs.Joining.{is_never, keys_begun, opened_by, asked_at, join_taken}
+use Rattle.path_core.specs.Joins.{is_joined}
+use Rattle.join_handshake.specs.declared.hearing.JoinSyn.{JoinSyn}
 use Rattle.path_core.specs.Passing.{piece_of, is_placed, answered_piece, is_fin_set, answered_fin_heard}
 use Rattle.path_core.specs.Placing.{Piece, with_learned}
 use Rattle.path_core.specs.Standing.{answered_ack_out}
@@ -48,18 +53,25 @@ heard_ahead : (s : Side) (from count : ℕ) (ds : List Duty) → Ahead ds → Ah
 heard_ahead s from zero ds h = h
 heard_ahead s from (suc count) ds h = heard_ahead s (from + 1) count ds h
 
-template_ahead : (s : Side) (count : ℕ) (m : Meaning) → Ahead (template_by s count m)
-template_ahead s count means.Ignored = refl
-template_ahead s count means.Unwanted = refl
-template_ahead s count means.Opens = refl
-template_ahead s count (means.Accepts acknowledged) = refl
-template_ahead s count means.RepeatedSyn = refl
-template_ahead s count means.Outside = refl
-template_ahead s count means.Kills = refl
-template_ahead s count means.Challenged = refl
-template_ahead s count means.Unacknowledging = refl
-template_ahead s count means.Ahead = refl
-template_ahead s count (means.Taken position acknowledged) = heard_ahead s 0 count (payload_came s) refl
+template_ahead : (joined : Bool) (s : Side) (count : ℕ) (m : Meaning) → Ahead (template_by joined s count m)
+template_ahead joined s count means.Ignored = refl
+template_ahead joined s count means.Unwanted = refl
+template_ahead joined s count means.Opens = refl
+template_ahead true s count (means.Accepts acknowledged) = refl
+template_ahead false s count (means.Accepts acknowledged) = refl
+template_ahead joined s count means.RepeatedSyn = refl
+template_ahead joined s count means.Outside = refl
+template_ahead joined s count means.Kills = refl
+template_ahead joined s count means.Challenged = refl
+template_ahead joined s count means.Unacknowledging = refl
+template_ahead joined s count means.Ahead = refl
+template_ahead joined s count (means.Taken position acknowledged) = heard_ahead s 0 count (payload_came s) refl
+
+judged_ahead : (joined : Bool) (s : Side) (count : ℕ) (verdict : Judged) → Ahead (template_judged joined s count verdict)
+judged_ahead joined s count (judged.As meaning) = template_ahead joined s count meaning
+judged_ahead joined s count judged.Asks = refl
+judged_ahead joined s count judged.Lacks = refl
+judged_ahead joined s count judged.Forged = refl
 
 died_ahead : (dead_a dead_b : Bool) → Ahead ((if dead_a then [] else duties.Leave A ∷ []) ++ ((if dead_b then [] else duties.Leave B ∷ []) ++ rest_of_turn))
 died_ahead true true = refl
@@ -98,6 +110,7 @@ module _ {C : Type 0} where
   next_shaped duties.Events ds p (inl is) no_more = past_events ds p (nothing_next (next_event p) no_more) is
   next_shaped duties.Events ds p (inr never) no_more = absurd never
   next_shaped duties.End ds p h no_more = absurd (true≢false no_more)
+  next_shaped duties.JoinAgain ds p h no_more = onward ds _ h
   next_shaped (duties.Look s) ds p h no_more = onward ds _ h
   next_shaped (duties.Window s) ds p h no_more = onward ds _ h
   next_shaped (duties.Update s) ds p h no_more = onward ds _ h
@@ -110,10 +123,13 @@ module _ {C : Type 0} where
   next_shaped (duties.SynAnswered s) ds p h no_more = onward ds _ h
   next_shaped (duties.PeerKey s) ds p h no_more = onward ds _ h
   next_shaped (duties.SynAck s) ds p h no_more = onward ds _ h
+  next_shaped (duties.JoinHeard s) ds p h no_more = onward ds _ h
+  next_shaped (duties.Refuse s) ds p h no_more = onward ds _ h
   next_shaped (duties.Opened s) ds p h no_more = onward ds _ h
   next_shaped (duties.Live s) ds p h no_more = onward ds _ h
   next_shaped (duties.Heard s index) ds p h no_more = onward ds _ h
   next_shaped (duties.AckHeard s) ds p h no_more = onward ds _ h
+  next_shaped (duties.PlainAck s) ds p h no_more = onward ds _ h
   next_shaped (duties.Keep s) ds p h no_more = onward ds _ h
   next_shaped (duties.Edge s) ds p h no_more = onward ds _ h
   next_shaped (duties.HeardFin s index) ds p h no_more = onward ds _ h
@@ -163,17 +179,27 @@ module _ {C : Type 0} where
 
   copy_ahead : (s : Side) (o : Option HeardSegment) (p : PathState C) → Ahead (copy_heard s o p).agenda
   copy_ahead s None p = refl
-  copy_ahead s (Some h) p = template_ahead s (length (items_of s h)) (meaning_of (copy_of h) (end_at s p).tcp)
+  copy_ahead s (Some h) p =
+      let joined = is_joined p.profile in judged_ahead joined s (length (items_of joined s h)) (judged_in joined s h (end_at s p))
 
   line_ahead : (death : Bool) (p : PathState C) → Ahead (after_line death p).agenda
   line_ahead true p = died_ahead (is_dead p.a.tcp.state) (is_dead p.b.tcp.state)
   line_ahead false p = refl
 
-  event_ahead : (k : Codec C) (o : Option Event) (p : PathState C) → Ahead (happens_if k o p).agenda
-  event_ahead k None p = refl
-  event_ahead k (Some (happening.Takes line)) p = line_ahead (is_death line.line) (record (at_tick line.tick p) { lines = tail_of p.lines })
-  event_ahead k (Some (happening.Arrives due)) p = copy_ahead due.to (heard_in k due.to (arriving due p.link) p) (record (at_tick due.tick p) { link = after_delivery due p.link })
-  event_ahead k (Some (happening.Fires s tick)) p = fired_ahead (is_sixth (end_at s (at_tick tick p)).tcp) s
+  -- a join is begun or not, with these to be done
+  begun_ahead : (r : Reply) (dead living : List Duty) (p : PathState C) → Ahead dead → Ahead living → Ahead (join_begun r dead living p).agenda
+  begun_ahead r dead living p x y = by (is_never r)
+    where
+      by : (b : Bool) → Ahead (if b then goes_on A (died (end_at A p)) dead p else goes_on A (opened_by (keys_begun r) (end_at A p)) living p).agenda
+      by true = x
+      by false = y
+
+  event_ahead : (k : Codec C) (o : Option Event) (r : Reply) (p : PathState C) → Ahead (happens_if k o r p).agenda
+  event_ahead k None r p = refl
+  event_ahead k (Some (happening.Joins tick)) r p = begun_ahead r (leaves A) (emission A) (record (at_tick tick p) { joined_at = None }) refl refl
+  event_ahead k (Some (happening.Takes line)) r p = line_ahead (is_death line.line) (record (at_tick line.tick p) { lines = tail_of p.lines })
+  event_ahead k (Some (happening.Arrives due)) r p = copy_ahead due.to (heard_in k due.to (arriving due p.link) p) (record (at_tick due.tick p) { link = after_delivery due p.link })
+  event_ahead k (Some (happening.Fires s tick)) r p = fired_ahead (is_sixth (end_at s (at_tick tick p)).tcp) s
 
   break_ahead : (k : Codec C) (s : Side) (reason : ℕ) (r : Reply) (p : PathState C) → Ahead (answered_break k s reason r p).agenda
   break_ahead k s reason r p = by (end_at s p).treated.asked
@@ -219,16 +245,23 @@ module _ {C : Type 0} where
       item_ahead (Some (says.DataFin place)) = left_ahead
       item_ahead (Some (says.Keys own peer)) = left_ahead
       item_ahead (Some (says.PeerKey key)) = left_ahead
+      item_ahead (Some (says.Join form)) = left_ahead
       item_ahead (Some says.Dss) = left_ahead
+
+  join_ahead : (s : Side) (keys : Option KeyPair) (asked : Option JoinSyn) (ds : List Duty) (p : PathState C) → Ahead ds → Ahead (join_taken s keys asked (with_agenda (duties.JoinHeard s ∷ ds) p)).agenda
+  join_ahead s None asked ds p a = a
+  join_ahead s (Some keys) None ds p a = a
+  join_ahead s (Some keys) (Some asked) ds p a = a
 
   from_left : (ds : List Duty) (q : PathState C) → Ahead ds ⊎ ⊥ → Shaped ds q
   from_left ds q h = onward ds q h
 
   answered_shaped : (k : Codec C) (d : Duty) (ds : List Duty) (r : Reply) (p : PathState C) → Shaped (d ∷ ds) (with_agenda (d ∷ ds) p)
       → Shaped (answered k d r (with_agenda (d ∷ ds) p)).agenda (answered k d r (with_agenda (d ∷ ds) p))
-  answered_shaped k duties.Events ds r p h = inl (event_ahead k (next_event p) (with_agenda (duties.Events ∷ ds) p))
+  answered_shaped k duties.Events ds r p h = inl (event_ahead k (next_event p) r (with_agenda (duties.Events ∷ ds) p))
   answered_shaped k duties.End ds r p (inl never) = absurd never
   answered_shaped k duties.End ds r p (inr last) = inr last.1
+  answered_shaped k duties.JoinAgain ds r p h = with_ahead ds h (λ a. inl (begun_ahead r (duties.Leave A ∷ ds) ds (with_agenda (duties.JoinAgain ∷ ds) p) a a))
   answered_shaped k (duties.Look s) ds r p h = from_left ds _ h
   answered_shaped k (duties.Window s) ds r p h = from_left ds _ h
   answered_shaped k (duties.Update s) ds r p h = from_left ds _ h
@@ -241,10 +274,13 @@ module _ {C : Type 0} where
   answered_shaped k (duties.SynAnswered s) ds r p h = from_left ds _ h
   answered_shaped k (duties.PeerKey s) ds r p h = from_left ds _ h
   answered_shaped k (duties.SynAck s) ds r p h = from_left ds _ h
+  answered_shaped k (duties.JoinHeard s) ds r p h = with_ahead ds h (λ a. inl (join_ahead s (keys_begun r) (asked_at s p) ds p a))
+  answered_shaped k (duties.Refuse s) ds r p h = from_left ds _ h
   answered_shaped k (duties.Opened s) ds r p h = from_left ds _ h
   answered_shaped k (duties.Live s) ds r p h = from_left ds _ h
   answered_shaped k (duties.Heard s index) ds r p h = with_ahead ds h (λ a. inl (item_ahead k s r (with_agenda (duties.Heard s index ∷ ds) p) a a index a (item_of index (end_at s p))))
   answered_shaped k (duties.AckHeard s) ds r p h = from_left ds _ h
+  answered_shaped k (duties.PlainAck s) ds r p h = inl (break_ahead k s 6 r (with_agenda (duties.PlainAck s ∷ ds) p))
   answered_shaped k (duties.Keep s) ds r p h = from_left ds _ h
   answered_shaped k (duties.Edge s) ds r p h = with_ahead ds h (λ a. inl (piece_ahead k s r (with_agenda (duties.Edge s ∷ ds) p) a a (piece_of s p) (is_placed r)))
   answered_shaped k (duties.HeardFin s index) ds r p h = with_ahead ds h (λ a. inl (fin_ahead k s r (with_agenda (duties.HeardFin s index ∷ ds) p) a a (is_fin_set r)))

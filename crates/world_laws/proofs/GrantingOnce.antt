@@ -25,7 +25,7 @@ use Rattle.path_core.specs.Codec.{Codec}
 use Rattle.world_laws.specs.Actors.{ActorCrew, member_asks}
 use Rattle.world_laws.specs.Granted.{grants_byte, times_granted, GrantedOnce}
 use Rattle.world_laws.specs.Laws.{Always}
-use Rattle.world_laws.specs.Openings.{Start, opened_world}
+use Rattle.world_laws.specs.Openings.{PathPlan, Start, paths_from, opened_world}
 use Rattle.world_laws.specs.Worlds.{WorldState, Turn, note_of, crew_after, asked, stepped, all_over, greatest, begins, after_turn, world_run}
 
 abbrev bit : Bool → ℕ
@@ -141,9 +141,14 @@ module _ (path place : ℕ) where
     run_counted [] w h = h
     run_counted (turn ∷ turns) w h = run_counted turns (after_turn k turn w) (turn_counted turn w h)
 
+-- no path has noted anything
+none_noted : (C : Type 0) (s : Side) (path place : ℕ) (start : Start) (first : ℕ) (plans : List PathPlan) → times_granted s path place (paths_from {C = C} start first plans) ≡ 0
+none_noted C s path place start first [] = refl
+none_noted C s path place start first (plan ∷ plans) = none_noted C s path place start (suc first) plans
+
 opened_counted : (s : Side) (path place : ℕ) {C : Type 0} (k : Codec C) (start : Start) → Counted path place s k (opened_world start)
-opened_counted A path place k start = record { same = refl }
-opened_counted B path place k start = record { same = refl }
+opened_counted A path place {C} k start = record { same = none_noted C A path place start 0 start.paths }
+opened_counted B path place {C} k start = record { same = none_noted C B path place start 0 start.paths }
 
 pub granted_once : {C : Type 0} (k : Codec C) → Always k (λ start w. GrantedOnce w)
 granted_once k start turns s path place =

@@ -18,6 +18,7 @@ use Rattle.stream_lanes.proofs.Lists.{Every-map, Has-more, IfSome-map}
 use Rattle.path_agenda.specs.declared.heard.Heard.{Heard}
 use Rattle.path_agenda.specs.declared.heard.Heard.TheVariants as says
 use Rattle.path_core.specs.Ends.{PathEnd, Treated}
+use Rattle.path_core.specs.Joins.{join_asked}
 use Rattle.path_core.specs.State.{Profile}
 use Rattle.world_laws.proofs.Showing.{HasAck, HasData, HasMapping, HasNumber, HasFin, SenderShows, WindowShows, ReceiverShows, ItemShows, TreatedShows, EndShows, MappingShows, KeysShow, OptionShows, SegmentShows}
 
@@ -152,6 +153,7 @@ module _ {acks acks_after : List AckCopy} {p q : Lane} (l : Longer acks acks_aft
     items = Every-map item_longer h.items;
     fins = Every-map number_longer h.fins;
     answer = h.answer;
+    window = IfSome-map (join_asked t.items) (λ asked has. ack_longer 0 t.window has) h.window;
   }
 
 -- ---- the other end
@@ -159,7 +161,7 @@ module _ {acks acks_after : List AckCopy} {p q : Lane} (l : Longer acks acks_aft
 peer_sender : (c : Profile) (s : Side) (state : EndPhase) (v : SendState) (known : Option ℕ) (acked : Bool) (p q : Lane) → ReceiverGoes p q
     → SenderShows c s state v known acked p → SenderShows c s state v known acked q
 peer_sender c s state v known acked p q g h = subst (SenderShows c s state v known acked) (sym g.is)
-    (record { opened = h.opened; plain = h.plain; next = h.next; unfinished = h.unfinished; pieces = h.pieces; known_end = h.known_end; fin_acked = h.fin_acked })
+    (record { plain = h.plain; next = h.next; unfinished = h.unfinished; pieces = h.pieces; known_end = h.known_end; fin_acked = h.fin_acked })
 
 peer_receiver : (recv : Receiving) (fin_at : Option ℕ) (live : List KeptMapping) (p q : Lane) → SenderGoes p q → ReceiverShows recv fin_at live p → ReceiverShows recv fin_at live q
 peer_receiver recv fin_at live p q g h = subst (ReceiverShows recv fin_at live) (sym g.is) (record {

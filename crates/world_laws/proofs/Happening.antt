@@ -1,4 +1,4 @@
--- What happens on a path by itself: lines of its script, copies that arrive, timers that run out.
+-- What happens on a path by itself: its join, lines of its script, copies that arrive, timers that run out.
 use Rattle.std.proofs.Common.{◌≡◌, refl, sym, subst, ℕ, suc, ◌+◌, ◌&&◌, ◌==◌, Bool, true, false, if◌then◌else◌, Option, Some, None, List, [], ◌∷◌, remove, find, position}
 use Rattle.std.proofs.lemmas.Bool.{and_parts, false≢true}
 use Rattle.std.specs.Option.{IfSome}
@@ -11,31 +11,33 @@ use Rattle.link_script.specs.Places.{same_side}
 use Rattle.path_segments.specs.Laws.{meant}
 use Rattle.path_segments.specs.Spelled.{PlainSegment}
 use Rattle.subflow_tcp.specs.Expiring.{is_sixth}
-use Rattle.subflow_tcp.specs.Judging.{meaning_of}
 use Rattle.stream_lanes.specs.Lane.{Lane}
 use Rattle.stream_lanes.specs.Holding.{Holds}
-use Rattle.stream_lanes.specs.Streams.{Reader}
 use Rattle.stream_lanes.specs.Words.{Every}
 use Rattle.stream_lanes.proofs.Lists.{Every-nil, Every-append, in_take, in_drop}
 use Rattle.actor_desk.specs.declared.ask.Ask.{Ask}
+use Rattle.actor_desk.specs.declared.ask.Reply.{Reply}
 use Rattle.actor_desk.specs.Desk.{SixBooks}
 use Rattle.actor_desk.specs.Words.{pick, tail_of}
 use Rattle.path_core.specs.declared.event.Event.{Event}
 use Rattle.path_core.specs.declared.event.Event.TheVariants as happenings
 use Rattle.path_core.specs.declared.lines.LineLeft.{LineLeft}
-use Rattle.path_agenda.specs.Agenda.{rest_of_turn, emission}
-use Rattle.path_core.specs.Arriving.{copy_of, items_of, after_meaning, template_of}
+use Rattle.path_agenda.specs.declared.duty.Duty.{Duty}
+use Rattle.path_agenda.specs.Agenda.{rest_of_turn, emission, leaves}
+use Rattle.path_core.specs.Arriving.{items_of, judged_in, after_judged, template_of}
 use Rattle.path_core.specs.Ends.{PathEnd}
-use Rattle.path_core.specs.Events.{step_for, is_death, at_tick, path_died, after_line, line_taken, heard_in, copy_heard, copy_taken, after_firing, template_fired, timer_fired, happens, happens_if}
-use Rattle.path_core.specs.State.{PathState, end_at, goes_on, with_agenda}
+use Rattle.path_core.specs.Joining.{is_never, keys_begun, opened_by}
+use Rattle.path_core.specs.Joins.{is_joined}
+use Rattle.path_core.specs.Events.{step_for, is_death, at_tick, died, join_begun, path_died, after_line, line_taken, heard_in, copy_heard, copy_taken, after_firing, template_fired, timer_fired, happens, happens_if}
+use Rattle.path_core.specs.State.{PathState, end_at, path_of, goes_on, with_agenda}
 use Rattle.path_core.specs.Values.{Carried, values}
 use Rattle.world_laws.proofs.Arrived.{arrived_end}
 use Rattle.world_laws.proofs.Ending.{Did, did_nothing}
-use Rattle.world_laws.proofs.Lanes.{duo_of}
+use Rattle.world_laws.proofs.Lanes.{Others, duo_at}
 use Rattle.world_laws.proofs.Records.{every_find}
 use Rattle.world_laws.proofs.Roads.{stays}
-use Rattle.world_laws.proofs.Rules.{died_unless_shows, fired_shows}
-use Rattle.world_laws.proofs.Showing.{FlightShows, SegmentShows, PathShows}
+use Rattle.world_laws.proofs.Rules.{opened_shows, died_shows as died_end_shows, died_unless_shows, fired_shows}
+use Rattle.world_laws.proofs.Showing.{FlightShows, EndShows, SegmentShows, PathShows}
 use Rattle.world_laws.proofs.Sides.{Answered, IsQuiet, side_kept, quiet, quiet_side}
 use Rattle.world_laws.proofs.Strolling.{Strolled, side_shows, back_holds}
 
@@ -68,13 +70,13 @@ heard_by B A ab ba sg same h = absurd (false≢true same)
 pub side_is : (due : Due) (f : Flight Carried) → is_due due f ≡ true → same_side f.to due.to ≡ true
 side_is due f is = (and_parts (same_side f.to due.to) (f.number == due.copy) (and_parts (f.tick == due.tick) (same_side f.to due.to && f.number == due.copy) is).1).0
 
-module _ (six : SixBooks) (reader_a reader_b : Reader) (p : PathState Carried) (ab ba : Lane) (h : PathShows p.profile p ab ba) (holds : Holds (duo_of six ab ba reader_a reader_b)) where
+module _ (six : SixBooks) (others : Others) (p : PathState Carried) (ab ba : Lane) (h : PathShows p.profile p ab ba) (holds : Holds (duo_at six ab ba others)) where
   abbrev Steps : Ask → PathState Carried → Type 0
-  Steps ask q = Answered p.profile six reader_a reader_b ask q ab ba
+  Steps ask q = Answered p.profile six others ask q ab ba
 
   -- the path at a tick, with other lines left
   ticked : (tick : ℕ) (lines : List LineLeft) → PathShows p.profile (record (at_tick tick p) { lines = lines }) ab ba
-  ticked tick lines = record { profile = h.profile; path = h.path; unchanged = h.unchanged; a = h.a; b = h.b; copies = h.copies }
+  ticked tick lines = record { profile = h.profile; unchanged = h.unchanged; a = h.a; b = h.b; copies = h.copies }
 
   -- ---- lines
 
@@ -86,7 +88,6 @@ module _ (six : SixBooks) (reader_a reader_b : Reader) (p : PathState Carried) (
     ba_moves = stays ba;
     shows = record {
       profile = x.profile;
-      path = x.path;
       unchanged = x.unchanged;
       a = died_unless_shows p.profile A ab ba q.a x.a;
       b = died_unless_shows p.profile B ba ab q.b x.b;
@@ -100,7 +101,7 @@ module _ (six : SixBooks) (reader_a reader_b : Reader) (p : PathState Carried) (
     ba_after = ba;
     ab_moves = stays ab;
     ba_moves = stays ba;
-    shows = record { profile = x.profile; path = x.path; unchanged = x.unchanged; a = x.a; b = x.b; copies = x.copies };
+    shows = record { profile = x.profile; unchanged = x.unchanged; a = x.a; b = x.b; copies = x.copies };
   }
 
   line_shows : (death : Bool) (q : PathState Carried) → PathShows p.profile q ab ba → Strolled p.profile (after_line death q) ab ba
@@ -112,7 +113,6 @@ module _ (six : SixBooks) (reader_a reader_b : Reader) (p : PathState Carried) (
   delivered : (due : Due) → PathShows p.profile (record (at_tick due.tick p) { link = after_delivery due p.link }) ab ba
   delivered due = record {
     profile = h.profile;
-    path = h.path;
     unchanged = h.unchanged;
     a = h.a;
     b = h.b;
@@ -123,20 +123,21 @@ module _ (six : SixBooks) (reader_a reader_b : Reader) (p : PathState Carried) (
       → Steps ask (copy_heard s (Some (meant sg)) q)
   arrives s ask q sg is x same said =
       let e : PathEnd = end_at s q in
-      let f : PathEnd = after_meaning q.profile s q.clock (meant sg) (meaning_of (copy_of (meant sg)) e.tcp) e in
-      let ds = template_of s (items_of s (meant sg)) (meaning_of (copy_of (meant sg)) e.tcp) in
+      let verdict = judged_in (is_joined q.profile) s (meant sg) e in
+      let f : PathEnd = after_judged q.profile s q.clock (meant sg) verdict e in
+      let ds = template_of (is_joined q.profile) s (items_of (is_joined q.profile) s (meant sg)) verdict in
       let d : Did p.profile s f (pick s ab ba) (pick s ab ba) (pick s ba ab) (pick s ba ab) =
-      subst (λ c. Did p.profile s (after_meaning c s q.clock (meant sg) (meaning_of (copy_of (meant sg)) e.tcp) e) (pick s ab ba) (pick s ab ba) (pick s ba ab) (pick s ba ab)) (sym same)
-      (arrived_end p.profile s q.clock sg e (pick s ab ba) (pick s ba ab) _ (back_holds six reader_a reader_b s ab ba holds) said (side_shows p.profile s q ab ba x)) in
-      quiet_side p.profile six reader_a reader_b s q (goes_on s f ds q) ab ba ask x is (side_kept p.profile q ab ba x s (pick s ab ba) (pick s ba ab) f ds d)
+      subst (λ c. Did p.profile s (after_judged c s q.clock (meant sg) (judged_in (is_joined c) s (meant sg) e) e) (pick s ab ba) (pick s ab ba) (pick s ba ab) (pick s ba ab)) (sym same)
+      (arrived_end p.profile s q.clock sg e (pick s ab ba) (pick s ba ab) _ _ (back_holds six others s ab ba holds) said (side_shows p.profile s q ab ba x)) in
+      quiet_side p.profile six others s q (goes_on s f ds q) ab ba ask x is (side_kept p.profile q ab ba x s (pick s ab ba) (pick s ba ab) f ds d)
 
   unheard : (s : Side) (ask : Ask) (q : PathState Carried) → IsQuiet ask → PathShows p.profile q ab ba → Steps ask (with_agenda (emission s) q)
-  unheard s ask q is x = quiet p.profile six reader_a reader_b ask (with_agenda (emission s) q) ab ba is (record {
+  unheard s ask q is x = quiet p.profile six others ask (with_agenda (emission s) q) ab ba is (record {
     ab_after = ab;
     ba_after = ba;
     ab_moves = stays ab;
     ba_moves = stays ba;
-    shows = record { profile = x.profile; path = x.path; unchanged = x.unchanged; a = x.a; b = x.b; copies = x.copies };
+    shows = record { profile = x.profile; unchanged = x.unchanged; a = x.a; b = x.b; copies = x.copies };
   })
 
   copy_step : (due : Due) (ask : Ask) → IsQuiet ask → Steps ask (copy_taken values due p)
@@ -155,18 +156,36 @@ module _ (six : SixBooks) (reader_a reader_b : Reader) (p : PathState Carried) (
   fire_step s tick ask is =
       let q : PathState Carried = at_tick tick p in
       let x = ticked tick p.lines in
-      quiet_side p.profile six reader_a reader_b s q (timer_fired s q) ab ba ask x is
+      quiet_side p.profile six others s q (timer_fired s q) ab ba ask x is
       (side_kept p.profile q ab ba x s (pick s ab ba) (pick s ba ab) (after_firing q.clock (end_at s q)) (template_fired (is_sixth (end_at s q).tcp) s)
       (did_nothing p.profile s (pick s ab ba) (pick s ba ab) (after_firing q.clock (end_at s q)) (fired_shows p.profile s (pick s ab ba) (pick s ba ab) q.clock (end_at s q) (side_shows p.profile s q ab ba x))))
 
+  -- ---- a join
+
+  -- it is begun or not, with these to be done
+  pub join_step : (ask : Ask) (r : Reply) (dead living : List Duty) (q : PathState Carried) → IsQuiet ask → PathShows p.profile q ab ba → Steps ask (join_begun r dead living q)
+  join_step ask r dead living q is x = by (is_never r)
+    where
+      becomes : (e : PathEnd) (ds : List Duty) → EndShows p.profile A e ab ba → Steps ask (goes_on A e ds q)
+      becomes e ds shows =
+          quiet_side p.profile six others A q (goes_on A e ds q) ab ba ask x is
+          (side_kept p.profile q ab ba x A ab ba e ds (did_nothing p.profile A ab ba e shows))
+
+      by : (b : Bool) → Steps ask (if b then goes_on A (died (end_at A q)) dead q else goes_on A (opened_by (keys_begun r) (end_at A q)) living q)
+      by true = becomes (died q.a) dead (died_end_shows p.profile A ab ba q.a x.a)
+      by false = becomes (opened_by (keys_begun r) q.a) living (opened_shows p.profile A ab ba (keys_begun r) q.a x.a)
+
   -- ---- the earliest
 
-  event_step : (event : Event) → Steps (step_for (Some event)) (happens values event p)
-  event_step (happenings.Takes line) =
-      quiet p.profile six reader_a reader_b (step_for (Some (happenings.Takes line))) (line_taken line p) ab ba tt (line_shows (is_death line.line) (record (at_tick line.tick p) { lines = tail_of p.lines }) (ticked line.tick (tail_of p.lines)))
-  event_step (happenings.Arrives due) = copy_step due (step_for (Some (happenings.Arrives due))) tt
-  event_step (happenings.Fires s tick) = fire_step s tick (step_for (Some (happenings.Fires s tick))) tt
+  event_step : (event : Event) (r : Reply) → Steps (step_for (path_of p) (Some event)) (happens values event r p)
+  event_step (happenings.Joins tick) r =
+      join_step (step_for (path_of p) (Some (happenings.Joins tick))) r (leaves A) (emission A) (record (at_tick tick p) { joined_at = None }) tt
+      (record { profile = h.profile; unchanged = h.unchanged; a = h.a; b = h.b; copies = h.copies })
+  event_step (happenings.Takes line) r =
+      quiet p.profile six others (step_for (path_of p) (Some (happenings.Takes line))) (line_taken line p) ab ba tt (line_shows (is_death line.line) (record (at_tick line.tick p) { lines = tail_of p.lines }) (ticked line.tick (tail_of p.lines)))
+  event_step (happenings.Arrives due) r = copy_step due (step_for (path_of p) (Some (happenings.Arrives due))) tt
+  event_step (happenings.Fires s tick) r = fire_step s tick (step_for (path_of p) (Some (happenings.Fires s tick))) tt
 
-  pub events_step : (o : Option Event) → Steps (step_for o) (happens_if values o p)
-  events_step None = quiet p.profile six reader_a reader_b (step_for None) (with_agenda rest_of_turn p) ab ba tt (rest_shows p h)
-  events_step (Some event) = event_step event
+  pub events_step : (o : Option Event) (r : Reply) → Steps (step_for (path_of p) o) (happens_if values o r p)
+  events_step None r = quiet p.profile six others (step_for (path_of p) None) (with_agenda rest_of_turn p) ab ba tt (rest_shows p h)
+  events_step (Some event) r = event_step event r

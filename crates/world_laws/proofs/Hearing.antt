@@ -62,7 +62,6 @@ module _ (c : Profile) (s : Side) (known : Option ℕ) (acked : Bool) (p : Lane)
   pub state_shows : (state after : EndPhase) (v : SendState) → (is_unfinished after ≡ true → is_unfinished state ≡ true) → SenderShows c s state v known acked p
       → SenderShows c s after v known acked p
   state_shows state after v back h = record {
-    opened = h.opened;
     plain = h.plain;
     next = λ un. h.next (back un);
     unfinished = λ un. h.unfinished (back un);

@@ -1,6 +1,6 @@
 -- No control book is told another key than its own: what an end hears are the keys that were drawn.
-use Rattle.std.proofs.Common.{◌≡◌, refl, sym, ◌∙◌, ap, subst, ℕ, zero, suc, ◌+◌, ⊎_elim, Bool, true, false, if◌then◌else◌, Option, Some, None, List, [], ◌∷◌, map}
-use Rattle.std.proofs.lemmas.Bool.{eq-eqb}
+use Rattle.std.proofs.Common.{◌≡◌, refl, sym, ◌∙◌, ap, subst, ℕ, zero, suc, ◌+◌, ◌==◌, ◌&&◌, ◌||◌, not, nat_lt, ⊎_elim, Bool, true, false, if◌then◌else◌, Option, Some, None, List, [], ◌∷◌, map, arith}
+use Rattle.std.proofs.lemmas.Bool.{eq-eqb, lt-ltb, both_ways, false≢true}
 use Rattle.std.proofs.lemmas.Option.{same_Some}
 use Rattle.std.specs.List.{slice_get}
 use Rattle.std.specs.Option.{IfSome}
@@ -12,11 +12,20 @@ use Rattle.loss_recovery.specs.declared.windows.Pending.{Pending}
 use Rattle.reassembly_book.specs.declared.call.ReassemblyCall.TheVariants as reassembly_calls
 use Rattle.control_book.specs.declared.call.ControlCall.{ControlCall}
 use Rattle.control_book.specs.declared.call.ControlCall.TheVariants as control_calls
-use Rattle.control_book.specs.declared.call.ControlReply.{ControlReply}
 use Rattle.control_book.specs.declared.call.ControlReply.TheVariants as control_replies
 use Rattle.control_book.specs.declared.call.Notice.{Notice}
 use Rattle.control_book.specs.declared.call.Notice.TheVariants as notices
-use Rattle.control_book.specs.Control.{Control}
+use Rattle.control_book.specs.Control.{Control, peer_or_zero}
+use Rattle.control_book.specs.Registry.{sole as sole_path, stands as stands_path, with_phase}
+use Rattle.control_book.specs.declared.registry.Phase.TheVariants.{Opening}
+use Rattle.key_material.specs.KeyDigest.{token_of}
+use Rattle.fallback_state.specs.declared.fall.Event.{Event as FallEvent}
+use Rattle.fallback_state.specs.declared.fall.Fall.{Fall}
+use Rattle.fallback_state.specs.declared.fall.Mode.{Mode}
+use Rattle.fallback_state.specs.declared.fall.Mode.TheVariants as modes
+use Rattle.fallback_state.specs.Modes.{is_starting}
+use Rattle.fallback_state.specs.Table.{after_sure_sign, goes, stays, fall_step}
+use Rattle.join_handshake.specs.declared.hearing.JoinSyn.{JoinSyn as Asked}
 use Rattle.control_book.specs.Replies as control
 use Rattle.control_book.specs.Steps as controlling
 use Rattle.fallback_state.specs.declared.fall.Event.TheVariants as events
@@ -28,7 +37,6 @@ use Rattle.actor_desk.specs.declared.ask.Reply.{Reply}
 use Rattle.actor_desk.specs.declared.ask.Reply.TheVariants as replies
 use Rattle.actor_desk.specs.Books.{books_in}
 use Rattle.actor_desk.specs.Desk.{SixBooks, reply_of, after_ask}
-use Rattle.actor_desk.specs.Kinds.{IsControlKind}
 use Rattle.stream_apps.specs.declared.duty.AppDuty.{AppDuty}
 use Rattle.stream_apps.specs.declared.duty.AppDuty.TheVariants as app_duties
 use Rattle.stream_apps.specs.Apps.{AppState}
@@ -50,80 +58,99 @@ use Rattle.path_core.specs.Passing.{piece_of, piece_ask, fin_of, fin_ask, rate_a
 use Rattle.path_core.specs.Placing.{Piece}
 use Rattle.path_core.specs.Sends.{sends}
 use Rattle.path_core.specs.Starts.{waiting_path}
-use Rattle.path_core.specs.State.{PathState, end_at}
-use Rattle.path_core.specs.Steps.{asks_first}
+use Rattle.path_core.specs.Joining.{asked_at, join_heard_ask, keys_begun}
+use Rattle.path_core.specs.Joins.{is_joined}
+use Rattle.path_core.specs.Turns.{IsSettled}
+use Rattle.path_agenda.specs.Agenda.{start_of_turn}
+use Rattle.subflow_tcp.specs.State.{EndState}
+use Rattle.subflow_tcp.specs.States.{is_waiting}
+use Rattle.path_core.specs.State.{PathState, end_at, with_agenda}
+use Rattle.path_core.specs.Steps.{answers, asks_first, takes}
 use Rattle.path_core.specs.Treating.{is_clash, fell_ask, mapping_ask, item_ask, item_of}
 use Rattle.path_core.specs.Values.{Carried, values}
 use Rattle.world_laws.specs.declared.member.Member.TheVariants.{App, Path}
 use Rattle.world_laws.specs.Actors.{Actor, ActorCrew, member_asks, member_takes, member_next}
 use Rattle.world_laws.specs.Laws.{Always}
-use Rattle.world_laws.specs.Openings.{Start, opened_world}
-use Rattle.world_laws.specs.Promises.{tells_other_key, KeysNeverDiffer}
-use Rattle.world_laws.specs.StampedBooks.{answer_to}
+use Rattle.world_laws.specs.Openings.{PathPlan, Start, path_begins, new_path, opened_world}
+use Rattle.world_laws.specs.Promises.{tells_other_key, tells_wrong_join, KeysNeverDiffer}
 use Rattle.world_laws.specs.Worlds.{WorldState, Turn, crew_after, asked, stepped, world_step, all_over, greatest, begins, end_round, after_turn, world_run}
 use Rattle.world_laws.proofs.Journaling.{books_after}
-use Rattle.world_laws.proofs.KeysRight.{drawn_key, ItemIs}
-use Rattle.world_laws.proofs.KeysKept.{PathIs, AskIs, end_is, pair_found, item_there, takes_is, begins_is}
+use Rattle.world_laws.proofs.KeysRight.{Secrets, drawn_key, sure_if, ItemIs}
+use Rattle.world_laws.proofs.KeysWoken.{is_up}
+use Rattle.world_laws.proofs.KeysHeld.{PathIs, IsSign, BeginIs, PairIs, AskedIs, end_is, key_found, pair_found, asked_is}
+use Rattle.world_laws.proofs.KeysKept.{CallIs, CallReplyIs, AskIs, ReplyIs, item_there, takes_is, begins_is}
+use Rattle.world_laws.proofs.RoundEnds.{settled_settled}
+use Rattle.world_laws.proofs.Opened.{opened_actors}
 use Rattle.world_laws.proofs.PromisesNotes.{NoneTold, Untold, from_each, turn_none, opened_none}
-use Rattle.world_laws.proofs.RoundReplies.{control_kind}
 
 -- ---- what a path asks
 
-module _ (key_a key_b : ℕ) (p : PathState Carried) (h : PathIs key_a key_b p) where
-  data_is : (s : Side) (o : Option Record) → AskIs key_a key_b (data_ask values s o p)
+module _ (k : Secrets) (right : Bool) (p : PathState Carried) (h : PathIs k right p) where
+  data_is : (s : Side) (o : Option Record) → AskIs k right (data_ask values s o p)
   data_is s None = tt
   data_is s (Some r) = tt
 
-  step_is : (o : Option Event) → AskIs key_a key_b (step_for o)
+  step_is : (o : Option Event) → AskIs k right (step_for p.link.path o)
   step_is None = tt
+  step_is (Some (happening.Joins tick)) = tt
   step_is (Some (happening.Takes line)) = tt
   step_is (Some (happening.Arrives due)) = tt
   step_is (Some (happening.Fires s tick)) = tt
 
-  key_is : (s : Side) (o : Option ℕ) → AskIs key_a key_b (peer_key_ask s o)
-  key_is s None = tt
-  key_is s (Some key) = tt
+  key_is : (s : Side) (o : Option ℕ) → IfSome o (λ key. key ≡ drawn_key k right (peer s)) → AskIs k right (peer_key_ask s o)
+  key_is s None own = tt
+  key_is s (Some key) own = own
 
-  keys_are : (s : Side) (o : Option KeyPair) → IfSome o (λ keys. (keys.own ≡ drawn_key key_a key_b s) × (keys.peer ≡ drawn_key key_a key_b (peer s))) → AskIs key_a key_b (keys_ask s o)
-  keys_are s None pair = tt
-  keys_are s (Some keys) pair = pair.0
+  keys_are : (s : Side) (o : Option KeyPair) → IfSome o (PairIs k right (is_joined p.profile) s) → AskIs k right (keys_ask s o)
+  keys_are s None own = tt
+  keys_are s (Some keys) own = own
 
-  break_is : (s : Side) (reason : ℕ) → AskIs key_a key_b (break_ask values s reason p)
+  break_is : (s : Side) (reason : ℕ) → AskIs k right (break_ask values s reason p)
   break_is s reason = by (end_at s p).treated.asked
     where
-      by : (b : Bool) → AskIs key_a key_b (if b then asks.Reassembly s reassembly_calls.AckOut else sends values s (reset_of s (Some reason) p) p)
+      by : (b : Bool) → AskIs k right (if b then asks.Reassembly s reassembly_calls.AckOut else sends values s (reset_of s (Some reason) p) p)
       by true = tt
       by false = tt
 
-  mapping_is : (s : Side) → AskIs key_a key_b (mapping_ask values s p)
+  mapping_is : (s : Side) → AskIs k right (mapping_ask values s p)
   mapping_is s = by (is_clash (end_at s p))
     where
-      by : (b : Bool) → AskIs key_a key_b (if b then break_ask values s 1 p else fell_ask s events.MappingHeard p)
+      by : (b : Bool) → AskIs k right (if b then break_ask values s 1 p else fell_ask s events.MappingHeard p)
       by true = break_is s 1
       by false = tt
 
-  item_is : (s : Side) (o : Option Heard) → IfSome o (ItemIs key_a key_b s) → AskIs key_a key_b (item_ask values s o p)
+  item_is : (s : Side) (o : Option Heard) → IfSome o (ItemIs k right (is_joined p.profile) s) → AskIs k right (item_ask values s o p)
   item_is s None own = tt
   item_is s (Some says.Dss) own = tt
   item_is s (Some (says.DataAck next window)) own = tt
   item_is s (Some says.Mapping) own = mapping_is s
   item_is s (Some (says.DataFin place)) own = tt
   item_is s (Some (says.PeerKey key)) own = tt
-  item_is s (Some (says.Keys mine other)) own = own.0
+  item_is s (Some (says.Keys mine other)) own = own
+  item_is s (Some (says.Join form)) own = tt
 
-  piece_is : (s : Side) (o : Option Piece) → AskIs key_a key_b (piece_ask s o)
+  piece_is : (s : Side) (o : Option Piece) → AskIs k right (piece_ask s o)
   piece_is s None = tt
   piece_is s (Some piece) = tt
 
-  fin_is : (s : Side) (o : Option ℕ) → AskIs key_a key_b (fin_ask s o)
+  fin_is : (s : Side) (o : Option ℕ) → AskIs k right (fin_ask s o)
   fin_is s None = tt
   fin_is s (Some place) = tt
 
-  rate_is : (s : Side) (o : Option Pending) → AskIs key_a key_b (rate_ask s o p)
+  rate_is : (s : Side) (o : Option Pending) → AskIs k right (rate_ask s o p)
   rate_is s None = tt
   rate_is s (Some pending) = tt
 
-  pub asks_are : (d : Duty) → AskIs key_a key_b (ask_for values d p)
+  join_asks : (s : Side) (o : Option Asked) → IfSome o (AskedIs k right (is_joined p.profile) s) → AskIs k right (join_heard_ask s o p)
+  join_asks s None own = tt
+  join_asks s (Some asked) own = λ sure. (own.1 (by (is_joined p.profile) sure)).0
+    where
+      by : (b : Bool) → right ≡ true → sure_if k right b ≡ true
+      by true sure = sure
+      by false sure = refl
+
+  pub asks_are : (d : Duty) → AskIs k right (ask_for values d p)
+  asks_are duties.JoinAgain = tt
   asks_are (duties.Look s) = tt
   asks_are (duties.Window s) = tt
   asks_are (duties.Update s) = tt
@@ -135,12 +162,18 @@ module _ (key_a key_b : ℕ) (p : PathState Carried) (h : PathIs key_a key_b p) 
   asks_are duties.Events = step_is (next_event p)
   asks_are (duties.SynHeard s) = tt
   asks_are (duties.SynAnswered s) = tt
-  asks_are (duties.PeerKey s) = key_is s (key_heard (end_at s p).treated.items)
+  asks_are (duties.PeerKey s) =
+      key_is s (key_heard (end_at s p).treated.items) (key_found k right (is_joined p.profile) s (end_at s p).treated.items (end_is k right s p h).items)
   asks_are (duties.SynAck s) = tt
-  asks_are (duties.Opened s) = keys_are s (keys_heard (end_at s p).treated.items) (pair_found key_a key_b s (end_at s p).treated.items (end_is key_a key_b s p h).items)
+  asks_are (duties.JoinHeard s) = join_asks s (asked_at s p) (asked_is k right (is_joined p.profile) s (end_at s p).treated.items (end_is k right s p h).items)
+  asks_are (duties.Refuse s) = tt
+  asks_are (duties.Opened s) =
+      keys_are s (keys_heard (end_at s p).treated.items) (pair_found k right (is_joined p.profile) s (end_at s p).treated.items (end_is k right s p h).items)
   asks_are (duties.Live s) = tt
-  asks_are (duties.Heard s index) = item_is s (item_of index (end_at s p)) (item_there key_a key_b (end_at s p).treated.items s index (end_is key_a key_b s p h).items)
+  asks_are (duties.Heard s index) =
+      item_is s (item_of index (end_at s p)) (item_there k right (is_joined p.profile) (end_at s p).treated.items s index (end_is k right s p h).items)
   asks_are (duties.AckHeard s) = tt
+  asks_are (duties.PlainAck s) = break_is s 6
   asks_are (duties.Keep s) = tt
   asks_are (duties.Edge s) = piece_is s (piece_of s p)
   asks_are (duties.HeardFin s index) = fin_is s (fin_of index (end_at s p))
@@ -160,121 +193,387 @@ module _ (key_a key_b : ℕ) (p : PathState Carried) (h : PathIs key_a key_b p) 
   asks_are (duties.Dead s) = tt
   asks_are duties.End = tt
 
--- ---- a control book
+-- ---- the keys of a control book
 
-either_own : (key : ℕ) (b : Bool) (c d : Control) → c.keys.own ≡ key → d.keys.own ≡ key → (if b then c else d).keys.own ≡ key
-either_own key true c d x y = x
-either_own key false c d x y = y
+-- its own key, and the peer's once it has one, which it has once it is confirmed
+pub record BookIs (own other : ℕ) (c : Control) : Type 0 where
+  pub own_is : c.keys.own ≡ own
+  pub peer_is : IfSome c.keys.peer (λ key. key ≡ other)
+  pub confirmed : c.fall.confirmed ≡ true → c.keys.peer ≡ Some other
 
-notice_own : (n : Notice) (path : ℕ) (c : Control) → (controlling.after_notice n path c).keys.own ≡ c.keys.own
-notice_own (notices.Withdraw id) path c = refl
-notice_own notices.Nothing path c = refl
-notice_own (notices.Announce id) path c = refl
-notice_own (notices.Carrier key) path c = refl
-notice_own notices.Reset path c = refl
+-- with the same keys, and no more confirmed
+same_book : (own other : ℕ) (c d : Control) → d.keys ≡ c.keys → d.fall.confirmed ≡ c.fall.confirmed → BookIs own other c → BookIs own other d
+same_book own other c d keys confirmed h = record {
+  own_is = ap (λ x. x.own) keys ∙ h.own_is;
+  peer_is = subst (λ x. IfSome x.peer (λ key. key ≡ other)) (sym keys) h.peer_is;
+  confirmed = λ is. ap (λ x. x.peer) keys ∙ h.confirmed (sym confirmed ∙ is);
+}
 
--- no call changes the own key
-call_own : (c : Control) (call : ControlCall) → (controlling.after c call).keys.own ≡ c.keys.own
-call_own c (control_calls.Look path) = notice_own (control.notice_on c path) path c
-call_own c (control_calls.PeerKey key) = refl
-call_own c (control_calls.Keys own other) = either_own c.keys.own _ _ _ refl refl
-call_own c (control_calls.Fell path event) = refl
-call_own c (control_calls.JoinBegin path) = either_own c.keys.own _ _ _ refl refl
-call_own c (control_calls.JoinHeard path token) = either_own c.keys.own _ _ _ refl refl
-call_own c (control_calls.Live path backup) = refl
-call_own c (control_calls.Dead path) = refl
-call_own c (control_calls.Backup path on) = refl
-call_own c (control_calls.Rate path window rtt) = refl
-call_own c (control_calls.Announce id) = refl
-call_own c (control_calls.Withdraw id) = either_own c.keys.own _ _ _ refl refl
-call_own c (control_calls.Heard id address port hmac) = refl
-call_own c (control_calls.Echoed id) = either_own c.keys.own _ _ _ refl refl
-call_own c (control_calls.Removed id) = either_own c.keys.own _ _ _ refl refl
-call_own c control_calls.FastClose = refl
-call_own c (control_calls.FastHeard key) = either_own c.keys.own _ _ _ refl refl
+if_book : (own other : ℕ) (b : Bool) (c d : Control) → BookIs own other c → BookIs own other d → BookIs own other (if b then c else d)
+if_book own other true c d x y = x
+if_book own other false c d x y = y
 
--- a reply that can't be this one isn't
-not_other : (call : ControlCall) → ((key : ℕ) → IsControlKind call (control_replies.KeysDiffer key) → ⊥) → (r : ControlReply) → IsControlKind call r → tells_other_key (replies.Control r) ≡ false
-not_other call never (control_replies.KeysDiffer key) kind = absurd (never key kind)
-not_other call never control_replies.Noted kind = refl
-not_other call never _ kind = refl
+notice_is : (own other : ℕ) (n : Notice) (path : ℕ) (c : Control) → BookIs own other c → BookIs own other (controlling.after_notice n path c)
+notice_is own other (notices.Withdraw id) path c h = same_book own other c _ refl refl h
+notice_is own other notices.Nothing path c h = h
+notice_is own other (notices.Announce id) path c h = h
+notice_is own other (notices.Carrier key) path c h = h
+notice_is own other notices.Reset path c h = h
 
-keys_untold : (own : ℕ) (c : Control) → own ≡ c.keys.own → tells_other_key (replies.Control (control.keys_reply own c)) ≡ false
-keys_untold own c same =
-    ap (λ (b : Bool). tells_other_key (replies.Control (if b then control_replies.Noted else control_replies.KeysDiffer c.keys.own))) (eq-eqb own c.keys.own same)
+-- a sign of the peer's, which makes a side sure
+sign_confirms : (f : Fall) → (after_sure_sign f).0.confirmed ≡ f.confirmed
+sign_confirms f = by (is_starting f.mode)
+  where
+    by : (b : Bool) → (if b then goes modes.Sure f else stays f).0.confirmed ≡ f.confirmed
+    by true = refl
+    by false = refl
 
-call_untold : (c : Control) (call : ControlCall) → ((own other : ℕ) → call ≡ control_calls.Keys own other → own ≡ c.keys.own) → tells_other_key (replies.Control (control.reply_to c call)) ≡ false
-call_untold c (control_calls.Look path) right = refl
-call_untold c (control_calls.PeerKey key) right = refl
-call_untold c (control_calls.Keys own other) right = keys_untold own c (right own other refl)
-call_untold c (control_calls.Fell path event) right = refl
-call_untold c (control_calls.JoinBegin path) right = not_other (control_calls.JoinBegin path) (λ key kind. kind) _ (control_kind c (control_calls.JoinBegin path))
-call_untold c (control_calls.JoinHeard path token) right = not_other (control_calls.JoinHeard path token) (λ key kind. kind) _ (control_kind c (control_calls.JoinHeard path token))
-call_untold c (control_calls.Live path backup) right = refl
-call_untold c (control_calls.Dead path) right = refl
-call_untold c (control_calls.Backup path on) right = refl
-call_untold c (control_calls.Rate path window rtt) right = refl
-call_untold c (control_calls.Announce id) right = refl
-call_untold c (control_calls.Withdraw id) right = refl
-call_untold c (control_calls.Heard id address port hmac) right =
-    not_other (control_calls.Heard id address port hmac) (λ key kind. kind) _ (control_kind c (control_calls.Heard id address port hmac))
-call_untold c (control_calls.Echoed id) right = refl
-call_untold c (control_calls.Removed id) right = refl
-call_untold c control_calls.FastClose right = refl
-call_untold c (control_calls.FastHeard key) right = not_other (control_calls.FastHeard key) (λ key kind. kind) _ (control_kind c (control_calls.FastHeard key))
+fell_confirms : (path : ℕ) (sole : Bool) (e : FallEvent) (f : Fall) → IsSign e → (fall_step f path sole e).0.confirmed ≡ f.confirmed
+fell_confirms path sole events.MappingHeard f is = sign_confirms f
+fell_confirms path sole events.AckHeard f is = sign_confirms f
+fell_confirms path sole events.PlainHandshake f is = absurd is
+fell_confirms path sole events.PlainData f is = absurd is
+fell_confirms path sole events.PlainAck f is = absurd is
+fell_confirms path sole events.KeysHeard f is = absurd is
+fell_confirms path sole events.InfiniteHeard f is = absurd is
+fell_confirms path sole events.CheckFailed f is = absurd is
+fell_confirms path sole (events.FailHeard contiguous) f is = absurd is
+fell_confirms path sole events.Stop f is = absurd is
+
+keys_told : (own other : ℕ) (mine peer_key : ℕ) (c : Control) → peer_key ≡ other → BookIs own other c → BookIs own other (controlling.after_keys mine peer_key c)
+keys_told own other mine peer_key c is h =
+    if_book own other (mine == c.keys.own) (controlling.after_event 0 false events.KeysHeard (controlling.after_peer_key peer_key c)) c
+    (record { own_is = h.own_is; peer_is = is; confirmed = λ confirmed. ap (λ n. Some n) is }) h
+
+call_is : (k : Secrets) (right : Bool) (s : Side) (c : Control) (call : ControlCall) → AskIs k right (asks.Control s call) → BookIs (drawn_key k right s) (drawn_key k right (peer s)) c
+    → BookIs (drawn_key k right s) (drawn_key k right (peer s)) (controlling.after c call)
+call_is k right s c (control_calls.Look path) is h = notice_is _ _ (control.notice_on c path) path c h
+call_is k right s c (control_calls.PeerKey key) is h = record { own_is = h.own_is; peer_is = is; confirmed = λ confirmed. ap (λ n. Some n) is }
+call_is k right s c (control_calls.Keys own other) is h = keys_told _ _ own other c is.1 h
+call_is k right s c (control_calls.Fell path event) is h = same_book _ _ c _ refl (fell_confirms path (sole_path c.paths path) event c.fall is) h
+call_is k right s c (control_calls.JoinBegin path) is h =
+    let d : Control = controlling.after_join (record c { paths = with_phase path Opening c.paths }) in
+    if_book (drawn_key k right s) (drawn_key k right (peer s)) (control.is_sure c.fall.mode) d c (same_book _ _ c d refl refl h) h
+call_is k right s c (control_calls.JoinHeard path token) is h =
+    if_book (drawn_key k right s) (drawn_key k right (peer s)) (token == token_of c.keys.own && c.fall.confirmed && (control.is_starting c.fall.mode || control.is_sure c.fall.mode))
+    (controlling.after_join c) c (same_book _ _ c (controlling.after_join c) refl refl h) h
+call_is k right s c (control_calls.Live path backup) is h = same_book _ _ c _ refl refl h
+call_is k right s c (control_calls.Dead path) is h = same_book _ _ c _ refl refl h
+call_is k right s c (control_calls.Rate path window rtt) is h = same_book _ _ c _ refl refl h
+call_is k right s c (control_calls.Backup path on) is h = absurd is
+call_is k right s c (control_calls.Announce id) is h = absurd is
+call_is k right s c (control_calls.Withdraw id) is h = absurd is
+call_is k right s c (control_calls.Heard id address port hmac) is h = absurd is
+call_is k right s c (control_calls.Echoed id) is h = absurd is
+call_is k right s c (control_calls.Removed id) is h = absurd is
+call_is k right s c control_calls.FastClose is h = absurd is
+call_is k right s c (control_calls.FastHeard key) is h = absurd is
+
+-- ---- what it answers
+
+keys_untold : (test : Reply → Bool) → ((key : ℕ) → test (replies.Control control_replies.Noted) ≡ false) → (own : ℕ) (c : Control) → own ≡ c.keys.own
+    → test (replies.Control (control.keys_reply own c)) ≡ false
+keys_untold test noted own c same =
+    ap (λ (b : Bool). test (replies.Control (if b then control_replies.Noted else control_replies.KeysDiffer c.keys.own))) (eq-eqb own c.keys.own same) ∙ noted own
+
+begin_untold : (test : Reply → Bool) → ((own other : ℕ) → test (replies.Control (control_replies.Begin own other)) ≡ false) → test (replies.Control control_replies.NotYet) ≡ false
+    → ((mode : Mode) → test (replies.Control (control_replies.Never mode)) ≡ false) → (c : Control) → test (replies.Control (control.join_begin_reply c)) ≡ false
+begin_untold test begins not_yet never c = by (control.is_sure c.fall.mode) (control.is_starting c.fall.mode && stands_path c.paths 0)
+  where
+    by : (a b : Bool) → test (replies.Control (if a then control.begin c else (if b then control_replies.NotYet else control_replies.Never c.fall.mode))) ≡ false
+    by true b = begins c.keys.own (peer_or_zero c.keys.peer)
+    by false true = not_yet
+    by false false = never c.fall.mode
+
+-- the token is its own, or another one
+heard_untold : (test : Reply → Bool) (known : Bool) (c : Control) → ((own other : ℕ) → test (replies.Control (control_replies.Begin own other)) ≡ false)
+    → test (replies.Control control_replies.NotConfirmed) ≡ false → ((mode : Mode) → test (replies.Control (control_replies.Fallen mode)) ≡ false)
+    → (known ≡ false → test (replies.Control (control_replies.UnknownToken (token_of c.keys.own))) ≡ false)
+    → test (replies.Control (if not known then control_replies.UnknownToken (token_of c.keys.own)
+    else (if not c.fall.confirmed then control_replies.NotConfirmed
+    else (if control.is_starting c.fall.mode || control.is_sure c.fall.mode then control.begin c else control_replies.Fallen c.fall.mode)))) ≡ false
+heard_untold test false c begins unconfirmed fallen unknown = unknown refl
+heard_untold test true c begins unconfirmed fallen unknown = by c.fall.confirmed (control.is_starting c.fall.mode || control.is_sure c.fall.mode)
+  where
+    by : (a b : Bool) → test (replies.Control (if not a then control_replies.NotConfirmed else (if b then control.begin c else control_replies.Fallen c.fall.mode))) ≡ false
+    by false b = unconfirmed
+    by true true = begins c.keys.own (peer_or_zero c.keys.peer)
+    by true false = fallen c.fall.mode
+
+module _ (k : Secrets) (right : Bool) (s : Side) (c : Control) (h : BookIs (drawn_key k right s) (drawn_key k right (peer s)) c) where
+  key_untold : (call : ControlCall) → AskIs k right (asks.Control s call) → tells_other_key (replies.Control (control.reply_to c call)) ≡ false
+  key_untold (control_calls.Look path) is = refl
+  key_untold (control_calls.PeerKey key) is = refl
+  key_untold (control_calls.Keys own other) is = keys_untold tells_other_key (λ key. refl) own c (is.0 ∙ sym h.own_is)
+  key_untold (control_calls.Fell path event) is = refl
+  key_untold (control_calls.JoinBegin path) is = begin_untold tells_other_key (λ own other. refl) refl (λ mode. refl) c
+  key_untold (control_calls.JoinHeard path token) is = heard_untold tells_other_key (token == token_of c.keys.own) c (λ own other. refl) refl (λ mode. refl) (λ unknown. refl)
+  key_untold (control_calls.Live path backup) is = refl
+  key_untold (control_calls.Dead path) is = refl
+  key_untold (control_calls.Rate path window rtt) is = refl
+  key_untold (control_calls.Backup path on) is = absurd is
+  key_untold (control_calls.Announce id) is = absurd is
+  key_untold (control_calls.Withdraw id) is = absurd is
+  key_untold (control_calls.Heard id address port hmac) is = absurd is
+  key_untold (control_calls.Echoed id) is = absurd is
+  key_untold (control_calls.Removed id) is = absurd is
+  key_untold control_calls.FastClose is = absurd is
+  key_untold (control_calls.FastHeard key) is = absurd is
+
+  join_untold : right ≡ true → (call : ControlCall) → AskIs k right (asks.Control s call) → tells_wrong_join (replies.Control (control.reply_to c call)) ≡ false
+  join_untold sure (control_calls.Look path) is = refl
+  join_untold sure (control_calls.PeerKey key) is = refl
+  join_untold sure (control_calls.Keys own other) is = keys_untold tells_wrong_join (λ key. refl) own c (is.0 ∙ sym h.own_is)
+  join_untold sure (control_calls.Fell path event) is = refl
+  join_untold sure (control_calls.JoinBegin path) is = begin_untold tells_wrong_join (λ own other. refl) refl (λ mode. refl) c
+  join_untold sure (control_calls.JoinHeard path token) is =
+      heard_untold tells_wrong_join (token == token_of c.keys.own) c (λ own other. refl) refl (λ mode. refl)
+      (λ unknown. let own : token ≡ token_of c.keys.own = is sure ∙ ap token_of (sym h.own_is) in absurd (both_ways _ unknown (eq-eqb token (token_of c.keys.own) own)))
+  join_untold sure (control_calls.Live path backup) is = refl
+  join_untold sure (control_calls.Dead path) is = refl
+  join_untold sure (control_calls.Rate path window rtt) is = refl
+  join_untold sure (control_calls.Backup path on) is = absurd is
+  join_untold sure (control_calls.Announce id) is = absurd is
+  join_untold sure (control_calls.Withdraw id) is = absurd is
+  join_untold sure (control_calls.Heard id address port hmac) is = absurd is
+  join_untold sure (control_calls.Echoed id) is = absurd is
+  join_untold sure (control_calls.Removed id) is = absurd is
+  join_untold sure control_calls.FastClose is = absurd is
+  join_untold sure (control_calls.FastHeard key) is = absurd is
 
 -- ---- all books
 
-module _ (key_a key_b : ℕ) where
+module _ (key_a key_b : ℕ) (right : Bool) where
   pub record BooksAre (six : SixBooks) : Type 0 where
-    pub a : six.control_a.keys.own ≡ key_a
-    pub b : six.control_b.keys.own ≡ key_b
+    pub a : BookIs key_a key_b six.control_a
+    pub b : BookIs key_b key_a six.control_b
 
-  ask_keeps : (six : SixBooks) (x : Ask) → BooksAre six → BooksAre (after_ask x six)
-  ask_keeps six (asks.Control A call) h = record { a = call_own six.control_a call ∙ h.a; b = h.b }
-  ask_keeps six (asks.Control B call) h = record { a = h.a; b = call_own six.control_b call ∙ h.b }
-  ask_keeps six (asks.Send s call) h = record { a = h.a; b = h.b }
-  ask_keeps six (asks.Reassembly s call) h = record { a = h.a; b = h.b }
-  ask_keeps six (asks.Local step) h = h
+  abbrev pub with_nonces : ℕ → ℕ → Secrets
+  with_nonces nonce_a nonce_b = record { key_a = key_a; key_b = key_b; nonce_a = nonce_a; nonce_b = nonce_b }
 
-  right_keys : (s : Side) (call : ControlCall) → AskIs key_a key_b (asks.Control s call) → (own other : ℕ) → call ≡ control_calls.Keys own other → own ≡ drawn_key key_a key_b s
-  right_keys s call is own other same = subst (λ c. AskIs key_a key_b (asks.Control s c)) same is
+  -- keys alone are asked for, which both ends of each path have
+  abbrev pub KeysAsk : Ask → Type 0
+  KeysAsk x = AskIs (with_nonces 0 0) right x
 
-  ask_untold : (six : SixBooks) (x : Ask) → BooksAre six → AskIs key_a key_b x → tells_other_key (reply_of six x) ≡ false
-  ask_untold six (asks.Control A call) h is = call_untold six.control_a call (λ own other same. right_keys A call is own other same ∙ sym h.a)
-  ask_untold six (asks.Control B call) h is = call_untold six.control_b call (λ own other same. right_keys B call is own other same ∙ sym h.b)
+  ask_keeps : (six : SixBooks) (x : Ask) → KeysAsk x → BooksAre six → BooksAre (after_ask x six)
+  ask_keeps six (asks.Control A call) is h = record { a = call_is (with_nonces 0 0) right A six.control_a call is h.a; b = h.b }
+  ask_keeps six (asks.Control B call) is h = record { a = h.a; b = call_is (with_nonces 0 0) right B six.control_b call is h.b }
+  ask_keeps six (asks.Send A call) is h = record { a = h.a; b = h.b }
+  ask_keeps six (asks.Send B call) is h = record { a = h.a; b = h.b }
+  ask_keeps six (asks.Reassembly A call) is h = record { a = h.a; b = h.b }
+  ask_keeps six (asks.Reassembly B call) is h = record { a = h.a; b = h.b }
+  ask_keeps six (asks.Local step) is h = h
+
+  ask_untold : (six : SixBooks) (x : Ask) → BooksAre six → KeysAsk x → tells_other_key (reply_of six x) ≡ false
+  ask_untold six (asks.Control A call) h is = key_untold (with_nonces 0 0) right A six.control_a h.a call is
+  ask_untold six (asks.Control B call) h is = key_untold (with_nonces 0 0) right B six.control_b h.b call is
   ask_untold six (asks.Send s call) h is = refl
   ask_untold six (asks.Reassembly s call) h is = refl
   ask_untold six (asks.Local step) h is = refl
 
+  join_answers : right ≡ true → (six : SixBooks) (x : Ask) → BooksAre six → KeysAsk x → tells_wrong_join (reply_of six x) ≡ false
+  join_answers sure six (asks.Control A call) h is = join_untold (with_nonces 0 0) right A six.control_a h.a sure call is
+  join_answers sure six (asks.Control B call) h is = join_untold (with_nonces 0 0) right B six.control_b h.b sure call is
+  join_answers sure six (asks.Send s call) h is = refl
+  join_answers sure six (asks.Reassembly s call) h is = refl
+  join_answers sure six (asks.Local step) h is = refl
+
+  -- where A is sure, it has the peer's key
+  abbrev pub SureHasKey : SixBooks → Type 0
+  SureHasKey six = control.is_sure six.control_a.fall.mode ≡ true → six.control_a.keys.peer ≡ Some key_b
+
+  -- a book that lets a join go on has the peer's key
+  begins_so : (six : SixBooks) → (right ≡ true → SureHasKey six) → BooksAre six → IfSome (keys_begun (replies.Control (control.join_begin_reply six.control_a))) (BeginIs (with_nonces 0 0) right A)
+  begins_so six knows h = by (control.is_sure six.control_a.fall.mode) refl (control.is_starting six.control_a.fall.mode && stands_path six.control_a.paths 0)
+    where
+      c : Control
+      c = six.control_a
+
+      by : (x : Bool) → control.is_sure c.fall.mode ≡ x → (y : Bool)
+          → IfSome (keys_begun (replies.Control (if x then control.begin c else (if y then control_replies.NotYet else control_replies.Never c.fall.mode)))) (BeginIs (with_nonces 0 0) right A)
+      by true sure y = (h.a.own_is, λ is. ap peer_or_zero (knows is sure))
+      by false sure true = tt
+      by false sure false = tt
+
+  heard_so : (s : Side) (token : ℕ) (c : Control) → BookIs (drawn_key (with_nonces 0 0) right s) (drawn_key (with_nonces 0 0) right (peer s)) c
+      → IfSome (keys_begun (replies.Control (control.join_heard_reply token c))) (BeginIs (with_nonces 0 0) right s)
+  heard_so s token c h = by (token == token_of c.keys.own) c.fall.confirmed refl (control.is_starting c.fall.mode || control.is_sure c.fall.mode)
+    where
+      by : (known confirmed : Bool) → c.fall.confirmed ≡ confirmed → (begins : Bool) → IfSome (keys_begun (replies.Control (if not known then control_replies.UnknownToken (token_of c.keys.own)
+          else (if not confirmed then control_replies.NotConfirmed else (if begins then control.begin c else control_replies.Fallen c.fall.mode))))) (BeginIs (with_nonces 0 0) right s)
+      by false confirmed is begins = tt
+      by true false is begins = tt
+      by true true is true = (h.own_is, λ sure. ap peer_or_zero (h.confirmed is))
+      by true true is false = tt
+
+  reply_so : (six : SixBooks) (x : Ask) → (right ≡ true → SureHasKey six) → BooksAre six → ReplyIs (with_nonces 0 0) right x (reply_of six x)
+  reply_so six (asks.Control A call) knows h = by call
+    where
+      by : (call : ControlCall) → CallReplyIs (with_nonces 0 0) right A call (replies.Control (control.reply_to six.control_a call))
+      by (control_calls.Look path) = tt
+      by (control_calls.PeerKey key) = tt
+      by (control_calls.Keys own other) = tt
+      by (control_calls.Fell path event) = tt
+      by (control_calls.JoinBegin path) = begins_so six knows h
+      by (control_calls.JoinHeard path token) = heard_so A token six.control_a h.a
+      by (control_calls.Live path backup) = tt
+      by (control_calls.Dead path) = tt
+      by (control_calls.Rate path window rtt) = tt
+      by (control_calls.Backup path on) = tt
+      by (control_calls.Announce id) = tt
+      by (control_calls.Withdraw id) = tt
+      by (control_calls.Heard id address port hmac) = tt
+      by (control_calls.Echoed id) = tt
+      by (control_calls.Removed id) = tt
+      by control_calls.FastClose = tt
+      by (control_calls.FastHeard key) = tt
+  reply_so six (asks.Control B call) knows h = by call
+    where
+      by : (call : ControlCall) → CallReplyIs (with_nonces 0 0) right B call (replies.Control (control.reply_to six.control_b call))
+      by (control_calls.Look path) = tt
+      by (control_calls.PeerKey key) = tt
+      by (control_calls.Keys own other) = tt
+      by (control_calls.Fell path event) = tt
+      by (control_calls.JoinBegin path) = tt
+      by (control_calls.JoinHeard path token) = heard_so B token six.control_b h.b
+      by (control_calls.Live path backup) = tt
+      by (control_calls.Dead path) = tt
+      by (control_calls.Rate path window rtt) = tt
+      by (control_calls.Backup path on) = tt
+      by (control_calls.Announce id) = tt
+      by (control_calls.Withdraw id) = tt
+      by (control_calls.Heard id address port hmac) = tt
+      by (control_calls.Echoed id) = tt
+      by (control_calls.Removed id) = tt
+      by control_calls.FastClose = tt
+      by (control_calls.FastHeard key) = tt
+  reply_so six (asks.Send s call) knows h = tt
+  reply_so six (asks.Reassembly s call) knows h = tt
+  reply_so six (asks.Local step) knows h = tt
+
   -- ---- actors
+
+  pub record PathKeys (p : PathState Carried) : Type 0 where
+    pub nonce_a : ℕ
+    pub nonce_b : ℕ
+    pub settled : IsSettled p
+    pub is : PathIs (with_nonces nonce_a nonce_b) right p
 
   abbrev pub MemberIs : Actor Carried → Type 0
   MemberIs (App a) = Unit {0}
-  MemberIs (Path p) = PathIs key_a key_b p
-
-  takes_keys : (r : Reply) (m : Actor Carried) → MemberIs m → MemberIs (member_takes values r m)
-  takes_keys r (App a) h = tt
-  takes_keys r (Path p) h = takes_is key_a key_b r p h
+  MemberIs (Path p) = PathKeys p
 
   next_keys : (m : Actor Carried) → MemberIs m → MemberIs (member_next m)
   next_keys (App a) h = tt
-  next_keys (Path p) h = begins_is key_a key_b (record p { clock = p.until; until = p.until + 100 }) (record { a = h.a; b = h.b; copies = h.copies })
+  next_keys (Path p) h = let q : PathState Carried = record p { clock = p.until; until = p.until + 100 } in record {
+    nonce_a = h.nonce_a;
+    nonce_b = h.nonce_b;
+    settled = settled_settled start_of_turn (with_agenda start_of_turn q);
+    is = begins_is (with_nonces h.nonce_a h.nonce_b) right q (record { a = h.is.a; b = h.is.b; copies = h.is.copies; known = h.is.known; waits = h.is.waits });
+  }
 
-  app_asks : (ds : List AppDuty) (a : AppState) (x : Ask) → app_asks_first ds a ≡ Some x → AskIs key_a key_b x
+  app_asks : (ds : List AppDuty) (a : AppState) (x : Ask) → app_asks_first ds a ≡ Some x → KeysAsk x
   app_asks [] a x is = cc
-  app_asks (app_duties.Write ∷ ds) a x is = subst (AskIs key_a key_b) (same_Some _ x is) tt
-  app_asks (app_duties.Close ∷ ds) a x is = subst (AskIs key_a key_b) (same_Some _ x is) tt
-  app_asks (app_duties.Read ∷ ds) a x is = subst (AskIs key_a key_b) (same_Some _ x is) tt
-  app_asks (app_duties.End ∷ ds) a x is = subst (AskIs key_a key_b) (same_Some _ x is) tt
+  app_asks (app_duties.Write ∷ ds) a x is = subst KeysAsk (same_Some _ x is) tt
+  app_asks (app_duties.Close ∷ ds) a x is = subst KeysAsk (same_Some _ x is) tt
+  app_asks (app_duties.Read ∷ ds) a x is = subst KeysAsk (same_Some _ x is) tt
+  app_asks (app_duties.End ∷ ds) a x is = subst KeysAsk (same_Some _ x is) tt
 
-  path_asks : (ds : List Duty) (p : PathState Carried) (x : Ask) → PathIs key_a key_b p → asks_first values ds p ≡ Some x → AskIs key_a key_b x
+  -- what is said of keys doesn't depend on the nonces
+  module _ (nonce_a nonce_b : ℕ) where
+    ask_alone : (x : Ask) → AskIs (with_nonces nonce_a nonce_b) right x → KeysAsk x
+    ask_alone (asks.Control s call) h = by s call h
+      where
+        by : (s : Side) (call : ControlCall) → CallIs (with_nonces nonce_a nonce_b) right s call → CallIs (with_nonces 0 0) right s call
+        by s (control_calls.Look path) h = h
+        by A (control_calls.PeerKey key) h = h
+        by B (control_calls.PeerKey key) h = h
+        by A (control_calls.Keys own other) h = h
+        by B (control_calls.Keys own other) h = h
+        by s (control_calls.Fell path event) h = h
+        by s (control_calls.JoinBegin path) h = h
+        by A (control_calls.JoinHeard path token) h = h
+        by B (control_calls.JoinHeard path token) h = h
+        by s (control_calls.Live path backup) h = h
+        by s (control_calls.Dead path) h = h
+        by s (control_calls.Rate path window rtt) h = h
+        by s (control_calls.Backup path on) h = absurd h
+        by s (control_calls.Announce id) h = absurd h
+        by s (control_calls.Withdraw id) h = absurd h
+        by s (control_calls.Heard id address port hmac) h = absurd h
+        by s (control_calls.Echoed id) h = absurd h
+        by s (control_calls.Removed id) h = absurd h
+        by s control_calls.FastClose h = absurd h
+        by s (control_calls.FastHeard key) h = absurd h
+    ask_alone (asks.Send s call) h = tt
+    ask_alone (asks.Reassembly s call) h = tt
+    ask_alone (asks.Local step) h = tt
+
+    reply_alone : (x : Ask) (r : Reply) → ReplyIs (with_nonces 0 0) right x r → ReplyIs (with_nonces nonce_a nonce_b) right x r
+    reply_alone (asks.Control s call) r h = by s call h
+      where
+        by : (s : Side) (call : ControlCall) → CallReplyIs (with_nonces 0 0) right s call r → CallReplyIs (with_nonces nonce_a nonce_b) right s call r
+        by A (control_calls.Look path) h = tt
+        by B (control_calls.Look path) h = tt
+        by A (control_calls.PeerKey key) h = tt
+        by B (control_calls.PeerKey key) h = tt
+        by A (control_calls.Keys own other) h = tt
+        by B (control_calls.Keys own other) h = tt
+        by A (control_calls.Fell path event) h = tt
+        by B (control_calls.Fell path event) h = tt
+        by A (control_calls.JoinBegin path) h = h
+        by B (control_calls.JoinBegin path) h = tt
+        by A (control_calls.JoinHeard path token) h = h
+        by B (control_calls.JoinHeard path token) h = h
+        by A (control_calls.Live path backup) h = tt
+        by B (control_calls.Live path backup) h = tt
+        by A (control_calls.Dead path) h = tt
+        by B (control_calls.Dead path) h = tt
+        by A (control_calls.Rate path window rtt) h = tt
+        by B (control_calls.Rate path window rtt) h = tt
+        by A (control_calls.Backup path on) h = tt
+        by B (control_calls.Backup path on) h = tt
+        by A (control_calls.Announce id) h = tt
+        by B (control_calls.Announce id) h = tt
+        by A (control_calls.Withdraw id) h = tt
+        by B (control_calls.Withdraw id) h = tt
+        by A (control_calls.Heard id address port hmac) h = tt
+        by B (control_calls.Heard id address port hmac) h = tt
+        by A (control_calls.Echoed id) h = tt
+        by B (control_calls.Echoed id) h = tt
+        by A (control_calls.Removed id) h = tt
+        by B (control_calls.Removed id) h = tt
+        by A control_calls.FastClose h = tt
+        by B control_calls.FastClose h = tt
+        by A (control_calls.FastHeard key) h = tt
+        by B (control_calls.FastHeard key) h = tt
+    reply_alone (asks.Send s call) r h = tt
+    reply_alone (asks.Reassembly s call) r h = tt
+    reply_alone (asks.Local step) r h = tt
+
+  path_asks : (ds : List Duty) (p : PathState Carried) (x : Ask) → PathKeys p → asks_first values ds p ≡ Some x → KeysAsk x
   path_asks [] p x h is = cc
-  path_asks (d ∷ ds) p x h is = subst (AskIs key_a key_b) (same_Some _ x is) (asks_are key_a key_b p h d)
+  path_asks (d ∷ ds) p x h is =
+      subst KeysAsk (same_Some _ x is) (ask_alone h.nonce_a h.nonce_b (ask_for values d p) (asks_are (with_nonces h.nonce_a h.nonce_b) right p h.is d))
 
-  member_asks_are : (m : Actor Carried) (x : Ask) → MemberIs m → member_asks values m ≡ Some x → AskIs key_a key_b x
+  pub member_asks_are : (m : Actor Carried) (x : Ask) → MemberIs m → member_asks values m ≡ Some x → KeysAsk x
   member_asks_are (App a) x h is = app_asks a.agenda a x is
   member_asks_are (Path p) x h is = path_asks p.agenda p x h is
+
+  takes_settled : (r : Reply) (p : PathState Carried) → IsSettled (takes values r p)
+  takes_settled r p = let q : PathState Carried = answers values p.agenda r p in settled_settled q.agenda q
+
+  -- the reply of the books to what it asks
+  takes_keys : (six : SixBooks) (x : Ask) (m : Actor Carried) → member_asks values m ≡ Some x → (right ≡ true → SureHasKey six) → BooksAre six → MemberIs m
+      → MemberIs (member_takes values (reply_of six x) m)
+  takes_keys six x (App a) asks knows books h = tt
+  takes_keys six x (Path p) asks knows books h = record {
+    nonce_a = h.nonce_a;
+    nonce_b = h.nonce_b;
+    settled = takes_settled (reply_of six x) p;
+    is = takes_is (with_nonces h.nonce_a h.nonce_b) right (reply_of six x) p h.settled
+        (λ y is. reply_alone h.nonce_a h.nonce_b y (reply_of six x) (subst (λ z. ReplyIs (with_nonces 0 0) right z (reply_of six x)) (same_Some x y (sym asks ∙ is)) (reply_so six x knows books))) h.is;
+  }
 
   -- ---- worlds
 
@@ -282,24 +581,27 @@ module _ (key_a key_b : ℕ) where
     pub crew : Every (λ c. MemberIs c.member) w.crew
     pub books : BooksAre (books_in w.books)
 
-  step_keys : (actor : ℕ) (w : WorldState Carried) → WorldIs w → WorldIs (world_step values actor w)
-  step_keys actor w h = by (slice_get w.crew actor) refl
+  abbrev Knowing : WorldState Carried → Type 0
+  Knowing w = right ≡ true → SureHasKey (books_in w.books)
+
+  step_keys : (actor : ℕ) (w : WorldState Carried) → Knowing w → WorldIs w → WorldIs (world_step values actor w)
+  step_keys actor w knows h = by (slice_get w.crew actor) refl
     where
-      asks : (c : ActorCrew Carried) → slice_get w.crew actor ≡ Some c → (o : Option Ask) → WorldIs (asked values actor o c w)
-      asks c there None = h
-      asks c there (Some x) = record {
+      asking : (c : ActorCrew Carried) → slice_get w.crew actor ≡ Some c → (o : Option Ask) → member_asks values c.member ≡ o → WorldIs (asked values actor o c w)
+      asking c there None is = h
+      asking c there (Some x) is = record {
         crew = record {
           each = λ i d at. ⊎_elim
-              (λ here. subst (λ y. MemberIs y.member) here.1 (takes_keys (answer_to w.books x) c.member (h.crew.each actor c there)))
+              (λ here. subst (λ y. MemberIs y.member) here.1 (takes_keys (books_in w.books) x c.member is knows h.books (h.crew.each actor c there)))
               (λ other. h.crew.each i d other.1)
               (in_set w.crew actor (crew_after values x w.books c) i d at);
         };
-        books = subst BooksAre (sym (books_after x c.pass w.books)) (ask_keeps (books_in w.books) x h.books);
+        books = subst BooksAre (sym (books_after x c.pass w.books)) (ask_keeps (books_in w.books) x (member_asks_are c.member x (h.crew.each actor c there) is) h.books);
       }
 
       by : (o : Option (ActorCrew Carried)) → slice_get w.crew actor ≡ o → WorldIs (stepped values actor o w)
       by None there = h
-      by (Some c) there = asks c there (member_asks values c.member)
+      by (Some c) there = asking c there (member_asks values c.member) refl
 
   round_keys : (w : WorldState Carried) → WorldIs w → WorldIs (end_round w)
   round_keys w h = by (all_over w.crew)
@@ -313,36 +615,66 @@ module _ (key_a key_b : ℕ) where
       }
       by false = h
 
-  turn_keys : (turn : Turn) (w : WorldState Carried) → WorldIs w → WorldIs (after_turn values turn w)
-  turn_keys (Turn.Step actor) w h = step_keys actor w h
-  turn_keys Turn.Round w h = round_keys w h
+  pub turn_keys : (turn : Turn) (w : WorldState Carried) → Knowing w → WorldIs w → WorldIs (after_turn values turn w)
+  turn_keys (Turn.Step actor) w knows h = step_keys actor w knows h
+  turn_keys Turn.Round w knows h = round_keys w h
 
   untold : (w : WorldState Carried) → WorldIs w → Untold tells_other_key values w
   untold w h actor c x there asks = ask_untold (books_in w.books) x h.books (member_asks_are c.member x (h.crew.each actor c there) asks)
 
-  run_untold : (turns : List Turn) (w : WorldState Carried) → WorldIs w → NoneTold tells_other_key values w → NoneTold tells_other_key values (world_run values turns w)
-  run_untold [] w h none = none
-  run_untold (turn ∷ turns) w h none = run_untold turns (after_turn values turn w) (turn_keys turn w h) (turn_none tells_other_key values turn w (untold w h) none)
+  pub joins_untold : right ≡ true → (w : WorldState Carried) → WorldIs w → Untold tells_wrong_join values w
+  joins_untold sure w h actor c x there asks = join_answers sure (books_in w.books) x h.books (member_asks_are c.member x (h.crew.each actor c there) asks)
 
-opened_keys : (start : Start) → WorldIs start.drawn.key_a start.drawn.key_b (opened_world start)
-opened_keys start = record {
-  crew = record { each = at };
-  books = record { a = refl; b = refl };
+pub opened_keys : (right : Bool) (start : Start) → WorldIs start.key_a start.key_b right (opened_world start)
+opened_keys right start = record {
+  crew = record { each = opened_actors (λ actor c. MemberIs start.key_a start.key_b right c.member) start tt tt (λ number plan there. path number plan) };
+  books = record { a = record { own_is = refl; peer_is = tt; confirmed = λ is. absurd (false≢true is) }; b = record { own_is = refl; peer_is = tt; confirmed = λ is. absurd (false≢true is) } };
 }
   where
-    at : (i : ℕ) (c : ActorCrew Carried) → slice_get (opened_world start).crew i ≡ Some c → MemberIs start.drawn.key_a start.drawn.key_b c.member
-    at zero c there = subst (λ x. MemberIs start.drawn.key_a start.drawn.key_b x.member) (same_Some _ c there) tt
-    at (suc zero) c there = subst (λ x. MemberIs start.drawn.key_a start.drawn.key_b x.member) (same_Some _ c there) tt
-    at (suc (suc zero)) c there =
-        subst (λ x. MemberIs start.drawn.key_a start.drawn.key_b x.member) (same_Some _ c there)
-        (begins_is start.drawn.key_a start.drawn.key_b (waiting_path start.profile start.drawn start.delay start.lines) (record {
-          a = record { own = refl; peer_is = tt; items = Every-nil _ };
-          b = record { own = refl; peer_is = tt; items = Every-nil _ };
-          copies = Every-nil _;
-        }))
-    at (suc (suc (suc i))) c there = cc
+    path : (number : ℕ) (plan : PathPlan) → MemberIs start.key_a start.key_b right (new_path start number plan).member
+    path number plan = record {
+      nonce_a = plan.nonce_a;
+      nonce_b = plan.nonce_b;
+      settled = settled_settled start_of_turn (with_agenda start_of_turn (waiting_path (path_begins start number plan) start.lines));
+      is = begins_is (record { key_a = start.key_a; key_b = start.key_b; nonce_a = plan.nonce_a; nonce_b = plan.nonce_b }) right (waiting_path (path_begins start number plan) start.lines) (record {
+        a = record {
+          modes = record { own = refl; nonce = refl; peer_is = λ sure. tt; joins = λ owes. absurd (false≢true owes); third = λ sure owes. absurd (false≢true owes) };
+          items = Every-nil _;
+          woken = λ sure joined up. absurd (false≢true (sym (waits_up number joined) ∙ up));
+        };
+        b = record {
+          modes = record { own = refl; nonce = refl; peer_is = λ sure. tt; joins = λ owes. absurd (false≢true owes); third = λ sure owes. absurd (false≢true owes) };
+          items = Every-nil _;
+          woken = λ sure joined up. absurd (false≢true up);
+        };
+        copies = Every-nil _;
+        known = λ sure joined t spoken. absurd (false≢true spoken);
+        waits = waits_there number;
+      });
+    }
+      where
+        first_end : ℕ → EndState
+        first_end number = (waiting_path {C = Carried} (path_begins start number plan) start.lines).a.tcp
+
+        waits_up : (number : ℕ) → nat_lt 0 number ≡ true → is_up (first_end number) ≡ false
+        waits_up zero joined = absurd (false≢true joined)
+        waits_up (suc n) joined = refl
+
+        waits_there : (number : ℕ) → is_waiting (first_end number).state ≡ true → nat_lt 0 number ≡ true
+        waits_there zero waits = absurd (false≢true waits)
+        waits_there (suc n) waits = lt-ltb 0 (suc n) (omega arith)
+
+-- ---- the laws
+
+-- whatever the script does, each key that is told is right
+run_keys : (start : Start) (turns : List Turn) (w : WorldState Carried) → WorldIs start.key_a start.key_b false w → NoneTold tells_other_key values w
+    → NoneTold tells_other_key values (world_run values turns w)
+run_keys start [] w h none = none
+run_keys start (turn ∷ turns) w h none =
+    run_keys start turns (after_turn values turn w) (turn_keys start.key_a start.key_b false turn w (λ right. absurd (false≢true right)) h)
+    (turn_none tells_other_key values turn w (untold start.key_a start.key_b false w h) none)
 
 pub keys_never_differ : Always values (λ start w. KeysNeverDiffer w)
 keys_never_differ start turns =
     from_each tells_other_key values (world_run values turns (opened_world start))
-    (run_untold start.drawn.key_a start.drawn.key_b turns (opened_world start) (opened_keys start) (opened_none tells_other_key values start))
+    (run_keys start turns (opened_world start) (opened_keys false start) (opened_none tells_other_key values start))

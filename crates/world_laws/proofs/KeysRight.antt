@@ -1,12 +1,16 @@
--- The keys that an end keeps, hears and shows are those that were drawn.
-use Rattle.std.proofs.Common.{◌≡◌, refl, sym, ◌∙◌, subst, ℕ, suc, nat_lt, nat_le, Bool, true, false, if◌then◌else◌, Option, Some, None, List, [], ◌∷◌, map, ◌^◌}
+-- The keys and nonces that an end keeps, hears and shows are those that were drawn.
+use Rattle.std.proofs.Common.{◌≡◌, refl, sym, ◌∙◌, ap, subst, ℕ, suc, not, ◌||◌, nat_lt, nat_le, is_some, unwrap_or, Bool, true, false, if◌then◌else◌, Option, Some, None, List, [], ◌∷◌, map, ◌^◌}
 use Rattle.std.specs.List.{flat_map}
 use Rattle.std.specs.Option.{IfSome, option_map}
 use Rattle.outside_kit.specs.declared.side.Side.{Side}
 use Rattle.outside_kit.specs.declared.side.Side.TheVariants.{A, B}
 use Rattle.link_model.specs.Steps.{peer}
+use Rattle.key_material.specs.JoinHmac.{join_a160_of, join_b64_of}
+use Rattle.key_material.specs.KeyDigest.{token_of}
 use Rattle.mptcp_options.specs.declared.capable.CapableKeys.{CapableKeys}
 use Rattle.mptcp_options.specs.declared.capable.CapableKeys.TheVariants.{NoKey, Sender, Both, WithData}
+use Rattle.mptcp_options.specs.declared.join.JoinForm.{JoinForm}
+use Rattle.mptcp_options.specs.declared.join.JoinForm.TheVariants.{Syn as JoinSyn, Answer, Third}
 use Rattle.path_segments.specs.declared.segment.PathMapping.{PathMapping}
 use Rattle.path_segments.specs.declared.segment.PathMapping.TheVariants.{Bytes, End, Infinite}
 use Rattle.path_segments.specs.declared.segment.PathOption.TheVariants.{Capable, Join, Dss, AddAddr, Remove, Prio, Fail, FastClose, Reset}
@@ -16,23 +20,60 @@ use Rattle.path_segments.specs.Spelled.{PlainSegment}
 use Rattle.subflow_send.specs.declared.record.RecordKind.{RecordKind}
 use Rattle.subflow_send.specs.declared.record.RecordKind.TheVariants.{Syn, Data, Fin}
 use Rattle.subflow_send.specs.Records.{Record}
+use Rattle.subflow_tcp.specs.States.{is_closed_to_segments}
 use Rattle.stream_lanes.specs.Words.{Every}
 use Rattle.stream_lanes.proofs.Lists.{Every-nil, Every-append, Every-push, in_take}
 use Rattle.path_agenda.specs.declared.heard.Heard.{Heard}
 use Rattle.path_agenda.specs.declared.heard.Heard.TheVariants as says
-use Rattle.path_core.specs.Arriving.{ack_items, is_mapping, mapping_items, end_items, map_items, key_items, items_in, items_of}
+use Rattle.path_core.specs.declared.modes.Modes.{Modes}
+use Rattle.path_core.specs.Arriving.{ack_items, is_mapping, mapping_items, end_items, map_items, key_items, join_items, items_in, items_of}
 use Rattle.path_core.specs.Ends.{PathEnd}
-use Rattle.path_core.specs.Segments.{syn_options, key_options, ack_options, end_mapping, is_first_piece, first_piece_options, piece_options, piece_mapping, record_options, reset_options, ack_said, syn_ack_said, record_or_ack}
+use Rattle.path_core.specs.Joins.{is_joined, peer_key_of, join_options, third_options}
+use Rattle.path_core.specs.Segments.{capable_options, syn_options, key_options, opening_options, ack_options, end_mapping, is_first_piece, first_piece_options, piece_options, piece_mapping, record_options, reset_options, ack_said, syn_ack_said, record_or_ack}
 use Rattle.path_core.specs.State.{Profile}
 
 every_one : {X : Type 0} {P : X → Type 0} (x : X) → P x → Every P (x ∷ [])
 every_one {X} {P} x h = Every-push {xs = []} x (Every-nil P) h
 
-module _ (key_a key_b : ℕ) where
+-- what is drawn for both ends of a path
+pub record Secrets : Type 0 where
+  pub key_a : ℕ
+  pub key_b : ℕ
+  pub nonce_a : ℕ
+  pub nonce_b : ℕ
+
+-- what an end knows of the secrets
+pub record Known : Type 0 where
+  pub own_key : ℕ
+  pub peer_key : Option ℕ
+  pub own_nonce : ℕ
+  pub peer_nonce : ℕ
+  pub owes_third : Bool
+
+abbrev pub known_in : Modes → Known
+known_in m = record { own_key = m.own_key; peer_key = m.peer_key; own_nonce = m.own_nonce; peer_nonce = m.peer_nonce; owes_third = m.owes_third }
+
+-- it began, and maybe died since; or its timer runs
+abbrev pub is_woken : PathEnd → Bool
+is_woken e = not (is_closed_to_segments e.tcp.state) || is_some e.tcp.timing.timer
+
+-- What is drawn, and whether each join began with the peer's key.
+module _ (k : Secrets) (right : Bool) where
   -- the key that was drawn for a side
   abbrev pub drawn_key : Side → ℕ
-  drawn_key A = key_a
-  drawn_key B = key_b
+  drawn_key A = k.key_a
+  drawn_key B = k.key_b
+
+  abbrev pub drawn_nonce : Side → ℕ
+  drawn_nonce A = k.nonce_a
+  drawn_nonce B = k.nonce_b
+
+  -- the peer's keys are right at path 0, and at the others where each join began with the right one
+  abbrev pub sure_if : Bool → Bool
+  sure_if joined = if joined then right else true
+
+  abbrev pub is_sure_on : Profile → Bool
+  is_sure_on c = sure_if (is_joined c)
 
   -- ---- in options, of a segment of this side
 
@@ -42,147 +83,261 @@ module _ (key_a key_b : ℕ) where
   KeysAre s (Both sender receiver) = (sender ≡ drawn_key s) × (receiver ≡ drawn_key (peer s))
   KeysAre s (WithData sender receiver len checksum) = (sender ≡ drawn_key s) × (receiver ≡ drawn_key (peer s))
 
-  abbrev pub OptionIs : Side → PlainOption → Type 0
-  OptionIs s (Capable flag_a flag_c keys) = KeysAre s keys
-  OptionIs s _ = Unit {0}
+  -- the token is that of the peer's key, each nonce that of its side, and the HMACs are those of both keys and nonces
+  abbrev pub JoinIs : Side → JoinForm → Type 0
+  JoinIs s (JoinSyn backup id token nonce) = (token ≡ token_of (drawn_key (peer s))) × (nonce ≡ drawn_nonce s)
+  JoinIs s (Answer backup id hmac nonce) =
+      (hmac ≡ join_b64_of (drawn_key (peer s)) (drawn_key s) (drawn_nonce (peer s)) (drawn_nonce s)) × (nonce ≡ drawn_nonce s)
+  JoinIs s (Third hmac) = hmac ≡ join_a160_of (drawn_key s) (drawn_key (peer s)) (drawn_nonce s) (drawn_nonce (peer s))
 
-  abbrev pub SegmentIs : Side → PlainSegment → Type 0
-  SegmentIs s sg = Every (OptionIs s) sg.options
+  -- an MP_JOIN is said on a path that joins alone
+  abbrev pub OptionIs : Bool → Side → PlainOption → Type 0
+  OptionIs joined s (Capable flag_a flag_c keys) = sure_if joined ≡ true → KeysAre s keys
+  OptionIs joined s (Join form) = (joined ≡ true) × (sure_if joined ≡ true → JoinIs s form)
+  OptionIs joined s _ = Unit {0}
+
+  abbrev pub SegmentIs : Profile → Side → PlainSegment → Type 0
+  SegmentIs c s sg = Every (OptionIs (is_joined c) s) sg.options
 
   -- ---- what was heard by an end of this side
 
-  abbrev pub ItemIs : Side → Heard → Type 0
-  ItemIs s (says.Keys own other) = (own ≡ drawn_key s) × (other ≡ drawn_key (peer s))
-  ItemIs s (says.PeerKey key) = key ≡ drawn_key (peer s)
-  ItemIs s _ = Unit {0}
+  abbrev pub ItemIs : Bool → Side → Heard → Type 0
+  ItemIs joined s (says.Keys own other) = (own ≡ drawn_key s) × (other ≡ drawn_key (peer s))
+  ItemIs joined s (says.PeerKey key) = key ≡ drawn_key (peer s)
+  ItemIs joined s (says.Join form) = (joined ≡ true) × (sure_if joined ≡ true → JoinIs (peer s) form)
+  ItemIs joined s _ = Unit {0}
 
   -- ---- an end
 
-  pub record EndIs (s : Side) (e : PathEnd) : Type 0 where
-    pub own : e.modes.own_key ≡ drawn_key s
-    pub peer_is : IfSome e.modes.peer_key (λ key. key ≡ drawn_key (peer s))
-    pub items : Every (ItemIs s) e.treated.items
+  -- it has the peer's key; and both the peer's key and its nonce
+  abbrev pub HasKey : Side → Modes → Type 0
+  HasKey s m = m.peer_key ≡ Some (drawn_key (peer s))
 
-  -- an end with the same keys, to which the same was said
-  pub same_end : (s : Side) (e f : PathEnd) → f.modes.own_key ≡ e.modes.own_key → f.modes.peer_key ≡ e.modes.peer_key → f.treated.items ≡ e.treated.items → EndIs s e → EndIs s f
-  same_end s e f own peer_same items h = record {
-    own = own ∙ h.own;
-    peer_is = subst (λ o. IfSome o (λ key. key ≡ drawn_key (peer s))) (sym peer_same) h.peer_is;
-    items = subst (Every (ItemIs s)) (sym items) h.items;
+  abbrev pub HasMet : Side → Modes → Type 0
+  HasMet s m = HasKey s m × (m.peer_nonce ≡ drawn_nonce (peer s))
+
+  -- what it has to know for its SYN
+  abbrev pub Knows : Side → Modes → Type 0
+  Knows A m = HasKey A m
+  Knows B m = HasMet B m
+
+  pub record ModesAre (joined : Bool) (s : Side) (m : Modes) : Type 0 where
+    pub own : m.own_key ≡ drawn_key s
+    pub nonce : m.own_nonce ≡ drawn_nonce s
+    pub peer_is : sure_if joined ≡ true → IfSome m.peer_key (λ key. key ≡ drawn_key (peer s))
+    pub joins : m.owes_third ≡ true → joined ≡ true
+    pub third : sure_if joined ≡ true → m.owes_third ≡ true → HasMet s m
+
+  pub record EndIs (joined : Bool) (s : Side) (e : PathEnd) : Type 0 where
+    pub modes : ModesAre joined s e.modes
+    pub items : Every (ItemIs joined s) e.treated.items
+    pub woken : sure_if joined ≡ true → joined ≡ true → is_woken e ≡ true → Knows s e.modes
+
+  pub met_knows : (s : Side) (m : Modes) → HasMet s m → Knows s m
+  met_knows A m h = h.0
+  met_knows B m h = h
+
+  pub same_knows : (s : Side) (m n : Modes) → known_in n ≡ known_in m → Knows s m → Knows s n
+  same_knows A m n same h = ap (λ (x : Known). x.peer_key) same ∙ h
+  same_knows B m n same h = (ap (λ (x : Known). x.peer_key) same ∙ h.0, ap (λ (x : Known). x.peer_nonce) same ∙ h.1)
+
+  pub knows_key : (s : Side) (m : Modes) → Knows s m → HasKey s m
+  knows_key A m h = h
+  knows_key B m h = h.0
+
+  pub same_modes : (joined : Bool) (s : Side) (m n : Modes) → known_in n ≡ known_in m → ModesAre joined s m → ModesAre joined s n
+  same_modes joined s m n same h = record {
+    own = ap (λ (x : Known). x.own_key) same ∙ h.own;
+    nonce = ap (λ (x : Known). x.own_nonce) same ∙ h.nonce;
+    peer_is = λ sure. subst (λ o. IfSome o (λ key. key ≡ drawn_key (peer s))) (sym (ap (λ (x : Known). x.peer_key) same)) (h.peer_is sure);
+    joins = λ owes. h.joins (sym (ap (λ (x : Known). x.owes_third) same) ∙ owes);
+    third = λ sure owes. let met = h.third sure (sym (ap (λ (x : Known). x.owes_third) same) ∙ owes) in
+        (ap (λ (x : Known). x.peer_key) same ∙ met.0, ap (λ (x : Known). x.peer_nonce) same ∙ met.1);
+  }
+
+  -- an end that knows the same, to which the same was said, and which didn't wake
+  pub same_end : (joined : Bool) (s : Side) (e f : PathEnd) → known_in f.modes ≡ known_in e.modes → f.treated.items ≡ e.treated.items
+      → (is_woken f ≡ true → is_woken e ≡ true) → EndIs joined s e → EndIs joined s f
+  same_end joined s e f same items awake h = record {
+    modes = same_modes joined s e.modes f.modes same h.modes;
+    items = subst (Every (ItemIs joined s)) (sym items) h.items;
+    woken = λ sure is woken. same_knows s e.modes f.modes same (h.woken sure is (awake woken));
   }
 
   -- ---- what it sends
 
-  module _ (c : Profile) (s : Side) (e : PathEnd) (h : EndIs s e) where
-    keys_say : (s : Side) (o : Option ℕ) → e.modes.own_key ≡ drawn_key s → IfSome o (λ key. key ≡ drawn_key (peer s)) → Every (OptionIs s) (key_options c s o e)
-    keys_say A (Some key) own is = every_one _ (own, is)
+  module _ (c : Profile) (s : Side) (e : PathEnd) (h : EndIs (is_joined c) s e) where
+    keys_say : (s : Side) (o : Option ℕ) → e.modes.own_key ≡ drawn_key s → (is_sure_on c ≡ true → IfSome o (λ key. key ≡ drawn_key (peer s)))
+        → Every (OptionIs (is_joined c) s) (key_options c s o e)
+    keys_say A (Some key) own is = every_one _ (λ sure. (own, is sure))
     keys_say A None own is = Every-nil _
     keys_say B o own is = Every-nil _
 
-    ack_options_are : (fin : Option ℕ) → Every (OptionIs s) (ack_options c s fin e)
+    third_is : is_joined c ≡ true → (is_sure_on c ≡ true → HasMet s e.modes) → Every (OptionIs (is_joined c) s) (third_options e.modes)
+    third_is joins met = every_one _ (
+      joins,
+      λ sure.
+          let both = met sure in
+          ap (λ n. join_a160_of n (peer_key_of e.modes) e.modes.own_nonce e.modes.peer_nonce) h.modes.own
+          ∙ ap (λ o. join_a160_of (drawn_key s) (unwrap_or o 0) e.modes.own_nonce e.modes.peer_nonce) both.0
+          ∙ ap (λ n. join_a160_of (drawn_key s) (drawn_key (peer s)) n e.modes.peer_nonce) h.modes.nonce
+          ∙ ap (λ n. join_a160_of (drawn_key s) (drawn_key (peer s)) (drawn_nonce s) n) both.1,
+    )
+
+    opening_is : Every (OptionIs (is_joined c) s) (opening_options c s e)
+    opening_is = by e.modes.owes_third refl
+      where
+        by : (b : Bool) → e.modes.owes_third ≡ b → Every (OptionIs (is_joined c) s) (if b then third_options e.modes else key_options c s e.modes.peer_key e)
+        by true owes = third_is (h.modes.joins owes) (λ sure. h.modes.third sure owes)
+        by false owes = keys_say s e.modes.peer_key h.modes.own h.modes.peer_is
+
+    ack_options_are : (fin : Option ℕ) → Every (OptionIs (is_joined c) s) (ack_options c s fin e)
     ack_options_are fin = by e.modes.clear
       where
-        by : (b : Bool) → Every (OptionIs s) (if b then Dss (Some e.receiving.next) (end_mapping c s fin) ∷ [] else key_options c s e.modes.peer_key e)
+        by : (b : Bool) → Every (OptionIs (is_joined c) s) (if b then Dss (Some e.receiving.next) (end_mapping c s fin) ∷ [] else opening_options c s e)
         by true = every_one _ tt
-        by false = keys_say s e.modes.peer_key h.own h.peer_is
+        by false = opening_is
 
-    syn_options_are : (s : Side) → e.modes.own_key ≡ drawn_key s → Every (OptionIs s) (syn_options c s e)
-    syn_options_are A own = every_one _ tt
-    syn_options_are B own = every_one _ own
-
-    first_are : (o : Option ℕ) (r : Record) → IfSome o (λ key. key ≡ drawn_key (peer s)) → Every (OptionIs s) (first_piece_options c o r e)
-    first_are (Some key) r is = every_one _ (h.own, is)
+    first_are : (o : Option ℕ) (r : Record) → (is_sure_on c ≡ true → IfSome o (λ key. key ≡ drawn_key (peer s)))
+        → Every (OptionIs (is_joined c) s) (first_piece_options c o r e)
+    first_are (Some key) r is = every_one _ (λ sure. (h.modes.own, is sure))
     first_are None r is = Every-nil _
 
-    piece_options_are : (r : Record) → Every (OptionIs s) (piece_options c s r e)
+    piece_options_are : (r : Record) → Every (OptionIs (is_joined c) s) (piece_options c s r e)
     piece_options_are r = by (is_first_piece s r e)
       where
-        by : (b : Bool) → Every (OptionIs s) (if b then first_piece_options c e.modes.peer_key r e else Dss (Some e.receiving.next) (Some (piece_mapping c s r)) ∷ [])
-        by true = first_are e.modes.peer_key r h.peer_is
+        by : (b : Bool) → Every (OptionIs (is_joined c) s) (if b then first_piece_options c e.modes.peer_key r e else Dss (Some e.receiving.next) (Some (piece_mapping c s r)) ∷ [])
+        by true = first_are e.modes.peer_key r h.modes.peer_is
         by false = every_one _ tt
 
-    record_options_are : (kind : RecordKind) (r : Record) → Every (OptionIs s) (record_options kind c s r e)
-    record_options_are Syn r = syn_options_are s h.own
-    record_options_are Data r = piece_options_are r
-    record_options_are Fin r = every_one _ tt
-
-    pub reset_options_are : (reason : Option ℕ) → Every (OptionIs s) (reset_options reason)
+    pub reset_options_are : (reason : Option ℕ) → Every (OptionIs (is_joined c) s) (reset_options reason)
     reset_options_are None = Every-nil _
     reset_options_are (Some reason) = every_one _ tt
 
-    pub ack_is : (position : ℕ) (fin : Option ℕ) → SegmentIs s (ack_said c s position fin e)
+    pub ack_is : (position : ℕ) (fin : Option ℕ) → SegmentIs c s (ack_said c s position fin e)
     ack_is position fin = ack_options_are fin
 
-    pub syn_ack_is : SegmentIs s (syn_ack_said c s e)
-    syn_ack_is = syn_options_are s h.own
+    -- where it knows what it has to, its SYN is right
+    module _ (knows : is_sure_on c ≡ true → is_joined c ≡ true → Knows s e.modes) where
+      capable_is : (s : Side) → e.modes.own_key ≡ drawn_key s → Every (OptionIs false s) (capable_options c s e)
+      capable_is A own = every_one _ (λ is. tt)
+      capable_is B own = every_one _ (λ is. own)
 
-    pub record_or_ack_is : (o : Option Record) → SegmentIs s (record_or_ack c s o e)
-    record_or_ack_is None = ack_options_are None
-    record_or_ack_is (Some r) = record_options_are r.kind r
+      join_is : (s : Side) → e.modes.own_key ≡ drawn_key s → e.modes.own_nonce ≡ drawn_nonce s → (right ≡ true → Knows s e.modes)
+          → Every (OptionIs true s) (join_options c s e.modes)
+      join_is A own nonce has = every_one _ (refl, λ is. (ap (λ o. token_of (unwrap_or o 0)) (has is), nonce))
+      join_is B own nonce has = every_one _ (
+        refl,
+        λ is. let both = has is in (
+          ap (λ n. join_b64_of (peer_key_of e.modes) n e.modes.peer_nonce e.modes.own_nonce) own
+              ∙ ap (λ o. join_b64_of (unwrap_or o 0) k.key_b e.modes.peer_nonce e.modes.own_nonce) both.0
+              ∙ ap (λ n. join_b64_of k.key_a k.key_b n e.modes.own_nonce) both.1
+              ∙ ap (λ n. join_b64_of k.key_a k.key_b k.nonce_a n) nonce,
+          nonce,
+        ),
+      )
+
+      syn_options_are : Every (OptionIs (is_joined c) s) (syn_options c s e)
+      syn_options_are = by (is_joined c) knows
+        where
+          by : (b : Bool) → (sure_if b ≡ true → b ≡ true → Knows s e.modes) → Every (OptionIs b s) (if b then join_options c s e.modes else capable_options c s e)
+          by true has = join_is s h.modes.own h.modes.nonce (λ sure. has sure refl)
+          by false has = capable_is s h.modes.own
+
+      record_options_are : (kind : RecordKind) (r : Record) → Every (OptionIs (is_joined c) s) (record_options kind c s r e)
+      record_options_are Syn r = syn_options_are
+      record_options_are Data r = piece_options_are r
+      record_options_are Fin r = every_one _ tt
+
+      pub syn_ack_is : SegmentIs c s (syn_ack_said c s e)
+      syn_ack_is = syn_options_are
+
+      pub record_or_ack_is : (o : Option Record) → SegmentIs c s (record_or_ack c s o e)
+      record_or_ack_is None = ack_options_are None
+      record_or_ack_is (Some r) = record_options_are r.kind r
 
   -- ---- what a copy says, which the peer sent
 
-  ack_items_are : (s : Side) (next : Option (Option ℕ)) (window : ℕ) → Every (ItemIs s) (ack_items next window)
-  ack_items_are s None window = Every-nil _
-  ack_items_are s (Some None) window = Every-nil _
-  ack_items_are s (Some (Some next)) window = by (nat_lt next (2 ^ 62))
-    where
-      by : (b : Bool) → Every (ItemIs s) (if b then says.DataAck next window ∷ [] else [])
-      by true = every_one _ tt
-      by false = Every-nil _
+  module _ (joined : Bool) where
+    ack_items_are : (s : Side) (next : Option (Option ℕ)) (window : ℕ) → Every (ItemIs joined s) (ack_items next window)
+    ack_items_are s None window = Every-nil _
+    ack_items_are s (Some None) window = Every-nil _
+    ack_items_are s (Some (Some next)) window = by (nat_lt next (2 ^ 62))
+      where
+        by : (b : Bool) → Every (ItemIs joined s) (if b then says.DataAck next window ∷ [] else [])
+        by true = every_one _ tt
+        by false = Every-nil _
 
-  mapping_items_are : (s : Side) (place position len : ℕ) → Every (ItemIs s) (mapping_items place position len)
-  mapping_items_are s place position len = by (is_mapping place position len)
-    where
-      by : (b : Bool) → Every (ItemIs s) (if b then says.Mapping ∷ [] else [])
-      by true = every_one _ tt
-      by false = Every-nil _
+    mapping_items_are : (s : Side) (place position len : ℕ) → Every (ItemIs joined s) (mapping_items place position len)
+    mapping_items_are s place position len = by (is_mapping place position len)
+      where
+        by : (b : Bool) → Every (ItemIs joined s) (if b then says.Mapping ∷ [] else [])
+        by true = every_one _ tt
+        by false = Every-nil _
 
-  end_items_are : (s : Side) (place : ℕ) → Every (ItemIs s) (end_items place)
-  end_items_are s place = by (nat_le place (2 ^ 62))
-    where
-      by : (b : Bool) → Every (ItemIs s) (if b then says.DataFin place ∷ [] else [])
-      by true = every_one _ tt
-      by false = Every-nil _
+    end_items_are : (s : Side) (place : ℕ) → Every (ItemIs joined s) (end_items place)
+    end_items_are s place = by (nat_le place (2 ^ 62))
+      where
+        by : (b : Bool) → Every (ItemIs joined s) (if b then says.DataFin place ∷ [] else [])
+        by true = every_one _ tt
+        by false = Every-nil _
 
-  map_items_are : (s : Side) (o : Option (PathMapping (Option ℕ))) → Every (ItemIs s) (map_items o)
-  map_items_are s None = Every-nil _
-  map_items_are s (Some (Bytes (Some place) (Some position) len false checksum)) = mapping_items_are s place position len
-  map_items_are s (Some (Bytes (Some place) (Some position) len true checksum)) = Every-nil _
-  map_items_are s (Some (Bytes (Some place) None len fin checksum)) = Every-nil _
-  map_items_are s (Some (Bytes None position len fin checksum)) = Every-nil _
-  map_items_are s (Some (End (Some place) checksum)) = end_items_are s place
-  map_items_are s (Some (End None checksum)) = Every-nil _
-  map_items_are s (Some (Infinite place position)) = Every-nil _
+    map_items_are : (s : Side) (o : Option (PathMapping (Option ℕ))) → Every (ItemIs joined s) (map_items o)
+    map_items_are s None = Every-nil _
+    map_items_are s (Some (Bytes (Some place) (Some position) len false checksum)) = mapping_items_are s place position len
+    map_items_are s (Some (Bytes (Some place) (Some position) len true checksum)) = Every-nil _
+    map_items_are s (Some (Bytes (Some place) None len fin checksum)) = Every-nil _
+    map_items_are s (Some (Bytes None position len fin checksum)) = Every-nil _
+    map_items_are s (Some (End (Some place) checksum)) = end_items_are s place
+    map_items_are s (Some (End None checksum)) = Every-nil _
+    map_items_are s (Some (Infinite place position)) = Every-nil _
 
-  key_items_are : (s : Side) (keys : CapableKeys) → KeysAre (peer s) keys → Every (ItemIs s) (key_items s keys)
-  key_items_are A NoKey h = Every-nil _
-  key_items_are A (Sender sender) h = every_one _ h
-  key_items_are A (Both sender receiver) h = Every-nil _
-  key_items_are A (WithData sender receiver len checksum) h = Every-nil _
-  key_items_are B NoKey h = Every-nil _
-  key_items_are B (Sender sender) h = Every-nil _
-  key_items_are B (Both sender receiver) h = every_one _ (h.1, h.0)
-  key_items_are B (WithData sender receiver len checksum) h = Every-append {xs = says.Keys receiver sender ∷ []} (every_one _ (h.1, h.0)) (mapping_items_are B 0 1 len)
+    key_items_are : (s : Side) (keys : CapableKeys) → KeysAre (peer s) keys → Every (ItemIs joined s) (key_items s keys)
+    key_items_are A NoKey h = Every-nil _
+    key_items_are A (Sender sender) h = every_one _ h
+    key_items_are A (Both sender receiver) h = Every-nil _
+    key_items_are A (WithData sender receiver len checksum) h = Every-nil _
+    key_items_are B NoKey h = Every-nil _
+    key_items_are B (Sender sender) h = Every-nil _
+    key_items_are B (Both sender receiver) h = every_one _ (h.1, h.0)
+    key_items_are B (WithData sender receiver len checksum) h = Every-append {xs = says.Keys receiver sender ∷ []} (every_one _ (h.1, h.0)) (mapping_items_are B 0 1 len)
 
-  items_in_are : (s : Side) (window : ℕ) (o : PlainOption) → OptionIs (peer s) o → Every (ItemIs s) (items_in s window (meant_option o))
-  items_in_are s window (Capable flag_a flag_c keys) h = key_items_are s keys h
-  items_in_are s window (Dss next mapping) h =
-      Every-append {xs = says.Dss ∷ []} (every_one _ tt) (Every-append (ack_items_are s (option_map (λ n. Some n) next) window) (map_items_are s (option_map meant_mapping mapping)))
-  items_in_are s window (Join form) h = Every-nil _
-  items_in_are s window (AddAddr echo id address port hmac) h = Every-nil _
-  items_in_are s window (Remove ids) h = Every-nil _
-  items_in_are s window (Prio backup) h = Every-nil _
-  items_in_are s window (Fail place) h = Every-nil _
-  items_in_are s window (FastClose key) h = Every-nil _
-  items_in_are s window (Reset transient reason) h = Every-nil _
+    join_items_are : (s : Side) (form : JoinForm) → (joined ≡ true) × (sure_if joined ≡ true → JoinIs (peer s) form) → Every (ItemIs joined s) (join_items s form)
+    join_items_are A (Answer backup id hmac nonce) h = every_one _ h
+    join_items_are A (JoinSyn backup id token nonce) h = Every-nil _
+    join_items_are A (Third hmac) h = Every-nil _
+    join_items_are B (JoinSyn backup id token nonce) h = every_one _ h
+    join_items_are B (Third hmac) h = every_one _ h
+    join_items_are B (Answer backup id hmac nonce) h = Every-nil _
 
-  all_items : (s : Side) (window : ℕ) (options : List PlainOption) → Every (OptionIs (peer s)) options → Every (ItemIs s) (flat_map (items_in s window) (map meant_option options))
-  all_items s window [] h = Every-nil _
-  all_items s window (o ∷ options) h =
-      Every-append (items_in_are s window o (h.each 0 o refl)) (all_items s window options (record { each = λ i x at. h.each (suc i) x at }))
+  -- MP_CAPABLE says nothing on a path that joins
+  capable_heard : (joined : Bool) (s : Side) (keys : CapableKeys) → (sure_if joined ≡ true → KeysAre (peer s) keys)
+      → Every (ItemIs joined s) (if joined then [] else key_items s keys)
+  capable_heard true s keys h = Every-nil _
+  capable_heard false s keys h = key_items_are false s keys (h refl)
 
-  pub items_are : (s : Side) (sg : PlainSegment) → SegmentIs (peer s) sg → Every (ItemIs s) (items_of s (meant sg))
-  items_are s sg h =
-      let all = all_items s (meant sg).window sg.options h in
-      record { each = λ i x at. all.each i x (in_take 10 _ i x at).0 }
+  module _ (joined : Bool) where
+    items_in_are : (s : Side) (window : ℕ) (o : PlainOption) → OptionIs joined (peer s) o
+        → Every (ItemIs joined s) (items_in joined s window (meant_option o))
+    items_in_are s window (Capable flag_a flag_c keys) h = capable_heard joined s keys h
+    items_in_are s window (Dss next mapping) h =
+        Every-append {xs = says.Dss ∷ []} (every_one _ tt)
+        (Every-append (ack_items_are joined s (option_map (λ n. Some n) next) window) (map_items_are joined s (option_map meant_mapping mapping)))
+    items_in_are s window (Join form) h = join_items_are joined s form h
+    items_in_are s window (AddAddr echo id address port hmac) h = Every-nil _
+    items_in_are s window (Remove ids) h = Every-nil _
+    items_in_are s window (Prio backup) h = Every-nil _
+    items_in_are s window (Fail place) h = Every-nil _
+    items_in_are s window (FastClose key) h = Every-nil _
+    items_in_are s window (Reset transient reason) h = Every-nil _
+
+    all_items : (s : Side) (window : ℕ) (options : List PlainOption) → Every (OptionIs joined (peer s)) options
+        → Every (ItemIs joined s) (flat_map (items_in joined s window) (map meant_option options))
+    all_items s window [] h = Every-nil _
+    all_items s window (o ∷ options) h =
+        Every-append (items_in_are s window o (h.each 0 o refl)) (all_items s window options (record { each = λ i x at. h.each (suc i) x at }))
+
+    pub items_are : (s : Side) (sg : PlainSegment) → Every (OptionIs joined (peer s)) sg.options → Every (ItemIs joined s) (items_of joined s (meant sg))
+    items_are s sg h =
+        let all = all_items s (meant sg).window sg.options h in
+        record { each = λ i x at. all.each i x (in_take 10 _ i x at).0 }

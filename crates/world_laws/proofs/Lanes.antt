@@ -1,7 +1,8 @@
--- What the two directions of a connection with path 0 alone show of its world, and what a step of the world is there: moves of the
--- lanes, at most one call of a book, and moves again.
-use Rattle.std.proofs.Common.{◌≡◌, refl, sym, ◌∙◌, false, Option, Some, None, List, [], ◌∷◌, ◌++◌}
-use Rattle.std.specs.List.{slice_get}
+-- What the two directions of a connection show of its world, and what a step of the world is there: moves of the lanes, at most
+-- one call of a book, and moves again.
+use Rattle.std.proofs.Common.{◌≡◌, refl, sym, ◌∙◌, ℕ, zero, suc, ◌<◌, ◌⊎◌, Bool, true, false, Option, Some, None, List, [], ◌∷◌, ◌++◌, length, set}
+use Rattle.std.specs.List.{slice_get, list_all}
+use Rattle.std.proofs.lemmas.Bool.{and_parts, and_from}
 use Rattle.outside_kit.specs.declared.side.Side.TheVariants.{A, B}
 use Rattle.send_book.specs.declared.call.SendCall.{SendCall}
 use Rattle.send_book.specs.declared.call.SendCall.TheVariants as send_calls
@@ -13,51 +14,112 @@ use Rattle.stream_lanes.specs.Moves.{Move}
 use Rattle.stream_lanes.specs.Streams.{Reader, Direction, StreamEvent, is_done}
 use Rattle.stream_lanes.specs.Streams.StreamEvent.{Write, Close, Return, Read, Moves, Asks}
 use Rattle.stream_lanes.specs.Duo.{Modes, Duo, Event, after_event, after_events, opening}
-use Rattle.stream_lanes.specs.Duo.Event.{ToB, ToA}
+use Rattle.stream_lanes.specs.Duo.Event.{ToB, ToA, BeginJoin, SendJoin, HearJoin}
 use Rattle.stream_lanes.specs.Holding.{Holds}
+use Rattle.stream_lanes.specs.Words.{Every, From}
 use Rattle.actor_desk.specs.declared.ask.Ask.{Ask}
 use Rattle.actor_desk.specs.declared.ask.Ask.TheVariants as asks
 use Rattle.actor_desk.specs.Books.{books_in}
 use Rattle.actor_desk.specs.Desk.{SixBooks}
+use Rattle.path_core.specs.State.{PathState}
 use Rattle.path_core.specs.Turns.{IsSettled}
 use Rattle.path_core.specs.Values.{Carried, values}
-use Rattle.world_laws.specs.Actors.{ActorCrew, member_asks}
-use Rattle.world_laws.specs.Openings.{Start, opened_world}
+use Rattle.control_book.specs.Replies.{is_sure}
+use Rattle.world_laws.specs.declared.member.Member.TheVariants.{App, Path}
+use Rattle.world_laws.specs.Actors.{Actor, ActorCrew, member_asks}
+use Rattle.world_laws.specs.Openings.{PathPlan, Start, path_begins, opened_world}
 use Rattle.world_laws.specs.Promises.{IsPlain}
 use Rattle.world_laws.specs.Worlds.{WorldState, Turn, after_turn, world_run}
 use Rattle.world_laws.proofs.Applying.{Reads}
+use Rattle.world_laws.proofs.Asleep.{IsAsleep}
+use Rattle.world_laws.proofs.Casts.{Walker, Cast, world_of, Fare}
+use Rattle.world_laws.proofs.PlacesSent.{KnowsThose}
 use Rattle.world_laws.proofs.Roads.{direction}
 use Rattle.world_laws.proofs.Showing.{PathShows}
-use Rattle.world_laws.proofs.Trios.{Trio, world_of, Fare}
 
 -- ---- what is shown
 
--- no side fell back, and no join was begun
-abbrev pub no_modes : Modes
-no_modes = record { plain_a = false; plain_b = false; begun = false; join_sent = false; answered = false }
+-- no side fell back; whether a join was begun, sent and answered
+abbrev pub modes_by : Bool → Modes
+modes_by joined = record { plain_a = false; plain_b = false; begun = joined; join_sent = joined; answered = joined }
 
--- the books of a world in the two directions, with a lane each
-abbrev pub duo_of : SixBooks → Lane → Lane → Reader → Reader → Duo
-duo_of six ab ba reader_a reader_b = record {
-  modes = no_modes;
-  ab = direction six.send_a six.reassembly_b ab reader_b;
-  ba = direction six.send_b six.reassembly_a ba reader_a;
+-- the books of a world in the two directions, with a lane for each path
+abbrev pub duo_of : Bool → SixBooks → List Lane → List Lane → Reader → Reader → Duo
+duo_of joined six lanes_ab lanes_ba reader_a reader_b = record {
+  modes = modes_by joined;
+  ab = direction six.send_a six.reassembly_b lanes_ab reader_b;
+  ba = direction six.send_b six.reassembly_a lanes_ba reader_a;
 }
 
--- The directions have the books, each reader is what the steps of its application say, and the path shows on its lanes.
-pub record WorldShows (start : Start) (d : Duo) (w : WorldState Carried) : Type 0 where
-  pub trio : Trio Carried
-  pub is : w ≡ world_of trio
-  pub fare : Fare start trio
-  pub settled : IsSettled trio.p
-  pub ab : Lane
-  pub ba : Lane
+-- what there is beside the lanes of one path: whether a join was answered, the number of the path, the other lanes, and what the
+-- readers got
+pub record Others : Type 0 where
+  pub joined : Bool
+  pub number : ℕ
+  pub lanes_ab : List Lane
+  pub lanes_ba : List Lane
+  pub within_ab : number < length lanes_ab
+  pub within_ba : number < length lanes_ba
   pub reader_a : Reader
   pub reader_b : Reader
-  pub duo_is : d ≡ duo_of (books_in trio.books) ab ba reader_a reader_b
-  pub reads_a : Reads trio.a.told trio.at_a.list reader_a
-  pub reads_b : Reads trio.b.told trio.at_b.list reader_b
-  pub path : PathShows start.profile trio.p ab ba
+
+-- with these lanes of that path
+abbrev pub duo_at : SixBooks → Lane → Lane → Others → Duo
+duo_at six ab ba others =
+    duo_of others.joined six (set others.lanes_ab others.number ab) (set others.lanes_ba others.number ba) others.reader_a others.reader_b
+
+-- The lanes of a path that joins are open, or it wasn't begun; and A was granted nothing as long as it may send no DSS.
+pub record JoinsSo (p : PathState Carried) (ab ba : Lane) : Type 0 where
+  pub opened : ((ab.opened ≡ true) × (ba.opened ≡ true)) ⊎ IsAsleep p
+  pub unsent : p.a.modes.clear ≡ false → ab.sent ≡ []
+
+-- Path 0 has open lanes.
+abbrev pub StandsSo : ℕ → PathState Carried → Lane → Lane → Type 0
+StandsSo zero p ab ba = (ab.opened ≡ true) × (ba.opened ≡ true)
+StandsSo (suc number) p ab ba = JoinsSo p ab ba
+
+-- on path 0 A may send a DSS
+abbrev pub FirstIsClear : List (Walker Carried) → Type 0
+FirstIsClear paths = (x : Walker Carried) → slice_get paths 0 ≡ Some x → x.path.a.modes.clear ≡ true
+
+-- A path shows on the two lanes with its number.
+pub record PathThere (start : Start) (lanes_ab lanes_ba : List Lane) (number : ℕ) (p : PathState Carried) : Type 0 where
+  pub plan : PathPlan
+  pub plan_there : slice_get start.paths number ≡ Some plan
+  pub numbered : p.link.path ≡ number
+  pub ab : Lane
+  pub ba : Lane
+  pub ab_there : slice_get lanes_ab number ≡ Some ab
+  pub ba_there : slice_get lanes_ba number ≡ Some ba
+  pub shows : PathShows (path_begins start number plan).profile p ab ba
+  pub stands : StandsSo number p ab ba
+  pub knows : KnowsThose ab ba p
+
+-- The directions have the books, each reader is what the steps of its application say, and each path shows on its lanes.
+pub record WorldShows (start : Start) (d : Duo) (w : WorldState Carried) : Type 0 where
+  pub cast : Cast Carried
+  pub is : w ≡ world_of cast
+  pub fare : Fare start cast
+  pub settled : Every (λ x. IsSettled x.path) cast.paths
+  -- no join was answered before A could send a DSS on path 0
+  pub joined : Bool
+  pub clear : joined ≡ true → FirstIsClear cast.paths
+  pub lanes_ab : List Lane
+  pub lanes_ba : List Lane
+  pub reader_a : Reader
+  pub reader_b : Reader
+  pub duo_is : d ≡ duo_of joined (books_in cast.books) lanes_ab lanes_ba reader_a reader_b
+  pub reads_a : Reads cast.a.told cast.at_a.list reader_a
+  pub reads_b : Reads cast.b.told cast.at_b.list reader_b
+  pub paths : From (λ number x. PathThere start lanes_ab lanes_ba number x.path) 0 cast.paths
+
+-- A's side is sure of Multipath TCP only where A may send a DSS on path 0.
+abbrev pub IsClearAt : Actor Carried → Type 0
+IsClearAt (App a) = Unit {0}
+IsClearAt (Path p) = p.a.modes.clear ≡ true
+
+abbrev pub SureIsClear : WorldState Carried → Type 0
+SureIsClear w = is_sure (books_in w.books).control_a.fall.mode ≡ true → (c : ActorCrew Carried) → slice_get w.crew 2 ≡ Some c → IsClearAt c.member
 
 -- ---- what a turn is
 
@@ -70,28 +132,34 @@ abbrev pub asked_in : Turn → WorldState Carried → Option Ask
 asked_in (Turn.Step actor) w = asked_by (slice_get w.crew actor)
 asked_in Turn.Round w = None
 
--- the lane of path 0 is about to ask this
-pub record IsAsking (ask : LaneAsk) (d : Direction) : Type 0 where
+-- the lane of a path is about to ask this
+pub record IsAsking (path : ℕ) (ask : LaneAsk) (d : Direction) : Type 0 where
   pub lane : Lane
-  pub there : slice_get d.lanes 0 ≡ Some lane
+  pub there : slice_get d.lanes path ≡ Some lane
   pub asks : lane.asking ≡ ask
+
+-- the event is that a lane asks this
+pub record LaneAsks (ask : LaneAsk) (d : Direction) (event : StreamEvent) : Type 0 where
+  pub path : ℕ
+  pub event_is : event ≡ Asks path
+  pub asking : IsAsking path ask d
 
 -- a call of a book is this event of its direction; no other call is ever asked
 abbrev pub SendCallIs : SendCall → Direction → StreamEvent → Type 0
 SendCallIs (send_calls.Write bytes) d event = event ≡ Write bytes
 SendCallIs send_calls.Close d event = event ≡ Close
-SendCallIs (send_calls.Grant path max standby) d event = (path ≡ 0) × (event ≡ Asks 0) × IsAsking (AskGrant max standby) d
-SendCallIs (send_calls.AckIn next window) d event = (event ≡ Asks 0) × IsAsking (AskAckIn next window) d
+SendCallIs (send_calls.Grant path max standby) d event = (event ≡ Asks path) × IsAsking path (AskGrant max standby) d
+SendCallIs (send_calls.AckIn next window) d event = LaneAsks (AskAckIn next window) d event
 SendCallIs (send_calls.Return path) d event = event ≡ Return path
 SendCallIs send_calls.GoIdentity d event = ⊥
 SendCallIs (send_calls.GoInfinite path) d event = ⊥
 SendCallIs send_calls.Abort d event = ⊥
 
 abbrev pub ReassemblyCallIs : ReassemblyCall → Direction → StreamEvent → Type 0
-ReassemblyCallIs (reassembly_calls.Place at bytes) d event = (event ≡ Asks 0) × IsAsking (AskPlace at bytes) d
-ReassemblyCallIs (reassembly_calls.Fin at) d event = (event ≡ Asks 0) × IsAsking (AskFin at) d
+ReassemblyCallIs (reassembly_calls.Place at bytes) d event = LaneAsks (AskPlace at bytes) d event
+ReassemblyCallIs (reassembly_calls.Fin at) d event = LaneAsks (AskFin at) d event
 ReassemblyCallIs (reassembly_calls.Read most) d event = (event ≡ Read most) × (is_done d.reader ≡ false)
-ReassemblyCallIs reassembly_calls.AckOut d event = (event ≡ Asks 0) × IsAsking AskAckOut d
+ReassemblyCallIs reassembly_calls.AckOut d event = LaneAsks AskAckOut d event
 ReassemblyCallIs (reassembly_calls.Abort by_peer) d event = ⊥
 
 -- what is asked is this event; a control book and a local step are none
@@ -104,21 +172,51 @@ CallIs (Some (asks.Reassembly B c)) d call = (event : StreamEvent) × (call ≡ 
 CallIs (Some (asks.Control s c)) d call = call ≡ None
 CallIs (Some (asks.Local step)) d call = call ≡ None
 
--- moves of the lanes from A to B, and then of those from B to A
+-- ---- moves
+
+-- a lane of a path moves, or the sides go on with joins: no book is called
+abbrev pub is_silent : Event → Bool
+is_silent (ToB (Moves path m)) = true
+is_silent (ToA (Moves path m)) = true
+is_silent BeginJoin = true
+is_silent SendJoin = true
+is_silent HearJoin = true
+is_silent _ = false
+
+abbrev pub AreSilent : List Event → Type 0
+AreSilent events = list_all is_silent events ≡ true
+
+-- moves of a path's lane from A to B, and then of that from B to A
 pub record LaneMoves : Type 0 where
+  pub path : ℕ
   pub ab : List Move
   pub ba : List Move
 
-abbrev pub moves_to_b : List Move → List Event
-moves_to_b [] = []
-moves_to_b (m ∷ ms) = ToB (Moves 0 m) ∷ moves_to_b ms
+abbrev pub moves_to_b : ℕ → List Move → List Event
+moves_to_b path [] = []
+moves_to_b path (m ∷ ms) = ToB (Moves path m) ∷ moves_to_b path ms
 
-abbrev pub moves_to_a : List Move → List Event
-moves_to_a [] = []
-moves_to_a (m ∷ ms) = ToA (Moves 0 m) ∷ moves_to_a ms
+abbrev pub moves_to_a : ℕ → List Move → List Event
+moves_to_a path [] = []
+moves_to_a path (m ∷ ms) = ToA (Moves path m) ∷ moves_to_a path ms
 
 abbrev pub move_events : LaneMoves → List Event
-move_events ms = moves_to_b ms.ab ++ moves_to_a ms.ba
+move_events ms = moves_to_b ms.path ms.ab ++ moves_to_a ms.path ms.ba
+
+pub silent_append : (xs ys : List Event) → AreSilent xs → AreSilent ys → AreSilent (xs ++ ys)
+silent_append [] ys a b = b
+silent_append (x ∷ xs) ys a b = let parts = and_parts (is_silent x) (list_all is_silent xs) a in and_from (is_silent x) (list_all is_silent (xs ++ ys)) parts.0 (silent_append xs ys parts.1 b)
+
+to_b_silent : (path : ℕ) (ms : List Move) → AreSilent (moves_to_b path ms)
+to_b_silent path [] = refl
+to_b_silent path (m ∷ ms) = to_b_silent path ms
+
+to_a_silent : (path : ℕ) (ms : List Move) → AreSilent (moves_to_a path ms)
+to_a_silent path [] = refl
+to_a_silent path (m ∷ ms) = to_a_silent path ms
+
+pub moves_silent : (ms : LaneMoves) → AreSilent (move_events ms)
+moves_silent ms = silent_append (moves_to_b ms.path ms.ab) (moves_to_a ms.path ms.ba) (to_b_silent ms.path ms.ab) (to_a_silent ms.path ms.ba)
 
 abbrev pub call_events : Option Event → List Event
 call_events None = []
@@ -126,17 +224,23 @@ call_events (Some event) = event ∷ []
 
 -- The connection goes from one state to another by moves of its lanes, the call that was asked, and moves.
 pub record TurnShows (ask : Option Ask) (d e : Duo) : Type 0 where
-  pub before : LaneMoves
+  pub before : List Event
+  pub before_silent : AreSilent before
   pub call : Option Event
-  pub after : LaneMoves
-  pub calls : CallIs ask (after_events (move_events before) d) call
-  pub to : e ≡ after_events (move_events after) (after_events (call_events call) (after_events (move_events before) d))
+  pub after : List Event
+  pub after_silent : AreSilent after
+  pub calls : CallIs ask (after_events before d) call
+  pub to : e ≡ after_events after (after_events (call_events call) (after_events before d))
 
 -- ---- the two laws, and what follows
 
--- moves of the two lanes before the first turn
+-- the connection of so many paths, before anything happens
+abbrev pub first_duo : Start → Duo
+first_duo start = opening (length start.paths) start.buffer start.buffer
+
+-- moves of the lanes before the first turn
 abbrev pub OpenedShows : Start → Type 0
-OpenedShows start = (events : List Event) × WorldShows start (after_events events (opening 1 start.profile.buffer start.profile.buffer)) (opened_world start)
+OpenedShows start = (events : List Event) × WorldShows start (after_events events (first_duo start)) (opened_world start)
 
 pub record Shown (start : Start) (turn : Turn) (d : Duo) (w : WorldState Carried) : Type 0 where
   pub duo : Duo
@@ -149,12 +253,12 @@ EachOpeningShows = (start : Start) → IsPlain start → OpenedShows start
 
 -- and every turn keeps it, lawful or not
 abbrev pub EachTurnShows : Type 0
-EachTurnShows = (start : Start) → IsPlain start → (turn : Turn) (d : Duo) (w : WorldState Carried) → Holds d → WorldShows start d w → Shown start turn d w
+EachTurnShows = (start : Start) → IsPlain start → (turn : Turn) (d : Duo) (w : WorldState Carried) → SureIsClear w → Holds d → WorldShows start d w → Shown start turn d w
 
 -- after each list of turns the world shows in a connection that comes about by events from the opening
 pub record Reached (start : Start) (w : WorldState Carried) : Type 0 where
   pub events : List Event
-  pub shows : WorldShows start (after_events events (opening 1 start.profile.buffer start.profile.buffer)) w
+  pub shows : WorldShows start (after_events events (first_duo start)) w
 
 abbrev pub EachRunShows : Type 0
 EachRunShows = (start : Start) → IsPlain start → (turns : List Turn) → Reached start (world_run values turns (opened_world start))
@@ -166,10 +270,10 @@ events_append [] ys d = refl
 events_append (event ∷ xs) ys d = events_append xs ys (after_event event d)
 
 abbrev pub turn_events : {ask : Option Ask} {d e : Duo} → TurnShows ask d e → List Event
-turn_events t = move_events t.before ++ (call_events t.call ++ move_events t.after)
+turn_events t = t.before ++ (call_events t.call ++ t.after)
 
 -- a turn is these events
 pub turn_is : {ask : Option Ask} {d e : Duo} (t : TurnShows ask d e) → e ≡ after_events (turn_events t) d
 turn_is {d = d} t =
-    t.to ∙ sym (events_append (call_events t.call) (move_events t.after) (after_events (move_events t.before) d))
-    ∙ sym (events_append (move_events t.before) (call_events t.call ++ move_events t.after) d)
+    t.to ∙ sym (events_append (call_events t.call) t.after (after_events t.before d))
+    ∙ sym (events_append t.before (call_events t.call ++ t.after) d)

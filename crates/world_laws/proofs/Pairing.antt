@@ -15,11 +15,12 @@ use Rattle.actor_desk.specs.Journals.{is_local, send_note, reassembly_note, cont
 use Rattle.path_core.specs.Codec.{Codec}
 use Rattle.world_laws.specs.Actors.{Actor, ActorCrew, member_asks}
 use Rattle.world_laws.specs.Laws.{StaysFine}
-use Rattle.world_laws.specs.Openings.{Start, new_crew, opened_world}
+use Rattle.world_laws.specs.Openings.{PathPlan, Start, new_crew, new_path, paths_from, opened_world}
 use Rattle.world_laws.specs.Fine.{BooksAreStamped, IsChainedAbove, IsFineCrew, lists_of, IsFine}
 use Rattle.actor_desk.specs.Books.{StampedBooks, after_entry}
 use Rattle.world_laws.specs.StampedBooks.{journals_of}
 use Rattle.world_laws.specs.Worlds.{WorldState, Turn, note_of, crew_after, asked, stepped, world_step, all_over, greatest, begins, end_round, after_turn, world_run}
+use Rattle.world_laws.proofs.Opened.{opened_actors}
 use Rattle.world_laws.proofs.Occurring.{Occurs, Pairs, Grown, paired_from, pairs_from, pairs_grow, pairs_local, grown_here, grown_later}
 use Rattle.world_laws.proofs.Chaining.{stamp_rises, local_stamp, last_noted-more, NotesRise-more, stamps_below, stamps_above, chained_more, chained_anew, entries_above, stamped_more}
 
@@ -201,17 +202,24 @@ module _ {C : Type 0} where
     paired = λ after. paired_from after _ _ (record { notes = no_note; entries = no_entry });
   }
     where
+      path_fine : (number : ℕ) (plan : PathPlan) → IsFineCrew {C = C} 0 (suc (suc number)) (new_path {C = C} start number plan)
+      path_fine number plan =
+          let same : 2 + number ≡ suc (suc number) = omega arith in subst (λ n. IsFineCrew {C = C} 0 n (new_path {C = C} start number plan)) same (new_fine (2 + number) _)
+
       at : (i n : ℕ) (c : ActorCrew C) → n ≡ 0 + i → slice_get (opened_world {C = C} start).crew i ≡ Some c → IsFineCrew 0 n c
-      at zero n c n_is there = let number : 0 ≡ n = omega (arith, n_is) in subst (λ m. IsFineCrew 0 m c) number (subst (IsFineCrew 0 0) (same_Some _ c there) (new_fine 0 _))
-      at (suc zero) n c n_is there = let number : 1 ≡ n = omega (arith, n_is) in subst (λ m. IsFineCrew 0 m c) number (subst (IsFineCrew 0 1) (same_Some _ c there) (new_fine 1 _))
-      at (suc (suc zero)) n c n_is there = let number : 2 ≡ n = omega (arith, n_is) in subst (λ m. IsFineCrew 0 m c) number (subst (IsFineCrew 0 2) (same_Some _ c there) (new_fine 2 _))
-      at (suc (suc (suc i))) n c n_is there = cc
+      at i n c n_is there =
+          let number : i ≡ n = omega (arith, n_is) in
+          subst (λ m. IsFineCrew 0 m c) number (opened_actors (IsFineCrew 0) start (new_fine 0 _) (new_fine 1 _) (λ number plan found. path_fine number plan) i c there)
+
+      no_path : (n : Note) (first : ℕ) (plans : List PathPlan) → Occurs n (lists_of (paths_from {C = C} start first plans)) → ⊥
+      no_path n first [] none = none
+      no_path n first (plan ∷ plans) (inl none) = none
+      no_path n first (plan ∷ plans) (inr more) = no_path n (suc first) plans more
 
       no_note : (n : Note) → Occurs n (lists_of (opened_world {C = C} start).crew) → is_local n.ask ≡ false → Occurs n (journals_of (opened_world {C = C} start).books)
       no_note n (inl none) asks = absurd none
       no_note n (inr (inl none)) asks = absurd none
-      no_note n (inr (inr (inl none))) asks = absurd none
-      no_note n (inr (inr (inr none))) asks = absurd none
+      no_note n (inr (inr none)) asks = absurd (no_path n 0 start.paths none)
 
       no_entry : (n : Note) → Occurs n (journals_of (opened_world {C = C} start).books) → Occurs n (lists_of (opened_world {C = C} start).crew)
       no_entry n (inl none) = absurd none

@@ -16,6 +16,7 @@ use Rattle.path_core.specs.declared.event.Event.{Event}
 use Rattle.path_core.specs.declared.event.Event.TheVariants as happening
 use Rattle.path_agenda.specs.declared.heard.Heard.{Heard}
 use Rattle.path_agenda.specs.declared.heard.Heard.TheVariants as says
+use Rattle.join_handshake.specs.declared.hearing.JoinSyn.{JoinSyn}
 use Rattle.path_agenda.specs.declared.keys.KeyPair.{KeyPair}
 use Rattle.path_core.specs.Breaking.{break_ask, reset_of}
 use Rattle.path_core.specs.Codec.{Codec}
@@ -23,12 +24,14 @@ use Rattle.path_core.specs.Duties.{ask_for}
 use Rattle.path_core.specs.Emission.{first_unsent, data_ask}
 use Rattle.path_core.specs.Events.{next_event, step_for}
 use Rattle.path_agenda.specs.Items.{key_heard, keys_heard}
+use Rattle.path_core.specs.Joining.{asked_at, join_heard_ask}
 use Rattle.path_core.specs.Opening.{peer_key_ask, keys_ask}
 use Rattle.path_core.specs.Passing.{piece_of, piece_ask, fin_of, fin_ask, rate_ask}
 use Rattle.path_core.specs.Placing.{Piece}
 use Rattle.path_core.specs.Sends.{sends}
-use Rattle.path_core.specs.State.{PathState, end_at}
+use Rattle.path_core.specs.State.{PathState, end_at, path_of}
 use Rattle.path_core.specs.Treating.{is_clash, fell_ask, mapping_ask, item_ask, item_of}
+use Rattle.world_laws.proofs.Asking.{AskLeavesFile, asks_leave}
 use Rattle.world_laws.proofs.AskingBooks.{IsQuiet}
 
 -- neither a read nor an abort
@@ -47,8 +50,9 @@ module _ {C : Type 0} (k : Codec C) (p : PathState C) where
   data_is s None = tt
   data_is s (Some r) = tt
 
-  step_is : (o : Option Event) → IsPathAsk (step_for o)
+  step_is : (o : Option Event) → IsPathAsk (step_for (path_of p) o)
   step_is None = tt
+  step_is (Some (happening.Joins tick)) = tt
   step_is (Some (happening.Takes line)) = tt
   step_is (Some (happening.Arrives due)) = tt
   step_is (Some (happening.Fires s tick)) = tt
@@ -60,6 +64,10 @@ module _ {C : Type 0} (k : Codec C) (p : PathState C) where
   keys_are : (s : Side) (o : Option KeyPair) → IsPathAsk (keys_ask s o)
   keys_are s None = tt
   keys_are s (Some keys) = tt
+
+  join_is : (s : Side) (o : Option JoinSyn) → IsPathAsk (join_heard_ask s o p)
+  join_is s None = tt
+  join_is s (Some asked) = tt
 
   break_is : (s : Side) (reason : ℕ) → IsPathAsk (break_ask k s reason p)
   break_is s reason = by (end_at s p).treated.asked
@@ -83,6 +91,7 @@ module _ {C : Type 0} (k : Codec C) (p : PathState C) where
   item_is s (Some (says.DataFin place)) = tt
   item_is s (Some (says.PeerKey key)) = tt
   item_is s (Some (says.Keys own peer)) = tt
+  item_is s (Some (says.Join form)) = tt
 
   piece_is : (s : Side) (o : Option Piece) → IsPathAsk (piece_ask s o)
   piece_is s None = tt
@@ -97,6 +106,7 @@ module _ {C : Type 0} (k : Codec C) (p : PathState C) where
   rate_is s (Some pending) = tt
 
   pub path_asks : (d : Duty) → IsPathAsk (ask_for k d p)
+  path_asks duties.JoinAgain = tt
   path_asks (duties.Look s) = tt
   path_asks (duties.Window s) = tt
   path_asks (duties.Update s) = tt
@@ -110,10 +120,13 @@ module _ {C : Type 0} (k : Codec C) (p : PathState C) where
   path_asks (duties.SynAnswered s) = tt
   path_asks (duties.PeerKey s) = key_is s (key_heard (end_at s p).treated.items)
   path_asks (duties.SynAck s) = tt
+  path_asks (duties.JoinHeard s) = join_is s (asked_at s p)
+  path_asks (duties.Refuse s) = tt
   path_asks (duties.Opened s) = keys_are s (keys_heard (end_at s p).treated.items)
   path_asks (duties.Live s) = tt
   path_asks (duties.Heard s index) = item_is s (item_of index (end_at s p))
   path_asks (duties.AckHeard s) = tt
+  path_asks (duties.PlainAck s) = break_is s 6
   path_asks (duties.Keep s) = tt
   path_asks (duties.Edge s) = piece_is s (piece_of s p)
   path_asks (duties.HeardFin s index) = fin_is s (fin_of index (end_at s p))
@@ -136,15 +149,23 @@ module _ {C : Type 0} (k : Codec C) (p : PathState C) where
 -- ---- of the send books
 
 -- a step at no send book, or a return
-abbrev pub IsQuietAsk : Ask → Type 0
-IsQuietAsk (asks.Send s call) = IsQuiet call
-IsQuietAsk _ = Unit {0}
+abbrev pub IsQuietAsk : ℕ → Ask → Type 0
+IsQuietAsk path (asks.Send s call) = IsQuiet path call
+IsQuietAsk path _ = Unit {0}
 
 -- at a send book of this side alone, and there an acknowledgement
 abbrev pub IsHeardAsk : Side → Ask → Type 0
 IsHeardAsk s (asks.Send t (send_calls.AckIn next window)) = t ≡ s
 IsHeardAsk s (asks.Send t call) = ⊥
 IsHeardAsk s _ = Unit {0}
+
+-- a grant for this path, an acknowledgement, or this path's return
+abbrev pub IsCallOf : ℕ → Ask → Type 0
+IsCallOf path (asks.Send s (send_calls.Grant asker max standby)) = asker ≡ path
+IsCallOf path (asks.Send s (send_calls.AckIn next window)) = Unit {0}
+IsCallOf path (asks.Send s (send_calls.Return asker)) = asker ≡ path
+IsCallOf path (asks.Send s call) = ⊥
+IsCallOf path _ = Unit {0}
 
 -- neither asks for bytes nor hears
 abbrev pub IsQuietDuty : Duty → Type 0
@@ -155,33 +176,46 @@ IsQuietDuty (duties.SynAnswered s) = ⊥
 IsQuietDuty _ = Unit {0}
 
 module _ {C : Type 0} (k : Codec C) (p : PathState C) where
-  step_quiet : (o : Option Event) → IsQuietAsk (step_for o)
+  step_quiet : (o : Option Event) → IsQuietAsk (path_of p) (step_for (path_of p) o)
   step_quiet None = tt
+  step_quiet (Some (happening.Joins tick)) = tt
   step_quiet (Some (happening.Takes line)) = tt
   step_quiet (Some (happening.Arrives due)) = tt
   step_quiet (Some (happening.Fires s tick)) = tt
 
-  key_quiet : (s : Side) (o : Option ℕ) → IsQuietAsk (peer_key_ask s o)
+  key_quiet : (s : Side) (o : Option ℕ) → IsQuietAsk (path_of p) (peer_key_ask s o)
   key_quiet s None = tt
   key_quiet s (Some key) = tt
 
-  keys_quiet : (s : Side) (o : Option KeyPair) → IsQuietAsk (keys_ask s o)
+  keys_quiet : (s : Side) (o : Option KeyPair) → IsQuietAsk (path_of p) (keys_ask s o)
   keys_quiet s None = tt
   keys_quiet s (Some keys) = tt
 
-  piece_quiet : (s : Side) (o : Option Piece) → IsQuietAsk (piece_ask s o)
+  join_quiet : (s : Side) (o : Option JoinSyn) → IsQuietAsk (path_of p) (join_heard_ask s o p)
+  join_quiet s None = tt
+  join_quiet s (Some asked) = tt
+
+  break_quiet : (s : Side) (reason : ℕ) → IsQuietAsk (path_of p) (break_ask k s reason p)
+  break_quiet s reason = by (end_at s p).treated.asked
+    where
+      by : (b : Bool) → IsQuietAsk (path_of p) (if b then asks.Reassembly s reassembly_calls.AckOut else sends k s (reset_of s (Some reason) p) p)
+      by true = tt
+      by false = tt
+
+  piece_quiet : (s : Side) (o : Option Piece) → IsQuietAsk (path_of p) (piece_ask s o)
   piece_quiet s None = tt
   piece_quiet s (Some piece) = tt
 
-  fin_quiet : (s : Side) (o : Option ℕ) → IsQuietAsk (fin_ask s o)
+  fin_quiet : (s : Side) (o : Option ℕ) → IsQuietAsk (path_of p) (fin_ask s o)
   fin_quiet s None = tt
   fin_quiet s (Some place) = tt
 
-  rate_quiet : (s : Side) (o : Option Pending) → IsQuietAsk (rate_ask s o p)
+  rate_quiet : (s : Side) (o : Option Pending) → IsQuietAsk (path_of p) (rate_ask s o p)
   rate_quiet s None = tt
   rate_quiet s (Some pending) = tt
 
-  pub quiet_asks : (d : Duty) → IsQuietDuty d → IsQuietAsk (ask_for k d p)
+  pub quiet_asks : (d : Duty) → IsQuietDuty d → IsQuietAsk (path_of p) (ask_for k d p)
+  quiet_asks duties.JoinAgain q = tt
   quiet_asks (duties.Look s) q = tt
   quiet_asks (duties.Window s) q = tt
   quiet_asks (duties.Update s) q = tt
@@ -195,10 +229,13 @@ module _ {C : Type 0} (k : Codec C) (p : PathState C) where
   quiet_asks (duties.SynAnswered s) q = absurd q
   quiet_asks (duties.PeerKey s) q = key_quiet s (key_heard (end_at s p).treated.items)
   quiet_asks (duties.SynAck s) q = tt
+  quiet_asks (duties.JoinHeard s) q = join_quiet s (asked_at s p)
+  quiet_asks (duties.Refuse s) q = tt
   quiet_asks (duties.Opened s) q = keys_quiet s (keys_heard (end_at s p).treated.items)
   quiet_asks (duties.Live s) q = tt
   quiet_asks (duties.Heard s index) q = absurd q
   quiet_asks (duties.AckHeard s) q = tt
+  quiet_asks (duties.PlainAck s) q = break_quiet s 6
   quiet_asks (duties.Keep s) q = tt
   quiet_asks (duties.Edge s) q = piece_quiet s (piece_of s p)
   quiet_asks (duties.HeardFin s index) q = fin_quiet s (fin_of index (end_at s p))
@@ -209,12 +246,12 @@ module _ {C : Type 0} (k : Codec C) (p : PathState C) where
   quiet_asks (duties.Again s) q = tt
   quiet_asks (duties.Answer s) q = tt
   quiet_asks (duties.ResetAnswer s) q = tt
-  quiet_asks (duties.Return s) q = tt
+  quiet_asks (duties.Return s) q = refl
   quiet_asks (duties.Resend s) q = tt
   quiet_asks (duties.BreakAck s reason) q = tt
   quiet_asks (duties.BreakReset s reason) q = tt
   quiet_asks (duties.Reset s) q = tt
-  quiet_asks (duties.Leave s) q = tt
+  quiet_asks (duties.Leave s) q = refl
   quiet_asks (duties.Dead s) q = tt
   quiet_asks duties.End q = tt
 
@@ -234,3 +271,77 @@ module _ {C : Type 0} (k : Codec C) (p : PathState C) where
   heard_asks s (Some (says.DataFin place)) = tt
   heard_asks s (Some (says.PeerKey key)) = tt
   heard_asks s (Some (says.Keys own peer)) = tt
+  heard_asks s (Some (says.Join form)) = tt
+
+  -- ---- what a path asks of a send book: bytes for itself, an acknowledgement, or it gives its own bytes back
+
+  grant_call : (s : Side) (o : Option Record) → IsCallOf (path_of p) (data_ask k s o p)
+  grant_call s None = refl
+  grant_call s (Some r) = tt
+
+  quiet_call : (ask : Ask) → IsQuietAsk (path_of p) ask → AskLeavesFile ask → IsCallOf (path_of p) ask
+  quiet_call (asks.Send s (send_calls.Write bytes)) quiet leaves = absurd leaves
+  quiet_call (asks.Send s send_calls.Close) quiet leaves = absurd leaves
+  quiet_call (asks.Send s (send_calls.Grant asker max standby)) quiet leaves = absurd quiet
+  quiet_call (asks.Send s (send_calls.AckIn next window)) quiet leaves = tt
+  quiet_call (asks.Send s (send_calls.Return asker)) quiet leaves = quiet
+  quiet_call (asks.Send s send_calls.GoIdentity) quiet leaves = absurd quiet
+  quiet_call (asks.Send s (send_calls.GoInfinite asker)) quiet leaves = absurd quiet
+  quiet_call (asks.Send s send_calls.Abort) quiet leaves = absurd quiet
+  quiet_call (asks.Reassembly s call) quiet leaves = tt
+  quiet_call (asks.Control s call) quiet leaves = tt
+  quiet_call (asks.Local step) quiet leaves = tt
+
+  heard_call : (s : Side) (ask : Ask) → IsHeardAsk s ask → IsCallOf (path_of p) ask
+  heard_call s (asks.Send t (send_calls.AckIn next window)) heard = tt
+  heard_call s (asks.Send t (send_calls.Write bytes)) heard = absurd heard
+  heard_call s (asks.Send t send_calls.Close) heard = absurd heard
+  heard_call s (asks.Send t (send_calls.Grant asker max standby)) heard = absurd heard
+  heard_call s (asks.Send t (send_calls.Return asker)) heard = absurd heard
+  heard_call s (asks.Send t send_calls.GoIdentity) heard = absurd heard
+  heard_call s (asks.Send t (send_calls.GoInfinite asker)) heard = absurd heard
+  heard_call s (asks.Send t send_calls.Abort) heard = absurd heard
+  heard_call s (asks.Reassembly t call) heard = tt
+  heard_call s (asks.Control t call) heard = tt
+  heard_call s (asks.Local step) heard = tt
+
+  pub own_calls : (d : Duty) → IsCallOf (path_of p) (ask_for k d p)
+  own_calls (duties.Data s) = grant_call s (first_unsent (end_at s p))
+  own_calls (duties.Heard s index) = heard_call s (ask_for k (duties.Heard s index) p) (heard_asks s (item_of index (end_at s p)))
+  own_calls (duties.SynHeard s) = tt
+  own_calls (duties.SynAnswered s) = tt
+  own_calls duties.JoinAgain = quiet_call (ask_for k duties.JoinAgain p) (quiet_asks duties.JoinAgain tt) (asks_leave k p duties.JoinAgain)
+  own_calls (duties.Look s) = quiet_call (ask_for k (duties.Look s) p) (quiet_asks (duties.Look s) tt) (asks_leave k p (duties.Look s))
+  own_calls (duties.Window s) = quiet_call (ask_for k (duties.Window s) p) (quiet_asks (duties.Window s) tt) (asks_leave k p (duties.Window s))
+  own_calls (duties.Update s) = quiet_call (ask_for k (duties.Update s) p) (quiet_asks (duties.Update s) tt) (asks_leave k p (duties.Update s))
+  own_calls (duties.Syn s) = quiet_call (ask_for k (duties.Syn s) p) (quiet_asks (duties.Syn s) tt) (asks_leave k p (duties.Syn s))
+  own_calls (duties.DataFin s) = quiet_call (ask_for k (duties.DataFin s) p) (quiet_asks (duties.DataFin s) tt) (asks_leave k p (duties.DataFin s))
+  own_calls (duties.Fin s) = quiet_call (ask_for k (duties.Fin s) p) (quiet_asks (duties.Fin s) tt) (asks_leave k p (duties.Fin s))
+  own_calls (duties.Timer s) = quiet_call (ask_for k (duties.Timer s) p) (quiet_asks (duties.Timer s) tt) (asks_leave k p (duties.Timer s))
+  own_calls (duties.PeerKey s) = quiet_call (ask_for k (duties.PeerKey s) p) (quiet_asks (duties.PeerKey s) tt) (asks_leave k p (duties.PeerKey s))
+  own_calls (duties.SynAck s) = quiet_call (ask_for k (duties.SynAck s) p) (quiet_asks (duties.SynAck s) tt) (asks_leave k p (duties.SynAck s))
+  own_calls (duties.JoinHeard s) = quiet_call (ask_for k (duties.JoinHeard s) p) (quiet_asks (duties.JoinHeard s) tt) (asks_leave k p (duties.JoinHeard s))
+  own_calls (duties.Refuse s) = quiet_call (ask_for k (duties.Refuse s) p) (quiet_asks (duties.Refuse s) tt) (asks_leave k p (duties.Refuse s))
+  own_calls (duties.Opened s) = quiet_call (ask_for k (duties.Opened s) p) (quiet_asks (duties.Opened s) tt) (asks_leave k p (duties.Opened s))
+  own_calls (duties.Live s) = quiet_call (ask_for k (duties.Live s) p) (quiet_asks (duties.Live s) tt) (asks_leave k p (duties.Live s))
+  own_calls (duties.AckHeard s) = quiet_call (ask_for k (duties.AckHeard s) p) (quiet_asks (duties.AckHeard s) tt) (asks_leave k p (duties.AckHeard s))
+  own_calls (duties.PlainAck s) = quiet_call (ask_for k (duties.PlainAck s) p) (quiet_asks (duties.PlainAck s) tt) (asks_leave k p (duties.PlainAck s))
+  own_calls (duties.Keep s) = quiet_call (ask_for k (duties.Keep s) p) (quiet_asks (duties.Keep s) tt) (asks_leave k p (duties.Keep s))
+  own_calls (duties.Edge s) = quiet_call (ask_for k (duties.Edge s) p) (quiet_asks (duties.Edge s) tt) (asks_leave k p (duties.Edge s))
+  own_calls (duties.HeardFin s index) = quiet_call (ask_for k (duties.HeardFin s index) p) (quiet_asks (duties.HeardFin s index) tt) (asks_leave k p (duties.HeardFin s index))
+  own_calls (duties.PassFin s) = quiet_call (ask_for k (duties.PassFin s) p) (quiet_asks (duties.PassFin s) tt) (asks_leave k p (duties.PassFin s))
+  own_calls (duties.AckOut s) = quiet_call (ask_for k (duties.AckOut s) p) (quiet_asks (duties.AckOut s) tt) (asks_leave k p (duties.AckOut s))
+  own_calls (duties.Rate s) = quiet_call (ask_for k (duties.Rate s) p) (quiet_asks (duties.Rate s) tt) (asks_leave k p (duties.Rate s))
+  own_calls (duties.Acknowledge s) = quiet_call (ask_for k (duties.Acknowledge s) p) (quiet_asks (duties.Acknowledge s) tt) (asks_leave k p (duties.Acknowledge s))
+  own_calls (duties.Again s) = quiet_call (ask_for k (duties.Again s) p) (quiet_asks (duties.Again s) tt) (asks_leave k p (duties.Again s))
+  own_calls (duties.Answer s) = quiet_call (ask_for k (duties.Answer s) p) (quiet_asks (duties.Answer s) tt) (asks_leave k p (duties.Answer s))
+  own_calls (duties.ResetAnswer s) = quiet_call (ask_for k (duties.ResetAnswer s) p) (quiet_asks (duties.ResetAnswer s) tt) (asks_leave k p (duties.ResetAnswer s))
+  own_calls (duties.Return s) = quiet_call (ask_for k (duties.Return s) p) (quiet_asks (duties.Return s) tt) (asks_leave k p (duties.Return s))
+  own_calls (duties.Resend s) = quiet_call (ask_for k (duties.Resend s) p) (quiet_asks (duties.Resend s) tt) (asks_leave k p (duties.Resend s))
+  own_calls (duties.BreakAck s reason) = quiet_call (ask_for k (duties.BreakAck s reason) p) (quiet_asks (duties.BreakAck s reason) tt) (asks_leave k p (duties.BreakAck s reason))
+  own_calls (duties.BreakReset s reason) = quiet_call (ask_for k (duties.BreakReset s reason) p) (quiet_asks (duties.BreakReset s reason) tt) (asks_leave k p (duties.BreakReset s reason))
+  own_calls (duties.Reset s) = quiet_call (ask_for k (duties.Reset s) p) (quiet_asks (duties.Reset s) tt) (asks_leave k p (duties.Reset s))
+  own_calls (duties.Leave s) = quiet_call (ask_for k (duties.Leave s) p) (quiet_asks (duties.Leave s) tt) (asks_leave k p (duties.Leave s))
+  own_calls (duties.Dead s) = quiet_call (ask_for k (duties.Dead s) p) (quiet_asks (duties.Dead s) tt) (asks_leave k p (duties.Dead s))
+  own_calls duties.Events = quiet_call (ask_for k duties.Events p) (quiet_asks duties.Events tt) (asks_leave k p duties.Events)
+  own_calls duties.End = quiet_call (ask_for k duties.End p) (quiet_asks duties.End tt) (asks_leave k p duties.End)

@@ -31,7 +31,10 @@ use Rattle.path_agenda.specs.declared.duty.Duty.{Duty}
 use Rattle.path_agenda.specs.declared.duty.Duty.TheVariants as duties
 use Rattle.path_agenda.specs.declared.heard.Heard.{Heard}
 use Rattle.path_agenda.specs.declared.heard.Heard.TheVariants as says
-use Rattle.path_agenda.specs.Agenda.{leaves, resets, start_of_turn}
+use Rattle.path_agenda.specs.Agenda.{emission, leaves, resets, start_of_turn}
+use Rattle.path_agenda.specs.Words.{replaced}
+use Rattle.path_agenda.specs.declared.keys.KeyPair.{KeyPair}
+use Rattle.join_handshake.specs.declared.hearing.JoinSyn.{JoinSyn}
 use Rattle.path_core.specs.declared.event.Event.{Event}
 use Rattle.path_core.specs.declared.event.Event.TheVariants as happenings
 use Rattle.path_core.specs.Arriving.{held_of}
@@ -39,16 +42,17 @@ use Rattle.path_core.specs.Breaking.{reset_of, reset_on, answered_break}
 use Rattle.path_core.specs.Duties.{stands, passed, answered}
 use Rattle.path_core.specs.Emission.{Grant, grant_in, answered_grant, answered_data, first_unsent}
 use Rattle.path_core.specs.Ends.{PathEnd, Receiving}
-use Rattle.path_core.specs.Events.{next_event, heard_in, at_tick, died, died_unless_dead, is_death, after_line, copy_heard, happens_if}
+use Rattle.path_core.specs.Events.{next_event, heard_in, at_tick, died, died_unless_dead, is_death, after_line, copy_heard, happens_if, join_begun}
+use Rattle.path_core.specs.Joining.{asked_at, is_never, join_taken, keys_begun, opened_by}
 use Rattle.path_core.specs.Passing.{is_placed, piece_of, answered_piece, is_fin_set, answered_fin_heard}
 use Rattle.path_core.specs.Placing.{Piece, with_learned, with_skipped, is_wrong, forgotten_by}
 use Rattle.path_core.specs.Sends.{sent_on}
 use Rattle.path_core.specs.Standing.{window_in, answered_ack_out}
-use Rattle.path_core.specs.State.{PathState, end_at, with_end, with_agenda, goes_on}
+use Rattle.path_core.specs.State.{PathState, end_at, with_end, with_agenda, goes_on, left}
 use Rattle.path_core.specs.Steps.{settled, answers, takes, begins_turn}
 use Rattle.path_core.specs.Treating.{counts, is_clash, after_verdict, with_fin, answered_heard, answered_item, item_of, item_passed}
 use Rattle.path_core.specs.Values.{Carried, values}
-use Rattle.world_laws.proofs.KeysKept.{find_every, one_side}
+use Rattle.world_laws.proofs.Finding.{find_every, one_side}
 
 -- ---- mappings
 
@@ -170,6 +174,7 @@ module _ (R : Side → ℕ → ℕ → Type 0) where
       by false = h
   item_knows s (Some (says.PeerKey key)) e h = h
   item_knows s (Some (says.Keys own other)) e h = h
+  item_knows s (Some (says.Join form)) e h = h
 
   check_knows : (s : Side) (checksums : Bool) (o : Option KeptMapping) (e : PathEnd) → EndKnows s e → EndKnows s (forgotten_by checksums o e)
   check_knows s checksums None e h = h
@@ -214,11 +219,24 @@ module _ (R : Side → ℕ → ℕ → Type 0) where
   copy_knows s None q p tell h = agenda _ p h
   copy_knows s (Some f) q p tell h = goes s _ _ p (hold_knows (R s) _ (end_at s p).receiving.mappings (tell f refl) (end_knows s p h)) h
 
-  event_knows : (o : Option Event) (p : PathState Carried) → CopiesTell p → PathKnows p → PathKnows (happens_if values o p)
-  event_knows None p tell h = agenda _ p h
-  event_knows (Some (happenings.Takes line)) p tell h =
+  -- A begins a join, or waits on
+  begun_knows : (r : Reply) (dead living : List Duty) (p : PathState Carried) → PathKnows p → PathKnows (join_begun r dead living p)
+  begun_knows r dead living p h = by (is_never r) (opened_knows (keys_begun r))
+    where
+      opened_knows : (o : Option KeyPair) → EndKnows A (opened_by o p.a)
+      opened_knows None = h.a
+      opened_knows (Some keys) = h.a
+
+      by : (b : Bool) → EndKnows A (opened_by (keys_begun r) p.a) → PathKnows (if b then goes_on A (died p.a) dead p else goes_on A (opened_by (keys_begun r) p.a) living p)
+      by true own = goes A (died p.a) dead p h.a h
+      by false own = goes A (opened_by (keys_begun r) p.a) living p own h
+
+  event_knows : (o : Option Event) (r : Reply) (p : PathState Carried) → CopiesTell p → PathKnows p → PathKnows (happens_if values o r p)
+  event_knows None r p tell h = agenda _ p h
+  event_knows (Some (happenings.Joins tick)) r p tell h = begun_knows r (leaves A) (emission A) (record (at_tick tick p) { joined_at = None }) (record { a = h.a; b = h.b })
+  event_knows (Some (happenings.Takes line)) r p tell h =
       line_knows (is_death line.line) (record (at_tick line.tick p) { lines = tail_of p.lines }) (record { a = h.a; b = h.b })
-  event_knows (Some (happenings.Arrives due)) p tell h =
+  event_knows (Some (happenings.Arrives due)) r p tell h =
       copy_knows due.to (arriving due p.link) p (record (at_tick due.tick p) { link = after_delivery due p.link }) arrives (record { a = h.a; b = h.b })
     where
       arrives : (f : Flight Carried) → arriving due p.link ≡ Some f → AllTell (R due.to) (held_of p.profile due.to (meant f.carried.segment))
@@ -227,7 +245,7 @@ module _ (R : Side → ℕ → ℕ → Type 0) where
           let parts = and_parts (f.tick == due.tick) (same_side f.to due.to && f.number == due.copy) found.1 in
           let to = one_side f.to due.to (and_parts (same_side f.to due.to) (f.number == due.copy) parts.1).0 in
           subst (λ s. AllTell (R s) (held_of p.profile s (meant f.carried.segment))) to found.0
-  event_knows (Some (happenings.Fires s tick)) p tell h = same_goes s _ _ (at_tick tick p) refl (record { a = h.a; b = h.b })
+  event_knows (Some (happenings.Fires s tick)) r p tell h = same_goes s _ _ (at_tick tick p) refl (record { a = h.a; b = h.b })
 
   -- ---- replies
 
@@ -263,6 +281,7 @@ module _ (R : Side → ℕ → ℕ → Type 0) where
   heard_knows s (says.Keys mine other) r p h = same_goes s _ _ p refl h
   heard_knows s says.Dss r p h = agenda _ p h
   heard_knows s (says.PeerKey key) r p h = agenda _ p h
+  heard_knows s (says.Join form) r p h = agenda _ p h
 
   answered_item_knows : (s : Side) (o : Option Heard) (r : Reply) (p : PathState Carried) → PathKnows p → PathKnows (answered_item values s o r p)
   answered_item_knows s None r p h = agenda _ p h
@@ -277,7 +296,17 @@ module _ (R : Side → ℕ → ℕ → Type 0) where
   fin_knows s true p h = same_goes s _ _ p refl h
   fin_knows s false p h = same_goes s _ _ p refl h
 
+  -- B hears of a join
+  joined_knows : (s : Side) (o : Option KeyPair) (asked : Option JoinSyn) (p : PathState Carried) → PathKnows p → PathKnows (join_taken s o asked p)
+  joined_knows s None asked p h = agenda _ p h
+  joined_knows s (Some keys) None p h = agenda _ p h
+  joined_knows s (Some keys) (Some asked) p h = same_goes s _ _ p refl h
+
   answered_knows : (d : Duty) (r : Reply) (p : PathState Carried) → CopiesTell p → PathKnows p → PathKnows (answered values d r p)
+  answered_knows duties.JoinAgain r p tell h = begun_knows r (replaced (duties.Leave A) p.agenda) (left p) p h
+  answered_knows (duties.JoinHeard s) r p tell h = joined_knows s (keys_begun r) (asked_at s p) p h
+  answered_knows (duties.Refuse s) r p tell h = same_sent s _ _ _ p refl h
+  answered_knows (duties.PlainAck s) r p tell h = break_knows s 6 r p h
   answered_knows (duties.Look s) r p tell h = same_goes s _ _ p refl h
   answered_knows (duties.Window s) r p tell h = ack_out_knows s r _ p h
   answered_knows (duties.Update s) r p tell h = same_sent s _ _ _ p refl h
@@ -285,7 +314,7 @@ module _ (R : Side → ℕ → ℕ → Type 0) where
   answered_knows (duties.Data s) r p tell h = data_knows s (first_unsent (end_at s p)) r p h
   answered_knows (duties.DataFin s) r p tell h = same_sent s _ _ _ p refl h
   answered_knows (duties.Fin s) r p tell h = same_sent s _ _ _ p refl h
-  answered_knows duties.Events r p tell h = event_knows (next_event p) p tell h
+  answered_knows duties.Events r p tell h = event_knows (next_event p) r p tell h
   answered_knows (duties.PeerKey s) r p tell h = same_goes s _ _ p refl h
   answered_knows (duties.SynAck s) r p tell h = same_sent s _ _ _ p refl h
   answered_knows (duties.Opened s) r p tell h = same_goes s _ _ p refl h

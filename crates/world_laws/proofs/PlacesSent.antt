@@ -1,8 +1,11 @@
 -- The record of what a lane was granted only gets longer, and the mappings of what was sent on it tell its places.
-use Rattle.std.proofs.Common.{◌≡◌, refl, sym, ◌∙◌, ap, subst, ℕ, zero, suc, ◌+◌, ◌-◌, Bool, true, false, if◌then◌else◌, Option, Some, None, Result, Ok, Err, List, [], ◌∷◌, ◌++◌, set, arith}
+use Rattle.std.proofs.Common.{◌≡◌, refl, sym, ◌∙◌, ap, subst, ℕ, suc, ◌+◌, ◌-◌, ⊎_elim, Bool, true, false, ◌||◌, ◌&&◌, ◌==◌, nat_lt, if◌then◌else◌, Option, Some, None, Result, Ok, Err, List, [], ◌∷◌, ◌++◌, length, set, arith}
+use Rattle.std.proofs.lemmas.Bool.{cases_eq}
 use Rattle.std.proofs.lemmas.List.{append-nil, append_assoc, map-append}
 use Rattle.std.proofs.lemmas.Option.{same_Some}
 use Rattle.std.specs.List.{slice_get}
+use Rattle.outside_kit.specs.declared.side.Side.{Side}
+use Rattle.outside_kit.specs.declared.side.Side.TheVariants.{A, B}
 use Rattle.std.specs.Option.{IfSome}
 use Rattle.dss_mapping.specs.declared.kept.KeptMapping.{KeptMapping}
 use Rattle.dss_mapping.specs.Mappings.{run_of}
@@ -13,141 +16,218 @@ use Rattle.send_book.specs.State.{Sending}
 use Rattle.send_book.specs.Steps.{decision, reply_by, reply_to as send_reply}
 use Rattle.reassembly_book.specs.declared.call.ReassemblyCall.TheVariants.{Place, Fin, AckOut}
 use Rattle.reassembly_book.specs.declared.call.ReassemblyReply.{ReassemblyReply}
-use Rattle.reassembly_book.specs.declared.call.ReassemblyReply.TheVariants.{Ack}
-use Rattle.reassembly_book.specs.State.{Arriving}
+use Rattle.reassembly_book.specs.declared.call.ReassemblyReply.TheVariants.{Placed, FinSet, Ack}
+use Rattle.send_book.specs.declared.call.SendReply.{SendReply}
+use Rattle.send_book.specs.declared.call.SendReply.TheVariants.{Acked}
 use Rattle.reassembly_book.specs.Steps.{reply_to as arrival_reply}
 use Rattle.stream_lanes.specs.Holding.{IsRight, LaneHolds}
-use Rattle.stream_lanes.specs.Lane.{Cell, Mapping, Ask, Lane}
+use Rattle.stream_lanes.specs.Lane.{Cell, Mapping, DataCopy, AckCopy, Ask, Lane}
 use Rattle.stream_lanes.specs.Lane.Ask.{Nothing, AskGrant, AskAckIn, AskPlace, AskFin, AskAckOut}
-use Rattle.stream_lanes.specs.Moves.{Flags, places_of, takes_grant, takes_ack_out}
-use Rattle.stream_lanes.specs.Streams.{Reader, Direction, StreamEvent, moves, reads, asks, asks_at, after, is_done}
+use Rattle.stream_lanes.specs.Moves.{Flags, Move, moved, hears, sends_piece, keeps, clashes, learns, learns_mapping, hears_data_fin, hears_fin, places, lies_in, in_order, may_finish, ack_copy, places_of, takes_grant, takes_ack, takes_placed, takes_fin, takes_ack_out}
+use Rattle.stream_lanes.specs.Moves.Move.{Open, LookAtSender, LookAtReceiver, WantGrant, HearAck, SendPiece, SendDataFin, SendFin, Hear, Learn, HearDataFin, HearFin, WantPlace, WantPlacePlain, WantFin, WantAckOut, SendAck}
+use Rattle.stream_lanes.specs.Streams.{Direction, StreamEvent, moves, reads, asks, asks_at, after, is_done}
 use Rattle.stream_lanes.specs.Streams.StreamEvent.{Write, Close, Return, GoIdentity, GoInfinite, AbortSend, Read, AbortRead, Moves, Asks}
 use Rattle.stream_lanes.specs.Duo.{Duo, Event, flags_ab, flags_ba, after_event, after_events}
 use Rattle.stream_lanes.specs.Duo.Event.{ToB, ToA, FallA, FallB, BeginJoin, SendJoin, HearJoin}
 use Rattle.stream_lanes.specs.View.{View}
 use Rattle.stream_lanes.proofs.Directions.{moved_sent, acked_sent, placed_sent, fin_sent}
-use Rattle.stream_lanes.proofs.Lists.{in_more}
-use Rattle.world_laws.proofs.PlacesKept.{Tells}
+use Rattle.stream_lanes.proofs.Lists.{in_more, set_same, set_other}
+use Rattle.path_core.specs.State.{PathState}
+use Rattle.path_core.specs.Values.{Carried}
+use Rattle.world_laws.proofs.PlacesKept.{Tells, PathKnows}
 use Rattle.world_laws.proofs.Showing.{HeldShows}
 
 -- ---- a lane
 
--- it was granted what the other was, and maybe more
+-- it was granted what the other was, and maybe more; and it is open where the other is
 pub record IsLonger (p q : Lane) : Type 0 where
   pub more : List Cell
   pub is : q.sent ≡ p.sent ++ more
+  pub opened : p.opened ≡ true → q.opened ≡ true
 
-same_longer : (p q : Lane) → q.sent ≡ p.sent → IsLonger p q
-same_longer p q same = record { more = []; is = same ∙ sym (append-nil p.sent) }
+same_longer : (p q : Lane) → q.sent ≡ p.sent → (p.opened ≡ true → q.opened ≡ true) → IsLonger p q
+same_longer p q same opened = record { more = []; is = same ∙ sym (append-nil p.sent); opened = opened }
 
 then_longer : (p q r : Lane) → IsLonger p q → IsLonger q r → IsLonger p r
-then_longer p q r x y = record { more = x.more ++ y.more; is = y.is ∙ ap (λ sent. sent ++ y.more) x.is ∙ append_assoc p.sent x.more y.more }
+then_longer p q r x y = record {
+  more = x.more ++ y.more;
+  is = y.is ∙ ap (λ sent. sent ++ y.more) x.is ∙ append_assoc p.sent x.more y.more;
+  opened = λ is. y.opened (x.opened is);
+}
 
 granted_longer : (o : Result Span Why) (b : Sending) (p : Lane) → IsLonger p (takes_grant (reply_by o b) p)
-granted_longer (Ok span) b p = record { more = _; is = refl }
-granted_longer (Err why) b p = same_longer p _ refl
+granted_longer (Ok span) b p = record { more = _; is = refl; opened = λ is. is }
+granted_longer (Err why) b p = same_longer p _ refl (λ is. is)
 
-ack_out_sent : (r : ReassemblyReply) (p : Lane) → (takes_ack_out r p).sent ≡ p.sent
+pub ack_out_sent : (r : ReassemblyReply) (p : Lane) → (takes_ack_out r p).sent ≡ p.sent
 ack_out_sent (Ack next window) p = refl
 ack_out_sent _ p = refl
 
--- ---- a direction whose first lane is longer than this one
+-- replies leave a lane open
+acked_opened : (next : ℕ) (r : SendReply) (p : Lane) → (takes_ack next r p).opened ≡ p.opened
+acked_opened next (Acked bytes fin) p = refl
+acked_opened next _ p = refl
 
-pub record Lasts (p : Lane) (d : Direction) : Type 0 where
-  pub first : Lane
-  pub others : List Lane
-  pub lanes_are : d.lanes ≡ first ∷ others
-  pub longer : IsLonger p first
+placed_opened : (count : ℕ) (r : ReassemblyReply) (p : Lane) → (takes_placed count r p).opened ≡ p.opened
+placed_opened count (Placed new) p = refl
+placed_opened count _ p = refl
 
-module _ (f : Flags) (p : Lane) (others : List Lane) (send : Sending) (arrived : Arriving) (reader : Reader) where
-  abbrev here : Direction
-  here = record { send = send; arrived = arrived; lanes = p ∷ others; reader = reader }
+fin_opened : (r : ReassemblyReply) (p : Lane) → (takes_fin r p).opened ≡ p.opened
+fin_opened FinSet p = refl
+fin_opened _ p = refl
 
-  by_itself : (q : Lane) (d : Direction) → d.lanes ≡ q ∷ others → IsLonger p q → Lasts p d
-  by_itself q d lanes longer = record { first = q; others = others; lanes_are = lanes; longer = longer }
+ack_out_opened : (r : ReassemblyReply) (p : Lane) → (takes_ack_out r p).opened ≡ p.opened
+ack_out_opened (Ack next window) p = refl
+ack_out_opened _ p = refl
 
-  stays : (d : Direction) → d.lanes ≡ p ∷ others → Lasts p d
-  stays d lanes = by_itself p d lanes (same_longer p p refl)
+-- and so do its moves
+opened_if : (c : Bool) (p q : Lane) → (p.opened ≡ true → q.opened ≡ true) → p.opened ≡ true → (if c then q else p).opened ≡ true
+opened_if true p q more is = more is
+opened_if false p q more is = is
 
-  another : (n : ℕ) (q : Lane) (d : Direction) → d.lanes ≡ p ∷ set others n q → Lasts p d
-  another n q d lanes = record { first = p; others = set others n q; lanes_are = lanes; longer = same_longer p p refl }
+module _ (p : Lane) (is : p.opened ≡ true) where
+  opened_ack : (o : Option AckCopy) → (hears o p).opened ≡ true
+  opened_ack None = is
+  opened_ack (Some a) = is
 
-  first_asks : (a : Ask) → Lasts p (asks 0 a p here)
-  first_asks Nothing = stays here refl
-  first_asks (AskGrant max standby) = by_itself _ _ refl (granted_longer (decision 0 max standby send) send p)
-  first_asks (AskAckIn next window) = by_itself _ _ refl (same_longer p _ (acked_sent next (send_reply send (AckIn next window)) p))
-  first_asks (AskPlace at bytes) = by_itself _ _ refl (same_longer p _ (placed_sent _ (arrival_reply arrived (Place at bytes)) p))
-  first_asks (AskFin at) = by_itself _ _ refl (same_longer p _ (fin_sent (arrival_reply arrived (Fin at)) p))
-  first_asks AskAckOut = by_itself _ _ refl (same_longer p _ (ack_out_sent (arrival_reply arrived AckOut) p))
+  opened_piece : (mapped : Bool) (o : Option Mapping) → (sends_piece mapped o p).opened ≡ true
+  opened_piece mapped None = is
+  opened_piece mapped (Some m) = is
 
-  other_asks : (n : ℕ) (a : Ask) (q : Lane) → Lasts p (asks (suc n) a q here)
-  other_asks n Nothing q = stays here refl
-  other_asks n (AskGrant max standby) q = another n _ _ refl
-  other_asks n (AskAckIn next window) q = another n _ _ refl
-  other_asks n (AskPlace at bytes) q = another n _ _ refl
-  other_asks n (AskFin at) q = another n _ _ refl
-  other_asks n AskAckOut q = another n _ _ refl
+  opened_copy : (count : ℕ) (o : Option DataCopy) → (keeps count o p).opened ≡ true
+  opened_copy count None = is
+  opened_copy count (Some d) = is
 
-  other_asks_at : (n : ℕ) (o : Option Lane) → Lasts p (asks_at (suc n) o here)
-  other_asks_at n None = stays here refl
-  other_asks_at n (Some q) = other_asks n q.asking q
+  opened_mapping : (o : Option Mapping) → (learns_mapping o p).opened ≡ true
+  opened_mapping None = is
+  opened_mapping (Some m) = by (clashes m p.maps)
+    where
+      by : (c : Bool) → (if c then p else record p { maps = p.maps ++ m ∷ [] }).opened ≡ true
+      by true = is
+      by false = is
 
-  other_moves : (n : ℕ) (o : Option Lane) (event : _) → Lasts p (moves f (suc n) event o here)
-  other_moves n None event = stays here refl
-  other_moves n (Some q) event = another n _ _ refl
+  opened_learned : (o : Option DataCopy) → (learns o p).opened ≡ true
+  opened_learned None = is
+  opened_learned (Some d) = opened_mapping d.mapping
 
-  reads_on : (max : ℕ) (done : Bool) → Lasts p (if done then here else reads max here)
-  reads_on max true = stays here refl
-  reads_on max false = stays (reads max here) refl
+  opened_end : (o : Option ℕ) → (hears_data_fin o p).opened ≡ true
+  opened_end None = is
+  opened_end (Some e) = is
 
-  event_lasts : (event : StreamEvent) → Lasts p (after f event here)
-  event_lasts (Write bytes) = stays _ refl
-  event_lasts Close = stays _ refl
-  event_lasts (Return path) = stays _ refl
-  event_lasts GoIdentity = stays _ refl
-  event_lasts (GoInfinite path) = stays _ refl
-  event_lasts AbortSend = stays _ refl
-  event_lasts (Read max) = reads_on max (is_done reader)
-  event_lasts (AbortRead by_peer) = stays _ refl
-  event_lasts (Moves zero move) = by_itself _ _ refl (same_longer p _ (moved_sent f 0 move p))
-  event_lasts (Moves (suc n) move) = other_moves n (slice_get others n) move
-  event_lasts (Asks zero) = first_asks p.asking
-  event_lasts (Asks (suc n)) = other_asks_at n (slice_get others n)
+  opened_fin : (o : Option ℕ) → (hears_fin o p).opened ≡ true
+  opened_fin None = is
+  opened_fin (Some pos) = opened_if (pos == p.edge) p (record p { fin_in = true }) (λ x. x) is
 
-after_lasts : (f : Flags) (event : StreamEvent) (p : Lane) (d : Direction) → Lasts p d → Lasts p (after f event d)
-after_lasts f event p d h =
-    let next = event_lasts f h.first h.others d.send d.arrived d.reader event in
-    subst (λ e. Lasts p (after f event e)) (ap (λ lanes. record d { lanes = lanes }) (sym h.lanes_are))
-    (record { first = next.first; others = next.others; lanes_are = next.lanes_are; longer = then_longer p h.first next.first h.longer next.longer })
+  opened_place : (count : ℕ) (o : Option Mapping) → (places count o p).opened ≡ true
+  opened_place count None = is
+  opened_place count (Some m) = opened_if (lies_in m (in_order count p) p) p (record p { asking = AskPlace _ (in_order count p) }) (λ x. x) is
+
+  moved_opened : (f : Flags) (path : ℕ) (move : Move) → (moved f path move p).opened ≡ true
+  moved_opened f path Open = opened_if (f.answered || path == 0) p (record p { opened = true }) (λ x. refl) is
+  moved_opened f path LookAtSender = is
+  moved_opened f path LookAtReceiver = is
+  moved_opened f path (WantGrant max standby) = opened_if (p.opened && nat_lt 0 max) p (record p { asking = AskGrant max standby }) (λ x. x) is
+  moved_opened f path (HearAck copy) = opened_ack (slice_get p.acks copy)
+  moved_opened f path (SendPiece piece mapped) = opened_piece mapped (slice_get p.pieces piece)
+  moved_opened f path SendDataFin = is
+  moved_opened f path SendFin = opened_if (may_finish p) p (record p { fins = p.fins ++ length p.sent ∷ [] }) (λ x. x) is
+  moved_opened f path (Hear copy count) = opened_copy count (slice_get p.datas copy)
+  moved_opened f path (Learn copy) = opened_learned (slice_get p.datas copy)
+  moved_opened f path (HearDataFin copy) = opened_end (slice_get p.data_fins copy)
+  moved_opened f path (HearFin copy) = opened_fin (slice_get p.fins copy)
+  moved_opened f path (WantPlace mapping count) = opened_place count (slice_get p.maps mapping)
+  moved_opened f path (WantPlacePlain count) = opened_if p.receiver_plain p (record p { asking = AskPlace p.edge (in_order count p) }) (λ x. x) is
+  moved_opened f path WantFin = opened_if (p.receiver_plain && p.fin_in) p (record p { asking = AskFin p.edge }) (λ x. x) is
+  moved_opened f path WantAckOut = is
+  moved_opened f path (SendAck next window sub) = by p.due
+    where
+      by : (c : Bool) → (if c then p else record p { acks = p.acks ++ ack_copy next window sub p ∷ [] }).opened ≡ true
+      by true = is
+      by false = is
+
+-- ---- a direction that has a longer lane at this place
+
+pub record Lasts (number : ℕ) (p : Lane) (d : Direction) : Type 0 where
+  pub lane : Lane
+  pub there : slice_get d.lanes number ≡ Some lane
+  pub longer : IsLonger p lane
+
+module _ (f : Flags) (number : ℕ) (p : Lane) (d : Direction) (h : Lasts number p d) where
+  stays : (e : Direction) → e.lanes ≡ d.lanes → Lasts number p e
+  stays e same = record { lane = h.lane; there = ap (λ lanes. slice_get lanes number) same ∙ h.there; longer = h.longer }
+
+  -- a longer lane is put to some place
+  put_lasts : (path : ℕ) (q r : Lane) (e : Direction) → e.lanes ≡ set d.lanes path r → slice_get d.lanes path ≡ Some q → IsLonger q r → Lasts number p e
+  put_lasts path q r e is there longer = ⊎_elim
+      (λ same. let at : Some q ≡ Some h.lane = sym there ∙ ap (slice_get d.lanes) (sym same) ∙ h.there in
+      record {
+        lane = r;
+        there = ap (λ lanes. slice_get lanes number) is ∙ ap (λ n. slice_get (set d.lanes path r) n) same ∙ set_same d.lanes path r q there;
+        longer = then_longer p h.lane r h.longer (subst (λ x. IsLonger x r) (same_Some q h.lane at) longer);
+      })
+      (λ apart. record { lane = h.lane; there = ap (λ lanes. slice_get lanes number) is ∙ set_other d.lanes path r number apart ∙ h.there; longer = h.longer })
+      (cases_eq number path)
+
+  lane_asks : (path : ℕ) (a : Ask) (q : Lane) → slice_get d.lanes path ≡ Some q → Lasts number p (asks path a q d)
+  lane_asks path Nothing q there = h
+  lane_asks path (AskGrant max standby) q there = put_lasts path q _ _ refl there (granted_longer (decision path max standby d.send) d.send q)
+  lane_asks path (AskAckIn next window) q there =
+      let r = send_reply d.send (AckIn next window) in put_lasts path q _ _ refl there (same_longer q _ (acked_sent next r q) (λ is. acked_opened next r q ∙ is))
+  lane_asks path (AskPlace at bytes) q there =
+      let r = arrival_reply d.arrived (Place at bytes) in put_lasts path q _ _ refl there (same_longer q _ (placed_sent _ r q) (λ is. placed_opened _ r q ∙ is))
+  lane_asks path (AskFin at) q there = let r = arrival_reply d.arrived (Fin at) in put_lasts path q _ _ refl there (same_longer q _ (fin_sent r q) (λ is. fin_opened r q ∙ is))
+  lane_asks path AskAckOut q there = let r = arrival_reply d.arrived AckOut in put_lasts path q _ _ refl there (same_longer q _ (ack_out_sent r q) (λ is. ack_out_opened r q ∙ is))
+
+  asks_last : (path : ℕ) (o : Option Lane) → slice_get d.lanes path ≡ o → Lasts number p (asks_at path o d)
+  asks_last path None there = h
+  asks_last path (Some q) there = lane_asks path q.asking q there
+
+  moves_last : (path : ℕ) (m : Move) (o : Option Lane) → slice_get d.lanes path ≡ o → Lasts number p (moves f path m o d)
+  moves_last path m None there = h
+  moves_last path m (Some q) there = put_lasts path q _ _ refl there (same_longer q _ (moved_sent f path m q) (λ is. moved_opened q is f path m))
+
+  reads_on : (max : ℕ) (done : Bool) → Lasts number p (if done then d else reads max d)
+  reads_on max true = h
+  reads_on max false = stays (reads max d) refl
+
+  after_lasts : (event : StreamEvent) → Lasts number p (after f event d)
+  after_lasts (Write bytes) = stays _ refl
+  after_lasts Close = stays _ refl
+  after_lasts (Return path) = stays _ refl
+  after_lasts GoIdentity = stays _ refl
+  after_lasts (GoInfinite path) = stays _ refl
+  after_lasts AbortSend = stays _ refl
+  after_lasts (Read max) = reads_on max (is_done d.reader)
+  after_lasts (AbortRead by_peer) = stays _ refl
+  after_lasts (Moves path move) = moves_last path move (slice_get d.lanes path) refl
+  after_lasts (Asks path) = asks_last path (slice_get d.lanes path) refl
 
 -- ---- both directions
 
-pub record BothLast (p q : Lane) (d : Duo) : Type 0 where
-  pub ab : Lasts p d.ab
-  pub ba : Lasts q d.ba
+pub record BothLast (number : ℕ) (p q : Lane) (d : Duo) : Type 0 where
+  pub ab : Lasts number p d.ab
+  pub ba : Lasts number q d.ba
 
-duo_lasts : (event : Event) (p q : Lane) (d : Duo) → BothLast p q d → BothLast p q (after_event event d)
-duo_lasts (ToB event) p q d h = record { ab = after_lasts (flags_ab d.modes) event p d.ab h.ab; ba = h.ba }
-duo_lasts (ToA event) p q d h = record { ab = h.ab; ba = after_lasts (flags_ba d.modes) event q d.ba h.ba }
-duo_lasts FallA p q d h = record { ab = h.ab; ba = h.ba }
-duo_lasts FallB p q d h = record { ab = h.ab; ba = h.ba }
-duo_lasts BeginJoin p q d h = record { ab = h.ab; ba = h.ba }
-duo_lasts SendJoin p q d h = record { ab = h.ab; ba = h.ba }
-duo_lasts HearJoin p q d h = record { ab = h.ab; ba = h.ba }
+duo_lasts : (event : Event) (number : ℕ) (p q : Lane) (d : Duo) → BothLast number p q d → BothLast number p q (after_event event d)
+duo_lasts (ToB event) number p q d h = record { ab = after_lasts (flags_ab d.modes) number p d.ab h.ab event; ba = h.ba }
+duo_lasts (ToA event) number p q d h = record { ab = h.ab; ba = after_lasts (flags_ba d.modes) number q d.ba h.ba event }
+duo_lasts FallA number p q d h = record { ab = h.ab; ba = h.ba }
+duo_lasts FallB number p q d h = record { ab = h.ab; ba = h.ba }
+duo_lasts BeginJoin number p q d h = record { ab = h.ab; ba = h.ba }
+duo_lasts SendJoin number p q d h = record { ab = h.ab; ba = h.ba }
+duo_lasts HearJoin number p q d h = record { ab = h.ab; ba = h.ba }
 
-pub all_last : (events : List Event) (p q : Lane) (d : Duo) → BothLast p q d → BothLast p q (after_events events d)
-all_last [] p q d h = h
-all_last (event ∷ events) p q d h = all_last events p q (after_event event d) (duo_lasts event p q d h)
+pub all_last : (events : List Event) (number : ℕ) (p q : Lane) (d : Duo) → BothLast number p q d → BothLast number p q (after_events events d)
+all_last [] number p q d h = h
+all_last (event ∷ events) number p q d h = all_last events number p q (after_event event d) (duo_lasts event number p q d h)
 
--- the only lane is the first one
-pub only_lasts : (p : Lane) (d : Direction) → d.lanes ≡ p ∷ [] → Lasts p d
-only_lasts p d is = record { first = p; others = []; lanes_are = is; longer = same_longer p p refl }
+-- the lane that is there lasts
+pub there_lasts : (number : ℕ) (p : Lane) (d : Direction) → slice_get d.lanes number ≡ Some p → Lasts number p d
+there_lasts number p d there = record { lane = p; there = there; longer = same_longer p p refl (λ is. is) }
 
-first_is : (x y : Lane) (xs ys : List Lane) → x ∷ xs ≡ y ∷ ys → x ≡ y
-first_is x y xs ys is = same_Some x y (ap (λ lanes. slice_get lanes 0) is)
-
-pub only_longer : (p q : Lane) (d : Direction) → d.lanes ≡ q ∷ [] → Lasts p d → IsLonger p q
-only_longer p q d is h = subst (IsLonger p) (first_is h.first q h.others [] (sym h.lanes_are ∙ is)) h.longer
+-- and the one that is there at last is longer
+pub last_longer : (number : ℕ) (p q : Lane) (d : Direction) → slice_get d.lanes number ≡ Some q → Lasts number p d → IsLonger p q
+last_longer number p q d there h = subst (IsLonger p) (same_Some h.lane q (sym h.there ∙ there)) h.longer
 
 -- ---- what a record says of positions, which count the SYN
 
@@ -184,3 +264,13 @@ pub held_tells : (v : View) (path : ℕ) (p : Lane) → LaneHolds v path p → (
 held_tells v path p h kept has =
     let right : IfSome (Some has.holds.mapping) (IsRight p.sent) = subst (λ o. IfSome o (IsRight p.sent)) has.holds.there (h.bytes.honest.each has.at has.item has.there).mapping in
     right_tells p.sent has.holds.mapping kept right has.holds.is.place_is has.holds.is.position_is has.holds.is.len_is
+
+-- ---- the records of both lanes: A hears what B sent, and B what A sent
+
+abbrev pub record_of : Lane → Lane → Side → ℕ → ℕ → Type 0
+record_of ab ba A = IsPlaceOf ba.sent
+record_of ab ba B = IsPlaceOf ab.sent
+
+-- the ends of a path know these places alone
+abbrev pub KnowsThose : Lane → Lane → PathState Carried → Type 0
+KnowsThose ab ba p = PathKnows (record_of ab ba) p

@@ -103,7 +103,7 @@ module _ (c : Profile) (s : Side) (out back : Lane) where
                   (Every-map (λ m there. Has-more _ there) h.receiver.mapped)) h.receiver;
               window = h.window;
               told = h.told;
-              treated = record { items = h.treated.items; fins = h.treated.fins; answer = h.treated.answer };
+              treated = record { items = h.treated.items; fins = h.treated.fins; answer = h.treated.answer; window = h.treated.window };
               held = subst (λ ys. Every (HeldShows back.datas) (others_of ys)) (sym (learn_held kept (learn_of kept v) v)) (skipped_held v.held h.held);
             };
           }
@@ -140,7 +140,7 @@ module _ (c : Profile) (s : Side) (out back : Lane) where
       };
       window = h.window;
       told = h.told;
-      treated = record { items = h.treated.items; fins = h.treated.fins; answer = h.treated.answer };
+      treated = record { items = h.treated.items; fins = h.treated.fins; answer = h.treated.answer; window = h.treated.window };
       held = h.held;
     };
   }
@@ -275,7 +275,7 @@ module _ (c : Profile) (s : Side) (out back : Lane) where
           };
           window = h.window;
           told = h.told;
-          treated = record { items = h.treated.items; fins = h.treated.fins; answer = h.treated.answer };
+          treated = record { items = h.treated.items; fins = h.treated.fins; answer = h.treated.answer; window = h.treated.window };
           held = h.held;
         };
       }
@@ -283,10 +283,10 @@ module _ (c : Profile) (s : Side) (out back : Lane) where
   -- ---- the FIN
 
   -- no byte stands behind the FIN of the lane
-  none_behind : (v : View) (position : ℕ) → LaneHolds v 0 back → (recv : Receiving) → recv.edge ≡ position → HasFin back.fins position → IsAtEdge recv back
+  none_behind : (v : View) (path : ℕ) (position : ℕ) → LaneHolds v path back → (recv : Receiving) → recv.edge ≡ position → HasFin back.fins position → IsAtEdge recv back
       → (i byte : ℕ) → slice_get recv.places i ≡ Some (Some byte) → ⊥
-  none_behind v position holds recv is has at i byte there =
-      let fin : IsFin 0 v back.sent has.item = holds.fins.each has.at has.item has.there in
+  none_behind v path position holds recv is has at i byte there =
+      let fin : IsFin path v back.sent has.item = holds.fins.each has.at has.item has.there in
       let last : has.item ≡ length back.sent = fin.last in
       let edge_is = at.edge_is in
       let came : IsByteOf back.sent (back.edge + i) byte = holds.bytes.came.each i (back.edge + i) byte refl (at.under.each i byte there) in
@@ -298,8 +298,8 @@ module _ (c : Profile) (s : Side) (out back : Lane) where
   dropped_one : (edge : ℕ) (places : List (Option ℕ)) (i byte : ℕ) → slice_get (drop (edge + 1 - edge) places) i ≡ Some (Some byte) → slice_get places (suc i) ≡ Some (Some byte)
   dropped_one edge places i byte there = in_drop (edge + 1 - edge) places i (suc i) (Some byte) (omega arith) there
 
-  pub passed_fin : (v : View) (e : PathEnd) → LaneHolds v 0 back → EndShows c s e out back → EndShows c s (after_pass_fin e) out back
-  passed_fin v e holds h = by (is_fin_next e.tcp) refl
+  pub passed_fin : (v : View) (path : ℕ) (e : PathEnd) → LaneHolds v path back → EndShows c s e out back → EndShows c s (after_pass_fin e) out back
+  passed_fin v path e holds h = by (is_fin_next e.tcp) refl
     where
       passed_receiver : (fin_at : Option ℕ) (recv : Receiving) (live : List KeptMapping) → is_at recv.edge fin_at ≡ true → ReceiverShows recv fin_at live back
           → ReceiverShows (after_advance (recv.edge + 1) recv) fin_at live back
@@ -310,7 +310,7 @@ module _ (c : Profile) (s : Side) (out back : Lane) where
             edge = inr (record {
               passed_is = lt-ltb at (recv.edge + 1) (omega (arith, same));
               none = λ i byte there. ⊎_elim
-                  (λ near. none_behind v at holds recv (sym same) r.fin near (suc i) byte (dropped_one recv.edge recv.places i byte there))
+                  (λ near. none_behind v path at holds recv (sym same) r.fin near (suc i) byte (dropped_one recv.edge recv.places i byte there))
                   (λ past. past.none (suc i) byte (dropped_one recv.edge recv.places i byte there))
                   r.edge;
             });

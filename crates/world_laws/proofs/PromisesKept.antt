@@ -1,6 +1,7 @@
 -- What a connection promises follows from what its world shows of the two directions.
 use Rattle.std.proofs.Common.{◌≡◌, refl, sym, ◌∙◌, ap, subst, ℕ, Bool, true, false, ◌||◌, if◌then◌else◌, Option, Some, None, Result, Ok, Err, List, [], ◌∷◌, take}
-use Rattle.std.specs.List.{slice_get}
+use Rattle.std.specs.List.{slice_get, list_all}
+use Rattle.std.proofs.lemmas.Bool.{and_parts, false≢true}
 use Rattle.outside_kit.specs.declared.side.Side.TheVariants.{A, B}
 use Rattle.pipe_model.specs.Prefix.{IsPrefix}
 use Rattle.send_book.specs.declared.call.Span.{Span}
@@ -23,7 +24,7 @@ use Rattle.stream_lanes.specs.Moves.{Flags, Move}
 use Rattle.stream_lanes.specs.Streams.{Reader, Direction, StreamEvent, moves as lane_moves}
 use Rattle.stream_lanes.specs.Streams.StreamEvent.{Moves, Asks}
 use Rattle.stream_lanes.specs.Duo.{Duo, Event, after_event, after_events}
-use Rattle.stream_lanes.specs.Duo.Event.{ToB, ToA}
+use Rattle.stream_lanes.specs.Duo.Event.{ToB, ToA, BeginJoin, SendJoin, HearJoin}
 use Rattle.stream_lanes.specs.Holding.{DirectionHolds, Holds}
 use Rattle.stream_lanes.specs.Laws.{pipe_of as lane_pipe, StepsOrStays, EachEventIsOneStep, NothingIsRefused, BothWays, is_ack_future, is_beyond_or_clash, ask_refused, lane_refused}
 use Rattle.stream_lanes.proofs.Promises.{reads_prefix, acknowledges, ends_whole}
@@ -40,26 +41,26 @@ use Rattle.world_laws.specs.Outcomes.{tells_end, was_told, read_by, output_of, p
 use Rattle.world_laws.specs.Promises.{tells_refusal, was_told_end, BothKeepTheirWord}
 use Rattle.world_laws.specs.Worlds.{WorldState}
 use Rattle.world_laws.proofs.Applying.{Reads}
-use Rattle.world_laws.proofs.Lanes.{duo_of, WorldShows, IsAsking, SendCallIs, ReassemblyCallIs, CallIs, LaneMoves, moves_to_b, moves_to_a, move_events, call_events, TurnShows, events_append}
+use Rattle.world_laws.proofs.Lanes.{duo_of, WorldShows, IsAsking, SendCallIs, ReassemblyCallIs, CallIs, is_silent, AreSilent, call_events, TurnShows}
 use Rattle.world_laws.proofs.Roads.{direction}
-use Rattle.world_laws.proofs.Trios.{Trio, world_of}
+use Rattle.world_laws.proofs.Casts.{Cast, world_of}
 
 -- ---- one direction
 
-module _ (f : Flags) (send : Sending) (arrived : Arriving) (lane : Lane) (reader : Reader) (told : Bool) (list : List Note)
-    (h : DirectionHolds f (direction send arrived lane reader)) (reads : Reads told list reader) where
+module _ (f : Flags) (send : Sending) (arrived : Arriving) (lanes : List Lane) (reader : Reader) (told : Bool) (list : List Note)
+    (h : DirectionHolds f (direction send arrived lanes reader)) (reads : Reads told list reader) where
   prefix_of : IsPrefix (read_by list) send.written
-  prefix_of = subst (λ xs. IsPrefix xs send.written) reads.out_is (reads_prefix f (direction send arrived lane reader) h)
+  prefix_of = subst (λ xs. IsPrefix xs send.written) reads.out_is (reads_prefix f (direction send arrived lanes reader) h)
 
   whole_of : was_told tells_end list ≡ true → (send.closed ≡ true) × (read_by list ≡ send.written)
   whole_of is =
-      let whole = ends_whole f (direction send arrived lane reader) h (reads.told_is ∙ is) in (whole.0, sym reads.out_is ∙ whole.1)
+      let whole = ends_whole f (direction send arrived lanes reader) h (reads.told_is ∙ is) in (whole.0, sym reads.out_is ∙ whole.1)
 
--- ---- both directions of a world of three actors
+-- ---- both directions of a world
 
-kept : (t : Trio Carried) (ab ba : Lane) (reader_a reader_b : Reader) → Holds (duo_of (books_in t.books) ab ba reader_a reader_b) → Reads t.a.told t.at_a.list reader_a
+kept : (t : Cast Carried) (joined : Bool) (ab ba : List Lane) (reader_a reader_b : Reader) → Holds (duo_of joined (books_in t.books) ab ba reader_a reader_b) → Reads t.a.told t.at_a.list reader_a
     → Reads t.b.told t.at_b.list reader_b → BothKeepTheirWord (world_of t)
-kept t ab ba reader_a reader_b h reads_a reads_b =
+kept t joined ab ba reader_a reader_b h reads_a reads_b =
     let six = books_in t.books in
     let to_b = acknowledges _ (direction six.send_a six.reassembly_b ab reader_b) h.ab in
     let to_a = acknowledges _ (direction six.send_b six.reassembly_a ba reader_a) h.ba in
@@ -82,7 +83,7 @@ kept t ab ba reader_a reader_b h reads_a reads_b =
 
 pub keeps_its_word : (start : Start) (d : Duo) (w : WorldState Carried) → Holds d → WorldShows start d w → BothKeepTheirWord w
 keeps_its_word start d w h s =
-    subst BothKeepTheirWord (sym s.is) (kept s.trio s.ab s.ba s.reader_a s.reader_b (subst Holds s.duo_is h) s.reads_a s.reads_b)
+    subst BothKeepTheirWord (sym s.is) (kept s.cast s.joined s.lanes_ab s.lanes_ba s.reader_a s.reader_b (subst Holds s.duo_is h) s.reads_a s.reads_b)
 
 -- ---- what the two directions show of outputs and pipes
 
@@ -100,7 +101,7 @@ pub record SameAsShown (d : Duo) (w : WorldState Carried) : Type 0 where
 
 pub same_as_shown : (start : Start) (d : Duo) (w : WorldState Carried) → WorldShows start d w → SameAsShown d w
 same_as_shown start d w s =
-    subst (SameAsShown d) (sym s.is) (subst (λ e. SameAsShown e (world_of s.trio)) (sym s.duo_is) (record {
+    subst (SameAsShown d) (sym s.is) (subst (λ e. SameAsShown e (world_of s.cast)) (sym s.duo_is) (record {
       out_b = sym s.reads_b.out_is;
       out_a = sym s.reads_a.out_is;
       told_b = sym s.reads_b.told_is;
@@ -109,8 +110,8 @@ same_as_shown start d w s =
       written_b = refl;
       arrived_b = refl;
       arrived_a = refl;
-      ab = ap (λ b. record (pipe_ab (world_of s.trio)) { told_end = b }) (sym s.reads_b.told_is);
-      ba = ap (λ b. record (pipe_ba (world_of s.trio)) { told_end = b }) (sym s.reads_a.told_is);
+      ab = ap (λ b. record (pipe_ab (world_of s.cast)) { told_end = b }) (sym s.reads_b.told_is);
+      ba = ap (λ b. record (pipe_ba (world_of s.cast)) { told_end = b }) (sym s.reads_a.told_is);
     }))
 
 -- ---- moves of lanes
@@ -138,23 +139,20 @@ moved_same : (f : Flags) (path : ℕ) (m : Move) (o : Option Lane) (d : Directio
 moved_same f path m None d = same_books d
 moved_same f path m (Some p) d = record { send = refl; arrived = refl; reader = refl }
 
-moves_to_b_same : (ms : List Move) (d : Duo) → SameDuo d (after_events (moves_to_b ms) d)
-moves_to_b_same [] d = record { ab = same_books d.ab; ba = same_books d.ba }
-moves_to_b_same (m ∷ ms) d =
-    let e = after_event (ToB (Moves 0 m)) d in
-    then_same_duo d e (after_events (moves_to_b ms) e) (record { ab = moved_same _ 0 m (slice_get d.ab.lanes 0) d.ab; ba = same_books d.ba }) (moves_to_b_same ms e)
+event_same : (event : Event) (d : Duo) → is_silent event ≡ true → SameDuo d (after_event event d)
+event_same (ToB (Moves path m)) d is = record { ab = moved_same _ path m (slice_get d.ab.lanes path) d.ab; ba = same_books d.ba }
+event_same (ToA (Moves path m)) d is = record { ab = same_books d.ab; ba = moved_same _ path m (slice_get d.ba.lanes path) d.ba }
+event_same BeginJoin d is = record { ab = same_books d.ab; ba = same_books d.ba }
+event_same SendJoin d is = record { ab = same_books d.ab; ba = same_books d.ba }
+event_same HearJoin d is = record { ab = same_books d.ab; ba = same_books d.ba }
+event_same _ d is = absurd (false≢true is)
 
-moves_to_a_same : (ms : List Move) (d : Duo) → SameDuo d (after_events (moves_to_a ms) d)
-moves_to_a_same [] d = record { ab = same_books d.ab; ba = same_books d.ba }
-moves_to_a_same (m ∷ ms) d =
-    let e = after_event (ToA (Moves 0 m)) d in
-    then_same_duo d e (after_events (moves_to_a ms) e) (record { ab = same_books d.ab; ba = moved_same _ 0 m (slice_get d.ba.lanes 0) d.ba }) (moves_to_a_same ms e)
-
-moves_same : (ms : LaneMoves) (d : Duo) → SameDuo d (after_events (move_events ms) d)
-moves_same ms d =
-    let e = after_events (moves_to_b ms.ab) d in
-    subst (SameDuo d) (sym (events_append (moves_to_b ms.ab) (moves_to_a ms.ba) d))
-    (then_same_duo d e (after_events (moves_to_a ms.ba) e) (moves_to_b_same ms.ab d) (moves_to_a_same ms.ba e))
+events_same : (events : List Event) (d : Duo) → AreSilent events → SameDuo d (after_events events d)
+events_same [] d silent = record { ab = same_books d.ab; ba = same_books d.ba }
+events_same (event ∷ events) d silent =
+    let parts = and_parts (is_silent event) (list_all is_silent events) silent in
+    let e = after_event event d in
+    then_same_duo d e (after_events events e) (event_same event d parts.0) (events_same events e parts.1)
 
 same_pipe : (d e : Direction) → SameBooks d e → lane_pipe e ≡ lane_pipe d
 same_pipe d e same = rw (same.send, same.arrived, same.reader) refl
@@ -174,16 +172,16 @@ call_steps (Some event) d each = each event
 
 module _ (ask : Option Ask) (d e : Duo) (t : TurnShows ask d e) where
   abbrev pub before : Duo
-  before = after_events (move_events t.before) d
+  before = after_events t.before d
 
   abbrev pub called : Duo
   called = after_events (call_events t.call) before
 
   pub same_before : SameDuo d before
-  same_before = moves_same t.before d
+  same_before = events_same t.before d t.before_silent
 
   same_after : SameDuo called e
-  same_after = subst (SameDuo called) (sym t.to) (moves_same t.after called)
+  same_after = subst (SameDuo called) (sym t.to) (events_same t.after called t.after_silent)
 
   pub turn_steps : EachEventIsOneStep before
       → StepsOrStays (received d.ab.arrived) (lane_pipe d.ab) (lane_pipe e.ab) × StepsOrStays (received d.ba.arrived) (lane_pipe d.ba) (lane_pipe e.ba)
@@ -260,15 +258,15 @@ read_untold max b = by b.aborted
     by (Some by_peer) = refl
 
 -- what a lane asks is not refused
-lane_untold : (ask : LaneAsk) (d : Direction) → NothingIsRefused d → IsAsking ask d → ask_refused ask d ≡ false
-lane_untold ask d none asking =
-    ap (λ x. ask_refused x d) (sym asking.asks) ∙ ap (lane_refused (λ p. ask_refused p.asking d)) (sym asking.there) ∙ none (Asks 0)
+lane_untold : (path : ℕ) (ask : LaneAsk) (d : Direction) → NothingIsRefused d → IsAsking path ask d → ask_refused ask d ≡ false
+lane_untold path ask d none asking =
+    ap (λ x. ask_refused x d) (sym asking.asks) ∙ ap (lane_refused (λ p. ask_refused p.asking d)) (sym asking.there) ∙ none (Asks path)
 
 send_untold : (call : SendCall) (d : Direction) (event : StreamEvent) → NothingIsRefused d → SendCallIs call d event → tells_refusal (replies.Send (sending.reply_to d.send call)) ≡ false
 send_untold (send_calls.Write bytes) d event none is = write_untold bytes d.send
 send_untold send_calls.Close d event none is = close_untold d.send
 send_untold (send_calls.Grant path max standby) d event none is = granted_untold (sending.decision path max standby d.send) d.send
-send_untold (send_calls.AckIn next window) d event none is = ack_untold (sending.reply_to d.send (send_calls.AckIn next window)) (lane_untold (AskAckIn next window) d none is.1)
+send_untold (send_calls.AckIn next window) d event none is = ack_untold (sending.reply_to d.send (send_calls.AckIn next window)) (lane_untold is.path (AskAckIn next window) d none is.asking)
 send_untold (send_calls.Return path) d event none is = refl
 send_untold send_calls.GoIdentity d event none is = absurd is
 send_untold (send_calls.GoInfinite path) d event none is = absurd is
@@ -277,8 +275,8 @@ send_untold send_calls.Abort d event none is = absurd is
 arrival_untold : (call : ReassemblyCall) (d : Direction) (event : StreamEvent) → NothingIsRefused d → ReassemblyCallIs call d event
     → tells_refusal (replies.Reassembly (arriving.reply_to d.arrived call)) ≡ false
 arrival_untold (reassembly_calls.Place at bytes) d event none is =
-    place_untold (arriving.reply_to d.arrived (reassembly_calls.Place at bytes)) (lane_untold (AskPlace at bytes) d none is.1)
-arrival_untold (reassembly_calls.Fin at) d event none is = place_untold (arriving.reply_to d.arrived (reassembly_calls.Fin at)) (lane_untold (AskFin at) d none is.1)
+    place_untold (arriving.reply_to d.arrived (reassembly_calls.Place at bytes)) (lane_untold is.path (AskPlace at bytes) d none is.asking)
+arrival_untold (reassembly_calls.Fin at) d event none is = place_untold (arriving.reply_to d.arrived (reassembly_calls.Fin at)) (lane_untold is.path (AskFin at) d none is.asking)
 arrival_untold (reassembly_calls.Read max) d event none is = read_untold max d.arrived
 arrival_untold reassembly_calls.AckOut d event none is = refl
 arrival_untold (reassembly_calls.Abort by_peer) d event none is = absurd is

@@ -1,7 +1,6 @@
 -- An answer that no step is given is in no note.
-use Rattle.std.proofs.Common.{◌≡◌, refl, sym, ◌∙◌, ap, subst, ℕ, zero, suc, Bool, true, false, if◌then◌else◌, ⊎_elim, Option, Some, None, List, [], ◌∷◌, ◌++◌, map}
+use Rattle.std.proofs.Common.{◌≡◌, refl, sym, ◌∙◌, ap, subst, ℕ, Bool, true, false, if◌then◌else◌, ⊎_elim, Option, Some, None, List, [], ◌∷◌, ◌++◌, map}
 use Rattle.std.proofs.lemmas.Bool.{or_from, or_parts}
-use Rattle.std.proofs.lemmas.Option.{same_Some}
 use Rattle.std.specs.List.{slice_get}
 use Rattle.stream_lanes.proofs.Lists.{in_set, in_map}
 use Rattle.actor_desk.specs.declared.ask.Ask.{Ask}
@@ -13,6 +12,7 @@ use Rattle.world_laws.specs.Openings.{Start, opened_world}
 use Rattle.world_laws.specs.Outcomes.{was_told, notes_or, notes_at}
 use Rattle.world_laws.specs.StampedBooks.{answer_to}
 use Rattle.world_laws.specs.Worlds.{WorldState, Turn, note_of, crew_after, asked, stepped, all_over, greatest, begins, after_turn}
+use Rattle.world_laws.proofs.Opened.{opened_actors}
 
 module _ (test : Reply → Bool) where
   told_more : (notes : List Note) (n : Note) → was_told test notes ≡ false → test n.reply ≡ false → was_told test (notes ++ n ∷ []) ≡ false
@@ -61,7 +61,4 @@ module _ (test : Reply → Bool) where
         by false = h
 
     pub opened_none : (start : Start) → NoneTold (opened_world start)
-    opened_none start zero c there = ap (λ y. was_told test y.list) (sym (same_Some _ c there))
-    opened_none start (suc zero) c there = ap (λ y. was_told test y.list) (sym (same_Some _ c there))
-    opened_none start (suc (suc zero)) c there = ap (λ y. was_told test y.list) (sym (same_Some _ c there))
-    opened_none start (suc (suc (suc i))) c there = cc
+    opened_none start = opened_actors (λ actor c. was_told test c.list ≡ false) start refl refl (λ number plan there. refl)

@@ -1,37 +1,40 @@
 -- Connections by scripts that strip and alter nothing keep all promises.
-use Rattle.std.proofs.Common.{◌≡◌, refl, ℕ, ◌+◌, ◌^◌, ◌<◌, ◌≤◌, Bool, true, false, cond, List, [], ◌∷◌, length, arith}
-use Rattle.std.specs.List.{list_any}
+use Rattle.std.proofs.Common.{◌≡◌, refl, sym, ap, subst, ℕ, zero, suc, ◌+◌, ◌*◌, ◌^◌, ◌<◌, ◌≤◌, Bool, true, false, cond, Some, List, [], ◌∷◌, length, arith}
+use Rattle.std.specs.List.{list_any, slice_get}
 use Rattle.std.specs.Prelude.{All}
 use Rattle.std.proofs.lemmas.Bool.{or_from, or_parts}
-use Rattle.std.proofs.lemmas.List.Elements.{All-head}
+use Rattle.std.proofs.lemmas.List.Elements.{All-head, All-tail}
+use Rattle.std.proofs.lemmas.Option.{same_Some}
 use Rattle.outside_kit.specs.declared.side.Side.{Side}
 use Rattle.key_material.proofs.Bounds.{drawn_word_below}
 use Rattle.link_model.specs.Fate.{is_stripped_by, is_altered_by}
 use Rattle.link_model.specs.Steps.{is_path, lines_of}
 use Rattle.link_script.specs.Places.{path_named}
 use Rattle.link_script.specs.declared.script.PathLine.{PathLine}
+use Rattle.link_script.specs.declared.script.Script.{Script}
 use Rattle.link_script.specs.declared.script.ScriptLine.{ScriptLine}
 use Rattle.link_script.specs.declared.script.ScriptLine.TheVariants.{Strip, Alter, StripAll}
 use Rattle.link_script.specs.Scripts.{IsPath}
 use Rattle.path_core.specs.Shown.{ChangesNothing}
-use Rattle.path_core.specs.Starts.{key_of, first_mss}
-use Rattle.world_laws.specs.Openings.{start_of}
+use Rattle.path_core.specs.Starts.{key_of}
+use Rattle.world_laws.specs.Openings.{PathPlan, plan_of, plans_from, start_of}
 use Rattle.world_laws.specs.PlainScripts.{changes_segments, PlainScriptsStartPlainly, PlainScriptsKeepAllPromises}
 use Rattle.world_laws.proofs.PlacesAgree.{mappings_agree_in_octets}
-use Rattle.world_laws.proofs.PromisesMade.{keep_their_word_in_octets, nothing_follows_in_octets, one_step_each_in_octets, nothing_refused_in_octets, keys_in_octets}
+use Rattle.world_laws.proofs.JoinsShown.{each_copy_is_welcome_in_octets}
+use Rattle.world_laws.proofs.PromisesMade.{keep_their_word_in_octets, nothing_follows_in_octets, one_step_each_in_octets, nothing_refused_in_octets, keys_in_octets, joins_in_octets}
 
 -- ---- lines
 
 module _ (test : ScriptLine → Bool) (among : (line : ScriptLine) → changes_segments line ≡ false → test line ≡ false) where
-  none_passes : (lines : List ScriptLine) → list_any changes_segments lines ≡ false → list_any test (lines_of 0 lines) ≡ false
-  none_passes [] is = refl
-  none_passes (line ∷ lines) is = by (is_path 0 (path_named line)) (none_passes lines parts.1)
+  none_passes : (path : ℕ) (lines : List ScriptLine) → list_any changes_segments lines ≡ false → list_any test (lines_of path lines) ≡ false
+  none_passes path [] is = refl
+  none_passes path (line ∷ lines) is = by (is_path path (path_named line)) (none_passes path lines parts.1)
     where
       parts : (changes_segments line ≡ false) × (list_any changes_segments lines ≡ false)
       parts = or_parts (changes_segments line) (list_any changes_segments lines) is
 
-      by : (b : Bool) → list_any test (lines_of 0 lines) ≡ false → list_any test (cond b (line ∷ lines_of 0 lines) (lines_of 0 lines)) ≡ false
-      by true rest = or_from (test line) (list_any test (lines_of 0 lines)) (among line parts.0) rest
+      by : (b : Bool) → list_any test (lines_of path lines) ≡ false → list_any test (cond b (line ∷ lines_of path lines) (lines_of path lines)) ≡ false
+      by true rest = or_from (test line) (list_any test (lines_of path lines)) (among line parts.0) rest
       by false rest = rest
 
 never_strips : (from : Side) (number now : ℕ) (line : ScriptLine) → changes_segments line ≡ false → is_stripped_by from number now line ≡ false
@@ -43,10 +46,10 @@ never_alters : (from : Side) (number : ℕ) (line : ScriptLine) → changes_segm
 never_alters from number (Alter path side named) is = cc
 never_alters from number line is = refl
 
-changes_nothing : (lines : List ScriptLine) → list_any changes_segments lines ≡ false → ChangesNothing (lines_of 0 lines)
-changes_nothing lines is = record {
-  strips = λ from number now. none_passes (is_stripped_by from number now) (never_strips from number now) lines is;
-  alters = λ from number. none_passes (is_altered_by from number) (never_alters from number) lines is;
+changes_nothing : (path : ℕ) (lines : List ScriptLine) → list_any changes_segments lines ≡ false → ChangesNothing (lines_of path lines)
+changes_nothing path lines is = record {
+  strips = λ from number now. none_passes (is_stripped_by from number now) (never_strips from number now) path lines is;
+  alters = λ from number. none_passes (is_altered_by from number) (never_alters from number) path lines is;
 }
 
 -- ---- numbers
@@ -54,24 +57,51 @@ changes_nothing lines is = record {
 key_below : (seed first : ℕ) → key_of seed first < 2 ^ 64
 key_below seed first = let high = drawn_word_below seed 0 first in let low = drawn_word_below seed 0 (first + 1) in omega (arith, high, low)
 
-first_size : (paths : List PathLine) → 0 < length paths → All IsPath paths → (29 ≤ first_mss paths) × (first_mss paths ≤ 65503)
-first_size [] some all = absurd (omega (arith, some))
-first_size (path ∷ paths) some all = let mss = (All-head IsPath path paths all).mss in let least = mss.least in let most = mss.most in (omega (arith, least), omega (arith, most))
+-- the plan of a line
+plan_there : (script : Script) (first i : ℕ) (lines : List PathLine) (plan : PathPlan) → slice_get (plans_from script first lines) i ≡ Some plan
+    → (line : PathLine) × (slice_get lines i ≡ Some line) × (plan.mss ≡ line.mss)
+plan_there script first i [] plan there = cc
+plan_there script first zero (line ∷ lines) plan there = (line, refl, ap (λ p. p.mss) (sym (same_Some _ plan there)))
+plan_there script first (suc i) (line ∷ lines) plan there = plan_there script (suc first) i lines plan there
+
+-- nonces are words
+nonces_below : (script : Script) (first i : ℕ) (lines : List PathLine) (plan : PathPlan) → slice_get (plans_from script first lines) i ≡ Some plan
+    → (plan.nonce_a < 2 ^ 32) × (plan.nonce_b < 2 ^ 32)
+nonces_below script first i [] plan there = cc
+nonces_below script first zero (line ∷ lines) plan there =
+    subst (λ (p : PathPlan). (p.nonce_a < 2 ^ 32) × (p.nonce_b < 2 ^ 32)) (same_Some (plan_of script first line) plan there)
+    (drawn_word_below script.seed (1 + 2 * first) 1, drawn_word_below script.seed (2 + 2 * first) 1)
+nonces_below script first (suc i) (line ∷ lines) plan there = nonces_below script (suc first) i lines plan there
+
+plan_count : (script : Script) (first : ℕ) (lines : List PathLine) → length (plans_from script first lines) ≡ length lines
+plan_count script first [] = refl
+plan_count script first (line ∷ lines) = ap (λ n. suc n) (plan_count script (suc first) lines)
+
+line_fits : (i : ℕ) (lines : List PathLine) (line : PathLine) → All IsPath lines → slice_get lines i ≡ Some line → IsPath line
+line_fits i [] line all there = cc
+line_fits zero (first ∷ lines) line all there = subst IsPath (same_Some first line there) (All-head IsPath first lines all)
+line_fits (suc i) (first ∷ lines) line all there = line_fits i lines line (All-tail IsPath first lines all) there
 
 pub plain_scripts_start_plainly : PlainScriptsStartPlainly
 plain_scripts_start_plainly script file_a file_b h = (
-  record { unchanged = changes_nothing script.lines h.unchanged; size = size.0; short_a = h.short_a; short_b = h.short_b },
+  record { unchanged = λ path. changes_nothing path script.lines h.unchanged; size = record { each = λ i plan there. (size i plan there).0 }; short_a = h.short_a; short_b = h.short_b },
   record {
-    path = omega arith;
-    size = size.1;
+    paths = let count = plan_count script 0 script.paths in let most = h.ranges.few_paths in omega (arith, count, most);
+    size = record { each = λ i plan there. (size i plan there).1 };
     buffer = let most = h.ranges.buffer.most in omega (arith, most);
     key_a = key_below script.seed 0;
     key_b = key_below script.seed 2;
+    nonces_a = record { each = λ i plan there. (nonces_below script 0 i script.paths plan there).0 };
+    nonces_b = record { each = λ i plan there. (nonces_below script 0 i script.paths plan there).1 };
   },
 )
   where
-    size : (29 ≤ first_mss script.paths) × (first_mss script.paths ≤ 65503)
-    size = first_size script.paths h.ranges.some_path h.ranges.paths
+    size : (i : ℕ) (plan : PathPlan) → slice_get (plans_from script 0 script.paths) i ≡ Some plan → (29 ≤ plan.mss) × (plan.mss ≤ 65503)
+    size i plan there =
+        let found = plan_there script 0 i script.paths plan there in
+        let mss = (line_fits i script.paths found.0 h.ranges.paths found.1).mss in
+        let least = mss.least in let most = mss.most in let same = found.2 in
+        (omega (arith, least, same), omega (arith, most, same))
 
 -- ---- promises
 
@@ -85,5 +115,7 @@ plain_scripts_keep_all_promises script file_a file_b turns h =
       steps = one_step_each_in_octets start turns starts.0 starts.1;
       refused = nothing_refused_in_octets start turns starts.0 starts.1;
       keys = keys_in_octets start turns starts.0 starts.1;
+      joins = joins_in_octets start turns starts.0 starts.1;
+      copies = each_copy_is_welcome_in_octets start turns starts.0 starts.1;
       mappings = mappings_agree_in_octets start turns starts.0 starts.1;
     }

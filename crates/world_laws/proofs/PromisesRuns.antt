@@ -1,6 +1,6 @@
 -- What is promised over every list of turns, where each turn shows in the two directions.
-use Rattle.std.proofs.Common.{◌≡◌, sym, ◌∙◌, ap, subst, Some, List, [], ◌∷◌, ◌++◌}
-use Rattle.stream_lanes.specs.Duo.{Duo, Event, after_events, opening}
+use Rattle.std.proofs.Common.{◌≡◌, sym, ◌∙◌, ap, subst, Some, List, [], ◌∷◌, ◌++◌, length}
+use Rattle.stream_lanes.specs.Duo.{Duo, Event, after_events}
 use Rattle.stream_lanes.specs.Holding.{Holds}
 use Rattle.stream_lanes.specs.Laws.{BothWays, NothingIsRefused, EachEventIsOneStep}
 use Rattle.stream_lanes.specs.Streams.{Reader}
@@ -12,9 +12,11 @@ use Rattle.path_core.specs.Values.{Carried, values}
 use Rattle.world_laws.specs.Openings.{Start, opened_world}
 use Rattle.world_laws.specs.Promises.{IsPlain, tells_refusal, BothKeepTheirWord, NothingFollows, EachTurnIsOneStep, NothingWasRefused}
 use Rattle.world_laws.specs.Worlds.{WorldState, Turn, after_turn, world_run}
-use Rattle.world_laws.proofs.Lanes.{WorldShows, asked_by, asked_in, CallIs, move_events, events_append, turn_events, turn_is}
+use Rattle.world_laws.proofs.Lanes.{WorldShows, SureIsClear, first_duo, asked_by, asked_in, CallIs, events_append, turn_events, turn_is}
 use Rattle.world_laws.proofs.Beginning.{each_opening_shows}
 use Rattle.world_laws.proofs.Joining.{each_turn_shows}
+use Rattle.world_laws.proofs.Surely.{sure_is_clear}
+use Rattle.world_laws.proofs.WeavingRounds.{run_append}
 use Rattle.world_laws.proofs.PromisesNotes.{NoneTold, Untold, from_each, turn_none, opened_none}
 use Rattle.world_laws.proofs.PromisesKept.{keeps_its_word, same_as_shown, before, same_before, step_from, turn_steps, ask_untold}
 
@@ -22,7 +24,7 @@ use Rattle.world_laws.proofs.PromisesKept.{keeps_its_word, same_as_shown, before
 
 module _ (start : Start) (can : IsPlain start) where
   abbrev begun : Duo
-  begun = opening 1 start.profile.buffer start.profile.buffer
+  begun = first_duo start
 
   -- the world shows after these events
   pub record ShownAfter (events : List Event) (w : WorldState Carried) : Type 0 where
@@ -34,21 +36,28 @@ module _ (start : Start) (can : IsPlain start) where
     pub shows : WorldShows start (after_events more (after_events events begun)) v
 
   held : (events : List Event) → Holds (after_events events begun)
-  held events = all_held 1 start.profile.buffer start.profile.buffer events
+  held events = all_held (length start.paths) start.buffer start.buffer events
 
-  turn_later : (events : List Event) (turn : Turn) (w : WorldState Carried) → ShownAfter events w → Later events (after_turn values turn w)
-  turn_later events turn w s =
-      let shown = each_turn_shows start can turn (after_events events begun) w (held events) s.shows in
+  -- at no moment from this one on A's side is sure before A may send a DSS on path 0
+  abbrev Ever : WorldState Carried → Type 0
+  Ever w = (more : List Turn) → SureIsClear (world_run values more w)
+
+  ever_after : (turns : List Turn) → Ever (world_run values turns (opened_world start))
+  ever_after turns more = subst SureIsClear (run_append values turns more (opened_world start)) (sure_is_clear start (turns ++ more))
+
+  turn_later : (events : List Event) (turn : Turn) (w : WorldState Carried) → SureIsClear w → ShownAfter events w → Later events (after_turn values turn w)
+  turn_later events turn w sure s =
+      let shown = each_turn_shows start can turn (after_events events begun) w sure (held events) s.shows in
       record { more = turn_events shown.turn_shows; shows = subst (λ e. WorldShows start e (after_turn values turn w)) (turn_is shown.turn_shows) shown.world_shows }
 
   shown_later : (events more : List Event) (v : WorldState Carried) → WorldShows start (after_events more (after_events events begun)) v → ShownAfter (events ++ more) v
   shown_later events more v s = record { shows = subst (λ e. WorldShows start e v) (sym (events_append events more begun)) s }
 
-  onward : (turns : List Turn) (events : List Event) (w : WorldState Carried) → ShownAfter events w → Later events (world_run values turns w)
-  onward [] events w s = record { more = []; shows = s.shows }
-  onward (turn ∷ turns) events w s =
-      let first = turn_later events turn w s in
-      let rest = onward turns (events ++ first.more) (after_turn values turn w) (shown_later events first.more (after_turn values turn w) first.shows) in
+  onward : (turns : List Turn) (events : List Event) (w : WorldState Carried) → Ever w → ShownAfter events w → Later events (world_run values turns w)
+  onward [] events w ever s = record { more = []; shows = s.shows }
+  onward (turn ∷ turns) events w ever s =
+      let first = turn_later events turn w (ever []) s in
+      let rest = onward turns (events ++ first.more) (after_turn values turn w) (λ more. ever (turn ∷ more)) (shown_later events first.more (after_turn values turn w) first.shows) in
       record {
         more = first.more ++ rest.more;
         shows = subst (λ e. WorldShows start e (world_run values turns (after_turn values turn w)))
@@ -63,7 +72,7 @@ module _ (start : Start) (can : IsPlain start) where
   pub reached : (turns : List Turn) → Reaches (world_run values turns (opened_world start))
   reached turns =
       let first = each_opening_shows start can in
-      let rest = onward turns first.0 (opened_world start) (record { shows = first.1 }) in
+      let rest = onward turns first.0 (opened_world start) (sure_is_clear start) (record { shows = first.1 }) in
       record { events = first.0 ++ rest.more; shows = (shown_later first.0 rest.more (world_run values turns (opened_world start)) rest.shows).shows }
 
   -- ---- promises
@@ -72,12 +81,12 @@ module _ (start : Start) (can : IsPlain start) where
   always_keep_word turns =
       let at = reached turns in keeps_its_word start (after_events at.events begun) (world_run values turns (opened_world start)) (held at.events) at.shows
 
-  follows : (events : List Event) (w : WorldState Carried) → WorldShows start (after_events events begun) w → NothingFollows values w
-  follows events w s more =
+  follows : (events : List Event) (w : WorldState Carried) → Ever w → WorldShows start (after_events events begun) w → NothingFollows values w
+  follows events w ever s more =
       let now = same_as_shown start (after_events events begun) w s in
-      let next = onward more events w (record { shows = s }) in
+      let next = onward more events w ever (record { shows = s }) in
       let then_is = same_as_shown start (after_events next.more (after_events events begun)) (world_run values more w) next.shows in
-      let nothing = nothing_follows_the_end 1 start.profile.buffer start.profile.buffer events next.more in (
+      let nothing = nothing_follows_the_end (length start.paths) start.buffer start.buffer events next.more in (
         λ told. let came = nothing.0 (sym now.told_b ∙ told) in record {
           read = then_is.out_b ∙ ap (λ (r : Reader). r.out) came.read ∙ sym now.out_b;
           written = ap (λ b. b.written) then_is.written_a ∙ came.written ∙ sym (ap (λ b. b.written) now.written_a);
@@ -89,50 +98,50 @@ module _ (start : Start) (can : IsPlain start) where
       )
 
   pub never_follows : (turns : List Turn) → NothingFollows values (world_run values turns (opened_world start))
-  never_follows turns = let at = reached turns in follows at.events (world_run values turns (opened_world start)) at.shows
+  never_follows turns = let at = reached turns in follows at.events (world_run values turns (opened_world start)) (ever_after turns) at.shows
 
-  one_step : (events : List Event) (w : WorldState Carried) → WorldShows start (after_events events begun) w → EachTurnIsOneStep values w
-  one_step events w s turn =
+  one_step : (events : List Event) (w : WorldState Carried) → SureIsClear w → WorldShows start (after_events events begun) w → EachTurnIsOneStep values w
+  one_step events w sure s turn =
       let d = after_events events begun in
-      let shown = each_turn_shows start can turn d w (held events) s in
+      let shown = each_turn_shows start can turn d w sure (held events) s in
       let now = same_as_shown start d w s in
       let later = same_as_shown start shown.duo (after_turn values turn w) shown.world_shows in
       let t = shown.turn_shows in
-      let all_before = each_event_is_one_step 1 start.profile.buffer start.profile.buffer (events ++ move_events t.before) in
-      let steps = turn_steps (asked_in turn w) d shown.duo t (subst EachEventIsOneStep (events_append events (move_events t.before) begun) all_before) in (
+      let all_before = each_event_is_one_step (length start.paths) start.buffer start.buffer (events ++ t.before) in
+      let steps = turn_steps (asked_in turn w) d shown.duo t (subst EachEventIsOneStep (events_append events t.before begun) all_before) in (
         step_from _ _ _ _ _ _ (ap received now.arrived_b) now.ab later.ab steps.0,
         step_from _ _ _ _ _ _ (ap received now.arrived_a) now.ba later.ba steps.1,
       )
 
   pub always_one_step : (turns : List Turn) → EachTurnIsOneStep values (world_run values turns (opened_world start))
-  always_one_step turns = let at = reached turns in one_step at.events (world_run values turns (opened_world start)) at.shows
+  always_one_step turns = let at = reached turns in one_step at.events (world_run values turns (opened_world start)) (sure_is_clear start turns) at.shows
 
   -- what an actor asks is not refused
-  untold : (events : List Event) (w : WorldState Carried) → WorldShows start (after_events events begun) w → Untold tells_refusal values w
-  untold events w s actor c x there asks =
+  untold : (events : List Event) (w : WorldState Carried) → SureIsClear w → WorldShows start (after_events events begun) w → Untold tells_refusal values w
+  untold events w sure s actor c x there asks =
       let d = after_events events begun in
       let turn : Turn = Turn.Step actor in
-      let shown = each_turn_shows start can turn d w (held events) s in
+      let shown = each_turn_shows start can turn d w sure (held events) s in
       let now = same_as_shown start d w s in
       let t = shown.turn_shows in
       let same = same_before (asked_in turn w) d shown.duo t in
-      let none = nothing_is_refused 1 start.profile.buffer start.profile.buffer (events ++ move_events t.before) in
+      let none = nothing_is_refused (length start.paths) start.buffer start.buffer (events ++ t.before) in
       let is : asked_in turn w ≡ Some x = ap asked_by there ∙ asks in
       ask_untold x (books_in w.books) (before (asked_in turn w) d shown.duo t) t.call
       (now.written_a ∙ sym same.ab.send) (now.written_b ∙ sym same.ba.send) (now.arrived_b ∙ sym same.ab.arrived) (now.arrived_a ∙ sym same.ba.arrived)
-      (subst (BothWays NothingIsRefused) (events_append events (move_events t.before) begun) none)
+      (subst (BothWays NothingIsRefused) (events_append events t.before begun) none)
       (subst (λ o. CallIs o (before (asked_in turn w) d shown.duo t) t.call) is t.calls)
 
-  refused_nowhere : (turns : List Turn) (events : List Event) (w : WorldState Carried) → ShownAfter events w → NoneTold tells_refusal values w
+  refused_nowhere : (turns : List Turn) (events : List Event) (w : WorldState Carried) → Ever w → ShownAfter events w → NoneTold tells_refusal values w
       → NoneTold tells_refusal values (world_run values turns w)
-  refused_nowhere [] events w s h = h
-  refused_nowhere (turn ∷ turns) events w s h =
-      let first = turn_later events turn w s in
-      refused_nowhere turns (events ++ first.more) (after_turn values turn w) (shown_later events first.more (after_turn values turn w) first.shows)
-      (turn_none tells_refusal values turn w (untold events w s.shows) h)
+  refused_nowhere [] events w ever s h = h
+  refused_nowhere (turn ∷ turns) events w ever s h =
+      let first = turn_later events turn w (ever []) s in
+      refused_nowhere turns (events ++ first.more) (after_turn values turn w) (λ more. ever (turn ∷ more)) (shown_later events first.more (after_turn values turn w) first.shows)
+      (turn_none tells_refusal values turn w (untold events w (ever []) s.shows) h)
 
   pub never_refused : (turns : List Turn) → NothingWasRefused (world_run values turns (opened_world start))
   never_refused turns =
       let first = each_opening_shows start can in
       from_each tells_refusal values (world_run values turns (opened_world start))
-      (refused_nowhere turns first.0 (opened_world start) (record { shows = first.1 }) (opened_none tells_refusal values start))
+      (refused_nowhere turns first.0 (opened_world start) (sure_is_clear start) (record { shows = first.1 }) (opened_none tells_refusal values start))

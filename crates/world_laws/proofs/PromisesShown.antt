@@ -1,5 +1,5 @@
 -- What a world over segments as values promises, it promises shown over octets: books and notes are the same.
-use Rattle.std.proofs.Common.{◌≡◌, refl, sym, ◌∙◌, ap, subst, ℕ, zero, suc, List, [], ◌∷◌, ◌++◌, map}
+use Rattle.std.proofs.Common.{◌≡◌, refl, sym, ◌∙◌, ap, subst, ℕ, zero, suc, ◌+◌, List, [], ◌∷◌, ◌++◌, map}
 use Rattle.outside_kit.specs.declared.side.Side.{Side}
 use Rattle.outside_kit.specs.declared.side.Side.TheVariants.{A, B}
 use Rattle.reassembly_book.specs.State.{received}
@@ -15,9 +15,9 @@ use Rattle.path_core.proofs.Showing.{same_settled}
 use Rattle.world_laws.specs.declared.member.Member.TheVariants.{App, Path}
 use Rattle.world_laws.specs.Actors.{ActorCrew}
 use Rattle.world_laws.specs.Fresh.{AreFresh, shown_crew, shown_world}
-use Rattle.world_laws.specs.Openings.{Start, new_crew, opened_world}
+use Rattle.world_laws.specs.Openings.{PathPlan, Start, path_begins, new_crew, new_path, paths_from, opened_world}
 use Rattle.world_laws.specs.Outcomes.{notes_at, notes_of, output_of, pipe_of, read_by, was_told, tells_end}
-use Rattle.world_laws.specs.Promises.{tells_refusal, tells_other_key, arrived_at, was_told_end, KeepsItsWord, BothKeepTheirWord, NothingCame, IsOneStep, NothingWasRefused, KeysNeverDiffer}
+use Rattle.world_laws.specs.Promises.{tells_refusal, tells_other_key, tells_wrong_join, arrived_at, was_told_end, KeepsItsWord, BothKeepTheirWord, NothingCame, IsOneStep, NothingWasRefused, KeysNeverDiffer, JoinsAreRight}
 use Rattle.world_laws.specs.Worlds.{WorldState, Turn, world_run}
 use Rattle.world_laws.proofs.Carrying.{run_same}
 
@@ -68,15 +68,23 @@ refused_shown w h actor = ap (was_told tells_refusal) (same_notes_at actor w.cre
 pub keys_shown : (w : WorldState Carried) → KeysNeverDiffer w → KeysNeverDiffer (shown_world w)
 keys_shown w h actor = ap (was_told tells_other_key) (same_notes_at actor w.crew) ∙ h actor
 
+pub joins_shown : (w : WorldState Carried) → JoinsAreRight w → JoinsAreRight (shown_world w)
+joins_shown w h actor = ap (was_told tells_wrong_join) (same_notes_at actor w.crew) ∙ h actor
+
 -- ---- from the opening on
+
+paths_same : (start : Start) (first : ℕ) (plans : List PathPlan) → map shown_crew (paths_from start first plans) ≡ paths_from start first plans
+paths_same start first [] = refl
+paths_same start first (plan ∷ plans) =
+    ap (λ p. new_crew (2 + first) (Path p) ∷ map shown_crew (paths_from start (suc first) plans)) (sym (same_settled start_of_turn (with_agenda start_of_turn (waiting_path (path_begins start first plan) start.lines))))
+    ∙ ap (λ crew. new_path start first plan ∷ crew) (paths_same start (suc first) plans)
 
 opened_same : (start : Start) → shown_world (opened_world start) ≡ opened_world start
 opened_same start =
-    ap (λ p. record (opened_world {C = List ℕ} start) {
-      crew = shown_crew (new_crew 0 (App (first_app_turn A start.profile.buffer start.file_a))) ∷ shown_crew (new_crew 1 (App (first_app_turn B start.profile.buffer start.file_b)))
-          ∷ new_crew 2 (Path p) ∷ [];
+    ap (λ crew. record (opened_world {C = List ℕ} start) {
+      crew = shown_crew (new_crew 0 (App (first_app_turn A start.buffer start.file_a))) ∷ shown_crew (new_crew 1 (App (first_app_turn B start.buffer start.file_b))) ∷ crew;
     })
-    (sym (same_settled start_of_turn (with_agenda start_of_turn (waiting_path start.profile start.drawn start.delay start.lines))))
+    (paths_same start 0 start.paths)
 
 -- after fresh turns
 pub run_shown : (start : Start) (turns : List Turn) → AreFresh turns (opened_world start)

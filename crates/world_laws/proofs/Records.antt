@@ -106,7 +106,6 @@ module _ (c : Profile) (s : Side) (known : Option ℕ) (acked : Bool) (p : Lane)
   -- other records of the same octets
   with_records : (state : EndPhase) (v : SendState) (rs : List Record) → Shows state v → Every (RecordShows c s p.datas p.fins) rs → Shows state (record v { records = rs })
   with_records state v rs h pieces = record {
-    opened = h.opened;
     plain = h.plain;
     next = h.next;
     unfinished = h.unfinished;
@@ -139,7 +138,6 @@ module _ (c : Profile) (s : Side) (known : Option ℕ) (acked : Bool) (p : Lane)
     where
       by : (b : Bool) → Shows state (if b then record v { una = pos; records = uncovered pos v.records } else v)
       by true = record {
-        opened = h.opened;
         plain = h.plain;
         next = h.next;
         unfinished = h.unfinished;

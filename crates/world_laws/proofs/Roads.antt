@@ -1,22 +1,55 @@
--- A direction of a connection with path 0 alone, and what is done to it: moves of its lane, then at most one call of its books,
--- and moves again.
-use Rattle.std.proofs.Common.{◌≡◌, refl, sym, ◌∙◌, ap, false, Option, Some, None, List, [], ◌∷◌, ◌++◌}
+-- A direction of a connection, and what is done to the lane of one path in it: moves of the lane, then at most one call of its
+-- books, and moves again.
+use Rattle.std.proofs.Common.{◌≡◌, refl, sym, ◌∙◌, ap, ℕ, zero, suc, ◌<◌, Bool, false, true, Some, List, [], ◌∷◌, ◌++◌, length, set, arith}
+use Rattle.std.specs.List.{slice_get, list_all}
+use Rattle.std.proofs.lemmas.Bool.{and_parts, and_from, false≢true}
+use Rattle.std.proofs.lemmas.List.{set-set}
+use Rattle.send_book.specs.declared.call.SendCall.TheVariants.{Grant, AckIn}
 use Rattle.send_book.specs.State.{Sending}
+use Rattle.send_book.specs.Steps.{reply_to as send_reply, after_call as after_send}
+use Rattle.reassembly_book.specs.declared.call.ReassemblyCall.TheVariants.{Place, Fin, AckOut}
 use Rattle.reassembly_book.specs.State.{Arriving}
-use Rattle.stream_lanes.specs.Lane.{Lane}
-use Rattle.stream_lanes.specs.Moves.{Flags, Move, moved}
-use Rattle.stream_lanes.specs.Streams.{Reader, Direction, StreamEvent, after}
-use Rattle.stream_lanes.specs.Streams.StreamEvent.{Moves}
+use Rattle.reassembly_book.specs.Steps.{reply_to as arrival_reply, after_call as after_arrival}
+use Rattle.stream_lanes.specs.Lane.{Ask as LaneAsk, Lane}
+use Rattle.stream_lanes.specs.Lane.Ask.{Nothing, AskGrant, AskAckIn, AskPlace, AskFin, AskAckOut}
+use Rattle.stream_lanes.specs.Moves.{Flags, Move, moved, takes_grant, takes_ack, takes_placed, takes_fin, takes_ack_out}
+use Rattle.stream_lanes.specs.Moves.Move.{Open, LookAtSender, LookAtReceiver, WantGrant, HearAck, SendPiece, SendDataFin, SendFin, Hear, Learn, HearDataFin, HearFin, WantPlace, WantPlacePlain, WantFin, WantAckOut, SendAck}
+use Rattle.stream_lanes.specs.Streams.{Reader, Direction, after, asks, asks_at, moves as moves_in}
+use Rattle.stream_lanes.specs.Streams.StreamEvent.{Moves, Asks}
 
--- no join was answered, and no side fell back
-abbrev pub no_flags : Flags
-no_flags = record { answered = false; sender = false; receiver = false }
+-- no side fell back; whether a join was answered
+abbrev pub flags_by : Bool → Flags
+flags_by joined = record { answered = joined; sender = false; receiver = false }
 
-abbrev pub direction : Sending → Arriving → Lane → Reader → Direction
-direction send arrived lane reader = record { send = send; arrived = arrived; lanes = lane ∷ []; reader = reader }
+-- a move that isn't the opening of a lane, and looks at no mode
+abbrev pub is_calm : Move → Bool
+is_calm Open = false
+is_calm LookAtSender = false
+is_calm LookAtReceiver = false
+is_calm _ = true
 
 abbrev pub move : Move → Lane → Lane
-move m p = moved no_flags 0 m p
+move m p = moved (flags_by false) 0 m p
+
+-- so lanes move alike on all paths
+pub moves_alike : (joined : Bool) (path : ℕ) (m : Move) (p : Lane) → is_calm m ≡ true → moved (flags_by joined) path m p ≡ move m p
+moves_alike joined path Open p calm = absurd (false≢true calm)
+moves_alike joined path LookAtSender p calm = absurd (false≢true calm)
+moves_alike joined path LookAtReceiver p calm = absurd (false≢true calm)
+moves_alike joined path (WantGrant max standby) p calm = refl
+moves_alike joined path (HearAck copy) p calm = refl
+moves_alike joined path (SendPiece piece mapped) p calm = refl
+moves_alike joined path SendDataFin p calm = refl
+moves_alike joined path SendFin p calm = refl
+moves_alike joined path (Hear copy count) p calm = refl
+moves_alike joined path (Learn copy) p calm = refl
+moves_alike joined path (HearDataFin copy) p calm = refl
+moves_alike joined path (HearFin copy) p calm = refl
+moves_alike joined path (WantPlace mapping count) p calm = refl
+moves_alike joined path (WantPlacePlain count) p calm = refl
+moves_alike joined path WantFin p calm = refl
+moves_alike joined path WantAckOut p calm = refl
+moves_alike joined path (SendAck next window sub) p calm = refl
 
 -- the lane after these moves, the first one first
 abbrev pub moves : List Move → Lane → Lane
@@ -30,60 +63,74 @@ moves-append (m ∷ ms) ns p = moves-append ms ns (move m p)
 -- from one lane to another by moves alone
 pub record Strolls (p q : Lane) : Type 0 where
   pub by : List Move
+  pub calm : list_all is_calm by ≡ true
   pub to : q ≡ moves by p
 
 pub stays : (p : Lane) → Strolls p p
-stays p = record { by = []; to = refl }
+stays p = record { by = []; calm = refl; to = refl }
 
-pub one_move : (m : Move) (p q : Lane) → q ≡ move m p → Strolls p q
-one_move m p q to = record { by = m ∷ []; to = to }
+pub one_move : (m : Move) (p q : Lane) → is_calm m ≡ true → q ≡ move m p → Strolls p q
+one_move m p q calm to = record { by = m ∷ []; calm = and_from (is_calm m) true calm refl; to = to }
+
+all-append : (ms ns : List Move) → list_all is_calm ms ≡ true → list_all is_calm ns ≡ true → list_all is_calm (ms ++ ns) ≡ true
+all-append [] ns a b = b
+all-append (m ∷ ms) ns a b = let parts = and_parts (is_calm m) (list_all is_calm ms) a in and_from (is_calm m) (list_all is_calm (ms ++ ns)) parts.0 (all-append ms ns parts.1 b)
 
 pub then_strolls : (p q r : Lane) → Strolls p q → Strolls q r → Strolls p r
-then_strolls p q r x y = record { by = x.by ++ y.by; to = y.to ∙ ap (moves y.by) x.to ∙ sym (moves-append x.by y.by p) }
+then_strolls p q r x y = record { by = x.by ++ y.by; calm = all-append x.by y.by x.calm y.calm; to = y.to ∙ ap (moves y.by) x.to ∙ sym (moves-append x.by y.by p) }
 
--- ---- with the books
+-- ---- among the lanes of a direction
 
--- moves, then a call, and moves again
-abbrev pub called : Option StreamEvent → Direction → Direction
-called None d = d
-called (Some event) d = after no_flags event d
+-- what is put at a place is there
+pub put_there : {X : Type 0} (xs : List X) (i : ℕ) (x : X) → i < length xs → slice_get (set xs i x) i ≡ Some x
+put_there [] i x within = absurd (omega (arith, within))
+put_there (y ∷ xs) zero x within = refl
+put_there (y ∷ xs) (suc i) x within = put_there xs i x (omega (arith, within))
 
-abbrev pub moved_all : List Move → Direction → Direction
-moved_all [] d = d
-moved_all (m ∷ ms) d = moved_all ms (after no_flags (Moves 0 m) d)
+-- what is there may be put there
+pub there_again : {X : Type 0} (xs : List X) (i : ℕ) (x : X) → slice_get xs i ≡ Some x → set xs i x ≡ xs
+there_again [] i x there = refl
+there_again (y ∷ xs) zero x there = let same : y ≡ x = cc in ap (λ z. z ∷ xs) (sym same)
+there_again (y ∷ xs) (suc i) x there = ap (λ zs. y ∷ zs) (there_again xs i x there)
 
-pub record Goes (d e : Direction) : Type 0 where
-  pub before : List Move
-  pub call : Option StreamEvent
-  pub after : List Move
-  pub to : e ≡ moved_all after (called call (moved_all before d))
+-- with this lane at this place
+abbrev pub direction : Sending → Arriving → List Lane → Reader → Direction
+direction send arrived lanes reader = record { send = send; arrived = arrived; lanes = lanes; reader = reader }
 
-pub moved_all-is : (ms : List Move) (send : Sending) (arrived : Arriving) (p : Lane) (reader : Reader)
-    → moved_all ms (direction send arrived p reader) ≡ direction send arrived (moves ms p) reader
-moved_all-is [] send arrived p reader = refl
-moved_all-is (m ∷ ms) send arrived p reader = moved_all-is ms send arrived (move m p) reader
+module _ (lanes : List Lane) (number : ℕ) (send : Sending) (arrived : Arriving) (reader : Reader) where
+  abbrev pub with_lane : Lane → Direction
+  with_lane p = direction send arrived (set lanes number p) reader
 
--- moves alone
-pub strolling : (send : Sending) (arrived : Arriving) (p q : Lane) (reader : Reader) → Strolls p q
-    → Goes (direction send arrived p reader) (direction send arrived q reader)
-strolling send arrived p q reader s = record {
-  before = s.by;
-  call = None;
-  after = [];
-  to = ap (λ x. direction send arrived x reader) s.to ∙ sym (moved_all-is s.by send arrived p reader);
-}
+  -- after this ask of the lane
+  abbrev pub with_asked : LaneAsk → Lane → Direction
+  with_asked Nothing p = with_lane p
+  with_asked (AskGrant max standby) p =
+      let call = Grant number max standby in direction (after_send send call) arrived (set lanes number (takes_grant (send_reply send call) p)) reader
+  with_asked (AskAckIn next window) p =
+      let call = AckIn next window in direction (after_send send call) arrived (set lanes number (takes_ack next (send_reply send call) p)) reader
+  with_asked (AskPlace at bytes) p =
+      let call = Place at bytes in direction send (after_arrival arrived call) (set lanes number (takes_placed (length bytes) (arrival_reply arrived call) p)) reader
+  with_asked (AskFin at) p =
+      let call = Fin at in direction send (after_arrival arrived call) (set lanes number (takes_fin (arrival_reply arrived call) p)) reader
+  with_asked AskAckOut p = direction send (after_arrival arrived AckOut) (set lanes number (takes_ack_out (arrival_reply arrived AckOut) p)) reader
 
--- moves, what the call makes of the direction, and moves
-pub calling : (send send_after : Sending) (arrived arrived_after : Arriving) (p q r s : Lane) (reader : Reader) (event : StreamEvent)
-    → Strolls p q → after no_flags event (direction send arrived q reader) ≡ direction send_after arrived_after r reader → Strolls r s
-    → Goes (direction send arrived p reader) (direction send_after arrived_after s reader)
-calling send send_after arrived arrived_after p q r s reader event x is y = record {
-  before = x.by;
-  call = Some event;
-  after = y.by;
-  to =
-      ap (λ z. direction send_after arrived_after z reader) y.to
-      ∙ sym (moved_all-is y.by send_after arrived_after r reader)
-      ∙ ap (moved_all y.by) (sym is)
-      ∙ ap (λ z. moved_all y.by (after no_flags event z)) (ap (λ z. direction send arrived z reader) x.to ∙ sym (moved_all-is x.by send arrived p reader));
-}
+  put_twice : (s : Sending) (b : Arriving) (p q : Lane) → direction s b (set (set lanes number p) number q) reader ≡ direction s b (set lanes number q) reader
+  put_twice s b p q = ap (λ others. direction s b others reader) (set-set lanes number p q)
+
+  asks_there : (a : LaneAsk) (p : Lane) → asks number a p (with_lane p) ≡ with_asked a p
+  asks_there Nothing p = refl
+  asks_there (AskGrant max standby) p = put_twice _ _ p _
+  asks_there (AskAckIn next window) p = put_twice _ _ p _
+  asks_there (AskPlace at bytes) p = put_twice _ _ p _
+  asks_there (AskFin at) p = put_twice _ _ p _
+  asks_there AskAckOut p = put_twice _ _ p _
+
+  module _ (joined : Bool) (within : number < length lanes) where
+    pub moved_there : (m : Move) (p : Lane) → is_calm m ≡ true → after (flags_by joined) (Moves number m) (with_lane p) ≡ with_lane (move m p)
+    moved_there m p calm =
+        ap (λ o. moves_in (flags_by joined) number m o (with_lane p)) (put_there lanes number p within)
+        ∙ put_twice send arrived p (moved (flags_by joined) number m p)
+        ∙ ap with_lane (moves_alike joined number m p calm)
+
+    pub asked_there : (p : Lane) → after (flags_by joined) (Asks number) (with_lane p) ≡ with_asked p.asking p
+    asked_there p = ap (λ o. asks_at number o (with_lane p)) (put_there lanes number p within) ∙ asks_there p.asking p

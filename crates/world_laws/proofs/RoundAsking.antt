@@ -26,7 +26,7 @@ use Rattle.path_core.specs.Steps.{asks_first, takes, begins_turn}
 use Rattle.world_laws.specs.declared.member.Member.TheVariants.{App, Path}
 use Rattle.world_laws.specs.Actors.{Actor, ActorCrew, member_asks, member_takes, member_next}
 use Rattle.world_laws.specs.Laws.{Always}
-use Rattle.world_laws.specs.Openings.{opened_world}
+use Rattle.world_laws.specs.Openings.{path_begins, opened_world}
 use Rattle.world_laws.specs.RoundEnd.{asks_grant, is_no_grant, refused_after, last_refused, AreDoneAsking, GrantsAreDone}
 use Rattle.world_laws.specs.StampedBooks.{answer_to}
 use Rattle.world_laws.specs.Worlds.{note_of, world_run}
@@ -127,6 +127,7 @@ module _ {C : Type 0} where
     duty_done : (d : Duty) (ds : List Duty) (r : Reply) → n.ask ≡ ask_for k d (with_agenda (d ∷ ds) p) → n.reply ≡ r → ((s : Side) → n.ask ≡ grant_ask s p → grant_in r ≡ None → is_no_grant r ≡ true)
         → is_followed (d ∷ ds) ≡ true → ((t : Side) → Pays (with_agenda (d ∷ ds) p) (d ∷ ds) (flags_of notes) t) → Granting (answered k d r (with_agenda (d ∷ ds) p)) later
     duty_done (duties.Data s) ds r asks is refusal f each = data_duty s ds r is (refusal s) f each (first_unsent (end_at s p)) asks
+    duty_done duties.JoinAgain ds r asks is refusal f each = other_duty duties.JoinAgain ds r asks tt f each
     duty_done (duties.Look s) ds r asks is refusal f each = other_duty (duties.Look s) ds r asks tt f each
     duty_done (duties.Window s) ds r asks is refusal f each = other_duty (duties.Window s) ds r asks tt f each
     duty_done (duties.Update s) ds r asks is refusal f each = other_duty (duties.Update s) ds r asks tt f each
@@ -139,10 +140,13 @@ module _ {C : Type 0} where
     duty_done (duties.SynAnswered s) ds r asks is refusal f each = other_duty (duties.SynAnswered s) ds r asks tt f each
     duty_done (duties.PeerKey s) ds r asks is refusal f each = other_duty (duties.PeerKey s) ds r asks tt f each
     duty_done (duties.SynAck s) ds r asks is refusal f each = other_duty (duties.SynAck s) ds r asks tt f each
+    duty_done (duties.JoinHeard s) ds r asks is refusal f each = other_duty (duties.JoinHeard s) ds r asks tt f each
+    duty_done (duties.Refuse s) ds r asks is refusal f each = other_duty (duties.Refuse s) ds r asks tt f each
     duty_done (duties.Opened s) ds r asks is refusal f each = other_duty (duties.Opened s) ds r asks tt f each
     duty_done (duties.Live s) ds r asks is refusal f each = other_duty (duties.Live s) ds r asks tt f each
     duty_done (duties.Heard s index) ds r asks is refusal f each = other_duty (duties.Heard s index) ds r asks tt f each
     duty_done (duties.AckHeard s) ds r asks is refusal f each = other_duty (duties.AckHeard s) ds r asks tt f each
+    duty_done (duties.PlainAck s) ds r asks is refusal f each = other_duty (duties.PlainAck s) ds r asks tt f each
     duty_done (duties.Keep s) ds r asks is refusal f each = other_duty (duties.Keep s) ds r asks tt f each
     duty_done (duties.Edge s) ds r asks is refusal f each = other_duty (duties.Edge s) ds r asks tt f each
     duty_done (duties.HeardFin s index) ds r asks is refusal f each = other_duty (duties.HeardFin s index) ds r asks tt f each
@@ -220,4 +224,4 @@ module _ {C : Type 0} where
           (λ books c x asks h. step_grants k books c.member c.list (note_of books c.pass x) x refl refl asks h)
           (λ stamp c over h. next_grants c.member c.list)
           turns (opened_world start)
-          (opened_lifted IsGrantingCrew start tt tt (begun_grants (waiting_path start.profile start.drawn start.delay start.lines) (flags_of [])))
+          (opened_lifted IsGrantingCrew start tt tt (λ number plan there. begun_grants (waiting_path (path_begins start number plan) start.lines) (flags_of [])))

@@ -16,6 +16,7 @@ use Rattle.path_core.specs.declared.event.Event.{Event}
 use Rattle.path_core.specs.declared.event.Event.TheVariants as happening
 use Rattle.path_agenda.specs.declared.heard.Heard.{Heard}
 use Rattle.path_agenda.specs.declared.heard.Heard.TheVariants as says
+use Rattle.join_handshake.specs.declared.hearing.JoinSyn.{JoinSyn}
 use Rattle.path_agenda.specs.declared.keys.KeyPair.{KeyPair}
 use Rattle.path_core.specs.Breaking.{break_ask, reset_of}
 use Rattle.path_core.specs.Codec.{Codec}
@@ -23,11 +24,12 @@ use Rattle.path_core.specs.Duties.{ask_for}
 use Rattle.path_core.specs.Emission.{first_unsent, data_ask, payload_size}
 use Rattle.path_core.specs.Events.{next_event, step_for}
 use Rattle.path_agenda.specs.Items.{key_heard, keys_heard}
+use Rattle.path_core.specs.Joining.{asked_at, join_heard_ask}
 use Rattle.path_core.specs.Opening.{peer_key_ask, keys_ask}
 use Rattle.path_core.specs.Passing.{piece_of, piece_ask, fin_of, fin_ask, rate_ask}
 use Rattle.path_core.specs.Placing.{Piece}
 use Rattle.path_core.specs.Sends.{sends}
-use Rattle.path_core.specs.State.{PathState, end_at}
+use Rattle.path_core.specs.State.{PathState, end_at, path_of}
 use Rattle.path_core.specs.Treating.{is_clash, fell_ask, mapping_ask, item_ask, item_of}
 use Rattle.world_laws.proofs.RoundReplies.{AsksSome}
 
@@ -42,8 +44,9 @@ module _ {C : Type 0} (k : Codec C) (p : PathState C) (some : 1 ≤ payload_size
   data_some s None = some
   data_some s (Some r) = tt
 
-  step_some : (o : Option Event) → AsksSome (step_for o)
+  step_some : (o : Option Event) → AsksSome (step_for (path_of p) o)
   step_some None = tt
+  step_some (Some (happening.Joins tick)) = tt
   step_some (Some (happening.Takes line)) = tt
   step_some (Some (happening.Arrives due)) = tt
   step_some (Some (happening.Fires s tick)) = tt
@@ -55,6 +58,10 @@ module _ {C : Type 0} (k : Codec C) (p : PathState C) (some : 1 ≤ payload_size
   keys_some : (s : Side) (o : Option KeyPair) → AsksSome (keys_ask s o)
   keys_some s None = tt
   keys_some s (Some keys) = tt
+
+  join_some : (s : Side) (o : Option JoinSyn) → AsksSome (join_heard_ask s o p)
+  join_some s None = tt
+  join_some s (Some asked) = tt
 
   break_some : (s : Side) (reason : ℕ) → AsksSome (break_ask k s reason p)
   break_some s reason = by (end_at s p).treated.asked
@@ -78,6 +85,7 @@ module _ {C : Type 0} (k : Codec C) (p : PathState C) (some : 1 ≤ payload_size
   item_some s (Some (says.DataFin place)) = tt
   item_some s (Some (says.PeerKey key)) = tt
   item_some s (Some (says.Keys own peer)) = tt
+  item_some s (Some (says.Join form)) = tt
 
   piece_some : (s : Side) (o : Option Piece) → AsksSome (piece_ask s o)
   piece_some s None = tt
@@ -92,6 +100,7 @@ module _ {C : Type 0} (k : Codec C) (p : PathState C) (some : 1 ≤ payload_size
   rate_some s (Some pending) = tt
 
   pub asks_some : (d : Duty) → AsksSome (ask_for k d p)
+  asks_some duties.JoinAgain = tt
   asks_some (duties.Look s) = tt
   asks_some (duties.Window s) = tt
   asks_some (duties.Update s) = tt
@@ -105,10 +114,13 @@ module _ {C : Type 0} (k : Codec C) (p : PathState C) (some : 1 ≤ payload_size
   asks_some (duties.SynAnswered s) = tt
   asks_some (duties.PeerKey s) = key_some s (key_heard (end_at s p).treated.items)
   asks_some (duties.SynAck s) = tt
+  asks_some (duties.JoinHeard s) = join_some s (asked_at s p)
+  asks_some (duties.Refuse s) = tt
   asks_some (duties.Opened s) = keys_some s (keys_heard (end_at s p).treated.items)
   asks_some (duties.Live s) = tt
   asks_some (duties.Heard s index) = item_some s (item_of index (end_at s p))
   asks_some (duties.AckHeard s) = tt
+  asks_some (duties.PlainAck s) = break_some s 6
   asks_some (duties.Keep s) = tt
   asks_some (duties.Edge s) = piece_some s (piece_of s p)
   asks_some (duties.HeardFin s index) = fin_some s (fin_of index (end_at s p))

@@ -1,5 +1,5 @@
 -- Where the turn of a path is over, an end that may ask for bytes was refused over all that was written as the round began.
-use Rattle.std.proofs.Common.{◌≡◌, refl, sym, ap, subst, ℕ, not, inl, Bool, true, false, Option, Some, None, List, [], ◌∷◌, ◌++◌}
+use Rattle.std.proofs.Common.{◌≡◌, refl, sym, ◌∙◌, ap, subst, ℕ, not, ◌||◌, inl, Bool, true, false, Option, Some, None, List, [], ◌∷◌, ◌++◌}
 use Rattle.std.proofs.lemmas.Bool.{and_parts, false≢true}
 use Rattle.outside_kit.specs.declared.side.Side.{Side}
 use Rattle.outside_kit.specs.declared.side.Side.TheVariants.{A, B}
@@ -25,73 +25,79 @@ use Rattle.path_core.specs.Emission.{first_unsent, Grant, grant_in, grant_ask, a
 use Rattle.path_core.specs.State.{PathState, end_at, with_agenda, path_of}
 use Rattle.path_core.specs.Steps.{takes}
 use Rattle.path_core.specs.Treating.{item_of}
-use Rattle.world_laws.specs.RoundNumbers.{asks_on_standby, AskedForAll}
-use Rattle.world_laws.proofs.AskingBooks.{IsOnes, IsQuiet, ones_after, all_after, grant_refused, asked_more}
-use Rattle.world_laws.proofs.PathAsks.{IsQuietAsk, IsHeardAsk, IsQuietDuty, quiet_asks, heard_asks}
+use Rattle.world_laws.specs.RoundNumbers.{asks_on_standby, frees_bytes, AskedForAll}
+use Rattle.world_laws.proofs.AskingBooks.{IsOnes, IsQuiet, ones_after, all_after, ones_other, all_other, grant_refused, asked_more}
+use Rattle.world_laws.proofs.PathAsks.{IsCallOf, IsQuietAsk, IsHeardAsk, IsQuietDuty, quiet_asks, heard_asks}
 use Rattle.world_laws.proofs.RoundGrantAsks.{MayNotAsk}
 use Rattle.world_laws.proofs.RoundGrants.{Pays, Granting, needs, is_followed, is_owed, settled_done, data_sent, granted_done, refused_done, answered_done}
 
+-- an acknowledgement, or a return
+abbrev is_freeing : SendCall → Bool
+is_freeing (send_calls.AckIn next window) = true
+is_freeing (send_calls.Return path) = true
+is_freeing _ = false
+
 -- ---- one side's book in a round
 
--- where the last grant was refused, and no acknowledgement came since, all was asked for
-pub record SideAsks (path written : ℕ) (s : Side) (steps : List Note) (refused : Bool) (b : Sending) : Type 0 where
+-- where the last grant was refused, and no acknowledgement came since, all was asked for, as long as no other path freed bytes
+pub record SideAsks (path written : ℕ) (s : Side) (steps : List Note) (refused freed : Bool) (b : Sending) : Type 0 where
   pub ones : IsOnes path written b
-  pub all : refused ≡ true → AskedForAll path s steps written b
+  pub all : refused ≡ true → freed ≡ false → AskedForAll path s steps written b
 
 module _ (path written : ℕ) (s : Side) where
   -- a call that is neither grant nor acknowledgement
-  quiet_side : (steps : List Note) (refused : Bool) (b : Sending) (call : SendCall) → IsQuiet call → SideAsks path written s steps refused b → SideAsks path written s steps refused (after_call b call)
-  quiet_side steps refused b (send_calls.Write bytes) is h =
-      record { ones = ones_after path written b h.ones (send_calls.Write bytes) tt; all = λ on. all_after path written b h.ones s steps (send_calls.Write bytes) tt (h.all on) }
-  quiet_side steps refused b send_calls.Close is h =
-      record { ones = ones_after path written b h.ones send_calls.Close tt; all = λ on. all_after path written b h.ones s steps send_calls.Close tt (h.all on) }
-  quiet_side steps refused b (send_calls.Return asker) is h =
-      record { ones = ones_after path written b h.ones (send_calls.Return asker) tt; all = λ on. all_after path written b h.ones s steps (send_calls.Return asker) tt (h.all on) }
-  quiet_side steps refused b (send_calls.Grant asker max standby) is h = absurd is
-  quiet_side steps refused b (send_calls.AckIn next window) is h = absurd is
-  quiet_side steps refused b send_calls.GoIdentity is h = absurd is
-  quiet_side steps refused b (send_calls.GoInfinite asker) is h = absurd is
-  quiet_side steps refused b send_calls.Abort is h = absurd is
+  quiet_side : (steps : List Note) (refused freed : Bool) (b : Sending) (call : SendCall) → IsQuiet path call → SideAsks path written s steps refused freed b → SideAsks path written s steps refused freed (after_call b call)
+  quiet_side steps refused freed b (send_calls.Write bytes) is h =
+      record { ones = ones_after path written b h.ones (send_calls.Write bytes) tt; all = λ on alone. all_after path written b h.ones s steps (send_calls.Write bytes) tt (h.all on alone) }
+  quiet_side steps refused freed b send_calls.Close is h =
+      record { ones = ones_after path written b h.ones send_calls.Close tt; all = λ on alone. all_after path written b h.ones s steps send_calls.Close tt (h.all on alone) }
+  quiet_side steps refused freed b (send_calls.Return asker) is h =
+      record { ones = ones_after path written b h.ones (send_calls.Return asker) tt; all = λ on alone. all_after path written b h.ones s steps (send_calls.Return asker) is (h.all on alone) }
+  quiet_side steps refused freed b (send_calls.Grant asker max standby) is h = absurd is
+  quiet_side steps refused freed b (send_calls.AckIn next window) is h = absurd is
+  quiet_side steps refused freed b send_calls.GoIdentity is h = absurd is
+  quiet_side steps refused freed b (send_calls.GoInfinite asker) is h = absurd is
+  quiet_side steps refused freed b send_calls.Abort is h = absurd is
 
-  noted_side : (steps : List Note) (n : Note) (refused : Bool) (b : Sending) → SideAsks path written s steps refused b → SideAsks path written s (steps ++ n ∷ []) refused b
-  noted_side steps n refused b h = record { ones = h.ones; all = λ on. asked_more path s steps n written b (h.all on) }
+  noted_side : (steps : List Note) (n : Note) (refused freed : Bool) (b : Sending) → SideAsks path written s steps refused freed b → SideAsks path written s (steps ++ n ∷ []) refused freed b
+  noted_side steps n refused freed b h = record { ones = h.ones; all = λ on alone. asked_more path s steps n written b (h.all on alone) }
 
 -- ---- an application
 
-module _ (path written : ℕ) (steps : List Note) (refused : Bool) (a : AppState) (six : SixBooks) where
-  pub own_a : (d : AppDuty) → a.side ≡ A → SideAsks path written A steps refused six.send_a → SideAsks path written A steps refused (after_ask (app_ask d a) six).send_a
+module _ (path written : ℕ) (steps : List Note) (refused freed : Bool) (a : AppState) (six : SixBooks) where
+  pub own_a : (d : AppDuty) → a.side ≡ A → SideAsks path written A steps refused freed six.send_a → SideAsks path written A steps refused freed (after_ask (app_ask d a) six).send_a
   own_a app_duties.Write is h =
-      subst (λ s. SideAsks path written A steps refused (after_send_call s (send_calls.Write (offered a)) six).send_a) (sym is) (quiet_side path written A steps refused six.send_a (send_calls.Write (offered a)) tt h)
+      subst (λ s. SideAsks path written A steps refused freed (after_send_call s (send_calls.Write (offered a)) six).send_a) (sym is) (quiet_side path written A steps refused freed six.send_a (send_calls.Write (offered a)) tt h)
   own_a app_duties.Close is h =
-      subst (λ s. SideAsks path written A steps refused (after_send_call s send_calls.Close six).send_a) (sym is) (quiet_side path written A steps refused six.send_a send_calls.Close tt h)
+      subst (λ s. SideAsks path written A steps refused freed (after_send_call s send_calls.Close six).send_a) (sym is) (quiet_side path written A steps refused freed six.send_a send_calls.Close tt h)
   own_a app_duties.Read is h = h
   own_a app_duties.End is h = h
 
-  pub own_b : (d : AppDuty) → a.side ≡ B → SideAsks path written B steps refused six.send_b → SideAsks path written B steps refused (after_ask (app_ask d a) six).send_b
+  pub own_b : (d : AppDuty) → a.side ≡ B → SideAsks path written B steps refused freed six.send_b → SideAsks path written B steps refused freed (after_ask (app_ask d a) six).send_b
   own_b app_duties.Write is h =
-      subst (λ s. SideAsks path written B steps refused (after_send_call s (send_calls.Write (offered a)) six).send_b) (sym is) (quiet_side path written B steps refused six.send_b (send_calls.Write (offered a)) tt h)
+      subst (λ s. SideAsks path written B steps refused freed (after_send_call s (send_calls.Write (offered a)) six).send_b) (sym is) (quiet_side path written B steps refused freed six.send_b (send_calls.Write (offered a)) tt h)
   own_b app_duties.Close is h =
-      subst (λ s. SideAsks path written B steps refused (after_send_call s send_calls.Close six).send_b) (sym is) (quiet_side path written B steps refused six.send_b send_calls.Close tt h)
+      subst (λ s. SideAsks path written B steps refused freed (after_send_call s send_calls.Close six).send_b) (sym is) (quiet_side path written B steps refused freed six.send_b send_calls.Close tt h)
   own_b app_duties.Read is h = h
   own_b app_duties.End is h = h
 
-  pub other_a : (d : AppDuty) → a.side ≡ B → SideAsks path written A steps refused six.send_a → SideAsks path written A steps refused (after_ask (app_ask d a) six).send_a
-  other_a app_duties.Write is h = subst (λ s. SideAsks path written A steps refused (after_send_call s (send_calls.Write (offered a)) six).send_a) (sym is) h
-  other_a app_duties.Close is h = subst (λ s. SideAsks path written A steps refused (after_send_call s send_calls.Close six).send_a) (sym is) h
+  pub other_a : (d : AppDuty) → a.side ≡ B → SideAsks path written A steps refused freed six.send_a → SideAsks path written A steps refused freed (after_ask (app_ask d a) six).send_a
+  other_a app_duties.Write is h = subst (λ s. SideAsks path written A steps refused freed (after_send_call s (send_calls.Write (offered a)) six).send_a) (sym is) h
+  other_a app_duties.Close is h = subst (λ s. SideAsks path written A steps refused freed (after_send_call s send_calls.Close six).send_a) (sym is) h
   other_a app_duties.Read is h = h
   other_a app_duties.End is h = h
 
-  pub other_b : (d : AppDuty) → a.side ≡ A → SideAsks path written B steps refused six.send_b → SideAsks path written B steps refused (after_ask (app_ask d a) six).send_b
-  other_b app_duties.Write is h = subst (λ s. SideAsks path written B steps refused (after_send_call s (send_calls.Write (offered a)) six).send_b) (sym is) h
-  other_b app_duties.Close is h = subst (λ s. SideAsks path written B steps refused (after_send_call s send_calls.Close six).send_b) (sym is) h
+  pub other_b : (d : AppDuty) → a.side ≡ A → SideAsks path written B steps refused freed six.send_b → SideAsks path written B steps refused freed (after_ask (app_ask d a) six).send_b
+  other_b app_duties.Write is h = subst (λ s. SideAsks path written B steps refused freed (after_send_call s (send_calls.Write (offered a)) six).send_b) (sym is) h
+  other_b app_duties.Close is h = subst (λ s. SideAsks path written B steps refused freed (after_send_call s send_calls.Close six).send_b) (sym is) h
   other_b app_duties.Read is h = h
   other_b app_duties.End is h = h
 
 -- ---- both sides' books, and what is ahead on the path
 
-pub record BothAsk (path written_a written_b : ℕ) (steps : List Note) (refused : Side → Bool) (six : SixBooks) : Type 0 where
-  pub a : SideAsks path written_a A steps (refused A) six.send_a
-  pub b : SideAsks path written_b B steps (refused B) six.send_b
+pub record BothAsk (path written_a written_b : ℕ) (steps : List Note) (refused freed : Side → Bool) (six : SixBooks) : Type 0 where
+  pub a : SideAsks path written_a A steps (refused A) (freed A) six.send_a
+  pub b : SideAsks path written_b B steps (refused B) (freed B) six.send_b
 
 -- one side's flag is another
 abbrev with_flag : Side → Bool → (Side → Bool) → Side → Bool
@@ -107,29 +113,29 @@ own_flag B flag refused = refl
 never_on : {X : Type 0} → false ≡ true → X
 never_on is = absurd (false≢true is)
 
-module _ (path written_a written_b : ℕ) (steps : List Note) (n : Note) (refused : Side → Bool) (six : SixBooks) (h : BothAsk path written_a written_b steps refused six) where
+module _ (path written_a written_b : ℕ) (steps : List Note) (n : Note) (refused freed : Side → Bool) (six : SixBooks) (h : BothAsk path written_a written_b steps refused freed six) where
   abbrev Asks : (Side → Bool) → SixBooks → Type 0
-  Asks flags books = BothAsk path written_a written_b (steps ++ n ∷ []) flags books
+  Asks flags books = BothAsk path written_a written_b (steps ++ n ∷ []) flags freed books
 
   noted : Asks refused six
-  noted = record { a = noted_side path written_a A steps n (refused A) six.send_a h.a; b = noted_side path written_b B steps n (refused B) six.send_b h.b }
+  noted = record { a = noted_side path written_a A steps n (refused A) (freed A) six.send_a h.a; b = noted_side path written_b B steps n (refused B) (freed B) six.send_b h.b }
 
   -- an ask that is neither grant nor acknowledgement
-  quiet_both : (ask : Ask) → IsQuietAsk ask → Asks refused (after_ask ask six)
-  quiet_both (asks.Send A call) is = record { a = quiet_side path written_a A (steps ++ n ∷ []) (refused A) six.send_a call is noted.a; b = noted.b }
-  quiet_both (asks.Send B call) is = record { a = noted.a; b = quiet_side path written_b B (steps ++ n ∷ []) (refused B) six.send_b call is noted.b }
+  quiet_both : (ask : Ask) → IsQuietAsk path ask → Asks refused (after_ask ask six)
+  quiet_both (asks.Send A call) is = record { a = quiet_side path written_a A (steps ++ n ∷ []) (refused A) (freed A) six.send_a call is noted.a; b = noted.b }
+  quiet_both (asks.Send B call) is = record { a = noted.a; b = quiet_side path written_b B (steps ++ n ∷ []) (refused B) (freed B) six.send_b call is noted.b }
   quiet_both (asks.Reassembly s call) is = record { a = noted.a; b = noted.b }
   quiet_both (asks.Control s call) is = record { a = noted.a; b = noted.b }
   quiet_both (asks.Local step) is = record { a = noted.a; b = noted.b }
 
   -- what was heard at one side: an acknowledgement, or nothing for the send books
   lowered : (s : Side) → Asks (with_flag s false refused) six
-  lowered A = record { a = record { ones = h.a.ones; all = λ on. never_on on }; b = noted.b }
-  lowered B = record { a = noted.a; b = record { ones = h.b.ones; all = λ on. never_on on } }
+  lowered A = record { a = record { ones = h.a.ones; all = λ on alone. never_on on }; b = noted.b }
+  lowered B = record { a = noted.a; b = record { ones = h.b.ones; all = λ on alone. never_on on } }
 
   heard_call : (s : Side) (call : SendCall) → IsHeardAsk s (asks.Send s call) → Asks (with_flag s false refused) (after_send_call s call six)
-  heard_call A (send_calls.AckIn next window) is = record { a = record { ones = ones_after path written_a six.send_a h.a.ones (send_calls.AckIn next window) tt; all = λ on. never_on on }; b = noted.b }
-  heard_call B (send_calls.AckIn next window) is = record { a = noted.a; b = record { ones = ones_after path written_b six.send_b h.b.ones (send_calls.AckIn next window) tt; all = λ on. never_on on } }
+  heard_call A (send_calls.AckIn next window) is = record { a = record { ones = ones_after path written_a six.send_a h.a.ones (send_calls.AckIn next window) tt; all = λ on alone. never_on on }; b = noted.b }
+  heard_call B (send_calls.AckIn next window) is = record { a = noted.a; b = record { ones = ones_after path written_b six.send_b h.b.ones (send_calls.AckIn next window) tt; all = λ on alone. never_on on } }
   heard_call s (send_calls.Write bytes) is = absurd is
   heard_call s send_calls.Close is = absurd is
   heard_call s (send_calls.Grant asker max standby) is = absurd is
@@ -177,8 +183,8 @@ module _ (path written_a written_b : ℕ) (steps : List Note) (n : Note) (refuse
 
   -- a grant
   granted_both : (s : Side) (max : ℕ) (standby : Bool) → Asks (with_flag s false refused) (after_ask (asks.Send s (send_calls.Grant path max standby)) six)
-  granted_both A max standby = record { a = record { ones = ones_after path written_a six.send_a h.a.ones (send_calls.Grant path max standby) refl; all = λ on. never_on on }; b = noted.b }
-  granted_both B max standby = record { a = noted.a; b = record { ones = ones_after path written_b six.send_b h.b.ones (send_calls.Grant path max standby) refl; all = λ on. never_on on } }
+  granted_both A max standby = record { a = record { ones = ones_after path written_a six.send_a h.a.ones (send_calls.Grant path max standby) refl; all = λ on alone. never_on on }; b = noted.b }
+  granted_both B max standby = record { a = noted.a; b = record { ones = ones_after path written_b six.send_b h.b.ones (send_calls.Grant path max standby) refl; all = λ on alone. never_on on } }
 
   -- and a refusal
   refused_both : (s : Side) (max : ℕ) (standby : Bool) → n.ask ≡ asks.Send s (send_calls.Grant path max standby) → grant_in (reply_of six (asks.Send s (send_calls.Grant path max standby))) ≡ None
@@ -186,7 +192,7 @@ module _ (path written_a written_b : ℕ) (steps : List Note) (n : Note) (refuse
   refused_both A max standby asks none = record {
     a = record {
       ones = ones_after path written_a six.send_a h.a.ones (send_calls.Grant path max standby) refl;
-      all = λ on. grant_refused path written_a six.send_a h.a.ones A steps n max standby (ap (λ x. asks_on_standby A (record n { ask = x })) asks) none;
+      all = λ on alone. grant_refused path written_a six.send_a h.a.ones A steps n max standby (ap (λ x. asks_on_standby A (record n { ask = x })) asks) none;
     };
     b = noted.b;
   }
@@ -194,26 +200,91 @@ module _ (path written_a written_b : ℕ) (steps : List Note) (n : Note) (refuse
     a = noted.a;
     b = record {
       ones = ones_after path written_b six.send_b h.b.ones (send_calls.Grant path max standby) refl;
-      all = λ on. grant_refused path written_b six.send_b h.b.ones B steps n max standby (ap (λ x. asks_on_standby B (record n { ask = x })) asks) none;
+      all = λ on alone. grant_refused path written_b six.send_b h.b.ones B steps n max standby (ap (λ x. asks_on_standby B (record n { ask = x })) asks) none;
     };
   }
 
+-- ---- a step of another path
+
+-- whether bytes were freed then
+abbrev pub freed_then : Ask → (Side → Bool) → Side → Bool
+freed_then ask freed s = freed s || frees_bytes s ask
+
+freed_now : {X : Type 0} (b : Bool) → b || true ≡ false → X
+freed_now true is = absurd (false≢true (sym is))
+freed_now false is = absurd (false≢true (sym is))
+
+freed_before : (b c : Bool) → b || c ≡ false → b ≡ false
+freed_before true c is = is
+freed_before false c is = refl
+
+module _ (path written : ℕ) (s : Side) (steps : List Note) (refused freed : Bool) (b : Sending) (h : SideAsks path written s steps refused freed b) where
+  -- the own book stays
+  stays_side : (more : Bool) → SideAsks path written s steps refused (freed || more) b
+  stays_side more = record { ones = h.ones; all = λ on alone. h.all on (freed_before freed more alone) }
+
+  other_call : (asker : ℕ) (t : Side) (call : SendCall) → (asker ≡ path → ⊥) → IsCallOf asker (asks.Send t call) → frees_bytes s (asks.Send s call) ≡ is_freeing call → SideAsks path written s steps refused (freed || frees_bytes s (asks.Send s call)) (after_call b call)
+  other_call asker t (send_calls.Grant who max standby) apart is same =
+      let other : who ≡ path → ⊥ = λ own. apart (sym is ∙ own) in
+      record { ones = ones_other path written b h.ones who max standby other; all = λ on alone. all_other path written b h.ones who max standby other s steps (h.all on (freed_before freed _ alone)) }
+  other_call asker t (send_calls.AckIn next window) apart is same =
+      record { ones = ones_after path written b h.ones (send_calls.AckIn next window) tt; all = λ on alone. freed_now freed (ap (λ c. freed || c) (sym same) ∙ alone) }
+  other_call asker t (send_calls.Return who) apart is same =
+      record { ones = ones_after path written b h.ones (send_calls.Return who) tt; all = λ on alone. freed_now freed (ap (λ c. freed || c) (sym same) ∙ alone) }
+  other_call asker t (send_calls.Write bytes) apart is same = absurd is
+  other_call asker t send_calls.Close apart is same = absurd is
+  other_call asker t send_calls.GoIdentity apart is same = absurd is
+  other_call asker t (send_calls.GoInfinite who) apart is same = absurd is
+  other_call asker t send_calls.Abort apart is same = absurd is
+
+same_freeing : (s : Side) (call : SendCall) → frees_bytes s (asks.Send s call) ≡ is_freeing call
+same_freeing A (send_calls.AckIn next window) = refl
+same_freeing A (send_calls.Return who) = refl
+same_freeing A (send_calls.Grant who max standby) = refl
+same_freeing A (send_calls.Write bytes) = refl
+same_freeing A send_calls.Close = refl
+same_freeing A send_calls.GoIdentity = refl
+same_freeing A (send_calls.GoInfinite who) = refl
+same_freeing A send_calls.Abort = refl
+same_freeing B (send_calls.AckIn next window) = refl
+same_freeing B (send_calls.Return who) = refl
+same_freeing B (send_calls.Grant who max standby) = refl
+same_freeing B (send_calls.Write bytes) = refl
+same_freeing B send_calls.Close = refl
+same_freeing B send_calls.GoIdentity = refl
+same_freeing B (send_calls.GoInfinite who) = refl
+same_freeing B send_calls.Abort = refl
+
+module _ (path written_a written_b : ℕ) (steps : List Note) (refused freed : Side → Bool) (six : SixBooks) (h : BothAsk path written_a written_b steps refused freed six) where
+  pub other_both : (asker : ℕ) (ask : Ask) → (asker ≡ path → ⊥) → IsCallOf asker ask → BothAsk path written_a written_b steps refused (freed_then ask freed) (after_ask ask six)
+  other_both asker (asks.Send A call) apart is = record {
+    a = other_call path written_a A steps (refused A) (freed A) six.send_a h.a asker A call apart is (same_freeing A call);
+    b = stays_side path written_b B steps (refused B) (freed B) six.send_b h.b _;
+  }
+  other_both asker (asks.Send B call) apart is = record {
+    a = stays_side path written_a A steps (refused A) (freed A) six.send_a h.a _;
+    b = other_call path written_b B steps (refused B) (freed B) six.send_b h.b asker B call apart is (same_freeing B call);
+  }
+  other_both asker (asks.Reassembly t call) apart is = record { a = stays_side path written_a A steps (refused A) (freed A) six.send_a h.a _; b = stays_side path written_b B steps (refused B) (freed B) six.send_b h.b _ }
+  other_both asker (asks.Control t call) apart is = record { a = stays_side path written_a A steps (refused A) (freed A) six.send_a h.a _; b = stays_side path written_b B steps (refused B) (freed B) six.send_b h.b _ }
+  other_both asker (asks.Local step) apart is = record { a = stays_side path written_a A steps (refused A) (freed A) six.send_a h.a _; b = stays_side path written_b B steps (refused B) (freed B) six.send_b h.b _ }
+
 -- ---- a step of the path
 
-module _ {C : Type 0} (k : Codec C) (p : PathState C) (written_a written_b : ℕ) (steps : List Note) (n : Note) (refused : Side → Bool) (six : SixBooks)
-    (h : BothAsk (path_of p) written_a written_b steps refused six) where
+module _ {C : Type 0} (k : Codec C) (p : PathState C) (written_a written_b : ℕ) (steps : List Note) (n : Note) (refused freed : Side → Bool) (six : SixBooks)
+    (h : BothAsk (path_of p) written_a written_b steps refused freed six) where
   -- what is ahead on the path then, and both books
   pub record AskThen (q : PathState C) : Type 0 where
     pub flags : Side → Bool
     pub granting : Granting q flags
-    pub both : BothAsk (path_of p) written_a written_b (steps ++ n ∷ []) flags (after_ask n.ask six)
+    pub both : BothAsk (path_of p) written_a written_b (steps ++ n ∷ []) flags freed (after_ask n.ask six)
 
   abbrev Here : List Duty → PathState C
   Here ds = with_agenda ds p
 
-  asked_is : (x : Ask) (flags : Side → Bool) → n.ask ≡ x → BothAsk (path_of p) written_a written_b (steps ++ n ∷ []) flags (after_ask x six)
-      → BothAsk (path_of p) written_a written_b (steps ++ n ∷ []) flags (after_ask n.ask six)
-  asked_is x flags is both = subst (λ y. BothAsk (path_of p) written_a written_b (steps ++ n ∷ []) flags (after_ask y six)) (sym is) both
+  asked_is : (x : Ask) (flags : Side → Bool) → n.ask ≡ x → BothAsk (path_of p) written_a written_b (steps ++ n ∷ []) flags freed (after_ask x six)
+      → BothAsk (path_of p) written_a written_b (steps ++ n ∷ []) flags freed (after_ask n.ask six)
+  asked_is x flags is both = subst (λ y. BothAsk (path_of p) written_a written_b (steps ++ n ∷ []) flags freed (after_ask y six)) (sym is) both
 
   quiet_duty : (d : Duty) (ds : List Duty) → IsQuietDuty d → MayNotAsk d → n.ask ≡ ask_for k d (Here (d ∷ ds)) → is_followed (d ∷ ds) ≡ true
       → ((t : Side) → Pays (Here (d ∷ ds)) (d ∷ ds) refused t) → AskThen (answered k d (reply_of six (ask_for k d (Here (d ∷ ds)))) (Here (d ∷ ds)))
@@ -221,7 +292,7 @@ module _ {C : Type 0} (k : Codec C) (p : PathState C) (written_a written_b : ℕ
     flags = refused;
     granting = answered_done k (reply_of six (ask_for k d (Here (d ∷ ds)))) p refused d ds may f each;
     both = asked_is (ask_for k d (Here (d ∷ ds))) refused is
-        (quiet_both (path_of p) written_a written_b steps n refused six h (ask_for k d (Here (d ∷ ds))) (quiet_asks k (Here (d ∷ ds)) d quiet));
+        (quiet_both (path_of p) written_a written_b steps n refused freed six h (ask_for k d (Here (d ∷ ds))) (quiet_asks k (Here (d ∷ ds)) d quiet));
   }
 
   -- the flag of a side that has what it needs ahead is of no account
@@ -237,7 +308,7 @@ module _ {C : Type 0} (k : Codec C) (p : PathState C) (written_a written_b : ℕ
     flags = with_flag s false refused;
     granting = answered_done k (reply_of six (ask_for k d (Here (d ∷ ds)))) p (with_flag s false refused) d ds may f (lower_each s (d ∷ ds) false owed each);
     both = asked_is (ask_for k d (Here (d ∷ ds))) (with_flag s false refused) is
-        (heard_both (path_of p) written_a written_b steps n refused six h s (ask_for k d (Here (d ∷ ds))) heard);
+        (heard_both (path_of p) written_a written_b steps n refused freed six h s (ask_for k d (Here (d ∷ ds))) heard);
   }
 
   first_needs : (d : Duty) (ds : List Duty) → is_followed (d ∷ ds) ≡ true → needs d ds ≡ true
@@ -258,12 +329,12 @@ module _ {C : Type 0} (k : Codec C) (p : PathState C) (written_a written_b : ℕ
   grant_duty s ds is f each (Some grant) found = record {
     flags = with_flag s false refused;
     granting = granted_done k (reply_of six (grant_ask s p)) p (with_flag s false refused) s ds grant f (lower_each s (duties.Data s ∷ ds) false (own_data s ds) each);
-    both = asked_is (grant_ask s p) (with_flag s false refused) is (granted_both (path_of p) written_a written_b steps n refused six h s _ _);
+    both = asked_is (grant_ask s p) (with_flag s false refused) is (granted_both (path_of p) written_a written_b steps n refused freed six h s _ _);
   }
   grant_duty s ds is f each None found = record {
     flags = with_flag s true refused;
     granting = refused_done k (reply_of six (grant_ask s p)) p (with_flag s true refused) s ds (own_flag s true refused) f (other_each s (duties.Data s ∷ ds) true each);
-    both = asked_is (grant_ask s p) (with_flag s true refused) is (refused_both (path_of p) written_a written_b steps n refused six h s _ _ is found);
+    both = asked_is (grant_ask s p) (with_flag s true refused) is (refused_both (path_of p) written_a written_b steps n refused freed six h s _ _ is found);
   }
 
   data_duty : (s : Side) (ds : List Duty) → is_followed (duties.Data s ∷ ds) ≡ true → ((t : Side) → Pays (Here (duties.Data s ∷ ds)) (duties.Data s ∷ ds) refused t)
@@ -272,7 +343,7 @@ module _ {C : Type 0} (k : Codec C) (p : PathState C) (written_a written_b : ℕ
     flags = refused;
     granting = data_sent k (reply_of six (data_ask k s (Some u) (Here (duties.Data s ∷ ds)))) p refused s ds u f each;
     both = asked_is (data_ask k s (Some u) (Here (duties.Data s ∷ ds))) refused is
-        (quiet_both (path_of p) written_a written_b steps n refused six h (data_ask k s (Some u) (Here (duties.Data s ∷ ds))) tt);
+        (quiet_both (path_of p) written_a written_b steps n refused freed six h (data_ask k s (Some u) (Here (duties.Data s ∷ ds))) tt);
   }
   data_duty s ds f each None is = grant_duty s ds is f each (grant_in (reply_of six (grant_ask s p))) refl
 
@@ -282,6 +353,7 @@ module _ {C : Type 0} (k : Codec C) (p : PathState C) (written_a written_b : ℕ
   duty_asks (duties.Heard s index) ds is f each =
       heard_duty (duties.Heard s index) s ds (heard_asks k (Here (duties.Heard s index ∷ ds)) s (item_of index (end_at s p))) tt
       (and_parts (is_owed s ds) (not (is_owed (peer s) ds)) (first_needs (duties.Heard s index) ds f)).0 is f each
+  duty_asks duties.JoinAgain ds is f each = quiet_duty duties.JoinAgain ds tt tt is f each
   duty_asks (duties.Look s) ds is f each = quiet_duty (duties.Look s) ds tt tt is f each
   duty_asks (duties.Window s) ds is f each = quiet_duty (duties.Window s) ds tt tt is f each
   duty_asks (duties.Update s) ds is f each = quiet_duty (duties.Update s) ds tt tt is f each
@@ -294,9 +366,12 @@ module _ {C : Type 0} (k : Codec C) (p : PathState C) (written_a written_b : ℕ
   duty_asks (duties.SynAnswered s) ds is f each = heard_duty (duties.SynAnswered s) s ds refl tt (first_needs (duties.SynAnswered s) ds f) is f each
   duty_asks (duties.PeerKey s) ds is f each = quiet_duty (duties.PeerKey s) ds tt tt is f each
   duty_asks (duties.SynAck s) ds is f each = quiet_duty (duties.SynAck s) ds tt tt is f each
+  duty_asks (duties.JoinHeard s) ds is f each = quiet_duty (duties.JoinHeard s) ds tt tt is f each
+  duty_asks (duties.Refuse s) ds is f each = quiet_duty (duties.Refuse s) ds tt tt is f each
   duty_asks (duties.Opened s) ds is f each = quiet_duty (duties.Opened s) ds tt tt is f each
   duty_asks (duties.Live s) ds is f each = quiet_duty (duties.Live s) ds tt tt is f each
   duty_asks (duties.AckHeard s) ds is f each = quiet_duty (duties.AckHeard s) ds tt tt is f each
+  duty_asks (duties.PlainAck s) ds is f each = quiet_duty (duties.PlainAck s) ds tt tt is f each
   duty_asks (duties.Keep s) ds is f each = quiet_duty (duties.Keep s) ds tt tt is f each
   duty_asks (duties.Edge s) ds is f each = quiet_duty (duties.Edge s) ds tt tt is f each
   duty_asks (duties.HeardFin s index) ds is f each = quiet_duty (duties.HeardFin s index) ds tt tt is f each

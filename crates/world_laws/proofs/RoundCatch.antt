@@ -1,5 +1,6 @@
 -- Where the turn of an application is over, it has read all that had arrived without a gap as the round began.
-use Rattle.std.proofs.Common.{◌≡◌, refl, sym, ◌∙◌, ap, subst, ℕ, ◌+◌, ◌≤◌, not, Bool, true, false, if◌then◌else◌, List, [], ◌∷◌, ◌++◌, length, map, arith}
+use Rattle.std.proofs.Common.{◌≡◌, refl, sym, ◌∙◌, ap, subst, ℕ, ◌+◌, ◌≤◌, not, Bool, true, false, if◌then◌else◌, Some, List, [], ◌∷◌, ◌++◌, length, map, arith}
+use Rattle.std.specs.List.{slice_get}
 use Rattle.outside_kit.specs.declared.side.Side.{Side}
 use Rattle.outside_kit.specs.declared.side.Side.TheVariants.{A, B}
 use Rattle.reassembly_book.specs.declared.call.ReassemblyCall.{ReassemblyCall}
@@ -30,8 +31,8 @@ use Rattle.world_laws.specs.Worlds.{WorldState, Turn, note_of, is_going, all_ove
 use Rattle.world_laws.proofs.CatchingUp.{is_read, arrives, Reading, Ahead, Caught, settled_caught, grown_caught, noted_reading, read_caught}
 use Rattle.world_laws.proofs.Journaling.{books_after}
 use Rattle.world_laws.proofs.PathAsks.{IsPathAsk, path_asks}
-use Rattle.world_laws.proofs.TrioLifting.{Has, Stepwise, steps_have, turns_have, ended_has}
-use Rattle.world_laws.proofs.Trios.{Trio, Fare, world_of, after_a, after_b, after_p, next_trio, first_trio, first_fare}
+use Rattle.world_laws.proofs.CastLifting.{Has, Stepwise, steps_have, turns_have, ended_has}
+use Rattle.world_laws.proofs.Casts.{Walker, Cast, Fare, world_of, after_a, after_b, after_path, next_cast, first_cast, first_fare, opened_is}
 
 -- ---- a step of an application at the book of its side
 
@@ -121,15 +122,15 @@ module _ (arrived read : ℕ) (a : AppState) (notes : List Note) (six : SixBooks
 
 module _ {C : Type 0} (k : Codec C) (start : Start) where
   -- both readers, in a round that began with so much arrived and read
-  pub record BothCaught (arrived_a read_a arrived_b read_b : ℕ) (t : Trio C) : Type 0 where
+  pub record BothCaught (arrived_a read_a arrived_b read_b : ℕ) (t : Cast C) : Type 0 where
     pub a : Caught arrived_a read_a t.a t.at_a.list (books_in t.books).reassembly_a
     pub b : Caught arrived_b read_b t.b t.at_b.list (books_in t.books).reassembly_b
 
   module _ (arrived_a read_a arrived_b read_b : ℕ) where
-    abbrev Q : Trio C → Type 0
+    abbrev Q : Cast C → Type 0
     Q t = BothCaught arrived_a read_a arrived_b read_b t
 
-    by_a : (t : Trio C) → Fare start t → (d : AppDuty) (ds : List AppDuty) → t.a.agenda ≡ d ∷ ds → Q t → Q (after_a (app_ask d t.a) t)
+    by_a : (t : Cast C) → Fare start t → (d : AppDuty) (ds : List AppDuty) → t.a.agenda ≡ d ∷ ds → Q t → Q (after_a (app_ask d t.a) t)
     by_a t f d ds is h =
         let six = books_in t.books in let ask = app_ask d t.a in
         let same = sym (books_after ask t.at_a.pass t.books) in
@@ -142,7 +143,7 @@ module _ {C : Type 0} (k : Codec C) (start : Start) where
               (subst (Caught arrived_b read_b t.b t.at_b.list) (sym (other_b d t.a six f.a.side_is)) h.b);
         }
 
-    by_b : (t : Trio C) → Fare start t → (d : AppDuty) (ds : List AppDuty) → t.b.agenda ≡ d ∷ ds → Q t → Q (after_b (app_ask d t.b) t)
+    by_b : (t : Cast C) → Fare start t → (d : AppDuty) (ds : List AppDuty) → t.b.agenda ≡ d ∷ ds → Q t → Q (after_b (app_ask d t.b) t)
     by_b t f d ds is h =
         let six = books_in t.books in let ask = app_ask d t.b in
         let same = sym (books_after ask t.at_b.pass t.books) in
@@ -155,21 +156,22 @@ module _ {C : Type 0} (k : Codec C) (start : Start) where
               (subst (λ s. Caught arrived_b read_b (app_takes (reply_of six ask) t.b) (t.at_b.list ++ note_of t.books t.at_b.pass ask ∷ []) (reassembly_of s (after_ask ask six))) f.b.side_is next);
         }
 
-    by_p : (t : Trio C) → Fare start t → (d : Duty) (ds : List Duty) → t.p.agenda ≡ d ∷ ds → Q t → Q (after_p k (ask_for k d t.p) t)
-    by_p t f d ds is h =
-        let six = books_in t.books in let ask = ask_for k d t.p in
-        let same = sym (books_after ask t.at_p.pass t.books) in
-        let own = path_asks k t.p d in
+    by_path : (t : Cast C) → Fare start t → (number : ℕ) (x : Walker C) → slice_get t.paths number ≡ Some x → (d : Duty) (ds : List Duty) → x.path.agenda ≡ d ∷ ds → Q t
+        → Q (after_path k number x (ask_for k d x.path) t)
+    by_path t f number x there d ds is h =
+        let six = books_in t.books in let ask = ask_for k d x.path in
+        let same = sym (books_after ask x.at.pass t.books) in
+        let own = path_asks k x.path d in
         record {
-          a = subst (λ x. Caught arrived_a read_a t.a t.at_a.list x.reassembly_a) same (grown_a arrived_a read_a t.a t.at_a.list six ask own h.a);
-          b = subst (λ x. Caught arrived_b read_b t.b t.at_b.list x.reassembly_b) same (grown_b arrived_b read_b t.b t.at_b.list six ask own h.b);
+          a = subst (λ y. Caught arrived_a read_a t.a t.at_a.list y.reassembly_a) same (grown_a arrived_a read_a t.a t.at_a.list six ask own h.a);
+          b = subst (λ y. Caught arrived_b read_b t.b t.at_b.list y.reassembly_b) same (grown_b arrived_b read_b t.b t.at_b.list six ask own h.b);
         }
 
     pub caught_stepwise : Stepwise k start Q
-    caught_stepwise = record { a = by_a; b = by_b; p = by_p }
+    caught_stepwise = record { a = by_a; b = by_b; path = by_path }
 
   -- both readers, in whatever round
-  pub record Readers (t : Trio C) : Type 0 where
+  pub record Readers (t : Cast C) : Type 0 where
     pub arrived_a : ℕ
     pub read_a : ℕ
     pub arrived_b : ℕ
@@ -180,7 +182,13 @@ module _ {C : Type 0} (k : Codec C) (start : Start) where
   readers_stepwise = record {
     a = λ t f d ds is h. record { arrived_a = h.arrived_a; read_a = h.read_a; arrived_b = h.arrived_b; read_b = h.read_b; both = by_a h.arrived_a h.read_a h.arrived_b h.read_b t f d ds is h.both };
     b = λ t f d ds is h. record { arrived_a = h.arrived_a; read_a = h.read_a; arrived_b = h.arrived_b; read_b = h.read_b; both = by_b h.arrived_a h.read_a h.arrived_b h.read_b t f d ds is h.both };
-    p = λ t f d ds is h. record { arrived_a = h.arrived_a; read_a = h.read_a; arrived_b = h.arrived_b; read_b = h.read_b; both = by_p h.arrived_a h.read_a h.arrived_b h.read_b t f d ds is h.both };
+    path = λ t f number x there d ds is h. record {
+      arrived_a = h.arrived_a;
+      read_a = h.read_a;
+      arrived_b = h.arrived_b;
+      read_b = h.read_b;
+      both = by_path h.arrived_a h.read_a h.arrived_b h.read_b t f number x there d ds is h.both;
+    };
   }
 
 -- as a round begins
@@ -196,38 +204,38 @@ opened_reading s buffer file = record { sound = sound-opened buffer; capacity = 
 
 module _ {C : Type 0} (k : Codec C) (start : Start) where
   -- in a round that began with these books
-  abbrev CaughtSince : SixBooks → Trio C → Type 0
+  abbrev CaughtSince : SixBooks → Cast C → Type 0
   CaughtSince six t =
       BothCaught k start (received six.reassembly_a) six.reassembly_a.read (received six.reassembly_b) six.reassembly_b.read t
 
   opened_has : Has {C = C} start (CaughtSince (books_in (opened_world {C = C} start).books)) (opened_world start)
   opened_has = record {
-    trio = first_trio start;
-    is = refl;
+    cast = first_cast start;
+    is = opened_is start;
     fare = first_fare start;
     holds = record {
-      a = begun_caught _ [] (opened start.profile.buffer) (opened_reading A start.profile.buffer start.file_a);
-      b = begun_caught _ [] (opened start.profile.buffer) (opened_reading B start.profile.buffer start.file_b);
+      a = begun_caught _ [] (opened start.buffer) (opened_reading A start.buffer start.file_a);
+      b = begun_caught _ [] (opened start.buffer) (opened_reading B start.buffer start.file_b);
     };
   }
 
-  next_both : (t : Trio C) → Readers k start t → CaughtSince (books_in t.books) (next_trio t)
+  next_both : (t : Cast C) → Readers k start t → CaughtSince (books_in t.books) (next_cast t)
   next_both t h = record {
     a = begun_caught t.a t.at_a.list (books_in t.books).reassembly_a h.both.a.reading;
     b = begun_caught t.b t.at_b.list (books_in t.books).reassembly_b h.both.b.reading;
   }
 
-  readers_of : (six : SixBooks) (t : Trio C) → CaughtSince six t → Readers k start t
+  readers_of : (six : SixBooks) (t : Cast C) → CaughtSince six t → Readers k start t
   readers_of six t h = record { arrived_a = _; read_a = _; arrived_b = _; read_b = _; both = h }
 
   -- at every moment
   always_readers : (turns : List Turn) → Has start (Readers k start) (world_run k turns (opened_world start))
   always_readers turns =
-      turns_have k start (Readers k start) (readers_stepwise k start) (λ t f h. readers_of (books_in t.books) (next_trio t) (next_both t h)) turns (opened_world start)
-      (record { trio = opened_has.trio; is = opened_has.is; fare = opened_has.fare; holds = readers_of (books_in (opened_world {C = C} start).books) opened_has.trio opened_has.holds })
+      turns_have k start (Readers k start) (readers_stepwise k start) (λ t f h. readers_of (books_in t.books) (next_cast t) (next_both t h)) turns (opened_world start)
+      (record { cast = opened_has.cast; is = opened_has.is; fare = opened_has.fare; holds = readers_of (books_in (opened_world {C = C} start).books) opened_has.cast opened_has.holds })
 
   -- with the books of this world
-  abbrev ReadersAt : WorldState C → Trio C → Type 0
+  abbrev ReadersAt : WorldState C → Cast C → Type 0
   ReadersAt v t = Readers k start t × (t.books ≡ v.books)
 
   same_books : (v : WorldState C) → (end_round v).books ≡ v.books
@@ -242,9 +250,9 @@ module _ {C : Type 0} (k : Codec C) (start : Start) where
   begun_has u (BeginsRound.Next turns over is) =
       let v = world_run k turns (opened_world start) in
       let h = always_readers turns in
-      let there : Has start (ReadersAt v) v = record { trio = h.trio; is = h.is; fare = h.fare; holds = (h.holds, sym (ap (λ (w : WorldState C). w.books) h.is)) } in
+      let there : Has start (ReadersAt v) v = record { cast = h.cast; is = h.is; fare = h.fare; holds = (h.holds, sym (ap (λ (w : WorldState C). w.books) h.is)) } in
       let ended = ended_has start (ReadersAt v) (CaughtSince (books_in v.books))
-      (λ t f p. subst (λ books. CaughtSince (books_in books) (next_trio t)) p.1 (next_both t p.0)) v over there in
+      (λ t f p. subst (λ books. CaughtSince (books_in books) (next_cast t)) p.1 (next_both t p.0)) v over there in
       subst (λ w. Has start (CaughtSince (books_in w.books)) w) (sym is)
       (subst (λ books. Has start (CaughtSince (books_in books)) (end_round v)) (sym (same_books v)) ended)
 
@@ -257,12 +265,12 @@ module _ {C : Type 0} (k : Codec C) (start : Start) where
       let done : arrived ≤ b.read = subst (Ahead arrived b.read) (over_nil a.agenda over) h.ahead in
       let whole = h.reading.whole in omega (arith, done, whole)
 
-  trio_read : (six : SixBooks) (t : Trio C) → CaughtSince six t → (s : Side) → is_going (pick s 0 1) (world_of t) ≡ false → received (reassembly_of s six) ≤ length (output_of s (world_of t))
-  trio_read six t h A over = all_read _ _ t.a t.at_a.list (books_in t.books).reassembly_a over h.a
-  trio_read six t h B over = all_read _ _ t.b t.at_b.list (books_in t.books).reassembly_b over h.b
+  cast_read : (six : SixBooks) (t : Cast C) → CaughtSince six t → (s : Side) → is_going (pick s 0 1) (world_of t) ≡ false → received (reassembly_of s six) ≤ length (output_of s (world_of t))
+  cast_read six t h A over = all_read _ _ t.a t.at_a.list (books_in t.books).reassembly_a over h.a
+  cast_read six t h B over = all_read _ _ t.b t.at_b.list (books_in t.books).reassembly_b over h.b
 
   has_read : (six : SixBooks) (w : WorldState C) → Has start (CaughtSince six) w → (s : Side) → is_going (pick s 0 1) w ≡ false → received (reassembly_of s six) ≤ length (output_of s w)
-  has_read six w h = subst (λ v. (s : Side) → is_going (pick s 0 1) v ≡ false → received (reassembly_of s six) ≤ length (output_of s v)) (sym h.is) (trio_read six h.trio h.holds)
+  has_read six w h = subst (λ v. (s : Side) → is_going (pick s 0 1) v ≡ false → received (reassembly_of s six) ≤ length (output_of s v)) (sym h.is) (cast_read six h.cast h.holds)
 
 pub readers_caught_up : {C : Type 0} (k : Codec C) → InEachRound k ReadersCaughtUp
 readers_caught_up k start begun order begins =

@@ -69,6 +69,7 @@ no_rounds = []
 
 module _ {C : Type 0} where
   same_stands : (d : Duty) (ds : List Duty) (p : PathState C) → stands d p ≡ true → stands d (with_agenda ds p) ≡ true
+  same_stands duties.JoinAgain ds p is = is
   same_stands (duties.Look s) ds p is = is
   same_stands (duties.Window s) ds p is = is
   same_stands (duties.Update s) ds p is = is
@@ -82,10 +83,13 @@ module _ {C : Type 0} where
   same_stands (duties.SynAnswered s) ds p is = is
   same_stands (duties.PeerKey s) ds p is = is
   same_stands (duties.SynAck s) ds p is = is
+  same_stands (duties.JoinHeard s) ds p is = is
+  same_stands (duties.Refuse s) ds p is = is
   same_stands (duties.Opened s) ds p is = is
   same_stands (duties.Live s) ds p is = is
   same_stands (duties.Heard s index) ds p is = is
   same_stands (duties.AckHeard s) ds p is = is
+  same_stands (duties.PlainAck s) ds p is = is
   same_stands (duties.Keep s) ds p is = is
   same_stands (duties.Edge s) ds p is = is
   same_stands (duties.HeardFin s index) ds p is = is
@@ -105,7 +109,7 @@ module _ {C : Type 0} where
   same_stands (duties.Dead s) ds p is = is
   same_stands duties.End ds p is = is
 
-  settled_settled : (ds : List Duty) (p : PathState C) → IsSettled (settled ds p)
+  pub settled_settled : (ds : List Duty) (p : PathState C) → IsSettled (settled ds p)
   settled_settled [] p = tt
   settled_settled (d ∷ ds) p = by (stands d p) refl (settled_settled ds (passed d p))
     where

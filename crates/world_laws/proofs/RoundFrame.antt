@@ -5,7 +5,10 @@ use Rattle.outside_kit.specs.declared.side.Side.{Side}
 use Rattle.outside_kit.specs.declared.side.Side.TheVariants.{A, B}
 use Rattle.actor_desk.specs.declared.ask.Reply.{Reply}
 use Rattle.actor_desk.specs.Words.{is_nil, tail_of}
-use Rattle.path_agenda.specs.Agenda.{start_of_turn}
+use Rattle.join_handshake.specs.declared.hearing.JoinSyn.{JoinSyn}
+use Rattle.path_agenda.specs.declared.keys.KeyPair.{KeyPair}
+use Rattle.path_agenda.specs.Words.{replaced}
+use Rattle.path_agenda.specs.Agenda.{emission, leaves, start_of_turn}
 use Rattle.path_agenda.specs.declared.duty.Duty.{Duty}
 use Rattle.path_agenda.specs.declared.duty.Duty.TheVariants as duties
 use Rattle.path_agenda.specs.declared.heard.Heard.{Heard}
@@ -14,12 +17,13 @@ use Rattle.path_core.specs.Breaking.{answered_break}
 use Rattle.path_core.specs.Codec.{Codec, HeardSegment}
 use Rattle.path_core.specs.Duties.{stands, passed, answered}
 use Rattle.path_core.specs.Emission.{Grant, grant_in, answered_grant, answered_data, first_unsent}
-use Rattle.path_core.specs.Events.{next_event, after_line, is_death, at_tick, copy_heard, heard_in, happens_if}
+use Rattle.path_core.specs.Events.{next_event, join_begun, after_line, is_death, at_tick, copy_heard, heard_in, happens_if}
 use Rattle.path_core.specs.declared.event.Event.{Event}
 use Rattle.path_core.specs.declared.event.Event.TheVariants as happenings
+use Rattle.path_core.specs.Joining.{is_never, keys_begun, asked_at, join_taken}
 use Rattle.path_core.specs.Passing.{answered_piece, is_placed, is_fin_set, piece_of}
 use Rattle.path_core.specs.Placing.{Piece}
-use Rattle.path_core.specs.State.{PathState, end_at, with_agenda, path_of}
+use Rattle.path_core.specs.State.{PathState, end_at, with_agenda, left, path_of}
 use Rattle.path_core.specs.Steps.{settled, settles_down, answers, takes, begins_turn}
 use Rattle.path_core.specs.Treating.{answered_heard, answered_item, item_of}
 use Rattle.subflow_send.specs.Records.{Record}
@@ -72,12 +76,16 @@ module _ {C : Type 0} where
   copy_keeps s None p = (refl, refl, refl)
   copy_keeps s (Some h) p = (refl, refl, refl)
 
-  happens_keeps : (k : Codec C) (event : Option Event) (p : PathState C) → Keeps p (happens_if k event p)
-  happens_keeps k None p = (refl, refl, refl)
-  happens_keeps k (Some (happenings.Takes line)) p = line_keeps (is_death line.line) (record (at_tick line.tick p) { lines = tail_of p.lines })
-  happens_keeps k (Some (happenings.Arrives due)) p =
+  begun_keeps : (r : Reply) (dead living : List Duty) (p : PathState C) → Keeps p (join_begun r dead living p)
+  begun_keeps r dead living p = either_keeps (is_never r) _ _ p (refl, refl, refl) (refl, refl, refl)
+
+  happens_keeps : (k : Codec C) (event : Option Event) (r : Reply) (p : PathState C) → Keeps p (happens_if k event r p)
+  happens_keeps k None r p = (refl, refl, refl)
+  happens_keeps k (Some (happenings.Joins tick)) r p = begun_keeps r (leaves A) (emission A) (record (at_tick tick p) { joined_at = None })
+  happens_keeps k (Some (happenings.Takes line)) r p = line_keeps (is_death line.line) (record (at_tick line.tick p) { lines = tail_of p.lines })
+  happens_keeps k (Some (happenings.Arrives due)) r p =
       copy_keeps due.to (heard_in k due.to (arriving due p.link) p) (record (at_tick due.tick p) { link = after_delivery due p.link })
-  happens_keeps k (Some (happenings.Fires s tick)) p = (refl, refl, refl)
+  happens_keeps k (Some (happenings.Fires s tick)) r p = (refl, refl, refl)
 
   break_keeps : (k : Codec C) (s : Side) (reason : ℕ) (r : Reply) (p : PathState C) → Keeps p (answered_break k s reason r p)
   break_keeps k s reason r p = either_keeps (end_at s p).treated.asked _ _ p (refl, refl, refl) (refl, refl, one_more_path s _)
@@ -93,11 +101,17 @@ module _ {C : Type 0} where
   item_keeps k s None r p = (refl, refl, refl)
   item_keeps k s (Some item) r p = heard_keeps k s item r p
 
+  join_keeps : (s : Side) (keys : Option KeyPair) (asked : Option JoinSyn) (p : PathState C) → Keeps p (join_taken s keys asked p)
+  join_keeps s None asked p = (refl, refl, refl)
+  join_keeps s (Some keys) None p = (refl, refl, refl)
+  join_keeps s (Some keys) (Some asked) p = (refl, refl, refl)
+
   piece_keeps : (s : Side) (piece : Option Piece) (taken : Bool) (p : PathState C) → Keeps p (answered_piece s piece taken p)
   piece_keeps s None taken p = (refl, refl, refl)
   piece_keeps s (Some piece) taken p = either_keeps taken _ _ p (refl, refl, refl) (refl, refl, refl)
 
   answered_keeps : (k : Codec C) (d : Duty) (r : Reply) (p : PathState C) → Keeps p (answered k d r p)
+  answered_keeps k duties.JoinAgain r p = begun_keeps r (replaced (duties.Leave A) p.agenda) (left p) p
   answered_keeps k (duties.Look s) r p = (refl, refl, refl)
   answered_keeps k (duties.Window s) r p = (refl, refl, refl)
   answered_keeps k (duties.Update s) r p = (refl, refl, one_more_path s _)
@@ -105,11 +119,14 @@ module _ {C : Type 0} where
   answered_keeps k (duties.Data s) r p = data_keeps k s (first_unsent (end_at s p)) r p
   answered_keeps k (duties.DataFin s) r p = (refl, refl, one_more_path s _)
   answered_keeps k (duties.Fin s) r p = (refl, refl, one_more_path s _)
-  answered_keeps k duties.Events r p = happens_keeps k (next_event p) p
+  answered_keeps k duties.Events r p = happens_keeps k (next_event p) r p
   answered_keeps k (duties.PeerKey s) r p = (refl, refl, refl)
   answered_keeps k (duties.SynAck s) r p = (refl, refl, one_more_path s _)
+  answered_keeps k (duties.JoinHeard s) r p = join_keeps s (keys_begun r) (asked_at s p) p
+  answered_keeps k (duties.Refuse s) r p = (refl, refl, one_more_path s _)
   answered_keeps k (duties.Opened s) r p = (refl, refl, refl)
   answered_keeps k (duties.Heard s index) r p = item_keeps k s (item_of index (end_at s p)) r p
+  answered_keeps k (duties.PlainAck s) r p = break_keeps k s 6 r p
   answered_keeps k (duties.AckHeard s) r p = (refl, refl, refl)
   answered_keeps k (duties.Edge s) r p = piece_keeps s (piece_of s p) (is_placed r) p
   answered_keeps k (duties.HeardFin s index) r p = either_keeps (is_fin_set r) _ _ p (refl, refl, refl) (refl, refl, refl)
@@ -142,4 +159,11 @@ module _ {C : Type 0} where
 
   -- something is to be done when a round begins
   pub first_stands : (p : PathState C) → is_nil (begins_turn p).agenda ≡ false
-  first_stands p = refl
+  first_stands p = by (stands duties.JoinAgain q)
+    where
+      q : PathState C
+      q = with_agenda start_of_turn p
+
+      by : (b : Bool) → is_nil (if b then with_agenda start_of_turn q else settled (tail_of start_of_turn) q).agenda ≡ false
+      by true = refl
+      by false = refl

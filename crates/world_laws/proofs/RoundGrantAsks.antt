@@ -15,17 +15,19 @@ use Rattle.path_core.specs.declared.event.Event.{Event}
 use Rattle.path_core.specs.declared.event.Event.TheVariants as happening
 use Rattle.path_agenda.specs.declared.heard.Heard.{Heard}
 use Rattle.path_agenda.specs.declared.heard.Heard.TheVariants as says
+use Rattle.join_handshake.specs.declared.hearing.JoinSyn.{JoinSyn}
 use Rattle.path_agenda.specs.declared.keys.KeyPair.{KeyPair}
 use Rattle.path_core.specs.Breaking.{break_ask, reset_of}
 use Rattle.path_core.specs.Codec.{Codec}
 use Rattle.path_core.specs.Duties.{ask_for}
 use Rattle.path_core.specs.Events.{next_event, step_for}
 use Rattle.path_agenda.specs.Items.{key_heard, keys_heard}
+use Rattle.path_core.specs.Joining.{asked_at, join_heard_ask}
 use Rattle.path_core.specs.Opening.{peer_key_ask, keys_ask}
 use Rattle.path_core.specs.Passing.{piece_of, piece_ask, fin_of, fin_ask, rate_ask}
 use Rattle.path_core.specs.Placing.{Piece}
 use Rattle.path_core.specs.Sends.{sends}
-use Rattle.path_core.specs.State.{PathState, end_at}
+use Rattle.path_core.specs.State.{PathState, end_at, path_of}
 use Rattle.path_core.specs.Treating.{is_clash, fell_ask, mapping_ask, item_ask, item_of}
 use Rattle.world_laws.specs.RoundEnd.{asks_grant}
 
@@ -62,8 +64,9 @@ MayNotAsk (duties.Data s) = ⊥
 MayNotAsk _ = Unit {0}
 
 module _ {C : Type 0} (k : Codec C) (p : PathState C) where
-  step_none : (o : Option Event) → AsksNone (step_for o)
+  step_none : (o : Option Event) → AsksNone (step_for (path_of p) o)
   step_none None = tt
+  step_none (Some (happening.Joins tick)) = tt
   step_none (Some (happening.Takes line)) = tt
   step_none (Some (happening.Arrives due)) = tt
   step_none (Some (happening.Fires s tick)) = tt
@@ -75,6 +78,10 @@ module _ {C : Type 0} (k : Codec C) (p : PathState C) where
   keys_none : (s : Side) (o : Option KeyPair) → AsksNone (keys_ask s o)
   keys_none s None = tt
   keys_none s (Some keys) = tt
+
+  join_none : (s : Side) (o : Option JoinSyn) → AsksNone (join_heard_ask s o p)
+  join_none s None = tt
+  join_none s (Some asked) = tt
 
   break_none : (s : Side) (reason : ℕ) → AsksNone (break_ask k s reason p)
   break_none s reason = by (end_at s p).treated.asked
@@ -98,6 +105,7 @@ module _ {C : Type 0} (k : Codec C) (p : PathState C) where
   item_none s (Some (says.DataFin place)) = tt
   item_none s (Some (says.PeerKey key)) = tt
   item_none s (Some (says.Keys own peer)) = tt
+  item_none s (Some (says.Join form)) = tt
 
   piece_none : (s : Side) (o : Option Piece) → AsksNone (piece_ask s o)
   piece_none s None = tt
@@ -112,6 +120,7 @@ module _ {C : Type 0} (k : Codec C) (p : PathState C) where
   rate_none s (Some pending) = tt
 
   pub asks_none : (d : Duty) → MayNotAsk d → AsksNone (ask_for k d p)
+  asks_none duties.JoinAgain other = tt
   asks_none (duties.Look s) other = tt
   asks_none (duties.Window s) other = tt
   asks_none (duties.Update s) other = tt
@@ -125,10 +134,13 @@ module _ {C : Type 0} (k : Codec C) (p : PathState C) where
   asks_none (duties.SynAnswered s) other = tt
   asks_none (duties.PeerKey s) other = key_none s (key_heard (end_at s p).treated.items)
   asks_none (duties.SynAck s) other = tt
+  asks_none (duties.JoinHeard s) other = join_none s (asked_at s p)
+  asks_none (duties.Refuse s) other = tt
   asks_none (duties.Opened s) other = keys_none s (keys_heard (end_at s p).treated.items)
   asks_none (duties.Live s) other = tt
   asks_none (duties.Heard s index) other = item_none s (item_of index (end_at s p))
   asks_none (duties.AckHeard s) other = tt
+  asks_none (duties.PlainAck s) other = break_none s 6
   asks_none (duties.Keep s) other = tt
   asks_none (duties.Edge s) other = piece_none s (piece_of s p)
   asks_none (duties.HeardFin s index) other = fin_none s (fin_of index (end_at s p))

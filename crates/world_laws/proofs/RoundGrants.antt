@@ -13,7 +13,6 @@ use Rattle.subflow_tcp.specs.declared.handshake.State.TheVariants as phase
 use Rattle.subflow_tcp.specs.declared.verdicts.Meaning.{Meaning}
 use Rattle.subflow_tcp.specs.declared.verdicts.Meaning.TheVariants as means
 use Rattle.subflow_tcp.specs.Expiring.{is_sixth}
-use Rattle.subflow_tcp.specs.Judging.{meaning_of}
 use Rattle.subflow_tcp.specs.States as states
 use Rattle.actor_desk.specs.declared.ask.Reply.{Reply}
 use Rattle.actor_desk.specs.Words.{tail_of}
@@ -23,14 +22,20 @@ use Rattle.path_core.specs.declared.event.Event.{Event}
 use Rattle.path_core.specs.declared.event.Event.TheVariants as happenings
 use Rattle.path_agenda.specs.declared.heard.Heard.{Heard}
 use Rattle.path_agenda.specs.declared.heard.Heard.TheVariants as says
-use Rattle.path_agenda.specs.Agenda.{rest_of_turn, emission, heard_and, payload_came, copy_came, expired, expired_for_ever, leaves, breaks, resets}
-use Rattle.path_core.specs.Arriving.{copy_of, items_of, reset_for, after_copy, with_held, held_of, template_by}
+use Rattle.path_agenda.specs.declared.keys.KeyPair.{KeyPair}
+use Rattle.path_agenda.specs.Agenda.{rest_of_turn, emission, syn_came, syn_ack_came, join_came, refuses, join_answered, heard_and, payload_came, copy_came, syn_again, answers, answers_dead, expired, expired_for_ever, leaves, breaks, resets}
+use Rattle.path_core.specs.Arriving.{copy_of, items_of, reset_for, copy_judged, held_of, judged_in, taken_as, template_by, template_judged}
 use Rattle.path_core.specs.Breaking.{reset_of, reset_on, answered_break}
 use Rattle.path_core.specs.Codec.{Codec, HeardSegment}
 use Rattle.path_core.specs.Duties.{stands, passed, answered}
 use Rattle.path_core.specs.Emission.{first_unsent, may_ask, Grant, answered_grant, answered_data, data_stands}
 use Rattle.path_core.specs.Ends.{PathEnd}
-use Rattle.path_core.specs.Events.{next_event, heard_in, at_tick, died, died_unless_dead, path_died, is_death, after_line, copy_heard, template_fired, happens_if}
+use Rattle.join_handshake.specs.declared.hearing.JoinSyn.{JoinSyn}
+use Rattle.path_core.specs.declared.judged.Judged.{Judged}
+use Rattle.path_core.specs.declared.judged.Judged.TheVariants as judged
+use Rattle.path_core.specs.Joining.{is_never, keys_begun, opened_by, asked_at, join_taken}
+use Rattle.path_core.specs.Joins.{is_joined}
+use Rattle.path_core.specs.Events.{next_event, heard_in, at_tick, join_begun, died, died_unless_dead, path_died, is_death, after_line, copy_heard, template_fired, happens_if}
 use Rattle.path_core.specs.Passing.{piece_of, is_placed, answered_piece, is_fin_set, answered_fin_heard}
 use Rattle.path_core.specs.Placing.{Piece, with_learned}
 use Rattle.path_core.specs.Sends.{sent_on}
@@ -59,6 +64,7 @@ none_owed ds = not (is_owed A ds) && not (is_owed B ds)
 
 -- what has to come after a duty
 abbrev pub needs : Duty → List Duty → Bool
+needs duties.JoinAgain ds = is_owed A ds
 needs (duties.Look s) ds = is_owed s ds
 needs (duties.Update s) ds = is_owed s ds
 needs (duties.Syn s) ds = is_owed s ds
@@ -66,9 +72,11 @@ needs (duties.SynHeard s) ds = is_owed s ds
 needs (duties.SynAnswered s) ds = is_owed s ds
 needs (duties.PeerKey s) ds = is_owed s ds
 needs (duties.SynAck s) ds = is_owed s ds
+needs (duties.JoinHeard s) ds = is_owed s ds
 needs (duties.Opened s) ds = is_owed s ds
 needs (duties.Heard s index) ds = is_owed s ds && not (is_owed (peer s) ds)
 needs (duties.AckHeard s) ds = is_owed s ds
+needs (duties.PlainAck s) ds = is_owed s ds && not (is_owed (peer s) ds)
 needs (duties.Keep s) ds = is_owed s ds
 needs (duties.Edge s) ds = is_owed s ds && not (is_owed (peer s) ds)
 needs (duties.HeardFin s index) ds = is_owed s ds && not (is_owed (peer s) ds)
@@ -98,6 +106,47 @@ emission_followed B = refl
 emission_owed : (s : Side) → is_owed s (emission s) ≡ true
 emission_owed A = refl
 emission_owed B = refl
+
+-- templates that have what the end of this side needs
+record IsOwedThere (s : Side) (ds : List Duty) : Type 0 where
+  owed : is_owed s ds ≡ true
+  followed : is_followed ds ≡ true
+
+emission_there : (s : Side) → IsOwedThere s (emission s)
+emission_there A = record { owed = refl; followed = refl }
+emission_there B = record { owed = refl; followed = refl }
+
+syn_there : (s : Side) → IsOwedThere s (syn_came s)
+syn_there A = record { owed = refl; followed = refl }
+syn_there B = record { owed = refl; followed = refl }
+
+syn_ack_there : (s : Side) → IsOwedThere s (syn_ack_came s)
+syn_ack_there A = record { owed = refl; followed = refl }
+syn_ack_there B = record { owed = refl; followed = refl }
+
+answered_there : (s : Side) → IsOwedThere s (join_answered s)
+answered_there A = record { owed = refl; followed = refl }
+answered_there B = record { owed = refl; followed = refl }
+
+again_there : (s : Side) → IsOwedThere s (syn_again s)
+again_there A = record { owed = refl; followed = refl }
+again_there B = record { owed = refl; followed = refl }
+
+answer_there : (s : Side) → IsOwedThere s (answers s)
+answer_there A = record { owed = refl; followed = refl }
+answer_there B = record { owed = refl; followed = refl }
+
+join_there : (s : Side) → IsOwedThere s (join_came s)
+join_there A = record { owed = refl; followed = refl }
+join_there B = record { owed = refl; followed = refl }
+
+refusal_there : (s : Side) → IsOwedThere s (refuses s)
+refusal_there A = record { owed = refl; followed = refl }
+refusal_there B = record { owed = refl; followed = refl }
+
+reset_there : (s : Side) → IsOwedThere s (resets s 1)
+reset_there A = record { owed = refl; followed = refl }
+reset_there B = record { owed = refl; followed = refl }
 
 -- so many things that a copy said, and its payload
 record IsCopy (s : Side) (ds : List Duty) : Type 0 where
@@ -281,36 +330,40 @@ module _ {C : Type 0} where
         at B = inr (unless_dead_paid p.profile B p.b (refused B))
 
     -- the end of the side to which a copy came
-    came : (s : Side) (e : PathEnd) (count : ℕ) (m : Meaning) → (is_owed s (template_by s count m) ≡ true) ⊎ IsPaid p.profile s e (refused s) → is_followed (template_by s count m) ≡ true
-        → Granting (goes_on s e (template_by s count m) p) refused
-    came s e count m own followed = on p refused s e (template_by s count m) followed own (inr (paid (peer s)))
+    came : (s : Side) (e : PathEnd) (ds : List Duty) → (is_owed s ds ≡ true) ⊎ IsPaid p.profile s e (refused s) → is_followed ds ≡ true → Granting (goes_on s e ds p) refused
+    came s e ds own followed = on p refused s e ds followed own (inr (paid (peer s)))
 
-    -- the end after a copy that means this
-    abbrev ended : Side → ℕ → HeardSegment → Meaning → PathEnd
-    ended s now h m = after_copy (reset_for p.profile s (copy_of h)) s now h m (with_held (held_of p.profile s h) h m (end_at s p))
+    -- has what it needs ahead
+    owed_came : (s : Side) (e : PathEnd) (ds : List Duty) → IsOwedThere s ds → Granting (goes_on s e ds p) refused
+    owed_came s e ds h = came s e ds (inl h.owed) h.followed
 
-    heard_done : (s : Side) (now count : ℕ) (h : HeardSegment) (m : Meaning) → Granting (goes_on s (ended s now h m) (template_by s count m) p) refused
-    heard_done A now count h means.Ignored = came A (ended A now h means.Ignored) count means.Ignored (inl refl) refl
-    heard_done B now count h means.Ignored = came B (ended B now h means.Ignored) count means.Ignored (inl refl) refl
-    heard_done s now count h means.Unwanted = came s (ended s now h means.Unwanted) count means.Unwanted (inr (record { paid = (paid s).paid })) refl
-    heard_done A now count h means.Opens = came A (ended A now h means.Opens) count means.Opens (inl refl) refl
-    heard_done B now count h means.Opens = came B (ended B now h means.Opens) count means.Opens (inl refl) refl
-    heard_done A now count h (means.Accepts acknowledged) = came A (ended A now h (means.Accepts acknowledged)) count (means.Accepts acknowledged) (inl refl) refl
-    heard_done B now count h (means.Accepts acknowledged) = came B (ended B now h (means.Accepts acknowledged)) count (means.Accepts acknowledged) (inl refl) refl
-    heard_done A now count h means.RepeatedSyn = came A (ended A now h means.RepeatedSyn) count means.RepeatedSyn (inl refl) refl
-    heard_done B now count h means.RepeatedSyn = came B (ended B now h means.RepeatedSyn) count means.RepeatedSyn (inl refl) refl
-    heard_done A now count h means.Outside = came A (ended A now h means.Outside) count means.Outside (inl refl) refl
-    heard_done B now count h means.Outside = came B (ended B now h means.Outside) count means.Outside (inl refl) refl
-    heard_done s now count h means.Kills = came s (ended s now h means.Kills) count means.Kills (inr (closed_paid p.profile s (ended s now h means.Kills) (refused s) refl)) refl
-    heard_done A now count h means.Challenged = came A (ended A now h means.Challenged) count means.Challenged (inl refl) refl
-    heard_done B now count h means.Challenged = came B (ended B now h means.Challenged) count means.Challenged (inl refl) refl
-    heard_done A now count h means.Unacknowledging = came A (ended A now h means.Unacknowledging) count means.Unacknowledging (inl refl) refl
-    heard_done B now count h means.Unacknowledging = came B (ended B now h means.Unacknowledging) count means.Unacknowledging (inl refl) refl
-    heard_done A now count h means.Ahead = came A (ended A now h means.Ahead) count means.Ahead (inl refl) refl
-    heard_done B now count h means.Ahead = came B (ended B now h means.Ahead) count means.Ahead (inl refl) refl
-    heard_done s now count h (means.Taken position acknowledged) =
+    -- the end after a copy that is taken so
+    abbrev ended : Bool → Side → ℕ → HeardSegment → Meaning → PathEnd
+    ended joined s now h m = copy_judged joined (held_of p.profile s h) (reset_for p.profile s (copy_of h)) s now h m (end_at s p)
+
+    heard_done : (joined : Bool) (s : Side) (now count : ℕ) (h : HeardSegment) (m : Meaning) → Granting (goes_on s (ended joined s now h m) (template_by joined s count m) p) refused
+    heard_done joined s now count h means.Ignored = owed_came s (ended joined s now h means.Ignored) (emission s) (emission_there s)
+    heard_done true s now count h means.Unwanted = came s (ended true s now h means.Unwanted) (answers_dead s) (inr (record { paid = (paid s).paid })) refl
+    heard_done false s now count h means.Unwanted = came s (ended false s now h means.Unwanted) (answers_dead s) (inr (record { paid = (paid s).paid })) refl
+    heard_done joined s now count h means.Opens = owed_came s (ended joined s now h means.Opens) (syn_came s) (syn_there s)
+    heard_done true s now count h (means.Accepts acknowledged) = owed_came s (ended true s now h (means.Accepts acknowledged)) (join_answered s) (answered_there s)
+    heard_done false s now count h (means.Accepts acknowledged) = owed_came s (ended false s now h (means.Accepts acknowledged)) (syn_ack_came s) (syn_ack_there s)
+    heard_done joined s now count h means.RepeatedSyn = owed_came s (ended joined s now h means.RepeatedSyn) (syn_again s) (again_there s)
+    heard_done joined s now count h means.Outside = owed_came s (ended joined s now h means.Outside) (answers s) (answer_there s)
+    heard_done joined s now count h means.Kills = came s (ended joined s now h means.Kills) (leaves s) (inr (closed_paid p.profile s (ended joined s now h means.Kills) (refused s) refl)) refl
+    heard_done joined s now count h means.Challenged = owed_came s (ended joined s now h means.Challenged) (answers s) (answer_there s)
+    heard_done joined s now count h means.Unacknowledging = owed_came s (ended joined s now h means.Unacknowledging) (emission s) (emission_there s)
+    heard_done joined s now count h means.Ahead = owed_came s (ended joined s now h means.Ahead) (answers s) (answer_there s)
+    heard_done joined s now count h (means.Taken position acknowledged) =
         let copy = copy_is s count in
-        came s (ended s now h (means.Taken position acknowledged)) count (means.Taken position acknowledged) (inl copy.owed) copy.followed
+        came s (ended joined s now h (means.Taken position acknowledged)) (copy_came s count) (inl copy.owed) copy.followed
+
+    judged_done : (joined : Bool) (s : Side) (now count : ℕ) (h : HeardSegment) (verdict : Judged)
+        → Granting (goes_on s (ended joined s now h (taken_as verdict)) (template_judged joined s count verdict) p) refused
+    judged_done joined s now count h (judged.As meaning) = heard_done joined s now count h meaning
+    judged_done joined s now count h judged.Asks = owed_came s (ended joined s now h means.Ignored) (join_came s) (join_there s)
+    judged_done joined s now count h judged.Lacks = owed_came s (ended joined s now h means.Ignored) (refuses s) (refusal_there s)
+    judged_done joined s now count h judged.Forged = owed_came s (ended joined s now h means.Ignored) (resets s 1) (reset_there s)
 
     emission_done : (s : Side) → Granting (with_agenda (emission s) p) refused
     emission_done A = agenda_on p refused (emission A) refl at
@@ -326,7 +379,16 @@ module _ {C : Type 0} where
 
     copy_done : (s : Side) (o : Option HeardSegment) → Granting (copy_heard s o p) refused
     copy_done s None = emission_done s
-    copy_done s (Some h) = heard_done s p.clock (length (items_of s h)) h (meaning_of (copy_of h) (end_at s p).tcp)
+    copy_done s (Some h) =
+        let joined = is_joined p.profile in judged_done joined s p.clock (length (items_of joined s h)) h (judged_in joined s h (end_at s p))
+
+    -- a join is begun or not, at its tick
+    join_done : (r : Reply) → Granting (join_begun r (leaves A) (emission A) p) refused
+    join_done r = by (is_never r)
+      where
+        by : (b : Bool) → Granting (if b then goes_on A (died (end_at A p)) (leaves A) p else goes_on A (opened_by (keys_begun r) (end_at A p)) (emission A) p) refused
+        by true = on p refused A (died p.a) (leaves A) refl (inr (closed_paid p.profile A (died p.a) (refused A) refl)) (inr (paid B))
+        by false = on p refused A (opened_by (keys_begun r) p.a) (emission A) refl (inl refl) (inr (paid B))
 
     fired_done : (s : Side) (e : PathEnd) (sixth : Bool) → Granting (goes_on s e (template_fired sixth s) p) refused
     fired_done A e true = on p refused A e (expired_for_ever A) refl (inl refl) (inr (paid B))
@@ -334,21 +396,26 @@ module _ {C : Type 0} where
     fired_done A e false = on p refused A e (expired A) refl (inl refl) (inr (paid B))
     fired_done B e false = on p refused B e (expired B) refl (inl refl) (inr (paid A))
 
-  event_done : (k : Codec C) (o : Option Event) (p : PathState C) (refused : Side → Bool) → ((s : Side) → IsPaid p.profile s (end_at s p) (refused s)) → Granting (happens_if k o p) refused
-  event_done k None p refused paid = agenda_on p refused rest_of_turn refl (λ s. inr (paid s))
-  event_done k (Some (happenings.Takes line)) p refused paid =
+  event_done : (k : Codec C) (o : Option Event) (r : Reply) (p : PathState C) (refused : Side → Bool) → ((s : Side) → IsPaid p.profile s (end_at s p) (refused s)) → Granting (happens_if k o r p) refused
+  event_done k None r p refused paid = agenda_on p refused rest_of_turn refl (λ s. inr (paid s))
+  event_done k (Some (happenings.Joins tick)) r p refused paid = join_done (record (at_tick tick p) { joined_at = None }) refused at r
+    where
+      at : (s : Side) → IsPaid p.profile s (end_at s (record (at_tick tick p) { joined_at = None })) (refused s)
+      at A = paid A
+      at B = paid B
+  event_done k (Some (happenings.Takes line)) r p refused paid =
       line_done (record (at_tick line.tick p) { lines = tail_of p.lines }) refused at (is_death line.line)
     where
       at : (s : Side) → IsPaid p.profile s (end_at s (record (at_tick line.tick p) { lines = tail_of p.lines })) (refused s)
       at A = paid A
       at B = paid B
-  event_done k (Some (happenings.Arrives due)) p refused paid =
+  event_done k (Some (happenings.Arrives due)) r p refused paid =
       copy_done (record (at_tick due.tick p) { link = after_delivery due p.link }) refused at due.to (heard_in k due.to (arriving due p.link) p)
     where
       at : (s : Side) → IsPaid p.profile s (end_at s (record (at_tick due.tick p) { link = after_delivery due p.link })) (refused s)
       at A = paid A
       at B = paid B
-  event_done k (Some (happenings.Fires s tick)) p refused paid = fired_done (at_tick tick p) refused at s _ (is_sixth (end_at s (at_tick tick p)).tcp)
+  event_done k (Some (happenings.Fires s tick)) r p refused paid = fired_done (at_tick tick p) refused at s _ (is_sixth (end_at s (at_tick tick p)).tcp)
     where
       at : (t : Side) → IsPaid p.profile t (end_at t (at_tick tick p)) (refused t)
       at A = paid A
@@ -382,6 +449,7 @@ module _ {C : Type 0} where
   passed_pays (duties.BreakAck s reason) ds p refused none f each = absurd (true≢false none)
   passed_pays (duties.BreakReset s reason) ds p refused none f each = absurd (true≢false none)
   passed_pays (duties.Reset s) ds p refused none f each = absurd (true≢false none)
+  passed_pays duties.JoinAgain ds p refused none f each = each
   passed_pays (duties.Look s) ds p refused none f each = each
   passed_pays (duties.Window s) ds p refused none f each = each
   passed_pays (duties.Update s) ds p refused none f each = each
@@ -393,9 +461,12 @@ module _ {C : Type 0} where
   passed_pays (duties.SynAnswered s) ds p refused none f each = each
   passed_pays (duties.PeerKey s) ds p refused none f each = each
   passed_pays (duties.SynAck s) ds p refused none f each = each
+  passed_pays (duties.JoinHeard s) ds p refused none f each = each
   passed_pays (duties.Opened s) ds p refused none f each = each
   passed_pays (duties.Live s) ds p refused none f each = each
   passed_pays (duties.AckHeard s) ds p refused none f each = each
+  passed_pays (duties.PlainAck s) ds p refused none f each = each
+  passed_pays (duties.Refuse s) ds p refused none f each = each
   passed_pays (duties.HeardFin s index) ds p refused none f each = each
   passed_pays (duties.AckOut s) ds p refused none f each = each
   passed_pays (duties.Rate s) ds p refused none f each = each
@@ -471,7 +542,41 @@ module _ {C : Type 0} where
         by (Some says.Mapping) = mapping (is_clash (end_at s p))
         by (Some (says.DataFin place)) = touched s _ ds rest need.0 xs (inr paid)
         by (Some (says.PeerKey key)) = done_on ds xs rest (λ t. each t)
+        by (Some (says.Join form)) = done_on ds xs rest (λ t. each t)
         by (Some (says.Keys own other)) = touched s _ ds rest need.0 xs (inr paid)
+
+    -- an end that waits asks again whether it may join
+    again_done : (ds : List Duty) → is_followed (duties.JoinAgain ∷ ds) ≡ true → ((t : Side) → Pays (at (duties.JoinAgain ∷ ds)) (duties.JoinAgain ∷ ds) refused t)
+        → Granting (join_begun r (duties.Leave A ∷ ds) ds (at (duties.JoinAgain ∷ ds))) refused
+    again_done ds f each = by (is_never r)
+      where
+        xs : List Duty
+        xs = duties.JoinAgain ∷ ds
+
+        rest : is_followed ds ≡ true
+        rest = rest_followed duties.JoinAgain ds f
+
+        by : (b : Bool) → Granting (if b then goes_on A (died p.a) (duties.Leave A ∷ ds) (at xs) else goes_on A (opened_by (keys_begun r) p.a) ds (at xs)) refused
+        by true = touched A (died p.a) (duties.Leave A ∷ ds) rest (first_need duties.JoinAgain ds f) xs (each B)
+        by false = touched A (opened_by (keys_begun r) p.a) ds rest (first_need duties.JoinAgain ds f) xs (each B)
+
+    join_heard_done : (s : Side) (ds : List Duty) → is_followed (duties.JoinHeard s ∷ ds) ≡ true → ((t : Side) → Pays (at (duties.JoinHeard s ∷ ds)) (duties.JoinHeard s ∷ ds) refused t)
+        → (keys : Option KeyPair) (asked : Option JoinSyn) → Granting (join_taken s keys asked (at (duties.JoinHeard s ∷ ds))) refused
+    join_heard_done s ds f each = by
+      where
+        xs : List Duty
+        xs = duties.JoinHeard s ∷ ds
+
+        need : is_owed s ds ≡ true
+        need = first_need (duties.JoinHeard s) ds f
+
+        rest : is_followed ds ≡ true
+        rest = rest_followed (duties.JoinHeard s) ds f
+
+        by : (keys : Option KeyPair) (asked : Option JoinSyn) → Granting (join_taken s keys asked (at xs)) refused
+        by None asked = done_on (duties.Refuse s ∷ ds) xs rest (λ t. each t)
+        by (Some keys) None = done_on (duties.Refuse s ∷ ds) xs rest (λ t. each t)
+        by (Some keys) (Some asked) = touched s _ (duties.SynAck s ∷ ds) (rw (need, rest) refl) need xs (each (peer s))
 
     piece_done : (s : Side) (ds : List Duty) → is_followed (duties.Edge s ∷ ds) ≡ true → ((t : Side) → Pays (at (duties.Edge s ∷ ds)) (duties.Edge s ∷ ds) refused t)
         → (o : Option Piece) (taken : Bool) → Granting (answered_piece s o taken (at (duties.Edge s ∷ ds))) refused
@@ -532,6 +637,7 @@ module _ {C : Type 0} where
     -- every other duty
     pub answered_done : (d : Duty) (ds : List Duty) → MayNotAsk d → is_followed (d ∷ ds) ≡ true → ((t : Side) → Pays (at (d ∷ ds)) (d ∷ ds) refused t) → Granting (answered k d r (at (d ∷ ds))) refused
     answered_done (duties.Data s) ds other f each = absurd other
+    answered_done duties.JoinAgain ds other f each = again_done ds f each
     answered_done (duties.Look s) ds other f each = touched s _ ds (rest_followed (duties.Look s) ds f) (first_need (duties.Look s) ds f) (duties.Look s ∷ ds) (each (peer s))
     answered_done (duties.Window s) ds other f each =
         on (at (duties.Window s ∷ ds)) refused s _ ds (rest_followed (duties.Window s) ds f) (⊎_elim (λ owed. inl owed) (λ h. inr (record { paid = h.paid })) (each s)) (each (peer s))
@@ -543,16 +649,22 @@ module _ {C : Type 0} where
         sent (at (duties.Fin s ∷ ds)) refused k s _ _ ds (rest_followed (duties.Fin s) ds f) (inr (closed_paid p.profile s _ (refused s) (finished (end_at s p).tcp.state))) (each (peer s))
     answered_done (duties.Timer s) ds other f each = done_on ds (duties.Timer s ∷ ds) (rest_followed (duties.Timer s) ds f) (λ t. each t)
     answered_done duties.Events ds other f each =
-        event_done k (next_event p) (at (duties.Events ∷ ds)) refused
+        event_done k (next_event p) r (at (duties.Events ∷ ds)) refused
         (λ s. is_paid (at (duties.Events ∷ ds)) (duties.Events ∷ ds) refused s (none_for s ds (first_need duties.Events ds f)) (each s))
     answered_done (duties.SynHeard s) ds other f each = done_on ds (duties.SynHeard s ∷ ds) (rest_followed (duties.SynHeard s) ds f) (λ t. each t)
     answered_done (duties.SynAnswered s) ds other f each = done_on ds (duties.SynAnswered s ∷ ds) (rest_followed (duties.SynAnswered s) ds f) (λ t. each t)
     answered_done (duties.PeerKey s) ds other f each = touched s _ ds (rest_followed (duties.PeerKey s) ds f) (first_need (duties.PeerKey s) ds f) (duties.PeerKey s ∷ ds) (each (peer s))
     answered_done (duties.SynAck s) ds other f each = touched_sent s _ _ ds (rest_followed (duties.SynAck s) ds f) (first_need (duties.SynAck s) ds f) (duties.SynAck s ∷ ds) (each (peer s))
+    answered_done (duties.JoinHeard s) ds other f each = join_heard_done s ds f each (keys_begun r) (asked_at s p)
+    answered_done (duties.Refuse s) ds other f each =
+        sent (at (duties.Refuse s ∷ ds)) refused k s _ _ ds (rest_followed (duties.Refuse s) ds f) (each s) (each (peer s))
     answered_done (duties.Opened s) ds other f each = touched s _ ds (rest_followed (duties.Opened s) ds f) (first_need (duties.Opened s) ds f) (duties.Opened s ∷ ds) (each (peer s))
     answered_done (duties.Live s) ds other f each = done_on ds (duties.Live s ∷ ds) (rest_followed (duties.Live s) ds f) (λ t. each t)
     answered_done (duties.Heard s index) ds other f each = item_done s index ds f each (item_of index (end_at s p))
     answered_done (duties.AckHeard s) ds other f each = touched s _ ds (rest_followed (duties.AckHeard s) ds f) (first_need (duties.AckHeard s) ds f) (duties.AckHeard s ∷ ds) (each (peer s))
+    answered_done (duties.PlainAck s) ds other f each =
+        break_done (at (duties.PlainAck s ∷ ds)) refused k s 6 r
+        (is_paid (at (duties.PlainAck s ∷ ds)) (duties.PlainAck s ∷ ds) refused (peer s) (not-true (is_owed (peer s) ds) (and_parts (is_owed s ds) (not (is_owed (peer s) ds)) (first_need (duties.PlainAck s) ds f)).1) (each (peer s)))
     answered_done (duties.Keep s) ds other f each = done_on ds (duties.Keep s ∷ ds) (rest_followed (duties.Keep s) ds f) (λ t. each t)
     answered_done (duties.Edge s) ds other f each = piece_done s ds f each (piece_of s p) (is_placed r)
     answered_done (duties.HeardFin s index) ds other f each = fin_done s index ds f each (is_fin_set r)

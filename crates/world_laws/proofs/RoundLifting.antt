@@ -10,11 +10,11 @@ use Rattle.actor_desk.specs.declared.ask.Ask.{Ask}
 use Rattle.actor_desk.specs.Books.{StampedBooks}
 use Rattle.stream_apps.specs.Starts.{first_app_turn}
 use Rattle.path_core.specs.Codec.{Codec}
-use Rattle.path_core.specs.Starts.{first_turn}
-use Rattle.world_laws.specs.declared.member.Member.TheVariants.{App, Path}
+use Rattle.world_laws.specs.declared.member.Member.TheVariants.{App}
 use Rattle.world_laws.specs.Actors.{ActorCrew, member_asks, is_over}
-use Rattle.world_laws.specs.Openings.{Start, new_crew, opened_world}
+use Rattle.world_laws.specs.Openings.{PathPlan, Start, new_crew, new_path, opened_world}
 use Rattle.world_laws.specs.Worlds.{WorldState, Turn, crew_after, asked, stepped, world_step, all_over, greatest, begins, end_round, after_turn, world_run}
+use Rattle.world_laws.proofs.Opened.{opened_actors}
 
 module _ {C : Type 0} where
   all_over_each : (crew : List (ActorCrew C)) (i : ℕ) (c : ActorCrew C) → all_over crew ≡ true → slice_get crew i ≡ Some c → is_over c.member ≡ true
@@ -63,13 +63,7 @@ module _ {C : Type 0} (k : Codec C) (P : ActorCrew C → Type 0)
   run_lifted (turn ∷ turns) w h = run_lifted turns (after_turn k turn w) (turn_lifted turn w h)
 
 module _ {C : Type 0} (P : ActorCrew C → Type 0) where
-  -- what the three actors have at the opening
-  pub opened_lifted : (start : Start) → P (new_crew 0 (App (first_app_turn A start.profile.buffer start.file_a))) → P (new_crew 1 (App (first_app_turn B start.profile.buffer start.file_b)))
-      → P (new_crew 2 (Path (first_turn start.profile start.drawn start.delay start.lines))) → Every P (opened_world {C = C} start).crew
-  opened_lifted start a b p = record { each = at }
-    where
-      at : (i : ℕ) (c : ActorCrew C) → slice_get (opened_world {C = C} start).crew i ≡ Some c → P c
-      at zero c there = subst P (same_Some _ c there) a
-      at (suc zero) c there = subst P (same_Some _ c there) b
-      at (suc (suc zero)) c there = subst P (same_Some _ c there) p
-      at (suc (suc (suc i))) c there = cc
+  -- what the applications and the paths have at the opening
+  pub opened_lifted : (start : Start) → P (new_crew 0 (App (first_app_turn A start.buffer start.file_a))) → P (new_crew 1 (App (first_app_turn B start.buffer start.file_b)))
+      → ((number : ℕ) (plan : PathPlan) → slice_get start.paths number ≡ Some plan → P (new_path start number plan)) → Every P (opened_world {C = C} start).crew
+  opened_lifted start a b paths = record { each = opened_actors (λ actor c. P c) start a b paths }

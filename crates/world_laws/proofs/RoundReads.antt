@@ -217,4 +217,4 @@ module _ {C : Type 0} where
           (λ books c x asks h. member_ready k books c.member c.list (note_of books c.pass x) x refl asks h)
           (λ stamp c over h. next_ready c.member c.list)
           turns (opened_world start)
-          (opened_lifted IsReadyCrew start (first_ready A start.profile.buffer start.file_a) (first_ready B start.profile.buffer start.file_b) tt)
+          (opened_lifted IsReadyCrew start (first_ready A start.buffer start.file_a) (first_ready B start.buffer start.file_b) (λ number plan there. tt))

@@ -1,7 +1,5 @@
 -- From the opening on each turn ends, so that serial turns exist at every moment.
-use Rattle.std.proofs.Common.{◌≡◌, refl, subst, ℕ, zero, suc, false, Some, List, arith}
-use Rattle.std.proofs.lemmas.Option.{same_Some}
-use Rattle.std.specs.List.{slice_get}
+use Rattle.std.proofs.Common.{refl, ℕ, false, List, arith}
 use Rattle.outside_kit.specs.declared.side.Side.{Side}
 use Rattle.outside_kit.specs.declared.side.Side.TheVariants.{A, B}
 use Rattle.stream_apps.specs.AppSteps.{start_of_app}
@@ -9,11 +7,11 @@ use Rattle.stream_apps.specs.Starts.{first_app_turn}
 use Rattle.stream_apps.specs.Turns.{IsAppSettled}
 use Rattle.path_core.specs.Codec.{Codec}
 use Rattle.path_core.specs.Starts.{waiting_path}
-use Rattle.world_laws.specs.Actors.{ActorCrew}
-use Rattle.world_laws.specs.Laws.{CanRun, SerialExists}
-use Rattle.world_laws.specs.Openings.{Start, opened_world}
+use Rattle.world_laws.specs.Laws.{CanRun, CanRunPath, SerialExists}
+use Rattle.world_laws.specs.Openings.{PathPlan, Start, path_begins, new_path, opened_world}
 use Rattle.world_laws.specs.Serial.{spelled}
 use Rattle.world_laws.specs.Worlds.{WorldState, world_run}
+use Rattle.world_laws.proofs.Opened.{opened_actors}
 use Rattle.world_laws.proofs.Applying.{settled_app}
 use Rattle.world_laws.proofs.RoundEnds.{IsSteady, IsSteadyWorld, begun_steady, run_steady, rounds_at}
 use Rattle.world_laws.proofs.RoundTurns.{rounds_lawful}
@@ -25,18 +23,16 @@ first_settled s buffer file =
 module _ {C : Type 0} where
   opened_steady : (start : Start) → CanRun start → IsSteadyWorld {C = C} (opened_world start)
   opened_steady start can = record {
-    crew = record { each = at };
+    crew = record {
+      each = opened_actors (λ actor c. IsSteady c.member) start (first_settled A start.buffer start.file_a) (first_settled B start.buffer start.file_b) (λ number plan there. path number plan (can.paths.each number plan there));
+    };
     books = record { a = record { whole = refl }; b = record { whole = refl } };
   }
     where
-      at : (i : ℕ) (c : ActorCrew C) → slice_get (opened_world {C = C} start).crew i ≡ Some c → IsSteady c.member
-      at zero c there = subst (λ x. IsSteady x.member) (same_Some _ c there) (first_settled A start.profile.buffer start.file_a)
-      at (suc zero) c there = subst (λ x. IsSteady x.member) (same_Some _ c there) (first_settled B start.profile.buffer start.file_b)
-      at (suc (suc zero)) c there =
-          subst (λ x. IsSteady x.member) (same_Some _ c there)
-          (begun_steady (waiting_path start.profile start.drawn start.delay start.lines)
-          (record { delay = can.delay; timer_a = omega arith; timer_b = omega arith }) can.payload)
-      at (suc (suc (suc i))) c there = cc
+      path : (number : ℕ) (plan : PathPlan) → CanRunPath plan → IsSteady (new_path {C = C} start number plan).member
+      path number plan runs =
+          let payload = runs.payload in
+          begun_steady (waiting_path (path_begins start number plan) start.lines) (record { delay = runs.delay; timer_a = omega arith; timer_b = omega arith }) (omega (arith, payload))
 
   pub serial_exists : (k : Codec C) → SerialExists k
   serial_exists k start turns can most =

@@ -13,7 +13,7 @@ use Rattle.path_core.specs.Steps.{begins_turn}
 use Rattle.world_laws.specs.declared.member.Member.TheVariants.{App, Path}
 use Rattle.world_laws.specs.Actors.{Actor, ActorCrew, member_takes, member_next, is_over}
 use Rattle.world_laws.specs.Laws.{Always}
-use Rattle.world_laws.specs.Openings.{Start, opened_world}
+use Rattle.world_laws.specs.Openings.{Start, path_begins, opened_world}
 use Rattle.world_laws.specs.StampedBooks.{answer_to}
 use Rattle.world_laws.specs.Timely.{IsTimely, IsTimelyMember, EachRoundHasAStep}
 use Rattle.world_laws.specs.Worlds.{note_of, crew_after}
@@ -46,7 +46,7 @@ module _ {C : Type 0} where
       takes_timely k (answer_to books x) c.member (length c.list) (length (c.list ++ note_of books c.pass x ∷ [])) (length-append c.list (note_of books c.pass x ∷ [])) h
 
   opened_timely : (start : Start) → Every IsTimelyCrew (opened_world {C = C} start).crew
-  opened_timely start = opened_lifted IsTimelyCrew start tt tt (begun_timely (waiting_path start.profile start.drawn start.delay start.lines) 0 (omega arith))
+  opened_timely start = opened_lifted IsTimelyCrew start tt tt (λ number plan there. begun_timely (waiting_path (path_begins start number plan) start.lines) 0 (omega arith))
 
   pub each_round_has_a_step : (k : Codec C) → Always k (λ start w. EachRoundHasAStep w)
   each_round_has_a_step k start turns = record {

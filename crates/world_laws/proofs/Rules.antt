@@ -8,8 +8,10 @@ use Rattle.loss_recovery.specs.declared.windows.Congestion.{Congestion}
 use Rattle.loss_recovery.specs.declared.windows.Pending.{Pending}
 use Rattle.loss_recovery.specs.Windows as windows
 use Rattle.subflow_recv.specs.Receiving.{Receiving, after_forget_from, without_held, after_keep_held}
+use Rattle.subflow_tcp.specs.declared.handshake.State.{State as EndPhase}
 use Rattle.subflow_tcp.specs.declared.handshake.State.TheVariants as phase
 use Rattle.subflow_tcp.specs.Expiring as expiring
+use Rattle.subflow_tcp.specs.Opening.{after_begin}
 use Rattle.subflow_tcp.specs.State.{is_behind}
 use Rattle.subflow_tcp.specs.States as states
 use Rattle.subflow_tcp.specs.Taking as taking
@@ -20,19 +22,50 @@ use Rattle.path_core.specs.Emission.{after_timer}
 use Rattle.path_core.specs.Ends.{PathEnd, Treated, nothing_treated}
 use Rattle.path_core.specs.Events.{died, died_unless_dead, after_firing}
 use Rattle.path_agenda.specs.declared.keys.KeyPair.{KeyPair}
+use Rattle.join_handshake.specs.declared.hearing.JoinSyn.{JoinSyn}
+use Rattle.path_core.specs.Joining.{opened_by, syn_alone, is_listening, joined_by}
 use Rattle.path_core.specs.Opening.{with_peer_key, after_keys}
 use Rattle.path_core.specs.Passing.{having_asked, with_peer_end, after_rate}
 use Rattle.path_core.specs.Placing.{is_wrong, forgotten_by}
 use Rattle.path_core.specs.Standing.{after_look}
 use Rattle.path_core.specs.State.{Profile}
 use Rattle.path_core.specs.Treating.{after_verdict, after_dss, after_keep, is_dropped}
+use Rattle.world_laws.proofs.Arriving.{syn_both}
 use Rattle.world_laws.proofs.Hearing.{cut_shows, dropped_shows, state_shows}
 use Rattle.world_laws.proofs.Records.{acknowledged_shows, expired_shows}
-use Rattle.world_laws.proofs.Showing.{HasAck, Under, ReceiverShows, TreatedShows, EndShows}
+use Rattle.world_laws.proofs.Showing.{HasAck, Under, is_unfinished, ReceiverShows, TreatedShows, EndShows}
 
 grown_told : (growth : ℕ) (o : Option Pending) (c : Congestion) → (windows.grown_by growth o c).told ≡ c.told
 grown_told growth None c = refl
 grown_told growth (Some p) c = refl
+
+waiting_unfinished : (state : EndPhase) → states.is_waiting state ≡ true → is_unfinished state ≡ true
+waiting_unfinished phase.Waiting is = refl
+waiting_unfinished phase.Listen is = absurd (false≢true is)
+waiting_unfinished phase.SynSent is = absurd (false≢true is)
+waiting_unfinished phase.SynReceived is = absurd (false≢true is)
+waiting_unfinished phase.Established is = absurd (false≢true is)
+waiting_unfinished phase.FinWait1 is = absurd (false≢true is)
+waiting_unfinished phase.FinWait2 is = absurd (false≢true is)
+waiting_unfinished phase.CloseWait is = absurd (false≢true is)
+waiting_unfinished phase.Closing is = absurd (false≢true is)
+waiting_unfinished phase.LastAck is = absurd (false≢true is)
+waiting_unfinished phase.TimeWait is = absurd (false≢true is)
+waiting_unfinished phase.Dead is = absurd (false≢true is)
+
+listening_unfinished : (state : EndPhase) → is_listening state ≡ true → is_unfinished state ≡ true
+listening_unfinished phase.Listen is = refl
+listening_unfinished phase.Waiting is = refl
+listening_unfinished phase.SynSent is = refl
+listening_unfinished phase.SynReceived is = refl
+listening_unfinished phase.Established is = refl
+listening_unfinished phase.CloseWait is = refl
+listening_unfinished phase.FinWait1 is = absurd (false≢true is)
+listening_unfinished phase.FinWait2 is = absurd (false≢true is)
+listening_unfinished phase.Closing is = absurd (false≢true is)
+listening_unfinished phase.LastAck is = absurd (false≢true is)
+listening_unfinished phase.TimeWait is = absurd (false≢true is)
+listening_unfinished phase.Dead is = absurd (false≢true is)
 
 module _ (c : Profile) (s : Side) (out back : Lane) where
   abbrev Shows : PathEnd → Type 0
@@ -43,7 +76,7 @@ module _ (c : Profile) (s : Side) (out back : Lane) where
   with_treated e t shows h = record { sender = h.sender; receiver = h.receiver; window = h.window; told = h.told; treated = shows; held = h.held }
 
   pub asked_shows : (e : PathEnd) → Shows e → Shows (having_asked e)
-  asked_shows e h = with_treated e _ (record { items = h.treated.items; fins = h.treated.fins; answer = h.treated.answer }) h
+  asked_shows e h = with_treated e _ (record { items = h.treated.items; fins = h.treated.fins; answer = h.treated.answer; window = h.treated.window }) h
 
   pub looked_shows : (r : Reply) (e : PathEnd) → Shows e → Shows (after_look r e)
   looked_shows r e h = record { sender = h.sender; receiver = h.receiver; window = h.window; told = h.told; treated = h.treated; held = h.held }
@@ -63,7 +96,7 @@ module _ (c : Profile) (s : Side) (out back : Lane) where
     receiver = h.receiver;
     window = h.window;
     told = h.told;
-    treated = record { items = h.treated.items; fins = h.treated.fins; answer = h.treated.answer };
+    treated = record { items = h.treated.items; fins = h.treated.fins; answer = h.treated.answer; window = h.treated.window };
     held = h.held;
   }
 
@@ -83,10 +116,43 @@ module _ (c : Profile) (s : Side) (out back : Lane) where
     held = h.held;
   }
 
+  -- ---- a join
+
+  -- the waiting end opens
+  opened_state : (b : Bool) (e : PathEnd) → (b ≡ true → is_unfinished e.tcp.state ≡ true) → Shows e → Shows (record e { tcp = if b then after_begin e.tcp else e.tcp })
+  opened_state true e un h = record {
+    sender = state_shows c s _ _ out e.tcp.state phase.SynSent e.tcp.send (λ x. un refl) h.sender;
+    receiver = h.receiver;
+    window = h.window;
+    told = h.told;
+    treated = h.treated;
+    held = h.held;
+  }
+  opened_state false e un h = h
+
+  pub opened_shows : (keys : Option KeyPair) (e : PathEnd) → Shows e → Shows (opened_by keys e)
+  opened_shows None e h = h
+  opened_shows (Some keys) e h =
+      let x = opened_state (states.is_waiting e.tcp.state) e (waiting_unfinished e.tcp.state) h in
+      record { sender = x.sender; receiver = x.receiver; window = x.window; told = x.told; treated = x.treated; held = x.held }
+
+  -- the listening end takes the SYN
+  syn_shows : (b : Bool) (window : ℕ) (e : PathEnd) → (b ≡ true → is_unfinished e.tcp.state ≡ true) → HasAck out.acks 0 window → Shows e
+      → Shows (record e { tcp = if b then taking.after_syn (taking.unkept None) (syn_alone window) e.tcp else e.tcp })
+  syn_shows true window e un has h =
+      let both = syn_both c s _ _ _ out back (taking.unkept None) (syn_alone window) e.tcp refl refl (un refl) (record { sender = h.sender; receiver = h.receiver }) in
+      record { sender = both.sender; receiver = both.receiver; window = h.window; told = has; treated = h.treated; held = h.held }
+  syn_shows false window e un has h = h
+
+  pub joined_shows : (keys : KeyPair) (asked : JoinSyn) (e : PathEnd) → HasAck out.acks 0 e.treated.window → Shows e → Shows (joined_by keys asked e)
+  joined_shows keys asked e has h =
+      let x = syn_shows (is_listening e.tcp.state) e.treated.window e (listening_unfinished e.tcp.state) has h in
+      record { sender = x.sender; receiver = x.receiver; window = x.window; told = x.told; treated = x.treated; held = x.held }
+
   -- ---- death
 
   nothing_shows : TreatedShows nothing_treated out.acks back
-  nothing_shows = record { items = Every-nil _; fins = Every-nil _; answer = tt }
+  nothing_shows = record { items = Every-nil _; fins = Every-nil _; answer = tt; window = tt }
 
   dead_tcp : (reset : Bool) (e : PathEnd) (t : Treated) → TreatedShows t out.acks back → Shows e → Shows (record e { tcp = taking.after_death reset e.tcp; treated = t })
   dead_tcp reset e t shows h = record {

@@ -1,6 +1,6 @@
 -- Each segment that an end sends shows what its lanes have, and so does each copy of it.
 use Rattle.std.proofs.Common.{◌≡◌, refl, subst, ℕ, zero, suc, ◌&&◌, ◌==◌, not, inl, inr, Bool, true, false, cond, if◌then◌else◌, Option, Some, None, List, [], ◌∷◌}
-use Rattle.std.proofs.lemmas.Bool.{and_parts, eqb-true, both_ways, false≢true}
+use Rattle.std.proofs.lemmas.Bool.{and_parts, eqb-true, both_ways, false≢true, not-true}
 use Rattle.std.proofs.lemmas.Option.{same_Some}
 use Rattle.std.specs.List.{slice_get}
 use Rattle.std.specs.Option.{IfSome}
@@ -21,7 +21,8 @@ use Rattle.stream_lanes.specs.Lane.{AckCopy, Lane}
 use Rattle.stream_lanes.specs.Words.{Every}
 use Rattle.stream_lanes.proofs.Lists.{Every-nil, Every-push}
 use Rattle.path_core.specs.Ends.{PathEnd}
-use Rattle.path_core.specs.Segments.{place_numbered, syn_options, key_options, end_mapping, ack_options, is_first_piece, first_piece_options, piece_options, piece_mapping, record_options, reset_options, segment_of, ack_said, record_said, syn_ack_said, fin_said, reset_said, record_or_ack}
+use Rattle.path_core.specs.Joins.{is_joined, join_options, third_options}
+use Rattle.path_core.specs.Segments.{place_numbered, capable_options, syn_options, key_options, opening_options, end_mapping, ack_options, is_first_piece, first_piece_options, piece_options, piece_mapping, record_options, reset_options, segment_of, ack_said, record_said, syn_ack_said, fin_said, reset_said, record_or_ack}
 use Rattle.path_core.specs.State.{Profile}
 use Rattle.path_core.specs.Words.{is_side_a}
 use Rattle.world_laws.proofs.Showing.{HasAck, HasMapping, HasNumber, HasFin, KindShows, RecordShows, WindowShows, OptionShows, SegmentShows}
@@ -41,6 +42,14 @@ module _ (c : Profile) (s : Side) (e : PathEnd) (acks : List AckCopy) (p : Lane)
   keys_say window A None = Every-nil _
   keys_say window B peer = Every-nil _
 
+  joins_say : (window : ℕ) (s : Side) → Every (OptionShows window acks p) (join_options c s e.modes)
+  joins_say window A = every_one _ tt
+  joins_say window B = every_one _ tt
+
+  opening_say : (window : ℕ) (owes : Bool) → Every (OptionShows window acks p) (if owes then third_options e.modes else key_options c s e.modes.peer_key e)
+  opening_say window true = every_one _ tt
+  opening_say window false = keys_say window s e.modes.peer_key
+
   end_says : (fin : Option ℕ) → IfSome fin (HasNumber p.data_fins) → OptionShows (window_told false e.receiving.window) acks p (Dss (Some e.receiving.next) (end_mapping c s fin))
   end_says None h = (w.ack, tt)
   end_says (Some place) h = (w.ack, h)
@@ -48,13 +57,20 @@ module _ (c : Profile) (s : Side) (e : PathEnd) (acks : List AckCopy) (p : Lane)
   ack_options_say : (fin : Option ℕ) → IfSome fin (HasNumber p.data_fins) → Every (OptionShows (window_told false e.receiving.window) acks p) (ack_options c s fin e)
   ack_options_say fin h = by e.modes.clear
     where
-      by : (b : Bool) → Every (OptionShows (window_told false e.receiving.window) acks p) (if b then Dss (Some e.receiving.next) (end_mapping c s fin) ∷ [] else key_options c s e.modes.peer_key e)
+      by : (b : Bool) → Every (OptionShows (window_told false e.receiving.window) acks p) (if b then Dss (Some e.receiving.next) (end_mapping c s fin) ∷ [] else opening_options c s e)
       by true = every_one _ (end_says fin h)
-      by false = keys_say _ s e.modes.peer_key
+      by false = opening_say _ e.modes.owes_third
+
+  capable_say : (window : ℕ) (s : Side) → Every (OptionShows window acks p) (capable_options c s e)
+  capable_say window A = every_one _ tt
+  capable_say window B = every_one _ tt
 
   syn_options_say : (window : ℕ) (s : Side) → Every (OptionShows window acks p) (syn_options c s e)
-  syn_options_say window A = every_one _ tt
-  syn_options_say window B = every_one _ tt
+  syn_options_say window s = by (is_joined c)
+    where
+      by : (b : Bool) → Every (OptionShows window acks p) (if b then join_options c s e.modes else capable_options c s e)
+      by true = joins_say window s
+      by false = capable_say window s
 
   reset_options_say : (window : ℕ) (reason : Option ℕ) → Every (OptionShows window acks p) (reset_options reason)
   reset_options_say window None = Every-nil _
@@ -75,18 +91,19 @@ module _ (c : Profile) (s : Side) (e : PathEnd) (acks : List AckCopy) (p : Lane)
   pub reset_says : (reason : Option ℕ) → SegmentShows acks p (reset_said c reason e)
   reset_says reason = record { window = w.alone; options = reset_options_say _ reason; payload = inl refl; fin = λ is. absurd (false≢true is); plain = λ syn. refl }
 
-  -- a dead end's answer
-  pub outgoing_says : (o : Outgoing) → o.fin ≡ false → SegmentShows acks p (segment_of c o [] [] e)
-  outgoing_says o none = record { window = window_at _ _ _ w o.syn; options = Every-nil _; payload = inl refl; fin = λ is. absurd (both_ways o.fin none is); plain = λ syn. none }
+  -- a dead end's answer, and a refusal
+  pub outgoing_says : (o : Outgoing) (reason : Option ℕ) → o.fin ≡ false → SegmentShows acks p (segment_of c o (reset_options reason) [] e)
+  outgoing_says o reason none =
+      record { window = window_at _ _ _ w o.syn; options = reset_options_say _ reason; payload = inl refl; fin = λ is. absurd (both_ways o.fin none is); plain = λ syn. none }
 
   -- ---- records
 
-  -- on a lane with one path a mapping from the first position begins at the first place
-  module _ (first : (place len : ℕ) → HasMapping p.datas place 1 len → HasMapping p.datas 0 1 len) where
-    first_says : (peer : Option ℕ) (r : Record) → r.pos ≡ 1 → HasMapping p.datas (place_numbered c s r.mapping.number) r.pos r.mapping.length
+  -- where A may send no DSS yet, its mapping from the first position begins at the first place
+  module _ (first : is_side_a s ≡ true → e.modes.clear ≡ false → (place len : ℕ) → HasMapping p.datas place 1 len → HasMapping p.datas 0 1 len) where
+    first_says : (peer : Option ℕ) (r : Record) → is_side_a s ≡ true → e.modes.clear ≡ false → r.pos ≡ 1 → HasMapping p.datas (place_numbered c s r.mapping.number) r.pos r.mapping.length
         → Every (OptionShows (window_told false e.receiving.window) acks p) (first_piece_options c peer r e)
-    first_says None r at h = Every-nil _
-    first_says (Some peer) r at h = every_one _ (first _ r.mapping.length (subst (λ position. HasMapping p.datas (place_numbered c s r.mapping.number) position r.mapping.length) at h))
+    first_says None r own unclear at h = Every-nil _
+    first_says (Some peer) r own unclear at h = every_one _ (first own unclear _ r.mapping.length (subst (λ position. HasMapping p.datas (place_numbered c s r.mapping.number) position r.mapping.length) at h))
 
     piece_options_say : (r : Record) → HasMapping p.datas (place_numbered c s r.mapping.number) r.pos r.mapping.length
         → Every (OptionShows (window_told false e.receiving.window) acks p) (piece_options c s r e)
@@ -97,7 +114,7 @@ module _ (c : Profile) (s : Side) (e : PathEnd) (acks : List AckCopy) (p : Lane)
         by true is =
             let parts = and_parts (is_side_a s) (not e.modes.clear && r.pos == 1) is in
             let at = and_parts (not e.modes.clear) (r.pos == 1) parts.1 in
-            first_says e.modes.peer_key r (eqb-true r.pos 1 at.1) h
+            first_says e.modes.peer_key r parts.0 (not-true e.modes.clear at.0) (eqb-true r.pos 1 at.1) h
         by false is = every_one _ (w.ack, h)
 
     -- the record's segment, if it were of this kind

@@ -6,7 +6,6 @@ use Rattle.outside_kit.specs.declared.side.Side.TheVariants.{A, B}
 use Rattle.dss_mapping.specs.Mappings.{mapping_at}
 use Rattle.stream_lanes.specs.Holding.{Holds}
 use Rattle.stream_lanes.specs.Lane.{Lane}
-use Rattle.stream_lanes.specs.Streams.{Reader}
 use Rattle.actor_desk.specs.Desk.{SixBooks}
 use Rattle.actor_desk.specs.Words.{pick}
 use Rattle.path_agenda.specs.declared.duty.Duty.{Duty}
@@ -23,7 +22,7 @@ use Rattle.path_core.specs.Steps.{settled}
 use Rattle.path_core.specs.Treating.{counts, with_fin, after_dss, after_keep, heard_passed, item_passed, item_of}
 use Rattle.path_core.specs.Values.{Carried}
 use Rattle.world_laws.proofs.Ending.{Did, did_nothing}
-use Rattle.world_laws.proofs.Lanes.{duo_of}
+use Rattle.world_laws.proofs.Lanes.{Others, duo_at}
 use Rattle.world_laws.proofs.Placing.{learned_end, skipped_shows, passed_fin}
 use Rattle.world_laws.proofs.Replying.{fin_shows, every_item}
 use Rattle.world_laws.proofs.Roads.{stays, then_strolls}
@@ -34,6 +33,7 @@ use Rattle.world_laws.proofs.Strolling.{Strolled, strolls_held, agrees, back_hol
 
 -- whether a duty comes to something doesn't depend on the agenda
 pub stands_anyway : (d : Duty) (es : List Duty) (p : PathState Carried) → stands d (with_agenda es p) ≡ stands d p
+stands_anyway duties.JoinAgain es p = refl
 stands_anyway (duties.Look s) es p = refl
 stands_anyway (duties.Window s) es p = refl
 stands_anyway (duties.Update s) es p = refl
@@ -47,10 +47,13 @@ stands_anyway (duties.SynHeard s) es p = refl
 stands_anyway (duties.SynAnswered s) es p = refl
 stands_anyway (duties.PeerKey s) es p = refl
 stands_anyway (duties.SynAck s) es p = refl
+stands_anyway (duties.JoinHeard s) es p = refl
+stands_anyway (duties.Refuse s) es p = refl
 stands_anyway (duties.Opened s) es p = refl
 stands_anyway (duties.Live s) es p = refl
 stands_anyway (duties.Heard s index) es p = refl
 stands_anyway (duties.AckHeard s) es p = refl
+stands_anyway (duties.PlainAck s) es p = refl
 stands_anyway (duties.Keep s) es p = refl
 stands_anyway (duties.Edge s) es p = refl
 stands_anyway (duties.HeardFin s index) es p = refl
@@ -84,8 +87,8 @@ then_strolled c p q ab ba w x = record {
   shows = x.shows;
 }
 
-module _ (six : SixBooks) (reader_a reader_b : Reader) (c : Profile) where
-  module _ (p : PathState Carried) (ab ba : Lane) (h : PathShows c p ab ba) (holds : Holds (duo_of six ab ba reader_a reader_b)) where
+module _ (six : SixBooks) (others : Others) (c : Profile) where
+  module _ (p : PathState Carried) (ab ba : Lane) (h : PathShows c p ab ba) (holds : Holds (duo_at six ab ba others)) where
     -- the end of a side becomes this
     end_strolled : (s : Side) (e : PathEnd) → Did c s e (pick s ab ba) (pick s ab ba) (pick s ba ab) (pick s ba ab) → Strolled c (with_end s e p) ab ba
     end_strolled A e d = did_on_path c p (with_end A e p) ab ba h refl A ab ba d refl (longer_link c p ab ba h A ab ba e d)
@@ -114,7 +117,7 @@ module _ (six : SixBooks) (reader_a reader_b : Reader) (c : Profile) where
       item_did says.Mapping has = by (counts e)
         where
           by : (b : Bool) → Did c s (if b then with_learned e else with_skipped e) out out back back
-          by true = learned_end c s out back e (agrees six reader_a reader_b s ab ba holds) shows
+          by true = learned_end c s out back e (agrees six others s ab ba holds) shows
           by false = did_nothing c s out back (with_skipped e) (skipped_shows c s out back e shows)
       item_did (says.DataFin place) has = by (counts e)
         where
@@ -123,6 +126,7 @@ module _ (six : SixBooks) (reader_a reader_b : Reader) (c : Profile) where
           by false = did_nothing c s out back e shows
       item_did (says.PeerKey key) has = did_nothing c s out back e shows
       item_did (says.Keys own peer) has = did_nothing c s out back e shows
+      item_did (says.Join form) has = did_nothing c s out back e shows
 
       maybe_did : (o : Option Heard) → IfSome o (ItemShows out.acks back) → Did c s (item_passed s o e) out out back back
       maybe_did None has = did_nothing c s out back e shows
@@ -136,7 +140,8 @@ module _ (six : SixBooks) (reader_a reader_b : Reader) (c : Profile) where
     passes (duties.Edge s) = same_lanes s (after_check p.profile (end_at s p))
         (check_shows c s (pick s ab ba) (pick s ba ab) p.profile p.profile.spelling.checksums (mapping_at (end_at s p).receiving.mappings (end_at s p).tcp.recv.edge) (end_at s p) (side_shows c s p ab ba h))
     passes (duties.PassFin s) =
-        same_lanes s (after_pass_fin (end_at s p)) (passed_fin c s (pick s ab ba) (pick s ba ab) _ (end_at s p) (back_holds six reader_a reader_b s ab ba holds) (side_shows c s p ab ba h))
+        same_lanes s (after_pass_fin (end_at s p)) (passed_fin c s (pick s ab ba) (pick s ba ab) _ _ (end_at s p) (back_holds six others s ab ba holds) (side_shows c s p ab ba h))
+    passes duties.JoinAgain = stays_so c p ab ba h
     passes (duties.Look s) = stays_so c p ab ba h
     passes (duties.Window s) = stays_so c p ab ba h
     passes (duties.Update s) = stays_so c p ab ba h
@@ -149,9 +154,12 @@ module _ (six : SixBooks) (reader_a reader_b : Reader) (c : Profile) where
     passes (duties.SynAnswered s) = stays_so c p ab ba h
     passes (duties.PeerKey s) = stays_so c p ab ba h
     passes (duties.SynAck s) = stays_so c p ab ba h
+    passes (duties.JoinHeard s) = stays_so c p ab ba h
+    passes (duties.Refuse s) = stays_so c p ab ba h
     passes (duties.Opened s) = stays_so c p ab ba h
     passes (duties.Live s) = stays_so c p ab ba h
     passes (duties.AckHeard s) = stays_so c p ab ba h
+    passes (duties.PlainAck s) = stays_so c p ab ba h
     passes (duties.HeardFin s index) = stays_so c p ab ba h
     passes (duties.AckOut s) = stays_so c p ab ba h
     passes (duties.Rate s) = stays_so c p ab ba h
@@ -169,15 +177,15 @@ module _ (six : SixBooks) (reader_a reader_b : Reader) (c : Profile) where
     passes duties.End = stays_so c p ab ba h
 
   agenda_stays : (ds : List Duty) (p : PathState Carried) (ab ba : Lane) → PathShows c p ab ba → Strolled c (with_agenda ds p) ab ba
-  agenda_stays ds p ab ba h = stays_so c (with_agenda ds p) ab ba (record { profile = h.profile; path = h.path; unchanged = h.unchanged; a = h.a; b = h.b; copies = h.copies })
+  agenda_stays ds p ab ba h = stays_so c (with_agenda ds p) ab ba (record { profile = h.profile; unchanged = h.unchanged; a = h.a; b = h.b; copies = h.copies })
 
-  pub settles : (ds : List Duty) (p : PathState Carried) (ab ba : Lane) → PathShows c p ab ba → Holds (duo_of six ab ba reader_a reader_b) → Strolled c (settled ds p) ab ba
+  pub settles : (ds : List Duty) (p : PathState Carried) (ab ba : Lane) → PathShows c p ab ba → Holds (duo_at six ab ba others) → Strolled c (settled ds p) ab ba
   settles [] p ab ba h holds = agenda_stays [] p ab ba h
   settles (d ∷ ds) p ab ba h holds =
       let w : Strolled c (passed d p) ab ba = passes p ab ba h holds d in
       by (stands d p)
       (then_strolled c (passed d p) (settled ds (passed d p)) ab ba w
-      (settles ds (passed d p) w.ab_after w.ba_after w.shows (strolls_held six reader_a reader_b ab w.ab_after ba w.ba_after w.ab_moves w.ba_moves holds)))
+      (settles ds (passed d p) w.ab_after w.ba_after w.shows (strolls_held six others ab w.ab_after ba w.ba_after w.ab_moves w.ba_moves holds)))
     where
       by : (b : Bool) → Strolled c (settled ds (passed d p)) ab ba → Strolled c (if b then with_agenda (d ∷ ds) p else settled ds (passed d p)) ab ba
       by true rest = agenda_stays (d ∷ ds) p ab ba h

@@ -1,4 +1,4 @@
--- What the ends of path 0 and the copies on its link have to do with the two lanes that the path is shown as. Positions of a
+-- What the ends of a path and the copies on its link have to do with the two lanes that the path is shown as. Positions of a
 -- path count its SYN, those of a lane its bytes alone.
 use Rattle.std.proofs.Common.{◌≡◌, ℕ, suc, ◌⊎◌, Bool, true, false, Option, Some, None, List, [], length}
 use Rattle.std.specs.List.{slice_get}
@@ -26,6 +26,7 @@ use Rattle.stream_lanes.specs.Words.{Every, Has}
 use Rattle.path_agenda.specs.declared.heard.Heard.{Heard}
 use Rattle.path_agenda.specs.declared.heard.Heard.TheVariants as says
 use Rattle.path_core.specs.Ends.{PathEnd, Treated}
+use Rattle.path_core.specs.Joins.{join_asked}
 use Rattle.path_core.specs.Segments.{place_numbered}
 use Rattle.path_core.specs.State.{PathState, Profile}
 use Rattle.path_core.specs.Shown.{ChangesNothing}
@@ -96,7 +97,6 @@ is_unfinished phase.CloseWait = true
 is_unfinished _ = false
 
 pub record SenderShows (c : Profile) (s : Side) (state : EndPhase) (v : SendState) (known : Option ℕ) (acked : Bool) (p : Lane) : Type 0 where
-  pub opened : p.opened ≡ true
   pub plain : p.sender_plain ≡ false
   -- the next position is that after the bytes that were granted
   pub next : is_unfinished state ≡ true → v.nxt ≡ suc (length p.sent)
@@ -151,6 +151,8 @@ pub record TreatedShows (t : Treated) (acks : List AckCopy) (p : Lane) : Type 0 
   pub items : Every (ItemShows acks p) t.items
   pub fins : Every (HasNumber p.data_fins) t.fins
   pub answer : IfSome t.answer (λ o. o.fin ≡ false)
+  -- the window of a SYN that asks to join
+  pub window : IfSome (join_asked t.items) (λ asked. HasAck acks 0 t.window)
 
 -- ---- an end: `out` carries what its side sends, and `back` what it hears
 
@@ -196,7 +198,6 @@ FlightShows ab ba A sg = SegmentShows ab.acks ba sg
 
 pub record PathShows (c : Profile) (p : PathState Carried) (ab ba : Lane) : Type 0 where
   pub profile : p.profile ≡ c
-  pub path : p.link.path ≡ 0
   pub unchanged : ChangesNothing p.link.lines
   pub a : EndShows c A p.a ab ba
   pub b : EndShows c B p.b ba ab

@@ -1,5 +1,5 @@
 -- A step of the path that one side's end makes: moves of the lanes, the call of a book, moves again, and what the path shows then.
-use Rattle.std.proofs.Common.{◌≡◌, refl, ap, ℕ, Bool, Option, Some, None, List, [], length}
+use Rattle.std.proofs.Common.{◌≡◌, refl, ◌∙◌, ap, ℕ, Bool, Option, Some, None, List, [], ◌∷◌, length}
 use Rattle.outside_kit.specs.declared.side.Side.{Side}
 use Rattle.outside_kit.specs.declared.side.Side.TheVariants.{A, B}
 use Rattle.link_model.specs.Steps.{peer}
@@ -15,7 +15,7 @@ use Rattle.reassembly_book.specs.Steps.{reply_to as arrival_reply}
 use Rattle.stream_lanes.specs.Lane.{Ask as LaneAsk, Lane}
 use Rattle.stream_lanes.specs.Lane.Ask.{AskGrant, AskAckIn, AskPlace, AskFin, AskAckOut}
 use Rattle.stream_lanes.specs.Moves.{takes_grant, takes_ack, takes_placed, takes_fin, takes_ack_out}
-use Rattle.stream_lanes.specs.Streams.{Reader}
+use Rattle.stream_lanes.specs.Streams.{Direction}
 use Rattle.stream_lanes.specs.Streams.StreamEvent.{Asks, Return}
 use Rattle.stream_lanes.specs.Duo.{Duo, Event, after_events}
 use Rattle.stream_lanes.specs.Duo.Event.{ToB, ToA}
@@ -29,8 +29,8 @@ use Rattle.path_core.specs.Sends.{sent_on}
 use Rattle.path_core.specs.State.{PathState, Profile, end_at, goes_on}
 use Rattle.path_core.specs.Values.{Carried, values}
 use Rattle.world_laws.proofs.Ending.{Did}
-use Rattle.world_laws.proofs.Lanes.{duo_of, CallIs, call_events}
-use Rattle.world_laws.proofs.Roads.{Strolls}
+use Rattle.world_laws.proofs.Lanes.{Others, duo_at, IsAsking, LaneAsks, CallIs, call_events}
+use Rattle.world_laws.proofs.Roads.{Strolls, put_there, with_asked, asked_there}
 use Rattle.world_laws.proofs.Showing.{SegmentShows, PathShows}
 use Rattle.world_laws.proofs.Strolling.{Strolled, LinkShows, side_link, link_longer, handed_shows, did_on_path}
 
@@ -72,16 +72,16 @@ module _ (c : Profile) (p : PathState Carried) (ab ba : Lane) (h : PathShows c p
 
 -- ---- the step
 
-pub record Answered (c : Profile) (six : SixBooks) (reader_a reader_b : Reader) (ask : Ask) (q : PathState Carried) (ab ba : Lane) : Type 0 where
+pub record Answered (c : Profile) (six : SixBooks) (others : Others) (ask : Ask) (q : PathState Carried) (ab ba : Lane) : Type 0 where
   pub ab_before : Lane
   pub ba_before : Lane
   pub ab_moves : Strolls ab ab_before
   pub ba_moves : Strolls ba ba_before
   pub call : Option Event
-  pub calls : CallIs (Some ask) (duo_of six ab_before ba_before reader_a reader_b) call
+  pub calls : CallIs (Some ask) (duo_at six ab_before ba_before others) call
   pub ab_called : Lane
   pub ba_called : Lane
-  pub called : after_events (call_events call) (duo_of six ab_before ba_before reader_a reader_b) ≡ duo_of (after_ask ask six) ab_called ba_called reader_a reader_b
+  pub called : after_events (call_events call) (duo_at six ab_before ba_before others) ≡ duo_at (after_ask ask six) ab_called ba_called others
   pub after : Strolled c q ab_called ba_called
 
 -- an ask that is no call of a send book or of a reassembly book
@@ -91,16 +91,16 @@ IsQuiet (asks.Reassembly s call) = ⊥
 IsQuiet (asks.Control s call) = Unit {0}
 IsQuiet (asks.Local step) = Unit {0}
 
-module _ (c : Profile) (six : SixBooks) (reader_a reader_b : Reader) where
+module _ (c : Profile) (six : SixBooks) (others : Others) where
   -- the duo, by the lane that a side sends on and the one that it hears
   abbrev pub Sided : Side → SixBooks → Lane → Lane → Duo
-  Sided s books out back = duo_of books (pick s out back) (pick s back out) reader_a reader_b
+  Sided s books out back = duo_at books (pick s out back) (pick s back out) others
 
   pub side_answered : (s : Side) (p q : PathState Carried) (ab ba out_before back_before out_called back_called : Lane) (ask : Ask) (call : Option Event) → PathShows c p ab ba
       → Strolls (pick s ab ba) out_before → Strolls (pick s ba ab) back_before
       → CallIs (Some ask) (Sided s six out_before back_before) call
       → after_events (call_events call) (Sided s six out_before back_before) ≡ Sided s (after_ask ask six) out_called back_called
-      → SideDid c s p q ab ba out_called back_called → Answered c six reader_a reader_b ask q ab ba
+      → SideDid c s p q ab ba out_called back_called → Answered c six others ask q ab ba
   side_answered A p q ab ba out_before back_before out_called back_called ask call h out_moves back_moves calls called d = record {
     ab_before = out_before;
     ba_before = back_before;
@@ -133,18 +133,18 @@ module _ (c : Profile) (six : SixBooks) (reader_a reader_b : Reader) where
   quiet_calls (asks.Control s call) d quiet = refl
   quiet_calls (asks.Local step) d quiet = refl
 
-  quiet_books : (ask : Ask) (ab ba : Lane) → IsQuiet ask → duo_of six ab ba reader_a reader_b ≡ duo_of (after_ask ask six) ab ba reader_a reader_b
+  quiet_books : (ask : Ask) (ab ba : Lane) → IsQuiet ask → duo_at six ab ba others ≡ duo_at (after_ask ask six) ab ba others
   quiet_books (asks.Send s call) ab ba quiet = absurd quiet
   quiet_books (asks.Reassembly s call) ab ba quiet = absurd quiet
   quiet_books (asks.Control s call) ab ba quiet = refl
   quiet_books (asks.Local step) ab ba quiet = refl
 
-  pub quiet : (ask : Ask) (q : PathState Carried) (ab ba : Lane) → IsQuiet ask → Strolled c q ab ba → Answered c six reader_a reader_b ask q ab ba
+  pub quiet : (ask : Ask) (q : PathState Carried) (ab ba : Lane) → IsQuiet ask → Strolled c q ab ba → Answered c six others ask q ab ba
   quiet ask q ab ba is w = record {
     ab_before = ab;
     ba_before = ba;
-    ab_moves = record { by = []; to = refl };
-    ba_moves = record { by = []; to = refl };
+    ab_moves = record { by = []; calm = refl; to = refl };
+    ba_moves = record { by = []; calm = refl; to = refl };
     call = None;
     calls = quiet_calls ask _ is;
     ab_called = ab;
@@ -154,9 +154,28 @@ module _ (c : Profile) (six : SixBooks) (reader_a reader_b : Reader) where
   }
 
   pub quiet_side : (s : Side) (p q : PathState Carried) (ab ba : Lane) (ask : Ask) → PathShows c p ab ba → IsQuiet ask → SideDid c s p q ab ba (pick s ab ba) (pick s ba ab)
-      → Answered c six reader_a reader_b ask q ab ba
+      → Answered c six others ask q ab ba
   quiet_side A p q ab ba ask h is d = quiet ask q ab ba is (did_on_path c p q ab ba h d.profile A ab ba d.did d.same d.link)
   quiet_side B p q ab ba ask h is d = quiet ask q ab ba is (did_on_path c p q ab ba h d.profile B ba ab d.did d.same d.link)
+
+  -- ---- what a lane asks
+
+  asking_ab : (p ba : Lane) → IsAsking others.number p.asking (duo_at six p ba others).ab
+  asking_ab p ba = record { lane = p; there = put_there others.lanes_ab others.number p others.within_ab; asks = refl }
+
+  asking_ba : (ab p : Lane) → IsAsking others.number p.asking (duo_at six ab p others).ba
+  asking_ba ab p = record { lane = p; there = put_there others.lanes_ba others.number p others.within_ba; asks = refl }
+
+  asks_so : {x : LaneAsk} (d : Direction) → IsAsking others.number x d → LaneAsks x d (Asks others.number)
+  asks_so d asking = record { path = others.number; event_is = refl; asking = asking }
+
+  called_ab : (p ba : Lane) → after_events (ToB (Asks others.number) ∷ []) (duo_at six p ba others)
+      ≡ record (duo_at six p ba others) { ab = with_asked others.lanes_ab others.number six.send_a six.reassembly_b others.reader_b p.asking p }
+  called_ab p ba = ap (λ d. record (duo_at six p ba others) { ab = d }) (asked_there others.lanes_ab others.number six.send_a six.reassembly_b others.reader_b others.joined others.within_ab p)
+
+  called_ba : (ab p : Lane) → after_events (ToA (Asks others.number) ∷ []) (duo_at six ab p others)
+      ≡ record (duo_at six ab p others) { ba = with_asked others.lanes_ba others.number six.send_b six.reassembly_a others.reader_a p.asking p }
+  called_ba ab p = ap (λ d. record (duo_at six ab p others) { ba = d }) (asked_there others.lanes_ba others.number six.send_b six.reassembly_a others.reader_a others.joined others.within_ba p)
 
   -- ---- calls of the side's send book
 
@@ -171,42 +190,42 @@ module _ (c : Profile) (six : SixBooks) (reader_a reader_b : Reader) where
 
   module _ (most : ℕ) (standby : Bool) where
     abbrev pub grant_reply_at : Side → SendReply
-    grant_reply_at s = send_reply (send_of s six) (Grant 0 most standby)
+    grant_reply_at s = send_reply (send_of s six) (Grant others.number most standby)
 
     pub grant_side : (s : Side) (p q : PathState Carried) (ab ba : Lane) → PathShows c p ab ba → Strolls (pick s ab ba) (record (pick s ab ba) { asking = AskGrant most standby })
-        → SideDid c s p q ab ba (takes_grant (grant_reply_at s) (pick s ab ba)) (pick s ba ab) → Answered c six reader_a reader_b (asks.Send s (Grant 0 most standby)) q ab ba
+        → SideDid c s p q ab ba (takes_grant (grant_reply_at s) (pick s ab ba)) (pick s ba ab) → Answered c six others (asks.Send s (Grant others.number most standby)) q ab ba
     grant_side A p q ab ba h strolls d =
-        side_answered A p q ab ba (record ab { asking = AskGrant most standby }) ba _ ba (asks.Send A (Grant 0 most standby)) (Some (ToB (Asks 0))) h strolls (record { by = []; to = refl })
-        (Asks 0, refl, (refl, refl, record { lane = _; there = refl; asks = refl }))
-        (ap (λ x. Sided A (after_ask (asks.Send A (Grant 0 most standby)) six) x ba) (grant_asking (grant_reply_at A) ab (AskGrant most standby))) d
+        side_answered A p q ab ba (record ab { asking = AskGrant most standby }) ba _ ba (asks.Send A (Grant others.number most standby)) (Some (ToB (Asks others.number))) h strolls (record { by = []; calm = refl; to = refl })
+        (Asks others.number, refl, (refl, asking_ab (record ab { asking = AskGrant most standby }) ba))
+        (called_ab (record ab { asking = AskGrant most standby }) ba ∙ ap (λ x. Sided A (after_ask (asks.Send A (Grant others.number most standby)) six) x ba) (grant_asking (grant_reply_at A) ab (AskGrant most standby))) d
     grant_side B p q ab ba h strolls d =
-        side_answered B p q ab ba (record ba { asking = AskGrant most standby }) ab _ ab (asks.Send B (Grant 0 most standby)) (Some (ToA (Asks 0))) h strolls (record { by = []; to = refl })
-        (Asks 0, refl, (refl, refl, record { lane = _; there = refl; asks = refl }))
-        (ap (λ x. Sided B (after_ask (asks.Send B (Grant 0 most standby)) six) x ab) (grant_asking (grant_reply_at B) ba (AskGrant most standby))) d
+        side_answered B p q ab ba (record ba { asking = AskGrant most standby }) ab _ ab (asks.Send B (Grant others.number most standby)) (Some (ToA (Asks others.number))) h strolls (record { by = []; calm = refl; to = refl })
+        (Asks others.number, refl, (refl, asking_ba ab (record ba { asking = AskGrant most standby })))
+        (called_ba ab (record ba { asking = AskGrant most standby }) ∙ ap (λ x. Sided B (after_ask (asks.Send B (Grant others.number most standby)) six) x ab) (grant_asking (grant_reply_at B) ba (AskGrant most standby))) d
 
   module _ (next window : ℕ) where
     abbrev pub ack_reply_at : Side → SendReply
     ack_reply_at s = send_reply (send_of s six) (AckIn next window)
 
     pub ack_side : (s : Side) (p q : PathState Carried) (ab ba : Lane) → PathShows c p ab ba → Strolls (pick s ab ba) (record (pick s ab ba) { asking = AskAckIn next window })
-        → SideDid c s p q ab ba (takes_ack next (ack_reply_at s) (pick s ab ba)) (pick s ba ab) → Answered c six reader_a reader_b (asks.Send s (AckIn next window)) q ab ba
+        → SideDid c s p q ab ba (takes_ack next (ack_reply_at s) (pick s ab ba)) (pick s ba ab) → Answered c six others (asks.Send s (AckIn next window)) q ab ba
     ack_side A p q ab ba h strolls d =
-        side_answered A p q ab ba (record ab { asking = AskAckIn next window }) ba _ ba (asks.Send A (AckIn next window)) (Some (ToB (Asks 0))) h strolls (record { by = []; to = refl })
-        (Asks 0, refl, (refl, record { lane = _; there = refl; asks = refl }))
-        (ap (λ x. Sided A (after_ask (asks.Send A (AckIn next window)) six) x ba) (ack_asking next (ack_reply_at A) ab (AskAckIn next window))) d
+        side_answered A p q ab ba (record ab { asking = AskAckIn next window }) ba _ ba (asks.Send A (AckIn next window)) (Some (ToB (Asks others.number))) h strolls (record { by = []; calm = refl; to = refl })
+        (Asks others.number, refl, asks_so _ (asking_ab (record ab { asking = AskAckIn next window }) ba))
+        (called_ab (record ab { asking = AskAckIn next window }) ba ∙ ap (λ x. Sided A (after_ask (asks.Send A (AckIn next window)) six) x ba) (ack_asking next (ack_reply_at A) ab (AskAckIn next window))) d
     ack_side B p q ab ba h strolls d =
-        side_answered B p q ab ba (record ba { asking = AskAckIn next window }) ab _ ab (asks.Send B (AckIn next window)) (Some (ToA (Asks 0))) h strolls (record { by = []; to = refl })
-        (Asks 0, refl, (refl, record { lane = _; there = refl; asks = refl }))
-        (ap (λ x. Sided B (after_ask (asks.Send B (AckIn next window)) six) x ab) (ack_asking next (ack_reply_at B) ba (AskAckIn next window))) d
+        side_answered B p q ab ba (record ba { asking = AskAckIn next window }) ab _ ab (asks.Send B (AckIn next window)) (Some (ToA (Asks others.number))) h strolls (record { by = []; calm = refl; to = refl })
+        (Asks others.number, refl, asks_so _ (asking_ba ab (record ba { asking = AskAckIn next window })))
+        (called_ba ab (record ba { asking = AskAckIn next window }) ∙ ap (λ x. Sided B (after_ask (asks.Send B (AckIn next window)) six) x ab) (ack_asking next (ack_reply_at B) ba (AskAckIn next window))) d
 
   pub return_side : (s : Side) (p q : PathState Carried) (ab ba : Lane) → PathShows c p ab ba → SideDid c s p q ab ba (pick s ab ba) (pick s ba ab)
-      → Answered c six reader_a reader_b (asks.Send s (ReturnBytes 0)) q ab ba
+      → Answered c six others (asks.Send s (ReturnBytes others.number)) q ab ba
   return_side A p q ab ba h d =
-      side_answered A p q ab ba ab ba ab ba (asks.Send A (ReturnBytes 0)) (Some (ToB (Return 0))) h (record { by = []; to = refl }) (record { by = []; to = refl })
-      (Return 0, refl, refl) refl d
+      side_answered A p q ab ba ab ba ab ba (asks.Send A (ReturnBytes others.number)) (Some (ToB (Return others.number))) h (record { by = []; calm = refl; to = refl }) (record { by = []; calm = refl; to = refl })
+      (Return others.number, refl, refl) refl d
   return_side B p q ab ba h d =
-      side_answered B p q ab ba ba ab ba ab (asks.Send B (ReturnBytes 0)) (Some (ToA (Return 0))) h (record { by = []; to = refl }) (record { by = []; to = refl })
-      (Return 0, refl, refl) refl d
+      side_answered B p q ab ba ba ab ba ab (asks.Send B (ReturnBytes others.number)) (Some (ToA (Return others.number))) h (record { by = []; calm = refl; to = refl }) (record { by = []; calm = refl; to = refl })
+      (Return others.number, refl, refl) refl d
 
   -- ---- calls of its reassembly book
 
@@ -227,41 +246,41 @@ module _ (c : Profile) (six : SixBooks) (reader_a reader_b : Reader) where
     place_reply_at s = arrival_reply (reassembly_of s six) (Place at bytes)
 
     pub place_side : (s : Side) (p q : PathState Carried) (ab ba : Lane) → PathShows c p ab ba → Strolls (pick s ba ab) (record (pick s ba ab) { asking = AskPlace at bytes })
-        → SideDid c s p q ab ba (pick s ab ba) (takes_placed (length bytes) (place_reply_at s) (pick s ba ab)) → Answered c six reader_a reader_b (asks.Reassembly s (Place at bytes)) q ab ba
+        → SideDid c s p q ab ba (pick s ab ba) (takes_placed (length bytes) (place_reply_at s) (pick s ba ab)) → Answered c six others (asks.Reassembly s (Place at bytes)) q ab ba
     place_side A p q ab ba h strolls d =
-        side_answered A p q ab ba ab (record ba { asking = AskPlace at bytes }) ab _ (asks.Reassembly A (Place at bytes)) (Some (ToA (Asks 0))) h (record { by = []; to = refl }) strolls
-        (Asks 0, refl, (refl, record { lane = _; there = refl; asks = refl }))
-        (ap (λ x. Sided A (after_ask (asks.Reassembly A (Place at bytes)) six) ab x) (placed_asking (length bytes) (place_reply_at A) ba (AskPlace at bytes))) d
+        side_answered A p q ab ba ab (record ba { asking = AskPlace at bytes }) ab _ (asks.Reassembly A (Place at bytes)) (Some (ToA (Asks others.number))) h (record { by = []; calm = refl; to = refl }) strolls
+        (Asks others.number, refl, asks_so _ (asking_ba ab (record ba { asking = AskPlace at bytes })))
+        (called_ba ab (record ba { asking = AskPlace at bytes }) ∙ ap (λ x. Sided A (after_ask (asks.Reassembly A (Place at bytes)) six) ab x) (placed_asking (length bytes) (place_reply_at A) ba (AskPlace at bytes))) d
     place_side B p q ab ba h strolls d =
-        side_answered B p q ab ba ba (record ab { asking = AskPlace at bytes }) ba _ (asks.Reassembly B (Place at bytes)) (Some (ToB (Asks 0))) h (record { by = []; to = refl }) strolls
-        (Asks 0, refl, (refl, record { lane = _; there = refl; asks = refl }))
-        (ap (λ x. Sided B (after_ask (asks.Reassembly B (Place at bytes)) six) ba x) (placed_asking (length bytes) (place_reply_at B) ab (AskPlace at bytes))) d
+        side_answered B p q ab ba ba (record ab { asking = AskPlace at bytes }) ba _ (asks.Reassembly B (Place at bytes)) (Some (ToB (Asks others.number))) h (record { by = []; calm = refl; to = refl }) strolls
+        (Asks others.number, refl, asks_so _ (asking_ab (record ab { asking = AskPlace at bytes }) ba))
+        (called_ab (record ab { asking = AskPlace at bytes }) ba ∙ ap (λ x. Sided B (after_ask (asks.Reassembly B (Place at bytes)) six) ba x) (placed_asking (length bytes) (place_reply_at B) ab (AskPlace at bytes))) d
 
   module _ (at : ℕ) where
     abbrev pub fin_reply_at : Side → ReassemblyReply
     fin_reply_at s = arrival_reply (reassembly_of s six) (Fin at)
 
     pub fin_side : (s : Side) (p q : PathState Carried) (ab ba : Lane) → PathShows c p ab ba → Strolls (pick s ba ab) (record (pick s ba ab) { asking = AskFin at })
-        → SideDid c s p q ab ba (pick s ab ba) (takes_fin (fin_reply_at s) (pick s ba ab)) → Answered c six reader_a reader_b (asks.Reassembly s (Fin at)) q ab ba
+        → SideDid c s p q ab ba (pick s ab ba) (takes_fin (fin_reply_at s) (pick s ba ab)) → Answered c six others (asks.Reassembly s (Fin at)) q ab ba
     fin_side A p q ab ba h strolls d =
-        side_answered A p q ab ba ab (record ba { asking = AskFin at }) ab _ (asks.Reassembly A (Fin at)) (Some (ToA (Asks 0))) h (record { by = []; to = refl }) strolls
-        (Asks 0, refl, (refl, record { lane = _; there = refl; asks = refl }))
-        (ap (λ x. Sided A (after_ask (asks.Reassembly A (Fin at)) six) ab x) (fin_asking (fin_reply_at A) ba (AskFin at))) d
+        side_answered A p q ab ba ab (record ba { asking = AskFin at }) ab _ (asks.Reassembly A (Fin at)) (Some (ToA (Asks others.number))) h (record { by = []; calm = refl; to = refl }) strolls
+        (Asks others.number, refl, asks_so _ (asking_ba ab (record ba { asking = AskFin at })))
+        (called_ba ab (record ba { asking = AskFin at }) ∙ ap (λ x. Sided A (after_ask (asks.Reassembly A (Fin at)) six) ab x) (fin_asking (fin_reply_at A) ba (AskFin at))) d
     fin_side B p q ab ba h strolls d =
-        side_answered B p q ab ba ba (record ab { asking = AskFin at }) ba _ (asks.Reassembly B (Fin at)) (Some (ToB (Asks 0))) h (record { by = []; to = refl }) strolls
-        (Asks 0, refl, (refl, record { lane = _; there = refl; asks = refl }))
-        (ap (λ x. Sided B (after_ask (asks.Reassembly B (Fin at)) six) ba x) (fin_asking (fin_reply_at B) ab (AskFin at))) d
+        side_answered B p q ab ba ba (record ab { asking = AskFin at }) ba _ (asks.Reassembly B (Fin at)) (Some (ToB (Asks others.number))) h (record { by = []; calm = refl; to = refl }) strolls
+        (Asks others.number, refl, asks_so _ (asking_ab (record ab { asking = AskFin at }) ba))
+        (called_ab (record ab { asking = AskFin at }) ba ∙ ap (λ x. Sided B (after_ask (asks.Reassembly B (Fin at)) six) ba x) (fin_asking (fin_reply_at B) ab (AskFin at))) d
 
   abbrev pub told_reply_at : Side → ReassemblyReply
   told_reply_at s = arrival_reply (reassembly_of s six) AckOut
 
   pub told_side : (s : Side) (p q : PathState Carried) (ab ba : Lane) → PathShows c p ab ba → Strolls (pick s ba ab) (record (pick s ba ab) { asking = AskAckOut })
-      → SideDid c s p q ab ba (pick s ab ba) (takes_ack_out (told_reply_at s) (pick s ba ab)) → Answered c six reader_a reader_b (asks.Reassembly s AckOut) q ab ba
+      → SideDid c s p q ab ba (pick s ab ba) (takes_ack_out (told_reply_at s) (pick s ba ab)) → Answered c six others (asks.Reassembly s AckOut) q ab ba
   told_side A p q ab ba h strolls d =
-      side_answered A p q ab ba ab (record ba { asking = AskAckOut }) ab _ (asks.Reassembly A AckOut) (Some (ToA (Asks 0))) h (record { by = []; to = refl }) strolls
-      (Asks 0, refl, (refl, record { lane = _; there = refl; asks = refl }))
-      (ap (λ x. Sided A (after_ask (asks.Reassembly A AckOut) six) ab x) (told_asking (told_reply_at A) ba AskAckOut)) d
+      side_answered A p q ab ba ab (record ba { asking = AskAckOut }) ab _ (asks.Reassembly A AckOut) (Some (ToA (Asks others.number))) h (record { by = []; calm = refl; to = refl }) strolls
+      (Asks others.number, refl, asks_so _ (asking_ba ab (record ba { asking = AskAckOut })))
+      (called_ba ab (record ba { asking = AskAckOut }) ∙ ap (λ x. Sided A (after_ask (asks.Reassembly A AckOut) six) ab x) (told_asking (told_reply_at A) ba AskAckOut)) d
   told_side B p q ab ba h strolls d =
-      side_answered B p q ab ba ba (record ab { asking = AskAckOut }) ba _ (asks.Reassembly B AckOut) (Some (ToB (Asks 0))) h (record { by = []; to = refl }) strolls
-      (Asks 0, refl, (refl, record { lane = _; there = refl; asks = refl }))
-      (ap (λ x. Sided B (after_ask (asks.Reassembly B AckOut) six) ba x) (told_asking (told_reply_at B) ab AskAckOut)) d
+      side_answered B p q ab ba ba (record ab { asking = AskAckOut }) ba _ (asks.Reassembly B AckOut) (Some (ToB (Asks others.number))) h (record { by = []; calm = refl; to = refl }) strolls
+      (Asks others.number, refl, asks_so _ (asking_ab (record ab { asking = AskAckOut }) ba))
+      (called_ab (record ab { asking = AskAckOut }) ba ∙ ap (λ x. Sided B (after_ask (asks.Reassembly B AckOut) six) ba x) (told_asking (told_reply_at B) ab AskAckOut)) d

@@ -1,6 +1,7 @@
 -- Moves of the two lanes in the duo of a world, and what a rule of one side's end makes of what the path shows.
-use Rattle.std.proofs.Common.{◌≡◌, refl, sym, ◌∙◌, ap, subst, ℕ, ◌+◌, Bool, true, false, List, [], ◌∷◌}
-use Rattle.std.specs.List.{slice_get}
+use Rattle.std.proofs.Common.{◌≡◌, refl, sym, ◌∙◌, ap, subst, ℕ, ◌+◌, Bool, true, false, List, [], ◌∷◌, arith}
+use Rattle.std.specs.List.{slice_get, list_all}
+use Rattle.std.proofs.lemmas.Bool.{and_parts}
 use Rattle.outside_kit.specs.declared.side.Side.{Side}
 use Rattle.outside_kit.specs.declared.side.Side.TheVariants.{A, B}
 use Rattle.link_model.specs.State.{LinkState}
@@ -8,10 +9,9 @@ use Rattle.link_model.specs.Steps.{peer, changed, arrivals, next_number, with_fl
 use Rattle.link_model.specs.Fate.{is_stripped, is_altered, fate_of}
 use Rattle.path_segments.specs.Spelled.{PlainSegment}
 use Rattle.stream_lanes.specs.Lane.{Lane}
-use Rattle.stream_lanes.specs.Laws.{copy_clashes}
+use Rattle.stream_lanes.specs.Laws.{copy_clashes, lane_refused, move_refused}
 use Rattle.stream_lanes.specs.Moves.{Move}
 use Rattle.stream_lanes.specs.Moves.Move.{Learn}
-use Rattle.stream_lanes.specs.Streams.{Reader}
 use Rattle.stream_lanes.specs.Streams.StreamEvent.{Moves}
 use Rattle.stream_lanes.specs.Duo.{Duo, Event, after_event, after_events}
 use Rattle.stream_lanes.specs.Holding.{Holds, LaneHolds}
@@ -28,74 +28,95 @@ use Rattle.path_core.specs.State.{PathState, Profile, end_at}
 use Rattle.path_core.specs.Values.{Carried, carried_by, stripped, altered, values}
 use Rattle.world_laws.proofs.Ending.{Did}
 use Rattle.world_laws.proofs.Growing.{SenderGoes, ReceiverGoes, sent_longer, heard_longer, segment_longer, peer_shows}
-use Rattle.world_laws.proofs.Lanes.{duo_of, LaneMoves, moves_to_b, moves_to_a, move_events, events_append}
-use Rattle.world_laws.proofs.Roads.{no_flags, direction, moves, Strolls}
+use Rattle.world_laws.proofs.Lanes.{Others, duo_at, LaneMoves, moves_to_b, moves_to_a, move_events, events_append}
+use Rattle.world_laws.proofs.Roads.{flags_by, is_calm, put_there, moved_there, move, moves, Strolls}
 use Rattle.world_laws.proofs.Saying.{flights_kept}
 use Rattle.world_laws.proofs.Showing.{EndShows, SegmentShows, FlightShows, PathShows}
 
 -- ---- moves in the duo
 
-module _ (six : SixBooks) (reader_a reader_b : Reader) where
+module _ (six : SixBooks) (others : Others) where
   abbrev pub Pair : Lane → Lane → Duo
-  Pair ab ba = duo_of six ab ba reader_a reader_b
+  Pair ab ba = duo_at six ab ba others
 
-  pub moved_to_b : (ms : List Move) (ab ba : Lane) → after_events (moves_to_b ms) (Pair ab ba) ≡ Pair (moves ms ab) ba
-  moved_to_b [] ab ba = refl
-  moved_to_b (m ∷ ms) ab ba = moved_to_b ms (moves (m ∷ []) ab) ba
+  pub moved_to_b : (ms : List Move) (ab ba : Lane) → list_all is_calm ms ≡ true → after_events (moves_to_b others.number ms) (Pair ab ba) ≡ Pair (moves ms ab) ba
+  moved_to_b [] ab ba calm = refl
+  moved_to_b (m ∷ ms) ab ba calm =
+      let parts = and_parts (is_calm m) (list_all is_calm ms) calm in
+      ap (λ d. after_events (moves_to_b others.number ms) (record (Pair ab ba) { ab = d }))
+      (moved_there others.lanes_ab others.number six.send_a six.reassembly_b others.reader_b others.joined others.within_ab m ab parts.0)
+      ∙ moved_to_b ms (move m ab) ba parts.1
 
-  pub moved_to_a : (ms : List Move) (ab ba : Lane) → after_events (moves_to_a ms) (Pair ab ba) ≡ Pair ab (moves ms ba)
-  moved_to_a [] ab ba = refl
-  moved_to_a (m ∷ ms) ab ba = moved_to_a ms ab (moves (m ∷ []) ba)
+  pub moved_to_a : (ms : List Move) (ab ba : Lane) → list_all is_calm ms ≡ true → after_events (moves_to_a others.number ms) (Pair ab ba) ≡ Pair ab (moves ms ba)
+  moved_to_a [] ab ba calm = refl
+  moved_to_a (m ∷ ms) ab ba calm =
+      let parts = and_parts (is_calm m) (list_all is_calm ms) calm in
+      ap (λ d. after_events (moves_to_a others.number ms) (record (Pair ab ba) { ba = d }))
+      (moved_there others.lanes_ba others.number six.send_b six.reassembly_a others.reader_a others.joined others.within_ba m ba parts.0)
+      ∙ moved_to_a ms ab (move m ba) parts.1
 
-  pub moved_both : (ms : LaneMoves) (ab ba : Lane) → after_events (move_events ms) (Pair ab ba) ≡ Pair (moves ms.ab ab) (moves ms.ba ba)
-  moved_both ms ab ba =
-      events_append (moves_to_b ms.ab) (moves_to_a ms.ba) (Pair ab ba)
-      ∙ ap (after_events (moves_to_a ms.ba)) (moved_to_b ms.ab ab ba)
-      ∙ moved_to_a ms.ba (moves ms.ab ab) ba
+  pub moved_both : (ab_moves ba_moves : List Move) (ab ba : Lane) → list_all is_calm ab_moves ≡ true → list_all is_calm ba_moves ≡ true
+      → after_events (move_events (record { path = others.number; ab = ab_moves; ba = ba_moves })) (Pair ab ba) ≡ Pair (moves ab_moves ab) (moves ba_moves ba)
+  moved_both ab_moves ba_moves ab ba calm_ab calm_ba =
+      events_append (moves_to_b others.number ab_moves) (moves_to_a others.number ba_moves) (Pair ab ba)
+      ∙ ap (after_events (moves_to_a others.number ba_moves)) (moved_to_b ab_moves ab ba calm_ab)
+      ∙ moved_to_a ba_moves (moves ab_moves ab) ba calm_ba
 
   abbrev pub moves_of : {ab ab_after ba ba_after : Lane} → Strolls ab ab_after → Strolls ba ba_after → LaneMoves
-  moves_of x y = record { ab = x.by; ba = y.by }
+  moves_of x y = record { path = others.number; ab = x.by; ba = y.by }
 
   pub strolled_both : (ab ab_after ba ba_after : Lane) (x : Strolls ab ab_after) (y : Strolls ba ba_after)
       → after_events (move_events (moves_of x y)) (Pair ab ba) ≡ Pair ab_after ba_after
-  strolled_both ab ab_after ba ba_after x y = moved_both (moves_of x y) ab ba ∙ ap (λ p. Pair p (moves y.by ba)) (sym x.to) ∙ ap (Pair ab_after) (sym y.to)
+  strolled_both ab ab_after ba ba_after x y = moved_both x.by y.by ab ba x.calm y.calm ∙ ap (λ p. Pair p (moves y.by ba)) (sym x.to) ∙ ap (Pair ab_after) (sym y.to)
 
 pub events_held : (events : List Event) (d : Duo) → Holds d → Holds (after_events events d)
 events_held [] d h = h
 events_held (event ∷ events) d h = events_held events (after_event event d) (after_event_held event d h)
 
-module _ (six : SixBooks) (reader_a reader_b : Reader) where
-  pub strolls_held : (ab ab_after ba ba_after : Lane) → Strolls ab ab_after → Strolls ba ba_after → Holds (duo_of six ab ba reader_a reader_b)
-      → Holds (duo_of six ab_after ba_after reader_a reader_b)
+-- the lanes of a path among the others
+ab_holds : (six : SixBooks) (others : Others) (ab ba : Lane) → Holds (duo_at six ab ba others) → LaneHolds (view_of (flags_by others.joined) six.send_a six.reassembly_b) others.number ab
+ab_holds six others ab ba h =
+    h.ab.lanes.each others.number others.number ab (omega arith) (put_there others.lanes_ab others.number ab others.within_ab)
+
+ba_holds : (six : SixBooks) (others : Others) (ab ba : Lane) → Holds (duo_at six ab ba others) → LaneHolds (view_of (flags_by others.joined) six.send_b six.reassembly_a) others.number ba
+ba_holds six others ab ba h =
+    h.ba.lanes.each others.number others.number ba (omega arith) (put_there others.lanes_ba others.number ba others.within_ba)
+
+module _ (six : SixBooks) (others : Others) where
+  pub strolls_held : (ab ab_after ba ba_after : Lane) → Strolls ab ab_after → Strolls ba ba_after → Holds (duo_at six ab ba others)
+      → Holds (duo_at six ab_after ba_after others)
   strolls_held ab ab_after ba ba_after x y h =
-      subst Holds (strolled_both six reader_a reader_b ab ab_after ba ba_after x y)
-      (events_held (move_events (moves_of six reader_a reader_b x y)) (duo_of six ab ba reader_a reader_b) h)
+      subst Holds (strolled_both six others ab ab_after ba ba_after x y)
+      (events_held (move_events (moves_of six others x y)) (duo_at six ab ba others) h)
 
   -- what holds of the lane that a side sends on, and of the one that it hears
-  pub out_holds : (s : Side) (ab ba : Lane) → Holds (duo_of six ab ba reader_a reader_b)
-      → LaneHolds (view_of no_flags (send_of s six) (reassembly_of (peer s) six)) 0 (pick s ab ba)
-  out_holds A ab ba h = h.ab.lanes.each 0 0 ab refl refl
-  out_holds B ab ba h = h.ba.lanes.each 0 0 ba refl refl
+  pub out_holds : (s : Side) (ab ba : Lane) → Holds (duo_at six ab ba others)
+      → LaneHolds (view_of (flags_by others.joined) (send_of s six) (reassembly_of (peer s) six)) others.number (pick s ab ba)
+  out_holds A ab ba h = ab_holds six others ab ba h
+  out_holds B ab ba h = ba_holds six others ab ba h
 
-  pub back_holds : (s : Side) (ab ba : Lane) → Holds (duo_of six ab ba reader_a reader_b)
-      → LaneHolds (view_of no_flags (send_of (peer s) six) (reassembly_of s six)) 0 (pick s ba ab)
-  back_holds A ab ba h = h.ba.lanes.each 0 0 ba refl refl
-  back_holds B ab ba h = h.ab.lanes.each 0 0 ab refl refl
+  pub back_holds : (s : Side) (ab ba : Lane) → Holds (duo_at six ab ba others)
+      → LaneHolds (view_of (flags_by others.joined) (send_of (peer s) six) (reassembly_of s six)) others.number (pick s ba ab)
+  back_holds A ab ba h = ba_holds six others ab ba h
+  back_holds B ab ba h = ab_holds six others ab ba h
 
   -- a mapping that comes on a lane never clashes
-  pub agrees : (s : Side) (ab ba : Lane) → Holds (duo_of six ab ba reader_a reader_b) → (copy : ℕ) → copy_clashes (slice_get (pick s ba ab).datas copy) (pick s ba ab) ≡ false
-  agrees A ab ba h copy = never_refused no_flags (direction six.send_b six.reassembly_a ba reader_a) h.ba (Moves 0 (Learn copy))
-  agrees B ab ba h copy = never_refused no_flags (direction six.send_a six.reassembly_b ab reader_b) h.ab (Moves 0 (Learn copy))
+  pub agrees : (s : Side) (ab ba : Lane) → Holds (duo_at six ab ba others) → (copy : ℕ) → copy_clashes (slice_get (pick s ba ab).datas copy) (pick s ba ab) ≡ false
+  agrees A ab ba h copy =
+      ap (λ o. lane_refused (move_refused (Learn copy)) o) (sym (put_there others.lanes_ba others.number ba others.within_ba))
+      ∙ never_refused (flags_by others.joined) (duo_at six ab ba others).ba h.ba (Moves others.number (Learn copy))
+  agrees B ab ba h copy =
+      ap (λ o. lane_refused (move_refused (Learn copy)) o) (sym (put_there others.lanes_ab others.number ab others.within_ab))
+      ∙ never_refused (flags_by others.joined) (duo_at six ab ba others).ab h.ab (Moves others.number (Learn copy))
 
 -- ---- the link
 
 pub record LinkShows (ab ba : Lane) (link : LinkState Carried) : Type 0 where
-  pub path : link.path ≡ 0
   pub unchanged : ChangesNothing link.lines
   pub copies : Every (λ f. FlightShows ab ba f.to f.carried.segment) link.under_way
 
 pub link_shows : (c : Profile) (p : PathState Carried) (ab ba : Lane) → PathShows c p ab ba → LinkShows ab ba p.link
-link_shows c p ab ba h = record { path = h.path; unchanged = h.unchanged; copies = h.copies }
+link_shows c p ab ba h = record { unchanged = h.unchanged; copies = h.copies }
 
 -- a segment of a side, on the lanes
 abbrev pub SaidShows : Side → Lane → Lane → PlainSegment → Type 0
@@ -104,7 +125,6 @@ SaidShows s out back sg = SegmentShows back.acks out sg
 pub link_longer : (s : Side) (out out_after back back_after : Lane) (link : LinkState Carried) → SenderGoes out out_after → ReceiverGoes back back_after
     → LinkShows (pick s out back) (pick s back out) link → LinkShows (pick s out_after back_after) (pick s back_after out_after) link
 link_longer A out out_after back back_after link g r h = record {
-  path = h.path;
   unchanged = h.unchanged;
   copies = Every-map (λ f shows. at f.to f.carried.segment shows) h.copies;
 }
@@ -113,7 +133,6 @@ link_longer A out out_after back back_after link g r h = record {
     at B sg shows = segment_longer (sent_longer out out_after back back_after g r) sg shows
     at A sg shows = segment_longer (heard_longer out out_after back back_after g r) sg shows
 link_longer B out out_after back back_after link g r h = record {
-  path = h.path;
   unchanged = h.unchanged;
   copies = Every-map (λ f shows. at f.to f.carried.segment shows) h.copies;
 }
@@ -133,8 +152,8 @@ sent_link s ab ba sg carried ticks link is shows h = by s kept
 
     by : (t : Side) → Every (λ f. FlightShows ab ba f.to f.carried.segment) (with_flights (peer s) (next_number s link) carried ticks link.under_way)
         → LinkShows ab ba (one_more t (record link { under_way = with_flights (peer s) (next_number s link) carried ticks link.under_way }))
-    by A copies = record { path = h.path; unchanged = h.unchanged; copies = copies }
-    by B copies = record { path = h.path; unchanged = h.unchanged; copies = copies }
+    by A copies = record { unchanged = h.unchanged; copies = copies }
+    by B copies = record { unchanged = h.unchanged; copies = copies }
 
 pub handed_shows : (s : Side) (out back : Lane) (sg : PlainSegment) (p : PathState Carried) → SegmentShows back.acks out sg
     → LinkShows (pick s out back) (pick s back out) p.link → LinkShows (pick s out back) (pick s back out) (handed values s sg p)
@@ -185,7 +204,6 @@ module _ (c : Profile) (p q : PathState Carried) (ab ba : Lane) (h : PathShows c
     ba_moves = d.back_moves;
     shows = record {
       profile = profile ∙ h.profile;
-      path = link.path;
       unchanged = link.unchanged;
       a = d.shows;
       b = subst (λ e. EndShows c B e d.back_after d.out_after) (sym same) (peer_shows c B p.b ab d.out_after ba d.back_after d.sender d.receiver h.b);
@@ -199,7 +217,6 @@ module _ (c : Profile) (p q : PathState Carried) (ab ba : Lane) (h : PathShows c
     ba_moves = d.out_moves;
     shows = record {
       profile = profile ∙ h.profile;
-      path = link.path;
       unchanged = link.unchanged;
       a = subst (λ e. EndShows c A e d.back_after d.out_after) (sym same) (peer_shows c A p.a ba d.out_after ab d.back_after d.sender d.receiver h.a);
       b = d.shows;

@@ -94,14 +94,14 @@ filled_under (suc n) (Some x ∷ places) (Some y ∷ kept) u most =
 
 -- ---- a copy is heard
 
-module _ (p : Lane) (v : View) (h : LaneHolds v 0 p) where
+module _ (p : Lane) (v : View) (path : ℕ) (h : LaneHolds v path p) where
   -- the lane keeps the first octets of the copy
   module _ (position : ℕ) (octets : List ℕ) (has : HasData p.datas position octets) (count : ℕ) where
     abbrev pub heard_lane : Lane
     heard_lane = record p { kept = merged p.kept (drop p.edge (by_place has.item.pos (take count has.item.bytes))) }
 
     pub hears : Strolls p heard_lane
-    hears = one_move (Hear has.at count) p heard_lane (sym (ap (λ o. keeps count o p) has.there))
+    hears = one_move (Hear has.at count) p heard_lane refl (sym (ap (λ o. keeps count o p) has.there))
 
     pub heard_goes : ReceiverGoes p heard_lane
     heard_goes = record {
@@ -150,7 +150,7 @@ module _ (p : Lane) (place position len : ℕ) (has : HasMapping p.datas place p
   no_clash = sym (ap (λ o. copy_clashes o p) has.there ∙ ap (λ o. mapping_clashes o p) has.holds.there) ∙ agrees
 
   pub learns_it : Strolls p learned_lane
-  learns_it = one_move (Learn has.at) p learned_lane (sym (
+  learns_it = one_move (Learn has.at) p learned_lane refl (sym (
       ap (λ o. learns o p) has.there ∙ ap (λ o. learns_mapping o p) has.holds.there
       ∙ ap (λ (b : Bool). if b then p else learned_lane) no_clash))
 
@@ -199,7 +199,7 @@ module _ (p : Lane) (edge : ℕ) (places_kept : List (Option ℕ)) (count : ℕ)
   same_place = let q = has.holds.position_is in let r = has.holds.place_is in omega (arith, at, q, r, after)
 
   pub wants_place : Strolls p (record p { asking = AskPlace (place + (edge - position)) octets })
-  wants_place = one_move (WantPlace has.at (length octets)) p _ (sym (
+  wants_place = one_move (WantPlace has.at (length octets)) p _ refl (sym (
       ap (λ o. places (length octets) o p) has.there
       ∙ ap (λ bs. if lies_in has.item bs p then record p { asking = AskPlace (has.item.place + (p.edge - has.item.pos)) bs } else p) same_order
       ∙ ap (λ (b : Bool). if b then record p { asking = AskPlace (has.item.place + (p.edge - has.item.pos)) octets } else p) lies

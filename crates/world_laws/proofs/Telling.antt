@@ -9,11 +9,16 @@ use Rattle.std.specs.Option.{IfSome, IsSome}
 use Rattle.outside_kit.specs.declared.side.Side.{Side}
 use Rattle.outside_kit.specs.declared.side.Side.TheVariants.{A, B}
 use Rattle.seq_units.specs.declared.mapping.Mapping.{Mapping}
+use Rattle.key_material.specs.JoinHmac.{join_a160_of, join_b64_of}
+use Rattle.key_material.specs.KeyDigest.{token_of}
+use Rattle.key_material.proofs.Bounds.{token_of_below, join_b64_of_below, AreOctets-join_a160_of, length-join_a160_of}
 use Rattle.mptcp_options.specs.declared.capable.CapableKeys.{CapableKeys}
 use Rattle.mptcp_options.specs.declared.capable.CapableKeys.TheVariants.{NoKey, Sender, Both, WithData}
+use Rattle.mptcp_options.specs.declared.join.JoinForm.TheVariants as join
 use Rattle.mptcp_options.specs.declared.dss.DataNumber.{DataNumber}
 use Rattle.mptcp_options.specs.declared.dss.DataNumber.TheVariants.{Whole, Low}
 use Rattle.mptcp_options.specs.Dss.{DataNumberFits}
+use Rattle.mptcp_options.specs.Join.{FormFits}
 use Rattle.mptcp_options.specs.Octets.{IsBelow}
 use Rattle.mptcp_options.specs.Text.{option_text, Fits}
 use Rattle.mptcp_options.specs.Value as wire
@@ -42,8 +47,9 @@ use Rattle.path_agenda.specs.declared.heard.Heard.TheVariants as says
 use Rattle.path_core.specs.Arriving.{copy_of, expected_by}
 use Rattle.path_core.specs.declared.modes.Modes.{Modes}
 use Rattle.path_core.specs.Ends.{PathEnd, Sending, Receiving, Treated}
+use Rattle.path_core.specs.Joins.{is_joined, peer_key_of, join_options, third_options}
 use Rattle.path_core.specs.Passing.{outgoing_or}
-use Rattle.path_core.specs.Segments.{spelled_by, bare_mapping, checksum_in, place_numbered, checksum_told, syn_options, key_options, end_mapping, ack_options, piece_mapping, is_first_piece, first_piece_options, piece_options, fin_options, record_options, reset_options, segment_of, ack_said, record_said, syn_ack_said, fin_said, reset_said, record_or_ack}
+use Rattle.path_core.specs.Segments.{spelled_by, bare_mapping, checksum_in, place_numbered, checksum_told, capable_options, syn_options, key_options, opening_options, end_mapping, ack_options, piece_mapping, is_first_piece, first_piece_options, piece_options, fin_options, record_options, reset_options, segment_of, ack_said, record_said, syn_ack_said, fin_said, reset_said, record_or_ack}
 use Rattle.path_core.specs.Shown.{IsFarReset}
 use Rattle.path_core.specs.State.{Profile}
 
@@ -169,15 +175,19 @@ pub record RecordTells (c : Profile) (s : Side) (r : Record) : Type 0 where
 abbrev pub IsKey : ℕ → Type 0
 IsKey key = key < 2 ^ 64
 
+abbrev pub IsNonce : ℕ → Type 0
+IsNonce nonce = nonce < 2 ^ 32
+
 -- a thing that a copy said
 abbrev pub ItemTells : Heard → Type 0
 ItemTells (says.DataAck next window) = IsShort next
 ItemTells (says.DataFin place) = IsShort place
 ItemTells (says.PeerKey key) = IsKey key
 ItemTells (says.Keys own peer) = IsKey own × IsKey peer
+ItemTells (says.Join form) = FormFits form
 ItemTells _ = Unit {0}
 
--- the answer of a dead end is a reset
+-- the answer of a dead end, and of an end that refuses, is a reset
 pub record AnswerTells (o : Outgoing) : Type 0 where
   pub rst : o.rst ≡ true
   pub low : o.position < 2 ^ 32
@@ -202,6 +212,8 @@ pub record WindowTells (v : Receiving) : Type 0 where
 pub record ModesTell (m : Modes) : Type 0 where
   pub own_key : IsKey m.own_key
   pub peer_key : IfSome m.peer_key IsKey
+  pub own_nonce : IsNonce m.own_nonce
+  pub peer_nonce : IsNonce m.peer_nonce
 
 pub record TreatedTells (t : Treated) : Type 0 where
   pub items : Every ItemTells t.items
@@ -272,6 +284,18 @@ reset_length : (transient : Bool) (reason : ℕ) → length (option_text (wire.R
 unfolding option_text
 reset_length transient reason = omega arith
 
+join_syn_length : (backup : Bool) (id token nonce : ℕ) → length (option_text (wire.Join (join.Syn backup id token nonce))) ≤ 28
+unfolding option_text
+join_syn_length backup id token nonce = omega arith
+
+join_answer_length : (backup : Bool) (id hmac nonce : ℕ) → length (option_text (wire.Join (join.Answer backup id hmac nonce))) ≤ 28
+unfolding option_text
+join_answer_length backup id hmac nonce = omega arith
+
+third_length : (key_a key_b nonce_a nonce_b : ℕ) → length (option_text (wire.Join (join.Third (join_a160_of key_a key_b nonce_a nonce_b)))) ≤ 28
+unfolding option_text
+third_length key_a key_b nonce_a nonce_b = omega (arith, length-join_a160_of key_a key_b nonce_a nonce_b)
+
 -- a checksum stands exactly where checksums are used
 told_form : (used : Bool) (checksum : ℕ) → is_some (if used then Some checksum else None) ≡ used
 told_form true checksum = refl
@@ -315,9 +339,44 @@ module _ (c : Profile) (s : Side) (path : c.spelling.path ≤ 15) (mss : c.mss <
   abbrev ack_number : DataNumber
   ack_number = data_number c.spelling (peer_of (spelled_by s)) e.receiving.next
 
+  capable_tells : (t : Side) → One (capable_options c t e)
+  capable_tells A = record { can = record { form = tt }; few = capable_length c.spelling.checksums false NoKey; tells = record { fits = tt; short = tt } }
+  capable_tells B = record { can = record { form = tt }; few = capable_length c.spelling.checksums false (Sender e.modes.own_key); tells = record { fits = h.modes.own_key; short = tt } }
+
+  -- the address id is the path's number
+  id_fits : c.spelling.path < 256
+  id_fits = omega (arith, path)
+
+  join_tells : (t : Side) → One (join_options c t e.modes)
+  join_tells A = record {
+    can = record { form = tt };
+    few = join_syn_length c.backup c.spelling.path (token_of (peer_key_of e.modes)) e.modes.own_nonce;
+    tells = record { fits = (id_fits, token_of_below (peer_key_of e.modes), h.modes.own_nonce); short = tt };
+  }
+  join_tells B = record {
+    can = record { form = tt };
+    few = join_answer_length c.backup c.spelling.path (join_b64_of (peer_key_of e.modes) e.modes.own_key e.modes.peer_nonce e.modes.own_nonce) e.modes.own_nonce;
+    tells = record {
+      fits = (id_fits, join_b64_of_below (peer_key_of e.modes) e.modes.own_key e.modes.peer_nonce e.modes.own_nonce, h.modes.own_nonce);
+      short = tt;
+    };
+  }
+
+  third_tells : One (third_options e.modes)
+  third_tells =
+      let own = e.modes.own_key in let other = peer_key_of e.modes in let nonce = e.modes.own_nonce in let other_nonce = e.modes.peer_nonce in
+      record {
+        can = record { form = tt };
+        few = third_length own other nonce other_nonce;
+        tells = record { fits = (AreOctets-join_a160_of own other nonce other_nonce, length-join_a160_of own other nonce other_nonce); short = tt };
+      }
+
   syn_tells : (t : Side) → One (syn_options c t e)
-  syn_tells A = record { can = record { form = tt }; few = capable_length c.spelling.checksums false NoKey; tells = record { fits = tt; short = tt } }
-  syn_tells B = record { can = record { form = tt }; few = capable_length c.spelling.checksums false (Sender e.modes.own_key); tells = record { fits = h.modes.own_key; short = tt } }
+  syn_tells t = by (is_joined c)
+    where
+      by : (b : Bool) → One (if b then join_options c t e.modes else capable_options c t e)
+      by true = join_tells t
+      by false = capable_tells t
 
   key_tells : (t : Side) (o : Option ℕ) → IfSome o IsKey → One (key_options c t o e)
   key_tells A None k = tt
@@ -327,6 +386,13 @@ module _ (c : Profile) (s : Side) (path : c.spelling.path ≤ 15) (mss : c.mss <
     tells = record { fits = (h.modes.own_key, k); short = tt };
   }
   key_tells B o k = tt
+
+  opening_tells : One (opening_options c s e)
+  opening_tells = by e.modes.owes_third
+    where
+      by : (b : Bool) → One (if b then third_options e.modes else key_options c s e.modes.peer_key e)
+      by true = third_tells
+      by false = key_tells s e.modes.peer_key h.modes.peer_key
 
   end_tells : (o : Option ℕ) → IfSome o IsShort → Says c s (Dss (Some e.receiving.next) (end_mapping c s o))
   end_tells None n = record {
@@ -349,9 +415,9 @@ module _ (c : Profile) (s : Side) (path : c.spelling.path ≤ 15) (mss : c.mss <
   ack_tells : (fin : Option ℕ) → IfSome fin IsShort → One (ack_options c s fin e)
   ack_tells fin n = by e.modes.clear
     where
-      by : (b : Bool) → One (if b then Dss (Some e.receiving.next) (end_mapping c s fin) ∷ [] else key_options c s e.modes.peer_key e)
+      by : (b : Bool) → One (if b then Dss (Some e.receiving.next) (end_mapping c s fin) ∷ [] else opening_options c s e)
       by true = end_tells fin n
-      by false = key_tells s e.modes.peer_key h.modes.peer_key
+      by false = opening_tells
 
   bytes_of : (position len : ℕ) → 1 ≤ len → IsBytes position len false
   bytes_of position len some = record { some = ne_eqb len 0 (λ is. absurd (omega (arith, some, is))); no_end = refl }
@@ -450,23 +516,30 @@ module _ (c : Profile) (s : Side) (path : c.spelling.path ≤ 15) (mss : c.mss <
   pub reset_tells : (reason : Option ℕ) → IfSome reason (λ n. n < 256) → SegmentTells c s (reset_said c reason e)
   reset_tells reason low = segment_tells (reset_segment e.tcp) (reset_options reason) [] (omega arith) (inr h.sender.next) tt (λ is. none_more e.tcp.send.nxt h.sender.next) (reset_options_tell reason low)
 
-  answer_tells : (o : Outgoing) → AnswerTells o → SegmentTells c s (segment_of c o [] [] e)
-  answer_tells o a = segment_tells o [] [] (omega arith) (stands o.acknowledged refl) a.acknowledged reaches tt
+  answer_tells : (o : Outgoing) (reason : Option ℕ) → IfSome reason (λ n. n < 256) → AnswerTells o → SegmentTells c s (segment_of c o (reset_options reason) [] e)
+  answer_tells o reason low a = segment_tells o (reset_options reason) [] (omega arith) (stands o.acknowledged refl) a.acknowledged reaches (reset_options_tell reason low)
     where
       stands : (ack : Option ℕ) → o.acknowledged ≡ ack → IsStray o.rst o.acknowledged o.position ⊎ IsShort o.position
       stands None is = inr (a.reaches is)
       stands (Some n) is = inl (record { reset = a.rst; acknowledging = rw is refl; low = a.low })
 
-      reaches : o.acknowledged ≡ None → IsShort (o.position + occupied (copy_of (meant (segment_of c o [] [] e))))
+      reaches : o.acknowledged ≡ None → IsShort (o.position + occupied (copy_of (meant (segment_of c o (reset_options reason) [] e))))
       reaches is =
           let short = a.reaches is in
           let syn : one_if o.syn ≡ 0 = ap one_if a.syn in
           let fin : one_if o.fin ≡ 0 = ap one_if a.fin in
           omega (arith, short, syn, fin)
 
-  pub dead_answer_tells : SegmentTells c s (segment_of c (outgoing_or e.treated.answer (reset_segment e.tcp)) [] [] e)
-  dead_answer_tells = by e.treated.answer h.treated.answer
+  answered_tells : (reason : Option ℕ) → IfSome reason (λ n. n < 256) → SegmentTells c s (segment_of c (outgoing_or e.treated.answer (reset_segment e.tcp)) (reset_options reason) [] e)
+  answered_tells reason low = by e.treated.answer h.treated.answer
     where
-      by : (o : Option Outgoing) → IfSome o AnswerTells → SegmentTells c s (segment_of c (outgoing_or o (reset_segment e.tcp)) [] [] e)
-      by None a = answer_tells (reset_segment e.tcp) (record { rst = refl; low = let next = h.sender.next in omega (arith, next); acknowledged = tt; reaches = λ is. h.sender.next; syn = refl; fin = refl })
-      by (Some o) a = answer_tells o a
+      by : (o : Option Outgoing) → IfSome o AnswerTells → SegmentTells c s (segment_of c (outgoing_or o (reset_segment e.tcp)) (reset_options reason) [] e)
+      by None a = answer_tells (reset_segment e.tcp) reason low (record { rst = refl; low = let next = h.sender.next in omega (arith, next); acknowledged = tt; reaches = λ is. h.sender.next; syn = refl; fin = refl })
+      by (Some o) a = answer_tells o reason low a
+
+  -- the answer of a dead end, and a refusal
+  pub dead_answer_tells : SegmentTells c s (segment_of c (outgoing_or e.treated.answer (reset_segment e.tcp)) [] [] e)
+  dead_answer_tells = answered_tells None tt
+
+  pub refusal_tells : SegmentTells c s (segment_of c (outgoing_or e.treated.answer (reset_segment e.tcp)) (reset_options (Some 1)) [] e)
+  refusal_tells = answered_tells (Some 1) (omega arith)

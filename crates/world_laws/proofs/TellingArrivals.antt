@@ -9,6 +9,11 @@ use Rattle.link_model.specs.Steps.{peer}
 use Rattle.mptcp_options.specs.declared.capable.CapableKeys.{CapableKeys}
 use Rattle.mptcp_options.specs.declared.capable.CapableKeys.TheVariants.{NoKey, Sender, Both, WithData}
 use Rattle.mptcp_options.specs.Capable.{KeysFit}
+use Rattle.mptcp_options.specs.declared.join.JoinForm.{JoinForm}
+use Rattle.mptcp_options.specs.declared.join.JoinForm.TheVariants as joins
+use Rattle.mptcp_options.specs.Join.{FormFits}
+use Rattle.join_handshake.specs.declared.hearing.JoinAnswer.{JoinAnswer}
+use Rattle.join_handshake.specs.declared.hearing.JoinSyn.{JoinSyn}
 use Rattle.path_segments.specs.declared.segment.PathMapping.{PathMapping}
 use Rattle.path_segments.specs.declared.segment.PathMapping.TheVariants.{Bytes, End, Infinite}
 use Rattle.path_segments.specs.declared.segment.PathOption.TheVariants.{Capable, Join, Dss, AddAddr, Remove, Prio, Fail, FastClose, Reset}
@@ -21,7 +26,7 @@ use Rattle.subflow_send.specs.Rules.{after_acknowledge, ack_kind, sample_of}
 use Rattle.subflow_tcp.specs.declared.segments.Hint.{Hint}
 use Rattle.subflow_tcp.specs.declared.verdicts.Meaning.{Meaning}
 use Rattle.subflow_tcp.specs.declared.verdicts.Meaning.TheVariants as means
-use Rattle.subflow_tcp.specs.Judging.{meaning_of}
+use Rattle.subflow_tcp.specs.declared.handshake.State.{State as EndPhase}
 use Rattle.subflow_tcp.specs.Segments.{Copy, occupied}
 use Rattle.subflow_tcp.specs.State.{EndState}
 use Rattle.subflow_tcp.specs.Taking as taking
@@ -31,12 +36,16 @@ use Rattle.stream_lanes.proofs.Lists.{Every-nil, Every-append, in_take}
 use Rattle.actor_desk.specs.Words.{is_nil}
 use Rattle.path_agenda.specs.declared.heard.Heard.{Heard}
 use Rattle.path_agenda.specs.declared.heard.Heard.TheVariants as says
-use Rattle.path_core.specs.Arriving.{copy_of, ack_items, is_mapping, mapping_items, map_items, key_items, items_in, items_of, hint_of, reset_for, reset_by, owing_if, owes_by, with_payload, after_meaning, zero_position}
+use Rattle.path_agenda.specs.declared.keys.KeyPair.{KeyPair}
+use Rattle.path_core.specs.Arriving.{copy_of, ack_items, is_mapping, mapping_items, map_items, key_items, join_items, items_in, items_of, hint_of, reset_for, reset_by, owing_if, owes_by, with_payload, with_answer, answered_in, cleared_in, judged_in, taken_as, after_judged, zero_position}
+use Rattle.path_core.specs.declared.modes.Modes.{Modes}
+use Rattle.path_core.specs.Joining.{with_keys, syn_alone, is_listening, joined_by}
+use Rattle.path_core.specs.Joins.{is_joined, join_answer}
 use Rattle.path_core.specs.Ends.{PathEnd}
 use Rattle.path_core.specs.State.{Profile}
 use Rattle.world_laws.proofs.Records.{every_cons}
-use Rattle.world_laws.proofs.Telling.{IsShort, MappingIsShort, OptionTells, SegmentTells, ItemTells, AnswerTells, SenderTells, EndTells}
-use Rattle.world_laws.proofs.TellingRules.{acknowledged_tells}
+use Rattle.world_laws.proofs.Telling.{IsShort, MappingIsShort, OptionTells, SegmentTells, IsNonce, ItemTells, AnswerTells, SenderTells, ModesTell, EndTells}
+use Rattle.world_laws.proofs.TellingRules.{acknowledged_tells, AreKeys, answer_nonce}
 
 -- ---- what it says
 
@@ -74,11 +83,23 @@ keys_tell B (Sender sender) h = Every-nil ItemTells
 keys_tell B (Both sender receiver) h = one (says.Keys receiver sender) (h.1, h.0)
 keys_tell B (WithData sender receiver len checksum) h = every_cons (says.Keys receiver sender) (mapping_items 0 1 len) (h.1, h.0) (mapping_tells 0 1 len)
 
-module _ (c : Profile) (from s : Side) (window : ℕ) where
-  option_tells : (o : PlainOption) → OptionTells c from o → Tell (items_in s window (meant_option o))
-  option_tells (Capable flag_a flag_c keys) h = keys_tell s keys h.fits
+joins_tell : (s : Side) (form : JoinForm) → FormFits form → Tell (join_items s form)
+joins_tell A (joins.Answer backup id hmac nonce) h = one (says.Join (joins.Answer backup id hmac nonce)) h
+joins_tell A (joins.Syn backup id token nonce) h = Every-nil ItemTells
+joins_tell A (joins.Third hmac) h = Every-nil ItemTells
+joins_tell B (joins.Syn backup id token nonce) h = one (says.Join (joins.Syn backup id token nonce)) h
+joins_tell B (joins.Third hmac) h = one (says.Join (joins.Third hmac)) h
+joins_tell B (joins.Answer backup id hmac nonce) h = Every-nil ItemTells
+
+module _ (c : Profile) (from : Side) (joined : Bool) (s : Side) (window : ℕ) where
+  option_tells : (o : PlainOption) → OptionTells c from o → Tell (items_in joined s window (meant_option o))
+  option_tells (Capable flag_a flag_c keys) h = by joined
+    where
+      by : (b : Bool) → Tell (if b then [] else key_items s keys)
+      by true = Every-nil ItemTells
+      by false = keys_tell s keys h.fits
   option_tells (Dss next mapping) h = every_cons says.Dss _ tt (Every-append (acks_tell next window h.short.0) (map_tells mapping h.short.1))
-  option_tells (Join form) h = Every-nil ItemTells
+  option_tells (Join form) h = joins_tell s form h.fits
   option_tells (AddAddr echo id address port hmac) h = Every-nil ItemTells
   option_tells (Remove ids) h = Every-nil ItemTells
   option_tells (Prio backup) h = Every-nil ItemTells
@@ -86,7 +107,7 @@ module _ (c : Profile) (from s : Side) (window : ℕ) where
   option_tells (FastClose key) h = Every-nil ItemTells
   option_tells (Reset transient reason) h = Every-nil ItemTells
 
-  options_tell : (os : List PlainOption) → All (OptionTells c from) os → Tell (flat_map (items_in s window) (map meant_option os))
+  options_tell : (os : List PlainOption) → All (OptionTells c from) os → Tell (flat_map (items_in joined s window) (map meant_option os))
   options_tell [] h = Every-nil ItemTells
   options_tell (o ∷ os) h = Every-append (option_tells o (All-head (OptionTells c from) o os h)) (options_tell os (All-tail (OptionTells c from) o os h))
 
@@ -177,24 +198,79 @@ module _ (c : Profile) (s : Side) where
   owing_flows true tcp h = record { sender = h.sender; edge = h.edge }
   owing_flows false tcp h = h
 
+-- ---- joins
+
+answered_modes : (o : Option JoinAnswer) (m : Modes) → IfSome o (λ answer. IsNonce answer.nonce) → ModesTell m → ModesTell (with_answer o m)
+answered_modes None m nonce h = h
+answered_modes (Some answer) m nonce h = record { own_key = h.own_key; peer_key = h.peer_key; own_nonce = h.own_nonce; peer_nonce = nonce }
+
+answered_by : (meaning : Meaning) (items : List Heard) (m : Modes) → Tell items → ModesTell m → ModesTell (answered_in meaning items m)
+answered_by (means.Accepts acknowledged) items m said h = answered_modes (join_answer items m) m (answer_nonce items m said) h
+answered_by (means.Taken position acknowledged) items m said h = h
+answered_by means.Ignored items m said h = h
+answered_by means.Unwanted items m said h = h
+answered_by means.Opens items m said h = h
+answered_by means.RepeatedSyn items m said h = h
+answered_by means.Outside items m said h = h
+answered_by means.Kills items m said h = h
+answered_by means.Challenged items m said h = h
+answered_by means.Unacknowledging items m said h = h
+answered_by means.Ahead items m said h = h
+
+cleared_by : (meaning : Meaning) (state : EndPhase) (m : Modes) → ModesTell m → ModesTell (cleared_in meaning state m)
+cleared_by (means.Taken position acknowledged) state m h = record { own_key = h.own_key; peer_key = h.peer_key; own_nonce = h.own_nonce; peer_nonce = h.peer_nonce }
+cleared_by (means.Accepts acknowledged) state m h = h
+cleared_by means.Ignored state m h = h
+cleared_by means.Unwanted state m h = h
+cleared_by means.Opens state m h = h
+cleared_by means.RepeatedSyn state m h = h
+cleared_by means.Outside state m h = h
+cleared_by means.Kills state m h = h
+cleared_by means.Challenged state m h = h
+cleared_by means.Unacknowledging state m h = h
+cleared_by means.Ahead state m h = h
+
+joined_modes : (joined : Bool) (meaning : Meaning) (items : List Heard) (state : EndPhase) (m : Modes) → Tell items → ModesTell m
+    → ModesTell (if joined then cleared_in meaning state (answered_in meaning items m) else m)
+joined_modes true meaning items state m said h = cleared_by meaning state (answered_in meaning items m) (answered_by meaning items m said h)
+joined_modes false meaning items state m said h = h
+
+-- the listening end takes the SYN that joins
+pub joined_tells : (c : Profile) (s : Side) (keys : KeyPair) (asked : JoinSyn) (e : PathEnd) → AreKeys keys → IsNonce asked.nonce → EndTells c s e → EndTells c s (joined_by keys asked e)
+joined_tells c s keys asked e pair nonce h = by (is_listening e.tcp.state)
+  where
+    modes : ModesTell (record (with_keys keys e.modes) { peer_nonce = asked.nonce; backup_heard = asked.backup })
+    modes = record { own_key = pair.0; peer_key = pair.1; own_nonce = h.modes.own_nonce; peer_nonce = nonce }
+
+    by : (b : Bool) → EndTells c s (record e {
+      tcp = if b then taking.after_syn (taking.unkept None) (syn_alone e.treated.window) e.tcp else e.tcp;
+      modes = record (with_keys keys e.modes) { peer_nonce = asked.nonce; backup_heard = asked.backup };
+    })
+    by true =
+        let flows = arrived_flows c s means.Opens (taking.unkept None) 0 (syn_alone e.treated.window) e.tcp refl (record { sender = h.sender; edge = h.edge }) in
+        record { sender = flows.sender; edge = flows.edge; stream = h.stream; window = h.window; modes = modes; treated = h.treated }
+    by false = record { sender = h.sender; edge = h.edge; stream = h.stream; window = h.window; modes = modes; treated = h.treated }
+
 -- ---- the end
 
 pub arrived_tells : (c : Profile) (s : Side) (now : ℕ) (sg : PlainSegment) (e : PathEnd) → SegmentTells c (peer s) sg → EndTells c s e
-    → EndTells c s (after_meaning c s now (meant sg) (meaning_of (copy_of (meant sg)) e.tcp) e)
+    → EndTells c s (after_judged c s now (meant sg) (judged_in (is_joined c) s (meant sg) e) e)
 arrived_tells c s now sg e tells h =
-    let m : Meaning = meaning_of (copy_of (meant sg)) e.tcp in
+    let m : Meaning = taken_as (judged_in (is_joined c) s (meant sg) e) in
+    let items : List Heard = items_of (is_joined c) s (meant sg) in
+    let said : Tell items = taken_tell 10 _ (options_tell c (peer s) (is_joined c) s _ sg.options tells.options) in
     let held = held_flows c s m sg.payload e.tcp (record { sender = h.sender; edge = h.edge }) in
     let tcp : EndState = with_payload m sg.payload e.tcp in
-    let arrived = arrived_flows c s m (hint_of s (meant sg)) now (copy_of (meant sg)) tcp refl held in
-    let owed = owing_flows c s (owes_by m (items_of s (meant sg))) (taking.after_arrival m (hint_of s (meant sg)) now (copy_of (meant sg)) tcp) arrived in
+    let arrived = arrived_flows c s m (hint_of items) now (copy_of (meant sg)) tcp refl held in
+    let owed = owing_flows c s (owes_by m items) (taking.after_arrival m (hint_of items) now (copy_of (meant sg)) tcp) arrived in
     record {
       sender = owed.sender;
       edge = owed.edge;
       stream = h.stream;
       window = record { next = h.window.next; window = h.window.window };
-      modes = h.modes;
+      modes = joined_modes (is_joined c) m items tcp.state e.modes said h.modes;
       treated = record {
-        items = taken_tell 10 _ (options_tell c (peer s) s _ sg.options tells.options);
+        items = said;
         answer = by sg.acknowledged tells.acknowledged tells.reaches;
       };
     }

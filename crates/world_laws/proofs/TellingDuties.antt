@@ -28,9 +28,7 @@ use Rattle.stream_lanes.specs.Holding.{Holds, LaneHolds}
 use Rattle.stream_lanes.specs.Lane.{Lane}
 use Rattle.stream_lanes.specs.Lane.Ask.{AskPlace}
 use Rattle.stream_lanes.specs.Laws.{LaneIsShort}
-use Rattle.stream_lanes.specs.Streams.{Reader}
 use Rattle.stream_lanes.specs.View.{view_of}
-use Rattle.stream_lanes.proofs.Promises.{paths_short}
 use Rattle.actor_desk.specs.declared.ask.Ask.{Ask}
 use Rattle.actor_desk.specs.declared.ask.Ask.TheVariants as asks
 use Rattle.actor_desk.specs.declared.ask.Reply.{Reply}
@@ -41,6 +39,7 @@ use Rattle.path_agenda.specs.declared.duty.Duty.{Duty}
 use Rattle.path_agenda.specs.declared.duty.Duty.TheVariants as duties
 use Rattle.path_agenda.specs.declared.heard.Heard.{Heard}
 use Rattle.path_agenda.specs.declared.heard.Heard.TheVariants as says
+use Rattle.join_handshake.specs.declared.hearing.JoinSyn.{JoinSyn}
 use Rattle.path_agenda.specs.declared.keys.KeyPair.{KeyPair}
 use Rattle.path_agenda.specs.Agenda.{leaves, resets, breaks}
 use Rattle.path_agenda.specs.Items.{key_heard, keys_heard}
@@ -50,7 +49,8 @@ use Rattle.path_core.specs.Closing.{owes_end}
 use Rattle.path_core.specs.Duties.{stands, ask_for, answered}
 use Rattle.path_core.specs.Emission.{payload_size, first_unsent, unsent_segment, data_stands, data_ask, answered_data, grant_in, granted, refused, answered_grant, end_segment, having_sent_end, answered_end, fin_segment_of, having_sent_fin, answered_fin}
 use Rattle.path_core.specs.Ends.{PathEnd}
-use Rattle.path_core.specs.Events.{next_event, died}
+use Rattle.path_core.specs.Events.{next_event, step_for, died}
+use Rattle.path_core.specs.Joining.{keys_begun, asked_at, join_heard_ask, joined_by, join_taken, answered_join_heard, refusal_of, answered_refusal}
 use Rattle.path_core.specs.Opening.{with_peer_key, keys_ask, after_keys, syn_ack_of}
 use Rattle.path_core.specs.Passing.{having_asked, with_peer_end, piece_ask, answered_piece, is_placed, piece_of, fin_of, fin_ask, answered_fin_heard, is_fin_set, rate_ask, after_rate, first_record, first_segment, answer_of, answer_occasion, dead_answer, answered_dead, resend_occasion, resend_of}
 use Rattle.path_core.specs.Placing.{Piece, after_piece, with_learned}
@@ -60,20 +60,23 @@ use Rattle.path_core.specs.Standing.{look_ask, after_look, ack_out_ask, after_ac
 use Rattle.path_core.specs.State.{PathState, Profile, end_at, goes_on, left, path_of, with_agenda}
 use Rattle.path_core.specs.Treating.{fell_ask, after_verdict, is_clash, told_next, is_acked, mapping_ask, answered_mapping, heard_ask, answered_heard, with_acked, with_fin, item_ask, answered_item, item_of}
 use Rattle.path_core.specs.Values.{Carried, values}
+use Rattle.world_laws.proofs.Answering.{IsReady}
 use Rattle.world_laws.proofs.Ending.{unfinished_if}
-use Rattle.world_laws.proofs.Lanes.{duo_of, call_events}
+use Rattle.world_laws.proofs.Lanes.{Others, duo_at, call_events}
 use Rattle.world_laws.proofs.Placing.{NextPiece, piece_from, at_edge, wants_piece}
 use Rattle.world_laws.proofs.Records.{every_find, every_at}
 use Rattle.world_laws.proofs.Replying.{every_item, granted_step}
-use Rattle.world_laws.proofs.Roads.{Strolls, stays, no_flags, direction}
+use Rattle.world_laws.proofs.Roads.{Strolls, stays, flags_by}
 use Rattle.world_laws.proofs.Showing.{EndShows, PathShows}
 use Rattle.world_laws.proofs.Sides.{Answered}
 use Rattle.world_laws.proofs.Strolling.{side_shows, strolls_held, back_holds, events_held}
-use Rattle.world_laws.proofs.Telling.{IsShort, IsKey, ItemTells, SegmentTells, EndTells, ack_said_tells, record_said_tells, syn_ack_tells, fin_said_tells, reset_tells, dead_answer_tells}
-use Rattle.world_laws.proofs.TellingEvents.{events_tell}
+use Rattle.world_laws.proofs.Telling.{IsShort, IsKey, IsNonce, ItemTells, SegmentTells, EndTells, ack_said_tells, record_said_tells, syn_ack_tells, fin_said_tells, reset_tells, dead_answer_tells, refusal_tells}
+use Rattle.world_laws.proofs.TellingArrivals.{joined_tells}
+use Rattle.world_laws.proofs.TellingAsks.{again_keys, step_keys, joined_keys}
+use Rattle.world_laws.proofs.TellingEvents.{join_tells, events_tell}
 use Rattle.world_laws.proofs.TellingRules as rules
-use Rattle.world_laws.proofs.TellingRules.{heard_key, heard_keys}
-use Rattle.world_laws.proofs.TellingSteps.{is_fair, AreFair, PathTells, BooksAreShort, tail_fair, replaced_fair, next_short, window_short, out_short, back_short, tells_at, tells_on, tells_agenda, tells_sent}
+use Rattle.world_laws.proofs.TellingRules.{AreKeys, heard_key, heard_keys, asked_nonce}
+use Rattle.world_laws.proofs.TellingSteps.{is_fair, AreFair, PathTells, BooksAreShort, tail_fair, replaced_fair, sent_short, next_short, window_short, out_short, back_short, tells_at, tells_on, tells_agenda, tells_sent}
 
 -- ---- grants
 
@@ -127,19 +130,15 @@ end_on A f ds p = refl
 end_on B f ds p = refl
 
 -- the lanes hold
-pub after_holds : (c : Profile) (six : SixBooks) (reader_a reader_b : Reader) (ask : Ask) (q : PathState Carried) (ab ba : Lane) (a : Answered c six reader_a reader_b ask q ab ba)
-    → Holds (duo_of six ab ba reader_a reader_b) → Holds (duo_of (after_ask ask six) a.after.ab_after a.after.ba_after reader_a reader_b)
-after_holds c six reader_a reader_b ask q ab ba a holds =
-    let asked = strolls_held six reader_a reader_b ab a.ab_before ba a.ba_before a.ab_moves a.ba_moves holds in
-    let called = subst Holds a.called (events_held (call_events a.call) (duo_of six a.ab_before a.ba_before reader_a reader_b) asked) in
-    strolls_held (after_ask ask six) reader_a reader_b a.ab_called a.after.ab_after a.ba_called a.after.ba_after a.after.ab_moves a.after.ba_moves called
+pub after_holds : (c : Profile) (six : SixBooks) (others : Others) (ask : Ask) (q : PathState Carried) (ab ba : Lane) (a : Answered c six others ask q ab ba)
+    → Holds (duo_at six ab ba others) → Holds (duo_at (after_ask ask six) a.after.ab_after a.after.ba_after others)
+after_holds c six others ask q ab ba a holds =
+    let asked = strolls_held six others ab a.ab_before ba a.ba_before a.ab_moves a.ba_moves holds in
+    let called = subst Holds a.called (events_held (call_events a.call) (duo_at six a.ab_before a.ba_before others) asked) in
+    strolls_held (after_ask ask six) others a.ab_called a.after.ab_after a.ba_called a.after.ba_after a.after.ab_moves a.after.ba_moves called
 
--- the lane that a side sends on has no more octets than were written
-sent_short : (s : Side) (six : SixBooks) (reader_a reader_b : Reader) (ab ba : Lane) → Holds (duo_of six ab ba reader_a reader_b) → LaneIsShort (length (send_of s six).written) (pick s ab ba)
-sent_short A six reader_a reader_b ab ba holds = (paths_short no_flags (direction six.send_a six.reassembly_b ab reader_b) holds.ab).each 0 ab refl
-sent_short B six reader_a reader_b ab ba holds = (paths_short no_flags (direction six.send_b six.reassembly_a ba reader_a) holds.ba).each 0 ba refl
-
-module _ (six : SixBooks) (reader_a reader_b : Reader) (p : PathState Carried) (ab ba : Lane) (h : PathShows p.profile p ab ba) (holds : Holds (duo_of six ab ba reader_a reader_b))
+module _ (six : SixBooks) (others : Others) (p : PathState Carried) (ab ba : Lane) (h : PathShows p.profile p ab ba) (holds : Holds (duo_at six ab ba others))
+    (ready : IsReady p ab ba) (numbered : path_of p ≡ others.number)
     (short : BooksAreShort six) (path : p.profile.spelling.path ≤ 15) (size : 29 ≤ p.profile.mss) (mss : p.profile.mss ≤ 65503) (t : PathTells p.profile p) where
   abbrev Tells : PathState Carried → Type 0
   Tells q = PathTells p.profile q
@@ -167,10 +166,10 @@ module _ (six : SixBooks) (reader_a reader_b : Reader) (p : PathState Carried) (
     shows = side_shows p.profile s p ab ba h
 
     abbrev out_is : LaneIsShort (length (send_of s six).written) out
-    out_is = out_short six reader_a reader_b ab ba holds short s
+    out_is = out_short six others ab ba holds short s
 
     abbrev back_is : LaneIsShort (length (send_of (peer s) six).written) back
-    back_is = back_short six reader_a reader_b ab ba holds short s
+    back_is = back_short six others ab ba holds short s
 
     -- the end becomes this
     on : (f : PathEnd) (ds : List Duty) → EndTells p.profile s f → AreFair ds → Tells (goes_on s f ds p)
@@ -210,13 +209,15 @@ module _ (six : SixBooks) (reader_a reader_b : Reader) (p : PathState Carried) (
         by false = ack_tells e.tcp.send.nxt None tells.sender.next tt
 
     resend_told : SegmentTells p.profile s (resend_of s p)
-    resend_told = by (has_records e.tcp) (owes_end e.sending)
+    resend_told = by (has_records e.tcp) e.modes.owes_third (owes_end e.sending)
       where
-        by : (some owes : Bool) → SegmentTells p.profile s (if some then record_or_ack p.profile s (first_record e) e
-            else (if owes then ack_said p.profile s e.tcp.send.nxt e.sending.known_end e else ack_said p.profile s (e.tcp.send.una - 1) None e))
-        by true owes = first_told
-        by false true = ack_tells e.tcp.send.nxt e.sending.known_end tells.sender.next tells.stream.known_end
-        by false false = ack_tells (e.tcp.send.una - 1) None (let una = tells.sender.unacknowledged in let next = tells.sender.next in omega (arith, una, next)) tt
+        by : (some third owes : Bool) → SegmentTells p.profile s (if some then record_or_ack p.profile s (first_record e) e
+            else (if third then ack_said p.profile s e.tcp.send.nxt None e
+            else (if owes then ack_said p.profile s e.tcp.send.nxt e.sending.known_end e else ack_said p.profile s (e.tcp.send.una - 1) None e)))
+        by true third owes = first_told
+        by false true owes = ack_tells e.tcp.send.nxt None tells.sender.next tt
+        by false false true = ack_tells e.tcp.send.nxt e.sending.known_end tells.sender.next tells.stream.known_end
+        by false false false = ack_tells (e.tcp.send.una - 1) None (let una = tells.sender.unacknowledged in let next = tells.sender.next in omega (arith, una, next)) tt
 
     reset_told : (reason : Option ℕ) → IfSome reason (λ n. n < 256) → Tells (reset_on values s reason (leaves s) p)
     reset_told reason low =
@@ -225,19 +226,22 @@ module _ (six : SixBooks) (reader_a reader_b : Reader) (p : PathState Carried) (
     dead_told : Tells (answered_dead values s p)
     dead_told = tells_sent p.profile p t h.unchanged s (dead_answer s p) e (left p) (dead_answer_tells p.profile s path wide e tells) tells left_fair
 
+    refused_told : Tells (answered_refusal values s p)
+    refused_told = tells_sent p.profile p t h.unchanged s (refusal_of s p) e (left p) (refusal_tells p.profile s path wide e tells) tells left_fair
+
     -- ---- what is to be acknowledged, and a break
 
     ack_out_told : (ds : List Duty) → AreFair ds → Tells (answered_ack_out s (reply_of six (ack_out_ask s)) ds p)
     ack_out_told ds fair =
         on (after_ack_out (reply_of six (ack_out_ask s)) e) ds
-        (rules.told_tells p.profile s e tells (next_wanted (reassembly_of s six)) (window (reassembly_of s six)) (next_short six reader_a reader_b ab ba holds short s) (window_short six reader_a reader_b ab ba holds short s)) fair
+        (rules.told_tells p.profile s e tells (next_wanted (reassembly_of s six)) (window (reassembly_of s six)) (next_short six others ab ba holds short s) (window_short six others ab ba holds short s)) fair
 
-    break_told : Tells (answered_break values s 1 (reply_of six (break_ask values s 1 p)) p)
-    break_told = by e.treated.asked
+    break_told : (reason : ℕ) → AreFair (resets s reason) → reason < 256 → Tells (answered_break values s reason (reply_of six (break_ask values s reason p)) p)
+    break_told reason fair low = by e.treated.asked
       where
-        by : (b : Bool) → Tells (if b then answered_ack_out s (reply_of six (if b then ack_out_ask s else sends values s (reset_of s (Some 1) p) p)) (resets s 1) p else reset_on values s (Some 1) (leaves s) p)
-        by true = ack_out_told (resets s 1) refl
-        by false = reset_told (Some 1) (omega arith)
+        by : (b : Bool) → Tells (if b then answered_ack_out s (reply_of six (if b then ack_out_ask s else sends values s (reset_of s (Some reason) p) p)) (resets s reason) p else reset_on values s (Some reason) (leaves s) p)
+        by true = ack_out_told (resets s reason) fair
+        by false = reset_told (Some reason) low
 
     -- ---- keys, and what a copy said
 
@@ -253,7 +257,7 @@ module _ (six : SixBooks) (reader_a reader_b : Reader) (p : PathState Carried) (
       where
         by : (b : Bool) → Tells (if b then answered_break values s 1 (reply_of six (if b then break_ask values s 1 p else fell_ask s events.MappingHeard p)) p
             else goes_on s (with_learned (after_verdict (reply_of six (if b then break_ask values s 1 p else fell_ask s events.MappingHeard p)) e)) (left p) p)
-        by true = break_told
+        by true = break_told 1 refl (omega arith)
         by false =
             let f : PathEnd = after_verdict (reply_of six (fell_ask s events.MappingHeard p)) e in
             on (with_learned f) (left p) (rules.learned_tells p.profile s f (rules.verdict_tells p.profile s e tells (reply_of six (fell_ask s events.MappingHeard p)))) left_fair
@@ -270,6 +274,18 @@ module _ (six : SixBooks) (reader_a reader_b : Reader) (p : PathState Carried) (
         let keys : Option KeyPair = Some (record { own = own; peer = peer }) in keyed (reply_of six (keys_ask s keys)) keys x.1
     heard_told says.Dss x = done_tells
     heard_told (says.PeerKey key) x = done_tells
+    heard_told (says.Join form) x = done_tells
+
+    -- ---- the SYN of a join
+
+    join_by : (keys : Option KeyPair) (asked : Option JoinSyn) → IfSome keys AreKeys → IfSome asked (λ a. IsNonce a.nonce) → Tells (join_taken s keys asked p)
+    join_by None asked pair nonce = tells_agenda p.profile p t (replaced (duties.Refuse s) p.agenda) (replaced_fair (duties.Refuse s) p.agenda refl t.agenda)
+    join_by (Some keys) None pair nonce = tells_agenda p.profile p t (replaced (duties.Refuse s) p.agenda) (replaced_fair (duties.Refuse s) p.agenda refl t.agenda)
+    join_by (Some keys) (Some asked) pair nonce =
+        on (joined_by keys asked e) (replaced (duties.SynAck s) p.agenda) (joined_tells p.profile s keys asked e pair nonce tells) (replaced_fair (duties.SynAck s) p.agenda refl t.agenda)
+
+    join_told : Tells (answered_join_heard s (reply_of six (join_heard_ask s (asked_at s p) p)) p)
+    join_told = join_by (keys_begun (reply_of six (join_heard_ask s (asked_at s p) p))) (asked_at s p) (joined_keys six short.keys s (asked_at s p) p) (asked_nonce e.treated.items tells.treated.items)
 
     item_by : (o : Option Heard) → IfSome o ItemTells → Tells (answered_item values s o (reply_of six (item_ask values s o p)) p)
     item_by None x = done_tells
@@ -296,19 +312,19 @@ module _ (six : SixBooks) (reader_a reader_b : Reader) (p : PathState Carried) (
       grant = asks.Send s (Grant (path_of p) (payload_size p.profile) e.modes.standby)
 
       abbrev Grants : SendReply → Type 0
-      Grants r = Answered p.profile six reader_a reader_b grant (answered_grant s (grant_in (replies.Send r)) (replies.Send r) p) ab ba
+      Grants r = Answered p.profile six others grant (answered_grant s (grant_in (replies.Send r)) (replies.Send r) p) ab ba
 
       grants : (r : SendReply) → grant_reply (path_of p) (payload_size p.profile) e.modes.standby (send_of s six) ≡ r → Grants r
       grants r is =
           let whole = marks_whole in let written = short.written s in
-          subst Grants is (granted_step six reader_a reader_b p ab ba h holds s (payload_size p.profile) e.modes.standby (omega (arith, size)) (omega (arith, whole, written)) may)
+          subst Grants is (granted_step six others p ab ba h holds ready s (payload_size p.profile) e.modes.standby (omega (arith, size)) (omega (arith, whole, written)) may numbered)
 
       -- all that was granted was written
       granted_reaches : (span : Span) (piece : List ℕ) → Grants (send_replies.Granted span piece) → IsShort (e.tcp.send.nxt + length piece + 1)
       granted_reaches span piece a =
           let w = a.after in
           let lane : LaneIsShort (length (send_of s (after_ask grant six)).written) (pick s w.ab_after w.ba_after) =
-          sent_short s (after_ask grant six) reader_a reader_b w.ab_after w.ba_after (after_holds p.profile six reader_a reader_b grant _ ab ba a holds) in
+          sent_short (after_ask grant six) others w.ab_after w.ba_after (after_holds p.profile six others grant _ ab ba a holds) s in
           let shown : EndShows p.profile s (granted p.profile s span piece e) (pick s w.ab_after w.ba_after) (pick s w.ba_after w.ab_after) =
           subst (λ f. EndShows p.profile s f (pick s w.ab_after w.ba_after) (pick s w.ba_after w.ab_after)) (end_on s (granted p.profile s span piece e) p.agenda p)
           (side_shows p.profile s (goes_on s (granted p.profile s span piece e) p.agenda p) w.ab_after w.ba_after w.shows) in
@@ -346,12 +362,12 @@ module _ (six : SixBooks) (reader_a reader_b : Reader) (p : PathState Carried) (
     -- ---- bytes
 
     -- the lane that the side hears, with other fields
-    heard_holds : (q : Lane) → Strolls back q → LaneHolds (view_of no_flags (send_of (peer s) six) (reassembly_of s six)) 0 q
+    heard_holds : (q : Lane) → Strolls back q → LaneHolds (view_of (flags_by others.joined) (send_of (peer s) six) (reassembly_of s six)) others.number q
     heard_holds = by s
       where
-        by : (s : Side) (q : Lane) → Strolls (pick s ba ab) q → LaneHolds (view_of no_flags (send_of (peer s) six) (reassembly_of s six)) 0 q
-        by A q x = back_holds six reader_a reader_b A ab q (strolls_held six reader_a reader_b ab ab ba q (stays ab) x holds)
-        by B q x = back_holds six reader_a reader_b B q ba (strolls_held six reader_a reader_b ab q ba ba x (stays ba) holds)
+        by : (s : Side) (q : Lane) → Strolls (pick s ba ab) q → LaneHolds (view_of (flags_by others.joined) (send_of (peer s) six) (reassembly_of s six)) others.number q
+        by A q x = back_holds six others A ab q (strolls_held six others ab ab ba q (stays ab) x holds)
+        by B q x = back_holds six others B q ba (strolls_held six others ab q ba ba x (stays ba) holds)
 
     broken : Tells (goes_on s (having_asked e) (breaks s 1) p)
     broken = on (having_asked e) (breaks s 1) (rules.asked_tells p.profile s e tells) refl
@@ -402,6 +418,9 @@ module _ (six : SixBooks) (reader_a reader_b : Reader) (p : PathState Carried) (
     data_by None is stands = grant_by (and_parts (states.may_finish e.tcp.state) _ stands).0 (grant_reply (path_of p) (payload_size p.profile) e.modes.standby (send_of s six)) refl
 
   pub duty_tells : (d : Duty) → stands d p ≡ true → is_fair d ≡ true → Tells (answered values d (reply_of six (ask_for values d p)) p)
+  duty_tells duties.JoinAgain is fair =
+      join_tells p t (reply_of six (ask_for values duties.JoinAgain p)) (replaced (duties.Leave A) p.agenda) (left p) p (again_keys six short.keys p)
+      (replaced_fair (duties.Leave A) p.agenda refl t.agenda) left_fair t
   duty_tells (duties.Look s) is fair = let r : Reply = reply_of six (look_ask s p) in on s (after_look r (end_at s p)) (left p) (rules.look_tells p.profile s (end_at s p) (tells s) r) left_fair
   duty_tells (duties.Window s) is fair = ack_out_told s (left p) left_fair
   duty_tells (duties.Update s) is fair = acknowledged s (left p) left_fair
@@ -410,13 +429,15 @@ module _ (six : SixBooks) (reader_a reader_b : Reader) (p : PathState Carried) (
   duty_tells (duties.DataFin s) is fair = data_fin_told s
   duty_tells (duties.Fin s) is fair = fin_due s is
   duty_tells (duties.Timer s) is fair = done_tells
-  duty_tells duties.Events is fair = events_tell p t (next_event p)
+  duty_tells duties.Events is fair = events_tell p t (next_event p) (reply_of six (step_for (path_of p) (next_event p))) (step_keys six short.keys (path_of p) (next_event p))
   duty_tells (duties.SynHeard s) is fair = done_tells
   duty_tells (duties.SynAnswered s) is fair = done_tells
   duty_tells (duties.PeerKey s) is fair =
       let key = key_heard (end_at s p).treated.items in
       on s (with_peer_key key (end_at s p)) (left p) (rules.peer_key_tells p.profile s (end_at s p) (tells s) key (heard_key (end_at s p).treated.items (tells s).treated.items)) left_fair
   duty_tells (duties.SynAck s) is fair = syn_ack_told s (left p) left_fair
+  duty_tells (duties.JoinHeard s) is fair = join_told s
+  duty_tells (duties.Refuse s) is fair = refused_told s
   duty_tells (duties.Opened s) is fair =
       let keys = keys_heard (end_at s p).treated.items in
       keyed s (reply_of six (keys_ask s keys)) keys (heard_keys (end_at s p).treated.items (tells s).treated.items)
@@ -424,6 +445,7 @@ module _ (six : SixBooks) (reader_a reader_b : Reader) (p : PathState Carried) (
   duty_tells (duties.Heard s index) is fair = item_told s index
   duty_tells (duties.AckHeard s) is fair =
       let r : Reply = reply_of six (fell_ask s events.AckHeard p) in on s (after_verdict r (end_at s p)) (left p) (rules.verdict_tells p.profile s (end_at s p) (tells s) r) left_fair
+  duty_tells (duties.PlainAck s) is fair = break_told s 6 refl (omega arith)
   duty_tells (duties.Keep s) is fair = done_tells
   duty_tells (duties.Edge s) is fair = piece_by s (piece_of s p) refl (is_placed (reply_of six (piece_ask s (piece_of s p))))
   duty_tells (duties.HeardFin s index) is fair = fin_told s (is_fin_set (reply_of six (fin_ask s (fin_of index (end_at s p)))))

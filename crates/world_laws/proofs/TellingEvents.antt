@@ -12,24 +12,28 @@ use Rattle.path_segments.specs.Laws.{meant}
 use Rattle.subflow_tcp.specs.declared.verdicts.Meaning.{Meaning}
 use Rattle.subflow_tcp.specs.declared.verdicts.Meaning.TheVariants as means
 use Rattle.subflow_tcp.specs.Expiring.{is_sixth}
-use Rattle.subflow_tcp.specs.Judging.{meaning_of}
 use Rattle.subflow_tcp.specs.States.{is_dead}
 use Rattle.stream_lanes.proofs.Lists.{Every-nil}
+use Rattle.actor_desk.specs.declared.ask.Reply.{Reply}
 use Rattle.actor_desk.specs.Words.{tail_of}
 use Rattle.path_agenda.specs.declared.duty.Duty.{Duty}
 use Rattle.path_agenda.specs.declared.duty.Duty.TheVariants as duties
-use Rattle.path_agenda.specs.Agenda.{rest_of_turn, emission, heard_and, payload_came}
+use Rattle.path_agenda.specs.Agenda.{rest_of_turn, emission, leaves, heard_and, payload_came}
 use Rattle.path_core.specs.declared.event.Event.{Event}
 use Rattle.path_core.specs.declared.event.Event.TheVariants as happenings
-use Rattle.path_core.specs.Arriving.{copy_of, items_of, after_meaning, template_by, template_of}
+use Rattle.path_core.specs.Arriving.{items_of, judged_in, after_judged, template_by, template_judged, template_of}
+use Rattle.path_core.specs.declared.judged.Judged.{Judged}
+use Rattle.path_core.specs.declared.judged.Judged.TheVariants as judged
+use Rattle.path_core.specs.Joining.{is_never, keys_begun, opened_by}
+use Rattle.path_core.specs.Joins.{is_joined}
 use Rattle.path_core.specs.Ends.{PathEnd}
-use Rattle.path_core.specs.Events.{is_death, at_tick, after_line, heard_in, copy_heard, copy_taken, after_firing, template_fired, timer_fired, happens, happens_if}
-use Rattle.path_core.specs.State.{PathState, Profile, end_at}
+use Rattle.path_core.specs.Events.{is_death, at_tick, died, join_begun, after_line, heard_in, copy_heard, copy_taken, after_firing, template_fired, timer_fired, happens, happens_if}
+use Rattle.path_core.specs.State.{PathState, Profile, end_at, goes_on}
 use Rattle.path_core.specs.Values.{Carried, values}
 use Rattle.world_laws.proofs.Happening.{without_kept, found_due, side_is}
 use Rattle.world_laws.proofs.Records.{every_find}
 use Rattle.world_laws.proofs.TellingArrivals.{arrived_tells}
-use Rattle.world_laws.proofs.TellingRules.{died_unless_tells, fired_tells}
+use Rattle.world_laws.proofs.TellingRules.{AreKeys, opened_tells, died_tells, died_unless_tells, fired_tells}
 use Rattle.world_laws.proofs.TellingSteps.{CopyTells, AreFair, PathTells, tells_at, tells_on, tells_agenda}
 
 -- ---- templates
@@ -38,18 +42,25 @@ heard_fair : (s : Side) (from count : ℕ) (ds : List Duty) → AreFair ds → A
 heard_fair s from zero ds h = h
 heard_fair s from (suc count) ds h = heard_fair s (from + 1) count ds h
 
-template_fair : (s : Side) (count : ℕ) (m : Meaning) → AreFair (template_by s count m)
-template_fair s count means.Ignored = refl
-template_fair s count means.Unwanted = refl
-template_fair s count means.Opens = refl
-template_fair s count (means.Accepts acknowledged) = refl
-template_fair s count means.RepeatedSyn = refl
-template_fair s count means.Outside = refl
-template_fair s count means.Kills = refl
-template_fair s count means.Challenged = refl
-template_fair s count means.Unacknowledging = refl
-template_fair s count means.Ahead = refl
-template_fair s count (means.Taken position acknowledged) = heard_fair s 0 count (payload_came s) refl
+template_fair : (joined : Bool) (s : Side) (count : ℕ) (m : Meaning) → AreFair (template_by joined s count m)
+template_fair joined s count means.Ignored = refl
+template_fair joined s count means.Unwanted = refl
+template_fair joined s count means.Opens = refl
+template_fair true s count (means.Accepts acknowledged) = refl
+template_fair false s count (means.Accepts acknowledged) = refl
+template_fair joined s count means.RepeatedSyn = refl
+template_fair joined s count means.Outside = refl
+template_fair joined s count means.Kills = refl
+template_fair joined s count means.Challenged = refl
+template_fair joined s count means.Unacknowledging = refl
+template_fair joined s count means.Ahead = refl
+template_fair joined s count (means.Taken position acknowledged) = heard_fair s 0 count (payload_came s) refl
+
+judged_fair : (joined : Bool) (s : Side) (count : ℕ) (verdict : Judged) → AreFair (template_judged joined s count verdict)
+judged_fair joined s count (judged.As meaning) = template_fair joined s count meaning
+judged_fair joined s count judged.Asks = refl
+judged_fair joined s count judged.Lacks = refl
+judged_fair joined s count judged.Forged = refl
 
 fired_fair : (sixth : Bool) (s : Side) → AreFair (template_fired sixth s)
 fired_fair true s = refl
@@ -107,10 +118,12 @@ module _ (p : PathState Carried) (h : PathTells p.profile p) where
       by (Some f) tells =
           let s = due.to in let sg = f.carried.segment in
           let e : PathEnd = end_at s (after due) in
-          let m : Meaning = meaning_of (copy_of (meant sg)) e.tcp in
-          tells_on p.profile (after due) (delivered due) s (after_meaning p.profile s (after due).clock (meant sg) m e) (template_of s (items_of s (meant sg)) m)
+          let joined = is_joined p.profile in
+          let items = items_of joined s (meant sg) in
+          let verdict : Judged = judged_in joined s (meant sg) e in
+          tells_on p.profile (after due) (delivered due) s (after_judged p.profile s (after due).clock (meant sg) verdict e) (template_of joined s items verdict)
           (arrived_tells p.profile s (after due).clock sg e tells.segment (tells_at p.profile (after due) (delivered due) s))
-          (template_fair s (length (items_of s (meant sg))) m)
+          (judged_fair joined s (length items) verdict)
 
   -- ---- timers
 
@@ -118,13 +131,25 @@ module _ (p : PathState Carried) (h : PathTells p.profile p) where
   fire_tells s q x = tells_on p.profile q x s (after_firing q.clock (end_at s q)) (template_fired (is_sixth (end_at s q).tcp) s)
       (fired_tells p.profile s (end_at s q) (tells_at p.profile q x s) q.clock) (fired_fair (is_sixth (end_at s q).tcp) s)
 
+  -- ---- a join
+
+  -- it is begun or not, with these to be done
+  pub join_tells : (r : Reply) (dead living : List Duty) (q : PathState Carried) → IfSome (keys_begun r) AreKeys → AreFair dead → AreFair living → Tells q → Tells (join_begun r dead living q)
+  join_tells r dead living q keys dead_fair living_fair x = by (is_never r)
+    where
+      by : (b : Bool) → Tells (if b then goes_on A (died q.a) dead q else goes_on A (opened_by (keys_begun r) q.a) living q)
+      by true = tells_on p.profile q x A (died q.a) dead (died_tells p.profile A q.a x.a) dead_fair
+      by false = tells_on p.profile q x A (opened_by (keys_begun r) q.a) living (opened_tells p.profile A q.a x.a (keys_begun r) keys) living_fair
+
   -- ---- the earliest
 
-  event_tells : (event : Event) → Tells (happens values event p)
-  event_tells (happenings.Takes line) = line_tells (is_death line.line) (record (at_tick line.tick p) { lines = tail_of p.lines }) (record { a = h.a; b = h.b; copies = h.copies; agenda = h.agenda })
-  event_tells (happenings.Arrives due) = copy_tells due
-  event_tells (happenings.Fires s tick) = fire_tells s (at_tick tick p) (record { a = h.a; b = h.b; copies = h.copies; agenda = h.agenda })
+  event_tells : (event : Event) (r : Reply) → IfSome (keys_begun r) AreKeys → Tells (happens values event r p)
+  event_tells (happenings.Joins tick) r keys =
+      join_tells r (leaves A) (emission A) (record (at_tick tick p) { joined_at = None }) keys refl refl (record { a = h.a; b = h.b; copies = h.copies; agenda = h.agenda })
+  event_tells (happenings.Takes line) r keys = line_tells (is_death line.line) (record (at_tick line.tick p) { lines = tail_of p.lines }) (record { a = h.a; b = h.b; copies = h.copies; agenda = h.agenda })
+  event_tells (happenings.Arrives due) r keys = copy_tells due
+  event_tells (happenings.Fires s tick) r keys = fire_tells s (at_tick tick p) (record { a = h.a; b = h.b; copies = h.copies; agenda = h.agenda })
 
-  pub events_tell : (o : Option Event) → Tells (happens_if values o p)
-  events_tell None = tells_agenda p.profile p h rest_of_turn refl
-  events_tell (Some event) = event_tells event
+  pub events_tell : (o : Option Event) (r : Reply) → IfSome (keys_begun r) AreKeys → Tells (happens_if values o r p)
+  events_tell None r keys = tells_agenda p.profile p h rest_of_turn refl
+  events_tell (Some event) r keys = event_tells event r keys

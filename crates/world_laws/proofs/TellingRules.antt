@@ -1,11 +1,19 @@
 -- What each rule of an end leaves of the numbers that it tells.
-use Rattle.std.proofs.Common.{◌≡◌, refl, sym, subst, ℕ, ◌+◌, ◌^◌, ◌≤◌, ◌==◌, ◌&&◌, nat_lt, nat_le, Bool, true, false, if◌then◌else◌, Option, Some, None, List, [], ◌∷◌, length, arith}
+use Rattle.std.proofs.Common.{◌≡◌, refl, sym, subst, ℕ, ◌+◌, ◌^◌, ◌≤◌, ◌==◌, ◌&&◌, nat_lt, nat_le, Bool, true, false, if◌then◌else◌, Option, Some, None, Ok, Err, List, [], ◌∷◌, length, arith}
 use Rattle.std.proofs.lemmas.Bool.{and_parts, leb-true}
 use Rattle.std.specs.Option.{IfSome, option_or}
+use Rattle.std.specs.Result.{result_ok}
 use Rattle.outside_kit.specs.declared.side.Side.{Side}
 use Rattle.control_book.specs.declared.call.ControlReply.TheVariants as control_replies
 use Rattle.dss_mapping.specs.declared.kept.KeptMapping.{KeptMapping}
 use Rattle.fallback_state.specs.declared.fall.Verdict.TheVariants as verdicts
+use Rattle.join_handshake.specs.Heard.{syn_heard, answer_heard, answer_taken}
+use Rattle.join_handshake.specs.declared.fault.JoinFault.TheVariants.{BadHmac}
+use Rattle.join_handshake.specs.declared.hearing.JoinAnswer.{JoinAnswer}
+use Rattle.key_material.specs.JoinHmac.{join_b64_of}
+use Rattle.mptcp_options.specs.declared.join.JoinForm.{JoinForm}
+use Rattle.mptcp_options.specs.declared.join.JoinForm.TheVariants as joins
+use Rattle.mptcp_options.specs.Join.{FormFits}
 use Rattle.reassembly_book.specs.declared.call.ReassemblyReply.TheVariants as reassembly_replies
 use Rattle.send_book.specs.declared.call.SendReply.{SendReply}
 use Rattle.send_book.specs.declared.call.SendReply.TheVariants as send_replies
@@ -21,6 +29,7 @@ use Rattle.subflow_tcp.specs.declared.segments.Occasion.TheVariants as to_send
 use Rattle.subflow_tcp.specs.Closing.{is_fin_next, after_finishing, after_passing_fin}
 use Rattle.subflow_tcp.specs.Emitting.{syn_resent}
 use Rattle.subflow_tcp.specs.Expiring as expiring
+use Rattle.subflow_tcp.specs.Opening.{after_begin}
 use Rattle.subflow_recv.specs.Receiving.{after_forget_from, without_held, after_keep_held}
 use Rattle.subflow_tcp.specs.State.{EndState, is_fin_passed}
 use Rattle.subflow_tcp.specs.States as states
@@ -31,13 +40,17 @@ use Rattle.actor_desk.specs.declared.ask.Reply.{Reply}
 use Rattle.actor_desk.specs.declared.ask.Reply.TheVariants as replies
 use Rattle.path_agenda.specs.declared.heard.Heard.{Heard}
 use Rattle.path_agenda.specs.declared.heard.Heard.TheVariants as says
+use Rattle.path_agenda.specs.declared.heard.JoinStep.{JoinStep}
+use Rattle.path_agenda.specs.declared.heard.JoinStep.TheVariants as step
 use Rattle.path_agenda.specs.declared.keys.KeyPair.{KeyPair}
 use Rattle.path_core.specs.declared.modes.Modes.{Modes}
 use Rattle.path_core.specs.Closing.{with_end_sent}
 use Rattle.path_core.specs.Emission.{granted, refused, after_timer}
 use Rattle.path_core.specs.Ends.{PathEnd, Treated, nothing_treated}
 use Rattle.path_core.specs.Events.{died, died_unless_dead, after_firing}
-use Rattle.path_agenda.specs.Items.{key_in, key_heard, pair_in, keys_heard}
+use Rattle.path_agenda.specs.Items.{key_in, key_heard, pair_in, keys_heard, is_of_step, join_in, join_heard}
+use Rattle.path_core.specs.Joining.{with_keys, opened_by}
+use Rattle.path_core.specs.Joins.{peer_key_of, join_value, join_asked, join_answer}
 use Rattle.path_core.specs.Opening.{with_peer_key, keys_in, after_keys}
 use Rattle.path_core.specs.Passing.{having_asked, with_peer_end, after_rate, after_pass_fin}
 use Rattle.path_core.specs.Placing.{Piece, is_wrong, forgotten_by, after_piece, with_learned, with_skipped}
@@ -50,7 +63,7 @@ use Rattle.path_core.specs.Words.{told_last}
 use Rattle.path_segments.specs.Spelled.{PlainSegment}
 use Rattle.world_laws.proofs.Doing.{place_is}
 use Rattle.world_laws.proofs.Records.{unsent_sent_kept, first_sent_kept, fin_sent_kept, expired_kept, uncovered_kept, every_first, every_rest}
-use Rattle.world_laws.proofs.Telling.{IsShort, RecordKindTells, RecordTells, IsKey, ItemTells, SenderTells, ModesTell, TreatedTells, EndTells, sum_small}
+use Rattle.world_laws.proofs.Telling.{IsShort, RecordKindTells, RecordTells, IsKey, IsNonce, ItemTells, SenderTells, ModesTell, TreatedTells, EndTells, sum_small}
 
 -- ---- records
 
@@ -95,16 +108,19 @@ module _ (c : Profile) (s : Side) (v : SendState) (h : SenderTells c s v) where
 -- ---- modes
 
 told_modes : (r : Reply) (m : Modes) → ModesTell m → ModesTell (modes_told r m)
-told_modes (replies.Control (control_replies.Standing mode standby sole notice)) m h = record { own_key = h.own_key; peer_key = h.peer_key }
+told_modes (replies.Control (control_replies.Standing mode standby sole notice)) m h = record { own_key = h.own_key; peer_key = h.peer_key; own_nonce = h.own_nonce; peer_nonce = h.peer_nonce }
 told_modes _ m h = h
 
 went_modes : (r : Reply) (m : Modes) → ModesTell m → ModesTell (mode_in r m)
-went_modes (replies.Control (control_replies.Verdict (verdicts.Went mode))) m h = record { own_key = h.own_key; peer_key = h.peer_key }
+went_modes (replies.Control (control_replies.Verdict (verdicts.Went mode))) m h = record { own_key = h.own_key; peer_key = h.peer_key; own_nonce = h.own_nonce; peer_nonce = h.peer_nonce }
 went_modes _ m h = h
 
 keyed_modes : (r : Reply) (o : Option KeyPair) (m : Modes) → IfSome o (λ k. IsKey k.peer) → ModesTell m → ModesTell (keys_in r o m)
-keyed_modes (replies.Control control_replies.Noted) (Some keys) m k h = record { own_key = h.own_key; peer_key = k }
+keyed_modes (replies.Control control_replies.Noted) (Some keys) m k h = record { own_key = h.own_key; peer_key = k; own_nonce = h.own_nonce; peer_nonce = h.peer_nonce }
 keyed_modes _ _ m k h = h
+
+pub keys_modes : (keys : KeyPair) (m : Modes) → IsKey keys.own × IsKey keys.peer → ModesTell m → ModesTell (with_keys keys m)
+keys_modes keys m k h = record { own_key = k.0; peer_key = k.1; own_nonce = h.own_nonce; peer_nonce = h.peer_nonce }
 
 -- a key that was heard
 key_of : (item : Heard) → ItemTells item → IfSome (key_in item) IsKey
@@ -131,6 +147,54 @@ pub heard_keys : (items : List Heard) → Every ItemTells items → IfSome (keys
 heard_keys [] h = tt
 heard_keys (item ∷ items) h = first_pair (pair_in item) (keys_heard items) (pair_of item (every_first item items h)) (heard_keys items (every_rest item items h))
 
+-- ---- joins that were heard
+
+form_of : (step : JoinStep) (item : Heard) → ItemTells item → IfSome (join_in step item) FormFits
+form_of step (says.Join form) h = by (is_of_step step form)
+  where
+    by : (b : Bool) → IfSome (if b then Some form else None) FormFits
+    by true = h
+    by false = tt
+form_of step _ h = tt
+
+first_form : (o other : Option JoinForm) → IfSome o FormFits → IfSome other FormFits → IfSome (option_or o other) FormFits
+first_form None other a b = b
+first_form (Some form) other a b = a
+
+heard_form : (step : JoinStep) (items : List Heard) → Every ItemTells items → IfSome (join_heard step items) FormFits
+heard_form step [] h = tt
+heard_form step (item ∷ items) h =
+    first_form (join_in step item) (join_heard step items) (form_of step item (every_first item items h)) (heard_form step items (every_rest item items h))
+
+asked_by_form : (o : Option JoinForm) → IfSome o FormFits → IfSome (syn_heard (join_value o)) (λ asked. IsNonce asked.nonce)
+asked_by_form None h = tt
+asked_by_form (Some (joins.Syn backup id token nonce)) h = h.2
+asked_by_form (Some (joins.Answer backup id hmac nonce)) h = tt
+asked_by_form (Some (joins.Third hmac)) h = tt
+
+-- what A asks for
+pub asked_nonce : (items : List Heard) → Every ItemTells items → IfSome (join_asked items) (λ asked. IsNonce asked.nonce)
+asked_nonce items h = asked_by_form (join_heard step.Syn items) (heard_form step.Syn items h)
+
+answered_by_form : (own other nonce : ℕ) (o : Option JoinForm) → IfSome o FormFits
+    → IfSome (result_ok (answer_taken own other nonce (answer_heard (join_value o)))) (λ answer. IsNonce answer.nonce)
+answered_by_form own other nonce None h = tt
+answered_by_form own other nonce (Some (joins.Syn backup id token n)) h = tt
+answered_by_form own other nonce (Some (joins.Answer backup id hmac n)) h = by (hmac == join_b64_of own other nonce n)
+  where
+    by : (b : Bool) → IfSome (result_ok (if b then Ok (record { backup = backup; id = id; nonce = n }) else Err BadHmac)) (λ (answer : JoinAnswer). IsNonce answer.nonce)
+    by true = h.2
+    by false = tt
+answered_by_form own other nonce (Some (joins.Third hmac)) h = tt
+
+-- and what B answers
+pub answer_nonce : (items : List Heard) (m : Modes) → Every ItemTells items → IfSome (join_answer items m) (λ answer. IsNonce answer.nonce)
+answer_nonce items m h = answered_by_form m.own_key (peer_key_of m) m.own_nonce (join_heard step.Answer items) (heard_form step.Answer items h)
+
+-- both keys of a join
+abbrev pub AreKeys : KeyPair → Type 0
+AreKeys keys = IsKey keys.own × IsKey keys.peer
+
 -- ---- an end
 
 module _ (c : Profile) (s : Side) (e : PathEnd) (h : EndTells c s e) where
@@ -144,10 +208,26 @@ module _ (c : Profile) (s : Side) (e : PathEnd) (h : EndTells c s e) where
   verdict_tells r = with_modes (mode_in r e.modes) (went_modes r e.modes h.modes)
 
   pub peer_key_tells : (o : Option ℕ) → IfSome o IsKey → EndTells c s (with_peer_key o e)
-  peer_key_tells o key = with_modes (record e.modes { peer_key = o }) (record { own_key = h.modes.own_key; peer_key = key })
+  peer_key_tells o key = with_modes (record e.modes { peer_key = o }) (record { own_key = h.modes.own_key; peer_key = key; own_nonce = h.modes.own_nonce; peer_nonce = h.modes.peer_nonce })
+
+  -- A's end opens where the join may begin
+  pub opened_tells : (o : Option KeyPair) → IfSome o AreKeys → EndTells c s (opened_by o e)
+  opened_tells None keys = h
+  opened_tells (Some pair) keys = by (states.is_waiting e.tcp.state)
+    where
+      by : (b : Bool) → EndTells c s (record e { tcp = (if b then after_begin e.tcp else e.tcp); modes = with_keys pair e.modes })
+      by true = record { sender = h.sender; edge = h.edge; stream = h.stream; window = h.window; modes = keys_modes pair e.modes keys h.modes; treated = h.treated }
+      by false = with_modes (with_keys pair e.modes) (keys_modes pair e.modes keys h.modes)
 
   pub dss_tells : EndTells c s (after_dss s e)
-  dss_tells = with_modes _ (record { own_key = h.modes.own_key; peer_key = h.modes.peer_key })
+  dss_tells = record {
+    sender = h.sender;
+    edge = h.edge;
+    stream = record { heard = h.stream.heard; known_end = h.stream.known_end };
+    window = h.window;
+    modes = record { own_key = h.modes.own_key; peer_key = h.modes.peer_key; own_nonce = h.modes.own_nonce; peer_nonce = h.modes.peer_nonce };
+    treated = h.treated;
+  }
 
   pub keys_tell : (r : Reply) (o : Option KeyPair) → IfSome o (λ k. IsKey k.peer) → EndTells c s (after_keys r o e)
   keys_tell r o key = record {
@@ -179,10 +259,17 @@ module _ (c : Profile) (s : Side) (e : PathEnd) (h : EndTells c s e) where
     edge = h.edge;
     stream = record { heard = let heard = h.stream.heard in omega (arith, heard, short); known_end = h.stream.known_end };
     window = h.window;
-    modes = h.modes;
+    modes = record { own_key = h.modes.own_key; peer_key = h.modes.peer_key; own_nonce = h.modes.own_nonce; peer_nonce = h.modes.peer_nonce };
     treated = h.treated;
   }
-  stream_acked next _ short = h
+  stream_acked next _ short = record {
+    sender = h.sender;
+    edge = h.edge;
+    stream = h.stream;
+    window = h.window;
+    modes = record { own_key = h.modes.own_key; peer_key = h.modes.peer_key; own_nonce = h.modes.own_nonce; peer_nonce = h.modes.peer_nonce };
+    treated = h.treated;
+  }
 
   pub fin_tells : (place : ℕ) → EndTells c s (with_fin place e)
   fin_tells place = record { sender = h.sender; edge = h.edge; stream = h.stream; window = h.window; modes = h.modes; treated = record { items = h.treated.items; answer = h.treated.answer } }

@@ -10,7 +10,6 @@ use Rattle.subflow_tcp.specs.Judging.{is_at}
 use Rattle.stream_lanes.specs.Holding.{Holds}
 use Rattle.stream_lanes.specs.Lane.{Lane}
 use Rattle.stream_lanes.specs.Laws.{LaneIsShort}
-use Rattle.stream_lanes.specs.Streams.{Reader}
 use Rattle.actor_desk.specs.Desk.{SixBooks, send_of}
 use Rattle.actor_desk.specs.Words.{pick}
 use Rattle.path_agenda.specs.declared.duty.Duty.{Duty}
@@ -26,7 +25,7 @@ use Rattle.path_core.specs.State.{PathState, Profile, end_at, with_end, with_age
 use Rattle.path_core.specs.Steps.{settled}
 use Rattle.path_core.specs.Treating.{counts, with_fin, after_keep, heard_passed, item_passed, item_of}
 use Rattle.path_core.specs.Values.{Carried}
-use Rattle.world_laws.proofs.Lanes.{duo_of}
+use Rattle.world_laws.proofs.Lanes.{Others, duo_at}
 use Rattle.world_laws.proofs.Settling.{passes}
 use Rattle.world_laws.proofs.Showing.{HasFin, PathShows}
 use Rattle.world_laws.proofs.Strolling.{Strolled, side_shows, strolls_held}
@@ -55,6 +54,7 @@ item_told c s e h (says.DataFin place) = by (counts e)
     by false = h
 item_told c s e h (says.PeerKey key) = h
 item_told c s e h (says.Keys own peer) = h
+item_told c s e h (says.Join form) = h
 
 maybe_told : (c : Profile) (s : Side) (e : PathEnd) → EndTells c s e → (o : Option Heard) → EndTells c s (item_passed s o e)
 maybe_told c s e h None = h
@@ -69,8 +69,8 @@ fin_short n edge back (Some at) lane short has is =
     let position = has.holds in
     omega (arith, same, below, position, short)
 
-module _ (six : SixBooks) (reader_a reader_b : Reader) (c : Profile) (short : BooksAreShort six) where
-  passed_tells : (p : PathState Carried) (ab ba : Lane) → PathShows c p ab ba → Holds (duo_of six ab ba reader_a reader_b) → PathTells c p → (d : Duty) → PathTells c (passed d p)
+module _ (six : SixBooks) (others : Others) (c : Profile) (short : BooksAreShort six) where
+  passed_tells : (p : PathState Carried) (ab ba : Lane) → PathShows c p ab ba → Holds (duo_at six ab ba others) → PathTells c p → (d : Duty) → PathTells c (passed d p)
   passed_tells p ab ba h holds t (duties.Timer s) = end_tells c p t s (after_timer p.clock (end_at s p)) (rules.timer_tells c s (end_at s p) (tells_at c p t s) p.clock)
   passed_tells p ab ba h holds t (duties.Heard s index) =
       end_tells c p t s (item_passed s (item_of index (end_at s p)) (end_at s p)) (maybe_told c s (end_at s p) (tells_at c p t s) (item_of index (end_at s p)))
@@ -81,8 +81,9 @@ module _ (six : SixBooks) (reader_a reader_b : Reader) (c : Profile) (short : Bo
   passed_tells p ab ba h holds t (duties.PassFin s) =
       let e : PathEnd = end_at s p in
       end_tells c p t s (after_pass_fin e) (rules.pass_fin_tells c s e (tells_at c p t s)
-      (λ is. fin_short (length (send_of (peer s) six).written) e.tcp.recv.edge (pick s ba ab) e.tcp.fin_at (back_short six reader_a reader_b ab ba holds short s) (short.written (peer s))
+      (λ is. fin_short (length (send_of (peer s) six).written) e.tcp.recv.edge (pick s ba ab) e.tcp.fin_at (back_short six others ab ba holds short s) (short.written (peer s))
       (side_shows c s p ab ba h).receiver.fin (and_parts (is_at e.tcp.recv.edge e.tcp.fin_at) _ is).0))
+  passed_tells p ab ba h holds t duties.JoinAgain = t
   passed_tells p ab ba h holds t (duties.Look s) = t
   passed_tells p ab ba h holds t (duties.Window s) = t
   passed_tells p ab ba h holds t (duties.Update s) = t
@@ -95,9 +96,12 @@ module _ (six : SixBooks) (reader_a reader_b : Reader) (c : Profile) (short : Bo
   passed_tells p ab ba h holds t (duties.SynAnswered s) = t
   passed_tells p ab ba h holds t (duties.PeerKey s) = t
   passed_tells p ab ba h holds t (duties.SynAck s) = t
+  passed_tells p ab ba h holds t (duties.JoinHeard s) = t
+  passed_tells p ab ba h holds t (duties.Refuse s) = t
   passed_tells p ab ba h holds t (duties.Opened s) = t
   passed_tells p ab ba h holds t (duties.Live s) = t
   passed_tells p ab ba h holds t (duties.AckHeard s) = t
+  passed_tells p ab ba h holds t (duties.PlainAck s) = t
   passed_tells p ab ba h holds t (duties.HeardFin s index) = t
   passed_tells p ab ba h holds t (duties.AckOut s) = t
   passed_tells p ab ba h holds t (duties.Rate s) = t
@@ -114,12 +118,12 @@ module _ (six : SixBooks) (reader_a reader_b : Reader) (c : Profile) (short : Bo
   passed_tells p ab ba h holds t (duties.Dead s) = t
   passed_tells p ab ba h holds t duties.End = t
 
-  pub settled_tells : (ds : List Duty) (p : PathState Carried) (ab ba : Lane) → PathShows c p ab ba → Holds (duo_of six ab ba reader_a reader_b) → PathTells c p → AreFair ds → PathTells c (settled ds p)
+  pub settled_tells : (ds : List Duty) (p : PathState Carried) (ab ba : Lane) → PathShows c p ab ba → Holds (duo_at six ab ba others) → PathTells c p → AreFair ds → PathTells c (settled ds p)
   settled_tells [] p ab ba h holds t fair = tells_agenda c p t [] refl
   settled_tells (d ∷ ds) p ab ba h holds t fair =
-      let w : Strolled c (passed d p) ab ba = passes six reader_a reader_b c p ab ba h holds d in
+      let w : Strolled c (passed d p) ab ba = passes six others c p ab ba h holds d in
       by (stands d p)
-      (settled_tells ds (passed d p) w.ab_after w.ba_after w.shows (strolls_held six reader_a reader_b ab w.ab_after ba w.ba_after w.ab_moves w.ba_moves holds)
+      (settled_tells ds (passed d p) w.ab_after w.ba_after w.shows (strolls_held six others ab w.ab_after ba w.ba_after w.ab_moves w.ba_moves holds)
       (passed_tells p ab ba h holds t d) (and_parts (is_fair d) (list_all is_fair ds) fair).1)
     where
       by : (b : Bool) → PathTells c (settled ds (passed d p)) → PathTells c (if b then with_agenda (d ∷ ds) p else settled ds (passed d p))

@@ -1,6 +1,7 @@
 -- What a step of the path leaves of the numbers that its ends and its copies tell.
 use Rattle.std.proofs.Common.{◌≡◌, refl, ℕ, ◌+◌, ◌^◌, ◌≤◌, nat_lt, Bool, true, false, if◌then◌else◌, List, [], ◌∷◌, length, arith}
 use Rattle.std.specs.List.{list_all}
+use Rattle.std.specs.Option.{IfSome}
 use Rattle.std.proofs.lemmas.Bool.{and_parts, and_from}
 use Rattle.outside_kit.specs.declared.side.Side.{Side}
 use Rattle.outside_kit.specs.declared.side.Side.TheVariants.{A, B}
@@ -12,11 +13,11 @@ use Rattle.reassembly_book.specs.Steps.{next_wanted, window, is_end}
 use Rattle.stream_lanes.specs.Holding.{Holds}
 use Rattle.stream_lanes.specs.Lane.{Lane}
 use Rattle.stream_lanes.specs.Laws.{LaneIsShort}
-use Rattle.stream_lanes.specs.Streams.{Reader}
 use Rattle.stream_lanes.specs.Words.{Every}
 use Rattle.stream_lanes.proofs.Promises.{paths_short}
 use Rattle.stream_lanes.proofs.Views.{received_written}
-use Rattle.actor_desk.specs.Desk.{SixBooks, send_of, reassembly_of}
+use Rattle.control_book.specs.declared.book.Keys.{Keys}
+use Rattle.actor_desk.specs.Desk.{SixBooks, send_of, reassembly_of, control_of}
 use Rattle.actor_desk.specs.Words.{pick, tail_of}
 use Rattle.path_agenda.specs.declared.duty.Duty.{Duty}
 use Rattle.path_agenda.specs.declared.duty.Duty.TheVariants as duties
@@ -26,10 +27,10 @@ use Rattle.path_core.specs.Shown.{ChangesNothing}
 use Rattle.path_core.specs.State.{PathState, Profile, end_at, goes_on, with_agenda}
 use Rattle.path_core.specs.Values.{Carried, carried_by, stripped, altered, values}
 use Rattle.path_agenda.specs.Words.{replaced}
-use Rattle.world_laws.proofs.Lanes.{duo_of}
-use Rattle.world_laws.proofs.Roads.{no_flags, direction}
+use Rattle.world_laws.proofs.Lanes.{Others, duo_at}
+use Rattle.world_laws.proofs.Roads.{flags_by, put_there}
 use Rattle.world_laws.proofs.Saying.{flights_kept}
-use Rattle.world_laws.proofs.Telling.{IsShort, SegmentTells, EndTells}
+use Rattle.world_laws.proofs.Telling.{IsShort, IsKey, SegmentTells, EndTells}
 
 -- ---- the path
 
@@ -64,12 +65,25 @@ replaced_fair d (e ∷ ds) fair h = and_from (is_fair d) (list_all is_fair ds) f
 
 -- ---- the books
 
--- what is written is short, and a reader takes no more than 2^20 octets
+-- the keys that a control book has
+pub record KeysAreShort (keys : Keys) : Type 0 where
+  pub own : IsKey keys.own
+  pub peer : IfSome keys.peer IsKey
+
+-- what is written is short, a reader takes no more than 2^20 octets, and keys have 64 bits
 pub record BooksAreShort (six : SixBooks) : Type 0 where
   pub written : (s : Side) → length (send_of s six).written + 3 ≤ 2 ^ 31
   pub room : (s : Side) → (reassembly_of s six).capacity ≤ 2 ^ 20
+  pub keys : (s : Side) → KeysAreShort (control_of s six).keys
 
-module _ (six : SixBooks) (reader_a reader_b : Reader) (ab ba : Lane) (holds : Holds (duo_of six ab ba reader_a reader_b)) (short : BooksAreShort six) where
+-- the lane that a side sends on has no more octets than were written
+pub sent_short : (six : SixBooks) (others : Others) (ab ba : Lane) → Holds (duo_at six ab ba others) → (s : Side) → LaneIsShort (length (send_of s six).written) (pick s ab ba)
+sent_short six others ab ba holds A =
+    (paths_short (flags_by others.joined) (duo_at six ab ba others).ab holds.ab).each others.number ab (put_there others.lanes_ab others.number ab others.within_ab)
+sent_short six others ab ba holds B =
+    (paths_short (flags_by others.joined) (duo_at six ab ba others).ba holds.ba).each others.number ba (put_there others.lanes_ba others.number ba others.within_ba)
+
+module _ (six : SixBooks) (others : Others) (ab ba : Lane) (holds : Holds (duo_at six ab ba others)) (short : BooksAreShort six) where
   received_short : (s : Side) → received (reassembly_of s six) ≤ length (send_of (peer s) six).written
   received_short A = received_written _ six.reassembly_a holds.ba.arrived
   received_short B = received_written _ six.reassembly_b holds.ab.arrived
@@ -90,12 +104,11 @@ module _ (six : SixBooks) (reader_a reader_b : Reader) (ab ba : Lane) (holds : H
 
   -- the lane that a side sends on, and the one that it hears
   pub out_short : (s : Side) → LaneIsShort (length (send_of s six).written) (pick s ab ba)
-  out_short A = (paths_short no_flags (direction six.send_a six.reassembly_b ab reader_b) holds.ab).each 0 ab refl
-  out_short B = (paths_short no_flags (direction six.send_b six.reassembly_a ba reader_a) holds.ba).each 0 ba refl
+  out_short s = sent_short six others ab ba holds s
 
   pub back_short : (s : Side) → LaneIsShort (length (send_of (peer s) six).written) (pick s ba ab)
-  back_short A = (paths_short no_flags (direction six.send_b six.reassembly_a ba reader_a) holds.ba).each 0 ba refl
-  back_short B = (paths_short no_flags (direction six.send_a six.reassembly_b ab reader_b) holds.ab).each 0 ab refl
+  back_short A = sent_short six others ab ba holds B
+  back_short B = sent_short six others ab ba holds A
 
 -- ---- an end goes on
 

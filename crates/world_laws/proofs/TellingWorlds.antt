@@ -1,9 +1,9 @@
 -- Every turn of the world leaves the numbers that its path tells small, and so each copy that arrives is fresh.
-use Rattle.std.proofs.Common.{◌≡◌, refl, sym, ◌∙◌, ap, subst, ℕ, zero, suc, ◌+◌, ◌-◌, ◌^◌, ◌<◌, ◌≤◌, ◌++◌, Bool, true, false, if◌then◌else◌, is_some, Option, Some, None, List, [], ◌∷◌, length, map, arith}
+use Rattle.std.proofs.Common.{◌≡◌, refl, sym, ◌∙◌, ap, subst, ℕ, zero, suc, ◌+◌, ◌-◌, ◌^◌, ◌<◌, ◌≤◌, ◌++◌, ⊎_elim, Bool, true, false, if◌then◌else◌, is_some, Option, Some, None, List, [], ◌∷◌, length, map, arith}
 use Rattle.std.proofs.lemmas.List.{length-append}
-use Rattle.std.proofs.lemmas.Option.{same_Some}
+use Rattle.std.proofs.lemmas.Option.{same_Some, slice_get_within}
 use Rattle.std.specs.List.{slice_get}
-use Rattle.std.specs.Option.{IfSome}
+use Rattle.std.specs.Option.{IfSome, option_map}
 use Rattle.outside_kit.specs.declared.side.Side.{Side}
 use Rattle.outside_kit.specs.declared.side.Side.TheVariants.{A, B}
 use Rattle.link_model.specs.declared.flight.Flight.{Flight}
@@ -14,20 +14,22 @@ use Rattle.reassembly_book.specs.State.{Arriving}
 use Rattle.reassembly_book.specs.Steps.{is_taken, fin_clash, places_after, after_reading, after_call}
 use Rattle.send_book.specs.State.{Sending}
 use Rattle.subflow_tcp.specs.declared.handshake.State.{State as EndPhase}
-use Rattle.subflow_tcp.specs.declared.handshake.State.TheVariants.{Listen, SynSent}
+use Rattle.subflow_tcp.specs.declared.handshake.State.TheVariants.{Listen}
 use Rattle.subflow_tcp.specs.Opening.{new_end}
-use Rattle.stream_lanes.specs.Duo.{Duo, after_events, opening}
+use Rattle.stream_lanes.specs.Duo.{Duo, after_events}
 use Rattle.stream_lanes.specs.Holding.{Holds}
 use Rattle.stream_lanes.specs.Lane.{Lane}
 use Rattle.stream_lanes.specs.Streams.{Reader}
-use Rattle.stream_lanes.specs.Words.{Every}
+use Rattle.stream_lanes.specs.Words.{Every, From}
 use Rattle.stream_lanes.proofs.Duos.{all_held}
-use Rattle.stream_lanes.proofs.Lists.{Every-nil}
+use Rattle.stream_lanes.proofs.Lists.{Every-nil, in_map, in_set}
 use Rattle.actor_desk.specs.declared.ask.Ask.{Ask}
 use Rattle.actor_desk.specs.declared.ask.Ask.TheVariants as asks
 use Rattle.actor_desk.specs.Books.{books_in}
-use Rattle.actor_desk.specs.Desk.{SixBooks, send_of, reassembly_of, reply_of, after_ask}
+use Rattle.actor_desk.specs.Desk.{SixBooks, send_of, reassembly_of, control_of, reply_of, after_ask}
 use Rattle.stream_apps.specs.declared.duty.AppDuty.{AppDuty}
+use Rattle.stream_apps.specs.declared.duty.AppDuty.TheVariants as app_duties
+use Rattle.stream_apps.specs.Apps.{AppState}
 use Rattle.stream_apps.specs.AppSteps.{app_ask, app_asks_first}
 use Rattle.path_agenda.specs.declared.duty.Duty.{Duty}
 use Rattle.path_agenda.specs.Agenda.{start_of_turn}
@@ -35,32 +37,36 @@ use Rattle.path_core.specs.Arriving.{expected_by}
 use Rattle.path_core.specs.Duties.{stands, ask_for, answered}
 use Rattle.path_core.specs.Ends.{opening_end}
 use Rattle.path_core.specs.Shown.{IsFreshCopy, NextIsFresh}
-use Rattle.path_core.specs.Starts.{first_turn}
+use Rattle.path_core.specs.Starts.{first_state, first_turn}
 use Rattle.path_core.specs.State.{PathState, Profile, end_at, with_agenda}
-use Rattle.path_core.specs.Steps.{settled, asks_first, answers, takes, settles_down, next_round}
-use Rattle.path_core.specs.Turns.{FirstStands}
+use Rattle.path_core.specs.Steps.{asks_first, answers, takes, settles_down, next_round}
+use Rattle.path_core.specs.Turns.{FirstStands, IsSettled}
 use Rattle.path_core.specs.Values.{Carried, values}
 use Rattle.world_laws.specs.declared.member.Member.TheVariants.{App, Path}
 use Rattle.world_laws.specs.Actors.{Actor, ActorCrew}
-use Rattle.world_laws.specs.Fresh.{IsFreshTurn, AreFresh}
-use Rattle.world_laws.specs.Openings.{Start, opened_world}
+use Rattle.world_laws.specs.Fresh.{IsFreshPath, IsFreshCrew, IsFreshTurn, AreFresh}
+use Rattle.world_laws.specs.Openings.{PathPlan, Start, path_begins, opened_world}
 use Rattle.world_laws.specs.Promises.{IsPlain, NumbersFit, EveryListIsFresh}
-use Rattle.world_laws.specs.StampedBooks.{answer_to}
-use Rattle.world_laws.specs.Worlds.{WorldState, Turn, asked, all_over, greatest, begins, end_round, after_turn}
-use Rattle.world_laws.proofs.Applying.{Writes}
-use Rattle.world_laws.proofs.Beginning.{first_lane, waiting, no_reader, six, waiting_shows, first_holds, turn_reached, opened_reached}
-use Rattle.world_laws.proofs.Joining.{few_marks}
+use Rattle.world_laws.specs.Worlds.{WorldState, Turn, asked, all_over, greatest, begins, end_round, after_turn, world_run}
+use Rattle.control_book.specs.Replies.{is_sure}
+use Rattle.world_laws.proofs.Surely.{sure_is_clear}
+use Rattle.world_laws.proofs.Applying.{Reads, Writes}
+use Rattle.world_laws.proofs.Beginning.{first_lane, waiting, six, waiting_shows, alone, alone_holds, turn_reached, opened_reached}
+use Rattle.world_laws.proofs.Joining.{few_marks, beside, beside_is, begun_path, readied, readied_holds, sure_of}
 use Rattle.world_laws.proofs.Journaling.{books_after}
-use Rattle.world_laws.proofs.Lanes.{duo_of, WorldShows, Reached}
+use Rattle.world_laws.proofs.Lanes.{duo_of, Others, duo_at, FirstIsClear, PathThere, WorldShows, SureIsClear, first_duo, Reached}
+use Rattle.world_laws.proofs.Opened.{opened_actors}
 use Rattle.world_laws.proofs.Showing.{PathShows}
 use Rattle.world_laws.proofs.Sides.{Answered}
 use Rattle.world_laws.proofs.Stepping.{duty_step}
-use Rattle.world_laws.proofs.Telling.{IsKey, EndTells, expected_from, expected_shortly, fresh_or_far}
+use Rattle.world_laws.proofs.Telling.{IsKey, IsNonce, EndTells, expected_from, expected_shortly, fresh_or_far}
 use Rattle.world_laws.proofs.TellingDuties.{after_holds, duty_tells}
 use Rattle.world_laws.proofs.TellingEvents.{due_tells}
 use Rattle.world_laws.proofs.TellingSettling.{settled_tells}
-use Rattle.world_laws.proofs.TellingSteps.{CopyTells, is_fair, AreFair, PathTells, BooksAreShort, tells_at}
-use Rattle.world_laws.proofs.Trios.{Trio, Fare, world_of, seated, after_a, after_b, after_p, fare_after_p, first_trio, next_trio}
+use Rattle.world_laws.proofs.TellingSteps.{CopyTells, is_fair, AreFair, PathTells, KeysAreShort, BooksAreShort, tells_at}
+use Rattle.world_laws.proofs.TellingAsks.{AskTells, BooksKeepShort, kept_at, ask_short, asks_tell}
+use Rattle.world_laws.proofs.CastLifting.{each_actor, path_actor}
+use Rattle.world_laws.proofs.Casts.{Walker, Cast, Fare, world_of, walking, seated, walked, map_there, after_a, after_b, after_path, path_asked, path_stepped, path_step_is, fare_after_path, walks_on, next_cast, next_is}
 use Rattle.std.proofs.lemmas.Bool.{and_parts}
 use Rattle.std.specs.List.{list_all}
 use Rattle.world_laws.proofs.Saying.{every_one}
@@ -107,13 +113,14 @@ file_short file rest b short w =
 
 -- ---- a path that nothing happened to
 
-opening_tells : (c : Profile) (s : Side) (state : EndPhase) (opens : Bool) (path own key : ℕ) → IsKey key → EndTells c s (opening_end (new_end state opens path own c.mss) key)
-opening_tells c s state opens path own key is = record {
+opening_tells : (c : Profile) (s : Side) (state : EndPhase) (opens : Bool) (path own key nonce : ℕ) → IsKey key → IsNonce nonce
+    → EndTells c s (opening_end (new_end state opens path own c.mss) key nonce)
+opening_tells c s state opens path own key nonce is drawn = record {
   sender = record { next = omega arith; unacknowledged = omega arith; records = every_one _ (record { reaches = omega arith; octets = omega arith; mapped = tt }) };
   edge = omega arith;
   stream = record { heard = omega arith; known_end = tt };
   window = record { next = omega arith; window = omega arith };
-  modes = record { own_key = is; peer_key = tt };
+  modes = record { own_key = is; peer_key = tt; own_nonce = drawn; peer_nonce = omega arith };
   treated = record { items = Every-nil _; answer = tt };
 }
 
@@ -138,26 +145,39 @@ path_fresh p h due flight next there = by (arriving due p.link) there (due_tells
 
 -- ---- worlds
 
-abbrev MemberTells : Profile → Actor Carried → Type 0
-MemberTells c (App a) = Unit {0}
-MemberTells c (Path p) = PathTells c p
+-- what its ends and its copies tell
+abbrev TellsAt : Start → ℕ → PathState Carried → Type 0
+TellsAt start number p = (plan : PathPlan) → slice_get start.paths number ≡ Some plan → PathTells (path_begins start number plan).profile p
+
+abbrev MemberTells : Start → ℕ → Actor Carried → Type 0
+MemberTells start number (App a) = Unit {0}
+MemberTells start number (Path p) = TellsAt start number p
+
+-- path i is the actor 2 + i
+abbrev ActorTells : Start → ℕ → Actor Carried → Type 0
+ActorTells start zero m = Unit {0}
+ActorTells start (suc zero) m = Unit {0}
+ActorTells start (suc (suc number)) m = MemberTells start number m
 
 record WorldTells (start : Start) (w : WorldState Carried) : Type 0 where
-  members : Every (λ c. MemberTells start.profile c.member) w.crew
-  rooms : RoomsAre start.profile.buffer (books_in w.books)
+  members : (actor : ℕ) (c : ActorCrew Carried) → slice_get w.crew actor ≡ Some c → ActorTells start actor c.member
+  rooms : RoomsAre start.buffer (books_in w.books)
+  keys : BooksKeepShort (books_in w.books)
 
-from_trio : (start : Start) (t : Trio Carried) → PathTells start.profile t.p → RoomsAre start.profile.buffer (books_in t.books) → WorldTells start (world_of t)
-from_trio start t tells rooms = record { members = record { each = at }; rooms = rooms }
-  where
-    at : (i : ℕ) (c : ActorCrew Carried) → slice_get (world_of t).crew i ≡ Some c → MemberTells start.profile c.member
-    at zero c there = subst (λ x. MemberTells start.profile x.member) (same_Some _ c there) tt
-    at (suc zero) c there = subst (λ x. MemberTells start.profile x.member) (same_Some _ c there) tt
-    at (suc (suc zero)) c there = subst (λ x. MemberTells start.profile x.member) (same_Some _ c there) tells
-    at (suc (suc (suc i))) c there = cc
+from_cast : (start : Start) (t : Cast Carried) → ((number : ℕ) (x : Walker Carried) → slice_get t.paths number ≡ Some x → TellsAt start number x.path) → RoomsAre start.buffer (books_in t.books)
+    → BooksKeepShort (books_in t.books) → WorldTells start (world_of t)
+from_cast start t tells rooms keys = record { members = each_actor (λ actor c. ActorTells start actor c.member) t tt tt tells; rooms = rooms; keys = keys }
+
+-- an application tells no key
+app_tells : (d : AppDuty) (a : AppState) → AskTells (app_ask d a)
+app_tells app_duties.Write a = tt
+app_tells app_duties.Close a = tt
+app_tells app_duties.Read a = tt
+app_tells app_duties.End a = tt
 
 module _ (start : Start) (plain : IsPlain start) (fit : NumbersFit start) where
-  books_short : (t : Trio Carried) → Fare start t → RoomsAre start.profile.buffer (books_in t.books) → BooksAreShort (books_in t.books)
-  books_short t fare rooms = record { written = written; room = room }
+  books_short : (t : Cast Carried) → Fare start t → RoomsAre start.buffer (books_in t.books) → BooksKeepShort (books_in t.books) → BooksAreShort (books_in t.books)
+  books_short t fare rooms keys = record { written = written; room = room; keys = kept_at (books_in t.books) keys }
     where
       written : (s : Side) → length (send_of s (books_in t.books)).written + 3 ≤ 2 ^ 31
       written A = file_short start.file_a t.a.rest (books_in t.books).send_a plain.short_a fare.a.writes
@@ -167,97 +187,162 @@ module _ (start : Start) (plain : IsPlain start) (fit : NumbersFit start) where
       room A = let same = rooms.a in let most = fit.buffer in omega (arith, same, most)
       room B = let same = rooms.b in let most = fit.buffer in omega (arith, same, most)
 
-  module _ (t : Trio Carried) (fare : Fare start t) (settled_path : FirstStands t.p.agenda t.p) (ab ba : Lane) (reader_a reader_b : Reader) (path : PathShows start.profile t.p ab ba)
-      (holds : Holds (duo_of (books_in t.books) ab ba reader_a reader_b)) (tells : PathTells start.profile t.p) (rooms : RoomsAre start.profile.buffer (books_in t.books)) where
+  module _ (t : Cast Carried) (fare : Fare start t) (settled_paths : Every (λ x. IsSettled x.path) t.paths) (lanes_ab lanes_ba : List Lane) (reader_a reader_b : Reader)
+      (reads_a : Reads t.a.told t.at_a.list reader_a) (reads_b : Reads t.b.told t.at_b.list reader_b) (paths : From (λ n x. PathThere start lanes_ab lanes_ba n x.path) 0 t.paths)
+      (joined : Bool) (clear : joined ≡ true → FirstIsClear t.paths) (sure : is_sure (books_in t.books).control_a.fall.mode ≡ true → FirstIsClear t.paths)
+      (holds : Holds (duo_of joined (books_in t.books) lanes_ab lanes_ba reader_a reader_b)) (tells : WorldTells start (world_of t)) where
     abbrev books : SixBooks
     books = books_in t.books
-
-    unmoved : WorldTells start (world_of t)
-    unmoved = from_trio start t tells rooms
 
     short : (s : Side) → length (send_of s books).marks < 2 ^ 63
     short A = few_marks start.file_a t.a.rest books.send_a plain.short_a fare.a.writes holds.ab.send.whole
     short B = few_marks start.file_b t.b.rest books.send_b plain.short_b fare.b.writes holds.ba.send.whole
 
-    -- the path takes the reply to its first duty, and settles
-    taken : (duty : Duty) (ds : List Duty) → t.p.agenda ≡ duty ∷ ds → PathTells start.profile (settled (answered values duty (reply_of books (ask_for values duty t.p)) t.p).agenda (answered values duty (reply_of books (ask_for values duty t.p)) t.p))
-    taken duty ds is =
-        let ask = ask_for values duty t.p in
-        let q = answered values duty (reply_of books ask) t.p in
-        let first : stands duty t.p ≡ true = subst (λ xs. FirstStands xs t.p) is settled_path in
-        let fair : AreFair (duty ∷ ds) = subst AreFair is tells.agenda in
-        let own : PathShows t.p.profile t.p ab ba = subst (λ c. PathShows c t.p ab ba) (sym path.profile) path in
-        let own_tells : PathTells t.p.profile t.p = subst (λ c. PathTells c t.p) (sym path.profile) tells in
-        let size : 29 ≤ t.p.profile.mss = subst (λ c. 29 ≤ c.mss) (sym path.profile) plain.size in
-        let most : t.p.profile.mss ≤ 65503 = subst (λ c. c.mss ≤ 65503) (sym path.profile) fit.size in
-        let number : t.p.profile.spelling.path ≤ 15 = subst (λ c. c.spelling.path ≤ 15) (sym path.profile) fit.path in
-        let a : Answered t.p.profile books reader_a reader_b ask q ab ba = duty_step books reader_a reader_b t.p ab ba own holds size short duty first in
-        let told : PathTells t.p.profile q =
-        duty_tells books reader_a reader_b t.p ab ba own holds (books_short t fare rooms) number size most own_tells duty first (and_parts (is_fair duty) (list_all is_fair ds) fair).0 in
-        let later : RoomsAre start.profile.buffer (books_in (after_p values ask t).books) =
-        subst (RoomsAre start.profile.buffer) (sym (books_after ask t.at_p.pass t.books)) (ask_rooms start.profile.buffer ask books rooms) in
-        let later_short : BooksAreShort (after_ask ask books) =
-        subst BooksAreShort (books_after ask t.at_p.pass t.books) (books_short (after_p values ask t) (fare_after_p values start t fare duty) later) in
-        subst (λ c. PathTells c (settled q.agenda q)) path.profile
-        (settled_tells (after_ask ask books) reader_a reader_b t.p.profile later_short q.agenda q a.after.ab_after a.after.ba_after a.after.shows
-        (after_holds t.p.profile books reader_a reader_b ask q ab ba a holds) told told.agenda)
+    later_rooms : (ask : Ask) → RoomsAre start.buffer (after_ask ask books)
+    later_rooms ask = ask_rooms start.buffer ask books tells.rooms
 
-    later_rooms : (ask : Ask) → RoomsAre start.profile.buffer (after_ask ask books)
-    later_rooms ask = ask_rooms start.profile.buffer ask books rooms
+    later_keys : (ask : Ask) → AskTells ask → BooksKeepShort (after_ask ask books)
+    later_keys ask told = ask_short books ask told tells.keys
 
-    path_tells : (ds : List Duty) → t.p.agenda ≡ ds → WorldTells start (asked values 2 (asks_first values ds t.p) (seated t.at_p (Path t.p)) (world_of t))
-    path_tells [] is = unmoved
-    path_tells (duty ∷ ds) is =
-        let ask = ask_for values duty t.p in
-        let q = answered values duty (reply_of books ask) t.p in
-        let same : takes values (answer_to t.books ask) t.p ≡ settled q.agenda q = ap (λ xs. settles_down (answers values xs (answer_to t.books ask) t.p)) is in
-        from_trio start (after_p values ask t) (subst (PathTells start.profile) (sym same) (taken duty ds is))
-        (subst (RoomsAre start.profile.buffer) (sym (books_after ask t.at_p.pass t.books)) (later_rooms ask))
+    tells_there : (number : ℕ) (x : Walker Carried) → slice_get t.paths number ≡ Some x → TellsAt start number x.path
+    tells_there number x there = tells.members (suc (suc number)) (walking x) (path_actor t number x there)
+
+    unmoved : WorldTells start (world_of t)
+    unmoved = tells
+
+    -- ---- a path
+
+    module _ (number : ℕ) (x : Walker Carried) (there : slice_get t.paths number ≡ Some x) where
+      abbrev p : PathState Carried
+      p = x.path
+
+      abbrev path : PathThere start lanes_ab lanes_ba number p
+      path = paths.each number number x (omega arith) there
+
+      abbrev others : Others
+      others = beside start plain joined lanes_ab lanes_ba reader_a reader_b number path.ab path.ba path.ab_there path.ba_there
+
+      at_holds : Holds (duo_at books path.ab path.ba others)
+      at_holds = subst Holds (sym (beside_is start plain joined lanes_ab lanes_ba reader_a reader_b number path.ab path.ba path.ab_there path.ba_there books)) holds
+
+      abbrev c : Profile
+      c = (path_begins start number path.plan).profile
+
+      profile : p.profile ≡ c
+      profile = path.shows.profile
+
+      own_tells : PathTells p.profile p
+      own_tells = subst (λ d. PathTells d p) (sym profile) (tells_there number x there path.plan path.plan_there)
+
+      -- the number of a path is below sixteen
+      numbered : p.profile.spelling.path ≤ 15
+      numbered =
+          let below = slice_get_within start.paths number path.plan path.plan_there in let most = fit.paths in
+          subst (λ d. d.spelling.path ≤ 15) (sym profile) (omega (arith, below, most))
+
+      -- it takes the reply to its first duty, and settles
+      taken : (duty : Duty) (ds : List Duty) → p.agenda ≡ duty ∷ ds → PathTells p.profile (takes values (reply_of books (ask_for values duty p)) p)
+      taken duty ds is =
+          let ask = ask_for values duty p in
+          let q = answered values duty (reply_of books ask) p in
+          let first : stands duty p ≡ true = subst (λ xs. FirstStands xs p) is (settled_paths.each number x there) in
+          let fair : AreFair (duty ∷ ds) = subst AreFair is own_tells.agenda in
+          let size : 29 ≤ p.profile.mss = subst (λ d. 29 ≤ d.mss) (sym profile) (plain.size.each number path.plan path.plan_there) in
+          let most : p.profile.mss ≤ 65503 = subst (λ d. d.mss ≤ 65503) (sym profile) (fit.size.each number path.plan path.plan_there) in
+          let r = readied start plain t fare settled_paths lanes_ab lanes_ba reader_a reader_b reads_a reads_b paths joined clear sure holds number x there duty ds is in
+          let now : Others = record others { joined = r.joined_now } in
+          let held : Holds (duo_at books r.ab r.ba now) = readied_holds start plain t fare settled_paths lanes_ab lanes_ba reader_a reader_b reads_a reads_b paths joined clear sure holds number x there r in
+          let a : Answered p.profile books now ask q r.ab r.ba = duty_step books now p r.ab r.ba r.shows held r.ready path.numbered size short duty first in
+          let told : PathTells p.profile q =
+          duty_tells books now p r.ab r.ba r.shows held r.ready path.numbered (books_short t fare tells.rooms tells.keys) numbered size most own_tells duty first (and_parts (is_fair duty) (list_all is_fair ds) fair).0 in
+          let later : RoomsAre start.buffer (books_in (after_path values number x ask t).books) =
+          subst (RoomsAre start.buffer) (sym (books_after ask x.at.pass t.books)) (later_rooms ask) in
+          let later_short : BooksAreShort (after_ask ask books) =
+          subst BooksAreShort (books_after ask x.at.pass t.books) (books_short (after_path values number x ask t) (fare_after_path values start t fare number x there duty) later
+          (subst BooksKeepShort (sym (books_after ask x.at.pass t.books)) (later_keys ask (asks_tell p.profile p own_tells duty)))) in
+          subst (PathTells p.profile) (sym (ap (λ xs. settles_down (answers values xs (reply_of books ask) p)) is))
+          (settled_tells (after_ask ask books) now p.profile later_short q.agenda q a.after.ab_after a.after.ba_after a.after.shows
+          (after_holds p.profile books now ask q r.ab r.ba a held) told told.agenda)
+
+      -- it begins a round
+      begun_tells : PathTells p.profile (next_round p)
+      begun_tells =
+          settled_tells books others p.profile (books_short t fare tells.rooms tells.keys) start_of_turn (begun_path start plain p) path.ab path.ba
+          (record { profile = refl; unchanged = path.shows.unchanged; a = shows.a; b = shows.b; copies = path.shows.copies }) at_holds
+          (record { a = own_tells.a; b = own_tells.b; copies = own_tells.copies; agenda = refl }) refl
+        where
+          shows : PathShows p.profile p path.ab path.ba
+          shows = subst (λ d. PathShows d p path.ab path.ba) (sym profile) path.shows
+
+      -- by its plan
+      planned : (q : PathState Carried) → PathTells p.profile q → TellsAt start number q
+      planned q told plan at = subst (λ y. PathTells (path_begins start number y).profile q) (same_Some path.plan plan (sym path.plan_there ∙ at)) (subst (λ d. PathTells d q) profile told)
+
+      path_fresh_now : IsFreshPath p
+      path_fresh_now = record { next = path_fresh p own_tells; unchanged = path.shows.unchanged }
+
+    duty_told : (number : ℕ) (x : Walker Carried) → slice_get t.paths number ≡ Some x → (duty : Duty) (ds : List Duty) → x.path.agenda ≡ duty ∷ ds
+        → WorldTells start (world_of (after_path values number x (ask_for values duty x.path) t))
+    duty_told number x there duty ds is =
+        let ask = ask_for values duty x.path in
+        from_cast start (after_path values number x ask t)
+        (λ n y at. ⊎_elim
+        (λ same. subst (λ m. TellsAt start m y.path) (sym same.0) (subst (λ z. TellsAt start number z.path) same.1 (planned number x there _ (taken number x there duty ds is))))
+        (λ other. tells_there n y other.1)
+        (in_set t.paths number (walked values ask t.books x) n y at))
+        (subst (RoomsAre start.buffer) (sym (books_after ask x.at.pass t.books)) (later_rooms ask))
+        (subst BooksKeepShort (sym (books_after ask x.at.pass t.books)) (later_keys ask (asks_tell x.path.profile x.path (own_tells number x there) duty)))
+
+    path_told : (number : ℕ) (x : Walker Carried) → slice_get t.paths number ≡ Some x → (ds : List Duty) → x.path.agenda ≡ ds → WorldTells start (path_asked values number x (asks_first values ds x.path) t)
+    path_told number x there [] is = unmoved
+    path_told number x there (duty ∷ ds) is = duty_told number x there duty ds is
 
     a_tells : (ds : List AppDuty) → WorldTells start (asked values 0 (app_asks_first ds t.a) (seated t.at_a (App t.a)) (world_of t))
     a_tells [] = unmoved
     a_tells (duty ∷ ds) =
         let ask = app_ask duty t.a in
-        from_trio start (after_a ask t) tells (subst (RoomsAre start.profile.buffer) (sym (books_after ask t.at_a.pass t.books)) (later_rooms ask))
+        from_cast start (after_a ask t) tells_there (subst (RoomsAre start.buffer) (sym (books_after ask t.at_a.pass t.books)) (later_rooms ask))
+        (subst BooksKeepShort (sym (books_after ask t.at_a.pass t.books)) (later_keys ask (app_tells duty t.a)))
 
     b_tells : (ds : List AppDuty) → WorldTells start (asked values 1 (app_asks_first ds t.b) (seated t.at_b (App t.b)) (world_of t))
     b_tells [] = unmoved
     b_tells (duty ∷ ds) =
         let ask = app_ask duty t.b in
-        from_trio start (after_b ask t) tells (subst (RoomsAre start.profile.buffer) (sym (books_after ask t.at_b.pass t.books)) (later_rooms ask))
-
-    abbrev begun : PathState Carried
-    begun = with_agenda start_of_turn (record t.p { clock = t.p.until; until = t.p.until + 100 })
-
-    begun_tells : PathTells start.profile (next_round t.p)
-    begun_tells = settled_tells books reader_a reader_b start.profile (books_short t fare rooms) start_of_turn begun ab ba
-        (record { profile = path.profile; path = path.path; unchanged = path.unchanged; a = path.a; b = path.b; copies = path.copies }) holds
-        (record { a = tells.a; b = tells.b; copies = tells.copies; agenda = refl }) refl
+        from_cast start (after_b ask t) tells_there (subst (RoomsAre start.buffer) (sym (books_after ask t.at_b.pass t.books)) (later_rooms ask))
+        (subst BooksKeepShort (sym (books_after ask t.at_b.pass t.books)) (later_keys ask (app_tells duty t.b)))
 
     round_tells : WorldTells start (end_round (world_of t))
     round_tells = by (all_over (world_of t).crew)
       where
+        next : (n : ℕ) (y : Walker Carried) → slice_get (next_cast t).paths n ≡ Some y → TellsAt start n y.path
+        next n y at =
+            let found = in_map (walks_on (greatest 0 (world_of t).crew)) t.paths n y at in
+            subst (λ z. TellsAt start n z.path) found.2 (planned n found.0 found.1 _ (begun_tells n found.0 found.1))
+
         by : (over : Bool) → WorldTells start (if over then record (world_of t) { crew = map (begins (greatest 0 (world_of t).crew)) (world_of t).crew } else world_of t)
         by false = unmoved
-        by true = from_trio start (next_trio t) begun_tells rooms
+        by true = subst (WorldTells start) (sym (next_is t)) (from_cast start (next_cast t) next tells.rooms tells.keys)
 
     turn_told : (turn : Turn) → WorldTells start (after_turn values turn (world_of t))
     turn_told (Turn.Step zero) = a_tells t.a.agenda
     turn_told (Turn.Step (suc zero)) = b_tells t.b.agenda
-    turn_told (Turn.Step (suc (suc zero))) = path_tells t.p.agenda refl
-    turn_told (Turn.Step (suc (suc (suc actor)))) = unmoved
+    turn_told (Turn.Step (suc (suc number))) = subst (WorldTells start) (sym (path_step_is values number t)) (by (slice_get t.paths number) refl)
+      where
+        by : (o : Option (Walker Carried)) → slice_get t.paths number ≡ o → WorldTells start (path_stepped values number o t)
+        by None there = unmoved
+        by (Some x) there = path_told number x there x.path.agenda refl
     turn_told Turn.Round = round_tells
 
     -- ---- what arrives
 
-    own_fresh : PathTells t.p.profile t.p
-    own_fresh = subst (λ c. PathTells c t.p) (sym path.profile) tells
-
     turn_fresh : (turn : Turn) → IsFreshTurn turn (world_of t)
     turn_fresh (Turn.Step zero) = tt
     turn_fresh (Turn.Step (suc zero)) = tt
-    turn_fresh (Turn.Step (suc (suc zero))) = record { next = path_fresh t.p own_fresh; unchanged = path.unchanged }
-    turn_fresh (Turn.Step (suc (suc (suc actor)))) = tt
+    turn_fresh (Turn.Step (suc (suc number))) = subst IsFreshCrew (sym (map_there walking t.paths number)) (by (slice_get t.paths number) refl)
+      where
+        by : (o : Option (Walker Carried)) → slice_get t.paths number ≡ o → IsFreshCrew (option_map walking o)
+        by None there = tt
+        by (Some x) there = path_fresh_now number x there
     turn_fresh Turn.Round = tt
 
   -- ---- every list of turns
@@ -266,37 +351,33 @@ module _ (start : Start) (plain : IsPlain start) (fit : NumbersFit start) where
     fresh : IsFreshTurn turn w
     tells : WorldTells start (after_turn values turn w)
 
-  goes : (turn : Turn) (d : Duo) (w : WorldState Carried) → Holds d → WorldShows start d w → WorldTells start w → Going turn w
-  goes turn d w holds h tells =
-      let t = h.trio in
+  goes : (turn : Turn) (d : Duo) (w : WorldState Carried) → SureIsClear w → Holds d → WorldShows start d w → WorldTells start w → Going turn w
+  goes turn d w sure holds h tells =
+      let t = h.cast in
       let here : WorldTells start (world_of t) = subst (WorldTells start) h.is tells in
-      let path : PathTells start.profile t.p = here.members.each 2 (seated t.at_p (Path t.p)) refl in
       let held = subst Holds h.duo_is holds in
+      let surely = sure_of t (subst SureIsClear h.is sure) in
       subst (Going turn) (sym h.is) (record {
-        fresh = turn_fresh t h.fare h.settled h.ab h.ba h.reader_a h.reader_b h.path held path here.rooms turn;
-        tells = turn_told t h.fare h.settled h.ab h.ba h.reader_a h.reader_b h.path held path here.rooms turn;
+        fresh = turn_fresh t h.fare h.settled h.lanes_ab h.lanes_ba h.reader_a h.reader_b h.reads_a h.reads_b h.paths h.joined h.clear surely held here turn;
+        tells = turn_told t h.fare h.settled h.lanes_ab h.lanes_ba h.reader_a h.reader_b h.reads_a h.reads_b h.paths h.joined h.clear surely held here turn;
       })
 
-  run_fresh : (turns : List Turn) (w : WorldState Carried) → Reached start w → WorldTells start w → AreFresh turns w
-  run_fresh [] w r tells = tt
-  run_fresh (turn ∷ turns) w r tells =
-      let first = opening 1 start.profile.buffer start.profile.buffer in
-      let g : Going turn w = goes turn (after_events r.events first) w (all_held 1 start.profile.buffer start.profile.buffer r.events) r.shows tells in
-      (g.fresh, run_fresh turns (after_turn values turn w) (turn_reached start plain turn w r) g.tells)
+  run_fresh : (turns : List Turn) (w : WorldState Carried) → ((more : List Turn) → SureIsClear (world_run values more w)) → Reached start w → WorldTells start w → AreFresh turns w
+  run_fresh [] w sure r tells = tt
+  run_fresh (turn ∷ turns) w sure r tells =
+      let g : Going turn w = goes turn (after_events r.events (first_duo start)) w (sure []) (all_held (length start.paths) start.buffer start.buffer r.events) r.shows tells in
+      (g.fresh, run_fresh turns (after_turn values turn w) (λ more. sure (turn ∷ more)) (turn_reached start plain turn w (sure []) r) g.tells)
 
-  first_rooms : RoomsAre start.profile.buffer (books_in (first_trio {C = Carried} start).books)
-  first_rooms = record { a = refl; b = refl }
-
-  waiting_tells : PathTells start.profile (with_agenda start_of_turn (waiting start plain))
-  waiting_tells = record {
-    a = opening_tells start.profile A SynSent true 0 start.drawn.initial_a start.drawn.key_a fit.key_a;
-    b = opening_tells start.profile B Listen false 0 start.drawn.initial_b start.drawn.key_b fit.key_b;
+  waiting_tells : (number : ℕ) (plan : PathPlan) → slice_get start.paths number ≡ Some plan → PathTells (path_begins start number plan).profile (with_agenda start_of_turn (waiting start plain number plan))
+  waiting_tells number plan there = record {
+    a = opening_tells (path_begins start number plan).profile A (first_state (path_begins start number plan).joined_at) true number plan.initial_a start.key_a plan.nonce_a fit.key_a (fit.nonces_a.each number plan there);
+    b = opening_tells (path_begins start number plan).profile B Listen false number plan.initial_b start.key_b plan.nonce_b fit.key_b (fit.nonces_b.each number plan there);
     copies = Every-nil _;
     agenda = refl;
   }
 
   opened_short : BooksAreShort (six start plain)
-  opened_short = record { written = written; room = room }
+  opened_short = record { written = written; room = room; keys = keys }
     where
       written : (s : Side) → length (send_of s (six start plain)).written + 3 ≤ 2 ^ 31
       written A = omega arith
@@ -306,12 +387,23 @@ module _ (start : Start) (plain : IsPlain start) (fit : NumbersFit start) where
       room A = fit.buffer
       room B = fit.buffer
 
-  first_tells : PathTells start.profile (first_turn start.profile start.drawn start.delay start.lines)
-  first_tells = settled_tells (six start plain) (no_reader start plain) (no_reader start plain) start.profile opened_short start_of_turn (with_agenda start_of_turn (waiting start plain)) first_lane first_lane
-      (waiting_shows start plain) (first_holds start plain) waiting_tells refl
+      keys : (s : Side) → KeysAreShort (control_of s (six start plain)).keys
+      keys A = record { own = fit.key_a; peer = tt }
+      keys B = record { own = fit.key_b; peer = tt }
+
+  -- a path settles its first turn, alone on its lanes
+  first_tells : (number : ℕ) (plan : PathPlan) → slice_get start.paths number ≡ Some plan → PathTells (path_begins start number plan).profile (first_turn (path_begins start number plan) start.lines)
+  first_tells number plan there =
+      settled_tells (six start plain) (alone start plain number) (path_begins start number plan).profile opened_short start_of_turn (with_agenda start_of_turn (waiting start plain number plan))
+      (first_lane number) (first_lane number) (waiting_shows start plain number plan) (alone_holds start plain number) (waiting_tells number plan there) refl
 
   opened_tells : WorldTells start (opened_world start)
-  opened_tells = from_trio start (first_trio start) first_tells first_rooms
+  opened_tells = record {
+    members = opened_actors (λ actor c. ActorTells start actor c.member) start tt tt
+        (λ number plan there other at. subst (λ y. PathTells (path_begins start number y).profile (first_turn (path_begins start number plan) start.lines)) (same_Some plan other (sym there ∙ at)) (first_tells number plan there));
+    rooms = record { a = refl; b = refl };
+    keys = record { a = record { own = fit.key_a; peer = tt }; b = record { own = fit.key_b; peer = tt } };
+  }
 
 pub every_list_is_fresh : EveryListIsFresh
-every_list_is_fresh start turns plain fit = run_fresh start plain fit turns (opened_world start) (opened_reached start plain) (opened_tells start plain fit)
+every_list_is_fresh start turns plain fit = run_fresh start plain fit turns (opened_world start) (sure_is_clear start) (opened_reached start plain) (opened_tells start plain fit)

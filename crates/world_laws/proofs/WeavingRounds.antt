@@ -1,6 +1,5 @@
 -- Whole rounds, woven one by one: lawful, and ending as the serial turns do.
 use Rattle.std.proofs.Common.{◌≡◌, refl, sym, ◌∙◌, ap, subst, ℕ, zero, suc, ◌≤◌, max, Bool, true, false, if◌then◌else◌, Some, List, [], ◌∷◌, ◌++◌, map, arith}
-use Rattle.std.proofs.lemmas.Option.{same_Some}
 use Rattle.std.specs.List.{slice_get}
 use Rattle.stream_lanes.proofs.Lists.{in_map}
 use Rattle.path_core.specs.Codec.{Codec}
@@ -11,6 +10,7 @@ use Rattle.world_laws.specs.Outcomes.{outcome_of}
 use Rattle.world_laws.specs.Serial.{goes_on, OneOf, steps_and, round_and, spelled, after_steps, after_turns, after_round, AreRounds}
 use Rattle.world_laws.specs.Weaving.{Begins, Worked, steps_by, woven, woven_rounds, WovenDoes, StepsWeave, RoundsWeave}
 use Rattle.world_laws.specs.Worlds.{WorldState, Turn, world_step, all_over, greatest, begins, end_round, after_turn, world_run, AreLawful}
+use Rattle.world_laws.proofs.Opened.{opened_actors}
 use Rattle.world_laws.proofs.Pairing.{round_fine, greatest_above, stays_fine}
 use Rattle.world_laws.proofs.RoundTurns.{all_turns_over}
 use Rattle.world_laws.proofs.Weaving.{woven_runs}
@@ -75,17 +75,11 @@ module _ {C : Type 0} where
           let own : max found.0.pass.stamp (greatest 0 w.crew) ≡ c.pass.stamp = ap (λ x. x.pass.stamp) found.2 in
           omega (arith, own, most)
 
-  pub opened_begins : (k : Codec C) (start : Start) → Begins {C = C} 0 (opened_world start)
-  opened_begins k start = record {
-    fine = (stays_fine k).always start [];
-    known = record { each = at };
-  }
-    where
-      at : (i : ℕ) (c : ActorCrew C) → slice_get (opened_world {C = C} start).crew i ≡ Some c → c.pass.stamp ≡ 0
-      at zero c there = ap (λ x. x.pass.stamp) (sym (same_Some _ c there))
-      at (suc zero) c there = ap (λ x. x.pass.stamp) (sym (same_Some _ c there))
-      at (suc (suc zero)) c there = ap (λ x. x.pass.stamp) (sym (same_Some _ c there))
-      at (suc (suc (suc i))) c there = cc
+  pub opened_begins : (k : Codec C) (start : Start) → Begins {C = C} (greatest 0 (opened_world {C = C} start).crew) (opened_world start)
+  opened_begins k start =
+      let each = opened_actors {C = C} (λ actor c. c.pass.stamp ≡ 0) start refl refl (λ number plan there. refl) in
+      let none = same_greatest 0 0 (opened_world {C = C} start).crew each (omega arith) 0 _ refl in
+      record { fine = (stays_fine k).always start []; known = record { each = λ i c there. each i c there ∙ sym none } }
 
   -- ---- all rounds
 

@@ -2,17 +2,17 @@
 use Rattle.std.specs.Prelude.{ℕ, ◌≡◌, ◌≤◌, true, Some, None, List, [], slice_get}
 use Rattle.pipe_model.specs.Prefix.{IsPrefix}
 use Rattle.send_book.specs.State.{Sending}
+use Rattle.stream_lanes.specs.Words.{Every}
 use Rattle.actor_desk.specs.Books.{books_in}
 use Rattle.path_core.specs.Codec.{Codec}
 use Rattle.path_core.specs.Octets.{octets}
 use Rattle.path_core.specs.Values.{Carried, values}
-use Rattle.path_core.specs.Emission.{payload_size}
 use Rattle.path_core.specs.Events.{next_event}
 use Rattle.world_laws.specs.declared.member.Member.TheVariants.{App, Path}
 use Rattle.world_laws.specs.Actors.{Actor, ActorCrew}
 use Rattle.world_laws.specs.Fine.{IsFine}
 use Rattle.world_laws.specs.Fresh.{AreFresh, shown_world}
-use Rattle.world_laws.specs.Openings.{Start, opened_world}
+use Rattle.world_laws.specs.Openings.{PathPlan, Start, opened_world}
 use Rattle.world_laws.specs.Serial.{IsSerial}
 use Rattle.world_laws.specs.Worlds.{WorldState, Turn, after_turn, world_run, AreLawful}
 
@@ -33,10 +33,13 @@ IsDone (Path p) = p.agenda ≡ [] → next_event p ≡ None
 pub record NothingDueIsLeft {C : Type 0} (w : WorldState C) : Type 0 where
   pub each : (actor : ℕ) (c : ActorCrew C) → slice_get w.crew actor ≡ Some c → IsDone c.member
 
--- a segment is on its way for a tick at least, and a full one has a byte of payload at least
+-- on each path a segment is on its way for a tick at least, and a full one has a byte of payload at least
+pub record CanRunPath (plan : PathPlan) : Type 0 where
+  pub delay : 1 ≤ plan.delay
+  pub payload : 29 ≤ plan.mss
+
 pub record CanRun (start : Start) : Type 0 where
-  pub delay : 1 ≤ start.delay
-  pub payload : 1 ≤ payload_size start.profile
+  pub paths : Every CanRunPath start.paths
 
 module _ {C : Type 0} (k : Codec C) where
   -- P holds of a connection at every moment, in whatever order its actors go

@@ -10,6 +10,9 @@ pub mod Timely
 pub mod RoundEnd
 pub mod Weaving
 pub mod Promises
+pub mod Welcome
+pub mod ShortNumbers
+pub mod JoinsWait
 pub mod RoundNumbers
 pub mod PlainScripts
 pub mod Granted

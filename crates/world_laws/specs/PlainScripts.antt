@@ -8,7 +8,8 @@ use Rattle.link_script.specs.Scripts.{HasRanges}
 use Rattle.path_core.specs.Octets.{octets}
 use Rattle.world_laws.specs.Agreement.{MappingsAgree}
 use Rattle.world_laws.specs.Openings.{opened_world, start_of}
-use Rattle.world_laws.specs.Promises.{IsPlain, NumbersFit, BothKeepTheirWord, NothingFollows, EachTurnIsOneStep, NothingWasRefused, KeysNeverDiffer}
+use Rattle.world_laws.specs.Promises.{IsPlain, NumbersFit, BothKeepTheirWord, NothingFollows, EachTurnIsOneStep, NothingWasRefused, KeysNeverDiffer, JoinsAreRight}
+use Rattle.world_laws.specs.Welcome.{EachCopyIsWelcome}
 use Rattle.world_laws.specs.Worlds.{WorldState, Turn, world_run}
 
 -- by this line segments lose their options, or their payload is altered
@@ -37,6 +38,8 @@ pub record KeepsAllPromises (w : WorldState (List ℕ)) : Type 0 where
   pub steps : EachTurnIsOneStep octets w
   pub refused : NothingWasRefused w
   pub keys : KeysNeverDiffer w
+  pub joins : JoinsAreRight w
+  pub copies : EachCopyIsWelcome octets w
   pub mappings : MappingsAgree w
 
 -- so it keeps all promises, whatever the order of the steps

@@ -10,6 +10,7 @@ use Rattle.reassembly_book.specs.declared.call.ReassemblyReply.TheVariants as re
 use Rattle.reassembly_book.specs.State.{Arriving, received}
 use Rattle.control_book.specs.declared.call.ControlReply.TheVariants as control_replies
 use Rattle.stream_lanes.specs.Laws.{StepsOrStays}
+use Rattle.stream_lanes.specs.Words.{Every}
 use Rattle.actor_desk.specs.declared.ask.Reply.{Reply}
 use Rattle.actor_desk.specs.declared.ask.Reply.TheVariants as replies
 use Rattle.actor_desk.specs.Books.{books_in}
@@ -24,22 +25,24 @@ use Rattle.world_laws.specs.Openings.{Start, opened_world}
 use Rattle.world_laws.specs.Outcomes.{tells_end, was_told, notes_at, notes_of, output_of, pipe_of}
 use Rattle.world_laws.specs.Worlds.{WorldState, Turn, after_turn, world_run}
 
--- Where it is promised: the script strips and alters nothing on path 0, a full segment has room for octets beside its options, and
--- both files are shorter than 2^31 - 2 octets.
+-- Where it is promised: the script strips and alters nothing, a full segment of each path has room for octets beside its options,
+-- and both files are shorter than 2^31 - 2 octets.
 pub record IsPlain (start : Start) : Type 0 where
-  pub unchanged : ChangesNothing (lines_of 0 start.lines)
-  pub size : 29 ≤ start.profile.mss
+  pub unchanged : (path : ℕ) → ChangesNothing (lines_of path start.lines)
+  pub size : Every (λ plan. 29 ≤ plan.mss) start.paths
   pub short_a : length start.file_a < 2 ^ 31 - 2
   pub short_b : length start.file_b < 2 ^ 31 - 2
 
--- Where every segment can be said, and heard as it was meant: the path is one of sixteen, a full segment with its header has 65,535
--- octets at most, a side buffers 2^20 octets at most, and keys have 64 bits. It is so by each script.
+-- Where every segment can be said, and heard as it was meant: there are sixteen paths at most, a full segment with its header has
+-- 65,535 octets at most, a side buffers 2^20 octets at most, keys have 64 bits, and nonces 32 bits. It is so by each script.
 pub record NumbersFit (start : Start) : Type 0 where
-  pub path : start.profile.spelling.path ≤ 15
-  pub size : start.profile.mss ≤ 65503
-  pub buffer : start.profile.buffer ≤ 2 ^ 20
-  pub key_a : start.drawn.key_a < 2 ^ 64
-  pub key_b : start.drawn.key_b < 2 ^ 64
+  pub paths : length start.paths ≤ 16
+  pub size : Every (λ plan. plan.mss ≤ 65503) start.paths
+  pub buffer : start.buffer ≤ 2 ^ 20
+  pub key_a : start.key_a < 2 ^ 64
+  pub key_b : start.key_b < 2 ^ 64
+  pub nonces_a : Every (λ plan. plan.nonce_a < 2 ^ 32) start.paths
+  pub nonces_b : Every (λ plan. plan.nonce_b < 2 ^ 32) start.paths
 
 -- the answers that would say that the two sides don't agree
 abbrev pub tells_refusal : Reply → Bool
@@ -52,6 +55,12 @@ tells_refusal _ = false
 abbrev pub tells_other_key : Reply → Bool
 tells_other_key (replies.Control (control_replies.KeysDiffer key)) = true
 tells_other_key _ = false
+
+-- the answers to a token that isn't that of the own key, and to a wrong HMAC
+abbrev pub tells_wrong_join : Reply → Bool
+tells_wrong_join (replies.Control (control_replies.UnknownToken token)) = true
+tells_wrong_join (replies.Control control_replies.BadHmac) = true
+tells_wrong_join _ = false
 
 module _ {C : Type 0} where
   abbrev pub written_by : Side → WorldState C → Sending
@@ -98,6 +107,10 @@ module _ {C : Type 0} where
   -- no control book was told another key for its own
   abbrev pub KeysNeverDiffer : WorldState C → Type 0
   KeysNeverDiffer w = (actor : ℕ) → was_told tells_other_key (notes_at actor w.crew) ≡ false
+
+  -- no control book was told a token that isn't that of its key, or a wrong HMAC
+  abbrev pub JoinsAreRight : WorldState C → Type 0
+  JoinsAreRight w = (actor : ℕ) → was_told tells_wrong_join (notes_at actor w.crew) ≡ false
 
 -- ---- at every moment
 

@@ -1,7 +1,8 @@
 -- What is done by the end of a round, in numbers of what stood as it began.
-use Rattle.std.specs.Prelude.{ℕ, ◌≡◌, ◌≤◌, min, ◌&&◌, Bool, true, false, Some, None, List, [], length, map, drop, slice_get}
+use Rattle.std.specs.Prelude.{ℕ, ◌≡◌, ◌≤◌, ◌⊎◌, min, ◌&&◌, Bool, true, false, Some, None, List, [], length, map, drop, slice_get}
 use Rattle.std.specs.List.{list_any, position_or_len}
 use Rattle.outside_kit.specs.declared.side.Side.{Side}
+use Rattle.outside_kit.specs.declared.side.Side.TheVariants.{A, B}
 use Rattle.send_book.specs.declared.call.SendCall.TheVariants as send_calls
 use Rattle.send_book.specs.declared.mark.ByteMark.{ByteMark}
 use Rattle.send_book.specs.Marks.{is_free_for}
@@ -42,6 +43,14 @@ pub data AskedForAll (path : ℕ) (s : Side) (steps : List Note) (written : ℕ)
   Taken : min written book.edge ≤ taken_len path book.marks → AskedForAll path s steps written book
   Standby : list_any (asks_on_standby s) steps ≡ true → AskedForAll path s steps written book
 
+-- another path takes an acknowledgement for this side's stream, or gives back bytes of it: then more may be left to be taken
+abbrev pub frees_bytes : Side → Ask → Bool
+frees_bytes A (asks.Send A (send_calls.AckIn next window)) = true
+frees_bytes A (asks.Send A (send_calls.Return path)) = true
+frees_bytes B (asks.Send B (send_calls.AckIn next window)) = true
+frees_bytes B (asks.Send B (send_calls.Return path)) = true
+frees_bytes _ _ = false
+
 -- ---- rounds
 
 module _ {C : Type 0} where
@@ -69,12 +78,19 @@ module _ {C : Type 0} where
   abbrev pub steps_since : ℕ → WorldState C → WorldState C → List Note
   steps_since actor begun w = drop (length (notes_at actor begun.crew)) (notes_at actor w.crew)
 
-  -- An end that has no record to send and may ask for bytes, with room in its window for a full segment, asked for all.
+  -- in this round another actor made such a step
+  pub record OthersFreed (begun w : WorldState C) (actor : ℕ) (s : Side) : Type 0 where
+    pub other : ℕ
+    pub apart : other ≡ actor → ⊥
+    pub freed : list_any (λ note. frees_bytes s note.ask) (steps_since other begun w) ≡ true
+
+  -- An end that has no record to send and may ask for bytes, with room in its window for a full segment, asked for all, unless
+  -- another path made more to be asked for.
   abbrev pub AskForAll : WorldState C → WorldState C → ℕ → Actor C → Type 0
   AskForAll begun w actor (App a) = Unit {0}
   AskForAll begun w actor (Path p) =
       p.agenda ≡ [] → (s : Side) → first_unsent (end_at s p) ≡ None → may_ask p.profile s (end_at s p) ≡ true
-      → AskedForAll (path_of p) s (steps_since actor begun w) (length (written_by s begun).written) (written_by s w)
+      → AskedForAll (path_of p) s (steps_since actor begun w) (length (written_by s begun).written) (written_by s w) ⊎ OthersFreed begun w actor s
 
   -- each end of a path whose turn is over
   pub record PathsAskForAll (begun w : WorldState C) : Type 0 where

@@ -1,12 +1,15 @@
 //! What holds of every connection, as clauses of functions that do nothing.
 ghost use Rattle.world_laws.specs.Agreement.{MappingsAgree};
 ghost use Rattle.world_laws.specs.Granted.{GrantedOnce};
+ghost use Rattle.world_laws.specs.JoinsWait.{JoinsWait};
 ghost use Rattle.world_laws.specs.Laws.{AfterFreshTurns, Always, NothingDueIsLeft, SerialExists, SerialIsOne, StaysFine, OctetsDoAsValues, WritesTheFiles};
 ghost use Rattle.world_laws.specs.PlainScripts.{PlainScriptsKeepAllPromises, PlainScriptsStartPlainly};
-ghost use Rattle.world_laws.specs.Promises.{BothKeepTheirWord, EachTurnIsOneStep, EveryListIsFresh, IsPromised, IsPromisedOfOctets, KeysNeverDiffer, NothingFollows, NothingWasRefused, OctetsAreValuesShown};
+ghost use Rattle.world_laws.specs.Promises.{BothKeepTheirWord, EachTurnIsOneStep, EveryListIsFresh, IsPromised, IsPromisedOfOctets, JoinsAreRight, KeysNeverDiffer, NothingFollows, NothingWasRefused, OctetsAreValuesShown};
 ghost use Rattle.world_laws.specs.RoundEnd.{GrantsAreDone, ReadersAreDone};
 ghost use Rattle.world_laws.specs.RoundNumbers.{InEachRound, PathsAskForAll, ReadersCaughtUp};
+ghost use Rattle.world_laws.specs.ShortNumbers.{ShortNumbersGoShort};
 ghost use Rattle.world_laws.specs.Timely.{EachRoundHasAStep};
+ghost use Rattle.world_laws.specs.Welcome.{EachCopyIsWelcome};
 ghost use Rattle.world_laws.specs.Weaving.{RoundsWeave, StepsWeave, WovenDoes};
 ghost use Rattle.path_core.specs.Octets.{octets};
 ghost use Rattle.path_core.specs.Values.{values};
@@ -55,7 +58,7 @@ pub fn grants_are_done()
 /// A law: in each round, in whatever order the actors go, where the turn of a path is over, an end that has no record to send and
 /// may ask for bytes, with room in its window for a full segment, asked for all: of the octets that were written as the round began
 /// none below the edge of the peer's window is left that the path may take, unless it asked for octets in this round while it was
-/// on standby.
+/// on standby, or another path took an acknowledgement or gave back octets in this round, and so freed some.
 pub fn paths_ask_for_all()
     ensures octets { InEachRound octets PathsAskForAll }
     ensures values { InEachRound values PathsAskForAll }
@@ -88,10 +91,10 @@ pub fn octets_do_as_values()
     ensures { OctetsDoAsValues }
 {}
 
-/// A law: every list of turns is fresh, lawful or not, where the script strips and alters nothing on path 0, both files are shorter
-/// than 2^31 - 2 octets, and the numbers of the start fit: the maximum segment size is 29 to 65,503 octets, a side buffers 2^20
-/// octets at most, the path's number is 15 at most, and keys have 64 bits. So such a world over octets is always the world over
-/// segments as values, shown in octets.
+/// A law: every list of turns is fresh, lawful or not, where the script strips and alters nothing, both files are shorter than
+/// 2^31 - 2 octets, and the numbers of the start fit: there are sixteen paths at most, with a maximum segment size of 29 to 65,503
+/// octets each, a side buffers 2^20 octets at most, keys have 64 bits, and the nonces of the paths 32. So such a world over octets is
+/// always the world over segments as values, shown in octets.
 pub fn turns_are_fresh()
     ensures fresh { EveryListIsFresh }
     ensures same { OctetsAreValuesShown }
@@ -120,12 +123,24 @@ pub fn keys_never_differ()
     ensures plain { IsPromisedOfOctets KeysNeverDiffer }
 {}
 
+/// A law: no control book is told a token that isn't that of its key, or a wrong HMAC: each join begins with both keys, as they were
+/// drawn, and shows the token of the peer's (RFC 8684, section 3.2). Premises as for `both_sides_keep_their_word`.
+///
+/// Nor does an end of a path that joins refuse the copy that arrives next: each SYN asks to join, and each HMAC is the one that its
+/// end demands.
+pub fn joins_are_right()
+    ensures values { IsPromised JoinsAreRight }
+    ensures octets { IsPromisedOfOctets JoinsAreRight }
+    ensures welcome { IsPromised (EachCopyIsWelcome values) }
+    ensures heard { IsPromisedOfOctets (EachCopyIsWelcome octets) }
+{}
+
 /// A law: at every moment, in each direction, what the reader got is a prefix of what the writer wrote; what is acknowledged was
 /// received, and what was received was written; where DATA_FIN is acknowledged the stream is closed and all of it was received;
 /// and the end is told only where the stream is closed and the reader has all of it.
 ///
-/// The script strips and alters nothing on path 0, the maximum segment size is 29 octets or more, and both files are shorter than
-/// 2^31 - 2 octets. The steps are in any order. Over octets the numbers of the start have to fit, as those of each script do.
+/// The script strips and alters nothing, the maximum segment size of each path is 29 octets or more, and both files are shorter
+/// than 2^31 - 2 octets. The steps are in any order. Over octets the numbers of the start have to fit, as those of each script do.
 pub fn both_sides_keep_their_word()
     ensures values { IsPromised BothKeepTheirWord }
     ensures octets { IsPromisedOfOctets BothKeepTheirWord }
@@ -151,7 +166,8 @@ pub fn nothing_is_refused()
 
 /// A law: a connection by a script that strips and alters nothing, with files shorter than 2^31 - 2 octets, starts plainly, with
 /// numbers that fit; so over octets it keeps every promise, in whatever order its actors go: both sides keep their word, nothing
-/// follows the end, each turn is on each pipe one step or none, nothing is refused, keys never differ, and mappings agree.
+/// follows the end, each turn is on each pipe one step or none, nothing is refused, keys never differ, joins are right, no copy is
+/// refused for what it says of a join, and mappings agree.
 pub fn plain_scripts_keep_all_promises()
     ensures starts { PlainScriptsStartPlainly }
     ensures promises { PlainScriptsKeepAllPromises }
@@ -168,4 +184,17 @@ pub fn bytes_are_granted_once()
 pub fn mappings_agree()
     ensures values { IsPromised MappingsAgree }
     ensures octets { IsPromisedOfOctets MappingsAgree }
+{}
+
+/// A law: at every moment, where the connection begins with data numbers of four octets, each Data ACK and each mapping of every
+/// copy that is under way tells its number by the low half (RFC 8684, section 3.3).
+pub fn short_numbers_are_low_halves()
+    ensures { Always values ShortNumbersGoShort }
+{}
+
+/// A law: at every moment, on each path but path 0, A has asked for no byte of its stream as long as it may send no DSS there: until
+/// its third MP_JOIN was answered (RFC 8684, section 3.2).
+pub fn joins_wait_for_their_answer()
+    ensures octets { Always octets (λ start w. JoinsWait w) }
+    ensures values { Always values (λ start w. JoinsWait w) }
 {}

@@ -29,9 +29,9 @@ returns-in_err-input-clause-calls_cut g c =
     (all_then (first_loads line) (call.Load c.args.order.now ∷ []) _ _ _ c.in_ok-contents.ensures.calls c.in_ok-log.ensures.calls) in
     rw (p.1, p.2) (script_adds line (loads_of line) _ _ _ c.in_err-input.field-0.0 loaded c.in_err-input.ensures.fault)
 
-pub returns-in_err-read_order-clause-calls_cut : goal.returns-in_err-read_order-clause-calls_cut
-returns-in_err-read_order-clause-calls_cut g c =
-    let line = shown c.args.line.now in let p = err_from_is_err_and c.from_residual-in_err-read_order.result c.from_residual-in_err-read_order.ensures.1 in
+pub returns-in_err-turns-clause-calls_cut : goal.returns-in_err-turns-clause-calls_cut
+returns-in_err-turns-clause-calls_cut g c =
+    let line = shown c.args.line.now in let p = err_from_is_err_and c.from_residual-in_err-turns.result c.from_residual-in_err-turns.ensures.1 in
     let loaded = subst (λ plan. AddsAll plan (g.O.Outside.calls c.args.outside.now) (g.O.Outside.calls c.load_order.new.outside)) (replay_loads line c.args.order.now c.requires.named)
     (all_then (first_loads line) (call.Load c.args.order.now ∷ []) _ _ _ c.in_ok-contents.ensures.calls c.in_ok-log.ensures.calls) in
-    rw (p.1, p.2) (form_adds line (loads_of line) _ _ _ c.in_err-read_order.field-0.0 loaded c.in_err-read_order.ensures.fault)
+    rw (p.1, p.2) (form_adds line (loads_of line) _ _ c.in_ok-input.input.script _ c.in_err-turns.field-0.0 loaded c.in_err-turns.ensures.fault)

@@ -14,9 +14,9 @@ loop-round-preserved g c =
       opening = made.opening ∙ inv.opening;
       rounds = made.rounds ∙ ap (λ n. n + 1) inv.rounds;
       few = omega (arith, c.loop-round-test.true);
-      put = λ v new rest. inv.put v new
+      put = λ count v new rest. inv.put count v new
           (put_more c.loop-round.run.opening c.make_round.new.run.opening (c.args.most - c.loop-round._round) (c.args.most - (c.loop-round._round + 1)) c.loop-round._round (c.loop-round._round + 1)
-          c.loop-round.run.rounds c.loop-round.run.world.state c.make_round.new.run.world.state v _ _ new made.opening (omega (arith, c.loop-round-test.true)) (omega arith) inv.rounds made.round going made.ok rest);
+          c.loop-round.run.rounds count c.loop-round.run.world.state c.make_round.new.run.world.state v _ _ new made.opening (omega (arith, c.loop-round-test.true)) (omega arith) inv.rounds made.round going made.ok rest);
       cut = λ new rest. inv.cut new
           (cut_later c.loop-round.run.opening c.make_round.new.run.opening (c.args.most - c.loop-round._round) (c.args.most - (c.loop-round._round + 1)) c.loop-round._round (c.loop-round._round + 1)
           c.loop-round.run.rounds c.loop-round.run.world.state c.make_round.new.run.world.state _ _ new made.opening (omega (arith, c.loop-round-test.true)) (omega arith) inv.rounds made.round going made.ok rest);
@@ -40,14 +40,14 @@ returns-in_err-make_round-clause-err g c =
 pub returns-then-not-goes_on-clause-ok : goal.returns-then-not-goes_on-clause-ok
 returns-then-not-goes_on-clause-ok g c =
     let inv = c.loop-round.invariant in let made = c.in_ok-make_round.ensures in
-    inv.put _ _
-    (put_last c.loop-round.run.opening (c.args.most - c.loop-round._round) (c.args.most - (c.loop-round._round + 1)) c.loop-round._round c.loop-round.run.rounds c.loop-round.run.world.state
-    c.make_round.new.run.world.state _ _ (omega (arith, c.loop-round-test.true)) inv.rounds made.round (sym c.goes_on.ensures ∙ c.if-not-goes_on.true) made.ok)
+    inv.put _ _ _
+    (put_last c.loop-round.run.opening (c.args.most - c.loop-round._round) (c.args.most - (c.loop-round._round + 1)) c.loop-round._round c.loop-round.run.rounds c.make_round.new.run.rounds c.loop-round.run.world.state
+    c.make_round.new.run.world.state _ _ (omega (arith, c.loop-round-test.true)) inv.rounds made.round (sym c.goes_on.ensures ∙ c.if-not-goes_on.true) made.ok (made.rounds ∙ ap (λ n. n + 1) inv.rounds))
 
 pub returns-clause-ok : goal.returns-clause-ok
 returns-clause-ok g c =
     let inv = c.loop-round.invariant in
-    inv.put _ _ (rounds_over c.loop-round.run.opening (c.args.most - c.loop-round._round) c.loop-round._round c.loop-round.run.world.state _ (omega (arith, c.loop-round-test.false)))
+    inv.put _ _ _ (rounds_over c.loop-round.run.opening (c.args.most - c.loop-round._round) c.loop-round._round c.loop-round.run.rounds c.loop-round.run.world.state _ (omega (arith, c.loop-round-test.false)) inv.rounds)
 
 pub returns-in_err-make_round-clause-calls_cut : goal.returns-in_err-make_round-clause-calls_cut
 returns-in_err-make_round-clause-calls_cut g c =

@@ -11,8 +11,8 @@ invariant-loop-round g l = record {
   opening : l.run.opening ≡ l.initial.run.opening;
   rounds : l.run.rounds ≡ l._round;
   few : l._round ≤ l.most;
-  put : (v : _) (new : _) → RoundsPut l.run.opening (l.most - l._round) l._round l.run.world.state v (g.O.Outside.holds l.outside) new
-      → RoundsPut l.initial.run.opening l.most 0 l.initial.run.world.state v (g.O.Outside.holds l.initial.outside) new;
+  put : (count : _) (v : _) (new : _) → RoundsPut l.run.opening (l.most - l._round) l._round count l.run.world.state v (g.O.Outside.holds l.outside) new
+      → RoundsPut l.initial.run.opening l.most 0 count l.initial.run.world.state v (g.O.Outside.holds l.initial.outside) new;
   cut : (new : _) → RoundsCut l.run.opening (l.most - l._round) l._round l.run.world.state (g.O.Outside.holds l.outside) new
       → RoundsCut l.initial.run.opening l.most 0 l.initial.run.world.state (g.O.Outside.holds l.initial.outside) new;
   added : (v : _) (new : _) → RoundsAdd l.run.opening (l.most - l._round) l._round l.run.world.state v (g.O.Outside.calls l.outside) new

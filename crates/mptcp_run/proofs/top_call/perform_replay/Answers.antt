@@ -7,6 +7,7 @@ use Rattle.mptcp_run.proofs.PortsLemmas.{IfOk-with, IfErr-map, IfErr-both, IfErr
 use Rattle.mptcp_run.proofs.Starting.{opened_at, has_ended, ends_cut, replay_ends, replay_faults, replay_line_cut, replay_unbegun, replay_cause, cause_after}
 use Rattle.mptcp_run.specs.Adding.{TurnsEnd}
 use Rattle.mptcp_run.specs.Plan.{AddsAll, puts_by_round}
+use Rattle.mptcp_run.specs.declared.report.Report.TheVariants as report
 use Rattle.mptcp_run.specs.Putting.{round_ends}
 use Rattle.mptcp_run.specs.Rounds.{TurnsPut, TurnsFault, all_turns}
 use Rattle.run_log.specs.declared.turn.Turn.{Turn}
@@ -16,7 +17,7 @@ use Rattle.mptcp_run.proofs.Planning.{replay_adds, replay_adds_line, replay_ends
 use Rattle.mptcp_run.proofs.top_call.perform_replay.Goals as goal
 
 pub make_turns-requires-clause-begins : goal.make_turns-requires-clause-begins
-make_turns-requires-clause-begins g c = opened_at c.args.replay.now.input c.in_ok-run.run' c.in_ok-run.ensures.run
+make_turns-requires-clause-begins g c = opened_at c.args.replay.now.input report.Log c.in_ok-run.run' c.in_ok-run.ensures.run
 
 pub returns-in_err-run-clause-err : goal.returns-in_err-run-clause-err
 returns-in_err-run-clause-err g c =
@@ -57,7 +58,7 @@ pub returns-clause-whole : goal.returns-clause-whole
 returns-clause-whole g c =
     let begun = c.in_ok-run.ensures in
     IfOk-with c.end.result
-    (λ status shown grew. replay_ends c.args.replay.now.input c.in_ok-run.run' begun.run (all_turns c.args.replay.now.turns.items) c.make_turns.new.run.world.state status (g.O.Outside.holds c.args.outside.now) (g.O.Outside.holds c.begin.new.outside)
+    (λ status shown grew. replay_ends c.args.replay.now.input c.in_ok-run.run' begun.run (all_turns c.args.replay.now.turns.items) c.make_turns.new.run.rounds c.make_turns.new.run.world.state status (g.O.Outside.holds c.args.outside.now) (g.O.Outside.holds c.begin.new.outside)
     (g.O.Outside.holds c.make_turns.new.outside) (g.O.Outside.holds c.end.new.outside)
     (record { read_by_b = begun.read_by_b; read_by_a = begun.read_by_a; log = c.begin.ensures.log }) (subst (λ (ts : List Turn). TurnsPut c.in_ok-run.run'.opening 0 (all_turns ts) c.in_ok-run.run'.world.state c.in_ok-run.run'.world.state c.make_turns.new.run.world.state
     (g.O.Outside.holds c.begin.new.outside) (g.O.Outside.holds c.make_turns.new.outside)) c.deref.ensures.value c.in_ok-make_turns.ensures.ok) shown
@@ -74,7 +75,7 @@ returns-clause-err g c =
     IfErr-both c.end.result
     (λ status fault part. ends_cut (task_from c.args.replay.now.input (course.told (all_turns c.args.replay.now.turns.items))) c.args.replay.now.lines (g.O.Outside.holds c.args.outside.now) (g.O.Outside.holds c.end.new.outside)
     _ _ status fault
-    (replay_line_cut c.args.replay.now.input c.in_ok-run.run' begun.run (all_turns c.args.replay.now.turns.items) c.make_turns.new.run.world.state (g.O.Outside.holds c.args.outside.now) (g.O.Outside.holds c.begin.new.outside)
+    (replay_line_cut c.args.replay.now.input c.in_ok-run.run' begun.run (all_turns c.args.replay.now.turns.items) c.make_turns.new.run.rounds c.make_turns.new.run.world.state (g.O.Outside.holds c.args.outside.now) (g.O.Outside.holds c.begin.new.outside)
     (g.O.Outside.holds c.make_turns.new.outside) (g.O.Outside.holds c.end.new.outside)
     (record { read_by_b = begun.read_by_b; read_by_a = begun.read_by_a; log = c.begin.ensures.log }) (subst (λ (ts : List Turn). TurnsPut c.in_ok-run.run'.opening 0 (all_turns ts) c.in_ok-run.run'.world.state c.in_ok-run.run'.world.state c.make_turns.new.run.world.state
     (g.O.Outside.holds c.begin.new.outside) (g.O.Outside.holds c.make_turns.new.outside)) c.deref.ensures.value c.in_ok-make_turns.ensures.ok)
@@ -101,7 +102,7 @@ returns-clause-calls g c =
     (g.O.Outside.holds c.begin.new.outside) (g.O.Outside.holds c.make_turns.new.outside)) c.deref.ensures.value c.in_ok-make_turns.ensures.ok in
     on_ok_weaker c.end.result
     (λ grew. replay_adds c.args.replay.now.input c.in_ok-run.run' c.in_ok-run.ensures.run (shown c.args.line.now) (all_turns c.args.replay.now.turns.items) _ _ _ c.in_ok-run.ensures.calls
-    c.make_turns.new.run.world.state _ put.lawful put.world
+    c.make_turns.new.run.rounds c.make_turns.new.run.world.state _ put.lawful put.world
     (subst (λ (ts : List Turn). AddsAll (puts_by_round c.in_ok-run.run'.opening 0 c.in_ok-run.run'.world.state (round_ends (all_turns ts) c.in_ok-run.run'.world.state)) (g.O.Outside.calls c.begin.new.outside)
     (g.O.Outside.calls c.make_turns.new.outside)) c.deref.ensures.value c.in_ok-make_turns.ensures.calls) grew)
     c.end.ensures.calls
@@ -113,7 +114,7 @@ returns-clause-calls_cut g c =
     IfErr-two c.end.result
     (λ status fault cut. replay_is_cut (shown c.args.line.now) (task_from c.args.replay.now.input (course.told (all_turns c.args.replay.now.turns.items))) _ _ _ _ status fault
     (replay_adds_line c.args.replay.now.input c.in_ok-run.run' c.in_ok-run.ensures.run (shown c.args.line.now) (all_turns c.args.replay.now.turns.items) _ _ _ c.in_ok-run.ensures.calls
-    c.make_turns.new.run.world.state _ put.lawful put.world
+    c.make_turns.new.run.rounds c.make_turns.new.run.world.state _ put.lawful put.world
     (subst (λ (ts : List Turn). AddsAll (puts_by_round c.in_ok-run.run'.opening 0 c.in_ok-run.run'.world.state (round_ends (all_turns ts) c.in_ok-run.run'.world.state)) (g.O.Outside.calls c.begin.new.outside)
     (g.O.Outside.calls c.make_turns.new.outside)) c.deref.ensures.value c.in_ok-make_turns.ensures.calls) status cut))
     c.end.ensures.fault c.end.ensures.calls_cut

@@ -17,7 +17,7 @@ returns-in-Ok-perform_replay-clause-answer g c =
     (record {
       within = read.within;
       script = script_valid content line replay.input.script read.script;
-      order = replay_order content line c.args.order.now replay.turns.items c.requires read.turns;
+      order = replay_order content line c.args.order.now replay.turns.items replay.input.script c.requires read.script read.turns;
     })
     (some_is (task_of content line) task _ (replay_task content line c.args.order.now replay.turns.items replay.input c.requires read.script read.file_a read.file_b read.turns)
     (whole_from (g.O.Outside.holds c.args.outside.now) (g.O.Outside.holds c.load_replay.new.outside) (g.O.Outside.holds c.perform_replay.new.outside) read.same_ports task
@@ -32,7 +32,7 @@ returns-clause-answer g c =
     (record {
       within = read.within;
       script = script_valid content line replay.input.script read.script;
-      order = replay_order content line c.args.order.now replay.turns.items c.requires read.turns;
+      order = replay_order content line c.args.order.now replay.turns.items replay.input.script c.requires read.script read.turns;
     })
     read.lines (replay_task content line c.args.order.now replay.turns.items replay.input c.requires read.script read.file_a read.file_b read.turns)
     (cause_after (g.O.Outside.port_faults c.args.outside.now) (g.O.Outside.port_faults c.load_replay.new.outside) (g.O.Outside.port_faults c.perform_replay.new.outside)

@@ -7,5 +7,5 @@ use Rattle.path_core.proofs.hearing.items_of.Given as goal
 
 abbrev pub invariant-loop-option : goal.invariant-loop-option
 invariant-loop-option l =
-    with_items l.items.items (flat_map (items_in l.side l.heard.window) (heard_left l.option-iterator))
-    ≡ with_items [] (flat_map (items_in l.side l.heard.window) (heard_left l.heard.options))
+    with_items l.items.items (flat_map (items_in l.joined l.side l.heard.window) (heard_left l.option-iterator))
+    ≡ with_items [] (flat_map (items_in l.joined l.side l.heard.window) (heard_left l.heard.options))

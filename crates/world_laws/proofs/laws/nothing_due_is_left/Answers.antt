@@ -1,10 +1,10 @@
 use Rattle.path_core.specs.Octets.{octets}
 use Rattle.path_core.specs.Values.{values}
-use Rattle.world_laws.proofs.Trios as trios
+use Rattle.world_laws.proofs.CastLifting as casts
 use Rattle.world_laws.proofs.laws.nothing_due_is_left.Goals as goal
 
 pub returns-clause-octets : goal.returns-clause-octets
-returns-clause-octets c = trios.nothing_due_is_left octets
+returns-clause-octets c = casts.nothing_due_is_left octets
 
 pub returns-clause-values : goal.returns-clause-values
-returns-clause-values c = trios.nothing_due_is_left values
+returns-clause-values c = casts.nothing_due_is_left values

@@ -1,43 +1,42 @@
-use Rattle.std.proofs.Common.{◌≡◌, ◌∙◌, ◌++◌, subst, [], ◌∷◌}
+use Rattle.std.proofs.Common.{◌≡◌, ◌∙◌, ◌++◌}
 use Rattle.std.proofs.lemmas.Result.{err_from_is_err_and}
-use Rattle.outside_kit.specs.Calls as call
 use Rattle.outside_kit.specs.declared.port.Port.TheVariants.{ReadByA, ReadByB, Log}
-use Rattle.mptcp_run.specs.Plan.{AddsCut, put_of}
+use Rattle.mptcp_run.specs.Plan.{put_of}
 use Rattle.mptcp_run.proofs.Calls.{cut_then, cut_longer}
 use Rattle.mptcp_run.proofs.PortsLemmas.{OnErr-holds, IfErr-map, whole_part, after_from}
 use Rattle.mptcp_run.proofs.rounds.Piece.put.Goals as goal
 
-pub returns-in_err-put_read-2-clause-read_by_b_err : goal.returns-in_err-put_read-2-clause-read_by_b_err
-returns-in_err-put_read-2-clause-read_by_b_err g c =
-    OnErr-holds _ _ (whole_part _ _ _ c.args.self.now.read_by_b c.in_ok-put_read.ensures.ok
-    (c.put_read-2.ensures.other_ports ReadByB (λ e. let no : ReadByB ≡ ReadByA = e in cc (no))))
+pub returns-in_err-put_text-2-clause-read_by_b_err : goal.returns-in_err-put_text-2-clause-read_by_b_err
+returns-in_err-put_text-2-clause-read_by_b_err g c =
+    OnErr-holds _ _ (whole_part _ _ _ c.args.self.now.read_by_b c.in_ok-put_text.ensures.ok
+    (c.put_text-2.ensures.other_ports ReadByB (λ e. let no : ReadByB ≡ ReadByA = e in cc (no))))
 
 pub returns-clause-read_by_b_err : goal.returns-clause-read_by_b_err
 returns-clause-read_by_b_err g c =
-    OnErr-holds _ _ (whole_part _ _ _ c.args.self.now.read_by_b c.in_ok-put_read.ensures.ok
-    (c.put.ensures.other_ports ReadByB (λ e. let no : ReadByB ≡ Log = e in cc (no)) ∙ c.put_read-2.ensures.other_ports ReadByB (λ e. let no : ReadByB ≡ ReadByA = e in cc (no))))
+    OnErr-holds _ _ (whole_part _ _ _ c.args.self.now.read_by_b c.in_ok-put_text.ensures.ok
+    (c.put_text-3.ensures.other_ports ReadByB (λ e. let no : ReadByB ≡ Log = e in cc (no)) ∙ c.put_text-2.ensures.other_ports ReadByB (λ e. let no : ReadByB ≡ ReadByA = e in cc (no))))
 
 pub returns-clause-read_by_a_err : goal.returns-clause-read_by_a_err
 returns-clause-read_by_a_err g c =
     OnErr-holds _ _ (whole_part _ _ _ c.args.self.now.read_by_a
-    (after_from _ _ _ (λ held. held ++ c.args.self.now.read_by_a) (c.put_read.ensures.other_ports ReadByA (λ e. let no : ReadByA ≡ ReadByB = e in cc (no))) c.in_ok-put_read-2.ensures.ok)
-    (c.put.ensures.other_ports ReadByA (λ e. let no : ReadByA ≡ Log = e in cc (no))))
+    (after_from _ _ _ (λ held. held ++ c.args.self.now.read_by_a) (c.put_text.ensures.other_ports ReadByA (λ e. let no : ReadByA ≡ ReadByB = e in cc (no))) c.in_ok-put_text-2.ensures.ok)
+    (c.put_text-3.ensures.other_ports ReadByA (λ e. let no : ReadByA ≡ Log = e in cc (no))))
 
-pub returns-in_err-put_read-clause-calls_cut : goal.returns-in_err-put_read-clause-calls_cut
-returns-in_err-put_read-clause-calls_cut g c =
+pub returns-in_err-put_text-clause-calls_cut : goal.returns-in_err-put_text-clause-calls_cut
+returns-in_err-put_text-clause-calls_cut g c =
     let p = err_from_is_err_and c.from_residual.result c.from_residual.ensures.1 in
-    rw (p.1, p.2) (cut_longer (put_of ReadByB c.args.self.now.read_by_b) (put_of ReadByA c.args.self.now.read_by_a ++ call.Put Log c.args.self.now.lines ∷ []) c.in_err-put_read.field-0.0 _ _ c.in_err-put_read.ensures.calls_cut)
+    rw (p.1, p.2) (cut_longer (put_of ReadByB c.args.self.now.read_by_b) (put_of ReadByA c.args.self.now.read_by_a ++ put_of Log c.args.self.now.lines) c.in_err-put_text.field-0.0 _ _ c.in_err-put_text.ensures.calls_cut)
 
-pub returns-in_err-put_read-2-clause-calls_cut : goal.returns-in_err-put_read-2-clause-calls_cut
-returns-in_err-put_read-2-clause-calls_cut g c =
-    let p = err_from_is_err_and c.from_residual-in_err-put_read-2.result c.from_residual-in_err-put_read-2.ensures.1 in
-    rw (p.1, p.2) (cut_then (put_of ReadByB c.args.self.now.read_by_b) (put_of ReadByA c.args.self.now.read_by_a ++ call.Put Log c.args.self.now.lines ∷ []) c.in_err-put_read-2.field-0.0 _ _ _
-    c.in_ok-put_read.ensures.calls (cut_longer (put_of ReadByA c.args.self.now.read_by_a) (call.Put Log c.args.self.now.lines ∷ []) c.in_err-put_read-2.field-0.0 _ _ c.in_err-put_read-2.ensures.calls_cut))
+pub returns-in_err-put_text-2-clause-calls_cut : goal.returns-in_err-put_text-2-clause-calls_cut
+returns-in_err-put_text-2-clause-calls_cut g c =
+    let p = err_from_is_err_and c.from_residual-in_err-put_text-2.result c.from_residual-in_err-put_text-2.ensures.1 in
+    rw (p.1, p.2) (cut_then (put_of ReadByB c.args.self.now.read_by_b) (put_of ReadByA c.args.self.now.read_by_a ++ put_of Log c.args.self.now.lines) c.in_err-put_text-2.field-0.0 _ _ _
+    c.in_ok-put_text.ensures.calls (cut_longer (put_of ReadByA c.args.self.now.read_by_a) (put_of Log c.args.self.now.lines) c.in_err-put_text-2.field-0.0 _ _ c.in_err-put_text-2.ensures.calls_cut))
 
 pub returns-clause-calls_cut : goal.returns-clause-calls_cut
 returns-clause-calls_cut g c =
-    IfErr-map c.put.result
-    (λ status cut. cut_then (put_of ReadByB c.args.self.now.read_by_b) (put_of ReadByA c.args.self.now.read_by_a ++ call.Put Log c.args.self.now.lines ∷ []) status _ _ _ c.in_ok-put_read.ensures.calls
-    (cut_then (put_of ReadByA c.args.self.now.read_by_a) (call.Put Log c.args.self.now.lines ∷ []) status _ _ _ c.in_ok-put_read-2.ensures.calls
-    (subst (λ xs. AddsCut (call.Put Log xs ∷ []) status (g.O.Outside.calls c.put_read-2.new.outside) (g.O.Outside.calls c.put.new.outside)) c.as_bytes.ensures cut)))
-    c.put.ensures.calls_cut
+    IfErr-map c.put_text-3.result
+    (λ status cut. cut_then (put_of ReadByB c.args.self.now.read_by_b) (put_of ReadByA c.args.self.now.read_by_a ++ put_of Log c.args.self.now.lines) status _ _ _ c.in_ok-put_text.ensures.calls
+    (cut_then (put_of ReadByA c.args.self.now.read_by_a) (put_of Log c.args.self.now.lines) status _ _ _ c.in_ok-put_text-2.ensures.calls
+    cut))
+    c.put_text-3.ensures.calls_cut

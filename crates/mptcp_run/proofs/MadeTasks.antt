@@ -1,0 +1,147 @@
+-- The made input of each number that can be asked for is plain, and is run in rounds.
+use Rattle.std.proofs.Common.{◌≡◌, refl, ◌∙◌, ap, ℕ, zero, suc, ◌+◌, ◌*◌, ◌^◌, ◌<◌, ◌≤◌, List, [], ◌∷◌, ◌++◌, length, Option, Some, None, IfSome, arith}
+use Rattle.std.specs.Prelude.{◌%◌, option_and_then, ◌==◌, if◌then◌else◌, Bool, true, false, All}
+use Rattle.std.specs.List.{AllPairs}
+use Rattle.std.specs.Int.{w32, to_le_bytes}
+use Rattle.std.proofs.lemmas.List.{length-append}
+use Rattle.std.proofs.lemmas.List.Elements.{All-nil, All-cons}
+use Rattle.key_material.specs.Drawing.{cipher_key, drawn_word}
+use Rattle.rand_chacha.specs.ChaCha.{ChaCha, key_of, word_at, next_word}
+use Rattle.link_script.specs.declared.limits.Limits.{Limits}
+use Rattle.link_script.specs.declared.line.Line.{Line as ScriptText}
+use Rattle.link_script.specs.declared.line.Line.TheVariants.{Header, Seed, End}
+use Rattle.link_script.specs.declared.script.ScriptLine.TheVariants.{Drop, Die}
+use Rattle.link_script.specs.Ranges.{seeds, buffers, segment_sizes, delays, segment_numbers, run_ticks}
+use Rattle.link_script.specs.Scripts.{IsInRange, IsPath, IsEvent, SettleApart, HasRanges}
+use Rattle.link_script.specs.Writing.{seed_lines, checksum_lines, short_lines, buffer_lines, path_lines, event_lines, lines_of}
+use Rattle.outside_kit.specs.declared.side.Side.TheVariants.{A, B}
+use Rattle.run_words.specs.Lines.{Line, Work, run, serial, replay, bench, line_of}
+use Rattle.mptcp_run.specs.Made.{words_at, path_line, made_paths, made_lines, drawn_octets, made_file, made_script, made_task, Bench, bench_by, bench_of, bench_in}
+use Rattle.world_core.specs.declared.input.Input.{Input}
+use Rattle.mptcp_run.specs.declared.report.Report.TheVariants.{Summary}
+use Rattle.mptcp_run.specs.Task.{rounds, task_with}
+use Rattle.mptcp_run.specs.Promised.{IsPlainTask, EndsWithRound}
+use Rattle.mptcp_run.proofs.AskedRounds.{AsksRounds, line_asks}
+
+-- ---- drawing
+
+-- a word more
+pub word_drawn : (seed stream drawn word : ℕ) (old new : ChaCha) → drawn < 2 ^ 64 → old ≡ words_at seed stream drawn → (word, new) ≡ next_word 10 old
+    → (word ≡ drawn_word seed stream drawn) × (new ≡ words_at seed stream (drawn + 1))
+unfolding drawn_word
+word_drawn seed stream drawn word old new low is given =
+    let both : (word, new) ≡ (word_at 10 (key_of (cipher_key seed)) stream drawn, record { key = key_of (cipher_key seed); stream = stream; word_pos = (drawn + 1) % 2 ^ 68 }) =
+    given ∙ ap (next_word 10) is in
+    let small : (drawn + 1) % 2 ^ 68 ≡ drawn + 1 = omega (arith, low) in
+    (ap (λ pair. pair.0) both, ap (λ pair. pair.1) both ∙ ap (λ n. record { key = key_of (cipher_key seed); stream = stream; word_pos = n }) small)
+
+pub octets_more : (seed stream drawn word : ℕ) (old new piece : List ℕ) → old ≡ drawn_octets seed stream drawn → word ≡ drawn_word seed stream drawn
+    → piece ≡ to_le_bytes w32 word → new ≡ old ++ piece → new ≡ drawn_octets seed stream (suc drawn)
+unfolding drawn_octets
+octets_more seed stream drawn word old new piece old_is word_is piece_is new_is =
+    new_is ∙ ap (λ xs. xs ++ piece) old_is ∙ ap (λ xs. drawn_octets seed stream drawn ++ xs) (piece_is ∙ ap (to_le_bytes w32) word_is)
+
+-- four octets a word
+octets_many : (seed stream words : ℕ) → length (drawn_octets seed stream words) ≡ 4 * words
+unfolding drawn_octets
+octets_many seed stream zero = refl
+octets_many seed stream (suc words) =
+    length-append (drawn_octets seed stream words) (to_le_bytes w32 (drawn_word seed stream words))
+    ∙ ap (λ n. n + 4) (octets_many seed stream words) ∙ omega arith
+
+pairs_nil : {X : Type 0} (R : X → X → Type 0) → AllPairs R []
+pairs_nil R i j d less within = absurd (omega (arith, within))
+
+pairs_cons : {X : Type 0} (R : X → X → Type 0) (x : X) (xs : List X) → All (R x) xs → AllPairs R xs → AllPairs R (x ∷ xs)
+pairs_cons R x xs one rest zero (suc j) d less within = one j d (omega (arith, within))
+pairs_cons R x xs one rest (suc i) (suc j) d less within = rest i j d (omega (arith, less)) (omega (arith, within))
+pairs_cons R x xs one rest i zero d less within = absurd (omega (arith, less))
+
+in_range : (limits : Limits) (n : ℕ) → limits.least ≤ n → n ≤ limits.most → IsInRange limits n
+in_range limits n least most = record { least = least; most = most }
+
+-- a path of the made input
+path_fits : (mss delay join : ℕ) → 200 ≤ mss → mss ≤ 1460 → 1 ≤ delay → delay ≤ 200 → join ≤ 6553599 → IsPath (path_line mss delay join)
+path_fits mss delay join a b c d e = record {
+  mss = in_range segment_sizes mss a b;
+  delay = in_range delays delay c d;
+  join = in_range run_ticks join (omega arith) e;
+}
+
+paths_fit : All IsPath made_paths
+paths_fit =
+    All-cons IsPath (path_line 1400 10 0) (path_line 1200 20 100 ∷ path_line 1000 30 200 ∷ path_line 800 40 300 ∷ []) (path_fits 1400 10 0 (omega arith) (omega arith) (omega arith) (omega arith) (omega arith))
+    (All-cons IsPath (path_line 1200 20 100) (path_line 1000 30 200 ∷ path_line 800 40 300 ∷ []) (path_fits 1200 20 100 (omega arith) (omega arith) (omega arith) (omega arith) (omega arith))
+    (All-cons IsPath (path_line 1000 30 200) (path_line 800 40 300 ∷ []) (path_fits 1000 30 200 (omega arith) (omega arith) (omega arith) (omega arith) (omega arith))
+    (All-cons IsPath (path_line 800 40 300) [] (path_fits 800 40 300 (omega arith) (omega arith) (omega arith) (omega arith) (omega arith)) (All-nil IsPath))))
+
+lines_fit : All (IsEvent 4) made_lines
+lines_fit =
+    All-cons (IsEvent 4) (Drop 0 A 50) (Drop 1 B 20 ∷ Die 3 2000 ∷ []) (omega arith, in_range segment_numbers 50 (omega arith) (omega arith))
+    (All-cons (IsEvent 4) (Drop 1 B 20) (Die 3 2000 ∷ []) (omega arith, in_range segment_numbers 20 (omega arith) (omega arith))
+    (All-cons (IsEvent 4) (Die 3 2000) [] (omega arith, in_range run_ticks 2000 (omega arith) (omega arith)) (All-nil (IsEvent 4))))
+
+lines_apart : AllPairs SettleApart made_lines
+lines_apart =
+    pairs_cons SettleApart (Drop 0 A 50) (Drop 1 B 20 ∷ Die 3 2000 ∷ []) (All-cons (SettleApart (Drop 0 A 50)) (Drop 1 B 20) (Die 3 2000 ∷ []) refl (All-cons (SettleApart (Drop 0 A 50)) (Die 3 2000) [] refl (All-nil (SettleApart (Drop 0 A 50)))))
+    (pairs_cons SettleApart (Drop 1 B 20) (Die 3 2000 ∷ []) (All-cons (SettleApart (Drop 1 B 20)) (Die 3 2000) [] refl (All-nil (SettleApart (Drop 1 B 20))))
+    (pairs_cons SettleApart (Die 3 2000) [] (All-nil (SettleApart (Die 3 2000))) (pairs_nil SettleApart)))
+
+one_line : (b : Bool) (number : ℕ) → length {A = ScriptText} (if b then [] else Seed number ∷ []) ≤ 1
+one_line true number = omega arith
+one_line false number = omega arith
+
+few_lines : (number : ℕ) → length (lines_of (made_script number)) ≤ 4096
+few_lines number = by (seed_lines number) (one_line (number == 1) number)
+  where
+    by : (xs : List ScriptText) → length xs ≤ 1 → length (Header ∷ (xs ++ (checksum_lines true ++ (short_lines false ++ (buffer_lines 262144 ++ (path_lines 0 made_paths ++ (event_lines made_lines ++ End ∷ []))))))) ≤ 4096
+    by [] h = omega arith
+    by (x ∷ []) h = omega arith
+    by (x ∷ y ∷ xs) h = absurd (omega (arith, h))
+
+pub script_in_range : (number : ℕ) → number < 2 ^ 64 → HasRanges (made_script number)
+script_in_range number low = record {
+  seed = in_range seeds number (omega arith) (omega (arith, low));
+  buffer = in_range buffers 262144 (omega arith) (omega arith);
+  some_path = omega arith;
+  few_paths = omega arith;
+  paths = paths_fit;
+  first_path = (refl, refl);
+  lines = lines_fit;
+  apart = lines_apart;
+  few_lines = few_lines number;
+}
+
+made_is_plain : (number most : ℕ) → number ≤ 256 → IsPlainTask (made_task number most)
+made_is_plain number most few = record {
+  ranges = script_in_range number (omega (arith, few));
+  unchanged = refl;
+  short_a = let many = octets_many number 1000 (16384 * number) in omega (arith, many, few);
+  short_b = let many = octets_many number 1001 (16384 * number) in omega (arith, many, few);
+}
+
+module _ (P : Bench → Type 0) (p : (line : Line) (number most : ℕ) → number ≤ 256 → P (record { line = line; task = made_task number most })) where
+  of_work : (work : Work) (line : Line) → AsksRounds work → IfSome (bench_by work line) P
+  of_work (bench most number) line few = p line number most few
+  of_work (run most) line few = tt
+  of_work (serial most) line few = tt
+  of_work (replay log) line few = tt
+
+  of_line : (o : Option Line) → IfSome o (λ line. AsksRounds line.work) → IfSome (option_and_then bench_of o) P
+  of_line None h = tt
+  of_line (Some line) h = of_work line.work line h
+
+  pub of_words : (words : List (List ℕ)) → IfSome (bench_in words) P
+  unfolding bench_in
+  of_words words = of_line (line_of words) (line_asks words)
+
+pub bench_is_plain : (words : List (List ℕ)) → IfSome (bench_in words) (λ bench. IsPlainTask bench.task)
+bench_is_plain = of_words (λ bench. IsPlainTask bench.task) (λ line number most few. made_is_plain number most few)
+
+pub bench_ends : (words : List (List ℕ)) → IfSome (bench_in words) (λ bench. IsPlainTask bench.task × EndsWithRound bench.task.course)
+bench_ends = of_words (λ bench. IsPlainTask bench.task × EndsWithRound bench.task.course) (λ line number most few. (made_is_plain number most few, tt))
+
+-- what was made is the task's
+pub made_with : (input : Input) (number most : ℕ) → input.script ≡ made_script number → input.file_a ≡ made_file number 1000 → input.file_b ≡ made_file number 1001
+    → task_with input (rounds most) (Summary number) ≡ made_task number most
+made_with input number most script file_a file_b = cc (script, file_a, file_b)

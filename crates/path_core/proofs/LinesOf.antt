@@ -1,0 +1,9 @@
+-- The line of a path is the one at its place.
+use Rattle.std.proofs.Common.{◌≡◌, refl, ℕ, zero, suc, ◌<◌, List, [], ◌∷◌, length, get_or, arith}
+use Rattle.link_script.specs.declared.script.PathLine.{PathLine}
+use Rattle.path_core.specs.Starts.{line_of}
+
+pub line_at : (path : ℕ) (lines : List PathLine) (d : PathLine) → path < length lines → get_or lines path d ≡ line_of path lines
+line_at path [] d within = absurd (omega (arith, within))
+line_at zero (line ∷ lines) d within = refl
+line_at (suc path) (line ∷ lines) d within = line_at path lines d (omega (arith, within))

@@ -1,0 +1,211 @@
+//! What the control books say to a path that joins the connection, and what follows from it (RFC 8684, section 3.2).
+
+ghost use Rattle.std.specs.Prelude.{◌≡◌, ◌<◌, if◌then◌else◌, OnOk, OnErr};
+ghost use Rattle.subflow_tcp.specs.Opening.{after_begin};
+ghost use Rattle.subflow_tcp.specs.States.{is_waiting};
+ghost use Rattle.actor_desk.specs.Kinds.{CanBeAsked};
+ghost use Rattle.path_core.specs.Events.{answered_join_again, join_begun, joins_at_tick};
+ghost use Rattle.path_core.specs.Joining.{keys_begun, with_keys, join_begin_ask, is_never, is_join_pending, opened_by, join_heard_ask, after_joining_syn, joined_by, join_taken, asked_at, answered_join_heard, answered_refusal};
+ghost use Rattle.path_core.specs.Octets.{octets};
+
+use crate::end::PathEnd;
+use crate::joins::join_asked;
+use crate::modes::Modes;
+use crate::path::Path;
+use crate::segment_kind::SegmentKind;
+use actor_desk::{Ask, LocalStep, Reply};
+use control_book::{ControlCall, ControlReply};
+use join_handshake::JoinSyn;
+use outside_kit::Side;
+use path_agenda::{Agenda, Duty, KeyPair};
+use std::alloc::AllocError;
+use subflow_tcp::{Arriving, Meaning, State, Subflow};
+
+/// A path that may join goes on by these keys.
+fn keys_begun(reply: &Reply) -> Option<KeyPair>
+    ensures { result ≡ keys_begun reply.now }
+{
+    match *reply {
+        Reply::Control(ControlReply::Begin { own, peer }) => Some(KeyPair { own, peer }),
+        _ => None,
+    }
+}
+
+/// The path won't be joined.
+fn is_never(reply: &Reply) -> bool
+    ensures { result ≡ is_never reply.now }
+{
+    matches!(reply, Reply::Control(ControlReply::Never(_)))
+}
+
+/// It is asked whether the path of this number may join the connection.
+pub(crate) fn join_begin_ask(path: u8) -> Ask
+    requires { path < 16 }
+    ensures value { result ≡ join_begin_ask path }
+    ensures able { CanBeAsked result }
+{
+    Ask::Control(Side::A, ControlCall::JoinBegin { path })
+}
+
+/// The waiting end opens.
+fn begin(tcp: &mut Subflow)
+    ensures { tcp.new ≡ (if is_waiting tcp.old.state then after_begin tcp.old else tcp.old) }
+{
+    match tcp.state() {
+        State::Waiting => tcp.begin(),
+        _ => {}
+    }
+}
+
+/// The listening end takes the SYN of a path that joins, which told this window.
+fn take_joining_syn(tcp: &mut Subflow, window: u32, now: u64)
+    ensures { tcp.new ≡ after_joining_syn window tcp.old }
+{
+    let arriving = Arriving {
+        position: Some(0),
+        acknowledged: None,
+        syn: true,
+        fin: false,
+        rst: false,
+        window,
+        payload: &[],
+    };
+    match tcp.state() {
+        State::Listen => {
+            tcp.hear(Meaning::Opens, &arriving, None, now);
+        }
+        _ => {}
+    }
+}
+
+impl Modes {
+    /// The control book told both keys.
+    fn begin(&mut self, keys: KeyPair)
+        ensures { self.new ≡ with_keys keys self.old }
+    {
+        self.own_key = keys.own;
+        self.peer_key = Some(keys.peer);
+    }
+}
+
+impl PathEnd {
+    /// The waiting end opens.
+    fn open(&mut self, keys: Option<KeyPair>)
+        ensures { self.new ≡ opened_by keys self.old }
+    {
+        if let Some(keys) = keys {
+            begin(&mut self.tcp);
+            self.modes.begin(keys);
+        }
+    }
+
+    /// The path may join: the SYN is taken, and B has A's nonce and flag, and both keys.
+    fn join(&mut self, keys: KeyPair, asked: JoinSyn, now: u64)
+        ensures { self.new ≡ joined_by keys asked self.old }
+    {
+        take_joining_syn(&mut self.tcp, self.treated.window(), now);
+        self.modes.begin(keys);
+        self.modes.peer_nonce = asked.nonce;
+        self.modes.backup_heard = asked.backup;
+    }
+}
+
+impl Path {
+    /// A had to wait at the path's tick, and asks again in each turn.
+    pub(crate) fn is_join_pending(&self) -> bool
+        ensures { result ≡ is_join_pending self.now }
+    {
+        self.a.tcp.state() == State::Waiting && self.joined_at.is_none()
+    }
+
+    /// A's end opens, or waits on, or it is dead where the path won't be joined.
+    fn begin_join(&mut self, reply: &Reply)
+        ensures { self.new ≡ join_begun reply.now self.old.agenda self.old.agenda self.old }
+    {
+        if is_never(reply) {
+            self.a.die();
+        } else {
+            self.a.open(keys_begun(reply));
+        }
+    }
+
+    /// A asked again whether the path may join.
+    pub(crate) fn answer_join_again(&mut self, reply: &Reply)
+        ensures { self.new ≡ answered_join_again reply.now self.old }
+    {
+        self.begin_join(reply);
+        if is_never(reply) {
+            self.turns_to(Duty::Leave(Side::A));
+        } else {
+            self.done();
+        }
+    }
+
+    /// A asked at the path's tick whether it may join.
+    pub(crate) fn join_at_tick(&mut self, reply: &Reply)
+        ensures { self.new ≡ joins_at_tick reply.now self.old }
+    {
+        self.joined_at = None;
+        self.begin_join(reply);
+        if is_never(reply) {
+            self.sets_about(Agenda::leaves(Side::A));
+        } else {
+            self.sets_about(Agenda::emission(Side::A));
+        }
+    }
+
+    /// What A asks for by its SYN.
+    pub(crate) fn asked_at(&self, side: Side) -> Option<JoinSyn>
+        ensures { result ≡ asked_at side self.now }
+    {
+        join_asked(self.end(side).treated.items())
+    }
+
+    /// It is asked whether the path may join.
+    pub(crate) fn join_heard_ask(&self, side: Side) -> Ask
+        ensures value { result ≡ join_heard_ask side (asked_at side self.now) self.now }
+        ensures able { CanBeAsked result }
+    {
+        match self.asked_at(side) {
+            Some(asked) => Ask::Control(
+                side,
+                ControlCall::JoinHeard {
+                    path: self.number(),
+                    token: asked.token,
+                },
+            ),
+            None => Ask::Local(LocalStep::End),
+        }
+    }
+
+    /// The SYN/ACK goes out next, or the reset that refuses the path.
+    fn take_join(&mut self, side: Side, keys: Option<KeyPair>, asked: Option<JoinSyn>)
+        ensures { self.new ≡ join_taken side keys asked self.old }
+    {
+        match (keys, asked) {
+            (Some(keys), Some(asked)) => {
+                let now = self.clock.now();
+                self.end_mut(side).join(keys, asked, now);
+                self.turns_to(Duty::SynAck(side));
+            }
+            _ => self.turns_to(Duty::Refuse(side)),
+        }
+    }
+
+    /// It was told whether the path may join.
+    pub(crate) fn answer_join_heard(&mut self, side: Side, reply: &Reply)
+        ensures { self.new ≡ answered_join_heard side reply.now self.old }
+    {
+        self.take_join(side, keys_begun(reply), self.asked_at(side));
+    }
+
+    /// The reset that refuses the path is sent; the end listens on.
+    pub(crate) fn send_refusal(&mut self, side: Side) -> Result<(), AllocError>
+        ensures ok { OnOk result (self.new ≡ answered_refusal octets side self.old) }
+        ensures err { OnErr result (self.new ≡ self.old) }
+    {
+        self.hand(side, SegmentKind::Refusal)?;
+        self.done();
+        Ok(())
+    }
+}

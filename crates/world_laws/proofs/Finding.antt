@@ -1,0 +1,23 @@
+-- What is found among copies, and sides that are the same.
+use Rattle.std.proofs.Common.{◌≡◌, refl, sym, ◌∙◌, ap, subst, suc, Bool, true, false, cond, Some, List, [], ◌∷◌, find}
+use Rattle.std.proofs.lemmas.Bool.{false≢true}
+use Rattle.std.proofs.lemmas.Option.{same_Some}
+use Rattle.outside_kit.specs.declared.side.Side.{Side}
+use Rattle.outside_kit.specs.declared.side.Side.TheVariants.{A, B}
+use Rattle.link_script.specs.Places.{same_side}
+use Rattle.stream_lanes.specs.Words.{Every}
+
+-- a copy that is found is one of them, and is what was looked for
+pub find_every : {X : Type 0} (P : X → Type 0) (test : X → Bool) (xs : List X) (x : X) → Every P xs → find test xs ≡ Some x → P x × (test x ≡ true)
+find_every P test [] x h is = cc
+find_every P test (y ∷ xs) x h is = by (test y) refl is (λ later. find_every P test xs x (record { each = λ i z at. h.each (suc i) z at }) later)
+  where
+    by : (b : Bool) → test y ≡ b → cond b (Some y) (find test xs) ≡ Some x → (find test xs ≡ Some x → P x × (test x ≡ true)) → P x × (test x ≡ true)
+    by true passes is rest = let same : y ≡ x = same_Some y x is in (subst P same (h.each 0 y refl), ap test (sym same) ∙ passes)
+    by false passes is rest = rest is
+
+pub one_side : (a b : Side) → same_side a b ≡ true → a ≡ b
+one_side A A is = refl
+one_side B B is = refl
+one_side A B is = absurd (false≢true is)
+one_side B A is = absurd (false≢true is)

@@ -1,0 +1,441 @@
+-- A's side is sure of Multipath TCP only where A may send a DSS on path 0; so no other path begins before.
+use Rattle.std.proofs.Common.{◌≡◌, refl, sym, ◌∙◌, ap, subst, ℕ, zero, suc, ◌+◌, ◌⊎◌, inl, inr, ⊎_elim, ◌==◌, Bool, true, false, if◌then◌else◌, Option, Some, None, List, [], ◌∷◌, map, set, arith}
+use Rattle.std.proofs.lemmas.Bool.{false≢true, both_ways, and_parts}
+use Rattle.std.specs.List.{slice_get, list_all}
+use Rattle.outside_kit.specs.declared.side.Side.{Side}
+use Rattle.outside_kit.specs.declared.side.Side.TheVariants.{A, B}
+use Rattle.fallback_state.specs.declared.fall.Event.TheVariants as events
+use Rattle.fallback_state.specs.declared.fall.Fall.{Fall}
+use Rattle.fallback_state.specs.declared.fall.Mode.{Mode}
+use Rattle.fallback_state.specs.Modes.{is_identity}
+use Rattle.fallback_state.specs.declared.fall.Verdict.TheVariants.{Stay}
+use Rattle.fallback_state.specs.Table.{stays, after_keys as fall_keys}
+use Rattle.loss_recovery.specs.declared.windows.Pending.{Pending}
+use Rattle.reassembly_book.specs.declared.call.ReassemblyCall.TheVariants as reassembly_calls
+use Rattle.control_book.specs.declared.call.ControlCall.{ControlCall}
+use Rattle.control_book.specs.declared.call.ControlCall.TheVariants as calls
+use Rattle.control_book.specs.declared.call.Notice.{Notice}
+use Rattle.control_book.specs.declared.call.Notice.TheVariants as notices
+use Rattle.control_book.specs.Control.{Control}
+use Rattle.control_book.specs.Replies as control
+use Rattle.control_book.specs.Replies.{is_sure}
+use Rattle.control_book.specs.Steps as controlling
+use Rattle.subflow_send.specs.Records.{Record}
+use Rattle.stream_lanes.specs.Words.{Every}
+use Rattle.stream_lanes.proofs.Lists.{in_set, in_map}
+use Rattle.actor_desk.specs.declared.ask.Ask.{Ask}
+use Rattle.actor_desk.specs.declared.ask.Ask.TheVariants as asks
+use Rattle.actor_desk.specs.Books.{books_in}
+use Rattle.actor_desk.specs.Desk.{SixBooks, reply_of, after_ask}
+use Rattle.stream_apps.specs.declared.duty.AppDuty.{AppDuty}
+use Rattle.stream_apps.specs.declared.duty.AppDuty.TheVariants as app_duties
+use Rattle.stream_apps.specs.Apps.{AppState}
+use Rattle.stream_apps.specs.AppSteps.{app_ask}
+use Rattle.join_handshake.specs.declared.hearing.JoinSyn.{JoinSyn}
+use Rattle.path_agenda.specs.Agenda.{start_of_turn}
+use Rattle.path_agenda.specs.Items.{key_heard, keys_heard}
+use Rattle.path_agenda.specs.declared.duty.Duty.{Duty}
+use Rattle.path_agenda.specs.declared.duty.Duty.TheVariants as duties
+use Rattle.path_agenda.specs.declared.heard.Heard.{Heard}
+use Rattle.path_agenda.specs.declared.heard.Heard.TheVariants as says
+use Rattle.path_agenda.specs.declared.keys.KeyPair.{KeyPair}
+use Rattle.path_core.specs.declared.event.Event.{Event}
+use Rattle.path_core.specs.declared.event.Event.TheVariants as happening
+use Rattle.path_core.specs.Breaking.{break_ask, reset_of}
+use Rattle.path_core.specs.Duties.{stands, ask_for, passed}
+use Rattle.path_core.specs.Emission.{first_unsent, data_ask}
+use Rattle.path_core.specs.Events.{next_event, step_for}
+use Rattle.path_core.specs.Joining.{asked_at, join_heard_ask}
+use Rattle.path_core.specs.Opening.{peer_key_ask, keys_ask}
+use Rattle.path_core.specs.Passing.{piece_of, piece_ask, fin_of, fin_ask, rate_ask}
+use Rattle.path_core.specs.Placing.{Piece}
+use Rattle.path_core.specs.Sends.{sends}
+use Rattle.path_core.specs.Starts.{waiting_path}
+use Rattle.path_core.specs.State.{PathState, end_at, path_of, with_agenda}
+use Rattle.path_core.specs.Steps.{settled, asks_first, answers}
+use Rattle.path_core.specs.Treating.{is_clash, fell_ask, mapping_ask, item_ask, item_of}
+use Rattle.path_core.specs.Turns.{IsSettled}
+use Rattle.path_core.specs.Values.{Carried, values}
+use Rattle.path_core.specs.Words.{item_at}
+use Rattle.world_laws.specs.Actors.{ActorCrew}
+use Rattle.world_laws.specs.Laws.{Always}
+use Rattle.world_laws.specs.Openings.{PathPlan, Start, path_begins, opened_world}
+use Rattle.world_laws.specs.Worlds.{greatest, world_run}
+use Rattle.world_laws.proofs.Asleep.{is_idle, AreIdle, IsAsleep, begins_nothing, takes_asleep, begins_asleep, first_asleep}
+use Rattle.world_laws.proofs.CastLifting.{Has, turns_have}
+use Rattle.world_laws.proofs.Casts.{Walker, Cast, world_of, walking, walked, after_a, after_b, after_path, Every-put, walks_on, next_cast, first_cast, first_fare, opened_is, new_walker, walker_there}
+use Rattle.world_laws.proofs.Clearing.{takes_clear, next_clear}
+use Rattle.world_laws.proofs.Journaling.{books_after}
+use Rattle.world_laws.proofs.Lanes.{FirstIsClear, IsClearAt, SureIsClear}
+use Rattle.world_laws.proofs.Leading.{IsLed, Leads, IsUnclear, LeadsWell, unled, takes_leads, begins_lead, next_leads}
+use Rattle.world_laws.proofs.Settling.{stands_anyway}
+
+-- ---- calls that leave the mode of A's side
+
+abbrev IsOfB : Side → Type 0
+IsOfB A = ⊥
+IsOfB B = Unit {0}
+
+-- no event and no fast close of A
+abbrev IsMildCall : ControlCall → Side → Type 0
+IsMildCall (calls.Fell path event) s = IsOfB s
+IsMildCall calls.FastClose s = IsOfB s
+IsMildCall (calls.FastHeard key) s = IsOfB s
+IsMildCall _ s = Unit {0}
+
+abbrev IsMild : Ask → Type 0
+IsMild (asks.Control s call) = IsMildCall call s
+IsMild _ = Unit {0}
+
+either_mode : (m : Mode) (b : Bool) (c d : Control) → c.fall.mode ≡ m → d.fall.mode ≡ m → (if b then c else d).fall.mode ≡ m
+either_mode m true c d x y = x
+either_mode m false c d x y = y
+
+notice_mode : (n : Notice) (path : ℕ) (c : Control) → (controlling.after_notice n path c).fall.mode ≡ c.fall.mode
+notice_mode (notices.Withdraw id) path c = refl
+notice_mode notices.Nothing path c = refl
+notice_mode (notices.Announce id) path c = refl
+notice_mode (notices.Carrier key) path c = refl
+notice_mode notices.Reset path c = refl
+
+-- keys that are heard confirm the side, and leave its mode
+keys_mode : (fall : Fall) → (fall_keys fall).0.mode ≡ fall.mode
+keys_mode fall = by (is_identity fall.mode)
+  where
+    by : (b : Bool) → (if b then stays fall else (record fall { confirmed = true }, Stay)).0.mode ≡ fall.mode
+    by true = refl
+    by false = refl
+
+call_mode : (c : Control) (call : ControlCall) → IsMildCall call A → (controlling.after c call).fall.mode ≡ c.fall.mode
+call_mode c (calls.Look path) mild = notice_mode (control.notice_on c path) path c
+call_mode c (calls.PeerKey key) mild = refl
+call_mode c (calls.Keys own other) mild = either_mode c.fall.mode (own == c.keys.own) _ _ (keys_mode c.fall) refl
+call_mode c (calls.Fell path event) mild = absurd mild
+call_mode c (calls.JoinBegin path) mild = either_mode c.fall.mode _ _ _ refl refl
+call_mode c (calls.JoinHeard path token) mild = either_mode c.fall.mode _ _ _ refl refl
+call_mode c (calls.Live path backup) mild = refl
+call_mode c (calls.Dead path) mild = refl
+call_mode c (calls.Backup path on) mild = refl
+call_mode c (calls.Rate path window rtt) mild = refl
+call_mode c (calls.Announce id) mild = refl
+call_mode c (calls.Withdraw id) mild = either_mode c.fall.mode _ _ _ refl refl
+call_mode c (calls.Heard id address port hmac) mild = refl
+call_mode c (calls.Echoed id) mild = either_mode c.fall.mode _ _ _ refl refl
+call_mode c (calls.Removed id) mild = either_mode c.fall.mode _ _ _ refl refl
+call_mode c calls.FastClose mild = absurd mild
+call_mode c (calls.FastHeard key) mild = absurd mild
+
+mild_mode : (six : SixBooks) (x : Ask) → IsMild x → (after_ask x six).control_a.fall.mode ≡ six.control_a.fall.mode
+mild_mode six (asks.Control A call) mild = call_mode six.control_a call mild
+mild_mode six (asks.Control B call) mild = refl
+mild_mode six (asks.Send s call) mild = refl
+mild_mode six (asks.Reassembly s call) mild = refl
+mild_mode six (asks.Local step) mild = refl
+
+app_mild : (d : AppDuty) (a : AppState) → IsMild (app_ask d a)
+app_mild app_duties.Write a = tt
+app_mild app_duties.Close a = tt
+app_mild app_duties.Read a = tt
+app_mild app_duties.End a = tt
+
+-- ---- what a path asks while A's end isn't clear
+
+module _ (p : PathState Carried) where
+  data_mild : (s : Side) (o : Option Record) → IsMild (data_ask values s o p)
+  data_mild s None = tt
+  data_mild s (Some r) = tt
+
+  step_mild : (o : Option Event) → IsMild (step_for (path_of p) o)
+  step_mild None = tt
+  step_mild (Some (happening.Joins tick)) = tt
+  step_mild (Some (happening.Takes line)) = tt
+  step_mild (Some (happening.Arrives due)) = tt
+  step_mild (Some (happening.Fires s tick)) = tt
+
+  key_mild : (s : Side) (o : Option ℕ) → IsMild (peer_key_ask s o)
+  key_mild s None = tt
+  key_mild s (Some key) = tt
+
+  keys_mild : (s : Side) (o : Option KeyPair) → IsMild (keys_ask s o)
+  keys_mild s None = tt
+  keys_mild s (Some keys) = tt
+
+  join_mild : (s : Side) (o : Option JoinSyn) → IsMild (join_heard_ask s o p)
+  join_mild s None = tt
+  join_mild s (Some asked) = tt
+
+  break_mild : (s : Side) (reason : ℕ) → IsMild (break_ask values s reason p)
+  break_mild s reason = by (end_at s p).treated.asked
+    where
+      by : (b : Bool) → IsMild (if b then asks.Reassembly s reassembly_calls.AckOut else sends values s (reset_of s (Some reason) p) p)
+      by true = tt
+      by false = tt
+
+  piece_mild : (s : Side) (o : Option Piece) → IsMild (piece_ask s o)
+  piece_mild s None = tt
+  piece_mild s (Some piece) = tt
+
+  fin_mild : (s : Side) (o : Option ℕ) → IsMild (fin_ask s o)
+  fin_mild s None = tt
+  fin_mild s (Some place) = tt
+
+  rate_mild : (s : Side) (o : Option Pending) → IsMild (rate_ask s o p)
+  rate_mild s None = tt
+  rate_mild s (Some pending) = tt
+
+  mapping_b : IsMild (mapping_ask values B p)
+  mapping_b = by (is_clash p.b)
+    where
+      by : (b : Bool) → IsMild (if b then break_ask values B 1 p else fell_ask B events.MappingHeard p)
+      by true = break_mild B 1
+      by false = tt
+
+  item_b : (o : Option Heard) → IsMild (item_ask values B o p)
+  item_b None = tt
+  item_b (Some says.Dss) = tt
+  item_b (Some (says.DataAck next window)) = tt
+  item_b (Some says.Mapping) = mapping_b
+  item_b (Some (says.DataFin place)) = tt
+  item_b (Some (says.PeerKey key)) = tt
+  item_b (Some (says.Keys own other)) = tt
+  item_b (Some (says.Join form)) = tt
+
+  -- a sign that A hears comes behind a DSS
+  led_by : (index : ℕ) (ds : List Duty) (item : Heard) → Leads (duties.Heard A index ∷ ds) p → p.a.modes.clear ≡ false → item_at index p.a.treated.items ≡ Some item → IsLed false item
+  led_by index ds item h unclear is = ⊎_elim
+      (λ is_clear. absurd (both_ways p.a.modes.clear unclear is_clear))
+      (λ (u : IsUnclear (duties.Heard A index ∷ ds) p). unled u.n p.a.treated.items item h.led u.none (subst (λ n. item_at n p.a.treated.items ≡ Some item) u.follows.0 is))
+      h.clear
+
+  item_a : (index : ℕ) (ds : List Duty) (o : Option Heard) → item_at index p.a.treated.items ≡ o → Leads (duties.Heard A index ∷ ds) p → p.a.modes.clear ≡ false → IsMild (item_ask values A o p)
+  item_a index ds None is h unclear = tt
+  item_a index ds (Some says.Dss) is h unclear = tt
+  item_a index ds (Some (says.DataAck next window)) is h unclear = tt
+  item_a index ds (Some says.Mapping) is h unclear = absurd (false≢true (led_by index ds says.Mapping h unclear is))
+  item_a index ds (Some (says.DataFin place)) is h unclear = absurd (false≢true (led_by index ds (says.DataFin place) h unclear is))
+  item_a index ds (Some (says.PeerKey key)) is h unclear = tt
+  item_a index ds (Some (says.Keys own other)) is h unclear = tt
+  item_a index ds (Some (says.Join form)) is h unclear = tt
+
+  first_mild : (d : Duty) (ds : List Duty) → Leads (d ∷ ds) p → p.a.modes.clear ≡ false → IsMild (ask_for values d p)
+  first_mild duties.JoinAgain ds h unclear = tt
+  first_mild (duties.Look s) ds h unclear = tt
+  first_mild (duties.Window s) ds h unclear = tt
+  first_mild (duties.Update s) ds h unclear = tt
+  first_mild (duties.Syn s) ds h unclear = tt
+  first_mild (duties.Data s) ds h unclear = data_mild s (first_unsent (end_at s p))
+  first_mild (duties.DataFin s) ds h unclear = tt
+  first_mild (duties.Fin s) ds h unclear = tt
+  first_mild (duties.Timer s) ds h unclear = tt
+  first_mild duties.Events ds h unclear = step_mild (next_event p)
+  first_mild (duties.SynHeard s) ds h unclear = tt
+  first_mild (duties.SynAnswered s) ds h unclear = tt
+  first_mild (duties.PeerKey s) ds h unclear = key_mild s (key_heard (end_at s p).treated.items)
+  first_mild (duties.SynAck s) ds h unclear = tt
+  first_mild (duties.JoinHeard s) ds h unclear = join_mild s (asked_at s p)
+  first_mild (duties.Refuse s) ds h unclear = tt
+  first_mild (duties.Opened s) ds h unclear = keys_mild s (keys_heard (end_at s p).treated.items)
+  first_mild (duties.Live s) ds h unclear = tt
+  first_mild (duties.Heard A index) ds h unclear = item_a index ds (item_of index p.a) refl h unclear
+  first_mild (duties.Heard B index) ds h unclear = item_b (item_of index p.b)
+  first_mild (duties.AckHeard A) ds h unclear = ⊎_elim (λ is. absurd (both_ways p.a.modes.clear unclear is)) (λ (u : IsUnclear (duties.AckHeard A ∷ ds) p). absurd u.follows) h.clear
+  first_mild (duties.AckHeard B) ds h unclear = tt
+  first_mild (duties.PlainAck s) ds h unclear = break_mild s 6
+  first_mild (duties.Keep s) ds h unclear = tt
+  first_mild (duties.Edge s) ds h unclear = piece_mild s (piece_of s p)
+  first_mild (duties.HeardFin s index) ds h unclear = fin_mild s (fin_of index (end_at s p))
+  first_mild (duties.PassFin s) ds h unclear = tt
+  first_mild (duties.AckOut s) ds h unclear = tt
+  first_mild (duties.Rate s) ds h unclear = rate_mild s (end_at s p).tcp.congestion.pending
+  first_mild (duties.Acknowledge s) ds h unclear = tt
+  first_mild (duties.Again s) ds h unclear = tt
+  first_mild (duties.Answer s) ds h unclear = tt
+  first_mild (duties.ResetAnswer s) ds h unclear = tt
+  first_mild (duties.Return s) ds h unclear = tt
+  first_mild (duties.Resend s) ds h unclear = tt
+  first_mild (duties.BreakAck s reason) ds h unclear = tt
+  first_mild (duties.BreakReset s reason) ds h unclear = tt
+  first_mild (duties.Reset s) ds h unclear = tt
+  first_mild (duties.Leave s) ds h unclear = tt
+  first_mild (duties.Dead s) ds h unclear = tt
+  first_mild duties.End ds h unclear = tt
+
+  -- and one that sleeps
+  idle_mild : (d : Duty) → is_idle d ≡ true → IsMild (ask_for values d p)
+  idle_mild duties.JoinAgain idle = tt
+  idle_mild (duties.Look s) idle = tt
+  idle_mild (duties.Window s) idle = tt
+  idle_mild (duties.Update s) idle = tt
+  idle_mild (duties.Syn s) idle = tt
+  idle_mild (duties.Data s) idle = data_mild s (first_unsent (end_at s p))
+  idle_mild (duties.DataFin s) idle = tt
+  idle_mild (duties.Fin s) idle = tt
+  idle_mild (duties.Timer s) idle = tt
+  idle_mild duties.Events idle = step_mild (next_event p)
+  idle_mild (duties.Leave s) idle = tt
+  idle_mild (duties.Dead s) idle = tt
+  idle_mild duties.End idle = tt
+  idle_mild _ idle = absurd (false≢true idle)
+
+-- ---- the world
+
+settled_first : (ds : List Duty) (p : PathState Carried) → IsSettled (settled ds p)
+settled_first [] p = tt
+settled_first (d ∷ ds) p = by (stands d p) refl (settled_first ds (passed d p))
+  where
+    by : (b : Bool) → stands d p ≡ b → IsSettled (settled ds (passed d p)) → IsSettled (if b then with_agenda (d ∷ ds) p else settled ds (passed d p))
+    by true is rest = stands_anyway d (d ∷ ds) p ∙ is
+    by false is rest = rest
+
+record Surely (t : Cast Carried) : Type 0 where
+  settled : Every (λ x. IsSettled x.path) t.paths
+  leads : Every (λ x. LeadsWell x.path) t.paths
+  sure : is_sure (books_in t.books).control_a.fall.mode ≡ true → FirstIsClear t.paths
+  others : (n : ℕ) (x : Walker Carried) → slice_get t.paths (suc n) ≡ Some x → IsAsleep x.path ⊎ FirstIsClear t.paths
+
+module _ (t : Cast Carried) (number : ℕ) (x : Walker Carried) (there : slice_get t.paths number ≡ Some x) (d : Duty) (ds : List Duty) (agenda : x.path.agenda ≡ d ∷ ds) (h : Surely t) where
+  abbrev six : SixBooks
+  six = books_in t.books
+
+  abbrev ask : Ask
+  ask = ask_for values d x.path
+
+  abbrev y : Walker Carried
+  y = walked values ask t.books x
+
+  -- path 0 stays clear
+  first_stays : FirstIsClear t.paths → FirstIsClear (set t.paths number y)
+  first_stays clear z at = ⊎_elim
+      (λ same. subst (λ (w : Walker Carried). w.path.a.modes.clear ≡ true) same.1
+      ((takes_clear values (reply_of six ask) x.path).a (clear x (subst (λ n. slice_get t.paths n ≡ Some x) (sym same.0) there))))
+      (λ other. clear z other.1)
+      (in_set t.paths number y 0 z at)
+
+  own_clear : number ≡ 0 → x.path.a.modes.clear ≡ true → FirstIsClear (set t.paths number y)
+  own_clear first clear z at = ⊎_elim
+      (λ same. subst (λ (w : Walker Carried). w.path.a.modes.clear ≡ true) same.1 ((takes_clear values (reply_of six ask) x.path).a clear))
+      (λ other. absurd (other.0 (sym first)))
+      (in_set t.paths number y 0 z at)
+
+  settled_here : IsSettled x.path
+  settled_here = h.settled.each number x there
+
+  leads_here : Leads (d ∷ ds) x.path
+  leads_here = subst (λ xs. Leads xs x.path) agenda (h.leads.each number x there)
+
+  asleep_mild : IsAsleep x.path → IsMild ask
+  asleep_mild sleeps = idle_mild x.path d (and_parts (is_idle d) (list_all is_idle ds) (subst AreIdle agenda sleeps.idle)).0
+
+  clear_or_mild : (n : ℕ) → number ≡ n → FirstIsClear (set t.paths number y) ⊎ IsMild ask
+  clear_or_mild zero is = by x.path.a.modes.clear refl
+    where
+      by : (b : Bool) → x.path.a.modes.clear ≡ b → FirstIsClear (set t.paths number y) ⊎ IsMild ask
+      by true clear = inl (own_clear is clear)
+      by false unclear = inr (first_mild x.path d ds leads_here unclear)
+  clear_or_mild (suc n) is = ⊎_elim
+      (λ sleeps. inr (asleep_mild sleeps))
+      (λ clear. inl (first_stays clear))
+      (h.others n x (subst (λ m. slice_get t.paths m ≡ Some x) is there))
+
+  after_sure : is_sure (books_in (after_path values number x ask t).books).control_a.fall.mode ≡ true → FirstIsClear (set t.paths number y)
+  after_sure is = ⊎_elim
+      (λ clear. clear)
+      (λ mild.
+      let same : (books_in (after_path values number x ask t).books).control_a.fall.mode ≡ six.control_a.fall.mode
+      = ap (λ (books : SixBooks). books.control_a.fall.mode) (books_after ask x.at.pass t.books) ∙ mild_mode six ask mild in
+      first_stays (h.sure (subst (λ mode. is_sure mode ≡ true) same is)))
+      (clear_or_mild number refl)
+
+  asleep_after : IsAsleep x.path → IsAsleep y.path ⊎ FirstIsClear (set t.paths number y)
+  asleep_after sleeps = by (is_sure six.control_a.fall.mode) refl
+    where
+      by : (b : Bool) → is_sure six.control_a.fall.mode ≡ b → IsAsleep y.path ⊎ FirstIsClear (set t.paths number y)
+      by true is = inr (first_stays (h.sure is))
+      by false is =
+          let none = begins_nothing values six ask x.path is (ap (λ xs. asks_first values xs x.path) agenda) sleeps in
+          inl (takes_asleep values (reply_of six ask) x.path none settled_here sleeps)
+
+  others_after : (n : ℕ) (z : Walker Carried) → slice_get (set t.paths number y) (suc n) ≡ Some z → IsAsleep z.path ⊎ FirstIsClear (set t.paths number y)
+  others_after n z at = ⊎_elim
+      (λ same. subst (λ (w : Walker Carried). IsAsleep w.path ⊎ FirstIsClear (set t.paths number y)) same.1
+      (⊎_elim asleep_after (λ clear. inr (first_stays clear)) (h.others n x (subst (λ m. slice_get t.paths m ≡ Some x) (sym same.0) there))))
+      (λ other. ⊎_elim (λ sleeps. inl sleeps) (λ clear. inr (first_stays clear)) (h.others n z other.1))
+      (in_set t.paths number y (suc n) z at)
+
+  path_surely : Surely (after_path values number x ask t)
+  path_surely = record {
+    settled = Every-put number y (settled_first (answers values x.path.agenda (reply_of six ask) x.path).agenda (answers values x.path.agenda (reply_of six ask) x.path)) h.settled;
+    leads = Every-put number y (takes_leads values (reply_of six ask) x.path settled_here (h.leads.each number x there)) h.leads;
+    sure = after_sure;
+    others = others_after;
+  }
+
+app_surely_a : (t : Cast Carried) (d : AppDuty) → Surely t → Surely (after_a (app_ask d t.a) t)
+app_surely_a t d h = record {
+  settled = h.settled;
+  leads = h.leads;
+  sure = λ is. h.sure (subst (λ mode. is_sure mode ≡ true) (ap (λ (books : SixBooks). books.control_a.fall.mode) (books_after (app_ask d t.a) t.at_a.pass t.books) ∙ mild_mode (books_in t.books) (app_ask d t.a) (app_mild d t.a)) is);
+  others = h.others;
+}
+
+app_surely_b : (t : Cast Carried) (d : AppDuty) → Surely t → Surely (after_b (app_ask d t.b) t)
+app_surely_b t d h = record {
+  settled = h.settled;
+  leads = h.leads;
+  sure = λ is. h.sure (subst (λ mode. is_sure mode ≡ true) (ap (λ (books : SixBooks). books.control_a.fall.mode) (books_after (app_ask d t.b) t.at_b.pass t.books) ∙ mild_mode (books_in t.books) (app_ask d t.b) (app_mild d t.b)) is);
+  others = h.others;
+}
+
+next_surely : (t : Cast Carried) → Surely t → Surely (next_cast t)
+next_surely t h = record {
+  settled = record {
+    each = λ i y at.
+        let found = in_map on t.paths i y at in
+        subst (λ (w : Walker Carried). IsSettled w.path) found.2 (settled_first start_of_turn (with_agenda start_of_turn (record found.0.path { clock = found.0.path.until; until = found.0.path.until + 100 })));
+  };
+  leads = record { each = λ i y at. let found = in_map on t.paths i y at in subst (λ (w : Walker Carried). LeadsWell w.path) found.2 (next_leads found.0.path (h.leads.each i found.0 found.1)) };
+  sure = λ is. first_on (h.sure is);
+  others = λ n y at.
+      let found = in_map on t.paths (suc n) y at in
+      ⊎_elim (λ sleeps. inl (subst (λ (w : Walker Carried). IsAsleep w.path) found.2 (begins_asleep found.0.path sleeps))) (λ clear. inr (first_on clear)) (h.others n found.0 found.1);
+}
+  where
+    on : Walker Carried → Walker Carried
+    on = walks_on (greatest 0 (world_of t).crew)
+
+    first_on : FirstIsClear t.paths → FirstIsClear (map on t.paths)
+    first_on clear z at = let found = in_map on t.paths 0 z at in subst (λ (w : Walker Carried). w.path.a.modes.clear ≡ true) found.2 ((next_clear found.0.path).a (clear found.0 found.1))
+
+opened_surely : (start : Start) → Surely (first_cast start)
+opened_surely start = record {
+  settled = record { each = λ i x there. let found = walker_there start 0 i i start.paths x (omega arith) there in subst (λ (w : Walker Carried). IsSettled w.path) (sym found.2) (new_settled i found.0) };
+  leads = record { each = λ i x there. let found = walker_there start 0 i i start.paths x (omega arith) there in subst (λ (w : Walker Carried). LeadsWell w.path) (sym found.2) (new_leads i found.0) };
+  sure = λ is. absurd (false≢true is);
+  others = λ n x there.
+      let found = walker_there start 0 (suc n) (suc n) start.paths x (omega arith) there in
+      inl (subst (λ (w : Walker Carried). IsAsleep w.path) (sym found.2) (first_asleep (path_begins start (suc n) found.0) start.lines found.0.join refl));
+}
+  where
+    new_settled : (number : ℕ) (plan : PathPlan) → IsSettled (new_walker {C = Carried} start number plan).path
+    new_settled number plan = settled_first start_of_turn (with_agenda start_of_turn (waiting_path (path_begins start number plan) start.lines))
+
+    new_leads : (number : ℕ) (plan : PathPlan) → LeadsWell (new_walker {C = Carried} start number plan).path
+    new_leads number plan =
+        begins_lead (waiting_path (path_begins start number plan) start.lines) (record { led = tt; clear = inr (record { n = 0; none = tt; follows = tt }) })
+
+-- at every moment
+pub sure_is_clear : Always values (λ start w. SureIsClear w)
+sure_is_clear start turns =
+    let run : Has start Surely (world_run values turns (opened_world start)) =
+    turns_have values start Surely
+    (record {
+      a = λ t f d ds is h. app_surely_a t d h;
+      b = λ t f d ds is h. app_surely_b t d h;
+      path = λ t f number x there d ds is h. path_surely t number x there d ds is h;
+    })
+    (λ t f h. next_surely t h) turns (opened_world start)
+    (record { cast = first_cast start; is = opened_is start; fare = first_fare start; holds = opened_surely start }) in
+    subst SureIsClear (sym run.is) (λ is c at. first_clear run.cast (run.holds.sure is) c at)
+  where
+    first_clear : (t : Cast Carried) → FirstIsClear t.paths → (c : ActorCrew Carried) → slice_get (world_of t).crew 2 ≡ Some c → IsClearAt c.member
+    first_clear t clear c at = let found = in_map walking t.paths 0 c at in subst (λ (d : ActorCrew Carried). IsClearAt d.member) found.2 (clear found.0 found.1)

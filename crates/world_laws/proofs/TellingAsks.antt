@@ -1,0 +1,256 @@
+-- The keys that control books have, and those that they answer, have 64 bits: each key that a path tells one was heard or drawn.
+use Rattle.std.proofs.Common.{ℕ, ◌==◌, ◌&&◌, ◌||◌, not, Bool, true, false, if◌then◌else◌, Option, Some, None, arith}
+use Rattle.std.specs.Option.{IfSome}
+use Rattle.outside_kit.specs.declared.side.Side.{Side}
+use Rattle.outside_kit.specs.declared.side.Side.TheVariants.{A, B}
+use Rattle.key_material.specs.KeyDigest.{token_of}
+use Rattle.loss_recovery.specs.declared.windows.Pending.{Pending}
+use Rattle.reassembly_book.specs.declared.call.ReassemblyCall.TheVariants as reassembly_calls
+use Rattle.fallback_state.specs.declared.fall.Event.TheVariants as events
+use Rattle.control_book.specs.declared.call.ControlCall.{ControlCall}
+use Rattle.control_book.specs.declared.call.ControlCall.TheVariants as calls
+use Rattle.control_book.specs.declared.call.ControlReply.TheVariants as answers
+use Rattle.control_book.specs.declared.call.Notice.{Notice}
+use Rattle.control_book.specs.declared.call.Notice.TheVariants as notices
+use Rattle.control_book.specs.Control.{Control, peer_or_zero}
+use Rattle.control_book.specs.Registry.{stands as stands_path}
+use Rattle.control_book.specs.Replies as control
+use Rattle.control_book.specs.Steps as controlling
+use Rattle.subflow_send.specs.Records.{Record}
+use Rattle.stream_lanes.specs.Words.{Every}
+use Rattle.actor_desk.specs.declared.ask.Ask.{Ask}
+use Rattle.actor_desk.specs.declared.ask.Ask.TheVariants as asks
+use Rattle.actor_desk.specs.declared.ask.Reply.TheVariants as replies
+use Rattle.actor_desk.specs.Desk.{SixBooks, control_of, reply_of, after_ask}
+use Rattle.join_handshake.specs.declared.hearing.JoinSyn.{JoinSyn}
+use Rattle.path_agenda.specs.declared.duty.Duty.{Duty}
+use Rattle.path_agenda.specs.declared.duty.Duty.TheVariants as duties
+use Rattle.path_agenda.specs.declared.heard.Heard.{Heard}
+use Rattle.path_agenda.specs.declared.heard.Heard.TheVariants as says
+use Rattle.path_agenda.specs.declared.keys.KeyPair.{KeyPair}
+use Rattle.path_agenda.specs.Items.{key_heard, keys_heard}
+use Rattle.path_core.specs.declared.event.Event.{Event}
+use Rattle.path_core.specs.declared.event.Event.TheVariants as happening
+use Rattle.path_core.specs.Breaking.{break_ask, reset_of}
+use Rattle.path_core.specs.Duties.{ask_for}
+use Rattle.path_core.specs.Emission.{first_unsent, data_ask}
+use Rattle.path_core.specs.Events.{next_event, step_for}
+use Rattle.path_core.specs.Joining.{keys_begun, asked_at, join_begin_ask, join_heard_ask}
+use Rattle.path_core.specs.Opening.{peer_key_ask, keys_ask}
+use Rattle.path_core.specs.Passing.{piece_of, piece_ask, fin_of, fin_ask, rate_ask}
+use Rattle.path_core.specs.Placing.{Piece}
+use Rattle.path_core.specs.Sends.{sends}
+use Rattle.path_core.specs.State.{PathState, Profile, end_at, path_of}
+use Rattle.path_core.specs.Treating.{is_clash, fell_ask, mapping_ask, item_ask, item_of}
+use Rattle.path_core.specs.Values.{Carried, values}
+use Rattle.world_laws.proofs.Replying.{every_item}
+use Rattle.world_laws.proofs.Telling.{IsKey, ItemTells}
+use Rattle.world_laws.proofs.TellingRules.{AreKeys, heard_key, heard_keys}
+use Rattle.world_laws.proofs.TellingSteps.{KeysAreShort, PathTells, tells_at}
+
+-- ---- what a control book answers
+
+peer_short : (o : Option ℕ) → IfSome o IsKey → IsKey (peer_or_zero o)
+peer_short None h = omega arith
+peer_short (Some key) h = h
+
+module _ (c : Control) (h : KeysAreShort c.keys) where
+  both_short : AreKeys (record { own = c.keys.own; peer = peer_or_zero c.keys.peer })
+  both_short = (h.own, peer_short c.keys.peer h.peer)
+
+  begin_keys : IfSome (keys_begun (replies.Control (control.join_begin_reply c))) AreKeys
+  begin_keys = by (control.is_sure c.fall.mode) (control.is_starting c.fall.mode && stands_path c.paths 0)
+    where
+      by : (sure waits : Bool) → IfSome (keys_begun (replies.Control (if sure then control.begin c else (if waits then answers.NotYet else answers.Never c.fall.mode)))) AreKeys
+      by true waits = both_short
+      by false true = tt
+      by false false = tt
+
+  heard_reply_keys : (token : ℕ) → IfSome (keys_begun (replies.Control (control.join_heard_reply token c))) AreKeys
+  heard_reply_keys token = by (not (token == token_of c.keys.own)) (not c.fall.confirmed) (control.is_starting c.fall.mode || control.is_sure c.fall.mode)
+    where
+      by : (other unconfirmed open_mode : Bool) → IfSome (keys_begun (replies.Control (if other then answers.UnknownToken (token_of c.keys.own)
+          else (if unconfirmed then answers.NotConfirmed else (if open_mode then control.begin c else answers.Fallen c.fall.mode))))) AreKeys
+      by true unconfirmed open_mode = tt
+      by false true open_mode = tt
+      by false false true = both_short
+      by false false false = tt
+
+module _ (six : SixBooks) (h : (s : Side) → KeysAreShort (control_of s six).keys) where
+  pub step_keys : (path : ℕ) (o : Option Event) → IfSome (keys_begun (reply_of six (step_for path o))) AreKeys
+  step_keys path None = tt
+  step_keys path (Some (happening.Joins tick)) = begin_keys six.control_a (h A)
+  step_keys path (Some (happening.Takes line)) = tt
+  step_keys path (Some (happening.Arrives due)) = tt
+  step_keys path (Some (happening.Fires s tick)) = tt
+
+  pub again_keys : (p : PathState Carried) → IfSome (keys_begun (reply_of six (join_begin_ask (path_of p)))) AreKeys
+  again_keys p = begin_keys six.control_a (h A)
+
+  pub joined_keys : (s : Side) (o : Option JoinSyn) (p : PathState Carried) → IfSome (keys_begun (reply_of six (join_heard_ask s o p))) AreKeys
+  joined_keys s None p = tt
+  joined_keys s (Some asked) p = heard_reply_keys (control_of s six) (h s) asked.token
+
+-- ---- what a control book keeps
+
+-- the key that is told has 64 bits
+abbrev pub CallTells : ControlCall → Type 0
+CallTells (calls.PeerKey key) = IsKey key
+CallTells (calls.Keys own peer) = IsKey peer
+CallTells _ = Unit {0}
+
+abbrev pub AskTells : Ask → Type 0
+AskTells (asks.Control s call) = CallTells call
+AskTells _ = Unit {0}
+
+either_short : (b : Bool) (c d : Control) → KeysAreShort c.keys → KeysAreShort d.keys → KeysAreShort (if b then c else d).keys
+either_short true c d x y = x
+either_short false c d x y = y
+
+notice_short : (n : Notice) (path : ℕ) (c : Control) → KeysAreShort c.keys → KeysAreShort (controlling.after_notice n path c).keys
+notice_short (notices.Withdraw id) path c h = h
+notice_short notices.Nothing path c h = h
+notice_short (notices.Announce id) path c h = h
+notice_short (notices.Carrier key) path c h = h
+notice_short notices.Reset path c h = h
+
+call_short : (c : Control) (call : ControlCall) → CallTells call → KeysAreShort c.keys → KeysAreShort (controlling.after c call).keys
+call_short c (calls.Look path) told h = notice_short (control.notice_on c path) path c h
+call_short c (calls.PeerKey key) told h = record { own = h.own; peer = told }
+call_short c (calls.Keys own other) told h = either_short (own == c.keys.own) _ _ (record { own = h.own; peer = told }) h
+call_short c (calls.Fell path event) told h = h
+call_short c (calls.JoinBegin path) told h = either_short _ _ _ h h
+call_short c (calls.JoinHeard path token) told h = either_short _ _ _ h h
+call_short c (calls.Live path backup) told h = h
+call_short c (calls.Dead path) told h = h
+call_short c (calls.Backup path on) told h = h
+call_short c (calls.Rate path window rtt) told h = h
+call_short c (calls.Announce id) told h = h
+call_short c (calls.Withdraw id) told h = either_short _ _ _ h h
+call_short c (calls.Heard id address port hmac) told h = h
+call_short c (calls.Echoed id) told h = either_short _ _ _ h h
+call_short c (calls.Removed id) told h = either_short _ _ _ h h
+call_short c calls.FastClose told h = h
+call_short c (calls.FastHeard key) told h = either_short _ _ _ h h
+
+-- both books
+pub record BooksKeepShort (six : SixBooks) : Type 0 where
+  pub a : KeysAreShort six.control_a.keys
+  pub b : KeysAreShort six.control_b.keys
+
+pub kept_at : (six : SixBooks) → BooksKeepShort six → (s : Side) → KeysAreShort (control_of s six).keys
+kept_at six h A = h.a
+kept_at six h B = h.b
+
+pub ask_short : (six : SixBooks) (x : Ask) → AskTells x → BooksKeepShort six → BooksKeepShort (after_ask x six)
+ask_short six (asks.Control A call) told h = record { a = call_short six.control_a call told h.a; b = h.b }
+ask_short six (asks.Control B call) told h = record { a = h.a; b = call_short six.control_b call told h.b }
+ask_short six (asks.Send s call) told h = record { a = h.a; b = h.b }
+ask_short six (asks.Reassembly s call) told h = record { a = h.a; b = h.b }
+ask_short six (asks.Local step) told h = h
+
+-- ---- what a path tells one
+
+module _ (c : Profile) (p : PathState Carried) (h : PathTells c p) where
+  data_tells : (s : Side) (o : Option Record) → AskTells (data_ask values s o p)
+  data_tells s None = tt
+  data_tells s (Some r) = tt
+
+  step_tells : (o : Option Event) → AskTells (step_for (path_of p) o)
+  step_tells None = tt
+  step_tells (Some (happening.Joins tick)) = tt
+  step_tells (Some (happening.Takes line)) = tt
+  step_tells (Some (happening.Arrives due)) = tt
+  step_tells (Some (happening.Fires s tick)) = tt
+
+  key_tells : (s : Side) (o : Option ℕ) → IfSome o IsKey → AskTells (peer_key_ask s o)
+  key_tells s None key = tt
+  key_tells s (Some key) is = is
+
+  keys_tell : (s : Side) (o : Option KeyPair) → IfSome o (λ keys. IsKey keys.peer) → AskTells (keys_ask s o)
+  keys_tell s None keys = tt
+  keys_tell s (Some keys) is = is
+
+  join_tells : (s : Side) (o : Option JoinSyn) → AskTells (join_heard_ask s o p)
+  join_tells s None = tt
+  join_tells s (Some asked) = tt
+
+  break_tells : (s : Side) (reason : ℕ) → AskTells (break_ask values s reason p)
+  break_tells s reason = by (end_at s p).treated.asked
+    where
+      by : (b : Bool) → AskTells (if b then asks.Reassembly s reassembly_calls.AckOut else sends values s (reset_of s (Some reason) p) p)
+      by true = tt
+      by false = tt
+
+  mapping_tells : (s : Side) → AskTells (mapping_ask values s p)
+  mapping_tells s = by (is_clash (end_at s p))
+    where
+      by : (b : Bool) → AskTells (if b then break_ask values s 1 p else fell_ask s events.MappingHeard p)
+      by true = break_tells s 1
+      by false = tt
+
+  item_tells : (s : Side) (o : Option Heard) → IfSome o ItemTells → AskTells (item_ask values s o p)
+  item_tells s None said = tt
+  item_tells s (Some says.Dss) said = tt
+  item_tells s (Some (says.DataAck next window)) said = tt
+  item_tells s (Some says.Mapping) said = mapping_tells s
+  item_tells s (Some (says.DataFin place)) said = tt
+  item_tells s (Some (says.PeerKey key)) said = tt
+  item_tells s (Some (says.Keys own other)) said = said.1
+  item_tells s (Some (says.Join form)) said = tt
+
+  piece_tells : (s : Side) (o : Option Piece) → AskTells (piece_ask s o)
+  piece_tells s None = tt
+  piece_tells s (Some piece) = tt
+
+  fin_tells : (s : Side) (o : Option ℕ) → AskTells (fin_ask s o)
+  fin_tells s None = tt
+  fin_tells s (Some place) = tt
+
+  rate_tells : (s : Side) (o : Option Pending) → AskTells (rate_ask s o p)
+  rate_tells s None = tt
+  rate_tells s (Some pending) = tt
+
+  items_at : (s : Side) → Every ItemTells (end_at s p).treated.items
+  items_at s = (tells_at c p h s).treated.items
+
+  pub asks_tell : (d : Duty) → AskTells (ask_for values d p)
+  asks_tell duties.JoinAgain = tt
+  asks_tell (duties.Look s) = tt
+  asks_tell (duties.Window s) = tt
+  asks_tell (duties.Update s) = tt
+  asks_tell (duties.Syn s) = tt
+  asks_tell (duties.Data s) = data_tells s (first_unsent (end_at s p))
+  asks_tell (duties.DataFin s) = tt
+  asks_tell (duties.Fin s) = tt
+  asks_tell (duties.Timer s) = tt
+  asks_tell duties.Events = step_tells (next_event p)
+  asks_tell (duties.SynHeard s) = tt
+  asks_tell (duties.SynAnswered s) = tt
+  asks_tell (duties.PeerKey s) = key_tells s (key_heard (end_at s p).treated.items) (heard_key (end_at s p).treated.items (items_at s))
+  asks_tell (duties.SynAck s) = tt
+  asks_tell (duties.JoinHeard s) = join_tells s (asked_at s p)
+  asks_tell (duties.Refuse s) = tt
+  asks_tell (duties.Opened s) = keys_tell s (keys_heard (end_at s p).treated.items) (heard_keys (end_at s p).treated.items (items_at s))
+  asks_tell (duties.Live s) = tt
+  asks_tell (duties.Heard s index) = item_tells s (item_of index (end_at s p)) (every_item index (end_at s p).treated.items (items_at s))
+  asks_tell (duties.AckHeard s) = tt
+  asks_tell (duties.PlainAck s) = break_tells s 6
+  asks_tell (duties.Keep s) = tt
+  asks_tell (duties.Edge s) = piece_tells s (piece_of s p)
+  asks_tell (duties.HeardFin s index) = fin_tells s (fin_of index (end_at s p))
+  asks_tell (duties.PassFin s) = tt
+  asks_tell (duties.AckOut s) = tt
+  asks_tell (duties.Rate s) = rate_tells s (end_at s p).tcp.congestion.pending
+  asks_tell (duties.Acknowledge s) = tt
+  asks_tell (duties.Again s) = tt
+  asks_tell (duties.Answer s) = tt
+  asks_tell (duties.ResetAnswer s) = tt
+  asks_tell (duties.Return s) = tt
+  asks_tell (duties.Resend s) = tt
+  asks_tell (duties.BreakAck s reason) = tt
+  asks_tell (duties.BreakReset s reason) = tt
+  asks_tell (duties.Reset s) = tt
+  asks_tell (duties.Leave s) = tt
+  asks_tell (duties.Dead s) = tt
+  asks_tell duties.End = tt
