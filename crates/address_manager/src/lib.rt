@@ -7,6 +7,3 @@ mod manager;
 
 pub use id_set::IdSet;
 pub use manager::{AddressManager, Heard};
-
-#[cfg(test)]
-mod tests;

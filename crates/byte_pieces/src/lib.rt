@@ -11,6 +11,3 @@ mod piece;
 
 pub use kept::BytePieces;
 pub use parts::Parts;
-
-#[cfg(test)]
-mod tests;

@@ -14,6 +14,3 @@ pub use fault::CapableFault;
 pub use hearing::{client_answer, server_keys, server_syn};
 pub use laws::{both_keys_arrive, checksums_agree};
 pub use saying::{ack_option, first_data_option, syn_ack_option, syn_option};
-
-#[cfg(test)]
-mod tests;

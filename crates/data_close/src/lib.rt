@@ -11,6 +11,3 @@ mod saying;
 pub use close_state::CloseState;
 pub use fin::fin_number;
 pub use saying::{data_fin_option, fast_close_option, reset_option};
-
-#[cfg(test)]
-mod tests;

@@ -9,6 +9,3 @@ mod mapping_sum;
 
 pub use laws::{other_mapping_shows, turned_bit_shows};
 pub use mapping_sum::{DssSum, MAX_OCTETS};
-
-#[cfg(test)]
-mod tests;

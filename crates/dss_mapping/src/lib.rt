@@ -16,6 +16,3 @@ pub use laws::{forgetting_keeps_the_rest, learning_gives_places, one_record_neve
 pub use learn::Learn;
 pub use mappings::Mappings;
 pub use run::Run;
-
-#[cfg(test)]
-mod tests;

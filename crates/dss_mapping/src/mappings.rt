@@ -197,12 +197,6 @@ impl Mappings {
         self.forgotten = self.forgotten.max(pos);
     }
 
-    /// How many runs are kept.
-    #[cfg(test)]
-    pub(crate) fn run_count(&self) -> usize {
-        self.runs.len()
-    }
-
     /// The positions from `at` on as far as they are alike.
     fn stretch_at(&self, at: Pos) -> Stretch
         requires { at < 2 ^ 64 - 1 }

@@ -14,6 +14,3 @@ pub use laws::{
     sure_sides_never_start_again,
 };
 pub use step::fall_step;
-
-#[cfg(test)]
-mod tests;

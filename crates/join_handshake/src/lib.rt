@@ -14,6 +14,3 @@ pub use fault::JoinFault;
 pub use hearing::{JoinAnswer, JoinSyn, client_answer, server_syn, server_third};
 pub use laws::honest_sides_agree;
 pub use saying::{answer_option, syn_option, third_option};
-
-#[cfg(test)]
-mod tests;

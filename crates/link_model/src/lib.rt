@@ -17,6 +17,3 @@ pub use laws::{
     sending_commutes_with_showing,
 };
 pub use link::Link;
-
-#[cfg(test)]
-mod tests;

@@ -9,8 +9,6 @@
 mod increase;
 mod laws;
 mod rows;
-#[cfg(test)]
-mod tests;
 
 pub use increase::{ALPHA_SCALE, MAX_ACKED, MAX_MSS, alpha, growth};
 pub use laws::{

@@ -2,7 +2,7 @@
 //! READ_BY_B READ_BY_A`.
 #![tactic(auto)]
 
-use files::FileOutside;
+use file_outside::FileOutside;
 use mptcp_run::{Status, fault_text, run};
 use outside_kit::OpenGate;
 use std::alloc::{AllocError, Global};
@@ -10,8 +10,6 @@ use std::env::{self, Env};
 use std::io;
 use std::os::fd::AsFd;
 use std::process::ExitCode;
-
-mod files;
 
 /// The words after the program's name, or the status where there are none to be had.
 fn words_of(rt: &(impl Env + Alloc<A = Global>)) -> Result<Vec<String>, Status> {

@@ -19,14 +19,3 @@ impl Gate for OpenGate {
 
     fn held(&self, _actor: u8, _object: Object) {}
 }
-
-#[cfg(test)]
-mod tests {
-    use super::*;
-
-    #[test]
-    fn an_open_gate_lets_everyone_pass() {
-        OpenGate.turn(0);
-        OpenGate.held(0, Object::Me);
-    }
-}

@@ -316,29 +316,3 @@ impl Outside for MemoryOutside {
         }
     }
 }
-
-#[cfg(test)]
-mod tests {
-    use super::*;
-    use std::test::Fail;
-
-    fn outside(alloc: Global, failing: Vec<FailAt>) -> Result<MemoryOutside, Fail> {
-        let mut files = Vec::new(alloc);
-        files.push(NamedFile {
-            name: String::from_str(alloc, "greeting")?,
-            content: Vec::from_slice(alloc, b"hello")?,
-        })?;
-        Ok(MemoryOutside::new(alloc, files, failing))
-    }
-
-    #[test]
-    fn contents_are_loaded_and_pieces_put(rt: HostRuntime) -> Result<(), Fail> {
-        let mut outside = outside(rt.alloc(), Vec::new(rt.alloc()))?;
-        let content = outside.load(rt.alloc(), "greeting", 5);
-        assert!(rt; matches!(&content, Ok(bytes) if bytes.as_slice() == b"hello".as_slice()));
-        assert_eq!(rt; outside.bind(Port::ReadByB, "copy"), Ok(()));
-        assert_eq!(rt; outside.put(Port::ReadByB, b"hello"), Ok(()));
-        assert_eq!(rt; outside.port(Port::ReadByB), b"hello".as_slice());
-        Ok(())
-    }
-}

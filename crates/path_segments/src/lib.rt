@@ -29,6 +29,3 @@ pub use segment::{PathMapping, PathOption, PathSegment, SaidSegment};
 pub use spelling::{EndNumbers, Side, Spelling};
 pub use wire::relative_number;
 pub use writing::{sum, write};
-
-#[cfg(test)]
-mod tests;

@@ -182,19 +182,3 @@ fn tell_end(pipe: &mut Pipe) -> Result<(), PipeFault>
     pipe.told_end = true;
     Ok(())
 }
-
-#[cfg(test)]
-mod tests {
-    use super::*;
-    use std::test::Fail;
-
-    // What the contract leaves free alone: that there is memory for the bytes of a step.
-    #[test]
-    fn bytes_are_written(rt: HostRuntime) -> Result<(), Fail> {
-        let mut pipe = Pipe::new(rt.alloc());
-        let bytes = Text::of(rt.alloc(), b"hello")?;
-        assert_eq!(rt; pipe_step(&mut pipe, &PipeStep::Write { bytes }), Ok(()));
-        assert_eq!(rt; pipe.written.as_bytes(), b"hello".as_slice());
-        Ok(())
-    }
-}

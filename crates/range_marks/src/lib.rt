@@ -13,6 +13,3 @@ pub use laws::{disjoint_marks_commute, forgotten_places_stay_forgotten, last_mar
 pub use mark::Mark;
 pub use marks::RangeMarks;
 pub use run::{Run, Runs};
-
-#[cfg(test)]
-mod tests;

@@ -10,8 +10,6 @@
 
 mod estimate;
 mod laws;
-#[cfg(test)]
-mod tests;
 mod timer;
 
 pub use estimate::{CLOCK_GRANULARITY, Estimate, MAX_RTO, MAX_SAMPLE, MIN_RTO};

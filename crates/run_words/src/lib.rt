@@ -15,6 +15,3 @@ mod reading;
 pub use command_line::{CommandLine, Mode};
 pub use fault::WordsFault;
 pub use reading::read;
-
-#[cfg(test)]
-mod tests;

@@ -9,8 +9,6 @@
 mod book;
 mod laws;
 mod stamped;
-#[cfg(test)]
-mod tests;
 
 pub use book::Book;
 pub use laws::{journals_begin_at_an_opening, stamps_rise};

@@ -5,8 +5,6 @@
 mod app;
 mod duty;
 mod laws;
-#[cfg(test)]
-mod tests;
 
 pub use app::App;
 pub use duty::AppDuty;

@@ -14,6 +14,3 @@ pub use laws::{
     outside_is_no_octet_in_the_window, what_comes_first_is_kept,
 };
 pub use receive::SubflowRecv;
-
-#[cfg(test)]
-mod tests;

@@ -12,6 +12,3 @@ mod send;
 pub use laws::{acknowledged_records_are_a_prefix, expiry_marks_all_but_the_first};
 pub use record::{AckKind, RecordKind, RecordRef, Sending};
 pub use send::SubflowSend;
-
-#[cfg(test)]
-mod tests;

@@ -28,6 +28,3 @@ pub use spelling::Numbers;
 pub use subflow_recv::Parts;
 pub use subflow_send::{AckKind, RecordKind, RecordRef};
 pub use verdicts::{Arrival, Fired, Meaning};
-
-#[cfg(test)]
-mod tests;

@@ -117,7 +117,7 @@ fn put_log<R: Print>(rt: &R, count: &mut u64, piece: &[u8]) -> Result<(), PutFau
 }
 
 impl<R: Files + Print + Alloc<A = Global>> Outside for FileOutside<'_, R> {
-    ghost use Rattle.mptcp_sim.specs.Counts.{count_of};
+    ghost use Rattle.file_outside.specs.Counts.{count_of};
 
     ghost content = { λ _ _. None };
 
@@ -169,36 +169,5 @@ impl<R: Files + Print + Alloc<A = Global>> Outside for FileOutside<'_, R> {
             Port::Log if self.log_is_open => put_log(self.rt, &mut self.log_faults, piece),
             Port::Log => Err(closed(&mut self.log_faults)),
         }
-    }
-}
-
-#[cfg(test)]
-mod tests {
-    use super::*;
-    use std::process;
-    use std::test::Fail;
-
-    #[test]
-    fn a_file_is_put_and_loaded(rt: HostRuntime) -> Result<(), Fail> {
-        let process = process::id(rt.process());
-        let path = format!(in rt.alloc(); "/tmp/mptcp-sim-{process}")?;
-        let name = path.as_str();
-        let mut outside = FileOutside::new(&rt, false);
-        assert_eq!(rt; outside.put(Port::ReadByB, b"early"), Err(PutFault::Failed));
-        assert_eq!(rt; outside.bind(Port::ReadByB, name), Ok(()));
-        assert_eq!(rt; outside.put(Port::ReadByB, b"hel"), Ok(()));
-        assert_eq!(rt; outside.put(Port::ReadByB, b"lo"), Ok(()));
-        assert_eq!(rt; outside.put(Port::Log, b"line"), Err(PutFault::Failed));
-        let whole = outside.load(rt.alloc(), name, 5);
-        assert!(rt; matches!(&whole, Ok(bytes) if bytes.as_slice() == b"hello".as_slice()));
-        assert!(rt; matches!(outside.load(rt.alloc(), name, 4), Err(LoadFault::TooLong)));
-        assert_eq!(rt; outside.bind(Port::ReadByB, name), Ok(()));
-        fs::remove_file(&rt, name)?;
-        assert!(rt; matches!(outside.load(rt.alloc(), name, 5), Err(LoadFault::Failed)));
-        assert_eq!(rt;
-            outside.bind(Port::ReadByA, "/no/such/folder/file"),
-            Err(PutFault::Failed)
-        );
-        Ok(())
     }
 }

@@ -1,4 +1,7 @@
-use super::*;
+use join_handshake::{
+    JoinAnswer, JoinFault, JoinSyn, answer_option, client_answer, server_syn, server_third,
+    syn_option, third_option,
+};
 use mptcp_options::{JoinForm, MpOption};
 use std::test::Fail;
 

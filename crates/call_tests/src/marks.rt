@@ -1,4 +1,4 @@
-use super::*;
+use range_marks::{Mark, RangeMarks};
 use std::alloc::AllocError;
 use std::process::Abort;
 use std::test::Fail;

@@ -1,7 +1,7 @@
 // A book that keeps the greatest number that it was told, from one that it was opened with.
 ghost use Rattle.std.specs.Prelude.{◌≡◌, ◌<◌, max, refl, IfOk, OnErr};
 
-use crate::{Book, Entry, Pass, Refusal, Stamped, raise};
+use stamped_book::{Book, Entry, Pass, Refusal, Stamped, raise};
 use std::alloc::AllocError;
 use std::test::Fail;
 

@@ -1,10 +1,10 @@
 ghost use Rattle.std.specs.Prelude.{◌<◌, ◌≤◌, length};
 
-use super::*;
 use seq_units::{Mapping, Seq32, number32};
 use std::alloc::{AllocError, Global};
 use std::process::Abort;
 use std::test::Fail;
+use subflow_send::{AckKind, RecordKind, SubflowSend};
 
 /// A mapping of `length` octets from the data number `number`.
 fn mapping(number: u64, length: u16) -> Mapping {

@@ -1,4 +1,4 @@
-use super::*;
+use data_close::{CloseState, data_fin_option, fast_close_option, fin_number, reset_option};
 use mptcp_options::{Read, read};
 
 /// A DATA_FIN after 0xFFFF_FFFF_FFFF_FFF0 and 15 bytes has the number 0: numbers wrap.

@@ -1,9 +1,9 @@
 ghost use Rattle.std.specs.Prelude.{◌<◌, ◌≤◌, ◌≡◌, ◌≢◌, ◌^◌, length, None};
 
-use super::*;
 use seq_units::Mapping;
 use std::alloc::{AllocError, Global};
 use std::test::Fail;
+use subflow_tcp::{AckKind, Arrival, Arriving, Hint, Occasion, State, Subflow};
 
 /// A segment of a peer that opened: these octets from a position on, and an acknowledgement of all that was sent.
 fn heard<'a>(end: &Subflow, position: u64, payload: &'a [u8]) -> Arriving<'a> {

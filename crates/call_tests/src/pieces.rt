@@ -1,4 +1,4 @@
-use super::*;
+use byte_pieces::BytePieces;
 use std::process::Abort;
 use std::test::Fail;
 

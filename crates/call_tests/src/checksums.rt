@@ -1,4 +1,4 @@
-use super::*;
+use dss_checksum::DssSum;
 use seq_units::Mapping;
 
 /// Mappings, their data and their checksums, by adding up the words by hand.

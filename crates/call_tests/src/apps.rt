@@ -1,5 +1,4 @@
 // The first turn of an application that writes five octets, by hand: what it asks, and what it makes of the replies.
-use crate::App;
 use actor_desk::{Ask, LocalStep, Reply};
 use outside_kit::Side;
 use pipe_model::Text;
@@ -7,6 +6,7 @@ use reassembly_book::{ReassemblyCall, ReassemblyReply};
 use send_book::{SendCall, SendReply};
 use std::alloc::{AllocError, Global};
 use std::test::Fail;
+use stream_apps::App;
 
 // Takes the reply where it answers what the application asks, and gives that ask.
 fn answer(app: &mut App, alloc: Global, reply: &Reply) -> Result<Option<Ask>, AllocError> {

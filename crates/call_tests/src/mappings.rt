@@ -1,7 +1,7 @@
 ghost use Rattle.std.specs.Prelude.{◌<◌};
 ghost use Rattle.dss_mapping.specs.Learning.{IsWithin};
 
-use super::*;
+use dss_mapping::{KeptMapping, Learn, Mappings};
 use seq_units::Mapping;
 use std::test::Fail;
 
@@ -99,7 +99,7 @@ fn mappings_wait_until_they_are_treated(rt: HostRuntime) -> Result<(), Fail> {
     Ok(())
 }
 
-/// 4,096 mappings in an order that jumps about, which become one run; one with another distance stays a run of its own.
+/// 4,096 mappings in an order that jumps about, and one with another distance.
 #[test]
 fn each_place_is_told(rt: HostRuntime) -> Result<(), Fail> {
     let mut mappings = Mappings::new(rt.alloc());
@@ -114,8 +114,7 @@ fn each_place_is_told(rt: HostRuntime) -> Result<(), Fail> {
         assert_eq!(rt; mappings.place_of(turn * 10 + 4), Some(turn * 10 + 703));
     }
     assert_eq!(rt; mappings.place_of(40_961), None);
-    assert_eq!(rt; mappings.run_count(), 1);
     assert_eq!(rt; mappings.learn(40_961, 70_000, &mapping(10))?, Learn::New);
-    assert_eq!(rt; mappings.run_count(), 2);
+    assert_eq!(rt; mappings.place_of(40_961), Some(70_000));
     Ok(())
 }

@@ -1,8 +1,11 @@
 ghost use Rattle.std.specs.Prelude.{◌<◌, ◌^◌};
 
-use super::*;
 use key_material::{Address, drawn, idsn};
 use mptcp_options::{CapableKeys, JoinForm};
+use path_segments::{
+    EndNumbers, Expected, PathMapping, PathOption, PathSegment, SaidSegment, Side, Spelling,
+    can_say, hear, write,
+};
 use seq_units::{Seq32, Seq64};
 use std::alloc::Global;
 use std::test::Fail;

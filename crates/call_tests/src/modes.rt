@@ -1,4 +1,4 @@
-use super::*;
+use fallback_state::{Event, Fall, Mode, Verdict, fall_step};
 
 /// A wrong checksum on the only path, told by MP_FAIL, and the peer's infinite mapping after it.
 #[test]

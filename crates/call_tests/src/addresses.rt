@@ -1,4 +1,4 @@
-use super::*;
+use address_manager::{AddressManager, Heard};
 use std::test::Fail;
 
 /// An address as the tests have it: a host and a port.

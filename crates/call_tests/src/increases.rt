@@ -1,4 +1,4 @@
-use super::*;
+use linked_increase::{Row, Rows, alpha, growth};
 
 // Two equal paths grow half as fast as either alone (RFC 6356, section 3).
 #[test]

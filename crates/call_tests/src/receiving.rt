@@ -1,9 +1,9 @@
 ghost use Rattle.std.specs.Prelude.{◌+◌, ◌^◌, ◌≤◌, length};
 
-use super::*;
 use std::alloc::{AllocError, Global};
 use std::process::Abort;
 use std::test::Fail;
+use subflow_recv::{Acceptance, SubflowRecv};
 
 /// A side whose peer's SYN has come.
 fn opened(alloc: Global, window: u32) -> SubflowRecv {

@@ -1,4 +1,7 @@
-use super::*;
+use capable_handshake::{
+    CapableFault, ack_option, client_answer, first_data_option, server_keys, server_syn,
+    syn_ack_option, syn_option,
+};
 use mptcp_options::{MpOption, Read, read};
 use std::process::Abort;
 

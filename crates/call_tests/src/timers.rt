@@ -1,4 +1,4 @@
-use super::*;
+use rtt_timer::{MAX_SAMPLE, Rtt};
 
 /// A timer after these samples, whose timeout after each is as given.
 fn sampled(rt: &impl std::process::Abort, samples: &[(u32, u32)]) -> Rtt {

@@ -1,4 +1,4 @@
-use crate::{Mode, read};
+use run_words::{Mode, read};
 use std::test::Fail;
 
 #[test]

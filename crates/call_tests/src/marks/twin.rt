@@ -1,7 +1,7 @@
 //! The slow twin: a plain list of marks.
 ghost use Rattle.std.specs.Prelude.{◌<◌};
 
-use crate::RangeMarks;
+use range_marks::RangeMarks;
 use std::alloc::{AllocError, Global};
 use std::process::Abort;
 

@@ -1,4 +1,4 @@
-use super::*;
+use reno_window::Reno;
 use std::process::Abort;
 
 /// The window and ssthresh in octets, and whether there is a fast recovery.

@@ -1,4 +1,4 @@
-use super::*;
+use link_model::{Due, Link};
 use link_script::parse;
 use outside_kit::Side;
 use std::alloc::{AllocError, Global};
