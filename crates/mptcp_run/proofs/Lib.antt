@@ -12,7 +12,7 @@ mod Causing
 mod Gathering
 mod Turning
 mod Promised
-mod Unchanging
+mod Unaltering
 mod LogEnds
 mod PlainTasks
 mod Promising

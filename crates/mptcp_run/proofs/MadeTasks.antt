@@ -115,7 +115,7 @@ script_in_range number low = record {
 made_is_plain : (number most : ℕ) → number ≤ 256 → IsPlainTask (made_task number most)
 made_is_plain number most few = record {
   ranges = script_in_range number (omega (arith, few));
-  unchanged = refl;
+  unaltered = refl;
   short_a = let many = octets_many number 1000 (16384 * number) in omega (arith, many, few);
   short_b = let many = octets_many number 1001 (16384 * number) in omega (arith, many, few);
 }

@@ -14,7 +14,7 @@ use Rattle.mptcp_run.specs.Promised.{EndsWithRound, IsPromisedTask, LoadedTasksA
 use Rattle.mptcp_run.specs.Script.{script_meaning, script_in, actors_of, width_of, log_reading}
 use Rattle.mptcp_run.specs.Task.{Course, told, turn_of, turns_in, course_of}
 use Rattle.mptcp_run.proofs.LogEnds.{turns_end}
-use Rattle.mptcp_run.proofs.Unchanging.{run_script_is}
+use Rattle.mptcp_run.proofs.Unaltering.{run_script_is}
 
 turns_of_log : (script : Script) (text : List ℕ) (r : Result (List logged_turn.Turn) LogFault) → log_reading script text ≡ r
     → IfSome (option_map told (option_map (map turn_of) (result_ok r))) EndsWithRound
@@ -47,7 +47,7 @@ task_is (Some text) a b c few_a few_b ends = by (script_meaning text) refl
     with script e (Some a) (Some b) (Some x) few_a few_b ends = let said = run_script_is text script e in record {
       plain = record {
         ranges = read_has_ranges text script said.0;
-        unchanged = said.1;
+        unaltered = said.1;
         short_a = omega (arith, few_a);
         short_b = omega (arith, few_b);
       };

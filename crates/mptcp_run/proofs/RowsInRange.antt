@@ -47,14 +47,14 @@ use Rattle.path_core.specs.Events.{next_event, step_for}
 use Rattle.path_core.specs.Joining.{join_heard_ask, asked_at}
 use Rattle.join_handshake.specs.declared.hearing.JoinSyn.{JoinSyn}
 use Rattle.path_agenda.specs.Items.{key_heard, keys_heard}
-use Rattle.path_core.specs.Opening.{peer_key_ask, keys_ask}
-use Rattle.path_core.specs.Passing.{piece_of, piece_ask, fin_of, fin_ask, rate_ask}
+use Rattle.path_core.specs.Opening.{peer_key_ask, opened_ask}
+use Rattle.path_core.specs.Passing.{piece_of, piece_ask, fin_of, fin_ask, plain_fin, rate_ask}
 use Rattle.path_core.specs.Placing.{Piece}
 use Rattle.path_core.specs.Sends.{sends}
 use Rattle.path_core.specs.Starts.{waiting_path}
 use Rattle.path_core.specs.State.{PathState, end_at, path_of}
 use Rattle.path_core.specs.Steps.{asks_first, begins_turn}
-use Rattle.path_core.specs.Treating.{is_clash, fell_ask, mapping_ask, item_ask, item_of}
+use Rattle.path_core.specs.Treating.{is_clash, fell_ask, mapping_ask, item_ask, item_of, breaks_by_ack, plain_ack_ask}
 use Rattle.run_log.specs.Laws.{HasRowsInRange}
 use Rattle.world_laws.specs.declared.member.Member.TheVariants.{App, Path}
 use Rattle.world_laws.specs.Actors.{Actor, ActorCrew, member_asks, member_takes, member_next}
@@ -96,13 +96,13 @@ module _ {C : Type 0} (k : Codec C) (p : PathState C) (low : path_of p < 16) whe
   join_heard_fair s None = tt
   join_heard_fair s (Some asked) = low
 
-  key_fair : (s : Side) (o : Option ℕ) → IsFair (peer_key_ask s o)
-  key_fair s None = tt
+  key_fair : (s : Side) (o : Option ℕ) → IsFair (peer_key_ask s o p)
+  key_fair s None = low
   key_fair s (Some key) = tt
 
-  keys_fair : (s : Side) (o : Option KeyPair) → IsFair (keys_ask s o)
-  keys_fair s None = tt
-  keys_fair s (Some keys) = tt
+  opens_fair : (s : Side) (o : Option KeyPair) → IsFair (opened_ask s o p)
+  opens_fair s None = low
+  opens_fair s (Some keys) = tt
 
   break_fair : (s : Side) (reason : ℕ) → IsFair (break_ask k s reason p)
   break_fair s reason = by (end_at s p).treated.asked
@@ -118,12 +118,20 @@ module _ {C : Type 0} (k : Codec C) (p : PathState C) (low : path_of p < 16) whe
       by true = break_fair s 1
       by false = low
 
+  plain_ack_fair : (s : Side) → IsFair (plain_ack_ask k s p)
+  plain_ack_fair s = by (breaks_by_ack p.profile (end_at s p))
+    where
+      by : (b : Bool) → IsFair (if b then break_ask k s 6 p else fell_ask s events.PlainAck p)
+      by true = break_fair s 6
+      by false = low
+
   item_fair : (s : Side) (o : Option Heard) → IsFair (item_ask k s o p)
   item_fair s None = tt
   item_fair s (Some says.Dss) = tt
   item_fair s (Some (says.DataAck next window)) = tt
   item_fair s (Some says.Mapping) = mapping_fair s
   item_fair s (Some (says.DataFin place)) = low
+  item_fair s (Some says.InfiniteMapping) = low
   item_fair s (Some (says.PeerKey key)) = tt
   item_fair s (Some (says.Keys own peer)) = tt
   item_fair s (Some (says.Join form)) = tt
@@ -144,7 +152,7 @@ module _ {C : Type 0} (k : Codec C) (p : PathState C) (low : path_of p < 16) whe
   path_asks_fair duties.JoinAgain = low
   path_asks_fair (duties.JoinHeard s) = join_heard_fair s (asked_at s p)
   path_asks_fair (duties.Refuse s) = tt
-  path_asks_fair (duties.PlainAck s) = break_fair s 6
+  path_asks_fair (duties.PlainAck s) = plain_ack_fair s
   path_asks_fair (duties.Look s) = low
   path_asks_fair (duties.Window s) = tt
   path_asks_fair (duties.Update s) = tt
@@ -155,17 +163,23 @@ module _ {C : Type 0} (k : Codec C) (p : PathState C) (low : path_of p < 16) whe
   path_asks_fair (duties.Timer s) = tt
   path_asks_fair duties.Events = event_fair (next_event p)
   path_asks_fair (duties.SynHeard s) = tt
+  path_asks_fair (duties.PlainHandshake s) = low
   path_asks_fair (duties.SynAnswered s) = tt
   path_asks_fair (duties.PeerKey s) = key_fair s (key_heard (end_at s p).treated.items)
   path_asks_fair (duties.SynAck s) = tt
-  path_asks_fair (duties.Opened s) = keys_fair s (keys_heard (end_at s p).treated.items)
+  path_asks_fair (duties.Opened s) = opens_fair s (keys_heard (end_at s p).treated.items)
   path_asks_fair (duties.Live s) = low
   path_asks_fair (duties.Heard s index) = item_fair s (item_of index (end_at s p))
   path_asks_fair (duties.AckHeard s) = low
+  path_asks_fair (duties.SubflowAck s) = tt
+  path_asks_fair (duties.PlainData s) = low
+  path_asks_fair (duties.GoIdentity s) = tt
   path_asks_fair (duties.Keep s) = tt
   path_asks_fair (duties.Edge s) = piece_fair s (piece_of s p)
+  path_asks_fair (duties.Unmapped s) = break_fair s 6
   path_asks_fair (duties.HeardFin s index) = fin_fair s (fin_of index (end_at s p))
   path_asks_fair (duties.PassFin s) = tt
+  path_asks_fair (duties.SubflowFin s) = fin_fair s (plain_fin (end_at s p))
   path_asks_fair (duties.AckOut s) = tt
   path_asks_fair (duties.Rate s) = rate_fair s (end_at s p).tcp.congestion.pending
   path_asks_fair (duties.Acknowledge s) = tt

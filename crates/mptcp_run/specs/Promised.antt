@@ -1,4 +1,4 @@
--- What users of a run rely on, where its script changes no segment: what the readers have is what the other side writes.
+-- What users of a run rely on, where its script alters no payload: what the readers have is what the other side writes.
 use Rattle.std.specs.Prelude.{◌≡◌, ℕ, ◌⊎◌, List, [], ◌∷◌, ◌++◌, Option, Some, IfSome, IsSomeAnd}
 use Rattle.run_words.specs.Lines.{Line}
 use Rattle.outside_kit.specs.declared.port.Port.{Port}
@@ -14,7 +14,7 @@ use Rattle.mptcp_run.specs.declared.status.Status.TheVariants.{Delivered}
 use Rattle.mptcp_run.specs.Putting.{world_after, IsWhole, IsStopped, IsCut}
 use Rattle.mptcp_run.specs.Task.{Task, Course, rounds, told, task_of, AreWithinLimits}
 
--- no line of the script changes a segment, and both files are shorter than 2^31 - 2 octets
+-- no line of the script alters a payload, and both files are shorter than 2^31 - 2 octets
 abbrev pub IsPlainTask : Task → Type 0
 IsPlainTask task = IsPlainScript task.script task.file_a task.file_b
 

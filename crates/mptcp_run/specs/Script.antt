@@ -32,10 +32,12 @@ is_setting word =
 
 -- a line that begins with one of these words tells what happens on a path, and is run
 abbrev pub is_event : List ℕ → Bool
-is_event word = bytes_eq word (codes "drop") || bytes_eq word (codes "dup") || bytes_eq word (codes "late") || bytes_eq word (codes "die")
+is_event word =
+    bytes_eq word (codes "drop") || bytes_eq word (codes "dup") || bytes_eq word (codes "late") || bytes_eq word (codes "strip")
+    || bytes_eq word (codes "strip-all") || bytes_eq word (codes "die")
 
 -- A line of a script isn't run yet, unless it is empty, a comment, the first line, `end`, or one of `seed`, `checksum`, `short`,
--- `buffer`, `path`, `drop`, `dup`, `late` and `die`.
+-- `buffer`, `path`, `drop`, `dup`, `late`, `strip`, `strip-all` and `die`.
 abbrev pub is_held_back : List ℕ → Bool
 is_held_back line =
     let word = (parted_at 32 line).0 in

@@ -38,7 +38,7 @@ fn held_back_place(text: &[u8]) -> Option<usize>
 }
 
 /// Whether a line of a script isn't run yet: it is no empty line and no comment, not the first line, not `end`, and no `seed`,
-/// `checksum`, `short`, `buffer`, `path`, `drop`, `dup`, `late` or `die`.
+/// `checksum`, `short`, `buffer`, `path`, `drop`, `dup`, `late`, `strip`, `strip-all` or `die`.
 fn is_held_back(line: &[u8]) -> bool
     ensures { result ≡ is_held_back line.now }
 {
@@ -75,6 +75,8 @@ fn is_event(word: &[u8]) -> bool
     word == b"drop".as_slice()
         || word == b"dup".as_slice()
         || word == b"late".as_slice()
+        || word == b"strip".as_slice()
+        || word == b"strip-all".as_slice()
         || word == b"die".as_slice()
 }
 

@@ -23,7 +23,7 @@ start_of_turn =
 
 -- the SYN of the peer; the SYN/ACK
 abbrev pub syn_came : Side → List Duty
-syn_came s = duties.SynHeard s ∷ duties.SynAck s ∷ emission s
+syn_came s = duties.SynHeard s ∷ duties.PlainHandshake s ∷ duties.SynAck s ∷ emission s
 
 abbrev pub syn_ack_came : Side → List Duty
 syn_ack_came s = duties.SynAnswered s ∷ duties.PeerKey s ∷ duties.Live s ∷ duties.Acknowledge s ∷ emission s
@@ -50,8 +50,9 @@ things_heard s = heard_and s 0 10 []
 -- its acknowledgement, its payload, and what follows from them
 abbrev pub payload_came : Side → List Duty
 payload_came s =
-    duties.PlainAck s ∷ duties.Keep s ∷ duties.Edge s ∷ duties.HeardFin s 0 ∷ duties.HeardFin s 1 ∷ duties.PassFin s ∷ duties.AckOut s
-    ∷ duties.Rate s ∷ duties.Acknowledge s ∷ duties.Again s ∷ emission s
+    duties.PlainAck s ∷ duties.SubflowAck s ∷ duties.PlainData s ∷ duties.Keep s ∷ duties.Edge s ∷ duties.Unmapped s ∷ duties.HeardFin s 0
+    ∷ duties.HeardFin s 1 ∷ duties.PassFin s ∷ duties.SubflowFin s ∷ duties.AckOut s ∷ duties.Rate s ∷ duties.Acknowledge s ∷ duties.Again s
+    ∷ emission s
 
 -- a copy that is taken, which says so many things
 abbrev pub copy_came : Side → ℕ → List Duty

@@ -29,11 +29,27 @@ EveryTemplateEnds = (s : Side) (count reason : ℕ) → list_all ends_once (temp
 
 -- it is less than the duty was
 pub record ChainsEnd (s : Side) (index reason : ℕ) : Type 0 where
-  -- a break in the place of what a copy said, or of bytes
+  -- a break in the place of what a copy said, or of bytes, or of the end of the stream
   pub heard : weights (breaks s reason) < weights (duties.Heard s index ∷ [])
   pub edge : weights (breaks s reason) < weights (duties.Edge s ∷ [])
+  pub unmapped : weights (breaks s reason) < weights (duties.Unmapped s ∷ [])
   pub heard_fin : weights (breaks s reason) < weights (duties.HeardFin s index ∷ [])
+  pub subflow_fin : weights (breaks s reason) < weights (duties.SubflowFin s ∷ [])
+  -- in the place of what told that Multipath TCP is there, or isn't
+  pub ack_told : weights (breaks s reason) < weights (duties.AckHeard s ∷ [])
+  pub plain_handshake : weights (breaks s reason) < weights (duties.PlainHandshake s ∷ [])
+  pub peer_key : weights (breaks s reason) < weights (duties.PeerKey s ∷ [])
+  pub opened : weights (breaks s reason) < weights (duties.Opened s ∷ [])
   pub plain_ack : weights (breaks s reason) < weights (duties.PlainAck s ∷ [])
+  pub plain_data : weights (breaks s reason) < weights (duties.PlainData s ∷ [])
+  -- a fall in the same places
+  pub heard_falls : weights (duties.GoIdentity s ∷ []) < weights (duties.Heard s index ∷ [])
+  pub ack_falls : weights (duties.GoIdentity s ∷ []) < weights (duties.AckHeard s ∷ [])
+  pub handshake_falls : weights (duties.GoIdentity s ∷ []) < weights (duties.PlainHandshake s ∷ [])
+  pub key_falls : weights (duties.GoIdentity s ∷ []) < weights (duties.PeerKey s ∷ [])
+  pub opened_falls : weights (duties.GoIdentity s ∷ []) < weights (duties.Opened s ∷ [])
+  pub plain_ack_falls : weights (duties.GoIdentity s ∷ []) < weights (duties.PlainAck s ∷ [])
+  pub plain_data_falls : weights (duties.GoIdentity s ∷ []) < weights (duties.PlainData s ∷ [])
   -- the answer to a SYN that joins, and the death of an end that may not join any more
   pub join_taken : weights (duties.SynAck s ∷ []) < weights (duties.JoinHeard s ∷ [])
   pub join_refused : weights (duties.Refuse s ∷ []) < weights (duties.JoinHeard s ∷ [])

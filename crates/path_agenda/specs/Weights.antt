@@ -5,10 +5,17 @@ use Rattle.path_agenda.specs.declared.duty.Duty.TheVariants as duties
 
 -- as much as all that its replies put in its place
 abbrev pub weight : Duty → ℕ
-weight (duties.Heard s index) = 11
-weight (duties.Edge s) = 11
-weight (duties.HeardFin s index) = 11
+weight (duties.Heard s index) = 12
+weight (duties.AckHeard s) = 11
+weight (duties.PlainHandshake s) = 11
+weight (duties.PeerKey s) = 11
+weight (duties.Opened s) = 11
 weight (duties.PlainAck s) = 11
+weight (duties.PlainData s) = 11
+weight (duties.Edge s) = 11
+weight (duties.Unmapped s) = 11
+weight (duties.HeardFin s index) = 11
+weight (duties.SubflowFin s) = 11
 weight (duties.BreakAck s reason) = 7
 weight (duties.BreakReset s reason) = 4
 weight (duties.Reset s) = 4

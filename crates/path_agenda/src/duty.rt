@@ -34,7 +34,9 @@ pub enum Duty {
     SynHeard(Side),
     /// The SYN/ACK came: tells its window.
     SynAnswered(Side),
-    /// Tells the peer's key.
+    /// The SYN came: tells that it doesn't ask for Multipath TCP.
+    PlainHandshake(Side),
+    /// The SYN/ACK came: tells the peer's key, or that it has none.
     PeerKey(Side),
     /// Sends the SYN/ACK.
     SynAck(Side),
@@ -42,7 +44,7 @@ pub enum Duty {
     JoinHeard(Side),
     /// Sends the reset that refuses a path which joins (RFC 8684, section 3.2).
     Refuse(Side),
-    /// The end left SynReceived: tells both keys, where they came.
+    /// The end left SynReceived: tells both keys, where they came, or that no option came.
     Opened(Side),
     /// The end was established: tells that the path lives.
     Live(Side),
@@ -51,16 +53,27 @@ pub enum Duty {
     Heard { side: Side, index: u64 },
     /// A Data ACK that covers something was taken: tells it.
     AckHeard(Side),
-    /// An acknowledgement of data came without a Data ACK: breaks a path that joined, where none ever came.
+    /// An acknowledgement of data came without a Data ACK: tells it, or breaks the path, where it joined and no Data ACK ever
+    /// came, or where this is the third time in a row.
     PlainAck(Side),
+    /// The side fell back to plain TCP: tells the acknowledgement of the subflow in the place of a Data ACK.
+    SubflowAck(Side),
+    /// The next byte came without an option of Multipath TCP: tells it.
+    PlainData(Side),
+    /// The side fell back to plain TCP: tells the send book (RFC 8684, section 3.7).
+    GoIdentity(Side),
     /// Keeps the payload. Silent.
     Keep(Side),
     /// Places the bytes that are in order and mapped: as long as there are some.
     Edge(Side),
+    /// The next byte came once more without a mapping: breaks the path, where it is the third time.
+    Unmapped(Side),
     /// Tells the end of the stream that a DATA_FIN said, the first being 0.
     HeardFin { side: Side, index: u64 },
     /// Passes the peer's FIN. Silent.
     PassFin(Side),
+    /// The side fell back to plain TCP: tells the peer's FIN in the place of a DATA_FIN.
+    SubflowFin(Side),
     /// Asks what is to be acknowledged, where bytes or an end were told.
     AckOut(Side),
     /// Tells window and round-trip time, and takes the growth of the window.

@@ -14,6 +14,8 @@ pub enum Heard {
     Mapping,
     /// The stream ends before this place.
     DataFin { place: u64 },
+    /// An infinite mapping, whose length is 0 (section 3.7).
+    InfiniteMapping,
     /// The peer's key alone.
     PeerKey { key: u64 },
     /// Both keys: the hearer's own one, and the peer's.

@@ -81,12 +81,13 @@ impl Agenda {
         Agenda::of(&[duty, Duty::Events, Duty::End])
     }
 
-    /// The SYN of the peer came: its window is told, and then the SYN/ACK goes out.
+    /// The SYN of the peer came: its window is told, and that it doesn't ask for Multipath TCP, and then the SYN/ACK goes out.
     pub fn syn_came(side: Side) -> Self
         ensures { result ≡ syn_came side }
     {
         Agenda::of(&[
             Duty::SynHeard(side),
+            Duty::PlainHandshake(side),
             Duty::SynAck(side),
             Duty::Syn(side),
             Duty::Data(side),
@@ -154,11 +155,15 @@ impl Agenda {
     {
         Agenda::of(&[
             Duty::PlainAck(side),
+            Duty::SubflowAck(side),
+            Duty::PlainData(side),
             Duty::Keep(side),
             Duty::Edge(side),
+            Duty::Unmapped(side),
             Duty::HeardFin { side, index: 0 },
             Duty::HeardFin { side, index: 1 },
             Duty::PassFin(side),
+            Duty::SubflowFin(side),
             Duty::AckOut(side),
             Duty::Rate(side),
             Duty::Acknowledge(side),

@@ -13,7 +13,7 @@ use Rattle.path_segments.specs.declared.segment.PathOption.TheVariants.{Capable,
 use Rattle.path_segments.specs.declared.segment.PathMapping.{PathMapping}
 use Rattle.path_segments.specs.declared.segment.PathMapping.TheVariants.{Bytes, End, Infinite}
 use Rattle.path_agenda.specs.declared.heard.Heard.TheVariants as says
-use Rattle.path_core.specs.Arriving.{HeardOption, is_mapping, mapping_items, ack_items, end_items, map_items, key_items, join_items, items_in}
+use Rattle.path_core.specs.Arriving.{HeardOption, is_mapping, mapping_items, ack_items, end_items, infinite_items, map_items, key_items, join_items, items_in}
 use Rattle.path_agenda.specs.Items.{IsFair}
 
 fair_ack : (next : Option (Option ℕ)) (window : ℕ) → All IsFair (ack_items next window)
@@ -39,6 +39,13 @@ fair_mapping place position len = by (is_mapping place position len)
     by true = All-cons IsFair says.Mapping [] tt (All-nil IsFair)
     by false = All-nil IsFair
 
+fair_infinite : (place : ℕ) → All IsFair (infinite_items place)
+fair_infinite place = by (nat_lt place (2 ^ 62))
+  where
+    by : (b : Bool) → All IsFair (if b then says.InfiniteMapping ∷ [] else [])
+    by true = All-cons IsFair says.InfiniteMapping [] tt (All-nil IsFair)
+    by false = All-nil IsFair
+
 fair_map : (mapping : Option (PathMapping (Option ℕ))) → All IsFair (map_items mapping)
 fair_map None = All-nil IsFair
 fair_map (Some (Bytes None position len fin checksum)) = All-nil IsFair
@@ -47,7 +54,8 @@ fair_map (Some (Bytes (Some place) (Some position) len true checksum)) = All-nil
 fair_map (Some (Bytes (Some place) (Some position) len false checksum)) = fair_mapping place position len
 fair_map (Some (End None checksum)) = All-nil IsFair
 fair_map (Some (End (Some place) checksum)) = fair_end place
-fair_map (Some (Infinite place position)) = All-nil IsFair
+fair_map (Some (Infinite None position)) = All-nil IsFair
+fair_map (Some (Infinite (Some place) position)) = fair_infinite place
 
 fair_keys : (s : Side) (keys : CapableKeys) → All IsFair (key_items s keys)
 fair_keys A NoKey = All-nil IsFair

@@ -1,10 +1,11 @@
 -- A reset far ahead of what an end expects does the same to it, whether its position is heard or not.
-use Rattle.std.proofs.Common.{◌≡◌, refl, sym, ◌∙◌, ap, ℕ, ◌+◌, ◌-◌, ◌^◌, ◌<◌, ◌≤◌, ◌⊎◌, inl, inr, ⊎_elim, nat_lt, ◌&&◌, ◌||◌, Bool, true, false, if◌then◌else◌, List, Option, Some, None, option_map, unwrap_or, arith}
+use Rattle.std.proofs.Common.{◌≡◌, refl, sym, ◌∙◌, ap, ℕ, ◌+◌, ◌-◌, ◌^◌, ◌<◌, ◌≤◌, ◌⊎◌, inl, inr, ⊎_elim, nat_lt, ◌&&◌, ◌||◌, Bool, true, false, if◌then◌else◌, List, [], Option, Some, None, option_map, unwrap_or, arith}
 use Rattle.std.proofs.lemmas.Bool.{cases_lt}
 use Rattle.std.proofs.lemmas.Int.{ints}
 use Rattle.std.specs.Option.{IsSome}
 use Rattle.std.specs.Result.{result_ok}
 use Rattle.seq_units.specs.Number.{number_of, position_near}
+use Rattle.segment_wire.specs.Changes as changes
 use Rattle.segment_wire.proofs.Again.{segment_meaning-written}
 use Rattle.outside_kit.specs.declared.side.Side.{Side}
 use Rattle.path_segments.specs.declared.expected.Expected.{Expected}
@@ -15,6 +16,7 @@ use Rattle.path_segments.specs.Spelled.{PlainSegment, CanSay, spelled, spelled_t
 use Rattle.path_segments.specs.Heard.{heard_in, heard_segment}
 use Rattle.path_segments.specs.HeardLent.{IsExpected}
 use Rattle.path_segments.specs.Laws.{IsPositionFresh, meant}
+use Rattle.path_segments.proofs.ChangedSegments.{stripped_means, stripped_is_heard}
 use Rattle.path_segments.proofs.SegmentsAgain.{four, written, heard_as_meant}
 use Rattle.subflow_tcp.specs.declared.handshake.State.{State as EndPhase}
 use Rattle.subflow_tcp.specs.declared.handshake.State.TheVariants as phase
@@ -27,10 +29,10 @@ use Rattle.subflow_tcp.specs.State.{EndState, is_at_limit}
 use Rattle.path_agenda.specs.declared.heard.Heard.{Heard}
 use Rattle.path_core.specs.declared.judged.Judged.{Judged}
 use Rattle.path_core.specs.Joins.{is_joined}
-use Rattle.path_core.specs.Arriving.{acknowledged_in, copy_of, items_of, held_of, zero_position, reset_by, reset_for, with_held, after_copy, after_join, judged_of, judged_in, taken_as, after_judged, template_of}
+use Rattle.path_core.specs.Arriving.{acknowledged_in, copy_of, options_heard, items_of, held_of, zero_position, reset_by, reset_for, with_held, after_copy, after_join, judged_of, judged_in, taken_as, after_judged, template_of}
 use Rattle.path_core.specs.Codec.{HeardSegment}
 use Rattle.path_core.specs.Ends.{PathEnd}
-use Rattle.path_core.specs.Events.{copy_heard}
+use Rattle.path_core.specs.Events.{told_at, copy_heard}
 use Rattle.path_core.specs.Shown.{IsFarReset}
 use Rattle.path_core.specs.State.{PathState, Profile, end_at, goes_on}
 
@@ -70,6 +72,19 @@ module _ (spelling : Spelling) (from : SpelledSide) (expected : Expected) where
     far_heard is =
         from_text s can ∙ ap (λ h. Some h) position_alone
         ∙ ap (option_map unplaced) (sym (from_text moved can_move) ∙ heard_as_meant spelling from expected moved can_move is far.others)
+
+    stripped_position_alone : heard_segment spelling from expected (changes.stripped (spelled spelling from s))
+        ≡ unplaced (heard_segment spelling from expected (changes.stripped (spelled spelling from moved)))
+    unfolding spelled
+    stripped_position_alone = rw (far_is_nowhere (numbers_of spelling from).initial.0 expected.edge s.position far.ahead far.low) refl
+
+    -- so it is without its options
+    pub far_stripped_heard : IsExpected expected
+        → heard_in spelling from expected (changes.text_stripped (addresses_from spelling.path from) (spelled_text spelling from s))
+        ≡ Some (unplaced (record (meant s) { options = [] }))
+    far_stripped_heard is =
+        stripped_means spelling from s can expected ∙ ap (λ h. Some h) stripped_position_alone
+        ∙ ap (option_map unplaced) (sym (stripped_means spelling from moved can_move expected) ∙ stripped_is_heard spelling from expected moved can_move is far.others)
 
 -- ---- what it means for the subflow
 
@@ -157,15 +172,20 @@ module _ (h : HeardSegment) (pos : ℕ) (reset : h.rst ≡ true) (at : h.positio
       ∙ sym (ap (λ (b : Bool). meaning_of (record (copy_of h) { rst = b }) tcp) reset
       ∙ ap (λ (o : Option ℕ). meaning_of (record (copy_of h) { rst = true; position = o }) tcp) at)
 
-  pub far_treated : {C : Type 0} (s : Side) (p : PathState C) → IsSome h.acknowledged → (end_at s p).tcp.recv.edge + 2 ^ 31 ≤ pos
-      → copy_heard s (Some (unplaced h)) p ≡ copy_heard s (Some h) p
-  far_treated s p some far =
+  far_told : {C : Type 0} (s : Side) (now : ℕ) (p : PathState C) → IsSome h.acknowledged → (end_at s p).tcp.recv.edge + 2 ^ 31 ≤ pos
+      → told_at now s (unplaced h) p ≡ told_at now s h p
+  far_told s now p some far =
       let e = end_at s p in let joined = is_joined p.profile in let items = items_of joined s h in
       ap (λ (m : Meaning).
-      let verdict = judged_of joined h.rst items m e in goes_on s (after_judged p.profile s p.clock (unplaced h) verdict e) (template_of joined s items verdict) p)
+      let verdict = judged_of joined h.rst items m e in goes_on s (after_judged p.profile s now (unplaced h) verdict e) (template_of joined s items verdict) p)
       (heard_meaning e.tcp far)
       ∙ ap (λ (after : PathEnd). goes_on s after (template_of joined s items (judged_in joined s h e)) p)
-      (same_end s p.clock h p.profile (judged_in joined s h e) e some)
+      (same_end s now h p.profile (judged_in joined s h e) e some)
+
+pub far_treated : (h : HeardSegment) (pos : ℕ) → h.rst ≡ true → h.position ≡ Some pos
+    → {C : Type 0} (s : Side) (p : PathState C) → IsSome h.acknowledged → (end_at s p).tcp.recv.edge + 2 ^ 31 ≤ pos
+    → copy_heard s (Some (unplaced h)) p ≡ copy_heard s (Some h) p
+far_treated h pos reset at s p some far = far_told (options_heard (end_at s p) h) pos reset at s p.clock p some far
 
 -- ---- which resets are far
 

@@ -9,7 +9,7 @@ use Rattle.link_model.specs.Steps.{due_of, is_due, without, next_due, arriving, 
 use Rattle.subflow_tcp.specs.States.{is_dead, is_waiting}
 use Rattle.subflow_tcp.specs.declared.handshake.State.{State as EndPhase}
 use Rattle.subflow_tcp.specs.Taking.{after_arrival}
-use Rattle.path_core.specs.Arriving.{copy_of, hint_of, items_of, owes_by, with_payload, judged_in, taken_as, after_judged, template_of}
+use Rattle.path_core.specs.Arriving.{options_heard, copy_of, hint_of, items_of, owes_by, with_payload, judged_in, taken_as, after_judged, template_of}
 use Rattle.path_core.specs.Joining.{is_never, keys_begun, opened_by}
 use Rattle.path_core.specs.Joins.{is_joined}
 use Rattle.path_core.proofs.Joined.{died_rests, opened_rests}
@@ -17,7 +17,7 @@ use Rattle.actor_desk.specs.declared.ask.Reply.{Reply}
 use Rattle.path_agenda.specs.Agenda.{rest_of_turn, emission, leaves}
 use Rattle.path_core.specs.Codec.{Codec, HeardSegment}
 use Rattle.path_core.specs.Ends.{PathEnd}
-use Rattle.path_core.specs.Events.{tick_of, next_join, next_line, next_copy, next_fire, earlier, earliest, before, next_event, is_death, died, died_unless_dead, after_line, line_taken, at_tick, joins_at_tick, copy_heard, heard_in, copy_taken, timer_fired, happens, happens_if, CanHappen}
+use Rattle.path_core.specs.Events.{tick_of, next_join, next_line, next_copy, next_fire, earlier, earliest, before, next_event, is_death, died, died_unless_dead, after_line, line_taken, at_tick, joins_at_tick, told_at, copy_heard, heard_in, copy_taken, timer_fired, happens, happens_if, CanHappen}
 use Rattle.path_core.specs.declared.event.Event.{Event}
 use Rattle.path_core.specs.declared.event.Event.TheVariants as happenings
 use Rattle.path_core.specs.Ranks.{ticks_left, one_if_due, due_copies, due_lines, due_timer, due_by_now}
@@ -179,15 +179,18 @@ module _ {C : Type 0} where
           ≡ one_if_due p.clock f.tick + due_copies p.clock (without (position (is_due (due_of f)) p.link.under_way) p.link.under_way)
       one_less = rw (is, without_head (is_due (due_of f)) f flights (head_is_due f)) refl
 
-  copy_calm : (s : Side) (heard : Option HeardSegment) (p : PathState C) → TakesTime p → Calm p (copy_heard s heard p)
-  copy_calm s None p t = agenda_calm (emission s) p t
-  copy_calm s (Some h) p t =
+  told_calm : (s : Side) (h : HeardSegment) (p : PathState C) → TakesTime p → Calm p (told_at p.clock s h p)
+  told_calm s h p t =
       let e = end_at s p in let joined = is_joined p.profile in let items = items_of joined s h in let verdict = judged_in joined s h e in
       let meaning = taken_as verdict in
       goes_calm s (after_judged p.profile s p.clock h verdict e) (template_of joined s items verdict) p t
       (to_rests p.clock e (after_judged p.profile s p.clock h verdict e)
       (owing_settles p.clock (owes_by meaning items) e.tcp.timing (after_arrival meaning (hint_of items) p.clock (copy_of h) (with_payload meaning h.payload e.tcp))
       (held_settles p.clock meaning h.payload (hint_of items) p.clock (copy_of h) e.tcp)))
+
+  copy_calm : (s : Side) (heard : Option HeardSegment) (p : PathState C) → TakesTime p → Calm p (copy_heard s heard p)
+  copy_calm s None p t = agenda_calm (emission s) p t
+  copy_calm s (Some h) p t = told_calm s (options_heard (end_at s p) h) p t
 
   copy_lowers : (k : Codec C) (f : Flight C) (flights : List (Flight C)) (p : PathState C) → TakesTime p → p.link.under_way ≡ f ∷ flights → f.tick < p.until
       → Lowers p (copy_taken k (due_of f) p)

@@ -10,9 +10,11 @@ pub mod Mapped
 pub mod Filling
 pub mod Sendings
 pub mod Happening
+pub mod Fallen
 pub mod Lowering
 pub mod TurnEnds
 pub mod FarResets
+pub mod CopiesRead
 pub mod Showing
 mod Sayable
 mod InBounds

@@ -1,10 +1,9 @@
 -- Each reply of the asked kind lowers the numbers of a turn.
 use Rattle.std.proofs.Common.{◌≡◌, refl, subst, ℕ, ◌+◌, ◌-◌, ◌<◌, ◌≤◌, ◌&&◌, nat_lt, Bool, true, false, if◌then◌else◌, List, [], ◌∷◌, length, Option, Some, None, arith}
-use Rattle.std.proofs.lemmas.Bool.{leb-true}
+use Rattle.std.proofs.lemmas.Bool.{leb-true, ltb-true}
 use Rattle.outside_kit.specs.declared.side.Side.{Side}
 use Rattle.outside_kit.specs.declared.side.Side.TheVariants.{A, B}
 use Rattle.path_segments.specs.Spelled.{PlainSegment}
-use Rattle.dss_mapping.specs.Mappings.{mapping_at}
 use Rattle.send_book.specs.declared.call.SendReply.TheVariants as send_replies
 use Rattle.subflow_send.specs.Records.{Record}
 use Rattle.subflow_send.specs.declared.record.RecordKind.TheVariants.{Data}
@@ -33,17 +32,22 @@ use Rattle.join_handshake.specs.declared.hearing.JoinSyn.{JoinSyn}
 use Rattle.path_core.proofs.Joined.{died_rests, opened_rests, joined_rests}
 use Rattle.actor_desk.specs.Kinds.{IsOfKind, IsSomeOf}
 use Rattle.path_agenda.specs.Items.{key_heard, keys_heard}
-use Rattle.path_core.specs.Opening.{syn_ack_of, with_peer_key, after_keys}
-use Rattle.path_core.specs.Passing.{having_asked, piece_of, is_placed, placed, answered_piece, is_fin_set, with_peer_end, answered_fin_heard, after_rate, first_segment, answer_occasion, answer_of, dead_answer, resend_occasion, resend_of}
+use Rattle.fallback_state.specs.declared.fall.Event.{Event}
+use Rattle.fallback_state.specs.declared.fall.Event.TheVariants as events
+use Rattle.path_core.specs.Falling.{after_fell, fell_duties, answered_fell, in_identity}
+use Rattle.path_core.specs.Opening.{syn_ack_of, with_peer_key, answered_peer_key, after_keys, answered_opened}
+use Rattle.path_core.specs.Passing.{having_asked, piece_of, is_placed, placed, answered_piece, is_fin_set, with_peer_end, answered_fin_heard, with_fin_told, answered_plain_fin, after_rate, first_segment, answer_occasion, answer_of, dead_answer, resend_occasion, resend_of}
 use Rattle.path_core.specs.Passing as passing
-use Rattle.path_core.specs.Placing.{Piece, next_piece, after_piece}
-use Rattle.path_agenda.specs.Weights.{weights}
+use Rattle.path_core.specs.Placing.{Piece, some_piece, plain_piece, piece_by, mapping_here, next_piece, after_piece}
+use Rattle.subflow_recv.specs.Receiving.{filled}
+use Rattle.subflow_tcp.specs.State.{EndState}
+use Rattle.path_agenda.specs.Weights.{weight, weights}
 use Rattle.path_core.specs.Ranks.{work}
 use Rattle.path_core.specs.Sends.{having_sent, sent_on}
 use Rattle.path_core.specs.Standing.{after_look, after_ack_out, answered_ack_out, ack_segment, acknowledges}
 use Rattle.path_core.specs.Segments.{mapping_of}
 use Rattle.path_core.specs.State.{PathState, Profile, end_at, with_agenda, goes_on, left, path_of}
-use Rattle.path_core.specs.Treating.{is_clash, after_verdict, is_acked, told_next, with_acked, answered_mapping, with_fin, answered_item, item_of}
+use Rattle.path_core.specs.Treating.{is_clash, is_acked, told_next, with_acked, answered_mapping, with_fin, answered_item, item_of, breaks_by_ack, with_plain_ack, answered_plain_ack, with_plain_acked}
 use Rattle.path_core.specs.Placing.{with_learned}
 use Rattle.path_core.specs.Turns.{TakesTime}
 use Rattle.path_agenda.specs.Words.{replaced}
@@ -51,7 +55,8 @@ use Rattle.actor_desk.proofs.Falling.{Then}
 use Rattle.path_core.proofs.Happening.{event_lowers}
 use Rattle.path_core.proofs.Ranking.{Rests, same_rests, goes_calm, sent_calm, agenda_calm, Lowers, lowers}
 use Rattle.path_core.proofs.Resting.{sent_same}
-use Rattle.path_core.proofs.Sendings.{sent_count, sent_outstanding, none_unsent, pushed_outstanding, pushed_count, filled_drop, piece_fits}
+use Rattle.path_core.proofs.Fallen.{after_a_verdict}
+use Rattle.path_core.proofs.Sendings.{Fits, sent_count, sent_outstanding, none_unsent, pushed_outstanding, pushed_count, filled_drop, piece_fits}
 
 -- the record of a granted piece
 abbrev pushed : Profile → Side → Grant → PathEnd → Record
@@ -104,6 +109,24 @@ asked_fits : (c : Profile) (s : Side) (e : PathEnd) → may_ask c s e ≡ true �
 asked_fits c s e may =
     leb-true _ _ (first_true _ _ (second_true (may_finish e.tcp.state) _ may))
 
+-- all that is in order is placed after a fallback
+plain_fits : (s : EndState) (piece : Piece) → some_piece (plain_piece s) ≡ Some piece → Fits s piece
+plain_fits s piece e = by (nat_lt 0 (length (filled s.recv.places))) refl e
+  where
+    by : (b : Bool) → nat_lt 0 (length (filled s.recv.places)) ≡ b → (if b then Some (plain_piece s) else None) ≡ Some piece → Fits s piece
+    by true is e =
+        let same : plain_piece s ≡ piece = cc in
+        subst (Fits s) same (record { some = omega (arith, ltb-true _ _ is); within = omega arith })
+    by false is e = cc
+
+next_fits : (c : Profile) (e : PathEnd) (piece : Piece) → next_piece c e ≡ Some piece → Fits e.tcp piece
+next_fits c e piece is = by e.modes.identity is
+  where
+    by : (b : Bool) → (if b then some_piece (plain_piece e.tcp) else piece_by c.spelling.checksums (mapping_here e) e.tcp) ≡ Some piece
+        → Fits e.tcp piece
+    by true is = plain_fits e.tcp piece is
+    by false is = piece_fits c.spelling.checksums (mapping_here e) e.tcp piece is
+
 module _ {C : Type 0} where
   -- ---- by weight
 
@@ -131,7 +154,7 @@ module _ {C : Type 0} where
   placed_less : (s : Side) (piece : Piece) (p : PathState C) → TakesTime p → next_piece p.profile (end_at s p) ≡ Some piece → Lowers p (placed s piece p)
   placed_less A piece p t is =
       let e = p.a in
-      let fits = piece_fits p.profile.spelling.checksums (mapping_at e.receiving.mappings e.tcp.recv.edge) e.tcp piece is in
+      let fits = next_fits p.profile e piece is in
       let some : 1 ≤ length piece.octets = fits.some in
       let count : e.tcp.recv.edge + length piece.octets - e.tcp.recv.edge ≡ length piece.octets = omega arith in
       let fewer = filled_drop (length piece.octets) e.tcp.recv.places fits.within in
@@ -139,7 +162,7 @@ module _ {C : Type 0} where
       (Then.Stays (omega arith) (Then.Falls (rw count (omega (arith, some, fewer)))))
   placed_less B piece p t is =
       let e = p.b in
-      let fits = piece_fits p.profile.spelling.checksums (mapping_at e.receiving.mappings e.tcp.recv.edge) e.tcp piece is in
+      let fits = next_fits p.profile e piece is in
       let some : 1 ≤ length piece.octets = fits.some in
       let count : e.tcp.recv.edge + length piece.octets - e.tcp.recv.edge ≡ length piece.octets = omega arith in
       let fewer = filled_drop (length piece.octets) e.tcp.recv.places fits.within in
@@ -162,6 +185,13 @@ module _ {C : Type 0} where
       goes_less s (having_asked (with_peer_end (end_at s p))) (left p) p t
       (same_rests p.clock (end_at s p) (having_asked (with_peer_end (end_at s p))) refl) less
   fin_lowers s false p t less heavy = refused_less s p t heavy
+
+  plain_fin_lowers : (s : Side) (set : Bool) (p : PathState C) → TakesTime p → weights (left p) < weights p.agenda → 12 ≤ weights p.agenda
+      → Lowers p (answered_plain_fin s set p)
+  plain_fin_lowers s true p t less heavy =
+      let e = end_at s p in let f : PathEnd = having_asked (with_peer_end (with_fin_told e)) in
+      goes_less s f (left p) p t (same_rests p.clock e f refl) less
+  plain_fin_lowers s false p t less heavy = refused_less s p t heavy
 
   -- ---- what is sent, and what is granted
 
@@ -204,6 +234,35 @@ module _ {C : Type 0} where
   data_lowers k s None r p t less is stands kind =
       grant_lowers s (grant_in r) r p t less refl is (asked_fits p.profile s (end_at s p) stands) kind
 
+  -- ---- verdicts
+
+  -- the duty is lighter than each agenda that may follow a verdict
+  pub record Heavy (s : Side) (p : PathState C) : Type 0 where
+    pub done : weights (left p) < weights p.agenda
+    pub falls : weights (replaced (duties.GoIdentity s) p.agenda) < weights p.agenda
+    pub breaks : 12 ≤ weights p.agenda
+
+  fell_less : (s : Side) (e : PathEnd) (r : Reply) (p : PathState C) → TakesTime p → Rests p.clock (end_at s p) e → Heavy s p
+      → Lowers p (goes_on s e (fell_duties s r p) p)
+  fell_less s e r p t rests heavy =
+      goes_less s e (fell_duties s r p) p t rests
+      (after_a_verdict (λ ds. weights ds < weights p.agenda) s p heavy.falls (λ reason. omega (arith, heavy.breaks)) (λ reason. omega (arith, heavy.breaks))
+      heavy.done r)
+
+  verdict_lowers : (s : Side) (event : Event) (r : Reply) (p : PathState C) → TakesTime p → Heavy s p → Lowers p (answered_fell s event r p)
+  verdict_lowers s event r p t heavy =
+      fell_less s (after_fell event r (end_at s p)) r p t (same_rests p.clock (end_at s p) (after_fell event r (end_at s p)) refl) heavy
+
+  peer_key_lowers : (s : Side) (key : Option ℕ) (r : Reply) (p : PathState C) → TakesTime p → Heavy s p → Lowers p (answered_peer_key s key r p)
+  peer_key_lowers s None r p t heavy = verdict_lowers s events.PlainHandshake r p t heavy
+  peer_key_lowers s (Some key) r p t heavy =
+      let e = end_at s p in let f : PathEnd = with_peer_key (Some key) e in goes_less s f (left p) p t (same_rests p.clock e f refl) heavy.done
+
+  opened_lowers : (s : Side) (keys : Option KeyPair) (r : Reply) (p : PathState C) → TakesTime p → Heavy s p → Lowers p (answered_opened s keys r p)
+  opened_lowers s None r p t heavy = verdict_lowers s events.PlainHandshake r p t heavy
+  opened_lowers s (Some keys) r p t heavy =
+      let e = end_at s p in let f : PathEnd = after_keys r (Some keys) e in goes_less s f (left p) p t (same_rests p.clock e f refl) heavy.done
+
   -- ---- breaks, and what a copy says
 
   reset_less : (k : Codec C) (s : Side) (reason : Option ℕ) (new : List Duty) (p : PathState C) → TakesTime p → weights new < weights p.agenda
@@ -219,36 +278,48 @@ module _ {C : Type 0} where
       by true = goes_less s (after_ack_out r (end_at s p)) (resets s reason) p t (same_rests p.clock (end_at s p) (after_ack_out r (end_at s p)) refl) (omega (arith, heavy))
       by false = reset_less k s (Some reason) (leaves s) p t (omega (arith, heavy))
 
-  mapping_lowers : (k : Codec C) (s : Side) (r : Reply) (p : PathState C) → TakesTime p → weights (left p) < weights p.agenda
-      → 12 ≤ weights p.agenda → Lowers p (answered_mapping k s r p)
-  mapping_lowers k s r p t less heavy = by (is_clash (end_at s p))
+  mapping_lowers : (k : Codec C) (s : Side) (r : Reply) (p : PathState C) → TakesTime p → Heavy s p → Lowers p (answered_mapping k s r p)
+  mapping_lowers k s r p t heavy = by (is_clash (end_at s p))
     where
-      by : (b : Bool) → Lowers p (if b then answered_break k s 1 r p else goes_on s (with_learned (after_verdict r (end_at s p))) (left p) p)
-      by true = break_lowers k s 1 r p t heavy
-      by false = goes_less s (with_learned (after_verdict r (end_at s p))) (left p) p t
-          (same_rests p.clock (end_at s p) (with_learned (after_verdict r (end_at s p))) refl) less
+      f : PathEnd
+      f = with_learned (after_fell events.MappingHeard r (end_at s p))
+
+      by : (b : Bool) → Lowers p (if b then answered_break k s 1 r p else goes_on s f (fell_duties s r p) p)
+      by true = break_lowers k s 1 r p t heavy.breaks
+      by false = fell_less s f r p t (same_rests p.clock (end_at s p) f refl) heavy
+
+  plain_ack_lowers : (k : Codec C) (s : Side) (r : Reply) (p : PathState C) → TakesTime p → Heavy s p → Lowers p (answered_plain_ack k s r p)
+  plain_ack_lowers k s r p t heavy = by (breaks_by_ack p.profile (end_at s p))
+    where
+      f : PathEnd
+      f = with_plain_ack (after_fell events.PlainAck r (end_at s p))
+
+      by : (b : Bool) → Lowers p (if b then answered_break k s 6 r p else goes_on s f (fell_duties s r p) p)
+      by true = break_lowers k s 6 r p t heavy.breaks
+      by false = fell_less s f r p t (same_rests p.clock (end_at s p) f refl) heavy
 
   told_less : (s : Side) (covers : Bool) (p : PathState C) → weights (left p) < weights p.agenda → weights (replaced (duties.AckHeard s) p.agenda) < weights p.agenda
       → weights (told_next s covers p) < weights p.agenda
   told_less s true p less next = next
   told_less s false p less next = less
 
-  heard_lowers : (k : Codec C) (s : Side) (item : Option Heard) (r : Reply) (p : PathState C) → TakesTime p → weights (left p) < weights p.agenda
-      → weights (replaced (duties.AckHeard s) p.agenda) < weights p.agenda → 12 ≤ weights p.agenda → Lowers p (answered_item k s item r p)
-  heard_lowers k s None r p t less next heavy = agenda_less (left p) p t less
-  heard_lowers k s (Some says.Dss) r p t less next heavy = agenda_less (left p) p t less
-  heard_lowers k s (Some (says.DataAck place window)) r p t less next heavy =
+  heard_lowers : (k : Codec C) (s : Side) (item : Option Heard) (r : Reply) (p : PathState C) → TakesTime p
+      → weights (replaced (duties.AckHeard s) p.agenda) < weights p.agenda → Heavy s p → Lowers p (answered_item k s item r p)
+  heard_lowers k s None r p t next heavy = agenda_less (left p) p t heavy.done
+  heard_lowers k s (Some says.Dss) r p t next heavy = agenda_less (left p) p t heavy.done
+  heard_lowers k s (Some (says.DataAck place window)) r p t next heavy =
       goes_less s (with_acked place r (end_at s p)) (told_next s (is_acked r && nat_lt 0 place) p) p t
-      (same_rests p.clock (end_at s p) (with_acked place r (end_at s p)) refl) (told_less s (is_acked r && nat_lt 0 place) p less next)
-  heard_lowers k s (Some says.Mapping) r p t less next heavy = mapping_lowers k s r p t less heavy
-  heard_lowers k s (Some (says.DataFin place)) r p t less next heavy =
-      goes_less s (with_fin place (after_verdict r (end_at s p))) (left p) p t
-      (same_rests p.clock (end_at s p) (with_fin place (after_verdict r (end_at s p))) refl) less
-  heard_lowers k s (Some (says.PeerKey key)) r p t less next heavy = agenda_less (left p) p t less
-  heard_lowers k s (Some (says.Keys own peer)) r p t less next heavy =
+      (same_rests p.clock (end_at s p) (with_acked place r (end_at s p)) refl) (told_less s (is_acked r && nat_lt 0 place) p heavy.done next)
+  heard_lowers k s (Some says.Mapping) r p t next heavy = mapping_lowers k s r p t heavy
+  heard_lowers k s (Some (says.DataFin place)) r p t next heavy =
+      let f : PathEnd = with_fin place (after_fell events.MappingHeard r (end_at s p)) in
+      fell_less s f r p t (same_rests p.clock (end_at s p) f refl) heavy
+  heard_lowers k s (Some says.InfiniteMapping) r p t next heavy = verdict_lowers s events.InfiniteHeard r p t heavy
+  heard_lowers k s (Some (says.PeerKey key)) r p t next heavy = agenda_less (left p) p t heavy.done
+  heard_lowers k s (Some (says.Keys own peer)) r p t next heavy =
       goes_less s (after_keys r (Some (record { own = own; peer = peer })) (end_at s p)) (left p) p t
-      (same_rests p.clock (end_at s p) (after_keys r (Some (record { own = own; peer = peer })) (end_at s p)) refl) less
-  heard_lowers k s (Some (says.Join form)) r p t less next heavy = agenda_less (left p) p t less
+      (same_rests p.clock (end_at s p) (after_keys r (Some (record { own = own; peer = peer })) (end_at s p)) refl) heavy.done
+  heard_lowers k s (Some (says.Join form)) r p t next heavy = agenda_less (left p) p t heavy.done
 
   -- ---- joins
 
@@ -270,6 +341,13 @@ module _ {C : Type 0} where
 
   -- ---- every duty
 
+  heavy_by : (d : Duty) (ds : List Duty) (s : Side) (p : PathState C) → p.agenda ≡ d ∷ ds → 11 ≤ weight d → Heavy s p
+  heavy_by d ds s p is least = record {
+    done = rw is (omega arith);
+    falls = rw is (omega (arith, least));
+    breaks = rw is (omega (arith, least));
+  }
+
   pub answered_lowers : (k : Codec C) (d : Duty) (ds : List Duty) (r : Reply) (p : PathState C) → TakesTime p → p.agenda ≡ d ∷ ds → stands d p ≡ true
       → IsOfKind (ask_for k d p) r → Lowers p (answered k d r p)
   answered_lowers k duties.JoinAgain ds r p t is stands kind =
@@ -290,9 +368,10 @@ module _ {C : Type 0} where
   answered_lowers k duties.Events ds r p t is stands kind = event_lowers k r p t stands
   answered_lowers k (duties.SynHeard s) ds r p t is stands kind = agenda_less (left p) p t (left_less _ ds p is)
   answered_lowers k (duties.SynAnswered s) ds r p t is stands kind = agenda_less (left p) p t (left_less _ ds p is)
+  answered_lowers k (duties.PlainHandshake s) ds r p t is stands kind =
+      verdict_lowers s events.PlainHandshake r p t (heavy_by _ ds s p is (omega arith))
   answered_lowers k (duties.PeerKey s) ds r p t is stands kind =
-      let e = end_at s p in let f : PathEnd = with_peer_key (key_heard e.treated.items) e in
-      goes_less s f (left p) p t (same_rests p.clock e f refl) (left_less _ ds p is)
+      peer_key_lowers s (key_heard (end_at s p).treated.items) r p t (heavy_by _ ds s p is (omega arith))
   answered_lowers k (duties.SynAck s) ds r p t is stands kind =
       let e = end_at s p in let f : PathEnd = having_sent to_send.SynAck p.clock (syn_ack_of s p) e in
       sent_less k s (syn_ack_of s p) f (left p) p t (same_rests p.clock e f refl) (left_less _ ds p is)
@@ -301,19 +380,25 @@ module _ {C : Type 0} where
   answered_lowers k (duties.Refuse s) ds r p t is stands kind =
       sent_less k s (refusal_of s p) (end_at s p) (left p) p t (same_rests p.clock (end_at s p) (end_at s p) refl) (left_less _ ds p is)
   answered_lowers k (duties.Opened s) ds r p t is stands kind =
-      let e = end_at s p in let f : PathEnd = after_keys r (keys_heard e.treated.items) e in
-      goes_less s f (left p) p t (same_rests p.clock e f refl) (left_less _ ds p is)
+      opened_lowers s (keys_heard (end_at s p).treated.items) r p t (heavy_by _ ds s p is (omega arith))
   answered_lowers k (duties.Live s) ds r p t is stands kind = agenda_less (left p) p t (left_less _ ds p is)
   answered_lowers k (duties.Heard s index) ds r p t is stands kind =
-      heard_lowers k s (item_of index (end_at s p)) r p t (left_less _ ds p is) (rw is (omega arith)) (rw is (omega arith))
-  answered_lowers k (duties.AckHeard s) ds r p t is stands kind =
-      goes_less s (after_verdict r (end_at s p)) (left p) p t (same_rests p.clock (end_at s p) (after_verdict r (end_at s p)) refl) (left_less _ ds p is)
-  answered_lowers k (duties.PlainAck s) ds r p t is stands kind = break_lowers k s 6 r p t (rw is (omega arith))
+      heard_lowers k s (item_of index (end_at s p)) r p t (rw is (omega arith)) (heavy_by _ ds s p is (omega arith))
+  answered_lowers k (duties.AckHeard s) ds r p t is stands kind = verdict_lowers s events.AckHeard r p t (heavy_by _ ds s p is (omega arith))
+  answered_lowers k (duties.PlainAck s) ds r p t is stands kind = plain_ack_lowers k s r p t (heavy_by _ ds s p is (omega arith))
+  answered_lowers k (duties.SubflowAck s) ds r p t is stands kind =
+      let e = end_at s p in let f : PathEnd = with_plain_acked r e in goes_less s f (left p) p t (same_rests p.clock e f refl) (left_less _ ds p is)
+  answered_lowers k (duties.PlainData s) ds r p t is stands kind = verdict_lowers s events.PlainData r p t (heavy_by _ ds s p is (omega arith))
+  answered_lowers k (duties.GoIdentity s) ds r p t is stands kind =
+      let e = end_at s p in let f : PathEnd = in_identity e in goes_less s f (left p) p t (same_rests p.clock e f refl) (left_less _ ds p is)
   answered_lowers k (duties.Keep s) ds r p t is stands kind = agenda_less (left p) p t (left_less _ ds p is)
   answered_lowers k (duties.Edge s) ds r p t is stands kind = piece_lowers s (piece_of s p) (is_placed r) p t (rw is (omega arith)) refl
+  answered_lowers k (duties.Unmapped s) ds r p t is stands kind = break_lowers k s 6 r p t (rw is (omega arith))
   answered_lowers k (duties.HeardFin s index) ds r p t is stands kind =
       fin_lowers s (is_fin_set r) p t (left_less _ ds p is) (rw is (omega arith))
   answered_lowers k (duties.PassFin s) ds r p t is stands kind = agenda_less (left p) p t (left_less _ ds p is)
+  answered_lowers k (duties.SubflowFin s) ds r p t is stands kind =
+      plain_fin_lowers s (is_fin_set r) p t (left_less _ ds p is) (rw is (omega arith))
   answered_lowers k (duties.AckOut s) ds r p t is stands kind =
       goes_less s (after_ack_out r (end_at s p)) (left p) p t (same_rests p.clock (end_at s p) (after_ack_out r (end_at s p)) refl) (left_less _ ds p is)
   answered_lowers k (duties.Rate s) ds r p t is stands kind =

@@ -2,7 +2,6 @@
 use Rattle.std.proofs.Common.{◌≡◌, refl, ap, ◌<◌, ◌≤◌, ◌⊎◌, inl, inr, ◌||◌, Bool, true, false, if◌then◌else◌, List, [], ◌∷◌, arith}
 use Rattle.outside_kit.specs.declared.side.Side.{Side}
 use Rattle.outside_kit.specs.declared.side.Side.TheVariants.{A, B}
-use Rattle.dss_mapping.specs.Mappings.{mapping_at}
 use Rattle.subflow_tcp.specs.Closing.{is_fin_next}
 use Rattle.subflow_tcp.specs.Expiring.{is_timed}
 use Rattle.path_agenda.specs.declared.duty.Duty.{Duty}
@@ -12,11 +11,11 @@ use Rattle.path_core.specs.Duties.{stands, passed}
 use Rattle.path_core.specs.Emission.{after_timer}
 use Rattle.path_core.specs.Ends.{PathEnd}
 use Rattle.path_core.specs.Passing.{after_pass_fin}
-use Rattle.path_core.specs.Placing.{after_check}
+use Rattle.path_core.specs.Placing.{mapping_here, after_check, after_unmapped}
 use Rattle.path_agenda.specs.Weights.{weights}
 use Rattle.path_core.specs.State.{PathState, end_at, with_end, with_agenda}
 use Rattle.path_core.specs.Steps.{settled}
-use Rattle.path_core.specs.Treating.{item_of, item_passed, after_keep}
+use Rattle.path_core.specs.Treating.{item_of, item_passed, with_plain_ack, after_keep}
 use Rattle.path_core.specs.Turns.{TakesTime}
 use Rattle.path_core.proofs.Ranking.{Rests, same_rests, Calm}
 use Rattle.path_core.proofs.Resting.{to_rests, item_same, keep_same, check_same, pass_fin_same, settled_settles}
@@ -49,17 +48,21 @@ module _ {C : Type 0} where
       let e = end_at s p in
       end_calm s (after_timer p.clock e) p t
       (to_rests p.clock e (after_timer p.clock e)
-      (settled_settles p.clock (is_timed (is_waiting e.sending || e.modes.owes_third) e.tcp) e.sending.news e.tcp.timing (timeout_at s p t)))
+      (settled_settles p.clock (is_timed (is_waiting e || e.modes.owes_third) e.tcp) e.sending.news e.tcp.timing (timeout_at s p t)))
   passed_calm (duties.Heard s index) p t =
       let e = end_at s p in
       let f : PathEnd = item_passed s (item_of index e) e in
       end_calm s f p t (same_rests p.clock e f (ap (λ tcp. tcp.timing) (item_same s (item_of index e) e)))
+  passed_calm (duties.PlainAck s) p t =
+      let e = end_at s p in end_calm s (with_plain_ack e) p t (same_rests p.clock e (with_plain_ack e) refl)
+  passed_calm (duties.Unmapped s) p t =
+      let e = end_at s p in end_calm s (after_unmapped e) p t (same_rests p.clock e (after_unmapped e) refl)
   passed_calm (duties.Keep s) p t =
       let e = end_at s p in end_calm s (after_keep s e) p t (same_rests p.clock e (after_keep s e) (keep_same s e))
   passed_calm (duties.Edge s) p t =
       let e = end_at s p in
       end_calm s (after_check p.profile e) p t
-      (same_rests p.clock e (after_check p.profile e) (check_same p.profile.spelling.checksums (mapping_at e.receiving.mappings e.tcp.recv.edge) e))
+      (same_rests p.clock e (after_check p.profile e) (check_same p.profile.spelling.checksums (mapping_here e) e))
   passed_calm (duties.PassFin s) p t =
       let e = end_at s p in
       end_calm s (after_pass_fin e) p t (same_rests p.clock e (after_pass_fin e) (pass_fin_same (is_fin_next e.tcp) e.tcp))
@@ -74,6 +77,7 @@ module _ {C : Type 0} where
   passed_calm duties.Events p t = unchanged p t
   passed_calm (duties.SynHeard s) p t = unchanged p t
   passed_calm (duties.SynAnswered s) p t = unchanged p t
+  passed_calm (duties.PlainHandshake s) p t = unchanged p t
   passed_calm (duties.PeerKey s) p t = unchanged p t
   passed_calm (duties.SynAck s) p t = unchanged p t
   passed_calm (duties.JoinHeard s) p t = unchanged p t
@@ -81,8 +85,11 @@ module _ {C : Type 0} where
   passed_calm (duties.Opened s) p t = unchanged p t
   passed_calm (duties.Live s) p t = unchanged p t
   passed_calm (duties.AckHeard s) p t = unchanged p t
-  passed_calm (duties.PlainAck s) p t = unchanged p t
+  passed_calm (duties.SubflowAck s) p t = unchanged p t
+  passed_calm (duties.PlainData s) p t = unchanged p t
+  passed_calm (duties.GoIdentity s) p t = unchanged p t
   passed_calm (duties.HeardFin s index) p t = unchanged p t
+  passed_calm (duties.SubflowFin s) p t = unchanged p t
   passed_calm (duties.AckOut s) p t = unchanged p t
   passed_calm (duties.Rate s) p t = unchanged p t
   passed_calm (duties.Acknowledge s) p t = unchanged p t

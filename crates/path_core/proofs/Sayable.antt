@@ -1,5 +1,5 @@
 -- Every segment that an end sends can be said.
-use Rattle.std.proofs.Common.{◌≡◌, refl, subst, ap, ℕ, ◌-◌, ◌^◌, ◌≤◌, Bool, true, false, if◌then◌else◌, Option, Some, None, is_some, List, [], ◌∷◌, ◌++◌, length, arith}
+use Rattle.std.proofs.Common.{◌≡◌, refl, subst, ap, ℕ, ◌-◌, ◌^◌, ◌≤◌, Bool, true, false, not, ◌&&◌, if◌then◌else◌, Option, Some, None, is_some, List, [], ◌∷◌, ◌++◌, length, arith}
 use Rattle.std.proofs.lemmas.List.{append-nil}
 use Rattle.std.proofs.lemmas.List.Elements.{All-nil, All-cons}
 use Rattle.std.specs.Prelude.{All, IfSome}
@@ -16,7 +16,8 @@ use Rattle.mptcp_options.specs.declared.dss.DataNumber.{DataNumber}
 use Rattle.mptcp_options.specs.declared.dss.DataNumber.TheVariants.{Whole, Low}
 use Rattle.mptcp_options.specs.Text.{option_text}
 use Rattle.mptcp_options.specs.Value as wire
-use Rattle.path_segments.specs.declared.segment.PathOption.TheVariants.{Dss}
+use Rattle.path_segments.specs.declared.segment.PathOption.TheVariants.{Capable, Dss}
+use Rattle.path_segments.specs.declared.segment.PathMapping.TheVariants.{Infinite}
 use Rattle.path_segments.specs.declared.spelling.Spelling.{Spelling}
 use Rattle.path_segments.specs.declared.spelling.Side.{Side as SpelledSide}
 use Rattle.path_segments.specs.Options.{PlainOption, said_option, relative_number}
@@ -31,12 +32,12 @@ use Rattle.subflow_tcp.specs.declared.segments.Outgoing.{Outgoing}
 use Rattle.path_core.specs.Ends.{PathEnd}
 use Rattle.path_core.specs.Joins.{is_joined, peer_key_of, join_options, third_options}
 use Rattle.path_core.specs.declared.modes.Modes.{Modes}
-use Rattle.path_core.specs.Segments.{spelled_by, checksum_told, capable_options, syn_options, key_options, opening_options, end_mapping, ack_options, is_first_piece, first_piece_options, piece_options, fin_options, record_options, reset_options, segment_of, piece_mapping, ack_said, record_or_ack, syn_ack_said}
+use Rattle.path_core.specs.Segments.{spelled_by, checksum_told, capable_options, syn_options, key_options, opening_options, end_mapping, ack_options, is_first_piece, first_piece_options, piece_options, owes_mapping, plain_options, fin_options, record_options, reset_options, segment_of, piece_mapping, ack_said, record_or_ack, syn_ack_said}
 use Rattle.path_core.specs.declared.segment_kind.SegmentKind.{SegmentKind}
 use Rattle.path_core.specs.declared.segment_kind.SegmentKind.TheVariants as to_say
-use Rattle.subflow_tcp.specs.Emitting.{ack_at, record_segment, syn_ack_segment, fin_segment, reset_segment}
+use Rattle.subflow_tcp.specs.Emitting.{ack_at, record_segment, syn_ack_segment, fin_position, fin_segment, reset_segment}
 use Rattle.subflow_tcp.specs.State.{has_records}
-use Rattle.path_core.specs.Closing.{owes_end}
+use Rattle.path_core.specs.Closing.{is_end_owed}
 use Rattle.path_core.specs.Emission.{first_unsent}
 use Rattle.path_core.specs.Passing.{first_record, outgoing_or, ack_resent}
 use Rattle.path_core.specs.Said.{CanBeSaid, said_by}
@@ -68,6 +69,15 @@ dss_length (Low ack) (Whole number) relative len None fin = omega arith
 dss_length (Low ack) (Whole number) relative len (Some checksum) fin = omega arith
 dss_length (Low ack) (Low number) relative len None fin = omega arith
 dss_length (Low ack) (Low number) relative len (Some checksum) fin = omega arith
+
+-- an infinite mapping alone
+infinite_length : (number : DataNumber) (relative : ℕ) (checksum : Option ℕ)
+    → length (option_text (wire.Dss None (Some (record { number = number; relative = relative; length = 0; checksum = checksum })) false)) ≤ 28
+unfolding option_text
+infinite_length (Whole number) relative None = omega arith
+infinite_length (Whole number) relative (Some checksum) = omega arith
+infinite_length (Low number) relative None = omega arith
+infinite_length (Low number) relative (Some checksum) = omega arith
 
 reset_length : (transient : Bool) (reason : ℕ) → length (option_text (wire.Reset transient reason)) ≤ 28
 unfolding option_text
@@ -123,7 +133,11 @@ third_short c s m = (record { form = tt }, third_length m.own_key (peer_key_of m
 
 capable_short : (c : Profile) (s : Side) (e : PathEnd) → AreShort c.spelling (spelled_by s) (capable_options c s e)
 capable_short c A e = (record { form = tt }, capable_length c.spelling.checksums false NoKey)
-capable_short c B e = (record { form = tt }, capable_length c.spelling.checksums false (Sender e.modes.own_key))
+capable_short c B e = by (e.modes.capable_asked && not e.modes.identity)
+  where
+    by : (asked : Bool) → AreShort c.spelling (spelled_by B) (if asked then Capable c.spelling.checksums false (Sender e.modes.own_key) ∷ [] else [])
+    by true = (record { form = tt }, capable_length c.spelling.checksums false (Sender e.modes.own_key))
+    by false = tt
 
 syn_short : (c : Profile) (s : Side) (e : PathEnd) → AreShort c.spelling (spelled_by s) (syn_options c s e)
 syn_short c s e = by (is_joined c)
@@ -152,12 +166,24 @@ end_short c s (Some place) next = (
 )
 
 ack_short : (c : Profile) (s : Side) (fin : Option ℕ) (e : PathEnd) → AreShort c.spelling (spelled_by s) (ack_options c s fin e)
-ack_short c s fin e = by e.modes.clear
+ack_short c s fin e = by e.modes.identity e.modes.clear
   where
-    by : (clear : Bool) → AreShort c.spelling (spelled_by s)
-        (if clear then Dss (Some e.receiving.next) (end_mapping c s fin) ∷ [] else opening_options c s e)
-    by true = end_short c s fin e.receiving.next
-    by false = opening_short c s e
+    by : (identity clear : Bool) → AreShort c.spelling (spelled_by s)
+        (if identity then [] else (if clear then Dss (Some e.receiving.next) (end_mapping c s fin) ∷ [] else opening_options c s e))
+    by true clear = tt
+    by false true = end_short c s fin e.receiving.next
+    by false false = opening_short c s e
+
+-- after a fallback
+plain_short : (c : Profile) (s : Side) (position : ℕ) (e : PathEnd) → AreShort c.spelling (spelled_by s) (plain_options position e)
+plain_short c s position e = by (owes_mapping e)
+  where
+    by : (owes : Bool) → AreShort c.spelling (spelled_by s) (if owes then Dss None (Some (Infinite (position - 1) position)) ∷ [] else [])
+    by true = (
+      record { form = (told_form c.spelling.checksums 0, tt) },
+      infinite_length (data_number c.spelling (spelled_by s) (position - 1)) (relative_number position) (if c.spelling.checksums then Some 0 else None),
+    )
+    by false = tt
 
 first_short : (c : Profile) (s : Side) (peer : Option ℕ) (r : Record) (e : PathEnd) → AreShort c.spelling (spelled_by s) (first_piece_options c peer r e)
 first_short c s None r e = tt
@@ -167,29 +193,40 @@ first_short c s (Some peer) r e = (
 )
 
 piece_short : (c : Profile) (s : Side) (r : Record) (e : PathEnd) → AreShort c.spelling (spelled_by s) (piece_options c s r e)
-piece_short c s r e = by (is_first_piece s r e)
+piece_short c s r e = by e.modes.identity (is_first_piece s r e)
   where
-    by : (first : Bool) → AreShort c.spelling (spelled_by s)
-        (if first then first_piece_options c e.modes.peer_key r e else Dss (Some e.receiving.next) (Some (piece_mapping c s r)) ∷ [])
-    by true = first_short c s e.modes.peer_key r e
-    by false = (
+    by : (identity first : Bool) → AreShort c.spelling (spelled_by s)
+        (if identity then plain_options r.pos e
+        else (if first then first_piece_options c e.modes.peer_key r e else Dss (Some e.receiving.next) (Some (piece_mapping c s r)) ∷ []))
+    by true first = plain_short c s r.pos e
+    by false true = first_short c s e.modes.peer_key r e
+    by false false = (
       record { form = (told_form c.spelling.checksums r.mapping.checksum, tt) },
       dss_length (data_number c.spelling (peer_of (spelled_by s)) e.receiving.next) _ (relative_number r.pos) r.mapping.length
           (checksum_told c r.mapping.checksum) false,
     )
 
-fin_short : (c : Profile) (s : Side) (e : PathEnd) → AreShort c.spelling (spelled_by s) (fin_options e)
-fin_short c s e = (record { form = (tt, refl) }, ack_length (data_number c.spelling (peer_of (spelled_by s)) e.receiving.next) false)
+fin_short : (c : Profile) (s : Side) (position : ℕ) (e : PathEnd) → AreShort c.spelling (spelled_by s) (fin_options position e)
+fin_short c s position e = by e.modes.identity
+  where
+    by : (identity : Bool) → AreShort c.spelling (spelled_by s) (if identity then plain_options position e else Dss (Some e.receiving.next) None ∷ [])
+    by true = plain_short c s position e
+    by false = (record { form = (tt, refl) }, ack_length (data_number c.spelling (peer_of (spelled_by s)) e.receiving.next) false)
 
 record_short : (kind : RecordKind) (c : Profile) (s : Side) (r : Record) (e : PathEnd)
     → AreShort c.spelling (spelled_by s) (record_options kind c s r e)
 record_short Syn c s r e = syn_short c s e
 record_short Data c s r e = piece_short c s r e
-record_short Fin c s r e = fin_short c s e
+record_short Fin c s r e = fin_short c s r.pos e
 
 reset_short : (c : Profile) (s : Side) (reason : Option ℕ) → AreShort c.spelling (spelled_by s) (reset_options reason)
 reset_short c s None = tt
 reset_short c s (Some reason) = (record { form = tt }, reset_length false reason)
+
+own_reset_short : (c : Profile) (s : Side) (reason : Option ℕ) (identity : Bool)
+    → AreShort c.spelling (spelled_by s) (if identity then [] else reset_options reason)
+own_reset_short c s reason true = tt
+own_reset_short c s reason false = reset_short c s reason
 
 -- ---- segments
 
@@ -232,13 +269,13 @@ module _ (c : Profile) (s : Side) (e : PathEnd) (path : c.spelling.path ≤ 15) 
   resend_can : (first : Bool) → IfSome (first_record e) (λ r. length r.piece ≤ 65475)
       → CanBeSaid c.spelling s (if first then record_or_ack c s (first_record e) e else ack_resent c s e)
   resend_can true few = record_can (first_record e) few
-  resend_can false few = resent_can e.modes.owes_third (owes_end e.sending)
+  resend_can false few = resent_can e.modes.owes_third (is_end_owed e)
 
   said_can : (kind : SegmentKind) → IfSome (first_unsent e) (λ r. length r.piece ≤ 65475)
       → IfSome (first_record e) (λ r. length r.piece ≤ 65475) → CanBeSaid c.spelling s (said_by kind c s e)
   said_can to_say.Ack unsent first = ack_can e.tcp.send.nxt None
   said_can to_say.DataFin unsent first = ack_can e.tcp.send.nxt e.sending.known_end
-  said_can to_say.Fin unsent first = says (fin_segment e.tcp) (fin_options e) [] (fin_short c s e) (omega arith)
+  said_can to_say.Fin unsent first = says (fin_segment e.tcp) (fin_options (fin_position e.tcp.send) e) [] (fin_short c s (fin_position e.tcp.send) e) (omega arith)
   said_can to_say.Unsent unsent first = record_can (first_unsent e) unsent
   said_can to_say.First unsent first = record_can (first_record e) first
   said_can to_say.SynAck unsent first = syn_ack_can
@@ -247,7 +284,8 @@ module _ (c : Profile) (s : Side) (e : PathEnd) (path : c.spelling.path ≤ 15) 
   said_can to_say.Resend unsent first = resend_can (has_records e.tcp) first
   said_can to_say.Refusal unsent first =
       says (outgoing_or e.treated.answer (reset_segment e.tcp)) (reset_options (Some 1)) [] (reset_short c s (Some 1)) (omega arith)
-  said_can (to_say.Reset reason) unsent first = says (reset_segment e.tcp) (reset_options reason) [] (reset_short c s reason) (omega arith)
+  said_can (to_say.Reset reason) unsent first =
+      says (reset_segment e.tcp) (if e.modes.identity then [] else reset_options reason) [] (own_reset_short c s reason e.modes.identity) (omega arith)
 
   -- records that are lent fit in a segment
   pub can_be_said : (kind : SegmentKind) (unsent first : Option RecordRef) → option_map record_of unsent ≡ first_unsent e

@@ -20,6 +20,7 @@ module _ {C : Type 0} where
   stands_anyway duties.Events es p = refl
   stands_anyway (duties.SynHeard s) es p = refl
   stands_anyway (duties.SynAnswered s) es p = refl
+  stands_anyway (duties.PlainHandshake s) es p = refl
   stands_anyway (duties.PeerKey s) es p = refl
   stands_anyway (duties.SynAck s) es p = refl
   stands_anyway (duties.JoinHeard s) es p = refl
@@ -29,10 +30,15 @@ module _ {C : Type 0} where
   stands_anyway (duties.Heard s index) es p = refl
   stands_anyway (duties.AckHeard s) es p = refl
   stands_anyway (duties.PlainAck s) es p = refl
+  stands_anyway (duties.SubflowAck s) es p = refl
+  stands_anyway (duties.PlainData s) es p = refl
+  stands_anyway (duties.GoIdentity s) es p = refl
   stands_anyway (duties.Keep s) es p = refl
   stands_anyway (duties.Edge s) es p = refl
+  stands_anyway (duties.Unmapped s) es p = refl
   stands_anyway (duties.HeardFin s index) es p = refl
   stands_anyway (duties.PassFin s) es p = refl
+  stands_anyway (duties.SubflowFin s) es p = refl
   stands_anyway (duties.AckOut s) es p = refl
   stands_anyway (duties.Rate s) es p = refl
   stands_anyway (duties.Acknowledge s) es p = refl
@@ -61,6 +67,7 @@ module _ {C : Type 0} where
   passes_anyway duties.Events es p = refl
   passes_anyway (duties.SynHeard s) es p = refl
   passes_anyway (duties.SynAnswered s) es p = refl
+  passes_anyway (duties.PlainHandshake s) es p = refl
   passes_anyway (duties.PeerKey s) es p = refl
   passes_anyway (duties.SynAck s) es p = refl
   passes_anyway (duties.JoinHeard s) es p = refl
@@ -70,10 +77,15 @@ module _ {C : Type 0} where
   passes_anyway (duties.Heard s index) es p = refl
   passes_anyway (duties.AckHeard s) es p = refl
   passes_anyway (duties.PlainAck s) es p = refl
+  passes_anyway (duties.SubflowAck s) es p = refl
+  passes_anyway (duties.PlainData s) es p = refl
+  passes_anyway (duties.GoIdentity s) es p = refl
   passes_anyway (duties.Keep s) es p = refl
   passes_anyway (duties.Edge s) es p = refl
+  passes_anyway (duties.Unmapped s) es p = refl
   passes_anyway (duties.HeardFin s index) es p = refl
   passes_anyway (duties.PassFin s) es p = refl
+  passes_anyway (duties.SubflowFin s) es p = refl
   passes_anyway (duties.AckOut s) es p = refl
   passes_anyway (duties.Rate s) es p = refl
   passes_anyway (duties.Acknowledge s) es p = refl

@@ -7,20 +7,22 @@ use Rattle.outside_kit.specs.declared.side.Side.{Side}
 use Rattle.outside_kit.specs.declared.side.Side.TheVariants.{A, B}
 use Rattle.link_model.specs.declared.flight.Due.{Due}
 use Rattle.link_model.specs.declared.flight.Flight.{Flight}
+use Rattle.link_model.specs.Fate.{fate_of, is_stripped, is_altered}
 use Rattle.link_model.specs.Laws.{shown, shown_flight}
 use Rattle.link_model.specs.State.{LinkState}
-use Rattle.link_model.specs.Steps.{taken, next_number, peer, is_due, next_due, arriving, after_delivery, without, after_send}
+use Rattle.link_model.specs.Steps.{taken, next_number, peer, is_due, next_due, arriving, after_delivery, without, after_send, changed, arrivals, with_flights, one_more}
 use Rattle.link_model.proofs.Shown.{sent_shown}
 use Rattle.path_segments.specs.declared.spelling.Spelling.{Spelling}
 use Rattle.path_segments.specs.Spelled.{PlainSegment}
 use Rattle.actor_desk.specs.declared.ask.Reply.{Reply}
+use Rattle.actor_desk.specs.declared.ask.Reply.TheVariants as replies
 use Rattle.path_agenda.specs.declared.duty.Duty.{Duty}
 use Rattle.path_agenda.specs.declared.duty.Duty.TheVariants as duties
 use Rattle.path_core.specs.Duties.{stands, ask_for, passed, answered}
-use Rattle.path_segments.proofs.SegmentsAgain.{heard_as_meant}
 use Rattle.path_segments.specs.declared.expected.Expected.{Expected}
 use Rattle.path_segments.specs.Laws.{IsFresh, meant}
-use Rattle.path_core.proofs.FarResets.{far_heard, far_treated}
+use Rattle.path_core.proofs.CopiesRead.{near_read, far_read}
+use Rattle.path_core.proofs.FarResets.{far_treated}
 use Rattle.path_core.specs.Arriving.{expected_by}
 use Rattle.path_core.specs.Codec.{HeardSegment}
 use Rattle.path_core.specs.Segments.{spelled_by}
@@ -29,31 +31,37 @@ use Rattle.subflow_tcp.specs.declared.segments.Occasion.TheVariants as to_send
 use Rattle.path_core.specs.Events.{is_death, after_line, at_tick, copy_heard, heard_in, copy_taken, happens_if, died, step_for, next_event}
 use Rattle.path_core.specs.declared.event.Event.{Event}
 use Rattle.path_core.specs.declared.event.Event.TheVariants as happenings
+use Rattle.control_book.specs.declared.call.ControlReply.TheVariants as control_replies
+use Rattle.fallback_state.specs.declared.fall.Mode.TheVariants.{Identity}
+use Rattle.fallback_state.specs.declared.fall.Verdict.TheVariants as verdicts
+use Rattle.fallback_state.specs.declared.fall.Event.{Event as FallEvent}
 use Rattle.fallback_state.specs.declared.fall.Event.TheVariants as events
 use Rattle.subflow_send.specs.Records.{Record}
 use Rattle.path_agenda.specs.declared.heard.Heard.{Heard}
 use Rattle.path_agenda.specs.declared.heard.Heard.TheVariants as says
 use Rattle.path_agenda.specs.Agenda.{resets, leaves, emission}
+use Rattle.path_agenda.specs.Items.{key_heard, keys_heard}
 use Rattle.path_agenda.specs.Words.{replaced}
 use Rattle.path_agenda.specs.declared.keys.KeyPair.{KeyPair}
 use Rattle.join_handshake.specs.declared.hearing.JoinSyn.{JoinSyn}
 use Rattle.path_core.specs.Joining.{is_never, keys_begun, opened_by, asked_at, join_heard_ask, join_taken, refusal_of}
 use Rattle.path_core.specs.Breaking.{reset_of, reset_on, break_ask, answered_break}
 use Rattle.path_core.specs.Emission.{first_unsent, data_ask, unsent_segment, having_sent_unsent, end_segment, having_sent_end, fin_segment_of, having_sent_fin, Grant, grant_in, answered_grant, answered_data}
-use Rattle.path_core.specs.Opening.{syn_ack_of}
+use Rattle.path_core.specs.Opening.{syn_ack_of, peer_key_ask, answered_peer_key, opened_ask, answered_opened}
 use Rattle.loss_recovery.specs.declared.windows.Pending.{Pending}
-use Rattle.path_core.specs.Passing.{piece_of, is_placed, is_fin_set, answered_piece, answered_fin_heard, rate_ask, first_segment, answer_occasion, resend_occasion, answer_of, dead_answer, resend_of}
+use Rattle.path_core.specs.Passing.{piece_of, is_placed, is_fin_set, answered_piece, answered_fin_heard, answered_plain_fin, rate_ask, first_segment, answer_occasion, resend_occasion, answer_of, dead_answer, resend_of}
 use Rattle.path_core.specs.Placing.{with_learned, Piece}
 use Rattle.path_core.specs.Standing.{ack_out_ask, answered_ack_out, ack_segment}
-use Rattle.path_core.specs.Treating.{item_of, item_ask, is_clash, fell_ask, after_verdict, is_acked, told_next, with_acked, answered_item}
+use Rattle.path_core.specs.Falling.{fell_ask, after_fell, fell_duties, answered_fell}
+use Rattle.path_core.specs.Treating.{item_of, item_ask, is_clash, is_acked, told_next, with_acked, with_fin, breaks_by_ack, with_plain_ack, answered_item}
 use Rattle.path_core.specs.Octets.{octets}
 use Rattle.path_core.specs.Sends.{sends, having_sent, handed, sent_on}
 use Rattle.path_core.specs.Ends.{PathEnd}
-use Rattle.path_core.specs.Shown.{octets_of, shown_path, ChangesNothing, IsFarReset, IsFreshCopy, NextIsFresh}
+use Rattle.path_core.specs.Shown.{octets_of, shown_path, AltersNothing, IsFarReset, IsFreshCopy, NextIsFresh}
 use Rattle.path_core.specs.State.{PathState, end_at, with_agenda, goes_on, left, path_of}
 use Rattle.path_core.specs.Steps.{settled, settles_down, asks_first, asks_of, answers, takes, next_round}
 use Rattle.path_agenda.specs.Agenda.{start_of_turn}
-use Rattle.path_core.specs.Values.{Carried, values}
+use Rattle.path_core.specs.Values.{Carried, as_arrived, values}
 
 -- ---- the next event
 
@@ -79,6 +87,7 @@ same_stands (duties.Timer s) p = refl
 same_stands duties.Events p = ap is_some (same_event p)
 same_stands (duties.SynHeard s) p = refl
 same_stands (duties.SynAnswered s) p = refl
+same_stands (duties.PlainHandshake s) p = refl
 same_stands (duties.PeerKey s) p = refl
 same_stands (duties.SynAck s) p = refl
 same_stands (duties.JoinHeard s) p = refl
@@ -88,10 +97,15 @@ same_stands (duties.Live s) p = refl
 same_stands (duties.Heard s index) p = refl
 same_stands (duties.AckHeard s) p = refl
 same_stands (duties.PlainAck s) p = refl
+same_stands (duties.SubflowAck s) p = refl
+same_stands (duties.PlainData s) p = refl
+same_stands (duties.GoIdentity s) p = refl
 same_stands (duties.Keep s) p = refl
 same_stands (duties.Edge s) p = refl
+same_stands (duties.Unmapped s) p = refl
 same_stands (duties.HeardFin s index) p = refl
 same_stands (duties.PassFin s) p = refl
+same_stands (duties.SubflowFin s) p = refl
 same_stands (duties.AckOut s) p = refl
 same_stands (duties.Rate s) p = refl
 same_stands (duties.Acknowledge s) p = refl
@@ -124,11 +138,19 @@ same_data : (s : Side) (o : Option Record) (p : PathState Carried) → data_ask 
 same_data s None p = refl
 same_data s (Some r) p = same_sends s (unsent_segment s p) p
 
-same_mapping : (s : Side) (clash : Bool) (p : PathState Carried)
-    → (if clash then break_ask octets s 1 (shown_path p) else fell_ask s events.MappingHeard (shown_path p))
-    ≡ (if clash then break_ask values s 1 p else fell_ask s events.MappingHeard p)
-same_mapping s true p = same_break s (end_at s p).treated.asked 1 p
-same_mapping s false p = refl
+same_break_or : (s : Side) (breaks : Bool) (reason : ℕ) (event : FallEvent) (p : PathState Carried)
+    → (if breaks then break_ask octets s reason (shown_path p) else fell_ask s event (shown_path p))
+    ≡ (if breaks then break_ask values s reason p else fell_ask s event p)
+same_break_or s true reason event p = same_break s (end_at s p).treated.asked reason p
+same_break_or s false reason event p = refl
+
+same_peer_key : (s : Side) (key : Option ℕ) (p : PathState Carried) → peer_key_ask s key (shown_path p) ≡ peer_key_ask s key p
+same_peer_key s None p = refl
+same_peer_key s (Some key) p = refl
+
+same_opened : (s : Side) (keys : Option KeyPair) (p : PathState Carried) → opened_ask s keys (shown_path p) ≡ opened_ask s keys p
+same_opened s None p = refl
+same_opened s (Some keys) p = refl
 
 same_rate : (s : Side) (pending : Option Pending) (p : PathState Carried) → rate_ask s pending (shown_path p) ≡ rate_ask s pending p
 same_rate s None p = refl
@@ -138,8 +160,9 @@ same_item : (s : Side) (item : Option Heard) (p : PathState Carried) → item_as
 same_item s None p = refl
 same_item s (Some says.Dss) p = refl
 same_item s (Some (says.DataAck next window)) p = refl
-same_item s (Some says.Mapping) p = same_mapping s (is_clash (end_at s p)) p
+same_item s (Some says.Mapping) p = same_break_or s (is_clash (end_at s p)) 1 events.MappingHeard p
 same_item s (Some (says.DataFin place)) p = refl
+same_item s (Some says.InfiniteMapping) p = refl
 same_item s (Some (says.PeerKey key)) p = refl
 same_item s (Some (says.Keys own peer)) p = refl
 same_item s (Some (says.Join form)) p = refl
@@ -161,19 +184,25 @@ same_asks (duties.Timer s) p = refl
 same_asks duties.Events p = ap (step_for (path_of p)) (same_event p)
 same_asks (duties.SynHeard s) p = refl
 same_asks (duties.SynAnswered s) p = refl
-same_asks (duties.PeerKey s) p = refl
+same_asks (duties.PlainHandshake s) p = refl
+same_asks (duties.PeerKey s) p = same_peer_key s (key_heard (end_at s p).treated.items) p
 same_asks (duties.SynAck s) p = same_sends s (syn_ack_of s p) p
 same_asks (duties.JoinHeard s) p = same_join s (asked_at s p) p
 same_asks (duties.Refuse s) p = same_sends s (refusal_of s p) p
-same_asks (duties.Opened s) p = refl
+same_asks (duties.Opened s) p = same_opened s (keys_heard (end_at s p).treated.items) p
 same_asks (duties.Live s) p = refl
 same_asks (duties.Heard s index) p = same_item s (item_of index (end_at s p)) p
 same_asks (duties.AckHeard s) p = refl
-same_asks (duties.PlainAck s) p = same_break s (end_at s p).treated.asked 6 p
+same_asks (duties.PlainAck s) p = same_break_or s (breaks_by_ack p.profile (end_at s p)) 6 events.PlainAck p
+same_asks (duties.SubflowAck s) p = refl
+same_asks (duties.PlainData s) p = refl
+same_asks (duties.GoIdentity s) p = refl
 same_asks (duties.Keep s) p = refl
 same_asks (duties.Edge s) p = refl
+same_asks (duties.Unmapped s) p = same_break s (end_at s p).treated.asked 6 p
 same_asks (duties.HeardFin s index) p = refl
 same_asks (duties.PassFin s) p = refl
+same_asks (duties.SubflowFin s) p = refl
 same_asks (duties.AckOut s) p = refl
 same_asks (duties.Rate s) p = same_rate s (end_at s p).tcp.congestion.pending p
 same_asks (duties.Acknowledge s) p = same_sends s (ack_segment s p) p
@@ -202,6 +231,7 @@ same_passed (duties.Timer s) p = refl
 same_passed duties.Events p = refl
 same_passed (duties.SynHeard s) p = refl
 same_passed (duties.SynAnswered s) p = refl
+same_passed (duties.PlainHandshake s) p = refl
 same_passed (duties.PeerKey s) p = refl
 same_passed (duties.SynAck s) p = refl
 same_passed (duties.JoinHeard s) p = refl
@@ -211,10 +241,15 @@ same_passed (duties.Live s) p = refl
 same_passed (duties.Heard s index) p = refl
 same_passed (duties.AckHeard s) p = refl
 same_passed (duties.PlainAck s) p = refl
+same_passed (duties.SubflowAck s) p = refl
+same_passed (duties.PlainData s) p = refl
+same_passed (duties.GoIdentity s) p = refl
 same_passed (duties.Keep s) p = refl
 same_passed (duties.Edge s) p = refl
+same_passed (duties.Unmapped s) p = refl
 same_passed (duties.HeardFin s index) p = refl
 same_passed (duties.PassFin s) p = refl
+same_passed (duties.SubflowFin s) p = refl
 same_passed (duties.AckOut s) p = refl
 same_passed (duties.Rate s) p = refl
 same_passed (duties.Acknowledge s) p = refl
@@ -251,54 +286,104 @@ begins_the_same p = same_settled start_of_turn (with_agenda start_of_turn (recor
 
 -- ---- what is sent
 
-plain_send : {C : Type 0} (strip alter : Side → C → C) (from : Side) (carried : C) (now : ℕ) (link : LinkState C) → ChangesNothing link.lines
-    → after_send strip alter from carried now link ≡ after_send (λ side c. c) (λ side c. c) from carried now link
-plain_send strip alter from carried now link nothing =
-    rw (nothing.strips from (next_number from link) now, nothing.alters from (next_number from link)) refl
+-- where nothing is altered, what the link carries of it is either the whole or what is left without its options
+stripped_alone : {C : Type 0} (strip alter : C → C) (stripped altered : Bool) (carried : C) → altered ≡ false
+    → changed strip alter stripped altered carried ≡ changed (λ c. c) (λ c. c) stripped altered (if stripped then strip carried else carried)
+stripped_alone strip alter true altered carried unaltered = rw unaltered refl
+stripped_alone strip alter false altered carried unaltered = rw unaltered refl
 
-same_handed : (s : Side) (segment : PlainSegment) (p : PathState Carried) → ChangesNothing p.link.lines
+plain_send : {C : Type 0} (strip alter : Side → C → C) (from : Side) (carried : C) (now : ℕ) (link : LinkState C) → AltersNothing link.lines
+    → after_send strip alter from carried now link
+    ≡ after_send (λ side c. c) (λ side c. c) from (if is_stripped from (next_number from link) now link.lines then strip from carried else carried) now link
+plain_send strip alter from carried now link nothing =
+    let number = next_number from link in
+    ap (λ arriving. one_more from (record link {
+      under_way =
+          with_flights (peer from) number arriving (arrivals (fate_of from number link.lines) (now + link.delay)) link.under_way;
+    }))
+    (stripped_alone (strip from) (alter from) (is_stripped from number now link.lines) (is_altered from number link.lines) carried (nothing.alters from number))
+
+-- the octets of what is left
+octets_left : (spelling : Spelling) (s : Side) (segment : PlainSegment) (b : Bool)
+    → octets_of spelling (if b then values.strips spelling s (values.makes spelling s segment) else values.makes spelling s segment)
+    ≡ (if b then octets.strips spelling s (octets.makes spelling s segment) else octets.makes spelling s segment)
+octets_left spelling s segment true = refl
+octets_left spelling s segment false = refl
+
+same_handed : (s : Side) (segment : PlainSegment) (p : PathState Carried) → AltersNothing p.link.lines
     → handed octets s segment (shown_path p) ≡ shown (octets_of p.profile.spelling) (handed values s segment p)
 same_handed s segment p nothing =
-    let show : Carried → List ℕ = octets_of p.profile.spelling in
-    plain_send (octets.strips p.profile.spelling) (octets.alters p.profile.spelling) s (octets.makes p.profile.spelling s segment) p.clock (shown show p.link)
-    (record { strips = nothing.strips; alters = nothing.alters })
-    ∙ sym (sent_shown show (λ side c. c) (λ side c. c) (λ side c. c) (λ side c. c) (λ side c. refl) (λ side c. refl) s (values.makes p.profile.spelling s segment) p.clock p.link)
-    ∙ ap (shown show) (sym (plain_send (values.strips p.profile.spelling) (values.alters p.profile.spelling) s (values.makes p.profile.spelling s segment) p.clock p.link nothing))
+    let spelling = p.profile.spelling in let show : Carried → List ℕ = octets_of spelling in
+    let strips : ℕ → Bool = λ taken. is_stripped s (taken + 1) p.clock p.link.lines in
+    let left : Carried = (if strips (taken s p.link) then values.strips spelling s (values.makes spelling s segment) else values.makes spelling s segment) in
+    plain_send (octets.strips spelling) (octets.alters spelling) s (octets.makes spelling s segment) p.clock (shown show p.link) (record { alters = nothing.alters })
+    ∙ ap (λ (n : ℕ). after_send (λ side c. c) (λ side c. c) s
+    (if strips n then octets.strips spelling s (octets.makes spelling s segment) else octets.makes spelling s segment) p.clock (shown show p.link))
+    (same_taken s spelling p.link)
+    ∙ ap (λ c. after_send (λ side c. c) (λ side c. c) s c p.clock (shown show p.link)) (sym (octets_left spelling s segment (strips (taken s p.link))))
+    ∙ sym (sent_shown show (λ side c. c) (λ side c. c) (λ side c. c) (λ side c. c) (λ side c. refl) (λ side c. refl) s left p.clock p.link)
+    ∙ ap (shown show) (sym (plain_send (values.strips spelling) (values.alters spelling) s (values.makes spelling s segment) p.clock p.link nothing))
 
-pub same_sent : (s : Side) (segment : PlainSegment) (e : PathEnd) (ds : List Duty) (p : PathState Carried) → ChangesNothing p.link.lines
+pub same_sent : (s : Side) (segment : PlainSegment) (e : PathEnd) (ds : List Duty) (p : PathState Carried) → AltersNothing p.link.lines
     → sent_on octets s segment e ds (shown_path p) ≡ shown_path (sent_on values s segment e ds p)
 same_sent s segment e ds p nothing = ap (λ (link : LinkState (List ℕ)). record (goes_on s e ds (shown_path p)) { link = link }) (same_handed s segment p nothing)
 
 -- ---- what is answered
 
-same_reset : (s : Side) (reason : Option ℕ) (ds : List Duty) (p : PathState Carried) → ChangesNothing p.link.lines
+same_reset : (s : Side) (reason : Option ℕ) (ds : List Duty) (p : PathState Carried) → AltersNothing p.link.lines
     → reset_on octets s reason ds (shown_path p) ≡ shown_path (reset_on values s reason ds p)
 same_reset s reason ds p nothing = same_sent s (reset_of s reason p) (died (end_at s p)) ds p nothing
 
-same_broken : (s : Side) (asked : Bool) (reason : ℕ) (r : Reply) (p : PathState Carried) → ChangesNothing p.link.lines
+same_broken : (s : Side) (asked : Bool) (reason : ℕ) (r : Reply) (p : PathState Carried) → AltersNothing p.link.lines
     → (if asked then answered_ack_out s r (resets s reason) (shown_path p) else reset_on octets s (Some reason) (leaves s) (shown_path p))
     ≡ shown_path (if asked then answered_ack_out s r (resets s reason) p else reset_on values s (Some reason) (leaves s) p)
 same_broken s true reason r p nothing = refl
 same_broken s false reason r p nothing = same_reset s (Some reason) (leaves s) p nothing
 
-same_learned : (s : Side) (clash : Bool) (r : Reply) (p : PathState Carried) → ChangesNothing p.link.lines
-    → (if clash then answered_break octets s 1 r (shown_path p) else goes_on s (with_learned (after_verdict r (end_at s p))) (left p) (shown_path p))
-    ≡ shown_path (if clash then answered_break values s 1 r p else goes_on s (with_learned (after_verdict r (end_at s p))) (left p) p)
-same_learned s true r p nothing = same_broken s (end_at s p).treated.asked 1 r p nothing
-same_learned s false r p nothing = refl
+-- ---- what follows from a verdict
+
+same_fell_duties : (s : Side) (r : Reply) (p : PathState Carried) → fell_duties s r (shown_path p) ≡ fell_duties s r p
+same_fell_duties s (replies.Control (control_replies.Verdict (verdicts.Went Identity))) p = refl
+same_fell_duties s (replies.Control (control_replies.Verdict (verdicts.BreakPath reason))) p = refl
+same_fell_duties s _ p = refl
+
+same_fallen : (s : Side) (r : Reply) (e : PathEnd) (p : PathState Carried)
+    → goes_on s e (fell_duties s r (shown_path p)) (shown_path p) ≡ shown_path (goes_on s e (fell_duties s r p) p)
+same_fallen s r e p = ap (λ (ds : List Duty). goes_on s e ds (shown_path p)) (same_fell_duties s r p)
+
+same_fell : (s : Side) (event : FallEvent) (r : Reply) (p : PathState Carried) → answered_fell s event r (shown_path p) ≡ shown_path (answered_fell s event r p)
+same_fell s event r p = same_fallen s r (after_fell event r (end_at s p)) p
+
+same_broken_or : (s : Side) (breaks : Bool) (reason : ℕ) (r : Reply) (e : PathEnd) (p : PathState Carried) → AltersNothing p.link.lines
+    → (if breaks then answered_break octets s reason r (shown_path p) else goes_on s e (fell_duties s r (shown_path p)) (shown_path p))
+    ≡ shown_path (if breaks then answered_break values s reason r p else goes_on s e (fell_duties s r p) p)
+same_broken_or s true reason r e p nothing = same_broken s (end_at s p).treated.asked reason r p nothing
+same_broken_or s false reason r e p nothing = same_fallen s r e p
+
+same_peer_key_answered : (s : Side) (key : Option ℕ) (r : Reply) (p : PathState Carried)
+    → answered_peer_key s key r (shown_path p) ≡ shown_path (answered_peer_key s key r p)
+same_peer_key_answered s None r p = same_fell s events.PlainHandshake r p
+same_peer_key_answered s (Some key) r p = refl
+
+same_opened_answered : (s : Side) (keys : Option KeyPair) (r : Reply) (p : PathState Carried)
+    → answered_opened s keys r (shown_path p) ≡ shown_path (answered_opened s keys r p)
+same_opened_answered s None r p = same_fell s events.PlainHandshake r p
+same_opened_answered s (Some keys) r p = refl
 
 same_told : (s : Side) (covers : Bool) (p : PathState Carried) → told_next s covers (shown_path p) ≡ told_next s covers p
 same_told s true p = refl
 same_told s false p = refl
 
-same_heard : (s : Side) (item : Option Heard) (r : Reply) (p : PathState Carried) → ChangesNothing p.link.lines
+same_heard : (s : Side) (item : Option Heard) (r : Reply) (p : PathState Carried) → AltersNothing p.link.lines
     → answered_item octets s item r (shown_path p) ≡ shown_path (answered_item values s item r p)
 same_heard s None r p nothing = refl
 same_heard s (Some says.Dss) r p nothing = refl
 same_heard s (Some (says.DataAck next window)) r p nothing =
     ap (λ ds. goes_on s (with_acked next r (end_at s p)) ds (shown_path p)) (same_told s (is_acked r && nat_lt 0 next) p)
-same_heard s (Some says.Mapping) r p nothing = same_learned s (is_clash (end_at s p)) r p nothing
-same_heard s (Some (says.DataFin place)) r p nothing = refl
+same_heard s (Some says.Mapping) r p nothing =
+    same_broken_or s (is_clash (end_at s p)) 1 r (with_learned (after_fell events.MappingHeard r (end_at s p))) p nothing
+same_heard s (Some (says.DataFin place)) r p nothing = same_fallen s r (with_fin place (after_fell events.MappingHeard r (end_at s p))) p
+same_heard s (Some says.InfiniteMapping) r p nothing = same_fell s events.InfiniteHeard r p
 same_heard s (Some (says.PeerKey key)) r p nothing = refl
 same_heard s (Some (says.Keys own peer)) r p nothing = refl
 same_heard s (Some (says.Join form)) r p nothing = refl
@@ -307,7 +392,7 @@ same_grant : (s : Side) (o : Option Grant) (r : Reply) (p : PathState Carried) �
 same_grant s None r p = refl
 same_grant s (Some grant) r p = refl
 
-same_data_answered : (s : Side) (o : Option Record) (r : Reply) (p : PathState Carried) → ChangesNothing p.link.lines
+same_data_answered : (s : Side) (o : Option Record) (r : Reply) (p : PathState Carried) → AltersNothing p.link.lines
     → answered_data octets s o r (shown_path p) ≡ shown_path (answered_data values s o r p)
 same_data_answered s (Some record_due) r p nothing = same_sent s (unsent_segment s p) (having_sent_unsent s p) p.agenda p nothing
 same_data_answered s None r p nothing = same_grant s (grant_in r) r p
@@ -320,6 +405,10 @@ same_piece s (Some piece) false p = refl
 same_fin : (s : Side) (set : Bool) (p : PathState Carried) → answered_fin_heard s set (shown_path p) ≡ shown_path (answered_fin_heard s set p)
 same_fin s true p = refl
 same_fin s false p = refl
+
+same_plain_fin : (s : Side) (set : Bool) (p : PathState Carried) → answered_plain_fin s set (shown_path p) ≡ shown_path (answered_plain_fin s set p)
+same_plain_fin s true p = refl
+same_plain_fin s false p = refl
 
 -- ---- joins
 
@@ -391,20 +480,22 @@ same_read : (s : Side) (o : Option (Flight Carried)) (p : PathState Carried) (q 
     → ((flight : Flight Carried) → o ≡ Some flight → IsFreshCopy p s flight.carried)
     → copy_heard s (heard_in octets s (option_map (shown_flight (octets_of p.profile.spelling)) o) (shown_path p)) q ≡ copy_heard s (heard_in values s o p) q
 same_read s None p q same fresh = refl
-same_read s (Some flight) p q same fresh = let is = fresh flight refl in rw is.from (by is is.fresh)
+same_read s (Some flight) p q same fresh = by (fresh flight refl).fresh
   where
+    is : IsFreshCopy p s flight.carried
+    is = fresh flight refl
+
     segment : PlainSegment
-    segment = flight.carried.segment
+    segment = as_arrived flight.carried
 
     expected : Expected
     expected = expected_by (end_at s p)
 
-    by : IsFreshCopy p s flight.carried
-        → IsFresh p.profile.spelling (spelled_by (peer s)) expected segment ⊎ IsFarReset p.profile.spelling (spelled_by (peer s)) expected segment
-        → copy_heard s (octets.reads p.profile.spelling (peer s) expected (octets.makes p.profile.spelling (peer s) segment)) q ≡ copy_heard s (Some (meant segment)) q
-    by is (inl near) = ap (λ h. copy_heard s h q) (heard_as_meant p.profile.spelling (spelled_by (peer s)) expected segment is.sayable is.expected near)
-    by is (inr far) =
-        ap (λ h. copy_heard s h q) (far_heard p.profile.spelling (spelled_by (peer s)) expected segment is.sayable far is.expected)
+    by : IsFresh p.profile.spelling (spelled_by (peer s)) expected flight.carried.segment ⊎ IsFarReset p.profile.spelling (spelled_by (peer s)) expected flight.carried.segment
+        → copy_heard s (octets.reads p.profile.spelling (peer s) expected (octets_of p.profile.spelling flight.carried)) q ≡ copy_heard s (Some (meant segment)) q
+    by (inl near) = ap (λ h. copy_heard s h q) (near_read p.profile.spelling (peer s) expected flight.carried is.from is.sayable is.expected near)
+    by (inr far) =
+        ap (λ h. copy_heard s h q) (far_read p.profile.spelling (peer s) expected flight.carried is.from is.sayable is.expected far)
         ∙ far_treated (meant segment) segment.position far.reset refl s q (heard_ack segment.acknowledged far.acknowledging) (subst (λ e. e.tcp.recv.edge + 2 ^ 31 ≤ segment.position) (sym same) far.ahead)
 
 same_copy : (due : Due) (p : PathState Carried)
@@ -431,7 +522,7 @@ same_happening (Some (happenings.Fires s tick)) r p fresh = refl
 
 -- ---- every duty
 
-same_answered : (d : Duty) (r : Reply) (p : PathState Carried) → ChangesNothing p.link.lines → NextIsFresh p
+same_answered : (d : Duty) (r : Reply) (p : PathState Carried) → AltersNothing p.link.lines → NextIsFresh p
     → answered octets d r (shown_path p) ≡ shown_path (answered values d r p)
 same_answered duties.JoinAgain r p nothing fresh = same_join_again (is_never r) r p
 same_answered (duties.Look s) r p nothing fresh = refl
@@ -446,19 +537,26 @@ same_answered duties.Events r p nothing fresh =
     ap (λ o. happens_if octets o r (shown_path p)) (same_event p) ∙ same_happening (next_event p) r p fresh
 same_answered (duties.SynHeard s) r p nothing fresh = refl
 same_answered (duties.SynAnswered s) r p nothing fresh = refl
-same_answered (duties.PeerKey s) r p nothing fresh = refl
+same_answered (duties.PlainHandshake s) r p nothing fresh = same_fell s events.PlainHandshake r p
+same_answered (duties.PeerKey s) r p nothing fresh = same_peer_key_answered s (key_heard (end_at s p).treated.items) r p
 same_answered (duties.SynAck s) r p nothing fresh = same_sent s (syn_ack_of s p) (having_sent to_send.SynAck p.clock (syn_ack_of s p) (end_at s p)) (left p) p nothing
 same_answered (duties.JoinHeard s) r p nothing fresh = same_join_taken s (keys_begun r) (asked_at s p) p
 same_answered (duties.Refuse s) r p nothing fresh = same_sent s (refusal_of s p) (end_at s p) (left p) p nothing
-same_answered (duties.Opened s) r p nothing fresh = refl
+same_answered (duties.Opened s) r p nothing fresh = same_opened_answered s (keys_heard (end_at s p).treated.items) r p
 same_answered (duties.Live s) r p nothing fresh = refl
 same_answered (duties.Heard s index) r p nothing fresh = same_heard s (item_of index (end_at s p)) r p nothing
-same_answered (duties.AckHeard s) r p nothing fresh = refl
-same_answered (duties.PlainAck s) r p nothing fresh = same_broken s (end_at s p).treated.asked 6 r p nothing
+same_answered (duties.AckHeard s) r p nothing fresh = same_fell s events.AckHeard r p
+same_answered (duties.PlainAck s) r p nothing fresh =
+    same_broken_or s (breaks_by_ack p.profile (end_at s p)) 6 r (with_plain_ack (after_fell events.PlainAck r (end_at s p))) p nothing
+same_answered (duties.SubflowAck s) r p nothing fresh = refl
+same_answered (duties.PlainData s) r p nothing fresh = same_fell s events.PlainData r p
+same_answered (duties.GoIdentity s) r p nothing fresh = refl
 same_answered (duties.Keep s) r p nothing fresh = refl
 same_answered (duties.Edge s) r p nothing fresh = same_piece s (piece_of s p) (is_placed r) p
+same_answered (duties.Unmapped s) r p nothing fresh = same_broken s (end_at s p).treated.asked 6 r p nothing
 same_answered (duties.HeardFin s index) r p nothing fresh = same_fin s (is_fin_set r) p
 same_answered (duties.PassFin s) r p nothing fresh = refl
+same_answered (duties.SubflowFin s) r p nothing fresh = same_plain_fin s (is_fin_set r) p
 same_answered (duties.AckOut s) r p nothing fresh = refl
 same_answered (duties.Rate s) r p nothing fresh = refl
 same_answered (duties.Acknowledge s) r p nothing fresh = same_sent s (ack_segment s p) (having_sent to_send.Ack p.clock (ack_segment s p) (end_at s p)) (left p) p nothing
@@ -474,11 +572,11 @@ same_answered (duties.Leave s) r p nothing fresh = refl
 same_answered (duties.Dead s) r p nothing fresh = refl
 same_answered duties.End r p nothing fresh = refl
 
-same_answers : (ds : List Duty) (r : Reply) (p : PathState Carried) → ChangesNothing p.link.lines → NextIsFresh p
+same_answers : (ds : List Duty) (r : Reply) (p : PathState Carried) → AltersNothing p.link.lines → NextIsFresh p
     → answers octets ds r (shown_path p) ≡ shown_path (answers values ds r p)
 same_answers [] r p nothing fresh = refl
 same_answers (d ∷ ds) r p nothing fresh = same_answered d r p nothing fresh
 
-pub takes_the_same : (r : Reply) (p : PathState Carried) → ChangesNothing p.link.lines → NextIsFresh p → takes octets r (shown_path p) ≡ shown_path (takes values r p)
+pub takes_the_same : (r : Reply) (p : PathState Carried) → AltersNothing p.link.lines → NextIsFresh p → takes octets r (shown_path p) ≡ shown_path (takes values r p)
 takes_the_same r p nothing fresh =
     ap settles_down (same_answers p.agenda r p nothing fresh) ∙ same_settled (answers values p.agenda r p).agenda (answers values p.agenda r p)

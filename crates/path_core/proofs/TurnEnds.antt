@@ -60,6 +60,7 @@ module _ {C : Type 0} where
   same_stands duties.Events ds p is = is
   same_stands (duties.SynHeard s) ds p is = is
   same_stands (duties.SynAnswered s) ds p is = is
+  same_stands (duties.PlainHandshake s) ds p is = is
   same_stands (duties.PeerKey s) ds p is = is
   same_stands (duties.SynAck s) ds p is = is
   same_stands (duties.JoinHeard s) ds p is = is
@@ -69,10 +70,15 @@ module _ {C : Type 0} where
   same_stands (duties.Heard s index) ds p is = is
   same_stands (duties.AckHeard s) ds p is = is
   same_stands (duties.PlainAck s) ds p is = is
+  same_stands (duties.SubflowAck s) ds p is = is
+  same_stands (duties.PlainData s) ds p is = is
+  same_stands (duties.GoIdentity s) ds p is = is
   same_stands (duties.Keep s) ds p is = is
   same_stands (duties.Edge s) ds p is = is
+  same_stands (duties.Unmapped s) ds p is = is
   same_stands (duties.HeardFin s index) ds p is = is
   same_stands (duties.PassFin s) ds p is = is
+  same_stands (duties.SubflowFin s) ds p is = is
   same_stands (duties.AckOut s) ds p is = is
   same_stands (duties.Rate s) ds p is = is
   same_stands (duties.Acknowledge s) ds p is = is

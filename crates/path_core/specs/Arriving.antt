@@ -9,12 +9,12 @@ use Rattle.join_handshake.specs.declared.hearing.JoinAnswer.{JoinAnswer}
 use Rattle.mptcp_options.specs.declared.join.JoinForm.{JoinForm}
 use Rattle.mptcp_options.specs.declared.join.JoinForm.TheVariants.{Syn, Answer, Third}
 use Rattle.mptcp_options.specs.declared.capable.CapableKeys.{CapableKeys}
-use Rattle.mptcp_options.specs.declared.capable.CapableKeys.TheVariants.{Sender, Both, WithData}
+use Rattle.mptcp_options.specs.declared.capable.CapableKeys.TheVariants.{NoKey, Sender, Both, WithData}
 use Rattle.path_segments.specs.declared.expected.Expected.{Expected}
 use Rattle.path_segments.specs.declared.segment.PathOption.{PathOption}
 use Rattle.path_segments.specs.declared.segment.PathOption.TheVariants.{Capable, Dss, Join}
 use Rattle.path_segments.specs.declared.segment.PathMapping.{PathMapping}
-use Rattle.path_segments.specs.declared.segment.PathMapping.TheVariants.{Bytes, End}
+use Rattle.path_segments.specs.declared.segment.PathMapping.TheVariants.{Bytes, End, Infinite}
 use Rattle.path_segments.specs.Spelling.{numbers_of}
 use Rattle.subflow_send.specs.declared.record.AckKind.TheVariants.{New}
 use Rattle.subflow_tcp.specs.declared.segments.Hint.{Hint}
@@ -96,10 +96,15 @@ mapping_items place position len = if is_mapping place position len then says.Ma
 abbrev pub end_items : ℕ → List Heard
 end_items place = if nat_le place (2 ^ 62) then says.DataFin place ∷ [] else []
 
--- a mapping that names a place; DATA_FIN stands on an acknowledgement, and no mapping is infinite
+-- an infinite mapping, which begins at a place below 2^62
+abbrev pub infinite_items : ℕ → List Heard
+infinite_items place = if nat_lt place (2 ^ 62) then says.InfiniteMapping ∷ [] else []
+
+-- a mapping that names a place; DATA_FIN stands on an acknowledgement
 abbrev pub map_items : Option (PathMapping (Option ℕ)) → List Heard
 map_items (Some (Bytes (Some place) (Some position) len false checksum)) = mapping_items place position len
 map_items (Some (End (Some place) checksum)) = end_items place
+map_items (Some (Infinite (Some place) position)) = infinite_items place
 map_items _ = []
 
 -- MP_CAPABLE by the keys that it shows; B hears both, and the mapping of place 0 at position 1 with the first piece
@@ -127,6 +132,10 @@ items_in joined s window _ = []
 abbrev pub items_of : Bool → Side → HeardSegment → List Heard
 items_of joined s h = take 10 (flat_map (items_in joined s h.window) h.options)
 
+-- after a fallback no option is heard (RFC 8684, section 3.7)
+abbrev pub options_heard : PathEnd → HeardSegment → HeardSegment
+options_heard e h = record h { options = (if e.modes.identity then [] else h.options) }
+
 -- ---- the mappings among them, which the end holds
 
 abbrev pub held_if : Profile → Side → ℕ → ℕ → ℕ → Option ℕ → List KeptMapping
@@ -149,10 +158,11 @@ held_in c s _ = []
 abbrev pub held_of : Profile → Side → HeardSegment → List KeptMapping
 held_of c s h = flat_map (held_in c s) h.options
 
--- it has at most 65,535 octets, and its position is below 2^63
+-- it has at most 65,535 octets, its position is below 2^63, and the position that it acknowledges is at most 2^62
 pub record IsShortCopy (c : Copy) : Type 0 where
   pub small : length c.payload ≤ 65535
   pub low : unwrap_or c.position 0 < 2 ^ 63
+  pub near : unwrap_or c.acknowledged 0 ≤ 2 ^ 62
 
 -- ---- a dead end's answer
 
@@ -210,6 +220,21 @@ opens_by (means.Taken position acknowledged) state = is_half_open state
 opens_by (means.Accepts acknowledged) state = true
 opens_by _ state = false
 
+-- the SYN that opens path 0 asks for Multipath TCP, or doesn't
+abbrev pub asks_capable : HeardOption → Bool
+asks_capable (Capable flag_a flag_c NoKey) = true
+asks_capable _ = false
+
+abbrev pub asked_in : Meaning → List HeardOption → Modes → Modes
+asked_in means.Opens options m = record m { capable_asked = list_any asks_capable options }
+asked_in _ options m = m
+
+-- the edge, where the payload has the octet there
+abbrev pub edge_held : Meaning → List ℕ → ℕ → Option ℕ
+edge_held (means.Taken position acknowledged) octets edge =
+    if nat_le position edge && nat_lt edge (position + length octets) then Some edge else None
+edge_held _ octets edge = None
+
 -- its payload is held where it is taken
 abbrev pub with_payload : Meaning → List ℕ → EndState → EndState
 with_payload (means.Taken position acknowledged) octets tcp = if is_nil octets then tcp else after_holding position octets tcp
@@ -222,6 +247,10 @@ with_held told h meaning e = record e {
   receiving = record e.receiving { mappings = after_hold told e.receiving.mappings };
 }
 
+abbrev pub is_taken : Meaning → Bool
+is_taken (means.Taken position acknowledged) = true
+is_taken _ = false
+
 -- what is still to be treated of a copy that says these things
 abbrev pub treated_of : List Heard → Meaning → HeardSegment → Outgoing → EndState → Treated
 treated_of items meaning h answer s = record nothing_treated {
@@ -231,6 +260,8 @@ treated_of items meaning h answer s = record nothing_treated {
   answer = Some answer;
   window = h.window;
   plain_ack = is_plain_ack (arrival_of meaning (hint_of items) (copy_of h) s) h;
+  acknowledged = (if is_taken meaning then unwrap_or (copy_of h).acknowledged 0 else 0);
+  held_edge = edge_held meaning h.payload s.recv.edge;
 }
 
 -- the subflow takes it, and the rest is still to be treated
@@ -238,6 +269,7 @@ abbrev pub after_copy : List Heard → Outgoing → ℕ → HeardSegment → Mea
 after_copy items answer now h meaning e = record e {
   tcp = owing_if (owes_by meaning items) (after_arrival meaning (hint_of items) now (copy_of h) e.tcp);
   treated = treated_of items meaning h answer e.tcp;
+  modes = asked_in meaning h.options e.modes;
 }
 
 -- ---- at an end of a path that joins

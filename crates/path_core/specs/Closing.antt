@@ -1,5 +1,5 @@
 -- Data ACKs, and when DATA_FIN and FIN go out (RFC 8684, sections 3.3.2 and 3.3.3).
-use Rattle.std.specs.Prelude.{ℕ, max, Bool, true, false, not, ◌&&◌, ◌||◌, nat_lt, is_some, Option, ◌++◌, [], ◌∷◌, filter}
+use Rattle.std.specs.Prelude.{ℕ, max, min, Bool, true, false, not, ◌&&◌, ◌||◌, ◌==◌, nat_lt, is_some, if◌then◌else◌, Option, Some, None, List, ◌++◌, [], ◌∷◌, filter}
 use Rattle.std.specs.List.{list_any}
 use Rattle.send_book.specs.declared.call.Span.{Span}
 use Rattle.send_book.specs.declared.call.Why.{Why}
@@ -60,20 +60,37 @@ after_refusal why known v = record v { shut = is_shut why; known_end = told_last
 abbrev pub owes_end : Sending → Bool
 owes_end v = v.fin_sent && not v.close.own_acked
 
--- the DATA_FIN is to be sent: the end is known, and it was neither sent nor acknowledged
+-- after a fallback the subflow's FIN takes its place (section 3.7)
+abbrev pub is_end_owed : PathEnd → Bool
+is_end_owed e = not e.modes.identity && owes_end e.sending
+
+-- the DATA_FIN is to be sent: the end is known, and it was neither sent nor acknowledged; never after a fallback
 abbrev pub is_end_due : PathEnd → Bool
 is_end_due e =
-    may_finish e.tcp.state && (e.modes.clear && (is_some e.sending.known_end && (not e.sending.fin_sent && not e.sending.close.own_acked)))
+    may_finish e.tcp.state && (not e.modes.identity && (e.modes.clear
+    && (is_some e.sending.known_end && (not e.sending.fin_sent && not e.sending.close.own_acked))))
 
--- the FIN is to be sent: the own DATA_FIN is acknowledged, and the peer's came
+-- the place behind the last byte that was granted and isn't acknowledged
+abbrev pub granted_to : List Span → ℕ
+granted_to [] = 0
+granted_to (span ∷ spans) = max span.to (granted_to spans)
+
+-- the end is known, and no byte before it waits for its grant
+abbrev pub is_all_granted : Option ℕ → Sending → Bool
+is_all_granted None v = false
+is_all_granted (Some end) v = max (granted_to v.granted) (min v.heard end) == end
+
+-- The FIN is to be sent: the own DATA_FIN is acknowledged, and the peer's came; after a fallback all bytes were granted.
 abbrev pub is_fin_due : PathEnd → Bool
-is_fin_due e = may_finish e.tcp.state && closing.may_finish e.sending.close
+is_fin_due e =
+    may_finish e.tcp.state
+    && (if e.modes.identity then is_all_granted e.sending.known_end e.sending else closing.may_finish e.sending.close)
 
 -- ---- the timer
 
 -- what the timer runs for beside the records and a join: a byte or a DATA_FIN that isn't acknowledged, or a window that is shut
-abbrev pub is_waiting : Sending → Bool
-is_waiting v = owes_end v || (not (is_nil v.granted) || v.shut)
+abbrev pub is_waiting : PathEnd → Bool
+is_waiting e = is_end_owed e || (not (is_nil e.sending.granted) || e.sending.shut)
 
 abbrev pub with_end_sent : Sending → Sending
 with_end_sent v = record v { fin_sent = true }

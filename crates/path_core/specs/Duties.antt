@@ -1,6 +1,6 @@
 -- The four definitions by cases on the duty: whether it comes to something, to what, what its reply makes of the path, and
 -- what a duty that comes to nothing changes in silence.
-use Rattle.std.specs.Prelude.{Bool, true, false, not, ◌&&◌, is_some, Some, None, []}
+use Rattle.std.specs.Prelude.{Bool, true, false, not, ◌&&◌, ◌||◌, is_some, Some, None, []}
 use Rattle.subflow_tcp.specs.State.{has_records}
 use Rattle.fallback_state.specs.declared.fall.Event.TheVariants as events
 use Rattle.fallback_state.specs.Modes.{is_starting}
@@ -19,13 +19,14 @@ use Rattle.path_core.specs.Emission.{is_syn_due, data_stands, first_unsent, unse
 use Rattle.path_core.specs.Events.{next_event, step_for, happens_if, answered_join_again}
 use Rattle.path_core.specs.Joining.{is_join_pending, join_begin_ask, asked_at, join_heard_ask, answered_join_heard, refusal_of, answered_refusal}
 use Rattle.path_agenda.specs.Items.{key_heard, keys_heard}
-use Rattle.path_core.specs.Opening.{syn_window_ask, syn_ack_of, answered_syn_ack, peer_key_ask, with_peer_key, keys_ask, after_keys, is_opened_by_keys, live_ask}
-use Rattle.path_core.specs.Passing.{piece_of, piece_ask, is_placed, answered_piece, is_fin_set, fin_of, fin_ask, answered_fin_heard, after_pass_fin, rate_ask, answered_rate, first_segment, answered_again, answer_of, answered_answer, dead_answer, answered_dead, resend_of, answered_resend}
-use Rattle.path_core.specs.Placing.{after_check}
+use Rattle.path_core.specs.Falling.{fell_ask, answered_fell, identity_ask, answered_identity}
+use Rattle.path_core.specs.Opening.{syn_window_ask, syn_ack_of, answered_syn_ack, is_plain_syn, peer_key_stands, peer_key_ask, answered_peer_key, is_opened_by_keys, is_opened_plainly, opened_ask, answered_opened, live_ask}
+use Rattle.path_core.specs.Passing.{piece_of, piece_ask, is_placed, answered_piece, is_fin_set, fin_of, fin_ask, answered_fin_heard, after_pass_fin, plain_fin, answered_plain_fin, rate_ask, answered_rate, first_segment, answered_again, answer_of, answered_answer, dead_answer, answered_dead, resend_of, answered_resend}
+use Rattle.path_core.specs.Placing.{after_check, breaks_by_unmapped, after_unmapped}
 use Rattle.path_core.specs.Sends.{sends}
 use Rattle.path_core.specs.Standing.{look_ask, answered_look, ack_out_ask, answered_ack_out, is_update_due, ack_segment, acknowledges}
-use Rattle.path_core.specs.State.{PathState, end_at, with_end, goes_on, left, path_of, with_agenda}
-use Rattle.path_core.specs.Treating.{item_of, item_stands, item_ask, answered_item, item_passed, fell_ask, after_verdict, breaks_by_ack, after_keep}
+use Rattle.path_core.specs.State.{PathState, end_at, with_end, left, path_of, with_agenda}
+use Rattle.path_core.specs.Treating.{item_of, item_stands, item_ask, answered_item, item_passed, plain_ack_stands, plain_ack_ask, with_plain_ack, answered_plain_ack, subflow_ack_stands, subflow_ack_ask, answered_subflow_ack, plain_data_stands, after_keep}
 use Rattle.actor_desk.specs.Words.{is_nil}
 use Rattle.path_agenda.specs.Words.{replaced}
 
@@ -44,19 +45,25 @@ stands (duties.Timer s) p = false
 stands duties.Events p = is_some (next_event p)
 stands (duties.SynHeard s) p = true
 stands (duties.SynAnswered s) p = true
-stands (duties.PeerKey s) p = is_some (key_heard (end_at s p).treated.items)
+stands (duties.PlainHandshake s) p = is_plain_syn (end_at s p)
+stands (duties.PeerKey s) p = peer_key_stands (end_at s p)
 stands (duties.SynAck s) p = true
 stands (duties.JoinHeard s) p = is_some (asked_at s p)
 stands (duties.Refuse s) p = true
-stands (duties.Opened s) p = is_opened_by_keys (end_at s p)
+stands (duties.Opened s) p = is_opened_by_keys (end_at s p) || is_opened_plainly (end_at s p)
 stands (duties.Live s) p = (end_at s p).treated.opened
 stands (duties.Heard s index) p = item_stands (item_of index (end_at s p)) (end_at s p)
 stands (duties.AckHeard s) p = is_starting (end_at s p).modes.mode
-stands (duties.PlainAck s) p = breaks_by_ack p.profile (end_at s p)
+stands (duties.PlainAck s) p = plain_ack_stands p.profile (end_at s p)
+stands (duties.SubflowAck s) p = subflow_ack_stands (end_at s p)
+stands (duties.PlainData s) p = plain_data_stands (end_at s p)
+stands (duties.GoIdentity s) p = true
 stands (duties.Keep s) p = false
 stands (duties.Edge s) p = is_some (piece_of s p)
+stands (duties.Unmapped s) p = breaks_by_unmapped (end_at s p)
 stands (duties.HeardFin s index) p = is_some (fin_of index (end_at s p))
 stands (duties.PassFin s) p = false
+stands (duties.SubflowFin s) p = is_some (plain_fin (end_at s p))
 stands (duties.AckOut s) p = (end_at s p).treated.asked
 stands (duties.Rate s) p = is_some (end_at s p).tcp.congestion.pending
 stands (duties.Acknowledge s) p = (end_at s p).tcp.due.ack
@@ -87,19 +94,25 @@ ask_for k (duties.Timer s) p = asks.Local steps.End
 ask_for k duties.Events p = step_for (path_of p) (next_event p)
 ask_for k (duties.SynHeard s) p = syn_window_ask s (end_at s p)
 ask_for k (duties.SynAnswered s) p = syn_window_ask s (end_at s p)
-ask_for k (duties.PeerKey s) p = peer_key_ask s (key_heard (end_at s p).treated.items)
+ask_for k (duties.PlainHandshake s) p = fell_ask s events.PlainHandshake p
+ask_for k (duties.PeerKey s) p = peer_key_ask s (key_heard (end_at s p).treated.items) p
 ask_for k (duties.SynAck s) p = sends k s (syn_ack_of s p) p
 ask_for k (duties.JoinHeard s) p = join_heard_ask s (asked_at s p) p
 ask_for k (duties.Refuse s) p = sends k s (refusal_of s p) p
-ask_for k (duties.Opened s) p = keys_ask s (keys_heard (end_at s p).treated.items)
+ask_for k (duties.Opened s) p = opened_ask s (keys_heard (end_at s p).treated.items) p
 ask_for k (duties.Live s) p = live_ask s p
 ask_for k (duties.Heard s index) p = item_ask k s (item_of index (end_at s p)) p
 ask_for k (duties.AckHeard s) p = fell_ask s events.AckHeard p
-ask_for k (duties.PlainAck s) p = break_ask k s 6 p
+ask_for k (duties.PlainAck s) p = plain_ack_ask k s p
+ask_for k (duties.SubflowAck s) p = subflow_ack_ask s (end_at s p)
+ask_for k (duties.PlainData s) p = fell_ask s events.PlainData p
+ask_for k (duties.GoIdentity s) p = identity_ask s
 ask_for k (duties.Keep s) p = asks.Local steps.End
 ask_for k (duties.Edge s) p = piece_ask s (piece_of s p)
+ask_for k (duties.Unmapped s) p = break_ask k s 6 p
 ask_for k (duties.HeardFin s index) p = fin_ask s (fin_of index (end_at s p))
 ask_for k (duties.PassFin s) p = asks.Local steps.End
+ask_for k (duties.SubflowFin s) p = fin_ask s (plain_fin (end_at s p))
 ask_for k (duties.AckOut s) p = ack_out_ask s
 ask_for k (duties.Rate s) p = rate_ask s (end_at s p).tcp.congestion.pending p
 ask_for k (duties.Acknowledge s) p = sends k s (ack_segment s p) p
@@ -120,8 +133,10 @@ ask_for k duties.End p = asks.Local steps.End
 abbrev pub passed : {C : Type 0} → Duty → PathState C → PathState C
 passed (duties.Timer s) p = with_end s (after_timer p.clock (end_at s p)) p
 passed (duties.Heard s index) p = with_end s (item_passed s (item_of index (end_at s p)) (end_at s p)) p
+passed (duties.PlainAck s) p = with_end s (with_plain_ack (end_at s p)) p
 passed (duties.Keep s) p = with_end s (after_keep s (end_at s p)) p
 passed (duties.Edge s) p = with_end s (after_check p.profile (end_at s p)) p
+passed (duties.Unmapped s) p = with_end s (after_unmapped (end_at s p)) p
 passed (duties.PassFin s) p = with_end s (after_pass_fin (end_at s p)) p
 passed _ p = p
 
@@ -141,16 +156,22 @@ answered k (duties.Data s) r p = answered_data k s (first_unsent (end_at s p)) r
 answered k (duties.DataFin s) r p = answered_end k s p
 answered k (duties.Fin s) r p = answered_fin k s p
 answered k duties.Events r p = happens_if k (next_event p) r p
-answered k (duties.PeerKey s) r p = goes_on s (with_peer_key (key_heard (end_at s p).treated.items) (end_at s p)) (left p) p
+answered k (duties.PlainHandshake s) r p = answered_fell s events.PlainHandshake r p
+answered k (duties.PeerKey s) r p = answered_peer_key s (key_heard (end_at s p).treated.items) r p
 answered k (duties.SynAck s) r p = answered_syn_ack k s p
 answered k (duties.JoinHeard s) r p = answered_join_heard s r p
 answered k (duties.Refuse s) r p = answered_refusal k s p
-answered k (duties.Opened s) r p = goes_on s (after_keys r (keys_heard (end_at s p).treated.items) (end_at s p)) (left p) p
+answered k (duties.Opened s) r p = answered_opened s (keys_heard (end_at s p).treated.items) r p
 answered k (duties.Heard s index) r p = answered_item k s (item_of index (end_at s p)) r p
-answered k (duties.AckHeard s) r p = goes_on s (after_verdict r (end_at s p)) (left p) p
-answered k (duties.PlainAck s) r p = answered_break k s 6 r p
+answered k (duties.AckHeard s) r p = answered_fell s events.AckHeard r p
+answered k (duties.PlainAck s) r p = answered_plain_ack k s r p
+answered k (duties.SubflowAck s) r p = answered_subflow_ack s r p
+answered k (duties.PlainData s) r p = answered_fell s events.PlainData r p
+answered k (duties.GoIdentity s) r p = answered_identity s p
 answered k (duties.Edge s) r p = answered_piece s (piece_of s p) (is_placed r) p
+answered k (duties.Unmapped s) r p = answered_break k s 6 r p
 answered k (duties.HeardFin s index) r p = answered_fin_heard s (is_fin_set r) p
+answered k (duties.SubflowFin s) r p = answered_plain_fin s (is_fin_set r) p
 answered k (duties.AckOut s) r p = answered_ack_out s r (left p) p
 answered k (duties.Rate s) r p = answered_rate s r p
 answered k (duties.Acknowledge s) r p = acknowledges k s p

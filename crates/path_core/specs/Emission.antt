@@ -24,7 +24,7 @@ use Rattle.path_core.specs.Codec.{Codec}
 use Rattle.path_core.specs.Ends.{PathEnd, Sending}
 use Rattle.path_core.specs.Joins.{is_joined}
 use Rattle.path_core.specs.Segments.{ack_said, fin_said, record_or_ack, mapping_of}
-use Rattle.path_core.specs.Sends.{sends, having_sent, sent_on, with_edge_told}
+use Rattle.path_core.specs.Sends.{sends, having_sent, sent_on, with_told}
 use Rattle.path_core.specs.State.{PathState, Profile, end_at, goes_on, left, path_of}
 use Rattle.path_core.specs.Words.{is_side_a}
 
@@ -54,9 +54,9 @@ fits s r = nat_le 1 s.send.una && nat_le (length r.piece) (room s)
 abbrev pub payload_size : Profile → ℕ
 payload_size c = c.mss - 28
 
--- the end may send a DSS, or it is the one that opened the connection
+-- the end may send a DSS, or needs none after a fallback, or it is the one that opened the connection
 abbrev pub may_send_data : Profile → Side → PathEnd → Bool
-may_send_data c s e = e.modes.clear || (is_side_a s && not (is_joined c))
+may_send_data c s e = e.modes.clear || (e.modes.identity || (is_side_a s && not (is_joined c)))
 
 -- both SYNs are acknowledged, no FIN was sent, there is room for a full segment, and positions are left
 abbrev pub may_ask : Profile → Side → PathEnd → Bool
@@ -133,7 +133,7 @@ fin_segment_of s p = fin_said p.profile (end_at s p)
 -- the FIN is pushed and sent at once
 abbrev pub having_sent_fin : {C : Type 0} → Side → PathState C → PathEnd
 having_sent_fin s p =
-    let e = with_edge_told (fin_segment_of s p) (end_at s p) in
+    let e = with_told (fin_segment_of s p) (end_at s p) in
     record e { tcp = after_sending to_send.Fin p.clock (after_finishing e.tcp) }
 
 abbrev pub answered_fin : {C : Type 0} → Codec C → Side → PathState C → PathState C
@@ -144,6 +144,6 @@ answered_fin k s p = sent_on k s (fin_segment_of s p) (having_sent_fin s p) (lef
 -- it is settled by the reasons of the subflow and of the streams, and by the third MP_JOIN
 abbrev pub after_timer : ℕ → PathEnd → PathEnd
 after_timer now e = record e {
-  tcp = after_settling (is_waiting e.sending || e.modes.owes_third) e.sending.news now e.tcp;
+  tcp = after_settling (is_waiting e || e.modes.owes_third) e.sending.news now e.tcp;
   sending = without_news e.sending;
 }

@@ -35,6 +35,11 @@ pub record Receiving : Type 0 where
   pub told_edge : ℕ
   -- which place each position has
   pub mappings : Mappings
+  -- so often, up to three times, the byte at this position was the next one and came without a mapping
+  pub unmapped : ℕ
+  pub unmapped_at : ℕ
+  -- the peer's FIN was told as the end of its stream
+  pub fin_told : Bool
 
 -- the same, and for how many mappings more there is room
 pub record ReceivingStore : Type 0 where
@@ -62,6 +67,12 @@ pub record Treated : Type 0 where
   pub window : ℕ
   -- it acknowledges data for the first time, and has no Data ACK
   pub plain_ack : Bool
+  -- the position that it acknowledges
+  pub acknowledged : ℕ
+  -- its Data ACK was told to the send book
+  pub data_ack_taken : Bool
+  -- the receive edge at its arrival, where its payload has the octet there and isn't dropped
+  pub held_edge : Option ℕ
 
 -- one end
 pub record PathEnd : Type 0 where
@@ -83,7 +94,8 @@ no_sending = record {
 }
 
 abbrev pub no_receiving : Receiving
-no_receiving = record { next = 0; window = 0; told_edge = 0; mappings = no_mappings }
+no_receiving =
+    record { next = 0; window = 0; told_edge = 0; mappings = no_mappings; unmapped = 0; unmapped_at = 0; fin_told = false }
 
 -- no copy is treated
 abbrev pub nothing_treated : Treated
@@ -97,6 +109,9 @@ nothing_treated = record {
   answer = None;
   window = 0;
   plain_ack = false;
+  acknowledged = 0;
+  data_ack_taken = false;
+  held_edge = None;
 }
 
 abbrev pub first_modes : ℕ → ℕ → Modes
@@ -112,6 +127,11 @@ first_modes own_key own_nonce = record {
   backup_heard = false;
   owes_third = false;
   covered = false;
+  capable_asked = false;
+  identity = false;
+  owes_mapping = false;
+  mapped_to = None;
+  plain_acks = 0;
 }
 
 -- an end of which nothing happened yet

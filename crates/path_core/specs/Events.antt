@@ -23,7 +23,7 @@ use Rattle.path_agenda.specs.declared.duty.Duty.TheVariants as duties
 use Rattle.actor_desk.specs.declared.ask.Reply.{Reply}
 use Rattle.path_agenda.specs.Agenda.{rest_of_turn, emission, expired, expired_for_ever, leaves}
 use Rattle.path_agenda.specs.Words.{replaced}
-use Rattle.path_core.specs.Arriving.{expected_by, items_of, judged_in, after_judged, template_of}
+use Rattle.path_core.specs.Arriving.{expected_by, items_of, options_heard, judged_in, after_judged, template_of}
 use Rattle.path_core.specs.Codec.{Codec, HeardSegment}
 use Rattle.path_core.specs.Ends.{PathEnd, nothing_treated}
 use Rattle.path_core.specs.Joining.{join_begin_ask, keys_begun, is_never, opened_by}
@@ -155,12 +155,16 @@ after_line death p = if death then path_died p else with_agenda rest_of_turn p
 abbrev pub line_taken : {C : Type 0} → LineLeft → PathState C → PathState C
 line_taken line p = after_line (is_death line.line) (record (at_tick line.tick p) { lines = tail_of p.lines })
 
+-- what a copy says to the end
+abbrev pub told_at : {C : Type 0} → ℕ → Side → HeardSegment → PathState C → PathState C
+told_at now s h p =
+    let e = end_at s p in let joined = is_joined p.profile in let verdict = judged_in joined s h e in
+    goes_on s (after_judged p.profile s now h verdict e) (template_of joined s (items_of joined s h) verdict) p
+
 -- what is heard at this tick; a copy that doesn't parse is dropped
 abbrev pub heard_at : {C : Type 0} → ℕ → Side → Option HeardSegment → PathState C → PathState C
 heard_at now s None p = with_agenda (emission s) p
-heard_at now s (Some h) p =
-    let e = end_at s p in let joined = is_joined p.profile in let verdict = judged_in joined s h e in
-    goes_on s (after_judged p.profile s now h verdict e) (template_of joined s (items_of joined s h) verdict) p
+heard_at now s (Some h) p = told_at now s (options_heard (end_at s p) h) p
 
 abbrev pub copy_heard : {C : Type 0} → Side → Option HeardSegment → PathState C → PathState C
 copy_heard s heard p = heard_at p.clock s heard p

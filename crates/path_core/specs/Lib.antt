@@ -11,6 +11,7 @@ pub mod Arriving
 pub mod Events
 pub mod Standing
 pub mod Emission
+pub mod Falling
 pub mod Opening
 pub mod Joining
 pub mod Breaking

@@ -1,10 +1,12 @@
 -- How path 0 opens: SYN, SYN/ACK, and the keys of both sides (RFC 8684, section 3.1).
-use Rattle.std.specs.Prelude.{ℕ, Bool, true, false, ◌&&◌, is_some, Option, Some, None}
+use Rattle.std.specs.Prelude.{ℕ, Bool, true, not, ◌&&◌, ◌||◌, is_some, Option, Some, None}
 use Rattle.outside_kit.specs.declared.side.Side.{Side}
 use Rattle.path_segments.specs.Spelled.{PlainSegment}
 use Rattle.send_book.specs.declared.call.SendCall.TheVariants as send_calls
 use Rattle.control_book.specs.declared.call.ControlCall.TheVariants as control_calls
 use Rattle.control_book.specs.declared.call.ControlReply.TheVariants as control_replies
+use Rattle.fallback_state.specs.declared.fall.Event.TheVariants as events
+use Rattle.fallback_state.specs.Modes.{is_starting}
 use Rattle.subflow_tcp.specs.declared.segments.Occasion.TheVariants as to_send
 use Rattle.actor_desk.specs.declared.ask.Ask.{Ask}
 use Rattle.actor_desk.specs.declared.ask.Ask.TheVariants as asks
@@ -13,12 +15,13 @@ use Rattle.actor_desk.specs.declared.ask.Reply.{Reply}
 use Rattle.actor_desk.specs.declared.ask.Reply.TheVariants as replies
 use Rattle.path_core.specs.Codec.{Codec}
 use Rattle.path_agenda.specs.declared.keys.KeyPair.{KeyPair}
-use Rattle.path_agenda.specs.Items.{keys_heard}
+use Rattle.path_agenda.specs.Items.{key_heard, keys_heard}
 use Rattle.path_core.specs.declared.modes.Modes.{Modes}
 use Rattle.path_core.specs.Ends.{PathEnd}
+use Rattle.path_core.specs.Falling.{fell_ask, answered_fell}
 use Rattle.path_core.specs.Segments.{syn_ack_said}
 use Rattle.path_core.specs.Sends.{having_sent, sent_on}
-use Rattle.path_core.specs.State.{PathState, end_at, left, path_of}
+use Rattle.path_core.specs.State.{PathState, end_at, goes_on, left, path_of}
 
 -- ---- the window of a SYN
 
@@ -36,14 +39,28 @@ abbrev pub answered_syn_ack : {C : Type 0} → Codec C → Side → PathState C 
 answered_syn_ack k s p =
     sent_on k s (syn_ack_of s p) (having_sent to_send.SynAck p.clock (syn_ack_of s p) (end_at s p)) (left p) p
 
+-- ---- a handshake without Multipath TCP
+
+-- the SYN doesn't ask for it
+abbrev pub is_plain_syn : PathEnd → Bool
+is_plain_syn e = not e.modes.capable_asked && is_starting e.modes.mode
+
 -- ---- keys
 
-abbrev pub peer_key_ask : Side → Option ℕ → Ask
-peer_key_ask s None = asks.Local steps.End
-peer_key_ask s (Some key) = asks.Control s (control_calls.PeerKey key)
+-- the SYN/ACK tells the peer's key, or that there is none
+abbrev pub peer_key_stands : PathEnd → Bool
+peer_key_stands e = is_some (key_heard e.treated.items) || is_starting e.modes.mode
+
+abbrev pub peer_key_ask : {C : Type 0} → Side → Option ℕ → PathState C → Ask
+peer_key_ask s None p = fell_ask s events.PlainHandshake p
+peer_key_ask s (Some key) p = asks.Control s (control_calls.PeerKey key)
 
 abbrev pub with_peer_key : Option ℕ → PathEnd → PathEnd
 with_peer_key key e = record e { modes = record e.modes { peer_key = key } }
+
+abbrev pub answered_peer_key : {C : Type 0} → Side → Option ℕ → Reply → PathState C → PathState C
+answered_peer_key s None r p = answered_fell s events.PlainHandshake r p
+answered_peer_key s (Some key) r p = goes_on s (with_peer_key (Some key) (end_at s p)) (left p) p
 
 abbrev pub keys_ask : Side → Option KeyPair → Ask
 keys_ask s None = asks.Local steps.End
@@ -57,9 +74,20 @@ keys_in _ keys m = m
 abbrev pub after_keys : Reply → Option KeyPair → PathEnd → PathEnd
 after_keys r keys e = record e { modes = keys_in r keys e.modes; treated = record e.treated { keys_told = true } }
 
--- the end left SynReceived by a copy with both keys
+-- the end left SynReceived by a copy with both keys, or by one without any option
 abbrev pub is_opened_by_keys : PathEnd → Bool
 is_opened_by_keys e = e.treated.opened && is_some (keys_heard e.treated.items)
+
+abbrev pub is_opened_plainly : PathEnd → Bool
+is_opened_plainly e = e.treated.opened && (not e.treated.has_option && is_starting e.modes.mode)
+
+abbrev pub opened_ask : {C : Type 0} → Side → Option KeyPair → PathState C → Ask
+opened_ask s None p = fell_ask s events.PlainHandshake p
+opened_ask s (Some keys) p = keys_ask s (Some keys)
+
+abbrev pub answered_opened : {C : Type 0} → Side → Option KeyPair → Reply → PathState C → PathState C
+answered_opened s None r p = answered_fell s events.PlainHandshake r p
+answered_opened s (Some keys) r p = goes_on s (after_keys r (Some keys) (end_at s p)) (left p) p
 
 -- ---- the path lives, as a backup where the peer's SYN said so
 

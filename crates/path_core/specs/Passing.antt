@@ -1,6 +1,6 @@
 -- What the payload of a copy makes of an end: bytes and ends that are told, the window's growth, answers, and what an expiry
 -- sends again.
-use Rattle.std.specs.Prelude.{ℕ, ◌-◌, min, max, Bool, true, false, ◌||◌, ◌==◌, if◌then◌else◌, Option, Some, None, List, [], find, slice_get}
+use Rattle.std.specs.Prelude.{ℕ, ◌-◌, min, max, Bool, true, false, not, nat_lt, ◌&&◌, ◌||◌, ◌==◌, if◌then◌else◌, Option, Some, None, List, [], find, slice_get}
 use Rattle.outside_kit.specs.declared.side.Side.{Side}
 use Rattle.path_segments.specs.Spelled.{PlainSegment}
 use Rattle.reassembly_book.specs.declared.call.ReassemblyCall.TheVariants as reassembly_calls
@@ -24,7 +24,7 @@ use Rattle.actor_desk.specs.declared.ask.LocalStep.TheVariants as steps
 use Rattle.actor_desk.specs.declared.ask.Reply.{Reply}
 use Rattle.actor_desk.specs.declared.ask.Reply.TheVariants as replies
 use Rattle.path_agenda.specs.Agenda.{breaks}
-use Rattle.path_core.specs.Closing.{after_peer_end, owes_end}
+use Rattle.path_core.specs.Closing.{after_peer_end, is_end_owed}
 use Rattle.path_core.specs.Codec.{Codec}
 use Rattle.path_core.specs.Ends.{PathEnd}
 use Rattle.path_core.specs.Placing.{Piece, next_piece, after_piece}
@@ -83,9 +83,26 @@ fin_set s p = goes_on s (having_asked (with_peer_end (end_at s p))) (left p) p
 abbrev pub answered_fin_heard : {C : Type 0} → Side → Bool → PathState C → PathState C
 answered_fin_heard s set p = if set then fin_set s p else refused s p
 
--- the subflow's FIN ends no stream; the edge moves over it
+-- the edge moves over the subflow's FIN, which ends no stream by itself
 abbrev pub after_pass_fin : PathEnd → PathEnd
 after_pass_fin e = record e { tcp = (if is_fin_next e.tcp then after_passing_fin e.tcp else e.tcp) }
+
+-- the place of a FIN that the edge passed, whose position has the place before it
+abbrev pub place_passed : Option ℕ → ℕ → Option ℕ
+place_passed None edge = None
+place_passed (Some position) edge = if nat_lt position edge then Some (position - 1) else None
+
+-- after a fallback it is the end of the stream, and told once, also where it was passed before
+abbrev pub plain_fin : PathEnd → Option ℕ
+plain_fin e =
+    if e.modes.identity && not e.receiving.fin_told then place_passed e.tcp.fin_at e.tcp.recv.edge else None
+
+abbrev pub with_fin_told : PathEnd → PathEnd
+with_fin_told e = record e { receiving = record e.receiving { fin_told = true } }
+
+abbrev pub answered_plain_fin : {C : Type 0} → Side → Bool → PathState C → PathState C
+answered_plain_fin s set p =
+    if set then goes_on s (having_asked (with_peer_end (with_fin_told (end_at s p)))) (left p) p else refused s p
 
 -- ---- the growth of the window
 
@@ -160,12 +177,12 @@ answered_dead k s p = sent_on k s (dead_answer s p) (end_at s p) (left p) p
 abbrev pub resend_occasion : PathEnd → Occasion
 resend_occasion e =
     if has_records e.tcp then to_send.First
-    else (if e.modes.owes_third || owes_end e.sending then to_send.Ack else to_send.Probe)
+    else (if e.modes.owes_third || is_end_owed e then to_send.Ack else to_send.Probe)
 
 abbrev pub ack_resent : Profile → Side → PathEnd → PlainSegment
 ack_resent c s e =
     if e.modes.owes_third then ack_said c s e.tcp.send.nxt None e
-    else (if owes_end e.sending then ack_said c s e.tcp.send.nxt e.sending.known_end e
+    else (if is_end_owed e then ack_said c s e.tcp.send.nxt e.sending.known_end e
     else ack_said c s (e.tcp.send.una - 1) None e)
 
 abbrev pub resend_said : Profile → Side → PathEnd → PlainSegment

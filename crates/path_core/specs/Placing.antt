@@ -1,5 +1,5 @@
 -- The mappings that an end learns, and the bytes that its receive edge passes (RFC 8684, section 3.3.1).
-use Rattle.std.specs.Prelude.{ℕ, ◌+◌, ◌-◌, ◌^◌, min, Bool, not, ◌&&◌, ◌==◌, nat_lt, nat_le, if◌then◌else◌, Option, Some, None, List, length, take}
+use Rattle.std.specs.Prelude.{ℕ, ◌+◌, ◌-◌, ◌^◌, min, Bool, not, ◌&&◌, ◌==◌, nat_lt, nat_le, is_none, if◌then◌else◌, Option, Some, None, List, length, take}
 use Rattle.dss_checksum.specs.Checksum.{dss_checksum}
 use Rattle.dss_mapping.specs.declared.kept.KeptMapping.{KeptMapping}
 use Rattle.dss_mapping.specs.Learning.{after_learn_held, after_skip_held}
@@ -8,10 +8,13 @@ use Rattle.link_model.specs.Steps.{peer}
 use Rattle.outside_kit.specs.declared.side.Side.{Side}
 use Rattle.subflow_recv.specs.Receiving.{filled, after_advance, after_forget_from}
 use Rattle.subflow_tcp.specs.State.{EndState}
+use Rattle.subflow_tcp.specs.Judging.{is_at}
+use Rattle.control_book.specs.Replies.{is_sure}
 use Rattle.path_core.specs.declared.in_order.InOrder.{InOrder}
 use Rattle.path_core.specs.Ends.{PathEnd}
 use Rattle.path_core.specs.State.{Profile}
 use Rattle.path_core.specs.Segments.{bare_mapping}
+use Rattle.path_core.specs.Words.{one_more}
 
 -- ---- mappings
 
@@ -73,9 +76,18 @@ abbrev pub piece_by : Bool → Option KeptMapping → EndState → Option Piece
 piece_by checksums None s = None
 piece_by checksums (Some kept) s = checked_piece checksums kept s
 
+-- after a fallback: all that is in order, each byte at the place before its position
+abbrev pub plain_piece : EndState → Piece
+plain_piece s = record { place = s.recv.edge - 1; octets = filled s.recv.places }
+
+-- the mapping of the position at the edge; after a fallback none counts
+abbrev pub mapping_here : PathEnd → Option KeptMapping
+mapping_here e = if e.modes.identity then None else mapping_at e.receiving.mappings e.tcp.recv.edge
+
 -- the next bytes to be placed
 abbrev pub next_piece : Profile → PathEnd → Option Piece
-next_piece c e = piece_by c.spelling.checksums (mapping_at e.receiving.mappings e.tcp.recv.edge) e.tcp
+next_piece c e =
+    if e.modes.identity then some_piece (plain_piece e.tcp) else piece_by c.spelling.checksums (mapping_here e) e.tcp
 
 -- the edge is behind them
 abbrev pub passed_to : ℕ → PathEnd → PathEnd
@@ -99,4 +111,26 @@ forgotten_by checksums (Some kept) e =
     if is_wrong checksums kept e.tcp then record e { tcp = record e.tcp { recv = after_forget_from kept.pos e.tcp.recv } } else e
 
 abbrev pub after_check : Profile → PathEnd → PathEnd
-after_check c e = forgotten_by c.spelling.checksums (mapping_at e.receiving.mappings e.tcp.recv.edge) e
+after_check c e = forgotten_by c.spelling.checksums (mapping_here e) e
+
+-- ---- the next byte without a mapping
+
+-- the copy has the byte at the edge, which has no mapping
+abbrev pub is_unmapped : PathEnd → Bool
+is_unmapped e = is_at e.tcp.recv.edge e.treated.held_edge && (not e.modes.identity && is_none (mapping_here e))
+
+-- how often it came so, this copy among them
+abbrev pub times_unmapped : PathEnd → ℕ
+times_unmapped e = if e.receiving.unmapped_at == e.tcp.recv.edge then one_more e.receiving.unmapped else 1
+
+-- the third time breaks the path of a side that is sure
+abbrev pub breaks_by_unmapped : PathEnd → Bool
+breaks_by_unmapped e = is_unmapped e && (is_sure e.modes.mode && nat_le 3 (times_unmapped e))
+
+abbrev pub after_unmapped : PathEnd → PathEnd
+after_unmapped e = record e {
+  receiving = record e.receiving {
+    unmapped = (if is_unmapped e then times_unmapped e else e.receiving.unmapped);
+    unmapped_at = (if is_unmapped e then e.tcp.recv.edge else e.receiving.unmapped_at);
+  };
+}

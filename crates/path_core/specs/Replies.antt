@@ -40,6 +40,27 @@ abbrev pub AreRowsInRange : Reply → Type 0
 AreRowsInRange (replies.Control (control_replies.Rows rows)) = All IsInRange rows
 AreRowsInRange _ = Unit {0}
 
+-- duties of a copy that is taken
+abbrev pub is_of_copy : Duty → Bool
+is_of_copy (duties.Opened s) = true
+is_of_copy (duties.Live s) = true
+is_of_copy (duties.Heard s index) = true
+is_of_copy (duties.AckHeard s) = true
+is_of_copy (duties.PlainAck s) = true
+is_of_copy (duties.SubflowAck s) = true
+is_of_copy (duties.PlainData s) = true
+is_of_copy (duties.Keep s) = true
+is_of_copy (duties.Edge s) = true
+is_of_copy (duties.Unmapped s) = true
+is_of_copy (duties.HeardFin s index) = true
+is_of_copy (duties.PassFin s) = true
+is_of_copy (duties.SubflowFin s) = true
+is_of_copy (duties.AckOut s) = true
+is_of_copy (duties.Rate s) = true
+is_of_copy (duties.Acknowledge s) = true
+is_of_copy (duties.Again s) = true
+is_of_copy _ = false
+
 -- duties that send a segment, and those that come to nothing
 abbrev pub asks_segment : Duty → Bool
 asks_segment duties.JoinAgain = false
@@ -51,6 +72,7 @@ asks_segment (duties.Data s) = false
 asks_segment duties.Events = false
 asks_segment (duties.SynHeard s) = false
 asks_segment (duties.SynAnswered s) = false
+asks_segment (duties.PlainHandshake s) = false
 asks_segment (duties.PeerKey s) = false
 asks_segment (duties.Opened s) = false
 asks_segment (duties.Live s) = false
@@ -58,8 +80,13 @@ asks_segment (duties.Heard s index) = false
 asks_segment (duties.AckHeard s) = false
 asks_segment (duties.JoinHeard s) = false
 asks_segment (duties.PlainAck s) = false
+asks_segment (duties.SubflowAck s) = false
+asks_segment (duties.PlainData s) = false
+asks_segment (duties.GoIdentity s) = false
 asks_segment (duties.Edge s) = false
+asks_segment (duties.Unmapped s) = false
 asks_segment (duties.HeardFin s index) = false
+asks_segment (duties.SubflowFin s) = false
 asks_segment (duties.Rate s) = false
 asks_segment (duties.Return s) = false
 asks_segment (duties.Leave s) = false
@@ -79,6 +106,7 @@ takes_memory (duties.Fin s) = true
 takes_memory (duties.SynAck s) = true
 takes_memory (duties.Refuse s) = true
 takes_memory (duties.PlainAck s) = true
+takes_memory (duties.Unmapped s) = true
 takes_memory (duties.Again s) = true
 takes_memory (duties.Answer s) = true
 takes_memory (duties.ResetAnswer s) = true

@@ -1,5 +1,5 @@
 -- The segments that an end sends: their options, their windows, and the mapping of a piece (RFC 8684, section 3).
-use Rattle.std.specs.Prelude.{ℕ, ◌+◌, ◌-◌, ◌%◌, ◌^◌, ◌==◌, ◌&&◌, not, Bool, false, if◌then◌else◌, Option, Some, None, List, [], ◌∷◌, length}
+use Rattle.std.specs.Prelude.{ℕ, ◌+◌, ◌-◌, ◌%◌, ◌^◌, ◌==◌, ◌&&◌, not, nat_le, Bool, false, if◌then◌else◌, Option, Some, None, List, [], ◌∷◌, length}
 use Rattle.outside_kit.specs.declared.side.Side.{Side}
 use Rattle.outside_kit.specs.declared.side.Side.TheVariants.{A, B}
 use Rattle.seq_units.specs.declared.mapping.Mapping.{Mapping}
@@ -9,7 +9,7 @@ use Rattle.path_segments.specs.declared.spelling.Side.TheVariants as spelled_sid
 use Rattle.path_segments.specs.declared.spelling.Side.{Side as SpelledSide}
 use Rattle.path_segments.specs.declared.segment.PathOption.TheVariants.{Capable, Dss, Reset}
 use Rattle.path_segments.specs.declared.segment.PathMapping.{PathMapping}
-use Rattle.path_segments.specs.declared.segment.PathMapping.TheVariants.{Bytes, End}
+use Rattle.path_segments.specs.declared.segment.PathMapping.TheVariants.{Bytes, End, Infinite}
 use Rattle.path_segments.specs.Spelling.{whole_number}
 use Rattle.path_segments.specs.Options.{PlainOption, relative_number}
 use Rattle.path_segments.specs.Spelled.{PlainSegment}
@@ -17,7 +17,7 @@ use Rattle.subflow_send.specs.declared.record.RecordKind.{RecordKind}
 use Rattle.subflow_send.specs.declared.record.RecordKind.TheVariants.{Syn, Data, Fin}
 use Rattle.subflow_send.specs.Records.{Record}
 use Rattle.subflow_tcp.specs.declared.segments.Outgoing.{Outgoing}
-use Rattle.subflow_tcp.specs.Emitting.{ack_at, syn_ack_segment, reset_segment, fin_segment, record_segment}
+use Rattle.subflow_tcp.specs.Emitting.{ack_at, syn_ack_segment, reset_segment, fin_position, fin_segment, record_segment}
 use Rattle.path_core.specs.Ends.{PathEnd}
 use Rattle.path_core.specs.Joins.{is_joined, join_options, third_options}
 use Rattle.path_core.specs.State.{Profile}
@@ -58,12 +58,27 @@ place_numbered c s number = (number + (2 ^ 64 - whole_number c.spelling (spelled
 abbrev pub checksum_told : Profile → ℕ → Option ℕ
 checksum_told c checksum = if c.spelling.checksums then Some checksum else None
 
+-- ---- plain TCP
+
+-- a segment with the infinite mapping is acknowledged
+abbrev pub is_reached : Option ℕ → ℕ → Bool
+is_reached None una = false
+is_reached (Some to) una = nat_le to una
+
+abbrev pub owes_mapping : PathEnd → Bool
+owes_mapping e = e.modes.owes_mapping && not (is_reached e.modes.mapped_to e.tcp.send.una)
+
+-- on data and FIN after a fallback: the infinite mapping from this position on, as long as it is owed (RFC 8684, section 3.7)
+abbrev pub plain_options : ℕ → PathEnd → List PlainOption
+plain_options position e = if owes_mapping e then Dss None (Some (Infinite (position - 1) position)) ∷ [] else []
+
 -- ---- options
 
--- on a SYN that opens the connection: A asks for Multipath TCP, and B answers with its key (RFC 8684, section 3.1)
+-- on a SYN that opens the connection: A asks for Multipath TCP, and B answers with its key where A asked (RFC 8684, section 3.1)
 abbrev pub capable_options : Profile → Side → PathEnd → List PlainOption
 capable_options c A e = Capable c.spelling.checksums false NoKey ∷ []
-capable_options c B e = Capable c.spelling.checksums false (Sender e.modes.own_key) ∷ []
+capable_options c B e =
+    if e.modes.capable_asked && not e.modes.identity then Capable c.spelling.checksums false (Sender e.modes.own_key) ∷ [] else []
 
 abbrev pub syn_options : Profile → Side → PathEnd → List PlainOption
 syn_options c s e = if is_joined c then join_options c s e.modes else capable_options c s e
@@ -83,10 +98,11 @@ end_mapping c s (Some place) = Some (End place (checksum_told c (checksum_in c (
 abbrev pub opening_options : Profile → Side → PathEnd → List PlainOption
 opening_options c s e = if e.modes.owes_third then third_options e.modes else key_options c s e.modes.peer_key e
 
--- on an acknowledgement, perhaps with the DATA_FIN
+-- on an acknowledgement, perhaps with the DATA_FIN; none after a fallback
 abbrev pub ack_options : Profile → Side → Option ℕ → PathEnd → List PlainOption
 ack_options c s fin e =
-    if e.modes.clear then Dss (Some e.receiving.next) (end_mapping c s fin) ∷ [] else opening_options c s e
+    if e.modes.identity then []
+    else (if e.modes.clear then Dss (Some e.receiving.next) (end_mapping c s fin) ∷ [] else opening_options c s e)
 
 -- on data: the mapping that the piece was granted with
 abbrev pub piece_mapping : Profile → Side → Record → PathMapping ℕ
@@ -104,18 +120,20 @@ first_piece_options c None r e = []
 
 abbrev pub piece_options : Profile → Side → Record → PathEnd → List PlainOption
 piece_options c s r e =
-    if is_first_piece s r e then first_piece_options c e.modes.peer_key r e
-    else Dss (Some e.receiving.next) (Some (piece_mapping c s r)) ∷ []
+    if e.modes.identity then plain_options r.pos e
+    else (if is_first_piece s r e then first_piece_options c e.modes.peer_key r e
+    else Dss (Some e.receiving.next) (Some (piece_mapping c s r)) ∷ [])
 
-abbrev pub fin_options : PathEnd → List PlainOption
-fin_options e = Dss (Some e.receiving.next) None ∷ []
+-- on the FIN at this position
+abbrev pub fin_options : ℕ → PathEnd → List PlainOption
+fin_options position e = if e.modes.identity then plain_options position e else Dss (Some e.receiving.next) None ∷ []
 
 abbrev pub record_options : RecordKind → Profile → Side → Record → PathEnd → List PlainOption
 record_options Syn c s r e = syn_options c s e
 record_options Data c s r e = piece_options c s r e
-record_options Fin c s r e = fin_options e
+record_options Fin c s r e = fin_options r.pos e
 
--- why the path is reset, where there is a reason; the fault doesn't pass (RFC 8684, section 3.6)
+-- why the path is reset, where there is a reason; the fault doesn't pass (RFC 8684, section 3.6). After a fallback no option is sent.
 abbrev pub reset_options : Option ℕ → List PlainOption
 reset_options None = []
 reset_options (Some reason) = Reset false reason ∷ []
@@ -149,10 +167,10 @@ syn_ack_said c s e = segment_of c (syn_ack_segment e.tcp) (syn_options c s e) []
 
 -- the FIN, also before there is a record of it
 abbrev pub fin_said : Profile → PathEnd → PlainSegment
-fin_said c e = segment_of c (fin_segment e.tcp) (fin_options e) [] e
+fin_said c e = segment_of c (fin_segment e.tcp) (fin_options (fin_position e.tcp.send) e) [] e
 
 abbrev pub reset_said : Profile → Option ℕ → PathEnd → PlainSegment
-reset_said c reason e = segment_of c (reset_segment e.tcp) (reset_options reason) [] e
+reset_said c reason e = segment_of c (reset_segment e.tcp) (if e.modes.identity then [] else reset_options reason) [] e
 
 -- a record that may be there
 abbrev pub record_or_ack : Profile → Side → Option Record → PathEnd → PlainSegment

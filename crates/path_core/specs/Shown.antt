@@ -1,11 +1,12 @@
 -- A path over segments as values, shown over octets.
-use Rattle.std.specs.Prelude.{ℕ, ◌≡◌, ◌+◌, ◌^◌, ◌<◌, ◌≤◌, ◌⊎◌, true, false, IsSome, Some, List}
+use Rattle.std.specs.Prelude.{ℕ, ◌≡◌, ◌+◌, ◌^◌, ◌<◌, ◌≤◌, ◌⊎◌, true, false, if◌then◌else◌, IsSome, Some, List}
 use Rattle.outside_kit.specs.declared.side.Side.{Side}
 use Rattle.link_script.specs.declared.script.ScriptLine.{ScriptLine}
 use Rattle.link_model.specs.declared.flight.Due.{Due}
 use Rattle.link_model.specs.declared.flight.Flight.{Flight}
-use Rattle.link_model.specs.Fate.{is_stripped, is_altered}
+use Rattle.link_model.specs.Fate.{is_altered}
 use Rattle.link_model.specs.Laws.{shown}
+use Rattle.link_model.specs.Octets.{octets_stripped}
 use Rattle.link_model.specs.Steps.{peer, arriving}
 use Rattle.path_segments.specs.declared.expected.Expected.{Expected}
 use Rattle.path_segments.specs.declared.spelling.Side.{Side as SpelledSide}
@@ -23,9 +24,11 @@ use Rattle.path_core.specs.State.{PathState, end_at}
 use Rattle.path_core.specs.Steps.{asks_of, takes, next_round}
 use Rattle.path_core.specs.Values.{Carried, values}
 
--- the octets of what is carried
+-- the octets of what is carried: those of the segment, or these without its options of Multipath TCP
 abbrev pub octets_of : Spelling → Carried → List ℕ
-octets_of spelling carried = made spelling carried.from carried.segment
+octets_of spelling carried =
+    let whole = made spelling carried.from carried.segment in
+    if carried.stripped then octets_stripped spelling.path carried.from whole else whole
 
 abbrev pub shown_path : PathState Carried → PathState (List ℕ)
 shown_path p = record {
@@ -40,9 +43,8 @@ shown_path p = record {
   agenda = p.agenda;
 }
 
--- a script that strips and alters nothing
-pub record ChangesNothing (lines : List ScriptLine) : Type 0 where
-  pub strips : (from : Side) (number now : ℕ) → is_stripped from number now lines ≡ false
+-- a script that alters no payload
+pub record AltersNothing (lines : List ScriptLine) : Type 0 where
   pub alters : (from : Side) (number : ℕ) → is_altered from number lines ≡ false
 
 -- A reset 2^31 positions or more ahead of what the end expects, below position 2^32; all its other numbers are near. The
@@ -55,7 +57,8 @@ pub record IsFarReset (spelling : Spelling) (from : SpelledSide) (expected : Exp
   pub low : s.position < 2 ^ 32
   pub others : IsFresh spelling from expected (record s { position = expected.edge })
 
--- A copy that arrives can be said, and its numbers are near those that the end expects, but for the position of a far reset.
+-- The segment of a copy that arrives can be said, and its numbers are near those that the end expects, but for the position of a
+-- far reset. That is said of the segment with all its options, also where these were taken away.
 pub record IsFreshCopy (p : PathState Carried) (to : Side) (carried : Carried) : Type 0 where
   pub from : carried.from ≡ peer to
   pub sayable : CanSay p.profile.spelling (spelled_by (peer to)) carried.segment
@@ -74,7 +77,7 @@ AsksTheSame = (p : PathState Carried) → asks_of octets (shown_path p) ≡ asks
 
 -- and it takes each reply as that one does, shown over octets
 abbrev pub TakesTheSame : Type 0
-TakesTheSame = (r : Reply) (p : PathState Carried) → ChangesNothing p.link.lines → NextIsFresh p
+TakesTheSame = (r : Reply) (p : PathState Carried) → AltersNothing p.link.lines → NextIsFresh p
     → takes octets r (shown_path p) ≡ shown_path (takes values r p)
 
 abbrev pub BeginsTheSame : Type 0

@@ -1,15 +1,13 @@
 -- What the options of a copy make of an end, one thing after the other (RFC 8684, section 3.3).
-use Rattle.std.specs.Prelude.{ℕ, Bool, true, false, not, ◌&&◌, ◌||◌, nat_lt, if◌then◌else◌, is_some, Option, Some, None, List, [], ◌∷◌, ◌++◌, length}
+use Rattle.std.specs.Prelude.{ℕ, ◌-◌, Bool, true, false, not, ◌&&◌, ◌||◌, nat_lt, nat_le, if◌then◌else◌, is_some, Option, Some, None, List, [], ◌∷◌, ◌++◌, length}
 use Rattle.outside_kit.specs.declared.side.Side.{Side}
 use Rattle.send_book.specs.declared.call.SendCall.TheVariants as send_calls
 use Rattle.send_book.specs.declared.call.SendReply.TheVariants as send_replies
-use Rattle.control_book.specs.declared.call.ControlCall.TheVariants as control_calls
-use Rattle.control_book.specs.declared.call.ControlReply.TheVariants as control_replies
+use Rattle.control_book.specs.Replies.{is_sure}
 use Rattle.dss_mapping.specs.Learning.{held_clashes}
-use Rattle.fallback_state.specs.declared.fall.Event.{Event}
 use Rattle.fallback_state.specs.declared.fall.Event.TheVariants as events
-use Rattle.fallback_state.specs.declared.fall.Verdict.TheVariants as verdicts
-use Rattle.fallback_state.specs.Modes.{is_starting}
+use Rattle.fallback_state.specs.Modes.{is_starting, reads_mappings}
+use Rattle.subflow_tcp.specs.State.{is_fin_passed}
 use Rattle.subflow_tcp.specs.Taking.{after_keeping_held, after_dropping_held}
 use Rattle.actor_desk.specs.declared.ask.Ask.{Ask}
 use Rattle.actor_desk.specs.declared.ask.Ask.TheVariants as asks
@@ -28,22 +26,11 @@ use Rattle.path_core.specs.Ends.{PathEnd, Sending}
 use Rattle.path_core.specs.Opening.{keys_ask, after_keys}
 use Rattle.path_core.specs.Placing.{with_learned, with_skipped}
 use Rattle.path_core.specs.Joins.{is_joined}
-use Rattle.path_core.specs.State.{PathState, Profile, end_at, goes_on, left, path_of, with_agenda}
+use Rattle.path_core.specs.State.{PathState, Profile, end_at, goes_on, left, with_agenda}
 use Rattle.path_agenda.specs.Words.{replaced}
-use Rattle.path_core.specs.Words.{is_side_a, item_at}
-
--- ---- what is told of the mode
-
-abbrev pub fell_ask : {C : Type 0} → Side → Event → PathState C → Ask
-fell_ask s event p = asks.Control s (control_calls.Fell (path_of p) event)
-
--- the verdict tells the mode; the others lead to nothing yet
-abbrev pub mode_in : Reply → Modes → Modes
-mode_in (replies.Control (control_replies.Verdict (verdicts.Went mode))) m = record m { mode = mode }
-mode_in _ m = m
-
-abbrev pub after_verdict : Reply → PathEnd → PathEnd
-after_verdict r e = record e { modes = mode_in r e.modes }
+use Rattle.path_core.specs.Words.{is_side_a, item_at, one_more}
+-- what is told of the mode
+pub use Rattle.path_core.specs.Falling.{fell_ask, mode_in, after_verdict, after_fell, fell_duties, answered_fell}
 
 -- ---- one thing that was heard
 
@@ -64,6 +51,7 @@ heard_stands says.Dss e = false
 heard_stands (says.DataAck next window) e = true
 heard_stands says.Mapping e = mapping_stands e
 heard_stands (says.DataFin place) e = counts e && is_starting e.modes.mode
+heard_stands says.InfiniteMapping e = counts e && reads_mappings e.modes.mode
 heard_stands (says.PeerKey key) e = false
 heard_stands (says.Keys own peer) e = not e.treated.keys_told
 heard_stands (says.Join form) e = false
@@ -75,6 +63,7 @@ abbrev pub heard_ask : {C : Type 0} → Codec C → Side → Heard → PathState
 heard_ask k s (says.DataAck next window) p = asks.Send s (send_calls.AckIn next window)
 heard_ask k s says.Mapping p = mapping_ask k s p
 heard_ask k s (says.DataFin place) p = fell_ask s events.MappingHeard p
+heard_ask k s says.InfiniteMapping p = fell_ask s events.InfiniteHeard p
 heard_ask k s (says.Keys own peer) p = keys_ask s (Some (record { own = own; peer = peer }))
 heard_ask k s _ p = asks.Local steps.End
 
@@ -90,12 +79,16 @@ abbrev pub acked_in : ℕ → Reply → Sending → Sending
 acked_in next (replies.Send (send_replies.Acked bytes fin)) v = after_acked next fin v
 acked_in next _ v = v
 
--- a Data ACK that covers something was heard, whatever the book answers
+-- a Data ACK was heard, which covers something or doesn't, whatever the book answers
 abbrev pub covered_by : ℕ → Modes → Modes
-covered_by next m = record m { covered = m.covered || nat_lt 0 next }
+covered_by next m = record m { covered = m.covered || nat_lt 0 next; plain_acks = 0 }
 
 abbrev pub with_acked : ℕ → Reply → PathEnd → PathEnd
-with_acked next r e = record e { sending = acked_in next r e.sending; modes = covered_by next e.modes }
+with_acked next r e = record e {
+  sending = acked_in next r e.sending;
+  modes = covered_by next e.modes;
+  treated = record e.treated { data_ack_taken = true };
+}
 
 abbrev pub answered_ack : {C : Type 0} → Side → ℕ → Reply → PathState C → PathState C
 answered_ack s next r p = goes_on s (with_acked next r (end_at s p)) (told_next s (is_acked r && nat_lt 0 next) p) p
@@ -103,7 +96,7 @@ answered_ack s next r p = goes_on s (with_acked next r (end_at s p)) (told_next 
 abbrev pub answered_mapping : {C : Type 0} → Codec C → Side → Reply → PathState C → PathState C
 answered_mapping k s r p =
     if is_clash (end_at s p) then answered_break k s 1 r p
-    else goes_on s (with_learned (after_verdict r (end_at s p))) (left p) p
+    else goes_on s (with_learned (after_fell events.MappingHeard r (end_at s p))) (fell_duties s r p) p
 
 -- the end of the stream is told later; no more than two fit in a segment
 abbrev pub with_fin : ℕ → PathEnd → PathEnd
@@ -113,7 +106,9 @@ with_fin place e =
 abbrev pub answered_heard : {C : Type 0} → Codec C → Side → Heard → Reply → PathState C → PathState C
 answered_heard k s (says.DataAck next window) r p = answered_ack s next r p
 answered_heard k s says.Mapping r p = answered_mapping k s r p
-answered_heard k s (says.DataFin place) r p = goes_on s (with_fin place (after_verdict r (end_at s p))) (left p) p
+answered_heard k s (says.DataFin place) r p =
+    goes_on s (with_fin place (after_fell events.MappingHeard r (end_at s p))) (fell_duties s r p) p
+answered_heard k s says.InfiniteMapping r p = answered_fell s events.InfiniteHeard r p
 answered_heard k s (says.Keys own peer) r p =
     goes_on s (after_keys r (Some (record { own = own; peer = peer })) (end_at s p)) (left p) p
 answered_heard k s _ r p = with_agenda (left p) p
@@ -150,21 +145,73 @@ abbrev pub item_passed : Side → Option Heard → PathEnd → PathEnd
 item_passed s None e = e
 item_passed s (Some item) e = heard_passed s item e
 
+-- after a fallback nothing more is heard
 abbrev pub item_of : ℕ → PathEnd → Option Heard
-item_of index e = item_at index e.treated.items
+item_of index e = if e.modes.identity then None else item_at index e.treated.items
 
 -- ---- an acknowledgement without a Data ACK
 
--- it breaks a path that joined, as long as no Data ACK covered something on it
+abbrev pub lacks_data_ack : PathEnd → Bool
+lacks_data_ack e = e.treated.plain_ack && not e.modes.identity
+
+-- It breaks a path that joined, as long as no Data ACK covered something on it. The third without a Data ACK between them breaks
+-- the path of a side that is sure.
 abbrev pub breaks_by_ack : Profile → PathEnd → Bool
-breaks_by_ack c e = is_joined c && (e.treated.plain_ack && not e.modes.covered)
+breaks_by_ack c e =
+    lacks_data_ack e && ((is_joined c && not e.modes.covered) || (is_sure e.modes.mode && nat_le 2 e.modes.plain_acks))
+
+-- else it is told, as long as the side isn't sure
+abbrev pub plain_ack_stands : Profile → PathEnd → Bool
+plain_ack_stands c e = breaks_by_ack c e || (lacks_data_ack e && is_starting e.modes.mode)
+
+abbrev pub plain_ack_ask : {C : Type 0} → Codec C → Side → PathState C → Ask
+plain_ack_ask k s p = if breaks_by_ack p.profile (end_at s p) then break_ask k s 6 p else fell_ask s events.PlainAck p
+
+-- and counts
+abbrev pub with_plain_ack : PathEnd → PathEnd
+with_plain_ack e =
+    record e { modes = record e.modes { plain_acks = (if lacks_data_ack e then one_more e.modes.plain_acks else e.modes.plain_acks) } }
+
+abbrev pub answered_plain_ack : {C : Type 0} → Codec C → Side → Reply → PathState C → PathState C
+answered_plain_ack k s r p =
+    if breaks_by_ack p.profile (end_at s p) then answered_break k s 6 r p
+    else goes_on s (with_plain_ack (after_fell events.PlainAck r (end_at s p))) (fell_duties s r p) p
+
+-- ---- an acknowledgement after a fallback
+
+-- it stands for a Data ACK of all before its position (RFC 8684, section 3.7)
+abbrev pub plain_next : PathEnd → ℕ
+plain_next e = e.treated.acknowledged - 1
+
+abbrev pub subflow_ack_stands : PathEnd → Bool
+subflow_ack_stands e = e.modes.identity && not e.treated.data_ack_taken
+
+abbrev pub subflow_ack_ask : Side → PathEnd → Ask
+subflow_ack_ask s e = asks.Send s (send_calls.AckIn (plain_next e) e.treated.window)
+
+abbrev pub with_plain_acked : Reply → PathEnd → PathEnd
+with_plain_acked r e = record e { sending = acked_in (plain_next e) r e.sending }
+
+abbrev pub answered_subflow_ack : {C : Type 0} → Side → Reply → PathState C → PathState C
+answered_subflow_ack s r p = goes_on s (with_plain_acked r (end_at s p)) (left p) p
 
 -- ---- the payload
 
--- B drops the payload of a copy with an option, as long as it doesn't have both keys
+-- the next byte came without any option, as long as the side isn't sure
+abbrev pub plain_data_stands : PathEnd → Bool
+plain_data_stands e = is_some e.treated.held_edge && (not e.treated.has_option && is_starting e.modes.mode)
+
+-- B drops the payload of a copy with an option, as long as it has neither both keys nor fell back
 abbrev pub is_dropped : Side → PathEnd → Bool
-is_dropped s e = not (is_side_a s) && (not e.modes.clear && e.treated.has_option)
+is_dropped s e = not (is_side_a s) && (not (e.modes.clear || e.modes.identity) && e.treated.has_option)
+
+-- behind the peer's FIN nothing is kept
+abbrev pub is_not_kept : Side → PathEnd → Bool
+is_not_kept s e = is_dropped s e || is_fin_passed e.tcp
 
 -- the payload that is held is kept or dropped
 abbrev pub after_keep : Side → PathEnd → PathEnd
-after_keep s e = record e { tcp = (if is_dropped s e then after_dropping_held e.tcp else after_keeping_held e.tcp) }
+after_keep s e = record e {
+  tcp = (if is_dropped s e then after_dropping_held e.tcp else after_keeping_held e.tcp);
+  treated = record e.treated { held_edge = (if is_not_kept s e then None else e.treated.held_edge) };
+}

@@ -1,5 +1,6 @@
--- A copy carries the segment itself, and which side sent it. It is heard as it was meant: the machine that theorems speak of.
-use Rattle.std.specs.Prelude.{Option, Some, []}
+-- A copy carries the segment itself as it was made, which side sent it, and whether its options were taken away on the way. It is
+-- heard as it was meant: the machine that theorems speak of.
+use Rattle.std.specs.Prelude.{Bool, true, false, if◌then◌else◌, Option, Some, []}
 use Rattle.outside_kit.specs.declared.side.Side.{Side}
 use Rattle.segment_wire.specs.Changes.{with_turned_bit}
 use Rattle.path_segments.specs.declared.expected.Expected.{Expected}
@@ -12,16 +13,21 @@ use Rattle.path_core.specs.Octets.{sum_of}
 pub record Carried : Type 0 where
   pub from : Side
   pub segment : PlainSegment
+  pub stripped : Bool
 
 abbrev pub carried_by : Spelling → Side → PlainSegment → Carried
-carried_by spelling s segment = record { from = s; segment = segment }
+carried_by spelling s segment = record { from = s; segment = segment; stripped = false }
+
+-- the segment that arrives: without its options where these were taken away
+abbrev pub as_arrived : Carried → PlainSegment
+as_arrived carried = record carried.segment { options = (if carried.stripped then [] else carried.segment.options) }
 
 abbrev pub read : Spelling → Side → Expected → Carried → Option HeardSegment
-read spelling s expected carried = Some (meant carried.segment)
+read spelling s expected carried = Some (meant (as_arrived carried))
 
 -- the link's two changes
 abbrev pub stripped : Carried → Carried
-stripped carried = record carried { segment = record carried.segment { options = [] } }
+stripped carried = record carried { stripped = true }
 
 abbrev pub altered : Carried → Carried
 altered carried = record carried { segment = record carried.segment { payload = with_turned_bit carried.segment.payload } }

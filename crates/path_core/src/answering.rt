@@ -12,11 +12,13 @@ use path_segments::HeardSegment;
 use seq_units::Pos;
 use subflow_tcp::{Arriving, Outgoing};
 
-/// It has at most 65,535 octets, and its position is below 2^63.
+/// It has at most 65,535 octets, its position is below 2^63, and the position that it acknowledges is at most 2^62.
 fn is_short(copy: &Arriving<'_>) -> bool
     ensures { IsTrue result → IsShortCopy (subflow.copy_of copy.now) }
 {
-    copy.payload.len() <= 65_535 && copy.position.unwrap_or(0) < 1 << 63
+    copy.payload.len() <= 65_535
+        && copy.position.unwrap_or(0) < 1 << 63
+        && copy.acknowledged.unwrap_or(0) <= 1 << 62
 }
 
 /// The position behind all that it occupies.
@@ -60,10 +62,12 @@ impl Profile {
         }
     }
 
-    /// The same for a segment that is heard; none where that has more octets or stands at another position than it could.
+    /// The same for a segment that is heard; none where that has more octets, or stands at or acknowledges another position, than
+    /// it could.
     pub fn answer_to(&self, side: Side, heard: &HeardSegment<'_>) -> Option<Outgoing>
         ensures value { IfSome result (λ answer. answer ≡ reset_for self.now side (copy_of (heard_value heard.now))) }
         ensures small { IsSome result → length heard.now.payload.now ≤ 65535 }
+        ensures near { IsSome result → unwrap_or (copy_of (heard_value heard.now)).acknowledged 0 ≤ 2 ^ 62 }
     {
         let copy = arriving_of(heard);
         if is_short(&copy) {

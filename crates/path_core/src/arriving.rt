@@ -1,6 +1,6 @@
 //! A copy that arrives, and what it makes of the end at once. The rest is treated duty by duty.
 
-ghost use Rattle.std.specs.Prelude.{◌≡◌, ◌≤◌, false, length, All, Some, IfOk, IsTrue, OnOk, OnErr};
+ghost use Rattle.std.specs.Prelude.{◌≡◌, ◌≤◌, ◌^◌, false, length, unwrap_or, All, Some, IfOk, IsTrue, OnOk, OnErr};
 ghost use Rattle.dss_mapping.specs.Learning.{IsWithin};
 ghost use Rattle.link_model.specs.Steps.{peer};
 ghost use Rattle.path_segments.specs.HeardLent.{IsExpected};
@@ -10,13 +10,15 @@ ghost use Rattle.subflow_tcp.specs.Taking.{after_arrival, arrival_of, unkept};
 ghost use Rattle.path_agenda.specs.Items.{IsFair};
 ghost use Rattle.subflow_tcp.specs.Segments as subflow;
 ghost use Rattle.path_core.specs.declared.event.Event.TheVariants as event;
-ghost use Rattle.path_core.specs.Arriving.{expected_by, acknowledged_in, copy_of, items_of, with_payload, with_held, after_copy, is_ignored, taken_as, judged_in, copy_judged, segment_heard, template_by, template_judged, template_of, IsTakenAs};
-ghost use Rattle.path_core.specs.Events.{heard_at, copy_taken, CanHappen};
+ghost use Rattle.path_core.specs.Arriving.{expected_by, acknowledged_in, copy_of, items_of, with_payload, with_held, after_copy, is_ignored, is_taken, taken_as, judged_in, copy_judged, segment_heard, template_by, template_judged, template_of, IsTakenAs};
+ghost use Rattle.path_core.specs.Events.{told_at, heard_at, copy_taken, CanHappen};
 ghost use Rattle.path_core.specs.Octets.{octets, read};
 ghost use Rattle.path_core.specs.State.{end_at};
 
 use crate::end::PathEnd;
-use crate::hearing::{has_option, is_plain_ack, items_of, opens_by, owes_by};
+use crate::hearing::{
+    asks_capable, edge_held, has_option, is_plain_ack, items_of, opens_by, options_heard, owes_by,
+};
 use crate::judged::Judged;
 use crate::path::Path;
 use crate::profile::{peer, spelled_by};
@@ -97,6 +99,13 @@ fn template_judged(joined: bool, side: Side, count: usize, judged: Judged) -> Ag
         Judged::Lacks => Agenda::refuses(side),
         Judged::Forged => Agenda::resets(side, FORGED),
     }
+}
+
+/// Whether a copy of this meaning is taken.
+fn is_taken(meaning: Meaning) -> bool
+    ensures { result ≡ is_taken meaning }
+{
+    matches!(meaning, Meaning::Taken { .. })
 }
 
 /// The payload of a copy is held where it is taken. At an error all is as it was.
@@ -188,10 +197,12 @@ impl PathEnd {
         answer: Outgoing,
     )
         requires fair { All IsFair items.items }
+        requires near { unwrap_or (copy_of (heard_value heard.now)).acknowledged 0 ≤ 2 ^ 62 }
         requires meaning { IsTakenAs meaning (copy_of (heard_value heard.now)) self.old.tcp }
         ensures { self.new ≡ after_copy items.items answer now (heard_value heard.now) meaning self.old }
     {
         let opened = opens_by(meaning, self.tcp.state());
+        let held_edge = edge_held(meaning, heard.payload, self.tcp.edge());
         let place = place_in_first(items.as_slice());
         let arrival = take_as(&mut self.tcp, meaning, &arriving_of(heard), place, now);
         if owes_by(meaning, items.as_slice()) {
@@ -199,6 +210,15 @@ impl PathEnd {
         }
         self.treated = Treated::of(items, opened, has_option(heard), answer, heard.window);
         self.treated.note_plain_ack(is_plain_ack(arrival, heard));
+        let acknowledged = if is_taken(meaning) {
+            acknowledged_in(heard.acknowledged).unwrap_or(0)
+        } else {
+            0
+        };
+        self.treated.note_positions(acknowledged, held_edge);
+        if meaning == Meaning::Opens {
+            self.modes.capable_asked = asks_capable(heard);
+        }
     }
 
     /// A copy that is this to the end, and says these mappings, is taken, and is answered so at a dead end. At an error all is
@@ -214,6 +234,7 @@ impl PathEnd {
         answer: Outgoing,
     ) -> Result<(), AllocError>
         requires small { length heard.now.payload.now ≤ 65535 }
+        requires near { unwrap_or (copy_of (heard_value heard.now)).acknowledged 0 ≤ 2 ^ 62 }
         requires within { All IsWithin told.items }
         requires meaning { IsTakenAs meaning (copy_of (heard_value heard.now)) self.old.tcp }
         requires below { IsBelow meaning }
@@ -249,6 +270,7 @@ impl PathEnd {
         answer: Outgoing,
     ) -> Result<Agenda, AllocError>
         requires small { length heard.now.payload.now ≤ 65535 }
+        requires near { unwrap_or (copy_of (heard_value heard.now)).acknowledged 0 ≤ 2 ^ 62 }
         requires within { All IsWithin told.items }
         ensures agenda { IfOk result (λ agenda. agenda ≡ template_of joined side (items_of joined side (heard_value heard.now)) (judged_in joined side (heard_value heard.now) self.old)) }
         ensures ok { OnOk result (self.new ≡ segment_heard joined told.items answer side now (heard_value heard.now) self.old) }
@@ -270,7 +292,7 @@ impl Path {
         now: u64,
         heard: &HeardSegment<'_>,
     ) -> Result<(), AllocError>
-        ensures ok { OnOk result (self.new ≡ heard_at now side (Some (heard_value heard.now)) self.old) }
+        ensures ok { OnOk result (self.new ≡ told_at now side (heard_value heard.now) self.old) }
         ensures err { OnErr result (self.new ≡ self.old) }
     {
         let Some(answer) = self.profile.answer_to(side, heard) else {
@@ -285,6 +307,20 @@ impl Path {
         Ok(())
     }
 
+    /// A segment is heard at a side at this tick; after a fallback its options aren't. At an error all is as it was.
+    fn hear_told(
+        &mut self,
+        side: Side,
+        now: u64,
+        heard: &HeardSegment<'_>,
+    ) -> Result<(), AllocError>
+        ensures ok { OnOk result (self.new ≡ heard_at now side (Some (heard_value heard.now)) self.old) }
+        ensures err { OnErr result (self.new ≡ self.old) }
+    {
+        let heard = options_heard(self.end(side).modes.identity, heard);
+        self.hear_segment(side, now, &heard)
+    }
+
     /// Octets arrive at a side at this tick: those that are no segment are dropped. At an error all is as it was.
     fn hear_octets(&mut self, side: Side, now: u64, octets: &[u8]) -> Result<(), AllocError>
         ensures ok { OnOk result (self.new ≡ heard_at now side (read self.old.profile.spelling (peer side) (expected_by (end_at side self.old)) octets.now) self.old) }
@@ -296,7 +332,7 @@ impl Path {
         }
         let spelling = *self.profile.spelling();
         match hear(&spelling, spelled_by(peer(side)), &expected, octets) {
-            Some(heard) => self.hear_segment(side, now, &heard),
+            Some(heard) => self.hear_told(side, now, &heard),
             None => {
                 self.sets_about(Agenda::emission(side));
                 Ok(())

@@ -2,23 +2,47 @@
 
 ghost use Rattle.std.specs.Prelude.{◌≡◌, false, IsTrue};
 ghost use Rattle.subflow_tcp.specs.States.{may_finish};
-ghost use Rattle.path_core.specs.Closing.{is_end_due, is_fin_due};
+ghost use Rattle.path_core.specs.Closing.{is_end_owed, is_end_due, is_fin_due, is_waiting};
 
 use crate::end::PathEnd;
 
 impl PathEnd {
-    /// The DATA_FIN is to be sent: the end is known, and it was neither sent nor acknowledged.
+    /// A DATA_FIN is acknowledged by nothing that was heard; after a fallback the subflow's FIN takes its place (section 3.7).
+    pub fn is_end_owed(&self) -> bool
+        ensures { result ≡ is_end_owed self.now }
+    {
+        !self.modes.identity && self.sending.owes_end()
+    }
+
+    /// The timer runs for it: a byte or a DATA_FIN that isn't acknowledged, or a window that is shut.
+    pub fn is_waiting(&self) -> bool
+        ensures { result ≡ is_waiting self.now }
+    {
+        self.is_end_owed() || !self.sending.is_idle() || self.sending.is_shut()
+    }
+
+    /// The DATA_FIN is to be sent: the end is known, and it was neither sent nor acknowledged; never after a fallback.
     pub fn is_end_due(&self) -> bool
         ensures { result ≡ is_end_due self.now }
     {
-        self.tcp.state().may_finish() && self.modes.clear && self.sending.is_end_due()
+        self.tcp.state().may_finish()
+            && !self.modes.identity
+            && self.modes.clear
+            && self.sending.is_end_due()
     }
 
-    /// The FIN is to be sent: the own DATA_FIN is acknowledged, and the peer's came.
+    /// The FIN is to be sent: the own DATA_FIN is acknowledged, and the peer's came; after a fallback all bytes were granted.
     pub fn is_fin_due(&self) -> bool
         ensures { result ≡ is_fin_due self.now }
     {
-        self.tcp.state().may_finish() && self.sending.may_finish()
+        if !self.tcp.state().may_finish() {
+            return false;
+        }
+        if self.modes.identity {
+            self.sending.is_all_granted()
+        } else {
+            self.sending.may_finish()
+        }
     }
 
     /// A FIN may be pushed behind the last piece.

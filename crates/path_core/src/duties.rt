@@ -5,7 +5,7 @@ ghost use Rattle.std.specs.Prelude.{◌≡◌, true, false, IfOk, IsOk, OnOk, On
 ghost use Rattle.actor_desk.specs.Kinds.{CanBeAsked};
 ghost use Rattle.path_core.specs.Octets.{octets};
 ghost use Rattle.path_core.specs.Duties.{stands, ask_for, passed, answered};
-ghost use Rattle.path_core.specs.Replies.{IsAckBounded, AreRowsInRange, asks_bytes, asks_segment, takes_memory};
+ghost use Rattle.path_core.specs.Replies.{IsAckBounded, AreRowsInRange, asks_bytes, is_of_copy, asks_segment, takes_memory};
 
 use crate::joining::join_begin_ask;
 use crate::path::Path;
@@ -16,13 +16,42 @@ use fallback_state::{Event, Mode};
 use path_agenda::{Agenda, Duty};
 use std::alloc::AllocError;
 
+/// A duty of a copy that is taken.
+fn is_of_copy(duty: Duty) -> bool
+    ensures { result ≡ is_of_copy duty }
+{
+    matches!(
+        duty,
+        Duty::Opened(_)
+            | Duty::Live(_)
+            | Duty::Heard { .. }
+            | Duty::AckHeard(_)
+            | Duty::PlainAck(_)
+            | Duty::SubflowAck(_)
+            | Duty::PlainData(_)
+            | Duty::Keep(_)
+            | Duty::Edge(_)
+            | Duty::Unmapped(_)
+            | Duty::HeardFin { .. }
+            | Duty::PassFin(_)
+            | Duty::SubflowFin(_)
+            | Duty::AckOut(_)
+            | Duty::Rate(_)
+            | Duty::Acknowledge(_)
+            | Duty::Again(_)
+    )
+}
+
 impl Path {
     /// Whether a duty comes to something.
     pub(crate) fn stands(&self, duty: Duty) -> bool
         ensures { result ≡ stands duty self.now }
     {
+        if is_of_copy(duty) {
+            return self.copy_stands(duty);
+        }
         match duty {
-            Duty::Timer(_) | Duty::Keep(_) | Duty::PassFin(_) => false,
+            Duty::Timer(_) => false,
             Duty::JoinAgain => self.is_join_pending(),
             Duty::Update(side) => self.end(side).is_update_due(&self.profile),
             Duty::Syn(side) => self.end(side).is_syn_due(),
@@ -30,21 +59,38 @@ impl Path {
             Duty::DataFin(side) => self.end(side).is_end_due(),
             Duty::Fin(side) => self.end(side).is_fin_due(),
             Duty::Events => self.next_event().is_some(),
-            Duty::PeerKey(side) => self.end(side).treated.key_heard().is_some(),
+            Duty::PlainHandshake(side) => self.end(side).is_plain_syn(),
+            Duty::PeerKey(side) => self.end(side).peer_key_stands(),
             Duty::JoinHeard(side) => self.asked_at(side).is_some(),
-            Duty::Opened(side) => self.end(side).is_opened_by_keys(),
+            Duty::Return(side) => !self.end(side).sending.is_idle(),
+            _ => true,
+        }
+    }
+
+    /// Whether a duty of a copy that is taken comes to something.
+    fn copy_stands(&self, duty: Duty) -> bool
+        requires { is_of_copy duty ≡ true }
+        ensures { result ≡ stands duty self.now }
+    {
+        match duty {
+            Duty::Opened(side) => {
+                self.end(side).is_opened_by_keys() || self.end(side).is_opened_plainly()
+            }
             Duty::Live(side) => self.end(side).treated.is_opened(),
             Duty::Heard { side, index } => self.end(side).item_stands(index),
             Duty::AckHeard(side) => self.end(side).modes.mode == Mode::Starting,
-            Duty::PlainAck(side) => self.end(side).breaks_by_ack(&self.profile),
+            Duty::PlainAck(side) => self.end(side).plain_ack_stands(&self.profile),
+            Duty::SubflowAck(side) => self.end(side).subflow_ack_stands(),
+            Duty::PlainData(side) => self.end(side).plain_data_stands(),
             Duty::Edge(side) => self.end(side).has_piece(&self.profile),
+            Duty::Unmapped(side) => self.end(side).breaks_by_unmapped(),
             Duty::HeardFin { side, index } => self.end(side).treated.fin(index).is_some(),
+            Duty::SubflowFin(side) => self.end(side).plain_fin().is_some(),
             Duty::AckOut(side) => self.end(side).treated.is_asked(),
             Duty::Rate(side) => self.end(side).tcp.pending().is_some(),
             Duty::Acknowledge(side) => self.end(side).tcp.owes_ack(),
             Duty::Again(side) => self.end(side).is_again_due(),
-            Duty::Return(side) => !self.end(side).sending.is_idle(),
-            _ => true,
+            _ => false,
         }
     }
 
@@ -70,26 +116,46 @@ impl Path {
         ensures value { result ≡ ask_for octets duty self.now }
         ensures able { CanBeAsked result }
     {
+        if is_of_copy(duty) {
+            return self.copy_ask(duty);
+        }
         match duty {
             Duty::JoinAgain => join_begin_ask(self.number()),
             Duty::Look(side) => self.look_ask(side),
-            Duty::Window(side) | Duty::AckOut(side) | Duty::BreakAck { side, .. } => {
-                ack_out_ask(side)
-            }
+            Duty::Window(side) | Duty::BreakAck { side, .. } => ack_out_ask(side),
             Duty::Data(side) => self.data_ask(side),
             Duty::Events => self.event_ask(),
             Duty::SynHeard(side) | Duty::SynAnswered(side) => self.syn_window_ask(side),
+            Duty::PlainHandshake(side) => self.fell_ask(side, Event::PlainHandshake),
             Duty::PeerKey(side) => self.peer_key_ask(side),
             Duty::JoinHeard(side) => self.join_heard_ask(side),
-            Duty::Opened(side) => self.keys_ask(side),
+            Duty::GoIdentity(side) => self.identity_ask(side),
+            Duty::Return(side) | Duty::Leave(side) => self.return_ask(side),
+            Duty::Dead(side) => self.dead_ask(side),
+            _ => self.segment_ask(duty),
+        }
+    }
+
+    /// What a duty of a copy that is taken asks, where it carries no bytes.
+    fn copy_ask(&self, duty: Duty) -> Ask
+        requires copy { is_of_copy duty ≡ true }
+        requires plain { asks_bytes duty ≡ false }
+        ensures value { result ≡ ask_for octets duty self.now }
+        ensures able { CanBeAsked result }
+    {
+        match duty {
+            Duty::Opened(side) => self.opened_ask(side),
             Duty::Live(side) => self.live_ask(side),
             Duty::Heard { side, index } => self.item_ask(side, index),
             Duty::AckHeard(side) => self.fell_ask(side, Event::AckHeard),
             Duty::PlainAck(side) => self.plain_ack_ask(side),
+            Duty::SubflowAck(side) => self.subflow_ack_ask(side),
+            Duty::PlainData(side) => self.fell_ask(side, Event::PlainData),
+            Duty::Unmapped(side) => self.unmapped_ask(side),
             Duty::HeardFin { side, index } => self.fin_ask(side, index),
+            Duty::SubflowFin(side) => self.plain_fin_ask(side),
+            Duty::AckOut(side) => ack_out_ask(side),
             Duty::Rate(side) => self.rate_ask(side),
-            Duty::Return(side) | Duty::Leave(side) => self.return_ask(side),
-            Duty::Dead(side) => self.dead_ask(side),
             _ => self.segment_ask(duty),
         }
     }
@@ -130,8 +196,10 @@ impl Path {
         match duty {
             Duty::Timer(side) => self.settle_timer(side),
             Duty::Heard { side, index } => self.pass_item(side, index),
+            Duty::PlainAck(side) => self.pass_plain_ack(side),
             Duty::Keep(side) => self.keep(side),
             Duty::Edge(side) => self.check(side),
+            Duty::Unmapped(side) => self.pass_unmapped(side),
             Duty::PassFin(side) => self.pass_fin(side),
             _ => {}
         }
@@ -160,6 +228,7 @@ impl Path {
             Duty::SynAck(side) => self.send_syn_ack(side),
             Duty::Refuse(side) => self.send_refusal(side),
             Duty::PlainAck(side) => self.answer_plain_ack(side, reply),
+            Duty::Unmapped(side) => self.answer_unmapped(side, reply),
             Duty::Again(side) => self.send_again(side),
             Duty::Answer(side) => self.send_answer(side),
             Duty::ResetAnswer(side) => self.send_dead_answer(side),
@@ -184,12 +253,17 @@ impl Path {
             Duty::JoinAgain => self.answer_join_again(reply),
             Duty::Look(side) => self.look(side, reply),
             Duty::Window(side) | Duty::AckOut(side) => self.ack_out(side, reply),
-            Duty::PeerKey(side) => self.hear_peer_key(side),
+            Duty::PlainHandshake(side) => self.answer_fell(side, Event::PlainHandshake, reply),
+            Duty::PeerKey(side) => self.answer_peer_key(side, reply),
             Duty::JoinHeard(side) => self.answer_join_heard(side, reply),
-            Duty::Opened(side) => self.hear_keys(side, reply),
-            Duty::AckHeard(side) => self.hear_verdict(side, reply),
+            Duty::Opened(side) => self.answer_opened(side, reply),
+            Duty::AckHeard(side) => self.answer_fell(side, Event::AckHeard, reply),
+            Duty::SubflowAck(side) => self.answer_subflow_ack(side, reply),
+            Duty::PlainData(side) => self.answer_fell(side, Event::PlainData, reply),
+            Duty::GoIdentity(side) => self.answer_identity(side),
             Duty::Edge(side) => self.answer_piece(side, reply),
             Duty::HeardFin { side, .. } => self.answer_fin(side, reply),
+            Duty::SubflowFin(side) => self.answer_plain_fin(side, reply),
             Duty::Rate(side) => self.hear_rate(side, reply),
             Duty::BreakAck { side, reason } => self.ack_out_breaking(side, reply, reason),
             Duty::Leave(side) => self.turns_to(Duty::Dead(side)),

@@ -13,6 +13,7 @@ ghost use Rattle.path_core.specs.Replies.{IsSendable};
 ghost use Rattle.path_core.specs.State.{end_at, with_end, goes_on, left};
 
 use crate::end::PathEnd;
+use crate::modes::Modes;
 use crate::path::Path;
 use crate::profile::Profile;
 use crate::segment_kind::SegmentKind;
@@ -41,11 +42,11 @@ impl PathEnd {
         1 <= self.tcp.una() && lent.piece.len() as u64 <= u64::from(self.tcp.room())
     }
 
-    /// The end may send a DSS, or it is the one that opened the connection.
+    /// The end may send a DSS, or needs none after a fallback, or it is the one that opened the connection.
     fn may_send_data(&self, profile: &Profile, side: Side) -> bool
         ensures { result ≡ may_send_data profile.now side self.now }
     {
-        self.modes.clear || side == Side::A && !profile.is_joined()
+        self.modes.clear || self.modes.identity || side == Side::A && !profile.is_joined()
     }
 
     /// Bytes may be asked for: both SYNs are acknowledged, no FIN was sent, there is room for a full segment, positions
@@ -101,22 +102,24 @@ impl PathEnd {
         requires { now < 2 ^ 64 - 2 ^ 20 }
         ensures { self.new ≡ after_timer now self.old }
     {
-        let waiting = self.sending.is_waiting() || self.modes.owes_third;
+        let waiting = self.is_waiting() || self.modes.owes_third;
         self.tcp.hold_timer(waiting, self.sending.has_news(), now);
         self.sending.clear_news();
     }
 
     /// The FIN was pushed and sent at once, and told this edge of the window.
-    fn having_sent_fin(&mut self, now: u64, told_edge: u64)
+    fn having_sent_fin(&mut self, now: u64, told_edge: u64, modes: Modes)
         requires state { IsTrue (may_finish self.old.tcp.state) }
         requires open { self.old.tcp.send.finished ≡ false }
         requires edge { told_edge ≤ 2 ^ 62 + 2 ^ 21 }
         ensures { self.new ≡ record self.old {
           receiving = record self.old.receiving { told_edge = told_edge };
+          modes = modes;
           tcp = after_sending Fin now (after_finishing self.old.tcp);
         } }
     {
         self.receiving.tell_edge(told_edge);
+        self.modes = modes;
         self.tcp.finish();
         self.tcp.sent(Occasion::Fin, now);
     }
@@ -235,9 +238,12 @@ impl Path {
             return Err(AllocError);
         }
         let told_edge = self.edge_told(side, SegmentKind::Fin);
+        let Some(modes) = self.modes_after(side, SegmentKind::Fin) else {
+            return Err(AllocError);
+        };
         self.hand(side, SegmentKind::Fin)?;
         let now = self.clock.now();
-        self.end_mut(side).having_sent_fin(now, told_edge);
+        self.end_mut(side).having_sent_fin(now, told_edge, modes);
         self.done();
         Ok(())
     }

@@ -1,13 +1,13 @@
 //! What the options of a copy say (RFC 8684, section 3).
 
-ghost use Rattle.std.specs.Prelude.{◌≡◌, ◌∷◌, [], not, All};
+ghost use Rattle.std.specs.Prelude.{◌≡◌, ◌∷◌, [], not, if◌then◌else◌, All};
 ghost use Rattle.std.specs.List.{list_any};
 ghost use Rattle.actor_desk.specs.Words.{is_nil};
 ghost use Rattle.path_segments.specs.HeardLent.{heard_plain};
 ghost use Rattle.path_segments.specs.HeardSegments.{heard_value};
 ghost use Rattle.path_agenda.specs.declared.heard.Heard.TheVariants as says;
 ghost use Rattle.path_agenda.specs.Items.{with_item, with_items, IsFair};
-ghost use Rattle.path_core.specs.Arriving.{ack_items, is_mapping, mapping_items, map_items, end_items, key_items, join_items, items_in, items_of, owes_by, opens_by, has_data_ack, octets_acked, is_plain_ack};
+ghost use Rattle.path_core.specs.Arriving.{ack_items, is_mapping, mapping_items, infinite_items, map_items, end_items, key_items, join_items, items_in, items_of, owes_by, opens_by, asks_capable, edge_held, has_data_ack, octets_acked, is_plain_ack};
 
 use mptcp_options::{CapableKeys, JoinForm};
 use outside_kit::Side;
@@ -95,6 +95,15 @@ fn put_end(items: &mut Items, place: u64)
     }
 }
 
+/// An infinite mapping, which begins at a place below 2^62.
+fn put_infinite(items: &mut Items, place: u64)
+    ensures { items.new.items ≡ with_items items.old.items (infinite_items place) }
+{
+    if place < LIMIT {
+        put(items, Heard::InfiniteMapping);
+    }
+}
+
 /// A mapping or a DATA_FIN that names a place.
 fn put_map(items: &mut Items, mapping: Option<HeardMapping>)
     ensures { items.new.items ≡ with_items items.old.items (map_items mapping) }
@@ -115,6 +124,12 @@ fn put_map(items: &mut Items, mapping: Option<HeardMapping>)
                 ..
             },
         ) => put_end(items, place),
+        Some(
+            PathMapping::Infinite {
+                place: Some(place),
+                ..
+            },
+        ) => put_infinite(items, place),
         _ => {}
     }
 }
@@ -163,6 +178,62 @@ pub(crate) fn items_of(joined: bool, side: Side, heard: &HeardSegment<'_>) -> It
         put_option(&mut items, joined, side, heard.window, &option);
     }
     items
+}
+
+/// The same segment without its options.
+fn without_options<'a>(heard: &HeardSegment<'a>) -> HeardSegment<'a>
+    ensures { heard_value result ≡ record (heard_value heard.now) { options = [] } }
+{
+    let mut rest = *heard;
+    while rest.options.next().is_some() {}
+    rest
+}
+
+/// What an end hears of a segment; after a fallback no option (RFC 8684, section 3.7).
+pub(crate) fn options_heard<'a>(identity: bool, heard: &HeardSegment<'a>) -> HeardSegment<'a>
+    ensures { heard_value result ≡ record (heard_value heard.now) { options = (if identity then [] else (heard_value heard.now).options) } }
+{
+    if identity {
+        without_options(heard)
+    } else {
+        *heard
+    }
+}
+
+/// An option asks for Multipath TCP: an MP_CAPABLE without a key.
+fn is_capable(option: &HeardOption<'_>) -> bool
+    ensures { result ≡ asks_capable (heard_plain option.now) }
+{
+    matches!(
+        *option,
+        PathOption::Capable {
+            keys: CapableKeys::NoKey,
+            ..
+        }
+    )
+}
+
+/// Whether the SYN that opens path 0 asks for Multipath TCP.
+pub(crate) fn asks_capable(heard: &HeardSegment<'_>) -> bool
+    ensures { result ≡ list_any asks_capable (heard_value heard.now).options }
+{
+    for option in heard.options {
+        if is_capable(&option) {
+            return true;
+        }
+    }
+    false
+}
+
+/// The receive edge, where a payload that is taken has the octet there.
+pub(crate) fn edge_held(meaning: Meaning, octets: &[u8], edge: Pos) -> Option<Pos>
+    ensures { result ≡ edge_held meaning octets.now edge }
+{
+    match meaning {
+        Meaning::Taken { position, .. }
+            if position <= edge && edge - position < octets.len() as u64 => { Some(edge) }
+        _ => None,
+    }
 }
 
 /// A copy that is taken may want an acknowledgement by what it says.

@@ -29,6 +29,18 @@ pub struct Modes {
     pub owes_third: bool,
     /// Whether a Data ACK that covers something was heard on the path.
     pub covered: bool,
+    /// Whether the peer's SYN asked for Multipath TCP (RFC 8684, section 3.1).
+    pub capable_asked: bool,
+    /// Whether the end told its send book that the side fell back to plain TCP (section 3.7): then it hears no option, and
+    /// the positions of its subflow are the places of both streams.
+    pub identity: bool,
+    /// Whether the side fell back as this end missed an option on data or on an acknowledgement: until a segment with an
+    /// infinite mapping is acknowledged, each of its segments with data or FIN has one.
+    pub owes_mapping: bool,
+    /// The least position behind a segment that was sent with the infinite mapping.
+    pub mapped_to: Option<u64>,
+    /// How many acknowledgements of data came without a Data ACK since the last Data ACK, up to three.
+    pub plain_acks: u64,
 }
 
 impl Modes {
@@ -50,6 +62,11 @@ impl Modes {
             backup_heard: false,
             owes_third: false,
             covered: false,
+            capable_asked: false,
+            identity: false,
+            owes_mapping: false,
+            mapped_to: None,
+            plain_acks: 0,
         }
     }
 }

@@ -4,7 +4,7 @@ ghost use Rattle.std.specs.Prelude.{◌≡◌, Some, OnOk, OnErr};
 ghost use Rattle.actor_desk.specs.Kinds.{CanBeAsked};
 ghost use Rattle.path_agenda.specs.Items.{key_heard, keys_heard};
 ghost use Rattle.path_core.specs.Octets.{octets};
-ghost use Rattle.path_core.specs.Opening.{keys_in, is_opened_by_keys, syn_window_ask, peer_key_ask, with_peer_key, keys_ask, after_keys, answered_syn_ack, live_ask};
+ghost use Rattle.path_core.specs.Opening.{keys_in, is_plain_syn, is_opened_by_keys, is_opened_plainly, syn_window_ask, peer_key_stands, peer_key_ask, with_peer_key, answered_peer_key, keys_ask, after_keys, opened_ask, answered_opened, answered_syn_ack, live_ask};
 ghost use Rattle.path_core.specs.State.{end_at, goes_on, left};
 
 use crate::end::PathEnd;
@@ -14,6 +14,7 @@ use crate::segment_kind::SegmentKind;
 use crate::treated::Treated;
 use actor_desk::{Ask, LocalStep, Reply};
 use control_book::{ControlCall, ControlReply};
+use fallback_state::{Event, Mode};
 use outside_kit::Side;
 use path_agenda::{KeyPair, key_heard, keys_heard};
 use send_book::SendCall;
@@ -75,11 +76,32 @@ impl PathEnd {
         self.treated.keys_were_told();
     }
 
-    /// The peer's key was told.
-    fn hear_peer_key(&mut self)
-        ensures { self.new ≡ with_peer_key (key_heard self.old.treated.items) self.old }
+    /// The end left SynReceived by a copy without any option, and the side isn't sure.
+    pub fn is_opened_plainly(&self) -> bool
+        ensures { result ≡ is_opened_plainly self.now }
     {
-        self.modes.peer_key = self.treated.key_heard();
+        self.treated.is_opened() && !self.treated.has_option() && self.modes.mode == Mode::Starting
+    }
+
+    /// The SYN doesn't ask for Multipath TCP.
+    pub fn is_plain_syn(&self) -> bool
+        ensures { result ≡ is_plain_syn self.now }
+    {
+        !self.modes.capable_asked && self.modes.mode == Mode::Starting
+    }
+
+    /// The SYN/ACK tells the peer's key, or that there is none.
+    pub fn peer_key_stands(&self) -> bool
+        ensures { result ≡ peer_key_stands self.now }
+    {
+        self.treated.key_heard().is_some() || self.modes.mode == Mode::Starting
+    }
+
+    /// The peer's key was told.
+    fn hear_peer_key(&mut self, key: u64)
+        ensures { self.new ≡ with_peer_key (Some key) self.old }
+    {
+        self.modes.peer_key = Some(key);
     }
 }
 
@@ -98,40 +120,52 @@ impl Path {
         )
     }
 
-    /// The peer's key is told.
+    /// The peer's key is told, or that there is none.
     pub(crate) fn peer_key_ask(&self, side: Side) -> Ask
-        ensures value { result ≡ peer_key_ask side (key_heard (end_at side self.now).treated.items) }
+        ensures value { result ≡ peer_key_ask side (key_heard (end_at side self.now).treated.items) self.now }
         ensures able { CanBeAsked result }
     {
         match self.end(side).treated.key_heard() {
             Some(key) => Ask::Control(side, ControlCall::PeerKey { key }),
-            None => Ask::Local(LocalStep::End),
+            None => self.fell_ask(side, Event::PlainHandshake),
         }
     }
 
-    /// The peer's key was told.
-    pub(crate) fn hear_peer_key(&mut self, side: Side)
-        ensures { self.new ≡ goes_on side (with_peer_key (key_heard (end_at side self.old).treated.items) (end_at side self.old)) (left self.old) self.old }
+    /// That was told.
+    pub(crate) fn answer_peer_key(&mut self, side: Side, reply: &Reply)
+        ensures { self.new ≡ answered_peer_key side (key_heard (end_at side self.old).treated.items) reply.now self.old }
     {
-        self.end_mut(side).hear_peer_key();
-        self.done();
+        match self.end(side).treated.key_heard() {
+            Some(key) => {
+                self.end_mut(side).hear_peer_key(key);
+                self.done();
+            }
+            None => self.answer_fell(side, Event::PlainHandshake, reply),
+        }
     }
 
-    /// Both keys are told.
-    pub(crate) fn keys_ask(&self, side: Side) -> Ask
-        ensures value { result ≡ keys_ask side (keys_heard (end_at side self.now).treated.items) }
+    /// Both keys are told, or that no option came.
+    pub(crate) fn opened_ask(&self, side: Side) -> Ask
+        ensures value { result ≡ opened_ask side (keys_heard (end_at side self.now).treated.items) self.now }
         ensures able { CanBeAsked result }
     {
-        keys_ask(side, self.end(side).treated.keys_heard())
+        match self.end(side).treated.keys_heard() {
+            Some(keys) => keys_ask(side, Some(keys)),
+            None => self.fell_ask(side, Event::PlainHandshake),
+        }
     }
 
-    /// Both keys were told.
-    pub(crate) fn hear_keys(&mut self, side: Side, reply: &Reply)
-        ensures { self.new ≡ goes_on side (after_keys reply.now (keys_heard (end_at side self.old).treated.items) (end_at side self.old)) (left self.old) self.old }
+    /// That was told.
+    pub(crate) fn answer_opened(&mut self, side: Side, reply: &Reply)
+        ensures { self.new ≡ answered_opened side (keys_heard (end_at side self.old).treated.items) reply.now self.old }
     {
-        let keys = self.end(side).treated.keys_heard();
-        self.end_mut(side).hear_keys(reply, keys);
-        self.done();
+        match self.end(side).treated.keys_heard() {
+            Some(keys) => {
+                self.end_mut(side).hear_keys(reply, Some(keys));
+                self.done();
+            }
+            None => self.answer_fell(side, Event::PlainHandshake, reply),
+        }
     }
 
     /// The SYN/ACK is sent: while the SYN isn't acknowledged this is another sending of its record.

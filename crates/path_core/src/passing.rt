@@ -26,7 +26,7 @@ use subflow_tcp::{Occasion, Pending};
 const REFUSED: u8 = 1;
 
 /// The end of the stream was set.
-fn is_fin_set(reply: &Reply) -> bool
+pub(crate) fn is_fin_set(reply: &Reply) -> bool
     ensures { result ≡ is_fin_set reply.now }
 {
     matches!(reply, Reply::Reassembly(ReassemblyReply::FinSet))
@@ -75,14 +75,14 @@ impl PathEnd {
     }
 
     /// The end of the peer's stream was told.
-    fn hear_peer_end(&mut self)
+    pub fn hear_peer_end(&mut self)
         ensures { self.new ≡ having_asked (with_peer_end self.old) }
     {
         self.sending.peer_ended();
         self.have_asked();
     }
 
-    /// The subflow's FIN ends no stream; the edge moves over it.
+    /// The edge moves over the subflow's FIN, which ends no stream by itself.
     fn pass_fin(&mut self)
         ensures { self.new ≡ after_pass_fin self.old }
     {
@@ -126,7 +126,7 @@ impl PathEnd {
     {
         if self.tcp.has_records() {
             Occasion::First
-        } else if self.modes.owes_third || self.sending.owes_end() {
+        } else if self.modes.owes_third || self.is_end_owed() {
             Occasion::Ack
         } else {
             Occasion::Probe

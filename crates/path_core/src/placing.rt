@@ -6,7 +6,7 @@ ghost use Rattle.actor_desk.specs.Kinds.{CanBeAsked};
 ghost use Rattle.dss_checksum.specs.Checksum.{dss_checksum};
 ghost use Rattle.dss_mapping.specs.Mappings.{mapping_at};
 ghost use Rattle.subflow_recv.specs.Receiving.{filled};
-ghost use Rattle.path_core.specs.Placing.{count_in, piece_in, piece_from, is_whole, is_right, some_piece, checked_piece, next_piece, after_piece, is_wrong, forgotten_by, after_check};
+ghost use Rattle.path_core.specs.Placing.{count_in, piece_in, piece_from, is_whole, is_right, some_piece, checked_piece, plain_piece, mapping_here, next_piece, after_piece, is_wrong, forgotten_by, after_check};
 ghost use Rattle.path_core.specs.Passing.{having_asked, piece_ask, is_placed, placed, answered_piece, piece_of};
 ghost use Rattle.path_core.specs.State.{end_at, with_end};
 
@@ -91,12 +91,16 @@ impl PathEnd {
         self.tcp.held_end() - self.tcp.edge()
     }
 
-    /// The mapping of the position at the edge.
-    fn mapping_at_edge(&self) -> Option<KeptMapping>
-        ensures value { result ≡ mapping_at self.now.receiving.mappings self.now.tcp.recv.edge }
+    /// The mapping of the position at the edge; after a fallback none counts.
+    pub fn mapping_at_edge(&self) -> Option<KeptMapping>
+        ensures value { result ≡ mapping_here self.now }
         ensures begun { IfSome result (λ kept. kept.pos ≤ self.now.tcp.recv.edge) }
     {
-        mapping_at(&self.receiving.mappings, self.tcp.edge())
+        if self.modes.identity {
+            None
+        } else {
+            mapping_at(&self.receiving.mappings, self.tcp.edge())
+        }
     }
 
     /// The whole mapping is there.
@@ -146,11 +150,28 @@ impl PathEnd {
         self.piece_in(kept)
     }
 
+    /// After a fallback: all that is in order, each byte at the place before its position.
+    fn plain_piece(&self) -> Option<InOrder>
+        ensures value { option_map (λ found. piece_from found self.now.tcp) result ≡ some_piece (plain_piece self.now.tcp) }
+        ensures places { IfSome result (λ found. found.place + found.count ≤ 2 ^ 62) }
+    {
+        let count = self.in_order();
+        if 0 < count {
+            let place = self.tcp.edge().saturating_sub(1);
+            Some(InOrder { place, count })
+        } else {
+            None
+        }
+    }
+
     /// The next bytes to be placed.
     fn next_piece(&self, profile: &Profile) -> Option<InOrder>
         ensures value { option_map (λ found. piece_from found self.now.tcp) result ≡ next_piece profile.now self.now }
         ensures places { IfSome result (λ found. found.place + found.count ≤ 2 ^ 62) }
     {
+        if self.modes.identity {
+            return self.plain_piece();
+        }
         match self.mapping_at_edge() {
             Some(kept) => self.checked_piece(profile.spelling().checksums, kept),
             None => None,
@@ -185,7 +206,7 @@ impl PathEnd {
     /// A whole mapping with a wrong checksum: all octets from its first position on are forgotten, so that what comes for
     /// them is kept again.
     fn check(&mut self, checksums: bool)
-        ensures { self.new ≡ forgotten_by checksums (mapping_at self.old.receiving.mappings self.old.tcp.recv.edge) self.old }
+        ensures { self.new ≡ forgotten_by checksums (mapping_here self.old) self.old }
     {
         if let Some(kept) = self.mapping_at_edge() {
             if checksums && self.is_whole(kept) && !self.is_right(kept) {

@@ -1,8 +1,11 @@
 //! What an end keeps of the peer's stream (RFC 8684, section 3.3.1).
 
-ghost use Rattle.std.specs.Prelude.{◌≡◌, ◌≤◌, ◌+◌, ◌^◌};
+ghost use Rattle.std.specs.Prelude.{◌≡◌, ◌≤◌, ◌+◌, ◌^◌, ◌==◌, if◌then◌else◌, true};
+ghost use Rattle.path_core.specs.Words.{one_more};
 
+use crate::counts::one_more;
 use dss_mapping::Mappings;
+use seq_units::Pos;
 use std::alloc::Global;
 use std::marker::Model;
 
@@ -17,6 +20,12 @@ pub(crate) struct Receiving {
     told_edge: u64,
     /// Which place each position has.
     pub mappings: Mappings,
+    /// So often, up to three times, the byte at the next position was the next one and came without a mapping.
+    unmapped: u64,
+    /// That position.
+    unmapped_at: Pos,
+    /// The peer's FIN was told as the end of its stream.
+    fin_told: bool,
 }
 
 impl Model for Receiving {
@@ -30,7 +39,15 @@ impl Model for Receiving {
     ghost coded = { Prim.hlevel (codes, mappings_code) };
 
     ghost view = { λ v. record {
-      receiving = record { next = v.next; window = v.window; told_edge = v.told_edge; mappings = v.mappings.mappings };
+      receiving = record {
+        next = v.next;
+        window = v.window;
+        told_edge = v.told_edge;
+        mappings = v.mappings.mappings;
+        unmapped = v.unmapped;
+        unmapped_at = v.unmapped_at;
+        fin_told = v.fin_told;
+      };
       ready = v.mappings.ready;
     } };
 
@@ -49,6 +66,9 @@ impl Receiving {
             window: 0,
             told_edge: 0,
             mappings: Mappings::new(alloc),
+            unmapped: 0,
+            unmapped_at: 0,
+            fin_told: false,
         }
     }
 
@@ -74,6 +94,39 @@ impl Receiving {
         ensures bound { result ≤ 2 ^ 62 + 2 ^ 21 }
     {
         self.told_edge
+    }
+
+    /// How often the byte at this position would have been the next one without a mapping, this time among them.
+    pub fn times_unmapped(&self, edge: Pos) -> u64
+        ensures { result ≡ (if self.now.receiving.unmapped_at == edge then one_more self.now.receiving.unmapped else 1) }
+    {
+        if self.unmapped_at == edge {
+            one_more(self.unmapped)
+        } else {
+            1
+        }
+    }
+
+    /// So often it was.
+    pub fn note_unmapped(&mut self, times: u64, edge: Pos)
+        ensures { self.new ≡ record self.old { receiving = record self.old.receiving { unmapped = times; unmapped_at = edge } } }
+    {
+        self.unmapped = times;
+        self.unmapped_at = edge;
+    }
+
+    /// Whether the peer's FIN was told as the end of its stream.
+    pub fn is_fin_told(&self) -> bool
+        ensures { result ≡ self.now.receiving.fin_told }
+    {
+        self.fin_told
+    }
+
+    /// It was.
+    pub fn fin_is_told(&mut self)
+        ensures { self.new ≡ record self.old { receiving = record self.old.receiving { fin_told = true } } }
+    {
+        self.fin_told = true;
     }
 
     /// A segment told this edge.

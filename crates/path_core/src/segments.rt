@@ -6,7 +6,7 @@ ghost use Rattle.outside_kit.specs.declared.side.Side.TheVariants.{A};
 ghost use Rattle.path_segments.specs.declared.segment.PathOption.TheVariants.{Capable};
 ghost use Rattle.subflow_send.specs.Records.{record_of};
 ghost use Rattle.path_core.specs.declared.segment_kind.SegmentKind.TheVariants.{DeadAnswer, Refusal};
-ghost use Rattle.path_core.specs.Segments.{bare_mapping, checksum_in, mapping_of, place_numbered, checksum_told, capable_options, syn_options, key_options, opening_options, end_mapping, ack_options, piece_mapping, first_piece_options, piece_options, fin_options, record_options, reset_options, segment_of, ack_said, record_said, record_or_ack, syn_ack_said, fin_said, reset_said};
+ghost use Rattle.path_core.specs.Segments.{owes_mapping, bare_mapping, checksum_in, mapping_of, place_numbered, checksum_told, plain_options, capable_options, syn_options, key_options, opening_options, end_mapping, ack_options, piece_mapping, first_piece_options, piece_options, fin_options, record_options, reset_options, segment_of, ack_said, record_said, record_or_ack, syn_ack_said, fin_said, reset_said};
 ghost use Rattle.path_core.specs.Passing.{answer_said, ack_resent, resend_said};
 ghost use Rattle.path_core.specs.Said.{options_by, plain_said, said_by, CanBeSaid};
 
@@ -123,15 +123,47 @@ pub(crate) fn checksum_of(mapping: &Mapping, octets: &[u8]) -> u16
 }
 
 impl PathEnd {
-    /// On a SYN that opens the connection: A asks for Multipath TCP, and B answers with its key (RFC 8684, section 3.1).
+    /// The infinite mapping is owed: the side fell back as this end missed an option, and no segment that had the mapping is
+    /// acknowledged.
+    pub fn owes_mapping(&self) -> bool
+        ensures { result ≡ owes_mapping self.now }
+    {
+        let reached = match self.modes.mapped_to {
+            Some(to) => to <= self.tcp.una(),
+            None => false,
+        };
+        self.modes.owes_mapping && !reached
+    }
+
+    /// On data and FIN after a fallback: the infinite mapping from this position on, as long as it is owed (RFC 8684,
+    /// section 3.7).
+    fn plain_option(&self, position: Pos) -> Option<Saying>
+        ensures value { options_by result ≡ plain_options position self.now }
+    {
+        if self.owes_mapping() {
+            let place = position.saturating_sub(1);
+            Some(PathOption::Dss {
+                next: None,
+                mapping: Some(PathMapping::Infinite { place, position }),
+            })
+        } else {
+            None
+        }
+    }
+
+    /// On a SYN that opens the connection: A asks for Multipath TCP, and B answers with its key where A asked (RFC 8684,
+    /// section 3.1).
     fn capable_option(&self, profile: &Profile, side: Side) -> Option<Saying>
         ensures value { options_by result ≡ capable_options profile.now side self.now }
     {
         match side {
             Side::A => Some(profile.capable(CapableKeys::NoKey)),
-            Side::B => Some(profile.capable(CapableKeys::Sender {
-                sender: self.modes.own_key,
-            })),
+            Side::B if self.modes.capable_asked && !self.modes.identity => {
+                Some(profile.capable(CapableKeys::Sender {
+                    sender: self.modes.own_key,
+                }))
+            }
+            Side::B => None,
         }
     }
 
@@ -170,11 +202,13 @@ impl PathEnd {
         }
     }
 
-    /// On an acknowledgement, perhaps with the DATA_FIN.
+    /// On an acknowledgement, perhaps with the DATA_FIN; none after a fallback.
     fn ack_option(&self, profile: &Profile, side: Side, fin: Option<u64>) -> Option<Saying>
         ensures value { options_by result ≡ ack_options profile.now side fin self.now }
     {
-        if self.modes.clear {
+        if self.modes.identity {
+            None
+        } else if self.modes.clear {
             Some(PathOption::Dss {
                 next: Some(self.receiving.next()),
                 mapping: profile.end_mapping(side, fin),
@@ -201,6 +235,9 @@ impl PathEnd {
     fn piece_option(&self, profile: &Profile, side: Side, lent: &RecordRef<'_>) -> Option<Saying>
         ensures value { options_by result ≡ piece_options profile.now side (record_of lent.now) self.now }
     {
+        if self.modes.identity {
+            return self.plain_option(lent.pos);
+        }
         if side == Side::A && !self.modes.clear && lent.pos == 1 {
             return self.first_piece_option(profile, lent);
         }
@@ -210,10 +247,13 @@ impl PathEnd {
         })
     }
 
-    /// On the FIN.
-    fn fin_option(&self) -> Option<Saying>
-        ensures value { options_by result ≡ fin_options self.now }
+    /// On the FIN at this position.
+    fn fin_option(&self, position: Pos) -> Option<Saying>
+        ensures value { options_by result ≡ fin_options position self.now }
     {
+        if self.modes.identity {
+            return self.plain_option(position);
+        }
         Some(PathOption::Dss {
             next: Some(self.receiving.next()),
             mapping: None,
@@ -227,7 +267,7 @@ impl PathEnd {
         match lent.kind {
             RecordKind::Syn => self.syn_option(profile, side),
             RecordKind::Data => self.piece_option(profile, side, lent),
-            RecordKind::Fin => self.fin_option(),
+            RecordKind::Fin => self.fin_option(lent.pos),
         }
     }
 
@@ -295,14 +335,20 @@ impl PathEnd {
     fn fin_said(&self, profile: &Profile) -> Said<'_>
         ensures { plain_said result ≡ fin_said profile.now self.now }
     {
-        self.segment_of(profile, self.tcp.fin_segment(), self.fin_option(), &[])
+        let outgoing = self.tcp.fin_segment();
+        let option = self.fin_option(outgoing.position);
+        self.segment_of(profile, outgoing, option, &[])
     }
 
-    /// The reset, perhaps with a reason; the fault doesn't pass (RFC 8684, section 3.6).
+    /// The reset, perhaps with a reason; the fault doesn't pass (RFC 8684, section 3.6). After a fallback no option is sent.
     fn reset_said(&self, profile: &Profile, reason: Option<u8>) -> Said<'_>
         ensures { plain_said result ≡ reset_said profile.now reason self.now }
     {
-        let option = reset_option(reason);
+        let option = if self.modes.identity {
+            None
+        } else {
+            reset_option(reason)
+        };
         self.segment_of(profile, self.tcp.reset_segment(), option, &[])
     }
 
@@ -347,7 +393,7 @@ impl PathEnd {
         if self.modes.owes_third {
             return self.ack_said(profile, side, self.tcp.nxt(), None);
         }
-        if self.sending.owes_end() {
+        if self.is_end_owed() {
             return self.ack_said(profile, side, self.tcp.nxt(), self.sending.known_end());
         }
         let probe = self.tcp.una().saturating_sub(1);

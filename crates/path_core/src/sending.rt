@@ -5,7 +5,7 @@ ghost use Rattle.std.specs.List.{list_any};
 ghost use Rattle.send_book.specs.declared.call.Span.{Span};
 ghost use Rattle.data_close.specs.Closing as closing;
 ghost use Rattle.actor_desk.specs.Words.{is_nil};
-ghost use Rattle.path_core.specs.Closing.{is_newly_heard, is_open};
+ghost use Rattle.path_core.specs.Closing.{is_newly_heard, is_open, granted_to};
 
 use data_close::CloseState;
 use send_book::{Span, Why};
@@ -49,7 +49,7 @@ impl Model for Sending {
 
 impl Sending {
     ghost use Rattle.path_core.specs.Ends.{no_sending};
-    ghost use Rattle.path_core.specs.Closing.{is_news, after_acked, after_peer_end, after_refusal, owes_end, is_waiting, with_end_sent, without_news};
+    ghost use Rattle.path_core.specs.Closing.{is_news, after_acked, after_peer_end, after_refusal, owes_end, is_all_granted, with_end_sent, without_news};
 
     /// Nothing was granted, sent or heard. Takes no memory.
     pub fn new(alloc: Global) -> Self
@@ -108,11 +108,21 @@ impl Sending {
         self.fin_sent && !self.close.own_acked
     }
 
-    /// The timer runs for it: a byte or a DATA_FIN that isn't acknowledged, or a window that is shut.
-    pub fn is_waiting(&self) -> bool
-        ensures { result ≡ is_waiting self.now }
+    /// Whether the last grant was refused as the peer's window is shut.
+    pub fn is_shut(&self) -> bool
+        ensures { result ≡ self.now.shut }
     {
-        self.owes_end() || !self.is_idle() || self.shut
+        self.shut
+    }
+
+    /// The end is known, and no byte before it waits for its grant.
+    pub fn is_all_granted(&self) -> bool
+        ensures { result ≡ is_all_granted self.now.known_end self.now }
+    {
+        match self.known_end {
+            Some(end) => granted_to(self.granted.as_slice()).max(self.heard.min(end)) == end,
+            None => false,
+        }
     }
 
     /// The DATA_FIN is to be sent: the end is known, and it was neither sent nor acknowledged.
@@ -199,6 +209,17 @@ impl Sending {
         has_newly_heard(self.granted.as_slice(), self.heard, next)
             || fin && self.fin_sent && !self.close.own_acked
     }
+}
+
+/// The place behind the last byte of these spans.
+fn granted_to(granted: &[Span]) -> u64
+    ensures { result ≡ granted_to granted.now }
+{
+    let mut to = 0;
+    for span in granted {
+        to = span.to.max(to);
+    }
+    to
 }
 
 /// A place of one of these spans wasn't acknowledged before, and is now.

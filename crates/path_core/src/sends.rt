@@ -1,26 +1,51 @@
 //! Handing a segment to the link: the step that tells it, and what it makes of the end and of the link.
 
-ghost use Rattle.std.specs.Prelude.{◌≡◌, ◌≤◌, ◌+◌, ◌^◌, OnOk, OnErr};
+ghost use Rattle.std.specs.Prelude.{◌≡◌, ◌≤◌, ◌<◌, ◌+◌, ◌^◌, IfSome, OnOk, OnErr};
 ghost use Rattle.actor_desk.specs.Kinds.{CanBeAsked};
 ghost use Rattle.link_model.specs.Octets.{after_octets};
 ghost use Rattle.path_core.specs.Octets.{octets};
 ghost use Rattle.path_segments.specs.Laws.{window_told};
 ghost use Rattle.subflow_tcp.specs.Emitting.{after_sending};
 ghost use Rattle.path_core.specs.Said.{plain_said, said_by, sent_kind, CanBeSaid};
-ghost use Rattle.path_core.specs.Sends.{edge_told, sends, handed};
+ghost use Rattle.path_core.specs.declared.modes.Modes.{Modes};
+ghost use Rattle.path_core.specs.Sends.{edge_told, has_mapping, end_of, least, with_mapping_told, sends, handed};
 ghost use Rattle.path_core.specs.State.{end_at, left, with_agenda};
 
 use crate::end::PathEnd;
+use crate::modes::Modes;
 use crate::path::Path;
 use crate::said::Said;
 use crate::segment_kind::SegmentKind;
 use actor_desk::{Ask, LocalStep};
 use outside_kit::Side;
+use seq_units::Pos;
 use std::alloc::AllocError;
 use subflow_tcp::Occasion;
 
 /// A link takes fewer segments than this from a side.
 const MOST_SEGMENTS: u64 = 1 << 63;
+
+/// Positions lie below this one.
+const LIMIT: u64 = 1 << 62;
+
+/// The position behind a segment of data or FIN.
+fn end_of(said: &Said<'_>) -> Pos
+    requires { said.now.outgoing.position < 2 ^ 62 }
+    ensures { result ≡ end_of (plain_said said.now) }
+{
+    let fin = if said.outgoing.fin { 1 } else { 0 };
+    said.outgoing.position + (said.payload.len() as u64 + fin)
+}
+
+/// The least of several positions.
+fn least(known: Option<Pos>, position: Pos) -> Option<Pos>
+    ensures { result ≡ least known position }
+{
+    match known {
+        Some(known) => Some(known.min(position)),
+        None => Some(position),
+    }
+}
 
 /// The window in octets as a hearer reads it: a SYN tells it up to 65,535, all others in steps of 32 (RFC 7323).
 pub(crate) fn window_told(syn: bool, window: u32) -> u32
@@ -47,15 +72,39 @@ impl PathEnd {
         self.receiving.next() + u64::from(window)
     }
 
+    /// After a fallback a segment with data or FIN has the infinite mapping, as long as that is owed.
+    fn has_mapping(&self, said: &Said<'_>) -> bool
+        ensures { result ≡ has_mapping (plain_said said.now) self.now }
+    {
+        let some = said.outgoing.fin || !said.payload.is_empty();
+        self.modes.identity && self.owes_mapping() && some
+    }
+
+    /// What the end knows after a segment, of which it may have to know where it ends; none where positions are used up.
+    fn modes_after(&self, said: &Said<'_>) -> Option<Modes>
+        ensures { IfSome result (λ modes. modes ≡ (with_mapping_told (plain_said said.now) self.now).modes) }
+    {
+        if said.outgoing.position >= LIMIT {
+            return None;
+        }
+        let mut modes = self.modes;
+        if self.has_mapping(said) {
+            modes.mapped_to = least(modes.mapped_to, end_of(said));
+        }
+        Some(modes)
+    }
+
     /// A segment was sent on this occasion, which told this edge.
-    fn having_sent(&mut self, occasion: Occasion, now: u64, told_edge: u64)
+    fn having_sent(&mut self, occasion: Occasion, now: u64, told_edge: u64, modes: Modes)
         requires { told_edge ≤ 2 ^ 62 + 2 ^ 21 }
         ensures { self.new ≡ record self.old {
           receiving = record self.old.receiving { told_edge = told_edge };
+          modes = modes;
           tcp = after_sending occasion now self.old.tcp;
         } }
     {
         self.receiving.tell_edge(told_edge);
+        self.modes = modes;
         self.tcp.sent(occasion, now);
     }
 }
@@ -89,6 +138,13 @@ impl Path {
         ensures bound { result ≤ 2 ^ 62 + 2 ^ 21 }
     {
         self.end(side).edge_told(&self.said(side, kind))
+    }
+
+    /// What the end of a side knows after the segment; none where positions are used up.
+    pub(crate) fn modes_after(&self, side: Side, kind: SegmentKind) -> Option<Modes>
+        ensures { IfSome result (λ modes. modes ≡ (with_mapping_told (said_by kind self.now.profile side (end_at side self.now)) (end_at side self.now)).modes) }
+    {
+        self.end(side).modes_after(&self.said(side, kind))
     }
 
     /// The link takes the segment of this kind. At an error all is as it was.
@@ -134,9 +190,13 @@ impl Path {
         ensures err { OnErr result (self.new ≡ self.old) }
     {
         let told_edge = self.edge_told(side, kind);
+        let Some(modes) = self.modes_after(side, kind) else {
+            return Err(AllocError);
+        };
         self.hand(side, kind)?;
         let now = self.clock.now();
-        self.end_mut(side).having_sent(occasion, now, told_edge);
+        self.end_mut(side)
+            .having_sent(occasion, now, told_edge, modes);
         Ok(())
     }
 

@@ -1,11 +1,12 @@
 //! What the last copy said, as far as it is still to be treated.
 
-ghost use Rattle.std.specs.Prelude.{◌≡◌, ◌++◌, ◌∷◌, [], true, false, nat_lt, if◌then◌else◌, length, ◌≤◌, ◌^◌, All, IfSome, Some};
+ghost use Rattle.std.specs.Prelude.{◌≡◌, ◌++◌, ◌∷◌, [], true, false, nat_lt, if◌then◌else◌, length, ◌≤◌, ◌^◌, All, IfSome, Some, None};
 ghost use Rattle.path_agenda.specs.Items.{IsFair};
 ghost use Rattle.path_core.specs.Words.{item_at};
 
 use arrayvec::ArrayVec;
 use path_agenda::{Heard, Items};
+use seq_units::Pos;
 use std::marker::Model;
 use subflow_tcp::Outgoing;
 
@@ -31,6 +32,12 @@ pub(crate) struct Treated {
     window: u32,
     /// It acknowledges data for the first time, and has no Data ACK.
     plain_ack: bool,
+    /// The position that it acknowledges.
+    acknowledged: Pos,
+    /// Its Data ACK was told to the send book.
+    data_ack_taken: bool,
+    /// The receive edge at its arrival, where its payload has the octet there and isn't dropped.
+    held_edge: Option<Pos>,
 }
 
 impl Model for Treated {
@@ -48,12 +55,15 @@ impl Model for Treated {
       answer = t.answer;
       window = t.window;
       plain_ack = t.plain_ack;
+      acknowledged = t.acknowledged;
+      data_ack_taken = t.data_ack_taken;
+      held_edge = t.held_edge;
     } };
 
     ghost use Rattle.std.specs.Prelude.{◌^◌, ◌≤◌, All};
     ghost use Rattle.path_agenda.specs.Items.{IsFair};
 
-    ghost invariant = { λ t. All IsFair t.items.items × All (λ place. place ≤ 2 ^ 62) t.fins.items };
+    ghost invariant = { λ t. All IsFair t.items.items × All (λ place. place ≤ 2 ^ 62) t.fins.items × (t.acknowledged ≤ 2 ^ 62) };
 }
 
 impl Treated {
@@ -73,6 +83,9 @@ impl Treated {
             answer: None,
             window: 0,
             plain_ack: false,
+            acknowledged: 0,
+            data_ack_taken: false,
+            held_edge: None,
         }
     }
 
@@ -103,6 +116,51 @@ impl Treated {
         ensures { result ≡ self.now.plain_ack }
     {
         self.plain_ack
+    }
+
+    /// It acknowledges this position, at most 2^62, and has the octet at this receive edge, or not.
+    pub fn note_positions(&mut self, acknowledged: Pos, held_edge: Option<Pos>)
+        requires { acknowledged ≤ 2 ^ 62 }
+        ensures { self.new ≡ record self.old { acknowledged = acknowledged; held_edge = held_edge } }
+    {
+        self.acknowledged = acknowledged;
+        self.held_edge = held_edge;
+    }
+
+    /// The position that it acknowledges.
+    pub fn acknowledged(&self) -> Pos
+        ensures value { result ≡ self.now.acknowledged }
+        ensures bound { result ≤ 2 ^ 62 }
+    {
+        self.acknowledged
+    }
+
+    /// Whether its Data ACK was told to the send book.
+    pub fn is_data_ack_taken(&self) -> bool
+        ensures { result ≡ self.now.data_ack_taken }
+    {
+        self.data_ack_taken
+    }
+
+    /// It was.
+    pub fn data_ack_is_taken(&mut self)
+        ensures { self.new ≡ record self.old { data_ack_taken = true } }
+    {
+        self.data_ack_taken = true;
+    }
+
+    /// The receive edge at its arrival, where its payload has the octet there.
+    pub fn held_edge(&self) -> Option<Pos>
+        ensures { result ≡ self.now.held_edge }
+    {
+        self.held_edge
+    }
+
+    /// Its payload isn't kept.
+    pub fn drop_held_edge(&mut self)
+        ensures { self.new ≡ record self.old { held_edge = None } }
+    {
+        self.held_edge = None;
     }
 
     /// The window that it told, in octets.

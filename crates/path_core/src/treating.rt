@@ -1,26 +1,24 @@
 //! What the options of a copy make of an end, one thing after the other (RFC 8684, section 3.3).
 
-ghost use Rattle.std.specs.Prelude.{◌≡◌, ◌≤◌, ◌^◌, ◌&&◌, not, is_some, if◌then◌else◌, nat_lt, Some, OnOk, OnErr};
+ghost use Rattle.std.specs.Prelude.{◌≡◌, ◌≤◌, ◌^◌, ◌&&◌, not, is_some, if◌then◌else◌, nat_lt, Some, IfSome, OnOk, OnErr};
 ghost use Rattle.actor_desk.specs.Kinds.{CanBeAsked};
-ghost use Rattle.actor_desk.specs.declared.ask.Reply.TheVariants as replies;
+ghost use Rattle.fallback_state.specs.declared.fall.Event.TheVariants as events;
+ghost use Rattle.fallback_state.specs.Modes.{reads_mappings};
 ghost use Rattle.path_agenda.specs.Items.{IsFair};
-ghost use Rattle.path_core.specs.Breaking.{break_ask, answered_break};
 ghost use Rattle.path_core.specs.Octets.{octets};
 ghost use Rattle.path_core.specs.Opening.{after_keys};
 ghost use Rattle.path_core.specs.Placing.{with_learned, with_skipped};
 ghost use Rattle.path_core.specs.Replies.{IsAckBounded};
 ghost use Rattle.path_core.specs.State.{end_at, goes_on, left, with_agenda, with_end};
-ghost use Rattle.path_core.specs.Treating.{mode_in, after_verdict, counts, is_clash, mapping_stands, heard_stands, mapping_ask, heard_ask, is_acked, told_next, acked_in, with_acked, answered_ack, answered_mapping, with_fin, answered_heard, after_dss, heard_passed, item_stands, item_ask, answered_item, item_passed, item_of, breaks_by_ack, is_dropped, after_keep, fell_ask};
+ghost use Rattle.path_core.specs.Falling.{after_fell, fell_duties};
+ghost use Rattle.path_core.specs.Treating.{counts, is_clash, mapping_stands, heard_stands, mapping_ask, heard_ask, is_acked, told_next, acked_in, with_acked, answered_ack, answered_mapping, with_fin, answered_heard, after_dss, heard_passed, item_stands, item_ask, answered_item, item_passed, item_of, is_dropped, is_not_kept, after_keep};
 
 use crate::end::PathEnd;
-use crate::modes::Modes;
 use crate::opening::keys_ask;
 use crate::path::Path;
-use crate::profile::Profile;
 use crate::sending::Sending;
 use actor_desk::{Ask, LocalStep, Reply};
-use control_book::{ControlCall, ControlReply};
-use fallback_state::{Event, Mode, Verdict};
+use fallback_state::{Event, Mode};
 use outside_kit::Side;
 use path_agenda::{Duty, Heard, KeyPair};
 use send_book::{SendCall, SendReply};
@@ -30,10 +28,6 @@ use std::alloc::AllocError;
 /// section 3.6).
 const CLASH: u8 = 1;
 
-/// An acknowledgement without a Data ACK breaks a path that joined with this reason: options are lost on the way (RFC 8684,
-/// section 3.6).
-const STRIPPED: u8 = 6;
-
 /// A Data ACK was taken.
 fn is_acked(reply: &Reply) -> bool
     ensures { result ≡ is_acked reply.now }
@@ -41,29 +35,9 @@ fn is_acked(reply: &Reply) -> bool
     matches!(reply, Reply::Send(SendReply::Acked { .. }))
 }
 
-impl Modes {
-    /// A verdict tells the mode, where it changed.
-    fn hear_told(&mut self, reply: &ControlReply)
-        ensures { self.new ≡ mode_in (replies.Control reply.now) self.old }
-    {
-        if let ControlReply::Verdict(Verdict::Went(mode)) = *reply {
-            self.mode = mode;
-        }
-    }
-
-    /// A verdict tells the mode.
-    fn hear_verdict(&mut self, reply: &Reply)
-        ensures { self.new ≡ mode_in reply.now self.old }
-    {
-        if let Reply::Control(reply) = reply {
-            self.hear_told(reply);
-        }
-    }
-}
-
 impl Sending {
     /// So many bytes of the stream are acknowledged, where the Data ACK was taken.
-    fn hear_ack(&mut self, next: u64, reply: &Reply)
+    pub fn hear_ack(&mut self, next: u64, reply: &Reply)
         ensures { self.new ≡ acked_in next reply.now self.old }
     {
         if let Reply::Send(SendReply::Acked { fin, .. }) = *reply {
@@ -97,7 +71,30 @@ impl PathEnd {
             Heard::DataAck { .. } => true,
             Heard::Mapping => self.counts() && (self.is_clash() || starting),
             Heard::DataFin { .. } => self.counts() && starting,
+            Heard::InfiniteMapping => self.counts() && self.reads_mappings(),
             Heard::Keys { .. } => !self.treated.are_keys_told(),
+        }
+    }
+
+    /// The peer's mappings count in the mode that was told.
+    fn reads_mappings(&self) -> bool
+        ensures { result ≡ reads_mappings self.now.modes.mode }
+    {
+        matches!(
+            self.modes.mode,
+            Mode::Starting | Mode::Sure | Mode::InfiniteSend
+        )
+    }
+
+    /// The thing of this number; after a fallback nothing more is heard.
+    fn item(&self, index: u64) -> Option<Heard>
+        ensures value { result ≡ item_of index self.now }
+        ensures fair { IfSome result IsFair }
+    {
+        if self.modes.identity {
+            None
+        } else {
+            self.treated.item(index)
         }
     }
 
@@ -105,17 +102,10 @@ impl PathEnd {
     pub fn item_stands(&self, index: u64) -> bool
         ensures { result ≡ item_stands (item_of index self.now) self.now }
     {
-        match self.treated.item(index) {
+        match self.item(index) {
             Some(item) => self.heard_stands(item),
             None => false,
         }
-    }
-
-    /// The verdict was told.
-    fn hear_verdict(&mut self, reply: &Reply)
-        ensures { self.new ≡ after_verdict reply.now self.old }
-    {
-        self.modes.hear_verdict(reply);
     }
 
     /// The first mapping that is held is learned.
@@ -150,6 +140,8 @@ impl PathEnd {
     {
         self.sending.hear_ack(next, reply);
         self.modes.covered |= 0 < next;
+        self.modes.plain_acks = 0;
+        self.treated.data_ack_is_taken();
     }
 
     /// At A the first DSS clears the end, and answers the third MP_JOIN, which is news for the timer.
@@ -159,13 +151,6 @@ impl PathEnd {
         self.sending.note_news(self.modes.owes_third);
         self.modes.clear |= side == Side::A;
         self.modes.owes_third = false;
-    }
-
-    /// An acknowledgement without a Data ACK breaks a path that joined, as long as no Data ACK covered something on it.
-    pub fn breaks_by_ack(&self, profile: &Profile) -> bool
-        ensures { result ≡ breaks_by_ack profile.now self.now }
-    {
-        profile.is_joined() && self.treated.is_plain_ack() && !self.modes.covered
     }
 
     /// What is passed in silence.
@@ -182,6 +167,7 @@ impl PathEnd {
                 }
             }
             Heard::DataAck { .. }
+            | Heard::InfiniteMapping
             | Heard::PeerKey { .. }
             | Heard::Keys { .. }
             | Heard::Join { .. } => {}
@@ -192,23 +178,35 @@ impl PathEnd {
     fn pass_item(&mut self, side: Side, index: u64)
         ensures { self.new ≡ item_passed side (item_of index self.old) self.old }
     {
-        if let Some(item) = self.treated.item(index) {
+        if let Some(item) = self.item(index) {
             self.pass_heard(side, item);
         }
     }
 
-    /// B drops the payload of a copy with an option, as long as it doesn't have both keys.
+    /// B drops the payload of a copy with an option, as long as it has neither both keys nor fell back.
     fn is_dropped(&self, side: Side) -> bool
         ensures { result ≡ is_dropped side self.now }
     {
-        side == Side::B && !self.modes.clear && self.treated.has_option()
+        let open = self.modes.clear || self.modes.identity;
+        side == Side::B && !open && self.treated.has_option()
+    }
+
+    /// The payload isn't kept: it is dropped, or the peer's FIN was passed.
+    fn is_not_kept(&self, side: Side) -> bool
+        ensures { result ≡ is_not_kept side self.now }
+    {
+        self.is_dropped(side) || self.tcp.is_fin_passed()
     }
 
     /// The payload that is held is kept or dropped.
     fn keep(&mut self, side: Side)
         ensures { self.new ≡ after_keep side self.old }
     {
-        if self.is_dropped(side) {
+        let dropped = self.is_dropped(side);
+        if self.is_not_kept(side) {
+            self.treated.drop_held_edge();
+        }
+        if dropped {
             self.tcp.drop_held();
         } else {
             self.tcp.keep_held();
@@ -217,28 +215,6 @@ impl PathEnd {
 }
 
 impl Path {
-    /// An event is told that may change the mode.
-    pub(crate) fn fell_ask(&self, side: Side, event: Event) -> Ask
-        ensures value { result ≡ fell_ask side event self.now }
-        ensures able { CanBeAsked result }
-    {
-        Ask::Control(
-            side,
-            ControlCall::Fell {
-                path: self.number(),
-                event,
-            },
-        )
-    }
-
-    /// The verdict was told, and the first duty is done.
-    pub(crate) fn hear_verdict(&mut self, side: Side, reply: &Reply)
-        ensures { self.new ≡ goes_on side (after_verdict reply.now (end_at side self.old)) (left self.old) self.old }
-    {
-        self.end_mut(side).hear_verdict(reply);
-        self.done();
-    }
-
     /// What a mapping asks.
     fn mapping_ask(&self, side: Side) -> Ask
         ensures value { result ≡ mapping_ask octets side self.now }
@@ -264,6 +240,7 @@ impl Path {
             }
             Heard::Mapping => self.mapping_ask(side),
             Heard::DataFin { .. } => self.fell_ask(side, Event::MappingHeard),
+            Heard::InfiniteMapping => self.fell_ask(side, Event::InfiniteHeard),
             Heard::Keys { own, peer } => keys_ask(side, Some(KeyPair { own, peer })),
             Heard::Dss | Heard::PeerKey { .. } | Heard::Join { .. } => {
                 Ask::Local(LocalStep::End)
@@ -276,7 +253,7 @@ impl Path {
         ensures value { result ≡ item_ask octets side (item_of index (end_at side self.now)) self.now }
         ensures able { CanBeAsked result }
     {
-        match self.end(side).treated.item(index) {
+        match self.end(side).item(index) {
             Some(item) => self.heard_ask(side, item),
             None => Ask::Local(LocalStep::End),
         }
@@ -303,20 +280,20 @@ impl Path {
         if self.end(side).is_clash() {
             return self.answer_break(side, CLASH, reply);
         }
-        self.end_mut(side).hear_verdict(reply);
+        self.end_mut(side).hear_fell(Event::MappingHeard, reply);
         self.end_mut(side).learn();
-        self.done();
+        self.go_by_verdict(side, reply);
         Ok(())
     }
 
     /// The end of the stream is told later.
     fn answer_data_fin(&mut self, side: Side, place: u64, reply: &Reply)
         requires { place ≤ 2 ^ 62 }
-        ensures { self.new ≡ goes_on side (with_fin place (after_verdict reply.now (end_at side self.old))) (left self.old) self.old }
+        ensures { self.new ≡ goes_on side (with_fin place (after_fell events.MappingHeard reply.now (end_at side self.old))) (fell_duties side reply.now self.old) self.old }
     {
-        self.end_mut(side).hear_verdict(reply);
+        self.end_mut(side).hear_fell(Event::MappingHeard, reply);
         self.end_mut(side).note_fin(place);
-        self.done();
+        self.go_by_verdict(side, reply);
     }
 
     /// Both keys were told.
@@ -344,6 +321,10 @@ impl Path {
                 self.answer_data_fin(side, place, reply);
                 Ok(())
             }
+            Heard::InfiniteMapping => {
+                self.answer_fell(side, Event::InfiniteHeard, reply);
+                Ok(())
+            }
             Heard::Keys { own, peer } => {
                 self.answer_keys(side, KeyPair { own, peer }, reply);
                 Ok(())
@@ -366,7 +347,7 @@ impl Path {
         ensures ok { OnOk result (self.new ≡ answered_item octets side (item_of index (end_at side self.old)) reply.now self.old) }
         ensures err { OnErr result (self.new ≡ self.old) }
     {
-        match self.end(side).treated.item(index) {
+        match self.end(side).item(index) {
             Some(item) => self.answer_heard(side, item, reply),
             None => {
                 self.done();
@@ -380,23 +361,6 @@ impl Path {
         ensures { self.new ≡ with_end side (item_passed side (item_of index (end_at side self.old)) (end_at side self.old)) self.old }
     {
         self.end_mut(side).pass_item(side, index);
-    }
-
-    /// The first step of the break by an acknowledgement without a Data ACK.
-    pub(crate) fn plain_ack_ask(&self, side: Side) -> Ask
-        ensures value { result ≡ break_ask octets side 6 self.now }
-        ensures able { CanBeAsked result }
-    {
-        self.break_ask(side, STRIPPED)
-    }
-
-    /// That step is made. At an error all is as it was.
-    pub(crate) fn answer_plain_ack(&mut self, side: Side, reply: &Reply) -> Result<(), AllocError>
-        requires { IsAckBounded reply.now }
-        ensures ok { OnOk result (self.new ≡ answered_break octets side 6 reply.now self.old) }
-        ensures err { OnErr result (self.new ≡ self.old) }
-    {
-        self.answer_break(side, STRIPPED, reply)
     }
 
     /// The payload that is held is kept or dropped.

@@ -94,6 +94,16 @@ module _ (spelling : Spelling) (from : Side) (s : PlainSegment) (can : CanSay sp
       let can_write = written spelling from s can in
       record { head = can_write.head; carried = others_can_be_carried (spelled spelling from s).options (spelled spelling from s).payload can_write.carried }
 
+  -- what the octets say without these options
+  pub stripped_means : (expected : Expected)
+      → heard_in spelling from expected (changes.text_stripped (addresses_from spelling.path from) (spelled_text spelling from s))
+      ≡ Some (heard_segment spelling from expected (changes.stripped (spelled spelling from s)))
+  stripped_means expected =
+      ap (heard_in spelling from expected) text-stripped
+      ∙ ap (λ r. option_map (heard_segment spelling from expected) (result_ok r))
+      (segment_meaning-written (addresses_from spelling.path from) (changes.stripped (spelled spelling from s))
+      (four spelling.path from) (four spelling.path (peer_of from)) stripped-written)
+
   module _ (expected : Expected) (is : IsExpected expected) (fresh : IsFresh spelling from expected s) where
     segment-stripped : heard_segment spelling from expected (changes.stripped (spelled spelling from s)) ≡ record (meant s) { options = [] }
     unfolding spelled
@@ -109,12 +119,7 @@ module _ (spelling : Spelling) (from : Side) (s : PlainSegment) (can : CanSay sp
 
     stripped-heard : heard_in spelling from expected (changes.text_stripped (addresses_from spelling.path from) (spelled_text spelling from s))
         ≡ Some (record (meant s) { options = [] })
-    stripped-heard =
-        ap (heard_in spelling from expected) text-stripped
-        ∙ ap (λ r. option_map (heard_segment spelling from expected) (result_ok r))
-        (segment_meaning-written (addresses_from spelling.path from) (changes.stripped (spelled spelling from s))
-        (four spelling.path from) (four spelling.path (peer_of from)) stripped-written)
-        ∙ ap (λ t. Some t) segment-stripped
+    stripped-heard = stripped_means expected ∙ ap (λ t. Some t) segment-stripped
 
   altered-spelled : changes.altered (spelled spelling from s) ≡ spelled spelling from (record s { payload = changes.with_turned_bit s.payload })
   unfolding spelled

@@ -1,5 +1,5 @@
 mod Carried
-mod ChangedSegments
+pub mod ChangedSegments
 mod Differing
 mod ListsAgain
 mod NumbersAgain

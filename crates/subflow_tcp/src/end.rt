@@ -221,6 +221,13 @@ impl Subflow {
         self.send.retransmit_first().is_some()
     }
 
+    /// The position of the peer's FIN, once one was heard.
+    pub fn fin_at(&self) -> Option<Pos>
+        ensures { result ≡ self.now.fin_at }
+    {
+        self.fin_at
+    }
+
     /// Whether the edge passed the peer's FIN.
     pub fn is_fin_passed(&self) -> bool
         ensures { result ≡ is_fin_passed self.now }

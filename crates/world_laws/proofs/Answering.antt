@@ -17,6 +17,7 @@ use Rattle.subflow_tcp.specs.Closing.{after_finishing}
 use Rattle.subflow_tcp.specs.State.{has_records}
 use Rattle.subflow_tcp.specs.States as states
 use Rattle.stream_lanes.specs.Lane.{Lane}
+use Rattle.stream_lanes.specs.Moves.{is_whole}
 use Rattle.actor_desk.specs.declared.ask.Ask.{Ask}
 use Rattle.actor_desk.specs.declared.ask.Reply.{Reply}
 use Rattle.actor_desk.specs.Desk.{SixBooks, reassembly_of, reply_of}
@@ -27,12 +28,12 @@ use Rattle.path_agenda.specs.declared.duty.Duty.TheVariants as duties
 use Rattle.path_agenda.specs.Words.{replaced}
 use Rattle.path_agenda.specs.declared.keys.KeyPair.{KeyPair}
 use Rattle.path_core.specs.Breaking.{reset_of, reset_on, break_ask, answered_break}
-use Rattle.path_core.specs.Closing.{owes_end, with_end_sent}
+use Rattle.path_core.specs.Closing.{is_end_owed, with_end_sent}
 use Rattle.path_agenda.specs.Agenda.{leaves, resets}
 use Rattle.path_core.specs.Emission.{first_unsent, unsent_segment, having_sent_unsent, end_segment, having_sent_end, fin_segment_of, having_sent_fin, answered_end, answered_fin}
 use Rattle.path_core.specs.Ends.{PathEnd}
 use Rattle.path_core.specs.Events.{died}
-use Rattle.path_core.specs.Opening.{peer_key_ask, keys_ask, syn_ack_of}
+use Rattle.path_core.specs.Opening.{syn_ack_of}
 use Rattle.path_core.specs.Joining.{keys_begun, asked_at, join_heard_ask, joined_by, join_taken, answered_join_heard, refusal_of, answered_refusal}
 use Rattle.path_core.specs.Passing.{first_record, first_segment, answer_of, answer_occasion, answered_answer, answered_again, outgoing_or, dead_answer, answered_dead, resend_occasion, resend_of, answered_resend, rate_ask}
 use Rattle.path_core.specs.Segments.{ack_said, syn_ack_said, record_or_ack, reset_options, segment_of}
@@ -47,9 +48,9 @@ use Rattle.world_laws.proofs.Ending.{Did, did_nothing, told_end, finished_shows,
 use Rattle.world_laws.proofs.Records.{every_find, every_at, sent_end}
 use Rattle.world_laws.proofs.Roads.{stays}
 use Rattle.world_laws.proofs.Rules.{died_shows, joined_shows}
-use Rattle.world_laws.proofs.Lanes.{Others}
+use Rattle.world_laws.proofs.Lanes.{Others, MayAnswer}
 use Rattle.world_laws.proofs.Saying.{ack_says, syn_ack_says, fin_says, reset_says, outgoing_says, record_or_ack_says}
-use Rattle.world_laws.proofs.Showing.{HasAck, HasMapping, HasFin, RecordShows, EndShows, SegmentShows, PathShows}
+use Rattle.world_laws.proofs.Showing.{HasMapping, HasFin, RecordShows, EndShows, SegmentShows, PathShows, HasNone}
 use Rattle.world_laws.proofs.Sides.{SideDid, Answered, IsQuiet, side_kept, side_sent, quiet, quiet_side, told_side}
 use Rattle.world_laws.proofs.Strolling.{Strolled, side_shows}
 
@@ -94,7 +95,7 @@ module _ (six : SixBooks) (others : Others) (p : PathState Carried) (ab ba : Lan
   pub agenda_strolled : (ds : List Duty) → Strolled p.profile (with_agenda ds p) ab ba
   agenda_strolled ds = record { ab_after = ab; ba_after = ba; ab_moves = stays ab; ba_moves = stays ba; shows = agenda_shows ds }
 
-  pub agenda_step : (ask : Ask) (ds : List Duty) → IsQuiet ask → Steps ask (with_agenda ds p)
+  pub agenda_step : (ask : Ask) (ds : List Duty) → IsQuiet six ask → Steps ask (with_agenda ds p)
   agenda_step ask ds is = quiet p.profile six others ask (with_agenda ds p) ab ba is (agenda_strolled ds)
 
   -- after a call too
@@ -104,13 +105,13 @@ module _ (six : SixBooks) (others : Others) (p : PathState Carried) (ab ba : Lan
   agenda_side B out_called back_called ds d = side_kept p.profile p ab ba h B out_called back_called p.b ds d
 
   -- the end becomes this, and nothing is called
-  pub end_step : (s : Side) (ask : Ask) (e : PathEnd) (ds : List Duty) → IsQuiet ask → EndShows p.profile s e (pick s ab ba) (pick s ba ab) → Steps ask (goes_on s e ds p)
+  pub end_step : (s : Side) (ask : Ask) (e : PathEnd) (ds : List Duty) → IsQuiet six ask → EndShows p.profile s e (pick s ab ba) (pick s ba ab) → Steps ask (goes_on s e ds p)
   end_step s ask e ds is shows =
       quiet_side p.profile six others s p (goes_on s e ds p) ab ba ask h is
       (side_kept p.profile p ab ba h s (pick s ab ba) (pick s ba ab) e ds (did_nothing p.profile s (pick s ab ba) (pick s ba ab) e shows))
 
   -- or it does something by itself
-  pub did_step : (s : Side) (ask : Ask) (e : PathEnd) (ds : List Duty) → IsQuiet ask → Did p.profile s e (pick s ab ba) (pick s ab ba) (pick s ba ab) (pick s ba ab) → Steps ask (goes_on s e ds p)
+  pub did_step : (s : Side) (ask : Ask) (e : PathEnd) (ds : List Duty) → IsQuiet six ask → Did p.profile s e (pick s ab ba) (pick s ab ba) (pick s ba ab) (pick s ba ab) → Steps ask (goes_on s e ds p)
   did_step s ask e ds is d =
       quiet_side p.profile six others s p (goes_on s e ds p) ab ba ask h is
       (side_kept p.profile p ab ba h s (pick s ab ba) (pick s ba ab) e ds d)
@@ -142,80 +143,85 @@ module _ (six : SixBooks) (others : Others) (p : PathState Carried) (ab ba : Lan
     abbrev shows : EndShows p.profile s e out back
     shows = shows_at s
 
-    ack_said_shows : (position : ℕ) → SegmentShows back.acks out (ack_said p.profile s position None e)
-    ack_said_shows position = ack_says p.profile s e back.acks out shows.window position None tt
+    -- where nothing was told since the book was asked what is to be acknowledged
+    abbrev pub IsCalm : Type 0
+    IsCalm = e.treated.asked ≡ false
 
-    record_said_shows : (o : Option Record) → IfSome o (RecordShows p.profile s out.datas out.fins) → SegmentShows back.acks out (record_or_ack p.profile s o e)
-    record_said_shows = record_or_ack_says p.profile s e back.acks out shows.window (ready.first s)
+    ack_said_shows : IsCalm → (position : ℕ) → SegmentShows back.acks out (ack_said p.profile s position None e)
+    ack_said_shows calm position = ack_says p.profile s e back.acks out shows.acks.windows (shows.acks.sub calm) position None tt
 
-    pub acknowledges_step : (ds : List Duty) → Steps (sends values s (ack_segment s p) p) (sent_on values s (ack_segment s p) (having_sent to_send.Ack p.clock (ack_segment s p) e) ds p)
-    acknowledges_step ds = occasion_step s (ack_segment s p) to_send.Ack ds (ack_said_shows e.tcp.send.nxt)
+    record_said_shows : IsCalm → (o : Option Record) → IfSome o (RecordShows p.profile s out.datas out.fins) → SegmentShows back.acks out (record_or_ack p.profile s o e)
+    record_said_shows calm = record_or_ack_says p.profile s e back.acks out shows.acks.windows (shows.acks.sub calm) (ready.first s)
 
-    pub unsent_step : (ds : List Duty) → Steps (sends values s (unsent_segment s p) p) (sent_on values s (unsent_segment s p) (having_sent_unsent s p) ds p)
-    unsent_step ds = occasion_step s (unsent_segment s p) to_send.Unsent ds (record_said_shows (first_unsent e) (every_find is_unsent e.tcp.send.records shows.sender.pieces))
+    pub acknowledges_step : IsCalm → (ds : List Duty) → Steps (sends values s (ack_segment s p) p) (sent_on values s (ack_segment s p) (having_sent to_send.Ack p.clock (ack_segment s p) e) ds p)
+    acknowledges_step calm ds = occasion_step s (ack_segment s p) to_send.Ack ds (ack_said_shows calm e.tcp.send.nxt)
 
-    pub again_step : Steps (sends values s (first_segment s p) p) (answered_again values s p)
-    again_step = occasion_step s (first_segment s p) to_send.First _ (record_said_shows (first_record e) (every_at 0 e.tcp.send.records shows.sender.pieces))
+    pub unsent_step : IsCalm → (ds : List Duty) → Steps (sends values s (unsent_segment s p) p) (sent_on values s (unsent_segment s p) (having_sent_unsent s p) ds p)
+    unsent_step calm ds = occasion_step s (unsent_segment s p) to_send.Unsent ds (record_said_shows calm (first_unsent e) (every_find is_unsent e.tcp.send.records shows.sender.pieces))
+
+    pub again_step : IsCalm → Steps (sends values s (first_segment s p) p) (answered_again values s p)
+    again_step calm = occasion_step s (first_segment s p) to_send.First _ (record_said_shows calm (first_record e) (every_at 0 e.tcp.send.records shows.sender.pieces))
 
     pub syn_ack_step : (ds : List Duty) → Steps (sends values s (syn_ack_of s p) p) (sent_on values s (syn_ack_of s p) (having_sent to_send.SynAck p.clock (syn_ack_of s p) e) ds p)
-    syn_ack_step ds = occasion_step s (syn_ack_of s p) to_send.SynAck ds (syn_ack_says p.profile s e back.acks out shows.window)
+    syn_ack_step ds = occasion_step s (syn_ack_of s p) to_send.SynAck ds (syn_ack_says p.profile s e back.acks out shows.acks.windows)
 
-    pub answer_step : Steps (sends values s (answer_of s p) p) (answered_answer values s p)
-    answer_step = occasion_step s (answer_of s p) (answer_occasion e) _ (by e.tcp.due.syn_ack)
+    pub answer_step : IsCalm → Steps (sends values s (answer_of s p) p) (answered_answer values s p)
+    answer_step calm = occasion_step s (answer_of s p) (answer_occasion e) _ (by e.tcp.due.syn_ack)
       where
         by : (b : Bool) → SegmentShows back.acks out (if b then syn_ack_said p.profile s e else ack_said p.profile s e.tcp.send.nxt None e)
-        by true = syn_ack_says p.profile s e back.acks out shows.window
-        by false = ack_said_shows e.tcp.send.nxt
+        by true = syn_ack_says p.profile s e back.acks out shows.acks.windows
+        by false = ack_said_shows calm e.tcp.send.nxt
 
     pub dead_step : Steps (sends values s (dead_answer s p) p) (answered_dead values s p)
     dead_step = sent_step s (dead_answer s p) e _ (by e.treated.answer shows.treated.answer) shows
       where
-        by : (o : Option Outgoing) → IfSome o (λ x. x.fin ≡ false) → SegmentShows back.acks out (segment_of p.profile (outgoing_or o (reset_segment e.tcp)) [] [] e)
-        by None none = outgoing_says p.profile s e back.acks out shows.window (reset_segment e.tcp) None refl
-        by (Some o) none = outgoing_says p.profile s e back.acks out shows.window o None none
+        by : (o : Option Outgoing) → IfSome o (λ x. (x.fin ≡ false) × (x.rst ≡ true)) → SegmentShows back.acks out (segment_of p.profile (outgoing_or o (reset_segment e.tcp)) [] [] e)
+        by None none = outgoing_says p.profile s e back.acks out shows.acks.windows (reset_segment e.tcp) None refl refl
+        by (Some o) none = outgoing_says p.profile s e back.acks out shows.acks.windows o None none.0 none.1
 
     pub refuse_step : Steps (sends values s (refusal_of s p) p) (answered_refusal values s p)
     refuse_step = sent_step s (refusal_of s p) e _ (by e.treated.answer shows.treated.answer) shows
       where
-        by : (o : Option Outgoing) → IfSome o (λ x. x.fin ≡ false) → SegmentShows back.acks out (segment_of p.profile (outgoing_or o (reset_segment e.tcp)) (reset_options (Some 1)) [] e)
-        by None none = outgoing_says p.profile s e back.acks out shows.window (reset_segment e.tcp) (Some 1) refl
-        by (Some o) none = outgoing_says p.profile s e back.acks out shows.window o (Some 1) none
+        by : (o : Option Outgoing) → IfSome o (λ x. (x.fin ≡ false) × (x.rst ≡ true)) → SegmentShows back.acks out (segment_of p.profile (outgoing_or o (reset_segment e.tcp)) (reset_options (Some 1)) [] e)
+        by None none = outgoing_says p.profile s e back.acks out shows.acks.windows (reset_segment e.tcp) (Some 1) refl refl
+        by (Some o) none = outgoing_says p.profile s e back.acks out shows.acks.windows o (Some 1) none.0 none.1
 
-    pub resend_step : Steps (sends values s (resend_of s p) p) (answered_resend values s p)
-    resend_step = occasion_step s (resend_of s p) (resend_occasion e) _ (by (has_records e.tcp) e.modes.owes_third (owes_end e.sending))
+    pub resend_step : IsCalm → Steps (sends values s (resend_of s p) p) (answered_resend values s p)
+    resend_step calm = occasion_step s (resend_of s p) (resend_occasion e) _ (by (has_records e.tcp) e.modes.owes_third (is_end_owed e))
       where
         by : (some third owes : Bool) → SegmentShows back.acks out (if some then record_or_ack p.profile s (first_record e) e
             else (if third then ack_said p.profile s e.tcp.send.nxt None e
             else (if owes then ack_said p.profile s e.tcp.send.nxt e.sending.known_end e else ack_said p.profile s (e.tcp.send.una - 1) None e)))
-        by true third owes = record_said_shows (first_record e) (every_at 0 e.tcp.send.records shows.sender.pieces)
-        by false true owes = ack_said_shows e.tcp.send.nxt
-        by false false true = ack_says p.profile s e back.acks out shows.window e.tcp.send.nxt e.sending.known_end shows.sender.known_end
-        by false false false = ack_said_shows (e.tcp.send.una - 1)
+        by true third owes = record_said_shows calm (first_record e) (every_at 0 e.tcp.send.records shows.sender.pieces)
+        by false true owes = ack_said_shows calm e.tcp.send.nxt
+        by false false true = ack_says p.profile s e back.acks out shows.acks.windows (shows.acks.sub calm) e.tcp.send.nxt e.sending.known_end shows.sender.known_end
+        by false false false = ack_said_shows calm (e.tcp.send.una - 1)
 
-    pub reset_step : (reason : Option ℕ) (ds : List Duty) → Steps (sends values s (reset_of s reason p) p) (reset_on values s reason ds p)
-    reset_step reason ds =
-        sent_step s (reset_of s reason p) (died e) ds (reset_says p.profile s e back.acks out shows.window reason) (died_shows p.profile s out back e shows)
+    pub reset_step : IsCalm → (reason : Option ℕ) (ds : List Duty) → Steps (sends values s (reset_of s reason p) p) (reset_on values s reason ds p)
+    reset_step calm reason ds =
+        sent_step s (reset_of s reason p) (died e) ds (reset_says p.profile s e back.acks out shows.acks.windows reason) (died_shows p.profile s out back e calm shows)
 
     -- ---- the ends of the streams
 
-    pub data_fin_step : Steps (sends values s (end_segment s p) p) (answered_end values s p)
-    data_fin_step =
-        sent_step s (end_segment s p) (having_sent_end s p) _ (ack_says p.profile s e back.acks out shows.window e.tcp.send.nxt e.sending.known_end shows.sender.known_end)
+    pub data_fin_step : IsCalm → Steps (sends values s (end_segment s p) p) (answered_end values s p)
+    data_fin_step calm =
+        sent_step s (end_segment s p) (having_sent_end s p) _ (ack_says p.profile s e back.acks out shows.acks.windows (shows.acks.sub calm) e.tcp.send.nxt e.sending.known_end shows.sender.known_end)
         (ended (having_sent to_send.Ack p.clock (end_segment s p) e) (sent_end p.profile s out back to_send.Ack p.clock (end_segment s p) e shows))
       where
         ended : (f : PathEnd) → EndShows p.profile s f out back → EndShows p.profile s (record f { sending = with_end_sent f.sending }) out back
-        ended f x = record { sender = x.sender; receiver = x.receiver; window = x.window; told = x.told; treated = x.treated; held = x.held }
+        ended f x = record { sender = x.sender; receiver = x.receiver; acks = x.acks; told = x.told; treated = x.treated; held = x.held }
 
-    pub fin_step : states.may_finish e.tcp.state ≡ true → e.sending.close.own_acked ≡ true → Steps (sends values s (fin_segment_of s p) p) (answered_fin values s p)
-    fin_step may acked =
+    pub fin_step : IsCalm → states.may_finish e.tcp.state ≡ true → (if out.sender_plain then is_whole out.known_end out else out.fin_acked) ≡ true
+        → Steps (sends values s (fin_segment_of s p) p) (answered_fin values s p)
+    fin_step calm may finishes =
         quiet_side p.profile six others s p (answered_fin values s p) ab ba (sends values s (fin_segment_of s p) p) h tt
-        (side_sent p.profile p ab ba h s out back (having_sent_fin s p) (left p) (fin_segment_of s p) sent (fin_says p.profile s e back.acks (with_fin_sent out) shows.window at))
+        (side_sent p.profile p ab ba h s out back (having_sent_fin s p) (left p) (fin_segment_of s p) sent (fin_says p.profile s e back.acks (with_fin_sent out) shows.acks.windows (shows.acks.sub calm) at))
       where
         sent : Did p.profile s (having_sent_fin s p) out out back back
         sent = record {
           out_after = with_fin_sent out;
           back_after = back;
-          out_moves = sends_the_fin out (ready.opened s may) shows.sender.plain (shows.sender.fin_acked acked);
+          out_moves = sends_the_fin out (ready.opened s may) finishes;
           back_moves = stays back;
           sender = fin_goes out;
           receiver = receiver_stays back;
@@ -239,11 +245,11 @@ module _ (six : SixBooks) (others : Others) (p : PathState Carried) (ab ba : Lan
 
     -- ---- a join
 
-    join_heard_quiet : (o : Option JoinSyn) → IsQuiet (join_heard_ask s o p)
-    join_heard_quiet None = tt
-    join_heard_quiet (Some asked) = tt
+    join_heard_quiet : (o : Option JoinSyn) → MayAnswer s six → IsQuiet six (join_heard_ask s o p)
+    join_heard_quiet None may = tt
+    join_heard_quiet (Some asked) may = may
 
-    join_by : (keys : Option KeyPair) (o : Option JoinSyn) (ask : Ask) → IsQuiet ask → IfSome o (λ asked. HasAck out.acks 0 e.treated.window) → Steps ask (join_taken s keys o p)
+    join_by : (keys : Option KeyPair) (o : Option JoinSyn) (ask : Ask) → IsQuiet six ask → IfSome o (λ asked. HasNone out.acks e.treated.window) → Steps ask (join_taken s keys o p)
     join_by (Some keys) (Some asked) ask is has =
         end_step s ask (joined_by keys asked e) (replaced (duties.SynAck s) p.agenda) is (joined_shows p.profile s out back keys asked e has shows)
     join_by (Some keys) None ask is has = agenda_step ask (replaced (duties.Refuse s) p.agenda) is
@@ -251,30 +257,22 @@ module _ (six : SixBooks) (others : Others) (p : PathState Carried) (ab ba : Lan
     join_by None None ask is has = agenda_step ask (replaced (duties.Refuse s) p.agenda) is
 
     -- the reply to JoinHeard
-    pub join_heard_step : (r : Reply) → Steps (join_heard_ask s (asked_at s p) p) (answered_join_heard s r p)
-    join_heard_step r = join_by (keys_begun r) (asked_at s p) (join_heard_ask s (asked_at s p) p) (join_heard_quiet (asked_at s p)) shows.treated.window
+    pub join_heard_step : (r : Reply) → MayAnswer s six → Steps (join_heard_ask s (asked_at s p) p) (answered_join_heard s r p)
+    join_heard_step r may = join_by (keys_begun r) (asked_at s p) (join_heard_ask s (asked_at s p) p) (join_heard_quiet (asked_at s p) may) shows.treated.window
 
     -- ---- a break
 
     pub break_step : (reason : ℕ) → Steps (break_ask values s reason p) (answered_break values s reason (reply_of six (break_ask values s reason p)) p)
-    break_step reason = by e.treated.asked
+    break_step reason = by e.treated.asked refl
       where
-        by : (b : Bool) → Steps (if b then ack_out_ask s else sends values s (reset_of s (Some reason) p) p)
+        by : (b : Bool) → e.treated.asked ≡ b → Steps (if b then ack_out_ask s else sends values s (reset_of s (Some reason) p) p)
             (if b then answered_ack_out s (reply_of six (if b then ack_out_ask s else sends values s (reset_of s (Some reason) p) p)) (resets s reason) p
             else reset_on values s (Some reason) (leaves s) p)
-        by true = told_step (resets s reason)
-        by false = reset_step (Some reason) (leaves s)
+        by true asked = told_step (resets s reason)
+        by false calm = reset_step calm (Some reason) (leaves s)
 
 -- ---- asks of the control book alone
 
-pub peer_key_quiet : (s : Side) (o : Option ℕ) → IsQuiet (peer_key_ask s o)
-peer_key_quiet s None = tt
-peer_key_quiet s (Some key) = tt
-
-pub keys_quiet : (s : Side) (o : Option KeyPair) → IsQuiet (keys_ask s o)
-keys_quiet s None = tt
-keys_quiet s (Some keys) = tt
-
-pub rate_quiet : {C : Type 0} (s : Side) (o : Option Pending) (p : PathState C) → IsQuiet (rate_ask s o p)
-rate_quiet s None p = tt
-rate_quiet s (Some pending) p = tt
+pub rate_quiet : {C : Type 0} (six : SixBooks) (s : Side) (o : Option Pending) (p : PathState C) → IsQuiet six (rate_ask s o p)
+rate_quiet six s None p = tt
+rate_quiet six s (Some pending) p = tt

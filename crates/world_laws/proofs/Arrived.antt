@@ -1,12 +1,18 @@
 -- A copy that arrives at an end: its payload is heard on the lane, and what the subflow makes of it shows there.
-use Rattle.std.proofs.Common.{◌≡◌, refl, sym, ap, subst, ℕ, ◌+◌, ◌-◌, inl, inr, ⊎_elim, Bool, true, false, if◌then◌else◌, Option, Some, None, List, [], ◌∷◌, length, arith}
+use Rattle.std.proofs.Common.{◌≡◌, refl, sym, ap, subst, ℕ, ◌+◌, ◌-◌, inl, inr, ⊎_elim, Bool, true, false, if◌then◌else◌, Option, Some, None, List, [], ◌∷◌, length, arith, ◌∙◌}
 use Rattle.std.proofs.lemmas.Bool.{false≢true}
 use Rattle.std.proofs.lemmas.Option.{same_Some}
-use Rattle.std.specs.Option.{IfSome}
+use Rattle.std.specs.Option.{IfSome, option_map}
+use Rattle.std.specs.Prelude.{unwrap_or}
 use Rattle.outside_kit.specs.declared.side.Side.{Side}
 use Rattle.dss_mapping.specs.declared.kept.KeptMapping.{KeptMapping}
 use Rattle.path_segments.specs.Laws.{meant, window_told}
 use Rattle.path_segments.specs.Spelled.{PlainSegment}
+use Rattle.subflow_recv.specs.Receiving.{after_accept, Receiving}
+use Rattle.subflow_send.specs.Rules.{ack_kind, after_acknowledge, sample_of}
+use Rattle.subflow_send.specs.declared.record.AckKind.{AckKind}
+use Rattle.subflow_send.specs.declared.record.AckKind.TheVariants as acks
+use Rattle.join_handshake.specs.declared.hearing.JoinAnswer.{JoinAnswer}
 use Rattle.subflow_tcp.specs.declared.handshake.State.TheVariants as phase
 use Rattle.subflow_tcp.specs.declared.segments.Hint.{Hint}
 use Rattle.subflow_tcp.specs.declared.verdicts.Meaning.{Meaning}
@@ -15,42 +21,46 @@ use Rattle.subflow_tcp.specs.Segments.{Copy}
 use Rattle.subflow_tcp.specs.Judging.{meaning_of}
 use Rattle.subflow_tcp.specs.State.{EndState}
 use Rattle.subflow_tcp.specs.Taking as taking
+use Rattle.subflow_tcp.specs.declared.handshake.State.{State as EndPhase}
 use Rattle.stream_lanes.specs.Holding.{LaneHolds}
-use Rattle.stream_lanes.specs.Lane.{Lane}
+use Rattle.stream_lanes.specs.Lane.{Lane, AckCopy}
 use Rattle.stream_lanes.specs.View.{View}
 use Rattle.stream_lanes.proofs.Lists.{Every-nil}
 use Rattle.actor_desk.specs.Words.{is_nil}
-use Rattle.path_core.specs.Arriving.{copy_of, items_of, hint_of, reset_by, owing_if, owes_by, with_payload, judged_in, taken_as, after_judged}
+use Rattle.path_agenda.specs.declared.heard.Heard.{Heard}
+use Rattle.path_core.specs.Arriving.{asked_in, is_taken, copy_of, items_of, hint_of, reset_by, owing_if, owes_by, with_payload, judged_in, taken_as, after_judged, HeardOption, acknowledged_in, after_join, answered_in, cleared_in, held_of, with_answer, with_held}
 use Rattle.path_core.specs.Ends.{PathEnd}
-use Rattle.path_core.specs.Joins.{is_joined, join_asked}
+use Rattle.path_core.specs.Joins.{is_joined, join_asked, join_answer}
 use Rattle.path_core.specs.State.{Profile}
 use Rattle.path_core.proofs.Judgements.{judged_taken}
+use Rattle.path_core.specs.declared.modes.Modes.{Modes}
 use Rattle.world_laws.proofs.Arriving.{Halves, options_say, taken_say, options_hold, taken_both, syn_both, syn_ack_both}
 use Rattle.world_laws.proofs.Ending.{Did}
 use Rattle.world_laws.proofs.Growing.{SenderGoes, ReceiverGoes, Longer, sender_stays, receiver_stays, heard_longer, segment_longer}
 use Rattle.world_laws.proofs.Hearing.{Fits, meaning_fits, state_shows, cut_shows}
 use Rattle.world_laws.proofs.Records.{acknowledged_shows}
 use Rattle.world_laws.proofs.Roads.{Strolls, stays}
-use Rattle.world_laws.proofs.Showing.{HasAck, HasData, HasFin, is_unfinished, WindowShows, SegmentShows, EndShows}
+use Rattle.world_laws.proofs.Showing.{HasSub, HasNone, HasData, HasFin, Knowledge, knowledge_of, is_unfinished, AcksShow, SegmentShows, EndShows}
 use Rattle.world_laws.proofs.Taking.{heard_lane, hears, heard_goes, heard_under, heard_more}
+use Rattle.world_laws.proofs.Rules.{sub_of_none}
 
 -- the octets of a payload are on the lane, where they are held
-pub record Holding (c : Profile) (s : Side) (known : Option ℕ) (acked : Bool) (live : List KeptMapping) (out back : Lane) (tcp : EndState) : Type 0 where
+pub record Holding (c : Profile) (s : Side) (k : Knowledge) (live : List KeptMapping) (out back : Lane) (tcp : EndState) : Type 0 where
   pub back_after : Lane
   pub back_moves : Strolls back back_after
   pub receiver : ReceiverGoes back back_after
-  pub acks : back_after.acks ≡ back.acks
-  pub halves : Halves c s known acked live out back_after tcp
+  pub acks : (next window : ℕ) (asked : Bool) (edge : ℕ) → AcksShow next window asked edge back → AcksShow next window asked edge back_after
+  pub halves : Halves c s k live out back_after tcp
 
-module _ (c : Profile) (s : Side) (known : Option ℕ) (acked : Bool) (live : List KeptMapping) (out back : Lane) (v : View) (path : ℕ) (holds : LaneHolds v path back) where
+module _ (c : Profile) (s : Side) (k : Knowledge) (live : List KeptMapping) (out back : Lane) (v : View) (path : ℕ) (holds : LaneHolds v path back) where
   abbrev Held : EndState → Type 0
-  Held tcp = Holding c s known acked live out back tcp
+  Held tcp = Holding c s k live out back tcp
 
-  not_held : (tcp : EndState) → Halves c s known acked live out back tcp → Held tcp
-  not_held tcp h = record { back_after = back; back_moves = stays back; receiver = receiver_stays back; acks = refl; halves = h }
+  not_held : (tcp : EndState) → Halves c s k live out back tcp → Held tcp
+  not_held tcp h = record { back_after = back; back_moves = stays back; receiver = receiver_stays back; acks = λ next window asked edge acks. acks; halves = h }
 
   -- at the edge the lane hears the copy, and behind the FIN nothing counts
-  hold : (pos : ℕ) (payload : List ℕ) (tcp : EndState) → HasData back.datas pos payload → Halves c s known acked live out back tcp → Held (taking.after_holding pos payload tcp)
+  hold : (pos : ℕ) (payload : List ℕ) (tcp : EndState) → HasData back.datas pos payload → Halves c s k live out back tcp → Held (taking.after_holding pos payload tcp)
   hold pos payload tcp has h = ⊎_elim
       (λ at.
       let count = (tcp.recv.edge + tcp.recv.window) - pos in
@@ -59,10 +69,11 @@ module _ (c : Profile) (s : Side) (known : Option ℕ) (acked : Bool) (live : Li
         back_after = q;
         back_moves = hears back v path holds pos payload has count;
         receiver = heard_goes back v path holds pos payload has count;
-        acks = refl;
+        acks = λ next window asked edge acks. record { windows = acks.windows; latest = acks.latest; due = acks.due; sub = acks.sub };
         halves = record {
           sender = h.sender;
           receiver = record {
+            same_mode = h.receiver.same_mode;
             edge = inl (record {
               edge_is = at.edge_is;
               under = heard_more back v path holds pos payload has count tcp.recv.places at.under;
@@ -75,11 +86,16 @@ module _ (c : Profile) (s : Side) (known : Option ℕ) (acked : Bool) (live : Li
       })
       (λ past. not_held (taking.after_holding pos payload tcp) (record {
         sender = h.sender;
-        receiver = record { edge = inr (record { passed_is = past.passed_is; none = past.none }); fin = h.receiver.fin; mapped = h.receiver.mapped };
+        receiver = record {
+          same_mode = h.receiver.same_mode;
+          edge = inr (record { at_is = past.at_is; none = past.none; edge_is = past.edge_is; fin_in = past.fin_in });
+          fin = h.receiver.fin;
+          mapped = h.receiver.mapped;
+        };
       }))
       h.receiver.edge
 
-  pub payload_held : (sg : PlainSegment) (m : Meaning) (tcp : EndState) → Fits (copy_of (meant sg)) (is_unfinished tcp.state) m → SegmentShows out.acks back sg → Halves c s known acked live out back tcp
+  pub payload_held : (sg : PlainSegment) (m : Meaning) (tcp : EndState) → Fits (copy_of (meant sg)) (is_unfinished tcp.state) m → SegmentShows out.acks back sg → Halves c s k live out back tcp
       → Held (with_payload m sg.payload tcp)
   payload_held sg (means.Taken pos acknowledged) tcp fits said h = by (is_nil sg.payload) refl
     where
@@ -91,7 +107,7 @@ module _ (c : Profile) (s : Side) (known : Option ℕ) (acked : Bool) (live : Li
       by true is = not_held tcp h
       by false is = ⊎_elim
           (λ none. absurd (nonempty sg.payload is none))
-          (λ has. hold pos sg.payload tcp (subst (λ n. HasData back.datas n sg.payload) (same_Some sg.position pos fits) has) h)
+          (λ has. hold pos sg.payload tcp (subst (λ n. HasData back.datas n sg.payload) (same_Some sg.position pos fits.position_is) has) h)
           said.payload
   payload_held sg means.Ignored tcp fits said h = not_held tcp h
   payload_held sg means.Unwanted tcp fits said h = not_held tcp h
@@ -140,29 +156,29 @@ same_told means.Challenged octets tcp = refl
 same_told means.Unacknowledging octets tcp = refl
 same_told means.Ahead octets tcp = refl
 
-module _ (c : Profile) (s : Side) (known : Option ℕ) (acked : Bool) (live : List KeptMapping) (out back : Lane) where
+module _ (c : Profile) (s : Side) (k : Knowledge) (live : List KeptMapping) (out back : Lane) where
   abbrev Both : EndState → Type 0
-  Both tcp = Halves c s known acked live out back tcp
+  Both tcp = Halves c s k live out back tcp
 
   killed : (tcp : EndState) → Both tcp → Both (taking.after_death false tcp)
   killed tcp h = record {
-    sender = state_shows c s known acked out tcp.state phase.Dead _ (λ no_more. absurd (false≢true no_more)) (acknowledged_shows c s known acked out tcp.send.nxt tcp.state tcp.send h.sender);
-    receiver = cut_shows tcp.fin_at live back (tcp.recv.edge - tcp.recv.edge) tcp.recv h.receiver;
+    sender = state_shows c s k out tcp.state phase.Dead _ (λ no_more. absurd (false≢true no_more)) (acknowledged_shows c s k out tcp.send.nxt tcp.state tcp.send h.sender);
+    receiver = cut_shows tcp.fin_at live k.identity back (tcp.recv.edge - tcp.recv.edge) tcp.recv h.receiver;
   }
 
   arrived_both : (sg : PlainSegment) (m : Meaning) (hint : Hint) (now : ℕ) (tcp : EndState) → hint.keep ≡ false → Fits (copy_of (meant sg)) (is_unfinished tcp.state) m
       → SegmentShows out.acks back sg → Both tcp → Both (taking.after_arrival m hint now (copy_of (meant sg)) tcp)
-  arrived_both sg (means.Taken pos acknowledged) hint now tcp keep fits said h = taken_both c s known acked live out back pos acknowledged hint now (copy_of (meant sg)) tcp keep fin h
+  arrived_both sg (means.Taken pos acknowledged) hint now tcp keep fits said h = taken_both c s k live out back pos acknowledged hint now (copy_of (meant sg)) tcp keep fin h
     where
       fin : sg.fin ≡ true → HasFin back.fins (pos + length sg.payload)
       fin is =
           let f = said.fin is in
           let none : length sg.payload ≡ 0 = ap (λ (xs : List ℕ). length xs) f.0 in
-          let same : sg.position ≡ pos = same_Some sg.position pos fits in
+          let same : sg.position ≡ pos = same_Some sg.position pos fits.position_is in
           let there : sg.position ≡ pos + length sg.payload = omega (arith, none, same) in
           subst (HasFin back.fins) there f.1
-  arrived_both sg (means.Accepts acknowledged) hint now tcp keep fits said h = syn_ack_both c s known acked live out back acknowledged hint now (copy_of (meant sg)) tcp keep (said.plain fits.0) fits.1 h
-  arrived_both sg means.Opens hint now tcp keep fits said h = syn_both c s known acked live out back hint (copy_of (meant sg)) tcp keep (said.plain fits.0) fits.1 h
+  arrived_both sg (means.Accepts acknowledged) hint now tcp keep fits said h = syn_ack_both c s k live out back acknowledged hint now (copy_of (meant sg)) tcp keep (said.plain fits.0) fits.1 h
+  arrived_both sg means.Opens hint now tcp keep fits said h = syn_both c s k live out back hint (copy_of (meant sg)) tcp keep (said.plain fits.0) fits.1 h
   arrived_both sg means.Kills hint now tcp keep fits said h = killed tcp h
   arrived_both sg means.Ignored hint now tcp keep fits said h = h
   arrived_both sg means.Unwanted hint now tcp keep fits said h = h
@@ -195,36 +211,144 @@ told_owing : (P : ℕ → Type 0) (b : Bool) (tcp : EndState) → P tcp.congesti
 told_owing P true tcp h = h
 told_owing P false tcp h = h
 
-reset_none : (c : Profile) (s : Side) (o : Option ℕ) (position occupied : ℕ) → (reset_by c s o position occupied).fin ≡ false
-reset_none c s None position occupied = refl
-reset_none c s (Some acknowledged) position occupied = refl
+reset_none : (c : Profile) (s : Side) (o : Option ℕ) (position occupied : ℕ) → ((reset_by c s o position occupied).fin ≡ false) × ((reset_by c s o position occupied).rst ≡ true)
+reset_none c s None position occupied = (refl, refl)
+reset_none c s (Some acknowledged) position occupied = (refl, refl)
+
+-- ---- the receive edge stays
+
+payload_edge : (pos : ℕ) (hint : Hint) (copy : Copy) (tcp : EndState) → hint.keep ≡ false → (taking.after_payload pos hint copy tcp).recv.edge ≡ tcp.recv.edge
+payload_edge pos hint copy tcp keep = ap (λ (b : Bool). (if taking.is_kept b tcp then after_accept pos copy.payload tcp.recv else tcp.recv).edge) keep
+
+kind_edge : (kind : AckKind) (since : Option ℕ) (now : ℕ) (tcp : EndState) → (taking.after_ack_kind kind since now tcp).recv ≡ tcp.recv
+kind_edge (acks.New octets) since now tcp = refl
+kind_edge acks.Duplicate since now tcp = refl
+kind_edge acks.Old since now tcp = refl
+kind_edge acks.Future since now tcp = refl
+
+ack_edge : (pos now : ℕ) (tcp : EndState) → (taking.after_acknowledgement pos now tcp).recv ≡ tcp.recv
+ack_edge pos now tcp = kind_edge (ack_kind pos tcp.send) (sample_of pos tcp.send) now (record tcp { send = after_acknowledge pos tcp.send })
+
+row_edge : (b : Bool) (tcp : EndState) → (if b then taking.after_duplicate tcp else taking.after_interruption tcp).recv ≡ tcp.recv
+row_edge true tcp = refl
+row_edge false tcp = refl
+
+arrival_edge : (m : Meaning) (hint : Hint) (now : ℕ) (copy : Copy) (tcp : EndState) → hint.keep ≡ false → (taking.after_arrival m hint now copy tcp).recv.edge ≡ tcp.recv.edge
+arrival_edge (means.Taken pos acknowledged) hint now copy tcp keep =
+    let t : EndState = taking.after_established (taking.after_hearing (taking.after_payload pos hint copy tcp)) in
+    let acked : EndState = taking.after_acknowledgement acknowledged now t in
+    ap (λ (r : Receiving). r.edge) (row_edge (taking.is_duplicate (ack_kind acknowledged t.send) (taking.told_by hint copy) copy acked) acked)
+    ∙ ap (λ (r : Receiving). r.edge) (ack_edge acknowledged now t) ∙ payload_edge pos hint copy tcp keep
+arrival_edge (means.Accepts acknowledged) hint now copy tcp keep =
+    let t : EndState = record (taking.after_hearing (taking.after_payload 1 hint copy tcp)) { state = phase.Established } in
+    ap (λ (r : Receiving). r.edge) (ack_edge acknowledged now t) ∙ payload_edge 1 hint copy tcp keep
+arrival_edge means.Opens hint now copy tcp keep = payload_edge 1 hint copy tcp keep
+arrival_edge means.Ignored hint now copy tcp keep = refl
+arrival_edge means.Unwanted hint now copy tcp keep = refl
+arrival_edge means.RepeatedSyn hint now copy tcp keep = refl
+arrival_edge means.Outside hint now copy tcp keep = refl
+arrival_edge means.Kills hint now copy tcp keep = refl
+arrival_edge means.Challenged hint now copy tcp keep = refl
+arrival_edge means.Unacknowledging hint now copy tcp keep = refl
+arrival_edge means.Ahead hint now copy tcp keep = refl
+
+held_edge : (m : Meaning) (octets : List ℕ) (tcp : EndState) → (with_payload m octets tcp).recv.edge ≡ tcp.recv.edge
+held_edge (means.Taken pos acknowledged) octets tcp = by (is_nil octets)
+  where
+    by : (b : Bool) → (if b then tcp else taking.after_holding pos octets tcp).recv.edge ≡ tcp.recv.edge
+    by true = refl
+    by false = refl
+held_edge means.Ignored octets tcp = refl
+held_edge means.Unwanted octets tcp = refl
+held_edge means.Opens octets tcp = refl
+held_edge (means.Accepts acknowledged) octets tcp = refl
+held_edge means.RepeatedSyn octets tcp = refl
+held_edge means.Outside octets tcp = refl
+held_edge means.Kills octets tcp = refl
+held_edge means.Challenged octets tcp = refl
+held_edge means.Unacknowledging octets tcp = refl
+held_edge means.Ahead octets tcp = refl
+
+owing_edge : (b : Bool) (tcp : EndState) → (owing_if b tcp).recv.edge ≡ tcp.recv.edge
+owing_edge true tcp = refl
+owing_edge false tcp = refl
 
 -- where something is there, what holds anyway
 if_some : {X P : Type 0} (o : Option X) → P → IfSome o (λ x. P)
 if_some None h = tt
 if_some (Some x) h = h
 
+-- ---- what falls back
+
+-- a copy leaves whether the end fell back
+with_answer_identity : (o : Option JoinAnswer) (m : Modes) → (with_answer o m).identity ≡ m.identity
+with_answer_identity None m = refl
+with_answer_identity (Some answer) m = refl
+
+answered_identity_in : (m : Meaning) (items : List Heard) (modes : Modes) → (answered_in m items modes).identity ≡ modes.identity
+answered_identity_in (means.Accepts acknowledged) items modes = with_answer_identity (join_answer items modes) modes
+answered_identity_in _ items modes = refl
+
+cleared_identity : (m : Meaning) (state : EndPhase) (modes : Modes) → (cleared_in m state modes).identity ≡ modes.identity
+cleared_identity (means.Taken position acknowledged) state modes = refl
+cleared_identity _ state modes = refl
+
+join_identity : (joined : Bool) (items : List Heard) (m : Meaning) (e : PathEnd) → (after_join joined items m e).modes.identity ≡ e.modes.identity
+join_identity true items m e = cleared_identity m e.tcp.state (answered_in m items e.modes) ∙ answered_identity_in m items e.modes
+join_identity false items m e = refl
+
+asked_identity : (m : Meaning) (options : List HeardOption) (modes : Modes) → (asked_in m options modes).identity ≡ modes.identity
+asked_identity means.Opens options modes = refl
+asked_identity _ options modes = refl
+
+-- what it acknowledges of the subflow shows where it is taken
+acknowledged_shows_in : (acks : List AckCopy) (p : Lane) (sg : PlainSegment) (m : Meaning) (u : Bool) → Fits (copy_of (meant sg)) u m → SegmentShows acks p sg
+    → HasSub acks ((if is_taken m then unwrap_or (copy_of (meant sg)).acknowledged 0 else 0) - 1) (window_told sg.syn sg.window)
+acknowledged_shows_in acks p sg (means.Taken position acknowledged) u fits said = by sg.acknowledged fits.acknowledged_is (said.sub fits.no_syn fits.no_reset)
+  where
+    by : (o : Option ℕ) → acknowledged_in (option_map (λ n. Some n) o) ≡ Some acknowledged → IfSome o (λ n. HasSub acks (n - 1) (window_told sg.syn sg.window))
+        → HasSub acks (unwrap_or (acknowledged_in (option_map (λ n. Some n) o)) 0 - 1) (window_told sg.syn sg.window)
+    by None is has = cc
+    by (Some n) is has = has
+acknowledged_shows_in acks p sg means.Ignored u fits said = sub_of_none _ said.window
+acknowledged_shows_in acks p sg means.Unwanted u fits said = sub_of_none _ said.window
+acknowledged_shows_in acks p sg means.Opens u fits said = sub_of_none _ said.window
+acknowledged_shows_in acks p sg (means.Accepts acknowledged) u fits said = sub_of_none _ said.window
+acknowledged_shows_in acks p sg means.RepeatedSyn u fits said = sub_of_none _ said.window
+acknowledged_shows_in acks p sg means.Outside u fits said = sub_of_none _ said.window
+acknowledged_shows_in acks p sg means.Kills u fits said = sub_of_none _ said.window
+acknowledged_shows_in acks p sg means.Challenged u fits said = sub_of_none _ said.window
+acknowledged_shows_in acks p sg means.Unacknowledging u fits said = sub_of_none _ said.window
+acknowledged_shows_in acks p sg means.Ahead u fits said = sub_of_none _ said.window
+
 -- ---- the end
 
-pub arrived_end : (c : Profile) (s : Side) (now : ℕ) (sg : PlainSegment) (e : PathEnd) (out back : Lane) (v : View) (path : ℕ) → LaneHolds v path back → SegmentShows out.acks back sg → EndShows c s e out back
-    → Did c s (after_judged c s now (meant sg) (judged_in (is_joined c) s (meant sg) e) e) out out back back
-arrived_end c s now sg e out back v path holds said h =
+pub arrived_end : (c : Profile) (s : Side) (now : ℕ) (sg : PlainSegment) (e : PathEnd) (out back : Lane) (v : View) (path : ℕ) → LaneHolds v path back → SegmentShows out.acks back sg
+    → e.treated.asked ≡ false → EndShows c s e out back → Did c s (after_judged c s now (meant sg) (judged_in (is_joined c) s (meant sg) e) e) out out back back
+arrived_end c s now sg e out back v path holds said calm h =
     let copy : Copy = copy_of (meant sg) in
     let items = items_of (is_joined c) s (meant sg) in
     let m : Meaning = taken_as (judged_in (is_joined c) s (meant sg) e) in
-    let known = e.sending.known_end in let acked = e.sending.close.own_acked in let live = e.receiving.mappings.live in
+    let k : Knowledge = knowledge_of e in let live = e.receiving.mappings.live in
     let fits : Fits copy (is_unfinished e.tcp.state) m =
     judged_taken sg.rst items e (Fits copy (is_unfinished e.tcp.state)) tt (is_joined c) (meaning_of copy e.tcp) (meaning_fits copy e.tcp) in
-    let kept : Holding c s known acked live out back (with_payload m sg.payload e.tcp) =
-    payload_held c s known acked live out back v path holds sg m e.tcp fits said (record { sender = h.sender; receiver = h.receiver }) in
+    let kept : Holding c s k live out back (with_payload m sg.payload e.tcp) =
+    payload_held c s k live out back v path holds sg m e.tcp fits said (record { sender = h.sender; receiver = h.receiver }) in
     let q : Lane = kept.back_after in
     let g : SenderGoes out out = sender_stays out in
     let l : Longer out.acks out.acks back q = heard_longer out out back q g kept.receiver in
     let told : SegmentShows out.acks q sg = segment_longer l sg said in
     let tcp : EndState = with_payload m sg.payload e.tcp in
     let still = subst (λ state. Fits copy (is_unfinished state) m) (sym (same_phase m sg.payload e.tcp)) fits in
-    let both = arrived_both c s known acked live out q sg m (hint_of items) now tcp refl still told kept.halves in
-    let owed = owing_both c s known acked live out q (owes_by m items) (taking.after_arrival m (hint_of items) now copy tcp) both in
+    let both = arrived_both c s k live out q sg m (hint_of items) now tcp refl still told kept.halves in
+    let arrived : EndState = taking.after_arrival m (hint_of items) now copy tcp in
+    let edge : (owing_if (owes_by m items) arrived).recv.edge ≡ e.tcp.recv.edge =
+    owing_edge (owes_by m items) arrived ∙ arrival_edge m (hint_of items) now copy tcp refl ∙ held_edge m sg.payload e.tcp in
+    let acks = kept.acks e.receiving.next e.receiving.window e.treated.asked e.tcp.recv.edge h.acks in
+    let owed = owing_both c s k live out q (owes_by m items) (taking.after_arrival m (hint_of items) now copy tcp) both in
+    let joined : PathEnd = after_join (is_joined c) items m (with_held (held_of c s (meant sg)) (meant sg) m e) in
+    let same : (asked_in m (meant sg).options joined.modes).identity ≡ e.modes.identity =
+    asked_identity m (meant sg).options joined.modes ∙ join_identity (is_joined c) items m (with_held (held_of c s (meant sg)) (meant sg) m e) in
     record {
       out_after = out;
       back_after = q;
@@ -233,17 +357,34 @@ arrived_end c s now sg e out back v path holds said h =
       sender = g;
       receiver = kept.receiver;
       shows = record {
-        sender = owed.sender;
-        receiver = owed.receiver;
-        window = subst (WindowShows e.receiving.next e.receiving.window) (sym kept.acks) h.window;
-        told = told_owing (HasAck out.acks 0) (owes_by m items) (taking.after_arrival m (hint_of items) now copy tcp)
-            (told_after (HasAck out.acks 0) m (hint_of items) now copy tcp said.window
-            (subst (λ congestion. HasAck out.acks 0 congestion.told.window) (sym (same_told m sg.payload e.tcp)) h.told));
+        sender = record {
+          plain = owed.sender.plain ∙ sym same;
+          next = owed.sender.next;
+          unfinished = owed.sender.unfinished;
+          pieces = owed.sender.pieces;
+          known_end = owed.sender.known_end;
+          same_end = owed.sender.same_end;
+          heard = owed.sender.heard;
+          granted = owed.sender.granted;
+          fin_acked = owed.sender.fin_acked;
+        };
+        receiver = record { same_mode = owed.receiver.same_mode ∙ sym same; edge = owed.receiver.edge; fin = owed.receiver.fin; mapped = owed.receiver.mapped };
+        acks = record {
+          windows = acks.windows;
+          latest = acks.latest;
+          due = λ none. acks.due calm;
+          sub = λ none. subst (λ n. HasSub q.acks (n - 1) (window_told false e.receiving.window)) (sym edge) (acks.sub calm);
+        };
+        told = told_owing (HasNone out.acks) (owes_by m items) (taking.after_arrival m (hint_of items) now copy tcp)
+            (told_after (HasNone out.acks) m (hint_of items) now copy tcp said.window
+            (subst (λ congestion. HasNone out.acks congestion.told.window) (sym (same_told m sg.payload e.tcp)) h.told));
         treated = record {
           items = taken_say out.acks q (window_told sg.syn sg.window) 10 _ (options_say out.acks q (window_told sg.syn sg.window) (is_joined c) s sg.options told.options);
           fins = Every-nil _;
           answer = reset_none c s copy.acknowledged _ _;
           window = if_some (join_asked items) said.window;
+          sub = acknowledged_shows_in out.acks back sg m (is_unfinished e.tcp.state) fits said;
+          nothing = h.treated.nothing;
         };
         held = options_hold c (window_told sg.syn sg.window) out.acks q s sg.options told.options;
       };

@@ -1,6 +1,6 @@
 -- A copy that arrives: what the end makes of it at once, and what the lanes do then.
 use Rattle.std.proofs.Common.{◌≡◌, refl, sym, ap, subst, ℕ, suc, ◌+◌, ◌^◌, nat_le, nat_lt, inl, ⊎_elim, Bool, true, false, if◌then◌else◌, option_map, Option, Some, None, List, [], ◌∷◌, length, take, map, flat_map}
-use Rattle.std.proofs.lemmas.Bool.{both_ways, false≢true}
+use Rattle.std.proofs.lemmas.Bool.{both_ways}
 use Rattle.std.specs.Option.{IfSome}
 use Rattle.outside_kit.specs.declared.side.Side.{Side}
 use Rattle.outside_kit.specs.declared.side.Side.TheVariants.{A, B}
@@ -36,7 +36,7 @@ use Rattle.path_core.specs.Placing.{kept_of}
 use Rattle.path_core.specs.State.{Profile}
 use Rattle.world_laws.proofs.Hearing.{state_shows, handshake_back, fin_acked_back}
 use Rattle.world_laws.proofs.Records.{acknowledged_shows, every_cons}
-use Rattle.world_laws.proofs.Showing.{HasAck, HasMapping, HasFin, is_unfinished, SenderShows, ReceiverShows, HeldShows, ItemShows, MappingShows, KeysShow, OptionShows}
+use Rattle.world_laws.proofs.Showing.{Knowledge, HasAck, HasMapping, HasFin, is_unfinished, SenderShows, ReceiverShows, HeldShows, ItemShows, MappingShows, KeysShow, OptionShows}
 
 -- ---- what the options say
 
@@ -63,7 +63,7 @@ module _ (acks : List AckCopy) (p : Lane) (window : ℕ) where
   map_says (Some (Bytes place position len true checksum)) h = Every-nil _
   map_says (Some (Bytes place position len false checksum)) h = mapping_says place position len
   map_says (Some (End place checksum)) h = said_if (nat_le place (2 ^ 62)) (says.DataFin place) h
-  map_says (Some (Infinite place position)) h = Every-nil _
+  map_says (Some (Infinite place position)) h = said_if (nat_lt place (2 ^ 62)) says.InfiniteMapping tt
 
   acks_say : (o : Option ℕ) → IfSome o (λ n. HasAck acks n window) → Says (ack_items (option_map (λ n. Some n) o) window)
   acks_say None h = Every-nil _
@@ -160,25 +160,25 @@ module _ (c : Profile) (window : ℕ) (acks : List AckCopy) (p : Lane) where
 -- ---- the subflow
 
 -- both halves of a subflow
-pub record Halves (c : Profile) (s : Side) (known : Option ℕ) (acked : Bool) (live : List KeptMapping) (out back : Lane) (tcp : EndState) : Type 0 where
-  pub sender : SenderShows c s tcp.state tcp.send known acked out
-  pub receiver : ReceiverShows tcp.recv tcp.fin_at live back
+pub record Halves (c : Profile) (s : Side) (k : Knowledge) (live : List KeptMapping) (out back : Lane) (tcp : EndState) : Type 0 where
+  pub sender : SenderShows c s tcp.state tcp.send k out
+  pub receiver : ReceiverShows tcp.recv tcp.fin_at live k.identity back
 
-module _ (c : Profile) (s : Side) (known : Option ℕ) (acked : Bool) (live : List KeptMapping) (out back : Lane) where
+module _ (c : Profile) (s : Side) (k : Knowledge) (live : List KeptMapping) (out back : Lane) where
   abbrev Halved : EndState → Type 0
-  Halved tcp = Halves c s known acked live out back tcp
+  Halved tcp = Halves c s k live out back tcp
 
   acknowledged_both : (pos now : ℕ) (tcp : EndState) → Halved tcp → Halved (taking.after_acknowledgement pos now tcp)
   acknowledged_both pos now tcp h = by (ack_kind pos tcp.send)
     where
-      v : SenderShows c s tcp.state (after_acknowledge pos tcp.send) known acked out
-      v = acknowledged_shows c s known acked out pos tcp.state tcp.send h.sender
+      v : SenderShows c s tcp.state (after_acknowledge pos tcp.send) k out
+      v = acknowledged_shows c s k out pos tcp.state tcp.send h.sender
 
       by : (kind : AckKind) → Halved (taking.after_ack_kind kind (sample_of pos tcp.send) now (record tcp { send = after_acknowledge pos tcp.send }))
       by (acks.New octets) = record { sender = new (taking.is_fin_acked (after_acknowledge pos tcp.send)); receiver = h.receiver }
         where
-          new : (b : Bool) → SenderShows c s (if b then states.after_fin_acked tcp.state else tcp.state) (after_acknowledge pos tcp.send) known acked out
-          new true = state_shows c s known acked out tcp.state _ _ (fin_acked_back tcp.state) v
+          new : (b : Bool) → SenderShows c s (if b then states.after_fin_acked tcp.state else tcp.state) (after_acknowledge pos tcp.send) k out
+          new true = state_shows c s k out tcp.state _ _ (fin_acked_back tcp.state) v
           new false = v
       by acks.Duplicate = record { sender = v; receiver = h.receiver }
       by acks.Old = record { sender = v; receiver = h.receiver }
@@ -196,17 +196,18 @@ module _ (c : Profile) (s : Side) (known : Option ℕ) (acked : Bool) (live : Li
       → Halved (taking.after_payload pos hint copy tcp)
   payload_both pos hint copy tcp keep fin h = record {
     sender = h.sender;
-    receiver = subst (λ recv. ReceiverShows recv (taking.first_fin tcp.fin_at copy.fin (pos + length copy.payload)) live back)
+    receiver = subst (λ recv. ReceiverShows recv (taking.first_fin tcp.fin_at copy.fin (pos + length copy.payload)) live k.identity back)
         (sym (ap (λ (b : Bool). if taking.is_kept b tcp then after_accept pos copy.payload tcp.recv else tcp.recv) keep))
         (with_fin tcp.fin_at copy.fin fin h.receiver);
   }
     where
-      with_fin : (fin_at : Option ℕ) (b : Bool) → (b ≡ true → HasFin back.fins (pos + length copy.payload)) → ReceiverShows tcp.recv fin_at live back
-          → ReceiverShows tcp.recv (taking.first_fin fin_at b (pos + length copy.payload)) live back
+      with_fin : (fin_at : Option ℕ) (b : Bool) → (b ≡ true → HasFin back.fins (pos + length copy.payload)) → ReceiverShows tcp.recv fin_at live k.identity back
+          → ReceiverShows tcp.recv (taking.first_fin fin_at b (pos + length copy.payload)) live k.identity back
       with_fin (Some at) b has r = r
       with_fin None false has r = r
       with_fin None true has r = record {
-        edge = ⊎_elim (λ at. inl at) (λ past. absurd (false≢true past.passed_is)) r.edge;
+        same_mode = r.same_mode;
+        edge = ⊎_elim (λ at. inl at) (λ past. (let never : None ≡ Some (suc back.edge) = past.at_is in cc)) r.edge;
         fin = has refl;
         mapped = r.mapped;
       }
@@ -217,7 +218,7 @@ module _ (c : Profile) (s : Side) (known : Option ℕ) (acked : Bool) (live : Li
   taken_both pos acknowledged hint now copy tcp keep fin h =
       let p = payload_both pos hint copy tcp keep fin h in
       let t : EndState = taking.after_hearing (taking.after_payload pos hint copy tcp) in
-      let e : Halved (taking.after_established t) = record { sender = state_shows c s known acked out tcp.state (states.after_handshake tcp.state) tcp.send (handshake_back tcp.state) p.sender; receiver = p.receiver } in
+      let e : Halved (taking.after_established t) = record { sender = state_shows c s k out tcp.state (states.after_handshake tcp.state) tcp.send (handshake_back tcp.state) p.sender; receiver = p.receiver } in
       let a = acknowledged_both acknowledged now (taking.after_established t) e in
       let r = row_both (ack_kind acknowledged (taking.after_established t).send) (taking.told_by hint copy) copy (taking.after_acknowledgement acknowledged now (taking.after_established t)) a in
       record { sender = r.sender; receiver = r.receiver }
@@ -225,13 +226,13 @@ module _ (c : Profile) (s : Side) (known : Option ℕ) (acked : Bool) (live : Li
   pub syn_both : (hint : Hint) (copy : Copy) (tcp : EndState) → hint.keep ≡ false → copy.fin ≡ false → (is_unfinished tcp.state ≡ true) → Halved tcp → Halved (taking.after_syn hint copy tcp)
   syn_both hint copy tcp keep fin un h =
       let p = payload_both 1 hint copy tcp keep (λ is. absurd (both_ways copy.fin fin is)) h in
-      record { sender = state_shows c s known acked out tcp.state phase.SynReceived tcp.send (λ x. un) p.sender; receiver = p.receiver }
+      record { sender = state_shows c s k out tcp.state phase.SynReceived tcp.send (λ x. un) p.sender; receiver = p.receiver }
 
   pub syn_ack_both : (acknowledged : ℕ) (hint : Hint) (now : ℕ) (copy : Copy) (tcp : EndState) → hint.keep ≡ false → copy.fin ≡ false → (is_unfinished tcp.state ≡ true) → Halved tcp
       → Halved (taking.after_syn_ack acknowledged hint now copy tcp)
   syn_ack_both acknowledged hint now copy tcp keep fin un h =
       let p = payload_both 1 hint copy tcp keep (λ is. absurd (both_ways copy.fin fin is)) h in
       let t : EndState = record (taking.after_hearing (taking.after_payload 1 hint copy tcp)) { state = phase.Established } in
-      let e : Halved t = record { sender = state_shows c s known acked out tcp.state phase.Established tcp.send (λ x. un) p.sender; receiver = p.receiver } in
+      let e : Halved t = record { sender = state_shows c s k out tcp.state phase.Established tcp.send (λ x. un) p.sender; receiver = p.receiver } in
       let a = acknowledged_both acknowledged now t e in
       record { sender = a.sender; receiver = a.receiver }

@@ -28,12 +28,12 @@ use Rattle.join_handshake.specs.declared.hearing.JoinSyn.{JoinSyn}
 use Rattle.path_agenda.specs.declared.keys.KeyPair.{KeyPair}
 use Rattle.path_agenda.specs.Items.{key_heard, keys_heard}
 use Rattle.path_core.specs.Joining.{asked_at, join_heard_ask}
-use Rattle.path_core.specs.Opening.{peer_key_ask, keys_ask}
-use Rattle.path_core.specs.Passing.{piece_of, piece_ask, fin_of, fin_ask, rate_ask}
+use Rattle.path_core.specs.Opening.{peer_key_ask, opened_ask}
+use Rattle.path_core.specs.Passing.{piece_of, piece_ask, fin_of, fin_ask, plain_fin, rate_ask}
 use Rattle.path_core.specs.Placing.{Piece}
 use Rattle.path_core.specs.Sends.{sends}
 use Rattle.path_core.specs.State.{PathState, end_at, path_of}
-use Rattle.path_core.specs.Treating.{is_clash, fell_ask, mapping_ask, item_ask, item_of}
+use Rattle.path_core.specs.Treating.{is_clash, fell_ask, mapping_ask, item_ask, item_of, breaks_by_ack, plain_ack_ask}
 use Rattle.world_laws.proofs.Applying.{Writes}
 
 -- neither writes nor closes
@@ -58,11 +58,11 @@ module _ {C : Type 0} (k : Codec C) (p : PathState C) where
   step_leaves (Some (happening.Arrives due)) = tt
   step_leaves (Some (happening.Fires s tick)) = tt
 
-  key_leaves : (s : Side) (o : Option ℕ) → AskLeavesFile (peer_key_ask s o)
+  key_leaves : (s : Side) (o : Option ℕ) → AskLeavesFile (peer_key_ask s o p)
   key_leaves s None = tt
   key_leaves s (Some key) = tt
 
-  keys_leave : (s : Side) (o : Option KeyPair) → AskLeavesFile (keys_ask s o)
+  keys_leave : (s : Side) (o : Option KeyPair) → AskLeavesFile (opened_ask s o p)
   keys_leave s None = tt
   keys_leave s (Some keys) = tt
 
@@ -90,9 +90,17 @@ module _ {C : Type 0} (k : Codec C) (p : PathState C) where
   item_leaves s (Some (says.DataAck next window)) = tt
   item_leaves s (Some says.Mapping) = mapping_leaves s
   item_leaves s (Some (says.DataFin place)) = tt
+  item_leaves s (Some says.InfiniteMapping) = tt
   item_leaves s (Some (says.PeerKey key)) = tt
   item_leaves s (Some (says.Keys own peer)) = tt
   item_leaves s (Some (says.Join form)) = tt
+
+  ack_leaves : (s : Side) → AskLeavesFile (plain_ack_ask k s p)
+  ack_leaves s = by (breaks_by_ack p.profile (end_at s p))
+    where
+      by : (b : Bool) → AskLeavesFile (if b then break_ask k s 6 p else fell_ask s events.PlainAck p)
+      by true = break_leaves s 6
+      by false = tt
 
   piece_leaves : (s : Side) (o : Option Piece) → AskLeavesFile (piece_ask s o)
   piece_leaves s None = tt
@@ -127,7 +135,13 @@ module _ {C : Type 0} (k : Codec C) (p : PathState C) where
   asks_leave (duties.Live s) = tt
   asks_leave (duties.Heard s index) = item_leaves s (item_of index (end_at s p))
   asks_leave (duties.AckHeard s) = tt
-  asks_leave (duties.PlainAck s) = break_leaves s 6
+  asks_leave (duties.PlainHandshake s) = tt
+  asks_leave (duties.PlainAck s) = ack_leaves s
+  asks_leave (duties.SubflowAck s) = tt
+  asks_leave (duties.PlainData s) = tt
+  asks_leave (duties.GoIdentity s) = tt
+  asks_leave (duties.Unmapped s) = break_leaves s 6
+  asks_leave (duties.SubflowFin s) = fin_leaves s (plain_fin (end_at s p))
   asks_leave (duties.Keep s) = tt
   asks_leave (duties.Edge s) = piece_leaves s (piece_of s p)
   asks_leave (duties.HeardFin s index) = fin_leaves s (fin_of index (end_at s p))

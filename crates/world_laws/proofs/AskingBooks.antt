@@ -24,7 +24,7 @@ use Rattle.actor_desk.specs.declared.ask.Note.{Note}
 use Rattle.actor_desk.specs.declared.ask.Reply.TheVariants as replies
 use Rattle.path_core.specs.Emission.{grant_in}
 use Rattle.world_laws.specs.RoundNumbers.{taken_len, asks_on_standby, AskedForAll}
-use Rattle.world_laws.specs.RoundNumbers.AskedForAll.{Taken, Standby}
+use Rattle.world_laws.specs.RoundNumbers.AskedForAll.{Taken, Standby, Barred}
 
 -- ---- marks
 
@@ -171,7 +171,7 @@ any_more test (m ∷ steps) more is = by (test m) is (any_more test steps more)
 
 pub record IsOnes (path written : ℕ) (b : Sending) : Type 0 where
   pub aborted : b.aborted ≡ false
-  pub owner : b.owner ≡ None
+  pub owner : (b.owner ≡ None) ⊎ (b.owner ≡ Some 0)
   pub tried : Every (IsTried path) b.marks
   pub whole : length b.marks ≡ length b.written
   pub grown : written ≤ length b.written
@@ -183,6 +183,7 @@ IsOrdinary path Close = Unit {0}
 IsOrdinary path (Grant asker max standby) = asker ≡ path
 IsOrdinary path (AckIn next window) = Unit {0}
 IsOrdinary path (Return asker) = Unit {0}
+IsOrdinary path GoIdentity = Unit {0}
 IsOrdinary path _ = ⊥
 
 -- neither a grant nor an acknowledgement, and no return of another path
@@ -190,6 +191,7 @@ abbrev pub IsQuiet : ℕ → SendCall → Type 0
 IsQuiet path (Write bytes) = Unit {0}
 IsQuiet path Close = Unit {0}
 IsQuiet path (Return asker) = asker ≡ path
+IsQuiet path GoIdentity = Unit {0}
 IsQuiet path _ = ⊥
 
 module _ (path written : ℕ) (b : Sending) (h : IsOnes path written b) where
@@ -264,7 +266,7 @@ module _ (path written : ℕ) (b : Sending) (h : IsOnes path written b) where
     whole = length-map b.marks (returned asker) ∙ h.whole;
     grown = h.grown;
   }
-  ones_after GoIdentity is = absurd is
+  ones_after GoIdentity is = record { aborted = h.aborted; owner = inr refl; tried = h.tried; whole = h.whole; grown = h.grown }
   ones_after (GoInfinite asker) is = absurd is
   ones_after Abort is = absurd is
 
@@ -292,13 +294,39 @@ module _ (path written : ℕ) (b : Sending) (h : IsOnes path written b) where
       subst (λ n. AllTaken (record b { marks = map (returned n) b.marks })) (sym is) (omega (arith, all, more))
   taken_after (Grant asker max standby) is all = absurd is
   taken_after (AckIn next window) is all = absurd is
-  taken_after GoIdentity is all = absurd is
+  taken_after GoIdentity is all = all
   taken_after (GoInfinite asker) is all = absurd is
   taken_after Abort is all = absurd is
+
+  -- where another path alone is given bytes, it is for ever
+  barred_fell : is_for path b.owner ≡ false → is_for path (Some 0) ≡ false
+  barred_fell barred = ⊎_elim (λ none. absurd (false≢true (sym barred ∙ ap (is_for path) none))) (λ fell. ap (is_for path) (sym fell) ∙ barred) h.owner
+
+  barred_after : (call : SendCall) → IsQuiet path call → is_for path b.owner ≡ false → is_for path (after_call b call).owner ≡ false
+  barred_after (Write bytes) is barred = by (b.closed || b.aborted)
+    where
+      by : (shut : Bool) → is_for path (if shut then b else record b {
+        written = b.written ++ take (taken bytes b) bytes;
+        marks = b.marks ++ replicate (taken bytes b) (Free no_paths);
+      }).owner ≡ false
+      by true = barred
+      by false = barred
+  barred_after Close is barred = by b.aborted
+    where
+      by : (aborted : Bool) → is_for path (if aborted then b else record b { closed = true }).owner ≡ false
+      by true = barred
+      by false = barred
+  barred_after (Return asker) is barred = barred
+  barred_after GoIdentity is barred = barred_fell barred
+  barred_after (Grant asker max standby) is barred = absurd is
+  barred_after (AckIn next window) is barred = absurd is
+  barred_after (GoInfinite asker) is barred = absurd is
+  barred_after Abort is barred = absurd is
 
   pub all_after : (s : Side) (steps : List Note) (call : SendCall) → IsQuiet path call → AskedForAll path s steps written b → AskedForAll path s steps written (after_call b call)
   all_after s steps call is (Taken all) = Taken (taken_after call is all)
   all_after s steps call is (Standby told) = Standby told
+  all_after s steps call is (Barred barred) = Barred (barred_after call is barred)
 
   -- ---- a grant to another path
 
@@ -322,6 +350,11 @@ module _ (path written : ℕ) (b : Sending) (h : IsOnes path written b) where
     pub all_other : (s : Side) (steps : List Note) → AskedForAll path s steps written b → AskedForAll path s steps written (after_call b (Grant asker max standby))
     all_other s steps (Taken all) = Taken (taken_other all)
     all_other s steps (Standby told) = Standby told
+    all_other s steps (Barred barred) = Barred (by (decision asker max standby b))
+      where
+        by : (o : Result Span Why) → is_for path (given_by asker o b).owner ≡ false
+        by (Err why) = barred
+        by (Ok span) = barred
 
   -- ---- a refusal
 
@@ -348,17 +381,20 @@ module _ (path written : ℕ) (b : Sending) (h : IsOnes path written b) where
       by true edge none = shut_at from is (leb-true b.edge from edge)
       by false edge none = cc
 
-  refused_by : (max : ℕ) (standby done : Bool) → (done ≡ true → AllTaken b)
-      → grant_in (replies.Send (reply_by (if done then Err Ended else (if standby then Err Backup else span_at path max b (position (is_free_for path) b.marks))) b)) ≡ None
-      → AllTaken b ⊎ (standby ≡ true)
-  refused_by max standby true all none = inl (all refl)
-  refused_by max true false all none = inr refl
-  refused_by max false false all none = inl (at_place max (position (is_free_for path) b.marks) refl none)
+  -- all is taken, or the path is on standby, or another one alone is given bytes
+  abbrev pub Refused : Bool → Type 0
+  Refused standby = AllTaken b ⊎ ((standby ≡ true) ⊎ (is_for path b.owner ≡ false))
 
-  refused_all : (max : ℕ) (standby : Bool) → grant_in (replies.Send (reply_by (decision path max standby b) b)) ≡ None → AllTaken b ⊎ (standby ≡ true)
-  refused_all max standby none = refused_by max standby (b.aborted || (b.closed && (acked_len b.marks == length b.written))) all
-      (subst (λ (o : Option ℕ). grant_in (replies.Send (reply_by (if b.aborted || (b.closed && (acked_len b.marks == length b.written)) then Err Ended
-      else (if standby then Err Backup else span_at path max b (if is_for path o then position (is_free_for path) b.marks else None))) b)) ≡ None) h.owner none)
+  refused_by : (max : ℕ) (standby done own : Bool) → is_for path b.owner ≡ own → (done ≡ true → AllTaken b)
+      → grant_in (replies.Send (reply_by (if done then Err Ended else (if standby then Err Backup else span_at path max b (if own then position (is_free_for path) b.marks else None))) b)) ≡ None
+      → Refused standby
+  refused_by max standby true own is all none = inl (all refl)
+  refused_by max true false own is all none = inr (inl refl)
+  refused_by max false false false is all none = inr (inr is)
+  refused_by max false false true is all none = inl (at_place max (position (is_free_for path) b.marks) refl none)
+
+  refused_all : (max : ℕ) (standby : Bool) → grant_in (replies.Send (reply_by (decision path max standby b) b)) ≡ None → Refused standby
+  refused_all max standby none = refused_by max standby (b.aborted || (b.closed && (acked_len b.marks == length b.written))) (is_for path b.owner) refl all none
     where
       all : (b.aborted || (b.closed && (acked_len b.marks == length b.written))) ≡ true → AllTaken b
       all done =
@@ -375,9 +411,10 @@ module _ (path written : ℕ) (b : Sending) (h : IsOnes path written b) where
       → grant_in (replies.Send (reply_by (decision path max standby b) b)) ≡ None → AskedForAll path s (steps ++ n ∷ []) written (after_call b (Grant path max standby))
   grant_refused s steps n max standby told none =
       subst (AskedForAll path s (steps ++ n ∷ []) written) (sym (same_given (decision path max standby b) none))
-      (⊎_elim (λ all. Taken all) (λ is. Standby (any_last (asks_on_standby s) steps n (told ∙ is))) (refused_all max standby none))
+      (⊎_elim (λ all. Taken all) (λ other. ⊎_elim (λ is. Standby (any_last (asks_on_standby s) steps n (told ∙ is))) (λ barred. Barred barred) other) (refused_all max standby none))
 
 -- with a step more
 pub asked_more : (path : ℕ) (s : Side) (steps : List Note) (n : Note) (written : ℕ) (b : Sending) → AskedForAll path s steps written b → AskedForAll path s (steps ++ n ∷ []) written b
 asked_more path s steps n written b (Taken all) = Taken all
 asked_more path s steps n written b (Standby told) = Standby (any_before (asks_on_standby s) steps n told)
+asked_more path s steps n written b (Barred barred) = Barred barred

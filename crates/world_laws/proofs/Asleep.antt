@@ -96,7 +96,7 @@ died_shut e h = by (is_dead e.tcp.state)
 timed_shut : (now : ℕ) (e : PathEnd) → IsShut e → IsShut (after_timer now e)
 timed_shut now e h = record {
   closed = h.closed;
-  timer = ap (λ (b : Bool). timer_settled (not b && ((is_waiting e.sending || e.modes.owes_third) || has_records e.tcp)) e.sending.news now e.tcp.timing) h.closed;
+  timer = ap (λ (b : Bool). timer_settled (not b && ((is_waiting e || e.modes.owes_third) || has_records e.tcp)) e.sending.news now e.tcp.timing) h.closed;
 }
 
 -- ---- what is to be done
@@ -291,6 +291,8 @@ module _ {C : Type 0} where
   passed_asleep (duties.Keep s) p h idle = absurd (false≢true idle)
   passed_asleep (duties.Edge s) p h idle = absurd (false≢true idle)
   passed_asleep (duties.PassFin s) p h idle = absurd (false≢true idle)
+  passed_asleep (duties.PlainAck s) p h idle = absurd (false≢true idle)
+  passed_asleep (duties.Unmapped s) p h idle = absurd (false≢true idle)
   passed_asleep _ p h idle = h
 
   settled_asleep : (ds : List Duty) (p : PathState C) → AreIdle ds → IsAsleep p → IsAsleep (settled ds p)

@@ -1,5 +1,5 @@
 -- The opened world shows in the two directions, and so does the world after every list of turns.
-use Rattle.std.proofs.Common.{◌≡◌, refl, sym, ◌∙◌, ap, subst, ℕ, zero, suc, ◌+◌, ◌<◌, inl, inr, Bool, true, false, Option, Some, List, [], ◌∷◌, ◌++◌, length, replicate, set, arith}
+use Rattle.std.proofs.Common.{◌≡◌, refl, sym, ◌∙◌, ap, subst, ℕ, zero, suc, ◌+◌, ◌<◌, inl, Bool, true, false, Option, Some, List, [], ◌∷◌, ◌++◌, length, replicate, set, arith}
 use Rattle.std.proofs.lemmas.Bool.{false≢true}
 use Rattle.std.proofs.lemmas.Option.{same_Some, slice_get_within}
 use Rattle.std.specs.List.{slice_get}
@@ -31,21 +31,19 @@ use Rattle.world_laws.specs.Openings.{PathPlan, Start, path_begins, opened_world
 use Rattle.world_laws.specs.Promises.{IsPlain}
 use Rattle.world_laws.specs.Worlds.{WorldState, Turn, after_turn, world_run}
 use Rattle.world_laws.proofs.Applying.{Reads, settled_app}
-use Rattle.world_laws.proofs.Asleep.{first_asleep}
 use Rattle.world_laws.proofs.Casts.{first_cast, first_fare, opened_is, walker_there}
 use Rattle.world_laws.proofs.Joining.{settled_first, beside, beside_is, same_there, same_there_sent, each_turn_shows}
-use Rattle.world_laws.proofs.Lanes.{duo_of, Others, duo_at, StandsSo, PathThere, WorldShows, SureIsClear, Shown, first_duo, OpenedShows, EachOpeningShows, Reached, EachRunShows, events_append, turn_events, turn_is}
+use Rattle.world_laws.proofs.Lanes.{duo_of, Others, duo_at, StandsSo, PathThere, WorldShows, IsSteady, Moved, unmoved, then_moved, Shown, first_duo, OpenedShows, EachOpeningShows, Reached, EachRunShows, events_append, turn_events, turn_is}
 use Rattle.world_laws.proofs.PlacesKnown.{opens_those}
 use Rattle.world_laws.proofs.PlacesSent.{IsLonger, BothLast, all_last, there_lasts, last_longer}
 use Rattle.world_laws.proofs.Roads.{Strolls, there_again}
 use Rattle.world_laws.proofs.RoundFrame.{first_keeps}
 use Rattle.world_laws.proofs.Saying.{every_one}
 use Rattle.world_laws.proofs.Settling.{settles}
-use Rattle.world_laws.proofs.Showing.{HasAck, Under, EndShows, PathShows}
-use Rattle.world_laws.proofs.Strolling.{Strolled, strolls_held, events_held}
+use Rattle.world_laws.proofs.Showing.{HasAck, HasSub, HasNone, Under, EndShows, PathShows}
+use Rattle.world_laws.proofs.Strolling.{Strolled, strolls_held, events_held, lanes_moved}
 use Rattle.world_laws.proofs.Untouched.{Granted, silent_so}
-use Rattle.world_laws.proofs.Surely.{sure_is_clear}
-use Rattle.world_laws.proofs.Turning.{Moved, unmoved, then_moved, lanes_moved}
+use Rattle.world_laws.proofs.Steady.{always_steady}
 
 -- ---- the lanes before the first turn
 
@@ -81,6 +79,12 @@ first_lane number = record (fresh_lane number) { acks = first_ack ∷ [] }
 first_has : (number : ℕ) → HasAck (first_lane number).acks 0 0
 first_has number = record { at = 0; item = first_ack; there = refl; holds = record { next_is = refl; window_is = refl } }
 
+first_sub : (number : ℕ) → HasSub (first_lane number).acks 0 0
+first_sub number = record { at = 0; item = first_ack; there = refl; holds = record { sub_is = refl; window_is = refl } }
+
+first_none : (number : ℕ) → HasNone (first_lane number).acks 0
+first_none number = record { at = 0; item = first_ack; there = refl; holds = record { next_is = refl; sub_is = refl; window_is = refl } }
+
 none_under : (kept : List (Option ℕ)) → Under [] kept
 none_under kept = record { each = λ i byte is. cc }
 
@@ -93,16 +97,25 @@ opening_shows c s number state opens path own key nonce = record {
     unfinished = λ is. refl;
     pieces = every_one _ refl;
     known_end = tt;
+    same_end = refl;
+    heard = refl;
+    granted = Every-nil _;
     fin_acked = λ is. absurd (false≢true is);
   };
   receiver = record {
+    same_mode = refl;
     edge = inl (record { edge_is = refl; under = none_under (first_lane number).kept; held = tt });
     fin = tt;
     mapped = Every-nil _;
   };
-  window = record { ack = first_has number; alone = first_has number; syn = first_has number };
-  told = first_has number;
-  treated = record { items = Every-nil _; fins = Every-nil _; answer = tt; window = tt };
+  acks = record {
+    windows = record { ack = first_has number; alone = first_none number; syn = first_none number };
+    latest = refl;
+    due = λ none. refl;
+    sub = λ none. first_sub number;
+  };
+  told = first_none number;
+  treated = record { items = Every-nil _; fins = Every-nil _; answer = tt; window = tt; sub = first_sub number; nothing = first_none number };
   held = Every-nil _;
 }
 
@@ -120,7 +133,7 @@ module _ (start : Start) (can : IsPlain start) where
   pub waiting_shows : (number : ℕ) (plan : PathPlan) → PathShows (profile_at number plan) (with_agenda start_of_turn (waiting number plan)) (first_lane number) (first_lane number)
   waiting_shows number plan = record {
     profile = refl;
-    unchanged = can.unchanged number;
+    unchanged = can.unaltered number;
     a = opening_shows (profile_at number plan) A number (first_state (path_begins start number plan).joined_at) true number plan.initial_a start.key_a plan.nonce_a;
     b = opening_shows (profile_at number plan) B number Listen false number plan.initial_b start.key_b plan.nonce_b;
     copies = Every-nil _;
@@ -133,7 +146,7 @@ module _ (start : Start) (can : IsPlain start) where
   six = opened_books start.buffer start.key_a start.key_b
 
   abbrev pub with_lanes : List Lane → List Lane → Duo
-  with_lanes lanes_ab lanes_ba = duo_of false six lanes_ab lanes_ba no_reader no_reader
+  with_lanes lanes_ab lanes_ba = duo_of six lanes_ab lanes_ba no_reader no_reader
 
   -- path 0 opens
   abbrev opens : List Event
@@ -151,7 +164,6 @@ module _ (start : Start) (can : IsPlain start) where
   -- so many lanes before it
   abbrev pub alone : ℕ → Others
   alone number = record {
-    joined = false;
     number = number;
     lanes_ab = fresh_lanes (suc number);
     lanes_ba = fresh_lanes (suc number);
@@ -180,15 +192,15 @@ module _ (start : Start) (can : IsPlain start) where
 
   first_stands : (number : ℕ) (plan : PathPlan) (ab ba : Lane) → IsLonger (first_lane number) ab → IsLonger (first_lane number) ba → ab.sent ≡ [] → StandsSo number (first_path number plan) ab ba
   first_stands zero plan ab ba x y unsent = (x.opened refl, y.opened refl)
-  first_stands (suc number) plan ab ba x y unsent = record { opened = inr (first_asleep (path_begins start (suc number) plan) start.lines plan.join refl); unsent = λ unclear. unsent }
+  first_stands (suc number) plan ab ba x y unsent = λ unclear. unsent
 
   module _ (number : ℕ) (plan : PathPlan) (plan_there : slice_get start.paths number ≡ Some plan) (lanes_ab lanes_ba : List Lane) (ab_there : slice_get lanes_ab number ≡ Some (fresh_lane number))
       (ba_there : slice_get lanes_ba number ≡ Some (fresh_lane number)) (holds : Holds (with_lanes lanes_ab lanes_ba)) where
     abbrev others : Others
-    others = beside start can false lanes_ab lanes_ba no_reader no_reader number (fresh_lane number) (fresh_lane number) ab_there ba_there
+    others = beside start can lanes_ab lanes_ba no_reader no_reader number (fresh_lane number) (fresh_lane number) ab_there ba_there
 
     here_is : duo_at six (fresh_lane number) (fresh_lane number) others ≡ with_lanes lanes_ab lanes_ba
-    here_is = beside_is start can false lanes_ab lanes_ba no_reader no_reader number (fresh_lane number) (fresh_lane number) ab_there ba_there six
+    here_is = beside_is start can lanes_ab lanes_ba no_reader no_reader number (fresh_lane number) (fresh_lane number) ab_there ba_there six
 
     -- each end acknowledges nothing
     first_moves : Strolls (fresh_lane number) (first_lane number)
@@ -324,8 +336,6 @@ module _ (start : Start) (can : IsPlain start) where
           each = λ i x there. let found = walker_there start 0 i i start.paths x (omega arith) there in
               subst (λ y. IsSettled y.path) (sym found.2) (settled_first start_of_turn (with_agenda start_of_turn (waiting i found.0)));
         };
-        joined = false;
-        clear = λ joins. absurd (false≢true joins);
         lanes_ab = all.ab_after;
         lanes_ba = all.ba_after;
         reader_a = no_reader;
@@ -348,21 +358,21 @@ each_opening_shows start can = opened_shows start can
 -- ---- every list of turns
 
 module _ (start : Start) (can : IsPlain start) where
-  pub turn_reached : (turn : Turn) (w : WorldState Carried) → SureIsClear w → Reached start w → Reached start (after_turn values turn w)
-  turn_reached turn w sure r =
+  pub turn_reached : (turn : Turn) (w : WorldState Carried) → IsSteady w → Reached start w → Reached start (after_turn values turn w)
+  turn_reached turn w steady r =
       let d : Duo = after_events r.events (first_duo start) in
-      let x : Shown start turn d w = each_turn_shows start can turn d w sure (all_held (length start.paths) start.buffer start.buffer r.events) r.shows in
+      let x : Shown start turn d w = each_turn_shows start can turn d w steady (all_held (length start.paths) start.buffer start.buffer r.events) r.shows in
       record {
         events = r.events ++ turn_events x.turn_shows;
         shows = subst (λ y. WorldShows start y (after_turn values turn w)) (turn_is x.turn_shows ∙ sym (events_append r.events (turn_events x.turn_shows) (first_duo start))) x.world_shows;
       }
 
-  run_reached : (turns : List Turn) (w : WorldState Carried) → ((more : List Turn) → SureIsClear (world_run values more w)) → Reached start w → Reached start (world_run values turns w)
-  run_reached [] w sure r = r
-  run_reached (turn ∷ turns) w sure r = run_reached turns (after_turn values turn w) (λ more. sure (turn ∷ more)) (turn_reached turn w (sure []) r)
+  run_reached : (turns : List Turn) (w : WorldState Carried) → ((more : List Turn) → IsSteady (world_run values more w)) → Reached start w → Reached start (world_run values turns w)
+  run_reached [] w steady r = r
+  run_reached (turn ∷ turns) w steady r = run_reached turns (after_turn values turn w) (λ more. steady (turn ∷ more)) (turn_reached turn w (steady []) r)
 
   pub opened_reached : Reached start (opened_world start)
   opened_reached = let o = opened_shows start can in record { events = o.0; shows = o.1 }
 
 pub each_run_shows : EachRunShows
-each_run_shows start can turns = run_reached start can turns (opened_world start) (sure_is_clear start) (opened_reached start can)
+each_run_shows start can turns = run_reached start can turns (opened_world start) (always_steady start) (opened_reached start can)

@@ -27,7 +27,7 @@ crew_same ask books c fresh = ap (λ m. record (crew_after octets ask books (sho
   where
     by : (m : Actor Carried) → IsFreshMember m → member_takes octets (answer_to books ask) (shown_member m) ≡ shown_member (member_takes values (answer_to books ask) m)
     by (App a) fresh = refl
-    by (Path p) fresh = ap (λ q. Path q) (takes_the_same (answer_to books ask) p fresh.unchanged fresh.next)
+    by (Path p) fresh = ap (λ q. Path q) (takes_the_same (answer_to books ask) p fresh.unaltered fresh.next)
 
 abbrev shown_if : Option (ActorCrew Carried) → Option (ActorCrew (List ℕ))
 shown_if None = None

@@ -1,4 +1,5 @@
 -- What an end does: the lanes go on by what its sender's half and its receiver's half do, and show the end as it is then.
+use Rattle.stream_lanes.specs.Moves.{sub_next}
 use Rattle.std.proofs.Common.{◌≡◌, refl, sym, ◌∙◌, ap, ℕ, suc, ◌+◌, ◌-◌, ◌*◌, ◌/◌, ◌%◌, ◌^◌, ◌<◌, ◌≤◌, min, ◌&&◌, nat_lt, Bool, true, false, if◌then◌else◌, Option, Some, List, [], ◌∷◌, ◌++◌, length, take, drop, arith}
 use Rattle.std.proofs.lemmas.Bool.{lt-ltb}
 use Rattle.std.proofs.lemmas.List.{append-nil, append_assoc}
@@ -11,7 +12,7 @@ use Rattle.reassembly_book.specs.declared.call.ReassemblyReply.TheVariants as re
 use Rattle.stream_lanes.specs.Lane.{Cell, Mapping, DataCopy, AckCopy, Lane}
 use Rattle.stream_lanes.specs.Lane.Ask.{Nothing, AskGrant, AskAckIn, AskFin, AskAckOut}
 use Rattle.stream_lanes.specs.Moves.{Move, bytes_of, cells_from, hears, hears_data_fin, sends_piece, is_whole, known, later_end, takes_grant, takes_ack_out, ack_copy}
-use Rattle.stream_lanes.specs.Moves.Move.{WantGrant, HearAck, SendPiece, SendDataFin, SendFin, HearDataFin, WantAckOut, SendAck}
+use Rattle.stream_lanes.specs.Moves.Move.{WantGrant, HearAck, SendPiece, SendDataFin, SendFin, HearDataFin, WantAckOut, SendAck, WantFin}
 use Rattle.stream_lanes.specs.Words.{Has}
 use Rattle.stream_lanes.proofs.Lists.{Has-more}
 use Rattle.path_segments.specs.Spelling.{numbers_of}
@@ -19,7 +20,7 @@ use Rattle.path_core.specs.Segments.{spelled_by, bare_mapping, place_numbered}
 use Rattle.path_core.specs.State.{Profile}
 use Rattle.world_laws.proofs.Growing.{SenderGoes, ReceiverGoes}
 use Rattle.world_laws.proofs.Roads.{moves, Strolls, one_move}
-use Rattle.world_laws.proofs.Showing.{HasAck, HasNumber, WindowShows}
+use Rattle.world_laws.proofs.Showing.{HasAck, HasNumber, WindowShows, HasNone, HasSub}
 
 -- the last one of a list
 last_there : {X : Type 0} (xs : List X) (x : X) → slice_get (xs ++ x ∷ []) (length xs) ≡ Some x
@@ -39,7 +40,7 @@ bytes_more : (sent : List Cell) (place : ℕ) (bytes : List ℕ) → drop (lengt
 bytes_more [] place bytes = bytes_from place bytes
 bytes_more (c ∷ sent) place bytes = bytes_more sent place bytes
 
-take_whole : (xs : List ℕ) → take (length xs) xs ≡ xs
+pub take_whole : (xs : List ℕ) → take (length xs) xs ≡ xs
 take_whole [] = refl
 take_whole (x ∷ xs) = ap (λ ys. x ∷ ys) (take_whole xs)
 
@@ -53,26 +54,27 @@ length-granted (c ∷ sent) place bytes = let rest = length-granted sent place b
 
 -- ---- the reply to AckOut, and the acknowledgements that may be sent by it
 
--- what a segment tells is the place and a window that is rounded down
-abbrev pub ack_moves : ℕ → ℕ → List Move
-ack_moves next window = SendAck next (32 * (window / 32)) 0 ∷ SendAck 0 (32 * (window / 32)) 0 ∷ SendAck 0 (min 65535 window) 0 ∷ []
+-- what a segment tells is the place, the position behind what has come, and a window that is rounded down
+abbrev pub ack_moves : ℕ → ℕ → ℕ → List Move
+ack_moves next window sub = SendAck next (32 * (window / 32)) sub ∷ SendAck 0 (32 * (window / 32)) 0 ∷ SendAck 0 (min 65535 window) 0 ∷ []
 
-least : (a b : ℕ) → a ≤ b → min a b ≡ a
+pub least : (a b : ℕ) → a ≤ b → min a b ≡ a
 least a b most = omega (arith, most)
 
 -- the windows of the reply show on the lane after these moves
-module _ (next window : ℕ) (p : Lane) where
+module _ (next window sub : ℕ) (p : Lane) where
   abbrev pub told_lane : Lane
   told_lane = takes_ack_out (reassembly_replies.Ack next window) p
 
   abbrev pub told_acks : List AckCopy
-  told_acks = ack_copy next (32 * (window / 32)) 0 told_lane ∷ ack_copy 0 (32 * (window / 32)) 0 told_lane ∷ ack_copy 0 (min 65535 window) 0 told_lane ∷ []
+  told_acks = ack_copy next (32 * (window / 32)) sub told_lane ∷ ack_copy 0 (32 * (window / 32)) 0 told_lane ∷ ack_copy 0 (min 65535 window) 0 told_lane ∷ []
 
-  pub told_goes : ReceiverGoes p (moves (ack_moves next window) told_lane)
+  pub told_goes : ReceiverGoes p (moves (ack_moves next window sub) told_lane)
   told_goes = record {
     edge = p.edge;
     kept = p.kept;
     maps = p.maps;
+    fin_in = p.fin_in;
     due = false;
     latest = record { next = next; window = window };
     asking = Nothing;
@@ -80,14 +82,19 @@ module _ (next window : ℕ) (p : Lane) where
     is = rw (append_assoc p.acks, append_assoc p.acks) refl;
   }
 
-  pub told_windows : WindowShows next window (moves (ack_moves next window) told_lane).acks
+  pub told_windows : WindowShows next window (moves (ack_moves next window sub) told_lane).acks
   told_windows =
       let down : 32 * (window / 32) ≤ window = omega arith in
       record {
         ack = Has-more _ (Has-more _ (has_last p.acks _ (record { next_is = least next next (omega arith); window_is = least _ window down })));
-        alone = Has-more _ (has_last (p.acks ++ _ ∷ []) _ (record { next_is = least 0 next (omega arith); window_is = least _ window down }));
-        syn = has_last ((p.acks ++ _ ∷ []) ++ _ ∷ []) _ (record { next_is = least 0 next (omega arith); window_is = least _ window (omega arith) });
+        alone = Has-more _ (has_last (p.acks ++ _ ∷ []) _ (record { next_is = least 0 next (omega arith); sub_is = least 0 (sub_next p) (omega arith); window_is = least _ window down }));
+        syn = has_last ((p.acks ++ _ ∷ []) ++ _ ∷ []) _ (record { next_is = least 0 next (omega arith); sub_is = least 0 (sub_next p) (omega arith); window_is = least _ window (omega arith) });
       }
+
+  pub told_sub : sub ≤ sub_next p → HasSub (moves (ack_moves next window sub) told_lane).acks sub (32 * (window / 32))
+  told_sub most =
+      let down : 32 * (window / 32) ≤ window = omega arith in
+      Has-more _ (Has-more _ (has_last p.acks _ (record { sub_is = least sub (sub_next p) most; window_is = least _ window down })))
 
 -- ---- moves before a call
 
@@ -101,8 +108,30 @@ module _ (p : Lane) where
       ∙ ap (λ (b : Bool). record p { asking = AskAckIn (if b then h.item.sub else h.item.next) h.item.window }) plain
       ∙ ap (λ n. record p { asking = AskAckIn n h.item.window }) h.holds.next_is ∙ ap (λ w. record p { asking = AskAckIn next w }) h.holds.window_is))
 
+  -- one of nothing says so in plain TCP too
+  pub hears_none : (window : ℕ) → HasNone p.acks window → Strolls p (record p { asking = AskAckIn 0 window })
+  hears_none window h = one_move (HearAck h.at) p _ refl (sym (ap (λ o. hears o p) h.there
+      ∙ nothing p.sender_plain
+      ∙ ap (λ w. record p { asking = AskAckIn 0 w }) h.holds.window_is))
+    where
+      nothing : (b : Bool) → record p { asking = AskAckIn (if b then h.item.sub else h.item.next) h.item.window } ≡ record p { asking = AskAckIn 0 h.item.window }
+      nothing true = ap (λ n. record p { asking = AskAckIn n h.item.window }) h.holds.sub_is
+      nothing false = ap (λ n. record p { asking = AskAckIn n h.item.window }) h.holds.next_is
+
+  -- in plain TCP what the subflow acknowledges stands for what the stream does
+  pub hears_sub : (sub window : ℕ) → p.sender_plain ≡ true → HasSub p.acks sub window → Strolls p (record p { asking = AskAckIn sub window })
+  hears_sub sub window plain h = one_move (HearAck h.at) p _ refl (sym (ap (λ o. hears o p) h.there
+      ∙ ap (λ (b : Bool). record p { asking = AskAckIn (if b then h.item.sub else h.item.next) h.item.window }) plain
+      ∙ ap (λ n. record p { asking = AskAckIn n h.item.window }) h.holds.sub_is ∙ ap (λ w. record p { asking = AskAckIn sub w }) h.holds.window_is))
+
   pub wants_fin : (place : ℕ) → HasNumber p.data_fins place → Strolls p (record p { asking = AskFin place })
   wants_fin place h = one_move (HearDataFin h.at) p _ refl (sym (ap (λ o. hears_data_fin o p) h.there ∙ ap (λ n. record p { asking = AskFin n }) h.holds))
+
+  -- in plain TCP the FIN that has come is the end of the stream
+  pub wants_plain_fin : p.receiver_plain ≡ true → p.fin_in ≡ true → Strolls p (record p { asking = AskFin p.edge })
+  wants_plain_fin plain came = one_move WantFin p _ refl (sym (
+      ap (λ (b : Bool). if b && p.fin_in then record p { asking = AskFin p.edge } else p) plain
+      ∙ ap (λ (b : Bool). if b then record p { asking = AskFin p.edge } else p) came))
 
   pub wants_ack_out : Strolls p (record p { asking = AskAckOut })
   wants_ack_out = one_move WantAckOut p _ refl refl
@@ -183,11 +212,11 @@ module _ (p : Lane) where
   abbrev pub with_fin_sent : Lane
   with_fin_sent = record p { fins = p.fins ++ length p.sent ∷ [] }
 
-  pub sends_the_fin : p.opened ≡ true → p.sender_plain ≡ false → p.fin_acked ≡ true → Strolls p with_fin_sent
-  sends_the_fin opened plain acked = one_move SendFin p with_fin_sent refl (sym (
+  -- once the DATA_FIN is acknowledged; in plain TCP once all bytes were granted to the path, or all are acknowledged
+  pub sends_the_fin : p.opened ≡ true → (if p.sender_plain then is_whole p.known_end p else p.fin_acked) ≡ true → Strolls p with_fin_sent
+  sends_the_fin opened may = one_move SendFin p with_fin_sent refl (sym (
       ap (λ (b : Bool). if b && (if p.sender_plain then is_whole p.known_end p else p.fin_acked) then with_fin_sent else p) opened
-      ∙ ap (λ (b : Bool). if (if b then is_whole p.known_end p else p.fin_acked) then with_fin_sent else p) plain
-      ∙ ap (λ (b : Bool). if b then with_fin_sent else p) acked))
+      ∙ ap (λ (b : Bool). if b then with_fin_sent else p) may))
 
   pub fin_goes : SenderGoes p with_fin_sent
   fin_goes = record {

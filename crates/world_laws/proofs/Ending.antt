@@ -1,8 +1,9 @@
 -- What each rule of an end makes of the lanes.
-use Rattle.std.proofs.Common.{◌≡◌, refl, sym, ap, subst, ℕ, suc, ◌^◌, ◌<◌, max, ◌||◌, inl, inr, ⊎_elim, true, false, Option, Some, None, List, [], ◌++◌, length, arith}
+use Rattle.std.proofs.Common.{◌≡◌, refl, sym, ap, subst, ℕ, suc, ◌^◌, ◌<◌, max, ◌||◌, inl, inr, ⊎_elim, true, false, Option, Some, None, List, [], ◌++◌, length, arith, ◌-◌, ◌+◌, ◌∙◌, ◌≤◌, ◌⊎◌, ◌∷◌, if◌then◌else◌, Bool}
 use Rattle.std.proofs.lemmas.Bool.{or_cases, or_left, or_right, both_ways, false≢true}
 use Rattle.std.proofs.lemmas.List.{append-nil}
 use Rattle.std.specs.Option.{IfSome}
+use Rattle.std.specs.Prelude.{filter}
 use Rattle.outside_kit.specs.declared.side.Side.{Side}
 use Rattle.send_book.specs.declared.call.Span.{Span}
 use Rattle.send_book.specs.declared.call.Why.{Why}
@@ -11,6 +12,7 @@ use Rattle.reassembly_book.specs.declared.call.ReassemblyReply.TheVariants as re
 use Rattle.loss_recovery.specs.declared.windows.Congestion.{Congestion}
 use Rattle.loss_recovery.specs.declared.windows.Pending.{Pending}
 use Rattle.loss_recovery.specs.Windows as windows
+use Rattle.subflow_recv.specs.Receiving.{Receiving}
 use Rattle.subflow_send.specs.Records.{Record, SendState}
 use Rattle.subflow_send.specs.declared.record.RecordKind.{RecordKind}
 use Rattle.subflow_send.specs.declared.record.RecordKind.TheVariants.{Syn, Data, Fin}
@@ -18,24 +20,27 @@ use Rattle.subflow_tcp.specs.declared.handshake.State.{State as EndPhase}
 use Rattle.subflow_tcp.specs.declared.handshake.State.TheVariants as phase
 use Rattle.subflow_tcp.specs.Closing.{after_finishing}
 use Rattle.subflow_tcp.specs.States as states
-use Rattle.stream_lanes.specs.Lane.{Lane}
+use Rattle.stream_lanes.specs.Lane.{Lane, Cell}
 use Rattle.stream_lanes.specs.Lane.Ask.{Nothing}
 use Rattle.send_book.specs.declared.call.SendReply.{SendReply}
-use Rattle.stream_lanes.specs.Moves.{later_end, known, takes_ack}
-use Rattle.stream_lanes.specs.Words.{Every}
+use Rattle.stream_lanes.specs.Moves.{later_end, known, takes_ack, cells_from, sub_next}
+use Rattle.stream_lanes.specs.Words.{Every, Has}
 use Rattle.stream_lanes.proofs.Lists.{Every-map, Every-push, Has-more, IfSome-map}
+use Rattle.stream_lanes.specs.Holding.{HasPlace}
 use Rattle.actor_desk.specs.declared.ask.Reply.TheVariants as replies
 use Rattle.path_core.specs.declared.modes.Modes.{Modes}
 use Rattle.path_core.specs.Ends.{PathEnd}
 use Rattle.path_core.specs.Emission.{granted, refused}
 use Rattle.path_core.specs.Standing.{after_ack_out}
 use Rattle.path_core.specs.State.{Profile}
-use Rattle.path_core.specs.Treating.{with_acked, covered_by}
+use Rattle.path_core.specs.Treating.{acked_in}
 use Rattle.path_core.specs.Words.{told_last}
-use Rattle.world_laws.proofs.Doing.{told_lane, ack_moves, told_goes, told_windows, with_piece, granted_lane, sends_the_piece, piece_goes, refused_lane, with_end, sends_the_end, end_goes, with_fin_sent, fin_goes, place_is, length-granted, has_last}
-use Rattle.world_laws.proofs.Growing.{SenderGoes, ReceiverGoes, sender_stays, receiver_stays, Longer, sent_longer, data_longer, mapping_longer, fin_longer}
+use Rattle.path_core.specs.Closing.{is_open}
+use Rattle.world_laws.proofs.Doing.{place_is, told_lane, ack_moves, told_goes, told_windows, with_piece, granted_lane, sends_the_piece, piece_goes, refused_lane, with_end, sends_the_end, end_goes, with_fin_sent, fin_goes, length-granted, has_last, told_sub}
+use Rattle.world_laws.proofs.Growing.{SenderGoes, ReceiverGoes, sender_stays, receiver_stays, Longer, sent_longer, data_longer, mapping_longer, fin_longer, same_edge}
 use Rattle.world_laws.proofs.Roads.{moves, Strolls, stays}
-use Rattle.world_laws.proofs.Showing.{HasAck, HasNumber, KindShows, RecordShows, is_unfinished, TreatedShows, EndShows}
+use Rattle.world_laws.proofs.Showing.{HasNumber, KindShows, RecordShows, is_unfinished, TreatedShows, EndShows, HasNone, IsAtEdge, IsGrantedTo, IsPastFin}
+use Rattle.world_laws.proofs.Records.{every_cons, every_first, every_rest}
 
 -- an end that may finish hasn't finished
 pub unfinished_if : (state : EndPhase) → states.may_finish state ≡ true → is_unfinished state ≡ true
@@ -77,29 +82,62 @@ module _ (c : Profile) (s : Side) (out back : Lane) where
 
   -- ---- modes
 
-  pub with_modes : (e : PathEnd) (m : Modes) → EndShows c s e out back → EndShows c s (record e { modes = m }) out back
-  with_modes e m h = record { sender = h.sender; receiver = h.receiver; window = h.window; told = h.told; treated = h.treated; held = h.held }
+  -- an end falls back by one rule alone
+  pub with_modes : (e : PathEnd) (m : Modes) → m.identity ≡ e.modes.identity → EndShows c s e out back → EndShows c s (record e { modes = m }) out back
+  with_modes e m same h = record {
+    sender = record {
+      plain = h.sender.plain ∙ sym same;
+      next = h.sender.next;
+      unfinished = h.sender.unfinished;
+      pieces = h.sender.pieces;
+      known_end = h.sender.known_end;
+      same_end = h.sender.same_end;
+      heard = h.sender.heard;
+      granted = h.sender.granted;
+      fin_acked = h.sender.fin_acked;
+    };
+    receiver = record { same_mode = h.receiver.same_mode ∙ sym same; edge = h.receiver.edge; fin = h.receiver.fin; mapped = h.receiver.mapped };
+    acks = h.acks;
+    told = h.told;
+    treated = h.treated;
+    held = h.held;
+  }
 
   -- ---- the reply to AckOut
 
+  -- what the subflow acknowledges is no more than has come on the lane
+  covered : (recv : Receiving) (fin_at : Option ℕ) → IsAtEdge recv back ⊎ IsPastFin fin_at recv back → recv.edge - 1 ≤ sub_next back
+  covered recv fin_at (inl at) = let edge_is = at.edge_is in omega (arith, edge_is)
+  covered recv fin_at (inr past) =
+      let edge_is = past.edge_is in
+      let more : ◌≡◌ {A = ℕ} (if back.fin_in then 1 else 0) 1 = ap (λ (b : Bool). if b then 1 else 0) past.fin_in in
+      omega (arith, edge_is, more)
+
   pub told_end : (next window : ℕ) (e : PathEnd) → EndShows c s e out back
-      → Did c s (after_ack_out (replies.Reassembly (reassembly_replies.Ack next window)) e) out out back (told_lane next window back)
-  told_end next window e h = record {
-    out_after = out;
-    back_after = moves (ack_moves next window) (told_lane next window back);
-    out_moves = stays out;
-    back_moves = record { by = ack_moves next window; calm = refl; to = refl };
-    sender = sender_stays out;
-    receiver = told_goes next window back;
-    shows = record {
-      sender = h.sender;
-      receiver = record { edge = ⊎_elim (λ at. inl (record { edge_is = at.edge_is; under = at.under; held = at.held })) (λ past. inr past) h.receiver.edge; fin = h.receiver.fin; mapped = h.receiver.mapped };
-      window = told_windows next window back;
-      told = h.told;
-      treated = record { items = h.treated.items; fins = h.treated.fins; answer = h.treated.answer; window = h.treated.window };
-      held = h.held;
-    };
-  }
+      → Did c s (after_ack_out (replies.Reassembly (reassembly_replies.Ack next window)) e) out out back (told_lane next window (e.tcp.recv.edge - 1) back)
+  told_end next window e h =
+      let sub = e.tcp.recv.edge - 1 in
+      record {
+        out_after = out;
+        back_after = moves (ack_moves next window sub) (told_lane next window sub back);
+        out_moves = stays out;
+        back_moves = record { by = ack_moves next window sub; calm = refl; to = refl };
+        sender = sender_stays out;
+        receiver = told_goes next window sub back;
+        shows = record {
+          sender = h.sender;
+          receiver = record { same_mode = h.receiver.same_mode; edge = same_edge refl refl refl h.receiver.edge; fin = h.receiver.fin; mapped = h.receiver.mapped };
+          acks = record {
+            windows = told_windows next window sub back;
+            latest = refl;
+            due = λ asked. refl;
+            sub = λ asked. told_sub next window sub back (covered e.tcp.recv _ h.receiver.edge);
+          };
+          told = h.told;
+          treated = record { items = h.treated.items; fins = h.treated.fins; answer = h.treated.answer; window = h.treated.window; sub = h.treated.sub; nothing = h.treated.nothing };
+          held = h.held;
+        };
+      }
 
   -- ---- grants
 
@@ -116,15 +154,43 @@ module _ (c : Profile) (s : Side) (out back : Lane) where
     longer : Longer back.acks back.acks out q
     longer = sent_longer out q back back g (receiver_stays back)
 
-    receiving_same : (e : PathEnd) → EndShows c s e out back → HasAck q.acks 0 e.tcp.congestion.told.window
-    receiving_same e h = subst (λ acks. HasAck acks 0 e.tcp.congestion.told.window) (sym (ap (λ p. p.acks) g.is)) h.told
+    receiving_same : (e : PathEnd) → EndShows c s e out back → HasNone q.acks e.tcp.congestion.told.window
+    receiving_same e h = subst (λ acks. HasNone acks e.tcp.congestion.told.window) (sym (ap (λ p. p.acks) g.is)) h.told
 
     treated_same : (e : PathEnd) → EndShows c s e out back → TreatedShows e.treated q.acks back
     treated_same e h = subst (λ acks. TreatedShows e.treated acks back) (sym (ap (λ p. p.acks) g.is)) h.treated
 
-  pub granted_end : (span : Span) (piece : List ℕ) (e : PathEnd) → states.may_finish e.tcp.state ≡ true → span.from < 2 ^ 64 → EndShows c s e out back
+  -- the last of these bytes is the lane's
+  last_cell : (place : ℕ) (bytes : List ℕ) (last : ℕ) → suc last ≡ place + length bytes → 1 ≤ length bytes → HasPlace (cells_from place bytes) last
+  last_cell place [] last is some = absurd (omega (arith, some))
+  last_cell place (byte ∷ []) last is some = record { at = 0; item = record { place = place; byte = byte }; there = refl; holds = omega (arith, is) }
+  last_cell place (byte ∷ next ∷ bytes) last is some =
+      let rest = last_cell (suc place) (next ∷ bytes) last (omega (arith, is)) (omega arith) in
+      record { at = suc rest.at; item = rest.item; there = rest.there; holds = rest.holds }
+
+  behind : {X : Type 0} {P : X → Type 0} (xs ys : List X) → Has P ys → Has P (xs ++ ys)
+  behind [] ys h = h
+  behind (x ∷ xs) ys h = let rest = behind xs ys h in record { at = suc rest.at; item = rest.item; there = rest.there; holds = rest.holds }
+
+  -- a span that has bytes, as many as the piece
+  pub record IsFit (span : Span) (piece : List ℕ) : Type 0 where
+    pub small : span.from < 2 ^ 64
+    pub whole : span.to ≡ span.from + length piece
+    pub some : 1 ≤ length piece
+
+  last_of : (sent : List Cell) (span : Span) (piece : List ℕ) → IsFit span piece → IsGrantedTo (sent ++ cells_from span.from piece) span
+  last_of sent span piece fit =
+      let whole = fit.whole in let some = fit.some in
+      let is : suc (span.from + length piece - 1) ≡ span.from + length piece = omega (arith, some) in
+      record {
+        last = span.from + length piece - 1;
+        last_is = is ∙ sym whole;
+        has = behind sent (cells_from span.from piece) (last_cell span.from piece (span.from + length piece - 1) is some);
+      }
+
+  pub granted_end : (span : Span) (piece : List ℕ) (e : PathEnd) → states.may_finish e.tcp.state ≡ true → IsFit span piece → EndShows c s e out back
       → Did c s (granted c s span piece e) out (granted_lane span piece out) back back
-  granted_end span piece e may small h =
+  granted_end span piece e may fit h =
       let q : Lane = with_piece span piece out in
       let g : SenderGoes out q = piece_goes span piece out in
       let at : e.tcp.send.nxt ≡ suc (length out.sent) = h.sender.next (unfinished_if e.tcp.state may) in
@@ -146,14 +212,17 @@ module _ (c : Profile) (s : Side) (out back : Lane) where
               mapping = has_last out.datas _ (record {
                 mapping = _;
                 there = refl;
-                is = record { place_is = sym (place_is c s span.from e.tcp.send.nxt (length piece) small); position_is = sym at; len_is = refl };
+                is = record { place_is = sym (place_is c s span.from e.tcp.send.nxt (length piece) fit.small); position_is = sym at; len_is = refl };
               });
             });
             known_end = h.sender.known_end;
+            same_end = h.sender.same_end;
+            heard = h.sender.heard;
+            granted = Every-push span (Every-map (λ old g. record { last = g.last; last_is = g.last_is; has = Has-more (cells_from span.from piece) g.has }) h.sender.granted) (last_of out.sent span piece fit);
             fin_acked = h.sender.fin_acked;
           };
           receiver = h.receiver;
-          window = h.window;
+          acks = h.acks;
           told = receiving_same q g e h;
           treated = treated_same q g e h;
           held = h.held;
@@ -179,10 +248,13 @@ module _ (c : Profile) (s : Side) (out back : Lane) where
             unfinished = h.sender.unfinished;
             pieces = h.sender.pieces;
             known_end = known_at told;
+            same_end = same_at told;
+            heard = h.sender.heard;
+            granted = h.sender.granted;
             fin_acked = h.sender.fin_acked;
           };
           receiver = h.receiver;
-          window = h.window;
+          acks = h.acks;
           told = h.told;
           treated = treated_same q g e h;
           held = h.held;
@@ -192,6 +264,10 @@ module _ (c : Profile) (s : Side) (out back : Lane) where
       known_at : (told : Option ℕ) → IfSome (told_last told e.sending.known_end) (HasNumber (out.data_fins ++ known (later_end told out.known_end)))
       known_at (Some place) = has_last out.data_fins place refl
       known_at None = IfSome-map e.sending.known_end (λ n has. Has-more _ has) h.sender.known_end
+
+      same_at : (told : Option ℕ) → later_end told out.known_end ≡ told_last told e.sending.known_end
+      same_at (Some place) = refl
+      same_at None = h.sender.same_end
 
   -- ---- acknowledgements
 
@@ -228,19 +304,32 @@ module _ (c : Profile) (s : Side) (out back : Lane) where
         unfinished = h.sender.unfinished;
         pieces = h.sender.pieces;
         known_end = h.sender.known_end;
+        same_end = h.sender.same_end;
+        heard = h.sender.heard;
+        granted = h.sender.granted;
         fin_acked = h.sender.fin_acked;
       };
       receiver = h.receiver;
-      window = h.window;
+      acks = h.acks;
       told = h.told;
       treated = h.treated;
       held = h.held;
     };
   }
 
+  -- what passes a test
+  pub tested : {X : Type 0} {P : X → Type 0} (test : X → Bool) (xs : List X) → Every P xs → Every P (filter test xs)
+  tested test [] h = h
+  tested {X} {P} test (x ∷ xs) h = by (test x) (tested test xs (every_rest x xs h))
+    where
+      by : (b : Bool) → Every P (filter test xs) → Every P (if b then x ∷ filter test xs else filter test xs)
+      by true rest = every_cons x _ (every_first x xs h) rest
+      by false rest = rest
+
   -- an acknowledgement changes what the lane's sender knows, and nothing else
-  pub acked_end : (next : ℕ) (r : SendReply) (e : PathEnd) → EndShows c s e out back → Did c s (with_acked next (replies.Send r) e) out (takes_ack next r out) back back
-  acked_end next (send_replies.Acked bytes fin) e h = record {
+  pub heard_end : (next : ℕ) (r : SendReply) (e : PathEnd) → EndShows c s e out back
+      → Did c s (record e { sending = acked_in next (replies.Send r) e.sending }) out (takes_ack next r out) back back
+  heard_end next (send_replies.Acked bytes fin) e h = record {
     out_after = takes_ack next (send_replies.Acked bytes fin) out;
     back_after = back;
     out_moves = stays _;
@@ -265,25 +354,78 @@ module _ (c : Profile) (s : Side) (out back : Lane) where
         unfinished = h.sender.unfinished;
         pieces = h.sender.pieces;
         known_end = h.sender.known_end;
+        same_end = h.sender.same_end;
+        heard = ap (λ n. max n next) h.sender.heard;
+        granted = tested (is_open (max e.sending.heard next)) e.sending.granted h.sender.granted;
         fin_acked = λ is. ⊎_elim (λ old. or_left out.fin_acked fin (h.sender.fin_acked old)) (λ new. or_right out.fin_acked fin new) (or_cases e.sending.close.own_acked fin is);
       };
       receiver = h.receiver;
-      window = h.window;
+      acks = h.acks;
       told = h.told;
       treated = h.treated;
       held = h.held;
     };
   }
-  acked_end next (send_replies.Taken count) e h = idle_end (record e { modes = covered_by next e.modes }) (with_modes e (covered_by next e.modes) h)
-  acked_end next send_replies.Shut e h = idle_end (record e { modes = covered_by next e.modes }) (with_modes e (covered_by next e.modes) h)
-  acked_end next send_replies.Closed e h = idle_end (record e { modes = covered_by next e.modes }) (with_modes e (covered_by next e.modes) h)
-  acked_end next (send_replies.Granted span piece) e h = idle_end (record e { modes = covered_by next e.modes }) (with_modes e (covered_by next e.modes) h)
-  acked_end next (send_replies.NoGrant why told) e h = idle_end (record e { modes = covered_by next e.modes }) (with_modes e (covered_by next e.modes) h)
-  acked_end next (send_replies.AckFuture written) e h = idle_end (record e { modes = covered_by next e.modes }) (with_modes e (covered_by next e.modes) h)
-  acked_end next (send_replies.Returned count) e h = idle_end (record e { modes = covered_by next e.modes }) (with_modes e (covered_by next e.modes) h)
-  acked_end next send_replies.Noted e h = idle_end (record e { modes = covered_by next e.modes }) (with_modes e (covered_by next e.modes) h)
-  acked_end next (send_replies.Infinite from) e h = idle_end (record e { modes = covered_by next e.modes }) (with_modes e (covered_by next e.modes) h)
-  acked_end next send_replies.Scattered e h = idle_end (record e { modes = covered_by next e.modes }) (with_modes e (covered_by next e.modes) h)
+  heard_end next (send_replies.Taken count) e h = idle_end e h
+  heard_end next send_replies.Shut e h = idle_end e h
+  heard_end next send_replies.Closed e h = idle_end e h
+  heard_end next (send_replies.Granted span piece) e h = idle_end e h
+  heard_end next (send_replies.NoGrant why told) e h = idle_end e h
+  heard_end next (send_replies.AckFuture written) e h = idle_end e h
+  heard_end next (send_replies.Returned count) e h = idle_end e h
+  heard_end next send_replies.Noted e h = idle_end e h
+  heard_end next (send_replies.Infinite from) e h = idle_end e h
+  heard_end next send_replies.Scattered e h = idle_end e h
+
+  -- one of nothing changes nothing that the end knows
+  pub unheard_end : (r : SendReply) (e : PathEnd) → EndShows c s e out back → Did c s e out (takes_ack 0 r out) back back
+  unheard_end (send_replies.Acked bytes fin) e h = record {
+    out_after = takes_ack 0 (send_replies.Acked bytes fin) out;
+    back_after = back;
+    out_moves = stays _;
+    back_moves = stays back;
+    sender = record {
+      sent = out.sent;
+      pieces = out.pieces;
+      known_end = out.known_end;
+      heard = max out.heard 0;
+      fin_acked = out.fin_acked || fin;
+      asking = Nothing;
+      datas = [];
+      data_fins = [];
+      fins = [];
+      is = rw (append-nil out.datas, append-nil out.data_fins, append-nil out.fins) refl;
+    };
+    receiver = receiver_stays back;
+    shows = record {
+      sender = record {
+        plain = h.sender.plain;
+        next = h.sender.next;
+        unfinished = h.sender.unfinished;
+        pieces = h.sender.pieces;
+        known_end = h.sender.known_end;
+        same_end = h.sender.same_end;
+        heard = (let same : max out.heard 0 ≡ out.heard = omega arith in same ∙ h.sender.heard);
+        granted = h.sender.granted;
+        fin_acked = λ is. or_left out.fin_acked fin (h.sender.fin_acked is);
+      };
+      receiver = h.receiver;
+      acks = h.acks;
+      told = h.told;
+      treated = h.treated;
+      held = h.held;
+    };
+  }
+  unheard_end (send_replies.Taken count) e h = idle_end e h
+  unheard_end send_replies.Shut e h = idle_end e h
+  unheard_end send_replies.Closed e h = idle_end e h
+  unheard_end (send_replies.Granted span piece) e h = idle_end e h
+  unheard_end (send_replies.NoGrant why told) e h = idle_end e h
+  unheard_end (send_replies.AckFuture written) e h = idle_end e h
+  unheard_end (send_replies.Returned count) e h = idle_end e h
+  unheard_end send_replies.Noted e h = idle_end e h
+  unheard_end (send_replies.Infinite from) e h = idle_end e h
+  unheard_end send_replies.Scattered e h = idle_end e h
 
   -- ---- the FIN
 
@@ -300,10 +442,13 @@ module _ (c : Profile) (s : Side) (out back : Lane) where
           unfinished = λ un. absurd (both_ways _ (finished_if e.tcp.state may) un);
           pieces = Every-push _ (same_pieces q (longer q g) e.tcp.send h.sender.pieces) (refl, has_last out.fins _ (sym at));
           known_end = h.sender.known_end;
+          same_end = h.sender.same_end;
+          heard = h.sender.heard;
+          granted = h.sender.granted;
           fin_acked = h.sender.fin_acked;
         };
         receiver = h.receiver;
-        window = h.window;
+        acks = h.acks;
         told = receiving_same q g e h;
         treated = treated_same q g e h;
         held = h.held;

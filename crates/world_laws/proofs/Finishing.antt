@@ -3,6 +3,10 @@ use Rattle.std.proofs.Common.{◌≡◌, refl, sym, subst, ℕ, zero, suc, ◌+�
 use Rattle.std.proofs.lemmas.Bool.{true≢false}
 use Rattle.outside_kit.specs.declared.side.Side.{Side}
 use Rattle.outside_kit.specs.declared.side.Side.TheVariants.{A, B}
+use Rattle.fallback_state.specs.declared.fall.Verdict.TheVariants as verdicts
+use Rattle.fallback_state.specs.declared.fall.Mode.TheVariants as modes
+use Rattle.fallback_state.specs.declared.fall.Event.TheVariants as events
+use Rattle.control_book.specs.declared.call.ControlReply.TheVariants as control_replies
 use Rattle.subflow_tcp.specs.declared.verdicts.Meaning.{Meaning}
 use Rattle.subflow_tcp.specs.declared.verdicts.Meaning.TheVariants as means
 use Rattle.subflow_tcp.specs.Expiring.{is_sixth}
@@ -11,6 +15,7 @@ use Rattle.subflow_send.specs.Records.{Record}
 use Rattle.link_model.specs.Steps.{arriving, after_delivery}
 use Rattle.actor_desk.specs.Words.{tail_of}
 use Rattle.actor_desk.specs.declared.ask.Reply.{Reply}
+use Rattle.actor_desk.specs.declared.ask.Reply.TheVariants as replies
 use Rattle.path_agenda.specs.declared.duty.Duty.{Duty}
 use Rattle.path_agenda.specs.declared.duty.Duty.TheVariants as duties
 use Rattle.path_core.specs.declared.event.Event.{Event}
@@ -18,8 +23,8 @@ use Rattle.path_core.specs.declared.event.Event.TheVariants as happening
 use Rattle.path_agenda.specs.declared.heard.Heard.{Heard}
 use Rattle.path_agenda.specs.declared.heard.Heard.TheVariants as says
 use Rattle.path_agenda.specs.declared.keys.KeyPair.{KeyPair}
-use Rattle.path_agenda.specs.Agenda.{start_of_turn, heard_and, payload_came, rest_of_turn, emission, resets, leaves}
-use Rattle.path_core.specs.Arriving.{items_of, judged_in, template_by, template_judged}
+use Rattle.path_agenda.specs.Agenda.{start_of_turn, heard_and, payload_came, rest_of_turn, emission, resets, leaves, breaks}
+use Rattle.path_core.specs.Arriving.{items_of, judged_in, template_by, template_judged, options_heard}
 use Rattle.path_core.specs.Breaking.{answered_break, reset_on}
 use Rattle.path_core.specs.Codec.{Codec, HeardSegment}
 use Rattle.path_core.specs.Duties.{stands, passed, answered}
@@ -30,13 +35,16 @@ use Rattle.path_core.specs.Events.{next_event, heard_in, at_tick, is_death, died
 use Rattle.path_core.specs.Joining.{is_never, keys_begun, opened_by, asked_at, join_taken}
 use Rattle.path_core.specs.Joins.{is_joined}
 use Rattle.join_handshake.specs.declared.hearing.JoinSyn.{JoinSyn}
-use Rattle.path_core.specs.Passing.{piece_of, is_placed, answered_piece, is_fin_set, answered_fin_heard}
+use Rattle.path_core.specs.Passing.{piece_of, is_placed, answered_piece, is_fin_set, answered_fin_heard, answered_plain_fin}
 use Rattle.path_core.specs.Placing.{Piece, with_learned}
 use Rattle.path_core.specs.Standing.{answered_ack_out}
 use Rattle.path_core.specs.State.{PathState, end_at, with_agenda, goes_on, left}
 use Rattle.path_agenda.specs.Words.{replaced}
+use Rattle.path_agenda.specs.Items.{key_heard, keys_heard}
 use Rattle.path_core.specs.Steps.{settled, takes}
-use Rattle.path_core.specs.Treating.{is_clash, after_verdict, told_next, answered_mapping, answered_item, item_of}
+use Rattle.path_core.specs.Treating.{is_clash, told_next, answered_mapping, answered_item, item_of, answered_plain_ack, breaks_by_ack, with_plain_ack}
+use Rattle.path_core.specs.Opening.{answered_opened, answered_peer_key}
+use Rattle.path_core.specs.Falling.{after_fell, fell_duties}
 
 -- the events of the turn, and its end, are ahead
 abbrev pub Ahead : List Duty → Type 0
@@ -130,6 +138,12 @@ module _ {C : Type 0} where
   next_shaped (duties.Heard s index) ds p h no_more = onward ds _ h
   next_shaped (duties.AckHeard s) ds p h no_more = onward ds _ h
   next_shaped (duties.PlainAck s) ds p h no_more = onward ds _ h
+  next_shaped (duties.PlainHandshake s) ds p h no_more = onward ds _ h
+  next_shaped (duties.SubflowAck s) ds p h no_more = onward ds _ h
+  next_shaped (duties.PlainData s) ds p h no_more = onward ds _ h
+  next_shaped (duties.GoIdentity s) ds p h no_more = onward ds _ h
+  next_shaped (duties.Unmapped s) ds p h no_more = onward ds _ h
+  next_shaped (duties.SubflowFin s) ds p h no_more = onward ds _ h
   next_shaped (duties.Keep s) ds p h no_more = onward ds _ h
   next_shaped (duties.Edge s) ds p h no_more = onward ds _ h
   next_shaped (duties.HeardFin s index) ds p h no_more = onward ds _ h
@@ -179,8 +193,8 @@ module _ {C : Type 0} where
 
   copy_ahead : (s : Side) (o : Option HeardSegment) (p : PathState C) → Ahead (copy_heard s o p).agenda
   copy_ahead s None p = refl
-  copy_ahead s (Some h) p =
-      let joined = is_joined p.profile in judged_ahead joined s (length (items_of joined s h)) (judged_in joined s h (end_at s p))
+  copy_ahead s (Some segment) p =
+      let h = options_heard (end_at s p) segment in let joined = is_joined p.profile in judged_ahead joined s (length (items_of joined s h)) (judged_in joined s h (end_at s p))
 
   line_ahead : (death : Bool) (p : PathState C) → Ahead (after_line death p).agenda
   line_ahead true p = died_ahead (is_dead p.a.tcp.state) (is_dead p.b.tcp.state)
@@ -208,7 +222,17 @@ module _ {C : Type 0} where
       by true = refl
       by false = refl
 
-  module _ (k : Codec C) (s : Side) (r : Reply) (p : PathState C) (same : Ahead p.agenda) (left_ahead : Ahead (left p)) where
+  -- after a fall the send book is told, and a path may be broken
+  fell_ahead : (s : Side) (r : Reply) (p : PathState C) → Ahead (left p) → Ahead (replaced (duties.GoIdentity s) p.agenda) → Ahead (fell_duties s r p)
+  fell_ahead s (replies.Control (control_replies.Verdict (verdicts.Went modes.Identity))) p left_ahead told = told
+  fell_ahead s (replies.Control (control_replies.Verdict (verdicts.BreakPath reason))) p left_ahead told = by (end_at s p).treated.asked
+    where
+      by : (b : Bool) → Ahead (if b then breaks s reason else resets s reason)
+      by true = refl
+      by false = refl
+  fell_ahead s _ p left_ahead told = left_ahead
+
+  module _ (k : Codec C) (s : Side) (r : Reply) (p : PathState C) (same : Ahead p.agenda) (left_ahead : Ahead (left p)) (told : Ahead (replaced (duties.GoIdentity s) p.agenda)) where
     data_ahead : (o : Option Record) → Ahead (answered_data k s o r p).agenda
     data_ahead (Some record_unsent) = same
     data_ahead None = by (grant_in r)
@@ -222,6 +246,25 @@ module _ {C : Type 0} where
     piece_ahead (Some piece) false = refl
     piece_ahead None taken = refl
 
+    plain_ack_ahead : Ahead (answered_plain_ack k s r p).agenda
+    plain_ack_ahead = by (breaks_by_ack p.profile (end_at s p))
+      where
+        by : (b : Bool) → Ahead (if b then answered_break k s 6 r p else goes_on s (with_plain_ack (after_fell events.PlainAck r (end_at s p))) (fell_duties s r p) p).agenda
+        by true = break_ahead k s 6 r p
+        by false = fell_ahead s r p left_ahead told
+
+    key_ahead : (o : Option ℕ) → Ahead (answered_peer_key s o r p).agenda
+    key_ahead None = fell_ahead s r p left_ahead told
+    key_ahead (Some key) = left_ahead
+
+    keys_ahead : (o : Option KeyPair) → Ahead (answered_opened s o r p).agenda
+    keys_ahead None = fell_ahead s r p left_ahead told
+    keys_ahead (Some keys) = left_ahead
+
+    plain_fin_ahead : (set : Bool) → Ahead (answered_plain_fin s set p).agenda
+    plain_fin_ahead true = left_ahead
+    plain_fin_ahead false = refl
+
     fin_ahead : (set : Bool) → Ahead (answered_fin_heard s set p).agenda
     fin_ahead true = left_ahead
     fin_ahead false = refl
@@ -234,15 +277,16 @@ module _ {C : Type 0} where
       mapping_ahead : Ahead (answered_mapping k s r p).agenda
       mapping_ahead = by (is_clash (end_at s p))
         where
-          by : (b : Bool) → Ahead (if b then answered_break k s 1 r p else goes_on s (with_learned (after_verdict r (end_at s p))) (left p) p).agenda
+          by : (b : Bool) → Ahead (if b then answered_break k s 1 r p else goes_on s (with_learned (after_fell events.MappingHeard r (end_at s p))) (fell_duties s r p) p).agenda
           by true = break_ahead k s 1 r p
-          by false = left_ahead
+          by false = fell_ahead s r p left_ahead told
 
       item_ahead : (o : Option Heard) → Ahead (answered_item k s o r p).agenda
       item_ahead None = left_ahead
       item_ahead (Some (says.DataAck next window)) = told_ahead _
       item_ahead (Some says.Mapping) = mapping_ahead
-      item_ahead (Some (says.DataFin place)) = left_ahead
+      item_ahead (Some (says.DataFin place)) = fell_ahead s r p left_ahead told
+      item_ahead (Some says.InfiniteMapping) = fell_ahead s r p left_ahead told
       item_ahead (Some (says.Keys own peer)) = left_ahead
       item_ahead (Some (says.PeerKey key)) = left_ahead
       item_ahead (Some (says.Join form)) = left_ahead
@@ -266,24 +310,30 @@ module _ {C : Type 0} where
   answered_shaped k (duties.Window s) ds r p h = from_left ds _ h
   answered_shaped k (duties.Update s) ds r p h = from_left ds _ h
   answered_shaped k (duties.Syn s) ds r p h = from_left ds _ h
-  answered_shaped k (duties.Data s) ds r p h = with_ahead ds h (λ a. inl (data_ahead k s r (with_agenda (duties.Data s ∷ ds) p) a a (first_unsent (end_at s p))))
+  answered_shaped k (duties.Data s) ds r p h = with_ahead ds h (λ a. inl (data_ahead k s r (with_agenda (duties.Data s ∷ ds) p) a a a (first_unsent (end_at s p))))
   answered_shaped k (duties.DataFin s) ds r p h = from_left ds _ h
   answered_shaped k (duties.Fin s) ds r p h = from_left ds _ h
   answered_shaped k (duties.Timer s) ds r p h = from_left ds _ h
   answered_shaped k (duties.SynHeard s) ds r p h = from_left ds _ h
   answered_shaped k (duties.SynAnswered s) ds r p h = from_left ds _ h
-  answered_shaped k (duties.PeerKey s) ds r p h = from_left ds _ h
+  answered_shaped k (duties.PlainHandshake s) ds r p h = with_ahead ds h (λ a. inl (fell_ahead s r (with_agenda (duties.PlainHandshake s ∷ ds) p) a a))
+  answered_shaped k (duties.PeerKey s) ds r p h = with_ahead ds h (λ a. inl (key_ahead k s r (with_agenda (duties.PeerKey s ∷ ds) p) a a a (key_heard (end_at s p).treated.items)))
   answered_shaped k (duties.SynAck s) ds r p h = from_left ds _ h
   answered_shaped k (duties.JoinHeard s) ds r p h = with_ahead ds h (λ a. inl (join_ahead s (keys_begun r) (asked_at s p) ds p a))
   answered_shaped k (duties.Refuse s) ds r p h = from_left ds _ h
-  answered_shaped k (duties.Opened s) ds r p h = from_left ds _ h
+  answered_shaped k (duties.Opened s) ds r p h = with_ahead ds h (λ a. inl (keys_ahead k s r (with_agenda (duties.Opened s ∷ ds) p) a a a (keys_heard (end_at s p).treated.items)))
   answered_shaped k (duties.Live s) ds r p h = from_left ds _ h
-  answered_shaped k (duties.Heard s index) ds r p h = with_ahead ds h (λ a. inl (item_ahead k s r (with_agenda (duties.Heard s index ∷ ds) p) a a index a (item_of index (end_at s p))))
-  answered_shaped k (duties.AckHeard s) ds r p h = from_left ds _ h
-  answered_shaped k (duties.PlainAck s) ds r p h = inl (break_ahead k s 6 r (with_agenda (duties.PlainAck s ∷ ds) p))
+  answered_shaped k (duties.Heard s index) ds r p h = with_ahead ds h (λ a. inl (item_ahead k s r (with_agenda (duties.Heard s index ∷ ds) p) a a a index a (item_of index (end_at s p))))
+  answered_shaped k (duties.AckHeard s) ds r p h = with_ahead ds h (λ a. inl (fell_ahead s r (with_agenda (duties.AckHeard s ∷ ds) p) a a))
+  answered_shaped k (duties.PlainAck s) ds r p h = with_ahead ds h (λ a. inl (plain_ack_ahead k s r (with_agenda (duties.PlainAck s ∷ ds) p) a a a))
+  answered_shaped k (duties.SubflowAck s) ds r p h = from_left ds _ h
+  answered_shaped k (duties.PlainData s) ds r p h = with_ahead ds h (λ a. inl (fell_ahead s r (with_agenda (duties.PlainData s ∷ ds) p) a a))
+  answered_shaped k (duties.GoIdentity s) ds r p h = from_left ds _ h
+  answered_shaped k (duties.Unmapped s) ds r p h = inl (break_ahead k s 6 r (with_agenda (duties.Unmapped s ∷ ds) p))
+  answered_shaped k (duties.SubflowFin s) ds r p h = with_ahead ds h (λ a. inl (plain_fin_ahead k s r (with_agenda (duties.SubflowFin s ∷ ds) p) a a a (is_fin_set r)))
   answered_shaped k (duties.Keep s) ds r p h = from_left ds _ h
-  answered_shaped k (duties.Edge s) ds r p h = with_ahead ds h (λ a. inl (piece_ahead k s r (with_agenda (duties.Edge s ∷ ds) p) a a (piece_of s p) (is_placed r)))
-  answered_shaped k (duties.HeardFin s index) ds r p h = with_ahead ds h (λ a. inl (fin_ahead k s r (with_agenda (duties.HeardFin s index ∷ ds) p) a a (is_fin_set r)))
+  answered_shaped k (duties.Edge s) ds r p h = with_ahead ds h (λ a. inl (piece_ahead k s r (with_agenda (duties.Edge s ∷ ds) p) a a a (piece_of s p) (is_placed r)))
+  answered_shaped k (duties.HeardFin s index) ds r p h = with_ahead ds h (λ a. inl (fin_ahead k s r (with_agenda (duties.HeardFin s index ∷ ds) p) a a a (is_fin_set r)))
   answered_shaped k (duties.PassFin s) ds r p h = from_left ds _ h
   answered_shaped k (duties.AckOut s) ds r p h = from_left ds _ h
   answered_shaped k (duties.Rate s) ds r p h = from_left ds _ h

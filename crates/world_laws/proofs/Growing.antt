@@ -1,6 +1,8 @@
 -- What was sent on a lane stays, so what the ends and the copies have to do with the lanes stays as these go on.
-use Rattle.std.proofs.Common.{◌≡◌, refl, sym, ◌∙◌, ap, subst, ℕ, inl, inr, ⊎_elim, Bool, Option, Some, None, List, [], ◌++◌}
+use Rattle.std.proofs.Common.{◌≡◌, refl, sym, ◌∙◌, ap, subst, ℕ, suc, ◌-◌, ◌⊎◌, inl, inr, ⊎_elim, Bool, Option, Some, None, List, [], ◌++◌, true, arith}
 use Rattle.std.proofs.lemmas.List.{append-nil}
+use Rattle.std.specs.Option.{IfSome}
+use Rattle.std.proofs.lemmas.Bool.{lt-ltb}
 use Rattle.outside_kit.specs.declared.side.Side.{Side}
 use Rattle.mptcp_options.specs.declared.capable.CapableKeys.{CapableKeys}
 use Rattle.mptcp_options.specs.declared.capable.CapableKeys.TheVariants.{WithData}
@@ -11,6 +13,7 @@ use Rattle.path_segments.specs.Options.{PlainOption}
 use Rattle.path_segments.specs.Spelled.{PlainSegment}
 use Rattle.subflow_send.specs.Records.{SendState}
 use Rattle.subflow_tcp.specs.declared.handshake.State.{State as EndPhase}
+use Rattle.subflow_tcp.specs.State.{is_behind}
 use Rattle.subflow_recv.specs.Receiving.{Receiving}
 use Rattle.dss_mapping.specs.declared.kept.KeptMapping.{KeptMapping}
 use Rattle.stream_lanes.specs.Lane.{Cell, Mapping, DataCopy, AckCopy, Told, Ask, Lane}
@@ -20,7 +23,7 @@ use Rattle.path_agenda.specs.declared.heard.Heard.TheVariants as says
 use Rattle.path_core.specs.Ends.{PathEnd, Treated}
 use Rattle.path_core.specs.Joins.{join_asked}
 use Rattle.path_core.specs.State.{Profile}
-use Rattle.world_laws.proofs.Showing.{HasAck, HasData, HasMapping, HasNumber, HasFin, SenderShows, WindowShows, ReceiverShows, ItemShows, TreatedShows, EndShows, MappingShows, KeysShow, OptionShows, SegmentShows}
+use Rattle.world_laws.proofs.Showing.{HasAck, HasSub, HasNone, HasData, HasMapping, HasNumber, HasFin, Knowledge, identity_of, knowledge_of, SenderShows, Under, IsAtEdge, IsPastFin, AcksShow, ReceiverShows, ItemShows, TreatedShows, EndShows, MappingShows, KeysShow, OptionShows, SegmentShows}
 
 -- ---- how a lane goes on
 
@@ -52,11 +55,12 @@ pub record ReceiverGoes (p q : Lane) : Type 0 where
   pub edge : ℕ
   pub kept : List (Option ℕ)
   pub maps : List Mapping
+  pub fin_in : Bool
   pub due : Bool
   pub latest : Told
   pub asking : Ask
   pub acks : List AckCopy
-  pub is : q ≡ record p { edge = edge; kept = kept; maps = maps; due = due; latest = latest; asking = asking; acks = p.acks ++ acks }
+  pub is : q ≡ record p { edge = edge; kept = kept; maps = maps; fin_in = fin_in; due = due; latest = latest; asking = asking; acks = p.acks ++ acks }
 
 pub sender_stays : (p : Lane) → SenderGoes p p
 sender_stays p = record {
@@ -77,6 +81,7 @@ receiver_stays p = record {
   edge = p.edge;
   kept = p.kept;
   maps = p.maps;
+  fin_in = p.fin_in;
   due = p.due;
   latest = p.latest;
   asking = p.asking;
@@ -112,6 +117,12 @@ module _ {acks acks_after : List AckCopy} {p q : Lane} (l : Longer acks acks_aft
   pub ack_longer : (next window : ℕ) → HasAck acks next window → HasAck acks_after next window
   ack_longer next window h = subst (λ xs. HasAck xs next window) (sym l.acks_are) (Has-more l.more_acks h)
 
+  pub sub_longer : (sub window : ℕ) → HasSub acks sub window → HasSub acks_after sub window
+  sub_longer sub window h = subst (λ xs. HasSub xs sub window) (sym l.acks_are) (Has-more l.more_acks h)
+
+  pub none_longer : (window : ℕ) → HasNone acks window → HasNone acks_after window
+  none_longer window h = subst (λ xs. HasNone xs window) (sym l.acks_are) (Has-more l.more_acks h)
+
   pub data_longer : (position : ℕ) (octets : List ℕ) → HasData p.datas position octets → HasData q.datas position octets
   data_longer position octets h = subst (λ xs. HasData xs position octets) (sym l.datas_are) (Has-more l.datas h)
 
@@ -136,7 +147,8 @@ module _ {acks acks_after : List AckCopy} {p q : Lane} (l : Longer acks acks_aft
 
   pub segment_longer : (sg : PlainSegment) → SegmentShows acks p sg → SegmentShows acks_after q sg
   segment_longer sg h = record {
-    window = ack_longer 0 _ h.window;
+    window = none_longer _ h.window;
+    sub = λ syn rst. IfSome-map sg.acknowledged (λ n has. sub_longer (n - 1) _ has) (h.sub syn rst);
     options = Every-map (option_longer _) h.options;
     payload = ⊎_elim (λ none. inl none) (λ has. inr (data_longer sg.position sg.payload has)) h.payload;
     fin = λ is. let f = h.fin is in (f.0, fin_longer sg.position f.1);
@@ -153,22 +165,57 @@ module _ {acks acks_after : List AckCopy} {p q : Lane} (l : Longer acks acks_aft
     items = Every-map item_longer h.items;
     fins = Every-map number_longer h.fins;
     answer = h.answer;
-    window = IfSome-map (join_asked t.items) (λ asked has. ack_longer 0 t.window has) h.window;
+    window = IfSome-map (join_asked t.items) (λ asked has. none_longer t.window has) h.window;
+    sub = sub_longer (t.acknowledged - 1) t.window h.sub;
+    nothing = none_longer 0 h.nothing;
   }
 
 -- ---- the other end
 
-peer_sender : (c : Profile) (s : Side) (state : EndPhase) (v : SendState) (known : Option ℕ) (acked : Bool) (p q : Lane) → ReceiverGoes p q
-    → SenderShows c s state v known acked p → SenderShows c s state v known acked q
-peer_sender c s state v known acked p q g h = subst (SenderShows c s state v known acked) (sym g.is)
-    (record { plain = h.plain; next = h.next; unfinished = h.unfinished; pieces = h.pieces; known_end = h.known_end; fin_acked = h.fin_acked })
+-- where the edge is, as far as other fields of the lane change
+pub same_edge : {recv : Receiving} {fin_at : Option ℕ} {p q : Lane} → q.edge ≡ p.edge → q.kept ≡ p.kept → q.fin_in ≡ p.fin_in → IsAtEdge recv p ⊎ IsPastFin fin_at recv p
+    → IsAtEdge recv q ⊎ IsPastFin fin_at recv q
+same_edge {recv} {fin_at} {p} {q} edge kept fin (inl at) = inl (record {
+  edge_is = at.edge_is ∙ ap suc (sym edge);
+  under = subst (Under recv.places) (sym kept) at.under;
+  held = subst (λ bytes. IfSome recv.incoming (λ places. Under places bytes)) (sym kept) at.held;
+})
+same_edge edge kept fin (inr past) = inr (record {
+  at_is = past.at_is ∙ ap (λ n. Some (suc n)) (sym edge);
+  none = past.none;
+  edge_is = past.edge_is ∙ ap (λ n. suc (suc n)) (sym edge);
+  fin_in = fin ∙ past.fin_in;
+})
 
-peer_receiver : (recv : Receiving) (fin_at : Option ℕ) (live : List KeptMapping) (p q : Lane) → SenderGoes p q → ReceiverShows recv fin_at live p → ReceiverShows recv fin_at live q
-peer_receiver recv fin_at live p q g h = subst (ReceiverShows recv fin_at live) (sym g.is) (record {
-  edge = ⊎_elim (λ at. inl (record { edge_is = at.edge_is; under = at.under; held = at.held })) (λ past. inr past) h.edge;
+-- behind its FIN the edge is past it
+pub past_behind : (fin_at : Option ℕ) (recv : Receiving) (p : Lane) → IsPastFin fin_at recv p → is_behind fin_at recv.edge ≡ true
+past_behind fin_at recv p past = let edge_is = past.edge_is in ap (λ o. is_behind o recv.edge) past.at_is ∙ lt-ltb (suc p.edge) recv.edge (omega (arith, edge_is))
+
+peer_sender : (c : Profile) (s : Side) (state : EndPhase) (v : SendState) (k : Knowledge) (p q : Lane) → ReceiverGoes p q → SenderShows c s state v k p → SenderShows c s state v k q
+peer_sender c s state v k p q g h = subst (SenderShows c s state v k) (sym g.is) (record {
+  plain = h.plain;
+  next = h.next;
+  unfinished = h.unfinished;
+  pieces = h.pieces;
+  known_end = h.known_end;
+  same_end = h.same_end;
+  heard = h.heard;
+  granted = h.granted;
+  fin_acked = h.fin_acked;
+})
+
+peer_receiver : (recv : Receiving) (fin_at : Option ℕ) (live : List KeptMapping) (plain : Bool) (p q : Lane) → SenderGoes p q → ReceiverShows recv fin_at live plain p
+    → ReceiverShows recv fin_at live plain q
+peer_receiver recv fin_at live plain p q g h = subst (ReceiverShows recv fin_at live plain) (sym g.is) (record {
+  same_mode = h.same_mode;
+  edge = same_edge refl refl refl h.edge;
   fin = IfSome-map fin_at (λ pos has. Has-more g.fins has) h.fin;
   mapped = h.mapped;
 })
+
+-- what it acknowledges
+peer_acks : (next window : ℕ) (asked : Bool) (edge : ℕ) (p q : Lane) → SenderGoes p q → AcksShow next window asked edge p → AcksShow next window asked edge q
+peer_acks next window asked edge p q g h = subst (AcksShow next window asked edge) (sym g.is) (record { windows = h.windows; latest = h.latest; due = h.due; sub = h.sub })
 
 -- what the lanes have grown by where the end of one side does something
 pub sent_longer : (out out_after back back_after : Lane) → SenderGoes out out_after → ReceiverGoes back back_after → Longer back.acks back_after.acks out out_after
@@ -201,12 +248,11 @@ pub peer_shows : (c : Profile) (s : Side) (e : PathEnd) (out out_after back back
     → EndShows c s e back out → EndShows c s e back_after out_after
 peer_shows c s e out out_after back back_after g r h =
     let l = sent_longer out out_after back back_after g r in
-    let acks : out_after.acks ≡ out.acks = ap (λ p. p.acks) g.is in
     record {
-      sender = peer_sender c s e.tcp.state e.tcp.send e.sending.known_end e.sending.close.own_acked back back_after r h.sender;
-      receiver = peer_receiver e.tcp.recv e.tcp.fin_at e.receiving.mappings.live out out_after g h.receiver;
-      window = subst (WindowShows e.receiving.next e.receiving.window) (sym acks) h.window;
-      told = ack_longer l 0 e.tcp.congestion.told.window h.told;
+      sender = peer_sender c s e.tcp.state e.tcp.send (knowledge_of e) back back_after r h.sender;
+      receiver = peer_receiver e.tcp.recv e.tcp.fin_at e.receiving.mappings.live (identity_of e) out out_after g h.receiver;
+      acks = peer_acks e.receiving.next e.receiving.window e.treated.asked e.tcp.recv.edge out out_after g h.acks;
+      told = none_longer l e.tcp.congestion.told.window h.told;
       treated = treated_longer l e.treated h.treated;
       held = Every-map (λ kept has. mapping_longer l kept.place kept.pos kept.mapping.length has) h.held;
     }

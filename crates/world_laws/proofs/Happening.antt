@@ -1,5 +1,5 @@
 -- What happens on a path by itself: its join, lines of its script, copies that arrive, timers that run out.
-use Rattle.std.proofs.Common.{◌≡◌, refl, sym, subst, ℕ, suc, ◌+◌, ◌&&◌, ◌==◌, Bool, true, false, if◌then◌else◌, Option, Some, None, List, [], ◌∷◌, remove, find, position}
+use Rattle.std.proofs.Common.{◌≡◌, refl, sym, subst, ℕ, suc, ◌+◌, ◌&&◌, ◌==◌, Bool, true, false, if◌then◌else◌, Option, Some, None, List, [], ◌∷◌, remove, find, position, ap, ◌∙◌}
 use Rattle.std.proofs.lemmas.Bool.{and_parts, false≢true}
 use Rattle.std.specs.Option.{IfSome}
 use Rattle.outside_kit.specs.declared.side.Side.{Side}
@@ -11,7 +11,7 @@ use Rattle.link_script.specs.Places.{same_side}
 use Rattle.path_segments.specs.Laws.{meant}
 use Rattle.path_segments.specs.Spelled.{PlainSegment}
 use Rattle.subflow_tcp.specs.Expiring.{is_sixth}
-use Rattle.stream_lanes.specs.Lane.{Lane}
+use Rattle.stream_lanes.specs.Lane.{Lane, AckCopy}
 use Rattle.stream_lanes.specs.Holding.{Holds}
 use Rattle.stream_lanes.specs.Words.{Every}
 use Rattle.stream_lanes.proofs.Lists.{Every-nil, Every-append, in_take, in_drop}
@@ -28,9 +28,9 @@ use Rattle.path_core.specs.Arriving.{items_of, judged_in, after_judged, template
 use Rattle.path_core.specs.Ends.{PathEnd}
 use Rattle.path_core.specs.Joining.{is_never, keys_begun, opened_by}
 use Rattle.path_core.specs.Joins.{is_joined}
-use Rattle.path_core.specs.Events.{step_for, is_death, at_tick, died, join_begun, path_died, after_line, line_taken, heard_in, copy_heard, copy_taken, after_firing, template_fired, timer_fired, happens, happens_if}
+use Rattle.path_core.specs.Events.{step_for, is_death, at_tick, died, join_begun, path_died, after_line, line_taken, heard_in, copy_heard, copy_taken, after_firing, template_fired, timer_fired, happens, happens_if, told_at}
 use Rattle.path_core.specs.State.{PathState, end_at, path_of, goes_on, with_agenda}
-use Rattle.path_core.specs.Values.{Carried, values}
+use Rattle.path_core.specs.Values.{Carried, as_arrived, values}
 use Rattle.world_laws.proofs.Arrived.{arrived_end}
 use Rattle.world_laws.proofs.Ending.{Did, did_nothing}
 use Rattle.world_laws.proofs.Lanes.{Others, duo_at}
@@ -70,7 +70,12 @@ heard_by B A ab ba sg same h = absurd (false≢true same)
 pub side_is : (due : Due) (f : Flight Carried) → is_due due f ≡ true → same_side f.to due.to ≡ true
 side_is due f is = (and_parts (same_side f.to due.to) (f.number == due.copy) (and_parts (f.tick == due.tick) (same_side f.to due.to && f.number == due.copy) is).1).0
 
-module _ (six : SixBooks) (others : Others) (p : PathState Carried) (ab ba : Lane) (h : PathShows p.profile p ab ba) (holds : Holds (duo_at six ab ba others)) where
+-- nothing was told since the books were asked what is to be acknowledged
+abbrev pub AreCalm : PathState Carried → Type 0
+AreCalm p = (s : Side) → (end_at s p).treated.asked ≡ false
+
+module _ (six : SixBooks) (others : Others) (p : PathState Carried) (ab ba : Lane) (h : PathShows p.profile p ab ba) (holds : Holds (duo_at six ab ba others))
+    (calm : AreCalm p) where
   abbrev Steps : Ask → PathState Carried → Type 0
   Steps ask q = Answered p.profile six others ask q ab ba
 
@@ -80,8 +85,8 @@ module _ (six : SixBooks) (others : Others) (p : PathState Carried) (ab ba : Lan
 
   -- ---- lines
 
-  died_shows : (q : PathState Carried) → PathShows p.profile q ab ba → Strolled p.profile (path_died q) ab ba
-  died_shows q x = record {
+  died_shows : (q : PathState Carried) → AreCalm q → PathShows p.profile q ab ba → Strolled p.profile (path_died q) ab ba
+  died_shows q calm x = record {
     ab_after = ab;
     ba_after = ba;
     ab_moves = stays ab;
@@ -89,8 +94,8 @@ module _ (six : SixBooks) (others : Others) (p : PathState Carried) (ab ba : Lan
     shows = record {
       profile = x.profile;
       unchanged = x.unchanged;
-      a = died_unless_shows p.profile A ab ba q.a x.a;
-      b = died_unless_shows p.profile B ba ab q.b x.b;
+      a = died_unless_shows p.profile A ab ba q.a (calm A) x.a;
+      b = died_unless_shows p.profile B ba ab q.b (calm B) x.b;
       copies = Every-nil _;
     };
   }
@@ -104,9 +109,14 @@ module _ (six : SixBooks) (others : Others) (p : PathState Carried) (ab ba : Lan
     shows = record { profile = x.profile; unchanged = x.unchanged; a = x.a; b = x.b; copies = x.copies };
   }
 
-  line_shows : (death : Bool) (q : PathState Carried) → PathShows p.profile q ab ba → Strolled p.profile (after_line death q) ab ba
-  line_shows true q x = died_shows q x
-  line_shows false q x = rest_shows q x
+  line_shows : (death : Bool) (q : PathState Carried) → AreCalm q → PathShows p.profile q ab ba → Strolled p.profile (after_line death q) ab ba
+  line_shows true q calm x = died_shows q calm x
+  line_shows false q calm x = rest_shows q x
+
+  -- at another tick the ends are the same
+  same_calm : (q : PathState Carried) → q.a ≡ p.a → q.b ≡ p.b → AreCalm q
+  same_calm q a b A = ap (λ (e : PathEnd). e.treated.asked) a ∙ calm A
+  same_calm q a b B = ap (λ (e : PathEnd). e.treated.asked) b ∙ calm B
 
   -- ---- copies
 
@@ -119,19 +129,35 @@ module _ (six : SixBooks) (others : Others) (p : PathState Carried) (ab ba : Lan
     copies = without_kept (position (is_due due) p.link.under_way) p.link.under_way h.copies;
   }
 
-  arrives : (s : Side) (ask : Ask) (q : PathState Carried) (sg : PlainSegment) → IsQuiet ask → PathShows p.profile q ab ba → q.profile ≡ p.profile → SegmentShows (pick s ab ba).acks (pick s ba ab) sg
-      → Steps ask (copy_heard s (Some (meant sg)) q)
-  arrives s ask q sg is x same said =
+  -- an end that fell back hears no option
+  heard_is : (sg : PlainSegment) (plain : Bool) → record (meant sg) { options = (if plain then [] else (meant sg).options) } ≡ meant (record sg { options = (if plain then [] else sg.options) })
+  heard_is sg true = refl
+  heard_is sg false = refl
+
+  heard_shows : (acks : List AckCopy) (lane : Lane) (sg : PlainSegment) (plain : Bool) → SegmentShows acks lane sg → SegmentShows acks lane (record sg { options = (if plain then [] else sg.options) })
+  heard_shows acks lane sg true said = record { window = said.window; sub = said.sub; options = Every-nil _; payload = said.payload; fin = said.fin; plain = said.plain }
+  heard_shows acks lane sg false said = said
+
+  told : (s : Side) (ask : Ask) (q : PathState Carried) (sg : PlainSegment) → IsQuiet six ask → AreCalm q → PathShows p.profile q ab ba → q.profile ≡ p.profile → SegmentShows (pick s ab ba).acks (pick s ba ab) sg
+      → Steps ask (told_at q.clock s (meant sg) q)
+  told s ask q sg is calm x same said =
       let e : PathEnd = end_at s q in
       let verdict = judged_in (is_joined q.profile) s (meant sg) e in
       let f : PathEnd = after_judged q.profile s q.clock (meant sg) verdict e in
       let ds = template_of (is_joined q.profile) s (items_of (is_joined q.profile) s (meant sg)) verdict in
       let d : Did p.profile s f (pick s ab ba) (pick s ab ba) (pick s ba ab) (pick s ba ab) =
       subst (λ c. Did p.profile s (after_judged c s q.clock (meant sg) (judged_in (is_joined c) s (meant sg) e) e) (pick s ab ba) (pick s ab ba) (pick s ba ab) (pick s ba ab)) (sym same)
-      (arrived_end p.profile s q.clock sg e (pick s ab ba) (pick s ba ab) _ _ (back_holds six others s ab ba holds) said (side_shows p.profile s q ab ba x)) in
+      (arrived_end p.profile s q.clock sg e (pick s ab ba) (pick s ba ab) _ _ (back_holds six others s ab ba holds) said (calm s) (side_shows p.profile s q ab ba x)) in
       quiet_side p.profile six others s q (goes_on s f ds q) ab ba ask x is (side_kept p.profile q ab ba x s (pick s ab ba) (pick s ba ab) f ds d)
 
-  unheard : (s : Side) (ask : Ask) (q : PathState Carried) → IsQuiet ask → PathShows p.profile q ab ba → Steps ask (with_agenda (emission s) q)
+  arrives : (s : Side) (ask : Ask) (q : PathState Carried) (sg : PlainSegment) → IsQuiet six ask → AreCalm q → PathShows p.profile q ab ba → q.profile ≡ p.profile → SegmentShows (pick s ab ba).acks (pick s ba ab) sg
+      → Steps ask (copy_heard s (Some (meant sg)) q)
+  arrives s ask q sg is calm x same said =
+      let plain : Bool = (end_at s q).modes.identity in
+      subst (λ heard. Steps ask (told_at q.clock s heard q)) (sym (heard_is sg plain))
+      (told s ask q (record sg { options = (if plain then [] else sg.options) }) is calm x same (heard_shows (pick s ab ba).acks (pick s ba ab) sg plain said))
+
+  unheard : (s : Side) (ask : Ask) (q : PathState Carried) → IsQuiet six ask → PathShows p.profile q ab ba → Steps ask (with_agenda (emission s) q)
   unheard s ask q is x = quiet p.profile six others ask (with_agenda (emission s) q) ab ba is (record {
     ab_after = ab;
     ba_after = ba;
@@ -140,19 +166,19 @@ module _ (six : SixBooks) (others : Others) (p : PathState Carried) (ab ba : Lan
     shows = record { profile = x.profile; unchanged = x.unchanged; a = x.a; b = x.b; copies = x.copies };
   })
 
-  copy_step : (due : Due) (ask : Ask) → IsQuiet ask → Steps ask (copy_taken values due p)
+  copy_step : (due : Due) (ask : Ask) → IsQuiet six ask → Steps ask (copy_taken values due p)
   copy_step due ask is = by (arriving due p.link) refl (every_find (is_due due) p.link.under_way h.copies)
     where
       by : (o : Option (Flight Carried)) → find (is_due due) p.link.under_way ≡ o → IfSome o (λ f. FlightShows ab ba f.to f.carried.segment)
           → Steps ask (copy_heard due.to (heard_in values due.to o p) (record (at_tick due.tick p) { link = after_delivery due p.link }))
       by None found shows = unheard due.to ask (record (at_tick due.tick p) { link = after_delivery due p.link }) is (delivered due)
       by (Some f) found shows =
-          arrives due.to ask (record (at_tick due.tick p) { link = after_delivery due p.link }) f.carried.segment is (delivered due) refl
-          (heard_by due.to f.to ab ba f.carried.segment (side_is due f (found_due due p.link.under_way f found)) shows)
+          arrives due.to ask (record (at_tick due.tick p) { link = after_delivery due p.link }) (as_arrived f.carried) is (same_calm (record (at_tick due.tick p) { link = after_delivery due p.link }) refl refl) (delivered due) refl
+          (heard_shows (pick due.to ab ba).acks (pick due.to ba ab) f.carried.segment f.carried.stripped (heard_by due.to f.to ab ba f.carried.segment (side_is due f (found_due due p.link.under_way f found)) shows))
 
   -- ---- timers
 
-  fire_step : (s : Side) (tick : ℕ) (ask : Ask) → IsQuiet ask → Steps ask (timer_fired s (at_tick tick p))
+  fire_step : (s : Side) (tick : ℕ) (ask : Ask) → IsQuiet six ask → Steps ask (timer_fired s (at_tick tick p))
   fire_step s tick ask is =
       let q : PathState Carried = at_tick tick p in
       let x = ticked tick p.lines in
@@ -163,8 +189,8 @@ module _ (six : SixBooks) (others : Others) (p : PathState Carried) (ab ba : Lan
   -- ---- a join
 
   -- it is begun or not, with these to be done
-  pub join_step : (ask : Ask) (r : Reply) (dead living : List Duty) (q : PathState Carried) → IsQuiet ask → PathShows p.profile q ab ba → Steps ask (join_begun r dead living q)
-  join_step ask r dead living q is x = by (is_never r)
+  pub join_step : (ask : Ask) (r : Reply) (dead living : List Duty) (q : PathState Carried) → IsQuiet six ask → AreCalm q → PathShows p.profile q ab ba → Steps ask (join_begun r dead living q)
+  join_step ask r dead living q is calm x = by (is_never r)
     where
       becomes : (e : PathEnd) (ds : List Duty) → EndShows p.profile A e ab ba → Steps ask (goes_on A e ds q)
       becomes e ds shows =
@@ -172,7 +198,7 @@ module _ (six : SixBooks) (others : Others) (p : PathState Carried) (ab ba : Lan
           (side_kept p.profile q ab ba x A ab ba e ds (did_nothing p.profile A ab ba e shows))
 
       by : (b : Bool) → Steps ask (if b then goes_on A (died (end_at A q)) dead q else goes_on A (opened_by (keys_begun r) (end_at A q)) living q)
-      by true = becomes (died q.a) dead (died_end_shows p.profile A ab ba q.a x.a)
+      by true = becomes (died q.a) dead (died_end_shows p.profile A ab ba q.a (calm A) x.a)
       by false = becomes (opened_by (keys_begun r) q.a) living (opened_shows p.profile A ab ba (keys_begun r) q.a x.a)
 
   -- ---- the earliest
@@ -180,9 +206,9 @@ module _ (six : SixBooks) (others : Others) (p : PathState Carried) (ab ba : Lan
   event_step : (event : Event) (r : Reply) → Steps (step_for (path_of p) (Some event)) (happens values event r p)
   event_step (happenings.Joins tick) r =
       join_step (step_for (path_of p) (Some (happenings.Joins tick))) r (leaves A) (emission A) (record (at_tick tick p) { joined_at = None }) tt
-      (record { profile = h.profile; unchanged = h.unchanged; a = h.a; b = h.b; copies = h.copies })
+      (same_calm (record (at_tick tick p) { joined_at = None }) refl refl) (record { profile = h.profile; unchanged = h.unchanged; a = h.a; b = h.b; copies = h.copies })
   event_step (happenings.Takes line) r =
-      quiet p.profile six others (step_for (path_of p) (Some (happenings.Takes line))) (line_taken line p) ab ba tt (line_shows (is_death line.line) (record (at_tick line.tick p) { lines = tail_of p.lines }) (ticked line.tick (tail_of p.lines)))
+      quiet p.profile six others (step_for (path_of p) (Some (happenings.Takes line))) (line_taken line p) ab ba tt (line_shows (is_death line.line) (record (at_tick line.tick p) { lines = tail_of p.lines }) (same_calm (record (at_tick line.tick p) { lines = tail_of p.lines }) refl refl) (ticked line.tick (tail_of p.lines)))
   event_step (happenings.Arrives due) r = copy_step due (step_for (path_of p) (Some (happenings.Arrives due))) tt
   event_step (happenings.Fires s tick) r = fire_step s tick (step_for (path_of p) (Some (happenings.Fires s tick))) tt
 

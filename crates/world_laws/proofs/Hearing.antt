@@ -16,7 +16,7 @@ use Rattle.subflow_tcp.specs.Segments.{Copy, occupied}
 use Rattle.subflow_tcp.specs.State.{EndState, is_at_limit}
 use Rattle.subflow_tcp.specs.States as states
 use Rattle.stream_lanes.specs.Lane.{Lane}
-use Rattle.world_laws.proofs.Showing.{is_unfinished, SenderShows, ReceiverShows}
+use Rattle.world_laws.proofs.Showing.{Knowledge, is_unfinished, SenderShows, ReceiverShows}
 use Rattle.path_core.specs.State.{Profile}
 
 -- ---- fewer octets
@@ -37,36 +37,44 @@ cut_there (suc n) (Some x ∷ places) (suc i) b e = cut_there n places i b e
 cut_there (suc n) (None ∷ places) zero b e = absurd (no_gap (cut n places) b e)
 cut_there (suc n) (None ∷ places) (suc i) b e = cut_there n places i b (gap_there (cut n places) i b e)
 
-module _ (fin_at : Option ℕ) (live : List KeptMapping) (p : Lane) where
+module _ (fin_at : Option ℕ) (live : List KeptMapping) (plain : Bool) (p : Lane) where
   -- octets are let go, and what is held
-  pub cut_shows : (n : ℕ) (recv : Receiving) → ReceiverShows recv fin_at live p → ReceiverShows (record recv { places = cut n recv.places; incoming = None }) fin_at live p
+  pub cut_shows : (n : ℕ) (recv : Receiving) → ReceiverShows recv fin_at live plain p → ReceiverShows (record recv { places = cut n recv.places; incoming = None }) fin_at live plain p
   cut_shows n recv h = record {
+    same_mode = h.same_mode;
     edge = ⊎_elim
         (λ at. inl (record { edge_is = at.edge_is; under = record { each = λ i b e. at.under.each i b (cut_there n recv.places i b e) }; held = tt }))
-        (λ past. inr (record { passed_is = past.passed_is; none = λ i b e. past.none i b (cut_there n recv.places i b e) }))
+        (λ past. inr (record { at_is = past.at_is; none = λ i b e. past.none i b (cut_there n recv.places i b e); edge_is = past.edge_is; fin_in = past.fin_in }))
         h.edge;
     fin = h.fin;
     mapped = h.mapped;
   }
 
-  pub dropped_shows : (recv : Receiving) → ReceiverShows recv fin_at live p → ReceiverShows (record recv { incoming = None }) fin_at live p
+  pub dropped_shows : (recv : Receiving) → ReceiverShows recv fin_at live plain p → ReceiverShows (record recv { incoming = None }) fin_at live plain p
   dropped_shows recv h = record {
-    edge = ⊎_elim (λ at. inl (record { edge_is = at.edge_is; under = at.under; held = tt })) (λ past. inr (record { passed_is = past.passed_is; none = past.none })) h.edge;
+    same_mode = h.same_mode;
+    edge = ⊎_elim
+        (λ at. inl (record { edge_is = at.edge_is; under = at.under; held = tt }))
+        (λ past. inr (record { at_is = past.at_is; none = past.none; edge_is = past.edge_is; fin_in = past.fin_in }))
+        h.edge;
     fin = h.fin;
     mapped = h.mapped;
   }
 
 -- ---- the state
 
-module _ (c : Profile) (s : Side) (known : Option ℕ) (acked : Bool) (p : Lane) where
-  pub state_shows : (state after : EndPhase) (v : SendState) → (is_unfinished after ≡ true → is_unfinished state ≡ true) → SenderShows c s state v known acked p
-      → SenderShows c s after v known acked p
+module _ (c : Profile) (s : Side) (k : Knowledge) (p : Lane) where
+  pub state_shows : (state after : EndPhase) (v : SendState) → (is_unfinished after ≡ true → is_unfinished state ≡ true) → SenderShows c s state v k p
+      → SenderShows c s after v k p
   state_shows state after v back h = record {
     plain = h.plain;
     next = λ un. h.next (back un);
     unfinished = λ un. h.unfinished (back un);
     pieces = h.pieces;
     known_end = h.known_end;
+    same_end = h.same_end;
+    heard = h.heard;
+    granted = h.granted;
     fin_acked = h.fin_acked;
   }
 
@@ -114,9 +122,16 @@ fin_passed_back phase.Dead is = is
 
 -- ---- what a copy means says something of it
 
+-- it stands there, acknowledges so much, and is no SYN and no reset
+pub record IsPlainCopy (c : Copy) (pos acknowledged : ℕ) : Type 0 where
+  pub position_is : c.position ≡ Some pos
+  pub acknowledged_is : c.acknowledged ≡ Some acknowledged
+  pub no_syn : c.syn ≡ false
+  pub no_reset : c.rst ≡ false
+
 -- and of the end, whether it is unfinished
 abbrev pub Fits : Copy → Bool → Meaning → Type 0
-Fits c u (means.Taken pos acknowledged) = c.position ≡ Some pos
+Fits c u (means.Taken pos acknowledged) = IsPlainCopy c pos acknowledged
 Fits c u (means.Accepts acknowledged) = (c.syn ≡ true) × (u ≡ true)
 Fits c u means.Opens = (c.syn ≡ true) × (u ≡ true)
 Fits c u _ = Unit {0}
@@ -139,16 +154,17 @@ module _ (c : Copy) (s : EndState) (u : Bool) where
   answering_fits un None = record { fits = tt }
   answering_fits un (Some acknowledged) = fits_if c (nat_lt 0 acknowledged && nat_le acknowledged s.send.nxt) (judging.meaning_answer c acknowledged) means.Ignored (λ is. answer_fits un acknowledged) (λ is. record { fits = tt })
 
-  acknowledging_fits : (pos : ℕ) → c.position ≡ Some pos → (o : Option ℕ) → Fitting c u (judging.meaning_acknowledging o pos s)
-  acknowledging_fits pos at None = record { fits = tt }
-  acknowledging_fits pos at (Some acknowledged) =
-      fits_if c (nat_lt s.send.nxt acknowledged) means.Ahead (if states.is_half_open s.state && acknowledged == 0 then means.Unacknowledging else means.Taken pos acknowledged) (λ is. record { fits = tt })
-      (λ is. fits_if c (states.is_half_open s.state && acknowledged == 0) means.Unacknowledging (means.Taken pos acknowledged) (λ half. record { fits = tt }) (λ other. record { fits = at }))
+  acknowledging_fits : (pos : ℕ) → c.position ≡ Some pos → c.syn ≡ false → c.rst ≡ false → (o : Option ℕ) → c.acknowledged ≡ o → Fitting c u (judging.meaning_acknowledging o pos s)
+  acknowledging_fits pos at no_syn no_reset None is = record { fits = tt }
+  acknowledging_fits pos at no_syn no_reset (Some acknowledged) is =
+      fits_if c (nat_lt s.send.nxt acknowledged) means.Ahead (if states.is_half_open s.state && acknowledged == 0 then means.Unacknowledging else means.Taken pos acknowledged) (λ ahead. record { fits = tt })
+      (λ near. fits_if c (states.is_half_open s.state && acknowledged == 0) means.Unacknowledging (means.Taken pos acknowledged) (λ half. record { fits = tt })
+      (λ other. record { fits = record { position_is = at; acknowledged_is = is; no_syn = no_syn; no_reset = no_reset } }))
 
   within_fits : (pos : ℕ) → c.position ≡ Some pos → Fitting c u (judging.meaning_within pos c s)
   within_fits pos at = fits_if c c.rst (if pos == s.recv.edge then means.Kills else means.Challenged) (if c.syn then means.Challenged else judging.meaning_acknowledging c.acknowledged pos s)
       (λ rst. fits_if c (pos == s.recv.edge) means.Kills means.Challenged (λ edge. record { fits = tt }) (λ other. record { fits = tt }))
-      (λ other. fits_if c c.syn means.Challenged (judging.meaning_acknowledging c.acknowledged pos s) (λ syn. record { fits = tt }) (λ none. acknowledging_fits pos at c.acknowledged))
+      (λ other. fits_if c c.syn means.Challenged (judging.meaning_acknowledging c.acknowledged pos s) (λ syn. record { fits = tt }) (λ none. acknowledging_fits pos at none other c.acknowledged refl))
 
   placed_fits : (o : Option ℕ) → c.position ≡ o → Fitting c u (judging.meaning_placed o c s)
   placed_fits None at = outside_fits

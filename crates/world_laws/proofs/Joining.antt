@@ -1,6 +1,6 @@
 -- Every turn of the world is a turn of the two directions, and so is every list of turns from the opening on.
-use Rattle.std.proofs.Common.{◌≡◌, refl, sym, ◌∙◌, ap, subst, ℕ, zero, suc, ◌+◌, ◌-◌, ◌^◌, ◌<◌, ◌≤◌, nat_lt, inl, inr, ⊎_elim, Bool, true, false, if◌then◌else◌, Option, Some, None, List, [], ◌∷◌, ◌++◌, length, map, set, arith}
-use Rattle.std.proofs.lemmas.Bool.{lt-ltb}
+use Rattle.std.proofs.Common.{◌≡◌, refl, sym, ◌∙◌, ap, subst, ℕ, zero, suc, ◌+◌, ◌-◌, ◌^◌, ◌<◌, ◌≤◌, nat_lt, Bool, true, false, if◌then◌else◌, Option, Some, None, List, [], ◌∷◌, ◌++◌, length, map, set, arith, ◌||◌, ◌==◌}
+use Rattle.std.proofs.lemmas.Bool.{lt-ltb, false≢true}
 use Rattle.std.proofs.lemmas.List.{length-append}
 use Rattle.std.proofs.lemmas.Option.{same_Some, slice_get_within}
 use Rattle.std.specs.List.{slice_get}
@@ -8,16 +8,17 @@ use Rattle.std.specs.Option.{option_map}
 use Rattle.outside_kit.specs.declared.side.Side.{Side}
 use Rattle.outside_kit.specs.declared.side.Side.TheVariants.{A, B}
 use Rattle.send_book.specs.State.{Sending}
+use Rattle.subflow_tcp.specs.States.{may_finish}
 use Rattle.stream_lanes.specs.Holding.{Holds}
 use Rattle.stream_lanes.specs.Lane.{Lane}
 use Rattle.stream_lanes.specs.Streams.{Reader, Direction}
 use Rattle.stream_lanes.specs.Duo.{Duo}
 use Rattle.stream_lanes.specs.Words.{Every, From}
-use Rattle.stream_lanes.proofs.Lists.{From-put, in_map, in_set, set_same, set_other}
-use Rattle.control_book.specs.Replies.{is_sure}
+use Rattle.stream_lanes.proofs.Lists.{From-put, in_map, set_same, set_other}
 use Rattle.actor_desk.specs.declared.ask.Ask.{Ask}
 use Rattle.actor_desk.specs.Books.{books_in}
 use Rattle.actor_desk.specs.Desk.{SixBooks, send_of, reply_of, after_ask}
+use Rattle.actor_desk.specs.Words.{pick}
 use Rattle.stream_apps.specs.declared.duty.AppDuty.{AppDuty}
 use Rattle.stream_apps.specs.Apps.{AppState}
 use Rattle.stream_apps.specs.AppSteps.{app_ask, app_asks_first, app_next_round, start_of_app}
@@ -26,8 +27,8 @@ use Rattle.path_agenda.specs.declared.duty.Duty.{Duty}
 use Rattle.path_agenda.specs.Agenda.{start_of_turn}
 use Rattle.path_core.specs.Duties.{stands, ask_for, passed, answered}
 use Rattle.path_core.specs.Joins.{is_joined}
-use Rattle.path_core.specs.State.{PathState, Profile, path_of, with_agenda}
-use Rattle.path_core.specs.Steps.{settled, asks_first, asks_of, answers, takes, settles_down, next_round}
+use Rattle.path_core.specs.State.{PathState, Profile, path_of, with_agenda, end_at}
+use Rattle.path_core.specs.Steps.{settled, asks_first, answers, takes, settles_down, next_round}
 use Rattle.path_core.specs.Turns.{FirstStands, IsSettled}
 use Rattle.path_core.specs.Values.{Carried, values}
 use Rattle.world_laws.specs.declared.member.Member.TheVariants.{App}
@@ -37,11 +38,10 @@ use Rattle.world_laws.specs.StampedBooks.{answer_to}
 use Rattle.world_laws.specs.Worlds.{WorldState, Turn, note_of, asked, all_over, greatest, begins, end_round, after_turn}
 use Rattle.world_laws.proofs.Applying.{Reads, Writes, settled_app}
 use Rattle.world_laws.proofs.Answering.{IsReady}
-use Rattle.world_laws.proofs.Asleep.{IsAsleep, takes_asleep, begins_asleep, begins_nothing}
 use Rattle.world_laws.proofs.Casts.{Walker, Cast, Fare, Every-put, world_of, walking, seated, walked, after_a, after_b, after_path, fare_after_a, fare_after_b, fare_after_path, map_there, path_asked, path_stepped, path_step_is, walks_on, next_cast, next_is, next_fare}
 use Rattle.world_laws.proofs.Clearing.{unclear_before, takes_clear, next_clear}
 use Rattle.world_laws.proofs.Journaling.{books_after}
-use Rattle.world_laws.proofs.Lanes.{duo_of, Others, duo_at, StandsSo, FirstIsClear, PathThere, WorldShows, SureIsClear, asked_by, asked_in, TurnShows, Shown, EachTurnShows, turn_events, turn_is}
+use Rattle.world_laws.proofs.Lanes.{duo_of, Others, duo_at, StandsSo, PathThere, WorldShows, PathIsSteady, IsSteady, Moved, unmoved, then_moved, asked_by, asked_in, TurnShows, Shown, EachTurnShows, turn_events, turn_is}
 use Rattle.world_laws.proofs.PlacesKnown.{takes_those, begins_those}
 use Rattle.world_laws.proofs.PlacesSent.{IsLonger, BothLast, all_last, there_lasts, last_longer, KnowsThose}
 use Rattle.world_laws.proofs.Ready.{ready}
@@ -50,11 +50,11 @@ use Rattle.world_laws.proofs.RoundFrame.{takes_keeps, first_keeps}
 use Rattle.world_laws.proofs.Settling.{stands_anyway, settles}
 use Rattle.world_laws.proofs.Showing.{PathShows}
 use Rattle.world_laws.proofs.Stepping.{duty_step}
-use Rattle.world_laws.proofs.Strolling.{Strolled, events_held}
+use Rattle.world_laws.proofs.Strolling.{Strolled, events_held, lanes_moved}
 use Rattle.world_laws.proofs.Untouched.{Granted, silent_so, turn_so}
 use Rattle.world_laws.proofs.Waiting.{grants_clear}
-use Rattle.world_laws.proofs.Waking.{opened_lane, path_opens, join_moves}
-use Rattle.world_laws.proofs.Turning.{Moved, unmoved, then_moved, moved_turn, moved_first, lanes_moved, PathTurn, path_turn, taken_told, TurnOfA, turn_of_a, TurnOfB, turn_of_b}
+use Rattle.world_laws.proofs.Waking.{lane_if, path_opens_if, may_open, open_moves}
+use Rattle.world_laws.proofs.Turning.{moved_turn, moved_first, PathTurn, path_turn, taken_told, TurnOfA, turn_of_a, TurnOfB, turn_of_b}
 
 -- what stands first after settling comes to something
 pub settled_first : (ds : List Duty) (p : PathState Carried) → IsSettled (settled ds p)
@@ -116,9 +116,8 @@ module _ (start : Start) (can : IsPlain start) where
   }
 
   -- what there is beside the lanes of a path
-  abbrev pub beside : (joined : Bool) (lanes_ab lanes_ba : List Lane) (reader_a reader_b : Reader) (number : ℕ) (ab ba : Lane) → slice_get lanes_ab number ≡ Some ab → slice_get lanes_ba number ≡ Some ba → Others
-  beside joined lanes_ab lanes_ba reader_a reader_b number ab ba ab_there ba_there = record {
-    joined = joined;
+  abbrev pub beside : (lanes_ab lanes_ba : List Lane) (reader_a reader_b : Reader) (number : ℕ) (ab ba : Lane) → slice_get lanes_ab number ≡ Some ab → slice_get lanes_ba number ≡ Some ba → Others
+  beside lanes_ab lanes_ba reader_a reader_b number ab ba ab_there ba_there = record {
     number = number;
     lanes_ab = lanes_ab;
     lanes_ba = lanes_ba;
@@ -129,11 +128,11 @@ module _ (start : Start) (can : IsPlain start) where
   }
 
   -- with these lanes the two directions are as they are
-  pub beside_is : (joined : Bool) (lanes_ab lanes_ba : List Lane) (reader_a reader_b : Reader) (number : ℕ) (ab ba : Lane) (ab_there : slice_get lanes_ab number ≡ Some ab) (ba_there : slice_get lanes_ba number ≡ Some ba)
-      (six : SixBooks) → duo_at six ab ba (beside joined lanes_ab lanes_ba reader_a reader_b number ab ba ab_there ba_there) ≡ duo_of joined six lanes_ab lanes_ba reader_a reader_b
-  beside_is joined lanes_ab lanes_ba reader_a reader_b number ab ba ab_there ba_there six =
-      ap (λ lanes. duo_of joined six lanes (set lanes_ba number ba) reader_a reader_b) (there_again lanes_ab number ab ab_there)
-      ∙ ap (λ lanes. duo_of joined six lanes_ab lanes reader_a reader_b) (there_again lanes_ba number ba ba_there)
+  pub beside_is : (lanes_ab lanes_ba : List Lane) (reader_a reader_b : Reader) (number : ℕ) (ab ba : Lane) (ab_there : slice_get lanes_ab number ≡ Some ab) (ba_there : slice_get lanes_ba number ≡ Some ba)
+      (six : SixBooks) → duo_at six ab ba (beside lanes_ab lanes_ba reader_a reader_b number ab ba ab_there ba_there) ≡ duo_of six lanes_ab lanes_ba reader_a reader_b
+  beside_is lanes_ab lanes_ba reader_a reader_b number ab ba ab_there ba_there six =
+      ap (λ lanes. duo_of six lanes (set lanes_ba number ba) reader_a reader_b) (there_again lanes_ab number ab ab_there)
+      ∙ ap (λ lanes. duo_of six lanes_ab lanes reader_a reader_b) (there_again lanes_ba number ba ba_there)
 
   -- the path goes on, on these lanes
   pub goes_there : (lanes_ab lanes_ba : List Lane) (number : ℕ) (p q : PathState Carried) (h : PathThere start lanes_ab lanes_ba number p) (ab ba : Lane) → path_of q ≡ path_of p
@@ -158,27 +157,34 @@ module _ (start : Start) (can : IsPlain start) where
   later_joins : (n path : ℕ) → path ≡ suc n → nat_lt 0 path ≡ true
   later_joins n path is = subst (λ m. nat_lt 0 m ≡ true) (sym is) (lt-ltb 0 (suc n) (omega arith))
 
-  -- lanes that only get longer stay open, and a path that sleeps goes on as it is told
-  pub stands_on : (number : ℕ) (p q : PathState Carried) (ab ba ab_after ba_after : Lane) → p.profile.spelling.path ≡ number → IsLonger ab ab_after → IsLonger ba ba_after → (IsAsleep p → IsAsleep q)
-      → Unsent p q ab ab_after → StandsSo number p ab ba → StandsSo number q ab_after ba_after
-  stands_on zero p q ab ba ab_after ba_after numbered x y sleeps unsent h = (x.opened h.0, y.opened h.1)
-  stands_on (suc number) p q ab ba ab_after ba_after numbered x y sleeps unsent h = record {
-    opened = ⊎_elim (λ up. inl (x.opened up.0, y.opened up.1)) (λ asleep. inr (sleeps asleep)) h.opened;
-    unsent = λ unclear. let so = unsent (later_joins number p.profile.spelling.path numbered) unclear in so.1 ∙ h.unsent so.0;
-  }
+  -- lanes that only get longer stay open
+  -- no end of a path that joins fell back
+  unplain : (number : ℕ) (p : PathState Carried) → p.profile.spelling.path ≡ number → ((n : ℕ) → number ≡ suc n → (s : Side) → (end_at s p).modes.identity ≡ false) → is_joined p.profile ≡ true
+      → p.a.modes.identity ≡ false
+  unplain zero p numbered mode joins = absurd (false≢true (sym (ap (λ n. nat_lt 0 n) numbered) ∙ joins))
+  unplain (suc n) p numbered mode joins = mode n refl A
 
-  -- lanes that opened
-  pub opened_on : (number : ℕ) (p q : PathState Carried) (ab ba ab_after ba_after : Lane) → p.profile.spelling.path ≡ number → IsLonger (opened_lane ab) ab_after → IsLonger (opened_lane ba) ba_after
+  pub stands_on : (number : ℕ) (p q : PathState Carried) (ab ba ab_after ba_after : Lane) → p.profile.spelling.path ≡ number → IsLonger ab ab_after → IsLonger ba ba_after
       → Unsent p q ab ab_after → StandsSo number p ab ba → StandsSo number q ab_after ba_after
-  opened_on zero p q ab ba ab_after ba_after numbered x y unsent h = (x.opened refl, y.opened refl)
-  opened_on (suc number) p q ab ba ab_after ba_after numbered x y unsent h = record {
-    opened = inl (x.opened refl, y.opened refl);
-    unsent = λ unclear. let so = unsent (later_joins number p.profile.spelling.path numbered) unclear in so.1 ∙ h.unsent so.0;
-  }
+  stands_on zero p q ab ba ab_after ba_after numbered x y unsent h = (x.opened h.0, y.opened h.1)
+  stands_on (suc number) p q ab ba ab_after ba_after numbered x y unsent h = λ unclear. let so = unsent (later_joins number p.profile.spelling.path numbered) unclear in so.1 ∙ h so.0
 
-  stands_open : (number : ℕ) (p : PathState Carried) (ab ba : Lane) → StandsSo number p ab ba → StandsSo number p (opened_lane ab) (opened_lane ba)
-  stands_open zero p ab ba h = (refl, refl)
-  stands_open (suc number) p ab ba h = record { opened = inl (refl, refl); unsent = h.unsent }
+  -- so do lanes that open where they may
+  if_opened : (b : Bool) (p : Lane) → p.opened ≡ true → (lane_if b p).opened ≡ true
+  if_opened true p is = refl
+  if_opened false p is = is
+
+  if_sent : (b : Bool) (p : Lane) → (lane_if b p).sent ≡ p.sent
+  if_sent true p = refl
+  if_sent false p = refl
+
+  stands_open : (b : Bool) (number : ℕ) (p : PathState Carried) (ab ba : Lane) → StandsSo number p ab ba → StandsSo number p (lane_if b ab) (lane_if b ba)
+  stands_open b zero p ab ba h = (if_opened b ab h.0, if_opened b ba h.1)
+  stands_open b (suc number) p ab ba h = λ unclear. if_sent b ab ∙ h unclear
+
+  those_open : (b : Bool) (p : PathState Carried) (ab ba : Lane) → KnowsThose ab ba p → KnowsThose (lane_if b ab) (lane_if b ba) p
+  those_open true p ab ba h = h
+  those_open false p ab ba h = h
 
   numbered_by : (number : ℕ) (plan : PathPlan) (p : PathState Carried) → p.profile ≡ (path_begins start number plan).profile → p.profile.spelling.path ≡ number
   numbered_by number plan p is = ap (λ d. d.spelling.path) is
@@ -208,9 +214,9 @@ module _ (start : Start) (can : IsPlain start) where
     knows = h.knows;
   }
 
-  module _ (joined : Bool) (six : SixBooks) (reader_a reader_b : Reader) where
+  module _ (six : SixBooks) (reader_a reader_b : Reader) where
     abbrev with_lanes : List Lane → List Lane → Duo
-    with_lanes lanes_ab lanes_ba = duo_of joined six lanes_ab lanes_ba reader_a reader_b
+    with_lanes lanes_ab lanes_ba = duo_of six lanes_ab lanes_ba reader_a reader_b
 
     -- these paths, the first of which has this number, begin a round on lanes that move
     pub record AllBegun (first : ℕ) (xs : List (Walker Carried)) (lanes_ab lanes_ba : List Lane) : Type 0 where
@@ -230,8 +236,8 @@ module _ (start : Start) (can : IsPlain start) where
 
     one_begun : (number : ℕ) (p : PathState Carried) (lanes_ab lanes_ba : List Lane) → PathThere start lanes_ab lanes_ba number p → Holds (with_lanes lanes_ab lanes_ba) → OneBegun number p lanes_ab lanes_ba
     one_begun number p lanes_ab lanes_ba h holds =
-        let others = beside joined lanes_ab lanes_ba reader_a reader_b number h.ab h.ba h.ab_there h.ba_there in
-        let here_is = beside_is joined lanes_ab lanes_ba reader_a reader_b number h.ab h.ba h.ab_there h.ba_there six in
+        let others = beside lanes_ab lanes_ba reader_a reader_b number h.ab h.ba h.ab_there h.ba_there in
+        let here_is = beside_is lanes_ab lanes_ba reader_a reader_b number h.ab h.ba h.ab_there h.ba_there six in
         let c = (path_begins start number h.plan).profile in
         let w : Strolled c (next_round p) h.ab h.ba =
         settles six others c start_of_turn (begun_path p) h.ab h.ba
@@ -251,8 +257,8 @@ module _ (start : Start) (can : IsPlain start) where
           ba = w.ba_after;
           moved = moved;
           path = goes_there lanes_ab lanes_ba number p (next_round p) h w.ab_after w.ba_after (first_keeps (record p { clock = p.until; until = p.until + 100 })).2 w.shows
-              (stands_on number p (next_round p) h.ab h.ba w.ab_after w.ba_after (numbered_by number h.plan p h.shows.profile) longer_ab longer_ba (λ sleeps. begins_asleep p sleeps)
-              (λ joins unclear. (unclear_before p.a.modes.clear _ clears.a unclear, same_there_sent number h.ab w.ab_after e.ab granted (set_same lanes_ab number w.ab_after h.ab h.ab_there)))
+              (stands_on number p (next_round p) h.ab h.ba w.ab_after w.ba_after (numbered_by number h.plan p h.shows.profile) longer_ab longer_ba
+              (λ joins unclear. (unclear_before p.a.modes.clear _ clears.a.0 unclear, same_there_sent number h.ab w.ab_after e.ab granted (set_same lanes_ab number w.ab_after h.ab h.ab_there)))
               h.stands)
               (begins_those h.ab h.ba w.ab_after w.ba_after longer_ab longer_ba p h.knows);
         }
@@ -295,13 +301,12 @@ module _ (start : Start) (can : IsPlain start) where
 
   module _ (t : Cast Carried) (fare : Fare start t) (settled_paths : Every (λ x. IsSettled x.path) t.paths) (lanes_ab lanes_ba : List Lane) (reader_a reader_b : Reader)
       (reads_a : Reads t.a.told t.at_a.list reader_a) (reads_b : Reads t.b.told t.at_b.list reader_b) (paths : From (λ n x. PathThere start lanes_ab lanes_ba n x.path) 0 t.paths)
-      (joined : Bool) (clear : joined ≡ true → FirstIsClear t.paths) (sure : is_sure (books_in t.books).control_a.fall.mode ≡ true → FirstIsClear t.paths)
-      (holds : Holds (duo_of joined (books_in t.books) lanes_ab lanes_ba reader_a reader_b)) where
+      (steady : IsSteady (world_of t)) (holds : Holds (duo_of (books_in t.books) lanes_ab lanes_ba reader_a reader_b)) where
     abbrev six : SixBooks
     six = books_in t.books
 
     abbrev here : Duo
-    here = duo_of joined six lanes_ab lanes_ba reader_a reader_b
+    here = duo_of six lanes_ab lanes_ba reader_a reader_b
 
     unmoved_world : WorldShows start here (world_of t)
     unmoved_world = record {
@@ -309,8 +314,6 @@ module _ (start : Start) (can : IsPlain start) where
       is = refl;
       fare = fare;
       settled = settled_paths;
-      joined = joined;
-      clear = clear;
       lanes_ab = lanes_ab;
       lanes_ba = lanes_ba;
       reader_a = reader_a;
@@ -338,10 +341,10 @@ module _ (start : Start) (can : IsPlain start) where
       path = paths.each number number x (omega arith) there
 
       abbrev others : Others
-      others = beside joined lanes_ab lanes_ba reader_a reader_b number path.ab path.ba path.ab_there path.ba_there
+      others = beside lanes_ab lanes_ba reader_a reader_b number path.ab path.ba path.ab_there path.ba_there
 
       abbrev here_is : duo_at six path.ab path.ba others ≡ here
-      here_is = beside_is joined lanes_ab lanes_ba reader_a reader_b number path.ab path.ba path.ab_there path.ba_there six
+      here_is = beside_is lanes_ab lanes_ba reader_a reader_b number path.ab path.ba path.ab_there path.ba_there six
 
       at_holds : Holds (duo_at six path.ab path.ba others)
       at_holds = subst Holds (sym here_is) holds
@@ -361,83 +364,65 @@ module _ (start : Start) (can : IsPlain start) where
       numbered : p.profile.spelling.path ≡ number
       numbered = numbered_by number path.plan p path.shows.profile
 
-      first_clear : (FirstIsClear t.paths) → number ≡ 0 → p.a.modes.clear ≡ true
-      first_clear clears is = clears x (subst (λ n. slice_get t.paths n ≡ Some x) is there)
+      path_steady : PathIsSteady six number p
+      path_steady = steady.each number (walking x) (map_there walking t.paths number ∙ ap (option_map walking) there)
 
-      -- the lanes before the step, after which the path is this: once A's side is sure they are open
-      pub record Readied (q : PathState Carried) : Type 0 where
-        pub joined_now : Bool
+      -- the lanes before the step, which open where they may
+      pub record Readied : Type 0 where
         pub ab : Lane
         pub ba : Lane
-        pub moved : Moved here (duo_at six ab ba (record others { joined = joined_now }))
+        pub moved : Moved here (duo_at six ab ba others)
         pub shows : PathShows p.profile p ab ba
         pub ready : IsReady p ab ba
-        pub clear_now : joined_now ≡ true → FirstIsClear t.paths
-        pub stands : (ab_after ba_after : Lane) → IsLonger ab ab_after → IsLonger ba ba_after → Unsent p q ab ab_after → StandsSo number q ab_after ba_after
+        pub stands : StandsSo number p ab ba
         pub knows : KnowsThose ab ba p
 
-      readied_at : (duty : Duty) (ds : List Duty) → p.agenda ≡ duty ∷ ds → (b : Bool) → is_sure six.control_a.fall.mode ≡ b → Readied (takes values (reply_of six (ask_for values duty p)) p)
-      readied_at duty ds is false unsure =
-          let ask = ask_for values duty p in
-          let q : PathState Carried = takes values (reply_of six ask) p in
-          let asks : asks_of values p ≡ Some ask = ap (λ xs. asks_first values xs p) is in
+      pub readied : Readied
+      readied =
+          let b : Bool = may_open six number in
+          let opens = open_moves six others path.ab path.ba in
+          let opened : Duo = duo_at six (lane_if b path.ab) (lane_if b path.ba) others in
+          let stands = stands_open b number p path.ab path.ba path.stands in
           record {
-            joined_now = joined;
-            ab = path.ab;
-            ba = path.ba;
-            moved = subst (Moved here) (sym here_is) (unmoved here);
-            shows = own;
-            ready = ready six others p path.ab path.ba (λ zero_is joins. first_clear (clear joins) zero_is) at_holds path.stands;
-            clear_now = clear;
-            stands = λ ab_after ba_after longer_ab longer_ba unsent. stands_on number p q path.ab path.ba ab_after ba_after numbered longer_ab longer_ba
-                (λ sleeps. takes_asleep values (reply_of six ask) p (begins_nothing values six ask p unsure asks sleeps) (settled_paths.each number x there) sleeps) unsent path.stands;
-            knows = path.knows;
-          }
-      readied_at duty ds is true surely =
-          let q : PathState Carried = takes values (reply_of six (ask_for values duty p)) p in
-          let opens = join_moves six others path.ab path.ba in
-          let open_others : Others = record others { joined = true } in
-          let opened : Duo = duo_at six (opened_lane path.ab) (opened_lane path.ba) open_others in
-          record {
-            joined_now = true;
-            ab = opened_lane path.ab;
-            ba = opened_lane path.ba;
+            ab = lane_if b path.ab;
+            ba = lane_if b path.ba;
             moved = subst (λ d. Moved d opened) here_is opens;
-            shows = path_opens p.profile p path.ab path.ba own;
-            ready = ready six open_others p (opened_lane path.ab) (opened_lane path.ba) (λ zero_is joins. first_clear (sure surely) zero_is)
-                (subst Holds (sym opens.to) (events_held opens.events (duo_at six path.ab path.ba others) at_holds)) (stands_open number p path.ab path.ba path.stands);
-            clear_now = λ joins. sure surely;
-            stands = λ ab_after ba_after longer_ab longer_ba unsent. opened_on number p q path.ab path.ba ab_after ba_after numbered longer_ab longer_ba unsent path.stands;
-            knows = path.knows;
+            shows = path_opens_if b p.profile p path.ab path.ba own;
+            ready = ready six others p (lane_if b path.ab) (lane_if b path.ba) path_steady.clear joins
+                (subst Holds (sym opens.to) (events_held opens.events (duo_at six path.ab path.ba others) at_holds)) stands;
+            stands = stands;
+            knows = those_open b p path.ab path.ba path.knows;
           }
+        where
+          opens_by : (b : Bool) (q : Lane) → b ≡ true → (lane_if (b || number == 0) q).opened ≡ true
+          opens_by true q is = refl
+          opens_by false q is = absurd (false≢true is)
 
-      pub readied : (duty : Duty) (ds : List Duty) → p.agenda ≡ duty ∷ ds → Readied (takes values (reply_of six (ask_for values duty p)) p)
-      readied duty ds is = readied_at duty ds is (is_sure six.control_a.fall.mode) refl
+          joins : (n : ℕ) → number ≡ suc n → (s : Side) → may_finish (end_at s p).tcp.state ≡ true → (pick s (lane_if (may_open six number) path.ab) (lane_if (may_open six number) path.ba)).opened ≡ true
+          joins n is A may = opens_by six.control_b.fall.joined path.ab (path_steady.joined n is A may)
+          joins n is B may = opens_by six.control_b.fall.joined path.ba (path_steady.joined n is B may)
 
-      pub readied_holds : {q : PathState Carried} (r : Readied q) → Holds (duo_at six r.ab r.ba (record others { joined = r.joined_now }))
-      readied_holds r = subst Holds (sym r.moved.to) (events_held r.moved.events here holds)
+      pub readied_holds : Holds (duo_at six readied.ab readied.ba others)
+      readied_holds = subst Holds (sym readied.moved.to) (events_held readied.moved.events here holds)
 
       turn_of : (duty : Duty) (ds : List Duty) (is : p.agenda ≡ duty ∷ ds)
-          → let r = readied duty ds is in
-          PathTurn p.profile six (record others { joined = r.joined_now }) (ask_for values duty p) (takes values (reply_of six (ask_for values duty p)) p) r.ab r.ba
+          → let r = readied in PathTurn p.profile six others (ask_for values duty p) (takes values (reply_of six (ask_for values duty p)) p) r.ab r.ba
       turn_of duty ds is =
           let ask = ask_for values duty p in
           let q = answered values duty (reply_of six ask) p in
-          let r = readied duty ds is in
-          let beside_now : Others = record others { joined = r.joined_now } in
-          subst (λ x. PathTurn p.profile six beside_now ask x r.ab r.ba) (sym (ap (λ xs. settles_down (answers values xs (reply_of six ask) p)) is))
-          (path_turn p.profile six beside_now ask q r.ab r.ba q.agenda (readied_holds r)
-          (duty_step six beside_now p r.ab r.ba r.shows (readied_holds r) r.ready path.numbered size short duty (first_of duty ds is)))
+          let r = readied in
+          subst (λ x. PathTurn p.profile six others ask x r.ab r.ba) (sym (ap (λ xs. settles_down (answers values xs (reply_of six ask) p)) is))
+          (path_turn p.profile six others ask q r.ab r.ba q.agenda readied_holds
+          (duty_step six others p r.ab r.ba r.shows readied_holds r.ready path.numbered size short duty (first_of duty ds is) (path_steady.calm duty ds is) (path_steady.may duty ds is)))
 
       duty_stepped : (duty : Duty) (ds : List Duty) → p.agenda ≡ duty ∷ ds → Stepped (Some (ask_for values duty p)) here (world_of (after_path values number x (ask_for values duty p) t))
       duty_stepped duty ds is =
           let ask = ask_for values duty p in
           let q : PathState Carried = takes values (reply_of six ask) p in
-          let r = readied duty ds is in
-          let beside_now : Others = record others { joined = r.joined_now } in
+          let r = readied in
           let turn = turn_of duty ds is in
-          let d : Duo = duo_at six r.ab r.ba beside_now in
-          let e : Duo = duo_at (after_ask ask six) turn.ab_end turn.ba_end beside_now in
+          let d : Duo = duo_at six r.ab r.ba others in
+          let e : Duo = duo_at (after_ask ask six) turn.ab_end turn.ba_end others in
           let there_ab = put_there lanes_ab number r.ab others.within_ab in
           let there_ba = put_there lanes_ba number r.ba others.within_ba in
           let end_ab = put_there lanes_ab number turn.ab_end others.within_ab in
@@ -455,26 +440,24 @@ module _ (start : Start) (can : IsPlain start) where
               is = refl;
               fare = fare_after_path values start t fare number x there duty;
               settled = Every-put number (walked values ask t.books x) (takes_settled duty ds is) settled_paths;
-              joined = r.joined_now;
-              clear = λ joins. clear_after ask (r.clear_now joins);
               lanes_ab = set lanes_ab number turn.ab_end;
               lanes_ba = set lanes_ba number turn.ba_end;
               reader_a = reader_a;
               reader_b = reader_b;
-              duo_is = ap (λ books. duo_of r.joined_now books (set lanes_ab number turn.ab_end) (set lanes_ba number turn.ba_end) reader_a reader_b) (sym (books_after ask x.at.pass t.books));
+              duo_is = ap (λ books. duo_of books (set lanes_ab number turn.ab_end) (set lanes_ba number turn.ba_end) reader_a reader_b) (sym (books_after ask x.at.pass t.books));
               reads_a = reads_a;
               reads_b = reads_b;
               paths = From-put number (walked values ask t.books x)
                   (λ n y apart h. kept_there number turn.ab_end turn.ba_end lanes_ab lanes_ba n y.path apart h)
                   (goes_there lanes_ab lanes_ba number p q path turn.ab_end turn.ba_end (takes_keeps values (reply_of six ask) p).2
                   (subst (λ c. PathShows c q turn.ab_end turn.ba_end) path.shows.profile turn.shows)
-                  (r.stands turn.ab_end turn.ba_end longer_ab longer_ba
-                  (λ joins unclear. let before = unclear_before p.a.modes.clear _ clears.a unclear in (
+                  (stands_on number p q r.ab r.ba turn.ab_end turn.ba_end numbered longer_ab longer_ba
+                  (λ joins unclear. let before = unclear_before p.a.modes.clear _ clears.a.0 unclear in (
                     before,
                     same_there_sent number r.ab turn.ab_end e.ab
-                        (turn_so number r.ab.sent ask d e (grants_clear values p duty (first_of duty ds is) joins before) turn.turn (record { lane = r.ab; there = there_ab; same = refl })) end_ab,
-                  )))
-                  (takes_those r.ab r.ba turn.ab_end turn.ba_end longer_ab longer_ba six beside_now p (reply_of six ask) r.shows (readied_holds r) r.knows))
+                        (turn_so number r.ab.sent ask d e (grants_clear values p duty (first_of duty ds is) joins before (unplain number p numbered path_steady.mode joins)) turn.turn (record { lane = r.ab; there = there_ab; same = refl })) end_ab,
+                  )) r.stands)
+                  (takes_those r.ab r.ba turn.ab_end turn.ba_end longer_ab longer_ba six others p (reply_of six ask) r.shows readied_holds r.knows))
                   paths;
             };
           }
@@ -483,13 +466,6 @@ module _ (start : Start) (can : IsPlain start) where
           takes_settled duty ds is =
               let m = answered values duty (reply_of six (ask_for values duty p)) p in
               subst IsSettled (sym (ap (λ xs. settles_down (answers values xs (reply_of six (ask_for values duty p)) p)) is)) (settled_first m.agenda m)
-
-          -- path 0 stays clear
-          clear_after : (ask : Ask) → FirstIsClear t.paths → FirstIsClear (set t.paths number (walked values ask t.books x))
-          clear_after ask clears y at = ⊎_elim
-              (λ same. subst (λ (z : Walker Carried). z.path.a.modes.clear ≡ true) same.1 ((takes_clear values (answer_to t.books ask) p).a (first_clear clears (sym same.0))))
-              (λ other. clears y other.1)
-              (in_set t.paths number (walked values ask t.books x) 0 y at)
 
       path_step : (ds : List Duty) → p.agenda ≡ ds → Stepped (asks_first values ds p) here (path_asked values number x (asks_first values ds p) t)
       path_step [] is = stays_here
@@ -501,23 +477,21 @@ module _ (start : Start) (can : IsPlain start) where
     step_of_a [] is = stays_here
     step_of_a (duty ∷ ds) is =
         let ask = app_ask duty t.a in
-        let turn : TurnOfA joined six lanes_ab lanes_ba reader_a reader_b t.a t.at_a.list (note_of t.books t.at_a.pass ask) t.a duty =
-        turn_of_a joined six lanes_ab lanes_ba reader_a reader_b t.a t.at_a.list (note_of t.books t.at_a.pass ask) duty fare.a.side_is (subst (λ xs. FirstAppStands xs t.a) is fare.a.settled) refl reads_a in
+        let turn : TurnOfA six lanes_ab lanes_ba reader_a reader_b t.a t.at_a.list (note_of t.books t.at_a.pass ask) t.a duty =
+        turn_of_a six lanes_ab lanes_ba reader_a reader_b t.a t.at_a.list (note_of t.books t.at_a.pass ask) duty fare.a.side_is (subst (λ xs. FirstAppStands xs t.a) is fare.a.settled) refl reads_a in
         record {
-          duo = duo_of joined (after_ask ask six) lanes_ab lanes_ba turn.reader reader_b;
+          duo = duo_of (after_ask ask six) lanes_ab lanes_ba turn.reader reader_b;
           turn_shows = turn.turn;
           world_shows = record {
             cast = after_a ask t;
             is = refl;
             fare = fare_after_a start t fare duty ds is;
             settled = settled_paths;
-            joined = joined;
-            clear = clear;
             lanes_ab = lanes_ab;
             lanes_ba = lanes_ba;
             reader_a = turn.reader;
             reader_b = reader_b;
-            duo_is = ap (λ books. duo_of joined books lanes_ab lanes_ba turn.reader reader_b) (sym (books_after ask t.at_a.pass t.books));
+            duo_is = ap (λ books. duo_of books lanes_ab lanes_ba turn.reader reader_b) (sym (books_after ask t.at_a.pass t.books));
             reads_a = subst (λ told. Reads told (after_a ask t).at_a.list turn.reader) (sym (taken_told duty ds (answer_to t.books ask) t.a is)) turn.reads;
             reads_b = reads_b;
             paths = paths;
@@ -528,23 +502,21 @@ module _ (start : Start) (can : IsPlain start) where
     step_of_b [] is = stays_here
     step_of_b (duty ∷ ds) is =
         let ask = app_ask duty t.b in
-        let turn : TurnOfB joined six lanes_ab lanes_ba reader_a reader_b t.b t.at_b.list (note_of t.books t.at_b.pass ask) t.b duty =
-        turn_of_b joined six lanes_ab lanes_ba reader_a reader_b t.b t.at_b.list (note_of t.books t.at_b.pass ask) duty fare.b.side_is (subst (λ xs. FirstAppStands xs t.b) is fare.b.settled) refl reads_b in
+        let turn : TurnOfB six lanes_ab lanes_ba reader_a reader_b t.b t.at_b.list (note_of t.books t.at_b.pass ask) t.b duty =
+        turn_of_b six lanes_ab lanes_ba reader_a reader_b t.b t.at_b.list (note_of t.books t.at_b.pass ask) duty fare.b.side_is (subst (λ xs. FirstAppStands xs t.b) is fare.b.settled) refl reads_b in
         record {
-          duo = duo_of joined (after_ask ask six) lanes_ab lanes_ba reader_a turn.reader;
+          duo = duo_of (after_ask ask six) lanes_ab lanes_ba reader_a turn.reader;
           turn_shows = turn.turn;
           world_shows = record {
             cast = after_b ask t;
             is = refl;
             fare = fare_after_b start t fare duty ds is;
             settled = settled_paths;
-            joined = joined;
-            clear = clear;
             lanes_ab = lanes_ab;
             lanes_ba = lanes_ba;
             reader_a = reader_a;
             reader_b = turn.reader;
-            duo_is = ap (λ books. duo_of joined books lanes_ab lanes_ba reader_a turn.reader) (sym (books_after ask t.at_b.pass t.books));
+            duo_is = ap (λ books. duo_of books lanes_ab lanes_ba reader_a turn.reader) (sym (books_after ask t.at_b.pass t.books));
             reads_a = reads_a;
             reads_b = subst (λ told. Reads told (after_b ask t).at_b.list turn.reader) (sym (taken_told duty ds (answer_to t.books ask) t.b is)) turn.reads;
             paths = paths;
@@ -558,11 +530,11 @@ module _ (start : Start) (can : IsPlain start) where
 
     begun : Stepped None here (end_round_of (world_of t) true)
     begun =
-        let all = all_begun joined six reader_a reader_b 0 t.paths lanes_ab lanes_ba paths holds in
+        let all = all_begun six reader_a reader_b 0 t.paths lanes_ab lanes_ba paths holds in
         let next = next_cast t in
         record {
-          duo = duo_of joined six all.ab_after all.ba_after reader_a reader_b;
-          turn_shows = moved_turn here (duo_of joined six all.ab_after all.ba_after reader_a reader_b) all.moved;
+          duo = duo_of six all.ab_after all.ba_after reader_a reader_b;
+          turn_shows = moved_turn here (duo_of six all.ab_after all.ba_after reader_a reader_b) all.moved;
           world_shows = record {
             cast = next;
             is = next_is t;
@@ -571,9 +543,6 @@ module _ (start : Start) (can : IsPlain start) where
               each = λ i y at. let found = in_map (walks_on (greatest 0 (world_of t).crew)) t.paths i y at in
                   subst (λ z. IsSettled z.path) found.2 (settled_first start_of_turn (begun_path found.0.path));
             };
-            joined = joined;
-            clear = λ joins y at. let found = in_map (walks_on (greatest 0 (world_of t).crew)) t.paths 0 y at in
-                subst (λ (z : Walker Carried). z.path.a.modes.clear ≡ true) found.2 ((next_clear found.0.path).a (clear joins found.0 found.1));
             lanes_ab = all.ab_after;
             lanes_ba = all.ba_after;
             reader_a = reader_a;
@@ -618,13 +587,9 @@ module _ (start : Start) (can : IsPlain start) where
 
 -- ---- every turn
 
--- A's side is sure only where path 0 is clear
-pub sure_of : (t : Cast Carried) → SureIsClear (world_of t) → is_sure (books_in t.books).control_a.fall.mode ≡ true → FirstIsClear t.paths
-sure_of t h is x there = h is (walking x) (map_there walking t.paths 0 ∙ ap (option_map walking) there)
-
 pub each_turn_shows : EachTurnShows
-each_turn_shows start can turn d w sure holds h =
-    let x = turn_step start can h.cast h.fare h.settled h.lanes_ab h.lanes_ba h.reader_a h.reader_b h.reads_a h.reads_b h.paths h.joined h.clear
-    (sure_of h.cast (subst SureIsClear h.is sure)) (subst Holds h.duo_is holds) turn in
+each_turn_shows start can turn d w steady holds h =
+    let x = turn_step start can h.cast h.fare h.settled h.lanes_ab h.lanes_ba h.reader_a h.reader_b h.reads_a h.reads_b h.paths
+    (subst IsSteady h.is steady) (subst Holds h.duo_is holds) turn in
     let at_duo : Shown start turn d (world_of h.cast) = subst (λ y. Shown start turn y (world_of h.cast)) (sym h.duo_is) x in
     subst (Shown start turn d) (sym h.is) at_duo

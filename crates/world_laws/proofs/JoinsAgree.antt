@@ -1,13 +1,12 @@
--- No step is answered that a token isn't that of the book's key, or that an HMAC is wrong, where a script strips nothing: A's book has
--- B's key as soon as it is sure, so each join begins with it.
-use Rattle.std.proofs.Common.{◌≡◌, refl, sym, ◌∙◌, ap, subst, inl, inr, ◌⊎◌, ⊎_elim, ℕ, zero, suc, ◌+◌, ◌==◌, ◌&&◌, ◌||◌, not, is_some, Bool, true, false, if◌then◌else◌, Option, Some, None, List, [], ◌∷◌, map}
-use Rattle.std.proofs.lemmas.Bool.{and_parts, both_ways, false≢true}
+-- No step is answered that a token isn't that of the book's key, or that an HMAC is wrong, whatever is stripped: A's book has B's key
+-- as soon as it is sure, so each join begins with it.
+use Rattle.std.proofs.Common.{◌≡◌, refl, sym, ◌∙◌, ap, subst, inl, inr, ◌⊎◌, ⊎_elim, ℕ, zero, suc, ◌+◌, ◌==◌, ◌&&◌, ◌||◌, not, is_some, is_none, arith, Bool, true, false, if◌then◌else◌, Option, Some, None, List, [], ◌∷◌, map}
+use Rattle.std.proofs.lemmas.Bool.{and_parts, both_ways, false≢true, or_right, lt-ltb}
 use Rattle.std.proofs.lemmas.Option.{same_Some}
 use Rattle.std.specs.List.{slice_get}
 use Rattle.std.specs.Option.{IfSome}
 use Rattle.outside_kit.specs.declared.side.Side.{Side}
 use Rattle.outside_kit.specs.declared.side.Side.TheVariants.{A, B}
-use Rattle.key_material.specs.KeyDigest.{token_of}
 use Rattle.subflow_send.specs.Records.{Record}
 use Rattle.loss_recovery.specs.declared.windows.Pending.{Pending}
 use Rattle.join_handshake.specs.declared.hearing.JoinSyn.{JoinSyn}
@@ -18,11 +17,11 @@ use Rattle.control_book.specs.declared.call.Notice.{Notice}
 use Rattle.control_book.specs.declared.call.Notice.TheVariants as notices
 use Rattle.control_book.specs.declared.registry.Phase.TheVariants.{Opening}
 use Rattle.control_book.specs.Control.{Control}
-use Rattle.control_book.specs.Registry.{stands as stands_path, with_phase}
+use Rattle.control_book.specs.Registry.{sole as sole_path, stands as stands_path, with_phase}
 use Rattle.control_book.specs.Replies as control
 use Rattle.control_book.specs.Steps as controlling
 use Rattle.stream_lanes.specs.Words.{Every}
-use Rattle.stream_lanes.proofs.Lists.{Every-nil, in_set, in_map}
+use Rattle.stream_lanes.proofs.Lists.{in_set, in_map}
 use Rattle.actor_desk.specs.declared.ask.Ask.{Ask}
 use Rattle.actor_desk.specs.declared.ask.Ask.TheVariants as asks
 use Rattle.actor_desk.specs.declared.ask.Reply.TheVariants as replies
@@ -33,7 +32,6 @@ use Rattle.stream_apps.specs.declared.duty.AppDuty.{AppDuty}
 use Rattle.stream_apps.specs.declared.duty.AppDuty.TheVariants as app_duties
 use Rattle.stream_apps.specs.Apps.{AppState}
 use Rattle.stream_apps.specs.AppSteps.{app_asks_first}
-use Rattle.path_agenda.specs.Agenda.{start_of_turn}
 use Rattle.path_agenda.specs.Items.{key_heard, keys_heard}
 use Rattle.path_agenda.specs.declared.duty.Duty.{Duty}
 use Rattle.path_agenda.specs.declared.duty.Duty.TheVariants as duties
@@ -46,41 +44,63 @@ use Rattle.path_core.specs.Breaking.{break_ask, reset_of}
 use Rattle.path_core.specs.Duties.{ask_for}
 use Rattle.path_core.specs.Emission.{first_unsent, data_ask}
 use Rattle.path_core.specs.Events.{next_event, step_for}
-use Rattle.path_core.specs.Joining.{asked_at, join_heard_ask, keys_begun}
+use Rattle.path_core.specs.Joining.{asked_at, join_heard_ask}
 use Rattle.path_core.specs.Joins.{is_joined}
-use Rattle.path_core.specs.Opening.{peer_key_ask, keys_ask}
-use Rattle.path_core.specs.Passing.{piece_of, piece_ask, fin_of, fin_ask, rate_ask}
+use Rattle.path_core.specs.Opening.{peer_key_ask, opened_ask}
+use Rattle.path_core.specs.Passing.{piece_of, piece_ask, fin_of, fin_ask, plain_fin, rate_ask}
 use Rattle.path_core.specs.Placing.{Piece}
 use Rattle.path_core.specs.Sends.{sends}
 use Rattle.path_core.specs.Standing.{ack_out_ask}
 use Rattle.path_core.specs.Starts.{waiting_path}
-use Rattle.path_core.specs.State.{PathState, end_at, with_agenda}
+use Rattle.path_core.specs.State.{PathState, end_at}
 use Rattle.path_core.specs.Steps.{asks_first, asks_of}
-use Rattle.path_core.specs.Treating.{is_clash, fell_ask, mapping_ask, item_ask, item_of}
+use Rattle.path_core.specs.Treating.{breaks_by_ack, plain_ack_ask, is_clash, fell_ask, mapping_ask, item_ask, item_of}
+use Rattle.fallback_state.specs.declared.fall.Event.{Event as FallEvent}
 use Rattle.fallback_state.specs.declared.fall.Event.TheVariants as events
+use Rattle.fallback_state.specs.declared.fall.Fall.{Fall}
+use Rattle.fallback_state.specs.declared.fall.Mode.{Mode}
+use Rattle.fallback_state.specs.declared.fall.Mode.TheVariants as modes
+use Rattle.fallback_state.specs.declared.fall.Verdict.{Verdict}
+use Rattle.fallback_state.specs.declared.fall.Verdict.TheVariants.{Stay}
+use Rattle.fallback_state.specs.Modes.{is_starting, is_identity, reads_mappings, writes_mappings, receiving}
+use Rattle.fallback_state.specs.Table.{after_plain, is_failed_path, goes, stays, breaks, fall_step}
 use Rattle.path_core.specs.Values.{Carried, values}
 use Rattle.world_laws.specs.declared.member.Member.TheVariants.{App, Path}
 use Rattle.world_laws.specs.Actors.{Actor, ActorCrew, is_over, member_asks, member_takes, member_next}
 use Rattle.world_laws.specs.Openings.{PathPlan, Start, path_begins, new_path, opened_world}
-use Rattle.world_laws.specs.Promises.{IsPlain, IsPromised, JoinsAreRight, tells_wrong_join}
+use Rattle.world_laws.specs.Laws.{Always}
+use Rattle.world_laws.specs.Promises.{JoinsAreRight, tells_wrong_join}
 use Rattle.world_laws.specs.Worlds.{WorldState, Turn, crew_after, asked, stepped, world_step, all_over, greatest, begins, end_round, after_turn, world_run}
 use Rattle.world_laws.proofs.Journaling.{books_after}
-use Rattle.world_laws.proofs.KeysMet.{is_apart, HasPeer, is_sign_duty, is_met, signs, IsNoSyn}
-use Rattle.world_laws.proofs.KeysLearned.{PathMet, Gains, CallGains, is_noted, more_met}
+use Rattle.world_laws.proofs.Falls.{IsNoStop, Fallen, event_falls}
+use Rattle.world_laws.proofs.KeysMet.{is_sign_duty, signs}
+use Rattle.world_laws.proofs.KeysLearned.{mode_told, ModeGains, FellGains, CallGains, Gains, PathMet, more_met}
 use Rattle.world_laws.proofs.KeysTaken.{takes_met, begun_turn}
-use Rattle.world_laws.proofs.KeysWoken.{is_up}
-use Rattle.world_laws.proofs.KeysAgree.{BookIs, PathKeys, MemberIs, WorldIs, KeysAsk, member_asks_are, turn_keys, opened_keys, joins_untold}
+use Rattle.world_laws.proofs.KeysWoken.{is_said_by, speaks}
+use Rattle.world_laws.proofs.KeysHeld.{IsSign}
+use Rattle.world_laws.proofs.RoundFrame.{takes_keeps, first_keeps}
+use Rattle.world_laws.proofs.KeysAgree.{MemberIs, WorldIs, KeysAsk, member_asks_are, turn_keys, opened_keys, joins_untold}
 use Rattle.world_laws.proofs.Opened.{opened_actors}
 use Rattle.world_laws.proofs.PromisesNotes.{NoneTold, from_each, turn_none, opened_none}
 
 -- ---- who tells a sign
 
+-- by these A's side may become sure
+abbrev is_sign : FallEvent → Bool
+is_sign events.MappingHeard = true
+is_sign events.AckHeard = true
+is_sign _ = false
+
 -- A's book is told a sign of B
 abbrev is_fell : Ask → Bool
-is_fell (asks.Control A (control_calls.Fell path event)) = true
+is_fell (asks.Control A (control_calls.Fell path event)) = is_sign event
 is_fell _ = false
 
 module _ (p : PathState Carried) where
+  no_fell : (s : Side) (event : FallEvent) → is_sign event ≡ false → is_fell (fell_ask s event p) ≡ false
+  no_fell A event none = none
+  no_fell B event none = refl
+
   no_data : (s : Side) (o : Option Record) → is_fell (data_ask values s o p) ≡ false
   no_data s None = refl
   no_data s (Some r) = refl
@@ -92,13 +112,13 @@ module _ (p : PathState Carried) where
   no_step (Some (happening.Arrives due)) = refl
   no_step (Some (happening.Fires s tick)) = refl
 
-  no_key : (s : Side) (o : Option ℕ) → is_fell (peer_key_ask s o) ≡ false
+  no_key : (s : Side) (o : Option ℕ) → is_fell (peer_key_ask s o p) ≡ false
   no_key A None = refl
   no_key A (Some key) = refl
   no_key B None = refl
   no_key B (Some key) = refl
 
-  no_keys : (s : Side) (o : Option KeyPair) → is_fell (keys_ask s o) ≡ false
+  no_keys : (s : Side) (o : Option KeyPair) → is_fell (opened_ask s o p) ≡ false
   no_keys A None = refl
   no_keys A (Some keys) = refl
   no_keys B None = refl
@@ -117,6 +137,13 @@ module _ (p : PathState Carried) where
       by true = refl
       by false = refl
 
+  no_plain_ack : (s : Side) → is_fell (plain_ack_ask values s p) ≡ false
+  no_plain_ack s = by (breaks_by_ack p.profile (end_at s p))
+    where
+      by : (b : Bool) → is_fell (if b then break_ask values s 6 p else fell_ask s events.PlainAck p) ≡ false
+      by true = no_break s 6
+      by false = no_fell s events.PlainAck refl
+
   no_mapping : is_fell (mapping_ask values B p) ≡ false
   no_mapping = by (is_clash (end_at B p))
     where
@@ -130,6 +157,7 @@ module _ (p : PathState Carried) where
   no_item (Some (says.DataAck next window)) = refl
   no_item (Some says.Mapping) = no_mapping
   no_item (Some (says.DataFin place)) = refl
+  no_item (Some says.InfiniteMapping) = refl
   no_item (Some (says.PeerKey key)) = refl
   no_item (Some (says.Keys mine other)) = refl
   no_item (Some (says.Join form)) = refl
@@ -163,6 +191,7 @@ module _ (p : PathState Carried) where
   fell_signs duties.Events none = no_step (next_event p)
   fell_signs (duties.SynHeard s) none = refl
   fell_signs (duties.SynAnswered s) none = refl
+  fell_signs (duties.PlainHandshake s) none = no_fell s events.PlainHandshake refl
   fell_signs (duties.PeerKey s) none = no_key s (key_heard (end_at s p).treated.items)
   fell_signs (duties.SynAck s) none = refl
   fell_signs (duties.JoinHeard s) none = no_join s (asked_at s p)
@@ -174,7 +203,12 @@ module _ (p : PathState Carried) where
   fell_signs (duties.Heard B index) none = no_item (item_of index (end_at B p))
   fell_signs (duties.AckHeard A) none = absurd (false≢true (sym none))
   fell_signs (duties.AckHeard B) none = refl
-  fell_signs (duties.PlainAck s) none = no_break s 6
+  fell_signs (duties.PlainAck s) none = no_plain_ack s
+  fell_signs (duties.SubflowAck s) none = refl
+  fell_signs (duties.PlainData s) none = no_fell s events.PlainData refl
+  fell_signs (duties.GoIdentity s) none = refl
+  fell_signs (duties.Unmapped s) none = no_break s 6
+  fell_signs (duties.SubflowFin s) none = no_fin s (plain_fin (end_at s p))
   fell_signs (duties.Keep s) none = refl
   fell_signs (duties.Edge s) none = no_piece s (piece_of s p)
   fell_signs (duties.HeardFin s index) none = no_fin s (fin_of index (end_at s p))
@@ -195,28 +229,170 @@ module _ (p : PathState Carried) where
   fell_signs (duties.Dead B) none = refl
   fell_signs duties.End none = refl
 
-  -- so A has the key where it tells one
-  asked_signs : (T : Type 0) (x : Ask) → asks_of values p ≡ Some x → is_fell x ≡ true → PathMet T p → T
-  asked_signs T x is fell (inl h) = by p.agenda refl is
+  -- so the path has a sign's duty where it tells one
+  asked_sign : (T : Type 0) (x : Ask) → asks_of values p ≡ Some x → is_fell x ≡ true → (signs p.agenda ≡ true → T) → T
+  asked_sign T x is fell told = by p.agenda refl is
     where
       at : (d : Duty) (ds : List Duty) (b : Bool) → is_sign_duty d ≡ b → p.agenda ≡ d ∷ ds → is_fell (ask_for values d p) ≡ true → T
-      at d ds true sign same told = h.told (h.signed (ap signs same ∙ ap (λ c. c || signs ds) sign))
-      at d ds false sign same told = absurd (both_ways _ (fell_signs d sign) told)
+      at d ds true sign same fell = told (ap signs same ∙ ap (λ c. c || signs ds) sign)
+      at d ds false sign same fell = absurd (both_ways _ (fell_signs d sign) fell)
 
       by : (ds : List Duty) → p.agenda ≡ ds → asks_first values ds p ≡ Some x → T
       by [] same is = cc
       by (d ∷ ds) same is = at d ds (is_sign_duty d) refl same (ap is_fell (same_Some _ x is) ∙ fell)
-  asked_signs T x is fell (inr h) = by h.first (sym (ap (λ ds. asks_first values ds p) h.agenda_is) ∙ is)
+
+  -- on path 0
+  asked_first : (T : Type 0) (x : Ask) → asks_of values p ≡ Some x → is_fell x ≡ true → PathMet T p → T
+  asked_first T x is fell (inl h) = asked_sign T x is fell h.signed
+  asked_first T x is fell (inr h) = by h.begins (sym (ap (λ ds. asks_first values ds p) h.agenda_is) ∙ is)
     where
-      by : (first : Bool) → asks_first values (if first then duties.SynAnswered A ∷ duties.PeerKey A ∷ h.rest else duties.PeerKey A ∷ h.rest) p ≡ Some x → T
+      by : (begins : Bool) → asks_first values (if begins then duties.SynAnswered A ∷ duties.PeerKey A ∷ h.rest else duties.PeerKey A ∷ h.rest) p ≡ Some x → T
       by true is = absurd (both_ways (is_fell (ask_for values (duties.SynAnswered A) p)) refl (ap is_fell (same_Some _ x is) ∙ fell))
       by false is = absurd (both_ways _ (no_key A (key_heard (end_at A p).treated.items)) (ap is_fell (same_Some _ x is) ∙ fell))
+
+  -- a sign is told by a side that joined, on a path that joins
+  sign_speaks : (ds : List Duty) → signs ds ≡ true → speaks (inl A) ds ≡ true
+  sign_speaks [] is = is
+  sign_speaks (d ∷ ds) is = by (is_sign_duty d) refl is (sign_speaks ds)
+    where
+      said : (d : Duty) → is_sign_duty d ≡ true → is_said_by (inl A) d ≡ true
+      said (duties.Heard A index) is = refl
+      said (duties.AckHeard A) is = refl
+      said (duties.Heard B index) is = absurd (false≢true is)
+      said (duties.AckHeard B) is = absurd (false≢true is)
+      said duties.Events is = absurd (false≢true is)
+      said _ is = absurd (false≢true is)
+
+      by : (b : Bool) → is_sign_duty d ≡ b → b || signs ds ≡ true → (signs ds ≡ true → speaks (inl A) ds ≡ true) → is_said_by (inl A) d || speaks (inl A) ds ≡ true
+      by true sign is rest = ap (λ c. c || speaks (inl A) ds) (said d sign)
+      by false sign is rest = or_right (is_said_by (inl A) d) (speaks (inl A) ds) (rest is)
 
 -- ---- A's control book
 
 -- it has the peer's key
 abbrev pub HasKey : Control → Type 0
 HasKey c = is_some c.keys.peer ≡ true
+
+-- its side is past being sure
+abbrev pub is_gone : Mode → Bool
+is_gone modes.Starting = false
+is_gone modes.Sure = false
+is_gone modes.Identity = true
+is_gone modes.InfiniteSend = true
+is_gone modes.InfiniteReceive = true
+is_gone modes.InfiniteBoth = true
+is_gone modes.Aborted = true
+
+abbrev pub Knew : Control → Type 0
+Knew c = HasKey c ⊎ (is_gone c.fall.mode ≡ true)
+
+-- where its side is sure, or joined, it has the key
+pub record Fine (c : Control) : Type 0 where
+  pub sure : control.is_sure c.fall.mode ≡ true → HasKey c
+  pub joined : c.fall.joined ≡ true → HasKey c
+
+sure_or_gone : (m : Mode) → is_starting m ≡ false → (control.is_sure m ≡ true) ⊎ (is_gone m ≡ true)
+sure_or_gone modes.Starting is = absurd (false≢true (sym is))
+sure_or_gone modes.Sure is = inl refl
+sure_or_gone modes.Identity is = inr refl
+sure_or_gone modes.InfiniteSend is = inr refl
+sure_or_gone modes.InfiniteReceive is = inr refl
+sure_or_gone modes.InfiniteBoth is = inr refl
+sure_or_gone modes.Aborted is = inr refl
+
+knew_past : (c : Control) → Fine c → is_starting c.fall.mode ≡ false → Knew c
+knew_past c fine is = ⊎_elim (λ sure. inl (fine.sure sure)) (λ gone. inr gone) (sure_or_gone c.fall.mode is)
+
+gone_stays_out : (m : Mode) → is_gone m ≡ true → (is_starting m ≡ false) × (control.is_sure m ≡ false)
+gone_stays_out modes.Starting is = absurd (false≢true is)
+gone_stays_out modes.Sure is = absurd (false≢true is)
+gone_stays_out modes.Identity is = (refl, refl)
+gone_stays_out modes.InfiniteSend is = (refl, refl)
+gone_stays_out modes.InfiniteReceive is = (refl, refl)
+gone_stays_out modes.InfiniteBoth is = (refl, refl)
+gone_stays_out modes.Aborted is = (refl, refl)
+
+receiving_gone : (m : Mode) → is_gone (receiving m) ≡ true
+receiving_gone modes.Starting = refl
+receiving_gone modes.Sure = refl
+receiving_gone modes.Identity = refl
+receiving_gone modes.InfiniteSend = refl
+receiving_gone modes.InfiniteReceive = refl
+receiving_gone modes.InfiniteBoth = refl
+receiving_gone modes.Aborted = refl
+
+-- what an event makes of a fall: it is gone, or sure as before, or it starts and a sign of B came; and the verdict tells the mode
+record Turned (sign : Bool) (f : Fall) (row : Fall × Verdict) : Type 0 where
+  pub gone : is_gone f.mode ≡ true → is_gone row.0.mode ≡ true
+  pub sure : control.is_sure row.0.mode ≡ true → (control.is_sure f.mode ≡ true) ⊎ ((sign ≡ true) × (is_starting f.mode ≡ true))
+  pub told : IfSome (mode_told (replies.Control (control_replies.Verdict row.1))) (λ mode. row.0.mode ≡ mode)
+
+stays_turned : (sign : Bool) (f : Fall) → Turned sign f (stays f)
+stays_turned sign f = record { gone = λ is. is; sure = λ is. inl is; told = tt }
+
+breaks_turned : (sign : Bool) (reason : ℕ) (f : Fall) → Turned sign f (breaks reason f)
+breaks_turned sign reason f = record { gone = λ is. is; sure = λ is. inl is; told = tt }
+
+goes_turned : (sign : Bool) (mode : Mode) (f : Fall) → is_gone mode ≡ true → Turned sign f (goes mode f)
+goes_turned sign mode f gone = record { gone = λ is. gone; sure = λ is. absurd (both_ways _ (gone_stays_out mode gone).1 is); told = refl }
+
+turned_if : (sign : Bool) (f : Fall) (b : Bool) (x y : Fall × Verdict) → (b ≡ true → Turned sign f x) → (b ≡ false → Turned sign f y) → Turned sign f (if b then x else y)
+turned_if sign f true x y is isnt = is refl
+turned_if sign f false x y is isnt = isnt refl
+
+sign_turned : (f : Fall) → Turned true f (if is_starting f.mode then goes modes.Sure f else stays f)
+sign_turned f =
+    turned_if true f (is_starting f.mode) (goes modes.Sure f) (stays f)
+    (λ is. record { gone = λ gone. absurd (both_ways _ (gone_stays_out f.mode gone).0 is); sure = λ sure. inr (refl, is); told = refl }) (λ isnt. stays_turned true f)
+
+plain_turned : (sign : Bool) (f : Fall) → Turned sign f (if is_starting f.mode && not f.joined then goes modes.Identity f else stays f)
+plain_turned sign f =
+    turned_if sign f (is_starting f.mode && not f.joined) (goes modes.Identity f) (stays f) (λ is. goes_turned sign modes.Identity f refl) (λ isnt. stays_turned sign f)
+
+infinite_turned : (sign : Bool) (path : ℕ) (sole : Bool) (f : Fall) → Turned sign f (fall_step f path sole events.InfiniteHeard)
+infinite_turned sign path sole f =
+    let falls : Bool = writes_mappings f.mode && not f.joined && is_none f.failed in
+    let last : Fall × Verdict = if falls then goes modes.Identity f else breaks 1 f in
+    let rest : Fall × Verdict = if sole && is_failed_path f.failed path then goes (receiving f.mode) f else last in
+    turned_if sign f (not (reads_mappings f.mode)) (stays f) rest (λ is. stays_turned sign f)
+    (λ reads. turned_if sign f (sole && is_failed_path f.failed path) (goes (receiving f.mode) f) last (λ is. goes_turned sign (receiving f.mode) f (receiving_gone f.mode))
+    (λ isnt. turned_if sign f falls (goes modes.Identity f) (breaks 1 f) (λ is. goes_turned sign modes.Identity f refl) (λ other. breaks_turned sign 1 f)))
+
+event_turned : (path : ℕ) (sole : Bool) (event : FallEvent) (f : Fall) → IsSign event → Turned (is_sign event) f (fall_step f path sole event)
+event_turned path sole events.MappingHeard f is = sign_turned f
+event_turned path sole events.AckHeard f is = sign_turned f
+event_turned path sole events.PlainHandshake f is = plain_turned false f
+event_turned path sole events.PlainData f is = plain_turned false f
+event_turned path sole events.PlainAck f is = plain_turned false f
+event_turned path sole events.InfiniteHeard f is = infinite_turned false path sole f
+event_turned path sole events.KeysHeard f is = absurd is
+event_turned path sole events.CheckFailed f is = absurd is
+event_turned path sole (events.FailHeard contiguous) f is = absurd is
+event_turned path sole events.Stop f is = absurd is
+
+-- what a call makes of a book
+record Keeps (c d : Control) : Type 0 where
+  pub key : HasKey c → HasKey d
+  pub gone : is_gone c.fall.mode ≡ true → is_gone d.fall.mode ≡ true
+  pub fine : Fine c → Fine d
+
+knew_keeps : (c d : Control) → Keeps c d → Knew c → Knew d
+knew_keeps c d keeps (inl has) = inl (keeps.key has)
+knew_keeps c d keeps (inr gone) = inr (keeps.gone gone)
+
+same_keeps : (c d : Control) → d.keys ≡ c.keys → d.fall ≡ c.fall → Keeps c d
+same_keeps c d keys fall = record {
+  key = λ has. ap (λ x. is_some x.peer) keys ∙ has;
+  gone = λ is. ap (λ f. is_gone f.mode) fall ∙ is;
+  fine = λ fine. record {
+    sure = λ is. ap (λ x. is_some x.peer) keys ∙ fine.sure (ap (λ f. control.is_sure f.mode) (sym fall) ∙ is);
+    joined = λ is. ap (λ x. is_some x.peer) keys ∙ fine.joined (ap (λ f. f.joined) (sym fall) ∙ is);
+  };
+}
+
+if_keeps : (b : Bool) (c d e : Control) → (b ≡ true → Keeps c d) → Keeps c e → Keeps c (if b then d else e)
+if_keeps true c d e x y = x refl
+if_keeps false c d e x y = y
 
 notice_keys : (n : Notice) (path : ℕ) (c : Control) → ((controlling.after_notice n path c).keys ≡ c.keys) × ((controlling.after_notice n path c).fall ≡ c.fall)
 notice_keys (notices.Withdraw id) path c = (refl, refl)
@@ -225,141 +401,180 @@ notice_keys (notices.Announce id) path c = (refl, refl)
 notice_keys (notices.Carrier key) path c = (refl, refl)
 notice_keys notices.Reset path c = (refl, refl)
 
--- what a call makes of a book that has the key, and of one that is sure
-record Keeps (c d : Control) : Type 0 where
-  pub key : HasKey c → HasKey d
-  pub sure : control.is_sure d.fall.mode ≡ true → HasKey d ⊎ (control.is_sure c.fall.mode ≡ true)
+-- a book that has the key is fine
+keyed_keeps : (c d : Control) → HasKey d → (is_gone c.fall.mode ≡ true → is_gone d.fall.mode ≡ true) → Keeps c d
+keyed_keeps c d has gone = record { key = λ was. has; gone = gone; fine = λ fine. record { sure = λ is. has; joined = λ is. has } }
 
-same_keeps : (c d : Control) → d.keys ≡ c.keys → d.fall.mode ≡ c.fall.mode → Keeps c d
-same_keeps c d keys mode = record { key = λ has. ap (λ x. is_some x.peer) keys ∙ has; sure = λ is. inr (ap control.is_sure (sym mode) ∙ is) }
-
-if_keeps : (b : Bool) (c d e : Control) → Keeps c d → Keeps c e → Keeps c (if b then d else e)
-if_keeps true c d e x y = x
-if_keeps false c d e x y = y
+keys_mode : (f : Fall) → (fall_step f 0 false events.KeysHeard).0.mode ≡ f.mode
+keys_mode f = by (is_identity f.mode)
+  where
+    by : (b : Bool) → (if b then stays f else (record f { confirmed = true }, Stay)).0.mode ≡ f.mode
+    by true = refl
+    by false = refl
 
 module _ (key_a key_b : ℕ) where
-  -- where a sign is told the book has the key already
-  call_keeps : (c : Control) (call : ControlCall) → KeysAsk key_a key_b true (asks.Control A call) → (is_fell (asks.Control A call) ≡ true → HasKey c) → Keeps c (controlling.after c call)
-  call_keeps c (control_calls.Look path) is sign = let same = notice_keys (control.notice_on c path) path c in same_keeps c _ same.0 (ap (λ f. f.mode) same.1)
-  call_keeps c (control_calls.PeerKey key) is sign = record { key = λ has. refl; sure = λ sure. inl refl }
-  call_keeps c (control_calls.Keys own other) is sign =
-      if_keeps (own == c.keys.own) c (controlling.after_event 0 false events.KeysHeard (controlling.after_peer_key other c)) c
-      (record { key = λ has. refl; sure = λ sure. inl refl }) (same_keeps c c refl refl)
-  call_keeps c (control_calls.Fell path event) is sign = record { key = λ has. has; sure = λ sure. inl (sign refl) }
-  call_keeps c (control_calls.JoinBegin path) is sign =
-      let d : Control = controlling.after_join (record c { paths = with_phase path Opening c.paths }) in
-      if_keeps (control.is_sure c.fall.mode) c d c (same_keeps c d refl refl) (same_keeps c c refl refl)
-  call_keeps c (control_calls.JoinHeard path token) is sign =
-      if_keeps (token == token_of c.keys.own && c.fall.confirmed && (control.is_starting c.fall.mode || control.is_sure c.fall.mode)) c (controlling.after_join c) c
-      (same_keeps c (controlling.after_join c) refl refl) (same_keeps c c refl refl)
-  call_keeps c (control_calls.Live path backup) is sign = same_keeps c _ refl refl
-  call_keeps c (control_calls.Dead path) is sign = same_keeps c _ refl refl
-  call_keeps c (control_calls.Rate path window rtt) is sign = same_keeps c _ refl refl
-  call_keeps c (control_calls.Backup path on) is sign = absurd is
-  call_keeps c (control_calls.Announce id) is sign = absurd is
-  call_keeps c (control_calls.Withdraw id) is sign = absurd is
-  call_keeps c (control_calls.Heard id address port hmac) is sign = absurd is
-  call_keeps c (control_calls.Echoed id) is sign = absurd is
-  call_keeps c (control_calls.Removed id) is sign = absurd is
-  call_keeps c control_calls.FastClose is sign = absurd is
-  call_keeps c (control_calls.FastHeard key) is sign = absurd is
+  -- where a sign is told the book has the key already, or its side is past being sure
+  fell_keeps : (c : Control) (path : ℕ) (event : FallEvent) → IsSign event → (is_sign event ≡ true → Knew c) → Keeps c (controlling.after_fell path event c)
+  fell_keeps c path event is knew =
+      let turned = event_turned path (sole_path c.paths path) event c.fall is in
+      record {
+        key = λ has. has;
+        gone = turned.gone;
+        fine = λ fine. record { sure = λ sure. ⊎_elim fine.sure (λ both. starts (knew both.0) both.1) (turned.sure sure); joined = λ now. fine.joined (sym (joined event is) ∙ now) };
+      }
+    where
+      starts : Knew c → is_starting c.fall.mode ≡ true → HasKey c
+      starts (inl has) starting = has
+      starts (inr gone) starting = absurd (both_ways _ (gone_stays_out c.fall.mode gone).0 starting)
 
-  ask_keeps : (six : SixBooks) (x : Ask) → KeysAsk key_a key_b true x → (is_fell x ≡ true → HasKey six.control_a) → Keeps six.control_a (after_ask x six).control_a
-  ask_keeps six (asks.Control A call) is sign = call_keeps six.control_a call is sign
-  ask_keeps six (asks.Control B call) is sign = same_keeps six.control_a six.control_a refl refl
-  ask_keeps six (asks.Send A call) is sign = same_keeps six.control_a six.control_a refl refl
-  ask_keeps six (asks.Send B call) is sign = same_keeps six.control_a six.control_a refl refl
-  ask_keeps six (asks.Reassembly A call) is sign = same_keeps six.control_a six.control_a refl refl
-  ask_keeps six (asks.Reassembly B call) is sign = same_keeps six.control_a six.control_a refl refl
-  ask_keeps six (asks.Local step) is sign = same_keeps six.control_a six.control_a refl refl
+      no_stop : (event : FallEvent) → IsSign event → IsNoStop event
+      no_stop events.Stop is = absurd is
+      no_stop events.MappingHeard is = tt
+      no_stop events.AckHeard is = tt
+      no_stop events.PlainHandshake is = tt
+      no_stop events.PlainData is = tt
+      no_stop events.PlainAck is = tt
+      no_stop events.InfiniteHeard is = tt
+      no_stop events.KeysHeard is = tt
+      no_stop events.CheckFailed is = tt
+      no_stop (events.FailHeard contiguous) is = tt
+
+      joined : (e : FallEvent) → IsSign e → (fall_step c.fall path (sole_path c.paths path) e).0.joined ≡ c.fall.joined
+      joined e is = at (event_falls path (sole_path c.paths path) e c.fall (no_stop e is))
+        where
+          at : Fallen c.fall (fall_step c.fall path (sole_path c.paths path) e).0 → (fall_step c.fall path (sole_path c.paths path) e).0.joined ≡ c.fall.joined
+          at (inl same) = same.joined
+          at (inr fell) = fell.joined
+
+  call_keeps : (six : SixBooks) (c : Control) (call : ControlCall) → KeysAsk key_a key_b true six (asks.Control A call) → (is_fell (asks.Control A call) ≡ true → Knew c) → Fine c → Keeps c (controlling.after c call)
+  call_keeps six c (control_calls.Look path) is sign fine = let same = notice_keys (control.notice_on c path) path c in same_keeps c _ same.0 same.1
+  call_keeps six c (control_calls.PeerKey key) is sign fine = keyed_keeps c (controlling.after c (control_calls.PeerKey key)) refl (λ gone. gone)
+  call_keeps six c (control_calls.Keys own other) is sign fine =
+      if_keeps (own == c.keys.own) c (controlling.after_event 0 false events.KeysHeard (controlling.after_peer_key other c)) c
+      (λ noted. keyed_keeps c (controlling.after_event 0 false events.KeysHeard (controlling.after_peer_key other c)) refl (λ gone. ap is_gone (keys_mode c.fall) ∙ gone)) (same_keeps c c refl refl)
+  call_keeps six c (control_calls.Fell path event) is sign fine = fell_keeps c path event is sign
+  call_keeps six c (control_calls.JoinBegin path) is sign fine =
+      let d : Control = controlling.after_join (record c { paths = with_phase path Opening c.paths }) in
+      if_keeps (control.is_sure c.fall.mode) c d c (λ sure. keyed_keeps c d (fine.sure sure) (λ gone. gone)) (same_keeps c c refl refl)
+  call_keeps six c (control_calls.JoinHeard path token) is sign fine = cc
+  call_keeps six c (control_calls.Live path backup) is sign fine = same_keeps c _ refl refl
+  call_keeps six c (control_calls.Dead path) is sign fine = same_keeps c _ refl refl
+  call_keeps six c (control_calls.Rate path window rtt) is sign fine = same_keeps c _ refl refl
+  call_keeps six c (control_calls.Backup path on) is sign fine = absurd is
+  call_keeps six c (control_calls.Announce id) is sign fine = absurd is
+  call_keeps six c (control_calls.Withdraw id) is sign fine = absurd is
+  call_keeps six c (control_calls.Heard id address port hmac) is sign fine = absurd is
+  call_keeps six c (control_calls.Echoed id) is sign fine = absurd is
+  call_keeps six c (control_calls.Removed id) is sign fine = absurd is
+  call_keeps six c control_calls.FastClose is sign fine = absurd is
+  call_keeps six c (control_calls.FastHeard key) is sign fine = absurd is
+
+  ask_keeps : (six : SixBooks) (x : Ask) → KeysAsk key_a key_b true six x → (is_fell x ≡ true → Knew six.control_a) → Fine six.control_a → Keeps six.control_a (after_ask x six).control_a
+  ask_keeps six (asks.Control A call) is sign fine = call_keeps six six.control_a call is sign fine
+  ask_keeps six (asks.Control B call) is sign fine = same_keeps six.control_a six.control_a refl refl
+  ask_keeps six (asks.Send A call) is sign fine = same_keeps six.control_a six.control_a refl refl
+  ask_keeps six (asks.Send B call) is sign fine = same_keeps six.control_a six.control_a refl refl
+  ask_keeps six (asks.Reassembly A call) is sign fine = same_keeps six.control_a six.control_a refl refl
+  ask_keeps six (asks.Reassembly B call) is sign fine = same_keeps six.control_a six.control_a refl refl
+  ask_keeps six (asks.Local step) is sign fine = same_keeps six.control_a six.control_a refl refl
 
   -- ---- what A gains
 
-  -- a join that begins has it of a sure book, and one that is heard of has it of a confirmed one
-  begin_gains : (c d : Control) → (control.is_sure c.fall.mode ≡ true → HasKey d) → is_some (keys_begun (replies.Control (control.join_begin_reply c))) ≡ true → HasKey d
-  begin_gains c d sure = by (control.is_sure c.fall.mode) refl (control.is_starting c.fall.mode && stands_path c.paths 0)
+  -- a handshake without a key lets it fall, unless it knew more
+  plain_gains : (c : Control) → Fine c → Knew (record c { fall = (after_plain c.fall).0 })
+  plain_gains c fine = by (is_starting c.fall.mode) refl c.fall.joined refl
     where
-      by : (x : Bool) → control.is_sure c.fall.mode ≡ x → (y : Bool)
-          → is_some (keys_begun (replies.Control (if x then control.begin c else (if y then control_replies.NotYet else control_replies.Never c.fall.mode)))) ≡ true → HasKey d
-      by true is y some = sure is
-      by false is true some = absurd (false≢true some)
-      by false is false some = absurd (false≢true some)
+      by : (x : Bool) → is_starting c.fall.mode ≡ x → (y : Bool) → c.fall.joined ≡ y → Knew (record c { fall = (if x && not y then goes modes.Identity c.fall else stays c.fall).0 })
+      by true starts true joined = inl (fine.joined joined)
+      by true starts false joined = inr refl
+      by false starts y joined = knew_past c fine starts
 
-  heard_gains : (c d : Control) (token : ℕ) → (c.fall.confirmed ≡ true → HasKey d) → is_some (keys_begun (replies.Control (control.join_heard_reply token c))) ≡ true → HasKey d
-  heard_gains c d token confirmed = by (token == token_of c.keys.own) c.fall.confirmed refl (control.is_starting c.fall.mode || control.is_sure c.fall.mode)
+  fell_gains : (c : Control) (path : ℕ) (event : FallEvent) → Fine c → FellGains (Knew (controlling.after c (control_calls.Fell path event))) event
+  fell_gains c path events.PlainHandshake fine = plain_gains c fine
+  fell_gains c path events.MappingHeard fine = tt
+  fell_gains c path events.AckHeard fine = tt
+  fell_gains c path events.PlainData fine = tt
+  fell_gains c path events.PlainAck fine = tt
+  fell_gains c path events.InfiniteHeard fine = tt
+  fell_gains c path events.KeysHeard fine = tt
+  fell_gains c path events.CheckFailed fine = tt
+  fell_gains c path (events.FailHeard contiguous) fine = tt
+  fell_gains c path events.Stop fine = tt
+
+  -- the mode that a verdict tells is the book's
+  told_gains : (d : Control) (o : Option Mode) → IfSome o (λ mode. d.fall.mode ≡ mode) → Fine d → IfSome o (λ mode. is_starting mode ≡ false → Knew d)
+  told_gains d None same fine = tt
+  told_gains d (Some mode) same fine = λ is. knew_past d fine (ap is_starting same ∙ is)
+
+  begin_told : (T : Type 0) (c : Control) → ModeGains T (replies.Control (control.join_begin_reply c))
+  begin_told T c = by (control.is_sure c.fall.mode) (control.is_starting c.fall.mode && stands_path c.paths 0)
     where
-      by : (known x : Bool) → c.fall.confirmed ≡ x → (y : Bool) → is_some (keys_begun (replies.Control (if not known then control_replies.UnknownToken (token_of c.keys.own)
-          else (if not x then control_replies.NotConfirmed else (if y then control.begin c else control_replies.Fallen c.fall.mode))))) ≡ true → HasKey d
-      by false x is y some = absurd (false≢true some)
-      by true false is y some = absurd (false≢true some)
-      by true true is y some = confirmed is
+      by : (x y : Bool) → ModeGains T (replies.Control (if x then control.begin c else (if y then control_replies.NotYet else control_replies.Never c.fall.mode)))
+      by true y = tt
+      by false true = tt
+      by false false = tt
 
-  keys_gain : (own other : ℕ) (c : Control) → is_noted (replies.Control (control.keys_reply own c)) ≡ true → HasKey (controlling.after_keys own other c)
-  keys_gain own other c = by (own == c.keys.own)
+  keys_told : (T : Type 0) (own : ℕ) (c : Control) → ModeGains T (replies.Control (control.keys_reply own c))
+  keys_told T own c = by (own == c.keys.own)
     where
-      by : (b : Bool) → is_noted (replies.Control (if b then control_replies.Noted else control_replies.KeysDiffer c.keys.own)) ≡ true
-          → HasKey (if b then controlling.after_event 0 false events.KeysHeard (controlling.after_peer_key other c) else c)
-      by true noted = refl
-      by false noted = absurd (false≢true noted)
+      by : (b : Bool) → ModeGains T (replies.Control (if b then control_replies.Noted else control_replies.KeysDiffer c.keys.own))
+      by true = tt
+      by false = tt
 
-  gains : (six : SixBooks) (x : Ask) → KeysAsk key_a key_b true x → BookIs key_a key_b six.control_a → (HasKey six.control_a → HasKey (after_ask x six).control_a)
-      → (control.is_sure six.control_a.fall.mode ≡ true → HasKey six.control_a) → Gains (HasKey (after_ask x six).control_a) x (reply_of six x)
-  gains six (asks.Control A call) is book keeps sure = by call keeps
+  gains : (six : SixBooks) (x : Ask) → KeysAsk key_a key_b true six x → Keeps six.control_a (after_ask x six).control_a → Fine six.control_a → Gains (Knew (after_ask x six).control_a) x (reply_of six x)
+  gains six (asks.Control A call) is keeps fine = by call is keeps
     where
       c : Control
       c = six.control_a
 
-      by : (call : ControlCall) → (HasKey c → HasKey (controlling.after c call)) → CallGains (HasKey (controlling.after c call)) A call (replies.Control (control.reply_to c call))
-      by (control_calls.JoinBegin path) keeps = begin_gains c (controlling.after c (control_calls.JoinBegin path)) (λ is. keeps (sure is))
-      by (control_calls.JoinHeard path token) keeps =
-          heard_gains c (controlling.after c (control_calls.JoinHeard path token)) token (λ is. keeps (ap is_some (book.confirmed is)))
-      by (control_calls.PeerKey key) keeps = refl
-      by (control_calls.Keys own other) keeps = keys_gain own other c
-      by (control_calls.Look path) keeps = tt
-      by _ keeps = tt
-  gains six (asks.Control B call) is book keeps sure = by call
-    where
-      by : (call : ControlCall) → CallGains (HasKey six.control_a) B call (replies.Control (control.reply_to six.control_b call))
-      by (control_calls.JoinBegin path) = tt
-      by (control_calls.JoinHeard path token) = tt
-      by (control_calls.PeerKey key) = tt
-      by (control_calls.Keys own other) = tt
-      by (control_calls.Look path) = tt
-      by _ = tt
-  gains six (asks.Send s call) is book keeps sure = tt
-  gains six (asks.Reassembly s call) is book keeps sure = tt
-  gains six (asks.Local step) is book keeps sure = tt
+      by : (call : ControlCall) → KeysAsk key_a key_b true six (asks.Control A call) → Keeps c (controlling.after c call)
+          → ModeGains (Knew (controlling.after c call)) (replies.Control (control.reply_to c call)) × CallGains (Knew (controlling.after c call)) call
+      by (control_calls.Look path) is keeps = (λ starts. knew_keeps c (controlling.after c (control_calls.Look path)) keeps (knew_past c fine starts), tt)
+      by (control_calls.PeerKey key) is keeps = (tt, inl refl)
+      by (control_calls.Keys own other) is keeps = (keys_told (Knew (controlling.after c (control_calls.Keys own other))) own c, tt)
+      by (control_calls.Fell path event) is keeps =
+          let d : Control = controlling.after c (control_calls.Fell path event) in (
+            told_gains d (mode_told (replies.Control (control_replies.Verdict (fall_step c.fall path (sole_path c.paths path) event).1))) (event_turned path (sole_path c.paths path) event c.fall is).told (keeps.fine fine),
+            fell_gains c path event fine,
+          )
+      by (control_calls.JoinBegin path) is keeps = (begin_told (Knew (controlling.after c (control_calls.JoinBegin path))) c, tt)
+      by (control_calls.JoinHeard path token) is keeps = cc
+      by (control_calls.Live path backup) is keeps = (tt, tt)
+      by (control_calls.Dead path) is keeps = (tt, tt)
+      by (control_calls.Rate path window rtt) is keeps = (tt, tt)
+      by (control_calls.Backup path on) is keeps = absurd is
+      by (control_calls.Announce id) is keeps = absurd is
+      by (control_calls.Withdraw id) is keeps = absurd is
+      by (control_calls.Heard id address port hmac) is keeps = absurd is
+      by (control_calls.Echoed id) is keeps = absurd is
+      by (control_calls.Removed id) is keeps = absurd is
+      by control_calls.FastClose is keeps = absurd is
+      by (control_calls.FastHeard key) is keeps = absurd is
+  gains six (asks.Control B call) is keeps fine = tt
+  gains six (asks.Send s call) is keeps fine = tt
+  gains six (asks.Reassembly s call) is keeps fine = tt
+  gains six (asks.Local step) is keeps fine = tt
 
   -- ---- actors
 
+  -- path 0 knows that; the others begin with the key
   abbrev pub MemberMet : Type 0 → Actor Carried → Type 0
   MemberMet T (App a) = Unit {0}
-  MemberMet T (Path p) = PathMet T p
+  MemberMet T (Path p) = (is_joined p.profile ≡ true) ⊎ PathMet T p
 
   more_member : (T U : Type 0) (m : Actor Carried) → (T → U) → MemberMet T m → MemberMet U m
   more_member T U (App a) more h = tt
-  more_member T U (Path p) more h = more_met T U p more h
+  more_member T U (Path p) more (inl joins) = inl joins
+  more_member T U (Path p) more (inr h) = inr (more_met T U p more h)
 
   next_member : (T : Type 0) (m : Actor Carried) → MemberMet T m → is_over m ≡ true → MemberMet T (member_next m)
   next_member T (App a) h over = tt
-  next_member T (Path p) (inl h) over = inl (begun_turn T (record p { clock = p.until; until = p.until + 100 }) (record {
-    calm = refl;
-    met = h.met;
-    signed = λ is. absurd (false≢true is);
-    told = h.told;
-    copies = h.copies;
-    lines = h.lines;
-    role_a = h.role_a;
-    role_b = h.role_b;
-    answers = by;
-  }))
+  next_member T (Path p) (inl joins) over = inl (ap is_joined (first_keeps (record p { clock = p.until; until = p.until + 100 })).1 ∙ joins)
+  next_member T (Path p) (inr (inl h)) over =
+      inr (inl (begun_turn T (record p { clock = p.until; until = p.until + 100 }) (record { first = h.first; calm = refl; met = h.met; signed = λ is. absurd (false≢true is); mode = h.mode })))
+  next_member T (Path p) (inr (inr h)) over = absurd (still h.begins (ap is_nil (sym h.agenda_is) ∙ over))
     where
-      by : (s : Side) → IsNoSyn (end_at s (with_agenda start_of_turn (record p { clock = p.until; until = p.until + 100 }))).treated.answer
-      by A = h.answers A
-      by B = h.answers B
-  next_member T (Path p) (inr h) over = absurd (still h.first (ap is_nil (sym h.agenda_is) ∙ over))
-    where
-      still : (first : Bool) → is_nil (if first then duties.SynAnswered A ∷ duties.PeerKey A ∷ h.rest else duties.PeerKey A ∷ h.rest) ≡ true → ⊥
+      still : (begins : Bool) → is_nil (if begins then duties.SynAnswered A ∷ duties.PeerKey A ∷ h.rest else duties.PeerKey A ∷ h.rest) ≡ true → ⊥
       still true is = false≢true is
       still false is = false≢true is
 
@@ -367,17 +582,17 @@ module _ (key_a key_b : ℕ) where
 
   pub record WorldMet (w : WorldState Carried) : Type 0 where
     pub keys : WorldIs key_a key_b true w
-    pub crew : Every (λ c. MemberMet (HasKey (books_in w.books).control_a) c.member) w.crew
-    pub sure : control.is_sure (books_in w.books).control_a.fall.mode ≡ true → HasKey (books_in w.books).control_a
+    pub crew : Every (λ c. MemberMet (Knew (books_in w.books).control_a) c.member) w.crew
+    pub fine : Fine (books_in w.books).control_a
 
   peer_key_is : (o : Option ℕ) → is_some o ≡ true → IfSome o (λ key. key ≡ key_b) → o ≡ Some key_b
   peer_key_is None some is = absurd (false≢true some)
   peer_key_is (Some key) some is = ap (λ n. Some n) is
 
   knowing : (w : WorldState Carried) → WorldMet w → true ≡ true → control.is_sure (books_in w.books).control_a.fall.mode ≡ true → (books_in w.books).control_a.keys.peer ≡ Some key_b
-  knowing w h right is = peer_key_is (books_in w.books).control_a.keys.peer (h.sure is) h.keys.books.a.peer_is
+  knowing w h right is = peer_key_is (books_in w.books).control_a.keys.peer (h.fine.sure is) h.keys.books.a.peer_is
 
-  -- a member that tells a sign has the key
+  -- a member that tells a sign has the key, or its side is past being sure
   app_signs : (T : Type 0) (ds : List AppDuty) (a : AppState) (x : Ask) → app_asks_first ds a ≡ Some x → is_fell x ≡ true → T
   app_signs T [] a x is fell = cc
   app_signs T (app_duties.Write ∷ ds) a x is fell = absurd (false≢true (ap is_fell (same_Some _ x is) ∙ fell))
@@ -385,24 +600,20 @@ module _ (key_a key_b : ℕ) where
   app_signs T (app_duties.Read ∷ ds) a x is fell = absurd (false≢true (ap is_fell (same_Some _ x is) ∙ fell))
   app_signs T (app_duties.End ∷ ds) a x is fell = absurd (false≢true (ap is_fell (same_Some _ x is) ∙ fell))
 
-  member_signs : (T : Type 0) (m : Actor Carried) (x : Ask) → member_asks values m ≡ Some x → is_fell x ≡ true → MemberMet T m → T
-  member_signs T (App a) x is fell h = app_signs T a.agenda a x is fell
-  member_signs T (Path p) x is fell h = asked_signs p T x is fell h
+  member_signs : (six : SixBooks) (m : Actor Carried) (x : Ask) → member_asks values m ≡ Some x → is_fell x ≡ true → MemberIs key_a key_b true six m → Fine six.control_a
+      → MemberMet (Knew six.control_a) m → Knew six.control_a
+  member_signs six (App a) x is fell keys fine h = app_signs (Knew six.control_a) a.agenda a x is fell
+  member_signs six (Path p) x is fell keys fine (inl joins) =
+      asked_sign p (Knew six.control_a) x is fell (λ sign. inl (fine.joined (keys.is.known (inl A) (sign_speaks p p.agenda sign) joins).0))
+  member_signs six (Path p) x is fell keys fine (inr h) = asked_first p (Knew six.control_a) x is fell h
 
-  -- an end of A that is up, on a path that joins, began with the key
-  path_has : (p : PathState Carried) → PathKeys key_a key_b true p → is_joined p.profile ≡ true → is_up p.a.tcp ≡ true → HasPeer p.a
-  path_has p h joins up = ap is_some (h.is.a.woken (sure_joined (is_joined p.profile)) joins up)
-    where
-      sure_joined : (b : Bool) → (if b then true else true) ≡ true
-      sure_joined true = refl
-      sure_joined false = refl
-
-  takes_member : (six : SixBooks) (x : Ask) (m : Actor Carried) → member_asks values m ≡ Some x → MemberIs key_a key_b true m → Gains (HasKey (after_ask x six).control_a) x (reply_of six x)
-      → MemberMet (HasKey (after_ask x six).control_a) m → MemberMet (HasKey (after_ask x six).control_a) (member_takes values (reply_of six x) m)
-  takes_member six x (App a) is keys gain h = tt
-  takes_member six x (Path p) is keys gain h =
-      takes_met (HasKey (after_ask x six).control_a) (reply_of six x) p keys.settled
-      (λ y asks. subst (λ z. Gains (HasKey (after_ask x six).control_a) z (reply_of six x)) (same_Some x y (sym is ∙ asks)) gain) (path_has p keys) h
+  takes_member : (six : SixBooks) (x : Ask) (m : Actor Carried) → member_asks values m ≡ Some x → Gains (Knew (after_ask x six).control_a) x (reply_of six x)
+      → MemberMet (Knew (after_ask x six).control_a) m → MemberMet (Knew (after_ask x six).control_a) (member_takes values (reply_of six x) m)
+  takes_member six x (App a) is gain h = tt
+  takes_member six x (Path p) is gain (inl joins) = inl (ap is_joined (takes_keeps values (reply_of six x) p).1 ∙ joins)
+  takes_member six x (Path p) is gain (inr h) =
+      inr (takes_met (Knew (after_ask x six).control_a) (reply_of six x) p
+      (λ y asks. subst (λ z. Gains (Knew (after_ask x six).control_a) z (reply_of six x)) (same_Some x y (sym is ∙ asks)) gain) h)
 
   step_met : (actor : ℕ) (w : WorldState Carried) → WorldMet w → WorldMet (world_step values actor w)
   step_met actor w h = by (slice_get w.crew actor) refl
@@ -415,23 +626,22 @@ module _ (key_a key_b : ℕ) where
       asking c there (Some x) is keys =
           let own = h.crew.each actor c there in
           let own_keys = h.keys.crew.each actor c there in
-          let asks_keys = member_asks_are key_a key_b true c.member x own_keys is in
-          let sign = λ (fell : is_fell x ≡ true). member_signs (HasKey six.control_a) c.member x is fell own in
-          let kept = ask_keeps six x asks_keys sign in
-          let gain = gains six x asks_keys h.keys.books.a kept.key h.sure in
-          let now = ap (λ books. books.control_a) (books_after x c.pass w.books) in
-          let after_is : HasKey (after_ask x six).control_a → HasKey (books_in (asked values actor (Some x) c w).books).control_a = λ has. ap (λ d. is_some d.keys.peer) now ∙ has in
+          let asks_keys = member_asks_are key_a key_b true six c.member x own_keys is in
+          let sign = λ (fell : is_fell x ≡ true). member_signs six c.member x is fell own_keys h.fine own in
+          let kept = ask_keeps six x asks_keys sign h.fine in
+          let gain = gains six x asks_keys kept h.fine in
+          let knew = λ (was : Knew six.control_a). knew_keeps six.control_a (after_ask x six).control_a kept was in
+          let now = books_after x c.pass w.books in
           record {
             keys = keys;
-            crew = record {
+            crew = subst (λ (y : SixBooks). Every (λ d. MemberMet (Knew y.control_a) d.member) (asked values actor (Some x) c w).crew) (sym now) (record {
               each = λ i d at. ⊎_elim
-                  (λ here. subst (λ y. MemberMet (HasKey (books_in (asked values actor (Some x) c w).books).control_a) y.member) here.1
-                  (more_member (HasKey (after_ask x six).control_a) (HasKey (books_in (asked values actor (Some x) c w).books).control_a) (member_takes values (reply_of six x) c.member) after_is
-                  (takes_member six x c.member is own_keys gain (more_member (HasKey six.control_a) (HasKey (after_ask x six).control_a) c.member kept.key own))))
-                  (λ other. more_member (HasKey six.control_a) (HasKey (books_in (asked values actor (Some x) c w).books).control_a) d.member (λ has. after_is (kept.key has)) (h.crew.each i d other.1))
+                  (λ here. subst (λ y. MemberMet (Knew (after_ask x six).control_a) y.member) here.1
+                  (takes_member six x c.member is gain (more_member (Knew six.control_a) (Knew (after_ask x six).control_a) c.member knew own)))
+                  (λ other. more_member (Knew six.control_a) (Knew (after_ask x six).control_a) d.member knew (h.crew.each i d other.1))
                   (in_set w.crew actor (crew_after values x w.books c) i d at);
-            };
-            sure = λ sure. after_is (⊎_elim (λ has. has) (λ was. kept.key (h.sure was)) (kept.sure (ap (λ d. control.is_sure d.fall.mode) (sym now) ∙ sure)));
+            });
+            fine = subst (λ (y : SixBooks). Fine y.control_a) (sym now) (kept.fine h.fine);
           }
 
       by : (o : Option (ActorCrew Carried)) → slice_get w.crew actor ≡ o → WorldMet (stepped values actor o w)
@@ -454,10 +664,10 @@ module _ (key_a key_b : ℕ) where
         crew = record {
           each = λ i d at.
               let found = in_map (begins (greatest 0 w.crew)) w.crew i d at in
-              subst (λ y. MemberMet (HasKey (books_in w.books).control_a) y.member) found.2
-              (next_member (HasKey (books_in w.books).control_a) found.0.member (h.crew.each i found.0 found.1) (over_each w.crew i found.0 over found.1));
+              subst (λ y. MemberMet (Knew (books_in w.books).control_a) y.member) found.2
+              (next_member (Knew (books_in w.books).control_a) found.0.member (h.crew.each i found.0 found.1) (over_each w.crew i found.0 over found.1));
         };
-        sure = h.sure;
+        fine = h.fine;
       }
       by false over keys = h
 
@@ -474,44 +684,27 @@ module _ (key_a key_b : ℕ) where
   run_joins (turn ∷ turns) w h none =
       run_joins turns (after_turn values turn w) (turn_met turn w h) (turn_none tells_wrong_join values turn w (joins_untold key_a key_b true refl w h.keys) none)
 
-pub opened_met : (start : Start) → IsPlain start → WorldMet start.key_a start.key_b (opened_world start)
-opened_met start plain = record {
+pub opened_met : (start : Start) → WorldMet start.key_a start.key_b (opened_world start)
+opened_met start = record {
   keys = opened_keys true start;
-  crew = record { each = opened_actors (λ actor c. MemberMet start.key_a start.key_b (HasKey (books_in (opened_world {C = Carried} start).books).control_a) c.member) start tt tt (λ number plan there. path number plan) };
-  sure = λ is. absurd (false≢true is);
+  crew = record { each = opened_actors (λ actor c. MemberMet start.key_a start.key_b (Knew (books_in (opened_world {C = Carried} start).books).control_a) c.member) start tt tt (λ number plan there. path number plan) };
+  fine = record { sure = λ is. absurd (false≢true is); joined = λ is. absurd (false≢true is) };
 }
   where
-    path : (number : ℕ) (plan : PathPlan) → MemberMet start.key_a start.key_b (HasKey (books_in (opened_world {C = Carried} start).books).control_a) (new_path start number plan).member
-    path number plan = inl (begun_turn (HasKey (books_in (opened_world {C = Carried} start).books).control_a) (waiting_path (path_begins start number plan) start.lines) (record {
+    path : (number : ℕ) (plan : PathPlan) → MemberMet start.key_a start.key_b (Knew (books_in (opened_world {C = Carried} start).books).control_a) (new_path start number plan).member
+    path zero plan = inr (inl (begun_turn (Knew (books_in (opened_world {C = Carried} start).books).control_a) (waiting_path (path_begins start 0 plan) start.lines) (record {
+      first = refl;
       calm = refl;
-      met = λ first is. absurd (both_ways _ (unmet number) is);
+      met = λ is. absurd (false≢true is);
       signed = λ is. absurd (false≢true is);
-      told = λ has. absurd (false≢true has);
-      copies = Every-nil _;
-      lines = plain.unchanged number;
-      role_a = λ joins. apart_a number joins;
-      role_b = λ joins. refl;
-      answers = by;
-    }))
-      where
-        waiting : ℕ → PathState Carried
-        waiting number = with_agenda start_of_turn (waiting_path (path_begins start number plan) start.lines)
-
-        apart_a : (number : ℕ) → is_joined (waiting number).profile ≡ true → is_apart A (waiting number).a.tcp.state ≡ false
-        apart_a zero joins = refl
-        apart_a (suc n) joins = refl
-
-        unmet : (number : ℕ) → is_met (waiting number).a.tcp.state ≡ false
-        unmet zero = refl
-        unmet (suc n) = refl
-
-        by : (s : Side) → IsNoSyn (end_at s (waiting number)).treated.answer
-        by A = tt
-        by B = tt
+      mode = λ is. absurd (false≢true (sym is));
+    })))
+    path (suc n) plan =
+        inl (ap is_joined (first_keeps (waiting_path {C = Carried} (path_begins start (suc n) plan) start.lines)).1 ∙ lt-ltb 0 (suc n) (omega arith))
 
 -- ---- the law
 
-pub joins_are_right : IsPromised JoinsAreRight
-joins_are_right start turns plain =
+pub joins_are_right : Always values (λ start w. JoinsAreRight w)
+joins_are_right start turns =
     from_each tells_wrong_join values (world_run values turns (opened_world start))
-    (run_joins start.key_a start.key_b turns (opened_world start) (opened_met start plain) (opened_none tells_wrong_join values start))
+    (run_joins start.key_a start.key_b turns (opened_world start) (opened_met start) (opened_none tells_wrong_join values start))

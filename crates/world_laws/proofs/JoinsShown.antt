@@ -1,5 +1,5 @@
 -- Over octets, too, no copy that arrives on a path that joins is refused for what it says.
-use Rattle.std.proofs.Common.{◌≡◌, refl, sym, ◌∙◌, ap, subst, inl, inr, ◌⊎◌, ℕ, Bool, true, false, cond, Option, Some, None, option_map, List, [], ◌∷◌, ◌++◌, find, map}
+use Rattle.std.proofs.Common.{◌≡◌, refl, sym, ◌∙◌, ap, subst, ⊎_elim, ℕ, Bool, true, false, cond, Option, Some, None, option_map, List, [], ◌∷◌, ◌++◌, find, map}
 use Rattle.std.proofs.lemmas.Option.{same_Some}
 use Rattle.std.specs.List.{slice_get}
 use Rattle.outside_kit.specs.declared.side.Side.{Side}
@@ -9,9 +9,9 @@ use Rattle.link_model.specs.declared.flight.Flight.{Flight}
 use Rattle.link_model.specs.Laws.{shown_flight}
 use Rattle.link_model.specs.Steps.{peer, is_due, arriving}
 use Rattle.path_segments.specs.Laws.{IsFresh, meant}
-use Rattle.path_segments.specs.Spelled.{PlainSegment}
-use Rattle.path_segments.proofs.SegmentsAgain.{heard_as_meant}
+use Rattle.path_segments.specs.declared.expected.Expected.{Expected}
 use Rattle.stream_lanes.proofs.Lists.{in_map}
+use Rattle.actor_desk.specs.Words.{is_nil}
 use Rattle.path_core.specs.declared.event.Event.TheVariants as happenings
 use Rattle.path_core.specs.Arriving.{expected_by, judged_in}
 use Rattle.path_core.specs.Events.{heard_in, next_event}
@@ -20,8 +20,10 @@ use Rattle.path_core.specs.Octets.{octets}
 use Rattle.path_core.specs.Segments.{spelled_by}
 use Rattle.path_core.specs.Shown.{octets_of, shown_path, IsFarReset, IsFreshCopy, NextIsFresh}
 use Rattle.path_core.specs.State.{PathState, end_at}
-use Rattle.path_core.specs.Values.{Carried, values}
-use Rattle.path_core.proofs.FarResets.{far_heard, unplaced}
+use Rattle.path_core.specs.Values.{Carried, as_arrived, values}
+use Rattle.path_core.specs.Codec.{HeardSegment}
+use Rattle.path_core.proofs.CopiesRead.{near_read, far_read}
+use Rattle.path_core.proofs.FarResets.{unplaced}
 use Rattle.path_core.proofs.Showing.{same_event}
 use Rattle.world_laws.specs.declared.member.Member.TheVariants.{App, Path}
 use Rattle.world_laws.specs.Actors.{Actor, ActorCrew}
@@ -48,35 +50,43 @@ same_end_at A p = refl
 same_end_at B p = refl
 
 -- a fresh copy is heard as it was meant, or it is a reset
+module _ (p : PathState Carried) (fresh : NextIsFresh p) (welcomes : NextIsWelcome values p) (due : Due) (heard : HeardSegment) (next : next_event p ≡ Some (happenings.Arrives due))
+    (some : is_nil heard.options ≡ false) where
+  abbrev side : Side
+  side = peer due.to
+
+  abbrev expected : Expected
+  expected = expected_by (end_at due.to p)
+
+  abbrev Welcomed : HeardSegment → Type 0
+  Welcomed h = IsWelcome (judged_in (is_joined p.profile) due.to h (end_at due.to p))
+
+  near_or_reset : (carried : Carried) → heard_in values due.to (arriving due p.link) p ≡ Some (meant (as_arrived carried)) → IsFreshCopy p due.to carried
+      → octets.reads p.profile.spelling side expected (octets_of p.profile.spelling carried) ≡ Some heard → Welcomed heard
+  near_or_reset carried meant_is copy reads = ⊎_elim (λ near. by_near near) (λ far. by_far far) copy.fresh
+    where
+      by_near : IsFresh p.profile.spelling (spelled_by side) expected carried.segment → Welcomed heard
+      by_near near =
+          let same = same_Some (meant (as_arrived carried)) heard (sym (near_read p.profile.spelling side expected carried copy.from copy.sayable copy.expected near) ∙ reads) in
+          subst Welcomed same (welcomes due (meant (as_arrived carried)) next meant_is (ap (λ h. is_nil h.options) same ∙ some))
+
+      by_far : IsFarReset p.profile.spelling (spelled_by side) expected carried.segment → Welcomed heard
+      by_far far =
+          let same = same_Some (unplaced (meant (as_arrived carried))) heard (sym (far_read p.profile.spelling side expected carried copy.from copy.sayable copy.expected far) ∙ reads) in
+          subst Welcomed same (reset_welcome due.to (end_at due.to p) (unplaced (meant (as_arrived carried))) far.reset (is_joined p.profile))
+
+  heard_welcome : (o : Option (Flight Carried)) → arriving due p.link ≡ o → heard_in octets due.to (option_map (shown_flight (octets_of p.profile.spelling)) o) (shown_path p) ≡ Some heard
+      → Welcomed heard
+  heard_welcome None there reads = cc
+  heard_welcome (Some flight) there reads =
+      near_or_reset flight.carried (ap (λ o. heard_in values due.to o p) there) (fresh due flight next there)
+      (subst (λ e. octets.reads p.profile.spelling side (expected_by e) (octets_of p.profile.spelling flight.carried) ≡ Some heard) (same_end_at due.to p) reads)
+
 path_shows_welcome : (p : PathState Carried) → NextIsFresh p → NextIsWelcome values p → NextIsWelcome octets (shown_path p)
-path_shows_welcome p fresh welcomes due heard next is =
+path_shows_welcome p fresh welcomes due heard next is some =
     subst (λ e. IsWelcome (judged_in (is_joined p.profile) due.to heard e)) (sym (same_end_at due.to p))
-    (by (arriving due p.link) refl (ap (λ o. heard_in octets due.to o (shown_path p)) (sym (same_arriving (octets_of p.profile.spelling) due p.link.under_way)) ∙ is))
-  where
-    next_is : next_event p ≡ Some (happenings.Arrives due)
-    next_is = sym (same_event p) ∙ next
-
-    near_or_reset : (sg : PlainSegment) → heard_in values due.to (arriving due p.link) p ≡ Some (meant sg)
-        → IsFresh p.profile.spelling (spelled_by (peer due.to)) (expected_by (end_at due.to p)) sg ⊎ IsFarReset p.profile.spelling (spelled_by (peer due.to)) (expected_by (end_at due.to p)) sg
-        → IsFreshCopy p due.to (record { from = peer due.to; segment = sg })
-        → octets.reads p.profile.spelling (peer due.to) (expected_by (end_at due.to p)) (octets.makes p.profile.spelling (peer due.to) sg) ≡ Some heard
-        → IsWelcome (judged_in (is_joined p.profile) due.to heard (end_at due.to p))
-    near_or_reset sg meant_is (inl near) copy reads =
-        let same = same_Some (meant sg) heard (sym (heard_as_meant p.profile.spelling (spelled_by (peer due.to)) (expected_by (end_at due.to p)) sg copy.sayable copy.expected near) ∙ reads) in
-        subst (λ h. IsWelcome (judged_in (is_joined p.profile) due.to h (end_at due.to p))) same (welcomes due (meant sg) next_is meant_is)
-    near_or_reset sg meant_is (inr far) copy reads =
-        let same = same_Some (unplaced (meant sg)) heard (sym (far_heard p.profile.spelling (spelled_by (peer due.to)) (expected_by (end_at due.to p)) sg copy.sayable far copy.expected) ∙ reads) in
-        subst (λ h. IsWelcome (judged_in (is_joined p.profile) due.to h (end_at due.to p))) same (reset_welcome due.to (end_at due.to p) (unplaced (meant sg)) far.reset (is_joined p.profile))
-
-    by : (o : Option (Flight Carried)) → arriving due p.link ≡ o → heard_in octets due.to (option_map (shown_flight (octets_of p.profile.spelling)) o) (shown_path p) ≡ Some heard
-        → IsWelcome (judged_in (is_joined p.profile) due.to heard (end_at due.to p))
-    by None there reads = cc
-    by (Some flight) there reads =
-        let copy = fresh due flight next_is there in
-        near_or_reset flight.carried.segment (ap (λ o. heard_in values due.to o p) there) copy.fresh
-        (record { from = refl; sayable = copy.sayable; expected = copy.expected; fresh = copy.fresh })
-        (subst (λ s. octets.reads p.profile.spelling (peer due.to) (expected_by (end_at due.to p)) (octets.makes p.profile.spelling s flight.carried.segment) ≡ Some heard) copy.from
-        (subst (λ e. octets.reads p.profile.spelling (peer due.to) (expected_by e) (octets_of p.profile.spelling flight.carried) ≡ Some heard) (same_end_at due.to p) reads))
+    (heard_welcome p fresh welcomes due heard (sym (same_event p) ∙ next) some (arriving due p.link) refl
+    (ap (λ o. heard_in octets due.to o (shown_path p)) (sym (same_arriving (octets_of p.profile.spelling) due p.link.under_way)) ∙ is))
 
 -- ---- worlds
 
@@ -96,7 +106,7 @@ each_copy_is_welcome_in_octets start turns plain fit = subst (EachCopyIsWelcome 
     w = world_run values turns (opened_world start)
 
     welcomes : EachCopyIsWelcome values w
-    welcomes = each_copy_is_welcome start turns plain
+    welcomes = each_copy_is_welcome start turns
 
     member_fresh : (actor : ℕ) (c : ActorCrew Carried) → slice_get w.crew actor ≡ Some c → IsFreshMember c.member
     member_fresh actor c there =

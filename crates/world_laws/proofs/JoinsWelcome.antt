@@ -1,7 +1,8 @@
--- No copy that arrives on a path that joins is refused for what it says, where a script strips nothing.
-use Rattle.std.proofs.Common.{◌≡◌, refl, sym, ◌∙◌, ap, subst, inl, inr, ℕ, ◌&&◌, ◌==◌, not, is_some, is_none, Bool, true, false, if◌then◌else◌, unwrap_or, Option, Some, None, Ok, Err, List, [], ◌∷◌}
+-- No copy that arrives on a path that joins is refused for what it says, unless its options were taken away.
+use Rattle.std.proofs.Common.{◌≡◌, refl, sym, ◌∙◌, ap, subst, ⊎_elim, ℕ, zero, suc, ◌+◌, map, ◌&&◌, ◌==◌, not, is_some, is_none, Bool, true, false, if◌then◌else◌, unwrap_or, Option, Some, None, Ok, Err, List, [], ◌∷◌}
 use Rattle.std.proofs.lemmas.Bool.{and_parts, both_ways, eq-eqb, not-true, false≢true}
 use Rattle.std.proofs.lemmas.Option.{same_Some}
+use Rattle.std.specs.List.{slice_get}
 use Rattle.std.specs.Cmp.Lexicographic.{pointwise}
 use Rattle.std.specs.Option.{IfSome, option_or}
 use Rattle.std.specs.Result.{result_ok}
@@ -39,22 +40,31 @@ use Rattle.path_core.specs.Ends.{PathEnd}
 use Rattle.path_core.specs.Events.{heard_in}
 use Rattle.path_core.specs.Joins.{is_joined, is_hmac_right, is_third_right, join_answer, join_asked, join_value, peer_key_of, third_in}
 use Rattle.path_core.specs.State.{PathState, end_at}
-use Rattle.path_core.specs.Values.{Carried, values}
+use Rattle.path_core.specs.Values.{Carried, as_arrived, values}
+use Rattle.actor_desk.specs.declared.ask.Ask.{Ask}
+use Rattle.actor_desk.specs.declared.ask.Reply.{Reply}
 use Rattle.actor_desk.specs.Books.{books_in}
+use Rattle.actor_desk.specs.Desk.{SixBooks, reply_of}
+use Rattle.actor_desk.specs.Words.{is_nil}
+use Rattle.path_segments.specs.Laws.{meant_option}
+use Rattle.path_segments.specs.Options.{PlainOption}
+use Rattle.stream_lanes.proofs.Lists.{Every-nil, in_set, in_map}
 use Rattle.world_laws.specs.declared.member.Member.TheVariants.{App, Path}
-use Rattle.world_laws.specs.Actors.{Actor}
-use Rattle.world_laws.specs.Openings.{opened_world}
-use Rattle.world_laws.specs.Promises.{IsPromised}
+use Rattle.world_laws.specs.Actors.{Actor, ActorCrew, member_asks, member_takes, member_next}
+use Rattle.world_laws.specs.Laws.{Always}
+use Rattle.world_laws.specs.Openings.{PathPlan, Start, path_begins, new_path, opened_world}
+use Rattle.path_core.specs.Starts.{waiting_path}
 use Rattle.world_laws.specs.Welcome.{IsWelcome, NextIsWelcome, WelcomesNext, EachCopyIsWelcome}
-use Rattle.world_laws.specs.Worlds.{world_run}
-use Rattle.world_laws.proofs.JoinsAgree.{HasKey as HasBookKey, MemberMet, WorldMet, run_met, opened_met}
-use Rattle.world_laws.proofs.KeysAgree.{MemberIs, with_nonces}
+use Rattle.world_laws.specs.Worlds.{WorldState, Turn, crew_after, asked, stepped, all_over, greatest, begins, after_turn, world_run}
+use Rattle.world_laws.proofs.JoinsAgree.{WorldMet, run_met, opened_met}
+use Rattle.world_laws.proofs.KeysAgree.{Joined, FellBack, MemberIs, with_nonces}
+use Rattle.world_laws.proofs.Opened.{opened_actors}
 use Rattle.world_laws.proofs.Finding.{find_every, one_side}
-use Rattle.world_laws.proofs.KeysRight.{Secrets, drawn_key, drawn_nonce, JoinIs, OptionIs, ItemIs, SegmentIs, EndIs, HasKey, Knows, knows_key, items_are}
+use Rattle.world_laws.proofs.KeysRight.{Secrets, drawn_key, drawn_nonce, IsFor, JoinIs, OptionIs, ItemIs, SegmentIs, EndIs, HasKey, Needs, needs_key, items_are}
 use Rattle.world_laws.proofs.KeysWoken.{is_opens, is_up, open_is_up}
-use Rattle.world_laws.proofs.KeysHeld.{PathIs, FlightIs, end_is, join_found}
+use Rattle.world_laws.proofs.KeysHeld.{PathIs, FlightIs, arrived_is, end_is, join_found}
+use Rattle.world_laws.proofs.Roles.{HasRoles, CopyTells, role_at, arrived_tells, takes_roles, begins_roles}
 use Rattle.world_laws.proofs.KeysMet.{TellsKey, connected_meaning, is_accepts, is_apart, is_taken, opening_meaning}
-use Rattle.world_laws.proofs.KeysLearned.{PathMet}
 
 -- a list is the same as itself, octet by octet
 same_octets : (xs ys : List ℕ) → xs ≡ ys → pointwise ◌==◌ xs ys ≡ true
@@ -83,13 +93,17 @@ abbrev pub TellsJoin : Side → List Heard → Type 0
 TellsJoin A items = is_some (join_heard step.Answer items) ≡ true
 TellsJoin B items = is_some (join_heard step.Syn items) ≡ true
 
-tells_join : (s : Side) (sg : PlainSegment) → TellsKey true s sg → (copy_of (meant sg)).syn ≡ true → TellsJoin s (items_of true s (meant sg))
-tells_join A sg tells syn = tells syn
-tells_join B sg tells syn = tells syn
+tells_join : (s : Side) (sg : PlainSegment) → TellsKey true s sg → is_nil sg.options ≡ false → (copy_of (meant sg)).syn ≡ true → TellsJoin s (items_of true s (meant sg))
+tells_join A sg tells some syn = tells some syn
+tells_join B sg tells some syn = tells some syn
+
+some_meant : (options : List PlainOption) → is_nil (map meant_option options) ≡ false → is_nil options ≡ false
+some_meant [] some = some
+some_meant (o ∷ options) some = refl
 
 -- ---- an end of a path that joins
 
-module _ (k : Secrets) (s : Side) (e : PathEnd) (h : EndIs k true true s e) (items : List Heard) (said : Every (ItemIs k true true s) items) where
+module _ (k : Secrets) (w back : Side → Type 0) (s : Side) (e : PathEnd) (h : EndIs k true w back true s e) (items : List Heard) (said : Every (ItemIs k true w back true s) items) where
   -- A takes what B answers
   answer_right : is_up e.tcp ≡ true → s ≡ A → (o : Option JoinForm) → is_some o ≡ true → IfSome o (λ form. (is_of_step step.Answer form ≡ true) × ((true ≡ true) → JoinIs k true (peer s) form))
       → is_some (result_ok (answer_taken e.modes.own_key (peer_key_of e.modes) e.modes.own_nonce (answer_heard (join_value o)))) ≡ true
@@ -101,7 +115,7 @@ module _ (k : Secrets) (s : Side) (e : PathEnd) (h : EndIs k true true s e) (ite
       (eq-eqb hmac (join_b64_of e.modes.own_key (peer_key_of e.modes) e.modes.own_nonce nonce) (same side))
     where
       known : HasKey k true s e.modes
-      known = knows_key k true s e.modes (h.woken refl refl up)
+      known = needs_key k true s e.modes ((h.woken refl up).1 refl)
 
       same : s ≡ A → hmac ≡ join_b64_of e.modes.own_key (peer_key_of e.modes) e.modes.own_nonce nonce
       same side = by s side (form.1 refl) h.modes.own h.modes.nonce known
@@ -119,9 +133,9 @@ module _ (k : Secrets) (s : Side) (e : PathEnd) (h : EndIs k true true s e) (ite
   third_right up side None some form = absurd (false≢true some)
   third_right up side (Some (Syn backup id token nonce)) some form = absurd (false≢true some)
   third_right up side (Some (Answer backup id hmac nonce)) some form = absurd (false≢true some)
-  third_right up side (Some (Third hmac)) some form = same_octets hmac (join_a160_of (peer_key_of e.modes) e.modes.own_key e.modes.peer_nonce e.modes.own_nonce) (by s side (form refl) h.modes.own h.modes.nonce (h.woken refl refl up))
+  third_right up side (Some (Third hmac)) some form = same_octets hmac (join_a160_of (peer_key_of e.modes) e.modes.own_key e.modes.peer_nonce e.modes.own_nonce) (by s side (form refl) h.modes.own h.modes.nonce ((h.woken refl up).1 refl))
     where
-      by : (s : Side) → s ≡ B → JoinIs k true (peer s) (Third hmac) → e.modes.own_key ≡ drawn_key k true s → e.modes.own_nonce ≡ drawn_nonce k true s → Knows k true s e.modes
+      by : (s : Side) → s ≡ B → JoinIs k true (peer s) (Third hmac) → e.modes.own_key ≡ drawn_key k true s → e.modes.own_nonce ≡ drawn_nonce k true s → Needs k true s e.modes
           → hmac ≡ join_a160_of (peer_key_of e.modes) e.modes.own_key e.modes.peer_nonce e.modes.own_nonce
       by A side is own mine knows = cc
       by B side is own mine knows =
@@ -199,8 +213,8 @@ half_open_is _ is = absurd (false≢true is)
 
 -- ---- what an end of a path that joins makes of it
 
-module _ (k : Secrets) (s : Side) (e : PathEnd) (h : EndIs k true true s e) (role : is_apart s e.tcp.state ≡ false) (heard : HeardSegment)
-    (said : Every (ItemIs k true true s) (items_of true s heard)) (tells : (copy_of heard).syn ≡ true → TellsJoin s (items_of true s heard)) where
+module _ (k : Secrets) (w back : Side → Type 0) (s : Side) (e : PathEnd) (h : EndIs k true w back true s e) (role : is_apart s e.tcp.state ≡ false) (heard : HeardSegment)
+    (said : Every (ItemIs k true w back true s) (items_of true s heard)) (tells : (copy_of heard).syn ≡ true → TellsJoin s (items_of true s heard)) where
   abbrev items : List Heard
   items = items_of true s heard
 
@@ -230,13 +244,13 @@ module _ (k : Secrets) (s : Side) (e : PathEnd) (h : EndIs k true true s e) (rol
 
   answers_join : s ≡ A → is_up e.tcp ≡ true → (copy_of heard).syn ≡ true → is_some (join_answer items e.modes) ≡ true
   answers_join side up syn =
-      answer_right k s e h items said up side (join_heard step.Answer items) (subst (λ t. TellsJoin t items) side (tells syn))
-      (by (join_heard step.Answer items) (join_found k true true s step.Answer items said) (λ form. of_form step.Answer items form))
+      answer_right k w back s e h items said up side (join_heard step.Answer items) (subst (λ t. TellsJoin t items) side (tells syn))
+      (by (join_heard step.Answer items) (join_found k true w back true s step.Answer items said) (λ form. of_form step.Answer items form))
     where
-      by : (o : Option JoinForm) → IfSome o (λ form. (true ≡ true) × ((true ≡ true) → JoinIs k true (peer s) form)) → ((form : JoinForm) → o ≡ Some form → is_of_step step.Answer form ≡ true)
+      by : (o : Option JoinForm) → IfSome o (λ form. (true ≡ true) × (IsFor s form × (w (peer s) × ((true ≡ true) → JoinIs k true (peer s) form)))) → ((form : JoinForm) → o ≡ Some form → is_of_step step.Answer form ≡ true)
           → IfSome o (λ form. (is_of_step step.Answer form ≡ true) × ((true ≡ true) → JoinIs k true (peer s) form))
       by None found form = tt
-      by (Some f) found form = (form f refl, found.1)
+      by (Some f) found form = (form f refl, found.1.1.1)
 
   not_forged : (copy_of heard).rst ≡ false → is_passed_over heard.rst items e ≡ false → is_forged items e ≡ false
   not_forged plain heeded = by (is_half_open e.tcp.state) refl heeded
@@ -244,12 +258,12 @@ module _ (k : Secrets) (s : Side) (e : PathEnd) (h : EndIs k true true s e) (rol
       third : is_half_open e.tcp.state ≡ true → is_some (third_in items) ≡ true → is_third_right items e.modes ≡ true
       third half some =
           let is = half_open_is e.tcp.state half in
-          third_right k s e h items said (open_is_up e.tcp is.1) (at_b is.0) (join_heard step.Third items) some
-          (found (join_heard step.Third items) (join_found k true true s step.Third items said))
+          third_right k w back s e h items said (open_is_up e.tcp is.1) (at_b is.0) (join_heard step.Third items) some
+          (found (join_heard step.Third items) (join_found k true w back true s step.Third items said))
         where
-          found : (o : Option JoinForm) → IfSome o (λ form. (true ≡ true) × ((true ≡ true) → JoinIs k true (peer s) form)) → IfSome o (λ form. (true ≡ true) → JoinIs k true (peer s) form)
+          found : (o : Option JoinForm) → IfSome o (λ form. (true ≡ true) × (IsFor s form × (w (peer s) × ((true ≡ true) → JoinIs k true (peer s) form)))) → IfSome o (λ form. (true ≡ true) → JoinIs k true (peer s) form)
           found None is = tt
-          found (Some form) is = is.1
+          found (Some form) is = is.1.1.1
 
       some_third : (rst : Bool) (o : Option (List ℕ)) → rst ≡ false → not rst && is_none o ≡ false → is_some o ≡ true
       some_third false (Some hmac) plain none = refl
@@ -315,62 +329,113 @@ module _ (s : Side) (e : PathEnd) (heard : HeardSegment) (reset : (copy_of heard
 
 -- ---- a path
 
--- what its end is, and the copies under way
-record IsReadyToHear (T : Type 0) (p : PathState Carried) : Type 0 where
-  pub copies : Every (λ f. TellsKey (is_joined p.profile) f.to f.carried.segment) p.link.under_way
-  pub roles : is_joined p.profile ≡ true → (s : Side) → is_apart s (end_at s p).tcp.state ≡ false
-
-ready_to_hear : (T : Type 0) (p : PathState Carried) → PathMet T p → IsReadyToHear T p
-ready_to_hear T p (inl h) = record { copies = h.copies; roles = λ joins. by (h.role_a joins) (h.role_b joins) }
+pub path_welcomes : (k : Secrets) (w back : Side → Type 0) (p : PathState Carried) → PathIs k true w back p → HasRoles p → NextIsWelcome values p
+path_welcomes k w back p h roles due heard next is some = by (arriving due p.link) refl is
   where
-    by : is_apart A p.a.tcp.state ≡ false → is_apart B p.b.tcp.state ≡ false → (s : Side) → is_apart s (end_at s p).tcp.state ≡ false
-    by a b A = a
-    by a b B = b
-ready_to_hear T p (inr h) = record { copies = h.copies; roles = λ joins. by (h.role_a joins) (h.role_b joins) }
-  where
-    by : is_apart A p.a.tcp.state ≡ false → is_apart B p.b.tcp.state ≡ false → (s : Side) → is_apart s (end_at s p).tcp.state ≡ false
-    by a b A = a
-    by a b B = b
-
-pub path_welcomes : (k : Secrets) (T : Type 0) (p : PathState Carried) → PathIs k true p → PathMet T p → NextIsWelcome values p
-path_welcomes k T p h met due heard next is = by (arriving due p.link) refl is
-  where
-    ready : IsReadyToHear T p
-    ready = ready_to_hear T p met
-
-    to_end : (f : Flight Carried) → arriving due p.link ≡ Some f → SegmentIs k true p.profile (peer due.to) f.carried.segment × TellsKey (is_joined p.profile) due.to f.carried.segment
+    to_end : (f : Flight Carried) → arriving due p.link ≡ Some f → SegmentIs k true w back p.profile (peer due.to) f.carried.segment × TellsKey (is_joined p.profile) due.to f.carried.segment
     to_end f there =
-        let found = find_every (FlightIs k true p.profile) (is_due due) p.link.under_way f h.copies there in
-        let told = find_every (λ g. TellsKey (is_joined p.profile) g.to g.carried.segment) (is_due due) p.link.under_way f ready.copies there in
+        let found = find_every (FlightIs k true w back p.profile) (is_due due) p.link.under_way f h.copies there in
+        let told = find_every (CopyTells (is_joined p.profile)) (is_due due) p.link.under_way f roles.copies there in
         let parts = and_parts (f.tick == due.tick) (same_side f.to due.to && f.number == due.copy) found.1 in
         let to = one_side f.to due.to (and_parts (same_side f.to due.to) (f.number == due.copy) parts.1).0 in
-        (subst (λ s. SegmentIs k true p.profile (peer s) f.carried.segment) to found.0, subst (λ s. TellsKey (is_joined p.profile) s f.carried.segment) to told.0)
+        (subst (λ s. SegmentIs k true w back p.profile (peer s) f.carried.segment) to found.0, subst (λ s. TellsKey (is_joined p.profile) s f.carried.segment) to told.0)
 
-    joined : (s : Side) (b : Bool) → is_joined p.profile ≡ b → (sg : PlainSegment) → SegmentIs k true p.profile (peer s) sg → TellsKey (is_joined p.profile) s sg → IsWelcome (judged_in b s (meant sg) (end_at s p))
-    joined s false joins sg said tells = tt
-    joined s true joins sg said tells =
-        end_welcomes k s (end_at s p) (subst (λ b. EndIs k true b s (end_at s p)) joins (end_is k true s p h)) (ready.roles joins s) (meant sg)
-        (items_are k true true s sg (subst (λ b. Every (OptionIs k true b (peer s)) sg.options) joins said)) (tells_join s sg (subst (λ b. TellsKey b s sg) joins tells))
+    joined : (s : Side) (b : Bool) → is_joined p.profile ≡ b → (sg : PlainSegment) → SegmentIs k true w back p.profile (peer s) sg → TellsKey (is_joined p.profile) s sg → is_nil (meant sg).options ≡ false
+        → IsWelcome (judged_in b s (meant sg) (end_at s p))
+    joined s false joins sg said tells some = tt
+    joined s true joins sg said tells some =
+        end_welcomes k w back s (end_at s p) (subst (λ b. EndIs k true w back b s (end_at s p)) joins (end_is k true w back s p h)) (role_at s p roles joins) (meant sg)
+        (items_are k true w back true s sg (subst (λ b. Every (OptionIs k true w back b (peer s)) sg.options) joins said))
+        (tells_join s sg (subst (λ b. TellsKey b s sg) joins tells) (some_meant sg.options some))
 
     by : (o : Option (Flight Carried)) → arriving due p.link ≡ o → heard_in values due.to o p ≡ Some heard → IsWelcome (judged_in (is_joined p.profile) due.to heard (end_at due.to p))
     by None there is = cc
     by (Some f) there is =
         let both = to_end f there in
-        subst (λ x. IsWelcome (judged_in (is_joined p.profile) due.to x (end_at due.to p))) (same_Some (meant f.carried.segment) heard is)
-        (joined due.to (is_joined p.profile) refl f.carried.segment both.0 both.1)
+        let same = same_Some (meant (as_arrived f.carried)) heard is in
+        subst (λ x. IsWelcome (judged_in (is_joined p.profile) due.to x (end_at due.to p))) same
+        (joined due.to (is_joined p.profile) refl (as_arrived f.carried) (arrived_is k true w back p.profile (peer due.to) f.carried both.0) (arrived_tells (is_joined p.profile) due.to f.carried both.1)
+        (ap (λ x. is_nil x.options) same ∙ some))
+
+-- ---- worlds
+
+abbrev MemberRoles : Actor Carried → Type 0
+MemberRoles (App a) = Unit {0}
+MemberRoles (Path p) = HasRoles p
+
+abbrev AllRoles : WorldState Carried → Type 0
+AllRoles w = Every (λ c. MemberRoles c.member) w.crew
+
+takes_member : (r : Reply) (m : Actor Carried) → MemberRoles m → MemberRoles (member_takes values r m)
+takes_member r (App a) h = tt
+takes_member r (Path p) h = takes_roles r p h
+
+next_member : (m : Actor Carried) → MemberRoles m → MemberRoles (member_next m)
+next_member (App a) h = tt
+next_member (Path p) h =
+    begins_roles (record p { clock = p.until; until = p.until + 100 }) (record { copies = h.copies; role_a = h.role_a; role_b = h.role_b; answer_a = h.answer_a; answer_b = h.answer_b })
+
+turn_roles : (turn : Turn) (w : WorldState Carried) → AllRoles w → AllRoles (after_turn values turn w)
+turn_roles (Turn.Step actor) w h = by (slice_get w.crew actor) refl
+  where
+    asking : (c : ActorCrew Carried) → slice_get w.crew actor ≡ Some c → (o : Option Ask) → AllRoles (asked values actor o c w)
+    asking c there None = h
+    asking c there (Some x) = record {
+      each = λ i d at. ⊎_elim
+          (λ here. subst (λ y. MemberRoles y.member) here.1 (takes_member (reply_of (books_in w.books) x) c.member (h.each actor c there)))
+          (λ other. h.each i d other.1)
+          (in_set w.crew actor (crew_after values x w.books c) i d at);
+    }
+
+    by : (o : Option (ActorCrew Carried)) → slice_get w.crew actor ≡ o → AllRoles (stepped values actor o w)
+    by None there = h
+    by (Some c) there = asking c there (member_asks values c.member)
+turn_roles Turn.Round w h = by (all_over w.crew)
+  where
+    by : (b : Bool) → AllRoles (if b then record w { crew = map (begins (greatest 0 w.crew)) w.crew } else w)
+    by true = record {
+      each = λ i d at.
+          let found = in_map (begins (greatest 0 w.crew)) w.crew i d at in
+          subst (λ y. MemberRoles y.member) found.2 (next_member found.0.member (h.each i found.0 found.1));
+    }
+    by false = h
+
+run_roles : (turns : List Turn) (w : WorldState Carried) → AllRoles w → AllRoles (world_run values turns w)
+run_roles [] w h = h
+run_roles (turn ∷ turns) w h = run_roles turns (after_turn values turn w) (turn_roles turn w h)
+
+opened_roles : (start : Start) → AllRoles (opened_world start)
+opened_roles start = record { each = opened_actors (λ actor c. MemberRoles c.member) start tt tt (λ number plan there. path number plan) }
+  where
+    path : (number : ℕ) (plan : PathPlan) → MemberRoles (new_path {C = Carried} start number plan).member
+    path number plan = begins_roles (waiting_path (path_begins start number plan) start.lines) (record {
+      copies = Every-nil _;
+      role_a = λ joins. apart number;
+      role_b = λ joins. refl;
+      answer_a = tt;
+      answer_b = tt;
+    })
+      where
+        apart : (number : ℕ) → is_apart A (waiting_path {C = Carried} (path_begins start number plan) start.lines).a.tcp.state ≡ false
+        apart zero = refl
+        apart (suc n) = refl
 
 -- ---- the law
 
-pub each_copy_is_welcome : IsPromised (EachCopyIsWelcome values)
-each_copy_is_welcome start turns plain = record {
-  each = λ actor c there. by c.member (met.keys.crew.each actor c there) (met.crew.each actor c there);
+pub each_copy_is_welcome : Always values (λ start w. EachCopyIsWelcome values w)
+each_copy_is_welcome start turns = record {
+  each = λ actor c there. by c.member (met.keys.crew.each actor c there) (roles.each actor c there);
 }
   where
     met : WorldMet start.key_a start.key_b (world_run values turns (opened_world start))
-    met = run_met start.key_a start.key_b turns (opened_world start) (opened_met start plain)
+    met = run_met start.key_a start.key_b turns (opened_world start) (opened_met start)
 
-    by : (m : Actor Carried) → MemberIs start.key_a start.key_b true m
-        → MemberMet start.key_a start.key_b (HasBookKey (books_in (world_run values turns (opened_world start)).books).control_a) m → WelcomesNext values m
+    roles : AllRoles (world_run values turns (opened_world start))
+    roles = run_roles turns (opened_world start) (opened_roles start)
+
+    six : SixBooks
+    six = books_in (world_run values turns (opened_world start)).books
+
+    by : (m : Actor Carried) → MemberIs start.key_a start.key_b true six m → MemberRoles m → WelcomesNext values m
     by (App a) keys member = tt
-    by (Path p) keys member =
-        path_welcomes (with_nonces start.key_a start.key_b true keys.nonce_a keys.nonce_b) (HasBookKey (books_in (world_run values turns (opened_world start)).books).control_a) p keys.is member
+    by (Path p) keys member = path_welcomes (with_nonces start.key_a start.key_b true keys.nonce_a keys.nonce_b) (Joined six) (FellBack six) p keys.is member

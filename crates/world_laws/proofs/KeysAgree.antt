@@ -1,6 +1,6 @@
 -- No control book is told another key than its own: what an end hears are the keys that were drawn.
 use Rattle.std.proofs.Common.{◌≡◌, refl, sym, ◌∙◌, ap, subst, ℕ, zero, suc, ◌+◌, ◌==◌, ◌&&◌, ◌||◌, not, nat_lt, ⊎_elim, Bool, true, false, if◌then◌else◌, Option, Some, None, List, [], ◌∷◌, map, arith}
-use Rattle.std.proofs.lemmas.Bool.{eq-eqb, lt-ltb, both_ways, false≢true}
+use Rattle.std.proofs.lemmas.Bool.{lt-ltb, both_ways, false≢true}
 use Rattle.std.proofs.lemmas.Option.{same_Some}
 use Rattle.std.specs.List.{slice_get}
 use Rattle.std.specs.Option.{IfSome}
@@ -13,18 +13,12 @@ use Rattle.reassembly_book.specs.declared.call.ReassemblyCall.TheVariants as rea
 use Rattle.control_book.specs.declared.call.ControlCall.{ControlCall}
 use Rattle.control_book.specs.declared.call.ControlCall.TheVariants as control_calls
 use Rattle.control_book.specs.declared.call.ControlReply.TheVariants as control_replies
-use Rattle.control_book.specs.declared.call.Notice.{Notice}
-use Rattle.control_book.specs.declared.call.Notice.TheVariants as notices
 use Rattle.control_book.specs.Control.{Control, peer_or_zero}
 use Rattle.control_book.specs.Registry.{sole as sole_path, stands as stands_path, with_phase}
 use Rattle.control_book.specs.declared.registry.Phase.TheVariants.{Opening}
 use Rattle.key_material.specs.KeyDigest.{token_of}
 use Rattle.fallback_state.specs.declared.fall.Event.{Event as FallEvent}
-use Rattle.fallback_state.specs.declared.fall.Fall.{Fall}
-use Rattle.fallback_state.specs.declared.fall.Mode.{Mode}
-use Rattle.fallback_state.specs.declared.fall.Mode.TheVariants as modes
-use Rattle.fallback_state.specs.Modes.{is_starting}
-use Rattle.fallback_state.specs.Table.{after_sure_sign, goes, stays, fall_step}
+use Rattle.fallback_state.specs.Modes.{is_identity}
 use Rattle.join_handshake.specs.declared.hearing.JoinSyn.{JoinSyn as Asked}
 use Rattle.control_book.specs.Replies as control
 use Rattle.control_book.specs.Steps as controlling
@@ -53,8 +47,9 @@ use Rattle.path_core.specs.Duties.{ask_for}
 use Rattle.path_core.specs.Emission.{first_unsent, data_ask}
 use Rattle.path_core.specs.Events.{next_event, step_for}
 use Rattle.path_agenda.specs.Items.{key_heard, keys_heard}
-use Rattle.path_core.specs.Opening.{peer_key_ask, keys_ask}
-use Rattle.path_core.specs.Passing.{piece_of, piece_ask, fin_of, fin_ask, rate_ask}
+use Rattle.path_core.specs.Falling.{fell_ask}
+use Rattle.path_core.specs.Opening.{peer_key_ask, opened_ask}
+use Rattle.path_core.specs.Passing.{piece_of, piece_ask, fin_of, fin_ask, plain_fin, rate_ask}
 use Rattle.path_core.specs.Placing.{Piece}
 use Rattle.path_core.specs.Sends.{sends}
 use Rattle.path_core.specs.Starts.{waiting_path}
@@ -66,7 +61,7 @@ use Rattle.subflow_tcp.specs.State.{EndState}
 use Rattle.subflow_tcp.specs.States.{is_waiting}
 use Rattle.path_core.specs.State.{PathState, end_at, with_agenda}
 use Rattle.path_core.specs.Steps.{answers, asks_first, takes}
-use Rattle.path_core.specs.Treating.{is_clash, fell_ask, mapping_ask, item_ask, item_of}
+use Rattle.path_core.specs.Treating.{is_clash, breaks_by_ack, plain_ack_ask, mapping_ask, item_ask, item_of}
 use Rattle.path_core.specs.Values.{Carried, values}
 use Rattle.world_laws.specs.declared.member.Member.TheVariants.{App, Path}
 use Rattle.world_laws.specs.Actors.{Actor, ActorCrew, member_asks, member_takes, member_next}
@@ -75,82 +70,88 @@ use Rattle.world_laws.specs.Openings.{PathPlan, Start, path_begins, new_path, op
 use Rattle.world_laws.specs.Promises.{tells_other_key, tells_wrong_join, KeysNeverDiffer}
 use Rattle.world_laws.specs.Worlds.{WorldState, Turn, crew_after, asked, stepped, world_step, all_over, greatest, begins, end_round, after_turn, world_run}
 use Rattle.world_laws.proofs.Journaling.{books_after}
-use Rattle.world_laws.proofs.KeysRight.{Secrets, drawn_key, sure_if, ItemIs}
+use Rattle.world_laws.proofs.Falls.{IsNoStop, IsLasting, identity_stays, row_falls}
+use Rattle.world_laws.proofs.KeysRight.{Secrets, is_past, drawn_key, ItemIs}
 use Rattle.world_laws.proofs.KeysWoken.{is_up}
-use Rattle.world_laws.proofs.KeysHeld.{PathIs, IsSign, BeginIs, PairIs, AskedIs, end_is, key_found, pair_found, asked_is}
-use Rattle.world_laws.proofs.KeysKept.{CallIs, CallReplyIs, AskIs, ReplyIs, item_there, takes_is, begins_is}
-use Rattle.world_laws.proofs.RoundEnds.{settled_settled}
+use Rattle.world_laws.proofs.KeysHeld.{PathIs, IsSign, BeginIs, PairIs, AskedIs, end_is, key_found, pair_found, asked_is, more_is}
+use Rattle.world_laws.proofs.KeysKept.{CallIs, CallReplyIs, AskIs, ReplyIs, item_found, takes_is, begins_is}
+use Rattle.world_laws.proofs.Settled.{settled_settled}
 use Rattle.world_laws.proofs.Opened.{opened_actors}
 use Rattle.world_laws.proofs.PromisesNotes.{NoneTold, Untold, from_each, turn_none, opened_none}
+use Rattle.world_laws.proofs.KeysBooks.{BookIs, call_is, call_joined, key_untold, join_untold}
 
 -- ---- what a path asks
 
-module _ (k : Secrets) (right : Bool) (p : PathState Carried) (h : PathIs k right p) where
-  data_is : (s : Side) (o : Option Record) → AskIs k right (data_ask values s o p)
+module _ (k : Secrets) (right : Bool) (w back : Side → Type 0) (p : PathState Carried) (h : PathIs k right w back p) where
+  data_is : (s : Side) (o : Option Record) → AskIs k right w back (data_ask values s o p)
   data_is s None = tt
   data_is s (Some r) = tt
 
-  step_is : (o : Option Event) → AskIs k right (step_for p.link.path o)
+  step_is : (o : Option Event) → AskIs k right w back (step_for p.link.path o)
   step_is None = tt
-  step_is (Some (happening.Joins tick)) = tt
+  step_is (Some (happening.Joins tick)) = refl
   step_is (Some (happening.Takes line)) = tt
   step_is (Some (happening.Arrives due)) = tt
   step_is (Some (happening.Fires s tick)) = tt
 
-  key_is : (s : Side) (o : Option ℕ) → IfSome o (λ key. key ≡ drawn_key k right (peer s)) → AskIs k right (peer_key_ask s o)
+  key_is : (s : Side) (o : Option ℕ) → IfSome o (λ key. key ≡ drawn_key k right (peer s)) → AskIs k right w back (peer_key_ask s o p)
   key_is s None own = tt
   key_is s (Some key) own = own
 
-  keys_are : (s : Side) (o : Option KeyPair) → IfSome o (PairIs k right (is_joined p.profile) s) → AskIs k right (keys_ask s o)
+  keys_are : (s : Side) (o : Option KeyPair) → IfSome o (PairIs k right w back (is_joined p.profile) s) → AskIs k right w back (opened_ask s o p)
   keys_are s None own = tt
-  keys_are s (Some keys) own = own
+  keys_are s (Some keys) own = own.1
 
-  break_is : (s : Side) (reason : ℕ) → AskIs k right (break_ask values s reason p)
+  break_is : (s : Side) (reason : ℕ) → AskIs k right w back (break_ask values s reason p)
   break_is s reason = by (end_at s p).treated.asked
     where
-      by : (b : Bool) → AskIs k right (if b then asks.Reassembly s reassembly_calls.AckOut else sends values s (reset_of s (Some reason) p) p)
+      by : (b : Bool) → AskIs k right w back (if b then asks.Reassembly s reassembly_calls.AckOut else sends values s (reset_of s (Some reason) p) p)
       by true = tt
       by false = tt
 
-  mapping_is : (s : Side) → AskIs k right (mapping_ask values s p)
+  mapping_is : (s : Side) → AskIs k right w back (mapping_ask values s p)
   mapping_is s = by (is_clash (end_at s p))
     where
-      by : (b : Bool) → AskIs k right (if b then break_ask values s 1 p else fell_ask s events.MappingHeard p)
+      by : (b : Bool) → AskIs k right w back (if b then break_ask values s 1 p else fell_ask s events.MappingHeard p)
       by true = break_is s 1
       by false = tt
 
-  item_is : (s : Side) (o : Option Heard) → IfSome o (ItemIs k right (is_joined p.profile) s) → AskIs k right (item_ask values s o p)
+  item_is : (s : Side) (o : Option Heard) → IfSome o (ItemIs k right w back (is_joined p.profile) s) → AskIs k right w back (item_ask values s o p)
   item_is s None own = tt
   item_is s (Some says.Dss) own = tt
   item_is s (Some (says.DataAck next window)) own = tt
   item_is s (Some says.Mapping) own = mapping_is s
   item_is s (Some (says.DataFin place)) own = tt
+  item_is s (Some says.InfiniteMapping) own = tt
   item_is s (Some (says.PeerKey key)) own = tt
-  item_is s (Some (says.Keys mine other)) own = own
+  item_is s (Some (says.Keys mine other)) own = own.1
   item_is s (Some (says.Join form)) own = tt
 
-  piece_is : (s : Side) (o : Option Piece) → AskIs k right (piece_ask s o)
+  piece_is : (s : Side) (o : Option Piece) → AskIs k right w back (piece_ask s o)
   piece_is s None = tt
   piece_is s (Some piece) = tt
 
-  fin_is : (s : Side) (o : Option ℕ) → AskIs k right (fin_ask s o)
+  fin_is : (s : Side) (o : Option ℕ) → AskIs k right w back (fin_ask s o)
   fin_is s None = tt
   fin_is s (Some place) = tt
 
-  rate_is : (s : Side) (o : Option Pending) → AskIs k right (rate_ask s o p)
+  rate_is : (s : Side) (o : Option Pending) → AskIs k right w back (rate_ask s o p)
   rate_is s None = tt
   rate_is s (Some pending) = tt
 
-  join_asks : (s : Side) (o : Option Asked) → IfSome o (AskedIs k right (is_joined p.profile) s) → AskIs k right (join_heard_ask s o p)
+  join_asks : (s : Side) (o : Option Asked) → IfSome o (AskedIs k right w back (is_joined p.profile) s) → AskIs k right w back (join_heard_ask s o p)
   join_asks s None own = tt
-  join_asks s (Some asked) own = λ sure. (own.1 (by (is_joined p.profile) sure)).0
-    where
-      by : (b : Bool) → right ≡ true → sure_if k right b ≡ true
-      by true sure = sure
-      by false sure = refl
+  join_asks s (Some asked) own = (own.1.0, (own.1.1.0, λ sure. (own.1.1.1 sure).0))
 
-  pub asks_are : (d : Duty) → AskIs k right (ask_for values d p)
-  asks_are duties.JoinAgain = tt
+  plain_ack_is : (s : Side) → AskIs k right w back (plain_ack_ask values s p)
+  plain_ack_is s = by (breaks_by_ack p.profile (end_at s p))
+    where
+      by : (b : Bool) → AskIs k right w back (if b then break_ask values s 6 p else fell_ask s events.PlainAck p)
+      by true = break_is s 6
+      by false = tt
+
+  pub asks_are : (d : Duty) → AskIs k right w back (ask_for values d p)
+  asks_are duties.JoinAgain = refl
   asks_are (duties.Look s) = tt
   asks_are (duties.Window s) = tt
   asks_are (duties.Update s) = tt
@@ -162,18 +163,24 @@ module _ (k : Secrets) (right : Bool) (p : PathState Carried) (h : PathIs k righ
   asks_are duties.Events = step_is (next_event p)
   asks_are (duties.SynHeard s) = tt
   asks_are (duties.SynAnswered s) = tt
+  asks_are (duties.PlainHandshake s) = tt
   asks_are (duties.PeerKey s) =
-      key_is s (key_heard (end_at s p).treated.items) (key_found k right (is_joined p.profile) s (end_at s p).treated.items (end_is k right s p h).items)
+      key_is s (key_heard (end_at s p).treated.items) (key_found k right w back (is_joined p.profile) s (end_at s p).treated.items (end_is k right w back s p h).items)
   asks_are (duties.SynAck s) = tt
-  asks_are (duties.JoinHeard s) = join_asks s (asked_at s p) (asked_is k right (is_joined p.profile) s (end_at s p).treated.items (end_is k right s p h).items)
+  asks_are (duties.JoinHeard s) = join_asks s (asked_at s p) (asked_is k right w back (is_joined p.profile) s (end_at s p).treated.items (end_is k right w back s p h).items)
   asks_are (duties.Refuse s) = tt
   asks_are (duties.Opened s) =
-      keys_are s (keys_heard (end_at s p).treated.items) (pair_found k right (is_joined p.profile) s (end_at s p).treated.items (end_is k right s p h).items)
+      keys_are s (keys_heard (end_at s p).treated.items) (pair_found k right w back (is_joined p.profile) s (end_at s p).treated.items (end_is k right w back s p h).items)
   asks_are (duties.Live s) = tt
   asks_are (duties.Heard s index) =
-      item_is s (item_of index (end_at s p)) (item_there k right (is_joined p.profile) (end_at s p).treated.items s index (end_is k right s p h).items)
+      item_is s (item_of index (end_at s p)) (item_found k right w back (is_joined p.profile) s index (end_at s p) (end_is k right w back s p h).items)
   asks_are (duties.AckHeard s) = tt
-  asks_are (duties.PlainAck s) = break_is s 6
+  asks_are (duties.PlainAck s) = plain_ack_is s
+  asks_are (duties.SubflowAck s) = tt
+  asks_are (duties.PlainData s) = tt
+  asks_are (duties.GoIdentity s) = tt
+  asks_are (duties.Unmapped s) = break_is s 6
+  asks_are (duties.SubflowFin s) = fin_is s (plain_fin (end_at s p))
   asks_are (duties.Keep s) = tt
   asks_are (duties.Edge s) = piece_is s (piece_of s p)
   asks_are (duties.HeardFin s index) = fin_is s (fin_of index (end_at s p))
@@ -193,155 +200,17 @@ module _ (k : Secrets) (right : Bool) (p : PathState Carried) (h : PathIs k righ
   asks_are (duties.Dead s) = tt
   asks_are duties.End = tt
 
--- ---- the keys of a control book
-
--- its own key, and the peer's once it has one, which it has once it is confirmed
-pub record BookIs (own other : ℕ) (c : Control) : Type 0 where
-  pub own_is : c.keys.own ≡ own
-  pub peer_is : IfSome c.keys.peer (λ key. key ≡ other)
-  pub confirmed : c.fall.confirmed ≡ true → c.keys.peer ≡ Some other
-
--- with the same keys, and no more confirmed
-same_book : (own other : ℕ) (c d : Control) → d.keys ≡ c.keys → d.fall.confirmed ≡ c.fall.confirmed → BookIs own other c → BookIs own other d
-same_book own other c d keys confirmed h = record {
-  own_is = ap (λ x. x.own) keys ∙ h.own_is;
-  peer_is = subst (λ x. IfSome x.peer (λ key. key ≡ other)) (sym keys) h.peer_is;
-  confirmed = λ is. ap (λ x. x.peer) keys ∙ h.confirmed (sym confirmed ∙ is);
-}
-
-if_book : (own other : ℕ) (b : Bool) (c d : Control) → BookIs own other c → BookIs own other d → BookIs own other (if b then c else d)
-if_book own other true c d x y = x
-if_book own other false c d x y = y
-
-notice_is : (own other : ℕ) (n : Notice) (path : ℕ) (c : Control) → BookIs own other c → BookIs own other (controlling.after_notice n path c)
-notice_is own other (notices.Withdraw id) path c h = same_book own other c _ refl refl h
-notice_is own other notices.Nothing path c h = h
-notice_is own other (notices.Announce id) path c h = h
-notice_is own other (notices.Carrier key) path c h = h
-notice_is own other notices.Reset path c h = h
-
--- a sign of the peer's, which makes a side sure
-sign_confirms : (f : Fall) → (after_sure_sign f).0.confirmed ≡ f.confirmed
-sign_confirms f = by (is_starting f.mode)
-  where
-    by : (b : Bool) → (if b then goes modes.Sure f else stays f).0.confirmed ≡ f.confirmed
-    by true = refl
-    by false = refl
-
-fell_confirms : (path : ℕ) (sole : Bool) (e : FallEvent) (f : Fall) → IsSign e → (fall_step f path sole e).0.confirmed ≡ f.confirmed
-fell_confirms path sole events.MappingHeard f is = sign_confirms f
-fell_confirms path sole events.AckHeard f is = sign_confirms f
-fell_confirms path sole events.PlainHandshake f is = absurd is
-fell_confirms path sole events.PlainData f is = absurd is
-fell_confirms path sole events.PlainAck f is = absurd is
-fell_confirms path sole events.KeysHeard f is = absurd is
-fell_confirms path sole events.InfiniteHeard f is = absurd is
-fell_confirms path sole events.CheckFailed f is = absurd is
-fell_confirms path sole (events.FailHeard contiguous) f is = absurd is
-fell_confirms path sole events.Stop f is = absurd is
-
-keys_told : (own other : ℕ) (mine peer_key : ℕ) (c : Control) → peer_key ≡ other → BookIs own other c → BookIs own other (controlling.after_keys mine peer_key c)
-keys_told own other mine peer_key c is h =
-    if_book own other (mine == c.keys.own) (controlling.after_event 0 false events.KeysHeard (controlling.after_peer_key peer_key c)) c
-    (record { own_is = h.own_is; peer_is = is; confirmed = λ confirmed. ap (λ n. Some n) is }) h
-
-call_is : (k : Secrets) (right : Bool) (s : Side) (c : Control) (call : ControlCall) → AskIs k right (asks.Control s call) → BookIs (drawn_key k right s) (drawn_key k right (peer s)) c
-    → BookIs (drawn_key k right s) (drawn_key k right (peer s)) (controlling.after c call)
-call_is k right s c (control_calls.Look path) is h = notice_is _ _ (control.notice_on c path) path c h
-call_is k right s c (control_calls.PeerKey key) is h = record { own_is = h.own_is; peer_is = is; confirmed = λ confirmed. ap (λ n. Some n) is }
-call_is k right s c (control_calls.Keys own other) is h = keys_told _ _ own other c is.1 h
-call_is k right s c (control_calls.Fell path event) is h = same_book _ _ c _ refl (fell_confirms path (sole_path c.paths path) event c.fall is) h
-call_is k right s c (control_calls.JoinBegin path) is h =
-    let d : Control = controlling.after_join (record c { paths = with_phase path Opening c.paths }) in
-    if_book (drawn_key k right s) (drawn_key k right (peer s)) (control.is_sure c.fall.mode) d c (same_book _ _ c d refl refl h) h
-call_is k right s c (control_calls.JoinHeard path token) is h =
-    if_book (drawn_key k right s) (drawn_key k right (peer s)) (token == token_of c.keys.own && c.fall.confirmed && (control.is_starting c.fall.mode || control.is_sure c.fall.mode))
-    (controlling.after_join c) c (same_book _ _ c (controlling.after_join c) refl refl h) h
-call_is k right s c (control_calls.Live path backup) is h = same_book _ _ c _ refl refl h
-call_is k right s c (control_calls.Dead path) is h = same_book _ _ c _ refl refl h
-call_is k right s c (control_calls.Rate path window rtt) is h = same_book _ _ c _ refl refl h
-call_is k right s c (control_calls.Backup path on) is h = absurd is
-call_is k right s c (control_calls.Announce id) is h = absurd is
-call_is k right s c (control_calls.Withdraw id) is h = absurd is
-call_is k right s c (control_calls.Heard id address port hmac) is h = absurd is
-call_is k right s c (control_calls.Echoed id) is h = absurd is
-call_is k right s c (control_calls.Removed id) is h = absurd is
-call_is k right s c control_calls.FastClose is h = absurd is
-call_is k right s c (control_calls.FastHeard key) is h = absurd is
-
--- ---- what it answers
-
-keys_untold : (test : Reply → Bool) → ((key : ℕ) → test (replies.Control control_replies.Noted) ≡ false) → (own : ℕ) (c : Control) → own ≡ c.keys.own
-    → test (replies.Control (control.keys_reply own c)) ≡ false
-keys_untold test noted own c same =
-    ap (λ (b : Bool). test (replies.Control (if b then control_replies.Noted else control_replies.KeysDiffer c.keys.own))) (eq-eqb own c.keys.own same) ∙ noted own
-
-begin_untold : (test : Reply → Bool) → ((own other : ℕ) → test (replies.Control (control_replies.Begin own other)) ≡ false) → test (replies.Control control_replies.NotYet) ≡ false
-    → ((mode : Mode) → test (replies.Control (control_replies.Never mode)) ≡ false) → (c : Control) → test (replies.Control (control.join_begin_reply c)) ≡ false
-begin_untold test begins not_yet never c = by (control.is_sure c.fall.mode) (control.is_starting c.fall.mode && stands_path c.paths 0)
-  where
-    by : (a b : Bool) → test (replies.Control (if a then control.begin c else (if b then control_replies.NotYet else control_replies.Never c.fall.mode))) ≡ false
-    by true b = begins c.keys.own (peer_or_zero c.keys.peer)
-    by false true = not_yet
-    by false false = never c.fall.mode
-
--- the token is its own, or another one
-heard_untold : (test : Reply → Bool) (known : Bool) (c : Control) → ((own other : ℕ) → test (replies.Control (control_replies.Begin own other)) ≡ false)
-    → test (replies.Control control_replies.NotConfirmed) ≡ false → ((mode : Mode) → test (replies.Control (control_replies.Fallen mode)) ≡ false)
-    → (known ≡ false → test (replies.Control (control_replies.UnknownToken (token_of c.keys.own))) ≡ false)
-    → test (replies.Control (if not known then control_replies.UnknownToken (token_of c.keys.own)
-    else (if not c.fall.confirmed then control_replies.NotConfirmed
-    else (if control.is_starting c.fall.mode || control.is_sure c.fall.mode then control.begin c else control_replies.Fallen c.fall.mode)))) ≡ false
-heard_untold test false c begins unconfirmed fallen unknown = unknown refl
-heard_untold test true c begins unconfirmed fallen unknown = by c.fall.confirmed (control.is_starting c.fall.mode || control.is_sure c.fall.mode)
-  where
-    by : (a b : Bool) → test (replies.Control (if not a then control_replies.NotConfirmed else (if b then control.begin c else control_replies.Fallen c.fall.mode))) ≡ false
-    by false b = unconfirmed
-    by true true = begins c.keys.own (peer_or_zero c.keys.peer)
-    by true false = fallen c.fall.mode
-
-module _ (k : Secrets) (right : Bool) (s : Side) (c : Control) (h : BookIs (drawn_key k right s) (drawn_key k right (peer s)) c) where
-  key_untold : (call : ControlCall) → AskIs k right (asks.Control s call) → tells_other_key (replies.Control (control.reply_to c call)) ≡ false
-  key_untold (control_calls.Look path) is = refl
-  key_untold (control_calls.PeerKey key) is = refl
-  key_untold (control_calls.Keys own other) is = keys_untold tells_other_key (λ key. refl) own c (is.0 ∙ sym h.own_is)
-  key_untold (control_calls.Fell path event) is = refl
-  key_untold (control_calls.JoinBegin path) is = begin_untold tells_other_key (λ own other. refl) refl (λ mode. refl) c
-  key_untold (control_calls.JoinHeard path token) is = heard_untold tells_other_key (token == token_of c.keys.own) c (λ own other. refl) refl (λ mode. refl) (λ unknown. refl)
-  key_untold (control_calls.Live path backup) is = refl
-  key_untold (control_calls.Dead path) is = refl
-  key_untold (control_calls.Rate path window rtt) is = refl
-  key_untold (control_calls.Backup path on) is = absurd is
-  key_untold (control_calls.Announce id) is = absurd is
-  key_untold (control_calls.Withdraw id) is = absurd is
-  key_untold (control_calls.Heard id address port hmac) is = absurd is
-  key_untold (control_calls.Echoed id) is = absurd is
-  key_untold (control_calls.Removed id) is = absurd is
-  key_untold control_calls.FastClose is = absurd is
-  key_untold (control_calls.FastHeard key) is = absurd is
-
-  join_untold : right ≡ true → (call : ControlCall) → AskIs k right (asks.Control s call) → tells_wrong_join (replies.Control (control.reply_to c call)) ≡ false
-  join_untold sure (control_calls.Look path) is = refl
-  join_untold sure (control_calls.PeerKey key) is = refl
-  join_untold sure (control_calls.Keys own other) is = keys_untold tells_wrong_join (λ key. refl) own c (is.0 ∙ sym h.own_is)
-  join_untold sure (control_calls.Fell path event) is = refl
-  join_untold sure (control_calls.JoinBegin path) is = begin_untold tells_wrong_join (λ own other. refl) refl (λ mode. refl) c
-  join_untold sure (control_calls.JoinHeard path token) is =
-      heard_untold tells_wrong_join (token == token_of c.keys.own) c (λ own other. refl) refl (λ mode. refl)
-      (λ unknown. let own : token ≡ token_of c.keys.own = is sure ∙ ap token_of (sym h.own_is) in absurd (both_ways _ unknown (eq-eqb token (token_of c.keys.own) own)))
-  join_untold sure (control_calls.Live path backup) is = refl
-  join_untold sure (control_calls.Dead path) is = refl
-  join_untold sure (control_calls.Rate path window rtt) is = refl
-  join_untold sure (control_calls.Backup path on) is = absurd is
-  join_untold sure (control_calls.Announce id) is = absurd is
-  join_untold sure (control_calls.Withdraw id) is = absurd is
-  join_untold sure (control_calls.Heard id address port hmac) is = absurd is
-  join_untold sure (control_calls.Echoed id) is = absurd is
-  join_untold sure (control_calls.Removed id) is = absurd is
-  join_untold sure control_calls.FastClose is = absurd is
-  join_untold sure (control_calls.FastHeard key) is = absurd is
-
 -- ---- all books
+
+-- a side joined: its book began a join, or answered one
+abbrev pub Joined : SixBooks → Side → Type 0
+Joined six A = six.control_a.fall.joined ≡ true
+Joined six B = six.control_b.fall.joined ≡ true
+
+-- and a side fell back to plain TCP
+abbrev pub FellBack : SixBooks → Side → Type 0
+FellBack six A = is_identity six.control_a.fall.mode ≡ true
+FellBack six B = is_identity six.control_b.fall.mode ≡ true
 
 module _ (key_a key_b : ℕ) (right : Bool) where
   pub record BooksAre (six : SixBooks) : Type 0 where
@@ -352,28 +221,28 @@ module _ (key_a key_b : ℕ) (right : Bool) where
   with_nonces nonce_a nonce_b = record { key_a = key_a; key_b = key_b; nonce_a = nonce_a; nonce_b = nonce_b }
 
   -- keys alone are asked for, which both ends of each path have
-  abbrev pub KeysAsk : Ask → Type 0
-  KeysAsk x = AskIs (with_nonces 0 0) right x
+  abbrev pub KeysAsk : SixBooks → Ask → Type 0
+  KeysAsk six x = AskIs (with_nonces 0 0) right (Joined six) (FellBack six) x
 
-  ask_keeps : (six : SixBooks) (x : Ask) → KeysAsk x → BooksAre six → BooksAre (after_ask x six)
-  ask_keeps six (asks.Control A call) is h = record { a = call_is (with_nonces 0 0) right A six.control_a call is h.a; b = h.b }
-  ask_keeps six (asks.Control B call) is h = record { a = h.a; b = call_is (with_nonces 0 0) right B six.control_b call is h.b }
+  ask_keeps : (six : SixBooks) (x : Ask) → KeysAsk six x → BooksAre six → BooksAre (after_ask x six)
+  ask_keeps six (asks.Control A call) is h = record { a = call_is (with_nonces 0 0) right (Joined six) (FellBack six) A six.control_a call is h.a; b = h.b }
+  ask_keeps six (asks.Control B call) is h = record { a = h.a; b = call_is (with_nonces 0 0) right (Joined six) (FellBack six) B six.control_b call is h.b }
   ask_keeps six (asks.Send A call) is h = record { a = h.a; b = h.b }
   ask_keeps six (asks.Send B call) is h = record { a = h.a; b = h.b }
   ask_keeps six (asks.Reassembly A call) is h = record { a = h.a; b = h.b }
   ask_keeps six (asks.Reassembly B call) is h = record { a = h.a; b = h.b }
   ask_keeps six (asks.Local step) is h = h
 
-  ask_untold : (six : SixBooks) (x : Ask) → BooksAre six → KeysAsk x → tells_other_key (reply_of six x) ≡ false
-  ask_untold six (asks.Control A call) h is = key_untold (with_nonces 0 0) right A six.control_a h.a call is
-  ask_untold six (asks.Control B call) h is = key_untold (with_nonces 0 0) right B six.control_b h.b call is
+  ask_untold : (six : SixBooks) (x : Ask) → BooksAre six → KeysAsk six x → tells_other_key (reply_of six x) ≡ false
+  ask_untold six (asks.Control A call) h is = key_untold (with_nonces 0 0) right (Joined six) (FellBack six) A six.control_a h.a call is
+  ask_untold six (asks.Control B call) h is = key_untold (with_nonces 0 0) right (Joined six) (FellBack six) B six.control_b h.b call is
   ask_untold six (asks.Send s call) h is = refl
   ask_untold six (asks.Reassembly s call) h is = refl
   ask_untold six (asks.Local step) h is = refl
 
-  join_answers : right ≡ true → (six : SixBooks) (x : Ask) → BooksAre six → KeysAsk x → tells_wrong_join (reply_of six x) ≡ false
-  join_answers sure six (asks.Control A call) h is = join_untold (with_nonces 0 0) right A six.control_a h.a sure call is
-  join_answers sure six (asks.Control B call) h is = join_untold (with_nonces 0 0) right B six.control_b h.b sure call is
+  join_answers : right ≡ true → (six : SixBooks) (x : Ask) → BooksAre six → KeysAsk six x → tells_wrong_join (reply_of six x) ≡ false
+  join_answers sure six (asks.Control A call) h is = join_untold (with_nonces 0 0) right (Joined six) (FellBack six) A six.control_a h.a sure call is
+  join_answers sure six (asks.Control B call) h is = join_untold (with_nonces 0 0) right (Joined six) (FellBack six) B six.control_b h.b sure call is
   join_answers sure six (asks.Send s call) h is = refl
   join_answers sure six (asks.Reassembly s call) h is = refl
   join_answers sure six (asks.Local step) h is = refl
@@ -382,40 +251,48 @@ module _ (key_a key_b : ℕ) (right : Bool) where
   abbrev pub SureHasKey : SixBooks → Type 0
   SureHasKey six = control.is_sure six.control_a.fall.mode ≡ true → six.control_a.keys.peer ≡ Some key_b
 
-  -- a book that lets a join go on has the peer's key
-  begins_so : (six : SixBooks) → (right ≡ true → SureHasKey six) → BooksAre six → IfSome (keys_begun (replies.Control (control.join_begin_reply six.control_a))) (BeginIs (with_nonces 0 0) right A)
-  begins_so six knows h = by (control.is_sure six.control_a.fall.mode) refl (control.is_starting six.control_a.fall.mode && stands_path six.control_a.paths 0)
+  -- a book that lets a join go on has the peer's key, and joined by that
+  begins_so : (six : SixBooks) (path : ℕ) → (right ≡ true → SureHasKey six) → BooksAre six
+      → IfSome (keys_begun (replies.Control (control.join_begin_reply six.control_a))) (BeginIs (with_nonces 0 0) right (Joined (after_ask (asks.Control A (control_calls.JoinBegin path)) six)) (FellBack (after_ask (asks.Control A (control_calls.JoinBegin path)) six)) A)
+  begins_so six path knows h = by (control.is_sure six.control_a.fall.mode) refl (control.is_starting six.control_a.fall.mode && stands_path six.control_a.paths 0)
     where
       c : Control
       c = six.control_a
 
+      begun : (x : Bool) → Type 0
+      begun x = (if x then controlling.after_join (record c { paths = with_phase path Opening c.paths }) else c).fall.joined ≡ true
+
       by : (x : Bool) → control.is_sure c.fall.mode ≡ x → (y : Bool)
-          → IfSome (keys_begun (replies.Control (if x then control.begin c else (if y then control_replies.NotYet else control_replies.Never c.fall.mode)))) (BeginIs (with_nonces 0 0) right A)
-      by true sure y = (h.a.own_is, λ is. ap peer_or_zero (knows is sure))
+          → IfSome (keys_begun (replies.Control (if x then control.begin c else (if y then control_replies.NotYet else control_replies.Never c.fall.mode))))
+          (BeginIs (with_nonces 0 0) right (Joined (after_ask (asks.Control A (control_calls.JoinBegin path)) six)) (FellBack (after_ask (asks.Control A (control_calls.JoinBegin path)) six)) A)
+      by true sure y = (h.a.own_is, (subst begun (sym sure) refl, λ is. ap peer_or_zero (knows is sure)))
       by false sure true = tt
       by false sure false = tt
 
-  heard_so : (s : Side) (token : ℕ) (c : Control) → BookIs (drawn_key (with_nonces 0 0) right s) (drawn_key (with_nonces 0 0) right (peer s)) c
-      → IfSome (keys_begun (replies.Control (control.join_heard_reply token c))) (BeginIs (with_nonces 0 0) right s)
-  heard_so s token c h = by (token == token_of c.keys.own) c.fall.confirmed refl (control.is_starting c.fall.mode || control.is_sure c.fall.mode)
+  heard_so : (s : Side) (token : ℕ) (c : Control) (u gone : Side → Type 0) → ((controlling.after_join_heard token c).fall.joined ≡ true → u s)
+      → BookIs (drawn_key (with_nonces 0 0) right s) (drawn_key (with_nonces 0 0) right (peer s)) c
+      → IfSome (keys_begun (replies.Control (control.join_heard_reply token c))) (BeginIs (with_nonces 0 0) right u gone s)
+  heard_so s token c u gone joins h = by (token == token_of c.keys.own) c.fall.confirmed refl (control.is_starting c.fall.mode || control.is_sure c.fall.mode) joins
     where
-      by : (known confirmed : Bool) → c.fall.confirmed ≡ confirmed → (begins : Bool) → IfSome (keys_begun (replies.Control (if not known then control_replies.UnknownToken (token_of c.keys.own)
-          else (if not confirmed then control_replies.NotConfirmed else (if begins then control.begin c else control_replies.Fallen c.fall.mode))))) (BeginIs (with_nonces 0 0) right s)
-      by false confirmed is begins = tt
-      by true false is begins = tt
-      by true true is true = (h.own_is, λ sure. ap peer_or_zero (h.confirmed is))
-      by true true is false = tt
+      by : (known confirmed : Bool) → c.fall.confirmed ≡ confirmed → (begins : Bool)
+          → ((if known && confirmed && begins then controlling.after_join c else c).fall.joined ≡ true → u s)
+          → IfSome (keys_begun (replies.Control (if not known then control_replies.UnknownToken (token_of c.keys.own)
+          else (if not confirmed then control_replies.NotConfirmed else (if begins then control.begin c else control_replies.Fallen c.fall.mode))))) (BeginIs (with_nonces 0 0) right u gone s)
+      by false confirmed is begins joins = tt
+      by true false is begins joins = tt
+      by true true is true joins = (h.own_is, (joins refl, λ sure. ap peer_or_zero (h.confirmed is)))
+      by true true is false joins = tt
 
-  reply_so : (six : SixBooks) (x : Ask) → (right ≡ true → SureHasKey six) → BooksAre six → ReplyIs (with_nonces 0 0) right x (reply_of six x)
+  reply_so : (six : SixBooks) (x : Ask) → (right ≡ true → SureHasKey six) → BooksAre six → ReplyIs (with_nonces 0 0) right (Joined (after_ask x six)) (FellBack (after_ask x six)) x (reply_of six x)
   reply_so six (asks.Control A call) knows h = by call
     where
-      by : (call : ControlCall) → CallReplyIs (with_nonces 0 0) right A call (replies.Control (control.reply_to six.control_a call))
+      by : (call : ControlCall) → CallReplyIs (with_nonces 0 0) right (Joined (after_ask (asks.Control A call) six)) (FellBack (after_ask (asks.Control A call) six)) A call (replies.Control (control.reply_to six.control_a call))
       by (control_calls.Look path) = tt
       by (control_calls.PeerKey key) = tt
       by (control_calls.Keys own other) = tt
-      by (control_calls.Fell path event) = tt
-      by (control_calls.JoinBegin path) = begins_so six knows h
-      by (control_calls.JoinHeard path token) = heard_so A token six.control_a h.a
+      by (control_calls.Fell path event) = λ fell. let row = row_falls path (sole_path six.control_a.paths path) event six.control_a.fall fell in (row.0, λ is. both_ways _ row.1 is)
+      by (control_calls.JoinBegin path) = begins_so six path knows h
+      by (control_calls.JoinHeard path token) = heard_so A token six.control_a (Joined (after_ask (asks.Control A (control_calls.JoinHeard path token)) six)) (FellBack (after_ask (asks.Control A (control_calls.JoinHeard path token)) six)) (λ is. is) h.a
       by (control_calls.Live path backup) = tt
       by (control_calls.Dead path) = tt
       by (control_calls.Rate path window rtt) = tt
@@ -429,13 +306,13 @@ module _ (key_a key_b : ℕ) (right : Bool) where
       by (control_calls.FastHeard key) = tt
   reply_so six (asks.Control B call) knows h = by call
     where
-      by : (call : ControlCall) → CallReplyIs (with_nonces 0 0) right B call (replies.Control (control.reply_to six.control_b call))
+      by : (call : ControlCall) → CallReplyIs (with_nonces 0 0) right (Joined (after_ask (asks.Control B call) six)) (FellBack (after_ask (asks.Control B call) six)) B call (replies.Control (control.reply_to six.control_b call))
       by (control_calls.Look path) = tt
       by (control_calls.PeerKey key) = tt
       by (control_calls.Keys own other) = tt
-      by (control_calls.Fell path event) = tt
+      by (control_calls.Fell path event) = λ fell. let row = row_falls path (sole_path six.control_b.paths path) event six.control_b.fall fell in (row.0, λ is. both_ways _ row.1 is)
       by (control_calls.JoinBegin path) = tt
-      by (control_calls.JoinHeard path token) = heard_so B token six.control_b h.b
+      by (control_calls.JoinHeard path token) = heard_so B token six.control_b (Joined (after_ask (asks.Control B (control_calls.JoinHeard path token)) six)) (FellBack (after_ask (asks.Control B (control_calls.JoinHeard path token)) six)) (λ is. is) h.b
       by (control_calls.Live path backup) = tt
       by (control_calls.Dead path) = tt
       by (control_calls.Rate path window rtt) = tt
@@ -451,40 +328,113 @@ module _ (key_a key_b : ℕ) (right : Bool) where
   reply_so six (asks.Reassembly s call) knows h = tt
   reply_so six (asks.Local step) knows h = tt
 
+  -- a side that joined has joined for ever
+  pub joined_stays : (six : SixBooks) (x : Ask) (s : Side) → Joined six s → Joined (after_ask x six) s
+  joined_stays six (asks.Control A call) A is = call_joined six.control_a call is
+  joined_stays six (asks.Control A call) B is = is
+  joined_stays six (asks.Control B call) A is = is
+  joined_stays six (asks.Control B call) B is = call_joined six.control_b call is
+  joined_stays six (asks.Send A call) A is = is
+  joined_stays six (asks.Send A call) B is = is
+  joined_stays six (asks.Send B call) A is = is
+  joined_stays six (asks.Send B call) B is = is
+  joined_stays six (asks.Reassembly A call) A is = is
+  joined_stays six (asks.Reassembly A call) B is = is
+  joined_stays six (asks.Reassembly B call) A is = is
+  joined_stays six (asks.Reassembly B call) B is = is
+  joined_stays six (asks.Local step) s is = is
+
+  -- a path stops no side
+  pub lasting_call : (six : SixBooks) (s : Side) (call : ControlCall) → KeysAsk six (asks.Control s call) → IsLasting call
+  lasting_call six s (control_calls.Look path) is = tt
+  lasting_call six s (control_calls.PeerKey key) is = tt
+  lasting_call six s (control_calls.Keys own other) is = tt
+  lasting_call six s (control_calls.Fell path event) is = lasting_event event is
+    where
+      lasting_event : (event : FallEvent) → IsSign event → IsNoStop event
+      lasting_event events.MappingHeard is = tt
+      lasting_event events.AckHeard is = tt
+      lasting_event events.PlainHandshake is = tt
+      lasting_event events.PlainData is = tt
+      lasting_event events.PlainAck is = tt
+      lasting_event events.InfiniteHeard is = tt
+      lasting_event events.KeysHeard is = tt
+      lasting_event events.CheckFailed is = tt
+      lasting_event (events.FailHeard contiguous) is = tt
+      lasting_event events.Stop is = absurd is
+  lasting_call six s (control_calls.JoinBegin path) is = tt
+  lasting_call six s (control_calls.JoinHeard path token) is = tt
+  lasting_call six s (control_calls.Live path backup) is = tt
+  lasting_call six s (control_calls.Dead path) is = tt
+  lasting_call six s (control_calls.Rate path window rtt) is = tt
+  lasting_call six s (control_calls.Backup path on) is = tt
+  lasting_call six s (control_calls.Announce id) is = tt
+  lasting_call six s (control_calls.Withdraw id) is = tt
+  lasting_call six s (control_calls.Heard id address port hmac) is = tt
+  lasting_call six s (control_calls.Echoed id) is = tt
+  lasting_call six s (control_calls.Removed id) is = tt
+  lasting_call six s control_calls.FastClose is = absurd is
+  lasting_call six s (control_calls.FastHeard key) is = absurd is
+
+  -- so one that fell back stays so
+  pub fell_stays : (six : SixBooks) (x : Ask) → KeysAsk six x → (s : Side) → FellBack six s → FellBack (after_ask x six) s
+  fell_stays six (asks.Control A call) asks A is = identity_stays six.control_a call (lasting_call six A call asks) is
+  fell_stays six (asks.Control A call) asks B is = is
+  fell_stays six (asks.Control B call) asks A is = is
+  fell_stays six (asks.Control B call) asks B is = identity_stays six.control_b call (lasting_call six B call asks) is
+  fell_stays six (asks.Send A call) asks A is = is
+  fell_stays six (asks.Send A call) asks B is = is
+  fell_stays six (asks.Send B call) asks A is = is
+  fell_stays six (asks.Send B call) asks B is = is
+  fell_stays six (asks.Reassembly A call) asks A is = is
+  fell_stays six (asks.Reassembly A call) asks B is = is
+  fell_stays six (asks.Reassembly B call) asks A is = is
+  fell_stays six (asks.Reassembly B call) asks B is = is
+  fell_stays six (asks.Local step) asks s is = is
+
   -- ---- actors
 
-  pub record PathKeys (p : PathState Carried) : Type 0 where
+  pub record PathKeys (six : SixBooks) (p : PathState Carried) : Type 0 where
     pub nonce_a : ℕ
     pub nonce_b : ℕ
     pub settled : IsSettled p
-    pub is : PathIs (with_nonces nonce_a nonce_b) right p
+    pub is : PathIs (with_nonces nonce_a nonce_b) right (Joined six) (FellBack six) p
 
-  abbrev pub MemberIs : Actor Carried → Type 0
-  MemberIs (App a) = Unit {0}
-  MemberIs (Path p) = PathKeys p
+  abbrev pub MemberIs : SixBooks → Actor Carried → Type 0
+  MemberIs six (App a) = Unit {0}
+  MemberIs six (Path p) = PathKeys six p
 
-  next_keys : (m : Actor Carried) → MemberIs m → MemberIs (member_next m)
-  next_keys (App a) h = tt
-  next_keys (Path p) h = let q : PathState Carried = record p { clock = p.until; until = p.until + 100 } in record {
+  more_keys : (six : SixBooks) (x : Ask) (m : Actor Carried) → KeysAsk six x → MemberIs six m → MemberIs (after_ask x six) m
+  more_keys six x (App a) asks h = tt
+  more_keys six x (Path p) asks h = record {
+    nonce_a = h.nonce_a;
+    nonce_b = h.nonce_b;
+    settled = h.settled;
+    is = more_is (with_nonces h.nonce_a h.nonce_b) right (Joined six) (FellBack six) (Joined (after_ask x six)) (FellBack (after_ask x six)) (joined_stays six x) (fell_stays six x asks) p h.is;
+  }
+
+  next_keys : (six : SixBooks) (m : Actor Carried) → MemberIs six m → MemberIs six (member_next m)
+  next_keys six (App a) h = tt
+  next_keys six (Path p) h = let q : PathState Carried = record p { clock = p.until; until = p.until + 100 } in record {
     nonce_a = h.nonce_a;
     nonce_b = h.nonce_b;
     settled = settled_settled start_of_turn (with_agenda start_of_turn q);
-    is = begins_is (with_nonces h.nonce_a h.nonce_b) right q (record { a = h.is.a; b = h.is.b; copies = h.is.copies; known = h.is.known; waits = h.is.waits });
+    is = begins_is (with_nonces h.nonce_a h.nonce_b) right (Joined six) (FellBack six) q (record { a = h.is.a; b = h.is.b; copies = h.is.copies; known = h.is.known; waits = h.is.waits });
   }
 
-  app_asks : (ds : List AppDuty) (a : AppState) (x : Ask) → app_asks_first ds a ≡ Some x → KeysAsk x
-  app_asks [] a x is = cc
-  app_asks (app_duties.Write ∷ ds) a x is = subst KeysAsk (same_Some _ x is) tt
-  app_asks (app_duties.Close ∷ ds) a x is = subst KeysAsk (same_Some _ x is) tt
-  app_asks (app_duties.Read ∷ ds) a x is = subst KeysAsk (same_Some _ x is) tt
-  app_asks (app_duties.End ∷ ds) a x is = subst KeysAsk (same_Some _ x is) tt
+  app_asks : (six : SixBooks) (ds : List AppDuty) (a : AppState) (x : Ask) → app_asks_first ds a ≡ Some x → KeysAsk six x
+  app_asks six [] a x is = cc
+  app_asks six (app_duties.Write ∷ ds) a x is = subst (KeysAsk six) (same_Some _ x is) tt
+  app_asks six (app_duties.Close ∷ ds) a x is = subst (KeysAsk six) (same_Some _ x is) tt
+  app_asks six (app_duties.Read ∷ ds) a x is = subst (KeysAsk six) (same_Some _ x is) tt
+  app_asks six (app_duties.End ∷ ds) a x is = subst (KeysAsk six) (same_Some _ x is) tt
 
   -- what is said of keys doesn't depend on the nonces
-  module _ (nonce_a nonce_b : ℕ) where
-    ask_alone : (x : Ask) → AskIs (with_nonces nonce_a nonce_b) right x → KeysAsk x
+  module _ (w back : Side → Type 0) (nonce_a nonce_b : ℕ) where
+    ask_alone : (x : Ask) → AskIs (with_nonces nonce_a nonce_b) right w back x → AskIs (with_nonces 0 0) right w back x
     ask_alone (asks.Control s call) h = by s call h
       where
-        by : (s : Side) (call : ControlCall) → CallIs (with_nonces nonce_a nonce_b) right s call → CallIs (with_nonces 0 0) right s call
+        by : (s : Side) (call : ControlCall) → CallIs (with_nonces nonce_a nonce_b) right w back s call → CallIs (with_nonces 0 0) right w back s call
         by s (control_calls.Look path) h = h
         by A (control_calls.PeerKey key) h = h
         by B (control_calls.PeerKey key) h = h
@@ -509,18 +459,18 @@ module _ (key_a key_b : ℕ) (right : Bool) where
     ask_alone (asks.Reassembly s call) h = tt
     ask_alone (asks.Local step) h = tt
 
-    reply_alone : (x : Ask) (r : Reply) → ReplyIs (with_nonces 0 0) right x r → ReplyIs (with_nonces nonce_a nonce_b) right x r
+    reply_alone : (x : Ask) (r : Reply) → ReplyIs (with_nonces 0 0) right w back x r → ReplyIs (with_nonces nonce_a nonce_b) right w back x r
     reply_alone (asks.Control s call) r h = by s call h
       where
-        by : (s : Side) (call : ControlCall) → CallReplyIs (with_nonces 0 0) right s call r → CallReplyIs (with_nonces nonce_a nonce_b) right s call r
+        by : (s : Side) (call : ControlCall) → CallReplyIs (with_nonces 0 0) right w back s call r → CallReplyIs (with_nonces nonce_a nonce_b) right w back s call r
         by A (control_calls.Look path) h = tt
         by B (control_calls.Look path) h = tt
         by A (control_calls.PeerKey key) h = tt
         by B (control_calls.PeerKey key) h = tt
         by A (control_calls.Keys own other) h = tt
         by B (control_calls.Keys own other) h = tt
-        by A (control_calls.Fell path event) h = tt
-        by B (control_calls.Fell path event) h = tt
+        by A (control_calls.Fell path event) h = h
+        by B (control_calls.Fell path event) h = h
         by A (control_calls.JoinBegin path) h = h
         by B (control_calls.JoinBegin path) h = tt
         by A (control_calls.JoinHeard path token) h = h
@@ -551,34 +501,41 @@ module _ (key_a key_b : ℕ) (right : Bool) where
     reply_alone (asks.Reassembly s call) r h = tt
     reply_alone (asks.Local step) r h = tt
 
-  path_asks : (ds : List Duty) (p : PathState Carried) (x : Ask) → PathKeys p → asks_first values ds p ≡ Some x → KeysAsk x
-  path_asks [] p x h is = cc
-  path_asks (d ∷ ds) p x h is =
-      subst KeysAsk (same_Some _ x is) (ask_alone h.nonce_a h.nonce_b (ask_for values d p) (asks_are (with_nonces h.nonce_a h.nonce_b) right p h.is d))
+  path_asks : (six : SixBooks) (ds : List Duty) (p : PathState Carried) (x : Ask) → PathKeys six p → asks_first values ds p ≡ Some x → KeysAsk six x
+  path_asks six [] p x h is = cc
+  path_asks six (d ∷ ds) p x h is =
+      subst (KeysAsk six) (same_Some _ x is) (ask_alone (Joined six) (FellBack six) h.nonce_a h.nonce_b (ask_for values d p) (asks_are (with_nonces h.nonce_a h.nonce_b) right (Joined six) (FellBack six) p h.is d))
 
-  pub member_asks_are : (m : Actor Carried) (x : Ask) → MemberIs m → member_asks values m ≡ Some x → KeysAsk x
-  member_asks_are (App a) x h is = app_asks a.agenda a x is
-  member_asks_are (Path p) x h is = path_asks p.agenda p x h is
+  pub member_asks_are : (six : SixBooks) (m : Actor Carried) (x : Ask) → MemberIs six m → member_asks values m ≡ Some x → KeysAsk six x
+  member_asks_are six (App a) x h is = app_asks six a.agenda a x is
+  member_asks_are six (Path p) x h is = path_asks six p.agenda p x h is
 
   takes_settled : (r : Reply) (p : PathState Carried) → IsSettled (takes values r p)
   takes_settled r p = let q : PathState Carried = answers values p.agenda r p in settled_settled q.agenda q
 
   -- the reply of the books to what it asks
-  takes_keys : (six : SixBooks) (x : Ask) (m : Actor Carried) → member_asks values m ≡ Some x → (right ≡ true → SureHasKey six) → BooksAre six → MemberIs m
-      → MemberIs (member_takes values (reply_of six x) m)
+  takes_keys : (six : SixBooks) (x : Ask) (m : Actor Carried) → member_asks values m ≡ Some x → (right ≡ true → SureHasKey six) → BooksAre six → MemberIs six m
+      → MemberIs (after_ask x six) (member_takes values (reply_of six x) m)
   takes_keys six x (App a) asks knows books h = tt
   takes_keys six x (Path p) asks knows books h = record {
     nonce_a = h.nonce_a;
     nonce_b = h.nonce_b;
     settled = takes_settled (reply_of six x) p;
-    is = takes_is (with_nonces h.nonce_a h.nonce_b) right (reply_of six x) p h.settled
-        (λ y is. reply_alone h.nonce_a h.nonce_b y (reply_of six x) (subst (λ z. ReplyIs (with_nonces 0 0) right z (reply_of six x)) (same_Some x y (sym asks ∙ is)) (reply_so six x knows books))) h.is;
+    is = takes_is (with_nonces h.nonce_a h.nonce_b) right u gone (reply_of six x) p h.settled
+        (λ y is. reply_alone u gone h.nonce_a h.nonce_b y (reply_of six x) (subst (λ z. ReplyIs (with_nonces 0 0) right u gone z (reply_of six x)) (same_Some x y (sym asks ∙ is)) (reply_so six x knows books)))
+        (more_is (with_nonces h.nonce_a h.nonce_b) right (Joined six) (FellBack six) u gone (joined_stays six x) (fell_stays six x (member_asks_are six (Path p) x h asks)) p h.is);
   }
+    where
+      u : Side → Type 0
+      u = Joined (after_ask x six)
+
+      gone : Side → Type 0
+      gone = FellBack (after_ask x six)
 
   -- ---- worlds
 
   pub record WorldIs (w : WorldState Carried) : Type 0 where
-    pub crew : Every (λ c. MemberIs c.member) w.crew
+    pub crew : Every (λ c. MemberIs (books_in w.books) c.member) w.crew
     pub books : BooksAre (books_in w.books)
 
   abbrev Knowing : WorldState Carried → Type 0
@@ -589,15 +546,18 @@ module _ (key_a key_b : ℕ) (right : Bool) where
     where
       asking : (c : ActorCrew Carried) → slice_get w.crew actor ≡ Some c → (o : Option Ask) → member_asks values c.member ≡ o → WorldIs (asked values actor o c w)
       asking c there None is = h
-      asking c there (Some x) is = record {
-        crew = record {
-          each = λ i d at. ⊎_elim
-              (λ here. subst (λ y. MemberIs y.member) here.1 (takes_keys (books_in w.books) x c.member is knows h.books (h.crew.each actor c there)))
-              (λ other. h.crew.each i d other.1)
-              (in_set w.crew actor (crew_after values x w.books c) i d at);
-        };
-        books = subst BooksAre (sym (books_after x c.pass w.books)) (ask_keeps (books_in w.books) x (member_asks_are c.member x (h.crew.each actor c there) is) h.books);
-      }
+      asking c there (Some x) is =
+          let six = books_in w.books in
+          let now : books_in (asked values actor (Some x) c w).books ≡ after_ask x six = books_after x c.pass w.books in
+          record {
+            crew = subst (λ (y : SixBooks). Every (λ d. MemberIs y d.member) (asked values actor (Some x) c w).crew) (sym now) (record {
+              each = λ i d at. ⊎_elim
+                  (λ here. subst (λ y. MemberIs (after_ask x six) y.member) here.1 (takes_keys six x c.member is knows h.books (h.crew.each actor c there)))
+                  (λ other. more_keys six x d.member (member_asks_are six c.member x (h.crew.each actor c there) is) (h.crew.each i d other.1))
+                  (in_set w.crew actor (crew_after values x w.books c) i d at);
+            });
+            books = subst BooksAre (sym now) (ask_keeps six x (member_asks_are six c.member x (h.crew.each actor c there) is) h.books);
+          }
 
       by : (o : Option (ActorCrew Carried)) → slice_get w.crew actor ≡ o → WorldIs (stepped values actor o w)
       by None there = h
@@ -609,7 +569,7 @@ module _ (key_a key_b : ℕ) (right : Bool) where
       by : (b : Bool) → WorldIs (if b then record w { crew = map (begins (greatest 0 w.crew)) w.crew } else w)
       by true = record {
         crew = record {
-          each = λ i d at. let found = in_map (begins (greatest 0 w.crew)) w.crew i d at in subst (λ y. MemberIs y.member) found.2 (next_keys found.0.member (h.crew.each i found.0 found.1));
+          each = λ i d at. let found = in_map (begins (greatest 0 w.crew)) w.crew i d at in subst (λ y. MemberIs (books_in w.books) y.member) found.2 (next_keys (books_in w.books) found.0.member (h.crew.each i found.0 found.1));
         };
         books = h.books;
       }
@@ -620,35 +580,40 @@ module _ (key_a key_b : ℕ) (right : Bool) where
   turn_keys Turn.Round w knows h = round_keys w h
 
   untold : (w : WorldState Carried) → WorldIs w → Untold tells_other_key values w
-  untold w h actor c x there asks = ask_untold (books_in w.books) x h.books (member_asks_are c.member x (h.crew.each actor c there) asks)
+  untold w h actor c x there asks = ask_untold (books_in w.books) x h.books (member_asks_are (books_in w.books) c.member x (h.crew.each actor c there) asks)
 
   pub joins_untold : right ≡ true → (w : WorldState Carried) → WorldIs w → Untold tells_wrong_join values w
-  joins_untold sure w h actor c x there asks = join_answers sure (books_in w.books) x h.books (member_asks_are c.member x (h.crew.each actor c there) asks)
+  joins_untold sure w h actor c x there asks = join_answers sure (books_in w.books) x h.books (member_asks_are (books_in w.books) c.member x (h.crew.each actor c there) asks)
 
 pub opened_keys : (right : Bool) (start : Start) → WorldIs start.key_a start.key_b right (opened_world start)
 opened_keys right start = record {
-  crew = record { each = opened_actors (λ actor c. MemberIs start.key_a start.key_b right c.member) start tt tt (λ number plan there. path number plan) };
+  crew = record { each = opened_actors (λ actor c. MemberIs start.key_a start.key_b right (six start) c.member) start tt tt (λ number plan there. path number plan) };
   books = record { a = record { own_is = refl; peer_is = tt; confirmed = λ is. absurd (false≢true is) }; b = record { own_is = refl; peer_is = tt; confirmed = λ is. absurd (false≢true is) } };
 }
   where
-    path : (number : ℕ) (plan : PathPlan) → MemberIs start.key_a start.key_b right (new_path start number plan).member
+    six : Start → SixBooks
+    six start = books_in (opened_world {C = Carried} start).books
+
+    path : (number : ℕ) (plan : PathPlan) → MemberIs start.key_a start.key_b right (six start) (new_path start number plan).member
     path number plan = record {
       nonce_a = plan.nonce_a;
       nonce_b = plan.nonce_b;
       settled = settled_settled start_of_turn (with_agenda start_of_turn (waiting_path (path_begins start number plan) start.lines));
-      is = begins_is (record { key_a = start.key_a; key_b = start.key_b; nonce_a = plan.nonce_a; nonce_b = plan.nonce_b }) right (waiting_path (path_begins start number plan) start.lines) (record {
+      is = begins_is (record { key_a = start.key_a; key_b = start.key_b; nonce_a = plan.nonce_a; nonce_b = plan.nonce_b }) right (Joined (six start)) (FellBack (six start)) (waiting_path (path_begins start number plan) start.lines) (record {
         a = record {
-          modes = record { own = refl; nonce = refl; peer_is = λ sure. tt; joins = λ owes. absurd (false≢true owes); third = λ sure owes. absurd (false≢true owes) };
+          modes = record { own = refl; nonce = refl; peer_is = λ sure. tt; joins = λ owes. absurd (false≢true owes); third = λ owes. absurd (false≢true owes); cleared = λ joined is. absurd (false≢true is); fell = λ is. absurd (false≢true is) };
           items = Every-nil _;
-          woken = λ sure joined up. absurd (false≢true (sym (waits_up number joined) ∙ up));
+          woken = λ joined up. absurd (false≢true (sym (waits_up number joined) ∙ up));
+          past = λ joined so. absurd (false≢true (sym (waits_past number) ∙ so));
         };
         b = record {
-          modes = record { own = refl; nonce = refl; peer_is = λ sure. tt; joins = λ owes. absurd (false≢true owes); third = λ sure owes. absurd (false≢true owes) };
+          modes = record { own = refl; nonce = refl; peer_is = λ sure. tt; joins = λ owes. absurd (false≢true owes); third = λ owes. absurd (false≢true owes); cleared = λ joined is. absurd (false≢true is); fell = λ is. absurd (false≢true is) };
           items = Every-nil _;
-          woken = λ sure joined up. absurd (false≢true up);
+          woken = λ joined up. absurd (false≢true up);
+          past = λ joined so. absurd (false≢true so);
         };
         copies = Every-nil _;
-        known = λ sure joined t spoken. absurd (false≢true spoken);
+        known = λ x spoken. absurd (false≢true spoken);
         waits = waits_there number;
       });
     }
@@ -659,6 +624,10 @@ opened_keys right start = record {
         waits_up : (number : ℕ) → nat_lt 0 number ≡ true → is_up (first_end number) ≡ false
         waits_up zero joined = absurd (false≢true joined)
         waits_up (suc n) joined = refl
+
+        waits_past : (number : ℕ) → is_past (first_end number).state ≡ false
+        waits_past zero = refl
+        waits_past (suc n) = refl
 
         waits_there : (number : ℕ) → is_waiting (first_end number).state ≡ true → nat_lt 0 number ≡ true
         waits_there zero waits = absurd (false≢true waits)
@@ -673,6 +642,14 @@ run_keys start [] w h none = none
 run_keys start (turn ∷ turns) w h none =
     run_keys start turns (after_turn values turn w) (turn_keys start.key_a start.key_b false turn w (λ right. absurd (false≢true right)) h)
     (turn_none tells_other_key values turn w (untold start.key_a start.key_b false w h) none)
+
+-- at every moment each end knows what it has to
+known_run : (start : Start) (turns : List Turn) (w : WorldState Carried) → WorldIs start.key_a start.key_b false w → WorldIs start.key_a start.key_b false (world_run values turns w)
+known_run start [] w h = h
+known_run start (turn ∷ turns) w h = known_run start turns (after_turn values turn w) (turn_keys start.key_a start.key_b false turn w (λ right. absurd (false≢true right)) h)
+
+pub always_known : Always values (λ start w. WorldIs start.key_a start.key_b false w)
+always_known start turns = known_run start turns (opened_world start) (opened_keys false start)
 
 pub keys_never_differ : Always values (λ start w. KeysNeverDiffer w)
 keys_never_differ start turns =

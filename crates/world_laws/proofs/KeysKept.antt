@@ -1,32 +1,19 @@
 -- Every step of a path keeps its keys and nonces, those of what was heard, and those of the copies under way.
-use Rattle.std.proofs.Common.{◌≡◌, refl, sym, ◌∙◌, ap, subst, ℕ, zero, suc, ◌-◌, ◌&&◌, ◌==◌, is_some, not, length, Bool, true, false, if◌then◌else◌, Option, Some, None, List, [], ◌∷◌, ◌++◌, nat_lt, is_none, position}
+use Rattle.std.proofs.Common.{◌≡◌, refl, sym, ◌∙◌, ap, subst, ℕ, zero, suc, ◌-◌, ◌&&◌, ◌||◌, ◌==◌, is_some, not, Bool, true, false, if◌then◌else◌, Option, Some, None, List, [], ◌∷◌, ◌++◌, nat_lt, is_none, position, inl, inr}
 use Rattle.std.proofs.lemmas.Bool.{and_parts, false≢true}
-use Rattle.std.proofs.lemmas.Option.{same_Some}
-use Rattle.std.specs.List.{slice_get}
 use Rattle.std.specs.Option.{IfSome}
 use Rattle.outside_kit.specs.declared.side.Side.{Side}
 use Rattle.outside_kit.specs.declared.side.Side.TheVariants.{A, B}
 use Rattle.dss_mapping.specs.declared.kept.KeptMapping.{KeptMapping}
-use Rattle.dss_mapping.specs.Mappings.{mapping_at}
 use Rattle.link_script.specs.Places.{same_side}
-use Rattle.link_model.specs.declared.flight.Due.{Due}
 use Rattle.link_model.specs.declared.flight.Flight.{Flight}
-use Rattle.link_model.specs.Steps.{peer, is_due, arriving, without, after_delivery}
+use Rattle.link_model.specs.Steps.{peer, is_due, arriving, after_delivery}
 use Rattle.key_material.specs.KeyDigest.{token_of}
-use Rattle.join_handshake.specs.declared.hearing.JoinAnswer.{JoinAnswer}
 use Rattle.join_handshake.specs.declared.hearing.JoinSyn.{JoinSyn as Asked}
-use Rattle.path_segments.specs.Laws.{meant}
-use Rattle.path_segments.specs.Options.{PlainOption}
-use Rattle.path_segments.specs.Spelled.{PlainSegment}
 use Rattle.subflow_recv.specs.Receiving.{after_forget_from}
 use Rattle.subflow_send.specs.Records.{Record}
-use Rattle.subflow_tcp.specs.declared.segments.Outgoing.{Outgoing}
-use Rattle.subflow_tcp.specs.declared.verdicts.Meaning.{Meaning}
-use Rattle.subflow_tcp.specs.declared.verdicts.Meaning.TheVariants as means
-use Rattle.subflow_tcp.specs.declared.handshake.State.{State as EndPhase}
-use Rattle.subflow_tcp.specs.State.{EndState, has_records}
-use Rattle.subflow_tcp.specs.States.{is_dead, is_opening, is_waiting, is_closed_to_segments}
-use Rattle.subflow_tcp.specs.Judging.{meaning_of}
+use Rattle.subflow_tcp.specs.State.{has_records}
+use Rattle.subflow_tcp.specs.States.{is_dead, is_opening, is_waiting, is_closed_to_segments, may_finish}
 use Rattle.subflow_tcp.specs.Taking.{after_death, after_keeping_held, after_dropping_held}
 use Rattle.subflow_tcp.specs.Opening.{after_begin}
 use Rattle.subflow_tcp.specs.declared.segments.Occasion.TheVariants as to_send
@@ -46,83 +33,121 @@ use Rattle.path_core.specs.declared.event.Event.TheVariants as happenings
 use Rattle.path_agenda.specs.declared.heard.Heard.{Heard}
 use Rattle.path_agenda.specs.declared.heard.Heard.TheVariants as says
 use Rattle.path_agenda.specs.declared.keys.KeyPair.{KeyPair}
-use Rattle.path_core.specs.declared.judged.Judged.{Judged}
-use Rattle.path_core.specs.declared.judged.Judged.TheVariants as judged
 use Rattle.path_core.specs.declared.modes.Modes.{Modes}
 use Rattle.path_agenda.specs.Agenda.{emission, leaves, resets, rest_of_turn, start_of_turn}
-use Rattle.path_core.specs.Arriving.{answered_in, cleared_in, copy_judged, copy_of, held_of, hint_of, items_of, judged_in, owes_by, reset_for, taken_as, template_judged, template_of, with_answer, with_held}
 use Rattle.path_core.specs.Breaking.{reset_of, reset_on, answered_break}
-use Rattle.path_core.specs.Closing.{owes_end}
-use Rattle.path_core.specs.Codec.{HeardSegment}
+use Rattle.path_core.specs.Closing.{is_end_owed}
 use Rattle.path_core.specs.Duties.{stands, passed, answered, ask_for}
 use Rattle.path_core.specs.Emission.{Grant, grant_in, answered_grant, answered_data, first_unsent, fin_segment_of, data_stands, fits, after_timer, having_sent_fin}
 use Rattle.path_core.specs.Ends.{PathEnd}
-use Rattle.path_core.specs.Events.{next_event, step_for, heard_at, heard_in, at_tick, died, path_died, is_death, after_line, copy_heard, happens_if, join_begun, timer_fired, template_fired}
+use Rattle.path_core.specs.Events.{next_event, step_for, at_tick, died, path_died, is_death, after_line, happens_if, join_begun, timer_fired, template_fired}
 use Rattle.path_agenda.specs.Items.{key_heard, keys_heard}
 use Rattle.path_agenda.specs.Words.{replaced}
 use Rattle.path_core.specs.Joining.{asked_at, is_never, join_heard_ask, join_taken, joined_by, keys_begun, opened_by, refusal_of}
-use Rattle.path_core.specs.Joins.{is_joined, join_answer}
-use Rattle.path_core.specs.Opening.{with_peer_key}
-use Rattle.path_core.specs.Passing.{after_pass_fin, is_placed, piece_of, answered_piece, is_fin_set, answered_fin_heard, answer_occasion, resend_occasion, first_record, answer_of, resend_of}
-use Rattle.path_core.specs.Placing.{Piece, with_learned, with_skipped, is_wrong, forgotten_by}
+use Rattle.path_core.specs.Joins.{is_joined}
+use Rattle.path_core.specs.Opening.{peer_key_ask, opened_ask, answered_peer_key, answered_opened}
+use Rattle.path_core.specs.Passing.{after_pass_fin, is_placed, piece_of, answered_piece, is_fin_set, answered_fin_heard, answered_plain_fin, answer_occasion, resend_occasion, first_record, answer_of, resend_of}
+use Rattle.path_core.specs.Placing.{Piece, with_learned, with_skipped, mapping_here, is_wrong, forgotten_by, after_unmapped}
 use Rattle.path_core.specs.Segments.{ack_said, syn_ack_said, record_or_ack}
 use Rattle.path_core.specs.Standing.{answered_ack_out}
 use Rattle.path_core.specs.State.{PathState, end_at, with_end, with_agenda, goes_on, left}
 use Rattle.path_core.specs.Steps.{settled, answers, asks_of, asks_first, takes, begins_turn}
 use Rattle.path_core.specs.Turns.{FirstStands, IsSettled}
-use Rattle.path_core.specs.Words.{item_at}
-use Rattle.path_core.specs.Treating.{is_acked, is_dropped, with_acked, counts, is_clash, mode_in, after_verdict, with_fin, answered_heard, answered_item, item_of, item_passed}
+use Rattle.path_core.specs.Words.{is_side_a, item_at}
+use Rattle.path_core.specs.Breaking.{break_ask}
+use Rattle.path_core.specs.Falling.{is_fall, fell_ask, in_identity, after_fell, fell_duties, answered_fell}
+use Rattle.path_core.specs.Treating.{is_acked, is_dropped, with_acked, counts, is_clash, with_fin, with_plain_ack, breaks_by_ack, answered_plain_ack, answered_heard, answered_item, item_of, item_passed, heard_ask, item_ask, plain_ack_ask}
 use Rattle.path_core.specs.Values.{Carried, values}
 use Rattle.world_laws.proofs.Finding.{find_every, one_side}
-use Rattle.world_laws.proofs.KeysHeld.{look_leaves, verdict_leaves, in_removed, opening_open, not_closed, IsSign, FlightIs, OnJoined, AreKnown, PathIs, end_is, Fewer, none_left, Stays, goes_by, goes_is, with_is, agenda_is, kept_end, same_goes, sent_is, same_sent, died_is, unless_dead_is, verdict_is, key_found, pair_found, AskedIs, asked_is, AnswerIs, answer_is_right, rekeyed, rekeyed_knows, keys_are, keys_stay, BeginIs, sure_right, opened_end, opened_stays, joined_end, joined_knows, joined_waits, to_both}
-use Rattle.world_laws.proofs.KeysRight.{Secrets, known_in, drawn_key, OptionIs, SegmentIs, ItemIs, ModesAre, EndIs, Knows, met_knows, knows_key, same_knows, same_modes, reset_options_are, ack_is, syn_ack_is, record_or_ack_is, items_are}
-use Rattle.world_laws.proofs.KeysWoken.{is_up, is_lively, arrived_waits, NoWaking, open_is_up, timer_up, sending_up, finishing_up, passing_up, copy_up, WakesNone, joined_wakes_none, is_said_by, speaks, tail_speaks, replaced_speaks, came_speaks, same_or_calm, itself, next_happens, replaced_other, first_speaks}
+use Rattle.fallback_state.specs.declared.fall.Event.{Event as FallEvent}
+use Rattle.fallback_state.specs.declared.fall.Event.TheVariants as fall
+use Rattle.subflow_tcp.specs.Emitting.{fin_position}
+use Rattle.world_laws.proofs.Verdicts.{fell_cases}
+use Rattle.world_laws.proofs.KeysHeld.{VoiceIs, with_voice, fewer_known, stays_same, replaced_known, look_leaves, verdict_leaves, fell_leaves, opening_open, not_closed, finish_open, IsSign, FlightIs, OnJoined, AreKnown, PathIs, end_is, Fewer, none_left, Stays, goes_by, goes_is, with_is, agenda_is, kept_end, same_goes, sent_is, same_sent, died_is, unless_dead_is, key_found, PairIs, pair_found, AskedIs, asked_is, rekeyed, rekeyed_knows, keys_are, keys_stay, BeginIs, opened_end, opened_stays, joined_end, joined_knows, joined_waits}
+use Rattle.world_laws.proofs.KeysRight.{Secrets, known_in, OfB, drawn_key, SegmentIs, ItemIs, EndIs, Needs, Knows, same_knows, reset_options_are, reset_is as reset_said_is, fin_options_are, ack_is, syn_ack_is, record_or_ack_is}
+use Rattle.world_laws.proofs.KeysWoken.{is_up, NoWaking, open_is_up, timer_up, sending_up, finishing_up, passing_up, is_said_by, speaks, tail_speaks, replaced_speaks, same_or_calm, itself, next_happens, first_speaks, Voice, tells_same, falls_same}
+use Rattle.world_laws.proofs.KeysCopied.{copy_is, delivered_is, own_knows, voices}
 
-module _ (k : Secrets) (right : Bool) where
+module _ (k : Secrets) (right : Bool) (w back : Side → Type 0) where
   -- ---- in silence
 
-  passed_item : (joined : Bool) (s : Side) (o : Option Heard) (e : PathEnd) → EndIs k right joined s e → EndIs k right joined s (item_passed s o e)
-  passed_item joined s None e h = h
-  passed_item joined s (Some says.Dss) e h = record {
-    modes = record { own = h.modes.own; nonce = h.modes.nonce; peer_is = h.modes.peer_is; joins = λ owes. absurd (false≢true owes); third = λ sure owes. absurd (false≢true owes) };
+  pub item_there : (joined : Bool) (items : List Heard) (s : Side) (index : ℕ) → Every (ItemIs k right w back joined s) items → IfSome (item_at index items) (ItemIs k right w back joined s)
+  item_there joined [] s index h = tt
+  item_there joined (item ∷ items) s zero h = h.each 0 item refl
+  item_there joined (item ∷ items) s (suc index) h = item_there joined items s index (record { each = λ i x at. h.each (suc i) x at })
+
+  pub item_found : (joined : Bool) (s : Side) (index : ℕ) (e : PathEnd) → Every (ItemIs k right w back joined s) e.treated.items → IfSome (item_of index e) (ItemIs k right w back joined s)
+  item_found joined s index e h = by e.modes.identity
+    where
+      by : (fell : Bool) → IfSome (if fell then None else item_at index e.treated.items) (ItemIs k right w back joined s)
+      by true = tt
+      by false = item_there joined e.treated.items s index h
+
+  -- a DSS lets A's end send one, too
+  cleared_by : (joined : Bool) (s : Side) (m : Modes) → ItemIs k right w back joined s says.Dss → (joined ≡ true → m.clear ≡ true → w B) → joined ≡ true → m.clear || is_side_a s ≡ true → w B
+  cleared_by joined s m said was joins now = by m.clear refl now
+    where
+      at : (s : Side) → OfB (peer s) (w B) → is_side_a s ≡ true → w B
+      at A said own = said
+      at B said own = absurd (false≢true own)
+
+      by : (b : Bool) → m.clear ≡ b → b || is_side_a s ≡ true → w B
+      by true is now = was joins is
+      by false is now = at s (said joins) now
+
+  passed_item : (joined : Bool) (s : Side) (o : Option Heard) (e : PathEnd) → IfSome o (ItemIs k right w back joined s) → EndIs k right w back joined s e → EndIs k right w back joined s (item_passed s o e)
+  passed_item joined s None e said h = h
+  passed_item joined s (Some says.Dss) e said h = record {
+    modes = record {
+      own = h.modes.own;
+      nonce = h.modes.nonce;
+      peer_is = h.modes.peer_is;
+      joins = λ owes. absurd (false≢true owes);
+      third = λ owes. absurd (false≢true owes);
+      cleared = cleared_by joined s e.modes said h.modes.cleared;
+      fell = h.modes.fell;
+    };
     items = h.items;
-    woken = λ sure is up. by s (h.woken sure is up);
+    woken = λ is up. let has = h.woken is up in (has.0, λ sure. by s (has.1 sure));
+    past = h.past;
   }
     where
-      by : (t : Side) → Knows k right t e.modes → Knows k right t (item_passed s (Some says.Dss) e).modes
+      by : (t : Side) → Needs k right t e.modes → Needs k right t (item_passed s (Some says.Dss) e).modes
       by A has = has
       by B has = has
-  passed_item joined s (Some (says.DataAck next window)) e h = h
-  passed_item joined s (Some says.Mapping) e h = by (counts e)
+  passed_item joined s (Some (says.DataAck next window)) e said h = h
+  passed_item joined s (Some says.Mapping) e said h = by (counts e)
     where
-      by : (b : Bool) → EndIs k right joined s (if b then with_learned e else with_skipped e)
-      by true = record { modes = h.modes; items = h.items; woken = h.woken }
-      by false = record { modes = h.modes; items = h.items; woken = h.woken }
-  passed_item joined s (Some (says.DataFin place)) e h = by (counts e)
+      by : (b : Bool) → EndIs k right w back joined s (if b then with_learned e else with_skipped e)
+      by true = record { modes = h.modes; items = h.items; woken = h.woken; past = h.past }
+      by false = record { modes = h.modes; items = h.items; woken = h.woken; past = h.past }
+  passed_item joined s (Some (says.DataFin place)) e said h = by (counts e)
     where
-      by : (b : Bool) → EndIs k right joined s (if b then with_fin place e else e)
-      by true = record { modes = h.modes; items = h.items; woken = h.woken }
+      by : (b : Bool) → EndIs k right w back joined s (if b then with_fin place e else e)
+      by true = record { modes = h.modes; items = h.items; woken = h.woken; past = h.past }
       by false = h
-  passed_item joined s (Some (says.PeerKey key)) e h = h
-  passed_item joined s (Some (says.Keys own other)) e h = h
-  passed_item joined s (Some (says.Join form)) e h = h
+  passed_item joined s (Some says.InfiniteMapping) e said h = h
+  passed_item joined s (Some (says.PeerKey key)) e said h = h
+  passed_item joined s (Some (says.Keys own other)) e said h = h
+  passed_item joined s (Some (says.Join form)) e said h = h
 
   -- it knows what it knew
-  passed_stays : (t s : Side) (o : Option Heard) (e : PathEnd) → Knows k right t e.modes → Knows k right t (item_passed s o e).modes
+  passed_stays : (t s : Side) (o : Option Heard) (e : PathEnd) → Knows k right w back t e.modes → Knows k right w back t (item_passed s o e).modes
   passed_stays t s None e has = has
-  passed_stays A s (Some says.Dss) e has = has
-  passed_stays B s (Some says.Dss) e has = has
+  passed_stays A s (Some says.Dss) e has = (has.0, has.1)
+  passed_stays B s (Some says.Dss) e has = (has.0, has.1)
   passed_stays t s (Some (says.DataAck next window)) e has = has
   passed_stays t s (Some says.Mapping) e has = by (counts e)
     where
-      by : (b : Bool) → Knows k right t (if b then with_learned e else with_skipped e).modes
+      by : (b : Bool) → Knows k right w back t (if b then with_learned e else with_skipped e).modes
       by true = has
       by false = has
   passed_stays t s (Some (says.DataFin place)) e has = by (counts e)
     where
-      by : (b : Bool) → Knows k right t (if b then with_fin place e else e).modes
+      by : (b : Bool) → Knows k right w back t (if b then with_fin place e else e).modes
       by true = has
       by false = has
+  passed_stays t s (Some says.InfiniteMapping) e has = has
   passed_stays t s (Some (says.PeerKey key)) e has = has
   passed_stays t s (Some (says.Keys own other)) e has = has
   passed_stays t s (Some (says.Join form)) e has = has
@@ -141,6 +166,7 @@ module _ (k : Secrets) (right : Bool) where
       by : (b : Bool) → is_waiting (if b then with_fin place e else e).tcp.state ≡ true → is_waiting e.tcp.state ≡ true
       by true is = is
       by false is = is
+  item_waits s (Some says.InfiniteMapping) e is = is
   item_waits s (Some (says.PeerKey key)) e is = is
   item_waits s (Some (says.Keys own other)) e is = is
   item_waits s (Some (says.Join form)) e is = is
@@ -155,201 +181,89 @@ module _ (k : Secrets) (right : Bool) where
       by true = other _
       by false = same
 
-  passed_is : (d : Duty) (p : PathState Carried) → PathIs k right p → PathIs k right (passed d p)
+  passed_is : (d : Duty) (p : PathState Carried) → PathIs k right w back p → PathIs k right w back (passed d p)
   passed_is (duties.Timer s) p h =
-      with_is k right s (after_timer p.clock (end_at s p)) p (kept_end k right (is_joined p.profile) s (end_at s p) (after_timer p.clock (end_at s p)) refl refl (timer_up p.clock (end_at s p)) (end_is k right s p h)) (λ is. is) (λ sure is has. has) h
+      with_is k right w back s (after_timer p.clock (end_at s p)) p (kept_end k right w back (is_joined p.profile) s (end_at s p) (after_timer p.clock (end_at s p)) refl refl (timer_up p.clock (end_at s p)) (end_is k right w back s p h)) (λ is. is) (λ is has. has) h
   passed_is (duties.Heard s index) p h =
-      with_is k right s _ p (passed_item (is_joined p.profile) s (item_of index (end_at s p)) (end_at s p) (end_is k right s p h))
-      (item_waits s (item_of index (end_at s p)) (end_at s p)) (λ sure is has. passed_stays s s (item_of index (end_at s p)) (end_at s p) has) h
-  passed_is (duties.Keep s) p h = by (is_dropped s (end_at s p))
+      with_is k right w back s _ p
+      (passed_item (is_joined p.profile) s (item_of index (end_at s p)) (end_at s p) (item_found (is_joined p.profile) s index (end_at s p) (end_is k right w back s p h).items) (end_is k right w back s p h))
+      (item_waits s (item_of index (end_at s p)) (end_at s p)) (λ is has. passed_stays s s (item_of index (end_at s p)) (end_at s p) has) h
+  passed_is (duties.Keep s) p h = by (is_dropped s (end_at s p)) _
     where
       e : PathEnd
       e = end_at s p
 
-      by : (b : Bool) → PathIs k right (with_end s (record e { tcp = (if b then after_dropping_held e.tcp else after_keeping_held e.tcp) }) p)
-      by true = with_is k right s (record e { tcp = after_dropping_held e.tcp }) p (kept_end k right (is_joined p.profile) s e (record e { tcp = after_dropping_held e.tcp }) refl refl (record { up = λ x. x; waits = λ x. x }) (end_is k right s p h)) (λ is. is) (λ sure is has. has) h
-      by false = with_is k right s (record e { tcp = after_keeping_held e.tcp }) p (kept_end k right (is_joined p.profile) s e (record e { tcp = after_keeping_held e.tcp }) refl refl (record { up = λ x. x; waits = λ x. x }) (end_is k right s p h)) (λ is. is) (λ sure is has. has) h
+      by : (b : Bool) (held : Option ℕ) → PathIs k right w back (with_end s (record e { tcp = (if b then after_dropping_held e.tcp else after_keeping_held e.tcp); treated = record e.treated { held_edge = held } }) p)
+      by true held =
+          let f : PathEnd = record e { tcp = after_dropping_held e.tcp; treated = record e.treated { held_edge = held } } in
+          with_is k right w back s f p (kept_end k right w back (is_joined p.profile) s e f refl refl (record { up = λ x. x; waits = λ x. x; past = λ x. x }) (end_is k right w back s p h)) (λ is. is) (λ is has. has) h
+      by false held =
+          let f : PathEnd = record e { tcp = after_keeping_held e.tcp; treated = record e.treated { held_edge = held } } in
+          with_is k right w back s f p (kept_end k right w back (is_joined p.profile) s e f refl refl (record { up = λ x. x; waits = λ x. x; past = λ x. x }) (end_is k right w back s p h)) (λ is. is) (λ is has. has) h
   passed_is (duties.Edge s) p h =
       let e = end_at s p in
-      checked p.profile.spelling.checksums (mapping_at e.receiving.mappings e.tcp.recv.edge) e (λ f. PathIs k right (with_end s f p))
-      (with_is k right s e p (end_is k right s p h) (λ is. is) (λ sure is has. has) h)
-      (λ recv. with_is k right s (record e { tcp = record e.tcp { recv = recv } }) p (kept_end k right (is_joined p.profile) s e (record e { tcp = record e.tcp { recv = recv } }) refl refl (record { up = λ x. x; waits = λ x. x }) (end_is k right s p h)) (λ is. is) (λ sure is has. has) h)
+      checked p.profile.spelling.checksums (mapping_here e) e (λ f. PathIs k right w back (with_end s f p))
+      (with_is k right w back s e p (end_is k right w back s p h) (λ is. is) (λ is has. has) h)
+      (λ recv. with_is k right w back s (record e { tcp = record e.tcp { recv = recv } }) p (kept_end k right w back (is_joined p.profile) s e (record e { tcp = record e.tcp { recv = recv } }) refl refl (record { up = λ x. x; waits = λ x. x; past = λ x. x }) (end_is k right w back s p h)) (λ is. is) (λ is has. has) h)
   passed_is (duties.PassFin s) p h =
       let up = passing_up (end_at s p).tcp in
-      with_is k right s (after_pass_fin (end_at s p)) p (kept_end k right (is_joined p.profile) s (end_at s p) (after_pass_fin (end_at s p)) refl refl up (end_is k right s p h)) up.waits (λ sure is has. has) h
+      with_is k right w back s (after_pass_fin (end_at s p)) p (kept_end k right w back (is_joined p.profile) s (end_at s p) (after_pass_fin (end_at s p)) refl refl up (end_is k right w back s p h)) up.waits (λ is has. has) h
+  passed_is (duties.PlainAck s) p h =
+      with_is k right w back s (with_plain_ack (end_at s p)) p
+      (kept_end k right w back (is_joined p.profile) s (end_at s p) (with_plain_ack (end_at s p)) refl refl (record { up = λ x. x; waits = λ x. x; past = λ x. x }) (end_is k right w back s p h)) (λ is. is) (λ is has. (has.0, λ sure. by s (has.1 sure))) h
+    where
+      by : (t : Side) → Needs k right t (end_at s p).modes → Needs k right t (with_plain_ack (end_at s p)).modes
+      by A has = has
+      by B has = has
+  passed_is (duties.Unmapped s) p h =
+      with_is k right w back s (after_unmapped (end_at s p)) p
+      (kept_end k right w back (is_joined p.profile) s (end_at s p) (after_unmapped (end_at s p)) refl refl (record { up = λ x. x; waits = λ x. x; past = λ x. x }) (end_is k right w back s p h)) (λ is. is) (λ is has. has) h
   passed_is _ p h = h
 
-  passed_known : (d : Duty) (ds : List Duty) (p : PathState Carried) → AreKnown k right p ds → AreKnown k right (passed d p) ds
+  passed_known : (d : Duty) (ds : List Duty) (p : PathState Carried) → AreKnown k right w back p ds → AreKnown k right w back (passed d p) ds
   passed_known d ds p known = by d
     where
-      with_known : (s : Side) (e : PathEnd) → Stays k right s e p → AreKnown k right (with_end s e p) ds
-      with_known s e stays sure is t spoken = at s t stays (known sure is t spoken)
-        where
-          at : (s t : Side) → Stays k right s e p → Knows k right t (end_at t p).modes → Knows k right t (end_at t (with_end s e p)).modes
-          at A A stays has = stays sure is has
-          at B B stays has = stays sure is has
-          at A B stays has = has
-          at B A stays has = has
+      with_known : (s : Side) (e : PathEnd) → Stays k right w back s e p → AreKnown k right w back (with_end s e p) ds
+      with_known s e stays x spoken = with_voice k right w back s e p stays x (known x spoken)
 
-      kept_known : (s : Side) (b : Bool) → AreKnown k right (with_end s (record (end_at s p) { tcp = (if b then after_dropping_held (end_at s p).tcp else after_keeping_held (end_at s p).tcp) }) p) ds
-      kept_known s true = with_known s (record (end_at s p) { tcp = after_dropping_held (end_at s p).tcp }) (λ sure is has. has)
-      kept_known s false = with_known s (record (end_at s p) { tcp = after_keeping_held (end_at s p).tcp }) (λ sure is has. has)
+      kept_known : (s : Side) (b : Bool) (held : Option ℕ)
+          → AreKnown k right w back (with_end s (record (end_at s p) { tcp = (if b then after_dropping_held (end_at s p).tcp else after_keeping_held (end_at s p).tcp); treated = record (end_at s p).treated { held_edge = held } }) p) ds
+      kept_known s true held = with_known s (record (end_at s p) { tcp = after_dropping_held (end_at s p).tcp; treated = record (end_at s p).treated { held_edge = held } }) (λ is has. has)
+      kept_known s false held = with_known s (record (end_at s p) { tcp = after_keeping_held (end_at s p).tcp; treated = record (end_at s p).treated { held_edge = held } }) (λ is has. has)
 
-      by : (d : Duty) → AreKnown k right (passed d p) ds
-      by (duties.Timer s) = with_known s (after_timer p.clock (end_at s p)) (λ sure is has. has)
-      by (duties.Heard s index) = with_known s (item_passed s (item_of index (end_at s p)) (end_at s p)) (λ sure is has. passed_stays s s (item_of index (end_at s p)) (end_at s p) has)
-      by (duties.Keep s) = kept_known s (is_dropped s (end_at s p))
+      by : (d : Duty) → AreKnown k right w back (passed d p) ds
+      by (duties.Timer s) = with_known s (after_timer p.clock (end_at s p)) (λ is has. has)
+      by (duties.Heard s index) = with_known s (item_passed s (item_of index (end_at s p)) (end_at s p)) (λ is has. passed_stays s s (item_of index (end_at s p)) (end_at s p) has)
+      by (duties.Keep s) = kept_known s (is_dropped s (end_at s p)) _
+      by (duties.PlainAck s) = with_known s (with_plain_ack (end_at s p)) (λ is has. same_knows k right w back s (end_at s p).modes (with_plain_ack (end_at s p)).modes refl has)
+      by (duties.Unmapped s) = with_known s (after_unmapped (end_at s p)) (λ is has. has)
       by (duties.Edge s) =
           let e = end_at s p in
-          checked p.profile.spelling.checksums (mapping_at e.receiving.mappings e.tcp.recv.edge) e (λ f. AreKnown k right (with_end s f p) ds)
-          (with_known s e (λ sure is has. has)) (λ recv. with_known s (record e { tcp = record e.tcp { recv = recv } }) (λ sure is has. has))
-      by (duties.PassFin s) = with_known s (after_pass_fin (end_at s p)) (λ sure is has. has)
+          checked p.profile.spelling.checksums (mapping_here e) e (λ f. AreKnown k right w back (with_end s f p) ds)
+          (with_known s e (λ is has. has)) (λ recv. with_known s (record e { tcp = record e.tcp { recv = recv } }) (λ is has. has))
+      by (duties.PassFin s) = with_known s (after_pass_fin (end_at s p)) (λ is has. has)
       by duties.JoinAgain = known
       by _ = known
 
   -- an agenda in place of the path's own
-  agenda_by : (ds : List Duty) (p : PathState Carried) → AreKnown k right p ds → PathIs k right p → PathIs k right (with_agenda ds p)
-  agenda_by ds p known h = record { a = h.a; b = h.b; copies = h.copies; known = λ sure is. by (known sure is); waits = h.waits }
+  agenda_by : (ds : List Duty) (p : PathState Carried) → AreKnown k right w back p ds → PathIs k right w back p → PathIs k right w back (with_agenda ds p)
+  agenda_by ds p known h = record { a = h.a; b = h.b; copies = h.copies; known = by; waits = h.waits }
     where
-      by : ((t : Side) → speaks t ds ≡ true → Knows k right t (end_at t p).modes) → (t : Side) → speaks t ds ≡ true → Knows k right t (end_at t (with_agenda ds p)).modes
-      by all A spoken = all A spoken
-      by all B spoken = all B spoken
+      by : (x : Voice) → speaks x ds ≡ true → VoiceIs k right w back (with_agenda ds p) x
+      by (inl A) spoken = known (inl A) spoken
+      by (inl B) spoken = known (inl B) spoken
+      by (inr t) spoken = known (inr t) spoken
 
-  tail_known : (d : Duty) (ds : List Duty) (p : PathState Carried) → AreKnown k right p (d ∷ ds) → AreKnown k right p ds
-  tail_known d ds p known sure is t spoken = known sure is t (tail_speaks t (d ∷ ds) spoken)
+  tail_known : (d : Duty) (ds : List Duty) (p : PathState Carried) → AreKnown k right w back p (d ∷ ds) → AreKnown k right w back p ds
+  tail_known d ds p known x spoken = known x (tail_speaks x (d ∷ ds) spoken)
 
-  settled_is : (ds : List Duty) (p : PathState Carried) → AreKnown k right p ds → PathIs k right p → PathIs k right (settled ds p)
+  settled_is : (ds : List Duty) (p : PathState Carried) → AreKnown k right w back p ds → PathIs k right w back p → PathIs k right w back (settled ds p)
   settled_is [] p known h = agenda_by [] p known h
   settled_is (d ∷ ds) p known h = by (stands d p) (settled_is ds (passed d p) (passed_known d ds p (tail_known d ds p known)) (passed_is d p h))
     where
-      by : (b : Bool) → PathIs k right (settled ds (passed d p)) → PathIs k right (if b then with_agenda (d ∷ ds) p else settled ds (passed d p))
+      by : (b : Bool) → PathIs k right w back (settled ds (passed d p)) → PathIs k right w back (if b then with_agenda (d ∷ ds) p else settled ds (passed d p))
       by true rest = agenda_by (d ∷ ds) p known h
       by false rest = rest
-
-  -- ---- a copy
-
-  -- what a copy that is taken as this tells of the join
-  record JoinTold (s : Side) (m n : Modes) : Type 0 where
-    pub modes : ModesAre k right true s n
-    pub stays : right ≡ true → Knows k right s m → Knows k right s n
-
-  same_told : (s : Side) (m n : Modes) → known_in n ≡ known_in m → ModesAre k right true s m → JoinTold s m n
-  same_told s m n same h = record { modes = same_modes k right true s m n same h; stays = λ sure has. same_knows k right s m n same has }
-
-  answer_told : (s : Side) (o : Option JoinAnswer) (m : Modes) → IfSome o (AnswerIs k right true s) → (right ≡ true → Knows k right s m) → ModesAre k right true s m → JoinTold s m (with_answer o m)
-  answer_told s None m is knows h = same_told s m m refl h
-  answer_told s (Some answer) m is knows h = record {
-    modes = record {
-      own = h.own;
-      nonce = h.nonce;
-      peer_is = h.peer_is;
-      joins = λ owes. refl;
-      third = λ sure owes. (knows_key k right s m (knows sure), is sure);
-    };
-    stays = λ sure has. met_knows k right s (with_answer (Some answer) m) (knows_key k right s m has, is sure);
-  }
-
-  told_join : (s : Side) (items : List Heard) (m : Meaning) (state : EndPhase) (modes : Modes) → Every (ItemIs k right true s) items → (is_lively m ≡ true → right ≡ true → Knows k right s modes)
-      → ModesAre k right true s modes → JoinTold s modes (cleared_in m state (answered_in m items modes))
-  told_join s items (means.Accepts acknowledged) state modes said knows h = answer_told s (join_answer items modes) modes (answer_is_right k right true s modes items said) (knows refl) h
-  told_join s items (means.Taken pos acknowledged) state modes said knows h = same_told s modes _ refl h
-  told_join s items means.Ignored state modes said knows h = same_told s modes modes refl h
-  told_join s items means.Unwanted state modes said knows h = same_told s modes modes refl h
-  told_join s items means.Opens state modes said knows h = same_told s modes modes refl h
-  told_join s items means.RepeatedSyn state modes said knows h = same_told s modes modes refl h
-  told_join s items means.Outside state modes said knows h = same_told s modes modes refl h
-  told_join s items means.Kills state modes said knows h = same_told s modes modes refl h
-  told_join s items means.Challenged state modes said knows h = same_told s modes modes refl h
-  told_join s items means.Unacknowledging state modes said knows h = same_told s modes modes refl h
-  told_join s items means.Ahead state modes said knows h = same_told s modes modes refl h
-
-  -- what it makes of the end of a path that joins
-  record CopyTold (s : Side) (e f : PathEnd) : Type 0 where
-    pub is : EndIs k right true s f
-    pub waits : is_waiting f.tcp.state ≡ true → is_waiting e.tcp.state ≡ true
-    pub stays : right ≡ true → Knows k right s e.modes → Knows k right s f.modes
-
-  told_copy : (s : Side) (told : List KeptMapping) (answer : Outgoing) (now : ℕ) (heard : HeardSegment) (m : Meaning) (e : PathEnd) → WakesNone m e.tcp
-      → Every (ItemIs k right true s) (items_of true s heard) → EndIs k right true s e → CopyTold s e (copy_judged true told answer s now heard m e)
-  told_copy s told answer now heard m e none said h =
-      let items = items_of true s heard in
-      let join = told_join s items m (with_held told heard m e).tcp.state e.modes said (λ lively sure. h.woken sure refl (none.lively lively)) h.modes in
-      let up = copy_up m (owes_by m items) (hint_of items) now (copy_of heard) heard.payload e.tcp none in
-      record {
-        is = record { modes = join.modes; items = said; woken = λ sure joined woken. join.stays sure (h.woken sure refl (up.up woken)) };
-        waits = up.waits;
-        stays = join.stays;
-      }
-
-  -- what it makes due is said by an end that is up
-  template_is : (s t : Side) (count : ℕ) (v : Judged) (tcp : EndState) → WakesNone (taken_as v) tcp → speaks t (template_judged true s count v) ≡ true → (t ≡ s) × (is_up tcp ≡ true)
-  template_is s t count judged.Asks tcp none spoken = absurd (false≢true spoken)
-  template_is s t count judged.Lacks tcp none spoken = absurd (false≢true spoken)
-  template_is s t count judged.Forged tcp none spoken = absurd (false≢true spoken)
-  template_is s t count (judged.As means.Ignored) tcp none spoken = absurd (false≢true spoken)
-  template_is s t count (judged.As means.Unwanted) tcp none spoken = absurd (false≢true spoken)
-  template_is s t count (judged.As means.Opens) tcp none spoken = absurd (false≢true (sym none.no_syn))
-  template_is s t count (judged.As (means.Accepts acknowledged)) tcp none spoken = absurd (false≢true spoken)
-  template_is s t count (judged.As means.RepeatedSyn) tcp none spoken = (same_or_calm t s spoken, none.lively refl)
-  template_is s t count (judged.As means.Outside) tcp none spoken = (same_or_calm t s spoken, none.lively refl)
-  template_is s t count (judged.As means.Kills) tcp none spoken = absurd (false≢true spoken)
-  template_is s t count (judged.As means.Challenged) tcp none spoken = (same_or_calm t s spoken, none.lively refl)
-  template_is s t count (judged.As means.Unacknowledging) tcp none spoken = absurd (false≢true spoken)
-  template_is s t count (judged.As means.Ahead) tcp none spoken = (same_or_calm t s spoken, none.lively refl)
-  template_is s t count (judged.As (means.Taken pos acknowledged)) tcp none spoken = (same_or_calm t s (sym (came_speaks t s count) ∙ spoken), none.lively refl)
-
-  -- the end of either side is that of this one
-  own_knows : (s t : Side) (e : PathEnd) (p : PathState Carried) → t ≡ s → Knows k right s e.modes → Knows k right t (end_at t (with_end s e p)).modes
-  own_knows A A e p same has = has
-  own_knows B B e p same has = has
-  own_knows A B e p same has = cc
-  own_knows B A e p same has = cc
-
-  heard_is : (s : Side) (now : ℕ) (sg : PlainSegment) (p : PathState Carried) → SegmentIs k right p.profile (peer s) sg → PathIs k right p → PathIs k right (heard_at now s (Some (meant sg)) p)
-  heard_is s now sg p said h = by (is_joined p.profile) refl (end_is k right s p h) (items_are k right (is_joined p.profile) s sg said)
-    where
-      e : PathEnd
-      e = end_at s p
-
-      heard : HeardSegment
-      heard = meant sg
-
-      told : List KeptMapping
-      told = held_of p.profile s heard
-
-      answer : Outgoing
-      answer = reset_for p.profile s (copy_of heard)
-
-      by : (joined : Bool) → is_joined p.profile ≡ joined → EndIs k right joined s e → Every (ItemIs k right joined s) (items_of joined s heard)
-          → PathIs k right (goes_on s (copy_judged joined told answer s now heard (taken_as (judged_in joined s heard e)) e) (template_of joined s (items_of joined s heard) (judged_in joined s heard e)) p)
-      by true is own items =
-          let v : Judged = judged_in true s heard e in
-          let none : WakesNone (taken_as v) e.tcp = joined_wakes_none heard.rst (items_of true s heard) e (copy_of heard) in
-          let copy = told_copy s told answer now heard (taken_as v) e none items own in
-          goes_by k right s _ _ p (subst (λ j. EndIs k right j s (copy_judged true told answer s now heard (taken_as v) e)) (sym is) copy.is) copy.waits
-          (λ sure joined t spoken.
-          let now_right : right ≡ true = sure_right k right (is_joined p.profile) joined sure in
-          let said_by = template_is s t (length (items_of true s heard)) v e.tcp none spoken in
-          own_knows s t _ p said_by.0 (copy.stays now_right (own.woken now_right refl said_by.1))) h
-      by false is own items =
-          let m : Meaning = meaning_of (copy_of heard) e.tcp in
-          goes_by k right s _ _ p
-          (subst (λ j. EndIs k right j s (copy_judged false told answer s now heard m e)) (sym is)
-          (record { modes = own.modes; items = items; woken = λ sure joined. absurd (false≢true joined) }))
-          (λ waiting. arrived_waits m (owes_by m (items_of false s heard)) (hint_of (items_of false s heard)) now (copy_of heard) heard.payload e.tcp waiting)
-          (λ sure joined. absurd (false≢true (sym is ∙ joined))) h
-
-  copy_is : (s : Side) (o : Option (Flight Carried)) (q p : PathState Carried) → ((f : Flight Carried) → o ≡ Some f → SegmentIs k right p.profile (peer s) f.carried.segment) → PathIs k right p
-      → PathIs k right (copy_heard s (heard_in values s o q) p)
-  copy_is s None q p said h = agenda_is k right (emission s) p (λ t spoken. absurd (false≢true spoken)) h
-  copy_is s (Some f) q p said h = heard_is s p.clock f.carried.segment p (said f refl) h
-
-  delivered_is : (due : Due) (p : PathState Carried) → PathIs k right p → PathIs k right (record (at_tick due.tick p) { link = after_delivery due p.link })
-  delivered_is due p h = record { a = h.a; b = h.b; copies = rest (position (is_due due) p.link.under_way); known = h.known; waits = h.waits }
-    where
-      rest : (o : Option ℕ) → Every (FlightIs k right p.profile) (without o p.link.under_way)
-      rest None = h.copies
-      rest (Some place) = record { each = λ i f at. let there = in_removed p.link.under_way place i f at in h.copies.each there.0 f there.1 }
 
   -- ---- what is asked, and answered
 
@@ -360,8 +274,8 @@ module _ (k : Secrets) (right : Bool) where
   CallIs s (control_calls.PeerKey key) = key ≡ drawn_key k right (peer s)
   CallIs s (control_calls.Keys own other) = (own ≡ drawn_key k right s) × (other ≡ drawn_key k right (peer s))
   CallIs s (control_calls.Fell path event) = IsSign event
-  CallIs s (control_calls.JoinBegin path) = Unit {0}
-  CallIs s (control_calls.JoinHeard path token) = right ≡ true → token ≡ token_of (drawn_key k right s)
+  CallIs s (control_calls.JoinBegin path) = s ≡ A
+  CallIs s (control_calls.JoinHeard path token) = (s ≡ B) × (w (peer s) × (right ≡ true → token ≡ token_of (drawn_key k right s)))
   CallIs s (control_calls.Live path backup) = Unit {0}
   CallIs s (control_calls.Dead path) = Unit {0}
   CallIs s (control_calls.Rate path window rtt) = Unit {0}
@@ -375,12 +289,17 @@ module _ (k : Secrets) (right : Bool) where
 
   -- a join that may go on has the book's keys
   abbrev pub BeginsAt : Side → Reply → Type 0
-  BeginsAt A r = IfSome (keys_begun r) (BeginIs k right A)
+  BeginsAt A r = IfSome (keys_begun r) (BeginIs k right w back A)
   BeginsAt B r = Unit {0}
 
+  -- a side falls back that didn't join
+  abbrev pub FallIs : Side → Reply → Type 0
+  FallIs s r = is_fall r ≡ true → back s × (w s → ⊥)
+
   abbrev pub CallReplyIs : Side → ControlCall → Reply → Type 0
-  CallReplyIs s (control_calls.JoinHeard path token) r = IfSome (keys_begun r) (BeginIs k right s)
+  CallReplyIs s (control_calls.JoinHeard path token) r = IfSome (keys_begun r) (BeginIs k right w back s)
   CallReplyIs s (control_calls.JoinBegin path) r = BeginsAt s r
+  CallReplyIs s (control_calls.Fell path event) r = FallIs s r
   CallReplyIs s _ r = Unit {0}
 
   abbrev pub ReplyIs : Ask → Reply → Type 0
@@ -391,16 +310,16 @@ module _ (k : Secrets) (right : Bool) where
 
   -- ---- events
 
-  died_path : (p : PathState Carried) → PathIs k right p → PathIs k right (path_died p)
+  died_path : (p : PathState Carried) → PathIs k right w back p → PathIs k right w back (path_died p)
   died_path p h = record {
-    a = unless_dead_is k right (is_joined p.profile) A p.a h.a;
-    b = unless_dead_is k right (is_joined p.profile) B p.b h.b;
+    a = unless_dead_is k right w back (is_joined p.profile) A p.a h.a;
+    b = unless_dead_is k right w back (is_joined p.profile) B p.b h.b;
     copies = Every-nil _;
-    known = λ sure is t spoken. absurd (false≢true (sym (calm t (is_dead p.a.tcp.state) (is_dead p.b.tcp.state)) ∙ spoken));
+    known = λ x spoken. absurd (false≢true (sym (calm x (is_dead p.a.tcp.state) (is_dead p.b.tcp.state)) ∙ spoken));
     waits = λ waiting. h.waits (still (is_dead p.a.tcp.state) waiting);
   }
     where
-      calm : (t : Side) (x y : Bool) → speaks t ((if x then [] else duties.Leave A ∷ []) ++ ((if y then [] else duties.Leave B ∷ []) ++ rest_of_turn)) ≡ false
+      calm : (t : Voice) (x y : Bool) → speaks t ((if x then [] else duties.Leave A ∷ []) ++ ((if y then [] else duties.Leave B ∷ []) ++ rest_of_turn)) ≡ false
       calm t true true = refl
       calm t true false = refl
       calm t false true = refl
@@ -410,17 +329,17 @@ module _ (k : Secrets) (right : Bool) where
       still true waiting = waiting
       still false waiting = absurd (false≢true waiting)
 
-  line_is : (death : Bool) (p : PathState Carried) → PathIs k right p → PathIs k right (after_line death p)
+  line_is : (death : Bool) (p : PathState Carried) → PathIs k right w back p → PathIs k right w back (after_line death p)
   line_is true p h = died_path p h
-  line_is false p h = agenda_is k right _ p (λ t spoken. absurd (false≢true spoken)) h
+  line_is false p h = agenda_is k right w back _ p (λ t spoken. absurd (false≢true spoken)) h
 
   -- A begins a join, where the path joins
-  begun_is : (r : Reply) (dead living : List Duty) (p : PathState Carried) → is_joined p.profile ≡ true → IfSome (keys_begun r) (BeginIs k right A)
-      → ((t : Side) → speaks t dead ≡ true → speaks t p.agenda ≡ true) → ((t : Side) → speaks t living ≡ true → speaks t p.agenda ≡ true) → PathIs k right p → PathIs k right (join_begun r dead living p)
+  begun_is : (r : Reply) (dead living : List Duty) (p : PathState Carried) → is_joined p.profile ≡ true → IfSome (keys_begun r) (BeginIs k right w back A)
+      → ((t : Voice) → speaks t dead ≡ true → speaks t p.agenda ≡ true) → ((t : Voice) → speaks t living ≡ true → speaks t p.agenda ≡ true) → PathIs k right w back p → PathIs k right w back (join_begun r dead living p)
   begun_is r dead living p joins is to_dead to_living h = by (is_never r)
     where
-      own : EndIs k right true A p.a
-      own = subst (λ j. EndIs k right j A p.a) joins h.a
+      own : EndIs k right w back true A p.a
+      own = subst (λ j. EndIs k right w back j A p.a) joins h.a
 
       open_waits : (o : Option KeyPair) → is_waiting (opened_by o p.a).tcp.state ≡ true → is_waiting p.a.tcp.state ≡ true
       open_waits None waiting = waiting
@@ -430,32 +349,32 @@ module _ (k : Secrets) (right : Bool) where
           at true waits waiting = waits
           at false waits waiting = waiting
 
-      by : (b : Bool) → PathIs k right (if b then goes_on A (died p.a) dead p else goes_on A (opened_by (keys_begun r) p.a) living p)
-      by true = goes_is k right A (died p.a) dead p (died_is k right (is_joined p.profile) A p.a h.a) (λ waiting. absurd (false≢true waiting)) to_dead (λ sure is has. has) h
+      by : (b : Bool) → PathIs k right w back (if b then goes_on A (died p.a) dead p else goes_on A (opened_by (keys_begun r) p.a) living p)
+      by true = goes_is k right w back A (died p.a) dead p (died_is k right w back (is_joined p.profile) A p.a h.a) (λ waiting. absurd (false≢true waiting)) to_dead (λ is has. has) h
       by false =
-          goes_is k right A (opened_by (keys_begun r) p.a) living p
-          (subst (λ j. EndIs k right j A (opened_by (keys_begun r) p.a)) (sym joins) (opened_end k right A (keys_begun r) p.a is own refl))
-          (open_waits (keys_begun r)) to_living (λ sure joined has. opened_stays k right (keys_begun r) p.a is (sure_right k right (is_joined p.profile) joined sure) has) h
+          goes_is k right w back A (opened_by (keys_begun r) p.a) living p
+          (subst (λ j. EndIs k right w back j A (opened_by (keys_begun r) p.a)) (sym joins) (opened_end k right w back A (keys_begun r) p.a is own refl))
+          (open_waits (keys_begun r)) to_living (λ joined has. opened_stays k right w back (keys_begun r) p.a is has) h
 
-  fired_is : (s : Side) (q : PathState Carried) → is_up (end_at s q).tcp ≡ true → PathIs k right q → PathIs k right (timer_fired s q)
+  fired_is : (s : Side) (q : PathState Carried) → is_up (end_at s q).tcp ≡ true → PathIs k right w back q → PathIs k right w back (timer_fired s q)
   fired_is s q up h = by (is_sixth e.tcp)
     where
       e : PathEnd
       e = end_at s q
 
-      own : EndIs k right (is_joined q.profile) s e
-      own = end_is k right s q h
+      own : EndIs k right w back (is_joined q.profile) s e
+      own = end_is k right w back s q h
 
-      by : (b : Bool) → PathIs k right (goes_on s (record e { tcp = (if b then after_death true e.tcp else after_expiry q.clock e.tcp) }) (template_fired b s) q)
+      by : (b : Bool) → PathIs k right w back (goes_on s (record e { tcp = (if b then after_death true e.tcp else after_expiry q.clock e.tcp) }) (template_fired b s) q)
       by true =
-          goes_is k right s (record e { tcp = after_death true e.tcp }) (template_fired true s) q (record { modes = own.modes; items = own.items; woken = λ sure is woken. absurd (false≢true woken) })
-          (λ waiting. absurd (false≢true waiting)) (λ t spoken. absurd (false≢true spoken)) (λ sure is has. has) h
+          goes_is k right w back s (record e { tcp = after_death true e.tcp }) (template_fired true s) q (record { modes = own.modes; items = own.items; woken = λ is woken. absurd (false≢true woken); past = λ is so. absurd (false≢true so) })
+          (λ waiting. absurd (false≢true waiting)) (λ t spoken. absurd (false≢true spoken)) (λ is has. has) h
       by false =
-          goes_by k right s (record e { tcp = after_expiry q.clock e.tcp }) (template_fired false s) q (record { modes = own.modes; items = own.items; woken = λ sure is woken. own.woken sure is up })
-          (λ waiting. waiting) (λ sure is t spoken. own_knows s t (record e { tcp = after_expiry q.clock e.tcp }) q (same_or_calm t s spoken) (own.woken sure is up)) h
+          goes_by k right w back s (record e { tcp = after_expiry q.clock e.tcp }) (template_fired false s) q (record { modes = own.modes; items = own.items; woken = λ is woken. own.woken is up; past = own.past })
+          (λ waiting. waiting) (voices k right w back (with_end s (record e { tcp = after_expiry q.clock e.tcp }) q) (template_fired false s) (λ t spoken is. own_knows k right w back s t (record e { tcp = after_expiry q.clock e.tcp }) q (same_or_calm t s spoken) (own.woken is up)) (λ t. refl)) h
 
-  event_is : (o : Option Event) (r : Reply) (p : PathState Carried) → next_event p ≡ o → ReplyIs (step_for p.link.path o) r → PathIs k right p → PathIs k right (happens_if values o r p)
-  event_is None r p next is h = agenda_is k right _ p (λ t spoken. absurd (false≢true spoken)) h
+  event_is : (o : Option Event) (r : Reply) (p : PathState Carried) → next_event p ≡ o → ReplyIs (step_for p.link.path o) r → PathIs k right w back p → PathIs k right w back (happens_if values o r p)
+  event_is None r p next is h = agenda_is k right w back _ p (λ t spoken. absurd (false≢true spoken)) h
   event_is (Some (happenings.Joins tick)) r p next is h =
       begun_is r (leaves A) (emission A) (record (at_tick tick p) { joined_at = None }) (h.waits (next_happens p (happenings.Joins tick) next)) is
       (λ t spoken. absurd (false≢true spoken)) (λ t spoken. absurd (false≢true spoken))
@@ -463,240 +382,305 @@ module _ (k : Secrets) (right : Bool) where
   event_is (Some (happenings.Takes line)) r p next is h =
       line_is (is_death line.line) (record (at_tick line.tick p) { lines = tail_of p.lines }) (record { a = h.a; b = h.b; copies = h.copies; known = h.known; waits = h.waits })
   event_is (Some (happenings.Arrives due)) r p next is h =
-      copy_is due.to (arriving due p.link) p (record (at_tick due.tick p) { link = after_delivery due p.link }) said (delivered_is due p h)
+      copy_is k right w back due.to (arriving due p.link) p (record (at_tick due.tick p) { link = after_delivery due p.link }) said (delivered_is k right w back due p h)
     where
-      said : (f : Flight Carried) → arriving due p.link ≡ Some f → SegmentIs k right p.profile (peer due.to) f.carried.segment
+      said : (f : Flight Carried) → arriving due p.link ≡ Some f → SegmentIs k right w back p.profile (peer due.to) f.carried.segment
       said f is =
-          let found = find_every (FlightIs k right p.profile) (is_due due) p.link.under_way f h.copies is in
+          let found = find_every (FlightIs k right w back p.profile) (is_due due) p.link.under_way f h.copies is in
           let parts = and_parts (f.tick == due.tick) (same_side f.to due.to && f.number == due.copy) found.1 in
           let to = one_side f.to due.to (and_parts (same_side f.to due.to) (f.number == due.copy) parts.1).0 in
-          subst (λ s. SegmentIs k right p.profile (peer s) f.carried.segment) to found.0
+          subst (λ s. SegmentIs k right w back p.profile (peer s) f.carried.segment) to found.0
   event_is (Some (happenings.Fires s tick)) r p next is h = at_side s (next_happens p (happenings.Fires s tick) next)
     where
-      h_q : PathIs k right (at_tick tick p)
+      h_q : PathIs k right w back (at_tick tick p)
       h_q = record { a = h.a; b = h.b; copies = h.copies; known = h.known; waits = h.waits }
 
-      at_side : (t : Side) → is_up (end_at t p).tcp ≡ true → PathIs k right (timer_fired t (at_tick tick p))
+      at_side : (t : Side) → is_up (end_at t p).tcp ≡ true → PathIs k right w back (timer_fired t (at_tick tick p))
       at_side A up = fired_is A (at_tick tick p) up h_q
       at_side B up = fired_is B (at_tick tick p) up h_q
 
   -- ---- replies
 
-  reset_is : (s : Side) (reason : Option ℕ) (ds : List Duty) (p : PathState Carried) → Fewer k right p ds → PathIs k right p → PathIs k right (reset_on values s reason ds p)
-  reset_is s reason ds p fewer h =
-      sent_is k right s (reset_of s reason p) (died (end_at s p)) ds p (reset_options_are k right p.profile s (end_at s p) (end_is k right s p h) reason)
-      (died_is k right (is_joined p.profile) s (end_at s p) (end_is k right s p h)) (λ waiting. absurd (false≢true waiting)) fewer (λ sure is has. has) h
-
-  break_is : (s : Side) (reason : ℕ) (r : Reply) (p : PathState Carried) → PathIs k right p → PathIs k right (answered_break values s reason r p)
-  break_is s reason r p h = by (end_at s p).treated.asked
-    where
-      by : (b : Bool) → PathIs k right (if b then answered_ack_out s r (resets s reason) p else reset_on values s (Some reason) (leaves s) p)
-      by true = same_goes k right s _ _ p refl refl (record { up = λ x. x; waits = λ x. x }) (λ t spoken. absurd (false≢true spoken)) h
-      by false = reset_is s (Some reason) (leaves s) p (λ t spoken. absurd (false≢true spoken)) h
-
-  grant_is : (s : Side) (o : Option Grant) (r : Reply) (p : PathState Carried) → PathIs k right p → PathIs k right (answered_grant s o r p)
-  grant_is s None r p h = same_goes k right s _ _ p refl refl (record { up = λ x. x; waits = λ x. x }) (none_left k right p) h
-  grant_is s (Some grant) r p h = same_goes k right s _ _ p refl refl (record { up = λ x. x; waits = λ x. x }) (λ t is. is) h
-
   -- an end that is up knows what it has to
   abbrev Said : Side → PathState Carried → Type 0
-  Said s p = OnJoined k right p.profile (Knows k right s (end_at s p).modes)
+  Said s p = OnJoined k right w back p.profile (Knows k right w back s (end_at s p).modes)
 
-  up_knows : (s : Side) (p : PathState Carried) → is_up (end_at s p).tcp ≡ true → PathIs k right p → Said s p
-  up_knows s p up h sure is = (end_is k right s p h).woken sure is up
+  -- what is still to be said after a verdict; no side falls on a path that joins
+  not_joined : (s : Side) (r : Reply) (p : PathState Carried) → Said s p → FallIs s r → is_fall r ≡ true → (is_joined p.profile ≡ false) × back s
+  not_joined s r p said is fell = (by (is_joined p.profile) refl, (is fell).0)
+    where
+      by : (b : Bool) → is_joined p.profile ≡ b → b ≡ false
+      by true joins = absurd ((is fell).1 (said joins).0)
+      by false joins = refl
 
-  data_is : (s : Side) (o : Option Record) (r : Reply) (p : PathState Carried) → first_unsent (end_at s p) ≡ o → data_stands p.profile s (end_at s p) o ≡ true → PathIs k right p
-      → PathIs k right (answered_data values s o r p)
+  fell_known : (s : Side) (e : PathEnd) (r : Reply) (p : PathState Carried) → Said s p → FallIs s r → Stays k right w back s e p → PathIs k right w back p
+      → AreKnown k right w back (with_end s e p) (fell_duties s r p)
+  fell_known s e r p said is stays h =
+      fell_cases (λ ds. AreKnown k right w back (with_end s e p) ds) s p r
+      (λ fell. replaced_known k right w back s (duties.GoIdentity s) e p
+      (λ x falling. subst (VoiceIs k right w back (with_end s e p)) (sym (falls_same x s falling)) (with_voice k right w back s e p stays (inr s) (not_joined s r p said is fell))) stays h)
+      (λ reason x spoken. absurd (false≢true spoken)) (λ reason x spoken. absurd (false≢true spoken))
+      (fewer_known k right w back s e (left p) p (none_left k right w back p) stays h)
+
+  -- an end that knows what it knew goes on after a verdict
+  verdict_is : (s : Side) (e : PathEnd) (r : Reply) (p : PathState Carried) → known_in e.modes ≡ known_in (end_at s p).modes → e.treated.items ≡ (end_at s p).treated.items
+      → NoWaking (end_at s p).tcp e.tcp → Said s p → FallIs s r → PathIs k right w back p → PathIs k right w back (goes_on s e (fell_duties s r p) p)
+  verdict_is s e r p same items up said is h =
+      let stays = stays_same k right w back s e p same in
+      goes_by k right w back s e (fell_duties s r p) p (kept_end k right w back (is_joined p.profile) s (end_at s p) e same items up (end_is k right w back s p h)) up.waits
+      (fell_known s e r p said is stays h) h
+
+  told_is : (s : Side) (event : FallEvent) (r : Reply) (p : PathState Carried) → Said s p → FallIs s r → PathIs k right w back p → PathIs k right w back (answered_fell s event r p)
+  told_is s event r p said is h =
+      verdict_is s (after_fell event r (end_at s p)) r p (fell_leaves event r (end_at s p).modes) refl (record { up = λ x. x; waits = λ x. x; past = λ x. x }) said is h
+
+  reset_is : (s : Side) (reason : Option ℕ) (ds : List Duty) (p : PathState Carried) → Fewer k right w back p ds → PathIs k right w back p → PathIs k right w back (reset_on values s reason ds p)
+  reset_is s reason ds p fewer h =
+      sent_is k right w back s (reset_of s reason p) (died (end_at s p)) ds p (reset_said_is k right w back p.profile s (end_at s p) (end_is k right w back s p h) reason)
+      (died_is k right w back (is_joined p.profile) s (end_at s p) (end_is k right w back s p h)) (λ waiting. absurd (false≢true waiting)) fewer (λ is has. has) h
+
+  break_is : (s : Side) (reason : ℕ) (r : Reply) (p : PathState Carried) → PathIs k right w back p → PathIs k right w back (answered_break values s reason r p)
+  break_is s reason r p h = by (end_at s p).treated.asked
+    where
+      by : (b : Bool) → PathIs k right w back (if b then answered_ack_out s r (resets s reason) p else reset_on values s (Some reason) (leaves s) p)
+      by true = same_goes k right w back s _ _ p refl refl (record { up = λ x. x; waits = λ x. x; past = λ x. x }) (λ t spoken. absurd (false≢true spoken)) h
+      by false = reset_is s (Some reason) (leaves s) p (λ t spoken. absurd (false≢true spoken)) h
+
+  grant_is : (s : Side) (o : Option Grant) (r : Reply) (p : PathState Carried) → PathIs k right w back p → PathIs k right w back (answered_grant s o r p)
+  grant_is s None r p h = same_goes k right w back s _ _ p refl refl (record { up = λ x. x; waits = λ x. x; past = λ x. x }) (none_left k right w back p) h
+  grant_is s (Some grant) r p h = same_goes k right w back s _ _ p refl refl (record { up = λ x. x; waits = λ x. x; past = λ x. x }) (λ t is. is) h
+
+  up_knows : (s : Side) (p : PathState Carried) → is_up (end_at s p).tcp ≡ true → PathIs k right w back p → Said s p
+  up_knows s p up h is = (end_is k right w back s p h).woken is up
+
+  data_is : (s : Side) (o : Option Record) (r : Reply) (p : PathState Carried) → first_unsent (end_at s p) ≡ o → data_stands p.profile s (end_at s p) o ≡ true → PathIs k right w back p
+      → PathIs k right w back (answered_data values s o r p)
   data_is s (Some unsent) r p first stands h =
       let e = end_at s p in
       let opens = not_closed (is_closed_to_segments e.tcp.state) (and_parts (not (is_closed_to_segments e.tcp.state)) (fits e.tcp unsent) stands).0 in
-      same_sent k right s _ _ p.agenda p (record_or_ack_is k right p.profile s e (end_is k right s p h) (up_knows s p (open_is_up e.tcp opens) h) (first_unsent e)) refl refl
+      same_sent k right w back s _ _ p.agenda p (record_or_ack_is k right w back p.profile s e (end_is k right w back s p h) (up_knows s p (open_is_up e.tcp opens) h) (first_unsent e)) refl refl
       (sending_up to_send.Unsent p.clock e.tcp) (λ t is. is) h
   data_is s None r p first stands h = grant_is s (grant_in r) r p h
 
-  heard_answered : (s : Side) (item : Heard) (r : Reply) (p : PathState Carried) → ItemIs k right (is_joined p.profile) s item → PathIs k right p → PathIs k right (answered_heard values s item r p)
-  heard_answered s (says.DataAck next window) r p own h = by (is_acked r && nat_lt 0 next)
+  heard_answered : (s : Side) (item : Heard) (r : Reply) (p : PathState Carried) → ItemIs k right w back (is_joined p.profile) s item → Said s p → ReplyIs (heard_ask values s item p) r → PathIs k right w back p → PathIs k right w back (answered_heard values s item r p)
+  heard_answered s (says.DataAck next window) r p own said is h = by (is_acked r && nat_lt 0 next)
     where
-      by : (b : Bool) → PathIs k right (goes_on s (with_acked next r (end_at s p)) (if b then replaced (duties.AckHeard s) p.agenda else left p) p)
-      by true = same_goes k right s (with_acked next r (end_at s p)) (replaced (duties.AckHeard s) p.agenda) p refl refl (record { up = λ x. x; waits = λ x. x }) (λ t spoken. replaced_speaks t (duties.AckHeard s) p.agenda refl spoken) h
-      by false = same_goes k right s (with_acked next r (end_at s p)) (left p) p refl refl (record { up = λ x. x; waits = λ x. x }) (none_left k right p) h
-  heard_answered s says.Mapping r p own h = by (is_clash (end_at s p))
+      by : (b : Bool) → PathIs k right w back (goes_on s (with_acked next r (end_at s p)) (if b then replaced (duties.AckHeard s) p.agenda else left p) p)
+      by true =
+          let e : PathEnd = with_acked next r (end_at s p) in
+          let stays = stays_same k right w back s e p refl in
+          goes_by k right w back s e (replaced (duties.AckHeard s) p.agenda) p
+          (kept_end k right w back (is_joined p.profile) s (end_at s p) e refl refl (record { up = λ x. x; waits = λ x. x; past = λ x. x }) (end_is k right w back s p h)) (λ waiting. waiting)
+          (replaced_known k right w back s (duties.AckHeard s) e p
+          (λ x telling. subst (VoiceIs k right w back (with_end s e p)) (sym (tells_same x s telling)) (with_voice k right w back s e p stays (inl s) said)) stays h) h
+      by false = same_goes k right w back s (with_acked next r (end_at s p)) (left p) p refl refl (record { up = λ x. x; waits = λ x. x; past = λ x. x }) (none_left k right w back p) h
+  heard_answered s says.Mapping r p own said is h = by (is_clash (end_at s p)) is
     where
-      told : EndIs k right (is_joined p.profile) s (after_verdict r (end_at s p))
-      told = verdict_is k right (is_joined p.profile) s r (end_at s p) (end_is k right s p h)
+      by : (b : Bool) → ReplyIs (if b then break_ask values s 1 p else fell_ask s fall.MappingHeard p) r
+          → PathIs k right w back (if b then answered_break values s 1 r p else goes_on s (with_learned (after_fell fall.MappingHeard r (end_at s p))) (fell_duties s r p) p)
+      by true is = break_is s 1 r p h
+      by false is =
+          verdict_is s (with_learned (after_fell fall.MappingHeard r (end_at s p))) r p (verdict_leaves r (end_at s p).modes) refl (record { up = λ x. x; waits = λ x. x; past = λ x. x }) said is h
+  heard_answered s (says.DataFin place) r p own said is h =
+      verdict_is s (with_fin place (after_fell fall.MappingHeard r (end_at s p))) r p (verdict_leaves r (end_at s p).modes) refl (record { up = λ x. x; waits = λ x. x; past = λ x. x }) said is h
+  heard_answered s says.InfiniteMapping r p own said is h = told_is s fall.InfiniteHeard r p said is h
+  heard_answered s (says.Keys mine other) r p own said is h =
+      goes_is k right w back s _ _ p (keys_are k right w back (is_joined p.profile) s r (Some (record { own = mine; peer = other })) (end_at s p) own (end_is k right w back s p h)) (λ is. is) (none_left k right w back p)
+      (keys_stay k right w back s r (Some (record { own = mine; peer = other })) p own) h
+  heard_answered s says.Dss r p own said is h = agenda_is k right w back _ p (none_left k right w back p) h
+  heard_answered s (says.PeerKey key) r p own said is h = agenda_is k right w back _ p (none_left k right w back p) h
+  heard_answered s (says.Join form) r p own said is h = agenda_is k right w back _ p (none_left k right w back p) h
 
-      learned : EndIs k right (is_joined p.profile) s (with_learned (after_verdict r (end_at s p)))
-      learned = record { modes = told.modes; items = told.items; woken = told.woken }
+  item_answered : (s : Side) (o : Option Heard) (r : Reply) (p : PathState Carried) → IfSome o (ItemIs k right w back (is_joined p.profile) s) → Said s p → ReplyIs (item_ask values s o p) r → PathIs k right w back p → PathIs k right w back (answered_item values s o r p)
+  item_answered s None r p own said is h = agenda_is k right w back _ p (none_left k right w back p) h
+  item_answered s (Some item) r p own said is h = heard_answered s item r p own said is h
 
-      by : (b : Bool) → PathIs k right (if b then answered_break values s 1 r p else goes_on s (with_learned (after_verdict r (end_at s p))) (tail_of p.agenda) p)
-      by true = break_is s 1 r p h
-      by false = goes_is k right s (with_learned (after_verdict r (end_at s p))) (left p) p learned (λ is. is) (none_left k right p) (λ sure is has. same_knows k right s (end_at s p).modes (mode_in r (end_at s p).modes) (verdict_leaves r (end_at s p).modes) has) h
-  heard_answered s (says.DataFin place) r p own h =
-      let told = verdict_is k right (is_joined p.profile) s r (end_at s p) (end_is k right s p h) in
-      goes_is k right s _ _ p (record { modes = told.modes; items = told.items; woken = told.woken }) (λ is. is) (none_left k right p) (λ sure is has. same_knows k right s (end_at s p).modes (mode_in r (end_at s p).modes) (verdict_leaves r (end_at s p).modes) has) h
-  heard_answered s (says.Keys mine other) r p own h =
-      goes_is k right s _ _ p (keys_are k right (is_joined p.profile) s r (Some (record { own = mine; peer = other })) (end_at s p) own (end_is k right s p h)) (λ is. is) (none_left k right p)
-      (keys_stay k right s r (Some (record { own = mine; peer = other })) p own) h
-  heard_answered s says.Dss r p own h = agenda_is k right _ p (none_left k right p) h
-  heard_answered s (says.PeerKey key) r p own h = agenda_is k right _ p (none_left k right p) h
-  heard_answered s (says.Join form) r p own h = agenda_is k right _ p (none_left k right p) h
+  piece_is : (s : Side) (o : Option Piece) (taken : Bool) (p : PathState Carried) → PathIs k right w back p → PathIs k right w back (answered_piece s o taken p)
+  piece_is s None taken p h = same_goes k right w back s _ _ p refl refl (record { up = λ x. x; waits = λ x. x; past = λ x. x }) (λ t spoken. absurd (false≢true spoken)) h
+  piece_is s (Some piece) true p h = same_goes k right w back s _ _ p refl refl (record { up = λ x. x; waits = λ x. x; past = λ x. x }) (λ t is. is) h
+  piece_is s (Some piece) false p h = same_goes k right w back s _ _ p refl refl (record { up = λ x. x; waits = λ x. x; past = λ x. x }) (λ t spoken. absurd (false≢true spoken)) h
 
-  pub item_there : (joined : Bool) (items : List Heard) (s : Side) (index : ℕ) → Every (ItemIs k right joined s) items → IfSome (item_at index items) (ItemIs k right joined s)
-  item_there joined [] s index h = tt
-  item_there joined (item ∷ items) s zero h = h.each 0 item refl
-  item_there joined (item ∷ items) s (suc index) h = item_there joined items s index (record { each = λ i x at. h.each (suc i) x at })
-
-  item_answered : (s : Side) (o : Option Heard) (r : Reply) (p : PathState Carried) → IfSome o (ItemIs k right (is_joined p.profile) s) → PathIs k right p → PathIs k right (answered_item values s o r p)
-  item_answered s None r p own h = agenda_is k right _ p (none_left k right p) h
-  item_answered s (Some item) r p own h = heard_answered s item r p own h
-
-  piece_is : (s : Side) (o : Option Piece) (taken : Bool) (p : PathState Carried) → PathIs k right p → PathIs k right (answered_piece s o taken p)
-  piece_is s None taken p h = same_goes k right s _ _ p refl refl (record { up = λ x. x; waits = λ x. x }) (λ t spoken. absurd (false≢true spoken)) h
-  piece_is s (Some piece) true p h = same_goes k right s _ _ p refl refl (record { up = λ x. x; waits = λ x. x }) (λ t is. is) h
-  piece_is s (Some piece) false p h = same_goes k right s _ _ p refl refl (record { up = λ x. x; waits = λ x. x }) (λ t spoken. absurd (false≢true spoken)) h
-
-  fin_is : (s : Side) (set : Bool) (p : PathState Carried) → PathIs k right p → PathIs k right (answered_fin_heard s set p)
-  fin_is s true p h = same_goes k right s _ _ p refl refl (record { up = λ x. x; waits = λ x. x }) (none_left k right p) h
-  fin_is s false p h = same_goes k right s _ _ p refl refl (record { up = λ x. x; waits = λ x. x }) (λ t spoken. absurd (false≢true spoken)) h
+  fin_is : (s : Side) (set : Bool) (p : PathState Carried) → PathIs k right w back p → PathIs k right w back (answered_fin_heard s set p)
+  fin_is s true p h = same_goes k right w back s _ _ p refl refl (record { up = λ x. x; waits = λ x. x; past = λ x. x }) (none_left k right w back p) h
+  fin_is s false p h = same_goes k right w back s _ _ p refl refl (record { up = λ x. x; waits = λ x. x; past = λ x. x }) (λ t spoken. absurd (false≢true spoken)) h
 
   -- what an end says
-  ack_said_is : (s : Side) (position : ℕ) (fin : Option ℕ) (p : PathState Carried) → PathIs k right p → SegmentIs k right p.profile s (ack_said p.profile s position fin (end_at s p))
-  ack_said_is s position fin p h = ack_is k right p.profile s (end_at s p) (end_is k right s p h) position fin
+  ack_said_is : (s : Side) (position : ℕ) (fin : Option ℕ) (p : PathState Carried) → PathIs k right w back p → SegmentIs k right w back p.profile s (ack_said p.profile s position fin (end_at s p))
+  ack_said_is s position fin p h = ack_is k right w back p.profile s (end_at s p) (end_is k right w back s p h) position fin
 
-  answer_is : (s : Side) (p : PathState Carried) → Said s p → PathIs k right p → SegmentIs k right p.profile s (answer_of s p)
+  answer_is : (s : Side) (p : PathState Carried) → Said s p → PathIs k right w back p → SegmentIs k right w back p.profile s (answer_of s p)
   answer_is s p said h = by (end_at s p).tcp.due.syn_ack
     where
-      by : (b : Bool) → SegmentIs k right p.profile s (if b then syn_ack_said p.profile s (end_at s p) else ack_said p.profile s (end_at s p).tcp.send.nxt None (end_at s p))
-      by true = syn_ack_is k right p.profile s (end_at s p) (end_is k right s p h) said
+      by : (b : Bool) → SegmentIs k right w back p.profile s (if b then syn_ack_said p.profile s (end_at s p) else ack_said p.profile s (end_at s p).tcp.send.nxt None (end_at s p))
+      by true = syn_ack_is k right w back p.profile s (end_at s p) (end_is k right w back s p h) said
       by false = ack_said_is s (end_at s p).tcp.send.nxt None p h
 
-  resend_is : (s : Side) (p : PathState Carried) → Said s p → PathIs k right p → SegmentIs k right p.profile s (resend_of s p)
-  resend_is s p said h = by (has_records (end_at s p).tcp) (end_at s p).modes.owes_third (owes_end (end_at s p).sending)
+  resend_is : (s : Side) (p : PathState Carried) → Said s p → PathIs k right w back p → SegmentIs k right w back p.profile s (resend_of s p)
+  resend_is s p said h = by (has_records (end_at s p).tcp) (end_at s p).modes.owes_third (is_end_owed (end_at s p))
     where
       e : PathEnd
       e = end_at s p
 
-      by : (records third owes : Bool) → SegmentIs k right p.profile s (if records then record_or_ack p.profile s (first_record e) e
+      by : (records third owes : Bool) → SegmentIs k right w back p.profile s (if records then record_or_ack p.profile s (first_record e) e
           else (if third then ack_said p.profile s e.tcp.send.nxt None e
           else (if owes then ack_said p.profile s e.tcp.send.nxt e.sending.known_end e else ack_said p.profile s (e.tcp.send.una - 1) None e)))
-      by true third owes = record_or_ack_is k right p.profile s e (end_is k right s p h) said (first_record e)
+      by true third owes = record_or_ack_is k right w back p.profile s e (end_is k right w back s p h) said (first_record e)
       by false true owes = ack_said_is s e.tcp.send.nxt None p h
       by false false true = ack_said_is s e.tcp.send.nxt e.sending.known_end p h
       by false false false = ack_said_is s (e.tcp.send.una - 1) None p h
 
-  dss_is : (s : Side) (p : PathState Carried) → SegmentIs k right p.profile s (fin_segment_of s p)
-  dss_is s p = record { each = at }
-    where
-      at : (i : ℕ) (o : PlainOption) → slice_get (fin_segment_of s p).options i ≡ Some o → OptionIs k right (is_joined p.profile) s o
-      at zero o is = subst (OptionIs k right (is_joined p.profile) s) (same_Some _ o is) tt
-      at (suc i) o is = cc
+  fin_segment_is : (s : Side) (p : PathState Carried) → Said s p → PathIs k right w back p → SegmentIs k right w back p.profile s (fin_segment_of s p)
+  fin_segment_is s p said h = fin_options_are k right w back p.profile s (end_at s p) (end_is k right w back s p h) said (fin_position (end_at s p).tcp.send)
 
-  refusal_is : (s : Side) (p : PathState Carried) → PathIs k right p → SegmentIs k right p.profile s (refusal_of s p)
-  refusal_is s p h = reset_options_are k right p.profile s (end_at s p) (end_is k right s p h) (Some 1)
+  refusal_is : (s : Side) (p : PathState Carried) → PathIs k right w back p → SegmentIs k right w back p.profile s (refusal_of s p)
+  refusal_is s p h = reset_options_are k right w back p.profile s (end_at s p) (end_is k right w back s p h) (Some 1)
 
-  -- the first key that was heard
-  key_kept : (s : Side) (o : Option ℕ) (p : PathState Carried) → is_some o ≡ true → IfSome o (λ key. key ≡ drawn_key k right (peer s)) → PathIs k right p
-      → PathIs k right (goes_on s (with_peer_key o (end_at s p)) (left p) p)
-  key_kept s None p some is h = absurd (false≢true some)
-  key_kept s (Some key) p some is h =
-      let own = end_is k right s p h in let m = (end_at s p).modes in
-      goes_is k right s _ _ p (record {
-        modes = rekeyed k right (is_joined p.profile) s key m.clear m is own.modes;
+  -- the first key that was heard, or that there is none
+  key_kept : (s : Side) (o : Option ℕ) (r : Reply) (p : PathState Carried) → IfSome o (λ key. key ≡ drawn_key k right (peer s)) → Said s p → ReplyIs (peer_key_ask s o p) r → PathIs k right w back p
+      → PathIs k right w back (answered_peer_key s o r p)
+  key_kept s None r p is said falls h = told_is s fall.PlainHandshake r p said falls h
+  key_kept s (Some key) r p is said falls h =
+      let own = end_is k right w back s p h in let m = (end_at s p).modes in
+      goes_is k right w back s _ _ p (record {
+        modes = rekeyed k right w back (is_joined p.profile) s key m.clear m is (λ joins now. now) own.modes;
         items = own.items;
-        woken = λ sure joined up. rekeyed_knows k right s key m.clear m is (own.woken sure joined up);
-      }) (λ waiting. waiting) (none_left k right p) (λ sure joined has. rekeyed_knows k right s key m.clear m is has) h
+        woken = λ joined up. rekeyed_knows k right w back s key m.clear m is (own.woken joined up);
+        past = own.past;
+      }) (λ waiting. waiting) (none_left k right w back p) (λ joined has. rekeyed_knows k right w back s key m.clear m is has) h
+
+  -- so are both keys
+  keys_kept : (s : Side) (o : Option KeyPair) (r : Reply) (p : PathState Carried) → IfSome o (PairIs k right w back (is_joined p.profile) s) → Said s p → ReplyIs (opened_ask s o p) r → PathIs k right w back p → PathIs k right w back (answered_opened s o r p)
+  keys_kept s None r p pair said falls h = told_is s fall.PlainHandshake r p said falls h
+  keys_kept s (Some keys) r p pair said falls h =
+      goes_is k right w back s _ _ p (keys_are k right w back (is_joined p.profile) s r (Some keys) (end_at s p) pair (end_is k right w back s p h)) (λ waiting. waiting) (none_left k right w back p)
+      (keys_stay k right w back s r (Some keys) p pair) h
+
+  plain_ack_is : (s : Side) (r : Reply) (p : PathState Carried) → Said s p → ReplyIs (plain_ack_ask values s p) r → PathIs k right w back p → PathIs k right w back (answered_plain_ack values s r p)
+  plain_ack_is s r p said is h = by (breaks_by_ack p.profile (end_at s p)) is
+    where
+      by : (b : Bool) → ReplyIs (if b then break_ask values s 6 p else fell_ask s fall.PlainAck p) r
+          → PathIs k right w back (if b then answered_break values s 6 r p else goes_on s (with_plain_ack (after_fell fall.PlainAck r (end_at s p))) (fell_duties s r p) p)
+      by true is = break_is s 6 r p h
+      by false is =
+          verdict_is s (with_plain_ack (after_fell fall.PlainAck r (end_at s p))) r p (verdict_leaves r (end_at s p).modes) refl (record { up = λ x. x; waits = λ x. x; past = λ x. x }) said is h
+
+  -- a FIN that stands for the end of the stream
+  plain_fin_is : (s : Side) (set : Bool) (p : PathState Carried) → PathIs k right w back p → PathIs k right w back (answered_plain_fin s set p)
+  plain_fin_is s true p h = same_goes k right w back s _ _ p refl refl (record { up = λ x. x; waits = λ x. x; past = λ x. x }) (none_left k right w back p) h
+  plain_fin_is s false p h = same_goes k right w back s _ _ p refl refl (record { up = λ x. x; waits = λ x. x; past = λ x. x }) (λ t spoken. absurd (false≢true spoken)) h
 
   -- the join that B heard of
-  heard_join : (s : Side) (o : Option KeyPair) (asked : Option Asked) (p : PathState Carried) → (IfSome asked (λ x. IfSome o (BeginIs k right s))) → IfSome asked (AskedIs k right (is_joined p.profile) s) → PathIs k right p → PathIs k right (join_taken s o asked p)
-  heard_join s None asked p begins heard h = agenda_is k right _ p (λ t spoken. replaced_speaks t (duties.Refuse s) p.agenda refl spoken) h
-  heard_join s (Some keys) None p begins heard h = agenda_is k right _ p (λ t spoken. replaced_speaks t (duties.Refuse s) p.agenda refl spoken) h
+  heard_join : (s : Side) (o : Option KeyPair) (asked : Option Asked) (p : PathState Carried) → (IfSome asked (λ x. IfSome o (BeginIs k right w back s))) → IfSome asked (AskedIs k right w back (is_joined p.profile) s) → PathIs k right w back p → PathIs k right w back (join_taken s o asked p)
+  heard_join s None asked p begins heard h = agenda_is k right w back _ p (λ t spoken. replaced_speaks t (duties.Refuse s) p.agenda refl spoken) h
+  heard_join s (Some keys) None p begins heard h = agenda_is k right w back _ p (λ t spoken. replaced_speaks t (duties.Refuse s) p.agenda refl spoken) h
   heard_join s (Some keys) (Some asked) p begins heard h =
       let joins = heard.0 in
-      let now : EndIs k right true s (end_at s p) = subst (λ j. EndIs k right j s (end_at s p)) joins (end_is k right s p h) in
-      let told : AskedIs k right true s asked = subst (λ j. AskedIs k right j s asked) joins heard in
-      let met : right ≡ true → Knows k right s (joined_by keys asked (end_at s p)).modes = λ sure. joined_knows k right s keys asked (end_at s p) begins told sure in
-      goes_by k right s (joined_by keys asked (end_at s p)) (replaced (duties.SynAck s) p.agenda) p
-      (subst (λ j. EndIs k right j s (joined_by keys asked (end_at s p))) (sym joins) (joined_end k right s keys asked (end_at s p) begins told now))
-      (joined_waits k right keys asked (end_at s p))
-      (λ sure is t spoken. to_both k right s t _ p (met (sure_right k right (is_joined p.profile) is sure)) (λ other. h.known sure is t (replaced_other t s p.agenda other spoken))) h
+      let now : EndIs k right w back true s (end_at s p) = subst (λ j. EndIs k right w back j s (end_at s p)) joins (end_is k right w back s p h) in
+      let told : AskedIs k right w back true s asked = subst (λ j. AskedIs k right w back j s asked) joins heard in
+      let met : Knows k right w back s (joined_by keys asked (end_at s p)).modes = joined_knows k right w back s keys asked (end_at s p) begins told in
+      goes_by k right w back s (joined_by keys asked (end_at s p)) (replaced (duties.SynAck s) p.agenda) p
+      (subst (λ j. EndIs k right w back j s (joined_by keys asked (end_at s p))) (sym joins) (joined_end k right w back s keys asked (end_at s p) begins told now))
+      (joined_waits k right w back keys asked (end_at s p))
+      (replaced_known k right w back s (duties.SynAck s) (joined_by keys asked (end_at s p)) p
+      (λ x telling. subst (VoiceIs k right w back (with_end s (joined_by keys asked (end_at s p)) p)) (sym (tells_same x s telling)) (λ is. own_knows k right w back s s (joined_by keys asked (end_at s p)) p refl met))
+      (λ is has. met) h) h
 
-  answered_is : (d : Duty) (r : Reply) (p : PathState Carried) → stands d p ≡ true → OnJoined k right p.profile ((t : Side) → is_said_by t d ≡ true → Knows k right t (end_at t p).modes)
-      → ReplyIs (ask_for values d p) r → PathIs k right p → PathIs k right (answered values d r p)
+  identity_knows : (s : Side) (e : PathEnd) → Knows k right w back s e.modes → Knows k right w back s (in_identity e).modes
+  identity_knows A e has = has
+  identity_knows B e has = has
+
+  answered_is : (d : Duty) (r : Reply) (p : PathState Carried) → stands d p ≡ true → ((x : Voice) → is_said_by x d ≡ true → VoiceIs k right w back p x)
+      → ReplyIs (ask_for values d p) r → PathIs k right w back p → PathIs k right w back (answered values d r p)
   answered_is duties.JoinAgain r p stands said is h =
       begun_is r (replaced (duties.Leave A) p.agenda) (left p) p (h.waits (and_parts (is_waiting p.a.tcp.state) (is_none p.joined_at) stands).0) is
-      (λ t spoken. replaced_speaks t (duties.Leave A) p.agenda refl spoken) (none_left k right p) h
-  answered_is (duties.Look s) r p stands said is h = same_goes k right s _ _ p (look_leaves r (end_at s p).modes) refl (record { up = λ x. x; waits = λ x. x }) (none_left k right p) h
-  answered_is (duties.Window s) r p stands said is h = same_goes k right s _ _ p refl refl (record { up = λ x. x; waits = λ x. x }) (none_left k right p) h
+      (λ t spoken. replaced_speaks t (duties.Leave A) p.agenda refl spoken) (none_left k right w back p) h
+  answered_is (duties.Look s) r p stands said is h = same_goes k right w back s _ _ p (look_leaves r (end_at s p).modes) refl (record { up = λ x. x; waits = λ x. x; past = λ x. x }) (none_left k right w back p) h
+  answered_is (duties.Window s) r p stands said is h = same_goes k right w back s _ _ p refl refl (record { up = λ x. x; waits = λ x. x; past = λ x. x }) (none_left k right w back p) h
   answered_is (duties.Update s) r p stands said is h =
-      same_sent k right s _ _ _ p (ack_said_is s (end_at s p).tcp.send.nxt None p h) refl refl (record { up = λ x. x; waits = λ x. x }) (none_left k right p) h
+      same_sent k right w back s _ _ _ p (ack_said_is s (end_at s p).tcp.send.nxt None p h) refl refl (record { up = λ x. x; waits = λ x. x; past = λ x. x }) (none_left k right w back p) h
   answered_is (duties.Syn s) r p stands said is h =
       let e = end_at s p in
       let opens = opening_open e.tcp.state (and_parts (is_opening e.tcp.state) (is_some (first_unsent e)) stands).0 in
-      same_sent k right s _ _ _ p (record_or_ack_is k right p.profile s e (end_is k right s p h) (up_knows s p (open_is_up e.tcp opens) h) (first_unsent e)) refl refl
-      (sending_up to_send.Unsent p.clock e.tcp) (none_left k right p) h
+      same_sent k right w back s _ _ _ p (record_or_ack_is k right w back p.profile s e (end_is k right w back s p h) (up_knows s p (open_is_up e.tcp opens) h) (first_unsent e)) refl refl
+      (sending_up to_send.Unsent p.clock e.tcp) (none_left k right w back p) h
   answered_is (duties.Data s) r p stands said is h = data_is s (first_unsent (end_at s p)) r p refl stands h
   answered_is (duties.DataFin s) r p stands said is h =
-      same_sent k right s _ _ _ p (ack_said_is s (end_at s p).tcp.send.nxt (end_at s p).sending.known_end p h) refl refl (record { up = λ x. x; waits = λ x. x }) (none_left k right p) h
-  answered_is (duties.Fin s) r p stands said is h = same_sent k right s _ _ _ p (dss_is s p) refl refl (fin_up s p) (none_left k right p) h
+      same_sent k right w back s _ _ _ p (ack_said_is s (end_at s p).tcp.send.nxt (end_at s p).sending.known_end p h) refl refl (record { up = λ x. x; waits = λ x. x; past = λ x. x }) (none_left k right w back p) h
+  answered_is (duties.Fin s) r p stands said is h = same_sent k right w back s _ _ _ p (fin_segment_is s p (up_knows s p (may_finish_up s (and_parts (may_finish (end_at s p).tcp.state) _ stands).0) h) h) refl refl (fin_up s p) (none_left k right w back p) h
     where
       fin_up : (s : Side) (p : PathState Carried) → NoWaking (end_at s p).tcp (having_sent_fin s p).tcp
-      fin_up s p = let up = finishing_up (end_at s p).tcp in record { up = up.up; waits = up.waits }
+      fin_up s p = let up = finishing_up (end_at s p).tcp in record { up = up.up; waits = up.waits; past = up.past }
+
+      may_finish_up : (s : Side) → may_finish (end_at s p).tcp.state ≡ true → is_up (end_at s p).tcp ≡ true
+      may_finish_up s may = open_is_up (end_at s p).tcp (finish_open (end_at s p).tcp.state may)
   answered_is duties.Events r p stands said is h = event_is (next_event p) r p refl is h
+  answered_is (duties.PlainHandshake s) r p stands said is h = told_is s fall.PlainHandshake r p (said (inl s) (itself s)) is h
   answered_is (duties.PeerKey s) r p stands said is h =
-      key_kept s (key_heard (end_at s p).treated.items) p stands (key_found k right (is_joined p.profile) s (end_at s p).treated.items (end_is k right s p h).items) h
+      key_kept s (key_heard (end_at s p).treated.items) r p (key_found k right w back (is_joined p.profile) s (end_at s p).treated.items (end_is k right w back s p h).items) (said (inl s) (itself s)) is h
   answered_is (duties.SynAck s) r p stands said is h =
-      same_sent k right s _ _ _ p (syn_ack_is k right p.profile s (end_at s p) (end_is k right s p h) (λ sure joined. said sure joined s (itself s))) refl refl
-      (sending_up to_send.SynAck p.clock (end_at s p).tcp) (none_left k right p) h
+      same_sent k right w back s _ _ _ p (syn_ack_is k right w back p.profile s (end_at s p) (end_is k right w back s p h) (said (inl s) (itself s))) refl refl
+      (sending_up to_send.SynAck p.clock (end_at s p).tcp) (none_left k right w back p) h
   answered_is (duties.JoinHeard s) r p stands said is h =
-      heard_join s (keys_begun r) (asked_at s p) p (by (asked_at s p) is) (asked_is k right (is_joined p.profile) s (end_at s p).treated.items (end_is k right s p h).items) h
+      heard_join s (keys_begun r) (asked_at s p) p (by (asked_at s p) is) (asked_is k right w back (is_joined p.profile) s (end_at s p).treated.items (end_is k right w back s p h).items) h
     where
-      by : (o : Option Asked) → ReplyIs (join_heard_ask s o p) r → IfSome o (λ x. IfSome (keys_begun r) (BeginIs k right s))
+      by : (o : Option Asked) → ReplyIs (join_heard_ask s o p) r → IfSome o (λ x. IfSome (keys_begun r) (BeginIs k right w back s))
       by None is = tt
       by (Some asked) is = is
-  answered_is (duties.Refuse s) r p stands said is h = same_sent k right s _ _ _ p (refusal_is s p h) refl refl (record { up = λ x. x; waits = λ x. x }) (none_left k right p) h
+  answered_is (duties.Refuse s) r p stands said is h = same_sent k right w back s _ _ _ p (refusal_is s p h) refl refl (record { up = λ x. x; waits = λ x. x; past = λ x. x }) (none_left k right w back p) h
   answered_is (duties.Opened s) r p stands said is h =
-      let pair = pair_found k right (is_joined p.profile) s (end_at s p).treated.items (end_is k right s p h).items in
-      goes_is k right s _ _ p (keys_are k right (is_joined p.profile) s r (keys_heard (end_at s p).treated.items) (end_at s p) pair (end_is k right s p h)) (λ waiting. waiting) (none_left k right p)
-      (keys_stay k right s r (keys_heard (end_at s p).treated.items) p pair) h
+      keys_kept s (keys_heard (end_at s p).treated.items) r p (pair_found k right w back (is_joined p.profile) s (end_at s p).treated.items (end_is k right w back s p h).items) (said (inl s) (itself s)) is h
   answered_is (duties.Heard s index) r p stands said is h =
-      item_answered s (item_of index (end_at s p)) r p (item_there (is_joined p.profile) (end_at s p).treated.items s index (end_is k right s p h).items) h
-  answered_is (duties.AckHeard s) r p stands said is h =
-      goes_is k right s _ _ p (verdict_is k right (is_joined p.profile) s r (end_at s p) (end_is k right s p h)) (λ waiting. waiting) (none_left k right p) (λ sure is has. same_knows k right s (end_at s p).modes (mode_in r (end_at s p).modes) (verdict_leaves r (end_at s p).modes) has) h
-  answered_is (duties.PlainAck s) r p stands said is h = break_is s 6 r p h
+      item_answered s (item_of index (end_at s p)) r p (item_found (is_joined p.profile) s index (end_at s p) (end_is k right w back s p h).items) (said (inl s) (itself s)) is h
+  answered_is (duties.AckHeard s) r p stands said is h = told_is s fall.AckHeard r p (said (inl s) (itself s)) is h
+  answered_is (duties.PlainAck s) r p stands said is h = plain_ack_is s r p (said (inl s) (itself s)) is h
+  answered_is (duties.SubflowAck s) r p stands said is h = same_goes k right w back s _ _ p refl refl (record { up = λ x. x; waits = λ x. x; past = λ x. x }) (none_left k right w back p) h
+  answered_is (duties.PlainData s) r p stands said is h = told_is s fall.PlainData r p (said (inl s) (itself s)) is h
+  answered_is (duties.GoIdentity s) r p stands said is h =
+      let own = end_is k right w back s p h in let m = own.modes in
+      goes_is k right w back s (in_identity (end_at s p)) (left p) p
+      (record {
+        modes = record { own = m.own; nonce = m.nonce; peer_is = m.peer_is; joins = m.joins; third = m.third; cleared = m.cleared; fell = λ goes. said (inr s) (itself s) };
+        items = own.items;
+        woken = λ joined woken. identity_knows s (end_at s p) (own.woken joined woken);
+        past = own.past;
+      })
+      (λ waiting. waiting) (none_left k right w back p) (λ joined has. identity_knows s (end_at s p) has) h
+  answered_is (duties.Unmapped s) r p stands said is h = break_is s 6 r p h
+  answered_is (duties.SubflowFin s) r p stands said is h = plain_fin_is s (is_fin_set r) p h
   answered_is (duties.Edge s) r p stands said is h = piece_is s (piece_of s p) (is_placed r) p h
   answered_is (duties.HeardFin s index) r p stands said is h = fin_is s (is_fin_set r) p h
-  answered_is (duties.AckOut s) r p stands said is h = same_goes k right s _ _ p refl refl (record { up = λ x. x; waits = λ x. x }) (none_left k right p) h
-  answered_is (duties.Rate s) r p stands said is h = same_goes k right s _ _ p refl refl (record { up = λ x. x; waits = λ x. x }) (none_left k right p) h
+  answered_is (duties.AckOut s) r p stands said is h = same_goes k right w back s _ _ p refl refl (record { up = λ x. x; waits = λ x. x; past = λ x. x }) (none_left k right w back p) h
+  answered_is (duties.Rate s) r p stands said is h = same_goes k right w back s _ _ p refl refl (record { up = λ x. x; waits = λ x. x; past = λ x. x }) (none_left k right w back p) h
   answered_is (duties.Acknowledge s) r p stands said is h =
-      same_sent k right s _ _ _ p (ack_said_is s (end_at s p).tcp.send.nxt None p h) refl refl (record { up = λ x. x; waits = λ x. x }) (none_left k right p) h
+      same_sent k right w back s _ _ _ p (ack_said_is s (end_at s p).tcp.send.nxt None p h) refl refl (record { up = λ x. x; waits = λ x. x; past = λ x. x }) (none_left k right w back p) h
   answered_is (duties.Again s) r p stands said is h =
-      same_sent k right s _ _ _ p (record_or_ack_is k right p.profile s (end_at s p) (end_is k right s p h) (λ sure joined. said sure joined s (itself s)) (first_record (end_at s p))) refl refl
-      (sending_up to_send.First p.clock (end_at s p).tcp) (none_left k right p) h
+      same_sent k right w back s _ _ _ p (record_or_ack_is k right w back p.profile s (end_at s p) (end_is k right w back s p h) (said (inl s) (itself s)) (first_record (end_at s p))) refl refl
+      (sending_up to_send.First p.clock (end_at s p).tcp) (none_left k right w back p) h
   answered_is (duties.Answer s) r p stands said is h =
-      same_sent k right s _ _ _ p (answer_is s p (λ sure joined. said sure joined s (itself s)) h) refl refl (sending_up (answer_occasion (end_at s p)) p.clock (end_at s p).tcp) (none_left k right p) h
-  answered_is (duties.ResetAnswer s) r p stands said is h = same_sent k right s _ _ _ p (Every-nil _) refl refl (record { up = λ x. x; waits = λ x. x }) (none_left k right p) h
+      same_sent k right w back s _ _ _ p (answer_is s p (said (inl s) (itself s)) h) refl refl (sending_up (answer_occasion (end_at s p)) p.clock (end_at s p).tcp) (none_left k right w back p) h
+  answered_is (duties.ResetAnswer s) r p stands said is h = same_sent k right w back s _ _ _ p (Every-nil _) refl refl (record { up = λ x. x; waits = λ x. x; past = λ x. x }) (none_left k right w back p) h
   answered_is (duties.Resend s) r p stands said is h =
-      same_sent k right s _ _ _ p (resend_is s p (λ sure joined. said sure joined s (itself s)) h) refl refl (sending_up (resend_occasion (end_at s p)) p.clock (end_at s p).tcp) (none_left k right p) h
-  answered_is (duties.BreakAck s reason) r p stands said is h = same_goes k right s _ _ p refl refl (record { up = λ x. x; waits = λ x. x }) (λ t spoken. absurd (false≢true spoken)) h
+      same_sent k right w back s _ _ _ p (resend_is s p (said (inl s) (itself s)) h) refl refl (sending_up (resend_occasion (end_at s p)) p.clock (end_at s p).tcp) (none_left k right w back p) h
+  answered_is (duties.BreakAck s reason) r p stands said is h = same_goes k right w back s _ _ p refl refl (record { up = λ x. x; waits = λ x. x; past = λ x. x }) (λ t spoken. absurd (false≢true spoken)) h
   answered_is (duties.BreakReset s reason) r p stands said is h = reset_is s (Some reason) (leaves s) p (λ t spoken. absurd (false≢true spoken)) h
   answered_is (duties.Reset s) r p stands said is h = reset_is s None (leaves s) p (λ t spoken. absurd (false≢true spoken)) h
-  answered_is (duties.Leave s) r p stands said is h = agenda_is k right _ p (λ t spoken. replaced_speaks t (duties.Dead s) p.agenda refl spoken) h
-  answered_is duties.End r p stands said is h = agenda_is k right _ p (λ t spoken. absurd (false≢true spoken)) h
-  answered_is _ r p stands said is h = agenda_is k right _ p (none_left k right p) h
+  answered_is (duties.Leave s) r p stands said is h = agenda_is k right w back _ p (λ t spoken. replaced_speaks t (duties.Dead s) p.agenda refl spoken) h
+  answered_is duties.End r p stands said is h = agenda_is k right w back _ p (λ t spoken. absurd (false≢true spoken)) h
+  answered_is _ r p stands said is h = agenda_is k right w back _ p (none_left k right w back p) h
 
-  settles_is : (p : PathState Carried) → PathIs k right p → PathIs k right (settled p.agenda p)
-  settles_is p h = settled_is p.agenda p (λ sure is t spoken. h.known sure is t spoken) h
+  settles_is : (p : PathState Carried) → PathIs k right w back p → PathIs k right w back (settled p.agenda p)
+  settles_is p h = settled_is p.agenda p (λ x spoken. h.known x spoken) h
 
-  pub takes_is : (r : Reply) (p : PathState Carried) → IsSettled p → ((x : Ask) → asks_of values p ≡ Some x → ReplyIs x r) → PathIs k right p → PathIs k right (takes values r p)
+  pub takes_is : (r : Reply) (p : PathState Carried) → IsSettled p → ((x : Ask) → asks_of values p ≡ Some x → ReplyIs x r) → PathIs k right w back p → PathIs k right w back (takes values r p)
   takes_is r p first is h = by p.agenda refl
     where
-      by : (ds : List Duty) → p.agenda ≡ ds → PathIs k right (settled (answers values ds r p).agenda (answers values ds r p))
+      by : (ds : List Duty) → p.agenda ≡ ds → PathIs k right w back (settled (answers values ds r p).agenda (answers values ds r p))
       by [] same = settles_is p h
       by (d ∷ ds) same =
           settles_is (answered values d r p)
           (answered_is d r p (subst (λ xs. FirstStands xs p) same first)
-          (λ sure joined t spoken. h.known sure joined t (subst (λ xs. speaks t xs ≡ true) (sym same) (first_speaks t d ds spoken)))
+          (λ x spoken. h.known x (subst (λ xs. speaks x xs ≡ true) (sym same) (first_speaks x d ds spoken)))
           (is (ask_for values d p) (ap (λ xs. asks_first values xs p) same)) h)
 
-  pub begins_is : (p : PathState Carried) → PathIs k right p → PathIs k right (begins_turn p)
-  begins_is p h = settled_is start_of_turn (with_agenda start_of_turn p) (λ sure is t spoken. absurd (false≢true spoken)) (agenda_is k right start_of_turn p (λ t spoken. absurd (false≢true spoken)) h)
+  pub begins_is : (p : PathState Carried) → PathIs k right w back p → PathIs k right w back (begins_turn p)
+  begins_is p h = settled_is start_of_turn (with_agenda start_of_turn p) (λ x spoken. absurd (false≢true spoken)) (agenda_is k right w back start_of_turn p (λ t spoken. absurd (false≢true spoken)) h)

@@ -1,5 +1,5 @@
--- Where a script strips nothing, A has B's key as soon as it hears a sign of B that makes its side sure: B's answer to the SYN of
--- path 0 showed it, and a path that joins began with it.
+-- The states of A's end of path 0: as soon as A hears a sign of B that may make its side sure, B's answer to the SYN was heard. And
+-- what the SYNs of a path that joins show.
 use Rattle.std.proofs.Common.{◌≡◌, refl, sym, ◌∙◌, ap, ℕ, zero, suc, ◌+◌, ◌&&◌, ◌||◌, ◌==◌, nat_lt, nat_le, is_some, not, unwrap_or, Bool, true, false, if◌then◌else◌, Option, Some, None, List, [], ◌∷◌, subst}
 use Rattle.std.proofs.lemmas.Bool.{and_parts, and_from, both_ways, or_right, false≢true}
 use Rattle.std.specs.List.{list_all, list_any}
@@ -11,7 +11,6 @@ use Rattle.path_segments.specs.Laws.{meant}
 use Rattle.path_segments.specs.Options.{PlainOption}
 use Rattle.subflow_tcp.specs.Emitting.{is_syn, record_segment, reset_segment, syn_ack_segment}
 use Rattle.path_segments.specs.Spelled.{PlainSegment}
-use Rattle.join_handshake.specs.declared.hearing.JoinAnswer.{JoinAnswer}
 use Rattle.subflow_send.specs.declared.record.RecordKind.{RecordKind}
 use Rattle.subflow_send.specs.declared.record.RecordKind.TheVariants as kinds
 use Rattle.subflow_send.specs.Records.{Record}
@@ -30,30 +29,23 @@ use Rattle.subflow_tcp.specs.Taking.{after_arrival, is_fin_acked, after_acknowle
 use Rattle.subflow_send.specs.declared.record.AckKind.{AckKind}
 use Rattle.subflow_send.specs.declared.record.AckKind.TheVariants as acks
 use Rattle.subflow_send.specs.Rules.{ack_kind, after_acknowledge, sample_of}
-use Rattle.actor_desk.specs.declared.ask.Reply.{Reply}
-use Rattle.actor_desk.specs.Words.{tail_of}
+use Rattle.actor_desk.specs.Words.{is_nil, tail_of}
 use Rattle.path_agenda.specs.Agenda.{heard_and, payload_came, copy_came}
-use Rattle.path_agenda.specs.Items.{key_heard, join_heard}
+use Rattle.path_agenda.specs.Items.{join_heard}
 use Rattle.path_agenda.specs.Words.{replaced}
 use Rattle.path_agenda.specs.declared.duty.Duty.{Duty}
 use Rattle.path_agenda.specs.declared.duty.Duty.TheVariants as duties
-use Rattle.path_agenda.specs.declared.heard.Heard.{Heard}
 use Rattle.path_core.specs.declared.judged.Judged.{Judged}
 use Rattle.path_core.specs.declared.judged.Judged.TheVariants as judged
-use Rattle.path_core.specs.declared.modes.Modes.{Modes}
-use Rattle.path_core.specs.Arriving.{answered_in, cleared_in, items_of, owing_if, reset_by, reset_for, taken_as, template_judged, with_answer, with_payload}
+use Rattle.path_core.specs.Arriving.{items_of, owing_if, reset_by, reset_for, taken_as, template_judged, with_payload}
 use Rattle.path_core.specs.Ends.{PathEnd}
-use Rattle.path_core.specs.Joins.{is_joined, join_answer, join_options}
+use Rattle.path_core.specs.Joins.{is_joined, join_options}
 use Rattle.path_core.specs.Passing.{outgoing_or}
 use Rattle.path_core.specs.Segments.{ack_said, capable_options, record_options, record_or_ack, record_said, segment_of, syn_ack_said, syn_options}
-use Rattle.path_core.specs.Standing.{modes_told}
 use Rattle.path_core.specs.State.{Profile}
-use Rattle.path_core.specs.Treating.{mode_in}
 use Rattle.path_core.specs.Words.{is_side_a}
 use Rattle.path_agenda.specs.declared.heard.JoinStep.TheVariants as step
 use Rattle.world_laws.proofs.KeysWoken.{is_opens}
-use Rattle.world_laws.proofs.KeysRight.{Known}
-use Rattle.world_laws.proofs.KeysHeld.{look_leaves, verdict_leaves}
 use Rattle.world_laws.proofs.KeysWoken.{is_lively}
 
 -- ---- states
@@ -392,32 +384,26 @@ b_template joined count (judged.As (means.Taken pos acknowledged)) = (came_calm 
 
 -- ---- what is said, and heard
 
-abbrev pub HasPeer : PathEnd → Type 0
-HasPeer e = is_some e.modes.peer_key ≡ true
-
--- a SYN of B shows its key on the path that opens the connection; on the others A's asks to join, and B's answers
+-- on a path that joins a SYN of A that shows any options asks to join, and B's answers
 abbrev pub TellsKey : Bool → Side → PlainSegment → Type 0
-TellsKey false A sg = sg.syn ≡ true → is_some (key_heard (items_of false A (meant sg))) ≡ true
-TellsKey false B sg = Unit {0}
-TellsKey true A sg = sg.syn ≡ true → is_some (join_heard step.Answer (items_of true A (meant sg))) ≡ true
-TellsKey true B sg = sg.syn ≡ true → is_some (join_heard step.Syn (items_of true B (meant sg))) ≡ true
+TellsKey false s sg = Unit {0}
+TellsKey true A sg = is_nil sg.options ≡ false → sg.syn ≡ true → is_some (join_heard step.Answer (items_of true A (meant sg))) ≡ true
+TellsKey true B sg = is_nil sg.options ≡ false → sg.syn ≡ true → is_some (join_heard step.Syn (items_of true B (meant sg))) ≡ true
 
 -- a segment without SYN shows none
 pub no_syn : (joined : Bool) (s : Side) (sg : PlainSegment) → sg.syn ≡ false → TellsKey joined (peer s) sg
-no_syn false A sg none = tt
-no_syn false B sg none = λ syn. absurd (both_ways _ none syn)
-no_syn true A sg none = λ syn. absurd (both_ways _ none syn)
-no_syn true B sg none = λ syn. absurd (both_ways _ none syn)
+no_syn false s sg none = tt
+no_syn true A sg none = λ some syn. absurd (both_ways _ none syn)
+no_syn true B sg none = λ some syn. absurd (both_ways _ none syn)
 
 -- a side's options on a SYN
 syn_tells : (c : Profile) (s : Side) (e : PathEnd) (o : Outgoing) (payload : List ℕ) → TellsKey (is_joined c) (peer s) (segment_of c o (syn_options c s e) payload e)
 syn_tells c s e o payload = by (is_joined c) s
   where
     by : (b : Bool) (s : Side) → TellsKey b (peer s) (segment_of c o (if b then join_options c s e.modes else capable_options c s e) payload e)
-    by true A = λ syn. refl
-    by true B = λ syn. refl
-    by false A = tt
-    by false B = λ syn. refl
+    by true A = λ some syn. refl
+    by true B = λ some syn. refl
+    by false s = tt
 
 record_tells : (c : Profile) (s : Side) (e : PathEnd) (r : Record) → TellsKey (is_joined c) (peer s) (record_said c s r e)
 record_tells c s e r = by r.kind refl
@@ -448,13 +434,6 @@ reset_answers c s copy = by copy.acknowledged
 pub outgoing_tells : (c : Profile) (s : Side) (e : PathEnd) (o : Option Outgoing) (options : List PlainOption) → IsNoSyn o → TellsKey (is_joined c) (peer s) (segment_of c (outgoing_or o (reset_segment e.tcp)) options [] e)
 outgoing_tells c s e None options none = no_syn (is_joined c) s (segment_of c (reset_segment e.tcp) options [] e) refl
 outgoing_tells c s e (Some outgoing) options none = no_syn (is_joined c) s (segment_of c outgoing options [] e) none
-
--- what a reply says of the modes leaves the key
-pub look_key : (r : Reply) (m : Modes) → (modes_told r m).peer_key ≡ m.peer_key
-look_key r m = ap (λ (x : Known). x.peer_key) (look_leaves r m)
-
-pub verdict_key : (r : Reply) (m : Modes) → (mode_in r m).peer_key ≡ m.peer_key
-verdict_key r m = ap (λ (x : Known). x.peer_key) (verdict_leaves r m)
 
 -- ---- a copy
 
@@ -495,24 +474,6 @@ apart_stays side means.Ahead hint now c octets s none is = is
 apart_stays side (means.Taken pos acknowledged) hint now c octets s none is =
     let held : EndState = with_payload (means.Taken pos acknowledged) octets s in
     ap (is_apart side) (sym (payload_met (means.Taken pos acknowledged) octets s)) ∙ taken_apart side pos acknowledged hint now c held is
-
--- what a join tells leaves the peer's key
-pub join_key : (m : Meaning) (state : EndPhase) (items : List Heard) (modes : Modes) → (cleared_in m state (answered_in m items modes)).peer_key ≡ modes.peer_key
-join_key (means.Accepts acknowledged) state items modes = by (join_answer items modes)
-  where
-    by : (o : Option JoinAnswer) → (with_answer o modes).peer_key ≡ modes.peer_key
-    by None = refl
-    by (Some answer) = refl
-join_key (means.Taken pos acknowledged) state items modes = refl
-join_key means.Ignored state items modes = refl
-join_key means.Unwanted state items modes = refl
-join_key means.Opens state items modes = refl
-join_key means.RepeatedSyn state items modes = refl
-join_key means.Outside state items modes = refl
-join_key means.Kills state items modes = refl
-join_key means.Challenged state items modes = refl
-join_key means.Unacknowledging state items modes = refl
-join_key means.Ahead state items modes = refl
 
 -- what A does about a copy that isn't accepted on the path that opens: it needs the key for a sign
 pub a_template : (joined : Bool) (count : ℕ) (v : Judged) → (joined ≡ false → is_accepts (taken_as v) ≡ false) → is_calm (template_judged joined A count v) ≡ true

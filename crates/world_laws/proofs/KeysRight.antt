@@ -1,5 +1,5 @@
 -- The keys and nonces that an end keeps, hears and shows are those that were drawn.
-use Rattle.std.proofs.Common.{◌≡◌, refl, sym, ◌∙◌, ap, subst, ℕ, suc, not, ◌||◌, nat_lt, nat_le, is_some, unwrap_or, Bool, true, false, if◌then◌else◌, Option, Some, None, List, [], ◌∷◌, map, ◌^◌}
+use Rattle.std.proofs.Common.{◌≡◌, refl, sym, ◌∙◌, ap, subst, ℕ, suc, ◌-◌, not, ◌||◌, ◌&&◌, nat_lt, nat_le, is_some, unwrap_or, Bool, true, false, if◌then◌else◌, Option, Some, None, List, [], ◌∷◌, map, ◌^◌}
 use Rattle.std.specs.List.{flat_map}
 use Rattle.std.specs.Option.{IfSome, option_map}
 use Rattle.outside_kit.specs.declared.side.Side.{Side}
@@ -20,16 +20,18 @@ use Rattle.path_segments.specs.Spelled.{PlainSegment}
 use Rattle.subflow_send.specs.declared.record.RecordKind.{RecordKind}
 use Rattle.subflow_send.specs.declared.record.RecordKind.TheVariants.{Syn, Data, Fin}
 use Rattle.subflow_send.specs.Records.{Record}
+use Rattle.subflow_tcp.specs.declared.handshake.State.{State as EndPhase}
+use Rattle.subflow_tcp.specs.declared.handshake.State.TheVariants as phase
 use Rattle.subflow_tcp.specs.States.{is_closed_to_segments}
 use Rattle.stream_lanes.specs.Words.{Every}
 use Rattle.stream_lanes.proofs.Lists.{Every-nil, Every-append, Every-push, in_take}
 use Rattle.path_agenda.specs.declared.heard.Heard.{Heard}
 use Rattle.path_agenda.specs.declared.heard.Heard.TheVariants as says
 use Rattle.path_core.specs.declared.modes.Modes.{Modes}
-use Rattle.path_core.specs.Arriving.{ack_items, is_mapping, mapping_items, end_items, map_items, key_items, join_items, items_in, items_of}
+use Rattle.path_core.specs.Arriving.{options_heard, ack_items, is_mapping, mapping_items, end_items, infinite_items, map_items, key_items, join_items, items_in, items_of}
 use Rattle.path_core.specs.Ends.{PathEnd}
 use Rattle.path_core.specs.Joins.{is_joined, peer_key_of, join_options, third_options}
-use Rattle.path_core.specs.Segments.{capable_options, syn_options, key_options, opening_options, ack_options, end_mapping, is_first_piece, first_piece_options, piece_options, piece_mapping, record_options, reset_options, ack_said, syn_ack_said, record_or_ack}
+use Rattle.path_core.specs.Segments.{capable_options, syn_options, key_options, opening_options, ack_options, end_mapping, is_first_piece, first_piece_options, piece_options, piece_mapping, owes_mapping, plain_options, fin_options, record_options, reset_options, reset_said, ack_said, syn_ack_said, record_or_ack}
 use Rattle.path_core.specs.State.{Profile}
 
 every_one : {X : Type 0} {P : X → Type 0} (x : X) → P x → Every P (x ∷ [])
@@ -49,13 +51,41 @@ pub record Known : Type 0 where
   pub own_nonce : ℕ
   pub peer_nonce : ℕ
   pub owes_third : Bool
+  pub clear : Bool
+  pub identity : Bool
 
 abbrev pub known_in : Modes → Known
-known_in m = record { own_key = m.own_key; peer_key = m.peer_key; own_nonce = m.own_nonce; peer_nonce = m.peer_nonce; owes_third = m.owes_third }
+known_in m = record { own_key = m.own_key; peer_key = m.peer_key; own_nonce = m.own_nonce; peer_nonce = m.peer_nonce; owes_third = m.owes_third; clear = m.clear; identity = m.identity }
 
 -- it began, and maybe died since; or its timer runs
 abbrev pub is_woken : PathEnd → Bool
 is_woken e = not (is_closed_to_segments e.tcp.state) || is_some e.tcp.timing.timer
+
+-- the peer's SYN came, and it isn't dead
+abbrev pub is_past : EndPhase → Bool
+is_past phase.Waiting = false
+is_past phase.Listen = false
+is_past phase.SynSent = false
+is_past phase.Dead = false
+is_past _ = true
+
+-- what is said of B's side alone
+abbrev pub OfB : Side → Type 0 → Type 0
+OfB A P = Unit {0}
+OfB B P = P
+
+pub of_b : (s : Side) (P : Type 0) → P → OfB s P
+of_b A P is = tt
+of_b B P is = is
+
+-- the forms that an end of this side hears
+abbrev pub IsFor : Side → JoinForm → Type 0
+IsFor A (Answer backup id hmac nonce) = Unit {0}
+IsFor A (JoinSyn backup id token nonce) = ⊥
+IsFor A (Third hmac) = ⊥
+IsFor B (Answer backup id hmac nonce) = ⊥
+IsFor B (JoinSyn backup id token nonce) = Unit {0}
+IsFor B (Third hmac) = Unit {0}
 
 -- What is drawn, and whether each join began with the peer's key.
 module _ (k : Secrets) (right : Bool) where
@@ -90,23 +120,6 @@ module _ (k : Secrets) (right : Bool) where
       (hmac ≡ join_b64_of (drawn_key (peer s)) (drawn_key s) (drawn_nonce (peer s)) (drawn_nonce s)) × (nonce ≡ drawn_nonce s)
   JoinIs s (Third hmac) = hmac ≡ join_a160_of (drawn_key s) (drawn_key (peer s)) (drawn_nonce s) (drawn_nonce (peer s))
 
-  -- an MP_JOIN is said on a path that joins alone
-  abbrev pub OptionIs : Bool → Side → PlainOption → Type 0
-  OptionIs joined s (Capable flag_a flag_c keys) = sure_if joined ≡ true → KeysAre s keys
-  OptionIs joined s (Join form) = (joined ≡ true) × (sure_if joined ≡ true → JoinIs s form)
-  OptionIs joined s _ = Unit {0}
-
-  abbrev pub SegmentIs : Profile → Side → PlainSegment → Type 0
-  SegmentIs c s sg = Every (OptionIs (is_joined c) s) sg.options
-
-  -- ---- what was heard by an end of this side
-
-  abbrev pub ItemIs : Bool → Side → Heard → Type 0
-  ItemIs joined s (says.Keys own other) = (own ≡ drawn_key s) × (other ≡ drawn_key (peer s))
-  ItemIs joined s (says.PeerKey key) = key ≡ drawn_key (peer s)
-  ItemIs joined s (says.Join form) = (joined ≡ true) × (sure_if joined ≡ true → JoinIs (peer s) form)
-  ItemIs joined s _ = Unit {0}
-
   -- ---- an end
 
   -- it has the peer's key; and both the peer's key and its nonce
@@ -116,138 +129,215 @@ module _ (k : Secrets) (right : Bool) where
   abbrev pub HasMet : Side → Modes → Type 0
   HasMet s m = HasKey s m × (m.peer_nonce ≡ drawn_nonce (peer s))
 
-  -- what it has to know for its SYN
+  -- what it has to know for its SYN, where each join began with the right key
+  abbrev pub Needs : Side → Modes → Type 0
+  Needs A m = HasKey A m
+  Needs B m = HasMet B m
+
+  pub met_needs : (s : Side) (m : Modes) → HasMet s m → Needs s m
+  met_needs A m h = h.0
+  met_needs B m h = h
+
+  pub same_needs : (s : Side) (m n : Modes) → known_in n ≡ known_in m → Needs s m → Needs s n
+  same_needs A m n same h = ap (λ (x : Known). x.peer_key) same ∙ h
+  same_needs B m n same h = (ap (λ (x : Known). x.peer_key) same ∙ h.0, ap (λ (x : Known). x.peer_nonce) same ∙ h.1)
+
+  pub needs_key : (s : Side) (m : Modes) → Needs s m → HasKey s m
+  needs_key A m h = h
+  needs_key B m h = h.0
+
+-- And that the control book of a side began a join, or answered one; and that it fell back to plain TCP.
+module _ (k : Secrets) (right : Bool) (w back : Side → Type 0) where
+  -- an MP_JOIN is said on a path that joins alone, by a side that joined; and there B says a DSS once it answered
+  abbrev pub OptionIs : Bool → Side → PlainOption → Type 0
+  OptionIs joined s (Capable flag_a flag_c keys) = sure_if k right joined ≡ true → KeysAre k right s keys
+  OptionIs joined s (Join form) = (joined ≡ true) × (w s × (right ≡ true → JoinIs k right s form))
+  OptionIs joined s (Dss next mapping) = joined ≡ true → OfB s (w B)
+  OptionIs joined s _ = Unit {0}
+
+  abbrev pub SegmentIs : Profile → Side → PlainSegment → Type 0
+  SegmentIs c s sg = Every (OptionIs (is_joined c) s) sg.options
+
+  -- ---- what was heard by an end of this side
+
+  abbrev pub ItemIs : Bool → Side → Heard → Type 0
+  ItemIs joined s (says.Keys own other) = (joined ≡ false) × ((own ≡ drawn_key k right s) × (other ≡ drawn_key k right (peer s)))
+  ItemIs joined s (says.PeerKey key) = key ≡ drawn_key k right (peer s)
+  ItemIs joined s (says.Join form) = (joined ≡ true) × (IsFor s form × (w (peer s) × (right ≡ true → JoinIs k right (peer s) form)))
+  ItemIs joined s says.Dss = joined ≡ true → OfB (peer s) (w B)
+  ItemIs joined s _ = Unit {0}
+
+  -- ---- an end
+
+  -- its side joined, and it knows that
   abbrev pub Knows : Side → Modes → Type 0
-  Knows A m = HasKey A m
-  Knows B m = HasMet B m
+  Knows s m = w s × (right ≡ true → Needs k right s m)
 
   pub record ModesAre (joined : Bool) (s : Side) (m : Modes) : Type 0 where
-    pub own : m.own_key ≡ drawn_key s
-    pub nonce : m.own_nonce ≡ drawn_nonce s
-    pub peer_is : sure_if joined ≡ true → IfSome m.peer_key (λ key. key ≡ drawn_key (peer s))
+    pub own : m.own_key ≡ drawn_key k right s
+    pub nonce : m.own_nonce ≡ drawn_nonce k right s
+    pub peer_is : sure_if k right joined ≡ true → IfSome m.peer_key (λ key. key ≡ drawn_key k right (peer s))
     pub joins : m.owes_third ≡ true → joined ≡ true
-    pub third : sure_if joined ≡ true → m.owes_third ≡ true → HasMet s m
+    pub third : m.owes_third ≡ true → w s × (right ≡ true → HasMet k right s m)
+    pub cleared : joined ≡ true → m.clear ≡ true → w B
+    pub fell : m.identity ≡ true → (joined ≡ false) × back s
 
   pub record EndIs (joined : Bool) (s : Side) (e : PathEnd) : Type 0 where
     pub modes : ModesAre joined s e.modes
     pub items : Every (ItemIs joined s) e.treated.items
-    pub woken : sure_if joined ≡ true → joined ≡ true → is_woken e ≡ true → Knows s e.modes
-
-  pub met_knows : (s : Side) (m : Modes) → HasMet s m → Knows s m
-  met_knows A m h = h.0
-  met_knows B m h = h
+    pub woken : joined ≡ true → is_woken e ≡ true → Knows s e.modes
+    pub past : joined ≡ true → is_past e.tcp.state ≡ true → w B
 
   pub same_knows : (s : Side) (m n : Modes) → known_in n ≡ known_in m → Knows s m → Knows s n
-  same_knows A m n same h = ap (λ (x : Known). x.peer_key) same ∙ h
-  same_knows B m n same h = (ap (λ (x : Known). x.peer_key) same ∙ h.0, ap (λ (x : Known). x.peer_nonce) same ∙ h.1)
-
-  pub knows_key : (s : Side) (m : Modes) → Knows s m → HasKey s m
-  knows_key A m h = h
-  knows_key B m h = h.0
+  same_knows s m n same h = (h.0, λ sure. same_needs k right s m n same (h.1 sure))
 
   pub same_modes : (joined : Bool) (s : Side) (m n : Modes) → known_in n ≡ known_in m → ModesAre joined s m → ModesAre joined s n
   same_modes joined s m n same h = record {
     own = ap (λ (x : Known). x.own_key) same ∙ h.own;
     nonce = ap (λ (x : Known). x.own_nonce) same ∙ h.nonce;
-    peer_is = λ sure. subst (λ o. IfSome o (λ key. key ≡ drawn_key (peer s))) (sym (ap (λ (x : Known). x.peer_key) same)) (h.peer_is sure);
+    peer_is = λ sure. subst (λ o. IfSome o (λ key. key ≡ drawn_key k right (peer s))) (sym (ap (λ (x : Known). x.peer_key) same)) (h.peer_is sure);
     joins = λ owes. h.joins (sym (ap (λ (x : Known). x.owes_third) same) ∙ owes);
-    third = λ sure owes. let met = h.third sure (sym (ap (λ (x : Known). x.owes_third) same) ∙ owes) in
-        (ap (λ (x : Known). x.peer_key) same ∙ met.0, ap (λ (x : Known). x.peer_nonce) same ∙ met.1);
+    third = λ owes. let knows = h.third (sym (ap (λ (x : Known). x.owes_third) same) ∙ owes) in
+        (knows.0, λ sure. let met = knows.1 sure in (ap (λ (x : Known). x.peer_key) same ∙ met.0, ap (λ (x : Known). x.peer_nonce) same ∙ met.1));
+    cleared = λ joins is. h.cleared joins (sym (ap (λ (x : Known). x.clear) same) ∙ is);
+    fell = λ is. h.fell (sym (ap (λ (x : Known). x.identity) same) ∙ is);
   }
 
   -- an end that knows the same, to which the same was said, and which didn't wake
   pub same_end : (joined : Bool) (s : Side) (e f : PathEnd) → known_in f.modes ≡ known_in e.modes → f.treated.items ≡ e.treated.items
-      → (is_woken f ≡ true → is_woken e ≡ true) → EndIs joined s e → EndIs joined s f
-  same_end joined s e f same items awake h = record {
+      → (is_woken f ≡ true → is_woken e ≡ true) → (is_past f.tcp.state ≡ true → is_past e.tcp.state ≡ true) → EndIs joined s e → EndIs joined s f
+  same_end joined s e f same items awake past h = record {
     modes = same_modes joined s e.modes f.modes same h.modes;
     items = subst (Every (ItemIs joined s)) (sym items) h.items;
-    woken = λ sure is woken. same_knows s e.modes f.modes same (h.woken sure is (awake woken));
+    woken = λ is woken. same_knows s e.modes f.modes same (h.woken is (awake woken));
+    past = λ is so. h.past is (past so);
   }
 
   -- ---- what it sends
 
   module _ (c : Profile) (s : Side) (e : PathEnd) (h : EndIs (is_joined c) s e) where
-    keys_say : (s : Side) (o : Option ℕ) → e.modes.own_key ≡ drawn_key s → (is_sure_on c ≡ true → IfSome o (λ key. key ≡ drawn_key (peer s)))
+    keys_say : (s : Side) (o : Option ℕ) → e.modes.own_key ≡ drawn_key k right s → (is_sure_on k right c ≡ true → IfSome o (λ key. key ≡ drawn_key k right (peer s)))
         → Every (OptionIs (is_joined c) s) (key_options c s o e)
     keys_say A (Some key) own is = every_one _ (λ sure. (own, is sure))
     keys_say A None own is = Every-nil _
     keys_say B o own is = Every-nil _
 
-    third_is : is_joined c ≡ true → (is_sure_on c ≡ true → HasMet s e.modes) → Every (OptionIs (is_joined c) s) (third_options e.modes)
-    third_is joins met = every_one _ (
+    third_is : is_joined c ≡ true → w s × (right ≡ true → HasMet k right s e.modes) → Every (OptionIs (is_joined c) s) (third_options e.modes)
+    third_is joins knows = every_one _ (
       joins,
-      λ sure.
-          let both = met sure in
-          ap (λ n. join_a160_of n (peer_key_of e.modes) e.modes.own_nonce e.modes.peer_nonce) h.modes.own
-          ∙ ap (λ o. join_a160_of (drawn_key s) (unwrap_or o 0) e.modes.own_nonce e.modes.peer_nonce) both.0
-          ∙ ap (λ n. join_a160_of (drawn_key s) (drawn_key (peer s)) n e.modes.peer_nonce) h.modes.nonce
-          ∙ ap (λ n. join_a160_of (drawn_key s) (drawn_key (peer s)) (drawn_nonce s) n) both.1,
+      (
+        knows.0,
+        λ sure.
+            let both = knows.1 sure in
+            ap (λ n. join_a160_of n (peer_key_of e.modes) e.modes.own_nonce e.modes.peer_nonce) h.modes.own
+            ∙ ap (λ o. join_a160_of (drawn_key k right s) (unwrap_or o 0) e.modes.own_nonce e.modes.peer_nonce) both.0
+            ∙ ap (λ n. join_a160_of (drawn_key k right s) (drawn_key k right (peer s)) n e.modes.peer_nonce) h.modes.nonce
+            ∙ ap (λ n. join_a160_of (drawn_key k right s) (drawn_key k right (peer s)) (drawn_nonce k right s) n) both.1,
+      ),
     )
 
     opening_is : Every (OptionIs (is_joined c) s) (opening_options c s e)
     opening_is = by e.modes.owes_third refl
       where
         by : (b : Bool) → e.modes.owes_third ≡ b → Every (OptionIs (is_joined c) s) (if b then third_options e.modes else key_options c s e.modes.peer_key e)
-        by true owes = third_is (h.modes.joins owes) (λ sure. h.modes.third sure owes)
+        by true owes = third_is (h.modes.joins owes) (h.modes.third owes)
         by false owes = keys_say s e.modes.peer_key h.modes.own h.modes.peer_is
 
     ack_options_are : (fin : Option ℕ) → Every (OptionIs (is_joined c) s) (ack_options c s fin e)
-    ack_options_are fin = by e.modes.clear
+    ack_options_are fin = by e.modes.identity e.modes.clear refl
       where
-        by : (b : Bool) → Every (OptionIs (is_joined c) s) (if b then Dss (Some e.receiving.next) (end_mapping c s fin) ∷ [] else opening_options c s e)
-        by true = every_one _ tt
-        by false = opening_is
+        by : (fell b : Bool) → e.modes.clear ≡ b
+            → Every (OptionIs (is_joined c) s) (if fell then [] else (if b then Dss (Some e.receiving.next) (end_mapping c s fin) ∷ [] else opening_options c s e))
+        by true b is = Every-nil _
+        by false true is = every_one _ (λ joins. of_b s (w B) (h.modes.cleared joins is))
+        by false false is = opening_is
 
-    first_are : (o : Option ℕ) (r : Record) → (is_sure_on c ≡ true → IfSome o (λ key. key ≡ drawn_key (peer s)))
+    first_are : (o : Option ℕ) (r : Record) → (is_sure_on k right c ≡ true → IfSome o (λ key. key ≡ drawn_key k right (peer s)))
         → Every (OptionIs (is_joined c) s) (first_piece_options c o r e)
     first_are (Some key) r is = every_one _ (λ sure. (h.modes.own, is sure))
     first_are None r is = Every-nil _
-
-    piece_options_are : (r : Record) → Every (OptionIs (is_joined c) s) (piece_options c s r e)
-    piece_options_are r = by (is_first_piece s r e)
-      where
-        by : (b : Bool) → Every (OptionIs (is_joined c) s) (if b then first_piece_options c e.modes.peer_key r e else Dss (Some e.receiving.next) (Some (piece_mapping c s r)) ∷ [])
-        by true = first_are e.modes.peer_key r h.modes.peer_is
-        by false = every_one _ tt
 
     pub reset_options_are : (reason : Option ℕ) → Every (OptionIs (is_joined c) s) (reset_options reason)
     reset_options_are None = Every-nil _
     reset_options_are (Some reason) = every_one _ tt
 
+    pub reset_is : (reason : Option ℕ) → SegmentIs c s (reset_said c reason e)
+    reset_is reason = by e.modes.identity
+      where
+        by : (fell : Bool) → Every (OptionIs (is_joined c) s) (if fell then [] else reset_options reason)
+        by true = Every-nil _
+        by false = reset_options_are reason
+
     pub ack_is : (position : ℕ) (fin : Option ℕ) → SegmentIs c s (ack_said c s position fin e)
     ack_is position fin = ack_options_are fin
 
-    -- where it knows what it has to, its SYN is right
-    module _ (knows : is_sure_on c ≡ true → is_joined c ≡ true → Knows s e.modes) where
-      capable_is : (s : Side) → e.modes.own_key ≡ drawn_key s → Every (OptionIs false s) (capable_options c s e)
-      capable_is A own = every_one _ (λ is. tt)
-      capable_is B own = every_one _ (λ is. own)
+    -- where it knows what it has to, its SYN is right, and so is its DSS
+    module _ (knows : is_joined c ≡ true → Knows s e.modes) where
+      pub dss_known : is_joined c ≡ true → OfB s (w B)
+      dss_known joins = by s (knows joins)
+        where
+          by : (s : Side) → Knows s e.modes → OfB s (w B)
+          by A has = tt
+          by B has = has.0
 
-      join_is : (s : Side) → e.modes.own_key ≡ drawn_key s → e.modes.own_nonce ≡ drawn_nonce s → (right ≡ true → Knows s e.modes)
-          → Every (OptionIs true s) (join_options c s e.modes)
-      join_is A own nonce has = every_one _ (refl, λ is. (ap (λ o. token_of (unwrap_or o 0)) (has is), nonce))
+      plain_are : (position : ℕ) → Every (OptionIs (is_joined c) s) (plain_options position e)
+      plain_are position = by (owes_mapping e)
+        where
+          by : (owes : Bool) → Every (OptionIs (is_joined c) s) (if owes then Dss None (Some (Infinite (position - 1) position)) ∷ [] else [])
+          by true = every_one _ dss_known
+          by false = Every-nil _
+
+      piece_options_are : (r : Record) → Every (OptionIs (is_joined c) s) (piece_options c s r e)
+      piece_options_are r = by e.modes.identity (is_first_piece s r e)
+        where
+          by : (fell b : Bool) → Every (OptionIs (is_joined c) s)
+              (if fell then plain_options r.pos e else (if b then first_piece_options c e.modes.peer_key r e else Dss (Some e.receiving.next) (Some (piece_mapping c s r)) ∷ []))
+          by true b = plain_are r.pos
+          by false true = first_are e.modes.peer_key r h.modes.peer_is
+          by false false = every_one _ dss_known
+
+      pub fin_options_are : (position : ℕ) → Every (OptionIs (is_joined c) s) (fin_options position e)
+      fin_options_are position = by e.modes.identity
+        where
+          by : (fell : Bool) → Every (OptionIs (is_joined c) s) (if fell then plain_options position e else Dss (Some e.receiving.next) None ∷ [])
+          by true = plain_are position
+          by false = every_one _ dss_known
+
+      capable_is : (s : Side) → e.modes.own_key ≡ drawn_key k right s → Every (OptionIs false s) (capable_options c s e)
+      capable_is A own = every_one _ (λ is. tt)
+      capable_is B own = by (e.modes.capable_asked && not e.modes.identity)
+        where
+          by : (asked : Bool) → Every (OptionIs false B) (if asked then Capable c.spelling.checksums false (Sender e.modes.own_key) ∷ [] else [])
+          by true = every_one _ (λ is. own)
+          by false = Every-nil _
+
+      join_is : (s : Side) → e.modes.own_key ≡ drawn_key k right s → e.modes.own_nonce ≡ drawn_nonce k right s → Knows s e.modes → Every (OptionIs true s) (join_options c s e.modes)
+      join_is A own nonce has = every_one _ (refl, (has.0, λ is. (ap (λ o. token_of (unwrap_or o 0)) (has.1 is), nonce)))
       join_is B own nonce has = every_one _ (
         refl,
-        λ is. let both = has is in (
-          ap (λ n. join_b64_of (peer_key_of e.modes) n e.modes.peer_nonce e.modes.own_nonce) own
-              ∙ ap (λ o. join_b64_of (unwrap_or o 0) k.key_b e.modes.peer_nonce e.modes.own_nonce) both.0
-              ∙ ap (λ n. join_b64_of k.key_a k.key_b n e.modes.own_nonce) both.1
-              ∙ ap (λ n. join_b64_of k.key_a k.key_b k.nonce_a n) nonce,
-          nonce,
+        (
+          has.0,
+          λ is. let both = has.1 is in (
+            ap (λ n. join_b64_of (peer_key_of e.modes) n e.modes.peer_nonce e.modes.own_nonce) own
+                ∙ ap (λ o. join_b64_of (unwrap_or o 0) k.key_b e.modes.peer_nonce e.modes.own_nonce) both.0
+                ∙ ap (λ n. join_b64_of k.key_a k.key_b n e.modes.own_nonce) both.1
+                ∙ ap (λ n. join_b64_of k.key_a k.key_b k.nonce_a n) nonce,
+            nonce,
+          ),
         ),
       )
 
       syn_options_are : Every (OptionIs (is_joined c) s) (syn_options c s e)
       syn_options_are = by (is_joined c) knows
         where
-          by : (b : Bool) → (sure_if b ≡ true → b ≡ true → Knows s e.modes) → Every (OptionIs b s) (if b then join_options c s e.modes else capable_options c s e)
-          by true has = join_is s h.modes.own h.modes.nonce (λ sure. has sure refl)
+          by : (b : Bool) → (b ≡ true → Knows s e.modes) → Every (OptionIs b s) (if b then join_options c s e.modes else capable_options c s e)
+          by true has = join_is s h.modes.own h.modes.nonce (has refl)
           by false has = capable_is s h.modes.own
 
       record_options_are : (kind : RecordKind) (r : Record) → Every (OptionIs (is_joined c) s) (record_options kind c s r e)
       record_options_are Syn r = syn_options_are
       record_options_are Data r = piece_options_are r
-      record_options_are Fin r = every_one _ tt
+      record_options_are Fin r = fin_options_are r.pos
 
       pub syn_ack_is : SegmentIs c s (syn_ack_said c s e)
       syn_ack_is = syn_options_are
@@ -282,6 +372,13 @@ module _ (k : Secrets) (right : Bool) where
         by true = every_one _ tt
         by false = Every-nil _
 
+    infinite_items_are : (s : Side) (place : ℕ) → Every (ItemIs joined s) (infinite_items place)
+    infinite_items_are s place = by (nat_lt place (2 ^ 62))
+      where
+        by : (b : Bool) → Every (ItemIs joined s) (if b then says.InfiniteMapping ∷ [] else [])
+        by true = every_one _ tt
+        by false = Every-nil _
+
     map_items_are : (s : Side) (o : Option (PathMapping (Option ℕ))) → Every (ItemIs joined s) (map_items o)
     map_items_are s None = Every-nil _
     map_items_are s (Some (Bytes (Some place) (Some position) len false checksum)) = mapping_items_are s place position len
@@ -290,38 +387,39 @@ module _ (k : Secrets) (right : Bool) where
     map_items_are s (Some (Bytes None position len fin checksum)) = Every-nil _
     map_items_are s (Some (End (Some place) checksum)) = end_items_are s place
     map_items_are s (Some (End None checksum)) = Every-nil _
-    map_items_are s (Some (Infinite place position)) = Every-nil _
+    map_items_are s (Some (Infinite (Some place) position)) = infinite_items_are s place
+    map_items_are s (Some (Infinite None position)) = Every-nil _
 
-    key_items_are : (s : Side) (keys : CapableKeys) → KeysAre (peer s) keys → Every (ItemIs joined s) (key_items s keys)
-    key_items_are A NoKey h = Every-nil _
-    key_items_are A (Sender sender) h = every_one _ h
-    key_items_are A (Both sender receiver) h = Every-nil _
-    key_items_are A (WithData sender receiver len checksum) h = Every-nil _
-    key_items_are B NoKey h = Every-nil _
-    key_items_are B (Sender sender) h = Every-nil _
-    key_items_are B (Both sender receiver) h = every_one _ (h.1, h.0)
-    key_items_are B (WithData sender receiver len checksum) h = Every-append {xs = says.Keys receiver sender ∷ []} (every_one _ (h.1, h.0)) (mapping_items_are B 0 1 len)
-
-    join_items_are : (s : Side) (form : JoinForm) → (joined ≡ true) × (sure_if joined ≡ true → JoinIs (peer s) form) → Every (ItemIs joined s) (join_items s form)
-    join_items_are A (Answer backup id hmac nonce) h = every_one _ h
+    join_items_are : (s : Side) (form : JoinForm) → (joined ≡ true) × (w (peer s) × (right ≡ true → JoinIs k right (peer s) form)) → Every (ItemIs joined s) (join_items s form)
+    join_items_are A (Answer backup id hmac nonce) h = every_one _ (h.0, (tt, h.1))
     join_items_are A (JoinSyn backup id token nonce) h = Every-nil _
     join_items_are A (Third hmac) h = Every-nil _
-    join_items_are B (JoinSyn backup id token nonce) h = every_one _ h
-    join_items_are B (Third hmac) h = every_one _ h
+    join_items_are B (JoinSyn backup id token nonce) h = every_one _ (h.0, (tt, h.1))
+    join_items_are B (Third hmac) h = every_one _ (h.0, (tt, h.1))
     join_items_are B (Answer backup id hmac nonce) h = Every-nil _
 
+  key_items_are : (s : Side) (keys : CapableKeys) → KeysAre k right (peer s) keys → Every (ItemIs false s) (key_items s keys)
+  key_items_are A NoKey h = Every-nil _
+  key_items_are A (Sender sender) h = every_one _ h
+  key_items_are A (Both sender receiver) h = Every-nil _
+  key_items_are A (WithData sender receiver len checksum) h = Every-nil _
+  key_items_are B NoKey h = Every-nil _
+  key_items_are B (Sender sender) h = Every-nil _
+  key_items_are B (Both sender receiver) h = every_one _ (refl, (h.1, h.0))
+  key_items_are B (WithData sender receiver len checksum) h = Every-append {xs = says.Keys receiver sender ∷ []} (every_one _ (refl, (h.1, h.0))) (mapping_items_are false B 0 1 len)
+
   -- MP_CAPABLE says nothing on a path that joins
-  capable_heard : (joined : Bool) (s : Side) (keys : CapableKeys) → (sure_if joined ≡ true → KeysAre (peer s) keys)
+  capable_heard : (joined : Bool) (s : Side) (keys : CapableKeys) → (sure_if k right joined ≡ true → KeysAre k right (peer s) keys)
       → Every (ItemIs joined s) (if joined then [] else key_items s keys)
   capable_heard true s keys h = Every-nil _
-  capable_heard false s keys h = key_items_are false s keys (h refl)
+  capable_heard false s keys h = key_items_are s keys (h refl)
 
   module _ (joined : Bool) where
     items_in_are : (s : Side) (window : ℕ) (o : PlainOption) → OptionIs joined (peer s) o
         → Every (ItemIs joined s) (items_in joined s window (meant_option o))
     items_in_are s window (Capable flag_a flag_c keys) h = capable_heard joined s keys h
     items_in_are s window (Dss next mapping) h =
-        Every-append {xs = says.Dss ∷ []} (every_one _ tt)
+        Every-append {xs = says.Dss ∷ []} (every_one _ h)
         (Every-append (ack_items_are joined s (option_map (λ n. Some n) next) window) (map_items_are joined s (option_map meant_mapping mapping)))
     items_in_are s window (Join form) h = join_items_are joined s form h
     items_in_are s window (AddAddr echo id address port hmac) h = Every-nil _
@@ -341,3 +439,11 @@ module _ (k : Secrets) (right : Bool) where
     items_are s sg h =
         let all = all_items s (meant sg).window sg.options h in
         record { each = λ i x at. all.each i x (in_take 10 _ i x at).0 }
+
+    -- after a fallback nothing is heard
+    pub heard_items_are : (s : Side) (e : PathEnd) (sg : PlainSegment) → Every (OptionIs joined (peer s)) sg.options → Every (ItemIs joined s) (items_of joined s (options_heard e (meant sg)))
+    heard_items_are s e sg h = by e.modes.identity
+      where
+        by : (fell : Bool) → Every (ItemIs joined s) (items_of joined s (record (meant sg) { options = (if fell then [] else (meant sg).options) }))
+        by true = Every-nil _
+        by false = items_are s sg h

@@ -1,5 +1,5 @@
 -- Which steps wake an end, and which duties say what an end that began says.
-use Rattle.std.proofs.Common.{◌≡◌, refl, sym, ◌∙◌, ap, subst, ℕ, zero, suc, ◌+◌, not, ◌||◌, ◌&&◌, nat_lt, nat_le, is_some, IsSome, Bool, true, false, if◌then◌else◌, Option, Some, None, List, [], ◌∷◌}
+use Rattle.std.proofs.Common.{◌≡◌, refl, sym, ◌∙◌, ap, subst, ℕ, zero, suc, ◌+◌, not, ◌||◌, ◌&&◌, nat_lt, nat_le, is_some, IsSome, ◌⊎◌, inl, inr, Bool, true, false, if◌then◌else◌, Option, Some, None, List, [], ◌∷◌}
 use Rattle.std.proofs.lemmas.Bool.{false≢true}
 use Rattle.std.specs.List.{list_any}
 use Rattle.std.specs.Option.{IfSome, option_and_then}
@@ -41,9 +41,9 @@ use Rattle.link_model.specs.declared.flight.Due.{Due}
 use Rattle.link_model.specs.Steps.{next_due}
 use Rattle.path_core.specs.declared.event.Event.{Event}
 use Rattle.path_core.specs.State.{PathState, end_at}
-use Rattle.path_core.specs.Values.{Carried}
 use Rattle.path_core.specs.Joins.{join_asked, join_answer}
 use Rattle.path_core.specs.declared.judged.Judged.TheVariants as judged
+use Rattle.world_laws.proofs.KeysRight.{is_past}
 
 -- ---- an end
 
@@ -52,24 +52,35 @@ abbrev pub is_up : EndState → Bool
 is_up s = not (is_closed_to_segments s.state) || is_some s.timing.timer
 
 -- the second is up only where the first is, and waits only where the first does
-pub record NoWaking (s t : EndState) : Type 0 where
+pub record Sleeps (s t : EndState) : Type 0 where
   pub up : is_up t ≡ true → is_up s ≡ true
   pub waits : is_waiting t.state ≡ true → is_waiting s.state ≡ true
 
-then_no_waking : (s t u : EndState) → NoWaking s t → NoWaking t u → NoWaking s u
-then_no_waking s t u x y = record { up = λ is. x.up (y.up is); waits = λ is. x.waits (y.waits is) }
+-- and the peer's SYN came only where it had come to the first
+pub record NoWaking (s t : EndState) : Type 0 where
+  pub up : is_up t ≡ true → is_up s ≡ true
+  pub waits : is_waiting t.state ≡ true → is_waiting s.state ≡ true
+  pub past : is_past t.state ≡ true → is_past s.state ≡ true
+
+then_sleeps : (s t u : EndState) → Sleeps s t → Sleeps t u → Sleeps s u
+then_sleeps s t u x y = record { up = λ is. x.up (y.up is); waits = λ is. x.waits (y.waits is) }
 
 -- as open as the other, with the same timer
 pub record Alike (s t : EndState) : Type 0 where
   pub state : is_closed_to_segments t.state ≡ is_closed_to_segments s.state
   pub waits : is_waiting t.state ≡ is_waiting s.state
+  pub past : is_past t.state ≡ is_past s.state
   pub timer : t.timing.timer ≡ s.timing.timer
 
 pub alike_up : (s t : EndState) → Alike s t → NoWaking s t
 alike_up s t x = record {
   up = λ up. ap (λ b. not b || is_some s.timing.timer) (sym x.state) ∙ ap (λ o. not (is_closed_to_segments t.state) || is_some o) (sym x.timer) ∙ up;
   waits = λ is. sym x.waits ∙ is;
+  past = λ is. sym x.past ∙ is;
 }
+
+alike_sleeps : (s t : EndState) → Alike s t → Sleeps s t
+alike_sleeps s t x = let up = alike_up s t x in record { up = up.up; waits = up.waits }
 
 pub open_is_up : (s : EndState) → is_closed_to_segments s.state ≡ false → is_up s ≡ true
 open_is_up s is_open = ap (λ b. not b || is_some s.timing.timer) is_open
@@ -84,21 +95,21 @@ timed_is_up s timed = by (is_closed_to_segments s.state) s.timing.timer timed
 
 -- the timer is settled where the end is open
 pub timer_up : (now : ℕ) (e : PathEnd) → NoWaking e.tcp (after_timer now e).tcp
-timer_up now e = record { up = by (is_closed_to_segments e.tcp.state) _; waits = λ is. is }
+timer_up now e = record { up = by (is_closed_to_segments e.tcp.state) _; waits = λ is. is; past = λ is. is }
   where
     by : (b on : Bool) → not b || is_some (timer_settled (not b && on) e.sending.news now e.tcp.timing) ≡ true → not b || is_some e.tcp.timing.timer ≡ true
     by false on up = refl
     by true on up = absurd (false≢true up)
 
 pub sending_up : (o : Occasion) (now : ℕ) (s : EndState) → NoWaking s (after_sending o now s)
-sending_up to_send.Reset now s = record { up = λ up. up; waits = λ is. is }
-sending_up to_send.Answer now s = record { up = λ up. up; waits = λ is. is }
-sending_up to_send.SynAck now s = record { up = λ up. up; waits = λ is. is }
-sending_up to_send.Ack now s = record { up = λ up. up; waits = λ is. is }
-sending_up to_send.Probe now s = record { up = λ up. up; waits = λ is. is }
-sending_up to_send.First now s = record { up = λ up. up; waits = λ is. is }
-sending_up to_send.Unsent now s = record { up = λ up. up; waits = λ is. is }
-sending_up to_send.Fin now s = record { up = λ up. up; waits = λ is. is }
+sending_up to_send.Reset now s = record { up = λ up. up; waits = λ is. is; past = λ is. is }
+sending_up to_send.Answer now s = record { up = λ up. up; waits = λ is. is; past = λ is. is }
+sending_up to_send.SynAck now s = record { up = λ up. up; waits = λ is. is; past = λ is. is }
+sending_up to_send.Ack now s = record { up = λ up. up; waits = λ is. is; past = λ is. is }
+sending_up to_send.Probe now s = record { up = λ up. up; waits = λ is. is; past = λ is. is }
+sending_up to_send.First now s = record { up = λ up. up; waits = λ is. is; past = λ is. is }
+sending_up to_send.Unsent now s = record { up = λ up. up; waits = λ is. is; past = λ is. is }
+sending_up to_send.Fin now s = record { up = λ up. up; waits = λ is. is; past = λ is. is }
 
 -- ---- states
 
@@ -150,27 +161,51 @@ opened_waits phase.SynReceived = refl
 opened_waits phase.Waiting = refl
 opened_waits _ = refl
 
+finish_past : (state : EndPhase) → is_past (states.after_finish state) ≡ is_past state
+finish_past phase.Established = refl
+finish_past phase.CloseWait = refl
+finish_past phase.Waiting = refl
+finish_past _ = refl
+
+acked_past : (state : EndPhase) → is_past (states.after_fin_acked state) ≡ is_past state
+acked_past phase.FinWait1 = refl
+acked_past phase.Closing = refl
+acked_past phase.Waiting = refl
+acked_past _ = refl
+
+passed_past : (state : EndPhase) → is_past (states.after_fin_passed state) ≡ is_past state
+passed_past phase.Established = refl
+passed_past phase.FinWait1 = refl
+passed_past phase.FinWait2 = refl
+passed_past phase.Waiting = refl
+passed_past _ = refl
+
+opened_past : (state : EndPhase) → is_past (states.after_handshake state) ≡ is_past state
+opened_past phase.SynReceived = refl
+opened_past phase.Waiting = refl
+opened_past _ = refl
+
 pub finishing_up : (s : EndState) → NoWaking s (after_finishing s)
-finishing_up s = alike_up s (after_finishing s) (record { state = finish_closed s.state; waits = finish_waits s.state; timer = refl })
+finishing_up s = alike_up s (after_finishing s) (record { state = finish_closed s.state; waits = finish_waits s.state; past = finish_past s.state; timer = refl })
 
 pub passing_up : (s : EndState) → NoWaking s (if is_fin_next s then after_passing_fin s else s)
 passing_up s = by (is_fin_next s)
   where
     by : (b : Bool) → NoWaking s (if b then after_passing_fin s else s)
-    by true = alike_up s (after_passing_fin s) (record { state = passed_closed s.state; waits = passed_waits s.state; timer = refl })
-    by false = record { up = λ up. up; waits = λ is. is }
+    by true = alike_up s (after_passing_fin s) (record { state = passed_closed s.state; waits = passed_waits s.state; past = passed_past s.state; timer = refl })
+    by false = record { up = λ up. up; waits = λ is. is; past = λ is. is }
 
 -- ---- a copy
 
 -- an acknowledgement leaves an end as open as it is, with the same timer
 then_alike : (s t u : EndState) → Alike s t → Alike t u → Alike s u
-then_alike s t u x y = record { state = y.state ∙ x.state; waits = y.waits ∙ x.waits; timer = y.timer ∙ x.timer }
+then_alike s t u x y = record { state = y.state ∙ x.state; waits = y.waits ∙ x.waits; past = y.past ∙ x.past; timer = y.timer ∙ x.timer }
 
 back_alike : (s t : EndState) → Alike s t → Alike t s
-back_alike s t x = record { state = sym x.state; waits = sym x.waits; timer = sym x.timer }
+back_alike s t x = record { state = sym x.state; waits = sym x.waits; past = sym x.past; timer = sym x.timer }
 
 kind_alike : (kind : AckKind) (since : Option ℕ) (now : ℕ) (s : EndState) → Alike s (after_ack_kind kind since now s)
-kind_alike (acks.New octets) since now s = record { state = by (is_fin_acked s.send); waits = too (is_fin_acked s.send); timer = refl }
+kind_alike (acks.New octets) since now s = record { state = by (is_fin_acked s.send); waits = too (is_fin_acked s.send); past = so (is_fin_acked s.send); timer = refl }
   where
     by : (b : Bool) → is_closed_to_segments (if b then states.after_fin_acked s.state else s.state) ≡ is_closed_to_segments s.state
     by true = acked_closed s.state
@@ -179,46 +214,50 @@ kind_alike (acks.New octets) since now s = record { state = by (is_fin_acked s.s
     too : (b : Bool) → is_waiting (if b then states.after_fin_acked s.state else s.state) ≡ is_waiting s.state
     too true = acked_waits s.state
     too false = refl
-kind_alike acks.Duplicate since now s = record { state = refl; waits = refl; timer = refl }
-kind_alike acks.Old since now s = record { state = refl; waits = refl; timer = refl }
-kind_alike acks.Future since now s = record { state = refl; waits = refl; timer = refl }
+
+    so : (b : Bool) → is_past (if b then states.after_fin_acked s.state else s.state) ≡ is_past s.state
+    so true = acked_past s.state
+    so false = refl
+kind_alike acks.Duplicate since now s = record { state = refl; waits = refl; past = refl; timer = refl }
+kind_alike acks.Old since now s = record { state = refl; waits = refl; past = refl; timer = refl }
+kind_alike acks.Future since now s = record { state = refl; waits = refl; past = refl; timer = refl }
 
 ack_alike : (pos now : ℕ) (s : EndState) → Alike s (after_acknowledgement pos now s)
 ack_alike pos now s =
     let t : EndState = record s { send = after_acknowledge pos s.send } in
-    then_alike s t (after_acknowledgement pos now s) (record { state = refl; waits = refl; timer = refl }) (kind_alike (ack_kind pos s.send) (sample_of pos s.send) now t)
+    then_alike s t (after_acknowledgement pos now s) (record { state = refl; waits = refl; past = refl; timer = refl }) (kind_alike (ack_kind pos s.send) (sample_of pos s.send) now t)
 
 row_alike : (b : Bool) (s t u : EndState) → Alike s t → Alike s u → Alike s (if b then t else u)
 row_alike true s t u x y = x
 row_alike false s t u x y = y
 
 owing_alike : (b : Bool) (s : EndState) → Alike s (owing_if b s)
-owing_alike true s = record { state = refl; waits = refl; timer = refl }
-owing_alike false s = record { state = refl; waits = refl; timer = refl }
+owing_alike true s = record { state = refl; waits = refl; past = refl; timer = refl }
+owing_alike false s = record { state = refl; waits = refl; past = refl; timer = refl }
 
 taken_alike : (pos acknowledged : ℕ) (hint : Hint) (now : ℕ) (c : Copy) (s : EndState) → Alike s (after_taken pos acknowledged hint now c s)
 taken_alike pos acknowledged hint now c s =
     let heard : EndState = after_established (after_hearing (after_payload pos hint c s)) in
     let acked : EndState = after_acknowledgement acknowledged now heard in
-    let opened : Alike s heard = record { state = opened_closed s.state; waits = opened_waits s.state; timer = refl } in
+    let opened : Alike s heard = record { state = opened_closed s.state; waits = opened_waits s.state; past = opened_past s.state; timer = refl } in
     let answered : Alike s acked = then_alike s heard acked opened (ack_alike acknowledged now heard) in
     let told = row_alike (is_duplicate (ack_kind acknowledged heard.send) (told_by hint c) c acked) s (after_duplicate acked) (after_interruption acked)
-    (record { state = answered.state; waits = answered.waits; timer = answered.timer }) (record { state = answered.state; waits = answered.waits; timer = answered.timer }) in
-    record { state = told.state; waits = told.waits; timer = told.timer }
+    (record { state = answered.state; waits = answered.waits; past = answered.past; timer = answered.timer }) (record { state = answered.state; waits = answered.waits; past = answered.past; timer = answered.timer }) in
+    record { state = told.state; waits = told.waits; past = told.past; timer = told.timer }
 
 payload_alike : (m : Meaning) (octets : List ℕ) (s : EndState) → Alike s (with_payload m octets s)
-payload_alike (means.Taken pos acknowledged) [] s = record { state = refl; waits = refl; timer = refl }
-payload_alike (means.Taken pos acknowledged) (octet ∷ octets) s = record { state = refl; waits = refl; timer = refl }
-payload_alike means.Ignored octets s = record { state = refl; waits = refl; timer = refl }
-payload_alike means.Unwanted octets s = record { state = refl; waits = refl; timer = refl }
-payload_alike means.Opens octets s = record { state = refl; waits = refl; timer = refl }
-payload_alike (means.Accepts acknowledged) octets s = record { state = refl; waits = refl; timer = refl }
-payload_alike means.RepeatedSyn octets s = record { state = refl; waits = refl; timer = refl }
-payload_alike means.Outside octets s = record { state = refl; waits = refl; timer = refl }
-payload_alike means.Kills octets s = record { state = refl; waits = refl; timer = refl }
-payload_alike means.Challenged octets s = record { state = refl; waits = refl; timer = refl }
-payload_alike means.Unacknowledging octets s = record { state = refl; waits = refl; timer = refl }
-payload_alike means.Ahead octets s = record { state = refl; waits = refl; timer = refl }
+payload_alike (means.Taken pos acknowledged) [] s = record { state = refl; waits = refl; past = refl; timer = refl }
+payload_alike (means.Taken pos acknowledged) (octet ∷ octets) s = record { state = refl; waits = refl; past = refl; timer = refl }
+payload_alike means.Ignored octets s = record { state = refl; waits = refl; past = refl; timer = refl }
+payload_alike means.Unwanted octets s = record { state = refl; waits = refl; past = refl; timer = refl }
+payload_alike means.Opens octets s = record { state = refl; waits = refl; past = refl; timer = refl }
+payload_alike (means.Accepts acknowledged) octets s = record { state = refl; waits = refl; past = refl; timer = refl }
+payload_alike means.RepeatedSyn octets s = record { state = refl; waits = refl; past = refl; timer = refl }
+payload_alike means.Outside octets s = record { state = refl; waits = refl; past = refl; timer = refl }
+payload_alike means.Kills octets s = record { state = refl; waits = refl; past = refl; timer = refl }
+payload_alike means.Challenged octets s = record { state = refl; waits = refl; past = refl; timer = refl }
+payload_alike means.Unacknowledging octets s = record { state = refl; waits = refl; past = refl; timer = refl }
+payload_alike means.Ahead octets s = record { state = refl; waits = refl; past = refl; timer = refl }
 
 -- it is answered, taken or accepted: it means so at an open end alone
 abbrev pub is_lively : Meaning → Bool
@@ -245,7 +284,7 @@ accepted_waits acknowledged hint now c s is =
     let opened : EndState = record (after_hearing (after_payload 1 hint c s)) { state = phase.Established } in
     absurd (false≢true (sym (ack_alike acknowledged now opened).waits ∙ is))
 
-arrival_up : (m : Meaning) (hint : Hint) (now : ℕ) (c : Copy) (s : EndState) → WakesNone m s → NoWaking s (after_arrival m hint now c s)
+arrival_up : (m : Meaning) (hint : Hint) (now : ℕ) (c : Copy) (s : EndState) → WakesNone m s → Sleeps s (after_arrival m hint now c s)
 arrival_up means.Ignored hint now c s none = record { up = λ up. up; waits = λ is. is }
 arrival_up means.Unwanted hint now c s none = record { up = λ up. up; waits = λ is. is }
 arrival_up means.Opens hint now c s none = absurd (false≢true (sym none.no_syn))
@@ -256,18 +295,18 @@ arrival_up means.Kills hint now c s none = record { up = λ up. absurd (false≢
 arrival_up means.Challenged hint now c s none = record { up = λ up. up; waits = λ is. is }
 arrival_up means.Unacknowledging hint now c s none = record { up = λ up. up; waits = λ is. is }
 arrival_up means.Ahead hint now c s none = record { up = λ up. up; waits = λ is. is }
-arrival_up (means.Taken pos acknowledged) hint now c s none = alike_up s (after_taken pos acknowledged hint now c s) (taken_alike pos acknowledged hint now c s)
+arrival_up (means.Taken pos acknowledged) hint now c s none = alike_sleeps s (after_taken pos acknowledged hint now c s) (taken_alike pos acknowledged hint now c s)
 
 -- so does the end that takes it, with its payload
 pub copy_up : (m : Meaning) (owes : Bool) (hint : Hint) (now : ℕ) (c : Copy) (octets : List ℕ) (s : EndState) → WakesNone m s
-    → NoWaking s (owing_if owes (after_arrival m hint now c (with_payload m octets s)))
+    → Sleeps s (owing_if owes (after_arrival m hint now c (with_payload m octets s)))
 copy_up m owes hint now c octets s none =
     let held : EndState = with_payload m octets s in
     let arrived : EndState = after_arrival m hint now c held in
     let kept = payload_alike m octets s in
     let fits : WakesNone m held = record { no_syn = none.no_syn; lively = λ lively. (alike_up held s (back_alike s held kept)).up (none.lively lively) } in
-    then_no_waking s held (owing_if owes arrived) (alike_up s held kept)
-    (then_no_waking held arrived (owing_if owes arrived) (arrival_up m hint now c held fits) (alike_up arrived (owing_if owes arrived) (owing_alike owes arrived)))
+    then_sleeps s held (owing_if owes arrived) (alike_sleeps s held kept)
+    (then_sleeps held arrived (owing_if owes arrived) (arrival_up m hint now c held fits) (alike_sleeps arrived (owing_if owes arrived) (owing_alike owes arrived)))
 
 -- no copy lets an end wait that didn't
 arrival_waits : (m : Meaning) (hint : Hint) (now : ℕ) (c : Copy) (s : EndState) → is_waiting (after_arrival m hint now c s).state ≡ true → is_waiting s.state ≡ true
@@ -288,6 +327,31 @@ pub arrived_waits : (m : Meaning) (owes : Bool) (hint : Hint) (now : ℕ) (c : C
 arrived_waits m owes hint now c octets s is =
     let held : EndState = with_payload m octets s in
     sym (payload_alike m octets s).waits ∙ arrival_waits m hint now c held (sym (owing_alike owes (after_arrival m hint now c held)).waits ∙ is)
+
+-- the peer's SYN comes by no copy but one that is accepted
+arrival_past : (m : Meaning) (hint : Hint) (now : ℕ) (c : Copy) (s : EndState) (P : Type 0) → is_opens m ≡ false → ((acknowledged : ℕ) → m ≡ means.Accepts acknowledged → P)
+    → (is_past s.state ≡ true → P) → is_past (after_arrival m hint now c s).state ≡ true → P
+arrival_past means.Ignored hint now c s P none accepts past is = past is
+arrival_past means.Unwanted hint now c s P none accepts past is = past is
+arrival_past means.Opens hint now c s P none accepts past is = absurd (false≢true (sym none))
+arrival_past (means.Accepts acknowledged) hint now c s P none accepts past is = accepts acknowledged refl
+arrival_past means.RepeatedSyn hint now c s P none accepts past is = past is
+arrival_past means.Outside hint now c s P none accepts past is = past is
+arrival_past means.Kills hint now c s P none accepts past is = absurd (false≢true is)
+arrival_past means.Challenged hint now c s P none accepts past is = past is
+arrival_past means.Unacknowledging hint now c s P none accepts past is = past is
+arrival_past means.Ahead hint now c s P none accepts past is = past is
+arrival_past (means.Taken pos acknowledged) hint now c s P none accepts past is = past (sym (taken_alike pos acknowledged hint now c s).past ∙ is)
+
+pub held_past : (m : Meaning) (octets : List ℕ) (s : EndState) → is_past (with_payload m octets s).state ≡ true → is_past s.state ≡ true
+held_past m octets s is = sym (payload_alike m octets s).past ∙ is
+
+pub copy_past : (m : Meaning) (owes : Bool) (hint : Hint) (now : ℕ) (c : Copy) (octets : List ℕ) (s : EndState) (P : Type 0) → is_opens m ≡ false
+    → ((acknowledged : ℕ) → m ≡ means.Accepts acknowledged → P) → (is_past s.state ≡ true → P)
+    → is_past (owing_if owes (after_arrival m hint now c (with_payload m octets s))).state ≡ true → P
+copy_past m owes hint now c octets s P none accepts past is =
+    let held : EndState = with_payload m octets s in
+    arrival_past m hint now c held P none accepts (λ so. past (sym (payload_alike m octets s).past ∙ so)) (sym (owing_alike owes (after_arrival m hint now c held)).past ∙ is)
 
 -- a lively copy comes to an open end
 lively_open : (state : EndPhase) (c : Copy) (s : EndState) → is_lively (meaning_at state c s) ≡ true → is_closed_to_segments state ≡ false
@@ -353,43 +417,83 @@ module _ (rst : Bool) (items : List Heard) (e : PathEnd) where
 
 -- ---- duties
 
--- by this duty an end of a side says what an end says that began
-abbrev pub is_said_by : Side → Duty → Bool
-is_said_by s (duties.SynAck t) = same_side s t
-is_said_by s (duties.Again t) = same_side s t
-is_said_by s (duties.Answer t) = same_side s t
-is_said_by s (duties.Resend t) = same_side s t
-is_said_by s _ = false
+-- a side that says what an end says that began, or tells its control book of a fall; or a side that falls
+abbrev pub Voice : Type 0
+Voice = Side ⊎ Side
 
-abbrev pub speaks : Side → List Duty → Bool
-speaks s ds = list_any (is_said_by s) ds
+-- it is that side, and it says something; or it falls
+abbrev pub tells : Voice → Side → Bool
+tells (inl s) t = same_side s t
+tells (inr s) t = false
 
-pub tail_speaks : (s : Side) (ds : List Duty) → speaks s (tail_of ds) ≡ true → speaks s ds ≡ true
-tail_speaks s [] is = is
-tail_speaks s (d ∷ ds) is = by (is_said_by s d)
+abbrev pub falls : Voice → Side → Bool
+falls (inl s) t = false
+falls (inr s) t = same_side s t
+
+abbrev pub is_said_by : Voice → Duty → Bool
+is_said_by x (duties.SynAck t) = tells x t
+is_said_by x (duties.Again t) = tells x t
+is_said_by x (duties.Answer t) = tells x t
+is_said_by x (duties.Resend t) = tells x t
+is_said_by x (duties.PlainHandshake t) = tells x t
+is_said_by x (duties.PeerKey t) = tells x t
+is_said_by x (duties.Opened t) = tells x t
+is_said_by x (duties.Heard t index) = tells x t
+is_said_by x (duties.AckHeard t) = tells x t
+is_said_by x (duties.PlainAck t) = tells x t
+is_said_by x (duties.PlainData t) = tells x t
+is_said_by x (duties.GoIdentity t) = falls x t
+is_said_by x _ = false
+
+abbrev pub speaks : Voice → List Duty → Bool
+speaks x ds = list_any (is_said_by x) ds
+
+pub tail_speaks : (x : Voice) (ds : List Duty) → speaks x (tail_of ds) ≡ true → speaks x ds ≡ true
+tail_speaks x [] is = is
+tail_speaks x (d ∷ ds) is = by (is_said_by x d)
   where
-    by : (b : Bool) → b || speaks s ds ≡ true
+    by : (b : Bool) → b || speaks x ds ≡ true
     by true = refl
     by false = is
 
-pub replaced_speaks : (s : Side) (d : Duty) (ds : List Duty) → is_said_by s d ≡ false → speaks s (replaced d ds) ≡ true → speaks s ds ≡ true
-replaced_speaks s d [] calm is = is
-replaced_speaks s d (x ∷ ds) calm is = tail_speaks s (x ∷ ds) (sym (ap (λ b. b || speaks s ds) calm) ∙ is)
+pub replaced_speaks : (x : Voice) (d : Duty) (ds : List Duty) → is_said_by x d ≡ false → speaks x (replaced d ds) ≡ true → speaks x ds ≡ true
+replaced_speaks x d [] calm is = is
+replaced_speaks x d (first ∷ ds) calm is = tail_speaks x (first ∷ ds) (sym (ap (λ b. b || speaks x ds) calm) ∙ is)
 
--- an answer of one side in the place of the first duty
-pub replaced_other : (t s : Side) (ds : List Duty) → same_side t s ≡ false → speaks t (replaced (duties.SynAck s) ds) ≡ true → speaks t ds ≡ true
-replaced_other t s ds other is = replaced_speaks t (duties.SynAck s) ds other is
+pub first_speaks : (x : Voice) (d : Duty) (ds : List Duty) → is_said_by x d ≡ true → speaks x (d ∷ ds) ≡ true
+first_speaks x d ds is = ap (λ b. b || speaks x ds) is
 
-pub first_speaks : (t : Side) (d : Duty) (ds : List Duty) → is_said_by t d ≡ true → speaks t (d ∷ ds) ≡ true
-first_speaks t d ds is = ap (λ b. b || speaks t ds) is
+-- other sides say nothing by such duties, and none falls
+heard_calm : (s t : Side) (from count : ℕ) (ds : List Duty) → same_side s t ≡ false → speaks (inl s) (heard_and t from count ds) ≡ speaks (inl s) ds
+heard_calm s t from zero ds other = refl
+heard_calm s t from (suc count) ds other = ap (λ b. b || speaks (inl s) (heard_and t (from + 1) count ds)) other ∙ heard_calm s t (from + 1) count ds other
 
--- other sides say nothing by such duties
-heard_calm : (s t : Side) (from count : ℕ) (ds : List Duty) → speaks s (heard_and t from count ds) ≡ speaks s ds
-heard_calm s t from zero ds = refl
-heard_calm s t from (suc count) ds = heard_calm s t (from + 1) count ds
+heard_falls : (s t : Side) (from count : ℕ) (ds : List Duty) → speaks (inr s) (heard_and t from count ds) ≡ speaks (inr s) ds
+heard_falls s t from zero ds = refl
+heard_falls s t from (suc count) ds = heard_falls s t (from + 1) count ds
 
-pub came_speaks : (s t : Side) (count : ℕ) → speaks s (copy_came t count) ≡ same_side s t || false
-came_speaks s t count = heard_calm s t 0 count (payload_came t)
+pub tells_same : (x : Voice) (s : Side) → tells x s ≡ true → x ≡ inl s
+tells_same (inl A) A is = refl
+tells_same (inl B) B is = refl
+tells_same (inl A) B is = absurd (false≢true is)
+tells_same (inl B) A is = absurd (false≢true is)
+tells_same (inr t) s is = absurd (false≢true is)
+
+pub falls_same : (x : Voice) (s : Side) → falls x s ≡ true → x ≡ inr s
+falls_same (inr A) A is = refl
+falls_same (inr B) B is = refl
+falls_same (inr A) B is = absurd (false≢true is)
+falls_same (inr B) A is = absurd (false≢true is)
+falls_same (inl t) s is = absurd (false≢true is)
+
+pub came_said : (s t : Side) (count : ℕ) → speaks (inl s) (copy_came t count) ≡ true → s ≡ t
+came_said A A count is = refl
+came_said B B count is = refl
+came_said A B count is = absurd (false≢true (sym (heard_calm A B 0 count (payload_came B) refl) ∙ is))
+came_said B A count is = absurd (false≢true (sym (heard_calm B A 0 count (payload_came A) refl) ∙ is))
+
+pub came_calm : (s t : Side) (count : ℕ) → speaks (inr s) (copy_came t count) ≡ false
+came_calm s t count = heard_falls s t 0 count (payload_came t)
 
 pub same_or_calm : (s t : Side) → same_side s t || false ≡ true → s ≡ t
 same_or_calm A A is = refl
@@ -404,7 +508,7 @@ itself B = refl
 -- ---- what happens next
 
 -- A waits on a path that it joins, and an end whose timer runs out is up
-abbrev pub Happens : PathState Carried → Event → Type 0
+abbrev pub Happens : {C : Type 0} → PathState C → Event → Type 0
 Happens p (happenings.Joins tick) = is_waiting p.a.tcp.state ≡ true
 Happens p (happenings.Fires s tick) = is_up (end_at s p).tcp ≡ true
 Happens p event = Unit {0}
@@ -418,7 +522,7 @@ earlier_has P (Some x) (Some y) first other = by (nat_le (tick_of x) (tick_of y)
     by true = first
     by false = other
 
-join_has : (p : PathState Carried) (state : EndPhase) (o : Option ℕ) → p.a.tcp.state ≡ state → IfSome (next_join state o) (Happens p)
+join_has : {C : Type 0} (p : PathState C) (state : EndPhase) (o : Option ℕ) → p.a.tcp.state ≡ state → IfSome (next_join state o) (Happens p)
 join_has p state None same = tt
 join_has p state (Some tick) same = by (is_waiting state) refl
   where
@@ -426,26 +530,26 @@ join_has p state (Some tick) same = by (is_waiting state) refl
     by true waits = ap is_waiting same ∙ waits
     by false waits = tt
 
-line_has : (p : PathState Carried) (lines : List LineLeft) → IfSome (next_line lines) (Happens p)
+line_has : {C : Type 0} (p : PathState C) (lines : List LineLeft) → IfSome (next_line lines) (Happens p)
 line_has p [] = tt
 line_has p (line ∷ lines) = tt
 
-copy_has : (p : PathState Carried) (o : Option Due) → IfSome (next_copy o) (Happens p)
+copy_has : {C : Type 0} (p : PathState C) (o : Option Due) → IfSome (next_copy o) (Happens p)
 copy_has p None = tt
 copy_has p (Some due) = tt
 
-fire_has : (s : Side) (p : PathState Carried) (o : Option ℕ) → (end_at s p).tcp.timing.timer ≡ o → IfSome (next_fire s o) (Happens p)
+fire_has : {C : Type 0} (s : Side) (p : PathState C) (o : Option ℕ) → (end_at s p).tcp.timing.timer ≡ o → IfSome (next_fire s o) (Happens p)
 fire_has s p None same = tt
 fire_has s p (Some tick) same = timed_is_up (end_at s p).tcp (subst IsSome (sym same) refl)
 
-earliest_has : (p : PathState Carried) → IfSome (earliest p) (Happens p)
+earliest_has : {C : Type 0} (p : PathState C) → IfSome (earliest p) (Happens p)
 earliest_has p =
     earlier_has (Happens p) (next_join p.a.tcp.state p.joined_at) _ (join_has p p.a.tcp.state p.joined_at refl)
     (earlier_has (Happens p) (next_line p.lines) _ (line_has p p.lines)
     (earlier_has (Happens p) (next_copy (next_due p.link.under_way)) _ (copy_has p (next_due p.link.under_way))
     (earlier_has (Happens p) (next_fire A p.a.tcp.timing.timer) _ (fire_has A p p.a.tcp.timing.timer refl) (fire_has B p p.b.tcp.timing.timer refl))))
 
-pub next_happens : (p : PathState Carried) (event : Event) → next_event p ≡ Some event → Happens p event
+pub next_happens : {C : Type 0} (p : PathState C) (event : Event) → next_event p ≡ Some event → Happens p event
 next_happens p event is = subst (λ o. IfSome o (Happens p)) is (by (earliest p) (earliest_has p))
   where
     soon : (x : Event) (b : Bool) → Happens p x → IfSome (if b then Some x else None) (Happens p)

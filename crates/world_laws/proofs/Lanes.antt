@@ -1,60 +1,77 @@
 -- What the two directions of a connection show of its world, and what a step of the world is there: moves of the lanes, at most
 -- one call of a book, and moves again.
-use Rattle.std.proofs.Common.{◌≡◌, refl, sym, ◌∙◌, ℕ, zero, suc, ◌<◌, ◌⊎◌, Bool, true, false, Option, Some, None, List, [], ◌∷◌, ◌++◌, length, set}
+use Rattle.std.proofs.Common.{◌≡◌, refl, sym, ◌∙◌, ap, ℕ, zero, suc, ◌<◌, Bool, true, false, Option, Some, None, List, [], ◌∷◌, ◌++◌, length, set}
 use Rattle.std.specs.List.{slice_get, list_all}
 use Rattle.std.proofs.lemmas.Bool.{and_parts, and_from}
 use Rattle.outside_kit.specs.declared.side.Side.TheVariants.{A, B}
+use Rattle.outside_kit.specs.declared.side.Side.{Side}
 use Rattle.send_book.specs.declared.call.SendCall.{SendCall}
 use Rattle.send_book.specs.declared.call.SendCall.TheVariants as send_calls
+use Rattle.fallback_state.specs.declared.fall.Event.TheVariants as events
+use Rattle.fallback_state.specs.Modes.{is_identity}
 use Rattle.reassembly_book.specs.declared.call.ReassemblyCall.{ReassemblyCall}
 use Rattle.reassembly_book.specs.declared.call.ReassemblyCall.TheVariants as reassembly_calls
+use Rattle.subflow_tcp.specs.States.{may_finish}
 use Rattle.stream_lanes.specs.Lane.{Ask as LaneAsk, Lane}
 use Rattle.stream_lanes.specs.Lane.Ask.{AskGrant, AskAckIn, AskPlace, AskFin, AskAckOut}
-use Rattle.stream_lanes.specs.Moves.{Move}
+use Rattle.stream_lanes.specs.Moves.{Flags, Move}
 use Rattle.stream_lanes.specs.Streams.{Reader, Direction, StreamEvent, is_done}
-use Rattle.stream_lanes.specs.Streams.StreamEvent.{Write, Close, Return, Read, Moves, Asks}
-use Rattle.stream_lanes.specs.Duo.{Modes, Duo, Event, after_event, after_events, opening}
-use Rattle.stream_lanes.specs.Duo.Event.{ToB, ToA, BeginJoin, SendJoin, HearJoin}
+use Rattle.stream_lanes.specs.Streams.StreamEvent.{Write, Close, Return, GoIdentity, Read, Moves, Asks}
+use Rattle.stream_lanes.specs.Duo.{Modes, Duo, Event, flags_ab, flags_ba, after_event, after_events, opening}
+use Rattle.stream_lanes.specs.Duo.Event.{ToB, ToA, FallA, FallB, BeginJoin, SendJoin, HearJoin}
 use Rattle.stream_lanes.specs.Holding.{Holds}
 use Rattle.stream_lanes.specs.Words.{Every, From}
 use Rattle.actor_desk.specs.declared.ask.Ask.{Ask}
 use Rattle.actor_desk.specs.declared.ask.Ask.TheVariants as asks
 use Rattle.actor_desk.specs.Books.{books_in}
-use Rattle.actor_desk.specs.Desk.{SixBooks}
-use Rattle.path_core.specs.State.{PathState}
+use Rattle.actor_desk.specs.Desk.{SixBooks, control_of}
+use Rattle.path_agenda.specs.declared.duty.Duty.{Duty}
+use Rattle.path_agenda.specs.declared.duty.Duty.TheVariants as duties
+use Rattle.path_core.specs.State.{PathState, end_at}
 use Rattle.path_core.specs.Turns.{IsSettled}
 use Rattle.path_core.specs.Values.{Carried, values}
 use Rattle.control_book.specs.Replies.{is_sure}
+use Rattle.control_book.specs.declared.call.ControlCall.{ControlCall}
+use Rattle.control_book.specs.declared.call.ControlCall.TheVariants as control_calls
 use Rattle.world_laws.specs.declared.member.Member.TheVariants.{App, Path}
 use Rattle.world_laws.specs.Actors.{Actor, ActorCrew, member_asks}
 use Rattle.world_laws.specs.Openings.{PathPlan, Start, path_begins, opened_world}
 use Rattle.world_laws.specs.Promises.{IsPlain}
 use Rattle.world_laws.specs.Worlds.{WorldState, Turn, after_turn, world_run}
 use Rattle.world_laws.proofs.Applying.{Reads}
-use Rattle.world_laws.proofs.Asleep.{IsAsleep}
 use Rattle.world_laws.proofs.Casts.{Walker, Cast, world_of, Fare}
 use Rattle.world_laws.proofs.PlacesSent.{KnowsThose}
 use Rattle.world_laws.proofs.Roads.{direction}
 use Rattle.world_laws.proofs.Showing.{PathShows}
+use Rattle.world_laws.proofs.Shielding.{is_shield}
 
 -- ---- what is shown
 
--- no side fell back; whether a join was begun, sent and answered
-abbrev pub modes_by : Bool → Modes
-modes_by joined = record { plain_a = false; plain_b = false; begun = joined; join_sent = joined; answered = joined }
+-- by the control books: which side fell back, whether A began a join, and whether B answered one
+abbrev pub modes_by : SixBooks → Modes
+modes_by six = record {
+  plain_a = is_identity six.control_a.fall.mode;
+  plain_b = is_identity six.control_b.fall.mode;
+  begun = six.control_a.fall.joined;
+  join_sent = six.control_a.fall.joined;
+  answered = six.control_b.fall.joined;
+}
+
+-- what the direction on which a side sends needs of them
+abbrev pub flags_of : Side → SixBooks → Flags
+flags_of A six = flags_ab (modes_by six)
+flags_of B six = flags_ba (modes_by six)
 
 -- the books of a world in the two directions, with a lane for each path
-abbrev pub duo_of : Bool → SixBooks → List Lane → List Lane → Reader → Reader → Duo
-duo_of joined six lanes_ab lanes_ba reader_a reader_b = record {
-  modes = modes_by joined;
+abbrev pub duo_of : SixBooks → List Lane → List Lane → Reader → Reader → Duo
+duo_of six lanes_ab lanes_ba reader_a reader_b = record {
+  modes = modes_by six;
   ab = direction six.send_a six.reassembly_b lanes_ab reader_b;
   ba = direction six.send_b six.reassembly_a lanes_ba reader_a;
 }
 
--- what there is beside the lanes of one path: whether a join was answered, the number of the path, the other lanes, and what the
--- readers got
+-- what there is beside the lanes of one path: the number of the path, the other lanes, and what the readers got
 pub record Others : Type 0 where
-  pub joined : Bool
   pub number : ℕ
   pub lanes_ab : List Lane
   pub lanes_ba : List Lane
@@ -66,17 +83,12 @@ pub record Others : Type 0 where
 -- with these lanes of that path
 abbrev pub duo_at : SixBooks → Lane → Lane → Others → Duo
 duo_at six ab ba others =
-    duo_of others.joined six (set others.lanes_ab others.number ab) (set others.lanes_ba others.number ba) others.reader_a others.reader_b
+    duo_of six (set others.lanes_ab others.number ab) (set others.lanes_ba others.number ba) others.reader_a others.reader_b
 
--- The lanes of a path that joins are open, or it wasn't begun; and A was granted nothing as long as it may send no DSS.
-pub record JoinsSo (p : PathState Carried) (ab ba : Lane) : Type 0 where
-  pub opened : ((ab.opened ≡ true) × (ba.opened ≡ true)) ⊎ IsAsleep p
-  pub unsent : p.a.modes.clear ≡ false → ab.sent ≡ []
-
--- Path 0 has open lanes.
+-- Path 0 has open lanes; on a path that joins A was granted nothing as long as it may send no DSS.
 abbrev pub StandsSo : ℕ → PathState Carried → Lane → Lane → Type 0
 StandsSo zero p ab ba = (ab.opened ≡ true) × (ba.opened ≡ true)
-StandsSo (suc number) p ab ba = JoinsSo p ab ba
+StandsSo (suc number) p ab ba = p.a.modes.clear ≡ false → ab.sent ≡ []
 
 -- on path 0 A may send a DSS
 abbrev pub FirstIsClear : List (Walker Carried) → Type 0
@@ -101,25 +113,14 @@ pub record WorldShows (start : Start) (d : Duo) (w : WorldState Carried) : Type 
   pub is : w ≡ world_of cast
   pub fare : Fare start cast
   pub settled : Every (λ x. IsSettled x.path) cast.paths
-  -- no join was answered before A could send a DSS on path 0
-  pub joined : Bool
-  pub clear : joined ≡ true → FirstIsClear cast.paths
   pub lanes_ab : List Lane
   pub lanes_ba : List Lane
   pub reader_a : Reader
   pub reader_b : Reader
-  pub duo_is : d ≡ duo_of joined (books_in cast.books) lanes_ab lanes_ba reader_a reader_b
+  pub duo_is : d ≡ duo_of (books_in cast.books) lanes_ab lanes_ba reader_a reader_b
   pub reads_a : Reads cast.a.told cast.at_a.list reader_a
   pub reads_b : Reads cast.b.told cast.at_b.list reader_b
   pub paths : From (λ number x. PathThere start lanes_ab lanes_ba number x.path) 0 cast.paths
-
--- A's side is sure of Multipath TCP only where A may send a DSS on path 0.
-abbrev pub IsClearAt : Actor Carried → Type 0
-IsClearAt (App a) = Unit {0}
-IsClearAt (Path p) = p.a.modes.clear ≡ true
-
-abbrev pub SureIsClear : WorldState Carried → Type 0
-SureIsClear w = is_sure (books_in w.books).control_a.fall.mode ≡ true → (c : ActorCrew Carried) → slice_get w.crew 2 ≡ Some c → IsClearAt c.member
 
 -- ---- what a turn is
 
@@ -151,7 +152,7 @@ SendCallIs send_calls.Close d event = event ≡ Close
 SendCallIs (send_calls.Grant path max standby) d event = (event ≡ Asks path) × IsAsking path (AskGrant max standby) d
 SendCallIs (send_calls.AckIn next window) d event = LaneAsks (AskAckIn next window) d event
 SendCallIs (send_calls.Return path) d event = event ≡ Return path
-SendCallIs send_calls.GoIdentity d event = ⊥
+SendCallIs send_calls.GoIdentity d event = event ≡ GoIdentity
 SendCallIs (send_calls.GoInfinite path) d event = ⊥
 SendCallIs send_calls.Abort d event = ⊥
 
@@ -174,10 +175,12 @@ CallIs (Some (asks.Local step)) d call = call ≡ None
 
 -- ---- moves
 
--- a lane of a path moves, or the sides go on with joins: no book is called
+-- a lane of a path moves, or a side falls back or goes on with joins: no book is called
 abbrev pub is_silent : Event → Bool
 is_silent (ToB (Moves path m)) = true
 is_silent (ToA (Moves path m)) = true
+is_silent FallA = true
+is_silent FallB = true
 is_silent BeginJoin = true
 is_silent SendJoin = true
 is_silent HearJoin = true
@@ -222,6 +225,55 @@ abbrev pub call_events : Option Event → List Event
 call_events None = []
 call_events (Some event) = event ∷ []
 
+-- a join is begun by A, and answered after it was begun
+abbrev pub MayBegin : Side → Type 0
+MayBegin A = Unit {0}
+MayBegin B = ⊥
+
+abbrev pub MayAnswer : Side → SixBooks → Type 0
+MayAnswer A six = Unit {0}
+MayAnswer B six = six.control_a.fall.joined ≡ true
+
+-- a call of a control book after which the modes of the connection go on by moves: no fast close is among them
+abbrev pub MayCall : Side → ControlCall → SixBooks → Type 0
+MayCall s (control_calls.Fell path events.Stop) six = ⊥
+MayCall s control_calls.FastClose six = ⊥
+MayCall s (control_calls.FastHeard key) six = ⊥
+MayCall s (control_calls.JoinBegin path) six = MayBegin s
+MayCall s (control_calls.JoinHeard path token) six = MayAnswer s six
+MayCall s _ six = Unit {0}
+
+-- a duty whose step may be made: B hears only of joins that were begun, and an end falls back with its side
+abbrev pub MayDo : SixBooks → Duty → Type 0
+MayDo six (duties.JoinHeard s) = MayAnswer s six
+MayDo six (duties.GoIdentity s) = is_identity (control_of s six).fall.mode ≡ true
+MayDo six _ = Unit {0}
+
+-- A's side is sure of Multipath TCP only where A may send a DSS on path 0.
+abbrev pub IsClearAt : Actor Carried → Type 0
+IsClearAt (App a) = Unit {0}
+IsClearAt (Path p) = p.a.modes.clear ≡ true
+
+abbrev pub SureIsClear : WorldState Carried → Type 0
+SureIsClear w = is_sure (books_in w.books).control_a.fall.mode ≡ true → (c : ActorCrew Carried) → slice_get w.crew 2 ≡ Some c → IsClearAt c.member
+
+-- What a path may do next: as far as its first duty isn't one by which a book is asked or told, nothing was told since the books
+-- were asked what is to be acknowledged; its first duty may be done; an end that may finish, of a path that joins, has joined; and
+-- after a join A may send a DSS on path 0; no end of a path that joins fell back.
+pub record PathIsSteady (six : SixBooks) (number : ℕ) (p : PathState Carried) : Type 0 where
+  pub calm : (d : Duty) (ds : List Duty) → p.agenda ≡ d ∷ ds → (s : Side) → is_shield s d ≡ false → (end_at s p).treated.asked ≡ false
+  pub may : (d : Duty) (ds : List Duty) → p.agenda ≡ d ∷ ds → MayDo six d
+  pub joined : (n : ℕ) → number ≡ suc n → (s : Side) → may_finish (end_at s p).tcp.state ≡ true → six.control_b.fall.joined ≡ true
+  pub clear : number ≡ 0 → six.control_b.fall.joined ≡ true → p.a.modes.clear ≡ true
+  pub mode : (n : ℕ) → number ≡ suc n → (s : Side) → (end_at s p).modes.identity ≡ false
+
+abbrev pub MemberIsSteady : SixBooks → ℕ → Actor Carried → Type 0
+MemberIsSteady six number (App a) = Unit {0}
+MemberIsSteady six number (Path p) = PathIsSteady six number p
+
+pub record IsSteady (w : WorldState Carried) : Type 0 where
+  pub each : (number : ℕ) (c : ActorCrew Carried) → slice_get w.crew (suc (suc number)) ≡ Some c → MemberIsSteady (books_in w.books) number c.member
+
 -- The connection goes from one state to another by moves of its lanes, the call that was asked, and moves.
 pub record TurnShows (ask : Option Ask) (d e : Duo) : Type 0 where
   pub before : List Event
@@ -253,7 +305,7 @@ EachOpeningShows = (start : Start) → IsPlain start → OpenedShows start
 
 -- and every turn keeps it, lawful or not
 abbrev pub EachTurnShows : Type 0
-EachTurnShows = (start : Start) → IsPlain start → (turn : Turn) (d : Duo) (w : WorldState Carried) → SureIsClear w → Holds d → WorldShows start d w → Shown start turn d w
+EachTurnShows = (start : Start) → IsPlain start → (turn : Turn) (d : Duo) (w : WorldState Carried) → IsSteady w → Holds d → WorldShows start d w → Shown start turn d w
 
 -- after each list of turns the world shows in a connection that comes about by events from the opening
 pub record Reached (start : Start) (w : WorldState Carried) : Type 0 where
@@ -277,3 +329,21 @@ pub turn_is : {ask : Option Ask} {d e : Duo} (t : TurnShows ask d e) → e ≡ a
 turn_is {d = d} t =
     t.to ∙ sym (events_append (call_events t.call) t.after (after_events t.before d))
     ∙ sym (events_append t.before (call_events t.call ++ t.after) d)
+
+-- ---- moves alone
+
+-- the lanes moved, and no book was called
+pub record Moved (d e : Duo) : Type 0 where
+  pub events : List Event
+  pub silent : AreSilent events
+  pub to : e ≡ after_events events d
+
+pub unmoved : (d : Duo) → Moved d d
+unmoved d = record { events = []; silent = refl; to = refl }
+
+pub then_moved : (c d e : Duo) → Moved c d → Moved d e → Moved c e
+then_moved c d e x y = record {
+  events = x.events ++ y.events;
+  silent = silent_append x.events y.events x.silent y.silent;
+  to = y.to ∙ ap (after_events y.events) x.to ∙ sym (events_append x.events y.events c);
+}

@@ -1,7 +1,7 @@
 -- At an end of A nothing but a DSS is told to its control book as the sign of Multipath TCP: each acknowledgement, mapping and end of
 -- the stream that a copy says comes behind a DSS, and that one clears the end. So the end is clear before it tells one.
 use Rattle.std.proofs.Common.{◌≡◌, refl, sym, ap, subst, ℕ, zero, suc, ◌+◌, ◌⊎◌, inl, inr, ⊎_elim, ◌||◌, Bool, true, false, if◌then◌else◌, Option, Some, None, List, [], ◌∷◌, ◌++◌, take, length, arith}
-use Rattle.std.proofs.lemmas.Bool.{or_left, or_right, false≢true}
+use Rattle.std.proofs.lemmas.Bool.{or_left, or_right, false≢true, both_ways}
 use Rattle.std.specs.List.{flat_map}
 use Rattle.outside_kit.specs.declared.side.Side.{Side}
 use Rattle.outside_kit.specs.declared.side.Side.TheVariants.{A, B}
@@ -10,10 +10,11 @@ use Rattle.mptcp_options.specs.declared.capable.CapableKeys.{CapableKeys}
 use Rattle.mptcp_options.specs.declared.capable.CapableKeys.TheVariants.{NoKey, Sender, Both, WithData}
 use Rattle.mptcp_options.specs.declared.join.JoinForm.{JoinForm}
 use Rattle.mptcp_options.specs.declared.join.JoinForm.TheVariants as joins
+use Rattle.fallback_state.specs.declared.fall.Event.{Event as FallEvent}
+use Rattle.fallback_state.specs.declared.fall.Event.TheVariants as events
 use Rattle.join_handshake.specs.declared.hearing.JoinSyn.{JoinSyn}
 use Rattle.path_segments.specs.declared.segment.PathOption.TheVariants.{Capable, Join, Dss, AddAddr, Remove, Prio, Fail, FastClose, Reset}
 use Rattle.dss_mapping.specs.declared.kept.KeptMapping.{KeptMapping}
-use Rattle.dss_mapping.specs.Mappings.{mapping_at}
 use Rattle.subflow_send.specs.Records.{Record}
 use Rattle.subflow_tcp.specs.Expiring.{is_sixth}
 use Rattle.subflow_tcp.specs.States.{is_dead}
@@ -22,13 +23,13 @@ use Rattle.subflow_tcp.specs.declared.verdicts.Meaning.TheVariants as means
 use Rattle.actor_desk.specs.declared.ask.Reply.{Reply}
 use Rattle.actor_desk.specs.Words.{tail_of}
 use Rattle.path_agenda.specs.Agenda.{start_of_turn, rest_of_turn, heard_and, payload_came, resets, leaves, emission}
-use Rattle.path_agenda.specs.Items.{is_dss}
+use Rattle.path_agenda.specs.Items.{is_dss, key_heard, keys_heard}
 use Rattle.path_agenda.specs.declared.duty.Duty.{Duty}
 use Rattle.path_agenda.specs.declared.duty.Duty.TheVariants as duties
 use Rattle.path_agenda.specs.declared.heard.Heard.{Heard}
 use Rattle.path_agenda.specs.declared.heard.Heard.TheVariants as says
 use Rattle.path_agenda.specs.declared.keys.KeyPair.{KeyPair}
-use Rattle.path_core.specs.Arriving.{HeardOption, ack_items, map_items, key_items, join_items, items_in, items_of, judged_in, template_by, template_judged}
+use Rattle.path_core.specs.Arriving.{HeardOption, ack_items, map_items, key_items, join_items, items_in, items_of, judged_in, template_by, template_judged, options_heard}
 use Rattle.path_core.specs.Breaking.{answered_break, reset_on}
 use Rattle.path_core.specs.Codec.{Codec, HeardSegment}
 use Rattle.path_core.specs.declared.event.Event.{Event}
@@ -41,15 +42,17 @@ use Rattle.path_core.specs.Ends.{PathEnd}
 use Rattle.path_core.specs.Events.{next_event, after_line, is_death, at_tick, died, died_unless_dead, join_begun, copy_heard, heard_in, template_fired, happens_if}
 use Rattle.path_core.specs.Joining.{keys_begun, is_never, opened_by, join_taken, asked_at}
 use Rattle.path_core.specs.Joins.{is_joined}
-use Rattle.path_core.specs.Passing.{answered_piece, is_placed, is_fin_set, answered_fin_heard, piece_of}
-use Rattle.path_core.specs.Placing.{Piece, is_wrong, forgotten_by, with_learned, with_skipped}
+use Rattle.path_core.specs.Passing.{answered_piece, is_placed, is_fin_set, answered_fin_heard, piece_of, answered_plain_fin}
+use Rattle.path_core.specs.Placing.{Piece, is_wrong, forgotten_by, with_learned, with_skipped, mapping_here}
 use Rattle.path_core.specs.Standing.{answered_ack_out}
 use Rattle.path_core.specs.State.{PathState, end_at, goes_on, with_end, with_agenda}
 use Rattle.path_core.specs.Steps.{settled, takes, begins_turn, next_round}
 use Rattle.path_core.specs.Turns.{FirstStands, IsSettled}
-use Rattle.path_core.specs.Treating.{item_stands, counts, is_clash, after_verdict, told_next, with_fin, item_passed, answered_item, item_of}
+use Rattle.path_core.specs.Treating.{item_stands, counts, is_clash, told_next, with_fin, item_passed, answered_item, item_of, after_fell, fell_duties, answered_fell, answered_plain_ack, breaks_by_ack, with_plain_ack}
 use Rattle.path_core.specs.Words.{item_at}
-use Rattle.world_laws.proofs.Clearing.{maybe_end, passed_clear, answered_clear}
+use Rattle.path_core.specs.Opening.{answered_peer_key, answered_opened}
+use Rattle.world_laws.proofs.Clearing.{maybe_end, passed_clear, answered_clear, Stays}
+use Rattle.world_laws.proofs.Verdicts.{fell_cases}
 
 -- ---- what a copy says, in its order
 
@@ -58,6 +61,7 @@ abbrev pub IsLed : Bool → Heard → Type 0
 IsLed seen (says.DataAck next window) = seen ≡ true
 IsLed seen says.Mapping = seen ≡ true
 IsLed seen (says.DataFin place) = seen ≡ true
+IsLed seen says.InfiniteMapping = seen ≡ true
 IsLed seen _ = Unit {0}
 
 abbrev pub Led : Bool → List Heard → Type 0
@@ -68,6 +72,7 @@ one_led : (seen later : Bool) (item : Heard) → (seen ≡ true → later ≡ tr
 one_led seen later (says.DataAck next window) on h = on h
 one_led seen later says.Mapping on h = on h
 one_led seen later (says.DataFin place) on h = on h
+one_led seen later says.InfiniteMapping on h = on h
 one_led seen later says.Dss on h = tt
 one_led seen later (says.PeerKey key) on h = tt
 one_led seen later (says.Keys own peer) on h = tt
@@ -95,6 +100,7 @@ one_seen : (item : Heard) → IsLed true item
 one_seen (says.DataAck next window) = refl
 one_seen says.Mapping = refl
 one_seen (says.DataFin place) = refl
+one_seen says.InfiniteMapping = refl
 one_seen says.Dss = tt
 one_seen (says.PeerKey key) = tt
 one_seen (says.Keys own peer) = tt
@@ -253,6 +259,7 @@ same_items s (Some (says.DataFin place)) e = by (counts e)
     by : (b : Bool) → (if b then with_fin place e else e).treated.items ≡ e.treated.items
     by true = refl
     by false = refl
+same_items s (Some says.InfiniteMapping) e = refl
 same_items s (Some (says.PeerKey key)) e = refl
 same_items s (Some (says.Keys own peer)) e = refl
 same_items s (Some (says.Join form)) e = refl
@@ -270,10 +277,10 @@ IsOther _ = Unit {0}
 -- ---- a path
 
 module _ {C : Type 0} where
-  -- A's end isn't clear, and no DSS was heard by the things that are treated already
+  -- A's end isn't clear, and no DSS was heard by the things that are treated already; or the end fell back, and hears none
   pub record IsUnclear (ds : List Duty) (p : PathState C) : Type 0 where
     pub n : ℕ
-    pub none : NoneBefore n p.a.treated.items
+    pub none : (p.a.modes.identity ≡ true) ⊎ NoneBefore n p.a.treated.items
     pub follows : Follows n ds
 
   pub record Leads (ds : List Duty) (p : PathState C) : Type 0 where
@@ -285,12 +292,16 @@ module _ {C : Type 0} where
     recalls : Recalls p.a q.a
     follows : (n : ℕ) → Follows n (d ∷ ds) → Follows n es
 
-  goes_led : (d : Duty) (ds : List Duty) (p q : PathState C) (es : List Duty) → (p.a.modes.clear ≡ true → q.a.modes.clear ≡ true) → Goes d ds p q es → Leads (d ∷ ds) p → Leads es q
+  goes_led : (d : Duty) (ds : List Duty) (p q : PathState C) (es : List Duty) → Stays p.a.modes q.a.modes → Goes d ds p q es → Leads (d ∷ ds) p → Leads es q
   goes_led d ds p q es clear g h = record {
     led = recalled_led p.a q.a g.recalls h.led;
     clear = ⊎_elim
-        (λ is. inl (clear is))
-        (λ (u : IsUnclear (d ∷ ds) p). inr (record { n = u.n; none = recalled_none u.n p.a q.a g.recalls u.none; follows = g.follows u.n u.follows }))
+        (λ is. inl (clear.0 is))
+        (λ (u : IsUnclear (d ∷ ds) p). inr (record {
+          n = u.n;
+          none = ⊎_elim (λ plain. inl (clear.1 plain)) (λ none. inr (recalled_none u.n p.a q.a g.recalls none)) u.none;
+          follows = g.follows u.n u.follows;
+        }))
         h.clear;
   }
 
@@ -301,78 +312,98 @@ module _ {C : Type 0} where
 
   -- ---- passing
 
+  -- an end that didn't fall back
+  pub unheard : (p : PathState C) (n : ℕ) → p.a.modes.identity ≡ false → (p.a.modes.identity ≡ true) ⊎ NoneBefore n p.a.treated.items → NoneBefore n p.a.treated.items
+  unheard p n above (inl plain) = absurd (both_ways p.a.modes.identity above plain)
+  unheard p n above (inr none) = none
+
   -- a thing that was said to A is passed
-  item_leads : (index : ℕ) (ds : List Duty) (p : PathState C) (o : Option Heard) → item_at index p.a.treated.items ≡ o → Leads (duties.Heard A index ∷ ds) p
+  item_leads : (index : ℕ) (ds : List Duty) (p : PathState C) → p.a.modes.identity ≡ false → (o : Option Heard) → item_at index p.a.treated.items ≡ o → Leads (duties.Heard A index ∷ ds) p
       → Leads ds (with_end A (item_passed A o p.a) p)
-  item_leads index ds p o is h = record {
+  item_leads index ds p above o is h = record {
     led = subst (Led false) (sym (same_items A o p.a)) h.led;
-    clear = ⊎_elim (λ is_clear. inl (maybe_end A o p.a is_clear)) (λ (u : IsUnclear (duties.Heard A index ∷ ds) p). by o is u) h.clear;
+    clear = ⊎_elim (λ is_clear. inl ((maybe_end A o p.a).0 is_clear)) (λ (u : IsUnclear (duties.Heard A index ∷ ds) p). by o is u) h.clear;
   }
     where
       by : (o : Option Heard) → item_at index p.a.treated.items ≡ o → IsUnclear (duties.Heard A index ∷ ds) p
           → ((item_passed A o p.a).modes.clear ≡ true) ⊎ IsUnclear ds (with_end A (item_passed A o p.a) p)
       by None is u =
-          inr (record { n = suc u.n; none = no_more u.n p.a.treated.items u.none (subst (λ n. item_at n p.a.treated.items ≡ None) u.follows.0 is); follows = u.follows.1 })
+          inr (record { n = suc u.n; none = inr (no_more u.n p.a.treated.items (unheard p u.n above u.none) (subst (λ n. item_at n p.a.treated.items ≡ None) u.follows.0 is)); follows = u.follows.1 })
       by (Some says.Dss) is u = inl (or_right p.a.modes.clear true refl)
       by (Some (says.DataAck next window)) is u =
-          absurd (false≢true (unled u.n p.a.treated.items (says.DataAck next window) h.led u.none (subst (λ n. item_at n p.a.treated.items ≡ Some (says.DataAck next window)) u.follows.0 is)))
+          absurd (false≢true (unled u.n p.a.treated.items (says.DataAck next window) h.led (unheard p u.n above u.none) (subst (λ n. item_at n p.a.treated.items ≡ Some (says.DataAck next window)) u.follows.0 is)))
       by (Some says.Mapping) is u =
-          absurd (false≢true (unled u.n p.a.treated.items says.Mapping h.led u.none (subst (λ n. item_at n p.a.treated.items ≡ Some says.Mapping) u.follows.0 is)))
+          absurd (false≢true (unled u.n p.a.treated.items says.Mapping h.led (unheard p u.n above u.none) (subst (λ n. item_at n p.a.treated.items ≡ Some says.Mapping) u.follows.0 is)))
       by (Some (says.DataFin place)) is u =
-          absurd (false≢true (unled u.n p.a.treated.items (says.DataFin place) h.led u.none (subst (λ n. item_at n p.a.treated.items ≡ Some (says.DataFin place)) u.follows.0 is)))
+          absurd (false≢true (unled u.n p.a.treated.items (says.DataFin place) h.led (unheard p u.n above u.none) (subst (λ n. item_at n p.a.treated.items ≡ Some (says.DataFin place)) u.follows.0 is)))
+      by (Some says.InfiniteMapping) is u =
+          absurd (false≢true (unled u.n p.a.treated.items says.InfiniteMapping h.led (unheard p u.n above u.none) (subst (λ n. item_at n p.a.treated.items ≡ Some says.InfiniteMapping) u.follows.0 is)))
       by (Some (says.PeerKey key)) is u =
-          inr (record { n = suc u.n; none = one_more u.n p.a.treated.items (says.PeerKey key) u.none (subst (λ n. item_at n p.a.treated.items ≡ Some (says.PeerKey key)) u.follows.0 is) refl; follows = u.follows.1 })
+          inr (record { n = suc u.n; none = inr (one_more u.n p.a.treated.items (says.PeerKey key) (unheard p u.n above u.none) (subst (λ n. item_at n p.a.treated.items ≡ Some (says.PeerKey key)) u.follows.0 is) refl); follows = u.follows.1 })
       by (Some (says.Keys own peer)) is u =
-          inr (record { n = suc u.n; none = one_more u.n p.a.treated.items (says.Keys own peer) u.none (subst (λ n. item_at n p.a.treated.items ≡ Some (says.Keys own peer)) u.follows.0 is) refl; follows = u.follows.1 })
+          inr (record { n = suc u.n; none = inr (one_more u.n p.a.treated.items (says.Keys own peer) (unheard p u.n above u.none) (subst (λ n. item_at n p.a.treated.items ≡ Some (says.Keys own peer)) u.follows.0 is) refl); follows = u.follows.1 })
       by (Some (says.Join form)) is u =
-          inr (record { n = suc u.n; none = one_more u.n p.a.treated.items (says.Join form) u.none (subst (λ n. item_at n p.a.treated.items ≡ Some (says.Join form)) u.follows.0 is) refl; follows = u.follows.1 })
+          inr (record { n = suc u.n; none = inr (one_more u.n p.a.treated.items (says.Join form) (unheard p u.n above u.none) (subst (λ n. item_at n p.a.treated.items ≡ Some (says.Join form)) u.follows.0 is) refl); follows = u.follows.1 })
 
   passed_leads : (d : Duty) (ds : List Duty) (p : PathState C) → Leads (d ∷ ds) p → stands d p ≡ false → Leads ds (passed d p)
-  passed_leads (duties.Heard A index) ds p h none = item_leads index ds p (item_of index p.a) refl h
-  passed_leads (duties.Heard B index) ds p h none = goes_led (duties.Heard B index) ds p _ ds (λ is. is) (record { recalls = recalls_all _ _ refl; follows = λ n f. f }) h
+  passed_leads (duties.Heard A index) ds p h none = by p.a.modes.identity refl
+    where
+      by : (b : Bool) → p.a.modes.identity ≡ b → Leads ds (with_end A (item_passed A (if b then None else item_at index p.a.treated.items) p.a) p)
+      by true plain = record {
+        led = h.led;
+        clear = ⊎_elim (λ is_clear. inl is_clear) (λ (u : IsUnclear (duties.Heard A index ∷ ds) p). inr (record { n = suc u.n; none = inl plain; follows = u.follows.1 })) h.clear;
+      }
+      by false above = item_leads index ds p above (item_at index p.a.treated.items) refl h
+  passed_leads (duties.Heard B index) ds p h none = goes_led (duties.Heard B index) ds p _ ds (λ is. is, λ is. is) (record { recalls = recalls_all _ _ refl; follows = λ n f. f }) h
   passed_leads (duties.Timer s) ds p h none = goes_led (duties.Timer s) ds p _ ds (passed_clear (duties.Timer s) p).a (record { recalls = side_recalls s _ p _ (recalls_all _ _ refl) refl; follows = λ n f. f }) h
   passed_leads (duties.Keep s) ds p h none = goes_led (duties.Keep s) ds p _ ds (passed_clear (duties.Keep s) p).a (record { recalls = side_recalls s _ p _ (recalls_all _ _ refl) refl; follows = λ n f. f }) h
   passed_leads (duties.PassFin s) ds p h none = goes_led (duties.PassFin s) ds p _ ds (passed_clear (duties.PassFin s) p).a (record { recalls = side_recalls s _ p _ (recalls_all _ _ refl) refl; follows = λ n f. f }) h
   passed_leads (duties.Edge s) ds p h none =
       goes_led (duties.Edge s) ds p _ ds (passed_clear (duties.Edge s) p).a (record {
-        recalls = side_recalls s _ p _ (checked_recalls p.profile.spelling.checksums (mapping_at (end_at s p).receiving.mappings (end_at s p).tcp.recv.edge) (end_at s p)) refl;
+        recalls = side_recalls s _ p _ (checked_recalls p.profile.spelling.checksums (mapping_here (end_at s p)) (end_at s p)) refl;
         follows = λ n f. f;
       }) h
-  passed_leads (duties.AckHeard A) ds p h none = goes_led (duties.AckHeard A) ds p p ds (λ is. is) (record { recalls = recalls_all _ _ refl; follows = λ n f. absurd f }) h
-  passed_leads (duties.AckHeard B) ds p h none = goes_led (duties.AckHeard B) ds p p ds (λ is. is) (record { recalls = recalls_all _ _ refl; follows = λ n f. f }) h
-  passed_leads duties.JoinAgain ds p h none = goes_led duties.JoinAgain ds p p ds (λ is. is) (record { recalls = recalls_all _ _ refl; follows = λ n f. f }) h
-  passed_leads (duties.Look s) ds p h none = goes_led (duties.Look s) ds p p ds (λ is. is) (record { recalls = recalls_all _ _ refl; follows = λ n f. f }) h
-  passed_leads (duties.Window s) ds p h none = goes_led (duties.Window s) ds p p ds (λ is. is) (record { recalls = recalls_all _ _ refl; follows = λ n f. f }) h
-  passed_leads (duties.Update s) ds p h none = goes_led (duties.Update s) ds p p ds (λ is. is) (record { recalls = recalls_all _ _ refl; follows = λ n f. f }) h
-  passed_leads (duties.Syn s) ds p h none = goes_led (duties.Syn s) ds p p ds (λ is. is) (record { recalls = recalls_all _ _ refl; follows = λ n f. f }) h
-  passed_leads (duties.Data s) ds p h none = goes_led (duties.Data s) ds p p ds (λ is. is) (record { recalls = recalls_all _ _ refl; follows = λ n f. f }) h
-  passed_leads (duties.DataFin s) ds p h none = goes_led (duties.DataFin s) ds p p ds (λ is. is) (record { recalls = recalls_all _ _ refl; follows = λ n f. f }) h
-  passed_leads (duties.Fin s) ds p h none = goes_led (duties.Fin s) ds p p ds (λ is. is) (record { recalls = recalls_all _ _ refl; follows = λ n f. f }) h
-  passed_leads duties.Events ds p h none = goes_led duties.Events ds p p ds (λ is. is) (record { recalls = recalls_all _ _ refl; follows = λ n f. f }) h
-  passed_leads (duties.SynHeard s) ds p h none = goes_led (duties.SynHeard s) ds p p ds (λ is. is) (record { recalls = recalls_all _ _ refl; follows = λ n f. f }) h
-  passed_leads (duties.SynAnswered s) ds p h none = goes_led (duties.SynAnswered s) ds p p ds (λ is. is) (record { recalls = recalls_all _ _ refl; follows = λ n f. f }) h
-  passed_leads (duties.PeerKey s) ds p h none = goes_led (duties.PeerKey s) ds p p ds (λ is. is) (record { recalls = recalls_all _ _ refl; follows = λ n f. f }) h
-  passed_leads (duties.SynAck s) ds p h none = goes_led (duties.SynAck s) ds p p ds (λ is. is) (record { recalls = recalls_all _ _ refl; follows = λ n f. f }) h
-  passed_leads (duties.JoinHeard s) ds p h none = goes_led (duties.JoinHeard s) ds p p ds (λ is. is) (record { recalls = recalls_all _ _ refl; follows = λ n f. f }) h
-  passed_leads (duties.Refuse s) ds p h none = goes_led (duties.Refuse s) ds p p ds (λ is. is) (record { recalls = recalls_all _ _ refl; follows = λ n f. f }) h
-  passed_leads (duties.Opened s) ds p h none = goes_led (duties.Opened s) ds p p ds (λ is. is) (record { recalls = recalls_all _ _ refl; follows = λ n f. f }) h
-  passed_leads (duties.Live s) ds p h none = goes_led (duties.Live s) ds p p ds (λ is. is) (record { recalls = recalls_all _ _ refl; follows = λ n f. f }) h
-  passed_leads (duties.PlainAck s) ds p h none = goes_led (duties.PlainAck s) ds p p ds (λ is. is) (record { recalls = recalls_all _ _ refl; follows = λ n f. f }) h
-  passed_leads (duties.HeardFin s index) ds p h none = goes_led (duties.HeardFin s index) ds p p ds (λ is. is) (record { recalls = recalls_all _ _ refl; follows = λ n f. f }) h
-  passed_leads (duties.AckOut s) ds p h none = goes_led (duties.AckOut s) ds p p ds (λ is. is) (record { recalls = recalls_all _ _ refl; follows = λ n f. f }) h
-  passed_leads (duties.Rate s) ds p h none = goes_led (duties.Rate s) ds p p ds (λ is. is) (record { recalls = recalls_all _ _ refl; follows = λ n f. f }) h
-  passed_leads (duties.Acknowledge s) ds p h none = goes_led (duties.Acknowledge s) ds p p ds (λ is. is) (record { recalls = recalls_all _ _ refl; follows = λ n f. f }) h
-  passed_leads (duties.Again s) ds p h none = goes_led (duties.Again s) ds p p ds (λ is. is) (record { recalls = recalls_all _ _ refl; follows = λ n f. f }) h
-  passed_leads (duties.Answer s) ds p h none = goes_led (duties.Answer s) ds p p ds (λ is. is) (record { recalls = recalls_all _ _ refl; follows = λ n f. f }) h
-  passed_leads (duties.ResetAnswer s) ds p h none = goes_led (duties.ResetAnswer s) ds p p ds (λ is. is) (record { recalls = recalls_all _ _ refl; follows = λ n f. f }) h
-  passed_leads (duties.Return s) ds p h none = goes_led (duties.Return s) ds p p ds (λ is. is) (record { recalls = recalls_all _ _ refl; follows = λ n f. f }) h
-  passed_leads (duties.Resend s) ds p h none = goes_led (duties.Resend s) ds p p ds (λ is. is) (record { recalls = recalls_all _ _ refl; follows = λ n f. f }) h
-  passed_leads (duties.BreakAck s reason) ds p h none = goes_led (duties.BreakAck s reason) ds p p ds (λ is. is) (record { recalls = recalls_all _ _ refl; follows = λ n f. f }) h
-  passed_leads (duties.BreakReset s reason) ds p h none = goes_led (duties.BreakReset s reason) ds p p ds (λ is. is) (record { recalls = recalls_all _ _ refl; follows = λ n f. f }) h
-  passed_leads (duties.Reset s) ds p h none = goes_led (duties.Reset s) ds p p ds (λ is. is) (record { recalls = recalls_all _ _ refl; follows = λ n f. f }) h
-  passed_leads (duties.Leave s) ds p h none = goes_led (duties.Leave s) ds p p ds (λ is. is) (record { recalls = recalls_all _ _ refl; follows = λ n f. f }) h
-  passed_leads (duties.Dead s) ds p h none = goes_led (duties.Dead s) ds p p ds (λ is. is) (record { recalls = recalls_all _ _ refl; follows = λ n f. f }) h
-  passed_leads duties.End ds p h none = goes_led duties.End ds p p ds (λ is. is) (record { recalls = recalls_all _ _ refl; follows = λ n f. f }) h
+  passed_leads (duties.AckHeard A) ds p h none = goes_led (duties.AckHeard A) ds p p ds (λ is. is, λ is. is) (record { recalls = recalls_all _ _ refl; follows = λ n f. absurd f }) h
+  passed_leads (duties.AckHeard B) ds p h none = goes_led (duties.AckHeard B) ds p p ds (λ is. is, λ is. is) (record { recalls = recalls_all _ _ refl; follows = λ n f. f }) h
+  passed_leads duties.JoinAgain ds p h none = goes_led duties.JoinAgain ds p p ds (λ is. is, λ is. is) (record { recalls = recalls_all _ _ refl; follows = λ n f. f }) h
+  passed_leads (duties.Look s) ds p h none = goes_led (duties.Look s) ds p p ds (λ is. is, λ is. is) (record { recalls = recalls_all _ _ refl; follows = λ n f. f }) h
+  passed_leads (duties.Window s) ds p h none = goes_led (duties.Window s) ds p p ds (λ is. is, λ is. is) (record { recalls = recalls_all _ _ refl; follows = λ n f. f }) h
+  passed_leads (duties.Update s) ds p h none = goes_led (duties.Update s) ds p p ds (λ is. is, λ is. is) (record { recalls = recalls_all _ _ refl; follows = λ n f. f }) h
+  passed_leads (duties.Syn s) ds p h none = goes_led (duties.Syn s) ds p p ds (λ is. is, λ is. is) (record { recalls = recalls_all _ _ refl; follows = λ n f. f }) h
+  passed_leads (duties.Data s) ds p h none = goes_led (duties.Data s) ds p p ds (λ is. is, λ is. is) (record { recalls = recalls_all _ _ refl; follows = λ n f. f }) h
+  passed_leads (duties.DataFin s) ds p h none = goes_led (duties.DataFin s) ds p p ds (λ is. is, λ is. is) (record { recalls = recalls_all _ _ refl; follows = λ n f. f }) h
+  passed_leads (duties.Fin s) ds p h none = goes_led (duties.Fin s) ds p p ds (λ is. is, λ is. is) (record { recalls = recalls_all _ _ refl; follows = λ n f. f }) h
+  passed_leads duties.Events ds p h none = goes_led duties.Events ds p p ds (λ is. is, λ is. is) (record { recalls = recalls_all _ _ refl; follows = λ n f. f }) h
+  passed_leads (duties.SynHeard s) ds p h none = goes_led (duties.SynHeard s) ds p p ds (λ is. is, λ is. is) (record { recalls = recalls_all _ _ refl; follows = λ n f. f }) h
+  passed_leads (duties.SynAnswered s) ds p h none = goes_led (duties.SynAnswered s) ds p p ds (λ is. is, λ is. is) (record { recalls = recalls_all _ _ refl; follows = λ n f. f }) h
+  passed_leads (duties.PeerKey s) ds p h none = goes_led (duties.PeerKey s) ds p p ds (λ is. is, λ is. is) (record { recalls = recalls_all _ _ refl; follows = λ n f. f }) h
+  passed_leads (duties.SynAck s) ds p h none = goes_led (duties.SynAck s) ds p p ds (λ is. is, λ is. is) (record { recalls = recalls_all _ _ refl; follows = λ n f. f }) h
+  passed_leads (duties.JoinHeard s) ds p h none = goes_led (duties.JoinHeard s) ds p p ds (λ is. is, λ is. is) (record { recalls = recalls_all _ _ refl; follows = λ n f. f }) h
+  passed_leads (duties.Refuse s) ds p h none = goes_led (duties.Refuse s) ds p p ds (λ is. is, λ is. is) (record { recalls = recalls_all _ _ refl; follows = λ n f. f }) h
+  passed_leads (duties.Opened s) ds p h none = goes_led (duties.Opened s) ds p p ds (λ is. is, λ is. is) (record { recalls = recalls_all _ _ refl; follows = λ n f. f }) h
+  passed_leads (duties.Live s) ds p h none = goes_led (duties.Live s) ds p p ds (λ is. is, λ is. is) (record { recalls = recalls_all _ _ refl; follows = λ n f. f }) h
+  passed_leads (duties.PlainAck s) ds p h none = goes_led (duties.PlainAck s) ds p _ ds (passed_clear (duties.PlainAck s) p).a (record { recalls = side_recalls s _ p _ (recalls_all _ _ refl) refl; follows = λ n f. f }) h
+  passed_leads (duties.Unmapped s) ds p h none = goes_led (duties.Unmapped s) ds p _ ds (passed_clear (duties.Unmapped s) p).a (record { recalls = side_recalls s _ p _ (recalls_all _ _ refl) refl; follows = λ n f. f }) h
+  passed_leads (duties.PlainHandshake s) ds p h none = goes_led (duties.PlainHandshake s) ds p p ds (λ is. is, λ is. is) (record { recalls = recalls_all _ _ refl; follows = λ n f. f }) h
+  passed_leads (duties.SubflowAck s) ds p h none = goes_led (duties.SubflowAck s) ds p p ds (λ is. is, λ is. is) (record { recalls = recalls_all _ _ refl; follows = λ n f. f }) h
+  passed_leads (duties.PlainData s) ds p h none = goes_led (duties.PlainData s) ds p p ds (λ is. is, λ is. is) (record { recalls = recalls_all _ _ refl; follows = λ n f. f }) h
+  passed_leads (duties.GoIdentity s) ds p h none = goes_led (duties.GoIdentity s) ds p p ds (λ is. is, λ is. is) (record { recalls = recalls_all _ _ refl; follows = λ n f. f }) h
+  passed_leads (duties.SubflowFin s) ds p h none = goes_led (duties.SubflowFin s) ds p p ds (λ is. is, λ is. is) (record { recalls = recalls_all _ _ refl; follows = λ n f. f }) h
+  passed_leads (duties.HeardFin s index) ds p h none = goes_led (duties.HeardFin s index) ds p p ds (λ is. is, λ is. is) (record { recalls = recalls_all _ _ refl; follows = λ n f. f }) h
+  passed_leads (duties.AckOut s) ds p h none = goes_led (duties.AckOut s) ds p p ds (λ is. is, λ is. is) (record { recalls = recalls_all _ _ refl; follows = λ n f. f }) h
+  passed_leads (duties.Rate s) ds p h none = goes_led (duties.Rate s) ds p p ds (λ is. is, λ is. is) (record { recalls = recalls_all _ _ refl; follows = λ n f. f }) h
+  passed_leads (duties.Acknowledge s) ds p h none = goes_led (duties.Acknowledge s) ds p p ds (λ is. is, λ is. is) (record { recalls = recalls_all _ _ refl; follows = λ n f. f }) h
+  passed_leads (duties.Again s) ds p h none = goes_led (duties.Again s) ds p p ds (λ is. is, λ is. is) (record { recalls = recalls_all _ _ refl; follows = λ n f. f }) h
+  passed_leads (duties.Answer s) ds p h none = goes_led (duties.Answer s) ds p p ds (λ is. is, λ is. is) (record { recalls = recalls_all _ _ refl; follows = λ n f. f }) h
+  passed_leads (duties.ResetAnswer s) ds p h none = goes_led (duties.ResetAnswer s) ds p p ds (λ is. is, λ is. is) (record { recalls = recalls_all _ _ refl; follows = λ n f. f }) h
+  passed_leads (duties.Return s) ds p h none = goes_led (duties.Return s) ds p p ds (λ is. is, λ is. is) (record { recalls = recalls_all _ _ refl; follows = λ n f. f }) h
+  passed_leads (duties.Resend s) ds p h none = goes_led (duties.Resend s) ds p p ds (λ is. is, λ is. is) (record { recalls = recalls_all _ _ refl; follows = λ n f. f }) h
+  passed_leads (duties.BreakAck s reason) ds p h none = goes_led (duties.BreakAck s reason) ds p p ds (λ is. is, λ is. is) (record { recalls = recalls_all _ _ refl; follows = λ n f. f }) h
+  passed_leads (duties.BreakReset s reason) ds p h none = goes_led (duties.BreakReset s reason) ds p p ds (λ is. is, λ is. is) (record { recalls = recalls_all _ _ refl; follows = λ n f. f }) h
+  passed_leads (duties.Reset s) ds p h none = goes_led (duties.Reset s) ds p p ds (λ is. is, λ is. is) (record { recalls = recalls_all _ _ refl; follows = λ n f. f }) h
+  passed_leads (duties.Leave s) ds p h none = goes_led (duties.Leave s) ds p p ds (λ is. is, λ is. is) (record { recalls = recalls_all _ _ refl; follows = λ n f. f }) h
+  passed_leads (duties.Dead s) ds p h none = goes_led (duties.Dead s) ds p p ds (λ is. is, λ is. is) (record { recalls = recalls_all _ _ refl; follows = λ n f. f }) h
+  passed_leads duties.End ds p h none = goes_led duties.End ds p p ds (λ is. is, λ is. is) (record { recalls = recalls_all _ _ refl; follows = λ n f. f }) h
 
   agenda_leads : (ds : List Duty) (p : PathState C) → Leads ds p → Leads ds (with_agenda ds p)
   agenda_leads ds p h = record {
@@ -402,7 +433,7 @@ module _ {C : Type 0} where
   either_anew false p q r x y = y
 
   anew_leads : (p q : PathState C) → Anew p q → Leads q.agenda q
-  anew_leads p q x = record { led = x.led; clear = inr (record { n = 0; none = tt; follows = x.follows }) }
+  anew_leads p q x = record { led = x.led; clear = inr (record { n = 0; none = inr tt; follows = x.follows }) }
 
   module _ (p : PathState C) (led : Led false p.a.treated.items) where
     line_anew : (death : Bool) → Anew p (after_line death p)
@@ -414,11 +445,11 @@ module _ {C : Type 0} where
 
     copy_anew : (s : Side) (heard : Option HeardSegment) → Anew p (copy_heard s heard p)
     copy_anew s None = record { led = led; follows = tt }
-    copy_anew A (Some h) =
-        let joined = is_joined p.profile in
+    copy_anew A (Some heard) =
+        let joined = is_joined p.profile in let h : HeardSegment = options_heard p.a heard in
         record { led = items_led joined h; follows = judged_follows joined A (length (items_of joined A h)) (judged_in joined A h p.a) }
-    copy_anew B (Some h) =
-        let joined = is_joined p.profile in
+    copy_anew B (Some heard) =
+        let joined = is_joined p.profile in let h : HeardSegment = options_heard p.b heard in
         record { led = led; follows = judged_follows joined B (length (items_of joined B h)) (judged_in joined B h p.b) }
 
     begun_anew : (r : Reply) → Anew p (join_begun r (leaves A) (emission A) p)
@@ -481,6 +512,40 @@ module _ {C : Type 0} where
   fin_goes s index ds p true = record { recalls = side_recalls s _ (with_agenda (duties.HeardFin s index ∷ ds) p) _ (recalls_all _ _ refl) refl; follows = λ n f. f }
   fin_goes s index ds p false = record { recalls = side_recalls s _ (with_agenda (duties.HeardFin s index ∷ ds) p) _ (recalls_all _ _ refl) refl; follows = λ n f. tt }
 
+  -- what follows where something is told of the mode
+  fell_follows : (s : Side) (d : Duty) (ds : List Duty) (r : Reply) (p : PathState C) (n : ℕ) → Follows n ds → Follows n (fell_duties s r (with_agenda (d ∷ ds) p))
+  fell_follows A d ds r p n f = fell_cases (Follows n) A (with_agenda (d ∷ ds) p) r (λ falls. f) (λ reason. tt) (λ reason. tt) f
+  fell_follows B d ds r p n f = fell_cases (Follows n) B (with_agenda (d ∷ ds) p) r (λ falls. f) (λ reason. tt) (λ reason. tt) f
+
+  event_goes : (s : Side) (d : Duty) (event : FallEvent) (ds : List Duty) (r : Reply) (p : PathState C) → ((n : ℕ) → Follows n (d ∷ ds) → Follows n ds)
+      → let m = with_agenda (d ∷ ds) p in let q = answered_fell s event r m in Goes d ds m q q.agenda
+  event_goes s d event ds r p rest =
+      record { recalls = side_recalls s _ (with_agenda (d ∷ ds) p) _ (recalls_all _ _ refl) refl; follows = λ n f. fell_follows s d ds r p n (rest n f) }
+
+  key_goes : (s : Side) (key : Option ℕ) (ds : List Duty) (r : Reply) (p : PathState C)
+      → let m = with_agenda (duties.PeerKey s ∷ ds) p in let q = answered_peer_key s key r m in Goes (duties.PeerKey s) ds m q q.agenda
+  key_goes s None ds r p = event_goes s (duties.PeerKey s) events.PlainHandshake ds r p (λ n f. f)
+  key_goes s (Some key) ds r p = record { recalls = side_recalls s _ (with_agenda (duties.PeerKey s ∷ ds) p) _ (recalls_all _ _ refl) refl; follows = λ n f. f }
+
+  opened_goes : (s : Side) (keys : Option KeyPair) (ds : List Duty) (r : Reply) (p : PathState C)
+      → let m = with_agenda (duties.Opened s ∷ ds) p in let q = answered_opened s keys r m in Goes (duties.Opened s) ds m q q.agenda
+  opened_goes s None ds r p = event_goes s (duties.Opened s) events.PlainHandshake ds r p (λ n f. f)
+  opened_goes s (Some keys) ds r p = record { recalls = side_recalls s _ (with_agenda (duties.Opened s ∷ ds) p) _ (recalls_all _ _ refl) refl; follows = λ n f. f }
+
+  plain_ack_goes : (k : Codec C) (s : Side) (ds : List Duty) (r : Reply) (p : PathState C)
+      → let m = with_agenda (duties.PlainAck s ∷ ds) p in let q = answered_plain_ack k s r m in Goes (duties.PlainAck s) ds m q q.agenda
+  plain_ack_goes k s ds r p =
+      let m = with_agenda (duties.PlainAck s ∷ ds) p in
+      either_goes (breaks_by_ack m.profile (end_at s m)) (duties.PlainAck s) ds m (answered_break k s 6 r m)
+      (goes_on s (with_plain_ack (after_fell events.PlainAck r (end_at s m))) (fell_duties s r m) m)
+      (break_goes k (duties.PlainAck s) s 6 r ds m)
+      (record { recalls = side_recalls s _ m _ (recalls_all _ _ refl) refl; follows = λ n f. fell_follows s (duties.PlainAck s) ds r p n f })
+
+  plain_fin_goes : (s : Side) (ds : List Duty) (p : PathState C) (set : Bool)
+      → let m = with_agenda (duties.SubflowFin s ∷ ds) p in let q = answered_plain_fin s set m in Goes (duties.SubflowFin s) ds m q q.agenda
+  plain_fin_goes s ds p true = record { recalls = side_recalls s _ (with_agenda (duties.SubflowFin s ∷ ds) p) _ (recalls_all _ _ refl) refl; follows = λ n f. f }
+  plain_fin_goes s ds p false = record { recalls = side_recalls s _ (with_agenda (duties.SubflowFin s ∷ ds) p) _ (recalls_all _ _ refl) refl; follows = λ n f. tt }
+
   -- a thing that was said to B
   told_follows : (n : ℕ) (b : Bool) (index : ℕ) (ds : List Duty) (p : PathState C) → Follows n ds → Follows n (told_next B b (with_agenda (duties.Heard B index ∷ ds) p))
   told_follows n true index ds p f = f
@@ -493,9 +558,10 @@ module _ {C : Type 0} where
   heard_goes k index ds r p (Some (says.DataAck next window)) = record { recalls = recalls_all _ _ refl; follows = λ n f. told_follows n _ index ds p f }
   heard_goes k index ds r p (Some says.Mapping) =
       let m = with_agenda (duties.Heard B index ∷ ds) p in
-      either_goes (is_clash p.b) (duties.Heard B index) ds m (answered_break k B 1 r m) (goes_on B (with_learned (after_verdict r p.b)) ds m)
-      (break_goes k (duties.Heard B index) B 1 r ds m) (record { recalls = recalls_all _ _ refl; follows = λ n f. f })
-  heard_goes k index ds r p (Some (says.DataFin place)) = record { recalls = recalls_all _ _ refl; follows = λ n f. f }
+      either_goes (is_clash p.b) (duties.Heard B index) ds m (answered_break k B 1 r m) (goes_on B (with_learned (after_fell events.MappingHeard r p.b)) (fell_duties B r m) m)
+      (break_goes k (duties.Heard B index) B 1 r ds m) (record { recalls = recalls_all _ _ refl; follows = λ n f. fell_follows B (duties.Heard B index) ds r p n f })
+  heard_goes k index ds r p (Some (says.DataFin place)) = record { recalls = recalls_all _ _ refl; follows = λ n f. fell_follows B (duties.Heard B index) ds r p n f }
+  heard_goes k index ds r p (Some says.InfiniteMapping) = record { recalls = recalls_all _ _ refl; follows = λ n f. fell_follows B (duties.Heard B index) ds r p n f }
   heard_goes k index ds r p (Some (says.PeerKey key)) = record { recalls = recalls_all _ _ refl; follows = λ n f. f }
   heard_goes k index ds r p (Some (says.Keys own peer)) = record { recalls = recalls_all _ _ refl; follows = λ n f. f }
   heard_goes k index ds r p (Some (says.Join form)) = record { recalls = recalls_all _ _ refl; follows = λ n f. f }
@@ -508,10 +574,10 @@ module _ {C : Type 0} where
   answered_goes k (duties.Syn s) other ds r p = record { recalls = side_recalls s _ (with_agenda (duties.Syn s ∷ ds) p) _ (recalls_all _ _ refl) refl; follows = λ n f. f }
   answered_goes k (duties.DataFin s) other ds r p = record { recalls = side_recalls s _ (with_agenda (duties.DataFin s ∷ ds) p) _ (recalls_all _ _ refl) refl; follows = λ n f. f }
   answered_goes k (duties.Fin s) other ds r p = record { recalls = side_recalls s _ (with_agenda (duties.Fin s ∷ ds) p) _ (recalls_all _ _ refl) refl; follows = λ n f. f }
-  answered_goes k (duties.PeerKey s) other ds r p = record { recalls = side_recalls s _ (with_agenda (duties.PeerKey s ∷ ds) p) _ (recalls_all _ _ refl) refl; follows = λ n f. f }
+  answered_goes k (duties.PeerKey s) other ds r p = key_goes s (key_heard (end_at s p).treated.items) ds r p
   answered_goes k (duties.SynAck s) other ds r p = record { recalls = side_recalls s _ (with_agenda (duties.SynAck s ∷ ds) p) _ (recalls_all _ _ refl) refl; follows = λ n f. f }
   answered_goes k (duties.Refuse s) other ds r p = record { recalls = side_recalls s _ (with_agenda (duties.Refuse s ∷ ds) p) _ (recalls_all _ _ refl) refl; follows = λ n f. f }
-  answered_goes k (duties.Opened s) other ds r p = record { recalls = side_recalls s _ (with_agenda (duties.Opened s ∷ ds) p) _ (recalls_all _ _ refl) refl; follows = λ n f. f }
+  answered_goes k (duties.Opened s) other ds r p = opened_goes s (keys_heard (end_at s p).treated.items) ds r p
   answered_goes k (duties.AckOut s) other ds r p = record { recalls = side_recalls s _ (with_agenda (duties.AckOut s ∷ ds) p) _ (recalls_all _ _ refl) refl; follows = λ n f. f }
   answered_goes k (duties.Rate s) other ds r p = record { recalls = side_recalls s _ (with_agenda (duties.Rate s ∷ ds) p) _ (recalls_all _ _ refl) refl; follows = λ n f. f }
   answered_goes k (duties.Acknowledge s) other ds r p = record { recalls = side_recalls s _ (with_agenda (duties.Acknowledge s ∷ ds) p) _ (recalls_all _ _ refl) refl; follows = λ n f. f }
@@ -536,11 +602,17 @@ module _ {C : Type 0} where
   answered_goes k duties.JoinAgain other ds r p = begun_goes r ds p
   answered_goes k (duties.Data s) other ds r p = data_goes k s r ds p (first_unsent (end_at s p))
   answered_goes k (duties.JoinHeard s) other ds r p = join_goes s (keys_begun r) (asked_at s p) ds p
-  answered_goes k (duties.PlainAck s) other ds r p = break_goes k (duties.PlainAck s) s 6 r ds (with_agenda (duties.PlainAck s ∷ ds) p)
+  answered_goes k (duties.PlainAck s) other ds r p = plain_ack_goes k s ds r p
+  answered_goes k (duties.PlainHandshake s) other ds r p = event_goes s (duties.PlainHandshake s) events.PlainHandshake ds r p (λ n f. f)
+  answered_goes k (duties.PlainData s) other ds r p = event_goes s (duties.PlainData s) events.PlainData ds r p (λ n f. f)
+  answered_goes k (duties.SubflowAck s) other ds r p = record { recalls = side_recalls s _ (with_agenda (duties.SubflowAck s ∷ ds) p) _ (recalls_all _ _ refl) refl; follows = λ n f. f }
+  answered_goes k (duties.GoIdentity s) other ds r p = record { recalls = side_recalls s _ (with_agenda (duties.GoIdentity s ∷ ds) p) _ (recalls_all _ _ refl) refl; follows = λ n f. f }
+  answered_goes k (duties.Unmapped s) other ds r p = break_goes k (duties.Unmapped s) s 6 r ds (with_agenda (duties.Unmapped s ∷ ds) p)
+  answered_goes k (duties.SubflowFin s) other ds r p = plain_fin_goes s ds p (is_fin_set r)
   answered_goes k (duties.Edge s) other ds r p = piece_goes s ds p (piece_of s p) (is_placed r)
   answered_goes k (duties.HeardFin s index) other ds r p = fin_goes s index ds p (is_fin_set r)
-  answered_goes k (duties.AckHeard A) other ds r p = record { recalls = recalls_all _ _ refl; follows = λ n f. absurd f }
-  answered_goes k (duties.AckHeard B) other ds r p = record { recalls = recalls_all _ _ refl; follows = λ n f. f }
+  answered_goes k (duties.AckHeard A) other ds r p = event_goes A (duties.AckHeard A) events.AckHeard ds r p (λ n f. absurd f)
+  answered_goes k (duties.AckHeard B) other ds r p = event_goes B (duties.AckHeard B) events.AckHeard ds r p (λ n f. f)
   answered_goes k (duties.Heard A index) other ds r p = absurd other
   answered_goes k (duties.Heard B index) other ds r p = heard_goes k index ds r p (item_of index p.b)
 
@@ -553,33 +625,36 @@ module _ {C : Type 0} where
   heard_recalls k index ds r p (Some says.Mapping) = by (is_clash p.a) p.a.treated.asked
     where
       by : (clash asked : Bool) → let m = with_agenda (duties.Heard A index ∷ ds) p in
-          Recalls p.a (if clash then (if asked then answered_ack_out A r (resets A 1) m else reset_on k A (Some 1) (leaves A) m) else goes_on A (with_learned (after_verdict r p.a)) ds m).a
+          Recalls p.a (if clash then (if asked then answered_ack_out A r (resets A 1) m else reset_on k A (Some 1) (leaves A) m) else goes_on A (with_learned (after_fell events.MappingHeard r p.a)) (fell_duties A r m) m).a
       by true true = recalls_all _ _ refl
       by true false = forgets _ _ refl
       by false asked = recalls_all _ _ refl
   heard_recalls k index ds r p (Some (says.DataFin place)) = recalls_all _ _ refl
+  heard_recalls k index ds r p (Some says.InfiniteMapping) = recalls_all _ _ refl
   heard_recalls k index ds r p (Some (says.PeerKey key)) = recalls_all _ _ refl
   heard_recalls k index ds r p (Some (says.Keys own peer)) = recalls_all _ _ refl
   heard_recalls k index ds r p (Some (says.Join form)) = recalls_all _ _ refl
 
   -- while A's end isn't clear it is none that a DSS says
-  heard_unclear : (k : Codec C) (index : ℕ) (ds : List Duty) (r : Reply) (p : PathState C) (o : Option Heard) → item_at index p.a.treated.items ≡ o → item_stands o p.a ≡ true → Led false p.a.treated.items
+  heard_unclear : (k : Codec C) (index : ℕ) (ds : List Duty) (r : Reply) (p : PathState C) → p.a.modes.identity ≡ false → (o : Option Heard) → item_at index p.a.treated.items ≡ o → item_stands o p.a ≡ true → Led false p.a.treated.items
       → IsUnclear (duties.Heard A index ∷ ds) p → let m = with_agenda (duties.Heard A index ∷ ds) p in let q = answered_item k A o r m in (q.a.modes.clear ≡ true) ⊎ IsUnclear q.agenda q
-  heard_unclear k index ds r p None is stands_so led u =
-      inr (record { n = suc u.n; none = no_more u.n p.a.treated.items u.none (subst (λ n. item_at n p.a.treated.items ≡ None) u.follows.0 is); follows = u.follows.1 })
-  heard_unclear k index ds r p (Some says.Dss) is stands_so led u = absurd (false≢true stands_so)
-  heard_unclear k index ds r p (Some (says.DataAck next window)) is stands_so led u =
-      absurd (false≢true (unled u.n p.a.treated.items (says.DataAck next window) led u.none (subst (λ n. item_at n p.a.treated.items ≡ Some (says.DataAck next window)) u.follows.0 is)))
-  heard_unclear k index ds r p (Some says.Mapping) is stands_so led u =
-      absurd (false≢true (unled u.n p.a.treated.items says.Mapping led u.none (subst (λ n. item_at n p.a.treated.items ≡ Some says.Mapping) u.follows.0 is)))
-  heard_unclear k index ds r p (Some (says.DataFin place)) is stands_so led u =
-      absurd (false≢true (unled u.n p.a.treated.items (says.DataFin place) led u.none (subst (λ n. item_at n p.a.treated.items ≡ Some (says.DataFin place)) u.follows.0 is)))
-  heard_unclear k index ds r p (Some (says.PeerKey key)) is stands_so led u =
-      inr (record { n = suc u.n; none = one_more u.n p.a.treated.items (says.PeerKey key) u.none (subst (λ n. item_at n p.a.treated.items ≡ Some (says.PeerKey key)) u.follows.0 is) refl; follows = u.follows.1 })
-  heard_unclear k index ds r p (Some (says.Keys own peer)) is stands_so led u =
-      inr (record { n = suc u.n; none = one_more u.n p.a.treated.items (says.Keys own peer) u.none (subst (λ n. item_at n p.a.treated.items ≡ Some (says.Keys own peer)) u.follows.0 is) refl; follows = u.follows.1 })
-  heard_unclear k index ds r p (Some (says.Join form)) is stands_so led u =
-      inr (record { n = suc u.n; none = one_more u.n p.a.treated.items (says.Join form) u.none (subst (λ n. item_at n p.a.treated.items ≡ Some (says.Join form)) u.follows.0 is) refl; follows = u.follows.1 })
+  heard_unclear k index ds r p above None is stands_so led u =
+      inr (record { n = suc u.n; none = inr (no_more u.n p.a.treated.items (unheard p u.n above u.none) (subst (λ n. item_at n p.a.treated.items ≡ None) u.follows.0 is)); follows = u.follows.1 })
+  heard_unclear k index ds r p above (Some says.Dss) is stands_so led u = absurd (false≢true stands_so)
+  heard_unclear k index ds r p above (Some (says.DataAck next window)) is stands_so led u =
+      absurd (false≢true (unled u.n p.a.treated.items (says.DataAck next window) led (unheard p u.n above u.none) (subst (λ n. item_at n p.a.treated.items ≡ Some (says.DataAck next window)) u.follows.0 is)))
+  heard_unclear k index ds r p above (Some says.Mapping) is stands_so led u =
+      absurd (false≢true (unled u.n p.a.treated.items says.Mapping led (unheard p u.n above u.none) (subst (λ n. item_at n p.a.treated.items ≡ Some says.Mapping) u.follows.0 is)))
+  heard_unclear k index ds r p above (Some (says.DataFin place)) is stands_so led u =
+      absurd (false≢true (unled u.n p.a.treated.items (says.DataFin place) led (unheard p u.n above u.none) (subst (λ n. item_at n p.a.treated.items ≡ Some (says.DataFin place)) u.follows.0 is)))
+  heard_unclear k index ds r p above (Some says.InfiniteMapping) is stands_so led u =
+      absurd (false≢true (unled u.n p.a.treated.items says.InfiniteMapping led (unheard p u.n above u.none) (subst (λ n. item_at n p.a.treated.items ≡ Some says.InfiniteMapping) u.follows.0 is)))
+  heard_unclear k index ds r p above (Some (says.PeerKey key)) is stands_so led u =
+      inr (record { n = suc u.n; none = inr (one_more u.n p.a.treated.items (says.PeerKey key) (unheard p u.n above u.none) (subst (λ n. item_at n p.a.treated.items ≡ Some (says.PeerKey key)) u.follows.0 is) refl); follows = u.follows.1 })
+  heard_unclear k index ds r p above (Some (says.Keys own peer)) is stands_so led u =
+      inr (record { n = suc u.n; none = inr (one_more u.n p.a.treated.items (says.Keys own peer) (unheard p u.n above u.none) (subst (λ n. item_at n p.a.treated.items ≡ Some (says.Keys own peer)) u.follows.0 is) refl); follows = u.follows.1 })
+  heard_unclear k index ds r p above (Some (says.Join form)) is stands_so led u =
+      inr (record { n = suc u.n; none = inr (one_more u.n p.a.treated.items (says.Join form) (unheard p u.n above u.none) (subst (λ n. item_at n p.a.treated.items ≡ Some (says.Join form)) u.follows.0 is) refl); follows = u.follows.1 })
 
   -- any other duty
   other_leads : (k : Codec C) (d : Duty) → IsOther d → (ds : List Duty) (r : Reply) (p : PathState C) → Leads (d ∷ ds) (with_agenda (d ∷ ds) p)
@@ -596,10 +671,15 @@ module _ {C : Type 0} where
       record {
         led = recalled_led p.a (answered_item k A (item_of index p.a) r m).a (heard_recalls k index ds r p (item_of index p.a)) h.led;
         clear = ⊎_elim
-            (λ is_clear. inl ((answered_clear k (duties.Heard A index) r m).a is_clear))
-            (λ (u : IsUnclear (duties.Heard A index ∷ ds) m). heard_unclear k index ds r p (item_of index p.a) refl is h.led (record { n = u.n; none = u.none; follows = u.follows }))
+            (λ is_clear. inl ((answered_clear k (duties.Heard A index) r m).a.0 is_clear))
+            (λ (u : IsUnclear (duties.Heard A index ∷ ds) m). by p.a.modes.identity refl is (record { n = u.n; none = u.none; follows = u.follows }))
             h.clear;
       }
+    where
+      by : (b : Bool) → p.a.modes.identity ≡ b → item_stands (if b then None else item_at index p.a.treated.items) p.a ≡ true → IsUnclear (duties.Heard A index ∷ ds) p
+          → let m = with_agenda (duties.Heard A index ∷ ds) p in let q = answered_item k A (if b then None else item_at index p.a.treated.items) r m in (q.a.modes.clear ≡ true) ⊎ IsUnclear q.agenda q
+      by true plain stands_so u = absurd (false≢true stands_so)
+      by false above stands_so u = heard_unclear k index ds r p above (item_at index p.a.treated.items) refl stands_so h.led u
   answered_leads k duties.JoinAgain ds r p is h = other_leads k duties.JoinAgain tt ds r p h
   answered_leads k (duties.Look s) ds r p is h = other_leads k (duties.Look s) tt ds r p h
   answered_leads k (duties.Window s) ds r p is h = other_leads k (duties.Window s) tt ds r p h
@@ -620,6 +700,12 @@ module _ {C : Type 0} where
   answered_leads k (duties.AckHeard A) ds r p is h = other_leads k (duties.AckHeard A) tt ds r p h
   answered_leads k (duties.AckHeard B) ds r p is h = other_leads k (duties.AckHeard B) tt ds r p h
   answered_leads k (duties.PlainAck s) ds r p is h = other_leads k (duties.PlainAck s) tt ds r p h
+  answered_leads k (duties.PlainHandshake s) ds r p is h = other_leads k (duties.PlainHandshake s) tt ds r p h
+  answered_leads k (duties.SubflowAck s) ds r p is h = other_leads k (duties.SubflowAck s) tt ds r p h
+  answered_leads k (duties.PlainData s) ds r p is h = other_leads k (duties.PlainData s) tt ds r p h
+  answered_leads k (duties.GoIdentity s) ds r p is h = other_leads k (duties.GoIdentity s) tt ds r p h
+  answered_leads k (duties.Unmapped s) ds r p is h = other_leads k (duties.Unmapped s) tt ds r p h
+  answered_leads k (duties.SubflowFin s) ds r p is h = other_leads k (duties.SubflowFin s) tt ds r p h
   answered_leads k (duties.Keep s) ds r p is h = other_leads k (duties.Keep s) tt ds r p h
   answered_leads k (duties.Edge s) ds r p is h = other_leads k (duties.Edge s) tt ds r p h
   answered_leads k (duties.HeardFin s index) ds r p is h = other_leads k (duties.HeardFin s index) tt ds r p h
@@ -654,8 +740,8 @@ module _ {C : Type 0} where
           settled_leads q.agenda q (answered_leads k d ds r p is h)
 
   pub begins_lead : (p : PathState C) → LeadsWell p → LeadsWell (begins_turn p)
-  begins_lead p h = settled_leads start_of_turn (with_agenda start_of_turn p) (record { led = h.led; clear = inr (record { n = 0; none = tt; follows = tt }) })
+  begins_lead p h = settled_leads start_of_turn (with_agenda start_of_turn p) (record { led = h.led; clear = inr (record { n = 0; none = inr tt; follows = tt }) })
 
   pub next_leads : (p : PathState C) → LeadsWell p → LeadsWell (next_round p)
   next_leads p h =
-      settled_leads start_of_turn (with_agenda start_of_turn (record p { clock = p.until; until = p.until + 100 })) (record { led = h.led; clear = inr (record { n = 0; none = tt; follows = tt }) })
+      settled_leads start_of_turn (with_agenda start_of_turn (record p { clock = p.until; until = p.until + 100 })) (record { led = h.led; clear = inr (record { n = 0; none = inr tt; follows = tt }) })

@@ -3,6 +3,9 @@ pub mod Occurring
 pub mod Chaining
 pub mod Pairing
 pub mod Roads
+pub mod Shielding
+pub mod Falling
+pub mod Whole
 pub mod Showing
 pub mod Carrying
 pub mod Growing
@@ -17,6 +20,9 @@ pub mod Journaling
 pub mod Rules
 pub mod Arriving
 pub mod Asking
+pub mod Verdicts
+pub mod Settled
+pub mod Falls
 pub mod Casts
 pub mod Asleep
 pub mod Clearing
@@ -43,11 +49,16 @@ pub mod PromisesNotes
 pub mod KeysRight
 pub mod KeysWoken
 pub mod KeysHeld
+pub mod KeysCopied
 pub mod KeysKept
 pub mod KeysMet
+pub mod Roles
 pub mod KeysLearned
 pub mod KeysTaken
+pub mod Awake
+pub mod KeysBooks
 pub mod KeysAgree
+pub mod JoinedSo
 pub mod JoinsAgree
 pub mod JoinsWelcome
 pub mod PromisesShown
@@ -66,6 +77,8 @@ pub mod Waking
 pub mod Joining
 pub mod Leading
 pub mod Surely
+pub mod Sheltered
+pub mod Steady
 pub mod LowHalves
 pub mod Waiting
 pub mod Beginning
@@ -90,6 +103,7 @@ pub mod PlacesSent
 pub mod Untouched
 pub mod PlacesKnown
 pub mod PlacesAgree
+pub mod FallsRight
 pub mod Opened
 pub mod PathAsks
 pub mod CastLifting

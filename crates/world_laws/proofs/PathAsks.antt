@@ -25,12 +25,12 @@ use Rattle.path_core.specs.Emission.{first_unsent, data_ask}
 use Rattle.path_core.specs.Events.{next_event, step_for}
 use Rattle.path_agenda.specs.Items.{key_heard, keys_heard}
 use Rattle.path_core.specs.Joining.{asked_at, join_heard_ask}
-use Rattle.path_core.specs.Opening.{peer_key_ask, keys_ask}
-use Rattle.path_core.specs.Passing.{piece_of, piece_ask, fin_of, fin_ask, rate_ask}
+use Rattle.path_core.specs.Opening.{peer_key_ask, opened_ask}
+use Rattle.path_core.specs.Passing.{piece_of, piece_ask, fin_of, fin_ask, plain_fin, rate_ask}
 use Rattle.path_core.specs.Placing.{Piece}
 use Rattle.path_core.specs.Sends.{sends}
 use Rattle.path_core.specs.State.{PathState, end_at, path_of}
-use Rattle.path_core.specs.Treating.{is_clash, fell_ask, mapping_ask, item_ask, item_of}
+use Rattle.path_core.specs.Treating.{breaks_by_ack, plain_ack_ask, is_clash, fell_ask, mapping_ask, item_ask, item_of}
 use Rattle.world_laws.proofs.Asking.{AskLeavesFile, asks_leave}
 use Rattle.world_laws.proofs.AskingBooks.{IsQuiet}
 
@@ -57,11 +57,11 @@ module _ {C : Type 0} (k : Codec C) (p : PathState C) where
   step_is (Some (happening.Arrives due)) = tt
   step_is (Some (happening.Fires s tick)) = tt
 
-  key_is : (s : Side) (o : Option ℕ) → IsPathAsk (peer_key_ask s o)
+  key_is : (s : Side) (o : Option ℕ) → IsPathAsk (peer_key_ask s o p)
   key_is s None = tt
   key_is s (Some key) = tt
 
-  keys_are : (s : Side) (o : Option KeyPair) → IsPathAsk (keys_ask s o)
+  keys_are : (s : Side) (o : Option KeyPair) → IsPathAsk (opened_ask s o p)
   keys_are s None = tt
   keys_are s (Some keys) = tt
 
@@ -74,6 +74,13 @@ module _ {C : Type 0} (k : Codec C) (p : PathState C) where
     where
       by : (b : Bool) → IsPathAsk (if b then asks.Reassembly s reassembly_calls.AckOut else sends k s (reset_of s (Some reason) p) p)
       by true = tt
+      by false = tt
+
+  plain_ack_is : (s : Side) → IsPathAsk (plain_ack_ask k s p)
+  plain_ack_is s = by (breaks_by_ack p.profile (end_at s p))
+    where
+      by : (b : Bool) → IsPathAsk (if b then break_ask k s 6 p else fell_ask s events.PlainAck p)
+      by true = break_is s 6
       by false = tt
 
   mapping_is : (s : Side) → IsPathAsk (mapping_ask k s p)
@@ -89,6 +96,7 @@ module _ {C : Type 0} (k : Codec C) (p : PathState C) where
   item_is s (Some (says.DataAck next window)) = tt
   item_is s (Some says.Mapping) = mapping_is s
   item_is s (Some (says.DataFin place)) = tt
+  item_is s (Some says.InfiniteMapping) = tt
   item_is s (Some (says.PeerKey key)) = tt
   item_is s (Some (says.Keys own peer)) = tt
   item_is s (Some (says.Join form)) = tt
@@ -118,6 +126,7 @@ module _ {C : Type 0} (k : Codec C) (p : PathState C) where
   path_asks duties.Events = step_is (next_event p)
   path_asks (duties.SynHeard s) = tt
   path_asks (duties.SynAnswered s) = tt
+  path_asks (duties.PlainHandshake s) = tt
   path_asks (duties.PeerKey s) = key_is s (key_heard (end_at s p).treated.items)
   path_asks (duties.SynAck s) = tt
   path_asks (duties.JoinHeard s) = join_is s (asked_at s p)
@@ -126,7 +135,12 @@ module _ {C : Type 0} (k : Codec C) (p : PathState C) where
   path_asks (duties.Live s) = tt
   path_asks (duties.Heard s index) = item_is s (item_of index (end_at s p))
   path_asks (duties.AckHeard s) = tt
-  path_asks (duties.PlainAck s) = break_is s 6
+  path_asks (duties.PlainAck s) = plain_ack_is s
+  path_asks (duties.SubflowAck s) = tt
+  path_asks (duties.PlainData s) = tt
+  path_asks (duties.GoIdentity s) = tt
+  path_asks (duties.Unmapped s) = break_is s 6
+  path_asks (duties.SubflowFin s) = fin_is s (plain_fin (end_at s p))
   path_asks (duties.Keep s) = tt
   path_asks (duties.Edge s) = piece_is s (piece_of s p)
   path_asks (duties.HeardFin s index) = fin_is s (fin_of index (end_at s p))
@@ -159,11 +173,12 @@ IsHeardAsk s (asks.Send t (send_calls.AckIn next window)) = t ≡ s
 IsHeardAsk s (asks.Send t call) = ⊥
 IsHeardAsk s _ = Unit {0}
 
--- a grant for this path, an acknowledgement, or this path's return
+-- a grant for this path, an acknowledgement, this path's return, or a fallback
 abbrev pub IsCallOf : ℕ → Ask → Type 0
 IsCallOf path (asks.Send s (send_calls.Grant asker max standby)) = asker ≡ path
 IsCallOf path (asks.Send s (send_calls.AckIn next window)) = Unit {0}
 IsCallOf path (asks.Send s (send_calls.Return asker)) = asker ≡ path
+IsCallOf path (asks.Send s send_calls.GoIdentity) = Unit {0}
 IsCallOf path (asks.Send s call) = ⊥
 IsCallOf path _ = Unit {0}
 
@@ -173,6 +188,7 @@ IsQuietDuty (duties.Data s) = ⊥
 IsQuietDuty (duties.Heard s index) = ⊥
 IsQuietDuty (duties.SynHeard s) = ⊥
 IsQuietDuty (duties.SynAnswered s) = ⊥
+IsQuietDuty (duties.SubflowAck s) = ⊥
 IsQuietDuty _ = Unit {0}
 
 module _ {C : Type 0} (k : Codec C) (p : PathState C) where
@@ -183,11 +199,11 @@ module _ {C : Type 0} (k : Codec C) (p : PathState C) where
   step_quiet (Some (happening.Arrives due)) = tt
   step_quiet (Some (happening.Fires s tick)) = tt
 
-  key_quiet : (s : Side) (o : Option ℕ) → IsQuietAsk (path_of p) (peer_key_ask s o)
+  key_quiet : (s : Side) (o : Option ℕ) → IsQuietAsk (path_of p) (peer_key_ask s o p)
   key_quiet s None = tt
   key_quiet s (Some key) = tt
 
-  keys_quiet : (s : Side) (o : Option KeyPair) → IsQuietAsk (path_of p) (keys_ask s o)
+  keys_quiet : (s : Side) (o : Option KeyPair) → IsQuietAsk (path_of p) (opened_ask s o p)
   keys_quiet s None = tt
   keys_quiet s (Some keys) = tt
 
@@ -200,6 +216,13 @@ module _ {C : Type 0} (k : Codec C) (p : PathState C) where
     where
       by : (b : Bool) → IsQuietAsk (path_of p) (if b then asks.Reassembly s reassembly_calls.AckOut else sends k s (reset_of s (Some reason) p) p)
       by true = tt
+      by false = tt
+
+  plain_ack_quiet : (s : Side) → IsQuietAsk (path_of p) (plain_ack_ask k s p)
+  plain_ack_quiet s = by (breaks_by_ack p.profile (end_at s p))
+    where
+      by : (b : Bool) → IsQuietAsk (path_of p) (if b then break_ask k s 6 p else fell_ask s events.PlainAck p)
+      by true = break_quiet s 6
       by false = tt
 
   piece_quiet : (s : Side) (o : Option Piece) → IsQuietAsk (path_of p) (piece_ask s o)
@@ -227,6 +250,7 @@ module _ {C : Type 0} (k : Codec C) (p : PathState C) where
   quiet_asks duties.Events q = step_quiet (next_event p)
   quiet_asks (duties.SynHeard s) q = absurd q
   quiet_asks (duties.SynAnswered s) q = absurd q
+  quiet_asks (duties.PlainHandshake s) q = tt
   quiet_asks (duties.PeerKey s) q = key_quiet s (key_heard (end_at s p).treated.items)
   quiet_asks (duties.SynAck s) q = tt
   quiet_asks (duties.JoinHeard s) q = join_quiet s (asked_at s p)
@@ -235,7 +259,12 @@ module _ {C : Type 0} (k : Codec C) (p : PathState C) where
   quiet_asks (duties.Live s) q = tt
   quiet_asks (duties.Heard s index) q = absurd q
   quiet_asks (duties.AckHeard s) q = tt
-  quiet_asks (duties.PlainAck s) q = break_quiet s 6
+  quiet_asks (duties.PlainAck s) q = plain_ack_quiet s
+  quiet_asks (duties.SubflowAck s) q = absurd q
+  quiet_asks (duties.PlainData s) q = tt
+  quiet_asks (duties.GoIdentity s) q = tt
+  quiet_asks (duties.Unmapped s) q = break_quiet s 6
+  quiet_asks (duties.SubflowFin s) q = fin_quiet s (plain_fin (end_at s p))
   quiet_asks (duties.Keep s) q = tt
   quiet_asks (duties.Edge s) q = piece_quiet s (piece_of s p)
   quiet_asks (duties.HeardFin s index) q = fin_quiet s (fin_of index (end_at s p))
@@ -269,6 +298,7 @@ module _ {C : Type 0} (k : Codec C) (p : PathState C) where
   heard_asks s (Some (says.DataAck next window)) = refl
   heard_asks s (Some says.Mapping) = mapping_heard s
   heard_asks s (Some (says.DataFin place)) = tt
+  heard_asks s (Some says.InfiniteMapping) = tt
   heard_asks s (Some (says.PeerKey key)) = tt
   heard_asks s (Some (says.Keys own peer)) = tt
   heard_asks s (Some (says.Join form)) = tt
@@ -285,7 +315,7 @@ module _ {C : Type 0} (k : Codec C) (p : PathState C) where
   quiet_call (asks.Send s (send_calls.Grant asker max standby)) quiet leaves = absurd quiet
   quiet_call (asks.Send s (send_calls.AckIn next window)) quiet leaves = tt
   quiet_call (asks.Send s (send_calls.Return asker)) quiet leaves = quiet
-  quiet_call (asks.Send s send_calls.GoIdentity) quiet leaves = absurd quiet
+  quiet_call (asks.Send s send_calls.GoIdentity) quiet leaves = tt
   quiet_call (asks.Send s (send_calls.GoInfinite asker)) quiet leaves = absurd quiet
   quiet_call (asks.Send s send_calls.Abort) quiet leaves = absurd quiet
   quiet_call (asks.Reassembly s call) quiet leaves = tt
@@ -310,6 +340,7 @@ module _ {C : Type 0} (k : Codec C) (p : PathState C) where
   own_calls (duties.Heard s index) = heard_call s (ask_for k (duties.Heard s index) p) (heard_asks s (item_of index (end_at s p)))
   own_calls (duties.SynHeard s) = tt
   own_calls (duties.SynAnswered s) = tt
+  own_calls (duties.SubflowAck s) = tt
   own_calls duties.JoinAgain = quiet_call (ask_for k duties.JoinAgain p) (quiet_asks duties.JoinAgain tt) (asks_leave k p duties.JoinAgain)
   own_calls (duties.Look s) = quiet_call (ask_for k (duties.Look s) p) (quiet_asks (duties.Look s) tt) (asks_leave k p (duties.Look s))
   own_calls (duties.Window s) = quiet_call (ask_for k (duties.Window s) p) (quiet_asks (duties.Window s) tt) (asks_leave k p (duties.Window s))
@@ -318,6 +349,7 @@ module _ {C : Type 0} (k : Codec C) (p : PathState C) where
   own_calls (duties.DataFin s) = quiet_call (ask_for k (duties.DataFin s) p) (quiet_asks (duties.DataFin s) tt) (asks_leave k p (duties.DataFin s))
   own_calls (duties.Fin s) = quiet_call (ask_for k (duties.Fin s) p) (quiet_asks (duties.Fin s) tt) (asks_leave k p (duties.Fin s))
   own_calls (duties.Timer s) = quiet_call (ask_for k (duties.Timer s) p) (quiet_asks (duties.Timer s) tt) (asks_leave k p (duties.Timer s))
+  own_calls (duties.PlainHandshake s) = quiet_call (ask_for k (duties.PlainHandshake s) p) (quiet_asks (duties.PlainHandshake s) tt) (asks_leave k p (duties.PlainHandshake s))
   own_calls (duties.PeerKey s) = quiet_call (ask_for k (duties.PeerKey s) p) (quiet_asks (duties.PeerKey s) tt) (asks_leave k p (duties.PeerKey s))
   own_calls (duties.SynAck s) = quiet_call (ask_for k (duties.SynAck s) p) (quiet_asks (duties.SynAck s) tt) (asks_leave k p (duties.SynAck s))
   own_calls (duties.JoinHeard s) = quiet_call (ask_for k (duties.JoinHeard s) p) (quiet_asks (duties.JoinHeard s) tt) (asks_leave k p (duties.JoinHeard s))
@@ -326,9 +358,13 @@ module _ {C : Type 0} (k : Codec C) (p : PathState C) where
   own_calls (duties.Live s) = quiet_call (ask_for k (duties.Live s) p) (quiet_asks (duties.Live s) tt) (asks_leave k p (duties.Live s))
   own_calls (duties.AckHeard s) = quiet_call (ask_for k (duties.AckHeard s) p) (quiet_asks (duties.AckHeard s) tt) (asks_leave k p (duties.AckHeard s))
   own_calls (duties.PlainAck s) = quiet_call (ask_for k (duties.PlainAck s) p) (quiet_asks (duties.PlainAck s) tt) (asks_leave k p (duties.PlainAck s))
+  own_calls (duties.PlainData s) = quiet_call (ask_for k (duties.PlainData s) p) (quiet_asks (duties.PlainData s) tt) (asks_leave k p (duties.PlainData s))
+  own_calls (duties.GoIdentity s) = quiet_call (ask_for k (duties.GoIdentity s) p) (quiet_asks (duties.GoIdentity s) tt) (asks_leave k p (duties.GoIdentity s))
+  own_calls (duties.Unmapped s) = quiet_call (ask_for k (duties.Unmapped s) p) (quiet_asks (duties.Unmapped s) tt) (asks_leave k p (duties.Unmapped s))
   own_calls (duties.Keep s) = quiet_call (ask_for k (duties.Keep s) p) (quiet_asks (duties.Keep s) tt) (asks_leave k p (duties.Keep s))
   own_calls (duties.Edge s) = quiet_call (ask_for k (duties.Edge s) p) (quiet_asks (duties.Edge s) tt) (asks_leave k p (duties.Edge s))
   own_calls (duties.HeardFin s index) = quiet_call (ask_for k (duties.HeardFin s index) p) (quiet_asks (duties.HeardFin s index) tt) (asks_leave k p (duties.HeardFin s index))
+  own_calls (duties.SubflowFin s) = quiet_call (ask_for k (duties.SubflowFin s) p) (quiet_asks (duties.SubflowFin s) tt) (asks_leave k p (duties.SubflowFin s))
   own_calls (duties.PassFin s) = quiet_call (ask_for k (duties.PassFin s) p) (quiet_asks (duties.PassFin s) tt) (asks_leave k p (duties.PassFin s))
   own_calls (duties.AckOut s) = quiet_call (ask_for k (duties.AckOut s) p) (quiet_asks (duties.AckOut s) tt) (asks_leave k p (duties.AckOut s))
   own_calls (duties.Rate s) = quiet_call (ask_for k (duties.Rate s) p) (quiet_asks (duties.Rate s) tt) (asks_leave k p (duties.Rate s))

@@ -10,7 +10,7 @@ use Rattle.dss_mapping.specs.declared.learn.Learn.{Learn}
 use Rattle.dss_mapping.specs.declared.learn.Learn.TheVariants.{New, Same, Clash}
 use Rattle.dss_mapping.specs.declared.run.Run.{Run}
 use Rattle.dss_mapping.specs.Learning.{first_of, others_of, learn_of, learned_if, after_skip_held, after_learn_held}
-use Rattle.dss_mapping.specs.Mappings.{Mappings, run_of, place_at, mapping_at, after_learn, after_forget}
+use Rattle.dss_mapping.specs.Mappings.{Mappings, run_of, place_at, after_learn, after_forget}
 use Rattle.dss_mapping.specs.Runs.{covers, place_in}
 use Rattle.dss_mapping.proofs.LawsProved.{learned_places}
 use Rattle.link_script.specs.Places.{same_side}
@@ -18,12 +18,14 @@ use Rattle.link_model.specs.declared.flight.Flight.{Flight}
 use Rattle.link_model.specs.Steps.{is_due, arriving, after_delivery}
 use Rattle.path_segments.specs.Laws.{meant}
 use Rattle.path_segments.specs.Spelled.{PlainSegment}
+use Rattle.fallback_state.specs.declared.fall.Event.TheVariants as events
 use Rattle.reassembly_book.specs.declared.call.ReassemblyReply.{ReassemblyReply}
 use Rattle.reassembly_book.specs.declared.call.ReassemblyReply.TheVariants as reassembly_replies
 use Rattle.subflow_recv.specs.Receiving.{after_forget_from}
 use Rattle.subflow_send.specs.Records.{Record}
 use Rattle.subflow_tcp.specs.States.{is_dead}
 use Rattle.stream_lanes.specs.Words.{Every}
+use Rattle.stream_lanes.proofs.Lists.{Every-nil}
 use Rattle.actor_desk.specs.declared.ask.Reply.{Reply}
 use Rattle.actor_desk.specs.declared.ask.Reply.TheVariants as replies
 use Rattle.actor_desk.specs.Words.{tail_of}
@@ -34,6 +36,7 @@ use Rattle.path_agenda.specs.declared.heard.Heard.TheVariants as says
 use Rattle.path_agenda.specs.Agenda.{emission, leaves, resets, start_of_turn}
 use Rattle.path_agenda.specs.Words.{replaced}
 use Rattle.path_agenda.specs.declared.keys.KeyPair.{KeyPair}
+use Rattle.path_agenda.specs.Items.{key_heard, keys_heard}
 use Rattle.join_handshake.specs.declared.hearing.JoinSyn.{JoinSyn}
 use Rattle.path_core.specs.declared.event.Event.{Event}
 use Rattle.path_core.specs.declared.event.Event.TheVariants as happenings
@@ -42,16 +45,18 @@ use Rattle.path_core.specs.Breaking.{reset_of, reset_on, answered_break}
 use Rattle.path_core.specs.Duties.{stands, passed, answered}
 use Rattle.path_core.specs.Emission.{Grant, grant_in, answered_grant, answered_data, first_unsent}
 use Rattle.path_core.specs.Ends.{PathEnd, Receiving}
-use Rattle.path_core.specs.Events.{next_event, heard_in, at_tick, died, died_unless_dead, is_death, after_line, copy_heard, happens_if, join_begun}
+use Rattle.path_core.specs.Events.{next_event, heard_in, at_tick, died, died_unless_dead, is_death, after_line, copy_heard, happens_if, join_begun, told_at}
 use Rattle.path_core.specs.Joining.{asked_at, is_never, join_taken, keys_begun, opened_by}
-use Rattle.path_core.specs.Passing.{is_placed, piece_of, answered_piece, is_fin_set, answered_fin_heard}
-use Rattle.path_core.specs.Placing.{Piece, with_learned, with_skipped, is_wrong, forgotten_by}
+use Rattle.path_core.specs.Passing.{is_placed, piece_of, answered_piece, is_fin_set, answered_fin_heard, answered_plain_fin}
+use Rattle.path_core.specs.Placing.{Piece, with_learned, with_skipped, is_wrong, forgotten_by, mapping_here}
 use Rattle.path_core.specs.Sends.{sent_on}
 use Rattle.path_core.specs.Standing.{window_in, answered_ack_out}
 use Rattle.path_core.specs.State.{PathState, end_at, with_end, with_agenda, goes_on, left}
 use Rattle.path_core.specs.Steps.{settled, answers, takes, begins_turn}
-use Rattle.path_core.specs.Treating.{counts, is_clash, after_verdict, with_fin, answered_heard, answered_item, item_of, item_passed}
+use Rattle.path_core.specs.Treating.{counts, is_clash, with_fin, answered_heard, answered_item, item_of, item_passed, breaks_by_ack, with_plain_ack}
 use Rattle.path_core.specs.Values.{Carried, values}
+use Rattle.path_core.specs.Opening.{answered_opened, answered_peer_key}
+use Rattle.path_core.specs.Falling.{after_fell, fell_duties}
 use Rattle.world_laws.proofs.Finding.{find_every, one_side}
 
 -- ---- mappings
@@ -172,6 +177,7 @@ module _ (R : Side → ℕ → ℕ → Type 0) where
       by : (b : Bool) → EndKnows s (if b then with_fin place e else e)
       by true = h
       by false = h
+  item_knows s (Some says.InfiniteMapping) e h = h
   item_knows s (Some (says.PeerKey key)) e h = h
   item_knows s (Some (says.Keys own other)) e h = h
   item_knows s (Some (says.Join form)) e h = h
@@ -189,8 +195,10 @@ module _ (R : Side → ℕ → ℕ → Type 0) where
   passed_knows (duties.Heard s index) p h = with_own s _ p (item_knows s (item_of index (end_at s p)) (end_at s p) (end_knows s p h)) h
   passed_knows (duties.Keep s) p h = with_own s _ p (end_knows s p h) h
   passed_knows (duties.Edge s) p h =
-      let e = end_at s p in with_own s _ p (check_knows s p.profile.spelling.checksums (mapping_at e.receiving.mappings e.tcp.recv.edge) e (end_knows s p h)) h
+      let e = end_at s p in with_own s _ p (check_knows s p.profile.spelling.checksums (mapping_here e) e (end_knows s p h)) h
   passed_knows (duties.PassFin s) p h = with_own s _ p (end_knows s p h) h
+  passed_knows (duties.PlainAck s) p h = with_own s _ p (end_knows s p h) h
+  passed_knows (duties.Unmapped s) p h = with_own s _ p (end_knows s p h) h
   passed_knows _ p h = h
 
   settled_knows : (ds : List Duty) (p : PathState Carried) → PathKnows p → PathKnows (settled ds p)
@@ -217,7 +225,13 @@ module _ (R : Side → ℕ → ℕ → Type 0) where
   copy_knows : (s : Side) (o : Option (Flight Carried)) (q p : PathState Carried)
       → ((f : Flight Carried) → o ≡ Some f → AllTell (R s) (held_of p.profile s (meant f.carried.segment))) → PathKnows p → PathKnows (copy_heard s (heard_in values s o q) p)
   copy_knows s None q p tell h = agenda _ p h
-  copy_knows s (Some f) q p tell h = goes s _ _ p (hold_knows (R s) _ (end_at s p).receiving.mappings (tell f refl) (end_knows s p h)) h
+  copy_knows s (Some f) q p tell h = by (end_at s p).modes.identity f.carried.stripped
+    where
+      by : (plain stripped : Bool) → let sg = record f.carried.segment { options = (if stripped then [] else f.carried.segment.options) } in
+          PathKnows (told_at p.clock s (record (meant sg) { options = (if plain then [] else (meant sg).options) }) p)
+      by true stripped = goes s _ _ p (hold_knows (R s) _ (end_at s p).receiving.mappings (Every-nil _) (end_knows s p h)) h
+      by false true = goes s _ _ p (hold_knows (R s) _ (end_at s p).receiving.mappings (Every-nil _) (end_knows s p h)) h
+      by false false = goes s _ _ p (hold_knows (R s) _ (end_at s p).receiving.mappings (tell f refl) (end_knows s p h)) h
 
   -- A begins a join, or waits on
   begun_knows : (r : Reply) (dead living : List Duty) (p : PathState Carried) → PathKnows p → PathKnows (join_begun r dead living p)
@@ -274,10 +288,11 @@ module _ (R : Side → ℕ → ℕ → Type 0) where
   heard_knows s (says.DataAck next window) r p h = same_goes s _ _ p refl h
   heard_knows s says.Mapping r p h = by (is_clash (end_at s p))
     where
-      by : (b : Bool) → PathKnows (if b then answered_break values s 1 r p else goes_on s (with_learned (after_verdict r (end_at s p))) (tail_of p.agenda) p)
+      by : (b : Bool) → PathKnows (if b then answered_break values s 1 r p else goes_on s (with_learned (after_fell events.MappingHeard r (end_at s p))) (fell_duties s r p) p)
       by true = break_knows s 1 r p h
       by false = goes s _ _ p (learned_held (R s) (end_at s p).receiving.mappings (end_knows s p h)) h
   heard_knows s (says.DataFin place) r p h = same_goes s _ _ p refl h
+  heard_knows s says.InfiniteMapping r p h = same_goes s _ _ p refl h
   heard_knows s (says.Keys mine other) r p h = same_goes s _ _ p refl h
   heard_knows s says.Dss r p h = agenda _ p h
   heard_knows s (says.PeerKey key) r p h = agenda _ p h
@@ -296,6 +311,18 @@ module _ (R : Side → ℕ → ℕ → Type 0) where
   fin_knows s true p h = same_goes s _ _ p refl h
   fin_knows s false p h = same_goes s _ _ p refl h
 
+  plain_fin_knows : (s : Side) (set : Bool) (p : PathState Carried) → PathKnows p → PathKnows (answered_plain_fin s set p)
+  plain_fin_knows s true p h = same_goes s _ _ p refl h
+  plain_fin_knows s false p h = same_goes s _ _ p refl h
+
+  peer_key_knows : (s : Side) (o : Option ℕ) (r : Reply) (p : PathState Carried) → PathKnows p → PathKnows (answered_peer_key s o r p)
+  peer_key_knows s None r p h = same_goes s _ _ p refl h
+  peer_key_knows s (Some key) r p h = same_goes s _ _ p refl h
+
+  opened_knows : (s : Side) (o : Option KeyPair) (r : Reply) (p : PathState Carried) → PathKnows p → PathKnows (answered_opened s o r p)
+  opened_knows s None r p h = same_goes s _ _ p refl h
+  opened_knows s (Some keys) r p h = same_goes s _ _ p refl h
+
   -- B hears of a join
   joined_knows : (s : Side) (o : Option KeyPair) (asked : Option JoinSyn) (p : PathState Carried) → PathKnows p → PathKnows (join_taken s o asked p)
   joined_knows s None asked p h = agenda _ p h
@@ -306,7 +333,17 @@ module _ (R : Side → ℕ → ℕ → Type 0) where
   answered_knows duties.JoinAgain r p tell h = begun_knows r (replaced (duties.Leave A) p.agenda) (left p) p h
   answered_knows (duties.JoinHeard s) r p tell h = joined_knows s (keys_begun r) (asked_at s p) p h
   answered_knows (duties.Refuse s) r p tell h = same_sent s _ _ _ p refl h
-  answered_knows (duties.PlainAck s) r p tell h = break_knows s 6 r p h
+  answered_knows (duties.PlainHandshake s) r p tell h = same_goes s _ _ p refl h
+  answered_knows (duties.PlainAck s) r p tell h = by (breaks_by_ack p.profile (end_at s p))
+    where
+      by : (b : Bool) → PathKnows (if b then answered_break values s 6 r p else goes_on s (with_plain_ack (after_fell events.PlainAck r (end_at s p))) (fell_duties s r p) p)
+      by true = break_knows s 6 r p h
+      by false = same_goes s _ _ p refl h
+  answered_knows (duties.SubflowAck s) r p tell h = same_goes s _ _ p refl h
+  answered_knows (duties.PlainData s) r p tell h = same_goes s _ _ p refl h
+  answered_knows (duties.GoIdentity s) r p tell h = same_goes s _ _ p refl h
+  answered_knows (duties.Unmapped s) r p tell h = break_knows s 6 r p h
+  answered_knows (duties.SubflowFin s) r p tell h = plain_fin_knows s (is_fin_set r) p h
   answered_knows (duties.Look s) r p tell h = same_goes s _ _ p refl h
   answered_knows (duties.Window s) r p tell h = ack_out_knows s r _ p h
   answered_knows (duties.Update s) r p tell h = same_sent s _ _ _ p refl h
@@ -315,9 +352,9 @@ module _ (R : Side → ℕ → ℕ → Type 0) where
   answered_knows (duties.DataFin s) r p tell h = same_sent s _ _ _ p refl h
   answered_knows (duties.Fin s) r p tell h = same_sent s _ _ _ p refl h
   answered_knows duties.Events r p tell h = event_knows (next_event p) r p tell h
-  answered_knows (duties.PeerKey s) r p tell h = same_goes s _ _ p refl h
+  answered_knows (duties.PeerKey s) r p tell h = peer_key_knows s (key_heard (end_at s p).treated.items) r p h
   answered_knows (duties.SynAck s) r p tell h = same_sent s _ _ _ p refl h
-  answered_knows (duties.Opened s) r p tell h = same_goes s _ _ p refl h
+  answered_knows (duties.Opened s) r p tell h = opened_knows s (keys_heard (end_at s p).treated.items) r p h
   answered_knows (duties.Heard s index) r p tell h = answered_item_knows s (item_of index (end_at s p)) r p h
   answered_knows (duties.AckHeard s) r p tell h = same_goes s _ _ p refl h
   answered_knows (duties.Edge s) r p tell h = piece_knows s (piece_of s p) (is_placed r) p h

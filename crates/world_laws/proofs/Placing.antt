@@ -1,10 +1,11 @@
 -- What the receiver's half of an end makes of the lanes: mappings that are learned, bytes that are placed, an end that is told, and
 -- the FIN.
-use Rattle.std.proofs.Common.{◌≡◌, refl, sym, ap, subst, ℕ, suc, ◌+◌, ◌-◌, ◌<◌, ◌≤◌, nat_lt, nat_le, ◌&&◌, inl, inr, ⊎_elim, Bool, true, false, if◌then◌else◌, filter, find, Option, Some, None, List, [], ◌∷◌, length, take, drop, arith}
-use Rattle.std.proofs.lemmas.Bool.{and_parts, ltb-true, leb-true, lt-ltb, eqb-true, false≢true}
+use Rattle.std.proofs.Common.{◌≡◌, refl, sym, ap, subst, ℕ, suc, ◌+◌, ◌-◌, ◌<◌, ◌≤◌, nat_lt, nat_le, ◌&&◌, inl, inr, ⊎_elim, Bool, true, false, if◌then◌else◌, filter, find, Option, Some, None, List, [], ◌∷◌, length, take, drop, arith, not, ◌∙◌, ◌⊎◌, ◌*◌, ◌/◌, true≢false}
+use Rattle.std.proofs.lemmas.Bool.{and_parts, ltb-true, leb-true, eqb-true, false≢true, both_ways}
 use Rattle.std.proofs.lemmas.List.{append-nil, length-take}
 use Rattle.std.proofs.lemmas.Option.{same_Some, slice_get_within}
 use Rattle.std.specs.List.{slice_get}
+use Rattle.std.specs.Option.{IfSome}
 use Rattle.outside_kit.specs.declared.side.Side.{Side}
 use Rattle.dss_mapping.specs.declared.kept.KeptMapping.{KeptMapping}
 use Rattle.dss_mapping.specs.declared.learn.Learn.{Learn}
@@ -16,33 +17,35 @@ use Rattle.reassembly_book.specs.declared.call.ReassemblyReply.TheVariants as re
 use Rattle.subflow_recv.specs.Receiving.{Receiving, filled, after_advance}
 use Rattle.subflow_tcp.specs.Closing.{is_fin_next, after_passing_fin}
 use Rattle.subflow_tcp.specs.Judging.{is_at}
-use Rattle.subflow_tcp.specs.State.{EndState, is_behind}
+use Rattle.subflow_tcp.specs.State.{EndState}
 use Rattle.subflow_tcp.specs.States as states
 use Rattle.stream_lanes.specs.Holding.{IsByteOf, IsFin, LaneHolds}
 use Rattle.stream_lanes.specs.Lane.{Cell, Mapping, Lane}
 use Rattle.stream_lanes.specs.Lane.Ask.{Nothing, AskPlace}
 use Rattle.stream_lanes.specs.Laws.{copy_clashes}
-use Rattle.stream_lanes.specs.Moves.{takes_placed}
+use Rattle.stream_lanes.specs.Moves.{takes_placed, ack_copy, sub_next}
 use Rattle.stream_lanes.specs.View.{View}
 use Rattle.stream_lanes.specs.Words.{Every}
 use Rattle.stream_lanes.proofs.Lists.{Every-map, Every-push, Has-more, in_drop, in_map}
 use Rattle.path_core.specs.Ends.{PathEnd}
-use Rattle.path_core.specs.Passing.{having_asked, after_pass_fin}
-use Rattle.path_core.specs.Placing.{Piece, count_in, piece_in, is_whole, is_right, some_piece, checked_piece, piece_by, next_piece, after_piece, with_learned, with_skipped}
+use Rattle.path_core.specs.Passing.{having_asked, after_pass_fin, place_passed, plain_fin}
+use Rattle.path_core.specs.Placing.{Piece, count_in, piece_in, is_whole, is_right, some_piece, checked_piece, piece_by, next_piece, after_piece, with_learned, with_skipped, plain_piece}
 use Rattle.path_core.specs.State.{Profile}
-use Rattle.world_laws.proofs.Ending.{Did}
-use Rattle.world_laws.proofs.Growing.{sender_stays, receiver_stays}
+use Rattle.world_laws.proofs.Ending.{Did, did_nothing}
+use Rattle.world_laws.proofs.Growing.{sender_stays, receiver_stays, same_edge}
 use Rattle.world_laws.proofs.Hearing.{state_shows, fin_passed_back}
 use Rattle.world_laws.proofs.Records.{every_cons, every_first, every_rest}
-use Rattle.world_laws.proofs.Roads.{Strolls, stays}
-use Rattle.world_laws.proofs.Showing.{HasMapping, HasFin, KeptShows, HeldShows, Under, IsAtEdge, IsPastFin, ReceiverShows, EndShows}
-use Rattle.world_laws.proofs.Taking.{learned_lane, learns_it, learned_goes, learned_there, wants_place, under_drop}
+use Rattle.world_laws.proofs.Roads.{Strolls, stays, then_strolls}
+use Rattle.world_laws.proofs.Showing.{HasMapping, HasFin, KeptShows, HeldShows, Under, IsAtEdge, IsPastFin, ReceiverShows, EndShows, SenderShows, identity_of, knowledge_of}
+use Rattle.world_laws.proofs.Taking.{learned_lane, learns_it, learned_goes, learned_there, wants_place, under_drop, acked_lane, acked_sub, acks_it, finished_lane, hears_the_fin, wants_plain}
+use Rattle.world_laws.proofs.Doing.{take_whole}
 
 -- the maps of the lane are more
-more_maps : (recv : Receiving) (fin_at : Option ℕ) (live live_after : List KeptMapping) (p : Lane) (maps : List Mapping) → Every (KeptShows maps) live_after
-    → ReceiverShows recv fin_at live p → ReceiverShows recv fin_at live_after (record p { maps = maps })
-more_maps recv fin_at live live_after p maps mapped h = record {
-  edge = ⊎_elim (λ at. inl (record { edge_is = at.edge_is; under = at.under; held = at.held })) (λ past. inr past) h.edge;
+more_maps : (recv : Receiving) (fin_at : Option ℕ) (live live_after : List KeptMapping) (plain : Bool) (p : Lane) (maps : List Mapping) → Every (KeptShows maps) live_after
+    → ReceiverShows recv fin_at live plain p → ReceiverShows recv fin_at live_after plain (record p { maps = maps })
+more_maps recv fin_at live live_after plain p maps mapped h = record {
+  same_mode = h.same_mode;
+  edge = same_edge refl refl refl h.edge;
   fin = h.fin;
   mapped = mapped;
 }
@@ -56,7 +59,7 @@ module _ (c : Profile) (s : Side) (out back : Lane) where
   skipped_held (kept ∷ xs) h = every_rest kept xs h
 
   pub skipped_shows : (e : PathEnd) → EndShows c s e out back → EndShows c s (with_skipped e) out back
-  skipped_shows e h = record { sender = h.sender; receiver = h.receiver; window = h.window; told = h.told; treated = h.treated; held = skipped_held e.receiving.mappings.held h.held }
+  skipped_shows e h = record { sender = h.sender; receiver = h.receiver; acks = h.acks; told = h.told; treated = h.treated; held = skipped_held e.receiving.mappings.held h.held }
 
   learn_live : (kept : KeptMapping) (learn : Learn) (v : Mappings) (maps : List Mapping) → KeptShows maps kept → Every (KeptShows maps) v.live → Every (KeptShows maps) (after_learn kept learn v).live
   learn_live kept New v maps new h = Every-push kept h new
@@ -84,7 +87,7 @@ module _ (c : Profile) (s : Side) (out back : Lane) where
         back_moves = stays back;
         sender = sender_stays out;
         receiver = receiver_stays back;
-        shows = record { sender = h.sender; receiver = h.receiver; window = h.window; told = h.told; treated = h.treated; held = skipped_held v.held h.held };
+        shows = record { sender = h.sender; receiver = h.receiver; acks = h.acks; told = h.told; treated = h.treated; held = skipped_held v.held h.held };
       }
       by (kept ∷ xs) is held =
           let has : HasMapping back.datas kept.place kept.pos kept.mapping.length = every_first kept xs held in
@@ -98,12 +101,12 @@ module _ (c : Profile) (s : Side) (out back : Lane) where
             receiver = learned_goes back kept.place kept.pos kept.mapping.length has (agree has.at);
             shows = record {
               sender = h.sender;
-              receiver = more_maps e.tcp.recv e.tcp.fin_at v.live (after_learn kept (learn_of kept v) v).live back q.maps
+              receiver = more_maps e.tcp.recv e.tcp.fin_at v.live (after_learn kept (learn_of kept v) v).live (identity_of e) back q.maps
                   (learn_live kept (learn_of kept v) v q.maps (learned_there back kept.place kept.pos kept.mapping.length has (agree has.at))
                   (Every-map (λ m there. Has-more _ there) h.receiver.mapped)) h.receiver;
-              window = h.window;
+              acks = record { windows = h.acks.windows; latest = h.acks.latest; due = h.acks.due; sub = h.acks.sub };
               told = h.told;
-              treated = record { items = h.treated.items; fins = h.treated.fins; answer = h.treated.answer; window = h.treated.window };
+              treated = record { items = h.treated.items; fins = h.treated.fins; answer = h.treated.answer; window = h.treated.window; sub = h.treated.sub; nothing = h.treated.nothing };
               held = subst (λ ys. Every (HeldShows back.datas) (others_of ys)) (sym (learn_held kept (learn_of kept v) v)) (skipped_held v.held h.held);
             };
           }
@@ -114,8 +117,8 @@ module _ (c : Profile) (s : Side) (out back : Lane) where
   abbrev pub asked_back : Bool → Lane
   asked_back due = record back { due = due; asking = Nothing }
 
-  pub asked_end : (due : Bool) (e : PathEnd) → EndShows c s e out back → Did c s e out out back (asked_back due)
-  asked_end due e h = record {
+  pub asked_end : (due : Bool) (e : PathEnd) → e.treated.asked ≡ true → EndShows c s e out back → Did c s e out out back (asked_back due)
+  asked_end due e asked h = record {
     out_after = out;
     back_after = asked_back due;
     out_moves = stays out;
@@ -125,6 +128,7 @@ module _ (c : Profile) (s : Side) (out back : Lane) where
       edge = back.edge;
       kept = back.kept;
       maps = back.maps;
+      fin_in = back.fin_in;
       due = due;
       latest = back.latest;
       asking = Nothing;
@@ -134,13 +138,19 @@ module _ (c : Profile) (s : Side) (out back : Lane) where
     shows = record {
       sender = h.sender;
       receiver = record {
-        edge = ⊎_elim (λ at. inl (record { edge_is = at.edge_is; under = at.under; held = at.held })) (λ past. inr past) h.receiver.edge;
+        same_mode = h.receiver.same_mode;
+        edge = same_edge refl refl refl h.receiver.edge;
         fin = h.receiver.fin;
         mapped = h.receiver.mapped;
       };
-      window = h.window;
+      acks = record {
+        windows = h.acks.windows;
+        latest = h.acks.latest;
+        due = λ none. absurd (both_ways e.treated.asked none asked);
+        sub = λ none. absurd (both_ways e.treated.asked none asked);
+      };
       told = h.told;
-      treated = record { items = h.treated.items; fins = h.treated.fins; answer = h.treated.answer; window = h.treated.window };
+      treated = record { items = h.treated.items; fins = h.treated.fins; answer = h.treated.answer; window = h.treated.window; sub = h.treated.sub; nothing = h.treated.nothing };
       held = h.held;
     };
   }
@@ -148,7 +158,7 @@ module _ (c : Profile) (s : Side) (out back : Lane) where
   -- ---- bytes
 
   -- the next bytes are those of a mapping that was learned
-  pub record NextPiece (e : PathEnd) (piece : Piece) : Type 0 where
+  record NextPiece (e : PathEnd) (piece : Piece) : Type 0 where
     pub kept : KeptMapping
     pub has : KeptShows back.maps kept
     pub after : kept.pos ≤ e.tcp.recv.edge
@@ -186,7 +196,7 @@ module _ (c : Profile) (s : Side) (out back : Lane) where
       by true is = cc
       by false is = found (λ m. covers edge (run_of m)) v.live kept is h
 
-  pub piece_from : (e : PathEnd) (piece : Piece) → next_piece c e ≡ Some piece → EndShows c s e out back → NextPiece e piece
+  piece_from : (e : PathEnd) (piece : Piece) → piece_by c.spelling.checksums (mapping_at e.receiving.mappings e.tcp.recv.edge) e.tcp ≡ Some piece → EndShows c s e out back → NextPiece e piece
   piece_from e piece is h = by (mapping_at e.receiving.mappings e.tcp.recv.edge) refl is
     where
       by : (o : Option KeptMapping) → mapping_at e.receiving.mappings e.tcp.recv.edge ≡ o → piece_by c.spelling.checksums o e.tcp ≡ Some piece → NextPiece e piece
@@ -211,10 +221,10 @@ module _ (c : Profile) (s : Side) (out back : Lane) where
   none_filled (None ∷ places) none = refl
   none_filled (Some byte ∷ places) none = absurd (none 0 byte refl)
 
-  pub at_edge : (e : PathEnd) (piece : Piece) → NextPiece e piece → EndShows c s e out back → IsAtEdge e.tcp.recv back
+  at_edge : (e : PathEnd) (piece : Piece) → NextPiece e piece → EndShows c s e out back → IsAtEdge e.tcp.recv back
   at_edge e piece n h = ⊎_elim (λ at. at) (λ past. absurd (nothing past)) h.receiver.edge
     where
-      nothing : IsPastFin (is_behind e.tcp.fin_at e.tcp.recv.edge) e.tcp.recv.places → ⊥
+      nothing : IsPastFin e.tcp.fin_at e.tcp.recv back → ⊥
       nothing past =
           let none : filled e.tcp.recv.places ≡ [] = none_filled e.tcp.recv.places past.none in
           let same : length piece.octets ≡ length (take (count_in e.tcp.recv.edge n.kept) (filled e.tcp.recv.places)) = ap (λ x. length x.octets) n.is in
@@ -223,12 +233,44 @@ module _ (c : Profile) (s : Side) (out back : Lane) where
           let some = n.some in
           absurd (omega (arith, same, l, zero_is, some))
 
-  pub wants_piece : (e : PathEnd) (piece : Piece) → NextPiece e piece → EndShows c s e out back → Strolls back (record back { asking = AskPlace piece.place piece.octets })
+  wants_piece : (e : PathEnd) (piece : Piece) → NextPiece e piece → EndShows c s e out back → Strolls back (record back { asking = AskPlace piece.place piece.octets })
   wants_piece e piece n h =
       let at = at_edge e piece n h in
       let l = length-take (count_in e.tcp.recv.edge n.kept) (filled e.tcp.recv.places) in
       subst (λ x. Strolls back (record back { asking = AskPlace x.place x.octets })) (sym n.is)
       (wants_place back e.tcp.recv.edge e.tcp.recv.places (count_in e.tcp.recv.edge n.kept) at.edge_is at.under n.kept.place n.kept.pos n.kept.mapping.length n.has n.after n.before (omega (arith, l)))
+
+  -- the next bytes may be placed, by a mapping or in plain TCP by their positions
+  pub record IsNextReady (e : PathEnd) (piece : Piece) : Type 0 where
+    pub at : IsAtEdge e.tcp.recv back
+    pub wants : Strolls back (record back { asking = AskPlace piece.place piece.octets })
+
+  plain_ready : (e : PathEnd) (piece : Piece) → e.modes.identity ≡ true → some_piece (plain_piece e.tcp) ≡ Some piece → EndShows c s e out back → IsNextReady e piece
+  plain_ready e piece plain is h =
+      let from = some_from (plain_piece e.tcp) piece is in
+      let at : IsAtEdge e.tcp.recv back = ⊎_elim (λ near. near) (λ past. absurd (nothing from.0 from.1 past)) h.receiver.edge in
+      record {
+        at = at;
+        wants = subst (λ x. Strolls back (record back { asking = AskPlace x.place x.octets })) (sym from.0)
+            (subst (λ bytes. Strolls back (record back { asking = AskPlace (e.tcp.recv.edge - 1) bytes })) (take_whole (filled e.tcp.recv.places))
+            (wants_plain back e.tcp.recv.edge e.tcp.recv.places (length (filled e.tcp.recv.places)) at.edge_is at.under (h.receiver.same_mode ∙ plain)));
+      }
+    where
+      nothing : piece ≡ plain_piece e.tcp → 0 < length piece.octets → IsPastFin e.tcp.fin_at e.tcp.recv back → ⊥
+      nothing same some past =
+          let none : filled e.tcp.recv.places ≡ [] = none_filled e.tcp.recv.places past.none in
+          let l : length piece.octets ≡ length (filled e.tcp.recv.places) = ap (λ x. length x.octets) same in
+          let zero_is : length (filled e.tcp.recv.places) ≡ 0 = ap (λ (xs : List ℕ). length xs) none in
+          omega (arith, some, l, zero_is)
+
+  pub next_ready : (e : PathEnd) (piece : Piece) → next_piece c e ≡ Some piece → EndShows c s e out back → IsNextReady e piece
+  next_ready e piece is h = by e.modes.identity refl is
+    where
+      by : (b : Bool) → e.modes.identity ≡ b
+          → (if b then some_piece (plain_piece e.tcp) else piece_by c.spelling.checksums (if b then None else mapping_at e.receiving.mappings e.tcp.recv.edge) e.tcp) ≡ Some piece
+          → IsNextReady e piece
+      by true plain is = plain_ready e piece plain is h
+      by false above is = let n = piece_from e piece is h in record { at = at_edge e piece n h; wants = wants_piece e piece n h }
 
   filtered : {X : Type 0} {P : X → Type 0} (test : X → Bool) (xs : List X) → Every P xs → Every P (filter test xs)
   filtered test [] h = h
@@ -256,6 +298,7 @@ module _ (c : Profile) (s : Side) (out back : Lane) where
           edge = q.edge;
           kept = q.kept;
           maps = back.maps;
+          fin_in = back.fin_in;
           due = true;
           latest = back.latest;
           asking = Nothing;
@@ -265,6 +308,7 @@ module _ (c : Profile) (s : Side) (out back : Lane) where
         shows = record {
           sender = h.sender;
           receiver = record {
+            same_mode = h.receiver.same_mode;
             edge = inl (record {
               edge_is = let edge_is = at.edge_is in omega (arith, edge_is);
               under = subst (λ n. Under (drop n e.tcp.recv.places) q.kept) (sym (moved_on e.tcp.recv.edge (length piece.octets))) (under_drop (length piece.octets) e.tcp.recv.places back.kept at.under);
@@ -273,9 +317,9 @@ module _ (c : Profile) (s : Side) (out back : Lane) where
             fin = h.receiver.fin;
             mapped = filtered (λ kept. nat_lt (e.tcp.recv.edge + length piece.octets) (run_of kept).to) e.receiving.mappings.live h.receiver.mapped;
           };
-          window = h.window;
+          acks = record { windows = h.acks.windows; latest = h.acks.latest; due = λ none. absurd (true≢false none); sub = λ none. absurd (true≢false none) };
           told = h.told;
-          treated = record { items = h.treated.items; fins = h.treated.fins; answer = h.treated.answer; window = h.treated.window };
+          treated = record { items = h.treated.items; fins = h.treated.fins; answer = h.treated.answer; window = h.treated.window; sub = h.treated.sub; nothing = h.treated.nothing };
           held = h.held;
         };
       }
@@ -298,33 +342,155 @@ module _ (c : Profile) (s : Side) (out back : Lane) where
   dropped_one : (edge : ℕ) (places : List (Option ℕ)) (i byte : ℕ) → slice_get (drop (edge + 1 - edge) places) i ≡ Some (Some byte) → slice_get places (suc i) ≡ Some (Some byte)
   dropped_one edge places i byte there = in_drop (edge + 1 - edge) places i (suc i) (Some byte) (omega arith) there
 
-  pub passed_fin : (v : View) (path : ℕ) (e : PathEnd) → LaneHolds v path back → EndShows c s e out back → EndShows c s (after_pass_fin e) out back
-  passed_fin v path e holds h = by (is_fin_next e.tcp) refl
-    where
-      passed_receiver : (fin_at : Option ℕ) (recv : Receiving) (live : List KeptMapping) → is_at recv.edge fin_at ≡ true → ReceiverShows recv fin_at live back
-          → ReceiverShows (after_advance (recv.edge + 1) recv) fin_at live back
-      passed_receiver None recv live is r = absurd (false≢true is)
-      passed_receiver (Some at) recv live is r =
-          let same : at ≡ recv.edge = eqb-true at recv.edge is in
-          record {
-            edge = inr (record {
-              passed_is = lt-ltb at (recv.edge + 1) (omega (arith, same));
-              none = λ i byte there. ⊎_elim
-                  (λ near. none_behind v path at holds recv (sym same) r.fin near (suc i) byte (dropped_one recv.edge recv.places i byte there))
-                  (λ past. past.none (suc i) byte (dropped_one recv.edge recv.places i byte there))
-                  r.edge;
-            });
-            fin = r.fin;
-            mapped = r.mapped;
-          }
+  -- the lane hears the FIN, and acknowledges it where nothing is to be asked before
+  module _ (v : View) (path : ℕ) (e : PathEnd) (holds : LaneHolds v path back) (h : EndShows c s e out back) where
+    module _ (at : ℕ) (fin_is : e.tcp.fin_at ≡ Some at) (same : at ≡ e.tcp.recv.edge) (has : HasFin back.fins at) (near : IsAtEdge e.tcp.recv back) where
+      here : at ≡ suc back.edge
+      here = same ∙ near.edge_is
 
-      by : (b : Bool) → is_fin_next e.tcp ≡ b → EndShows c s (record e { tcp = if b then after_passing_fin e.tcp else e.tcp }) out back
-      by false is = h
-      by true is = record {
-        sender = state_shows c s e.sending.known_end e.sending.close.own_acked out e.tcp.state (states.after_fin_passed e.tcp.state) e.tcp.send (fin_passed_back e.tcp.state) h.sender;
-        receiver = passed_receiver e.tcp.fin_at e.tcp.recv e.receiving.mappings.live (and_parts (is_at e.tcp.recv.edge e.tcp.fin_at) _ is).0 h.receiver;
-        window = h.window;
-        told = h.told;
-        treated = h.treated;
-        held = h.held;
+      abbrev q : Lane
+      q = finished_lane back at has here
+
+      abbrev next_edge : ℕ
+      next_edge = e.tcp.recv.edge + 1
+
+      passed_sender : SenderShows c s (states.after_fin_passed e.tcp.state) e.tcp.send (knowledge_of e) out
+      passed_sender = state_shows c s (knowledge_of e) out e.tcp.state (states.after_fin_passed e.tcp.state) e.tcp.send (fin_passed_back e.tcp.state) h.sender
+
+      passed_receiver : (p : Lane) → p.edge ≡ back.edge → p.fin_in ≡ true → p.fins ≡ back.fins → p.maps ≡ back.maps → p.receiver_plain ≡ back.receiver_plain
+          → ReceiverShows (after_advance next_edge e.tcp.recv) e.tcp.fin_at e.receiving.mappings.live (identity_of e) p
+      passed_receiver p edge fin fins maps mode = record {
+        same_mode = mode ∙ h.receiver.same_mode;
+        edge = inr (record {
+          at_is = fin_is ∙ ap (λ n. Some n) here ∙ ap (λ n. Some (suc n)) (sym edge);
+          none = λ i byte there. none_behind v path at holds e.tcp.recv (sym same) has near (suc i) byte (dropped_one e.tcp.recv.edge e.tcp.recv.places i byte there);
+          edge_is = let edge_is = near.edge_is in omega (arith, edge_is, edge);
+          fin_in = fin;
+        });
+        fin = subst (λ xs. IfSome e.tcp.fin_at (HasFin xs)) (sym fins) h.receiver.fin;
+        mapped = subst (λ xs. Every (KeptShows xs) e.receiving.mappings.live) (sym maps) h.receiver.mapped;
       }
+
+      passes_it : Did c s (record e { tcp = after_passing_fin e.tcp }) out out back back
+      passes_it = by e.treated.asked refl
+        where
+          by : (b : Bool) → e.treated.asked ≡ b → Did c s (record e { tcp = after_passing_fin e.tcp }) out out back back
+          by true asked = record {
+            out_after = out;
+            back_after = q;
+            out_moves = stays out;
+            back_moves = hears_the_fin back at has here;
+            sender = sender_stays out;
+            receiver = record {
+              edge = back.edge;
+              kept = back.kept;
+              maps = back.maps;
+              fin_in = true;
+              due = back.due;
+              latest = back.latest;
+              asking = back.asking;
+              acks = [];
+              is = rw (append-nil back.acks) refl;
+            };
+            shows = record {
+              sender = passed_sender;
+              receiver = passed_receiver q refl refl refl refl refl;
+              acks = record {
+                windows = h.acks.windows;
+                latest = h.acks.latest;
+                due = λ none. absurd (both_ways e.treated.asked none asked);
+                sub = λ none. absurd (both_ways e.treated.asked none asked);
+              };
+              told = h.told;
+              treated = record { items = h.treated.items; fins = h.treated.fins; answer = h.treated.answer; window = h.treated.window; sub = h.treated.sub; nothing = h.treated.nothing };
+              held = h.held;
+            };
+          }
+          by false calm =
+              let edge_is = near.edge_is in
+              let most : next_edge - 1 ≤ sub_next q = omega (arith, edge_is) in
+              let due : q.due ≡ false = h.acks.due calm in
+              let r : Lane = acked_lane q e.receiving.next e.receiving.window (next_edge - 1) h.acks.latest due most in
+              record {
+                out_after = out;
+                back_after = r;
+                out_moves = stays out;
+                back_moves = then_strolls back q r (hears_the_fin back at has here) (acks_it q e.receiving.next e.receiving.window (next_edge - 1) h.acks.latest due most);
+                sender = sender_stays out;
+                receiver = record {
+                  edge = back.edge;
+                  kept = back.kept;
+                  maps = back.maps;
+                  fin_in = true;
+                  due = back.due;
+                  latest = back.latest;
+                  asking = back.asking;
+                  acks = ack_copy e.receiving.next (32 * (e.receiving.window / 32)) (next_edge - 1) q ∷ [];
+                  is = refl;
+                };
+                shows = record {
+                  sender = passed_sender;
+                  receiver = passed_receiver r refl refl refl refl refl;
+                  acks = record {
+                    windows = record { ack = Has-more _ h.acks.windows.ack; alone = Has-more _ h.acks.windows.alone; syn = Has-more _ h.acks.windows.syn };
+                    latest = h.acks.latest;
+                    due = λ none. due;
+                    sub = λ none. acked_sub q e.receiving.next e.receiving.window (next_edge - 1) h.acks.latest due most;
+                  };
+                  told = h.told;
+                  treated = record { items = h.treated.items; fins = h.treated.fins; answer = h.treated.answer; window = h.treated.window; sub = h.treated.sub; nothing = h.treated.nothing };
+                  held = h.held;
+                };
+              }
+
+    pub passed_fin : Did c s (after_pass_fin e) out out back back
+    passed_fin = by (is_fin_next e.tcp) refl
+      where
+        by_fin : (o : Option ℕ) → e.tcp.fin_at ≡ o → is_at e.tcp.recv.edge o ≡ true → IfSome o (HasFin back.fins) → Did c s (record e { tcp = after_passing_fin e.tcp }) out out back back
+        by_fin None fin_is is has = absurd (false≢true is)
+        by_fin (Some at) fin_is is has =
+            let same : at ≡ e.tcp.recv.edge = eqb-true at e.tcp.recv.edge is in
+            ⊎_elim (λ near. passes_it at fin_is same has near) (λ past. absurd (never at same fin_is past)) h.receiver.edge
+          where
+            never : (at : ℕ) → at ≡ e.tcp.recv.edge → e.tcp.fin_at ≡ Some at → IsPastFin e.tcp.fin_at e.tcp.recv back → ⊥
+            never at same fin_is past =
+                let same_at : at ≡ suc back.edge = same_Some at (suc back.edge) (sym fin_is ∙ past.at_is) in
+                let edge_is = past.edge_is in
+                omega (arith, same_at, edge_is, same)
+
+        by : (b : Bool) → is_fin_next e.tcp ≡ b → Did c s (record e { tcp = if b then after_passing_fin e.tcp else e.tcp }) out out back back
+        by false is = did_nothing c s out back e h
+        by true is =
+            by_fin e.tcp.fin_at refl (and_parts (is_at e.tcp.recv.edge e.tcp.fin_at) _ is).0 h.receiver.fin
+
+  -- ---- the FIN as the end of the stream
+
+  pub record PlainFin (e : PathEnd) (place : ℕ) : Type 0 where
+    pub plain : e.modes.identity ≡ true
+    pub fin_in : back.fin_in ≡ true
+    pub place_is : place ≡ back.edge
+
+  pub plain_fin_came : (v : View) (path : ℕ) (e : PathEnd) (place : ℕ) → LaneHolds v path back → EndShows c s e out back → plain_fin e ≡ Some place → PlainFin e place
+  plain_fin_came v path e place holds h is = by (e.modes.identity && not e.receiving.fin_told) refl is
+    where
+      passed : e.modes.identity ≡ true → (o : Option ℕ) → e.tcp.fin_at ≡ o → IfSome o (HasFin back.fins) → place_passed o e.tcp.recv.edge ≡ Some place → PlainFin e place
+      passed plain None fin_is has is = cc
+      passed plain (Some position) fin_is has is = at (nat_lt position e.tcp.recv.edge) refl is h.receiver.edge
+        where
+          at : (b : Bool) → nat_lt position e.tcp.recv.edge ≡ b → (if b then Some (position - 1) else None) ≡ Some place → IsAtEdge e.tcp.recv back ⊎ IsPastFin e.tcp.fin_at e.tcp.recv back
+              → PlainFin e place
+          at false behind is edge = cc
+          at true behind is (inl near) =
+              let fin : IsFin path v back.sent has.item = holds.fins.each has.at has.item has.there in
+              let last : has.item ≡ length back.sent = fin.last in
+              let position_is = has.holds in let edge_is = near.edge_is in let within = holds.bytes.within in
+              let below : position < e.tcp.recv.edge = ltb-true position e.tcp.recv.edge behind in
+              absurd (omega (arith, last, position_is, edge_is, within, below))
+          at true behind is (inr past) =
+              let same : position ≡ suc back.edge = same_Some position (suc back.edge) (sym fin_is ∙ past.at_is) in
+              let value : position - 1 ≡ place = same_Some (position - 1) place is in
+              record { plain = plain; fin_in = past.fin_in; place_is = omega (arith, same, value) }
+
+      by : (b : Bool) → (e.modes.identity && not e.receiving.fin_told) ≡ b → (if b then place_passed e.tcp.fin_at e.tcp.recv.edge else None) ≡ Some place → PlainFin e place
+      by false none is = cc
+      by true both is = passed (and_parts e.modes.identity (not e.receiving.fin_told) both).0 e.tcp.fin_at refl h.receiver.fin is

@@ -24,7 +24,7 @@ use Rattle.stream_lanes.specs.Moves.{Flags, Move}
 use Rattle.stream_lanes.specs.Streams.{Reader, Direction, StreamEvent, moves as lane_moves}
 use Rattle.stream_lanes.specs.Streams.StreamEvent.{Moves, Asks}
 use Rattle.stream_lanes.specs.Duo.{Duo, Event, after_event, after_events}
-use Rattle.stream_lanes.specs.Duo.Event.{ToB, ToA, BeginJoin, SendJoin, HearJoin}
+use Rattle.stream_lanes.specs.Duo.Event.{ToB, ToA, FallA, FallB, BeginJoin, SendJoin, HearJoin}
 use Rattle.stream_lanes.specs.Holding.{DirectionHolds, Holds}
 use Rattle.stream_lanes.specs.Laws.{pipe_of as lane_pipe, StepsOrStays, EachEventIsOneStep, NothingIsRefused, BothWays, is_ack_future, is_beyond_or_clash, ask_refused, lane_refused}
 use Rattle.stream_lanes.proofs.Promises.{reads_prefix, acknowledges, ends_whole}
@@ -58,9 +58,9 @@ module _ (f : Flags) (send : Sending) (arrived : Arriving) (lanes : List Lane) (
 
 -- ---- both directions of a world
 
-kept : (t : Cast Carried) (joined : Bool) (ab ba : List Lane) (reader_a reader_b : Reader) → Holds (duo_of joined (books_in t.books) ab ba reader_a reader_b) → Reads t.a.told t.at_a.list reader_a
+kept : (t : Cast Carried) (ab ba : List Lane) (reader_a reader_b : Reader) → Holds (duo_of (books_in t.books) ab ba reader_a reader_b) → Reads t.a.told t.at_a.list reader_a
     → Reads t.b.told t.at_b.list reader_b → BothKeepTheirWord (world_of t)
-kept t joined ab ba reader_a reader_b h reads_a reads_b =
+kept t ab ba reader_a reader_b h reads_a reads_b =
     let six = books_in t.books in
     let to_b = acknowledges _ (direction six.send_a six.reassembly_b ab reader_b) h.ab in
     let to_a = acknowledges _ (direction six.send_b six.reassembly_a ba reader_a) h.ba in
@@ -83,7 +83,7 @@ kept t joined ab ba reader_a reader_b h reads_a reads_b =
 
 pub keeps_its_word : (start : Start) (d : Duo) (w : WorldState Carried) → Holds d → WorldShows start d w → BothKeepTheirWord w
 keeps_its_word start d w h s =
-    subst BothKeepTheirWord (sym s.is) (kept s.cast s.joined s.lanes_ab s.lanes_ba s.reader_a s.reader_b (subst Holds s.duo_is h) s.reads_a s.reads_b)
+    subst BothKeepTheirWord (sym s.is) (kept s.cast s.lanes_ab s.lanes_ba s.reader_a s.reader_b (subst Holds s.duo_is h) s.reads_a s.reads_b)
 
 -- ---- what the two directions show of outputs and pipes
 
@@ -142,6 +142,8 @@ moved_same f path m (Some p) d = record { send = refl; arrived = refl; reader = 
 event_same : (event : Event) (d : Duo) → is_silent event ≡ true → SameDuo d (after_event event d)
 event_same (ToB (Moves path m)) d is = record { ab = moved_same _ path m (slice_get d.ab.lanes path) d.ab; ba = same_books d.ba }
 event_same (ToA (Moves path m)) d is = record { ab = same_books d.ab; ba = moved_same _ path m (slice_get d.ba.lanes path) d.ba }
+event_same FallA d is = record { ab = same_books d.ab; ba = same_books d.ba }
+event_same FallB d is = record { ab = same_books d.ab; ba = same_books d.ba }
 event_same BeginJoin d is = record { ab = same_books d.ab; ba = same_books d.ba }
 event_same SendJoin d is = record { ab = same_books d.ab; ba = same_books d.ba }
 event_same HearJoin d is = record { ab = same_books d.ab; ba = same_books d.ba }
@@ -268,7 +270,7 @@ send_untold send_calls.Close d event none is = close_untold d.send
 send_untold (send_calls.Grant path max standby) d event none is = granted_untold (sending.decision path max standby d.send) d.send
 send_untold (send_calls.AckIn next window) d event none is = ack_untold (sending.reply_to d.send (send_calls.AckIn next window)) (lane_untold is.path (AskAckIn next window) d none is.asking)
 send_untold (send_calls.Return path) d event none is = refl
-send_untold send_calls.GoIdentity d event none is = absurd is
+send_untold send_calls.GoIdentity d event none is = refl
 send_untold (send_calls.GoInfinite path) d event none is = absurd is
 send_untold send_calls.Abort d event none is = absurd is
 

@@ -49,7 +49,7 @@ pub keys_in_octets : IsPromisedOfOctets KeysNeverDiffer
 keys_in_octets start turns plain fit = subst KeysNeverDiffer (sym (run_fresh start turns plain fit)) (keys_shown (valued start turns) (keys_never_differ start turns))
 
 pub joins_in_octets : IsPromisedOfOctets JoinsAreRight
-joins_in_octets start turns plain fit = subst JoinsAreRight (sym (run_fresh start turns plain fit)) (joins_shown (valued start turns) (joins_are_right start turns plain))
+joins_in_octets start turns plain fit = subst JoinsAreRight (sym (run_fresh start turns plain fit)) (joins_shown (valued start turns) (joins_are_right start turns))
 
 module _ (start : Start) (turns : List Turn) (plain : IsPlain start) (fit : NumbersFit start) where
   abbrev heard : WorldState (List ℕ)

@@ -1,4 +1,4 @@
--- Connections by scripts that strip and alter nothing keep all promises.
+-- Connections by scripts that alter nothing keep all promises.
 use Rattle.std.proofs.Common.{◌≡◌, refl, sym, ap, subst, ℕ, zero, suc, ◌+◌, ◌*◌, ◌^◌, ◌<◌, ◌≤◌, Bool, true, false, cond, Some, List, [], ◌∷◌, length, arith}
 use Rattle.std.specs.List.{list_any, slice_get}
 use Rattle.std.specs.Prelude.{All}
@@ -7,50 +7,42 @@ use Rattle.std.proofs.lemmas.List.Elements.{All-head, All-tail}
 use Rattle.std.proofs.lemmas.Option.{same_Some}
 use Rattle.outside_kit.specs.declared.side.Side.{Side}
 use Rattle.key_material.proofs.Bounds.{drawn_word_below}
-use Rattle.link_model.specs.Fate.{is_stripped_by, is_altered_by}
+use Rattle.link_model.specs.Fate.{is_altered_by}
 use Rattle.link_model.specs.Steps.{is_path, lines_of}
 use Rattle.link_script.specs.Places.{path_named}
 use Rattle.link_script.specs.declared.script.PathLine.{PathLine}
 use Rattle.link_script.specs.declared.script.Script.{Script}
 use Rattle.link_script.specs.declared.script.ScriptLine.{ScriptLine}
-use Rattle.link_script.specs.declared.script.ScriptLine.TheVariants.{Strip, Alter, StripAll}
+use Rattle.link_script.specs.declared.script.ScriptLine.TheVariants.{Alter}
 use Rattle.link_script.specs.Scripts.{IsPath}
-use Rattle.path_core.specs.Shown.{ChangesNothing}
+use Rattle.path_core.specs.Shown.{AltersNothing}
 use Rattle.path_core.specs.Starts.{key_of}
 use Rattle.world_laws.specs.Openings.{PathPlan, plan_of, plans_from, start_of}
-use Rattle.world_laws.specs.PlainScripts.{changes_segments, PlainScriptsStartPlainly, PlainScriptsKeepAllPromises}
+use Rattle.world_laws.specs.PlainScripts.{alters_payload, PlainScriptsStartPlainly, PlainScriptsKeepAllPromises}
 use Rattle.world_laws.proofs.PlacesAgree.{mappings_agree_in_octets}
 use Rattle.world_laws.proofs.JoinsShown.{each_copy_is_welcome_in_octets}
 use Rattle.world_laws.proofs.PromisesMade.{keep_their_word_in_octets, nothing_follows_in_octets, one_step_each_in_octets, nothing_refused_in_octets, keys_in_octets, joins_in_octets}
 
 -- ---- lines
 
-module _ (test : ScriptLine → Bool) (among : (line : ScriptLine) → changes_segments line ≡ false → test line ≡ false) where
-  none_passes : (path : ℕ) (lines : List ScriptLine) → list_any changes_segments lines ≡ false → list_any test (lines_of path lines) ≡ false
+module _ (test : ScriptLine → Bool) (among : (line : ScriptLine) → alters_payload line ≡ false → test line ≡ false) where
+  none_passes : (path : ℕ) (lines : List ScriptLine) → list_any alters_payload lines ≡ false → list_any test (lines_of path lines) ≡ false
   none_passes path [] is = refl
   none_passes path (line ∷ lines) is = by (is_path path (path_named line)) (none_passes path lines parts.1)
     where
-      parts : (changes_segments line ≡ false) × (list_any changes_segments lines ≡ false)
-      parts = or_parts (changes_segments line) (list_any changes_segments lines) is
+      parts : (alters_payload line ≡ false) × (list_any alters_payload lines ≡ false)
+      parts = or_parts (alters_payload line) (list_any alters_payload lines) is
 
       by : (b : Bool) → list_any test (lines_of path lines) ≡ false → list_any test (cond b (line ∷ lines_of path lines) (lines_of path lines)) ≡ false
       by true rest = or_from (test line) (list_any test (lines_of path lines)) (among line parts.0) rest
       by false rest = rest
 
-never_strips : (from : Side) (number now : ℕ) (line : ScriptLine) → changes_segments line ≡ false → is_stripped_by from number now line ≡ false
-never_strips from number now (Strip path side named) is = cc
-never_strips from number now (StripAll path side tick) is = cc
-never_strips from number now line is = refl
-
-never_alters : (from : Side) (number : ℕ) (line : ScriptLine) → changes_segments line ≡ false → is_altered_by from number line ≡ false
+never_alters : (from : Side) (number : ℕ) (line : ScriptLine) → alters_payload line ≡ false → is_altered_by from number line ≡ false
 never_alters from number (Alter path side named) is = cc
 never_alters from number line is = refl
 
-changes_nothing : (path : ℕ) (lines : List ScriptLine) → list_any changes_segments lines ≡ false → ChangesNothing (lines_of path lines)
-changes_nothing path lines is = record {
-  strips = λ from number now. none_passes (is_stripped_by from number now) (never_strips from number now) path lines is;
-  alters = λ from number. none_passes (is_altered_by from number) (never_alters from number) path lines is;
-}
+alters_nothing : (path : ℕ) (lines : List ScriptLine) → list_any alters_payload lines ≡ false → AltersNothing (lines_of path lines)
+alters_nothing path lines is = record { alters = λ from number. none_passes (is_altered_by from number) (never_alters from number) path lines is }
 
 -- ---- numbers
 
@@ -84,7 +76,7 @@ line_fits (suc i) (first ∷ lines) line all there = line_fits i lines line (All
 
 pub plain_scripts_start_plainly : PlainScriptsStartPlainly
 plain_scripts_start_plainly script file_a file_b h = (
-  record { unchanged = λ path. changes_nothing path script.lines h.unchanged; size = record { each = λ i plan there. (size i plan there).0 }; short_a = h.short_a; short_b = h.short_b },
+  record { unaltered = λ path. alters_nothing path script.lines h.unaltered; size = record { each = λ i plan there. (size i plan there).0 }; short_a = h.short_a; short_b = h.short_b },
   record {
     paths = let count = plan_count script 0 script.paths in let most = h.ranges.few_paths in omega (arith, count, most);
     size = record { each = λ i plan there. (size i plan there).1 };

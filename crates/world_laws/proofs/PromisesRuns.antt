@@ -12,10 +12,10 @@ use Rattle.path_core.specs.Values.{Carried, values}
 use Rattle.world_laws.specs.Openings.{Start, opened_world}
 use Rattle.world_laws.specs.Promises.{IsPlain, tells_refusal, BothKeepTheirWord, NothingFollows, EachTurnIsOneStep, NothingWasRefused}
 use Rattle.world_laws.specs.Worlds.{WorldState, Turn, after_turn, world_run}
-use Rattle.world_laws.proofs.Lanes.{WorldShows, SureIsClear, first_duo, asked_by, asked_in, CallIs, events_append, turn_events, turn_is}
+use Rattle.world_laws.proofs.Lanes.{WorldShows, IsSteady, first_duo, asked_by, asked_in, CallIs, events_append, turn_events, turn_is}
 use Rattle.world_laws.proofs.Beginning.{each_opening_shows}
 use Rattle.world_laws.proofs.Joining.{each_turn_shows}
-use Rattle.world_laws.proofs.Surely.{sure_is_clear}
+use Rattle.world_laws.proofs.Steady.{always_steady}
 use Rattle.world_laws.proofs.WeavingRounds.{run_append}
 use Rattle.world_laws.proofs.PromisesNotes.{NoneTold, Untold, from_each, turn_none, opened_none}
 use Rattle.world_laws.proofs.PromisesKept.{keeps_its_word, same_as_shown, before, same_before, step_from, turn_steps, ask_untold}
@@ -38,16 +38,16 @@ module _ (start : Start) (can : IsPlain start) where
   held : (events : List Event) → Holds (after_events events begun)
   held events = all_held (length start.paths) start.buffer start.buffer events
 
-  -- at no moment from this one on A's side is sure before A may send a DSS on path 0
+  -- at every moment from this one on each path is steady
   abbrev Ever : WorldState Carried → Type 0
-  Ever w = (more : List Turn) → SureIsClear (world_run values more w)
+  Ever w = (more : List Turn) → IsSteady (world_run values more w)
 
   ever_after : (turns : List Turn) → Ever (world_run values turns (opened_world start))
-  ever_after turns more = subst SureIsClear (run_append values turns more (opened_world start)) (sure_is_clear start (turns ++ more))
+  ever_after turns more = subst IsSteady (run_append values turns more (opened_world start)) (always_steady start (turns ++ more))
 
-  turn_later : (events : List Event) (turn : Turn) (w : WorldState Carried) → SureIsClear w → ShownAfter events w → Later events (after_turn values turn w)
-  turn_later events turn w sure s =
-      let shown = each_turn_shows start can turn (after_events events begun) w sure (held events) s.shows in
+  turn_later : (events : List Event) (turn : Turn) (w : WorldState Carried) → IsSteady w → ShownAfter events w → Later events (after_turn values turn w)
+  turn_later events turn w steady s =
+      let shown = each_turn_shows start can turn (after_events events begun) w steady (held events) s.shows in
       record { more = turn_events shown.turn_shows; shows = subst (λ e. WorldShows start e (after_turn values turn w)) (turn_is shown.turn_shows) shown.world_shows }
 
   shown_later : (events more : List Event) (v : WorldState Carried) → WorldShows start (after_events more (after_events events begun)) v → ShownAfter (events ++ more) v
@@ -72,7 +72,7 @@ module _ (start : Start) (can : IsPlain start) where
   pub reached : (turns : List Turn) → Reaches (world_run values turns (opened_world start))
   reached turns =
       let first = each_opening_shows start can in
-      let rest = onward turns first.0 (opened_world start) (sure_is_clear start) (record { shows = first.1 }) in
+      let rest = onward turns first.0 (opened_world start) (always_steady start) (record { shows = first.1 }) in
       record { events = first.0 ++ rest.more; shows = (shown_later first.0 rest.more (world_run values turns (opened_world start)) rest.shows).shows }
 
   -- ---- promises
@@ -100,10 +100,10 @@ module _ (start : Start) (can : IsPlain start) where
   pub never_follows : (turns : List Turn) → NothingFollows values (world_run values turns (opened_world start))
   never_follows turns = let at = reached turns in follows at.events (world_run values turns (opened_world start)) (ever_after turns) at.shows
 
-  one_step : (events : List Event) (w : WorldState Carried) → SureIsClear w → WorldShows start (after_events events begun) w → EachTurnIsOneStep values w
-  one_step events w sure s turn =
+  one_step : (events : List Event) (w : WorldState Carried) → IsSteady w → WorldShows start (after_events events begun) w → EachTurnIsOneStep values w
+  one_step events w steady s turn =
       let d = after_events events begun in
-      let shown = each_turn_shows start can turn d w sure (held events) s in
+      let shown = each_turn_shows start can turn d w steady (held events) s in
       let now = same_as_shown start d w s in
       let later = same_as_shown start shown.duo (after_turn values turn w) shown.world_shows in
       let t = shown.turn_shows in
@@ -114,14 +114,14 @@ module _ (start : Start) (can : IsPlain start) where
       )
 
   pub always_one_step : (turns : List Turn) → EachTurnIsOneStep values (world_run values turns (opened_world start))
-  always_one_step turns = let at = reached turns in one_step at.events (world_run values turns (opened_world start)) (sure_is_clear start turns) at.shows
+  always_one_step turns = let at = reached turns in one_step at.events (world_run values turns (opened_world start)) (always_steady start turns) at.shows
 
   -- what an actor asks is not refused
-  untold : (events : List Event) (w : WorldState Carried) → SureIsClear w → WorldShows start (after_events events begun) w → Untold tells_refusal values w
-  untold events w sure s actor c x there asks =
+  untold : (events : List Event) (w : WorldState Carried) → IsSteady w → WorldShows start (after_events events begun) w → Untold tells_refusal values w
+  untold events w steady s actor c x there asks =
       let d = after_events events begun in
       let turn : Turn = Turn.Step actor in
-      let shown = each_turn_shows start can turn d w sure (held events) s in
+      let shown = each_turn_shows start can turn d w steady (held events) s in
       let now = same_as_shown start d w s in
       let t = shown.turn_shows in
       let same = same_before (asked_in turn w) d shown.duo t in
@@ -144,4 +144,4 @@ module _ (start : Start) (can : IsPlain start) where
   never_refused turns =
       let first = each_opening_shows start can in
       from_each tells_refusal values (world_run values turns (opened_world start))
-      (refused_nowhere turns first.0 (opened_world start) (sure_is_clear start) (record { shows = first.1 }) (opened_none tells_refusal values start))
+      (refused_nowhere turns first.0 (opened_world start) (always_steady start) (record { shows = first.1 }) (opened_none tells_refusal values start))

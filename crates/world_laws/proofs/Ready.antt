@@ -1,6 +1,6 @@
 -- A path is ready for each of its steps: what A sent first on it begins at the first place, and where an end may ask for bytes its
 -- lane is open.
-use Rattle.std.proofs.Common.{◌≡◌, refl, ap, subst, ℕ, zero, suc, ◌+◌, not, ⊎_elim, Bool, true, false, List, [], length, arith}
+use Rattle.std.proofs.Common.{◌≡◌, refl, ap, subst, ℕ, zero, suc, ◌+◌, not, Bool, true, false, List, [], length, arith}
 use Rattle.std.proofs.lemmas.Bool.{both_ways, false≢true}
 use Rattle.std.specs.Option.{IfSome}
 use Rattle.outside_kit.specs.declared.side.Side.{Side}
@@ -15,7 +15,6 @@ use Rattle.actor_desk.specs.Words.{pick}
 use Rattle.path_core.specs.State.{PathState, end_at}
 use Rattle.path_core.specs.Values.{Carried}
 use Rattle.world_laws.proofs.Answering.{BeginsFirst, IsReady}
-use Rattle.world_laws.proofs.Asleep.{shut_at, never_finishes}
 use Rattle.world_laws.proofs.Lanes.{Others, duo_at, StandsSo}
 use Rattle.world_laws.proofs.Showing.{HasMapping}
 use Rattle.world_laws.proofs.Strolling.{out_holds}
@@ -50,12 +49,12 @@ nothing_mapped v path p none h place len has =
     let empty : length p.sent ≡ 0 = ap (λ (xs : List Cell). length xs) none in
     omega (arith, some, within, empty)
 
--- a lane is open where the path may ask for bytes
-open_at : (number : ℕ) (p : PathState Carried) (ab ba : Lane) → StandsSo number p ab ba → (s : Side) → states.may_finish (end_at s p).tcp.state ≡ true → (pick s ab ba).opened ≡ true
-open_at zero p ab ba stands A may = stands.0
-open_at zero p ab ba stands B may = stands.1
-open_at (suc number) p ab ba stands A may = ⊎_elim (λ up. up.0) (λ sleeps. absurd (both_ways _ (never_finishes p.a (shut_at A p sleeps)) may)) stands.opened
-open_at (suc number) p ab ba stands B may = ⊎_elim (λ up. up.1) (λ sleeps. absurd (both_ways _ (never_finishes p.b (shut_at B p sleeps)) may)) stands.opened
+-- a lane is open where the end may finish
+open_at : (number : ℕ) (p : PathState Carried) (ab ba : Lane) → ((n : ℕ) → number ≡ suc n → (s : Side) → states.may_finish (end_at s p).tcp.state ≡ true → (pick s ab ba).opened ≡ true)
+    → StandsSo number p ab ba → (s : Side) → states.may_finish (end_at s p).tcp.state ≡ true → (pick s ab ba).opened ≡ true
+open_at zero p ab ba joins stands A may = stands.0
+open_at zero p ab ba joins stands B may = stands.1
+open_at (suc number) p ab ba joins stands s may = joins number refl s may
 
 -- what A sent first, while it may send no DSS
 first_at : (v : View) (number : ℕ) (joined : Bool) (p : PathState Carried) (ab ba : Lane) → v.alone ≡ not joined → LaneHolds v number ab
@@ -63,12 +62,13 @@ first_at : (v : View) (number : ℕ) (joined : Bool) (p : PathState Carried) (ab
     → (place len : ℕ) → HasMapping ab.datas place 1 len → HasMapping ab.datas 0 1 len
 first_at v zero true p ab ba alone holds clear stands unclear = absurd (both_ways p.a.modes.clear unclear (clear refl refl))
 first_at v zero false p ab ba alone holds clear stands unclear = first_mapping v 0 ab alone holds
-first_at v (suc number) joined p ab ba alone holds clear stands unclear = λ place len has. absurd (nothing_mapped v (suc number) ab (stands.unsent unclear) holds place len has)
+first_at v (suc number) joined p ab ba alone holds clear stands unclear = λ place len has. absurd (nothing_mapped v (suc number) ab (stands unclear) holds place len has)
 
-pub ready : (six : SixBooks) (others : Others) (p : PathState Carried) (ab ba : Lane) → (others.number ≡ 0 → others.joined ≡ true → p.a.modes.clear ≡ true) → Holds (duo_at six ab ba others)
+pub ready : (six : SixBooks) (others : Others) (p : PathState Carried) (ab ba : Lane) → (others.number ≡ 0 → six.control_b.fall.joined ≡ true → p.a.modes.clear ≡ true)
+    → ((n : ℕ) → others.number ≡ suc n → (s : Side) → states.may_finish (end_at s p).tcp.state ≡ true → (pick s ab ba).opened ≡ true) → Holds (duo_at six ab ba others)
     → StandsSo others.number p ab ba → IsReady p ab ba
-ready six others p ab ba clear holds stands = record { first = first; opened = open_at others.number p ab ba stands }
+ready six others p ab ba clear joins holds stands = record { first = first; opened = open_at others.number p ab ba joins stands }
   where
     first : (s : Side) → BeginsFirst s (end_at s p) (pick s ab ba)
-    first A own unclear = first_at _ others.number others.joined p ab ba refl (out_holds six others A ab ba holds) clear stands unclear
+    first A own unclear = first_at _ others.number six.control_b.fall.joined p ab ba refl (out_holds six others A ab ba holds) clear stands unclear
     first B own unclear = absurd (false≢true own)

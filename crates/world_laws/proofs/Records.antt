@@ -20,7 +20,7 @@ use Rattle.path_core.specs.Ends.{PathEnd}
 use Rattle.path_core.specs.Sends.{having_sent}
 use Rattle.path_core.specs.State.{Profile}
 use Rattle.path_segments.specs.Spelled.{PlainSegment}
-use Rattle.world_laws.proofs.Showing.{KindShows, RecordShows, SenderShows, EndShows}
+use Rattle.world_laws.proofs.Showing.{KindShows, RecordShows, Knowledge, SenderShows, EndShows}
 
 module _ {X : Type 0} {P : X → Type 0} where
   pub every_cons : (x : X) (xs : List X) → P x → Every P xs → Every P (x ∷ xs)
@@ -91,7 +91,7 @@ uncovered_kept {P} pos (r ∷ rs) h = by (nat_le (end_of r) pos) (uncovered_kept
 
 -- ---- the sending half
 
-module _ (c : Profile) (s : Side) (known : Option ℕ) (acked : Bool) (p : Lane) where
+module _ (c : Profile) (s : Side) (k : Knowledge) (p : Lane) where
   same_kind : (kind : RecordKind) (r : Record) (x : Sending) → KindShows c s p.datas p.fins kind r → KindShows c s p.datas p.fins kind (record r { sending = x })
   same_kind Syn r x h = h
   same_kind Data r x h = record { octets = h.octets; mapping = h.mapping }
@@ -101,7 +101,7 @@ module _ (c : Profile) (s : Side) (known : Option ℕ) (acked : Bool) (p : Lane)
   same_record r x h = same_kind r.kind r x h
 
   abbrev Shows : EndPhase → SendState → Type 0
-  Shows state v = SenderShows c s state v known acked p
+  Shows state v = SenderShows c s state v k p
 
   -- other records of the same octets
   with_records : (state : EndPhase) (v : SendState) (rs : List Record) → Shows state v → Every (RecordShows c s p.datas p.fins) rs → Shows state (record v { records = rs })
@@ -111,6 +111,9 @@ module _ (c : Profile) (s : Side) (known : Option ℕ) (acked : Bool) (p : Lane)
     unfinished = h.unfinished;
     pieces = pieces;
     known_end = h.known_end;
+    same_end = h.same_end;
+    heard = h.heard;
+    granted = h.granted;
     fin_acked = h.fin_acked;
   }
 
@@ -143,6 +146,9 @@ module _ (c : Profile) (s : Side) (known : Option ℕ) (acked : Bool) (p : Lane)
         unfinished = h.unfinished;
         pieces = uncovered_kept pos v.records h.pieces;
         known_end = h.known_end;
+        same_end = h.same_end;
+        heard = h.heard;
+        granted = h.granted;
         fin_acked = h.fin_acked;
       }
       by false = h
@@ -150,38 +156,38 @@ module _ (c : Profile) (s : Side) (known : Option ℕ) (acked : Bool) (p : Lane)
 -- an end that has sent a segment
 pub sent_end : (c : Profile) (s : Side) (out back : Lane) (occasion : Occasion) (now : ℕ) (sg : PlainSegment) (e : PathEnd) → EndShows c s e out back
     → EndShows c s (having_sent occasion now sg e) out back
-sent_end c s out back to_send.Reset now sg e h = record { sender = h.sender; receiver = h.receiver; window = h.window; told = h.told; treated = h.treated; held = h.held }
-sent_end c s out back to_send.Answer now sg e h = record { sender = h.sender; receiver = h.receiver; window = h.window; told = h.told; treated = h.treated; held = h.held }
+sent_end c s out back to_send.Reset now sg e h = record { sender = h.sender; receiver = h.receiver; acks = h.acks; told = h.told; treated = h.treated; held = h.held }
+sent_end c s out back to_send.Answer now sg e h = record { sender = h.sender; receiver = h.receiver; acks = h.acks; told = h.told; treated = h.treated; held = h.held }
 sent_end c s out back to_send.SynAck now sg e h = record {
-  sender = syn_resent_shows c s _ _ out now e.tcp.state e.tcp.send h.sender;
+  sender = syn_resent_shows c s _ out now e.tcp.state e.tcp.send h.sender;
   receiver = h.receiver;
-  window = h.window;
+  acks = h.acks;
   told = h.told;
   treated = h.treated;
   held = h.held;
 }
-sent_end c s out back to_send.Ack now sg e h = record { sender = h.sender; receiver = h.receiver; window = h.window; told = h.told; treated = h.treated; held = h.held }
-sent_end c s out back to_send.Probe now sg e h = record { sender = h.sender; receiver = h.receiver; window = h.window; told = h.told; treated = h.treated; held = h.held }
+sent_end c s out back to_send.Ack now sg e h = record { sender = h.sender; receiver = h.receiver; acks = h.acks; told = h.told; treated = h.treated; held = h.held }
+sent_end c s out back to_send.Probe now sg e h = record { sender = h.sender; receiver = h.receiver; acks = h.acks; told = h.told; treated = h.treated; held = h.held }
 sent_end c s out back to_send.First now sg e h = record {
-  sender = resent_shows c s _ _ out now e.tcp.state e.tcp.send h.sender;
+  sender = resent_shows c s _ out now e.tcp.state e.tcp.send h.sender;
   receiver = h.receiver;
-  window = h.window;
+  acks = h.acks;
   told = h.told;
   treated = h.treated;
   held = h.held;
 }
 sent_end c s out back to_send.Unsent now sg e h = record {
-  sender = sent_shows c s _ _ out now e.tcp.state e.tcp.send h.sender;
+  sender = sent_shows c s _ out now e.tcp.state e.tcp.send h.sender;
   receiver = h.receiver;
-  window = h.window;
+  acks = h.acks;
   told = h.told;
   treated = h.treated;
   held = h.held;
 }
 sent_end c s out back to_send.Fin now sg e h = record {
-  sender = fin_sent_shows c s _ _ out now e.tcp.state e.tcp.send h.sender;
+  sender = fin_sent_shows c s _ out now e.tcp.state e.tcp.send h.sender;
   receiver = h.receiver;
-  window = h.window;
+  acks = h.acks;
   told = h.told;
   treated = h.treated;
   held = h.held;

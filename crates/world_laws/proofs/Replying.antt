@@ -1,32 +1,39 @@
 -- What the replies of the books make of the path and of its lanes: what a copy said, grants, bytes that are placed, ends of the streams.
-use Rattle.std.proofs.Common.{◌≡◌, refl, sym, subst, ℕ, zero, suc, ◌^◌, ◌<◌, ◌≤◌, nat_lt, Bool, true, false, if◌then◌else◌, Option, Some, None, Result, Ok, Err, List, [], ◌∷◌, ◌++◌, length, arith}
-use Rattle.std.proofs.lemmas.Bool.{or_left}
+use Rattle.std.proofs.Common.{◌≡◌, refl, sym, subst, ℕ, zero, suc, ◌^◌, ◌<◌, ◌≤◌, nat_lt, Bool, true, false, if◌then◌else◌, Option, Some, None, Result, Ok, Err, List, [], ◌∷◌, ◌++◌, length, arith, ◌∙◌, ◌-◌, drop}
+use Rattle.std.proofs.lemmas.Bool.{false≢true, and_parts}
 use Rattle.std.specs.Option.{IfSome}
+use Rattle.std.proofs.lemmas.List.{length-drop, length-take}
 use Rattle.outside_kit.specs.declared.side.Side.{Side}
+use Rattle.outside_kit.specs.declared.side.Side.TheVariants.{A, B}
 use Rattle.send_book.specs.declared.call.SendCall.TheVariants.{Grant, AckIn}
 use Rattle.send_book.specs.declared.call.SendReply.{SendReply}
 use Rattle.send_book.specs.declared.call.SendReply.TheVariants as send_replies
 use Rattle.send_book.specs.declared.call.Span.{Span}
 use Rattle.send_book.specs.declared.call.Why.{Why}
 use Rattle.send_book.specs.State.{Sending as SendBook}
-use Rattle.send_book.specs.Steps.{decision, reply_by, grant_reply}
+use Rattle.send_book.specs.Steps.{decision, reply_by, grant_reply, part_of}
 use Rattle.send_book.proofs.Decisions.{decision-MayTake}
 use Rattle.reassembly_book.specs.declared.call.ReassemblyReply.{ReassemblyReply}
 use Rattle.reassembly_book.specs.declared.call.ReassemblyReply.TheVariants as reassembly_replies
+use Rattle.control_book.specs.declared.call.ControlCall.TheVariants as control_calls
 use Rattle.subflow_tcp.specs.States as states
-use Rattle.stream_lanes.specs.Lane.{Lane}
+use Rattle.stream_lanes.specs.Lane.{Lane, AskFin}
 use Rattle.stream_lanes.specs.Holding.{Holds}
 use Rattle.stream_lanes.specs.Moves.{takes_grant, takes_placed, takes_fin}
 use Rattle.stream_lanes.specs.Words.{Every}
 use Rattle.stream_lanes.proofs.Lists.{Every-push}
+use Rattle.stream_lanes.specs.Streams.StreamEvent.{GoIdentity}
+use Rattle.stream_lanes.specs.Duo.Event.{ToA, ToB}
 use Rattle.actor_desk.specs.declared.ask.Ask.{Ask}
 use Rattle.actor_desk.specs.declared.ask.Ask.TheVariants as asks
 use Rattle.actor_desk.specs.declared.ask.LocalStep.TheVariants as steps
 use Rattle.actor_desk.specs.declared.ask.Reply.{Reply}
 use Rattle.actor_desk.specs.declared.ask.Reply.TheVariants as replies
-use Rattle.actor_desk.specs.Desk.{SixBooks, send_of, reply_of}
+use Rattle.actor_desk.specs.Desk.{SixBooks, send_of, reply_of, control_of}
 use Rattle.actor_desk.specs.Words.{pick}
 use Rattle.fallback_state.specs.declared.fall.Event.TheVariants as events
+use Rattle.fallback_state.specs.declared.fall.Event.{Event}
+use Rattle.fallback_state.specs.Modes.{is_identity}
 use Rattle.path_agenda.specs.declared.heard.Heard.{Heard}
 use Rattle.path_agenda.specs.declared.heard.Heard.TheVariants as says
 use Rattle.path_agenda.specs.Agenda.{breaks}
@@ -34,23 +41,27 @@ use Rattle.path_core.specs.Breaking.{break_ask, answered_break}
 use Rattle.path_core.specs.Emission.{granted, grant_in, refused, answered_grant}
 use Rattle.path_core.specs.Ends.{PathEnd}
 use Rattle.path_agenda.specs.declared.keys.KeyPair.{KeyPair}
-use Rattle.path_core.specs.Opening.{syn_window_ask, keys_ask, after_keys}
-use Rattle.path_core.specs.Passing.{having_asked, with_peer_end, piece_ask, answered_piece, is_placed, piece_of, fin_of, fin_ask, answered_fin_heard, is_fin_set, rate_ask, after_rate, answered_rate}
+use Rattle.path_agenda.specs.declared.duty.Duty.{Duty}
+use Rattle.path_core.specs.Opening.{syn_window_ask, keys_ask, after_keys, peer_key_ask, opened_ask, answered_peer_key, answered_opened, with_peer_key}
+use Rattle.path_core.specs.Passing.{having_asked, with_peer_end, piece_ask, answered_piece, is_placed, piece_of, fin_of, fin_ask, answered_fin_heard, is_fin_set, rate_ask, after_rate, answered_rate, plain_fin, answered_plain_fin, with_fin_told}
 use Rattle.path_core.specs.Placing.{Piece, after_piece, with_learned}
 use Rattle.path_core.specs.State.{PathState, Profile, end_at, goes_on, left, path_of, with_agenda}
-use Rattle.path_core.specs.Treating.{fell_ask, after_verdict, is_clash, mapping_ask, answered_mapping, heard_ask, answered_heard, answered_ack, with_acked, with_fin, item_ask, answered_item}
+use Rattle.path_core.specs.Treating.{fell_ask, is_clash, mapping_ask, answered_mapping, heard_ask, answered_heard, answered_ack, with_acked, with_fin, item_ask, answered_item, subflow_ack_stands, after_fell, fell_duties, item_stands, plain_ack_ask, subflow_ack_ask, item_of, answered_plain_ack, answered_subflow_ack, with_plain_ack, acked_in, plain_next, breaks_by_ack, with_plain_acked}
 use Rattle.path_core.specs.Values.{Carried, values}
 use Rattle.path_core.specs.Words.{item_at}
+use Rattle.path_core.specs.Falling.{identity_ask, answered_identity, answered_fell}
 use Rattle.world_laws.proofs.Answering.{IsReady, Steps, shows_at, agenda_step, agenda_side, end_step, did_step, did_then, break_step, rate_quiet}
-use Rattle.world_laws.proofs.Doing.{granted_lane, refused_lane, wants_grant, hears_ack, wants_fin}
-use Rattle.world_laws.proofs.Ending.{granted_end, refused_end, idle_end, acked_end}
-use Rattle.world_laws.proofs.Lanes.{Others, duo_at}
-use Rattle.world_laws.proofs.Placing.{learned_end, asked_back, asked_end, piece_from, at_edge, wants_piece, placed_end}
+use Rattle.world_laws.proofs.Doing.{granted_lane, refused_lane, wants_grant, hears_ack, wants_fin, hears_none, hears_sub, wants_plain_fin}
+use Rattle.world_laws.proofs.Ending.{granted_end, refused_end, idle_end, IsFit, heard_end, unheard_end}
+use Rattle.world_laws.proofs.Lanes.{Others, duo_at, MayCall, unmoved}
+use Rattle.world_laws.proofs.Placing.{learned_end, asked_back, asked_end, placed_end, next_ready, plain_fin_came}
 use Rattle.world_laws.proofs.Records.{every_first, every_rest}
-use Rattle.world_laws.proofs.Rules.{asked_shows, verdict_shows, keys_show, peer_end_shows, rate_shows}
+use Rattle.world_laws.proofs.Rules.{asked_shows, keys_show, peer_end_shows, rate_shows, fell_shows, noted_shows, plain_ack_shows, key_shows, fin_told_shows}
 use Rattle.world_laws.proofs.Showing.{HasAck, HasNumber, ItemShows, EndShows, PathShows}
-use Rattle.world_laws.proofs.Strolling.{agrees}
+use Rattle.world_laws.proofs.Strolling.{agrees, back_holds}
 use Rattle.world_laws.proofs.Sides.{SideDid, side_kept, grant_side, ack_reply_at, ack_side, place_reply_at, place_side, fin_reply_at, fin_side}
+use Rattle.world_laws.proofs.Waking.{look_moves, looked_out, looked_back, path_looks}
+use Rattle.world_laws.proofs.Roads.{Strolls, stays}
 
 -- ---- ends
 
@@ -59,9 +70,9 @@ pub fin_shows : (c : Profile) (s : Side) (place : ℕ) (e : PathEnd) (out back :
 fin_shows c s place e out back has h = record {
   sender = h.sender;
   receiver = h.receiver;
-  window = h.window;
+  acks = h.acks;
   told = h.told;
-  treated = record { items = h.treated.items; fins = by (nat_lt (length e.treated.fins) 2); answer = h.treated.answer; window = h.treated.window };
+  treated = record { items = h.treated.items; fins = by (nat_lt (length e.treated.fins) 2); answer = h.treated.answer; window = h.treated.window; sub = h.treated.sub; nothing = h.treated.nothing };
   held = h.held;
 }
   where
@@ -69,42 +80,29 @@ fin_shows c s place e out back has h = record {
     by true = Every-push place h.treated.fins has
     by false = h.treated.fins
 
--- an end that didn't note an acknowledgement
-unacked : (c : Profile) (s : Side) (next : ℕ) (r : SendReply) (e : PathEnd) (out back : Lane) → EndShows c s (with_acked next (replies.Send r) e) out back → EndShows c s e out back
-unacked c s next (send_replies.Acked bytes fin) e out back h = record {
-  sender = record {
-    plain = h.sender.plain;
-    next = h.sender.next;
-    unfinished = h.sender.unfinished;
-    pieces = h.sender.pieces;
-    known_end = h.sender.known_end;
-    fin_acked = λ is. h.sender.fin_acked (or_left e.sending.close.own_acked fin is);
-  };
-  receiver = h.receiver;
-  window = h.window;
-  told = h.told;
-  treated = h.treated;
-  held = h.held;
-}
-unacked c s next _ e out back h =
-    record { sender = h.sender; receiver = h.receiver; window = h.window; told = h.told; treated = h.treated; held = h.held }
-
 pub every_item : {X : Type 0} {P : X → Type 0} (n : ℕ) (xs : List X) → Every P xs → IfSome (item_at n xs) P
 every_item n [] h = tt
 every_item zero (x ∷ xs) h = every_first x xs h
 every_item (suc n) (x ∷ xs) h = every_item n xs (every_rest x xs h)
 
--- a granted span begins at a written place
-granted_small : (path most : ℕ) (standby : Bool) (b : SendBook) (span : Span) (piece : List ℕ) → length b.marks < 2 ^ 63 → grant_reply path most standby b ≡ send_replies.Granted span piece
-    → span.from < 2 ^ 64
-granted_small path most standby b span piece short is = by (decision path most standby b) refl is
+-- a granted span begins at a written place, and has as many bytes as the piece
+granted_fits : (c : Profile) (s : Side) (out back : Lane) (path most : ℕ) (standby : Bool) (b : SendBook) (span : Span) (piece : List ℕ) → length b.marks < 2 ^ 63 → length b.marks ≡ length b.written → 1 ≤ most
+    → grant_reply path most standby b ≡ send_replies.Granted span piece → IsFit c s out back span piece
+granted_fits c s out back path most standby b span piece short tiles some is = by (decision path most standby b) refl is
   where
-    by : (d : Result Span Why) → decision path most standby b ≡ d → reply_by d b ≡ send_replies.Granted span piece → span.from < 2 ^ 64
+    by : (d : Result Span Why) → decision path most standby b ≡ d → reply_by d b ≡ send_replies.Granted span piece → IsFit c s out back span piece
     by (Ok x) decided e =
         let same : x ≡ span = cc in
+        let bytes : part_of x b.written ≡ piece = cc in
         let may = decision-MayTake path most standby b x decided in
-        let whole = may.whole in let within = may.within in
-        subst (λ y. y.from < 2 ^ 64) same (omega (arith, whole, within, short))
+        let whole = may.whole in let within = may.within in let counts = may.some some in
+        let count : length (part_of x b.written) ≡ x.to - x.from =
+        length-take (x.to - x.from) (drop x.from b.written) ∙ (let l = length-drop x.from b.written in omega (arith, l, whole, within, tiles)) in
+        subst (λ y. IsFit c s out back y piece) same (subst (IsFit c s out back x) bytes (record {
+          small = omega (arith, whole, within, short);
+          whole = omega (arith, count, whole);
+          some = omega (arith, count, whole, counts);
+        }))
     by (Err why) decided e = cc
 
 -- ---- the steps
@@ -132,62 +130,114 @@ module _ (six : SixBooks) (others : Others) (p : PathState Carried) (ab ba : Lan
     abbrev ack_of : ℕ → ℕ → SendReply
     ack_of next window = ack_reply_at p.profile six others next window s
 
-    pub data_ack_step : (next window : ℕ) → HasAck out.acks next window → Makes (asks.Send s (AckIn next window)) (answered_ack s next (reply_of six (asks.Send s (AckIn next window))) p)
-    data_ack_step next window has =
-        ack_side p.profile six others next window s p _ ab ba h (hears_ack out next window shows.sender.plain has)
-        (side_kept p.profile p ab ba h s _ back (with_acked next (replies.Send (ack_of next window)) e) _ (acked_end p.profile s out back next (ack_of next window) e shows))
+    pub data_ack_step : (next window : ℕ) → e.modes.identity ≡ false → HasAck out.acks next window
+        → Makes (asks.Send s (AckIn next window)) (answered_ack s next (reply_of six (asks.Send s (AckIn next window))) p)
+    data_ack_step next window above has =
+        ack_side p.profile six others next window s p _ ab ba h (hears_ack out next window (shows.sender.plain ∙ above) has)
+        (side_kept p.profile p ab ba h s _ back (with_acked next (replies.Send (ack_of next window)) e) _
+        (did_then p.profile s _ (with_acked next (replies.Send (ack_of next window)) e) out _ back back (heard_end p.profile s out back next (ack_of next window) e shows)
+        (noted_shows p.profile s _ _ next (record e { sending = acked_in next (replies.Send (ack_of next window)) e.sending }))))
+
+    -- in plain TCP that of the subflow stands for it
+    pub subflow_ack_step : subflow_ack_stands e ≡ true → Makes (subflow_ack_ask s e) (answered_subflow_ack s (reply_of six (subflow_ack_ask s e)) p)
+    subflow_ack_step is =
+        let next = plain_next e in let window = e.treated.window in
+        ack_side p.profile six others next window s p _ ab ba h
+        (hears_sub out next window (shows.sender.plain ∙ (and_parts e.modes.identity _ is).0) shows.treated.sub)
+        (side_kept p.profile p ab ba h s _ back (with_plain_acked (replies.Send (ack_of next window)) e) _ (heard_end p.profile s out back next (ack_of next window) e shows))
 
     pub syn_window_step : Makes (syn_window_ask s e) (with_agenda (left p) p)
     syn_window_step =
         let window = e.tcp.congestion.told.window in
-        ack_side p.profile six others 0 window s p _ ab ba h (hears_ack out 0 window shows.sender.plain shows.told)
+        ack_side p.profile six others 0 window s p _ ab ba h (hears_none out window shows.told)
         (agenda_side six others p ab ba h ready s _ back (left p)
-        (did_then p.profile s _ e out _ back back (acked_end p.profile s out back 0 (ack_of 0 window) e shows) (unacked p.profile s 0 (ack_of 0 window) e _ _)))
+        (unheard_end p.profile s out back (ack_of 0 window) e shows))
 
     -- ---- what a copy said
+
+    -- what is told of the mode changes the end's modes, and then these are to be done
+    pub fell_step : (event : Event) → MayCall s (control_calls.Fell (path_of p) event) six → (f : PathEnd → PathEnd)
+        → ((e : PathEnd) → EndShows p.profile s e out back → EndShows p.profile s (f e) out back) → (ds : List Duty)
+        → Makes (fell_ask s event p) (goes_on s (f (after_fell event (reply_of six (fell_ask s event p)) e)) ds p)
+    fell_step event may f rule ds =
+        let r : Reply = reply_of six (fell_ask s event p) in
+        end_step six others p ab ba h ready s (fell_ask s event p) (f (after_fell event r e)) ds may (rule (after_fell event r e) (fell_shows p.profile s out back event r e shows))
+
+    pub told_fell : (event : Event) → MayCall s (control_calls.Fell (path_of p) event) six → Makes (fell_ask s event p) (answered_fell s event (reply_of six (fell_ask s event p)) p)
+    told_fell event may = fell_step event may (λ e. e) (λ e shows. shows) (fell_duties s (reply_of six (fell_ask s event p)) p)
 
     mapping_step : Makes (mapping_ask values s p) (answered_mapping values s (reply_of six (mapping_ask values s p)) p)
     mapping_step = by (is_clash e)
       where
         by : (b : Bool) → Makes (if b then break_ask values s 1 p else fell_ask s events.MappingHeard p)
             (if b then answered_break values s 1 (reply_of six (if b then break_ask values s 1 p else fell_ask s events.MappingHeard p)) p
-            else goes_on s (with_learned (after_verdict (reply_of six (if b then break_ask values s 1 p else fell_ask s events.MappingHeard p)) e)) (left p) p)
+            else goes_on s (with_learned (after_fell events.MappingHeard (reply_of six (if b then break_ask values s 1 p else fell_ask s events.MappingHeard p)) e))
+            (fell_duties s (reply_of six (if b then break_ask values s 1 p else fell_ask s events.MappingHeard p)) p) p)
         by true = break_step six others p ab ba h ready s 1
         by false =
-            let f : PathEnd = after_verdict (reply_of six (fell_ask s events.MappingHeard p)) e in
-            did_step six others p ab ba h ready s (fell_ask s events.MappingHeard p) (with_learned f) (left p) tt
-            (learned_end p.profile s out back f (agrees six others s ab ba holds) (verdict_shows p.profile s out back (reply_of six (fell_ask s events.MappingHeard p)) e shows))
+            let r : Reply = reply_of six (fell_ask s events.MappingHeard p) in
+            let f : PathEnd = after_fell events.MappingHeard r e in
+            did_step six others p ab ba h ready s (fell_ask s events.MappingHeard p) (with_learned f) (fell_duties s r p) tt
+            (learned_end p.profile s out back f (agrees six others s ab ba holds) (fell_shows p.profile s out back events.MappingHeard r e shows))
 
-    heard_step : (item : Heard) → ItemShows out.acks back item → Makes (heard_ask values s item p) (answered_heard values s item (reply_of six (heard_ask values s item p)) p)
-    heard_step (says.DataAck next window) has = data_ack_step next window has
-    heard_step says.Mapping has = mapping_step
-    heard_step (says.DataFin place) has =
-        let r : Reply = reply_of six (fell_ask s events.MappingHeard p) in
-        end_step six others p ab ba h ready s (fell_ask s events.MappingHeard p) (with_fin place (after_verdict r e)) (left p) tt
-        (fin_shows p.profile s place (after_verdict r e) out back has (verdict_shows p.profile s out back r e shows))
-    heard_step (says.Keys own peer) has =
+    -- the next acknowledgement, bytes, end or sign of Multipath TCP of a copy, which an end hears that didn't fall back
+    heard_step : (item : Heard) → e.modes.identity ≡ false → ItemShows out.acks back item → Makes (heard_ask values s item p) (answered_heard values s item (reply_of six (heard_ask values s item p)) p)
+    heard_step (says.DataAck next window) above has = data_ack_step next window above has
+    heard_step says.Mapping above has = mapping_step
+    heard_step (says.DataFin place) above has =
+        fell_step events.MappingHeard tt (with_fin place) (λ f x. fin_shows p.profile s place f out back has x) (fell_duties s (reply_of six (fell_ask s events.MappingHeard p)) p)
+    heard_step says.InfiniteMapping above has = told_fell events.InfiniteHeard tt
+    heard_step (says.Keys own peer) above has =
         let keys : Option KeyPair = Some (record { own = own; peer = peer }) in
         let r : Reply = reply_of six (keys_ask s keys) in
         end_step six others p ab ba h ready s (keys_ask s keys) (after_keys r keys e) (left p) tt (keys_show p.profile s out back r keys e shows)
-    heard_step says.Dss has = agenda_step six others p ab ba h ready (asks.Local steps.End) (left p) tt
-    heard_step (says.PeerKey key) has = agenda_step six others p ab ba h ready (asks.Local steps.End) (left p) tt
-    heard_step (says.Join form) has = agenda_step six others p ab ba h ready (asks.Local steps.End) (left p) tt
+    heard_step says.Dss above has = agenda_step six others p ab ba h ready (asks.Local steps.End) (left p) tt
+    heard_step (says.PeerKey key) above has = agenda_step six others p ab ba h ready (asks.Local steps.End) (left p) tt
+    heard_step (says.Join form) above has = agenda_step six others p ab ba h ready (asks.Local steps.End) (left p) tt
 
-    item_by : (o : Option Heard) → IfSome o (ItemShows out.acks back) → Makes (item_ask values s o p) (answered_item values s o (reply_of six (item_ask values s o p)) p)
-    item_by None has = agenda_step six others p ab ba h ready (asks.Local steps.End) (left p) tt
-    item_by (Some item) has = heard_step item has
+    item_by : (o : Option Heard) → e.modes.identity ≡ false → IfSome o (ItemShows out.acks back) → Makes (item_ask values s o p) (answered_item values s o (reply_of six (item_ask values s o p)) p)
+    item_by None above has = agenda_step six others p ab ba h ready (asks.Local steps.End) (left p) tt
+    item_by (Some item) above has = heard_step item above has
 
-    pub item_step : (index : ℕ) → Makes (item_ask values s (item_at index e.treated.items) p) (answered_item values s (item_at index e.treated.items) (reply_of six (item_ask values s (item_at index e.treated.items) p)) p)
-    item_step index = item_by (item_at index e.treated.items) (every_item index e.treated.items shows.treated.items)
+    pub item_step : (index : ℕ) → item_stands (item_of index e) e ≡ true → Makes (item_ask values s (item_of index e) p) (answered_item values s (item_of index e) (reply_of six (item_ask values s (item_of index e) p)) p)
+    item_step index is = by e.modes.identity refl is
+      where
+        by : (b : Bool) → e.modes.identity ≡ b → item_stands (if b then None else item_at index e.treated.items) e ≡ true
+            → let o = if b then None else item_at index e.treated.items in Makes (item_ask values s o p) (answered_item values s o (reply_of six (item_ask values s o p)) p)
+        by true plain none = absurd (false≢true none)
+        by false above none = item_by (item_at index e.treated.items) above (every_item index e.treated.items shows.treated.items)
+
+    -- ---- an acknowledgement without a Data ACK
+
+    pub plain_ack_step : Makes (plain_ack_ask values s p) (answered_plain_ack values s (reply_of six (plain_ack_ask values s p)) p)
+    plain_ack_step = by (breaks_by_ack p.profile e)
+      where
+        by : (b : Bool) → let x = if b then break_ask values s 6 p else fell_ask s events.PlainAck p in
+            Makes x (if b then answered_break values s 6 (reply_of six x) p else goes_on s (with_plain_ack (after_fell events.PlainAck (reply_of six x) e)) (fell_duties s (reply_of six x) p) p)
+        by true = break_step six others p ab ba h ready s 6
+        by false = fell_step events.PlainAck tt with_plain_ack (plain_ack_shows p.profile s out back) (fell_duties s (reply_of six (fell_ask s events.PlainAck p)) p)
+
+    -- ---- the opening
+
+    pub peer_key_step : (o : Option ℕ) → Makes (peer_key_ask s o p) (answered_peer_key s o (reply_of six (peer_key_ask s o p)) p)
+    peer_key_step None = told_fell events.PlainHandshake tt
+    peer_key_step (Some key) =
+        end_step six others p ab ba h ready s (peer_key_ask s (Some key) p) (with_peer_key (Some key) e) (left p) tt (key_shows p.profile s out back (Some key) e shows)
+
+    pub opened_step : (o : Option KeyPair) → Makes (opened_ask s o p) (answered_opened s o (reply_of six (opened_ask s o p)) p)
+    opened_step None = told_fell events.PlainHandshake tt
+    opened_step (Some keys) =
+        let r : Reply = reply_of six (keys_ask s (Some keys)) in
+        end_step six others p ab ba h ready s (keys_ask s (Some keys)) (after_keys r (Some keys) e) (left p) tt (keys_show p.profile s out back r (Some keys) e shows)
 
     -- ---- grants
 
-    module _ (most : ℕ) (standby : Bool) (some : 1 ≤ most) (short : length (send_of s six).marks < 2 ^ 63) (may : states.may_finish e.tcp.state ≡ true) where
+    module _ (most : ℕ) (standby : Bool) (some : 1 ≤ most) (short : length (send_of s six).marks < 2 ^ 63) (tiles : length (send_of s six).marks ≡ length (send_of s six).written) (may : states.may_finish e.tcp.state ≡ true) where
       grant_did : (r : SendReply) → grant_reply others.number most standby (send_of s six) ≡ r
           → SideDid p.profile s p (answered_grant s (grant_in (replies.Send r)) (replies.Send r) p) ab ba (takes_grant r out) back
       grant_did (send_replies.Granted span piece) is =
           side_kept p.profile p ab ba h s (granted_lane span piece out) back (granted p.profile s span piece e) p.agenda
-          (granted_end p.profile s out back span piece e may (granted_small others.number most standby (send_of s six) span piece short is) shows)
+          (granted_end p.profile s out back span piece e may (granted_fits p.profile s out back others.number most standby (send_of s six) span piece short tiles some is) shows)
       grant_did (send_replies.NoGrant why told) is =
           side_kept p.profile p ab ba h s (refused_lane why told out) back (refused (replies.Send (send_replies.NoGrant why told)) e) (left p) (refused_end p.profile s out back why told e shows)
       grant_did (send_replies.Acked bytes fin) is = side_kept p.profile p ab ba h s _ back e (left p) (idle_end p.profile s out back e shows)
@@ -218,17 +268,17 @@ module _ (six : SixBooks) (others : Others) (p : PathState Carried) (ab ba : Lan
     pub piece_step : (o : Option Piece) → piece_of s p ≡ o → Makes (piece_ask s o) (answered_piece s o (is_placed (reply_of six (piece_ask s o))) p)
     piece_step None is = end_step six others p ab ba h ready s (asks.Local steps.End) (having_asked e) (breaks s 1) tt (asked_shows p.profile s out back e shows)
     piece_step (Some piece) is =
-        let n = piece_from p.profile s out back e piece is shows in
-        place_side p.profile six others piece.place piece.octets s p _ ab ba h (wants_piece p.profile s out back e piece n shows)
+        let n = next_ready p.profile s out back e piece is shows in
+        place_side p.profile six others piece.place piece.octets s p _ ab ba h n.wants
         (by (place_reply_at p.profile six others piece.place piece.octets s))
       where
         other : SideDid p.profile s p (goes_on s (having_asked e) (breaks s 1) p) ab ba out (asked_back p.profile s out back back.due)
-        other = side_kept p.profile p ab ba h s out _ (having_asked e) (breaks s 1) (asked_end p.profile s out back back.due (having_asked e) (asked_shows p.profile s out back e shows))
+        other = side_kept p.profile p ab ba h s out _ (having_asked e) (breaks s 1) (asked_end p.profile s out back back.due (having_asked e) refl (asked_shows p.profile s out back e shows))
 
         by : (r : ReassemblyReply) → SideDid p.profile s p (answered_piece s (Some piece) (is_placed (replies.Reassembly r)) p) ab ba out (takes_placed (length piece.octets) r back)
         by (reassembly_replies.Placed new) =
-            let n = piece_from p.profile s out back e piece is shows in
-            side_kept p.profile p ab ba h s out _ (having_asked (after_piece piece e)) p.agenda (placed_end p.profile s out back new e piece (at_edge p.profile s out back e piece n shows) shows)
+            let n = next_ready p.profile s out back e piece is shows in
+            side_kept p.profile p ab ba h s out _ (having_asked (after_piece piece e)) p.agenda (placed_end p.profile s out back new e piece n.at shows)
         by (reassembly_replies.Beyond edge) = other
         by (reassembly_replies.FinClash fin at) = other
         by reassembly_replies.FinSet = other
@@ -247,12 +297,12 @@ module _ (six : SixBooks) (others : Others) (p : PathState Carried) (ab ba : Lan
         fin_side p.profile six others place s p _ ab ba h (wants_fin back place has) (by (fin_reply_at p.profile six others place s))
       where
         other : SideDid p.profile s p (goes_on s (having_asked e) (breaks s 1) p) ab ba out (asked_back p.profile s out back back.due)
-        other = side_kept p.profile p ab ba h s out _ (having_asked e) (breaks s 1) (asked_end p.profile s out back back.due (having_asked e) (asked_shows p.profile s out back e shows))
+        other = side_kept p.profile p ab ba h s out _ (having_asked e) (breaks s 1) (asked_end p.profile s out back back.due (having_asked e) refl (asked_shows p.profile s out back e shows))
 
         by : (r : ReassemblyReply) → SideDid p.profile s p (answered_fin_heard s (is_fin_set (replies.Reassembly r)) p) ab ba out (takes_fin r back)
         by reassembly_replies.FinSet =
             side_kept p.profile p ab ba h s out _ (having_asked (with_peer_end e)) (left p)
-            (asked_end p.profile s out back true (having_asked (with_peer_end e)) (asked_shows p.profile s out back (with_peer_end e) (peer_end_shows p.profile s out back e shows)))
+            (asked_end p.profile s out back true (having_asked (with_peer_end e)) refl (asked_shows p.profile s out back (with_peer_end e) (peer_end_shows p.profile s out back e shows)))
         by (reassembly_replies.Placed new) = other
         by (reassembly_replies.Beyond edge) = other
         by (reassembly_replies.FinClash fin at) = other
@@ -266,10 +316,76 @@ module _ (six : SixBooks) (others : Others) (p : PathState Carried) (ab ba : Lan
     pub fin_heard_step : (index : ℕ) → Makes (fin_ask s (fin_of index e)) (answered_fin_heard s (is_fin_set (reply_of six (fin_ask s (fin_of index e)))) p)
     fin_heard_step index = fin_by (fin_of index e) (every_item index e.treated.fins shows.treated.fins)
 
+    -- in plain TCP the FIN stands for it
+    pub plain_fin_step : (o : Option ℕ) → plain_fin e ≡ o → Makes (fin_ask s o) (answered_plain_fin s (is_fin_set (reply_of six (fin_ask s o))) p)
+    plain_fin_step None is = end_step six others p ab ba h ready s (asks.Local steps.End) (having_asked e) (breaks s 1) tt (asked_shows p.profile s out back e shows)
+    plain_fin_step (Some place) is =
+        let came = plain_fin_came p.profile s out back _ _ e place (back_holds six others s ab ba holds) shows is in
+        fin_side p.profile six others place s p _ ab ba h
+        (subst (λ n. Strolls back (record back { asking = AskFin n })) (sym came.place_is) (wants_plain_fin back (shows.receiver.same_mode ∙ came.plain) came.fin_in))
+        (by (fin_reply_at p.profile six others place s))
+      where
+        other : SideDid p.profile s p (goes_on s (having_asked e) (breaks s 1) p) ab ba out (asked_back p.profile s out back back.due)
+        other = side_kept p.profile p ab ba h s out _ (having_asked e) (breaks s 1) (asked_end p.profile s out back back.due (having_asked e) refl (asked_shows p.profile s out back e shows))
+
+        by : (r : ReassemblyReply) → SideDid p.profile s p (answered_plain_fin s (is_fin_set (replies.Reassembly r)) p) ab ba out (takes_fin r back)
+        by reassembly_replies.FinSet =
+            let f : PathEnd = with_peer_end (with_fin_told e) in
+            side_kept p.profile p ab ba h s out _ (having_asked f) (left p)
+            (asked_end p.profile s out back true (having_asked f) refl (asked_shows p.profile s out back f (peer_end_shows p.profile s out back (with_fin_told e) (fin_told_shows p.profile s out back e shows))))
+        by (reassembly_replies.Placed new) = other
+        by (reassembly_replies.Beyond edge) = other
+        by (reassembly_replies.FinClash fin at) = other
+        by (reassembly_replies.Bytes bytes) = other
+        by reassembly_replies.End = other
+        by reassembly_replies.NoneYet = other
+        by (reassembly_replies.Ack next window) = other
+        by (reassembly_replies.Aborted by_peer) = other
+        by reassembly_replies.Noted = other
+
     -- ---- the growth of the window
 
     pub rate_step : Makes (rate_ask s e.tcp.congestion.pending p) (answered_rate s (reply_of six (rate_ask s e.tcp.congestion.pending p)) p)
     rate_step =
         let r : Reply = reply_of six (rate_ask s e.tcp.congestion.pending p) in
-        end_step six others p ab ba h ready s (rate_ask s e.tcp.congestion.pending p) (after_rate (path_of p) p.profile.mss r e) (left p) (rate_quiet s e.tcp.congestion.pending p)
+        end_step six others p ab ba h ready s (rate_ask s e.tcp.congestion.pending p) (after_rate (path_of p) p.profile.mss r e) (left p) (rate_quiet six s e.tcp.congestion.pending p)
         (rate_shows p.profile s out back (path_of p) p.profile.mss r e shows)
+
+  -- ---- the fall
+
+  -- the ends look at what their sides know before the send book is told
+  pub identity_step : (s : Side) → is_identity (control_of s six).fall.mode ≡ true → Makes (identity_ask s) (answered_identity s p)
+  identity_step A plain = record {
+    ab_before = looked_out ab;
+    ba_before = looked_back ba;
+    before = look_moves A six others ab ba plain;
+    call = Some (ToB GoIdentity);
+    calls = (GoIdentity, refl, refl);
+    ab_called = looked_out ab;
+    ba_called = looked_back ba;
+    called = unmoved _;
+    after = record {
+      ab_after = looked_out ab;
+      ba_after = looked_back ba;
+      ab_moves = stays (looked_out ab);
+      ba_moves = stays (looked_back ba);
+      shows = path_looks p.profile A p ab ba (left p) h;
+    };
+  }
+  identity_step B plain = record {
+    ab_before = looked_back ab;
+    ba_before = looked_out ba;
+    before = look_moves B six others ab ba plain;
+    call = Some (ToA GoIdentity);
+    calls = (GoIdentity, refl, refl);
+    ab_called = looked_back ab;
+    ba_called = looked_out ba;
+    called = unmoved _;
+    after = record {
+      ab_after = looked_back ab;
+      ba_after = looked_out ba;
+      ab_moves = stays (looked_back ab);
+      ba_moves = stays (looked_out ba);
+      shows = path_looks p.profile B p ab ba (left p) h;
+    };
+  }

@@ -17,9 +17,9 @@ use Rattle.stream_lanes.specs.Moves.Move.{Open, LookAtSender, LookAtReceiver, Wa
 use Rattle.stream_lanes.specs.Streams.{Reader, Direction, after, asks, asks_at, moves as moves_in}
 use Rattle.stream_lanes.specs.Streams.StreamEvent.{Moves, Asks}
 
--- no side fell back; whether a join was answered
-abbrev pub flags_by : Bool → Flags
-flags_by joined = record { answered = joined; sender = false; receiver = false }
+-- no side fell back, and no join was answered
+abbrev pub no_flags : Flags
+no_flags = record { answered = false; sender = false; receiver = false }
 
 -- a move that isn't the opening of a lane, and looks at no mode
 abbrev pub is_calm : Move → Bool
@@ -29,27 +29,27 @@ is_calm LookAtReceiver = false
 is_calm _ = true
 
 abbrev pub move : Move → Lane → Lane
-move m p = moved (flags_by false) 0 m p
+move m p = moved no_flags 0 m p
 
 -- so lanes move alike on all paths
-pub moves_alike : (joined : Bool) (path : ℕ) (m : Move) (p : Lane) → is_calm m ≡ true → moved (flags_by joined) path m p ≡ move m p
-moves_alike joined path Open p calm = absurd (false≢true calm)
-moves_alike joined path LookAtSender p calm = absurd (false≢true calm)
-moves_alike joined path LookAtReceiver p calm = absurd (false≢true calm)
-moves_alike joined path (WantGrant max standby) p calm = refl
-moves_alike joined path (HearAck copy) p calm = refl
-moves_alike joined path (SendPiece piece mapped) p calm = refl
-moves_alike joined path SendDataFin p calm = refl
-moves_alike joined path SendFin p calm = refl
-moves_alike joined path (Hear copy count) p calm = refl
-moves_alike joined path (Learn copy) p calm = refl
-moves_alike joined path (HearDataFin copy) p calm = refl
-moves_alike joined path (HearFin copy) p calm = refl
-moves_alike joined path (WantPlace mapping count) p calm = refl
-moves_alike joined path (WantPlacePlain count) p calm = refl
-moves_alike joined path WantFin p calm = refl
-moves_alike joined path WantAckOut p calm = refl
-moves_alike joined path (SendAck next window sub) p calm = refl
+pub moves_alike : (f : Flags) (path : ℕ) (m : Move) (p : Lane) → is_calm m ≡ true → moved f path m p ≡ move m p
+moves_alike f path Open p calm = absurd (false≢true calm)
+moves_alike f path LookAtSender p calm = absurd (false≢true calm)
+moves_alike f path LookAtReceiver p calm = absurd (false≢true calm)
+moves_alike f path (WantGrant max standby) p calm = refl
+moves_alike f path (HearAck copy) p calm = refl
+moves_alike f path (SendPiece piece mapped) p calm = refl
+moves_alike f path SendDataFin p calm = refl
+moves_alike f path SendFin p calm = refl
+moves_alike f path (Hear copy count) p calm = refl
+moves_alike f path (Learn copy) p calm = refl
+moves_alike f path (HearDataFin copy) p calm = refl
+moves_alike f path (HearFin copy) p calm = refl
+moves_alike f path (WantPlace mapping count) p calm = refl
+moves_alike f path (WantPlacePlain count) p calm = refl
+moves_alike f path WantFin p calm = refl
+moves_alike f path WantAckOut p calm = refl
+moves_alike f path (SendAck next window sub) p calm = refl
 
 -- the lane after these moves, the first one first
 abbrev pub moves : List Move → Lane → Lane
@@ -125,12 +125,12 @@ module _ (lanes : List Lane) (number : ℕ) (send : Sending) (arrived : Arriving
   asks_there (AskFin at) p = put_twice _ _ p _
   asks_there AskAckOut p = put_twice _ _ p _
 
-  module _ (joined : Bool) (within : number < length lanes) where
-    pub moved_there : (m : Move) (p : Lane) → is_calm m ≡ true → after (flags_by joined) (Moves number m) (with_lane p) ≡ with_lane (move m p)
+  module _ (f : Flags) (within : number < length lanes) where
+    pub moved_there : (m : Move) (p : Lane) → is_calm m ≡ true → after f (Moves number m) (with_lane p) ≡ with_lane (move m p)
     moved_there m p calm =
-        ap (λ o. moves_in (flags_by joined) number m o (with_lane p)) (put_there lanes number p within)
-        ∙ put_twice send arrived p (moved (flags_by joined) number m p)
-        ∙ ap with_lane (moves_alike joined number m p calm)
+        ap (λ o. moves_in f number m o (with_lane p)) (put_there lanes number p within)
+        ∙ put_twice send arrived p (moved f number m p)
+        ∙ ap with_lane (moves_alike f number m p calm)
 
-    pub asked_there : (p : Lane) → after (flags_by joined) (Asks number) (with_lane p) ≡ with_asked p.asking p
+    pub asked_there : (p : Lane) → after f (Asks number) (with_lane p) ≡ with_asked p.asking p
     asked_there p = ap (λ o. asks_at number o (with_lane p)) (put_there lanes number p within) ∙ asks_there p.asking p

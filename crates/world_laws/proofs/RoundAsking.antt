@@ -147,6 +147,12 @@ module _ {C : Type 0} where
     duty_done (duties.Heard s index) ds r asks is refusal f each = other_duty (duties.Heard s index) ds r asks tt f each
     duty_done (duties.AckHeard s) ds r asks is refusal f each = other_duty (duties.AckHeard s) ds r asks tt f each
     duty_done (duties.PlainAck s) ds r asks is refusal f each = other_duty (duties.PlainAck s) ds r asks tt f each
+    duty_done (duties.PlainHandshake s) ds r asks is refusal f each = other_duty (duties.PlainHandshake s) ds r asks tt f each
+    duty_done (duties.SubflowAck s) ds r asks is refusal f each = other_duty (duties.SubflowAck s) ds r asks tt f each
+    duty_done (duties.PlainData s) ds r asks is refusal f each = other_duty (duties.PlainData s) ds r asks tt f each
+    duty_done (duties.GoIdentity s) ds r asks is refusal f each = other_duty (duties.GoIdentity s) ds r asks tt f each
+    duty_done (duties.Unmapped s) ds r asks is refusal f each = other_duty (duties.Unmapped s) ds r asks tt f each
+    duty_done (duties.SubflowFin s) ds r asks is refusal f each = other_duty (duties.SubflowFin s) ds r asks tt f each
     duty_done (duties.Keep s) ds r asks is refusal f each = other_duty (duties.Keep s) ds r asks tt f each
     duty_done (duties.Edge s) ds r asks is refusal f each = other_duty (duties.Edge s) ds r asks tt f each
     duty_done (duties.HeardFin s index) ds r asks is refusal f each = other_duty (duties.HeardFin s index) ds r asks tt f each

@@ -25,12 +25,12 @@ use Rattle.path_core.specs.Emission.{first_unsent, data_ask, payload_size}
 use Rattle.path_core.specs.Events.{next_event, step_for}
 use Rattle.path_agenda.specs.Items.{key_heard, keys_heard}
 use Rattle.path_core.specs.Joining.{asked_at, join_heard_ask}
-use Rattle.path_core.specs.Opening.{peer_key_ask, keys_ask}
-use Rattle.path_core.specs.Passing.{piece_of, piece_ask, fin_of, fin_ask, rate_ask}
+use Rattle.path_core.specs.Opening.{peer_key_ask, opened_ask}
+use Rattle.path_core.specs.Passing.{piece_of, piece_ask, fin_of, fin_ask, rate_ask, plain_fin}
 use Rattle.path_core.specs.Placing.{Piece}
 use Rattle.path_core.specs.Sends.{sends}
 use Rattle.path_core.specs.State.{PathState, end_at, path_of}
-use Rattle.path_core.specs.Treating.{is_clash, fell_ask, mapping_ask, item_ask, item_of}
+use Rattle.path_core.specs.Treating.{is_clash, fell_ask, mapping_ask, item_ask, item_of, plain_ack_ask, breaks_by_ack}
 use Rattle.world_laws.proofs.RoundReplies.{AsksSome}
 
 pub app_asks_some : (d : AppDuty) (a : AppState) → AsksSome (app_ask d a)
@@ -51,13 +51,13 @@ module _ {C : Type 0} (k : Codec C) (p : PathState C) (some : 1 ≤ payload_size
   step_some (Some (happening.Arrives due)) = tt
   step_some (Some (happening.Fires s tick)) = tt
 
-  key_some : (s : Side) (o : Option ℕ) → AsksSome (peer_key_ask s o)
+  key_some : (s : Side) (o : Option ℕ) → AsksSome (peer_key_ask s o p)
   key_some s None = tt
   key_some s (Some key) = tt
 
-  keys_some : (s : Side) (o : Option KeyPair) → AsksSome (keys_ask s o)
-  keys_some s None = tt
-  keys_some s (Some keys) = tt
+  opened_some : (s : Side) (o : Option KeyPair) → AsksSome (opened_ask s o p)
+  opened_some s None = tt
+  opened_some s (Some keys) = tt
 
   join_some : (s : Side) (o : Option JoinSyn) → AsksSome (join_heard_ask s o p)
   join_some s None = tt
@@ -77,12 +77,20 @@ module _ {C : Type 0} (k : Codec C) (p : PathState C) (some : 1 ≤ payload_size
       by true = break_some s 1
       by false = tt
 
+  plain_ack_some : (s : Side) → AsksSome (plain_ack_ask k s p)
+  plain_ack_some s = by (breaks_by_ack p.profile (end_at s p))
+    where
+      by : (b : Bool) → AsksSome (if b then break_ask k s 6 p else fell_ask s events.PlainAck p)
+      by true = break_some s 6
+      by false = tt
+
   item_some : (s : Side) (o : Option Heard) → AsksSome (item_ask k s o p)
   item_some s None = tt
   item_some s (Some says.Dss) = tt
   item_some s (Some (says.DataAck next window)) = tt
   item_some s (Some says.Mapping) = mapping_some s
   item_some s (Some (says.DataFin place)) = tt
+  item_some s (Some says.InfiniteMapping) = tt
   item_some s (Some (says.PeerKey key)) = tt
   item_some s (Some (says.Keys own peer)) = tt
   item_some s (Some (says.Join form)) = tt
@@ -116,11 +124,17 @@ module _ {C : Type 0} (k : Codec C) (p : PathState C) (some : 1 ≤ payload_size
   asks_some (duties.SynAck s) = tt
   asks_some (duties.JoinHeard s) = join_some s (asked_at s p)
   asks_some (duties.Refuse s) = tt
-  asks_some (duties.Opened s) = keys_some s (keys_heard (end_at s p).treated.items)
+  asks_some (duties.Opened s) = opened_some s (keys_heard (end_at s p).treated.items)
   asks_some (duties.Live s) = tt
   asks_some (duties.Heard s index) = item_some s (item_of index (end_at s p))
   asks_some (duties.AckHeard s) = tt
-  asks_some (duties.PlainAck s) = break_some s 6
+  asks_some (duties.PlainAck s) = plain_ack_some s
+  asks_some (duties.PlainHandshake s) = tt
+  asks_some (duties.SubflowAck s) = tt
+  asks_some (duties.PlainData s) = tt
+  asks_some (duties.GoIdentity s) = tt
+  asks_some (duties.Unmapped s) = break_some s 6
+  asks_some (duties.SubflowFin s) = fin_some s (plain_fin (end_at s p))
   asks_some (duties.Keep s) = tt
   asks_some (duties.Edge s) = piece_some s (piece_of s p)
   asks_some (duties.HeardFin s index) = fin_some s (fin_of index (end_at s p))

@@ -55,7 +55,8 @@ module _ (path written : ℕ) (s : Side) where
       record { ones = ones_after path written b h.ones (send_calls.Return asker) tt; all = λ on alone. all_after path written b h.ones s steps (send_calls.Return asker) is (h.all on alone) }
   quiet_side steps refused freed b (send_calls.Grant asker max standby) is h = absurd is
   quiet_side steps refused freed b (send_calls.AckIn next window) is h = absurd is
-  quiet_side steps refused freed b send_calls.GoIdentity is h = absurd is
+  quiet_side steps refused freed b send_calls.GoIdentity is h =
+      record { ones = ones_after path written b h.ones send_calls.GoIdentity tt; all = λ on alone. all_after path written b h.ones s steps send_calls.GoIdentity tt (h.all on alone) }
   quiet_side steps refused freed b (send_calls.GoInfinite asker) is h = absurd is
   quiet_side steps refused freed b send_calls.Abort is h = absurd is
 
@@ -233,7 +234,8 @@ module _ (path written : ℕ) (s : Side) (steps : List Note) (refused freed : Bo
       record { ones = ones_after path written b h.ones (send_calls.Return who) tt; all = λ on alone. freed_now freed (ap (λ c. freed || c) (sym same) ∙ alone) }
   other_call asker t (send_calls.Write bytes) apart is same = absurd is
   other_call asker t send_calls.Close apart is same = absurd is
-  other_call asker t send_calls.GoIdentity apart is same = absurd is
+  other_call asker t send_calls.GoIdentity apart is same =
+      record { ones = ones_after path written b h.ones send_calls.GoIdentity tt; all = λ on alone. all_after path written b h.ones s steps send_calls.GoIdentity tt (h.all on (freed_before freed _ alone)) }
   other_call asker t (send_calls.GoInfinite who) apart is same = absurd is
   other_call asker t send_calls.Abort apart is same = absurd is
 
@@ -364,6 +366,7 @@ module _ {C : Type 0} (k : Codec C) (p : PathState C) (written_a written_b : ℕ
   duty_asks duties.Events ds is f each = quiet_duty duties.Events ds tt tt is f each
   duty_asks (duties.SynHeard s) ds is f each = heard_duty (duties.SynHeard s) s ds refl tt (first_needs (duties.SynHeard s) ds f) is f each
   duty_asks (duties.SynAnswered s) ds is f each = heard_duty (duties.SynAnswered s) s ds refl tt (first_needs (duties.SynAnswered s) ds f) is f each
+  duty_asks (duties.PlainHandshake s) ds is f each = quiet_duty (duties.PlainHandshake s) ds tt tt is f each
   duty_asks (duties.PeerKey s) ds is f each = quiet_duty (duties.PeerKey s) ds tt tt is f each
   duty_asks (duties.SynAck s) ds is f each = quiet_duty (duties.SynAck s) ds tt tt is f each
   duty_asks (duties.JoinHeard s) ds is f each = quiet_duty (duties.JoinHeard s) ds tt tt is f each
@@ -372,6 +375,11 @@ module _ {C : Type 0} (k : Codec C) (p : PathState C) (written_a written_b : ℕ
   duty_asks (duties.Live s) ds is f each = quiet_duty (duties.Live s) ds tt tt is f each
   duty_asks (duties.AckHeard s) ds is f each = quiet_duty (duties.AckHeard s) ds tt tt is f each
   duty_asks (duties.PlainAck s) ds is f each = quiet_duty (duties.PlainAck s) ds tt tt is f each
+  duty_asks (duties.SubflowAck s) ds is f each = heard_duty (duties.SubflowAck s) s ds refl tt (first_needs (duties.SubflowAck s) ds f) is f each
+  duty_asks (duties.PlainData s) ds is f each = quiet_duty (duties.PlainData s) ds tt tt is f each
+  duty_asks (duties.GoIdentity s) ds is f each = quiet_duty (duties.GoIdentity s) ds tt tt is f each
+  duty_asks (duties.Unmapped s) ds is f each = quiet_duty (duties.Unmapped s) ds tt tt is f each
+  duty_asks (duties.SubflowFin s) ds is f each = quiet_duty (duties.SubflowFin s) ds tt tt is f each
   duty_asks (duties.Keep s) ds is f each = quiet_duty (duties.Keep s) ds tt tt is f each
   duty_asks (duties.Edge s) ds is f each = quiet_duty (duties.Edge s) ds tt tt is f each
   duty_asks (duties.HeardFin s index) ds is f each = quiet_duty (duties.HeardFin s index) ds tt tt is f each

@@ -25,7 +25,9 @@ use Rattle.path_core.specs.Passing.{answered_piece, is_placed, is_fin_set, piece
 use Rattle.path_core.specs.Placing.{Piece}
 use Rattle.path_core.specs.State.{PathState, end_at, with_agenda, left, path_of}
 use Rattle.path_core.specs.Steps.{settled, settles_down, answers, takes, begins_turn}
-use Rattle.path_core.specs.Treating.{answered_heard, answered_item, item_of}
+use Rattle.path_core.specs.Opening.{answered_peer_key, answered_opened}
+use Rattle.path_core.specs.Treating.{answered_heard, answered_item, item_of, breaks_by_ack}
+use Rattle.path_agenda.specs.Items.{key_heard, keys_heard}
 use Rattle.subflow_send.specs.Records.{Record}
 use Rattle.link_model.specs.State.{LinkState}
 use Rattle.link_model.specs.Steps.{arriving, after_delivery, one_more}
@@ -110,6 +112,14 @@ module _ {C : Type 0} where
   piece_keeps s None taken p = (refl, refl, refl)
   piece_keeps s (Some piece) taken p = either_keeps taken _ _ p (refl, refl, refl) (refl, refl, refl)
 
+  key_keeps : (s : Side) (key : Option ℕ) (r : Reply) (p : PathState C) → Keeps p (answered_peer_key s key r p)
+  key_keeps s None r p = (refl, refl, refl)
+  key_keeps s (Some key) r p = (refl, refl, refl)
+
+  opened_keeps : (s : Side) (keys : Option KeyPair) (r : Reply) (p : PathState C) → Keeps p (answered_opened s keys r p)
+  opened_keeps s None r p = (refl, refl, refl)
+  opened_keeps s (Some keys) r p = (refl, refl, refl)
+
   answered_keeps : (k : Codec C) (d : Duty) (r : Reply) (p : PathState C) → Keeps p (answered k d r p)
   answered_keeps k duties.JoinAgain r p = begun_keeps r (replaced (duties.Leave A) p.agenda) (left p) p
   answered_keeps k (duties.Look s) r p = (refl, refl, refl)
@@ -120,13 +130,15 @@ module _ {C : Type 0} where
   answered_keeps k (duties.DataFin s) r p = (refl, refl, one_more_path s _)
   answered_keeps k (duties.Fin s) r p = (refl, refl, one_more_path s _)
   answered_keeps k duties.Events r p = happens_keeps k (next_event p) r p
-  answered_keeps k (duties.PeerKey s) r p = (refl, refl, refl)
+  answered_keeps k (duties.PeerKey s) r p = key_keeps s (key_heard (end_at s p).treated.items) r p
   answered_keeps k (duties.SynAck s) r p = (refl, refl, one_more_path s _)
   answered_keeps k (duties.JoinHeard s) r p = join_keeps s (keys_begun r) (asked_at s p) p
   answered_keeps k (duties.Refuse s) r p = (refl, refl, one_more_path s _)
-  answered_keeps k (duties.Opened s) r p = (refl, refl, refl)
+  answered_keeps k (duties.Opened s) r p = opened_keeps s (keys_heard (end_at s p).treated.items) r p
   answered_keeps k (duties.Heard s index) r p = item_keeps k s (item_of index (end_at s p)) r p
-  answered_keeps k (duties.PlainAck s) r p = break_keeps k s 6 r p
+  answered_keeps k (duties.PlainAck s) r p = either_keeps (breaks_by_ack p.profile (end_at s p)) _ _ p (break_keeps k s 6 r p) (refl, refl, refl)
+  answered_keeps k (duties.Unmapped s) r p = break_keeps k s 6 r p
+  answered_keeps k (duties.SubflowFin s) r p = either_keeps (is_fin_set r) _ _ p (refl, refl, refl) (refl, refl, refl)
   answered_keeps k (duties.AckHeard s) r p = (refl, refl, refl)
   answered_keeps k (duties.Edge s) r p = piece_keeps s (piece_of s p) (is_placed r) p
   answered_keeps k (duties.HeardFin s index) r p = either_keeps (is_fin_set r) _ _ p (refl, refl, refl) (refl, refl, refl)

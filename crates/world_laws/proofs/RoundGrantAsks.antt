@@ -23,12 +23,12 @@ use Rattle.path_core.specs.Duties.{ask_for}
 use Rattle.path_core.specs.Events.{next_event, step_for}
 use Rattle.path_agenda.specs.Items.{key_heard, keys_heard}
 use Rattle.path_core.specs.Joining.{asked_at, join_heard_ask}
-use Rattle.path_core.specs.Opening.{peer_key_ask, keys_ask}
-use Rattle.path_core.specs.Passing.{piece_of, piece_ask, fin_of, fin_ask, rate_ask}
+use Rattle.path_core.specs.Opening.{peer_key_ask, opened_ask}
+use Rattle.path_core.specs.Passing.{piece_of, piece_ask, fin_of, fin_ask, rate_ask, plain_fin}
 use Rattle.path_core.specs.Placing.{Piece}
 use Rattle.path_core.specs.Sends.{sends}
 use Rattle.path_core.specs.State.{PathState, end_at, path_of}
-use Rattle.path_core.specs.Treating.{is_clash, fell_ask, mapping_ask, item_ask, item_of}
+use Rattle.path_core.specs.Treating.{is_clash, fell_ask, mapping_ask, item_ask, item_of, plain_ack_ask, breaks_by_ack}
 use Rattle.world_laws.specs.RoundEnd.{asks_grant}
 
 -- no grant
@@ -71,13 +71,13 @@ module _ {C : Type 0} (k : Codec C) (p : PathState C) where
   step_none (Some (happening.Arrives due)) = tt
   step_none (Some (happening.Fires s tick)) = tt
 
-  key_none : (s : Side) (o : Option ℕ) → AsksNone (peer_key_ask s o)
+  key_none : (s : Side) (o : Option ℕ) → AsksNone (peer_key_ask s o p)
   key_none s None = tt
   key_none s (Some key) = tt
 
-  keys_none : (s : Side) (o : Option KeyPair) → AsksNone (keys_ask s o)
-  keys_none s None = tt
-  keys_none s (Some keys) = tt
+  opened_none : (s : Side) (o : Option KeyPair) → AsksNone (opened_ask s o p)
+  opened_none s None = tt
+  opened_none s (Some keys) = tt
 
   join_none : (s : Side) (o : Option JoinSyn) → AsksNone (join_heard_ask s o p)
   join_none s None = tt
@@ -97,12 +97,20 @@ module _ {C : Type 0} (k : Codec C) (p : PathState C) where
       by true = break_none s 1
       by false = tt
 
+  plain_ack_none : (s : Side) → AsksNone (plain_ack_ask k s p)
+  plain_ack_none s = by (breaks_by_ack p.profile (end_at s p))
+    where
+      by : (b : Bool) → AsksNone (if b then break_ask k s 6 p else fell_ask s events.PlainAck p)
+      by true = break_none s 6
+      by false = tt
+
   item_none : (s : Side) (o : Option Heard) → AsksNone (item_ask k s o p)
   item_none s None = tt
   item_none s (Some says.Dss) = tt
   item_none s (Some (says.DataAck next window)) = tt
   item_none s (Some says.Mapping) = mapping_none s
   item_none s (Some (says.DataFin place)) = tt
+  item_none s (Some says.InfiniteMapping) = tt
   item_none s (Some (says.PeerKey key)) = tt
   item_none s (Some (says.Keys own peer)) = tt
   item_none s (Some (says.Join form)) = tt
@@ -136,11 +144,17 @@ module _ {C : Type 0} (k : Codec C) (p : PathState C) where
   asks_none (duties.SynAck s) other = tt
   asks_none (duties.JoinHeard s) other = join_none s (asked_at s p)
   asks_none (duties.Refuse s) other = tt
-  asks_none (duties.Opened s) other = keys_none s (keys_heard (end_at s p).treated.items)
+  asks_none (duties.Opened s) other = opened_none s (keys_heard (end_at s p).treated.items)
   asks_none (duties.Live s) other = tt
   asks_none (duties.Heard s index) other = item_none s (item_of index (end_at s p))
   asks_none (duties.AckHeard s) other = tt
-  asks_none (duties.PlainAck s) other = break_none s 6
+  asks_none (duties.PlainAck s) other = plain_ack_none s
+  asks_none (duties.PlainHandshake s) other = tt
+  asks_none (duties.SubflowAck s) other = tt
+  asks_none (duties.PlainData s) other = tt
+  asks_none (duties.GoIdentity s) other = tt
+  asks_none (duties.Unmapped s) other = break_none s 6
+  asks_none (duties.SubflowFin s) other = fin_none s (plain_fin (end_at s p))
   asks_none (duties.Keep s) other = tt
   asks_none (duties.Edge s) other = piece_none s (piece_of s p)
   asks_none (duties.HeardFin s index) other = fin_none s (fin_of index (end_at s p))

@@ -7,6 +7,8 @@ use Rattle.outside_kit.specs.declared.side.Side.TheVariants.{A, B}
 use Rattle.link_script.specs.Places.{same_side}
 use Rattle.link_model.specs.Steps.{peer, arriving, after_delivery}
 use Rattle.path_segments.specs.Spelled.{PlainSegment}
+use Rattle.fallback_state.specs.declared.fall.Event.{Event as FallEvent}
+use Rattle.fallback_state.specs.declared.fall.Event.TheVariants as events
 use Rattle.subflow_send.specs.Records.{Record}
 use Rattle.subflow_tcp.specs.declared.handshake.State.{State as EndPhase}
 use Rattle.subflow_tcp.specs.declared.handshake.State.TheVariants as phase
@@ -24,7 +26,8 @@ use Rattle.path_agenda.specs.declared.heard.Heard.{Heard}
 use Rattle.path_agenda.specs.declared.heard.Heard.TheVariants as says
 use Rattle.path_agenda.specs.declared.keys.KeyPair.{KeyPair}
 use Rattle.path_agenda.specs.Agenda.{rest_of_turn, emission, syn_came, syn_ack_came, join_came, refuses, join_answered, heard_and, payload_came, copy_came, syn_again, answers, answers_dead, expired, expired_for_ever, leaves, breaks, resets}
-use Rattle.path_core.specs.Arriving.{copy_of, items_of, reset_for, copy_judged, held_of, judged_in, taken_as, template_by, template_judged}
+use Rattle.path_agenda.specs.Items.{key_heard, keys_heard}
+use Rattle.path_core.specs.Arriving.{copy_of, items_of, reset_for, copy_judged, held_of, judged_in, taken_as, template_by, template_judged, options_heard}
 use Rattle.path_core.specs.Breaking.{reset_of, reset_on, answered_break}
 use Rattle.path_core.specs.Codec.{Codec, HeardSegment}
 use Rattle.path_core.specs.Duties.{stands, passed, answered}
@@ -36,14 +39,16 @@ use Rattle.path_core.specs.declared.judged.Judged.TheVariants as judged
 use Rattle.path_core.specs.Joining.{is_never, keys_begun, opened_by, asked_at, join_taken}
 use Rattle.path_core.specs.Joins.{is_joined}
 use Rattle.path_core.specs.Events.{next_event, heard_in, at_tick, join_begun, died, died_unless_dead, path_died, is_death, after_line, copy_heard, template_fired, happens_if}
-use Rattle.path_core.specs.Passing.{piece_of, is_placed, answered_piece, is_fin_set, answered_fin_heard}
+use Rattle.path_core.specs.Passing.{piece_of, is_placed, answered_piece, is_fin_set, answered_fin_heard, answered_plain_fin}
 use Rattle.path_core.specs.Placing.{Piece, with_learned}
 use Rattle.path_core.specs.Sends.{sent_on}
 use Rattle.path_core.specs.Standing.{answered_ack_out}
 use Rattle.path_core.specs.State.{PathState, Profile, end_at, with_end, with_agenda, goes_on}
 use Rattle.path_core.specs.Steps.{settled}
-use Rattle.path_core.specs.Treating.{is_clash, after_verdict, told_next, answered_item, item_of}
+use Rattle.path_core.specs.Treating.{is_clash, told_next, answered_item, item_of, after_fell, fell_duties, answered_fell, with_plain_ack, breaks_by_ack}
+use Rattle.path_core.specs.Opening.{answered_peer_key, answered_opened}
 use Rattle.world_laws.proofs.RoundGrantAsks.{MayNotAsk}
+use Rattle.world_laws.proofs.Verdicts.{fell_cases}
 
 -- ---- what is ahead
 
@@ -70,13 +75,19 @@ needs (duties.Update s) ds = is_owed s ds
 needs (duties.Syn s) ds = is_owed s ds
 needs (duties.SynHeard s) ds = is_owed s ds
 needs (duties.SynAnswered s) ds = is_owed s ds
-needs (duties.PeerKey s) ds = is_owed s ds
+needs (duties.PeerKey s) ds = is_owed s ds && not (is_owed (peer s) ds)
 needs (duties.SynAck s) ds = is_owed s ds
 needs (duties.JoinHeard s) ds = is_owed s ds
-needs (duties.Opened s) ds = is_owed s ds
+needs (duties.Opened s) ds = is_owed s ds && not (is_owed (peer s) ds)
 needs (duties.Heard s index) ds = is_owed s ds && not (is_owed (peer s) ds)
-needs (duties.AckHeard s) ds = is_owed s ds
+needs (duties.AckHeard s) ds = is_owed s ds && not (is_owed (peer s) ds)
 needs (duties.PlainAck s) ds = is_owed s ds && not (is_owed (peer s) ds)
+needs (duties.PlainHandshake s) ds = is_owed s ds && not (is_owed (peer s) ds)
+needs (duties.SubflowAck s) ds = is_owed s ds
+needs (duties.PlainData s) ds = is_owed s ds && not (is_owed (peer s) ds)
+needs (duties.GoIdentity s) ds = is_owed s ds
+needs (duties.Unmapped s) ds = is_owed s ds && not (is_owed (peer s) ds)
+needs (duties.SubflowFin s) ds = is_owed s ds && not (is_owed (peer s) ds)
 needs (duties.Keep s) ds = is_owed s ds
 needs (duties.Edge s) ds = is_owed s ds && not (is_owed (peer s) ds)
 needs (duties.HeardFin s index) ds = is_owed s ds && not (is_owed (peer s) ds)
@@ -167,7 +178,7 @@ payload_is B = record { followed = refl; owed = refl; other = refl }
 copy_is : (s : Side) (count : ℕ) → IsCopy s (copy_came s count)
 copy_is s count =
     let rest = things_heard s 0 count (payload_came s) (payload_is s) in
-    record { followed = rw (rest.owed, rest.followed) refl; owed = rest.owed; other = rest.other }
+    record { followed = rw (rest.owed, rest.other, rest.followed) refl; owed = rest.owed; other = rest.other }
 
 -- ---- an end
 
@@ -305,6 +316,10 @@ module _ {C : Type 0} where
     breaks_done A e reason other = on A e (breaks A reason) refl (inl refl) (inr other)
     breaks_done B e reason other = on B e (breaks B reason) refl (inl refl) (inr other)
 
+    resets_go : (s : Side) (e : PathEnd) (reason : ℕ) → IsPaid p.profile (peer s) (end_at (peer s) p) (refused (peer s)) → Granting (goes_on s e (resets s reason) p) refused
+    resets_go A e reason other = on A e (resets A reason) refl (inl refl) (inr other)
+    resets_go B e reason other = on B e (resets B reason) refl (inl refl) (inr other)
+
     break_done : (k : Codec C) (s : Side) (reason : ℕ) (r : Reply) → IsPaid p.profile (peer s) (end_at (peer s) p) (refused (peer s)) → Granting (answered_break k s reason r p) refused
     break_done k s reason r other = by (end_at s p).treated.asked
       where
@@ -379,8 +394,8 @@ module _ {C : Type 0} where
 
     copy_done : (s : Side) (o : Option HeardSegment) → Granting (copy_heard s o p) refused
     copy_done s None = emission_done s
-    copy_done s (Some h) =
-        let joined = is_joined p.profile in judged_done joined s p.clock (length (items_of joined s h)) h (judged_in joined s h (end_at s p))
+    copy_done s (Some heard) =
+        let joined = is_joined p.profile in let h : HeardSegment = options_heard (end_at s p) heard in judged_done joined s p.clock (length (items_of joined s h)) h (judged_in joined s h (end_at s p))
 
     -- a join is begun or not, at its tick
     join_done : (r : Reply) → Granting (join_begun r (leaves A) (emission A) p) refused
@@ -465,7 +480,15 @@ module _ {C : Type 0} where
   passed_pays (duties.Opened s) ds p refused none f each = each
   passed_pays (duties.Live s) ds p refused none f each = each
   passed_pays (duties.AckHeard s) ds p refused none f each = each
-  passed_pays (duties.PlainAck s) ds p refused none f each = each
+  passed_pays (duties.PlainAck s) ds p refused none f each =
+      own_passed s _ ds p refused (inl (and_parts (is_owed s ds) (not (is_owed (peer s) ds)) (first_need (duties.PlainAck s) ds f)).0) (each (peer s))
+  passed_pays (duties.Unmapped s) ds p refused none f each =
+      own_passed s _ ds p refused (inl (and_parts (is_owed s ds) (not (is_owed (peer s) ds)) (first_need (duties.Unmapped s) ds f)).0) (each (peer s))
+  passed_pays (duties.PlainHandshake s) ds p refused none f each = each
+  passed_pays (duties.SubflowAck s) ds p refused none f each = each
+  passed_pays (duties.PlainData s) ds p refused none f each = each
+  passed_pays (duties.GoIdentity s) ds p refused none f each = each
+  passed_pays (duties.SubflowFin s) ds p refused none f each = each
   passed_pays (duties.Refuse s) ds p refused none f each = each
   passed_pays (duties.HeardFin s index) ds p refused none f each = each
   passed_pays (duties.AckOut s) ds p refused none f each = each
@@ -511,6 +534,46 @@ module _ {C : Type 0} where
     other_paid : (d : Duty) (s : Side) (ds : List Duty) → is_owed (peer s) (d ∷ ds) ≡ false → ((t : Side) → Pays (at (d ∷ ds)) (d ∷ ds) refused t) → IsPaid p.profile (peer s) (end_at (peer s) p) (refused (peer s))
     other_paid d s ds none each = is_paid (at (d ∷ ds)) (d ∷ ds) refused (peer s) none (each (peer s))
 
+    -- where something is told of the mode the side falls, or the path is broken, or the duty is done
+    fell_done : (s : Side) (e : PathEnd) (d : Duty) (ds : List Duty) → is_followed ds ≡ true → is_owed s ds ≡ true → IsPaid p.profile (peer s) (end_at (peer s) p) (refused (peer s))
+        → Granting (goes_on s e (fell_duties s r (at (d ∷ ds))) (at (d ∷ ds))) refused
+    fell_done s e d ds f owed paid =
+        fell_cases (λ es. Granting (goes_on s e es (at (d ∷ ds))) refused) s (at (d ∷ ds)) r
+        (λ falls. touched s e (duties.GoIdentity s ∷ ds) (rw (owed, f) refl) owed (d ∷ ds) (inr paid))
+        (λ reason. breaks_done (at (d ∷ ds)) refused s e reason paid)
+        (λ reason. resets_go (at (d ∷ ds)) refused s e reason paid)
+        (touched s e ds f owed (d ∷ ds) (inr paid))
+
+    -- the side is owed what it needs, and the other nothing
+    abbrev Needed : Side → List Duty → Type 0
+    Needed s ds = is_owed s ds && not (is_owed (peer s) ds) ≡ true
+
+    own_owed : (s : Side) (ds : List Duty) → Needed s ds → is_owed s ds ≡ true
+    own_owed s ds need = (and_parts (is_owed s ds) (not (is_owed (peer s) ds)) need).0
+
+    none_other : (s : Side) (ds : List Duty) → Needed s ds → is_owed (peer s) ds ≡ false
+    none_other s ds need = not-true (is_owed (peer s) ds) (and_parts (is_owed s ds) (not (is_owed (peer s) ds)) need).1
+
+    event_told : (s : Side) (event : FallEvent) (d : Duty) (ds : List Duty) → is_followed ds ≡ true → Needed s ds → IsPaid p.profile (peer s) (end_at (peer s) p) (refused (peer s))
+        → Granting (answered_fell s event r (at (d ∷ ds))) refused
+    event_told s event d ds f need paid = fell_done s (after_fell event r (end_at s (at (d ∷ ds)))) d ds f (own_owed s ds need) paid
+
+    key_done : (s : Side) (key : Option ℕ) (d : Duty) (ds : List Duty) → is_followed ds ≡ true → Needed s ds → IsPaid p.profile (peer s) (end_at (peer s) p) (refused (peer s))
+        → Granting (answered_peer_key s key r (at (d ∷ ds))) refused
+    key_done s None d ds f need paid = event_told s events.PlainHandshake d ds f need paid
+    key_done s (Some key) d ds f need paid = touched s _ ds f (own_owed s ds need) (d ∷ ds) (inr paid)
+
+    opened_done : (s : Side) (keys : Option KeyPair) (d : Duty) (ds : List Duty) → is_followed ds ≡ true → Needed s ds → IsPaid p.profile (peer s) (end_at (peer s) p) (refused (peer s))
+        → Granting (answered_opened s keys r (at (d ∷ ds))) refused
+    opened_done s None d ds f need paid = event_told s events.PlainHandshake d ds f need paid
+    opened_done s (Some keys) d ds f need paid = touched s _ ds f (own_owed s ds need) (d ∷ ds) (inr paid)
+
+    plain_ack_done : (s : Side) (d : Duty) (ds : List Duty) → is_followed ds ≡ true → Needed s ds → IsPaid p.profile (peer s) (end_at (peer s) p) (refused (peer s))
+        → (breaks : Bool) → Granting (if breaks then answered_break k s 6 r (at (d ∷ ds))
+        else goes_on s (with_plain_ack (after_fell events.PlainAck r (end_at s (at (d ∷ ds))))) (fell_duties s r (at (d ∷ ds))) (at (d ∷ ds))) refused
+    plain_ack_done s d ds f need paid true = break_done (at (d ∷ ds)) refused k s 6 r paid
+    plain_ack_done s d ds f need paid false = fell_done s _ d ds f (own_owed s ds need) paid
+
     item_done : (s : Side) (index : ℕ) (ds : List Duty) → is_followed (duties.Heard s index ∷ ds) ≡ true → ((t : Side) → Pays (at (duties.Heard s index ∷ ds)) (duties.Heard s index ∷ ds) refused t)
         → (o : Option Heard) → Granting (answered_item k s o r (at (duties.Heard s index ∷ ds))) refused
     item_done s index ds f each = by
@@ -528,19 +591,20 @@ module _ {C : Type 0} where
         paid = is_paid (at xs) xs refused (peer s) (not-true (is_owed (peer s) ds) need.1) (each (peer s))
 
         told : (b : Bool) (e : PathEnd) → Granting (goes_on s e (told_next s b (at xs)) (at xs)) refused
-        told true e = touched s e (duties.AckHeard s ∷ ds) (rw (need.0, rest) refl) need.0 xs (inr paid)
+        told true e = touched s e (duties.AckHeard s ∷ ds) (rw (need.0, need.1, rest) refl) need.0 xs (inr paid)
         told false e = touched s e ds rest need.0 xs (inr paid)
 
-        mapping : (b : Bool) → Granting (if b then answered_break k s 1 r (at xs) else goes_on s (with_learned (after_verdict r (end_at s p))) ds (at xs)) refused
+        mapping : (b : Bool) → Granting (if b then answered_break k s 1 r (at xs) else goes_on s (with_learned (after_fell events.MappingHeard r (end_at s (at xs)))) (fell_duties s r (at xs)) (at xs)) refused
         mapping true = break_done (at xs) refused k s 1 r paid
-        mapping false = touched s _ ds rest need.0 xs (inr paid)
+        mapping false = fell_done s _ (duties.Heard s index) ds rest need.0 paid
 
         by : (o : Option Heard) → Granting (answered_item k s o r (at xs)) refused
         by None = done_on ds xs rest (λ t. each t)
         by (Some says.Dss) = done_on ds xs rest (λ t. each t)
         by (Some (says.DataAck next window)) = told _ _
         by (Some says.Mapping) = mapping (is_clash (end_at s p))
-        by (Some (says.DataFin place)) = touched s _ ds rest need.0 xs (inr paid)
+        by (Some (says.DataFin place)) = fell_done s _ (duties.Heard s index) ds rest need.0 paid
+        by (Some says.InfiniteMapping) = fell_done s _ (duties.Heard s index) ds rest need.0 paid
         by (Some (says.PeerKey key)) = done_on ds xs rest (λ t. each t)
         by (Some (says.Join form)) = done_on ds xs rest (λ t. each t)
         by (Some (says.Keys own other)) = touched s _ ds rest need.0 xs (inr paid)
@@ -613,6 +677,23 @@ module _ {C : Type 0} where
         by true = touched s _ ds (rest_followed (duties.HeardFin s index) ds f) need.0 xs (inr paid)
         by false = breaks_done (at xs) refused s _ 1 paid
 
+    plain_fin_done : (s : Side) (ds : List Duty) → is_followed (duties.SubflowFin s ∷ ds) ≡ true → ((t : Side) → Pays (at (duties.SubflowFin s ∷ ds)) (duties.SubflowFin s ∷ ds) refused t) → (set : Bool)
+        → Granting (answered_plain_fin s set (at (duties.SubflowFin s ∷ ds))) refused
+    plain_fin_done s ds f each = by
+      where
+        xs : List Duty
+        xs = duties.SubflowFin s ∷ ds
+
+        need : Needed s ds
+        need = first_need (duties.SubflowFin s) ds f
+
+        paid : IsPaid p.profile (peer s) (end_at (peer s) p) (refused (peer s))
+        paid = is_paid (at xs) xs refused (peer s) (none_other s ds need) (each (peer s))
+
+        by : (set : Bool) → Granting (answered_plain_fin s set (at xs)) refused
+        by true = touched s _ ds (rest_followed (duties.SubflowFin s) ds f) (own_owed s ds need) xs (inr paid)
+        by false = breaks_done (at xs) refused s _ 1 paid
+
     -- an end that asks for bytes, where the reply leaves the duty
     own_data : (s : Side) (ds : List Duty) → is_owed s (duties.Data s ∷ ds) ≡ true
     own_data A ds = refl
@@ -653,18 +734,34 @@ module _ {C : Type 0} where
         (λ s. is_paid (at (duties.Events ∷ ds)) (duties.Events ∷ ds) refused s (none_for s ds (first_need duties.Events ds f)) (each s))
     answered_done (duties.SynHeard s) ds other f each = done_on ds (duties.SynHeard s ∷ ds) (rest_followed (duties.SynHeard s) ds f) (λ t. each t)
     answered_done (duties.SynAnswered s) ds other f each = done_on ds (duties.SynAnswered s ∷ ds) (rest_followed (duties.SynAnswered s) ds f) (λ t. each t)
-    answered_done (duties.PeerKey s) ds other f each = touched s _ ds (rest_followed (duties.PeerKey s) ds f) (first_need (duties.PeerKey s) ds f) (duties.PeerKey s ∷ ds) (each (peer s))
+    answered_done (duties.PeerKey s) ds other f each =
+        key_done s (key_heard (end_at s p).treated.items) (duties.PeerKey s) ds (rest_followed (duties.PeerKey s) ds f) (first_need (duties.PeerKey s) ds f)
+        (is_paid (at (duties.PeerKey s ∷ ds)) (duties.PeerKey s ∷ ds) refused (peer s) (none_other s ds (first_need (duties.PeerKey s) ds f)) (each (peer s)))
     answered_done (duties.SynAck s) ds other f each = touched_sent s _ _ ds (rest_followed (duties.SynAck s) ds f) (first_need (duties.SynAck s) ds f) (duties.SynAck s ∷ ds) (each (peer s))
     answered_done (duties.JoinHeard s) ds other f each = join_heard_done s ds f each (keys_begun r) (asked_at s p)
     answered_done (duties.Refuse s) ds other f each =
         sent (at (duties.Refuse s ∷ ds)) refused k s _ _ ds (rest_followed (duties.Refuse s) ds f) (each s) (each (peer s))
-    answered_done (duties.Opened s) ds other f each = touched s _ ds (rest_followed (duties.Opened s) ds f) (first_need (duties.Opened s) ds f) (duties.Opened s ∷ ds) (each (peer s))
+    answered_done (duties.Opened s) ds other f each =
+        opened_done s (keys_heard (end_at s p).treated.items) (duties.Opened s) ds (rest_followed (duties.Opened s) ds f) (first_need (duties.Opened s) ds f)
+        (is_paid (at (duties.Opened s ∷ ds)) (duties.Opened s ∷ ds) refused (peer s) (none_other s ds (first_need (duties.Opened s) ds f)) (each (peer s)))
     answered_done (duties.Live s) ds other f each = done_on ds (duties.Live s ∷ ds) (rest_followed (duties.Live s) ds f) (λ t. each t)
     answered_done (duties.Heard s index) ds other f each = item_done s index ds f each (item_of index (end_at s p))
-    answered_done (duties.AckHeard s) ds other f each = touched s _ ds (rest_followed (duties.AckHeard s) ds f) (first_need (duties.AckHeard s) ds f) (duties.AckHeard s ∷ ds) (each (peer s))
+    answered_done (duties.AckHeard s) ds other f each =
+        event_told s events.AckHeard (duties.AckHeard s) ds (rest_followed (duties.AckHeard s) ds f) (first_need (duties.AckHeard s) ds f)
+        (is_paid (at (duties.AckHeard s ∷ ds)) (duties.AckHeard s ∷ ds) refused (peer s) (none_other s ds (first_need (duties.AckHeard s) ds f)) (each (peer s)))
     answered_done (duties.PlainAck s) ds other f each =
-        break_done (at (duties.PlainAck s ∷ ds)) refused k s 6 r
-        (is_paid (at (duties.PlainAck s ∷ ds)) (duties.PlainAck s ∷ ds) refused (peer s) (not-true (is_owed (peer s) ds) (and_parts (is_owed s ds) (not (is_owed (peer s) ds)) (first_need (duties.PlainAck s) ds f)).1) (each (peer s)))
+        plain_ack_done s (duties.PlainAck s) ds (rest_followed (duties.PlainAck s) ds f) (first_need (duties.PlainAck s) ds f)
+        (is_paid (at (duties.PlainAck s ∷ ds)) (duties.PlainAck s ∷ ds) refused (peer s) (none_other s ds (first_need (duties.PlainAck s) ds f)) (each (peer s))) (breaks_by_ack p.profile (end_at s p))
+    answered_done (duties.PlainHandshake s) ds other f each =
+        event_told s events.PlainHandshake (duties.PlainHandshake s) ds (rest_followed (duties.PlainHandshake s) ds f) (first_need (duties.PlainHandshake s) ds f)
+        (is_paid (at (duties.PlainHandshake s ∷ ds)) (duties.PlainHandshake s ∷ ds) refused (peer s) (none_other s ds (first_need (duties.PlainHandshake s) ds f)) (each (peer s)))
+    answered_done (duties.PlainData s) ds other f each =
+        event_told s events.PlainData (duties.PlainData s) ds (rest_followed (duties.PlainData s) ds f) (first_need (duties.PlainData s) ds f)
+        (is_paid (at (duties.PlainData s ∷ ds)) (duties.PlainData s ∷ ds) refused (peer s) (none_other s ds (first_need (duties.PlainData s) ds f)) (each (peer s)))
+    answered_done (duties.SubflowAck s) ds other f each = touched s _ ds (rest_followed (duties.SubflowAck s) ds f) (first_need (duties.SubflowAck s) ds f) (duties.SubflowAck s ∷ ds) (each (peer s))
+    answered_done (duties.GoIdentity s) ds other f each = touched s _ ds (rest_followed (duties.GoIdentity s) ds f) (first_need (duties.GoIdentity s) ds f) (duties.GoIdentity s ∷ ds) (each (peer s))
+    answered_done (duties.Unmapped s) ds other f each = break_done (at (duties.Unmapped s ∷ ds)) refused k s 6 r (is_paid (at (duties.Unmapped s ∷ ds)) (duties.Unmapped s ∷ ds) refused (peer s) (none_other s ds (first_need (duties.Unmapped s) ds f)) (each (peer s)))
+    answered_done (duties.SubflowFin s) ds other f each = plain_fin_done s ds f each (is_fin_set r)
     answered_done (duties.Keep s) ds other f each = done_on ds (duties.Keep s ∷ ds) (rest_followed (duties.Keep s) ds f) (λ t. each t)
     answered_done (duties.Edge s) ds other f each = piece_done s ds f each (piece_of s p) (is_placed r)
     answered_done (duties.HeardFin s index) ds other f each = fin_done s index ds f each (is_fin_set r)

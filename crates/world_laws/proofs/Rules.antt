@@ -7,6 +7,10 @@ use Rattle.dss_mapping.specs.declared.kept.KeptMapping.{KeptMapping}
 use Rattle.loss_recovery.specs.declared.windows.Congestion.{Congestion}
 use Rattle.loss_recovery.specs.declared.windows.Pending.{Pending}
 use Rattle.loss_recovery.specs.Windows as windows
+use Rattle.fallback_state.specs.declared.fall.Verdict.TheVariants as verdicts
+use Rattle.fallback_state.specs.declared.fall.Event.TheVariants as events
+use Rattle.fallback_state.specs.declared.fall.Event.{Event}
+use Rattle.control_book.specs.declared.call.ControlReply.TheVariants as control_replies
 use Rattle.subflow_recv.specs.Receiving.{Receiving, after_forget_from, without_held, after_keep_held}
 use Rattle.subflow_tcp.specs.declared.handshake.State.{State as EndPhase}
 use Rattle.subflow_tcp.specs.declared.handshake.State.TheVariants as phase
@@ -15,25 +19,30 @@ use Rattle.subflow_tcp.specs.Opening.{after_begin}
 use Rattle.subflow_tcp.specs.State.{is_behind}
 use Rattle.subflow_tcp.specs.States as states
 use Rattle.subflow_tcp.specs.Taking as taking
-use Rattle.stream_lanes.specs.Lane.{Lane}
-use Rattle.stream_lanes.proofs.Lists.{Every-nil}
+use Rattle.stream_lanes.specs.Lane.{Lane, AckCopy}
+use Rattle.stream_lanes.proofs.Lists.{Every-nil, Has-map}
 use Rattle.actor_desk.specs.declared.ask.Reply.{Reply}
+use Rattle.actor_desk.specs.declared.ask.Reply.TheVariants as replies
 use Rattle.path_core.specs.Emission.{after_timer}
 use Rattle.path_core.specs.Ends.{PathEnd, Treated, nothing_treated}
 use Rattle.path_core.specs.Events.{died, died_unless_dead, after_firing}
 use Rattle.path_agenda.specs.declared.keys.KeyPair.{KeyPair}
 use Rattle.join_handshake.specs.declared.hearing.JoinSyn.{JoinSyn}
 use Rattle.path_core.specs.Joining.{opened_by, syn_alone, is_listening, joined_by}
-use Rattle.path_core.specs.Opening.{with_peer_key, after_keys}
-use Rattle.path_core.specs.Passing.{having_asked, with_peer_end, after_rate}
-use Rattle.path_core.specs.Placing.{is_wrong, forgotten_by}
-use Rattle.path_core.specs.Standing.{after_look}
+use Rattle.path_core.specs.Opening.{with_peer_key, after_keys, keys_in}
+use Rattle.path_core.specs.Passing.{having_asked, with_peer_end, after_rate, with_fin_told}
+use Rattle.path_core.specs.Placing.{is_wrong, forgotten_by, after_unmapped}
+use Rattle.path_core.specs.Standing.{after_look, modes_told}
 use Rattle.path_core.specs.State.{Profile}
-use Rattle.path_core.specs.Treating.{after_verdict, after_dss, after_keep, is_dropped}
+use Rattle.path_core.specs.Treating.{after_dss, after_keep, is_dropped, covered_by, is_not_kept, with_plain_ack}
+use Rattle.path_core.specs.Falling.{after_fell, fell_in, mode_in}
+use Rattle.path_core.specs.declared.modes.Modes.{Modes}
 use Rattle.world_laws.proofs.Arriving.{syn_both}
 use Rattle.world_laws.proofs.Hearing.{cut_shows, dropped_shows, state_shows}
 use Rattle.world_laws.proofs.Records.{acknowledged_shows, expired_shows}
-use Rattle.world_laws.proofs.Showing.{HasAck, Under, is_unfinished, ReceiverShows, TreatedShows, EndShows}
+use Rattle.world_laws.proofs.Showing.{Under, is_unfinished, ReceiverShows, TreatedShows, EndShows, AcksShow, HasNone, HasSub, identity_of}
+use Rattle.world_laws.proofs.Ending.{with_modes}
+use Rattle.world_laws.proofs.Growing.{past_behind}
 
 grown_told : (growth : ℕ) (o : Option Pending) (c : Congestion) → (windows.grown_by growth o c).told ≡ c.told
 grown_told growth None c = refl
@@ -67,51 +76,99 @@ listening_unfinished phase.LastAck is = absurd (false≢true is)
 listening_unfinished phase.TimeWait is = absurd (false≢true is)
 listening_unfinished phase.Dead is = absurd (false≢true is)
 
+-- the modes that an end knows of, but for the fallback
+told_identity : (r : Reply) (m : Modes) → (modes_told r m).identity ≡ m.identity
+told_identity (replies.Control (control_replies.Standing mode standby sole notice)) m = refl
+told_identity _ m = refl
+
+went_identity : (r : Reply) (m : Modes) → (mode_in r m).identity ≡ m.identity
+went_identity (replies.Control (control_replies.Verdict (verdicts.Went mode))) m = refl
+went_identity _ m = refl
+
+fell_identity : (event : Event) (r : Reply) (m : Modes) → (fell_in event r m).identity ≡ m.identity
+fell_identity events.PlainData r m = went_identity r m
+fell_identity events.PlainAck r m = went_identity r m
+fell_identity _ r m = went_identity r m
+
+keyed_identity : (r : Reply) (keys : Option KeyPair) (m : Modes) → (keys_in r keys m).identity ≡ m.identity
+keyed_identity (replies.Control control_replies.Noted) (Some keys) m = refl
+keyed_identity _ keys m = refl
+
+-- where nothing is acknowledged, position 0 is
+pub sub_of_none : {acks : List AckCopy} (window : ℕ) → HasNone acks window → HasSub acks 0 window
+sub_of_none window h = Has-map (λ a none. record { sub_is = none.sub_is; window_is = none.window_is }) h
+
 module _ (c : Profile) (s : Side) (out back : Lane) where
   abbrev Shows : PathEnd → Type 0
   Shows e = EndShows c s e out back
 
+  -- what is acknowledged stays so, as long as nothing is told
+  calmer : (asked after : Bool) → (after ≡ false → asked ≡ false) → {next window edge : ℕ} → AcksShow next window asked edge back → AcksShow next window after edge back
+  calmer asked after calm h = record { windows = h.windows; latest = h.latest; due = λ none. h.due (calm none); sub = λ none. h.sub (calm none) }
+
   -- what was treated, changed as far as no lane has to do with it
-  with_treated : (e : PathEnd) (t : Treated) → TreatedShows t out.acks back → Shows e → Shows (record e { treated = t })
-  with_treated e t shows h = record { sender = h.sender; receiver = h.receiver; window = h.window; told = h.told; treated = shows; held = h.held }
+  with_treated : (e : PathEnd) (t : Treated) → TreatedShows t out.acks back → (t.asked ≡ false → e.treated.asked ≡ false) → Shows e → Shows (record e { treated = t })
+  with_treated e t shows calm h = record { sender = h.sender; receiver = h.receiver; acks = calmer _ _ calm h.acks; told = h.told; treated = shows; held = h.held }
 
   pub asked_shows : (e : PathEnd) → Shows e → Shows (having_asked e)
-  asked_shows e h = with_treated e _ (record { items = h.treated.items; fins = h.treated.fins; answer = h.treated.answer; window = h.treated.window }) h
+  asked_shows e h = with_treated e _ (record { items = h.treated.items; fins = h.treated.fins; answer = h.treated.answer; window = h.treated.window; sub = h.treated.sub; nothing = h.treated.nothing }) (λ none. absurd (false≢true (sym none))) h
 
   pub looked_shows : (r : Reply) (e : PathEnd) → Shows e → Shows (after_look r e)
-  looked_shows r e h = record { sender = h.sender; receiver = h.receiver; window = h.window; told = h.told; treated = h.treated; held = h.held }
+  looked_shows r e h = with_modes c s out back e (modes_told r e.modes) (told_identity r e.modes) h
 
-  pub verdict_shows : (r : Reply) (e : PathEnd) → Shows e → Shows (after_verdict r e)
-  verdict_shows r e h = record { sender = h.sender; receiver = h.receiver; window = h.window; told = h.told; treated = h.treated; held = h.held }
+  pub fell_shows : (event : Event) (r : Reply) (e : PathEnd) → Shows e → Shows (after_fell event r e)
+  fell_shows event r e h = with_modes c s out back e (fell_in event r e.modes) (fell_identity event r e.modes) h
 
-  pub dss_shows : (e : PathEnd) → Shows e → Shows (after_dss s e)
-  dss_shows e h = record { sender = h.sender; receiver = h.receiver; window = h.window; told = h.told; treated = h.treated; held = h.held }
-
-  pub key_shows : (key : Option ℕ) (e : PathEnd) → Shows e → Shows (with_peer_key key e)
-  key_shows key e h = record { sender = h.sender; receiver = h.receiver; window = h.window; told = h.told; treated = h.treated; held = h.held }
-
-  pub keys_show : (r : Reply) (keys : Option KeyPair) (e : PathEnd) → Shows e → Shows (after_keys r keys e)
-  keys_show r keys e h = record {
+  -- a Data ACK was taken
+  pub noted_shows : (next : ℕ) (e : PathEnd) → Shows e → Shows (record e { modes = covered_by next e.modes; treated = record e.treated { data_ack_taken = true } })
+  noted_shows next e h = record {
     sender = h.sender;
     receiver = h.receiver;
-    window = h.window;
+    acks = h.acks;
     told = h.told;
-    treated = record { items = h.treated.items; fins = h.treated.fins; answer = h.treated.answer; window = h.treated.window };
+    treated = record { items = h.treated.items; fins = h.treated.fins; answer = h.treated.answer; window = h.treated.window; sub = h.treated.sub; nothing = h.treated.nothing };
+    held = h.held;
+  }
+
+  -- an acknowledgement without a Data ACK counts
+  pub plain_ack_shows : (e : PathEnd) → Shows e → Shows (with_plain_ack e)
+  plain_ack_shows e h = record { sender = h.sender; receiver = h.receiver; acks = h.acks; told = h.told; treated = h.treated; held = h.held }
+
+  -- so does a byte without a mapping
+  pub unmapped_shows : (e : PathEnd) → Shows e → Shows (after_unmapped e)
+  unmapped_shows e h = record { sender = h.sender; receiver = h.receiver; acks = h.acks; told = h.told; treated = h.treated; held = h.held }
+
+  pub fin_told_shows : (e : PathEnd) → Shows e → Shows (with_fin_told e)
+  fin_told_shows e h = record { sender = h.sender; receiver = h.receiver; acks = h.acks; told = h.told; treated = h.treated; held = h.held }
+
+  pub dss_shows : (e : PathEnd) → Shows e → Shows (after_dss s e)
+  dss_shows e h = record { sender = h.sender; receiver = h.receiver; acks = h.acks; told = h.told; treated = h.treated; held = h.held }
+
+  pub key_shows : (key : Option ℕ) (e : PathEnd) → Shows e → Shows (with_peer_key key e)
+  key_shows key e h = record { sender = h.sender; receiver = h.receiver; acks = h.acks; told = h.told; treated = h.treated; held = h.held }
+
+  pub keys_show : (r : Reply) (keys : Option KeyPair) (e : PathEnd) → Shows e → Shows (after_keys r keys e)
+  keys_show r keys e shows = let h = with_modes c s out back e (keys_in r keys e.modes) (keyed_identity r keys e.modes) shows in record {
+    sender = h.sender;
+    receiver = h.receiver;
+    acks = h.acks;
+    told = h.told;
+    treated = record { items = h.treated.items; fins = h.treated.fins; answer = h.treated.answer; window = h.treated.window; sub = h.treated.sub; nothing = h.treated.nothing };
     held = h.held;
   }
 
   pub peer_end_shows : (e : PathEnd) → Shows e → Shows (with_peer_end e)
-  peer_end_shows e h = record { sender = h.sender; receiver = h.receiver; window = h.window; told = h.told; treated = h.treated; held = h.held }
+  peer_end_shows e h = record { sender = h.sender; receiver = h.receiver; acks = h.acks; told = h.told; treated = h.treated; held = h.held }
 
   pub timer_shows : (now : ℕ) (e : PathEnd) → Shows e → Shows (after_timer now e)
-  timer_shows now e h = record { sender = h.sender; receiver = h.receiver; window = h.window; told = h.told; treated = h.treated; held = h.held }
+  timer_shows now e h = record { sender = h.sender; receiver = h.receiver; acks = h.acks; told = h.told; treated = h.treated; held = h.held }
 
   pub rate_shows : (path mss : ℕ) (r : Reply) (e : PathEnd) → Shows e → Shows (after_rate path mss r e)
   rate_shows path mss r e h = record {
     sender = h.sender;
     receiver = h.receiver;
-    window = h.window;
-    told = subst (λ told. HasAck out.acks 0 told.window) (sym (grown_told _ e.tcp.congestion.pending e.tcp.congestion)) h.told;
+    acks = h.acks;
+    told = subst (λ told. HasNone out.acks told.window) (sym (grown_told _ e.tcp.congestion.pending e.tcp.congestion)) h.told;
     treated = h.treated;
     held = h.held;
   }
@@ -121,9 +178,9 @@ module _ (c : Profile) (s : Side) (out back : Lane) where
   -- the waiting end opens
   opened_state : (b : Bool) (e : PathEnd) → (b ≡ true → is_unfinished e.tcp.state ≡ true) → Shows e → Shows (record e { tcp = if b then after_begin e.tcp else e.tcp })
   opened_state true e un h = record {
-    sender = state_shows c s _ _ out e.tcp.state phase.SynSent e.tcp.send (λ x. un refl) h.sender;
+    sender = state_shows c s _ out e.tcp.state phase.SynSent e.tcp.send (λ x. un refl) h.sender;
     receiver = h.receiver;
-    window = h.window;
+    acks = h.acks;
     told = h.told;
     treated = h.treated;
     held = h.held;
@@ -134,56 +191,58 @@ module _ (c : Profile) (s : Side) (out back : Lane) where
   opened_shows None e h = h
   opened_shows (Some keys) e h =
       let x = opened_state (states.is_waiting e.tcp.state) e (waiting_unfinished e.tcp.state) h in
-      record { sender = x.sender; receiver = x.receiver; window = x.window; told = x.told; treated = x.treated; held = x.held }
+      record { sender = x.sender; receiver = x.receiver; acks = x.acks; told = x.told; treated = x.treated; held = x.held }
 
   -- the listening end takes the SYN
-  syn_shows : (b : Bool) (window : ℕ) (e : PathEnd) → (b ≡ true → is_unfinished e.tcp.state ≡ true) → HasAck out.acks 0 window → Shows e
+  syn_shows : (b : Bool) (window : ℕ) (e : PathEnd) → (b ≡ true → is_unfinished e.tcp.state ≡ true) → HasNone out.acks window → Shows e
       → Shows (record e { tcp = if b then taking.after_syn (taking.unkept None) (syn_alone window) e.tcp else e.tcp })
   syn_shows true window e un has h =
-      let both = syn_both c s _ _ _ out back (taking.unkept None) (syn_alone window) e.tcp refl refl (un refl) (record { sender = h.sender; receiver = h.receiver }) in
-      record { sender = both.sender; receiver = both.receiver; window = h.window; told = has; treated = h.treated; held = h.held }
+      let both = syn_both c s _ _ out back (taking.unkept None) (syn_alone window) e.tcp refl refl (un refl) (record { sender = h.sender; receiver = h.receiver }) in
+      record { sender = both.sender; receiver = both.receiver; acks = h.acks; told = has; treated = h.treated; held = h.held }
   syn_shows false window e un has h = h
 
-  pub joined_shows : (keys : KeyPair) (asked : JoinSyn) (e : PathEnd) → HasAck out.acks 0 e.treated.window → Shows e → Shows (joined_by keys asked e)
+  pub joined_shows : (keys : KeyPair) (asked : JoinSyn) (e : PathEnd) → HasNone out.acks e.treated.window → Shows e → Shows (joined_by keys asked e)
   joined_shows keys asked e has h =
       let x = syn_shows (is_listening e.tcp.state) e.treated.window e (listening_unfinished e.tcp.state) has h in
-      record { sender = x.sender; receiver = x.receiver; window = x.window; told = x.told; treated = x.treated; held = x.held }
+      record { sender = x.sender; receiver = x.receiver; acks = x.acks; told = x.told; treated = x.treated; held = x.held }
 
   -- ---- death
 
-  nothing_shows : TreatedShows nothing_treated out.acks back
-  nothing_shows = record { items = Every-nil _; fins = Every-nil _; answer = tt; window = tt }
+  nothing_shows : HasNone out.acks 0 → TreatedShows nothing_treated out.acks back
+  nothing_shows none = record { items = Every-nil _; fins = Every-nil _; answer = tt; window = tt; sub = sub_of_none 0 none; nothing = none }
 
-  dead_tcp : (reset : Bool) (e : PathEnd) (t : Treated) → TreatedShows t out.acks back → Shows e → Shows (record e { tcp = taking.after_death reset e.tcp; treated = t })
-  dead_tcp reset e t shows h = record {
-    sender = state_shows c s _ _ out e.tcp.state phase.Dead _ (λ no_more. absurd (false≢true no_more))
-        (acknowledged_shows c s _ _ out e.tcp.send.nxt e.tcp.state e.tcp.send h.sender);
-    receiver = cut_shows e.tcp.fin_at e.receiving.mappings.live back (e.tcp.recv.edge - e.tcp.recv.edge) e.tcp.recv h.receiver;
-    window = h.window;
+  dead_tcp : (reset : Bool) (e : PathEnd) (t : Treated) → TreatedShows t out.acks back → (t.asked ≡ false → e.treated.asked ≡ false) → Shows e
+      → Shows (record e { tcp = taking.after_death reset e.tcp; treated = t })
+  dead_tcp reset e t shows calm h = record {
+    sender = state_shows c s _ out e.tcp.state phase.Dead _ (λ no_more. absurd (false≢true no_more))
+        (acknowledged_shows c s _ out e.tcp.send.nxt e.tcp.state e.tcp.send h.sender);
+    receiver = cut_shows e.tcp.fin_at e.receiving.mappings.live (identity_of e) back (e.tcp.recv.edge - e.tcp.recv.edge) e.tcp.recv h.receiver;
+    acks = calmer _ _ calm h.acks;
     told = h.told;
     treated = shows;
     held = h.held;
   }
 
-  pub died_shows : (e : PathEnd) → Shows e → Shows (died e)
-  died_shows e h = dead_tcp false e nothing_treated nothing_shows h
+  -- once it was asked what is to be acknowledged
+  pub died_shows : (e : PathEnd) → e.treated.asked ≡ false → Shows e → Shows (died e)
+  died_shows e calm h = dead_tcp false e nothing_treated (nothing_shows h.treated.nothing) (λ none. calm) h
 
-  pub died_unless_shows : (e : PathEnd) → Shows e → Shows (died_unless_dead e)
-  died_unless_shows e h = by (states.is_dead e.tcp.state)
+  pub died_unless_shows : (e : PathEnd) → e.treated.asked ≡ false → Shows e → Shows (died_unless_dead e)
+  died_unless_shows e calm h = by (states.is_dead e.tcp.state)
     where
       by : (b : Bool) → Shows (if b then e else died e)
       by true = h
-      by false = died_shows e h
+      by false = died_shows e calm h
 
   pub fired_shows : (now : ℕ) (e : PathEnd) → Shows e → Shows (after_firing now e)
   fired_shows now e h = by (expiring.is_sixth e.tcp)
     where
       by : (b : Bool) → Shows (record e { tcp = if b then taking.after_death true e.tcp else expiring.after_expiry now e.tcp })
-      by true = dead_tcp true e e.treated h.treated h
+      by true = dead_tcp true e e.treated h.treated (λ none. none) h
       by false = record {
-        sender = expired_shows c s _ _ out e.tcp.state e.tcp.send h.sender;
+        sender = expired_shows c s _ out e.tcp.state e.tcp.send h.sender;
         receiver = h.receiver;
-        window = h.window;
+        acks = h.acks;
         told = h.told;
         treated = h.treated;
         held = h.held;
@@ -199,18 +258,19 @@ module _ (c : Profile) (s : Side) (out back : Lane) where
       by false = h
       by true = record {
         sender = h.sender;
-        receiver = cut_shows e.tcp.fin_at e.receiving.mappings.live back (kept.pos - e.tcp.recv.edge) e.tcp.recv h.receiver;
-        window = h.window;
+        receiver = cut_shows e.tcp.fin_at e.receiving.mappings.live (identity_of e) back (kept.pos - e.tcp.recv.edge) e.tcp.recv h.receiver;
+        acks = h.acks;
         told = h.told;
         treated = h.treated;
         held = h.held;
       }
 
-  kept_receiver : (fin_at : Option ℕ) (live : List KeptMapping) (recv : Receiving) (passed : Bool) → is_behind fin_at recv.edge ≡ passed → ReceiverShows recv fin_at live back
-      → ReceiverShows (if passed then without_held recv else after_keep_held recv) fin_at live back
-  kept_receiver fin_at live recv true is h = dropped_shows fin_at live back recv h
-  kept_receiver fin_at live recv false is h = record {
-    edge = ⊎_elim (λ at. inl (record { edge_is = at.edge_is; under = under_if recv.incoming at.under at.held; held = tt })) (λ past. absurd (both_ways _ is past.passed_is)) h.edge;
+  kept_receiver : (fin_at : Option ℕ) (live : List KeptMapping) (plain : Bool) (recv : Receiving) (passed : Bool) → is_behind fin_at recv.edge ≡ passed → ReceiverShows recv fin_at live plain back
+      → ReceiverShows (if passed then without_held recv else after_keep_held recv) fin_at live plain back
+  kept_receiver fin_at live plain recv true is h = dropped_shows fin_at live plain back recv h
+  kept_receiver fin_at live plain recv false is h = record {
+    same_mode = h.same_mode;
+    edge = ⊎_elim (λ at. inl (record { edge_is = at.edge_is; under = under_if recv.incoming at.under at.held; held = tt })) (λ past. absurd (both_ways _ is (past_behind fin_at recv back past))) h.edge;
     fin = h.fin;
     mapped = h.mapped;
   }
@@ -219,22 +279,39 @@ module _ (c : Profile) (s : Side) (out back : Lane) where
       under_if None u held = u
       under_if (Some places) u held = held
 
+  kept_edge : (recv : Receiving) (passed : Bool) → (if passed then without_held recv else after_keep_held recv).edge ≡ recv.edge
+  kept_edge recv true = refl
+  kept_edge recv false = refl
+
   pub keep_shows : (e : PathEnd) → Shows e → Shows (after_keep s e)
-  keep_shows e h = by (is_dropped s e)
+  keep_shows e shows = by (is_dropped s e)
     where
-      by : (b : Bool) → Shows (record e { tcp = if b then taking.after_dropping_held e.tcp else taking.after_keeping_held e.tcp })
+      h : Shows (record e { treated = record e.treated { held_edge = (if is_not_kept s e then None else e.treated.held_edge) } })
+      h = with_treated e _ (record {
+        items = shows.treated.items;
+        fins = shows.treated.fins;
+        answer = shows.treated.answer;
+        window = shows.treated.window;
+        sub = shows.treated.sub;
+        nothing = shows.treated.nothing;
+      }) (λ none. none) shows
+
+      by : (b : Bool) → Shows (record e {
+        tcp = if b then taking.after_dropping_held e.tcp else taking.after_keeping_held e.tcp;
+        treated = record e.treated { held_edge = (if is_not_kept s e then None else e.treated.held_edge) };
+      })
       by true = record {
         sender = h.sender;
-        receiver = dropped_shows e.tcp.fin_at e.receiving.mappings.live back e.tcp.recv h.receiver;
-        window = h.window;
+        receiver = dropped_shows e.tcp.fin_at e.receiving.mappings.live (identity_of e) back e.tcp.recv h.receiver;
+        acks = h.acks;
         told = h.told;
         treated = h.treated;
         held = h.held;
       }
       by false = record {
         sender = h.sender;
-        receiver = kept_receiver e.tcp.fin_at e.receiving.mappings.live e.tcp.recv (is_behind e.tcp.fin_at e.tcp.recv.edge) refl h.receiver;
-        window = h.window;
+        receiver = kept_receiver e.tcp.fin_at e.receiving.mappings.live (identity_of e) e.tcp.recv (is_behind e.tcp.fin_at e.tcp.recv.edge) refl h.receiver;
+        acks = subst (λ edge. AcksShow e.receiving.next e.receiving.window e.treated.asked edge back) (sym (kept_edge e.tcp.recv (is_behind e.tcp.fin_at e.tcp.recv.edge))) h.acks;
         told = h.told;
         treated = h.treated;
         held = h.held;

@@ -1,5 +1,5 @@
 -- Each segment that an end sends shows what its lanes have, and so does each copy of it.
-use Rattle.std.proofs.Common.{◌≡◌, refl, subst, ℕ, zero, suc, ◌&&◌, ◌==◌, not, inl, inr, Bool, true, false, cond, if◌then◌else◌, Option, Some, None, List, [], ◌∷◌}
+use Rattle.std.proofs.Common.{◌≡◌, refl, subst, ℕ, zero, suc, ◌&&◌, ◌==◌, not, inl, inr, Bool, true, false, cond, if◌then◌else◌, Option, Some, None, List, [], ◌∷◌, sym, ◌-◌}
 use Rattle.std.proofs.lemmas.Bool.{and_parts, eqb-true, both_ways, false≢true, not-true}
 use Rattle.std.proofs.lemmas.Option.{same_Some}
 use Rattle.std.specs.List.{slice_get}
@@ -8,26 +8,29 @@ use Rattle.outside_kit.specs.declared.side.Side.{Side}
 use Rattle.outside_kit.specs.declared.side.Side.TheVariants.{A, B}
 use Rattle.link_model.specs.declared.flight.Flight.{Flight}
 use Rattle.link_model.specs.Steps.{comes_before, with_flight, with_flights}
-use Rattle.path_segments.specs.declared.segment.PathOption.TheVariants.{Dss}
+use Rattle.mptcp_options.specs.declared.capable.CapableKeys.TheVariants.{Sender}
+use Rattle.path_segments.specs.declared.segment.PathOption.TheVariants.{Capable, Dss}
 use Rattle.path_segments.specs.Laws.{window_told}
 use Rattle.path_segments.specs.Spelled.{PlainSegment}
+use Rattle.path_segments.specs.declared.segment.PathMapping.TheVariants.{Infinite}
 use Rattle.subflow_send.specs.declared.record.RecordKind.{RecordKind}
 use Rattle.subflow_send.specs.declared.record.RecordKind.TheVariants.{Syn, Data, Fin}
 use Rattle.subflow_send.specs.Records.{Record}
 use Rattle.subflow_tcp.specs.declared.segments.Outgoing.{Outgoing}
 use Rattle.subflow_tcp.specs.Emitting.{is_syn, fin_position, record_segment}
+use Rattle.subflow_tcp.specs.States.{is_opening}
 use Rattle.subflow_send.specs.Rules.{is_fin}
 use Rattle.stream_lanes.specs.Lane.{AckCopy, Lane}
 use Rattle.stream_lanes.specs.Words.{Every}
 use Rattle.stream_lanes.proofs.Lists.{Every-nil, Every-push}
 use Rattle.path_core.specs.Ends.{PathEnd}
 use Rattle.path_core.specs.Joins.{is_joined, join_options, third_options}
-use Rattle.path_core.specs.Segments.{place_numbered, capable_options, syn_options, key_options, opening_options, end_mapping, ack_options, is_first_piece, first_piece_options, piece_options, piece_mapping, record_options, reset_options, segment_of, ack_said, record_said, syn_ack_said, fin_said, reset_said, record_or_ack}
+use Rattle.path_core.specs.Segments.{place_numbered, owes_mapping, plain_options, fin_options, capable_options, syn_options, key_options, opening_options, end_mapping, ack_options, is_first_piece, first_piece_options, piece_options, piece_mapping, record_options, reset_options, segment_of, ack_said, record_said, syn_ack_said, fin_said, reset_said, record_or_ack}
 use Rattle.path_core.specs.State.{Profile}
 use Rattle.path_core.specs.Words.{is_side_a}
-use Rattle.world_laws.proofs.Showing.{HasAck, HasMapping, HasNumber, HasFin, KindShows, RecordShows, WindowShows, OptionShows, SegmentShows}
+use Rattle.world_laws.proofs.Showing.{HasSub, HasNone, HasMapping, HasNumber, HasFin, KindShows, RecordShows, WindowShows, OptionShows, SegmentShows}
 
-window_at : (next window : ℕ) (acks : List AckCopy) → WindowShows next window acks → (syn : Bool) → HasAck acks 0 (window_told syn window)
+window_at : (next window : ℕ) (acks : List AckCopy) → WindowShows next window acks → (syn : Bool) → HasNone acks (window_told syn window)
 window_at next window acks h true = h.syn
 window_at next window acks h false = h.alone
 
@@ -55,15 +58,36 @@ module _ (c : Profile) (s : Side) (e : PathEnd) (acks : List AckCopy) (p : Lane)
   end_says (Some place) h = (w.ack, h)
 
   ack_options_say : (fin : Option ℕ) → IfSome fin (HasNumber p.data_fins) → Every (OptionShows (window_told false e.receiving.window) acks p) (ack_options c s fin e)
-  ack_options_say fin h = by e.modes.clear
+  ack_options_say fin h = by e.modes.identity e.modes.clear
     where
-      by : (b : Bool) → Every (OptionShows (window_told false e.receiving.window) acks p) (if b then Dss (Some e.receiving.next) (end_mapping c s fin) ∷ [] else opening_options c s e)
-      by true = every_one _ (end_says fin h)
-      by false = opening_say _ e.modes.owes_third
+      by : (plain clear : Bool) → Every (OptionShows (window_told false e.receiving.window) acks p)
+          (if plain then [] else (if clear then Dss (Some e.receiving.next) (end_mapping c s fin) ∷ [] else opening_options c s e))
+      by true clear = Every-nil _
+      by false true = every_one _ (end_says fin h)
+      by false false = opening_say _ e.modes.owes_third
+
+  -- an infinite mapping says nothing
+  plain_options_say : (window position : ℕ) → Every (OptionShows window acks p) (plain_options position e)
+  plain_options_say window position = by (owes_mapping e)
+    where
+      by : (b : Bool) → Every (OptionShows window acks p) (if b then Dss None (Some (Infinite (position - 1) position)) ∷ [] else [])
+      by true = every_one _ (tt, tt)
+      by false = Every-nil _
+
+  fin_options_say : (position : ℕ) → Every (OptionShows (window_told false e.receiving.window) acks p) (fin_options position e)
+  fin_options_say position = by e.modes.identity
+    where
+      by : (b : Bool) → Every (OptionShows (window_told false e.receiving.window) acks p) (if b then plain_options position e else Dss (Some e.receiving.next) None ∷ [])
+      by true = plain_options_say _ position
+      by false = every_one _ (w.ack, tt)
 
   capable_say : (window : ℕ) (s : Side) → Every (OptionShows window acks p) (capable_options c s e)
   capable_say window A = every_one _ tt
-  capable_say window B = every_one _ tt
+  capable_say window B = by (e.modes.capable_asked && not e.modes.identity)
+    where
+      by : (b : Bool) → Every (OptionShows window acks p) (if b then Capable c.spelling.checksums false (Sender e.modes.own_key) ∷ [] else [])
+      by true = every_one _ tt
+      by false = Every-nil _
 
   syn_options_say : (window : ℕ) (s : Side) → Every (OptionShows window acks p) (syn_options c s e)
   syn_options_say window s = by (is_joined c)
@@ -76,62 +100,129 @@ module _ (c : Profile) (s : Side) (e : PathEnd) (acks : List AckCopy) (p : Lane)
   reset_options_say window None = Every-nil _
   reset_options_say window (Some reason) = every_one _ tt
 
+  unless_plain_say : (window : ℕ) (reason : Option ℕ) (plain : Bool) → Every (OptionShows window acks p) (if plain then [] else reset_options reason)
+  unless_plain_say window reason true = Every-nil _
+  unless_plain_say window reason false = reset_options_say window reason
+
   -- ---- segments without octets
 
-  -- the acknowledgement at any position, perhaps with the DATA_FIN
-  pub ack_says : (position : ℕ) (fin : Option ℕ) → IfSome fin (HasNumber p.data_fins) → SegmentShows acks p (ack_said c s position fin e)
-  ack_says position fin h = record { window = w.alone; options = ack_options_say fin h; payload = inl refl; fin = λ is. absurd (false≢true is); plain = λ syn. refl }
-
   pub syn_ack_says : SegmentShows acks p (syn_ack_said c s e)
-  syn_ack_says = record { window = w.syn; options = syn_options_say _ s; payload = inl refl; fin = λ is. absurd (false≢true is); plain = λ syn. refl }
-
-  pub fin_says : HasFin p.fins (fin_position e.tcp.send) → SegmentShows acks p (fin_said c e)
-  fin_says h = record { window = w.alone; options = every_one _ (w.ack, tt); payload = inl refl; fin = λ is. (refl, h); plain = λ syn. absurd (false≢true syn) }
+  syn_ack_says = record {
+    window = w.syn;
+    sub = λ syn. absurd (false≢true (sym syn));
+    options = syn_options_say _ s;
+    payload = inl refl;
+    fin = λ is. absurd (false≢true is);
+    plain = λ syn. refl;
+  }
 
   pub reset_says : (reason : Option ℕ) → SegmentShows acks p (reset_said c reason e)
-  reset_says reason = record { window = w.alone; options = reset_options_say _ reason; payload = inl refl; fin = λ is. absurd (false≢true is); plain = λ syn. refl }
+  reset_says reason = record {
+    window = w.alone;
+    sub = λ syn rst. tt;
+    options = unless_plain_say _ reason e.modes.identity;
+    payload = inl refl;
+    fin = λ is. absurd (false≢true is);
+    plain = λ syn. refl;
+  }
 
   -- a dead end's answer, and a refusal
-  pub outgoing_says : (o : Outgoing) (reason : Option ℕ) → o.fin ≡ false → SegmentShows acks p (segment_of c o (reset_options reason) [] e)
-  outgoing_says o reason none =
-      record { window = window_at _ _ _ w o.syn; options = reset_options_say _ reason; payload = inl refl; fin = λ is. absurd (both_ways o.fin none is); plain = λ syn. none }
+  pub outgoing_says : (o : Outgoing) (reason : Option ℕ) → o.fin ≡ false → o.rst ≡ true → SegmentShows acks p (segment_of c o (reset_options reason) [] e)
+  outgoing_says o reason none resets = record {
+    window = window_at _ _ _ w o.syn;
+    sub = λ syn rst. absurd (both_ways o.rst rst resets);
+    options = reset_options_say _ reason;
+    payload = inl refl;
+    fin = λ is. absurd (both_ways o.fin none is);
+    plain = λ syn. none;
+  }
 
-  -- ---- records
+  -- where the receive edge is acknowledged
+  module _ (now : HasSub acks (e.tcp.recv.edge - 1) (window_told false e.receiving.window)) where
+    -- the acknowledgement at any position, perhaps with the DATA_FIN
+    pub ack_says : (position : ℕ) (fin : Option ℕ) → IfSome fin (HasNumber p.data_fins) → SegmentShows acks p (ack_said c s position fin e)
+    ack_says position fin h = record {
+      window = w.alone;
+      sub = λ syn rst. now;
+      options = ack_options_say fin h;
+      payload = inl refl;
+      fin = λ is. absurd (false≢true is);
+      plain = λ syn. refl;
+    }
 
-  -- where A may send no DSS yet, its mapping from the first position begins at the first place
-  module _ (first : is_side_a s ≡ true → e.modes.clear ≡ false → (place len : ℕ) → HasMapping p.datas place 1 len → HasMapping p.datas 0 1 len) where
-    first_says : (peer : Option ℕ) (r : Record) → is_side_a s ≡ true → e.modes.clear ≡ false → r.pos ≡ 1 → HasMapping p.datas (place_numbered c s r.mapping.number) r.pos r.mapping.length
-        → Every (OptionShows (window_told false e.receiving.window) acks p) (first_piece_options c peer r e)
-    first_says None r own unclear at h = Every-nil _
-    first_says (Some peer) r own unclear at h = every_one _ (first own unclear _ r.mapping.length (subst (λ position. HasMapping p.datas (place_numbered c s r.mapping.number) position r.mapping.length) at h))
+    pub fin_says : HasFin p.fins (fin_position e.tcp.send) → SegmentShows acks p (fin_said c e)
+    fin_says h = record {
+      window = w.alone;
+      sub = λ syn rst. now;
+      options = fin_options_say (fin_position e.tcp.send);
+      payload = inl refl;
+      fin = λ is. (refl, h);
+      plain = λ syn. absurd (false≢true syn);
+    }
 
-    piece_options_say : (r : Record) → HasMapping p.datas (place_numbered c s r.mapping.number) r.pos r.mapping.length
-        → Every (OptionShows (window_told false e.receiving.window) acks p) (piece_options c s r e)
-    piece_options_say r h = by (is_first_piece s r e) refl
-      where
-        by : (b : Bool) → is_first_piece s r e ≡ b → Every (OptionShows (window_told false e.receiving.window) acks p)
-            (if b then first_piece_options c e.modes.peer_key r e else Dss (Some e.receiving.next) (Some (piece_mapping c s r)) ∷ [])
-        by true is =
-            let parts = and_parts (is_side_a s) (not e.modes.clear && r.pos == 1) is in
-            let at = and_parts (not e.modes.clear) (r.pos == 1) parts.1 in
-            first_says e.modes.peer_key r parts.0 (not-true e.modes.clear at.0) (eqb-true r.pos 1 at.1) h
-        by false is = every_one _ (w.ack, h)
+    -- ---- records
 
-    -- the record's segment, if it were of this kind
-    abbrev said_as : RecordKind → Record → PlainSegment
-    said_as kind r = segment_of c (record (record_segment e.tcp r) { syn = is_syn kind; fin = is_fin kind }) (record_options kind c s r e) r.piece e
+    acknowledges : (opening : Bool) → IfSome (if opening then None else Some e.tcp.recv.edge) (λ n. HasSub acks (n - 1) (window_told false e.receiving.window))
+    acknowledges true = tt
+    acknowledges false = now
 
-    kind_says : (kind : RecordKind) (r : Record) → KindShows c s p.datas p.fins kind r → SegmentShows acks p (said_as kind r)
-    kind_says Syn r h = record { window = w.syn; options = syn_options_say _ s; payload = inl h; fin = λ is. absurd (false≢true is); plain = λ syn. refl }
-    kind_says Data r h = record { window = w.alone; options = piece_options_say r h.mapping; payload = inr h.octets; fin = λ is. absurd (false≢true is); plain = λ syn. refl }
-    kind_says Fin r h = record { window = w.alone; options = every_one _ (w.ack, tt); payload = inl h.0; fin = λ is. (h.0, h.1); plain = λ syn. absurd (false≢true syn) }
+    -- where A may send no DSS yet, its mapping from the first position begins at the first place
+    module _ (first : is_side_a s ≡ true → e.modes.clear ≡ false → (place len : ℕ) → HasMapping p.datas place 1 len → HasMapping p.datas 0 1 len) where
+      first_says : (peer : Option ℕ) (r : Record) → is_side_a s ≡ true → e.modes.clear ≡ false → r.pos ≡ 1 → HasMapping p.datas (place_numbered c s r.mapping.number) r.pos r.mapping.length
+          → Every (OptionShows (window_told false e.receiving.window) acks p) (first_piece_options c peer r e)
+      first_says None r own unclear at h = Every-nil _
+      first_says (Some peer) r own unclear at h = every_one _ (first own unclear _ r.mapping.length (subst (λ position. HasMapping p.datas (place_numbered c s r.mapping.number) position r.mapping.length) at h))
 
-    pub record_says : (r : Record) → RecordShows c s p.datas p.fins r → SegmentShows acks p (record_said c s r e)
-    record_says r h = kind_says r.kind r h
+      piece_options_say : (r : Record) → HasMapping p.datas (place_numbered c s r.mapping.number) r.pos r.mapping.length
+          → Every (OptionShows (window_told false e.receiving.window) acks p) (piece_options c s r e)
+      piece_options_say r h = by e.modes.identity (is_first_piece s r e) refl
+        where
+          by : (plain b : Bool) → is_first_piece s r e ≡ b → Every (OptionShows (window_told false e.receiving.window) acks p)
+              (if plain then plain_options r.pos e
+              else (if b then first_piece_options c e.modes.peer_key r e else Dss (Some e.receiving.next) (Some (piece_mapping c s r)) ∷ []))
+          by true b is = plain_options_say _ r.pos
+          by false true is =
+              let parts = and_parts (is_side_a s) (not e.modes.clear && r.pos == 1) is in
+              let at = and_parts (not e.modes.clear) (r.pos == 1) parts.1 in
+              first_says e.modes.peer_key r parts.0 (not-true e.modes.clear at.0) (eqb-true r.pos 1 at.1) h
+          by false false is = every_one _ (w.ack, h)
 
-    pub record_or_ack_says : (o : Option Record) → IfSome o (RecordShows c s p.datas p.fins) → SegmentShows acks p (record_or_ack c s o e)
-    record_or_ack_says None h = ack_says e.tcp.send.nxt None tt
-    record_or_ack_says (Some r) h = record_says r h
+      -- the record's segment, if it were of this kind
+      abbrev said_as : RecordKind → Record → PlainSegment
+      said_as kind r = segment_of c (record (record_segment e.tcp r) { syn = is_syn kind; fin = is_fin kind }) (record_options kind c s r e) r.piece e
+
+      kind_says : (kind : RecordKind) (r : Record) → KindShows c s p.datas p.fins kind r → SegmentShows acks p (said_as kind r)
+      kind_says Syn r h = record {
+        window = w.syn;
+        sub = λ syn. absurd (false≢true (sym syn));
+        options = syn_options_say _ s;
+        payload = inl h;
+        fin = λ is. absurd (false≢true is);
+        plain = λ syn. refl;
+      }
+      kind_says Data r h = record {
+        window = w.alone;
+        sub = λ syn rst. acknowledges (is_opening e.tcp.state);
+        options = piece_options_say r h.mapping;
+        payload = inr h.octets;
+        fin = λ is. absurd (false≢true is);
+        plain = λ syn. refl;
+      }
+      kind_says Fin r h = record {
+        window = w.alone;
+        sub = λ syn rst. acknowledges (is_opening e.tcp.state);
+        options = fin_options_say r.pos;
+        payload = inl h.0;
+        fin = λ is. (h.0, h.1);
+        plain = λ syn. absurd (false≢true syn);
+      }
+
+      pub record_says : (r : Record) → RecordShows c s p.datas p.fins r → SegmentShows acks p (record_said c s r e)
+      record_says r h = kind_says r.kind r h
+
+      pub record_or_ack_says : (o : Option Record) → IfSome o (RecordShows c s p.datas p.fins) → SegmentShows acks p (record_or_ack c s o e)
+      record_or_ack_says None h = ack_says e.tcp.send.nxt None tt
+      record_or_ack_says (Some r) h = record_says r h
 
 -- ---- copies
 

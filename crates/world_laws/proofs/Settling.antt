@@ -1,9 +1,8 @@
 -- The duties that come to nothing are passed, and the lanes go on by moves alone.
-use Rattle.std.proofs.Common.{◌≡◌, refl, Bool, true, false, if◌then◌else◌, Option, Some, None, List, [], ◌∷◌}
+use Rattle.std.proofs.Common.{◌≡◌, refl, Bool, true, false, if◌then◌else◌, Option, Some, None, List, [], ◌∷◌, ℕ}
 use Rattle.std.specs.Option.{IfSome}
 use Rattle.outside_kit.specs.declared.side.Side.{Side}
 use Rattle.outside_kit.specs.declared.side.Side.TheVariants.{A, B}
-use Rattle.dss_mapping.specs.Mappings.{mapping_at}
 use Rattle.stream_lanes.specs.Holding.{Holds}
 use Rattle.stream_lanes.specs.Lane.{Lane}
 use Rattle.actor_desk.specs.Desk.{SixBooks}
@@ -16,17 +15,18 @@ use Rattle.path_core.specs.Duties.{stands, passed}
 use Rattle.path_core.specs.Emission.{after_timer}
 use Rattle.path_core.specs.Ends.{PathEnd}
 use Rattle.path_core.specs.Passing.{after_pass_fin}
-use Rattle.path_core.specs.Placing.{after_check, with_learned, with_skipped}
+use Rattle.path_core.specs.Placing.{after_check, with_learned, with_skipped, mapping_here, after_unmapped}
 use Rattle.path_core.specs.State.{PathState, Profile, end_at, with_end, with_agenda}
 use Rattle.path_core.specs.Steps.{settled}
-use Rattle.path_core.specs.Treating.{counts, with_fin, after_dss, after_keep, heard_passed, item_passed, item_of}
+use Rattle.path_core.specs.Treating.{counts, with_fin, after_dss, after_keep, heard_passed, item_passed, item_of, with_plain_ack}
 use Rattle.path_core.specs.Values.{Carried}
+use Rattle.path_core.specs.Words.{item_at}
 use Rattle.world_laws.proofs.Ending.{Did, did_nothing}
 use Rattle.world_laws.proofs.Lanes.{Others, duo_at}
 use Rattle.world_laws.proofs.Placing.{learned_end, skipped_shows, passed_fin}
 use Rattle.world_laws.proofs.Replying.{fin_shows, every_item}
 use Rattle.world_laws.proofs.Roads.{stays, then_strolls}
-use Rattle.world_laws.proofs.Rules.{dss_shows, timer_shows, check_shows, keep_shows}
+use Rattle.world_laws.proofs.Rules.{dss_shows, timer_shows, check_shows, keep_shows, plain_ack_shows, unmapped_shows}
 use Rattle.world_laws.proofs.Showing.{ItemShows, EndShows, PathShows}
 use Rattle.world_laws.proofs.Sides.{longer_link}
 use Rattle.world_laws.proofs.Strolling.{Strolled, strolls_held, agrees, back_holds, side_shows, did_on_path}
@@ -54,6 +54,12 @@ stands_anyway (duties.Live s) es p = refl
 stands_anyway (duties.Heard s index) es p = refl
 stands_anyway (duties.AckHeard s) es p = refl
 stands_anyway (duties.PlainAck s) es p = refl
+stands_anyway (duties.PlainHandshake s) es p = refl
+stands_anyway (duties.SubflowAck s) es p = refl
+stands_anyway (duties.PlainData s) es p = refl
+stands_anyway (duties.GoIdentity s) es p = refl
+stands_anyway (duties.Unmapped s) es p = refl
+stands_anyway (duties.SubflowFin s) es p = refl
 stands_anyway (duties.Keep s) es p = refl
 stands_anyway (duties.Edge s) es p = refl
 stands_anyway (duties.HeardFin s index) es p = refl
@@ -124,6 +130,7 @@ module _ (six : SixBooks) (others : Others) (c : Profile) where
           by : (b : Bool) → Did c s (if b then with_fin place e else e) out out back back
           by true = did_nothing c s out back (with_fin place e) (fin_shows c s place e out back has shows)
           by false = did_nothing c s out back e shows
+      item_did says.InfiniteMapping has = did_nothing c s out back e shows
       item_did (says.PeerKey key) has = did_nothing c s out back e shows
       item_did (says.Keys own peer) has = did_nothing c s out back e shows
       item_did (says.Join form) has = did_nothing c s out back e shows
@@ -132,15 +139,19 @@ module _ (six : SixBooks) (others : Others) (c : Profile) where
       maybe_did None has = did_nothing c s out back e shows
       maybe_did (Some item) has = item_did item has
 
+    item_shows : (s : Side) (index : ℕ) (plain : Bool) → IfSome (if plain then None else item_at index (end_at s p).treated.items) (ItemShows (pick s ab ba).acks (pick s ba ab))
+    item_shows s index true = tt
+    item_shows s index false = every_item index (end_at s p).treated.items (side_shows c s p ab ba h).treated.items
+
     pub passes : (d : Duty) → Strolled c (passed d p) ab ba
     passes (duties.Timer s) = same_lanes s (after_timer p.clock (end_at s p)) (timer_shows c s (pick s ab ba) (pick s ba ab) p.clock (end_at s p) (side_shows c s p ab ba h))
     passes (duties.Heard s index) =
-        end_strolled s (item_passed s (item_of index (end_at s p)) (end_at s p)) (maybe_did s (item_of index (end_at s p)) (every_item index (end_at s p).treated.items (side_shows c s p ab ba h).treated.items))
+        end_strolled s (item_passed s (item_of index (end_at s p)) (end_at s p)) (maybe_did s (item_of index (end_at s p)) (item_shows s index (end_at s p).modes.identity))
     passes (duties.Keep s) = same_lanes s (after_keep s (end_at s p)) (keep_shows c s (pick s ab ba) (pick s ba ab) (end_at s p) (side_shows c s p ab ba h))
     passes (duties.Edge s) = same_lanes s (after_check p.profile (end_at s p))
-        (check_shows c s (pick s ab ba) (pick s ba ab) p.profile p.profile.spelling.checksums (mapping_at (end_at s p).receiving.mappings (end_at s p).tcp.recv.edge) (end_at s p) (side_shows c s p ab ba h))
+        (check_shows c s (pick s ab ba) (pick s ba ab) p.profile p.profile.spelling.checksums (mapping_here (end_at s p)) (end_at s p) (side_shows c s p ab ba h))
     passes (duties.PassFin s) =
-        same_lanes s (after_pass_fin (end_at s p)) (passed_fin c s (pick s ab ba) (pick s ba ab) _ _ (end_at s p) (back_holds six others s ab ba holds) (side_shows c s p ab ba h))
+        end_strolled s (after_pass_fin (end_at s p)) (passed_fin c s (pick s ab ba) (pick s ba ab) _ _ (end_at s p) (back_holds six others s ab ba holds) (side_shows c s p ab ba h))
     passes duties.JoinAgain = stays_so c p ab ba h
     passes (duties.Look s) = stays_so c p ab ba h
     passes (duties.Window s) = stays_so c p ab ba h
@@ -159,7 +170,13 @@ module _ (six : SixBooks) (others : Others) (c : Profile) where
     passes (duties.Opened s) = stays_so c p ab ba h
     passes (duties.Live s) = stays_so c p ab ba h
     passes (duties.AckHeard s) = stays_so c p ab ba h
-    passes (duties.PlainAck s) = stays_so c p ab ba h
+    passes (duties.PlainAck s) = same_lanes s (with_plain_ack (end_at s p)) (plain_ack_shows c s (pick s ab ba) (pick s ba ab) (end_at s p) (side_shows c s p ab ba h))
+    passes (duties.Unmapped s) = same_lanes s (after_unmapped (end_at s p)) (unmapped_shows c s (pick s ab ba) (pick s ba ab) (end_at s p) (side_shows c s p ab ba h))
+    passes (duties.PlainHandshake s) = stays_so c p ab ba h
+    passes (duties.SubflowAck s) = stays_so c p ab ba h
+    passes (duties.PlainData s) = stays_so c p ab ba h
+    passes (duties.GoIdentity s) = stays_so c p ab ba h
+    passes (duties.SubflowFin s) = stays_so c p ab ba h
     passes (duties.HeardFin s index) = stays_so c p ab ba h
     passes (duties.AckOut s) = stays_so c p ab ba h
     passes (duties.Rate s) = stays_so c p ab ba h

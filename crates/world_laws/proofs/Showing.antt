@@ -1,6 +1,6 @@
 -- What the ends of a path and the copies on its link have to do with the two lanes that the path is shown as. Positions of a
 -- path count its SYN, those of a lane its bytes alone.
-use Rattle.std.proofs.Common.{◌≡◌, ℕ, suc, ◌⊎◌, Bool, true, false, Option, Some, None, List, [], length}
+use Rattle.std.proofs.Common.{◌≡◌, ℕ, suc, ◌-◌, ◌⊎◌, Bool, true, false, Option, Some, None, List, [], length}
 use Rattle.std.specs.List.{slice_get}
 use Rattle.std.specs.Option.{IfSome}
 use Rattle.outside_kit.specs.declared.side.Side.{Side}
@@ -14,22 +14,23 @@ use Rattle.path_segments.specs.declared.segment.PathOption.TheVariants.{Capable,
 use Rattle.path_segments.specs.Laws.{window_told}
 use Rattle.path_segments.specs.Options.{PlainOption}
 use Rattle.path_segments.specs.Spelled.{PlainSegment}
+use Rattle.send_book.specs.declared.call.Span.{Span}
 use Rattle.subflow_send.specs.declared.record.RecordKind.{RecordKind}
 use Rattle.subflow_send.specs.declared.record.RecordKind.TheVariants.{Syn, Data, Fin}
 use Rattle.subflow_send.specs.Records.{Record, SendState}
 use Rattle.subflow_tcp.specs.declared.handshake.State.{State as EndPhase}
 use Rattle.subflow_tcp.specs.declared.handshake.State.TheVariants as phase
-use Rattle.subflow_tcp.specs.State.{is_behind}
 use Rattle.subflow_recv.specs.Receiving.{Receiving}
-use Rattle.stream_lanes.specs.Lane.{Mapping, DataCopy, AckCopy, Lane}
+use Rattle.stream_lanes.specs.Lane.{Cell, Mapping, DataCopy, AckCopy, Lane}
 use Rattle.stream_lanes.specs.Words.{Every, Has}
+use Rattle.stream_lanes.specs.Holding.{HasPlace}
 use Rattle.path_agenda.specs.declared.heard.Heard.{Heard}
 use Rattle.path_agenda.specs.declared.heard.Heard.TheVariants as says
 use Rattle.path_core.specs.Ends.{PathEnd, Treated}
 use Rattle.path_core.specs.Joins.{join_asked}
 use Rattle.path_core.specs.Segments.{place_numbered}
 use Rattle.path_core.specs.State.{PathState, Profile}
-use Rattle.path_core.specs.Shown.{ChangesNothing}
+use Rattle.path_core.specs.Shown.{AltersNothing}
 use Rattle.path_core.specs.Values.{Carried}
 
 -- ---- what was ever sent on a lane
@@ -41,6 +42,23 @@ pub record IsAckOf (next window : ℕ) (a : AckCopy) : Type 0 where
 
 abbrev pub HasAck : List AckCopy → ℕ → ℕ → Type 0
 HasAck acks next window = Has (IsAckOf next window) acks
+
+-- one whose subflow wants this position next, which counts no SYN
+pub record IsSubOf (sub window : ℕ) (a : AckCopy) : Type 0 where
+  pub sub_is : a.sub ≡ sub
+  pub window_is : a.window ≡ window
+
+abbrev pub HasSub : List AckCopy → ℕ → ℕ → Type 0
+HasSub acks sub window = Has (IsSubOf sub window) acks
+
+-- one of nothing, with this window
+pub record IsNoneOf (window : ℕ) (a : AckCopy) : Type 0 where
+  pub next_is : a.next ≡ 0
+  pub sub_is : a.sub ≡ 0
+  pub window_is : a.window ≡ window
+
+abbrev pub HasNone : List AckCopy → ℕ → Type 0
+HasNone acks window = Has (IsNoneOf window) acks
 
 -- octets from this position of the path on
 pub record IsDataOf (position : ℕ) (octets : List ℕ) (d : DataCopy) : Type 0 where
@@ -96,14 +114,44 @@ is_unfinished phase.Established = true
 is_unfinished phase.CloseWait = true
 is_unfinished _ = false
 
-pub record SenderShows (c : Profile) (s : Side) (state : EndPhase) (v : SendState) (known : Option ℕ) (acked : Bool) (p : Lane) : Type 0 where
-  pub plain : p.sender_plain ≡ false
+-- the lane was granted the last place of a span
+pub record IsGrantedTo (sent : List Cell) (span : Span) : Type 0 where
+  pub last : ℕ
+  pub last_is : suc last ≡ span.to
+  pub has : HasPlace sent last
+
+-- what the end knows of the stream that it sends, and whether it is in plain TCP
+pub record Knowledge : Type 0 where
+  pub known_end : Option ℕ
+  pub acked : Bool
+  pub heard : ℕ
+  -- the places that were granted to it and aren't acknowledged
+  pub granted : List Span
+  pub identity : Bool
+
+abbrev pub identity_of : PathEnd → Bool
+identity_of e = e.modes.identity
+
+abbrev pub knowledge_of : PathEnd → Knowledge
+knowledge_of e = record {
+  known_end = e.sending.known_end;
+  acked = e.sending.close.own_acked;
+  heard = e.sending.heard;
+  granted = e.sending.granted;
+  identity = identity_of e;
+}
+
+pub record SenderShows (c : Profile) (s : Side) (state : EndPhase) (v : SendState) (k : Knowledge) (p : Lane) : Type 0 where
+  pub plain : p.sender_plain ≡ k.identity
   -- the next position is that after the bytes that were granted
   pub next : is_unfinished state ≡ true → v.nxt ≡ suc (length p.sent)
   pub unfinished : is_unfinished state ≡ true → v.finished ≡ false
   pub pieces : Every (RecordShows c s p.datas p.fins) v.records
-  pub known_end : IfSome known (HasNumber p.data_fins)
-  pub fin_acked : acked ≡ true → p.fin_acked ≡ true
+  pub known_end : IfSome k.known_end (HasNumber p.data_fins)
+  pub same_end : p.known_end ≡ k.known_end
+  pub heard : p.heard ≡ k.heard
+  pub granted : Every (IsGrantedTo p.sent) k.granted
+  pub fin_acked : k.acked ≡ true → p.fin_acked ≡ true
 
 -- ---- the receiving half
 
@@ -117,9 +165,11 @@ pub record IsAtEdge (recv : Receiving) (p : Lane) : Type 0 where
   pub under : Under recv.places p.kept
   pub held : IfSome recv.incoming (λ places. Under places p.kept)
 
-pub record IsPastFin (passed : Bool) (places : List (Option ℕ)) : Type 0 where
-  pub passed_is : passed ≡ true
-  pub none : (i byte : ℕ) → slice_get places i ≡ Some (Some byte) → ⊥
+pub record IsPastFin (fin_at : Option ℕ) (recv : Receiving) (p : Lane) : Type 0 where
+  pub at_is : fin_at ≡ Some (suc p.edge)
+  pub none : (i byte : ℕ) → slice_get recv.places i ≡ Some (Some byte) → ⊥
+  pub edge_is : recv.edge ≡ suc (suc p.edge)
+  pub fin_in : p.fin_in ≡ true
 
 abbrev pub KeptShows : List Mapping → KeptMapping → Type 0
 KeptShows maps kept = Has (IsMappingOf kept.place kept.pos kept.mapping.length) maps
@@ -131,11 +181,19 @@ HeldShows datas kept = HasMapping datas kept.place kept.pos kept.mapping.length
 -- the windows that segments tell are those of acknowledgements of the lane, with and without the place
 pub record WindowShows (next window : ℕ) (acks : List AckCopy) : Type 0 where
   pub ack : HasAck acks next (window_told false window)
-  pub alone : HasAck acks 0 (window_told false window)
-  pub syn : HasAck acks 0 (window_told true window)
+  pub alone : HasNone acks (window_told false window)
+  pub syn : HasNone acks (window_told true window)
 
-pub record ReceiverShows (recv : Receiving) (fin_at : Option ℕ) (live : List KeptMapping) (p : Lane) : Type 0 where
-  pub edge : IsAtEdge recv p ⊎ IsPastFin (is_behind fin_at recv.edge) recv.places
+-- Where nothing was told since the book was asked what is to be acknowledged, the receive edge is acknowledged too.
+pub record AcksShow (next window : ℕ) (asked : Bool) (edge : ℕ) (p : Lane) : Type 0 where
+  pub windows : WindowShows next window p.acks
+  pub latest : p.latest ≡ record { next = next; window = window }
+  pub due : asked ≡ false → p.due ≡ false
+  pub sub : asked ≡ false → HasSub p.acks (edge - 1) (window_told false window)
+
+pub record ReceiverShows (recv : Receiving) (fin_at : Option ℕ) (live : List KeptMapping) (plain : Bool) (p : Lane) : Type 0 where
+  pub same_mode : p.receiver_plain ≡ plain
+  pub edge : IsAtEdge recv p ⊎ IsPastFin fin_at recv p
   pub fin : IfSome fin_at (HasFin p.fins)
   pub mapped : Every (KeptShows p.maps) live
 
@@ -150,17 +208,20 @@ ItemShows acks p _ = Unit {0}
 pub record TreatedShows (t : Treated) (acks : List AckCopy) (p : Lane) : Type 0 where
   pub items : Every (ItemShows acks p) t.items
   pub fins : Every (HasNumber p.data_fins) t.fins
-  pub answer : IfSome t.answer (λ o. o.fin ≡ false)
+  pub answer : IfSome t.answer (λ o. (o.fin ≡ false) × (o.rst ≡ true))
   -- the window of a SYN that asks to join
-  pub window : IfSome (join_asked t.items) (λ asked. HasAck acks 0 t.window)
+  pub window : IfSome (join_asked t.items) (λ asked. HasNone acks t.window)
+  -- what it acknowledges of the subflow; and nothing may be acknowledged
+  pub sub : HasSub acks (t.acknowledged - 1) t.window
+  pub nothing : HasNone acks 0
 
 -- ---- an end: `out` carries what its side sends, and `back` what it hears
 
 pub record EndShows (c : Profile) (s : Side) (e : PathEnd) (out back : Lane) : Type 0 where
-  pub sender : SenderShows c s e.tcp.state e.tcp.send e.sending.known_end e.sending.close.own_acked out
-  pub receiver : ReceiverShows e.tcp.recv e.tcp.fin_at e.receiving.mappings.live back
-  pub window : WindowShows e.receiving.next e.receiving.window back.acks
-  pub told : HasAck out.acks 0 e.tcp.congestion.told.window
+  pub sender : SenderShows c s e.tcp.state e.tcp.send (knowledge_of e) out
+  pub receiver : ReceiverShows e.tcp.recv e.tcp.fin_at e.receiving.mappings.live (identity_of e) back
+  pub acks : AcksShow e.receiving.next e.receiving.window e.treated.asked e.tcp.recv.edge back
+  pub told : HasNone out.acks e.tcp.congestion.told.window
   pub treated : TreatedShows e.treated out.acks back
   pub held : Every (HeldShows back.datas) e.receiving.mappings.held
 
@@ -184,7 +245,9 @@ OptionShows window acks p _ = Unit {0}
 
 -- a segment on the lane whose acknowledgements are those of the other one
 pub record SegmentShows (acks : List AckCopy) (p : Lane) (sg : PlainSegment) : Type 0 where
-  pub window : HasAck acks 0 (window_told sg.syn sg.window)
+  pub window : HasNone acks (window_told sg.syn sg.window)
+  -- what it acknowledges of the subflow, unless it is a SYN or a reset
+  pub sub : sg.syn ≡ false → sg.rst ≡ false → IfSome sg.acknowledged (λ n. HasSub acks (n - 1) (window_told sg.syn sg.window))
   pub options : Every (OptionShows (window_told sg.syn sg.window) acks p) sg.options
   pub payload : (sg.payload ≡ []) ⊎ HasData p.datas sg.position sg.payload
   pub fin : sg.fin ≡ true → (sg.payload ≡ []) × HasFin p.fins sg.position
@@ -198,7 +261,7 @@ FlightShows ab ba A sg = SegmentShows ab.acks ba sg
 
 pub record PathShows (c : Profile) (p : PathState Carried) (ab ba : Lane) : Type 0 where
   pub profile : p.profile ≡ c
-  pub unchanged : ChangesNothing p.link.lines
+  pub unchanged : AltersNothing p.link.lines
   pub a : EndShows c A p.a ab ba
   pub b : EndShows c B p.b ba ab
   pub copies : Every (λ f. FlightShows ab ba f.to f.carried.segment) p.link.under_way

@@ -1,5 +1,5 @@
 -- A step of the path that one side's end makes: moves of the lanes, the call of a book, moves again, and what the path shows then.
-use Rattle.std.proofs.Common.{◌≡◌, refl, ◌∙◌, ap, ℕ, Bool, Option, Some, None, List, [], ◌∷◌, length}
+use Rattle.std.proofs.Common.{◌≡◌, refl, sym, ◌∙◌, ap, ℕ, Bool, Option, Some, None, List, [], ◌∷◌, length, set}
 use Rattle.outside_kit.specs.declared.side.Side.{Side}
 use Rattle.outside_kit.specs.declared.side.Side.TheVariants.{A, B}
 use Rattle.link_model.specs.Steps.{peer}
@@ -29,10 +29,11 @@ use Rattle.path_core.specs.Sends.{sent_on}
 use Rattle.path_core.specs.State.{PathState, Profile, end_at, goes_on}
 use Rattle.path_core.specs.Values.{Carried, values}
 use Rattle.world_laws.proofs.Ending.{Did}
-use Rattle.world_laws.proofs.Lanes.{Others, duo_at, IsAsking, LaneAsks, CallIs, call_events}
+use Rattle.world_laws.proofs.Lanes.{flags_of, Others, duo_at, IsAsking, LaneAsks, MayCall, CallIs, call_events, Moved, unmoved}
 use Rattle.world_laws.proofs.Roads.{Strolls, put_there, with_asked, asked_there}
 use Rattle.world_laws.proofs.Showing.{SegmentShows, PathShows}
-use Rattle.world_laws.proofs.Strolling.{Strolled, LinkShows, side_link, link_longer, handed_shows, did_on_path}
+use Rattle.world_laws.proofs.Strolling.{Strolled, LinkShows, lanes_moved, side_link, link_longer, handed_shows, did_on_path}
+use Rattle.world_laws.proofs.Falling.{control_moves}
 
 -- ---- the path after it
 
@@ -72,24 +73,27 @@ module _ (c : Profile) (p : PathState Carried) (ab ba : Lane) (h : PathShows c p
 
 -- ---- the step
 
+-- what a direct step makes is reached by no further move
+abbrev pub became : (d e : Duo) → d ≡ e → Moved d e
+became d e is = record { events = []; silent = refl; to = sym is }
+
 pub record Answered (c : Profile) (six : SixBooks) (others : Others) (ask : Ask) (q : PathState Carried) (ab ba : Lane) : Type 0 where
   pub ab_before : Lane
   pub ba_before : Lane
-  pub ab_moves : Strolls ab ab_before
-  pub ba_moves : Strolls ba ba_before
+  pub before : Moved (duo_at six ab ba others) (duo_at six ab_before ba_before others)
   pub call : Option Event
   pub calls : CallIs (Some ask) (duo_at six ab_before ba_before others) call
   pub ab_called : Lane
   pub ba_called : Lane
-  pub called : after_events (call_events call) (duo_at six ab_before ba_before others) ≡ duo_at (after_ask ask six) ab_called ba_called others
+  pub called : Moved (after_events (call_events call) (duo_at six ab_before ba_before others)) (duo_at (after_ask ask six) ab_called ba_called others)
   pub after : Strolled c q ab_called ba_called
 
 -- an ask that is no call of a send book or of a reassembly book
-abbrev pub IsQuiet : Ask → Type 0
-IsQuiet (asks.Send s call) = ⊥
-IsQuiet (asks.Reassembly s call) = ⊥
-IsQuiet (asks.Control s call) = Unit {0}
-IsQuiet (asks.Local step) = Unit {0}
+abbrev pub IsQuiet : SixBooks → Ask → Type 0
+IsQuiet six (asks.Send s call) = ⊥
+IsQuiet six (asks.Reassembly s call) = ⊥
+IsQuiet six (asks.Control s call) = MayCall s call six
+IsQuiet six (asks.Local step) = Unit {0}
 
 module _ (c : Profile) (six : SixBooks) (others : Others) where
   -- the duo, by the lane that a side sends on and the one that it hears
@@ -104,47 +108,45 @@ module _ (c : Profile) (six : SixBooks) (others : Others) where
   side_answered A p q ab ba out_before back_before out_called back_called ask call h out_moves back_moves calls called d = record {
     ab_before = out_before;
     ba_before = back_before;
-    ab_moves = out_moves;
-    ba_moves = back_moves;
+    before = lanes_moved six others ab out_before ba back_before out_moves back_moves;
     call = call;
     calls = calls;
     ab_called = out_called;
     ba_called = back_called;
-    called = called;
+    called = became _ _ called;
     after = did_on_path c p q ab ba h d.profile A out_called back_called d.did d.same d.link;
   }
   side_answered B p q ab ba out_before back_before out_called back_called ask call h out_moves back_moves calls called d = record {
     ab_before = back_before;
     ba_before = out_before;
-    ab_moves = back_moves;
-    ba_moves = out_moves;
+    before = lanes_moved six others ab back_before ba out_before back_moves out_moves;
     call = call;
     calls = calls;
     ab_called = back_called;
     ba_called = out_called;
-    called = called;
+    called = became _ _ called;
     after = did_on_path c p q ab ba h d.profile B out_called back_called d.did d.same d.link;
   }
 
   -- nothing is called
-  quiet_calls : (ask : Ask) (d : Duo) → IsQuiet ask → CallIs (Some ask) d None
+  quiet_calls : (ask : Ask) (d : Duo) → IsQuiet six ask → CallIs (Some ask) d None
   quiet_calls (asks.Send s call) d quiet = absurd quiet
   quiet_calls (asks.Reassembly s call) d quiet = absurd quiet
   quiet_calls (asks.Control s call) d quiet = refl
   quiet_calls (asks.Local step) d quiet = refl
 
-  quiet_books : (ask : Ask) (ab ba : Lane) → IsQuiet ask → duo_at six ab ba others ≡ duo_at (after_ask ask six) ab ba others
+  quiet_books : (ask : Ask) (ab ba : Lane) → IsQuiet six ask → Moved (duo_at six ab ba others) (duo_at (after_ask ask six) ab ba others)
   quiet_books (asks.Send s call) ab ba quiet = absurd quiet
   quiet_books (asks.Reassembly s call) ab ba quiet = absurd quiet
-  quiet_books (asks.Control s call) ab ba quiet = refl
-  quiet_books (asks.Local step) ab ba quiet = refl
+  quiet_books (asks.Control s call) ab ba quiet =
+      control_moves s call six quiet (set others.lanes_ab others.number ab) (set others.lanes_ba others.number ba) others.reader_a others.reader_b
+  quiet_books (asks.Local step) ab ba quiet = unmoved (duo_at six ab ba others)
 
-  pub quiet : (ask : Ask) (q : PathState Carried) (ab ba : Lane) → IsQuiet ask → Strolled c q ab ba → Answered c six others ask q ab ba
+  pub quiet : (ask : Ask) (q : PathState Carried) (ab ba : Lane) → IsQuiet six ask → Strolled c q ab ba → Answered c six others ask q ab ba
   quiet ask q ab ba is w = record {
     ab_before = ab;
     ba_before = ba;
-    ab_moves = record { by = []; calm = refl; to = refl };
-    ba_moves = record { by = []; calm = refl; to = refl };
+    before = unmoved (duo_at six ab ba others);
     call = None;
     calls = quiet_calls ask _ is;
     ab_called = ab;
@@ -153,7 +155,7 @@ module _ (c : Profile) (six : SixBooks) (others : Others) where
     after = w;
   }
 
-  pub quiet_side : (s : Side) (p q : PathState Carried) (ab ba : Lane) (ask : Ask) → PathShows c p ab ba → IsQuiet ask → SideDid c s p q ab ba (pick s ab ba) (pick s ba ab)
+  pub quiet_side : (s : Side) (p q : PathState Carried) (ab ba : Lane) (ask : Ask) → PathShows c p ab ba → IsQuiet six ask → SideDid c s p q ab ba (pick s ab ba) (pick s ba ab)
       → Answered c six others ask q ab ba
   quiet_side A p q ab ba ask h is d = quiet ask q ab ba is (did_on_path c p q ab ba h d.profile A ab ba d.did d.same d.link)
   quiet_side B p q ab ba ask h is d = quiet ask q ab ba is (did_on_path c p q ab ba h d.profile B ba ab d.did d.same d.link)
@@ -171,11 +173,11 @@ module _ (c : Profile) (six : SixBooks) (others : Others) where
 
   called_ab : (p ba : Lane) → after_events (ToB (Asks others.number) ∷ []) (duo_at six p ba others)
       ≡ record (duo_at six p ba others) { ab = with_asked others.lanes_ab others.number six.send_a six.reassembly_b others.reader_b p.asking p }
-  called_ab p ba = ap (λ d. record (duo_at six p ba others) { ab = d }) (asked_there others.lanes_ab others.number six.send_a six.reassembly_b others.reader_b others.joined others.within_ab p)
+  called_ab p ba = ap (λ d. record (duo_at six p ba others) { ab = d }) (asked_there others.lanes_ab others.number six.send_a six.reassembly_b others.reader_b (flags_of A six) others.within_ab p)
 
   called_ba : (ab p : Lane) → after_events (ToA (Asks others.number) ∷ []) (duo_at six ab p others)
       ≡ record (duo_at six ab p others) { ba = with_asked others.lanes_ba others.number six.send_b six.reassembly_a others.reader_a p.asking p }
-  called_ba ab p = ap (λ d. record (duo_at six ab p others) { ba = d }) (asked_there others.lanes_ba others.number six.send_b six.reassembly_a others.reader_a others.joined others.within_ba p)
+  called_ba ab p = ap (λ d. record (duo_at six ab p others) { ba = d }) (asked_there others.lanes_ba others.number six.send_b six.reassembly_a others.reader_a (flags_of B six) others.within_ba p)
 
   -- ---- calls of the side's send book
 

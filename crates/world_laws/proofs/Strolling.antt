@@ -23,13 +23,13 @@ use Rattle.stream_lanes.proofs.Refusals.{never_refused}
 use Rattle.actor_desk.specs.Desk.{SixBooks, send_of, reassembly_of}
 use Rattle.actor_desk.specs.Words.{pick}
 use Rattle.path_core.specs.Sends.{handed}
-use Rattle.path_core.specs.Shown.{ChangesNothing}
+use Rattle.path_core.specs.Shown.{AltersNothing}
 use Rattle.path_core.specs.State.{PathState, Profile, end_at}
 use Rattle.path_core.specs.Values.{Carried, carried_by, stripped, altered, values}
 use Rattle.world_laws.proofs.Ending.{Did}
 use Rattle.world_laws.proofs.Growing.{SenderGoes, ReceiverGoes, sent_longer, heard_longer, segment_longer, peer_shows}
-use Rattle.world_laws.proofs.Lanes.{Others, duo_at, LaneMoves, moves_to_b, moves_to_a, move_events, events_append}
-use Rattle.world_laws.proofs.Roads.{flags_by, is_calm, put_there, moved_there, move, moves, Strolls}
+use Rattle.world_laws.proofs.Lanes.{flags_of, Others, duo_at, LaneMoves, moves_to_b, moves_to_a, move_events, moves_silent, events_append, Moved}
+use Rattle.world_laws.proofs.Roads.{is_calm, put_there, moved_there, move, moves, Strolls}
 use Rattle.world_laws.proofs.Saying.{flights_kept}
 use Rattle.world_laws.proofs.Showing.{EndShows, SegmentShows, FlightShows, PathShows}
 
@@ -44,7 +44,7 @@ module _ (six : SixBooks) (others : Others) where
   moved_to_b (m ∷ ms) ab ba calm =
       let parts = and_parts (is_calm m) (list_all is_calm ms) calm in
       ap (λ d. after_events (moves_to_b others.number ms) (record (Pair ab ba) { ab = d }))
-      (moved_there others.lanes_ab others.number six.send_a six.reassembly_b others.reader_b others.joined others.within_ab m ab parts.0)
+      (moved_there others.lanes_ab others.number six.send_a six.reassembly_b others.reader_b (flags_of A six) others.within_ab m ab parts.0)
       ∙ moved_to_b ms (move m ab) ba parts.1
 
   pub moved_to_a : (ms : List Move) (ab ba : Lane) → list_all is_calm ms ≡ true → after_events (moves_to_a others.number ms) (Pair ab ba) ≡ Pair ab (moves ms ba)
@@ -52,7 +52,7 @@ module _ (six : SixBooks) (others : Others) where
   moved_to_a (m ∷ ms) ab ba calm =
       let parts = and_parts (is_calm m) (list_all is_calm ms) calm in
       ap (λ d. after_events (moves_to_a others.number ms) (record (Pair ab ba) { ba = d }))
-      (moved_there others.lanes_ba others.number six.send_b six.reassembly_a others.reader_a others.joined others.within_ba m ba parts.0)
+      (moved_there others.lanes_ba others.number six.send_b six.reassembly_a others.reader_a (flags_of B six) others.within_ba m ba parts.0)
       ∙ moved_to_a ms ab (move m ba) parts.1
 
   pub moved_both : (ab_moves ba_moves : List Move) (ab ba : Lane) → list_all is_calm ab_moves ≡ true → list_all is_calm ba_moves ≡ true
@@ -69,16 +69,25 @@ module _ (six : SixBooks) (others : Others) where
       → after_events (move_events (moves_of x y)) (Pair ab ba) ≡ Pair ab_after ba_after
   strolled_both ab ab_after ba ba_after x y = moved_both x.by y.by ab ba x.calm y.calm ∙ ap (λ p. Pair p (moves y.by ba)) (sym x.to) ∙ ap (Pair ab_after) (sym y.to)
 
+-- moves of the lanes of one path
+pub lanes_moved : (six : SixBooks) (others : Others) (ab ab_after ba ba_after : Lane) → Strolls ab ab_after → Strolls ba ba_after
+    → Moved (duo_at six ab ba others) (duo_at six ab_after ba_after others)
+lanes_moved six others ab ab_after ba ba_after x y = record {
+  events = move_events (moves_of six others x y);
+  silent = moves_silent (moves_of six others x y);
+  to = sym (strolled_both six others ab ab_after ba ba_after x y);
+}
+
 pub events_held : (events : List Event) (d : Duo) → Holds d → Holds (after_events events d)
 events_held [] d h = h
 events_held (event ∷ events) d h = events_held events (after_event event d) (after_event_held event d h)
 
 -- the lanes of a path among the others
-ab_holds : (six : SixBooks) (others : Others) (ab ba : Lane) → Holds (duo_at six ab ba others) → LaneHolds (view_of (flags_by others.joined) six.send_a six.reassembly_b) others.number ab
+ab_holds : (six : SixBooks) (others : Others) (ab ba : Lane) → Holds (duo_at six ab ba others) → LaneHolds (view_of (flags_of A six) six.send_a six.reassembly_b) others.number ab
 ab_holds six others ab ba h =
     h.ab.lanes.each others.number others.number ab (omega arith) (put_there others.lanes_ab others.number ab others.within_ab)
 
-ba_holds : (six : SixBooks) (others : Others) (ab ba : Lane) → Holds (duo_at six ab ba others) → LaneHolds (view_of (flags_by others.joined) six.send_b six.reassembly_a) others.number ba
+ba_holds : (six : SixBooks) (others : Others) (ab ba : Lane) → Holds (duo_at six ab ba others) → LaneHolds (view_of (flags_of B six) six.send_b six.reassembly_a) others.number ba
 ba_holds six others ab ba h =
     h.ba.lanes.each others.number others.number ba (omega arith) (put_there others.lanes_ba others.number ba others.within_ba)
 
@@ -91,12 +100,12 @@ module _ (six : SixBooks) (others : Others) where
 
   -- what holds of the lane that a side sends on, and of the one that it hears
   pub out_holds : (s : Side) (ab ba : Lane) → Holds (duo_at six ab ba others)
-      → LaneHolds (view_of (flags_by others.joined) (send_of s six) (reassembly_of (peer s) six)) others.number (pick s ab ba)
+      → LaneHolds (view_of (flags_of s six) (send_of s six) (reassembly_of (peer s) six)) others.number (pick s ab ba)
   out_holds A ab ba h = ab_holds six others ab ba h
   out_holds B ab ba h = ba_holds six others ab ba h
 
   pub back_holds : (s : Side) (ab ba : Lane) → Holds (duo_at six ab ba others)
-      → LaneHolds (view_of (flags_by others.joined) (send_of (peer s) six) (reassembly_of s six)) others.number (pick s ba ab)
+      → LaneHolds (view_of (flags_of (peer s) six) (send_of (peer s) six) (reassembly_of s six)) others.number (pick s ba ab)
   back_holds A ab ba h = ba_holds six others ab ba h
   back_holds B ab ba h = ab_holds six others ab ba h
 
@@ -104,15 +113,15 @@ module _ (six : SixBooks) (others : Others) where
   pub agrees : (s : Side) (ab ba : Lane) → Holds (duo_at six ab ba others) → (copy : ℕ) → copy_clashes (slice_get (pick s ba ab).datas copy) (pick s ba ab) ≡ false
   agrees A ab ba h copy =
       ap (λ o. lane_refused (move_refused (Learn copy)) o) (sym (put_there others.lanes_ba others.number ba others.within_ba))
-      ∙ never_refused (flags_by others.joined) (duo_at six ab ba others).ba h.ba (Moves others.number (Learn copy))
+      ∙ never_refused (flags_of B six) (duo_at six ab ba others).ba h.ba (Moves others.number (Learn copy))
   agrees B ab ba h copy =
       ap (λ o. lane_refused (move_refused (Learn copy)) o) (sym (put_there others.lanes_ab others.number ab others.within_ab))
-      ∙ never_refused (flags_by others.joined) (duo_at six ab ba others).ab h.ab (Moves others.number (Learn copy))
+      ∙ never_refused (flags_of A six) (duo_at six ab ba others).ab h.ab (Moves others.number (Learn copy))
 
 -- ---- the link
 
 pub record LinkShows (ab ba : Lane) (link : LinkState Carried) : Type 0 where
-  pub unchanged : ChangesNothing link.lines
+  pub unchanged : AltersNothing link.lines
   pub copies : Every (λ f. FlightShows ab ba f.to f.carried.segment) link.under_way
 
 pub link_shows : (c : Profile) (p : PathState Carried) (ab ba : Lane) → PathShows c p ab ba → LinkShows ab ba p.link
@@ -161,13 +170,13 @@ handed_shows s out back sg p shows h =
     sent_link s (pick s out back) (pick s back out) sg
     (changed stripped altered (is_stripped s (next_number s p.link) p.clock p.link.lines) (is_altered s (next_number s p.link) p.link.lines) (carried_by p.profile.spelling s sg))
     (arrivals (fate_of s (next_number s p.link) p.link.lines) (p.clock + p.link.delay)) p.link
-    (same _ _ (h.unchanged.strips s (next_number s p.link) p.clock) (h.unchanged.alters s (next_number s p.link)))
+    (same _ _ (h.unchanged.alters s (next_number s p.link)))
     (to_peer s shows) h
   where
-    same : (strips alters : Bool) → strips ≡ false → alters ≡ false → (changed stripped altered strips alters (carried_by p.profile.spelling s sg)).segment ≡ sg
-    same false false x y = refl
-    same true alters x y = cc
-    same false true x y = cc
+    same : (strips alters : Bool) → alters ≡ false → (changed stripped altered strips alters (carried_by p.profile.spelling s sg)).segment ≡ sg
+    same false false is = refl
+    same true false is = refl
+    same strips true is = cc
 
     to_peer : (s : Side) → SegmentShows back.acks out sg → FlightShows (pick s out back) (pick s back out) (peer s) sg
     to_peer A shows = shows

@@ -1,5 +1,5 @@
 -- A's side is sure of Multipath TCP only where A may send a DSS on path 0; so no other path begins before.
-use Rattle.std.proofs.Common.{◌≡◌, refl, sym, ◌∙◌, ap, subst, ℕ, zero, suc, ◌+◌, ◌⊎◌, inl, inr, ⊎_elim, ◌==◌, Bool, true, false, if◌then◌else◌, Option, Some, None, List, [], ◌∷◌, map, set, arith}
+use Rattle.std.proofs.Common.{◌≡◌, refl, sym, ◌∙◌, ap, subst, ℕ, zero, suc, ◌+◌, ◌⊎◌, inl, inr, ⊎_elim, ◌==◌, Bool, true, false, if◌then◌else◌, Option, Some, None, List, [], ◌∷◌, map, set, arith, ◌&&◌, not, is_none}
 use Rattle.std.proofs.lemmas.Bool.{false≢true, both_ways, and_parts}
 use Rattle.std.specs.List.{slice_get, list_all}
 use Rattle.outside_kit.specs.declared.side.Side.{Side}
@@ -7,9 +7,12 @@ use Rattle.outside_kit.specs.declared.side.Side.TheVariants.{A, B}
 use Rattle.fallback_state.specs.declared.fall.Event.TheVariants as events
 use Rattle.fallback_state.specs.declared.fall.Fall.{Fall}
 use Rattle.fallback_state.specs.declared.fall.Mode.{Mode}
-use Rattle.fallback_state.specs.Modes.{is_identity}
-use Rattle.fallback_state.specs.declared.fall.Verdict.TheVariants.{Stay}
-use Rattle.fallback_state.specs.Table.{stays, after_keys as fall_keys}
+use Rattle.fallback_state.specs.Modes.{is_identity, is_starting, reads_mappings, writes_mappings, receiving, sending}
+use Rattle.fallback_state.specs.declared.fall.Verdict.TheVariants.{Stay, SendFail}
+use Rattle.fallback_state.specs.Table.{stays, after_keys as fall_keys, after_plain as fall_plain, goes, breaks, fall_step, is_failed_path}
+use Rattle.fallback_state.specs.declared.fall.Event.{Event as FallEvent}
+use Rattle.fallback_state.specs.declared.fall.Verdict.{Verdict}
+use Rattle.fallback_state.specs.declared.fall.Mode.TheVariants as modes
 use Rattle.loss_recovery.specs.declared.windows.Pending.{Pending}
 use Rattle.reassembly_book.specs.declared.call.ReassemblyCall.TheVariants as reassembly_calls
 use Rattle.control_book.specs.declared.call.ControlCall.{ControlCall}
@@ -20,6 +23,7 @@ use Rattle.control_book.specs.Control.{Control}
 use Rattle.control_book.specs.Replies as control
 use Rattle.control_book.specs.Replies.{is_sure}
 use Rattle.control_book.specs.Steps as controlling
+use Rattle.control_book.specs.Registry.{sole as sole_path}
 use Rattle.subflow_send.specs.Records.{Record}
 use Rattle.stream_lanes.specs.Words.{Every}
 use Rattle.stream_lanes.proofs.Lists.{in_set, in_map}
@@ -46,14 +50,14 @@ use Rattle.path_core.specs.Duties.{stands, ask_for, passed}
 use Rattle.path_core.specs.Emission.{first_unsent, data_ask}
 use Rattle.path_core.specs.Events.{next_event, step_for}
 use Rattle.path_core.specs.Joining.{asked_at, join_heard_ask}
-use Rattle.path_core.specs.Opening.{peer_key_ask, keys_ask}
-use Rattle.path_core.specs.Passing.{piece_of, piece_ask, fin_of, fin_ask, rate_ask}
+use Rattle.path_core.specs.Opening.{peer_key_ask, opened_ask}
+use Rattle.path_core.specs.Passing.{piece_of, piece_ask, fin_of, fin_ask, rate_ask, plain_fin}
 use Rattle.path_core.specs.Placing.{Piece}
 use Rattle.path_core.specs.Sends.{sends}
 use Rattle.path_core.specs.Starts.{waiting_path}
 use Rattle.path_core.specs.State.{PathState, end_at, path_of, with_agenda}
 use Rattle.path_core.specs.Steps.{settled, asks_first, answers}
-use Rattle.path_core.specs.Treating.{is_clash, fell_ask, mapping_ask, item_ask, item_of}
+use Rattle.path_core.specs.Treating.{is_clash, fell_ask, mapping_ask, item_ask, item_of, plain_ack_ask, breaks_by_ack}
 use Rattle.path_core.specs.Turns.{IsSettled}
 use Rattle.path_core.specs.Values.{Carried, values}
 use Rattle.path_core.specs.Words.{item_at}
@@ -67,18 +71,24 @@ use Rattle.world_laws.proofs.Casts.{Walker, Cast, world_of, walking, walked, aft
 use Rattle.world_laws.proofs.Clearing.{takes_clear, next_clear}
 use Rattle.world_laws.proofs.Journaling.{books_after}
 use Rattle.world_laws.proofs.Lanes.{FirstIsClear, IsClearAt, SureIsClear}
-use Rattle.world_laws.proofs.Leading.{IsLed, Leads, IsUnclear, LeadsWell, unled, takes_leads, begins_lead, next_leads}
+use Rattle.world_laws.proofs.Leading.{IsLed, Leads, IsUnclear, LeadsWell, unled, takes_leads, begins_lead, next_leads, unheard}
 use Rattle.world_laws.proofs.Settling.{stands_anyway}
 
--- ---- calls that leave the mode of A's side
+-- ---- calls by which A's side doesn't become sure
 
 abbrev IsOfB : Side → Type 0
 IsOfB A = ⊥
 IsOfB B = Unit {0}
 
--- no event and no fast close of A
+-- no sign of Multipath TCP that A hears
+abbrev IsMildEvent : FallEvent → Side → Type 0
+IsMildEvent events.MappingHeard s = IsOfB s
+IsMildEvent events.AckHeard s = IsOfB s
+IsMildEvent _ s = Unit {0}
+
+-- and no fast close of A
 abbrev IsMildCall : ControlCall → Side → Type 0
-IsMildCall (calls.Fell path event) s = IsOfB s
+IsMildCall (calls.Fell path event) s = IsMildEvent event s
 IsMildCall calls.FastClose s = IsOfB s
 IsMildCall (calls.FastHeard key) s = IsOfB s
 IsMildCall _ s = Unit {0}
@@ -106,31 +116,102 @@ keys_mode fall = by (is_identity fall.mode)
     by true = refl
     by false = refl
 
-call_mode : (c : Control) (call : ControlCall) → IsMildCall call A → (controlling.after c call).fall.mode ≡ c.fall.mode
-call_mode c (calls.Look path) mild = notice_mode (control.notice_on c path) path c
-call_mode c (calls.PeerKey key) mild = refl
-call_mode c (calls.Keys own other) mild = either_mode c.fall.mode (own == c.keys.own) _ _ (keys_mode c.fall) refl
-call_mode c (calls.Fell path event) mild = absurd mild
-call_mode c (calls.JoinBegin path) mild = either_mode c.fall.mode _ _ _ refl refl
-call_mode c (calls.JoinHeard path token) mild = either_mode c.fall.mode _ _ _ refl refl
-call_mode c (calls.Live path backup) mild = refl
-call_mode c (calls.Dead path) mild = refl
-call_mode c (calls.Backup path on) mild = refl
-call_mode c (calls.Rate path window rtt) mild = refl
-call_mode c (calls.Announce id) mild = refl
-call_mode c (calls.Withdraw id) mild = either_mode c.fall.mode _ _ _ refl refl
-call_mode c (calls.Heard id address port hmac) mild = refl
-call_mode c (calls.Echoed id) mild = either_mode c.fall.mode _ _ _ refl refl
-call_mode c (calls.Removed id) mild = either_mode c.fall.mode _ _ _ refl refl
-call_mode c calls.FastClose mild = absurd mild
-call_mode c (calls.FastHeard key) mild = absurd mild
+-- a side that is sure now was sure before
+abbrev WasSure : Fall → Fall → Type 0
+WasSure f g = is_sure g.mode ≡ true → is_sure f.mode ≡ true
 
-mild_mode : (six : SixBooks) (x : Ask) → IsMild x → (after_ask x six).control_a.fall.mode ≡ six.control_a.fall.mode
-mild_mode six (asks.Control A call) mild = call_mode six.control_a call mild
-mild_mode six (asks.Control B call) mild = refl
-mild_mode six (asks.Send s call) mild = refl
-mild_mode six (asks.Reassembly s call) mild = refl
-mild_mode six (asks.Local step) mild = refl
+row_sure : (b : Bool) (f : Fall) (x y : Fall × Verdict) → WasSure f x.0 → WasSure f y.0 → WasSure f (if b then x else y).0
+row_sure true f x y p q = p
+row_sure false f x y p q = q
+
+receiving_unsure : (m : Mode) → is_sure (receiving m) ≡ true → ⊥
+receiving_unsure modes.Starting is = false≢true is
+receiving_unsure modes.Sure is = false≢true is
+receiving_unsure modes.Identity is = false≢true is
+receiving_unsure modes.InfiniteSend is = false≢true is
+receiving_unsure modes.InfiniteReceive is = false≢true is
+receiving_unsure modes.InfiniteBoth is = false≢true is
+receiving_unsure modes.Aborted is = false≢true is
+
+sending_unsure : (m : Mode) → is_sure (sending m) ≡ true → ⊥
+sending_unsure modes.Starting is = false≢true is
+sending_unsure modes.Sure is = false≢true is
+sending_unsure modes.Identity is = false≢true is
+sending_unsure modes.InfiniteSend is = false≢true is
+sending_unsure modes.InfiniteReceive is = false≢true is
+sending_unsure modes.InfiniteBoth is = false≢true is
+sending_unsure modes.Aborted is = false≢true is
+
+plain_sure : (f : Fall) → WasSure f (fall_plain f).0
+plain_sure f = row_sure (is_starting f.mode && not f.joined) f (goes modes.Identity f) (stays f) (λ is. absurd (false≢true is)) (λ is. is)
+
+event_sure : (path : ℕ) (sole : Bool) (event : FallEvent) (f : Fall) → IsMildEvent event A → WasSure f (fall_step f path sole event).0
+event_sure path sole events.MappingHeard f mild = absurd mild
+event_sure path sole events.AckHeard f mild = absurd mild
+event_sure path sole events.PlainHandshake f mild = plain_sure f
+event_sure path sole events.PlainData f mild = plain_sure f
+event_sure path sole events.PlainAck f mild = plain_sure f
+event_sure path sole events.InfiniteHeard f mild =
+    row_sure (not (reads_mappings f.mode)) f (stays f) _ (λ is. is)
+    (row_sure (sole && is_failed_path f.failed path) f (goes (receiving f.mode) f) _ (λ is. absurd (receiving_unsure f.mode is))
+    (row_sure (writes_mappings f.mode && not f.joined && is_none f.failed) f (goes modes.Identity f) (breaks 1 f) (λ is. absurd (false≢true is)) (λ is. is)))
+event_sure path sole events.KeysHeard f mild = row_sure (is_identity f.mode) f (stays f) (record f { confirmed = true }, Stay) (λ is. is) (λ is. is)
+event_sure path sole events.CheckFailed f mild =
+    row_sure (not (reads_mappings f.mode)) f (stays f) _ (λ is. is) (row_sure sole f (record f { failed = Some path }, SendFail) (breaks 6 f) (λ is. is) (λ is. is))
+event_sure path sole (events.FailHeard contiguous) f mild =
+    row_sure (not (writes_mappings f.mode)) f (stays f) _ (λ is. is) (row_sure (sole && contiguous) f (goes (sending f.mode) f) (breaks 1 f) (λ is. absurd (sending_unsure f.mode is)) (λ is. is))
+event_sure path sole events.Stop f mild = λ is. absurd (false≢true is)
+
+abbrev IsNoEvent : ControlCall → Type 0
+IsNoEvent (calls.Fell path event) = ⊥
+IsNoEvent _ = Unit {0}
+
+call_mode : (c : Control) (call : ControlCall) → IsNoEvent call → IsMildCall call A → (controlling.after c call).fall.mode ≡ c.fall.mode
+call_mode c (calls.Look path) none mild = notice_mode (control.notice_on c path) path c
+call_mode c (calls.PeerKey key) none mild = refl
+call_mode c (calls.Keys own other) none mild = either_mode c.fall.mode (own == c.keys.own) _ _ (keys_mode c.fall) refl
+call_mode c (calls.Fell path event) none mild = absurd none
+call_mode c (calls.JoinBegin path) none mild = either_mode c.fall.mode _ _ _ refl refl
+call_mode c (calls.JoinHeard path token) none mild = either_mode c.fall.mode _ _ _ refl refl
+call_mode c (calls.Live path backup) none mild = refl
+call_mode c (calls.Dead path) none mild = refl
+call_mode c (calls.Backup path on) none mild = refl
+call_mode c (calls.Rate path window rtt) none mild = refl
+call_mode c (calls.Announce id) none mild = refl
+call_mode c (calls.Withdraw id) none mild = either_mode c.fall.mode _ _ _ refl refl
+call_mode c (calls.Heard id address port hmac) none mild = refl
+call_mode c (calls.Echoed id) none mild = either_mode c.fall.mode _ _ _ refl refl
+call_mode c (calls.Removed id) none mild = either_mode c.fall.mode _ _ _ refl refl
+call_mode c calls.FastClose none mild = absurd mild
+call_mode c (calls.FastHeard key) none mild = absurd mild
+
+call_sure : (c : Control) (call : ControlCall) → IsMildCall call A → WasSure c.fall (controlling.after c call).fall
+call_sure c (calls.Look path) mild = λ is. ap is_sure (sym (call_mode c (calls.Look path) tt mild)) ∙ is
+call_sure c (calls.PeerKey key) mild = λ is. ap is_sure (sym (call_mode c (calls.PeerKey key) tt mild)) ∙ is
+call_sure c (calls.Keys own other) mild = λ is. ap is_sure (sym (call_mode c (calls.Keys own other) tt mild)) ∙ is
+call_sure c (calls.Fell path event) mild = event_sure path (sole_path c.paths path) event c.fall mild
+call_sure c (calls.JoinBegin path) mild = λ is. ap is_sure (sym (call_mode c (calls.JoinBegin path) tt mild)) ∙ is
+call_sure c (calls.JoinHeard path token) mild = λ is. ap is_sure (sym (call_mode c (calls.JoinHeard path token) tt mild)) ∙ is
+call_sure c (calls.Live path backup) mild = λ is. ap is_sure (sym (call_mode c (calls.Live path backup) tt mild)) ∙ is
+call_sure c (calls.Dead path) mild = λ is. ap is_sure (sym (call_mode c (calls.Dead path) tt mild)) ∙ is
+call_sure c (calls.Backup path on) mild = λ is. ap is_sure (sym (call_mode c (calls.Backup path on) tt mild)) ∙ is
+call_sure c (calls.Rate path window rtt) mild = λ is. ap is_sure (sym (call_mode c (calls.Rate path window rtt) tt mild)) ∙ is
+call_sure c (calls.Announce id) mild = λ is. ap is_sure (sym (call_mode c (calls.Announce id) tt mild)) ∙ is
+call_sure c (calls.Withdraw id) mild = λ is. ap is_sure (sym (call_mode c (calls.Withdraw id) tt mild)) ∙ is
+call_sure c (calls.Heard id address port hmac) mild = λ is. ap is_sure (sym (call_mode c (calls.Heard id address port hmac) tt mild)) ∙ is
+call_sure c (calls.Echoed id) mild = λ is. ap is_sure (sym (call_mode c (calls.Echoed id) tt mild)) ∙ is
+call_sure c (calls.Removed id) mild = λ is. ap is_sure (sym (call_mode c (calls.Removed id) tt mild)) ∙ is
+call_sure c calls.FastClose mild = λ is. ap is_sure (sym (call_mode c calls.FastClose tt mild)) ∙ is
+call_sure c (calls.FastHeard key) mild = λ is. ap is_sure (sym (call_mode c (calls.FastHeard key) tt mild)) ∙ is
+
+mild_sure : (six : SixBooks) (x : Ask) → IsMild x → WasSure six.control_a.fall (after_ask x six).control_a.fall
+mild_sure six (asks.Control A call) mild = call_sure six.control_a call mild
+mild_sure six (asks.Control B call) mild = λ is. is
+mild_sure six (asks.Send A call) mild = λ is. is
+mild_sure six (asks.Send B call) mild = λ is. is
+mild_sure six (asks.Reassembly A call) mild = λ is. is
+mild_sure six (asks.Reassembly B call) mild = λ is. is
+mild_sure six (asks.Local step) mild = λ is. is
 
 app_mild : (d : AppDuty) (a : AppState) → IsMild (app_ask d a)
 app_mild app_duties.Write a = tt
@@ -152,13 +233,13 @@ module _ (p : PathState Carried) where
   step_mild (Some (happening.Arrives due)) = tt
   step_mild (Some (happening.Fires s tick)) = tt
 
-  key_mild : (s : Side) (o : Option ℕ) → IsMild (peer_key_ask s o)
+  key_mild : (s : Side) (o : Option ℕ) → IsMild (peer_key_ask s o p)
   key_mild s None = tt
   key_mild s (Some key) = tt
 
-  keys_mild : (s : Side) (o : Option KeyPair) → IsMild (keys_ask s o)
-  keys_mild s None = tt
-  keys_mild s (Some keys) = tt
+  opened_mild : (s : Side) (o : Option KeyPair) → IsMild (opened_ask s o p)
+  opened_mild s None = tt
+  opened_mild s (Some keys) = tt
 
   join_mild : (s : Side) (o : Option JoinSyn) → IsMild (join_heard_ask s o p)
   join_mild s None = tt
@@ -183,6 +264,13 @@ module _ (p : PathState Carried) where
   rate_mild s None = tt
   rate_mild s (Some pending) = tt
 
+  plain_ack_mild : (s : Side) → IsMild (plain_ack_ask values s p)
+  plain_ack_mild s = by (breaks_by_ack p.profile (end_at s p))
+    where
+      by : (b : Bool) → IsMild (if b then break_ask values s 6 p else fell_ask s events.PlainAck p)
+      by true = break_mild s 6
+      by false = tt
+
   mapping_b : IsMild (mapping_ask values B p)
   mapping_b = by (is_clash p.b)
     where
@@ -196,26 +284,35 @@ module _ (p : PathState Carried) where
   item_b (Some (says.DataAck next window)) = tt
   item_b (Some says.Mapping) = mapping_b
   item_b (Some (says.DataFin place)) = tt
+  item_b (Some says.InfiniteMapping) = tt
   item_b (Some (says.PeerKey key)) = tt
   item_b (Some (says.Keys own other)) = tt
   item_b (Some (says.Join form)) = tt
 
   -- a sign that A hears comes behind a DSS
-  led_by : (index : ℕ) (ds : List Duty) (item : Heard) → Leads (duties.Heard A index ∷ ds) p → p.a.modes.clear ≡ false → item_at index p.a.treated.items ≡ Some item → IsLed false item
-  led_by index ds item h unclear is = ⊎_elim
+  led_by : (index : ℕ) (ds : List Duty) (item : Heard) → Leads (duties.Heard A index ∷ ds) p → p.a.modes.clear ≡ false → p.a.modes.identity ≡ false → item_at index p.a.treated.items ≡ Some item → IsLed false item
+  led_by index ds item h unclear above is = ⊎_elim
       (λ is_clear. absurd (both_ways p.a.modes.clear unclear is_clear))
-      (λ (u : IsUnclear (duties.Heard A index ∷ ds) p). unled u.n p.a.treated.items item h.led u.none (subst (λ n. item_at n p.a.treated.items ≡ Some item) u.follows.0 is))
+      (λ (u : IsUnclear (duties.Heard A index ∷ ds) p). unled u.n p.a.treated.items item h.led (unheard p u.n above u.none) (subst (λ n. item_at n p.a.treated.items ≡ Some item) u.follows.0 is))
       h.clear
 
-  item_a : (index : ℕ) (ds : List Duty) (o : Option Heard) → item_at index p.a.treated.items ≡ o → Leads (duties.Heard A index ∷ ds) p → p.a.modes.clear ≡ false → IsMild (item_ask values A o p)
-  item_a index ds None is h unclear = tt
-  item_a index ds (Some says.Dss) is h unclear = tt
-  item_a index ds (Some (says.DataAck next window)) is h unclear = tt
-  item_a index ds (Some says.Mapping) is h unclear = absurd (false≢true (led_by index ds says.Mapping h unclear is))
-  item_a index ds (Some (says.DataFin place)) is h unclear = absurd (false≢true (led_by index ds (says.DataFin place) h unclear is))
-  item_a index ds (Some (says.PeerKey key)) is h unclear = tt
-  item_a index ds (Some (says.Keys own other)) is h unclear = tt
-  item_a index ds (Some (says.Join form)) is h unclear = tt
+  item_a : (index : ℕ) (ds : List Duty) → p.a.modes.identity ≡ false → (o : Option Heard) → item_at index p.a.treated.items ≡ o → Leads (duties.Heard A index ∷ ds) p → p.a.modes.clear ≡ false → IsMild (item_ask values A o p)
+  item_a index ds above None is h unclear = tt
+  item_a index ds above (Some says.Dss) is h unclear = tt
+  item_a index ds above (Some (says.DataAck next window)) is h unclear = tt
+  item_a index ds above (Some says.Mapping) is h unclear = absurd (false≢true (led_by index ds says.Mapping h unclear above is))
+  item_a index ds above (Some (says.DataFin place)) is h unclear = absurd (false≢true (led_by index ds (says.DataFin place) h unclear above is))
+  item_a index ds above (Some says.InfiniteMapping) is h unclear = tt
+  item_a index ds above (Some (says.PeerKey key)) is h unclear = tt
+  item_a index ds above (Some (says.Keys own other)) is h unclear = tt
+  item_a index ds above (Some (says.Join form)) is h unclear = tt
+
+  item_mild : (index : ℕ) (ds : List Duty) → Leads (duties.Heard A index ∷ ds) p → p.a.modes.clear ≡ false → IsMild (item_ask values A (item_of index p.a) p)
+  item_mild index ds h unclear = by p.a.modes.identity refl
+    where
+      by : (b : Bool) → p.a.modes.identity ≡ b → IsMild (item_ask values A (if b then None else item_at index p.a.treated.items) p)
+      by true plain = tt
+      by false above = item_a index ds above (item_at index p.a.treated.items) refl h unclear
 
   first_mild : (d : Duty) (ds : List Duty) → Leads (d ∷ ds) p → p.a.modes.clear ≡ false → IsMild (ask_for values d p)
   first_mild duties.JoinAgain ds h unclear = tt
@@ -234,13 +331,19 @@ module _ (p : PathState Carried) where
   first_mild (duties.SynAck s) ds h unclear = tt
   first_mild (duties.JoinHeard s) ds h unclear = join_mild s (asked_at s p)
   first_mild (duties.Refuse s) ds h unclear = tt
-  first_mild (duties.Opened s) ds h unclear = keys_mild s (keys_heard (end_at s p).treated.items)
+  first_mild (duties.Opened s) ds h unclear = opened_mild s (keys_heard (end_at s p).treated.items)
   first_mild (duties.Live s) ds h unclear = tt
-  first_mild (duties.Heard A index) ds h unclear = item_a index ds (item_of index p.a) refl h unclear
+  first_mild (duties.Heard A index) ds h unclear = item_mild index ds h unclear
   first_mild (duties.Heard B index) ds h unclear = item_b (item_of index p.b)
   first_mild (duties.AckHeard A) ds h unclear = ⊎_elim (λ is. absurd (both_ways p.a.modes.clear unclear is)) (λ (u : IsUnclear (duties.AckHeard A ∷ ds) p). absurd u.follows) h.clear
   first_mild (duties.AckHeard B) ds h unclear = tt
-  first_mild (duties.PlainAck s) ds h unclear = break_mild s 6
+  first_mild (duties.PlainAck s) ds h unclear = plain_ack_mild s
+  first_mild (duties.PlainHandshake s) ds h unclear = tt
+  first_mild (duties.SubflowAck s) ds h unclear = tt
+  first_mild (duties.PlainData s) ds h unclear = tt
+  first_mild (duties.GoIdentity s) ds h unclear = tt
+  first_mild (duties.Unmapped s) ds h unclear = break_mild s 6
+  first_mild (duties.SubflowFin s) ds h unclear = fin_mild s (plain_fin (end_at s p))
   first_mild (duties.Keep s) ds h unclear = tt
   first_mild (duties.Edge s) ds h unclear = piece_mild s (piece_of s p)
   first_mild (duties.HeardFin s index) ds h unclear = fin_mild s (fin_of index (end_at s p))
@@ -307,13 +410,13 @@ module _ (t : Cast Carried) (number : ℕ) (x : Walker Carried) (there : slice_g
   first_stays : FirstIsClear t.paths → FirstIsClear (set t.paths number y)
   first_stays clear z at = ⊎_elim
       (λ same. subst (λ (w : Walker Carried). w.path.a.modes.clear ≡ true) same.1
-      ((takes_clear values (reply_of six ask) x.path).a (clear x (subst (λ n. slice_get t.paths n ≡ Some x) (sym same.0) there))))
+      ((takes_clear values (reply_of six ask) x.path).a.0 (clear x (subst (λ n. slice_get t.paths n ≡ Some x) (sym same.0) there))))
       (λ other. clear z other.1)
       (in_set t.paths number y 0 z at)
 
   own_clear : number ≡ 0 → x.path.a.modes.clear ≡ true → FirstIsClear (set t.paths number y)
   own_clear first clear z at = ⊎_elim
-      (λ same. subst (λ (w : Walker Carried). w.path.a.modes.clear ≡ true) same.1 ((takes_clear values (reply_of six ask) x.path).a clear))
+      (λ same. subst (λ (w : Walker Carried). w.path.a.modes.clear ≡ true) same.1 ((takes_clear values (reply_of six ask) x.path).a.0 clear))
       (λ other. absurd (other.0 (sym first)))
       (in_set t.paths number y 0 z at)
 
@@ -341,9 +444,7 @@ module _ (t : Cast Carried) (number : ℕ) (x : Walker Carried) (there : slice_g
   after_sure is = ⊎_elim
       (λ clear. clear)
       (λ mild.
-      let same : (books_in (after_path values number x ask t).books).control_a.fall.mode ≡ six.control_a.fall.mode
-      = ap (λ (books : SixBooks). books.control_a.fall.mode) (books_after ask x.at.pass t.books) ∙ mild_mode six ask mild in
-      first_stays (h.sure (subst (λ mode. is_sure mode ≡ true) same is)))
+      first_stays (h.sure (mild_sure six ask mild (subst (λ (books : SixBooks). is_sure books.control_a.fall.mode ≡ true) (books_after ask x.at.pass t.books) is))))
       (clear_or_mild number refl)
 
   asleep_after : IsAsleep x.path → IsAsleep y.path ⊎ FirstIsClear (set t.paths number y)
@@ -374,7 +475,7 @@ app_surely_a : (t : Cast Carried) (d : AppDuty) → Surely t → Surely (after_a
 app_surely_a t d h = record {
   settled = h.settled;
   leads = h.leads;
-  sure = λ is. h.sure (subst (λ mode. is_sure mode ≡ true) (ap (λ (books : SixBooks). books.control_a.fall.mode) (books_after (app_ask d t.a) t.at_a.pass t.books) ∙ mild_mode (books_in t.books) (app_ask d t.a) (app_mild d t.a)) is);
+  sure = λ is. h.sure (mild_sure (books_in t.books) (app_ask d t.a) (app_mild d t.a) (subst (λ (books : SixBooks). is_sure books.control_a.fall.mode ≡ true) (books_after (app_ask d t.a) t.at_a.pass t.books) is));
   others = h.others;
 }
 
@@ -382,7 +483,7 @@ app_surely_b : (t : Cast Carried) (d : AppDuty) → Surely t → Surely (after_b
 app_surely_b t d h = record {
   settled = h.settled;
   leads = h.leads;
-  sure = λ is. h.sure (subst (λ mode. is_sure mode ≡ true) (ap (λ (books : SixBooks). books.control_a.fall.mode) (books_after (app_ask d t.b) t.at_b.pass t.books) ∙ mild_mode (books_in t.books) (app_ask d t.b) (app_mild d t.b)) is);
+  sure = λ is. h.sure (mild_sure (books_in t.books) (app_ask d t.b) (app_mild d t.b) (subst (λ (books : SixBooks). is_sure books.control_a.fall.mode ≡ true) (books_after (app_ask d t.b) t.at_b.pass t.books) is));
   others = h.others;
 }
 
@@ -404,7 +505,7 @@ next_surely t h = record {
     on = walks_on (greatest 0 (world_of t).crew)
 
     first_on : FirstIsClear t.paths → FirstIsClear (map on t.paths)
-    first_on clear z at = let found = in_map on t.paths 0 z at in subst (λ (w : Walker Carried). w.path.a.modes.clear ≡ true) found.2 ((next_clear found.0.path).a (clear found.0 found.1))
+    first_on clear z at = let found = in_map on t.paths 0 z at in subst (λ (w : Walker Carried). w.path.a.modes.clear ≡ true) found.2 ((next_clear found.0.path).a.0 (clear found.0 found.1))
 
 opened_surely : (start : Start) → Surely (first_cast start)
 opened_surely start = record {
@@ -421,7 +522,7 @@ opened_surely start = record {
 
     new_leads : (number : ℕ) (plan : PathPlan) → LeadsWell (new_walker {C = Carried} start number plan).path
     new_leads number plan =
-        begins_lead (waiting_path (path_begins start number plan) start.lines) (record { led = tt; clear = inr (record { n = 0; none = tt; follows = tt }) })
+        begins_lead (waiting_path (path_begins start number plan) start.lines) (record { led = tt; clear = inr (record { n = 0; none = inr tt; follows = tt }) })
 
 -- at every moment
 pub sure_is_clear : Always values (λ start w. SureIsClear w)

@@ -1,7 +1,7 @@
 -- What the receiver's half of an end does, on the lane: it keeps the octets of a copy, learns a mapping, places bytes, and passes
 -- the FIN.
-use Rattle.std.proofs.Common.{◌≡◌, refl, sym, ◌∙◌, ap, subst, ℕ, zero, suc, ◌+◌, ◌-◌, ◌<◌, ◌≤◌, nat_le, ◌⊎◌, inl, inr, ⊎_elim, Bool, true, false, if◌then◌else◌, Option, Some, None, List, [], ◌∷◌, ◌++◌, length, take, drop, arith}
-use Rattle.std.proofs.lemmas.Bool.{le-leb, and_from}
+use Rattle.std.proofs.Common.{◌≡◌, refl, sym, ◌∙◌, ap, subst, ℕ, zero, suc, ◌+◌, ◌-◌, ◌<◌, ◌≤◌, nat_le, ◌⊎◌, inl, inr, ⊎_elim, Bool, true, false, if◌then◌else◌, Option, Some, None, List, [], ◌∷◌, ◌++◌, length, take, drop, arith, ◌*◌, ◌/◌}
+use Rattle.std.proofs.lemmas.Bool.{le-leb, and_from, eq-eqb}
 use Rattle.std.proofs.lemmas.List.{append-nil, length-take}
 use Rattle.std.proofs.lemmas.Option.{same_Some}
 use Rattle.std.specs.List.{slice_get}
@@ -12,16 +12,16 @@ use Rattle.stream_lanes.specs.Holding.{IsByteOf, IsHonest, LaneHolds}
 use Rattle.stream_lanes.specs.Lane.{Lane}
 use Rattle.stream_lanes.specs.Lane.Ask.{AskPlace}
 use Rattle.stream_lanes.specs.Laws.{copy_clashes, mapping_clashes}
-use Rattle.stream_lanes.specs.Moves.{clashes, keeps, learns, learns_mapping, places, lies_in, in_order}
-use Rattle.stream_lanes.specs.Moves.Move.{Hear, Learn, WantPlace}
+use Rattle.stream_lanes.specs.Moves.{clashes, keeps, learns, learns_mapping, places, lies_in, in_order, ack_copy, hears_fin, sub_next}
+use Rattle.stream_lanes.specs.Moves.Move.{Hear, Learn, WantPlace, HearFin, SendAck, WantPlacePlain}
 use Rattle.stream_lanes.specs.View.{View}
 use Rattle.stream_lanes.specs.Words.{Has}
 use Rattle.stream_lanes.proofs.Bytes.{Cells-by_place, From-take}
 use Rattle.stream_lanes.proofs.Lists.{in_drop}
-use Rattle.world_laws.proofs.Doing.{has_last}
+use Rattle.world_laws.proofs.Doing.{has_last, least}
 use Rattle.world_laws.proofs.Growing.{ReceiverGoes}
 use Rattle.world_laws.proofs.Roads.{Strolls, one_move}
-use Rattle.world_laws.proofs.Showing.{HasData, HasMapping, IsMappingOf, Under}
+use Rattle.world_laws.proofs.Showing.{HasData, HasMapping, IsMappingOf, Under, HasFin, HasSub}
 
 -- ---- bytes by place
 
@@ -108,6 +108,7 @@ module _ (p : Lane) (v : View) (path : ℕ) (h : LaneHolds v path p) where
       edge = p.edge;
       kept = heard_lane.kept;
       maps = p.maps;
+      fin_in = p.fin_in;
       due = p.due;
       latest = p.latest;
       asking = p.asking;
@@ -159,6 +160,7 @@ module _ (p : Lane) (place position len : ℕ) (has : HasMapping p.datas place p
     edge = p.edge;
     kept = p.kept;
     maps = learned_lane.maps;
+    fin_in = p.fin_in;
     due = p.due;
     latest = p.latest;
     asking = p.asking;
@@ -204,3 +206,44 @@ module _ (p : Lane) (edge : ℕ) (places_kept : List (Option ℕ)) (count : ℕ)
       ∙ ap (λ bs. if lies_in has.item bs p then record p { asking = AskPlace (has.item.place + (p.edge - has.item.pos)) bs } else p) same_order
       ∙ ap (λ (b : Bool). if b then record p { asking = AskPlace (has.item.place + (p.edge - has.item.pos)) octets } else p) lies
       ∙ ap (λ q. record p { asking = AskPlace q octets }) same_place))
+
+-- in plain TCP bytes have their positions as places
+pub wants_plain : (p : Lane) (edge : ℕ) (places_kept : List (Option ℕ)) (count : ℕ) → edge ≡ suc p.edge → Under places_kept p.kept → p.receiver_plain ≡ true
+    → Strolls p (record p { asking = AskPlace (edge - 1) (take count (filled places_kept)) })
+wants_plain p edge places_kept count at u plain =
+    let octets : List ℕ = take count (filled places_kept) in
+    let l = length-take count (filled places_kept) in
+    let some_are : length octets ≤ length (filled places_kept) = omega (arith, l) in
+    let same_order : in_order (length octets) p ≡ octets = sym (filled_under (length octets) places_kept p.kept u some_are) ∙ take_taken count (filled places_kept) in
+    let same_edge : p.edge ≡ edge - 1 = omega (arith, at) in
+    one_move (WantPlacePlain (length octets)) p _ refl (sym (
+    ap (λ (b : Bool). if b then record p { asking = AskPlace p.edge (in_order (length octets) p) } else p) plain
+    ∙ ap (λ bs. record p { asking = AskPlace p.edge bs }) same_order
+    ∙ ap (λ n. record p { asking = AskPlace n octets }) same_edge))
+
+-- ---- the FIN is passed
+
+-- it has come in order
+module _ (p : Lane) (position : ℕ) (has : HasFin p.fins position) (at : position ≡ suc p.edge) where
+  abbrev pub finished_lane : Lane
+  finished_lane = record p { fin_in = true }
+
+  pub hears_the_fin : Strolls p finished_lane
+  hears_the_fin =
+      let there = has.holds in
+      one_move (HearFin has.at) p finished_lane refl (sym (
+      ap (λ o. hears_fin o p) has.there
+      ∙ ap (λ (b : Bool). if b then finished_lane else p) (eq-eqb has.item p.edge (omega (arith, at, there)))))
+
+-- the position behind it is acknowledged, by what was told last
+module _ (p : Lane) (next window sub : ℕ) (latest : p.latest ≡ record { next = next; window = window }) (due : p.due ≡ false) (most : sub ≤ sub_next p) where
+  abbrev pub acked_lane : Lane
+  acked_lane = record p { acks = p.acks ++ ack_copy next (32 * (window / 32)) sub p ∷ [] }
+
+  pub acks_it : Strolls p acked_lane
+  acks_it = one_move (SendAck next (32 * (window / 32)) sub) p acked_lane refl (sym (ap (λ (b : Bool). if b then p else acked_lane) due))
+
+  pub acked_sub : HasSub acked_lane.acks sub (32 * (window / 32))
+  acked_sub =
+      let told : p.latest.window ≡ window = ap (λ t. t.window) latest in
+      has_last p.acks _ (record { sub_is = least sub (sub_next p) most; window_is = least (32 * (window / 32)) p.latest.window (omega (arith, told)) })

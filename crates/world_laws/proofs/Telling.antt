@@ -1,5 +1,5 @@
 -- The numbers that a path tells: each is below 2^31, so that each is near every one that may be expected.
-use Rattle.std.proofs.Common.{◌≡◌, refl, ap, ℕ, ◌+◌, ◌%◌, ◌^◌, ◌<◌, ◌≤◌, ◌⊎◌, inl, inr, ⊎_elim, Bool, true, false, if◌then◌else◌, is_some, Option, Some, None, List, [], ◌∷◌, ◌++◌, length, arith}
+use Rattle.std.proofs.Common.{◌≡◌, refl, ap, ℕ, ◌+◌, ◌-◌, ◌%◌, ◌^◌, ◌<◌, ◌≤◌, ◌⊎◌, inl, inr, ⊎_elim, ◌&&◌, not, Bool, true, false, if◌then◌else◌, is_some, Option, Some, None, List, [], ◌∷◌, ◌++◌, length, arith}
 use Rattle.std.proofs.lemmas.Bool.{ne_eqb, cases_lt}
 use Rattle.std.proofs.lemmas.Int.{ints}
 use Rattle.std.proofs.lemmas.List.{append-nil}
@@ -25,7 +25,7 @@ use Rattle.mptcp_options.specs.Value as wire
 use Rattle.path_segments.specs.declared.expected.Expected.{Expected}
 use Rattle.path_segments.specs.declared.segment.PathMapping.{PathMapping}
 use Rattle.path_segments.specs.declared.segment.PathMapping.TheVariants.{Bytes, End, Infinite}
-use Rattle.path_segments.specs.declared.segment.PathOption.TheVariants.{Dss, Fail}
+use Rattle.path_segments.specs.declared.segment.PathOption.TheVariants.{Capable, Dss, Fail}
 use Rattle.path_segments.specs.declared.spelling.Side.{Side as SpelledSide}
 use Rattle.path_segments.specs.declared.spelling.Spelling.{Spelling}
 use Rattle.path_segments.specs.HeardLent.{IsExpected}
@@ -49,7 +49,7 @@ use Rattle.path_core.specs.declared.modes.Modes.{Modes}
 use Rattle.path_core.specs.Ends.{PathEnd, Sending, Receiving, Treated}
 use Rattle.path_core.specs.Joins.{is_joined, peer_key_of, join_options, third_options}
 use Rattle.path_core.specs.Passing.{outgoing_or}
-use Rattle.path_core.specs.Segments.{spelled_by, bare_mapping, checksum_in, place_numbered, checksum_told, capable_options, syn_options, key_options, opening_options, end_mapping, ack_options, piece_mapping, is_first_piece, first_piece_options, piece_options, fin_options, record_options, reset_options, segment_of, ack_said, record_said, syn_ack_said, fin_said, reset_said, record_or_ack}
+use Rattle.path_core.specs.Segments.{spelled_by, bare_mapping, checksum_in, place_numbered, checksum_told, owes_mapping, plain_options, capable_options, syn_options, key_options, opening_options, end_mapping, ack_options, piece_mapping, is_first_piece, first_piece_options, piece_options, fin_options, record_options, reset_options, segment_of, ack_said, record_said, syn_ack_said, fin_said, reset_said, record_or_ack}
 use Rattle.path_core.specs.Shown.{IsFarReset}
 use Rattle.path_core.specs.State.{Profile}
 
@@ -89,6 +89,28 @@ pub record SegmentTells (c : Profile) (s : Side) (sg : PlainSegment) : Type 0 wh
   pub syn : is_some sg.mss ≡ sg.syn
   pub mss : IfSome sg.mss (λ n. n < 2 ^ 16)
   pub options : All (OptionTells c s) sg.options
+
+-- without its options it tells less
+syn_room : (mss : Option ℕ) → length (syn_text mss ++ []) ≤ 40
+syn_room None = omega arith
+syn_room (Some mss) = omega arith
+
+pub bare_tells : (c : Profile) (s : Side) (sg : PlainSegment) → SegmentTells c s sg → SegmentTells c s (record sg { options = [] })
+bare_tells c s sg h = record {
+  sayable = record {
+    path = h.sayable.path;
+    window = h.sayable.window;
+    options = All-nil (CanSayOption c.spelling (spelled_by s));
+    room = syn_room sg.mss;
+    fits = h.sayable.fits;
+  };
+  position = h.position;
+  acknowledged = h.acknowledged;
+  reaches = h.reaches;
+  syn = h.syn;
+  mss = h.mss;
+  options = All-nil (OptionTells c s);
+}
 
 -- ---- near
 
@@ -187,6 +209,11 @@ ItemTells (says.Keys own peer) = IsKey own × IsKey peer
 ItemTells (says.Join form) = FormFits form
 ItemTells _ = Unit {0}
 
+-- none after a fallback
+pub known_item : (identity : Bool) (o : Option Heard) → IfSome o ItemTells → IfSome (if identity then None else o) ItemTells
+known_item true o h = tt
+known_item false o h = h
+
 -- the answer of a dead end, and of an end that refuses, is a reset
 pub record AnswerTells (o : Outgoing) : Type 0 where
   pub rst : o.rst ≡ true
@@ -218,6 +245,7 @@ pub record ModesTell (m : Modes) : Type 0 where
 pub record TreatedTells (t : Treated) : Type 0 where
   pub items : Every ItemTells t.items
   pub answer : IfSome t.answer AnswerTells
+  pub acknowledged : IsShort t.acknowledged
 
 pub record EndTells (c : Profile) (s : Side) (e : PathEnd) : Type 0 where
   pub sender : SenderTells c s e.tcp.send
@@ -280,6 +308,15 @@ dss_length (Low ack) (Whole number) relative len (Some checksum) fin = omega ari
 dss_length (Low ack) (Low number) relative len None fin = omega arith
 dss_length (Low ack) (Low number) relative len (Some checksum) fin = omega arith
 
+-- an infinite mapping
+infinite_length : (number : DataNumber) (relative : ℕ) (checksum : Option ℕ)
+    → length (option_text (wire.Dss None (Some (record { number = number; relative = relative; length = 0; checksum = checksum })) false)) ≤ 28
+unfolding option_text
+infinite_length (Whole number) relative None = omega arith
+infinite_length (Whole number) relative (Some checksum) = omega arith
+infinite_length (Low number) relative None = omega arith
+infinite_length (Low number) relative (Some checksum) = omega arith
+
 reset_length : (transient : Bool) (reason : ℕ) → length (option_text (wire.Reset transient reason)) ≤ 28
 unfolding option_text
 reset_length transient reason = omega arith
@@ -341,7 +378,11 @@ module _ (c : Profile) (s : Side) (path : c.spelling.path ≤ 15) (mss : c.mss <
 
   capable_tells : (t : Side) → One (capable_options c t e)
   capable_tells A = record { can = record { form = tt }; few = capable_length c.spelling.checksums false NoKey; tells = record { fits = tt; short = tt } }
-  capable_tells B = record { can = record { form = tt }; few = capable_length c.spelling.checksums false (Sender e.modes.own_key); tells = record { fits = h.modes.own_key; short = tt } }
+  capable_tells B = by (e.modes.capable_asked && not e.modes.identity)
+    where
+      by : (b : Bool) → One (if b then Capable c.spelling.checksums false (Sender e.modes.own_key) ∷ [] else [])
+      by true = record { can = record { form = tt }; few = capable_length c.spelling.checksums false (Sender e.modes.own_key); tells = record { fits = h.modes.own_key; short = tt } }
+      by false = tt
 
   -- the address id is the path's number
   id_fits : c.spelling.path < 256
@@ -413,11 +454,37 @@ module _ (c : Profile) (s : Side) (path : c.spelling.path ≤ 15) (mss : c.mss <
   }
 
   ack_tells : (fin : Option ℕ) → IfSome fin IsShort → One (ack_options c s fin e)
-  ack_tells fin n = by e.modes.clear
+  ack_tells fin n = by e.modes.identity e.modes.clear
     where
-      by : (b : Bool) → One (if b then Dss (Some e.receiving.next) (end_mapping c s fin) ∷ [] else opening_options c s e)
-      by true = end_tells fin n
-      by false = opening_tells
+      by : (identity clear : Bool) → One (if identity then [] else (if clear then Dss (Some e.receiving.next) (end_mapping c s fin) ∷ [] else opening_options c s e))
+      by true clear = tt
+      by false true = end_tells fin n
+      by false false = opening_tells
+
+  checksum_zero : IsBelow (2 ^ 16) (if c.spelling.checksums then Some 0 else None)
+  checksum_zero = told_below c 0 (omega arith)
+
+  -- the infinite mapping of a position and the place before it
+  plain_tells : (position : ℕ) → IsShort position → One (plain_options position e)
+  plain_tells position at = by (owes_mapping e)
+    where
+      by : (b : Bool) → One (if b then Dss None (Some (Infinite (position - 1) position)) ∷ [] else [])
+      by true = record {
+        can = record { form = (told_form c.spelling.checksums 0, tt) };
+        few = infinite_length (data_number c.spelling (spelled_by s) (position - 1)) (relative_number position) (checksum_told c 0);
+        tells = record {
+          fits = (tt, (data_fits c.spelling (spelled_by s) (position - 1), omega arith, omega arith, checksum_zero));
+          short = (tt, (omega (arith, at), at));
+        };
+      }
+      by false = tt
+
+  fin_tells : (position : ℕ) → IsShort position → One (fin_options position e)
+  fin_tells position at = by e.modes.identity
+    where
+      by : (b : Bool) → One (if b then plain_options position e else Dss (Some e.receiving.next) None ∷ [])
+      by true = plain_tells position at
+      by false = end_tells None tt
 
   bytes_of : (position len : ℕ) → 1 ≤ len → IsBytes position len false
   bytes_of position len some = record { some = ne_eqb len 0 (λ is. absurd (omega (arith, some, is))); no_end = refl }
@@ -431,11 +498,13 @@ module _ (c : Profile) (s : Side) (path : c.spelling.path ≤ 15) (mss : c.mss <
   }
 
   piece_tells : (r : Record) → IsShort r.pos → RecordKindTells c s Data r → One (piece_options c s r e)
-  piece_tells r at m = by (is_first_piece s r e)
+  piece_tells r at m = by e.modes.identity (is_first_piece s r e)
     where
-      by : (b : Bool) → One (if b then first_piece_options c e.modes.peer_key r e else Dss (Some e.receiving.next) (Some (piece_mapping c s r)) ∷ [])
-      by true = first_tells e.modes.peer_key r h.modes.peer_key m
-      by false = record {
+      by : (identity first : Bool) → One (if identity then plain_options r.pos e
+          else (if first then first_piece_options c e.modes.peer_key r e else Dss (Some e.receiving.next) (Some (piece_mapping c s r)) ∷ []))
+      by true first = plain_tells r.pos at
+      by false true = first_tells e.modes.peer_key r h.modes.peer_key m
+      by false false = record {
         can = record { form = (told_form c.spelling.checksums r.mapping.checksum, tt) };
         few = dss_length ack_number _ (relative_number r.pos) r.mapping.length (checksum_told c r.mapping.checksum) false;
         tells = record {
@@ -450,7 +519,7 @@ module _ (c : Profile) (s : Side) (path : c.spelling.path ≤ 15) (mss : c.mss <
   record_options_tell : (kind : RecordKind) (r : Record) → IsShort r.pos → RecordKindTells c s kind r → One (record_options kind c s r e)
   record_options_tell Syn r at m = syn_tells s
   record_options_tell Data r at m = piece_tells r at m
-  record_options_tell Fin r at m = end_tells None tt
+  record_options_tell Fin r at m = fin_tells r.pos at
 
   mss_is : (syn : Bool) → is_some (if syn then Some c.mss else None) ≡ syn
   mss_is true = refl
@@ -504,7 +573,7 @@ module _ (c : Profile) (s : Side) (path : c.spelling.path ≤ 15) (mss : c.mss <
   syn_ack_tells = segment_tells (syn_ack_segment e.tcp) (syn_options c s e) [] (omega arith) (inr (omega arith)) h.edge (λ is. none_is _ is) (syn_tells s)
 
   pub fin_said_tells : IsShort (fin_position e.tcp.send) → SegmentTells c s (fin_said c e)
-  fin_said_tells at = segment_tells (fin_segment e.tcp) (fin_options e) [] (omega arith) (inr at) h.edge (λ is. none_is _ is) (end_tells None tt)
+  fin_said_tells at = segment_tells (fin_segment e.tcp) (fin_options (fin_position e.tcp.send) e) [] (omega arith) (inr at) h.edge (λ is. none_is _ is) (fin_tells (fin_position e.tcp.send) at)
 
   reset_options_tell : (o : Option ℕ) → IfSome o (λ n. n < 256) → One (reset_options o)
   reset_options_tell None low = tt
@@ -514,7 +583,14 @@ module _ (c : Profile) (s : Side) (path : c.spelling.path ≤ 15) (mss : c.mss <
   none_more n short = omega (arith, short)
 
   pub reset_tells : (reason : Option ℕ) → IfSome reason (λ n. n < 256) → SegmentTells c s (reset_said c reason e)
-  reset_tells reason low = segment_tells (reset_segment e.tcp) (reset_options reason) [] (omega arith) (inr h.sender.next) tt (λ is. none_more e.tcp.send.nxt h.sender.next) (reset_options_tell reason low)
+  reset_tells reason low = by e.modes.identity
+    where
+      said : (options : List PlainOption) → One options → SegmentTells c s (segment_of c (reset_segment e.tcp) options [] e)
+      said options one = segment_tells (reset_segment e.tcp) options [] (omega arith) (inr h.sender.next) tt (λ is. none_more e.tcp.send.nxt h.sender.next) one
+
+      by : (b : Bool) → SegmentTells c s (segment_of c (reset_segment e.tcp) (if b then [] else reset_options reason) [] e)
+      by true = said [] tt
+      by false = said (reset_options reason) (reset_options_tell reason low)
 
   answer_tells : (o : Outgoing) (reason : Option ℕ) → IfSome reason (λ n. n < 256) → AnswerTells o → SegmentTells c s (segment_of c o (reset_options reason) [] e)
   answer_tells o reason low a = segment_tells o (reset_options reason) [] (omega arith) (stands o.acknowledged refl) a.acknowledged reaches (reset_options_tell reason low)

@@ -1,7 +1,7 @@
 -- What a copy that arrives tells, and what it leaves of the numbers that its end tells.
 use Rattle.std.proofs.Common.{◌≡◌, refl, ℕ, ◌+◌, ◌^◌, ◌<◌, nat_le, nat_lt, Bool, true, false, if◌then◌else◌, option_map, Option, Some, None, List, [], ◌∷◌, take, map, flat_map, arith}
 use Rattle.std.specs.Prelude.{All}
-use Rattle.std.specs.Option.{IfSome}
+use Rattle.std.specs.Option.{IfSome, unwrap_or}
 use Rattle.std.proofs.lemmas.List.Elements.{All-head, All-tail}
 use Rattle.outside_kit.specs.declared.side.Side.{Side}
 use Rattle.outside_kit.specs.declared.side.Side.TheVariants.{A, B}
@@ -37,7 +37,7 @@ use Rattle.actor_desk.specs.Words.{is_nil}
 use Rattle.path_agenda.specs.declared.heard.Heard.{Heard}
 use Rattle.path_agenda.specs.declared.heard.Heard.TheVariants as says
 use Rattle.path_agenda.specs.declared.keys.KeyPair.{KeyPair}
-use Rattle.path_core.specs.Arriving.{copy_of, ack_items, is_mapping, mapping_items, map_items, key_items, join_items, items_in, items_of, hint_of, reset_for, reset_by, owing_if, owes_by, with_payload, with_answer, answered_in, cleared_in, judged_in, taken_as, after_judged, zero_position}
+use Rattle.path_core.specs.Arriving.{copy_of, ack_items, is_mapping, mapping_items, map_items, key_items, join_items, items_in, items_of, HeardOption, hint_of, reset_for, reset_by, owing_if, owes_by, asked_in, is_taken, with_payload, with_answer, answered_in, cleared_in, judged_in, taken_as, after_judged, zero_position}
 use Rattle.path_core.specs.declared.modes.Modes.{Modes}
 use Rattle.path_core.specs.Joining.{with_keys, syn_alone, is_listening, joined_by}
 use Rattle.path_core.specs.Joins.{is_joined, join_answer}
@@ -71,7 +71,7 @@ map_tells None h = Every-nil ItemTells
 map_tells (Some (Bytes place position len true checksum)) h = Every-nil ItemTells
 map_tells (Some (Bytes place position len false checksum)) h = mapping_tells place position len
 map_tells (Some (End place checksum)) h = tell_if (nat_le place (2 ^ 62)) (says.DataFin place) h
-map_tells (Some (Infinite place position)) h = Every-nil ItemTells
+map_tells (Some (Infinite place position)) h = tell_if (nat_lt place (2 ^ 62)) says.InfiniteMapping tt
 
 keys_tell : (s : Side) (keys : CapableKeys) → KeysFit keys → Tell (key_items s keys)
 keys_tell A NoKey h = Every-nil ItemTells
@@ -230,6 +230,19 @@ cleared_by means.Challenged state m h = h
 cleared_by means.Unacknowledging state m h = h
 cleared_by means.Ahead state m h = h
 
+asked_modes : (meaning : Meaning) (options : List HeardOption) (m : Modes) → ModesTell m → ModesTell (asked_in meaning options m)
+asked_modes means.Opens options m h = record { own_key = h.own_key; peer_key = h.peer_key; own_nonce = h.own_nonce; peer_nonce = h.peer_nonce }
+asked_modes (means.Accepts acknowledged) options m h = h
+asked_modes (means.Taken position acknowledged) options m h = h
+asked_modes means.Ignored options m h = h
+asked_modes means.Unwanted options m h = h
+asked_modes means.RepeatedSyn options m h = h
+asked_modes means.Outside options m h = h
+asked_modes means.Kills options m h = h
+asked_modes means.Challenged options m h = h
+asked_modes means.Unacknowledging options m h = h
+asked_modes means.Ahead options m h = h
+
 joined_modes : (joined : Bool) (meaning : Meaning) (items : List Heard) (state : EndPhase) (m : Modes) → Tell items → ModesTell m
     → ModesTell (if joined then cleared_in meaning state (answered_in meaning items m) else m)
 joined_modes true meaning items state m said h = cleared_by meaning state (answered_in meaning items m) (answered_by meaning items m said h)
@@ -268,13 +281,20 @@ arrived_tells c s now sg e tells h =
       edge = owed.edge;
       stream = h.stream;
       window = record { next = h.window.next; window = h.window.window };
-      modes = joined_modes (is_joined c) m items tcp.state e.modes said h.modes;
+      modes = asked_modes m (meant sg).options (if is_joined c then cleared_in m tcp.state (answered_in m items e.modes) else e.modes) (joined_modes (is_joined c) m items tcp.state e.modes said h.modes);
       treated = record {
         items = said;
         answer = by sg.acknowledged tells.acknowledged tells.reaches;
+        acknowledged = position_told (is_taken m) sg.acknowledged tells.acknowledged;
       };
     }
   where
+    position_told : (taken : Bool) (o : Option ℕ) → IfSome o IsShort
+        → IsShort (if taken then unwrap_or (copy_of (record (meant sg) { acknowledged = option_map (λ n. Some n) o })).acknowledged 0 else 0)
+    position_told false o short = omega arith
+    position_told true None short = omega arith
+    position_told true (Some n) short = short
+
     by : (o : Option ℕ) → IfSome o IsShort → (o ≡ None → IsShort (sg.position + occupied (copy_of (meant sg))))
         → AnswerTells (reset_for c s (record (copy_of (meant sg)) { acknowledged = (copy_of (record (meant sg) { acknowledged = option_map (λ n. Some n) o })).acknowledged }))
     by None short reaches = answer_tells c s None sg.position (occupied (copy_of (meant sg))) tt reaches

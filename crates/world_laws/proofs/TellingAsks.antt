@@ -36,15 +36,15 @@ use Rattle.path_core.specs.Duties.{ask_for}
 use Rattle.path_core.specs.Emission.{first_unsent, data_ask}
 use Rattle.path_core.specs.Events.{next_event, step_for}
 use Rattle.path_core.specs.Joining.{keys_begun, asked_at, join_begin_ask, join_heard_ask}
-use Rattle.path_core.specs.Opening.{peer_key_ask, keys_ask}
-use Rattle.path_core.specs.Passing.{piece_of, piece_ask, fin_of, fin_ask, rate_ask}
+use Rattle.path_core.specs.Opening.{peer_key_ask, opened_ask}
+use Rattle.path_core.specs.Passing.{piece_of, piece_ask, fin_of, fin_ask, plain_fin, rate_ask}
 use Rattle.path_core.specs.Placing.{Piece}
 use Rattle.path_core.specs.Sends.{sends}
 use Rattle.path_core.specs.State.{PathState, Profile, end_at, path_of}
-use Rattle.path_core.specs.Treating.{is_clash, fell_ask, mapping_ask, item_ask, item_of}
+use Rattle.path_core.specs.Treating.{is_clash, fell_ask, mapping_ask, breaks_by_ack, plain_ack_ask, item_ask, item_of}
 use Rattle.path_core.specs.Values.{Carried, values}
 use Rattle.world_laws.proofs.Replying.{every_item}
-use Rattle.world_laws.proofs.Telling.{IsKey, ItemTells}
+use Rattle.world_laws.proofs.Telling.{IsKey, ItemTells, known_item}
 use Rattle.world_laws.proofs.TellingRules.{AreKeys, heard_key, heard_keys}
 use Rattle.world_laws.proofs.TellingSteps.{KeysAreShort, PathTells, tells_at}
 
@@ -163,13 +163,13 @@ module _ (c : Profile) (p : PathState Carried) (h : PathTells c p) where
   step_tells (Some (happening.Arrives due)) = tt
   step_tells (Some (happening.Fires s tick)) = tt
 
-  key_tells : (s : Side) (o : Option ℕ) → IfSome o IsKey → AskTells (peer_key_ask s o)
+  key_tells : (s : Side) (o : Option ℕ) → IfSome o IsKey → AskTells (peer_key_ask s o p)
   key_tells s None key = tt
   key_tells s (Some key) is = is
 
-  keys_tell : (s : Side) (o : Option KeyPair) → IfSome o (λ keys. IsKey keys.peer) → AskTells (keys_ask s o)
-  keys_tell s None keys = tt
-  keys_tell s (Some keys) is = is
+  opened_tells : (s : Side) (o : Option KeyPair) → IfSome o (λ keys. IsKey keys.peer) → AskTells (opened_ask s o p)
+  opened_tells s None keys = tt
+  opened_tells s (Some keys) is = is
 
   join_tells : (s : Side) (o : Option JoinSyn) → AskTells (join_heard_ask s o p)
   join_tells s None = tt
@@ -180,6 +180,13 @@ module _ (c : Profile) (p : PathState Carried) (h : PathTells c p) where
     where
       by : (b : Bool) → AskTells (if b then asks.Reassembly s reassembly_calls.AckOut else sends values s (reset_of s (Some reason) p) p)
       by true = tt
+      by false = tt
+
+  plain_ack_tells : (s : Side) → AskTells (plain_ack_ask values s p)
+  plain_ack_tells s = by (breaks_by_ack p.profile (end_at s p))
+    where
+      by : (b : Bool) → AskTells (if b then break_ask values s 6 p else fell_ask s events.PlainAck p)
+      by true = break_tells s 6
       by false = tt
 
   mapping_tells : (s : Side) → AskTells (mapping_ask values s p)
@@ -195,6 +202,7 @@ module _ (c : Profile) (p : PathState Carried) (h : PathTells c p) where
   item_tells s (Some (says.DataAck next window)) said = tt
   item_tells s (Some says.Mapping) said = mapping_tells s
   item_tells s (Some (says.DataFin place)) said = tt
+  item_tells s (Some says.InfiniteMapping) said = tt
   item_tells s (Some (says.PeerKey key)) said = tt
   item_tells s (Some (says.Keys own other)) said = said.1
   item_tells s (Some (says.Join form)) said = tt
@@ -227,15 +235,21 @@ module _ (c : Profile) (p : PathState Carried) (h : PathTells c p) where
   asks_tell duties.Events = step_tells (next_event p)
   asks_tell (duties.SynHeard s) = tt
   asks_tell (duties.SynAnswered s) = tt
+  asks_tell (duties.PlainHandshake s) = tt
   asks_tell (duties.PeerKey s) = key_tells s (key_heard (end_at s p).treated.items) (heard_key (end_at s p).treated.items (items_at s))
   asks_tell (duties.SynAck s) = tt
   asks_tell (duties.JoinHeard s) = join_tells s (asked_at s p)
   asks_tell (duties.Refuse s) = tt
-  asks_tell (duties.Opened s) = keys_tell s (keys_heard (end_at s p).treated.items) (heard_keys (end_at s p).treated.items (items_at s))
+  asks_tell (duties.Opened s) = opened_tells s (keys_heard (end_at s p).treated.items) (heard_keys (end_at s p).treated.items (items_at s))
   asks_tell (duties.Live s) = tt
-  asks_tell (duties.Heard s index) = item_tells s (item_of index (end_at s p)) (every_item index (end_at s p).treated.items (items_at s))
+  asks_tell (duties.Heard s index) = item_tells s (item_of index (end_at s p)) (known_item (end_at s p).modes.identity _ (every_item index (end_at s p).treated.items (items_at s)))
   asks_tell (duties.AckHeard s) = tt
-  asks_tell (duties.PlainAck s) = break_tells s 6
+  asks_tell (duties.PlainAck s) = plain_ack_tells s
+  asks_tell (duties.SubflowAck s) = tt
+  asks_tell (duties.PlainData s) = tt
+  asks_tell (duties.GoIdentity s) = tt
+  asks_tell (duties.Unmapped s) = break_tells s 6
+  asks_tell (duties.SubflowFin s) = fin_tells s (plain_fin (end_at s p))
   asks_tell (duties.Keep s) = tt
   asks_tell (duties.Edge s) = piece_tells s (piece_of s p)
   asks_tell (duties.HeardFin s index) = fin_tells s (fin_of index (end_at s p))

@@ -1,5 +1,5 @@
 -- What each duty's reply leaves of the numbers that a path's ends and copies tell.
-use Rattle.std.proofs.Common.{◌≡◌, refl, ap, subst, ℕ, suc, ◌+◌, ◌-◌, ◌^◌, ◌<◌, ◌≤◌, min, ◌&&◌, nat_lt, not, Bool, true, false, if◌then◌else◌, Option, Some, None, Result, Ok, Err, List, [], length, take, drop, arith}
+use Rattle.std.proofs.Common.{◌≡◌, refl, ap, subst, is_none, ℕ, suc, ◌+◌, ◌-◌, ◌^◌, ◌<◌, ◌≤◌, min, ◌&&◌, nat_lt, not, Bool, true, false, if◌then◌else◌, Option, Some, None, Result, Ok, Err, List, [], length, take, drop, arith}
 use Rattle.std.proofs.lemmas.Bool.{and_parts, and_from, ltb-true}
 use Rattle.std.proofs.lemmas.List.{length-take, length-drop}
 use Rattle.std.specs.Option.{IfSome}
@@ -16,7 +16,18 @@ use Rattle.send_book.specs.declared.call.Why.{Why}
 use Rattle.send_book.specs.State.{Sending as SendBook}
 use Rattle.send_book.specs.Steps.{decision, reply_by, given_by, grant_reply, end_of, part_of, ack_reply}
 use Rattle.send_book.proofs.Decisions.{decision-MayTake}
+use Rattle.control_book.specs.declared.call.ControlReply.TheVariants as control_replies
+use Rattle.control_book.specs.Registry.{sole}
+use Rattle.fallback_state.specs.declared.fall.Event.{Event}
 use Rattle.fallback_state.specs.declared.fall.Event.TheVariants as events
+use Rattle.fallback_state.specs.declared.fall.Fall.{Fall}
+use Rattle.fallback_state.specs.declared.fall.Mode.TheVariants.{Starting, Sure, Identity, InfiniteSend, InfiniteReceive, InfiniteBoth, Aborted}
+use Rattle.fallback_state.specs.declared.fall.Verdict.{Verdict}
+use Rattle.fallback_state.specs.declared.fall.Verdict.TheVariants as verdicts
+use Rattle.fallback_state.specs.Modes.{is_starting, is_identity, reads_mappings, writes_mappings, receiving, sending}
+use Rattle.fallback_state.specs.Table as falling
+use Rattle.fallback_state.specs.Table.{goes, is_failed_path, after_plain, after_sure_sign, after_infinite, after_failed_check, after_fail, fall_step}
+use Rattle.byte_pieces.proofs.Ordered.{lt_true}
 use Rattle.subflow_send.specs.Records.{Record}
 use Rattle.subflow_send.specs.Rules.{is_unsent}
 use Rattle.subflow_tcp.specs.declared.segments.Occasion.{Occasion}
@@ -33,7 +44,7 @@ use Rattle.actor_desk.specs.declared.ask.Ask.{Ask}
 use Rattle.actor_desk.specs.declared.ask.Ask.TheVariants as asks
 use Rattle.actor_desk.specs.declared.ask.Reply.{Reply}
 use Rattle.actor_desk.specs.declared.ask.Reply.TheVariants as replies
-use Rattle.actor_desk.specs.Desk.{SixBooks, send_of, reassembly_of, reply_of, after_ask}
+use Rattle.actor_desk.specs.Desk.{SixBooks, send_of, reassembly_of, control_of, reply_of, after_ask}
 use Rattle.actor_desk.specs.Words.{pick}
 use Rattle.path_agenda.specs.declared.duty.Duty.{Duty}
 use Rattle.path_agenda.specs.declared.duty.Duty.TheVariants as duties
@@ -45,32 +56,35 @@ use Rattle.path_agenda.specs.Agenda.{leaves, resets, breaks}
 use Rattle.path_agenda.specs.Items.{key_heard, keys_heard}
 use Rattle.path_agenda.specs.Words.{replaced}
 use Rattle.path_core.specs.Breaking.{reset_of, reset_on, break_ask, answered_break}
-use Rattle.path_core.specs.Closing.{owes_end}
+use Rattle.path_core.specs.Closing.{is_end_owed}
 use Rattle.path_core.specs.Duties.{stands, ask_for, answered}
 use Rattle.path_core.specs.Emission.{payload_size, first_unsent, unsent_segment, data_stands, data_ask, answered_data, grant_in, granted, refused, answered_grant, end_segment, having_sent_end, answered_end, fin_segment_of, having_sent_fin, answered_fin}
 use Rattle.path_core.specs.Ends.{PathEnd}
 use Rattle.path_core.specs.Events.{next_event, step_for, died}
 use Rattle.path_core.specs.Joining.{keys_begun, asked_at, join_heard_ask, joined_by, join_taken, answered_join_heard, refusal_of, answered_refusal}
-use Rattle.path_core.specs.Opening.{with_peer_key, keys_ask, after_keys, syn_ack_of}
-use Rattle.path_core.specs.Passing.{having_asked, with_peer_end, piece_ask, answered_piece, is_placed, piece_of, fin_of, fin_ask, answered_fin_heard, is_fin_set, rate_ask, after_rate, first_record, first_segment, answer_of, answer_occasion, dead_answer, answered_dead, resend_occasion, resend_of}
+use Rattle.path_core.specs.Opening.{with_peer_key, peer_key_ask, answered_peer_key, keys_ask, after_keys, opened_ask, answered_opened, syn_ack_of}
+use Rattle.path_core.specs.Passing.{having_asked, with_peer_end, plain_fin, with_fin_told, answered_plain_fin, piece_ask, answered_piece, is_placed, piece_of, fin_of, fin_ask, answered_fin_heard, is_fin_set, rate_ask, after_rate, first_record, first_segment, answer_of, answer_occasion, dead_answer, answered_dead, resend_occasion, resend_of}
 use Rattle.path_core.specs.Placing.{Piece, after_piece, with_learned}
 use Rattle.path_core.specs.Segments.{ack_said, syn_ack_said, record_or_ack}
 use Rattle.path_core.specs.Sends.{sends, having_sent, sent_on}
 use Rattle.path_core.specs.Standing.{look_ask, after_look, ack_out_ask, after_ack_out, answered_ack_out, ack_segment}
 use Rattle.path_core.specs.State.{PathState, Profile, end_at, goes_on, left, path_of, with_agenda}
-use Rattle.path_core.specs.Treating.{fell_ask, after_verdict, is_clash, told_next, is_acked, mapping_ask, answered_mapping, heard_ask, answered_heard, with_acked, with_fin, item_ask, answered_item, item_of}
+use Rattle.path_core.specs.Falling.{fell_ask, after_fell, breaks_by, fell_duties, answered_fell, in_identity}
+use Rattle.path_core.specs.Sends.{with_told}
+use Rattle.path_core.specs.Treating.{is_clash, breaks_by_ack, plain_ack_ask, answered_plain_ack, with_plain_ack, plain_next, subflow_ack_ask, answered_subflow_ack, told_next, is_acked, mapping_ask, answered_mapping, heard_ask, answered_heard, with_acked, with_fin, item_ask, answered_item, item_of}
 use Rattle.path_core.specs.Values.{Carried, values}
 use Rattle.world_laws.proofs.Answering.{IsReady}
 use Rattle.world_laws.proofs.Ending.{unfinished_if}
-use Rattle.world_laws.proofs.Lanes.{Others, duo_at, call_events}
-use Rattle.world_laws.proofs.Placing.{NextPiece, piece_from, at_edge, wants_piece}
+use Rattle.world_laws.proofs.Lanes.{flags_of, Others, duo_at}
+use Rattle.world_laws.proofs.Placing.{IsNextReady, next_ready}
 use Rattle.world_laws.proofs.Records.{every_find, every_at}
 use Rattle.world_laws.proofs.Replying.{every_item, granted_step}
-use Rattle.world_laws.proofs.Roads.{Strolls, stays, flags_by}
+use Rattle.world_laws.proofs.Roads.{Strolls, stays}
 use Rattle.world_laws.proofs.Showing.{EndShows, PathShows}
 use Rattle.world_laws.proofs.Sides.{Answered}
-use Rattle.world_laws.proofs.Strolling.{side_shows, strolls_held, back_holds, events_held}
-use Rattle.world_laws.proofs.Telling.{IsShort, IsKey, IsNonce, ItemTells, SegmentTells, EndTells, ack_said_tells, record_said_tells, syn_ack_tells, fin_said_tells, reset_tells, dead_answer_tells, refusal_tells}
+use Rattle.world_laws.proofs.Strolling.{side_shows, strolls_held, back_holds}
+use Rattle.world_laws.proofs.Turning.{answered_holds}
+use Rattle.world_laws.proofs.Telling.{IsShort, IsKey, IsNonce, ItemTells, known_item, SegmentTells, EndTells, ack_said_tells, record_said_tells, syn_ack_tells, fin_said_tells, reset_tells, dead_answer_tells, refusal_tells}
 use Rattle.world_laws.proofs.TellingArrivals.{joined_tells}
 use Rattle.world_laws.proofs.TellingAsks.{again_keys, step_keys, joined_keys}
 use Rattle.world_laws.proofs.TellingEvents.{join_tells, events_tell}
@@ -133,9 +147,93 @@ end_on B f ds p = refl
 pub after_holds : (c : Profile) (six : SixBooks) (others : Others) (ask : Ask) (q : PathState Carried) (ab ba : Lane) (a : Answered c six others ask q ab ba)
     → Holds (duo_at six ab ba others) → Holds (duo_at (after_ask ask six) a.after.ab_after a.after.ba_after others)
 after_holds c six others ask q ab ba a holds =
-    let asked = strolls_held six others ab a.ab_before ba a.ba_before a.ab_moves a.ba_moves holds in
-    let called = subst Holds a.called (events_held (call_events a.call) (duo_at six a.ab_before a.ba_before others) asked) in
-    strolls_held (after_ask ask six) others a.ab_called a.after.ab_after a.ba_called a.after.ba_after a.after.ab_moves a.after.ba_moves called
+    strolls_held (after_ask ask six) others a.ab_called a.after.ab_after a.ba_called a.after.ba_after a.after.ab_moves a.after.ba_moves (answered_holds c six others ask q ab ba holds a)
+
+-- ---- verdicts
+
+-- a path is broken with a reason of an octet
+abbrev IsLow : Verdict → Type 0
+IsLow (verdicts.BreakPath reason) = reason < 256
+IsLow _ = Unit {0}
+
+plain_low : (fall : Fall) → IsLow (after_plain fall).1
+plain_low fall = by (is_starting fall.mode && not fall.joined)
+  where
+    by : (b : Bool) → IsLow (if b then goes Identity fall else falling.stays fall).1
+    by true = tt
+    by false = tt
+
+sign_low : (fall : Fall) → IsLow (after_sure_sign fall).1
+sign_low fall = by (is_starting fall.mode)
+  where
+    by : (b : Bool) → IsLow (if b then goes Sure fall else falling.stays fall).1
+    by true = tt
+    by false = tt
+
+infinite_low : (path : ℕ) (sole : Bool) (fall : Fall) → IsLow (after_infinite path sole fall).1
+infinite_low path sole fall = by (not (reads_mappings fall.mode)) (sole && is_failed_path fall.failed path) (writes_mappings fall.mode && not fall.joined && is_none fall.failed)
+  where
+    by : (deaf failed falls : Bool) → IsLow (if deaf then falling.stays fall
+        else (if failed then goes (receiving fall.mode) fall else (if falls then goes Identity fall else falling.breaks 1 fall))).1
+    by true failed falls = tt
+    by false true falls = tt
+    by false false true = tt
+    by false false false = omega arith
+
+keys_low : (fall : Fall) → IsLow (falling.after_keys fall).1
+keys_low fall = by (is_identity fall.mode)
+  where
+    by : (b : Bool) → IsLow (if b then falling.stays fall else (record fall { confirmed = true }, verdicts.Stay)).1
+    by true = tt
+    by false = tt
+
+check_low : (path : ℕ) (sole : Bool) (fall : Fall) → IsLow (after_failed_check path sole fall).1
+check_low path sole fall = by (not (reads_mappings fall.mode)) sole
+  where
+    by : (deaf sole : Bool) → IsLow (if deaf then falling.stays fall else (if sole then (record fall { failed = Some path }, verdicts.SendFail) else falling.breaks 6 fall)).1
+    by true sole = tt
+    by false true = tt
+    by false false = omega arith
+
+fail_low : (sole contiguous : Bool) (fall : Fall) → IsLow (after_fail sole contiguous fall).1
+fail_low sole contiguous fall = by (not (writes_mappings fall.mode)) (sole && contiguous)
+  where
+    by : (deaf goes_on : Bool) → IsLow (if deaf then falling.stays fall else (if goes_on then goes (sending fall.mode) fall else falling.breaks 1 fall)).1
+    by true goes_on = tt
+    by false true = tt
+    by false false = omega arith
+
+step_low : (fall : Fall) (path : ℕ) (sole : Bool) (event : Event) → IsLow (fall_step fall path sole event).1
+step_low fall path sole events.PlainHandshake = plain_low fall
+step_low fall path sole events.PlainData = plain_low fall
+step_low fall path sole events.PlainAck = plain_low fall
+step_low fall path sole events.KeysHeard = keys_low fall
+step_low fall path sole events.MappingHeard = sign_low fall
+step_low fall path sole events.AckHeard = sign_low fall
+step_low fall path sole events.InfiniteHeard = infinite_low path sole fall
+step_low fall path sole events.CheckFailed = check_low path sole fall
+step_low fall path sole (events.FailHeard contiguous) = fail_low sole contiguous fall
+step_low fall path sole events.Stop = tt
+
+-- what is to be done by a verdict
+verdict_fair : (s : Side) (p : PathState Carried) (v : Verdict) → IsLow v → AreFair p.agenda → AreFair (fell_duties s (replies.Control (control_replies.Verdict v)) p)
+verdict_fair s p (verdicts.Went Identity) low fair = replaced_fair (duties.GoIdentity s) p.agenda refl fair
+verdict_fair s p (verdicts.Went Starting) low fair = tail_fair p.agenda fair
+verdict_fair s p (verdicts.Went Sure) low fair = tail_fair p.agenda fair
+verdict_fair s p (verdicts.Went InfiniteSend) low fair = tail_fair p.agenda fair
+verdict_fair s p (verdicts.Went InfiniteReceive) low fair = tail_fair p.agenda fair
+verdict_fair s p (verdicts.Went InfiniteBoth) low fair = tail_fair p.agenda fair
+verdict_fair s p (verdicts.Went Aborted) low fair = tail_fair p.agenda fair
+verdict_fair s p (verdicts.BreakPath reason) low fair = by (end_at s p).treated.asked
+  where
+    octet : nat_lt reason 256 ≡ true
+    octet = lt_true reason 256 low
+
+    by : (b : Bool) → AreFair (breaks_by b s reason)
+    by true = and_from (nat_lt reason 256) true octet refl
+    by false = and_from (nat_lt reason 256) true octet refl
+verdict_fair s p verdicts.Stay low fair = tail_fair p.agenda fair
+verdict_fair s p verdicts.SendFail low fair = tail_fair p.agenda fair
 
 module _ (six : SixBooks) (others : Others) (p : PathState Carried) (ab ba : Lane) (h : PathShows p.profile p ab ba) (holds : Holds (duo_at six ab ba others))
     (ready : IsReady p ab ba) (numbered : path_of p ≡ others.number)
@@ -209,7 +307,7 @@ module _ (six : SixBooks) (others : Others) (p : PathState Carried) (ab ba : Lan
         by false = ack_tells e.tcp.send.nxt None tells.sender.next tt
 
     resend_told : SegmentTells p.profile s (resend_of s p)
-    resend_told = by (has_records e.tcp) e.modes.owes_third (owes_end e.sending)
+    resend_told = by (has_records e.tcp) e.modes.owes_third (is_end_owed e)
       where
         by : (some third owes : Bool) → SegmentTells p.profile s (if some then record_or_ack p.profile s (first_record e) e
             else (if third then ack_said p.profile s e.tcp.send.nxt None e
@@ -243,6 +341,31 @@ module _ (six : SixBooks) (others : Others) (p : PathState Carried) (ab ba : Lan
         by true = ack_out_told (resets s reason) fair
         by false = reset_told (Some reason) low
 
+    -- ---- what is told of the mode
+
+    fell_fair : (event : Event) → AreFair (fell_duties s (reply_of six (fell_ask s event p)) p)
+    fell_fair event =
+        let control = control_of s six in
+        verdict_fair s p (fall_step control.fall (path_of p) (sole control.paths (path_of p)) event).1 (step_low control.fall (path_of p) (sole control.paths (path_of p)) event) t.agenda
+
+    fell_told : (event : Event) → Tells (answered_fell s event (reply_of six (fell_ask s event p)) p)
+    fell_told event =
+        let r : Reply = reply_of six (fell_ask s event p) in on (after_fell event r e) (fell_duties s r p) (rules.fell_tells p.profile s e tells event r) (fell_fair event)
+
+    plain_ack_told : Tells (answered_plain_ack values s (reply_of six (plain_ack_ask values s p)) p)
+    plain_ack_told = by (breaks_by_ack p.profile e)
+      where
+        by : (b : Bool) → let x = if b then break_ask values s 6 p else fell_ask s events.PlainAck p in
+            Tells (if b then answered_break values s 6 (reply_of six x) p else goes_on s (with_plain_ack (after_fell events.PlainAck (reply_of six x) e)) (fell_duties s (reply_of six x) p) p)
+        by true = break_told 6 refl (omega arith)
+        by false =
+            let r : Reply = reply_of six (fell_ask s events.PlainAck p) in
+            let f : PathEnd = after_fell events.PlainAck r e in
+            on (with_plain_ack f) (fell_duties s r p) (rules.plain_ack_tells p.profile s f (rules.fell_tells p.profile s e tells events.PlainAck r)) (fell_fair events.PlainAck)
+
+    subflow_ack_told : Tells (answered_subflow_ack s (reply_of six (subflow_ack_ask s e)) p)
+    subflow_ack_told = on _ (left p) (rules.plain_acked p.profile s e tells (ack_reply (plain_next e) (send_of s six))) left_fair
+
     -- ---- keys, and what a copy said
 
     keyed : (r : Reply) (keys : Option KeyPair) → IfSome keys (λ k. IsKey k.peer) → Tells (goes_on s (after_keys r keys e) (left p) p)
@@ -255,12 +378,13 @@ module _ (six : SixBooks) (others : Others) (p : PathState Carried) (ab ba : Lan
     mapping_told : Tells (answered_mapping values s (reply_of six (mapping_ask values s p)) p)
     mapping_told = by (is_clash e)
       where
-        by : (b : Bool) → Tells (if b then answered_break values s 1 (reply_of six (if b then break_ask values s 1 p else fell_ask s events.MappingHeard p)) p
-            else goes_on s (with_learned (after_verdict (reply_of six (if b then break_ask values s 1 p else fell_ask s events.MappingHeard p)) e)) (left p) p)
+        by : (b : Bool) → let x = if b then break_ask values s 1 p else fell_ask s events.MappingHeard p in
+            Tells (if b then answered_break values s 1 (reply_of six x) p else goes_on s (with_learned (after_fell events.MappingHeard (reply_of six x) e)) (fell_duties s (reply_of six x) p) p)
         by true = break_told 1 refl (omega arith)
         by false =
-            let f : PathEnd = after_verdict (reply_of six (fell_ask s events.MappingHeard p)) e in
-            on (with_learned f) (left p) (rules.learned_tells p.profile s f (rules.verdict_tells p.profile s e tells (reply_of six (fell_ask s events.MappingHeard p)))) left_fair
+            let r : Reply = reply_of six (fell_ask s events.MappingHeard p) in
+            let f : PathEnd = after_fell events.MappingHeard r e in
+            on (with_learned f) (fell_duties s r p) (rules.learned_tells p.profile s f (rules.fell_tells p.profile s e tells events.MappingHeard r)) (fell_fair events.MappingHeard)
 
     heard_told : (item : Heard) → ItemTells item → Tells (answered_heard values s item (reply_of six (heard_ask values s item p)) p)
     heard_told (says.DataAck next window) x =
@@ -268,8 +392,10 @@ module _ (six : SixBooks) (others : Others) (p : PathState Carried) (ab ba : Lan
         on (with_acked next (replies.Send r) e) (told_next s (is_acked (replies.Send r) && nat_lt 0 next) p) (rules.stream_acked p.profile s e tells next r x) (acked_fair (is_acked (replies.Send r) && nat_lt 0 next))
     heard_told says.Mapping x = mapping_told
     heard_told (says.DataFin place) x =
-        let f : PathEnd = after_verdict (reply_of six (fell_ask s events.MappingHeard p)) e in
-        on (with_fin place f) (left p) (rules.fin_tells p.profile s f (rules.verdict_tells p.profile s e tells (reply_of six (fell_ask s events.MappingHeard p))) place) left_fair
+        let r : Reply = reply_of six (fell_ask s events.MappingHeard p) in
+        let f : PathEnd = after_fell events.MappingHeard r e in
+        on (with_fin place f) (fell_duties s r p) (rules.fin_tells p.profile s f (rules.fell_tells p.profile s e tells events.MappingHeard r) place) (fell_fair events.MappingHeard)
+    heard_told says.InfiniteMapping x = fell_told events.InfiniteHeard
     heard_told (says.Keys own peer) x =
         let keys : Option KeyPair = Some (record { own = own; peer = peer }) in keyed (reply_of six (keys_ask s keys)) keys x.1
     heard_told says.Dss x = done_tells
@@ -292,7 +418,17 @@ module _ (six : SixBooks) (others : Others) (p : PathState Carried) (ab ba : Lan
     item_by (Some item) x = heard_told item x
 
     item_told : (index : ℕ) → Tells (answered_item values s (item_of index e) (reply_of six (item_ask values s (item_of index e) p)) p)
-    item_told index = item_by (item_of index e) (every_item index e.treated.items tells.treated.items)
+    item_told index = item_by (item_of index e) (known_item e.modes.identity _ (every_item index e.treated.items tells.treated.items))
+
+    -- ---- the opening
+
+    peer_key_told : (o : Option ℕ) → IfSome o IsKey → Tells (answered_peer_key s o (reply_of six (peer_key_ask s o p)) p)
+    peer_key_told None key = fell_told events.PlainHandshake
+    peer_key_told (Some n) key = on (with_peer_key (Some n) e) (left p) (rules.peer_key_tells p.profile s e tells (Some n) key) left_fair
+
+    opened_told : (o : Option KeyPair) → IfSome o (λ k. IsKey k.peer) → Tells (answered_opened s o (reply_of six (opened_ask s o p)) p)
+    opened_told None key = fell_told events.PlainHandshake
+    opened_told (Some keys) key = keyed (reply_of six (keys_ask s (Some keys))) (Some keys) key
 
     -- ---- grants
 
@@ -317,7 +453,7 @@ module _ (six : SixBooks) (others : Others) (p : PathState Carried) (ab ba : Lan
       grants : (r : SendReply) → grant_reply (path_of p) (payload_size p.profile) e.modes.standby (send_of s six) ≡ r → Grants r
       grants r is =
           let whole = marks_whole in let written = short.written s in
-          subst Grants is (granted_step six others p ab ba h holds ready s (payload_size p.profile) e.modes.standby (omega (arith, size)) (omega (arith, whole, written)) may numbered)
+          subst Grants is (granted_step six others p ab ba h holds ready s (payload_size p.profile) e.modes.standby (omega (arith, size)) (omega (arith, whole, written)) marks_whole may numbered)
 
       -- all that was granted was written
       granted_reaches : (span : Span) (piece : List ℕ) → Grants (send_replies.Granted span piece) → IsShort (e.tcp.send.nxt + length piece + 1)
@@ -362,10 +498,10 @@ module _ (six : SixBooks) (others : Others) (p : PathState Carried) (ab ba : Lan
     -- ---- bytes
 
     -- the lane that the side hears, with other fields
-    heard_holds : (q : Lane) → Strolls back q → LaneHolds (view_of (flags_by others.joined) (send_of (peer s) six) (reassembly_of s six)) others.number q
+    heard_holds : (q : Lane) → Strolls back q → LaneHolds (view_of (flags_of (peer s) six) (send_of (peer s) six) (reassembly_of s six)) others.number q
     heard_holds = by s
       where
-        by : (s : Side) (q : Lane) → Strolls (pick s ba ab) q → LaneHolds (view_of (flags_by others.joined) (send_of (peer s) six) (reassembly_of s six)) others.number q
+        by : (s : Side) (q : Lane) → Strolls (pick s ba ab) q → LaneHolds (view_of (flags_of (peer s) six) (send_of (peer s) six) (reassembly_of s six)) others.number q
         by A q x = back_holds six others A ab q (strolls_held six others ab ab ba q (stays ab) x holds)
         by B q x = back_holds six others B q ba (strolls_held six others ab q ba ba x (stays ba) holds)
 
@@ -373,10 +509,10 @@ module _ (six : SixBooks) (others : Others) (p : PathState Carried) (ab ba : Lan
     broken = on (having_asked e) (breaks s 1) (rules.asked_tells p.profile s e tells) refl
 
     -- the bytes that the edge passes were sent
-    piece_reaches : (piece : Piece) → NextPiece p.profile s out back e piece → IsShort (e.tcp.recv.edge + length piece.octets)
+    piece_reaches : (piece : Piece) → IsNextReady p.profile s out back e piece → IsShort (e.tcp.recv.edge + length piece.octets)
     piece_reaches piece n =
-        let at = (at_edge p.profile s out back e piece n shows).edge_is in
-        let asks = (heard_holds (record back { asking = AskPlace piece.place piece.octets }) (wants_piece p.profile s out back e piece n shows)).ask.within in
+        let at = n.at.edge_is in
+        let asks = (heard_holds (record back { asking = AskPlace piece.place piece.octets }) n.wants).ask.within in
         let sent = back_is.sent in let written = short.written (peer s) in
         omega (arith, at, asks, sent, written)
 
@@ -385,13 +521,20 @@ module _ (six : SixBooks) (others : Others) (p : PathState Carried) (ab ba : Lan
     piece_by (Some piece) is false = broken
     piece_by (Some piece) is true =
         let f : PathEnd = after_piece piece e in
-        on (having_asked f) p.agenda (rules.asked_tells p.profile s f (rules.piece_tells p.profile s e tells piece (piece_reaches piece (piece_from p.profile s out back e piece is shows)))) t.agenda
+        on (having_asked f) p.agenda (rules.asked_tells p.profile s f (rules.piece_tells p.profile s e tells piece (piece_reaches piece (next_ready p.profile s out back e piece is shows)))) t.agenda
 
     fin_told : (set : Bool) → Tells (answered_fin_heard s set p)
     fin_told false = broken
     fin_told true =
         let f : PathEnd = with_peer_end e in
         on (having_asked f) (left p) (rules.asked_tells p.profile s f (rules.peer_end_tells p.profile s e tells)) left_fair
+
+    plain_fin_told : (set : Bool) → Tells (answered_plain_fin s set p)
+    plain_fin_told false = broken
+    plain_fin_told true =
+        let f : PathEnd = with_fin_told e in
+        let g : PathEnd = with_peer_end f in
+        on (having_asked g) (left p) (rules.asked_tells p.profile s g (rules.peer_end_tells p.profile s f (rules.fin_told_tells p.profile s e tells))) left_fair
 
     -- ---- the ends of the streams
 
@@ -409,9 +552,11 @@ module _ (six : SixBooks) (others : Others) (p : PathState Carried) (ab ba : Lan
     fin_due is =
         let may = (and_parts (states.may_finish e.tcp.state) _ is).0 in
         let next = next_is may in let sent = out_is.sent in let written = short.written s in
-        let f : PathEnd = record e { tcp = after_finishing e.tcp } in
+        let f : PathEnd = with_told (fin_segment_of s p) e in
+        let g : PathEnd = record f { tcp = after_finishing f.tcp } in
         tells_sent p.profile p t h.unchanged s (fin_segment_of s p) (having_sent_fin s p) (left p) (fin_said_tells p.profile s path wide e tells (fin_at e.tcp.send.finished))
-        (rules.sent_end_tells p.profile s f (rules.finished_tells p.profile s e tells (omega (arith, next, sent, written))) to_send.Fin p.clock (fin_segment_of s p)) left_fair
+        (rules.fin_record_tells p.profile s g
+        (rules.finished_tells p.profile s f (rules.told_end_tells p.profile s e tells (fin_segment_of s p)) (omega (arith, next, sent, written))) p.clock) left_fair
 
     data_by : (o : Option Record) → first_unsent e ≡ o → data_stands p.profile s e o ≡ true → Tells (answered_data values s o (reply_of six (data_ask values s o p)) p)
     data_by (Some r) is stands = unsent_told p.agenda t.agenda
@@ -432,20 +577,21 @@ module _ (six : SixBooks) (others : Others) (p : PathState Carried) (ab ba : Lan
   duty_tells duties.Events is fair = events_tell p t (next_event p) (reply_of six (step_for (path_of p) (next_event p))) (step_keys six short.keys (path_of p) (next_event p))
   duty_tells (duties.SynHeard s) is fair = done_tells
   duty_tells (duties.SynAnswered s) is fair = done_tells
-  duty_tells (duties.PeerKey s) is fair =
-      let key = key_heard (end_at s p).treated.items in
-      on s (with_peer_key key (end_at s p)) (left p) (rules.peer_key_tells p.profile s (end_at s p) (tells s) key (heard_key (end_at s p).treated.items (tells s).treated.items)) left_fair
+  duty_tells (duties.PlainHandshake s) is fair = fell_told s events.PlainHandshake
+  duty_tells (duties.PeerKey s) is fair = peer_key_told s (key_heard (end_at s p).treated.items) (heard_key (end_at s p).treated.items (tells s).treated.items)
   duty_tells (duties.SynAck s) is fair = syn_ack_told s (left p) left_fair
   duty_tells (duties.JoinHeard s) is fair = join_told s
   duty_tells (duties.Refuse s) is fair = refused_told s
-  duty_tells (duties.Opened s) is fair =
-      let keys = keys_heard (end_at s p).treated.items in
-      keyed s (reply_of six (keys_ask s keys)) keys (heard_keys (end_at s p).treated.items (tells s).treated.items)
+  duty_tells (duties.Opened s) is fair = opened_told s (keys_heard (end_at s p).treated.items) (heard_keys (end_at s p).treated.items (tells s).treated.items)
   duty_tells (duties.Live s) is fair = done_tells
   duty_tells (duties.Heard s index) is fair = item_told s index
-  duty_tells (duties.AckHeard s) is fair =
-      let r : Reply = reply_of six (fell_ask s events.AckHeard p) in on s (after_verdict r (end_at s p)) (left p) (rules.verdict_tells p.profile s (end_at s p) (tells s) r) left_fair
-  duty_tells (duties.PlainAck s) is fair = break_told s 6 refl (omega arith)
+  duty_tells (duties.AckHeard s) is fair = fell_told s events.AckHeard
+  duty_tells (duties.PlainAck s) is fair = plain_ack_told s
+  duty_tells (duties.SubflowAck s) is fair = subflow_ack_told s
+  duty_tells (duties.PlainData s) is fair = fell_told s events.PlainData
+  duty_tells (duties.GoIdentity s) is fair = on s (in_identity (end_at s p)) (left p) (rules.identity_tells p.profile s (end_at s p) (tells s)) left_fair
+  duty_tells (duties.Unmapped s) is fair = break_told s 6 refl (omega arith)
+  duty_tells (duties.SubflowFin s) is fair = plain_fin_told s (is_fin_set (reply_of six (fin_ask s (plain_fin (end_at s p)))))
   duty_tells (duties.Keep s) is fair = done_tells
   duty_tells (duties.Edge s) is fair = piece_by s (piece_of s p) refl (is_placed (reply_of six (piece_ask s (piece_of s p))))
   duty_tells (duties.HeardFin s index) is fair = fin_told s (is_fin_set (reply_of six (fin_ask s (fin_of index (end_at s p)))))

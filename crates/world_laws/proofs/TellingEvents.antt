@@ -6,9 +6,10 @@ use Rattle.outside_kit.specs.declared.side.Side.{Side}
 use Rattle.outside_kit.specs.declared.side.Side.TheVariants.{A, B}
 use Rattle.link_model.specs.declared.flight.Due.{Due}
 use Rattle.link_model.specs.declared.flight.Flight.{Flight}
-use Rattle.link_model.specs.Steps.{is_due, arriving, after_delivery}
+use Rattle.link_model.specs.Steps.{peer, is_due, arriving, after_delivery}
 use Rattle.link_script.specs.Places.{same_side}
 use Rattle.path_segments.specs.Laws.{meant}
+use Rattle.path_segments.specs.Spelled.{PlainSegment}
 use Rattle.subflow_tcp.specs.declared.verdicts.Meaning.{Meaning}
 use Rattle.subflow_tcp.specs.declared.verdicts.Meaning.TheVariants as means
 use Rattle.subflow_tcp.specs.Expiring.{is_sixth}
@@ -27,11 +28,12 @@ use Rattle.path_core.specs.declared.judged.Judged.TheVariants as judged
 use Rattle.path_core.specs.Joining.{is_never, keys_begun, opened_by}
 use Rattle.path_core.specs.Joins.{is_joined}
 use Rattle.path_core.specs.Ends.{PathEnd}
-use Rattle.path_core.specs.Events.{is_death, at_tick, died, join_begun, after_line, heard_in, copy_heard, copy_taken, after_firing, template_fired, timer_fired, happens, happens_if}
+use Rattle.path_core.specs.Events.{is_death, at_tick, died, join_begun, after_line, told_at, heard_in, copy_heard, copy_taken, after_firing, template_fired, timer_fired, happens, happens_if}
 use Rattle.path_core.specs.State.{PathState, Profile, end_at, goes_on}
-use Rattle.path_core.specs.Values.{Carried, values}
+use Rattle.path_core.specs.Values.{Carried, as_arrived, values}
 use Rattle.world_laws.proofs.Happening.{without_kept, found_due, side_is}
 use Rattle.world_laws.proofs.Records.{every_find}
+use Rattle.world_laws.proofs.Telling.{SegmentTells, bare_tells}
 use Rattle.world_laws.proofs.TellingArrivals.{arrived_tells}
 use Rattle.world_laws.proofs.TellingRules.{AreKeys, opened_tells, died_tells, died_unless_tells, fired_tells}
 use Rattle.world_laws.proofs.TellingSteps.{CopyTells, AreFair, PathTells, tells_at, tells_on, tells_agenda}
@@ -110,20 +112,39 @@ module _ (p : PathState Carried) (h : PathTells p.profile p) where
   delivered : (due : Due) → Tells (after due)
   delivered due = record { a = h.a; b = h.b; copies = without_kept (position (is_due due) p.link.under_way) p.link.under_way h.copies; agenda = h.agenda }
 
+  -- what it says
+  told_tells : (due : Due) (sg : PlainSegment) → SegmentTells p.profile (peer due.to) sg → Tells (told_at (after due).clock due.to (meant sg) (after due))
+  told_tells due sg tells =
+      let s = due.to in
+      let e : PathEnd = end_at s (after due) in
+      let joined = is_joined p.profile in
+      let items = items_of joined s (meant sg) in
+      let verdict : Judged = judged_in joined s (meant sg) e in
+      tells_on p.profile (after due) (delivered due) s (after_judged p.profile s (after due).clock (meant sg) verdict e) (template_of joined s items verdict)
+      (arrived_tells p.profile s (after due).clock sg e tells (tells_at p.profile (after due) (delivered due) s))
+      (judged_fair joined s (length items) verdict)
+
+  -- or without options after a fallback
+  heard_tells : (due : Due) (identity : Bool) (sg : PlainSegment) → SegmentTells p.profile (peer due.to) sg
+      → Tells (told_at (after due).clock due.to (record (meant sg) { options = (if identity then [] else (meant sg).options) }) (after due))
+  heard_tells due true sg tells = told_tells due (record sg { options = [] }) (bare_tells p.profile (peer due.to) sg tells)
+  heard_tells due false sg tells = told_tells due sg tells
+
+  -- or where they were taken away
+  arrived : (due : Due) (carried : Carried) → SegmentTells p.profile (peer due.to) carried.segment → SegmentTells p.profile (peer due.to) (as_arrived carried)
+  arrived due carried tells = by carried.stripped
+    where
+      by : (b : Bool) → SegmentTells p.profile (peer due.to) (record carried.segment { options = (if b then [] else carried.segment.options) })
+      by true = bare_tells p.profile (peer due.to) carried.segment tells
+      by false = tells
+
   copy_tells : (due : Due) → Tells (copy_taken values due p)
   copy_tells due = by (arriving due p.link) (due_tells p.profile p h due)
     where
       by : (o : Option (Flight Carried)) → IfSome o (λ f. CopyTells p.profile due.to f.carried) → Tells (copy_heard due.to (heard_in values due.to o p) (after due))
       by None tells = tells_agenda p.profile (after due) (delivered due) (emission due.to) refl
       by (Some f) tells =
-          let s = due.to in let sg = f.carried.segment in
-          let e : PathEnd = end_at s (after due) in
-          let joined = is_joined p.profile in
-          let items = items_of joined s (meant sg) in
-          let verdict : Judged = judged_in joined s (meant sg) e in
-          tells_on p.profile (after due) (delivered due) s (after_judged p.profile s (after due).clock (meant sg) verdict e) (template_of joined s items verdict)
-          (arrived_tells p.profile s (after due).clock sg e tells.segment (tells_at p.profile (after due) (delivered due) s))
-          (judged_fair joined s (length items) verdict)
+          heard_tells due (end_at due.to (after due)).modes.identity (as_arrived f.carried) (arrived due f.carried tells.segment)
 
   -- ---- timers
 

@@ -6,6 +6,8 @@ use Rattle.std.specs.Result.{result_ok}
 use Rattle.outside_kit.specs.declared.side.Side.{Side}
 use Rattle.control_book.specs.declared.call.ControlReply.TheVariants as control_replies
 use Rattle.dss_mapping.specs.declared.kept.KeptMapping.{KeptMapping}
+use Rattle.fallback_state.specs.declared.fall.Event.{Event}
+use Rattle.fallback_state.specs.declared.fall.Event.TheVariants as events
 use Rattle.fallback_state.specs.declared.fall.Verdict.TheVariants as verdicts
 use Rattle.join_handshake.specs.Heard.{syn_heard, answer_heard, answer_taken}
 use Rattle.join_handshake.specs.declared.fault.JoinFault.TheVariants.{BadHmac}
@@ -27,7 +29,7 @@ use Rattle.subflow_send.specs.Rules.{after_acknowledge, after_sent, after_resent
 use Rattle.subflow_tcp.specs.declared.segments.Occasion.{Occasion}
 use Rattle.subflow_tcp.specs.declared.segments.Occasion.TheVariants as to_send
 use Rattle.subflow_tcp.specs.Closing.{is_fin_next, after_finishing, after_passing_fin}
-use Rattle.subflow_tcp.specs.Emitting.{syn_resent}
+use Rattle.subflow_tcp.specs.Emitting.{syn_resent, after_sending}
 use Rattle.subflow_tcp.specs.Expiring as expiring
 use Rattle.subflow_tcp.specs.Opening.{after_begin}
 use Rattle.subflow_recv.specs.Receiving.{after_forget_from, without_held, after_keep_held}
@@ -52,13 +54,14 @@ use Rattle.path_agenda.specs.Items.{key_in, key_heard, pair_in, keys_heard, is_o
 use Rattle.path_core.specs.Joining.{with_keys, opened_by}
 use Rattle.path_core.specs.Joins.{peer_key_of, join_value, join_asked, join_answer}
 use Rattle.path_core.specs.Opening.{with_peer_key, keys_in, after_keys}
-use Rattle.path_core.specs.Passing.{having_asked, with_peer_end, after_rate, after_pass_fin}
-use Rattle.path_core.specs.Placing.{Piece, is_wrong, forgotten_by, after_piece, with_learned, with_skipped}
+use Rattle.path_core.specs.Falling.{mode_in, fell_in, after_fell, in_identity}
+use Rattle.path_core.specs.Passing.{having_asked, with_peer_end, with_fin_told, after_rate, after_pass_fin}
+use Rattle.path_core.specs.Placing.{Piece, is_wrong, forgotten_by, after_piece, with_learned, with_skipped, after_unmapped}
 use Rattle.path_core.specs.Segments.{bare_mapping}
-use Rattle.path_core.specs.Sends.{with_edge_told, having_sent}
+use Rattle.path_core.specs.Sends.{with_told, having_sent}
 use Rattle.path_core.specs.Standing.{modes_told, after_look, after_ack_out}
 use Rattle.path_core.specs.State.{Profile}
-use Rattle.path_core.specs.Treating.{mode_in, after_verdict, with_acked, with_fin, after_dss, is_dropped, after_keep}
+use Rattle.path_core.specs.Treating.{with_acked, with_plain_acked, with_plain_ack, with_fin, after_dss, is_dropped, after_keep}
 use Rattle.path_core.specs.Words.{told_last}
 use Rattle.path_segments.specs.Spelled.{PlainSegment}
 use Rattle.world_laws.proofs.Doing.{place_is}
@@ -114,6 +117,11 @@ told_modes _ m h = h
 went_modes : (r : Reply) (m : Modes) → ModesTell m → ModesTell (mode_in r m)
 went_modes (replies.Control (control_replies.Verdict (verdicts.Went mode))) m h = record { own_key = h.own_key; peer_key = h.peer_key; own_nonce = h.own_nonce; peer_nonce = h.peer_nonce }
 went_modes _ m h = h
+
+fell_modes : (event : Event) (r : Reply) (m : Modes) → ModesTell m → ModesTell (fell_in event r m)
+fell_modes events.PlainData r m h = let w = went_modes r m h in record { own_key = w.own_key; peer_key = w.peer_key; own_nonce = w.own_nonce; peer_nonce = w.peer_nonce }
+fell_modes events.PlainAck r m h = let w = went_modes r m h in record { own_key = w.own_key; peer_key = w.peer_key; own_nonce = w.own_nonce; peer_nonce = w.peer_nonce }
+fell_modes _ r m h = went_modes r m h
 
 keyed_modes : (r : Reply) (o : Option KeyPair) (m : Modes) → IfSome o (λ k. IsKey k.peer) → ModesTell m → ModesTell (keys_in r o m)
 keyed_modes (replies.Control control_replies.Noted) (Some keys) m k h = record { own_key = h.own_key; peer_key = k; own_nonce = h.own_nonce; peer_nonce = h.peer_nonce }
@@ -204,8 +212,14 @@ module _ (c : Profile) (s : Side) (e : PathEnd) (h : EndTells c s e) where
   pub look_tells : (r : Reply) → EndTells c s (after_look r e)
   look_tells r = with_modes (modes_told r e.modes) (told_modes r e.modes h.modes)
 
-  pub verdict_tells : (r : Reply) → EndTells c s (after_verdict r e)
-  verdict_tells r = with_modes (mode_in r e.modes) (went_modes r e.modes h.modes)
+  pub fell_tells : (event : Event) (r : Reply) → EndTells c s (after_fell event r e)
+  fell_tells event r = with_modes (fell_in event r e.modes) (fell_modes event r e.modes h.modes)
+
+  pub identity_tells : EndTells c s (in_identity e)
+  identity_tells = with_modes (record e.modes { identity = true }) (record { own_key = h.modes.own_key; peer_key = h.modes.peer_key; own_nonce = h.modes.own_nonce; peer_nonce = h.modes.peer_nonce })
+
+  pub plain_ack_tells : EndTells c s (with_plain_ack e)
+  plain_ack_tells = with_modes (with_plain_ack e).modes (record { own_key = h.modes.own_key; peer_key = h.modes.peer_key; own_nonce = h.modes.own_nonce; peer_nonce = h.modes.peer_nonce })
 
   pub peer_key_tells : (o : Option ℕ) → IfSome o IsKey → EndTells c s (with_peer_key o e)
   peer_key_tells o key = with_modes (record e.modes { peer_key = o }) (record { own_key = h.modes.own_key; peer_key = key; own_nonce = h.modes.own_nonce; peer_nonce = h.modes.peer_nonce })
@@ -236,7 +250,7 @@ module _ (c : Profile) (s : Side) (e : PathEnd) (h : EndTells c s e) where
     stream = h.stream;
     window = h.window;
     modes = keyed_modes r o e.modes key h.modes;
-    treated = record { items = h.treated.items; answer = h.treated.answer };
+    treated = record { items = h.treated.items; answer = h.treated.answer; acknowledged = h.treated.acknowledged };
   }
 
   -- ---- what is to be acknowledged
@@ -248,7 +262,7 @@ module _ (c : Profile) (s : Side) (e : PathEnd) (h : EndTells c s e) where
     stream = h.stream;
     window = record { next = short; window = most };
     modes = h.modes;
-    treated = record { items = h.treated.items; answer = h.treated.answer };
+    treated = record { items = h.treated.items; answer = h.treated.answer; acknowledged = h.treated.acknowledged };
   }
 
   -- ---- what was heard
@@ -260,7 +274,7 @@ module _ (c : Profile) (s : Side) (e : PathEnd) (h : EndTells c s e) where
     stream = record { heard = let heard = h.stream.heard in omega (arith, heard, short); known_end = h.stream.known_end };
     window = h.window;
     modes = record { own_key = h.modes.own_key; peer_key = h.modes.peer_key; own_nonce = h.modes.own_nonce; peer_nonce = h.modes.peer_nonce };
-    treated = h.treated;
+    treated = record { items = h.treated.items; answer = h.treated.answer; acknowledged = h.treated.acknowledged };
   }
   stream_acked next _ short = record {
     sender = h.sender;
@@ -268,11 +282,23 @@ module _ (c : Profile) (s : Side) (e : PathEnd) (h : EndTells c s e) where
     stream = h.stream;
     window = h.window;
     modes = record { own_key = h.modes.own_key; peer_key = h.modes.peer_key; own_nonce = h.modes.own_nonce; peer_nonce = h.modes.peer_nonce };
-    treated = h.treated;
+    treated = record { items = h.treated.items; answer = h.treated.answer; acknowledged = h.treated.acknowledged };
   }
 
+  -- after a fallback an acknowledgement of the subflow says as much
+  pub plain_acked : (r : SendReply) → EndTells c s (with_plain_acked (replies.Send r) e)
+  plain_acked (send_replies.Acked bytes fin) = record {
+    sender = h.sender;
+    edge = h.edge;
+    stream = record { heard = let heard = h.stream.heard in let short = h.treated.acknowledged in omega (arith, heard, short); known_end = h.stream.known_end };
+    window = h.window;
+    modes = h.modes;
+    treated = h.treated;
+  }
+  plain_acked _ = h
+
   pub fin_tells : (place : ℕ) → EndTells c s (with_fin place e)
-  fin_tells place = record { sender = h.sender; edge = h.edge; stream = h.stream; window = h.window; modes = h.modes; treated = record { items = h.treated.items; answer = h.treated.answer } }
+  fin_tells place = record { sender = h.sender; edge = h.edge; stream = h.stream; window = h.window; modes = h.modes; treated = record { items = h.treated.items; answer = h.treated.answer; acknowledged = h.treated.acknowledged } }
 
   pub learned_tells : EndTells c s (with_learned e)
   learned_tells = record { sender = h.sender; edge = h.edge; stream = h.stream; window = record { next = h.window.next; window = h.window.window }; modes = h.modes; treated = h.treated }
@@ -281,10 +307,16 @@ module _ (c : Profile) (s : Side) (e : PathEnd) (h : EndTells c s e) where
   skipped_tells = record { sender = h.sender; edge = h.edge; stream = h.stream; window = record { next = h.window.next; window = h.window.window }; modes = h.modes; treated = h.treated }
 
   pub asked_tells : EndTells c s (having_asked e)
-  asked_tells = record { sender = h.sender; edge = h.edge; stream = h.stream; window = h.window; modes = h.modes; treated = record { items = h.treated.items; answer = h.treated.answer } }
+  asked_tells = record { sender = h.sender; edge = h.edge; stream = h.stream; window = h.window; modes = h.modes; treated = record { items = h.treated.items; answer = h.treated.answer; acknowledged = h.treated.acknowledged } }
 
   pub peer_end_tells : EndTells c s (with_peer_end e)
   peer_end_tells = record { sender = h.sender; edge = h.edge; stream = record { heard = h.stream.heard; known_end = h.stream.known_end }; window = h.window; modes = h.modes; treated = h.treated }
+
+  pub fin_told_tells : EndTells c s (with_fin_told e)
+  fin_told_tells = record { sender = h.sender; edge = h.edge; stream = h.stream; window = record { next = h.window.next; window = h.window.window }; modes = h.modes; treated = h.treated }
+
+  pub unmapped_tells : EndTells c s (after_unmapped e)
+  unmapped_tells = record { sender = h.sender; edge = h.edge; stream = h.stream; window = record { next = h.window.next; window = h.window.window }; modes = h.modes; treated = h.treated }
 
   pub piece_tells : (piece : Piece) → IsShort (e.tcp.recv.edge + length piece.octets) → EndTells c s (after_piece piece e)
   piece_tells piece short = record { sender = h.sender; edge = short; stream = h.stream; window = record { next = h.window.next; window = h.window.window }; modes = h.modes; treated = h.treated }
@@ -339,13 +371,13 @@ module _ (c : Profile) (s : Side) (e : PathEnd) (h : EndTells c s e) where
 
   -- ---- sendings
 
-  with_sender : (tcp : EndState) → tcp.recv ≡ e.tcp.recv → SenderTells c s tcp.send → (sg : PlainSegment) → EndTells c s (record (with_edge_told sg e) { tcp = tcp })
+  with_sender : (tcp : EndState) → tcp.recv ≡ e.tcp.recv → SenderTells c s tcp.send → (sg : PlainSegment) → EndTells c s (record (with_told sg e) { tcp = tcp })
   with_sender tcp same sender sg = record {
     sender = sender;
     edge = subst (λ recv. IsShort recv.edge) (sym same) h.edge;
     stream = h.stream;
     window = record { next = h.window.next; window = h.window.window };
-    modes = h.modes;
+    modes = record { own_key = h.modes.own_key; peer_key = h.modes.peer_key; own_nonce = h.modes.own_nonce; peer_nonce = h.modes.peer_nonce };
     treated = h.treated;
   }
 
@@ -358,6 +390,13 @@ module _ (c : Profile) (s : Side) (e : PathEnd) (h : EndTells c s e) where
   sent_end_tells to_send.First now sg = with_sender _ refl (resent_tells c s e.tcp.send h.sender now) sg
   sent_end_tells to_send.Unsent now sg = with_sender _ refl (sent_tells c s e.tcp.send h.sender now) sg
   sent_end_tells to_send.Fin now sg = with_sender _ refl (fin_sent_tells c s e.tcp.send h.sender now) sg
+
+  pub told_end_tells : (sg : PlainSegment) → EndTells c s (with_told sg e)
+  told_end_tells sg = with_sender e.tcp refl h.sender sg
+
+  -- the record of the FIN, which is sent at once
+  pub fin_record_tells : (now : ℕ) → EndTells c s (record e { tcp = after_sending to_send.Fin now e.tcp })
+  fin_record_tells now = record { sender = fin_sent_tells c s e.tcp.send h.sender now; edge = h.edge; stream = h.stream; window = h.window; modes = h.modes; treated = h.treated }
 
   pub end_sent_tells : EndTells c s (record e { sending = with_end_sent e.sending })
   end_sent_tells = record { sender = h.sender; edge = h.edge; stream = record { heard = h.stream.heard; known_end = h.stream.known_end }; window = h.window; modes = h.modes; treated = h.treated }
@@ -384,7 +423,7 @@ module _ (c : Profile) (s : Side) (e : PathEnd) (h : EndTells c s e) where
   dead_tells reset t treated = record { sender = acknowledged_tells c s e.tcp.send h.sender e.tcp.send.nxt; edge = h.edge; stream = h.stream; window = h.window; modes = h.modes; treated = treated }
 
   pub died_tells : EndTells c s (died e)
-  died_tells = dead_tells false nothing_treated (record { items = Every-nil _; answer = tt })
+  died_tells = dead_tells false nothing_treated (record { items = Every-nil _; answer = tt; acknowledged = omega arith })
 
   pub died_unless_tells : EndTells c s (died_unless_dead e)
   died_unless_tells = by (states.is_dead e.tcp.state)
@@ -421,7 +460,7 @@ module _ (c : Profile) (s : Side) (e : PathEnd) (h : EndTells c s e) where
       by true = same_edge (record e.tcp { recv = after_forget_from kept.pos e.tcp.recv }) refl refl
 
   pub keep_tells : EndTells c s (after_keep s e)
-  keep_tells = by (is_dropped s e)
+  keep_tells = kept_so (is_dropped s e)
     where
       kept : (b : Bool) → (if b then taking.after_dropping_held e.tcp else taking.after_keeping_held e.tcp).recv.edge ≡ e.tcp.recv.edge
       kept true = refl
@@ -434,6 +473,18 @@ module _ (c : Profile) (s : Side) (e : PathEnd) (h : EndTells c s e) where
       by : (b : Bool) → EndTells c s (record e { tcp = if b then taking.after_dropping_held e.tcp else taking.after_keeping_held e.tcp })
       by true = same_edge (taking.after_dropping_held e.tcp) refl (kept true)
       by false = same_edge (taking.after_keeping_held e.tcp) refl (kept false)
+
+      kept_so : (b : Bool) → EndTells c s (record e { tcp = (if b then taking.after_dropping_held e.tcp else taking.after_keeping_held e.tcp); treated = (after_keep s e).treated })
+      kept_so b =
+          let f = by b in
+          record {
+            sender = f.sender;
+            edge = f.edge;
+            stream = h.stream;
+            window = h.window;
+            modes = h.modes;
+            treated = record { items = h.treated.items; answer = h.treated.answer; acknowledged = h.treated.acknowledged };
+          }
 
   pub pass_fin_tells : (is_fin_next e.tcp ≡ true → IsShort (e.tcp.recv.edge + 1)) → EndTells c s (after_pass_fin e)
   pass_fin_tells short = by (is_fin_next e.tcp) refl

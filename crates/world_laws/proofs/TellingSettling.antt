@@ -5,7 +5,6 @@ use Rattle.std.specs.List.{list_all}
 use Rattle.std.specs.Option.{IfSome}
 use Rattle.outside_kit.specs.declared.side.Side.{Side}
 use Rattle.link_model.specs.Steps.{peer}
-use Rattle.dss_mapping.specs.Mappings.{mapping_at}
 use Rattle.subflow_tcp.specs.Judging.{is_at}
 use Rattle.stream_lanes.specs.Holding.{Holds}
 use Rattle.stream_lanes.specs.Lane.{Lane}
@@ -20,10 +19,10 @@ use Rattle.path_core.specs.Duties.{stands, passed}
 use Rattle.path_core.specs.Emission.{after_timer}
 use Rattle.path_core.specs.Ends.{PathEnd}
 use Rattle.path_core.specs.Passing.{after_pass_fin}
-use Rattle.path_core.specs.Placing.{after_check, with_learned, with_skipped}
+use Rattle.path_core.specs.Placing.{mapping_here, after_check, with_learned, with_skipped, after_unmapped}
 use Rattle.path_core.specs.State.{PathState, Profile, end_at, with_end, with_agenda}
 use Rattle.path_core.specs.Steps.{settled}
-use Rattle.path_core.specs.Treating.{counts, with_fin, after_keep, heard_passed, item_passed, item_of}
+use Rattle.path_core.specs.Treating.{counts, with_fin, with_plain_ack, after_keep, heard_passed, item_passed, item_of}
 use Rattle.path_core.specs.Values.{Carried}
 use Rattle.world_laws.proofs.Lanes.{Others, duo_at}
 use Rattle.world_laws.proofs.Settling.{passes}
@@ -55,6 +54,7 @@ item_told c s e h (says.DataFin place) = by (counts e)
 item_told c s e h (says.PeerKey key) = h
 item_told c s e h (says.Keys own peer) = h
 item_told c s e h (says.Join form) = h
+item_told c s e h says.InfiniteMapping = h
 
 maybe_told : (c : Profile) (s : Side) (e : PathEnd) → EndTells c s e → (o : Option Heard) → EndTells c s (item_passed s o e)
 maybe_told c s e h None = h
@@ -77,7 +77,9 @@ module _ (six : SixBooks) (others : Others) (c : Profile) (short : BooksAreShort
   passed_tells p ab ba h holds t (duties.Keep s) = end_tells c p t s (after_keep s (end_at s p)) (rules.keep_tells c s (end_at s p) (tells_at c p t s))
   passed_tells p ab ba h holds t (duties.Edge s) =
       end_tells c p t s (after_check p.profile (end_at s p))
-      (rules.check_tells c s (end_at s p) (tells_at c p t s) p.profile.spelling.checksums (mapping_at (end_at s p).receiving.mappings (end_at s p).tcp.recv.edge))
+      (rules.check_tells c s (end_at s p) (tells_at c p t s) p.profile.spelling.checksums (mapping_here (end_at s p)))
+  passed_tells p ab ba h holds t (duties.PlainAck s) = end_tells c p t s (with_plain_ack (end_at s p)) (rules.plain_ack_tells c s (end_at s p) (tells_at c p t s))
+  passed_tells p ab ba h holds t (duties.Unmapped s) = end_tells c p t s (after_unmapped (end_at s p)) (rules.unmapped_tells c s (end_at s p) (tells_at c p t s))
   passed_tells p ab ba h holds t (duties.PassFin s) =
       let e : PathEnd = end_at s p in
       end_tells c p t s (after_pass_fin e) (rules.pass_fin_tells c s e (tells_at c p t s)
@@ -101,7 +103,11 @@ module _ (six : SixBooks) (others : Others) (c : Profile) (short : BooksAreShort
   passed_tells p ab ba h holds t (duties.Opened s) = t
   passed_tells p ab ba h holds t (duties.Live s) = t
   passed_tells p ab ba h holds t (duties.AckHeard s) = t
-  passed_tells p ab ba h holds t (duties.PlainAck s) = t
+  passed_tells p ab ba h holds t (duties.PlainHandshake s) = t
+  passed_tells p ab ba h holds t (duties.SubflowAck s) = t
+  passed_tells p ab ba h holds t (duties.PlainData s) = t
+  passed_tells p ab ba h holds t (duties.GoIdentity s) = t
+  passed_tells p ab ba h holds t (duties.SubflowFin s) = t
   passed_tells p ab ba h holds t (duties.HeardFin s index) = t
   passed_tells p ab ba h holds t (duties.AckOut s) = t
   passed_tells p ab ba h holds t (duties.Rate s) = t

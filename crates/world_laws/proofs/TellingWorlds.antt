@@ -48,13 +48,12 @@ use Rattle.world_laws.specs.Fresh.{IsFreshPath, IsFreshCrew, IsFreshTurn, AreFre
 use Rattle.world_laws.specs.Openings.{PathPlan, Start, path_begins, opened_world}
 use Rattle.world_laws.specs.Promises.{IsPlain, NumbersFit, EveryListIsFresh}
 use Rattle.world_laws.specs.Worlds.{WorldState, Turn, asked, all_over, greatest, begins, end_round, after_turn, world_run}
-use Rattle.control_book.specs.Replies.{is_sure}
-use Rattle.world_laws.proofs.Surely.{sure_is_clear}
+use Rattle.world_laws.proofs.Steady.{always_steady}
 use Rattle.world_laws.proofs.Applying.{Reads, Writes}
 use Rattle.world_laws.proofs.Beginning.{first_lane, waiting, six, waiting_shows, alone, alone_holds, turn_reached, opened_reached}
-use Rattle.world_laws.proofs.Joining.{few_marks, beside, beside_is, begun_path, readied, readied_holds, sure_of}
+use Rattle.world_laws.proofs.Joining.{few_marks, beside, beside_is, begun_path, readied, readied_holds}
 use Rattle.world_laws.proofs.Journaling.{books_after}
-use Rattle.world_laws.proofs.Lanes.{duo_of, Others, duo_at, FirstIsClear, PathThere, WorldShows, SureIsClear, first_duo, Reached}
+use Rattle.world_laws.proofs.Lanes.{duo_of, Others, duo_at, PathThere, WorldShows, PathIsSteady, IsSteady, first_duo, Reached}
 use Rattle.world_laws.proofs.Opened.{opened_actors}
 use Rattle.world_laws.proofs.Showing.{PathShows}
 use Rattle.world_laws.proofs.Sides.{Answered}
@@ -121,7 +120,7 @@ opening_tells c s state opens path own key nonce is drawn = record {
   stream = record { heard = omega arith; known_end = tt };
   window = record { next = omega arith; window = omega arith };
   modes = record { own_key = is; peer_key = tt; own_nonce = drawn; peer_nonce = omega arith };
-  treated = record { items = Every-nil _; answer = tt };
+  treated = record { items = Every-nil _; answer = tt; acknowledged = omega arith };
 }
 
 -- ---- freshness of a path
@@ -189,8 +188,7 @@ module _ (start : Start) (plain : IsPlain start) (fit : NumbersFit start) where
 
   module _ (t : Cast Carried) (fare : Fare start t) (settled_paths : Every (λ x. IsSettled x.path) t.paths) (lanes_ab lanes_ba : List Lane) (reader_a reader_b : Reader)
       (reads_a : Reads t.a.told t.at_a.list reader_a) (reads_b : Reads t.b.told t.at_b.list reader_b) (paths : From (λ n x. PathThere start lanes_ab lanes_ba n x.path) 0 t.paths)
-      (joined : Bool) (clear : joined ≡ true → FirstIsClear t.paths) (sure : is_sure (books_in t.books).control_a.fall.mode ≡ true → FirstIsClear t.paths)
-      (holds : Holds (duo_of joined (books_in t.books) lanes_ab lanes_ba reader_a reader_b)) (tells : WorldTells start (world_of t)) where
+      (steady : IsSteady (world_of t)) (holds : Holds (duo_of (books_in t.books) lanes_ab lanes_ba reader_a reader_b)) (tells : WorldTells start (world_of t)) where
     abbrev books : SixBooks
     books = books_in t.books
 
@@ -220,10 +218,10 @@ module _ (start : Start) (plain : IsPlain start) (fit : NumbersFit start) where
       path = paths.each number number x (omega arith) there
 
       abbrev others : Others
-      others = beside start plain joined lanes_ab lanes_ba reader_a reader_b number path.ab path.ba path.ab_there path.ba_there
+      others = beside start plain lanes_ab lanes_ba reader_a reader_b number path.ab path.ba path.ab_there path.ba_there
 
       at_holds : Holds (duo_at books path.ab path.ba others)
-      at_holds = subst Holds (sym (beside_is start plain joined lanes_ab lanes_ba reader_a reader_b number path.ab path.ba path.ab_there path.ba_there books)) holds
+      at_holds = subst Holds (sym (beside_is start plain lanes_ab lanes_ba reader_a reader_b number path.ab path.ba path.ab_there path.ba_there books)) holds
 
       abbrev c : Profile
       c = (path_begins start number path.plan).profile
@@ -233,6 +231,9 @@ module _ (start : Start) (plain : IsPlain start) (fit : NumbersFit start) where
 
       own_tells : PathTells p.profile p
       own_tells = subst (λ d. PathTells d p) (sym profile) (tells_there number x there path.plan path.plan_there)
+
+      path_steady : PathIsSteady books number p
+      path_steady = steady.each number (walking x) (map_there walking t.paths number ∙ ap (option_map walking) there)
 
       -- the number of a path is below sixteen
       numbered : p.profile.spelling.path ≤ 15
@@ -249,10 +250,11 @@ module _ (start : Start) (plain : IsPlain start) (fit : NumbersFit start) where
           let fair : AreFair (duty ∷ ds) = subst AreFair is own_tells.agenda in
           let size : 29 ≤ p.profile.mss = subst (λ d. 29 ≤ d.mss) (sym profile) (plain.size.each number path.plan path.plan_there) in
           let most : p.profile.mss ≤ 65503 = subst (λ d. d.mss ≤ 65503) (sym profile) (fit.size.each number path.plan path.plan_there) in
-          let r = readied start plain t fare settled_paths lanes_ab lanes_ba reader_a reader_b reads_a reads_b paths joined clear sure holds number x there duty ds is in
-          let now : Others = record others { joined = r.joined_now } in
-          let held : Holds (duo_at books r.ab r.ba now) = readied_holds start plain t fare settled_paths lanes_ab lanes_ba reader_a reader_b reads_a reads_b paths joined clear sure holds number x there r in
-          let a : Answered p.profile books now ask q r.ab r.ba = duty_step books now p r.ab r.ba r.shows held r.ready path.numbered size short duty first in
+          let r = readied start plain t fare settled_paths lanes_ab lanes_ba reader_a reader_b reads_a reads_b paths steady holds number x there in
+          let now : Others = others in
+          let held : Holds (duo_at books r.ab r.ba now) = readied_holds start plain t fare settled_paths lanes_ab lanes_ba reader_a reader_b reads_a reads_b paths steady holds number x there in
+          let a : Answered p.profile books now ask q r.ab r.ba =
+          duty_step books now p r.ab r.ba r.shows held r.ready path.numbered size short duty first (path_steady.calm duty ds is) (path_steady.may duty ds is) in
           let told : PathTells p.profile q =
           duty_tells books now p r.ab r.ba r.shows held r.ready path.numbered (books_short t fare tells.rooms tells.keys) numbered size most own_tells duty first (and_parts (is_fair duty) (list_all is_fair ds) fair).0 in
           let later : RoomsAre start.buffer (books_in (after_path values number x ask t).books) =
@@ -279,7 +281,7 @@ module _ (start : Start) (plain : IsPlain start) (fit : NumbersFit start) where
       planned q told plan at = subst (λ y. PathTells (path_begins start number y).profile q) (same_Some path.plan plan (sym path.plan_there ∙ at)) (subst (λ d. PathTells d q) profile told)
 
       path_fresh_now : IsFreshPath p
-      path_fresh_now = record { next = path_fresh p own_tells; unchanged = path.shows.unchanged }
+      path_fresh_now = record { next = path_fresh p own_tells; unaltered = path.shows.unchanged }
 
     duty_told : (number : ℕ) (x : Walker Carried) → slice_get t.paths number ≡ Some x → (duty : Duty) (ds : List Duty) → x.path.agenda ≡ duty ∷ ds
         → WorldTells start (world_of (after_path values number x (ask_for values duty x.path) t))
@@ -351,22 +353,22 @@ module _ (start : Start) (plain : IsPlain start) (fit : NumbersFit start) where
     fresh : IsFreshTurn turn w
     tells : WorldTells start (after_turn values turn w)
 
-  goes : (turn : Turn) (d : Duo) (w : WorldState Carried) → SureIsClear w → Holds d → WorldShows start d w → WorldTells start w → Going turn w
-  goes turn d w sure holds h tells =
+  goes : (turn : Turn) (d : Duo) (w : WorldState Carried) → IsSteady w → Holds d → WorldShows start d w → WorldTells start w → Going turn w
+  goes turn d w steady holds h tells =
       let t = h.cast in
       let here : WorldTells start (world_of t) = subst (WorldTells start) h.is tells in
       let held = subst Holds h.duo_is holds in
-      let surely = sure_of t (subst SureIsClear h.is sure) in
+      let steadily = subst IsSteady h.is steady in
       subst (Going turn) (sym h.is) (record {
-        fresh = turn_fresh t h.fare h.settled h.lanes_ab h.lanes_ba h.reader_a h.reader_b h.reads_a h.reads_b h.paths h.joined h.clear surely held here turn;
-        tells = turn_told t h.fare h.settled h.lanes_ab h.lanes_ba h.reader_a h.reader_b h.reads_a h.reads_b h.paths h.joined h.clear surely held here turn;
+        fresh = turn_fresh t h.fare h.settled h.lanes_ab h.lanes_ba h.reader_a h.reader_b h.reads_a h.reads_b h.paths steadily held here turn;
+        tells = turn_told t h.fare h.settled h.lanes_ab h.lanes_ba h.reader_a h.reader_b h.reads_a h.reads_b h.paths steadily held here turn;
       })
 
-  run_fresh : (turns : List Turn) (w : WorldState Carried) → ((more : List Turn) → SureIsClear (world_run values more w)) → Reached start w → WorldTells start w → AreFresh turns w
-  run_fresh [] w sure r tells = tt
-  run_fresh (turn ∷ turns) w sure r tells =
-      let g : Going turn w = goes turn (after_events r.events (first_duo start)) w (sure []) (all_held (length start.paths) start.buffer start.buffer r.events) r.shows tells in
-      (g.fresh, run_fresh turns (after_turn values turn w) (λ more. sure (turn ∷ more)) (turn_reached start plain turn w (sure []) r) g.tells)
+  run_fresh : (turns : List Turn) (w : WorldState Carried) → ((more : List Turn) → IsSteady (world_run values more w)) → Reached start w → WorldTells start w → AreFresh turns w
+  run_fresh [] w steady r tells = tt
+  run_fresh (turn ∷ turns) w steady r tells =
+      let g : Going turn w = goes turn (after_events r.events (first_duo start)) w (steady []) (all_held (length start.paths) start.buffer start.buffer r.events) r.shows tells in
+      (g.fresh, run_fresh turns (after_turn values turn w) (λ more. steady (turn ∷ more)) (turn_reached start plain turn w (steady []) r) g.tells)
 
   waiting_tells : (number : ℕ) (plan : PathPlan) → slice_get start.paths number ≡ Some plan → PathTells (path_begins start number plan).profile (with_agenda start_of_turn (waiting start plain number plan))
   waiting_tells number plan there = record {
@@ -406,4 +408,4 @@ module _ (start : Start) (plain : IsPlain start) (fit : NumbersFit start) where
   }
 
 pub every_list_is_fresh : EveryListIsFresh
-every_list_is_fresh start turns plain fit = run_fresh start plain fit turns (opened_world start) (sure_is_clear start) (opened_reached start plain) (opened_tells start plain fit)
+every_list_is_fresh start turns plain fit = run_fresh start plain fit turns (opened_world start) (always_steady start) (opened_reached start plain) (opened_tells start plain fit)

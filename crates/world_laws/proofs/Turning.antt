@@ -24,30 +24,13 @@ use Rattle.path_core.specs.State.{PathState, Profile}
 use Rattle.path_core.specs.Steps.{settled}
 use Rattle.path_core.specs.Values.{Carried}
 use Rattle.world_laws.proofs.Applying.{Reads, settled_app, reads_more, reads_on}
-use Rattle.world_laws.proofs.Lanes.{duo_of, Others, duo_at, CallIs, AreSilent, silent_append, move_events, moves_silent, call_events, TurnShows, events_append}
-use Rattle.world_laws.proofs.Roads.{Strolls}
+use Rattle.world_laws.proofs.Lanes.{duo_of, Others, duo_at, CallIs, silent_append, call_events, TurnShows, events_append, Moved, then_moved}
 use Rattle.world_laws.proofs.Settling.{then_strolled, settles}
 use Rattle.world_laws.proofs.Showing.{PathShows}
 use Rattle.world_laws.proofs.Sides.{Answered}
-use Rattle.world_laws.proofs.Strolling.{Strolled, moves_of, strolled_both, strolls_held, events_held}
+use Rattle.world_laws.proofs.Strolling.{Strolled, strolls_held, events_held, lanes_moved}
 
 -- ---- moves
-
--- the lanes moved, and no book was called
-pub record Moved (d e : Duo) : Type 0 where
-  pub events : List Event
-  pub silent : AreSilent events
-  pub to : e ≡ after_events events d
-
-pub unmoved : (d : Duo) → Moved d d
-unmoved d = record { events = []; silent = refl; to = refl }
-
-pub then_moved : (c d e : Duo) → Moved c d → Moved d e → Moved c e
-then_moved c d e x y = record {
-  events = x.events ++ y.events;
-  silent = silent_append x.events y.events x.silent y.silent;
-  to = y.to ∙ ap (after_events y.events) x.to ∙ sym (events_append x.events y.events c);
-}
 
 pub moved_turn : (d e : Duo) → Moved d e → TurnShows None d e
 moved_turn d e m = record { before = m.events; before_silent = m.silent; call = None; after = []; after_silent = refl; calls = refl; to = m.to }
@@ -66,15 +49,6 @@ moved_first ask c d e m t =
       to = t.to ∙ ap (λ x. after_events t.after (after_events (call_events t.call) x)) (sym is);
     }
 
--- those of one path
-pub lanes_moved : (six : SixBooks) (others : Others) (ab ab_after ba ba_after : Lane) → Strolls ab ab_after → Strolls ba ba_after
-    → Moved (duo_at six ab ba others) (duo_at six ab_after ba_after others)
-lanes_moved six others ab ab_after ba ba_after x y = record {
-  events = move_events (moves_of six others x y);
-  silent = moves_silent (moves_of six others x y);
-  to = sym (strolled_both six others ab ab_after ba ba_after x y);
-}
-
 -- ---- a path
 
 -- what a turn of the path comes to
@@ -85,17 +59,23 @@ pub record PathTurn (c : Profile) (six : SixBooks) (others : Others) (ask : Ask)
   pub shows : PathShows c q ab_end ba_end
 
 module _ (c : Profile) (six : SixBooks) (others : Others) (ask : Ask) (q : PathState Carried) (ab ba : Lane) where
+  -- what holds before the step holds after the call
+  pub answered_holds : Holds (duo_at six ab ba others) → (a : Answered c six others ask q ab ba) → Holds (duo_at (after_ask ask six) a.ab_called a.ba_called others)
+  answered_holds holds a =
+      let asked_holds = subst Holds (sym a.before.to) (events_held a.before.events (duo_at six ab ba others) holds) in
+      subst Holds (sym a.called.to) (events_held a.called.events _ (events_held (call_events a.call) (duo_at six a.ab_before a.ba_before others) asked_holds))
+
   -- a reply was taken, and duties are passed
   pub path_turn : (ds : List Duty) → Holds (duo_at six ab ba others) → Answered c six others ask q ab ba → PathTurn c six others ask (settled ds q) ab ba
   path_turn ds holds a =
-      let asked_holds = strolls_held six others ab a.ab_before ba a.ba_before a.ab_moves a.ba_moves holds in
-      let called_holds = subst Holds a.called (events_held (call_events a.call) (duo_at six a.ab_before a.ba_before others) asked_holds) in
+      let called_holds = answered_holds holds a in
       let after = a.after in
       let rest = settles (after_ask ask six) others c ds q after.ab_after after.ba_after after.shows
       (strolls_held (after_ask ask six) others a.ab_called after.ab_after a.ba_called after.ba_after after.ab_moves after.ba_moves called_holds) in
       let w : Strolled c (settled ds q) a.ab_called a.ba_called = then_strolled c q (settled ds q) a.ab_called a.ba_called after rest in
-      let before = lanes_moved six others ab a.ab_before ba a.ba_before a.ab_moves a.ba_moves in
-      let later = lanes_moved (after_ask ask six) others a.ab_called w.ab_after a.ba_called w.ba_after w.ab_moves w.ba_moves in
+      let before = a.before in
+      let moved = lanes_moved (after_ask ask six) others a.ab_called w.ab_after a.ba_called w.ba_after w.ab_moves w.ba_moves in
+      let later = then_moved _ (duo_at (after_ask ask six) a.ab_called a.ba_called others) _ a.called moved in
       record {
         ab_end = w.ab_after;
         ba_end = w.ba_after;
@@ -106,10 +86,7 @@ module _ (c : Profile) (six : SixBooks) (others : Others) (ask : Ask) (q : PathS
           after = later.events;
           after_silent = later.silent;
           calls = subst (λ d. CallIs (Some ask) d a.call) before.to a.calls;
-          to =
-              later.to
-              ∙ ap (after_events later.events) (sym a.called)
-              ∙ ap (λ d. after_events later.events (after_events (call_events a.call) d)) before.to;
+          to = later.to ∙ ap (λ d. after_events later.events (after_events (call_events a.call) d)) before.to;
         };
         shows = w.shows;
       }
@@ -134,11 +111,11 @@ reads_if : (b : Bool) (most : ℕ) (d : Direction) → b ≡ false → (if b the
 reads_if true most d is = cc
 reads_if false most d is = refl
 
-module _ (joined : Bool) (six : SixBooks) (lanes_ab lanes_ba : List Lane) (reader_a reader_b : Reader) (x : AppState) (notes : List Note) (n : Note) where
+module _ (six : SixBooks) (lanes_ab lanes_ba : List Lane) (reader_a reader_b : Reader) (x : AppState) (notes : List Note) (n : Note) where
   -- that of A reads from B, and writes to it
   pub record TurnOfA (a : AppState) (d : AppDuty) : Type 0 where
     pub reader : Reader
-    pub turn : TurnShows (Some (app_ask d a)) (duo_of joined six lanes_ab lanes_ba reader_a reader_b) (duo_of joined (after_ask (app_ask d a) six) lanes_ab lanes_ba reader reader_b)
+    pub turn : TurnShows (Some (app_ask d a)) (duo_of six lanes_ab lanes_ba reader_a reader_b) (duo_of (after_ask (app_ask d a) six) lanes_ab lanes_ba reader reader_b)
     pub reads : Reads (app_answered d (reply_of six (app_ask d a)) a).told (notes ++ n ∷ []) reader
 
   abbrev a_at : AppState
@@ -161,7 +138,7 @@ module _ (joined : Bool) (six : SixBooks) (lanes_ab lanes_ba : List Lane) (reade
       record {
         reader = takes_read reply reader_a;
         turn = call_turn _ (Some (ToA (Read 65536))) _ _ (Read 65536, refl, (refl, open_reader))
-            (sym (ap (λ d. record (duo_of joined six lanes_ab lanes_ba reader_a reader_b) { ba = d }) (reads_if (is_done reader_a) 65536 (duo_of joined six lanes_ab lanes_ba reader_a reader_b).ba open_reader)));
+            (sym (ap (λ d. record (duo_of six lanes_ab lanes_ba reader_a reader_b) { ba = d }) (reads_if (is_done reader_a) 65536 (duo_of six lanes_ab lanes_ba reader_a reader_b).ba open_reader)));
         reads = reads_more x.told notes reader_a reply n is h;
       }
   as_a app_duties.End stands is h = record {
@@ -173,7 +150,7 @@ module _ (joined : Bool) (six : SixBooks) (lanes_ab lanes_ba : List Lane) (reade
   -- that of B the other way round
   pub record TurnOfB (a : AppState) (d : AppDuty) : Type 0 where
     pub reader : Reader
-    pub turn : TurnShows (Some (app_ask d a)) (duo_of joined six lanes_ab lanes_ba reader_a reader_b) (duo_of joined (after_ask (app_ask d a) six) lanes_ab lanes_ba reader_a reader)
+    pub turn : TurnShows (Some (app_ask d a)) (duo_of six lanes_ab lanes_ba reader_a reader_b) (duo_of (after_ask (app_ask d a) six) lanes_ab lanes_ba reader_a reader)
     pub reads : Reads (app_answered d (reply_of six (app_ask d a)) a).told (notes ++ n ∷ []) reader
 
   abbrev b_at : AppState
@@ -196,7 +173,7 @@ module _ (joined : Bool) (six : SixBooks) (lanes_ab lanes_ba : List Lane) (reade
       record {
         reader = takes_read reply reader_b;
         turn = call_turn _ (Some (ToB (Read 65536))) _ _ (Read 65536, refl, (refl, open_reader))
-            (sym (ap (λ d. record (duo_of joined six lanes_ab lanes_ba reader_a reader_b) { ab = d }) (reads_if (is_done reader_b) 65536 (duo_of joined six lanes_ab lanes_ba reader_a reader_b).ab open_reader)));
+            (sym (ap (λ d. record (duo_of six lanes_ab lanes_ba reader_a reader_b) { ab = d }) (reads_if (is_done reader_b) 65536 (duo_of six lanes_ab lanes_ba reader_a reader_b).ab open_reader)));
         reads = reads_more x.told notes reader_b reply n is h;
       }
   as_b app_duties.End stands is h = record {

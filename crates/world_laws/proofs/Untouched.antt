@@ -14,9 +14,9 @@ use Rattle.stream_lanes.specs.Lane.{Cell, Ask as LaneAsk, Lane}
 use Rattle.stream_lanes.specs.Lane.Ask.{AskAckIn, AskPlace, AskFin, AskAckOut}
 use Rattle.stream_lanes.specs.Moves.{Flags, Move}
 use Rattle.stream_lanes.specs.Streams.{Direction, StreamEvent, moves, reads, asks, asks_at, after, is_done}
-use Rattle.stream_lanes.specs.Streams.StreamEvent.{Write, Close, Return, Read, Moves}
+use Rattle.stream_lanes.specs.Streams.StreamEvent.{Write, Close, Return, Read, Moves, GoIdentity}
 use Rattle.stream_lanes.specs.Duo.{Duo, Event, flags_ab, after_event, after_events}
-use Rattle.stream_lanes.specs.Duo.Event.{ToB, ToA, BeginJoin, SendJoin, HearJoin}
+use Rattle.stream_lanes.specs.Duo.Event.{ToB, ToA, BeginJoin, SendJoin, HearJoin, FallA, FallB}
 use Rattle.stream_lanes.proofs.Directions.{moved_sent, acked_sent, placed_sent, fin_sent}
 use Rattle.stream_lanes.proofs.Lists.{set_same, set_other}
 use Rattle.actor_desk.specs.declared.ask.Ask.{Ask}
@@ -86,7 +86,7 @@ module _ (f : Flags) (number : ℕ) (sent : List Cell) (d : Direction) (h : Gran
   send_so (send_calls.Grant path most standby) event none is = absurd (false≢true (sym none))
   send_so (send_calls.AckIn next window) event none is = asked_so (AskAckIn next window) (λ path q there. ack_so path next window q there) event is
   send_so (send_calls.Return path) event none is = event_is event (Return path) is (stays_so _ refl)
-  send_so send_calls.GoIdentity event none is = absurd is
+  send_so send_calls.GoIdentity event none is = event_is event GoIdentity is (stays_so _ refl)
   send_so (send_calls.GoInfinite path) event none is = absurd is
   send_so send_calls.Abort event none is = absurd is
 
@@ -107,6 +107,8 @@ module _ (number : ℕ) (sent : List Cell) where
   silent_one : (event : Event) → is_silent event ≡ true → (d : Duo) → So d → So (after_event event d)
   silent_one (ToB (Moves path m)) is d h = moves_so (flags_ab d.modes) number sent d.ab h path m (slice_get d.ab.lanes path) refl
   silent_one (ToA (Moves path m)) is d h = h
+  silent_one FallA is d h = h
+  silent_one FallB is d h = h
   silent_one BeginJoin is d h = h
   silent_one SendJoin is d h = h
   silent_one HearJoin is d h = h

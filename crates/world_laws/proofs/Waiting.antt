@@ -1,13 +1,32 @@
 -- On a path that joins A asks for no byte of its stream before it may send a DSS there.
-use Rattle.std.proofs.Common.{◌≡◌, refl, sym, ◌∙◌, ap, subst, ℕ, ◌+◌, nat_le, not, ◌&&◌, ◌||◌, Bool, true, false, Option, Some, None, List, [], ◌∷◌, ◌++◌, arith}
-use Rattle.std.proofs.lemmas.Bool.{and_parts, false≢true}
+use Rattle.std.proofs.Common.{◌≡◌, refl, sym, ◌∙◌, ap, subst, ℕ, zero, suc, ◌+◌, ◌==◌, nat_lt, nat_le, not, is_some, ◌&&◌, ◌||◌, Bool, true, false, if◌then◌else◌, Option, Some, None, List, [], ◌∷◌, ◌++◌, arith}
+use Rattle.std.proofs.lemmas.Bool.{and_parts, both_ways, false≢true}
+use Rattle.std.proofs.lemmas.Option.{same_Some}
 use Rattle.std.specs.List.{list_any}
+use Rattle.outside_kit.specs.declared.side.Side.{Side}
 use Rattle.outside_kit.specs.declared.side.Side.TheVariants.{A, B}
+use Rattle.key_material.specs.KeyDigest.{token_of}
+use Rattle.control_book.specs.declared.call.ControlCall.{ControlCall}
+use Rattle.control_book.specs.declared.call.ControlCall.TheVariants as control_calls
+use Rattle.control_book.specs.declared.call.ControlReply.TheVariants as control_replies
+use Rattle.control_book.specs.declared.registry.Phase.TheVariants.{Opening}
+use Rattle.control_book.specs.Control.{Control}
+use Rattle.control_book.specs.Registry.{sole as sole_path, stands as stands_path, with_phase}
+use Rattle.control_book.specs.Replies as control
+use Rattle.control_book.specs.Steps as controlling
 use Rattle.subflow_send.specs.Records.{Record}
 use Rattle.subflow_tcp.specs.Sizes.{room}
 use Rattle.subflow_tcp.specs.State.{is_at_limit}
 use Rattle.subflow_tcp.specs.States.{may_finish}
 use Rattle.stream_lanes.specs.Words.{Every}
+use Rattle.actor_desk.specs.declared.ask.Ask.{Ask}
+use Rattle.actor_desk.specs.declared.ask.Ask.TheVariants as asks
+use Rattle.stamped_book.specs.declared.stamped.Pass.{Pass}
+use Rattle.actor_desk.specs.declared.ask.Reply.TheVariants as replies
+use Rattle.actor_desk.specs.Books.{books_in, after_entry}
+use Rattle.actor_desk.specs.Desk.{SixBooks, reply_of, after_ask}
+use Rattle.stream_apps.specs.AppSteps.{app_ask}
+use Rattle.path_core.specs.Joining.{keys_begun}
 use Rattle.stream_lanes.proofs.Lists.{in_map}
 use Rattle.path_agenda.specs.Agenda.{start_of_turn}
 use Rattle.path_agenda.specs.declared.duty.Duty.{Duty}
@@ -19,7 +38,7 @@ use Rattle.path_core.specs.Ends.{PathEnd}
 use Rattle.path_core.specs.Joins.{is_joined}
 use Rattle.path_core.specs.Starts.{waiting_path}
 use Rattle.path_core.specs.State.{PathState, Profile, with_agenda}
-use Rattle.path_core.specs.Steps.{answers}
+use Rattle.path_core.specs.Steps.{answers, asks_first, takes}
 use Rattle.path_core.specs.Turns.{FirstStands, IsSettled}
 use Rattle.world_laws.specs.JoinsWait.{asks_for_a, WaitsSo, JoinsWait}
 use Rattle.world_laws.specs.Laws.{Always}
@@ -29,9 +48,14 @@ use Rattle.world_laws.specs.StampedBooks.{answer_to}
 use Rattle.world_laws.specs.Worlds.{Turn, note_of, greatest, world_run}
 use Rattle.world_laws.proofs.Applying.{any_more}
 use Rattle.world_laws.proofs.CastLifting.{Has, turns_have, each_actor}
-use Rattle.world_laws.proofs.Casts.{Walker, Cast, Every-put, world_of, walked, walks_on, new_walker, first_cast, first_fare, opened_is, walker_there}
+use Rattle.world_laws.proofs.Awake.{Awake, CallSo, So, takes_awake, begins_awake, more_awake}
+use Rattle.world_laws.proofs.Falls.{row_falls}
+use Rattle.world_laws.proofs.Journaling.{books_after}
+use Rattle.world_laws.proofs.KeysBooks.{call_joined}
+use Rattle.world_laws.proofs.KeysWoken.{is_up}
+use Rattle.world_laws.proofs.Casts.{after_path, Walker, Cast, Every-put, world_of, walked, walks_on, new_walker, first_cast, first_fare, opened_is, walker_there}
 use Rattle.world_laws.proofs.Clearing.{unclear_before, takes_clear, next_clear}
-use Rattle.world_laws.proofs.RoundEnds.{settled_settled}
+use Rattle.world_laws.proofs.Settled.{settled_settled}
 use Rattle.world_laws.proofs.RoundFrame.{takes_keeps, first_keeps}
 use Rattle.world_laws.proofs.RoundGrantAsks.{MayNotAsk, ask_isn't, asks_none}
 
@@ -40,126 +64,231 @@ use Rattle.world_laws.proofs.RoundGrantAsks.{MayNotAsk, ask_isn't, asks_none}
 last_of : (b c d e : Bool) → (b && (c && (d && e))) ≡ true → e ≡ true
 last_of b c d e is = (and_parts d e (and_parts c (d && e) (and_parts b (c && (d && e)) is).1).1).1
 
-no_data : (clear joins : Bool) → clear ≡ false → joins ≡ true → (clear || (true && not joins)) ≡ true → ⊥
-no_data false true x y is = false≢true is
-no_data true joins x y is = false≢true (sym x)
-no_data false false x y is = false≢true y
+no_data : (clear plain joins : Bool) → clear ≡ false → plain ≡ false → joins ≡ true → (clear || (plain || (true && not joins))) ≡ true → ⊥
+no_data false false true x y z is = false≢true is
+no_data true plain joins x y z is = false≢true (sym x)
+no_data false true joins x y z is = false≢true (sym y)
+no_data false false false x y z is = false≢true z
 
-never_asks : (c : Profile) (e : PathEnd) → is_joined c ≡ true → e.modes.clear ≡ false → may_ask c A e ≡ true → ⊥
-never_asks c e joins unclear is =
-    no_data e.modes.clear (is_joined c) unclear joins (last_of (may_finish e.tcp.state) (nat_le (payload_size c) (room e.tcp)) (not (is_at_limit e.tcp)) (may_send_data c A e) is)
+never_asks : (c : Profile) (e : PathEnd) → is_joined c ≡ true → e.modes.clear ≡ false → e.modes.identity ≡ false → may_ask c A e ≡ true → ⊥
+never_asks c e joins unclear plain is =
+    no_data e.modes.clear e.modes.identity (is_joined c) unclear plain joins (last_of (may_finish e.tcp.state) (nat_le (payload_size c) (room e.tcp)) (not (is_at_limit e.tcp)) (may_send_data c A e) is)
 
 module _ {C : Type 0} (k : Codec C) where
-  data_clear : (p : PathState C) (o : Option Record) → is_joined p.profile ≡ true → p.a.modes.clear ≡ false → data_stands p.profile A p.a o ≡ true → asks_grant A (data_ask k A o p) ≡ false
-  data_clear p (Some r) joins unclear is = refl
-  data_clear p None joins unclear is = absurd (never_asks p.profile p.a joins unclear is)
+  data_clear : (p : PathState C) (o : Option Record) → is_joined p.profile ≡ true → p.a.modes.clear ≡ false → p.a.modes.identity ≡ false → data_stands p.profile A p.a o ≡ true → asks_grant A (data_ask k A o p) ≡ false
+  data_clear p (Some r) joins unclear plain is = refl
+  data_clear p None joins unclear plain is = absurd (never_asks p.profile p.a joins unclear plain is)
 
   asks_nothing : (p : PathState C) (d : Duty) → MayNotAsk d → asks_grant A (ask_for k d p) ≡ false
   asks_nothing p d other = ask_isn't A (ask_for k d p) (asks_none k p d other)
 
   -- where A asks for bytes it may send a DSS on a path that joins
-  pub grants_clear : (p : PathState C) (d : Duty) → stands d p ≡ true → is_joined p.profile ≡ true → p.a.modes.clear ≡ false → asks_grant A (ask_for k d p) ≡ false
-  grants_clear p (duties.Data A) is joins unclear = data_clear p (first_unsent p.a) joins unclear is
-  grants_clear p (duties.Data B) is joins unclear = by (first_unsent p.b)
+  pub grants_clear : (p : PathState C) (d : Duty) → stands d p ≡ true → is_joined p.profile ≡ true → p.a.modes.clear ≡ false → p.a.modes.identity ≡ false → asks_grant A (ask_for k d p) ≡ false
+  grants_clear p (duties.Data A) is joins unclear plain = data_clear p (first_unsent p.a) joins unclear plain is
+  grants_clear p (duties.Data B) is joins unclear plain = by (first_unsent p.b)
     where
       by : (o : Option Record) → asks_grant A (data_ask k B o p) ≡ false
       by (Some r) = refl
       by None = refl
-  grants_clear p duties.JoinAgain is joins unclear = asks_nothing p duties.JoinAgain tt
-  grants_clear p (duties.Look s) is joins unclear = asks_nothing p (duties.Look s) tt
-  grants_clear p (duties.Window s) is joins unclear = asks_nothing p (duties.Window s) tt
-  grants_clear p (duties.Update s) is joins unclear = asks_nothing p (duties.Update s) tt
-  grants_clear p (duties.Syn s) is joins unclear = asks_nothing p (duties.Syn s) tt
-  grants_clear p (duties.DataFin s) is joins unclear = asks_nothing p (duties.DataFin s) tt
-  grants_clear p (duties.Fin s) is joins unclear = asks_nothing p (duties.Fin s) tt
-  grants_clear p (duties.Timer s) is joins unclear = asks_nothing p (duties.Timer s) tt
-  grants_clear p (duties.SynHeard s) is joins unclear = asks_nothing p (duties.SynHeard s) tt
-  grants_clear p (duties.SynAnswered s) is joins unclear = asks_nothing p (duties.SynAnswered s) tt
-  grants_clear p (duties.PeerKey s) is joins unclear = asks_nothing p (duties.PeerKey s) tt
-  grants_clear p (duties.SynAck s) is joins unclear = asks_nothing p (duties.SynAck s) tt
-  grants_clear p (duties.JoinHeard s) is joins unclear = asks_nothing p (duties.JoinHeard s) tt
-  grants_clear p (duties.Refuse s) is joins unclear = asks_nothing p (duties.Refuse s) tt
-  grants_clear p (duties.Opened s) is joins unclear = asks_nothing p (duties.Opened s) tt
-  grants_clear p (duties.Live s) is joins unclear = asks_nothing p (duties.Live s) tt
-  grants_clear p (duties.Heard s index) is joins unclear = asks_nothing p (duties.Heard s index) tt
-  grants_clear p (duties.AckHeard s) is joins unclear = asks_nothing p (duties.AckHeard s) tt
-  grants_clear p (duties.PlainAck s) is joins unclear = asks_nothing p (duties.PlainAck s) tt
-  grants_clear p (duties.Keep s) is joins unclear = asks_nothing p (duties.Keep s) tt
-  grants_clear p (duties.Edge s) is joins unclear = asks_nothing p (duties.Edge s) tt
-  grants_clear p (duties.HeardFin s index) is joins unclear = asks_nothing p (duties.HeardFin s index) tt
-  grants_clear p (duties.PassFin s) is joins unclear = asks_nothing p (duties.PassFin s) tt
-  grants_clear p (duties.AckOut s) is joins unclear = asks_nothing p (duties.AckOut s) tt
-  grants_clear p (duties.Rate s) is joins unclear = asks_nothing p (duties.Rate s) tt
-  grants_clear p (duties.Acknowledge s) is joins unclear = asks_nothing p (duties.Acknowledge s) tt
-  grants_clear p (duties.Again s) is joins unclear = asks_nothing p (duties.Again s) tt
-  grants_clear p (duties.Answer s) is joins unclear = asks_nothing p (duties.Answer s) tt
-  grants_clear p (duties.ResetAnswer s) is joins unclear = asks_nothing p (duties.ResetAnswer s) tt
-  grants_clear p (duties.Return s) is joins unclear = asks_nothing p (duties.Return s) tt
-  grants_clear p (duties.Resend s) is joins unclear = asks_nothing p (duties.Resend s) tt
-  grants_clear p (duties.BreakAck s reason) is joins unclear = asks_nothing p (duties.BreakAck s reason) tt
-  grants_clear p (duties.BreakReset s reason) is joins unclear = asks_nothing p (duties.BreakReset s reason) tt
-  grants_clear p (duties.Reset s) is joins unclear = asks_nothing p (duties.Reset s) tt
-  grants_clear p (duties.Leave s) is joins unclear = asks_nothing p (duties.Leave s) tt
-  grants_clear p (duties.Dead s) is joins unclear = asks_nothing p (duties.Dead s) tt
-  grants_clear p duties.Events is joins unclear = asks_nothing p duties.Events tt
-  grants_clear p duties.End is joins unclear = asks_nothing p duties.End tt
+  grants_clear p duties.JoinAgain is joins unclear plain = asks_nothing p duties.JoinAgain tt
+  grants_clear p (duties.Look s) is joins unclear plain = asks_nothing p (duties.Look s) tt
+  grants_clear p (duties.Window s) is joins unclear plain = asks_nothing p (duties.Window s) tt
+  grants_clear p (duties.Update s) is joins unclear plain = asks_nothing p (duties.Update s) tt
+  grants_clear p (duties.Syn s) is joins unclear plain = asks_nothing p (duties.Syn s) tt
+  grants_clear p (duties.DataFin s) is joins unclear plain = asks_nothing p (duties.DataFin s) tt
+  grants_clear p (duties.Fin s) is joins unclear plain = asks_nothing p (duties.Fin s) tt
+  grants_clear p (duties.Timer s) is joins unclear plain = asks_nothing p (duties.Timer s) tt
+  grants_clear p (duties.SynHeard s) is joins unclear plain = asks_nothing p (duties.SynHeard s) tt
+  grants_clear p (duties.SynAnswered s) is joins unclear plain = asks_nothing p (duties.SynAnswered s) tt
+  grants_clear p (duties.PeerKey s) is joins unclear plain = asks_nothing p (duties.PeerKey s) tt
+  grants_clear p (duties.SynAck s) is joins unclear plain = asks_nothing p (duties.SynAck s) tt
+  grants_clear p (duties.JoinHeard s) is joins unclear plain = asks_nothing p (duties.JoinHeard s) tt
+  grants_clear p (duties.Refuse s) is joins unclear plain = asks_nothing p (duties.Refuse s) tt
+  grants_clear p (duties.Opened s) is joins unclear plain = asks_nothing p (duties.Opened s) tt
+  grants_clear p (duties.Live s) is joins unclear plain = asks_nothing p (duties.Live s) tt
+  grants_clear p (duties.Heard s index) is joins unclear plain = asks_nothing p (duties.Heard s index) tt
+  grants_clear p (duties.AckHeard s) is joins unclear plain = asks_nothing p (duties.AckHeard s) tt
+  grants_clear p (duties.PlainAck s) is joins unclear plain = asks_nothing p (duties.PlainAck s) tt
+  grants_clear p (duties.PlainHandshake s) is joins unclear plain = asks_nothing p (duties.PlainHandshake s) tt
+  grants_clear p (duties.SubflowAck s) is joins unclear plain = asks_nothing p (duties.SubflowAck s) tt
+  grants_clear p (duties.PlainData s) is joins unclear plain = asks_nothing p (duties.PlainData s) tt
+  grants_clear p (duties.GoIdentity s) is joins unclear plain = asks_nothing p (duties.GoIdentity s) tt
+  grants_clear p (duties.Unmapped s) is joins unclear plain = asks_nothing p (duties.Unmapped s) tt
+  grants_clear p (duties.SubflowFin s) is joins unclear plain = asks_nothing p (duties.SubflowFin s) tt
+  grants_clear p (duties.Keep s) is joins unclear plain = asks_nothing p (duties.Keep s) tt
+  grants_clear p (duties.Edge s) is joins unclear plain = asks_nothing p (duties.Edge s) tt
+  grants_clear p (duties.HeardFin s index) is joins unclear plain = asks_nothing p (duties.HeardFin s index) tt
+  grants_clear p (duties.PassFin s) is joins unclear plain = asks_nothing p (duties.PassFin s) tt
+  grants_clear p (duties.AckOut s) is joins unclear plain = asks_nothing p (duties.AckOut s) tt
+  grants_clear p (duties.Rate s) is joins unclear plain = asks_nothing p (duties.Rate s) tt
+  grants_clear p (duties.Acknowledge s) is joins unclear plain = asks_nothing p (duties.Acknowledge s) tt
+  grants_clear p (duties.Again s) is joins unclear plain = asks_nothing p (duties.Again s) tt
+  grants_clear p (duties.Answer s) is joins unclear plain = asks_nothing p (duties.Answer s) tt
+  grants_clear p (duties.ResetAnswer s) is joins unclear plain = asks_nothing p (duties.ResetAnswer s) tt
+  grants_clear p (duties.Return s) is joins unclear plain = asks_nothing p (duties.Return s) tt
+  grants_clear p (duties.Resend s) is joins unclear plain = asks_nothing p (duties.Resend s) tt
+  grants_clear p (duties.BreakAck s reason) is joins unclear plain = asks_nothing p (duties.BreakAck s reason) tt
+  grants_clear p (duties.BreakReset s reason) is joins unclear plain = asks_nothing p (duties.BreakReset s reason) tt
+  grants_clear p (duties.Reset s) is joins unclear plain = asks_nothing p (duties.Reset s) tt
+  grants_clear p (duties.Leave s) is joins unclear plain = asks_nothing p (duties.Leave s) tt
+  grants_clear p (duties.Dead s) is joins unclear plain = asks_nothing p (duties.Dead s) tt
+  grants_clear p duties.Events is joins unclear plain = asks_nothing p duties.Events tt
+  grants_clear p duties.End is joins unclear plain = asks_nothing p duties.End tt
+
+  -- ---- what A's book is asked
+
+  -- a book that joined stays so
+  still_joined : (six : SixBooks) (x : Ask) → six.control_a.fall.joined ≡ true → (after_ask x six).control_a.fall.joined ≡ true
+  still_joined six (asks.Control A call) is = call_joined six.control_a call is
+  still_joined six (asks.Control B call) is = is
+  still_joined six (asks.Send A call) is = is
+  still_joined six (asks.Send B call) is = is
+  still_joined six (asks.Reassembly A call) is = is
+  still_joined six (asks.Reassembly B call) is = is
+  still_joined six (asks.Local step) is = is
+
+  begins_joined : (path : ℕ) (c : Control) → is_some (keys_begun (replies.Control (control.join_begin_reply c))) ≡ true → (controlling.after c (control_calls.JoinBegin path)).fall.joined ≡ true
+  begins_joined path c = by (control.is_sure c.fall.mode) (control.is_starting c.fall.mode && stands_path c.paths 0)
+    where
+      by : (x y : Bool) → is_some (keys_begun (replies.Control (if x then control.begin c else (if y then control_replies.NotYet else control_replies.Never c.fall.mode)))) ≡ true
+          → (if x then controlling.after_join (record c { paths = with_phase path Opening c.paths }) else c).fall.joined ≡ true
+      by true y some = refl
+      by false true some = absurd (false≢true some)
+      by false false some = absurd (false≢true some)
+
+  heard_joined : (token : ℕ) (c : Control) → is_some (keys_begun (replies.Control (control.join_heard_reply token c))) ≡ true → (controlling.after_join_heard token c).fall.joined ≡ true
+  heard_joined token c = by (token == token_of c.keys.own) c.fall.confirmed (control.is_starting c.fall.mode || control.is_sure c.fall.mode)
+    where
+      by : (known confirmed begins : Bool) → is_some (keys_begun (replies.Control (if not known then control_replies.UnknownToken (token_of c.keys.own)
+          else (if not confirmed then control_replies.NotConfirmed else (if begins then control.begin c else control_replies.Fallen c.fall.mode))))) ≡ true
+          → (if known && confirmed && begins then controlling.after_join c else c).fall.joined ≡ true
+      by false confirmed begins some = absurd (false≢true some)
+      by true false begins some = absurd (false≢true some)
+      by true true true some = refl
+      by true true false some = absurd (false≢true some)
+
+  call_so : (six : SixBooks) (s : Side) (call : ControlCall)
+      → CallSo k ((after_ask (asks.Control s call) six).control_a.fall.joined ≡ true) s call (reply_of six (asks.Control s call))
+  call_so six A (control_calls.JoinBegin path) = begins_joined path six.control_a
+  call_so six A (control_calls.JoinHeard path token) = heard_joined token six.control_a
+  call_so six A (control_calls.Fell path event) = λ fell is. both_ways _ (row_falls path (sole_path six.control_a.paths path) event six.control_a.fall fell).1 is
+  call_so six B (control_calls.Fell path event) = tt
+  call_so six B (control_calls.JoinBegin path) = tt
+  call_so six B (control_calls.JoinHeard path token) = tt
+  call_so six A (control_calls.Look path) = tt
+  call_so six A _ = tt
+  call_so six B (control_calls.Look path) = tt
+  call_so six B _ = tt
+
+  ask_so : (six : SixBooks) (x : Ask) → So k ((after_ask x six).control_a.fall.joined ≡ true) x (reply_of six x)
+  ask_so six (asks.Control s call) = call_so six s call
+  ask_so six (asks.Send s call) = tt
+  ask_so six (asks.Reassembly s call) = tt
+  ask_so six (asks.Local step) = tt
 
   -- ---- every list of turns
 
+  abbrev HasJoined : SixBooks → Type 0
+  HasJoined six = six.control_a.fall.joined ≡ true
+
   -- the first duty stands, and A asked for nothing as long as it may send no DSS
-  record Waits (x : Walker C) : Type 0 where
+  record Waits (six : SixBooks) (x : Walker C) : Type 0 where
     settled_path : IsSettled x.path
+    awake : Awake k (HasJoined six) x.path
     none : is_joined x.path.profile ≡ true → x.path.a.modes.clear ≡ false → list_any asks_for_a x.at.list ≡ false
 
   abbrev AllWait : Cast C → Type 0
-  AllWait t = Every Waits t.paths
+  AllWait t = Every (Waits (books_in t.books)) t.paths
 
-  step_waits : (t : Cast C) (x : Walker C) (d : Duty) (ds : List Duty) → x.path.agenda ≡ d ∷ ds → Waits x → Waits (walked k (ask_for k d x.path) t.books x)
-  step_waits t x d ds is h = record { settled_path = settled_settled q.agenda q; none = none }
+  more_waits : (six next : SixBooks) → (HasJoined six → HasJoined next) → (x : Walker C) → Waits six x → Waits next x
+  more_waits six next more x h = record { settled_path = h.settled_path; awake = more_awake k (HasJoined six) (HasJoined next) x.path more h.awake; none = h.none }
+
+  each_waits : (six next : SixBooks) → (HasJoined six → HasJoined next) → (xs : List (Walker C)) → Every (Waits six) xs → Every (Waits next) xs
+  each_waits six next more xs h = record { each = λ i x at. more_waits six next more x (h.each i x at) }
+
+  step_waits : (t : Cast C) (x : Walker C) (d : Duty) (ds : List Duty) → x.path.agenda ≡ d ∷ ds → Waits (books_in t.books) x
+      → Waits (after_ask (ask_for k d x.path) (books_in t.books)) (walked k (ask_for k d x.path) t.books x)
+  step_waits t x d ds is h = record { settled_path = settled_settled q.agenda q; awake = awake; none = none }
     where
+      six : SixBooks
+      six = books_in t.books
+
+      ask : Ask
+      ask = ask_for k d x.path
+
       q : PathState C
-      q = answers k x.path.agenda (answer_to t.books (ask_for k d x.path)) x.path
+      q = answers k x.path.agenda (answer_to t.books ask) x.path
 
-      none : is_joined (walked k (ask_for k d x.path) t.books x).path.profile ≡ true → (walked k (ask_for k d x.path) t.books x).path.a.modes.clear ≡ false
-          → list_any asks_for_a (x.at.list ++ note_of t.books x.at.pass (ask_for k d x.path) ∷ []) ≡ false
+      awake : Awake k (HasJoined (after_ask ask six)) (takes k (answer_to t.books ask) x.path)
+      awake =
+          takes_awake k (HasJoined (after_ask ask six)) (answer_to t.books ask) x.path
+          (λ y asks. subst (λ z. So k (HasJoined (after_ask ask six)) z (reply_of six ask)) (same_Some ask y (ap (λ xs. asks_first k xs x.path) (sym is) ∙ asks)) (ask_so six ask))
+          (more_awake k (HasJoined six) (HasJoined (after_ask ask six)) x.path (still_joined six ask) h.awake)
+
+      none : is_joined (walked k ask t.books x).path.profile ≡ true → (walked k ask t.books x).path.a.modes.clear ≡ false
+          → list_any asks_for_a (x.at.list ++ note_of t.books x.at.pass ask ∷ []) ≡ false
       none joins unclear =
-          let r = answer_to t.books (ask_for k d x.path) in
+          let r = answer_to t.books ask in
           let joined : is_joined x.path.profile ≡ true = ap is_joined (sym (takes_keeps k r x.path).1) ∙ joins in
-          let before = unclear_before x.path.a.modes.clear _ (takes_clear k r x.path).a unclear in
-          any_more asks_for_a x.at.list (note_of t.books x.at.pass (ask_for k d x.path))
-          ∙ ap (λ b. b || asks_grant A (ask_for k d x.path)) (h.none joined before)
-          ∙ grants_clear x.path d (subst (λ xs. FirstStands xs x.path) is h.settled_path) joined before
+          let before = unclear_before x.path.a.modes.clear _ (takes_clear k r x.path).a.0 unclear in
+          any_more asks_for_a x.at.list (note_of t.books x.at.pass ask)
+          ∙ ap (λ b. b || asks_grant A ask) (h.none joined before)
+          ∙ grants_clear x.path d (subst (λ xs. FirstStands xs x.path) is h.settled_path) joined before (h.awake.plain joined)
 
-  round_waits : (stamp : ℕ) (x : Walker C) → Waits x → Waits (walks_on stamp x)
-  round_waits stamp x h = record {
+  round_waits : (stamp : ℕ) (six : SixBooks) (x : Walker C) → Waits six x → Waits six (walks_on stamp x)
+  round_waits stamp six x h = record {
     settled_path = settled_settled start_of_turn (with_agenda start_of_turn (record x.path { clock = x.path.until; until = x.path.until + 100 }));
+    awake = begins_awake k (HasJoined six) (record x.path { clock = x.path.until; until = x.path.until + 100 })
+        (record { woken = h.awake.woken; known = h.awake.known; calm = h.awake.calm; plain = h.awake.plain });
     none = λ joins unclear.
         h.none (ap is_joined (sym (first_keeps (record x.path { clock = x.path.until; until = x.path.until + 100 })).1) ∙ joins)
-        (unclear_before x.path.a.modes.clear _ (next_clear x.path).a unclear);
+        (unclear_before x.path.a.modes.clear _ (next_clear x.path).a.0 unclear);
   }
 
-  first_waits : (start : Start) (number : ℕ) (plan : PathPlan) → Waits (new_walker start number plan)
-  first_waits start number plan = record {
+  first_waits : (six : SixBooks) (start : Start) (number : ℕ) (plan : PathPlan) → Waits six (new_walker start number plan)
+  first_waits six start number plan = record {
     settled_path = settled_settled start_of_turn (with_agenda start_of_turn (waiting_path (path_begins start number plan) start.lines));
+    awake = begins_awake k (HasJoined six) (waiting_path (path_begins start number plan) start.lines) (record {
+      woken = λ joins up. asleep number joins up;
+      known = λ joins is. absurd (false≢true is);
+      calm = λ joins is. false≢true is;
+      plain = λ joins. refl;
+    });
     none = λ joins unclear. refl;
   }
+    where
+      asleep : (number : ℕ) → nat_lt 0 number ≡ true → is_up (waiting_path {C = C} (path_begins start number plan) start.lines).a.tcp ≡ true → HasJoined six
+      asleep zero joins up = absurd (false≢true joins)
+      asleep (suc n) joins up = absurd (false≢true up)
 
   all_wait : (start : Start) (turns : List Turn) → Has start AllWait (world_run k turns (opened_world start))
   all_wait start turns = turns_have k start AllWait
       (record {
-        a = λ t f d ds is h. h;
-        b = λ t f d ds is h. h;
-        path = λ t f number x there d ds is h. Every-put number (walked k (ask_for k d x.path) t.books x) (step_waits t x d ds is (h.each number x there)) h;
+        a = λ t f d ds is h. asked_wait t (app_ask d t.a) t.at_a.pass t.paths h;
+        b = λ t f d ds is h. asked_wait t (app_ask d t.b) t.at_b.pass t.paths h;
+        path = λ t f number x there d ds is h.
+            let ask = ask_for k d x.path in
+            let six = books_in t.books in
+            let now = books_after ask x.at.pass t.books in
+            subst (λ (y : SixBooks). Every (Waits y) (after_path k number x ask t).paths) (sym now)
+            (Every-put number (walked k ask t.books x) (step_waits t x d ds is (h.each number x there)) (each_waits six (after_ask ask six) (still_joined six ask) t.paths h));
       })
       (λ t f h. record {
         each = λ i y there. let found = in_map (walks_on (greatest 0 (world_of t).crew)) t.paths i y there in
-            subst Waits found.2 (round_waits (greatest 0 (world_of t).crew) found.0 (h.each i found.0 found.1));
+            subst (Waits (books_in t.books)) found.2 (round_waits (greatest 0 (world_of t).crew) (books_in t.books) found.0 (h.each i found.0 found.1));
       })
       turns (opened_world start)
       (record { cast = first_cast start; is = opened_is start; fare = first_fare start; holds = first })
     where
       first : AllWait (first_cast start)
-      first = record { each = λ i x there. let found = walker_there start 0 i i start.paths x (omega arith) there in subst Waits (sym found.2) (first_waits start i found.0) }
+      first = record {
+        each = λ i x there. let found = walker_there start 0 i i start.paths x (omega arith) there in
+            subst (Waits (books_in (first_cast {C = C} start).books)) (sym found.2) (first_waits (books_in (first_cast {C = C} start).books) start i found.0);
+      }
+
+      asked_wait : (t : Cast C) (x : Ask) (pass : Pass) (paths : List (Walker C)) → Every (Waits (books_in t.books)) paths → Every (Waits (books_in (after_entry x pass t.books))) paths
+      asked_wait t x pass paths h =
+          subst (λ (y : SixBooks). Every (Waits y) paths) (sym (books_after x pass t.books)) (each_waits (books_in t.books) (after_ask x (books_in t.books)) (still_joined (books_in t.books) x) paths h)
 
   pub joins_wait : Always k (λ start w. JoinsWait w)
   joins_wait start turns =

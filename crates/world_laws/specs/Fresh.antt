@@ -2,16 +2,16 @@
 -- but for the position of a reset far ahead.
 use Rattle.std.specs.Prelude.{ℕ, Option, Some, None, List, [], ◌∷◌, slice_get, map}
 use Rattle.path_core.specs.State.{PathState}
-use Rattle.path_core.specs.Shown.{shown_path, NextIsFresh, ChangesNothing}
+use Rattle.path_core.specs.Shown.{shown_path, NextIsFresh, AltersNothing}
 use Rattle.path_core.specs.Values.{Carried, values}
 use Rattle.world_laws.specs.declared.member.Member.TheVariants.{App, Path}
 use Rattle.world_laws.specs.Actors.{Actor, ActorCrew}
 use Rattle.world_laws.specs.Worlds.{WorldState, Turn, after_turn}
 
--- the copy that is due next is fresh, and the script of the link changes nothing
+-- the copy that is due next is fresh, and the script of the link alters no payload
 pub record IsFreshPath (p : PathState Carried) : Type 0 where
   pub next : NextIsFresh p
-  pub unchanged : ChangesNothing p.link.lines
+  pub unaltered : AltersNothing p.link.lines
 
 abbrev pub IsFreshMember : Actor Carried → Type 0
 IsFreshMember (App a) = Unit {0}

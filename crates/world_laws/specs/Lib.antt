@@ -4,6 +4,7 @@ pub mod Worlds
 pub mod Outcomes
 pub mod Serial
 pub mod Openings
+pub mod FallsRight
 pub mod Fine
 pub mod Fresh
 pub mod Timely

@@ -1,9 +1,9 @@
--- Connections by scripts that strip and alter nothing, and what is promised of them.
+-- Connections by scripts that alter nothing, and what is promised of them.
 use Rattle.std.specs.Prelude.{ℕ, ◌≡◌, ◌-◌, ◌^◌, ◌<◌, Bool, true, false, List, length}
 use Rattle.std.specs.List.{list_any}
 use Rattle.link_script.specs.declared.script.Script.{Script}
 use Rattle.link_script.specs.declared.script.ScriptLine.{ScriptLine}
-use Rattle.link_script.specs.declared.script.ScriptLine.TheVariants.{Strip, Alter, StripAll}
+use Rattle.link_script.specs.declared.script.ScriptLine.TheVariants.{Alter}
 use Rattle.link_script.specs.Scripts.{HasRanges}
 use Rattle.path_core.specs.Octets.{octets}
 use Rattle.world_laws.specs.Agreement.{MappingsAgree}
@@ -12,17 +12,15 @@ use Rattle.world_laws.specs.Promises.{IsPlain, NumbersFit, BothKeepTheirWord, No
 use Rattle.world_laws.specs.Welcome.{EachCopyIsWelcome}
 use Rattle.world_laws.specs.Worlds.{WorldState, Turn, world_run}
 
--- by this line segments lose their options, or their payload is altered
-abbrev pub changes_segments : ScriptLine → Bool
-changes_segments (Strip path from number) = true
-changes_segments (Alter path from number) = true
-changes_segments (StripAll path from tick) = true
-changes_segments _ = false
+-- by this line the payload of a segment is altered
+abbrev pub alters_payload : ScriptLine → Bool
+alters_payload (Alter path from number) = true
+alters_payload _ = false
 
--- a script by whose lines no segment is changed, and two files shorter than 2^31 - 2 octets
+-- a script by whose lines no payload is altered, and two files shorter than 2^31 - 2 octets
 pub record IsPlainScript (script : Script) (file_a file_b : List ℕ) : Type 0 where
   pub ranges : HasRanges script
-  pub unchanged : list_any changes_segments script.lines ≡ false
+  pub unaltered : list_any alters_payload script.lines ≡ false
   pub short_a : length file_a < 2 ^ 31 - 2
   pub short_b : length file_b < 2 ^ 31 - 2
 

@@ -18,17 +18,17 @@ use Rattle.actor_desk.specs.Desk.{send_of, reassembly_of}
 use Rattle.link_model.specs.Steps.{lines_of}
 use Rattle.path_core.specs.Codec.{Codec}
 use Rattle.path_core.specs.Octets.{octets}
-use Rattle.path_core.specs.Shown.{ChangesNothing}
+use Rattle.path_core.specs.Shown.{AltersNothing}
 use Rattle.path_core.specs.Values.{Carried, values}
 use Rattle.world_laws.specs.Fresh.{AreFresh, shown_world}
 use Rattle.world_laws.specs.Openings.{Start, opened_world}
 use Rattle.world_laws.specs.Outcomes.{tells_end, was_told, notes_at, notes_of, output_of, pipe_of}
 use Rattle.world_laws.specs.Worlds.{WorldState, Turn, after_turn, world_run}
 
--- Where it is promised: the script strips and alters nothing, a full segment of each path has room for octets beside its options,
--- and both files are shorter than 2^31 - 2 octets.
+-- Where it is promised: the script alters no payload, a full segment of each path has room for octets beside its options, and both
+-- files are shorter than 2^31 - 2 octets.
 pub record IsPlain (start : Start) : Type 0 where
-  pub unchanged : (path : ℕ) → ChangesNothing (lines_of path start.lines)
+  pub unaltered : (path : ℕ) → AltersNothing (lines_of path start.lines)
   pub size : Every (λ plan. 29 ≤ plan.mss) start.paths
   pub short_a : length start.file_a < 2 ^ 31 - 2
   pub short_b : length start.file_b < 2 ^ 31 - 2

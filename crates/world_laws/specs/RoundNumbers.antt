@@ -7,6 +7,7 @@ use Rattle.send_book.specs.declared.call.SendCall.TheVariants as send_calls
 use Rattle.send_book.specs.declared.mark.ByteMark.{ByteMark}
 use Rattle.send_book.specs.Marks.{is_free_for}
 use Rattle.send_book.specs.State.{Sending}
+use Rattle.send_book.specs.Steps.{is_for}
 use Rattle.reassembly_book.specs.State.{received}
 use Rattle.actor_desk.specs.declared.ask.Ask.{Ask}
 use Rattle.actor_desk.specs.declared.ask.Ask.TheVariants as asks
@@ -38,10 +39,11 @@ abbrev pub asks_on_standby : Side → Note → Bool
 asks_on_standby s note = asks_grant s note.ask && is_standby note.ask
 
 -- Of so many bytes none below the edge of the peer's window is left that the path may take; or it asked for bytes, in these steps,
--- while it was on standby.
+-- while it was on standby; or the book gives bytes to another path alone, as after a fallback.
 pub data AskedForAll (path : ℕ) (s : Side) (steps : List Note) (written : ℕ) (book : Sending) : Type 0 where
   Taken : min written book.edge ≤ taken_len path book.marks → AskedForAll path s steps written book
   Standby : list_any (asks_on_standby s) steps ≡ true → AskedForAll path s steps written book
+  Barred : is_for path book.owner ≡ false → AskedForAll path s steps written book
 
 -- another path takes an acknowledgement for this side's stream, or gives back bytes of it: then more may be left to be taken
 abbrev pub frees_bytes : Side → Ask → Bool

@@ -1,6 +1,7 @@
--- No copy that arrives on a path that joins is refused for what it says: each SYN asks to join, and each HMAC is the one that its end
--- demands (RFC 8684, section 3.2).
-use Rattle.std.specs.Prelude.{ℕ, ◌≡◌, Some, slice_get}
+-- No copy that arrives on a path that joins is refused for what it says, unless its options were taken away on the way: each SYN asks
+-- to join, and each HMAC is the one that its end demands (RFC 8684, section 3.2).
+use Rattle.std.specs.Prelude.{ℕ, ◌≡◌, false, Some, slice_get}
+use Rattle.actor_desk.specs.Words.{is_nil}
 use Rattle.link_model.specs.declared.flight.Due.{Due}
 use Rattle.link_model.specs.Steps.{arriving}
 use Rattle.path_core.specs.declared.event.Event.TheVariants.{Arrives}
@@ -23,10 +24,10 @@ IsWelcome Lacks = ⊥
 IsWelcome Forged = ⊥
 
 module _ {C : Type 0} (k : Codec C) where
-  -- the copy that arrives next
+  -- the copy that arrives next, where it shows any options
   abbrev pub NextIsWelcome : PathState C → Type 0
   NextIsWelcome p = (due : Due) (h : HeardSegment) → next_event p ≡ Some (Arrives due) → heard_in k due.to (arriving due p.link) p ≡ Some h
-      → IsWelcome (judged_in (is_joined p.profile) due.to h (end_at due.to p))
+      → is_nil h.options ≡ false → IsWelcome (judged_in (is_joined p.profile) due.to h (end_at due.to p))
 
   abbrev pub WelcomesNext : Actor C → Type 0
   WelcomesNext (App a) = Unit {0}

@@ -1,5 +1,6 @@
 //! What holds of every connection, as clauses of functions that do nothing.
 ghost use Rattle.world_laws.specs.Agreement.{MappingsAgree};
+ghost use Rattle.world_laws.specs.FallsRight.{FallsAreRight, FallsLast, PositionsArePlaces};
 ghost use Rattle.world_laws.specs.Granted.{GrantedOnce};
 ghost use Rattle.world_laws.specs.JoinsWait.{JoinsWait};
 ghost use Rattle.world_laws.specs.Laws.{AfterFreshTurns, Always, NothingDueIsLeft, SerialExists, SerialIsOne, StaysFine, OctetsDoAsValues, WritesTheFiles};
@@ -58,7 +59,8 @@ pub fn grants_are_done()
 /// A law: in each round, in whatever order the actors go, where the turn of a path is over, an end that has no record to send and
 /// may ask for bytes, with room in its window for a full segment, asked for all: of the octets that were written as the round began
 /// none below the edge of the peer's window is left that the path may take, unless it asked for octets in this round while it was
-/// on standby, or another path took an acknowledgement or gave back octets in this round, and so freed some.
+/// on standby, or another path took an acknowledgement or gave back octets in this round, and so freed some, or after a fallback path
+/// 0 alone is given octets.
 pub fn paths_ask_for_all()
     ensures octets { InEachRound octets PathsAskForAll }
     ensures values { InEachRound values PathsAskForAll }
@@ -85,13 +87,14 @@ pub fn woven_rounds_do_the_same()
 {}
 
 /// A law: a world whose links carry octets is the world whose links carry segments as values, shown in octets, over every list
-/// of turns that are fresh: no line of a script strips or alters a segment, and each copy that arrives can be said, with
-/// numbers near those that its end expects, but for the position of a reset that is 2^31 or more ahead and below 2^32.
+/// of turns that are fresh: no line of a script alters a payload, and each copy that arrives can be said, with numbers near those
+/// that its end expects, but for the position of a reset that is 2^31 or more ahead and below 2^32. Lines that strip segments of
+/// their options may be there.
 pub fn octets_do_as_values()
     ensures { OctetsDoAsValues }
 {}
 
-/// A law: every list of turns is fresh, lawful or not, where the script strips and alters nothing, both files are shorter than
+/// A law: every list of turns is fresh, lawful or not, where the script alters no payload, both files are shorter than
 /// 2^31 - 2 octets, and the numbers of the start fit: there are sixteen paths at most, with a maximum segment size of 29 to 65,503
 /// octets each, a side buffers 2^20 octets at most, keys have 64 bits, and the nonces of the paths 32. So such a world over octets is
 /// always the world over segments as values, shown in octets.
@@ -126,12 +129,12 @@ pub fn keys_never_differ()
 /// A law: no control book is told a token that isn't that of its key, or a wrong HMAC: each join begins with both keys, as they were
 /// drawn, and shows the token of the peer's (RFC 8684, section 3.2). Premises as for `both_sides_keep_their_word`.
 ///
-/// Nor does an end of a path that joins refuse the copy that arrives next: each SYN asks to join, and each HMAC is the one that its
-/// end demands.
+/// Nor does an end of a path that joins refuse the copy that arrives next, unless its options were taken away: each SYN asks to join,
+/// and each HMAC is the one that its end demands. Over segments as values both hold whatever the script does.
 pub fn joins_are_right()
-    ensures values { IsPromised JoinsAreRight }
+    ensures values { Always values (λ start w. JoinsAreRight w) }
     ensures octets { IsPromisedOfOctets JoinsAreRight }
-    ensures welcome { IsPromised (EachCopyIsWelcome values) }
+    ensures welcome { Always values (λ start w. EachCopyIsWelcome values w) }
     ensures heard { IsPromisedOfOctets (EachCopyIsWelcome octets) }
 {}
 
@@ -139,8 +142,9 @@ pub fn joins_are_right()
 /// received, and what was received was written; where DATA_FIN is acknowledged the stream is closed and all of it was received;
 /// and the end is told only where the stream is closed and the reader has all of it.
 ///
-/// The script strips and alters nothing, the maximum segment size of each path is 29 octets or more, and both files are shorter
-/// than 2^31 - 2 octets. The steps are in any order. Over octets the numbers of the start have to fit, as those of each script do.
+/// The script alters no payload, the maximum segment size of each path is 29 octets or more, and both files are shorter than
+/// 2^31 - 2 octets; any segment may lose its options on the way. The steps are in any order. Over octets the numbers of the start
+/// have to fit, as those of each script do.
 pub fn both_sides_keep_their_word()
     ensures values { IsPromised BothKeepTheirWord }
     ensures octets { IsPromisedOfOctets BothKeepTheirWord }
@@ -164,7 +168,7 @@ pub fn nothing_is_refused()
     ensures octets { IsPromisedOfOctets NothingWasRefused }
 {}
 
-/// A law: a connection by a script that strips and alters nothing, with files shorter than 2^31 - 2 octets, starts plainly, with
+/// A law: a connection by a script that alters no payload, with files shorter than 2^31 - 2 octets, starts plainly, with
 /// numbers that fit; so over octets it keeps every promise, in whatever order its actors go: both sides keep their word, nothing
 /// follows the end, each turn is on each pipe one step or none, nothing is refused, keys never differ, joins are right, no copy is
 /// refused for what it says of a join, and mappings agree.
@@ -184,6 +188,20 @@ pub fn bytes_are_granted_once()
 pub fn mappings_agree()
     ensures values { IsPromised MappingsAgree }
     ensures octets { IsPromisedOfOctets MappingsAgree }
+{}
+
+/// A law: a side that fell back to plain TCP has begun and answered no join. Where either side fell B answered none, and no path but
+/// path 0 ever asked for bytes; and it stays so (RFC 8684, section 3.7). Over segments as values this holds whatever the script strips
+/// or alters.
+///
+/// And on path 0 positions are places then: each record of data, and each mapping that an end learned, has the place before its
+/// position. Premises as for `both_sides_keep_their_word`.
+pub fn falls_are_right()
+    ensures values { Always values (λ start w. FallsAreRight w) }
+    ensures last { Always values (λ start w. FallsLast values w) }
+    ensures octets { IsPromisedOfOctets FallsAreRight }
+    ensures places { IsPromised PositionsArePlaces }
+    ensures heard { IsPromisedOfOctets PositionsArePlaces }
 {}
 
 /// A law: at every moment, where the connection begins with data numbers of four octets, each Data ACK and each mapping of every

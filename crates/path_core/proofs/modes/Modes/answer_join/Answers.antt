@@ -1,5 +1,3 @@
-use Rattle.std.proofs.Common.{◌∙◌, ap}
-use Rattle.path_core.specs.Joins.{said_join}
 use Rattle.path_core.proofs.modes.Modes.answer_join.Goals as goal
 
 pub returns : goal.returns

@@ -1,4 +1,4 @@
--- No line of a script that is run changes a segment.
+-- No line of a script that is run alters a payload.
 use Rattle.std.proofs.Common.{◌≡◌, refl, sym, ◌∙◌, ap, subst, ℕ, suc, ◌+◌, ◌<◌, ◌≤◌, ◌==◌, inl, inr, ◌⊎◌, Bool, true, false, ◌||◌, not, cond, nat_lt, List, [], ◌∷◌, ◌++◌, length, get_or, take, Option, Some, None, Result, Ok, Err, arith}
 use Rattle.std.specs.Prelude.{IfOk, codes, fold, position}
 use Rattle.std.specs.List.{find, list_any, slice_split, onto_first, position_or_len}
@@ -17,24 +17,24 @@ use Rattle.link_script.specs.declared.line.Line.TheVariants.{Header, Seed, Check
 use Rattle.link_script.specs.declared.script.Script.{Script}
 use Rattle.link_script.specs.declared.word.Keyword.{Keyword}
 use Rattle.link_script.specs.declared.word.Keyword.TheVariants as first
-use Rattle.link_script.specs.Lines.{seed_line, checksum_line, short_line, buffer_line, path_options, may_have, path_of, path_line, segment, drop_line, dup_line, late_line, die_line, prio_line, add_line, remove_line, fast_close_line, end_line, line_after, line_of}
+use Rattle.link_script.specs.Lines.{seed_line, checksum_line, short_line, buffer_line, path_options, may_have, path_of, path_line, segment, drop_line, strip_line, dup_line, late_line, strip_all_line, die_line, prio_line, add_line, remove_line, fast_close_line, end_line, line_after, line_of}
 use Rattle.link_script.specs.Numbers.{within}
 use Rattle.link_script.specs.Places.{is_end, is_out_of_order, is_repeated}
 use Rattle.link_script.specs.Ranges.{most_lines, seeds, buffers, path_numbers, segment_sizes, delays, latenesses, run_ticks, address_ids}
 use Rattle.link_script.specs.Reading.{in_place, later_line, next_line, at_line, seen_after, read_on, blank, with_line, script_of, reading}
 use Rattle.link_script.specs.Steps.{◌>>=◌}
-use Rattle.link_script.specs.Words.{text_lines, words_of, is_passed_over, keyword_word, keywords, keyword, fixed, side, switch}
-use Rattle.world_laws.specs.PlainScripts.{changes_segments}
+use Rattle.link_script.specs.Words.{text_lines, words_of, is_passed_over, keyword_word, keywords, keyword, fixed, side, direction, switch}
+use Rattle.world_laws.specs.PlainScripts.{alters_payload}
 use Rattle.mptcp_run.specs.Script.{is_setting, is_event, parted_at, is_held_back, unless_held_back, script_meaning}
 
-abbrev changes : Line → Bool
-changes (Event event) = changes_segments event
-changes line = false
+abbrev alters : Line → Bool
+alters (Event event) = alters_payload event
+alters line = false
 
 -- ---- steps of a reading
 
 abbrev Keeps : Result Line ScriptKind → Type 0
-Keeps r = IfOk r (λ line. changes line ≡ false)
+Keeps r = IfOk r (λ line. alters line ≡ false)
 
 after : {A : Type 0} (r : Result A ScriptKind) (f : A → Result Line ScriptKind) → ((x : A) → Keeps (f x)) → Keeps (r >>= f)
 after (Ok x) f h = h x
@@ -56,7 +56,7 @@ at_ok : {A : Type 0} (number : ℕ) (r : Result A ScriptKind) (x : A) → at_lin
 at_ok number (Ok y) x e = cc
 at_ok number (Err k) x e = absurd cc
 
-kept : (r : Result Line ScriptKind) (line : Line) → Keeps r → r ≡ Ok line → changes line ≡ false
+kept : (r : Result Line ScriptKind) (line : Line) → Keeps r → r ≡ Ok line → alters line ≡ false
 kept r line h e = subst Keeps e h
 
 -- ---- lines by their words
@@ -114,6 +114,14 @@ drop_keeps (path ∷ from ∷ []) = tt
 drop_keeps (path ∷ from ∷ number ∷ []) = after (segment path from number) _ (λ s. refl)
 drop_keeps (path ∷ from ∷ number ∷ m ∷ words) = tt
 
+strip_keeps : (words : List (List ℕ)) → Keeps (strip_line words)
+unfolding strip_line
+strip_keeps [] = tt
+strip_keeps (path ∷ []) = tt
+strip_keeps (path ∷ from ∷ []) = tt
+strip_keeps (path ∷ from ∷ number ∷ []) = after (segment path from number) _ (λ s. refl)
+strip_keeps (path ∷ from ∷ number ∷ m ∷ words) = tt
+
 dup_keeps : (words : List (List ℕ)) → Keeps (dup_line words)
 unfolding dup_line
 dup_keeps [] = tt
@@ -131,6 +139,14 @@ late_keeps (path ∷ from ∷ []) = tt
 late_keeps (path ∷ from ∷ number ∷ []) = tt
 late_keeps (path ∷ from ∷ number ∷ ticks ∷ []) = after (segment path from number) _ (λ s. after (within latenesses ticks) _ (λ t. refl))
 late_keeps (path ∷ from ∷ number ∷ ticks ∷ m ∷ words) = tt
+
+strip_all_keeps : (words : List (List ℕ)) → Keeps (strip_all_line words)
+unfolding strip_all_line
+strip_all_keeps [] = tt
+strip_all_keeps (path ∷ []) = tt
+strip_all_keeps (path ∷ from ∷ []) = tt
+strip_all_keeps (path ∷ from ∷ tick ∷ []) = after (direction from) _ (λ d. after (within path_numbers path) _ (λ index. after (within run_ticks tick) _ (λ t. refl)))
+strip_all_keeps (path ∷ from ∷ tick ∷ m ∷ words) = tt
 
 die_keeps : (words : List (List ℕ)) → Keeps (die_line words)
 unfolding die_line
@@ -183,11 +199,11 @@ after_keeps first.Short words run = short_keeps words
 after_keeps first.Buffer words run = buffer_keeps words
 after_keeps first.Path words run = path_keeps words
 after_keeps first.Drop words run = drop_keeps words
-after_keeps first.Strip words run = absurd cc
+after_keeps first.Strip words run = strip_keeps words
 after_keeps first.Alter words run = absurd cc
 after_keeps first.Dup words run = dup_keeps words
 after_keeps first.Late words run = late_keeps words
-after_keeps first.StripAll words run = absurd cc
+after_keeps first.StripAll words run = strip_all_keeps words
 after_keeps first.Die words run = die_keeps words
 after_keeps first.Prio words run = prio_keeps words
 after_keeps first.Add words run = add_keeps words
@@ -233,7 +249,7 @@ run_of : (over setting event : Bool) → over ≡ false → not (over || setting
 run_of true setting event e h = absurd cc
 run_of false setting event e h = not_false (setting || event) h
 
-line_keeps : (text : List ℕ) (line : Line) → is_held_back text ≡ false → is_passed_over text ≡ false → line_of (words_of text) ≡ Ok line → changes line ≡ false
+line_keeps : (text : List ℕ) (line : Line) → is_held_back text ≡ false → is_passed_over text ≡ false → line_of (words_of text) ≡ Ok line → alters line ≡ false
 unfolding line_of
 line_keeps text line held over e =
     let run : is_run (parted_at 32 text).0 ≡ true = run_of (is_passed_over text) (is_setting (parted_at 32 text).0) (is_event (parted_at 32 text).0) over held in
@@ -250,17 +266,17 @@ Runs (text ∷ texts) = (is_held_back text ≡ false) × Runs texts
 
 abbrev Keep : List Line → Type 0
 Keep [] = Unit {0}
-Keep (line ∷ lines) = (changes line ≡ false) × Keep lines
+Keep (line ∷ lines) = (alters line ≡ false) × Keep lines
 
-keep_push : (seen : List Line) (line : Line) → Keep seen → changes line ≡ false → Keep (seen ++ line ∷ [])
+keep_push : (seen : List Line) (line : Line) → Keep seen → alters line ≡ false → Keep (seen ++ line ∷ [])
 keep_push [] line h e = (e, tt)
 keep_push (x ∷ seen) line h e = (h.0, keep_push seen line h.1 e)
 
 abbrev ok_line : Line → Result Line ScriptKind
 ok_line line = Ok line
 
-first_keeps : (b : Bool) (line : Line) → cond b (ok_line Header) (Err kind.Header) ≡ Ok line → changes line ≡ false
-first_keeps true line e = let same : ok_line Header ≡ ok_line line = e in let is : Header ≡ line = cc in subst (λ (l : Line). changes l ≡ false) is refl
+first_keeps : (b : Bool) (line : Line) → cond b (ok_line Header) (Err kind.Header) ≡ Ok line → alters line ≡ false
+first_keeps true line e = let same : ok_line Header ≡ ok_line line = e in let is : Header ≡ line = cc in subst (λ (l : Line). alters l ≡ false) is refl
 first_keeps false line e = absurd cc
 
 in_place_is : (seen : List Line) (line next : Line) → in_place seen line ≡ Ok next → line ≡ next
@@ -269,12 +285,12 @@ in_place_is seen line next e =
     let repeated = not_refused (is_repeated seen line) kind.Repeated (ok_line line) next order.1 in
     let same : ok_line line ≡ ok_line next = repeated.1 in cc
 
-next_keeps : (seen : List Line) (text : List ℕ) (line : Line) → is_held_back text ≡ false → is_passed_over text ≡ false → next_line seen text ≡ Ok line → changes line ≡ false
+next_keeps : (seen : List Line) (text : List ℕ) (line : Line) → is_held_back text ≡ false → is_passed_over text ≡ false → next_line seen text ≡ Ok line → alters line ≡ false
 unfolding later_line
 next_keeps [] text line held over e = first_keeps (bytes_eq text (codes "mptcp-script 1")) line e
 next_keeps (x ∷ seen) text line held over e =
     let read = bind_ok (line_of (words_of text)) (λ l. in_place (x ∷ seen) l) line e in
-    subst (λ (l : Line). changes l ≡ false) (in_place_is (x ∷ seen) read.0 line read.2) (line_keeps text read.0 held over read.1)
+    subst (λ (l : Line). alters l ≡ false) (in_place_is (x ∷ seen) read.0 line read.2) (line_keeps text read.0 held over read.1)
 
 abbrev ok_lines : List Line → Result (List Line) ScriptFault
 ok_lines lines = Ok lines
@@ -301,17 +317,17 @@ all_keep (text ∷ texts) number seen all run h e =
     let one = bind_ok (seen_after number seen text) (λ now. read_on (suc number) now texts) all e in
     all_keep texts (suc number) one.0 all run.1 (seen_keeps number seen text one.0 run.0 h one.1) one.2
 
-one_keeps : (script : Script) (line : Line) → list_any changes_segments script.lines ≡ false → changes line ≡ false → list_any changes_segments (with_line script line).lines ≡ false
+one_keeps : (script : Script) (line : Line) → list_any alters_payload script.lines ≡ false → alters line ≡ false → list_any alters_payload (with_line script line).lines ≡ false
 one_keeps script Header h e = h
 one_keeps script (Seed n) h e = h
 one_keeps script (Checksum on) h e = h
 one_keeps script (Short on) h e = h
 one_keeps script (Buffer octets) h e = h
 one_keeps script (Path index path) h e = h
-one_keeps script (Event event) h e = list_any-append changes_segments script.lines (event ∷ []) ∙ or_from _ _ h (or_from _ _ e refl)
+one_keeps script (Event event) h e = list_any-append alters_payload script.lines (event ∷ []) ∙ or_from _ _ h (or_from _ _ e refl)
 one_keeps script End h e = h
 
-script_keeps : (lines : List Line) (script : Script) → list_any changes_segments script.lines ≡ false → Keep lines → list_any changes_segments (fold with_line script lines).lines ≡ false
+script_keeps : (lines : List Line) (script : Script) → list_any alters_payload script.lines ≡ false → Keep lines → list_any alters_payload (fold with_line script lines).lines ≡ false
 script_keeps [] script h keep = h
 script_keeps (line ∷ lines) script h keep = script_keeps lines (with_line script line) (one_keeps script line h keep.0) keep.1
 
@@ -361,19 +377,19 @@ none_left : (o : Option ℕ) (read script : Script) → unless_held_back o read 
 none_left None read script e = let same : ok_script read ≡ ok_script script = e in (refl, cc)
 none_left (Some place) read script e = absurd cc
 
-unchanged_by : (text : List ℕ) (script : Script) → reading text ≡ Ok script → Runs (text_lines text) → list_any changes_segments script.lines ≡ false
+unaltered_by : (text : List ℕ) (script : Script) → reading text ≡ Ok script → Runs (text_lines text) → list_any alters_payload script.lines ≡ false
 unfolding reading
-unchanged_by text script e run =
+unaltered_by text script e run =
     let one = bind_ok (read_on 1 [] (text_lines text)) (λ lines. ok_script (script_of lines)) script e in
     let same : ok_script (script_of one.0) ≡ ok_script script = one.2 in
     let is : script_of one.0 ≡ script = cc in
-    subst (λ (s : Script). list_any changes_segments s.lines ≡ false) is (script_keeps one.0 blank refl (all_keep (text_lines text) 1 [] one.0 run tt one.1))
+    subst (λ (s : Script). list_any alters_payload s.lines ≡ false) is (script_keeps one.0 blank refl (all_keep (text_lines text) 1 [] one.0 run tt one.1))
 
 -- what a script that is run says
-pub run_script_is : (text : List ℕ) (script : Script) → script_meaning text ≡ Ok script → (reading text ≡ Ok script) × (list_any changes_segments script.lines ≡ false)
+pub run_script_is : (text : List ℕ) (script : Script) → script_meaning text ≡ Ok script → (reading text ≡ Ok script) × (list_any alters_payload script.lines ≡ false)
 unfolding script_meaning
 run_script_is text script e =
     let read = bind_ok (reading text) (unless_held_back (position is_held_back (slice_split (λ octet. octet == 10) text))) script e in
     let left = none_left _ read.0 script read.2 in
     let is : reading text ≡ Ok script = read.1 ∙ ap (λ s. ok_script s) left.1 in
-    (is, unchanged_by text script is (lines_run text (none_held (slice_split (λ octet. octet == 10) text) left.0)))
+    (is, unaltered_by text script is (lines_run text (none_held (slice_split (λ octet. octet == 10) text) left.0)))

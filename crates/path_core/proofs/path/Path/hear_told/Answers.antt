@@ -1,0 +1,14 @@
+use Rattle.std.proofs.Common.{◌≡◌, ◌∙◌, ap, subst}
+use Rattle.std.specs.Result.{OnOk}
+use Rattle.path_segments.specs.HeardSegments.{heard_value}
+use Rattle.path_core.specs.Arriving.{options_heard}
+use Rattle.path_core.specs.Codec.{HeardSegment}
+use Rattle.path_core.specs.Ends.{PathEnd}
+use Rattle.path_core.specs.Events.{told_at}
+use Rattle.path_core.proofs.path.Path.hear_told.Goals as goal
+
+pub returns-clause-ok : goal.returns-clause-ok
+returns-clause-ok c =
+    let said = heard_value c.args.heard.now in
+    subst (λ (h : HeardSegment). OnOk c.hear_segment.result (c.hear_segment.new.self ≡ told_at c.args.now c.args.side h c.args.self.now))
+    (c.options_heard-heard.ensures ∙ ap (λ (e : PathEnd). options_heard e said) (c.behind-self.view_is ∙ c.end.ensures)) c.hear_segment.ensures.ok

@@ -1,0 +1,250 @@
+//! Options that are missed: acknowledgements without a Data ACK, bytes without a mapping; and the acknowledgements and the FIN of
+//! the subflow, which take the place of Data ACK and DATA_FIN after a fallback (RFC 8684, sections 3.6 and 3.7).
+
+ghost use Rattle.std.specs.Prelude.{◌≡◌, ◌-◌, ◌≤◌, ◌<◌, ◌^◌, is_some, IfSome, OnOk, OnErr};
+ghost use Rattle.actor_desk.specs.Kinds.{CanBeAsked};
+ghost use Rattle.path_core.specs.Breaking.{break_ask, answered_break};
+ghost use Rattle.path_core.specs.Octets.{octets};
+ghost use Rattle.path_core.specs.Passing.{is_fin_set, fin_ask, having_asked, with_peer_end, plain_fin, with_fin_told, answered_plain_fin};
+ghost use Rattle.path_core.specs.Placing.{is_unmapped, times_unmapped, breaks_by_unmapped, after_unmapped};
+ghost use Rattle.path_core.specs.Replies.{IsAckBounded};
+ghost use Rattle.path_core.specs.State.{end_at, with_end};
+ghost use Rattle.path_core.specs.Treating.{lacks_data_ack, breaks_by_ack, plain_ack_stands, plain_ack_ask, with_plain_ack, answered_plain_ack, plain_next, subflow_ack_stands, subflow_ack_ask, with_plain_acked, answered_subflow_ack, plain_data_stands};
+
+use crate::counts::one_more;
+use crate::end::PathEnd;
+use crate::passing::is_fin_set;
+use crate::path::Path;
+use crate::profile::Profile;
+use actor_desk::{Ask, LocalStep, Reply};
+use fallback_state::{Event, Mode};
+use outside_kit::Side;
+use reassembly_book::ReassemblyCall;
+use send_book::SendCall;
+use std::alloc::AllocError;
+
+/// A path on which options are lost is broken with this reason: a middlebox interferes (RFC 8684, section 3.6).
+const STRIPPED: u8 = 6;
+
+impl PathEnd {
+    /// The copy acknowledges data without a Data ACK, and the side didn't fall back.
+    fn lacks_data_ack(&self) -> bool
+        ensures { result ≡ lacks_data_ack self.now }
+    {
+        self.treated.is_plain_ack() && !self.modes.identity
+    }
+
+    /// It breaks a path that joined, as long as no Data ACK covered something on it; and the third without a Data ACK between
+    /// them breaks the path of a side that is sure.
+    pub fn breaks_by_ack(&self, profile: &Profile) -> bool
+        ensures { result ≡ breaks_by_ack profile.now self.now }
+    {
+        let joins = profile.is_joined() && !self.modes.covered;
+        let third = self.modes.mode == Mode::Sure && 2 <= self.modes.plain_acks;
+        self.lacks_data_ack() && (joins || third)
+    }
+
+    /// The path is broken, or the side isn't sure and is told.
+    pub fn plain_ack_stands(&self, profile: &Profile) -> bool
+        ensures { result ≡ plain_ack_stands profile.now self.now }
+    {
+        self.breaks_by_ack(profile) || self.lacks_data_ack() && self.modes.mode == Mode::Starting
+    }
+
+    /// One more acknowledgement without a Data ACK, where the copy is one.
+    fn count_plain_ack(&mut self)
+        ensures { self.new ≡ with_plain_ack self.old }
+    {
+        if self.lacks_data_ack() {
+            self.modes.plain_acks = one_more(self.modes.plain_acks);
+        }
+    }
+
+    /// After a fallback the acknowledgement of the subflow is told.
+    pub fn subflow_ack_stands(&self) -> bool
+        ensures { result ≡ subflow_ack_stands self.now }
+    {
+        self.modes.identity && !self.treated.is_data_ack_taken()
+    }
+
+    /// It acknowledges so many bytes.
+    fn plain_next(&self) -> u64
+        ensures value { result ≡ plain_next self.now }
+        ensures bound { result < 2 ^ 62 }
+    {
+        self.treated.acknowledged().saturating_sub(1)
+    }
+
+    /// So many bytes of the stream are acknowledged, where that was taken.
+    fn hear_subflow_ack(&mut self, reply: &Reply)
+        ensures { self.new ≡ with_plain_acked reply.now self.old }
+    {
+        let next = self.plain_next();
+        self.sending.hear_ack(next, reply);
+    }
+
+    /// The next byte came without any option, and the side isn't sure.
+    pub fn plain_data_stands(&self) -> bool
+        ensures { result ≡ plain_data_stands self.now }
+    {
+        self.treated.held_edge().is_some()
+            && !self.treated.has_option()
+            && self.modes.mode == Mode::Starting
+    }
+
+    /// The copy has the byte at the edge, which has no mapping.
+    fn is_unmapped(&self) -> bool
+        ensures { result ≡ is_unmapped self.now }
+    {
+        self.treated.held_edge() == Some(self.tcp.edge())
+            && !self.modes.identity
+            && self.mapping_at_edge().is_none()
+    }
+
+    /// How often it came so, this copy among them.
+    fn times_unmapped(&self) -> u64
+        ensures { result ≡ times_unmapped self.now }
+    {
+        self.receiving.times_unmapped(self.tcp.edge())
+    }
+
+    /// The third time breaks the path of a side that is sure.
+    pub fn breaks_by_unmapped(&self) -> bool
+        ensures { result ≡ breaks_by_unmapped self.now }
+    {
+        self.is_unmapped() && self.modes.mode == Mode::Sure && 3 <= self.times_unmapped()
+    }
+
+    /// It is counted.
+    fn count_unmapped(&mut self)
+        ensures { self.new ≡ after_unmapped self.old }
+    {
+        if self.is_unmapped() {
+            let (times, edge) = (self.times_unmapped(), self.tcp.edge());
+            self.receiving.note_unmapped(times, edge);
+        }
+    }
+
+    /// After a fallback: the end of the stream by the peer's FIN, where the edge passed it and it wasn't told.
+    pub fn plain_fin(&self) -> Option<u64>
+        ensures value { result ≡ plain_fin self.now }
+        ensures bound { IfSome result (λ place. place ≤ 2 ^ 62) }
+    {
+        if !self.modes.identity || self.receiving.is_fin_told() {
+            return None;
+        }
+        match self.tcp.fin_at() {
+            Some(position) if position < self.tcp.edge() => Some(position.saturating_sub(1)),
+            _ => None,
+        }
+    }
+
+    /// It was told.
+    fn hear_plain_end(&mut self)
+        ensures { self.new ≡ having_asked (with_peer_end (with_fin_told self.old)) }
+    {
+        self.receiving.fin_is_told();
+        self.hear_peer_end();
+    }
+}
+
+impl Path {
+    /// What an acknowledgement without a Data ACK asks: the first step of a break, or it is told.
+    pub(crate) fn plain_ack_ask(&self, side: Side) -> Ask
+        ensures value { result ≡ plain_ack_ask octets side self.now }
+        ensures able { CanBeAsked result }
+    {
+        if self.end(side).breaks_by_ack(&self.profile) {
+            self.break_ask(side, STRIPPED)
+        } else {
+            self.fell_ask(side, Event::PlainAck)
+        }
+    }
+
+    /// That was answered. At an error all is as it was.
+    pub(crate) fn answer_plain_ack(&mut self, side: Side, reply: &Reply) -> Result<(), AllocError>
+        requires { IsAckBounded reply.now }
+        ensures ok { OnOk result (self.new ≡ answered_plain_ack octets side reply.now self.old) }
+        ensures err { OnErr result (self.new ≡ self.old) }
+    {
+        if self.end(side).breaks_by_ack(&self.profile) {
+            return self.answer_break(side, STRIPPED, reply);
+        }
+        self.end_mut(side).hear_fell(Event::PlainAck, reply);
+        self.end_mut(side).count_plain_ack();
+        self.go_by_verdict(side, reply);
+        Ok(())
+    }
+
+    /// It is counted.
+    pub(crate) fn pass_plain_ack(&mut self, side: Side)
+        ensures { self.new ≡ with_end side (with_plain_ack (end_at side self.old)) self.old }
+    {
+        self.end_mut(side).count_plain_ack();
+    }
+
+    /// The acknowledgement of the subflow is told.
+    pub(crate) fn subflow_ack_ask(&self, side: Side) -> Ask
+        ensures value { result ≡ subflow_ack_ask side (end_at side self.now) }
+        ensures able { CanBeAsked result }
+    {
+        let end = self.end(side);
+        let (next, window) = (end.plain_next(), u64::from(end.treated.window()));
+        Ask::Send(side, SendCall::AckIn { next, window })
+    }
+
+    /// It was told.
+    pub(crate) fn answer_subflow_ack(&mut self, side: Side, reply: &Reply)
+        ensures { self.new ≡ answered_subflow_ack side reply.now self.old }
+    {
+        self.end_mut(side).hear_subflow_ack(reply);
+        self.done();
+    }
+
+    /// The first step of the break by bytes without a mapping.
+    pub(crate) fn unmapped_ask(&self, side: Side) -> Ask
+        ensures value { result ≡ break_ask octets side 6 self.now }
+        ensures able { CanBeAsked result }
+    {
+        self.break_ask(side, STRIPPED)
+    }
+
+    /// That step is made. At an error all is as it was.
+    pub(crate) fn answer_unmapped(&mut self, side: Side, reply: &Reply) -> Result<(), AllocError>
+        requires { IsAckBounded reply.now }
+        ensures ok { OnOk result (self.new ≡ answered_break octets side 6 reply.now self.old) }
+        ensures err { OnErr result (self.new ≡ self.old) }
+    {
+        self.answer_break(side, STRIPPED, reply)
+    }
+
+    /// A byte without a mapping is counted.
+    pub(crate) fn pass_unmapped(&mut self, side: Side)
+        ensures { self.new ≡ with_end side (after_unmapped (end_at side self.old)) self.old }
+    {
+        self.end_mut(side).count_unmapped();
+    }
+
+    /// The peer's FIN is told as the end of its stream.
+    pub(crate) fn plain_fin_ask(&self, side: Side) -> Ask
+        ensures value { result ≡ fin_ask side (plain_fin (end_at side self.now)) }
+        ensures able { CanBeAsked result }
+    {
+        match self.end(side).plain_fin() {
+            Some(at) => Ask::Reassembly(side, ReassemblyCall::Fin { at }),
+            None => Ask::Local(LocalStep::End),
+        }
+    }
+
+    /// It was told; one that the book refuses breaks the path.
+    pub(crate) fn answer_plain_fin(&mut self, side: Side, reply: &Reply)
+        ensures { self.new ≡ answered_plain_fin side (is_fin_set reply.now) self.old }
+    {
+        if is_fin_set(reply) {
+            self.end_mut(side).hear_plain_end();
+            self.done();
+        } else {
+            self.refuse(side);
+        }
+    }
+}

@@ -1,0 +1,42 @@
+-- Where bytes or an end were told to a reassembly book, the book is asked what is to be acknowledged before the end sends anything.
+use Rattle.std.proofs.Common.{Bool, true, false, ◌&&◌, ◌||◌, List, [], ◌∷◌}
+use Rattle.outside_kit.specs.declared.side.Side.{Side}
+use Rattle.link_script.specs.Places.{same_side}
+use Rattle.path_agenda.specs.declared.duty.Duty.{Duty}
+use Rattle.path_agenda.specs.declared.duty.Duty.TheVariants as duties
+
+-- ---- what is to be done before
+
+-- by this duty the book is asked
+abbrev pub is_asking : Side → Duty → Bool
+is_asking s (duties.AckOut t) = same_side s t
+is_asking s (duties.BreakAck t reason) = same_side s t
+is_asking s _ = false
+
+-- what may come before it
+abbrev pub is_telling : Side → Duty → Bool
+is_telling s (duties.Edge t) = same_side s t
+is_telling s (duties.Unmapped t) = same_side s t
+is_telling s (duties.HeardFin t index) = same_side s t
+is_telling s (duties.PassFin t) = same_side s t
+is_telling s (duties.SubflowFin t) = same_side s t
+is_telling s _ = false
+
+abbrev pub is_shield : Side → Duty → Bool
+is_shield s d = is_asking s d || is_telling s d
+
+-- the book is asked before the end does anything else
+abbrev pub guarded : Side → List Duty → Bool
+guarded s [] = false
+guarded s (d ∷ ds) = is_asking s d || (is_telling s d && guarded s ds)
+
+-- what a duty by which a book is told needs behind it
+abbrev pub needs : Duty → List Duty → Bool
+needs (duties.Edge s) ds = guarded s ds
+needs (duties.HeardFin s index) ds = guarded s ds
+needs (duties.SubflowFin s) ds = guarded s ds
+needs _ ds = true
+
+abbrev pub is_sheltered : List Duty → Bool
+is_sheltered [] = true
+is_sheltered (d ∷ ds) = needs d ds && is_sheltered ds
