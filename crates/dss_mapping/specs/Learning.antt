@@ -5,7 +5,7 @@ use Rattle.dss_mapping.specs.declared.learn.Learn.{Learn}
 use Rattle.dss_mapping.specs.declared.learn.Learn.TheVariants.{New, Same, Clash}
 use Rattle.dss_mapping.specs.declared.run.Run.{Run}
 use Rattle.dss_mapping.specs.Runs.{place_in}
-use Rattle.dss_mapping.specs.Mappings.{Mappings, run_of, place_at, after_learn}
+use Rattle.dss_mapping.specs.Mappings.{Mappings, octets_of, run_of, place_at, after_learn}
 
 -- ---- what is answered
 
@@ -49,7 +49,7 @@ clashes kept v = is_some (clash_of (run_of kept) v)
 
 -- its places are at most 2^62
 abbrev pub IsWithin : KeptMapping → Type 0
-IsWithin kept = kept.place + kept.mapping.length ≤ 2 ^ 62
+IsWithin kept = kept.place + octets_of kept ≤ 2 ^ 62
 
 abbrev pub first_of : List KeptMapping → Option KeptMapping
 first_of [] = None

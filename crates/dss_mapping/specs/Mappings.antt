@@ -1,6 +1,6 @@
 -- What a side learned of a subflow's mappings: the places of its positions, by the mappings and by an infinite one (RFC
 -- 8684, sections 3.3.1 and 3.7), and the mappings that may be asked for, which are those that were not let go.
-use Rattle.std.specs.Prelude.{ℕ, ◌≡◌, ◌≢◌, ◌+◌, ◌-◌, ◌^◌, ◌<◌, ◌≤◌, max, min, nat_lt, if◌then◌else◌, Option, Some, None, IfSome, List, [], ◌∷◌, ◌++◌, filter, find}
+use Rattle.std.specs.Prelude.{ℕ, ◌≡◌, ◌≢◌, ◌+◌, ◌-◌, ◌^◌, ◌<◌, ◌≤◌, max, min, nat_lt, Bool, if◌then◌else◌, Option, Some, None, IfSome, List, [], ◌∷◌, ◌++◌, filter, find}
 use Rattle.std.specs.Option.{option_or}
 use Rattle.std.specs.Coded.{Coded, code_by, coded×, coded_ℕ, coded_list, coded_option}
 use Rattle.std.specs.FinMap as map
@@ -46,9 +46,16 @@ store_code =
 abbrev pub no_mappings : Mappings
 no_mappings = record { places = map.empty; tail = None; live = []; forgotten = 0; held = [] }
 
+-- how many octets a mapping of this length has: its last number may be the DATA_FIN's (section 3.3.3)
+abbrev pub octets_in : ℕ → Bool → ℕ
+octets_in len fin = if fin then len - 1 else len
+
+abbrev pub octets_of : KeptMapping → ℕ
+octets_of kept = octets_in kept.mapping.length kept.fin
+
 -- the positions of a mapping, those from 2 ^ 64 - 1 on left out
 abbrev pub run_of : KeptMapping → Run
-run_of kept = record { pos = kept.pos; place = kept.place; to = min (kept.pos + kept.mapping.length) (2 ^ 64 - 1) }
+run_of kept = record { pos = kept.pos; place = kept.place; to = min (kept.pos + octets_of kept) (2 ^ 64 - 1) }
 
 -- the place of a position by the infinite mapping
 abbrev pub tail_at : Option Run → ℕ → Option ℕ

@@ -1,6 +1,6 @@
 ghost use Rattle.std.specs.Prelude.{◌≡◌, nat_lt};
 ghost use Rattle.dss_mapping.specs.Runs.{covers};
-ghost use Rattle.dss_mapping.specs.Mappings.{run_of};
+ghost use Rattle.dss_mapping.specs.Mappings.{octets_of, run_of};
 
 use crate::run::Run;
 use seq_units::{Mapping, Pos};
@@ -14,9 +14,22 @@ pub struct KeptMapping {
     pub place: u64,
     /// The mapping as it was told.
     pub mapping: Mapping,
+    /// Whether its last number is that of the DATA_FIN (RFC 8684, section 3.3.3), which has no octet.
+    pub fin: bool,
 }
 
 impl KeptMapping {
+    /// How many octets it has.
+    pub fn octets(self) -> u16
+        ensures value { result ≡ octets_of self }
+    {
+        if self.fin {
+            self.mapping.length.saturating_sub(1)
+        } else {
+            self.mapping.length
+        }
+    }
+
     /// Its positions below 2^64 - 1.
     pub(crate) fn run(self) -> Run
         ensures value { result ≡ run_of self }
@@ -24,7 +37,7 @@ impl KeptMapping {
         Run {
             pos: self.pos,
             place: self.place,
-            to: self.pos.saturating_add(u64::from(self.mapping.length)),
+            to: self.pos.saturating_add(u64::from(self.octets())),
         }
     }
 

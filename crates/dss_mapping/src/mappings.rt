@@ -1,4 +1,4 @@
-ghost use Rattle.std.specs.Prelude.{◌≡◌, ◌≢◌, ◌+◌, ◌-◌, ◌^◌, ◌<◌, ◌≤◌, length, All, IfOk, OnOk, OnErr, IfSome, IsSome, IsNone, ◌++◌, ◌∷◌, [], find, filter, nat_lt};
+ghost use Rattle.std.specs.Prelude.{◌≡◌, ◌≢◌, false, ◌+◌, ◌-◌, ◌^◌, ◌<◌, ◌≤◌, length, All, IfOk, OnOk, OnErr, IfSome, IsSome, IsNone, ◌++◌, ◌∷◌, [], find, filter, nat_lt};
 ghost use Rattle.std.specs.Vec.{vec_len, vec_capacity};
 ghost use Rattle.dss_mapping.specs.Runs.{covers, infinite_run, IsSound};
 ghost use Rattle.dss_mapping.specs.Mappings.{run_of};
@@ -80,15 +80,16 @@ impl Mappings {
     /// a search by halves of the runs for each run that the mapping meets. A new one moves the runs behind it.
     pub fn learn(&mut self, pos: Pos, place: u64, mapping: &Mapping) -> Result<Learn, AllocError>
         requires { place + mapping.now.length ≤ 2 ^ 62 }
-        ensures value { IfOk result (λ answer. answer ≡ learn_of (record { pos = pos; place = place; mapping = mapping.now }) self.old.mappings) }
-        ensures answer { IfOk result (λ answer. IsAnswer (run_of (record { pos = pos; place = place; mapping = mapping.now })) self.old.mappings answer) }
-        ensures after { IfOk result (λ answer. self.new.mappings ≡ after_learn (record { pos = pos; place = place; mapping = mapping.now }) answer self.old.mappings) }
+        ensures value { IfOk result (λ answer. answer ≡ learn_of (record { pos = pos; place = place; mapping = mapping.now; fin = false }) self.old.mappings) }
+        ensures answer { IfOk result (λ answer. IsAnswer (run_of (record { pos = pos; place = place; mapping = mapping.now; fin = false })) self.old.mappings answer) }
+        ensures after { IfOk result (λ answer. self.new.mappings ≡ after_learn (record { pos = pos; place = place; mapping = mapping.now; fin = false }) answer self.old.mappings) }
         ensures err { OnErr result (self.new.mappings ≡ self.old.mappings) }
     {
         let kept = KeptMapping {
             pos,
             place,
             mapping: *mapping,
+            fin: false,
         };
         let answer = self.answer(kept.run());
         if let Learn::New = answer {

@@ -129,7 +129,7 @@ module _ {C : Type 0} (k : Codec C) (p : PathState C) (low : path_of p < 16) whe
   item_fair s None = tt
   item_fair s (Some says.Dss) = tt
   item_fair s (Some (says.DataAck next window)) = tt
-  item_fair s (Some says.Mapping) = mapping_fair s
+  item_fair s (Some (says.Mapping fin)) = mapping_fair s
   item_fair s (Some (says.DataFin place)) = low
   item_fair s (Some says.InfiniteMapping) = low
   item_fair s (Some (says.PeerKey key)) = tt

@@ -7,7 +7,7 @@ use Rattle.path_agenda.specs.Items.{is_dss, place_in_first}
 pub dss_here : (item : Heard) (items : List Heard) → is_dss item ≡ true → place_in_first (item ∷ items) ≡ place_in_first (says.Dss ∷ items)
 dss_here says.Dss items is = refl
 dss_here (says.DataAck next window) items is = cc
-dss_here says.Mapping items is = cc
+dss_here (says.Mapping fin) items is = cc
 dss_here (says.DataFin place) items is = cc
 dss_here says.InfiniteMapping items is = cc
 dss_here (says.PeerKey key) items is = cc
@@ -17,7 +17,7 @@ dss_here (says.Join form) items is = cc
 pub dss_later : (item : Heard) (items : List Heard) → is_dss item ≡ false → place_in_first (item ∷ items) ≡ place_in_first items
 dss_later says.Dss items is = cc
 dss_later (says.DataAck next window) items is = refl
-dss_later says.Mapping items is = refl
+dss_later (says.Mapping fin) items is = refl
 dss_later (says.DataFin place) items is = refl
 dss_later says.InfiniteMapping items is = refl
 dss_later (says.PeerKey key) items is = refl

@@ -51,7 +51,7 @@ things_heard s = heard_and s 0 10 []
 abbrev pub payload_came : Side → List Duty
 payload_came s =
     duties.PlainAck s ∷ duties.SubflowAck s ∷ duties.PlainData s ∷ duties.Keep s ∷ duties.Edge s ∷ duties.Unmapped s ∷ duties.HeardFin s 0
-    ∷ duties.HeardFin s 1 ∷ duties.PassFin s ∷ duties.SubflowFin s ∷ duties.AckOut s ∷ duties.Rate s ∷ duties.Acknowledge s ∷ duties.Again s
+    ∷ duties.HeardFin s 1 ∷ duties.HeardFin s 2 ∷ duties.PassFin s ∷ duties.SubflowFin s ∷ duties.AckOut s ∷ duties.Rate s ∷ duties.Acknowledge s ∷ duties.Again s
     ∷ emission s
 
 -- a copy that is taken, which says so many things

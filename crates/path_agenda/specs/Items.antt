@@ -36,6 +36,7 @@ place_in_first (item ∷ items) = place_in_first items
 -- what wants an acknowledgement though it occupies no position
 abbrev pub wants_ack : Heard → Bool
 wants_ack (says.DataFin place) = true
+wants_ack (says.Mapping fin) = fin
 wants_ack (says.Keys own peer) = true
 wants_ack (says.Join (Third hmac)) = true
 wants_ack _ = false

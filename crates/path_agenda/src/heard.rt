@@ -10,8 +10,8 @@ pub enum Heard {
     Dss,
     /// So many bytes of the hearer's stream have come in order, the DATA_FIN among them; so many octets more are taken.
     DataAck { next: u64, window: u32 },
-    /// A mapping: the next one of those that the end holds.
-    Mapping,
+    /// A mapping: the next one of those that the end holds. With `fin` its last number is the DATA_FIN's (section 3.3.3).
+    Mapping { fin: bool },
     /// The stream ends before this place.
     DataFin { place: u64 },
     /// An infinite mapping, whose length is 0 (section 3.7).

@@ -49,6 +49,7 @@ fn wants_ack(item: Heard) -> bool
     matches!(
         item,
         Heard::DataFin { .. }
+            | Heard::Mapping { fin: true }
             | Heard::Keys { .. }
             | Heard::Join {
                 form: JoinForm::Third { .. }
@@ -56,8 +57,8 @@ fn wants_ack(item: Heard) -> bool
     )
 }
 
-/// Whether one of these things wants an acknowledgement though it occupies no position: a DATA_FIN, both keys, or the
-/// MP_JOIN of the third segment of a join.
+/// Whether one of these things wants an acknowledgement though it occupies no position: a DATA_FIN, alone or behind bytes, both
+/// keys, or the MP_JOIN of the third segment of a join.
 pub fn one_wants_ack(items: &[Heard]) -> bool
     ensures { result ≡ list_any wants_ack items.now }
 {

@@ -162,6 +162,7 @@ impl Agenda {
             Duty::Unmapped(side),
             Duty::HeardFin { side, index: 0 },
             Duty::HeardFin { side, index: 1 },
+            Duty::HeardFin { side, index: 2 },
             Duty::PassFin(side),
             Duty::SubflowFin(side),
             Duty::AckOut(side),

@@ -46,7 +46,7 @@ module _ (spelling : Spelling) (side : Side) (expected : Expected) (s : PlainSeg
   near_with can is near false = heard_as_meant spelling (spelled_by side) expected s can is near
 
   far_with : CanSay spelling (spelled_by side) s → IsExpected expected → IsFarReset spelling (spelled_by side) expected s
-      → (stripped : Bool) → octets.reads spelling side expected (octets_with stripped) ≡ Some (unplaced (meant (arrived_with stripped)))
+      → (stripped : Bool) → octets.reads spelling side expected (octets_with stripped) ≡ Some (unplaced (spelling_words.subflow_number spelling (spelled_by side) s.position) (meant (arrived_with stripped)))
   far_with can is far true = same_stripped ∙ far_stripped_heard spelling (spelled_by side) expected s can far is
   far_with can is far false = far_heard spelling (spelled_by side) expected s can far is
 
@@ -59,5 +59,5 @@ module _ (spelling : Spelling) (side : Side) (expected : Expected) (carried : Ca
 
   -- a reset far ahead is heard without its position
   pub far_read : IsFarReset spelling (spelled_by side) expected carried.segment
-      → octets.reads spelling side expected (octets_of spelling carried) ≡ Some (unplaced (meant (as_arrived carried)))
+      → octets.reads spelling side expected (octets_of spelling carried) ≡ Some (unplaced (spelling_words.subflow_number spelling (spelled_by side) carried.segment.position) (meant (as_arrived carried)))
   far_read far = rw from (far_with spelling side expected carried.segment can is far carried.stripped)

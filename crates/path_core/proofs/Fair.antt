@@ -5,6 +5,7 @@ use Rattle.std.proofs.lemmas.Bool.{ltb-true, leb-true}
 use Rattle.std.proofs.lemmas.List.Elements.{All-nil, All-cons, All-append, All-take}
 use Rattle.outside_kit.specs.declared.side.Side.{Side}
 use Rattle.outside_kit.specs.declared.side.Side.TheVariants.{A, B}
+use Rattle.dss_mapping.specs.Mappings.{octets_in}
 use Rattle.mptcp_options.specs.declared.join.JoinForm.{JoinForm}
 use Rattle.mptcp_options.specs.declared.join.JoinForm.TheVariants.{Syn, Answer, Third}
 use Rattle.mptcp_options.specs.declared.capable.CapableKeys.{CapableKeys}
@@ -32,11 +33,11 @@ fair_end place = by (nat_le place (2 ^ 62)) refl
     by true is = All-cons IsFair (says.DataFin place) [] (leb-true _ _ is) (All-nil IsFair)
     by false is = All-nil IsFair
 
-fair_mapping : (place position len : ℕ) → All IsFair (mapping_items place position len)
-fair_mapping place position len = by (is_mapping place position len)
+fair_mapping : (place position count : ℕ) (fin : Bool) → All IsFair (mapping_items place position count fin)
+fair_mapping place position count fin = by (is_mapping place position count)
   where
-    by : (b : Bool) → All IsFair (if b then says.Mapping ∷ [] else [])
-    by true = All-cons IsFair says.Mapping [] tt (All-nil IsFair)
+    by : (b : Bool) → All IsFair (if b then says.Mapping fin ∷ [] else [])
+    by true = All-cons IsFair (says.Mapping fin) [] tt (All-nil IsFair)
     by false = All-nil IsFair
 
 fair_infinite : (place : ℕ) → All IsFair (infinite_items place)
@@ -50,8 +51,7 @@ fair_map : (mapping : Option (PathMapping (Option ℕ))) → All IsFair (map_ite
 fair_map None = All-nil IsFair
 fair_map (Some (Bytes None position len fin checksum)) = All-nil IsFair
 fair_map (Some (Bytes (Some place) None len fin checksum)) = All-nil IsFair
-fair_map (Some (Bytes (Some place) (Some position) len true checksum)) = All-nil IsFair
-fair_map (Some (Bytes (Some place) (Some position) len false checksum)) = fair_mapping place position len
+fair_map (Some (Bytes (Some place) (Some position) len fin checksum)) = fair_mapping place position (octets_in len fin) fin
 fair_map (Some (End None checksum)) = All-nil IsFair
 fair_map (Some (End (Some place) checksum)) = fair_end place
 fair_map (Some (Infinite None position)) = All-nil IsFair
@@ -65,7 +65,7 @@ fair_keys A (WithData sender receiver len checksum) = All-nil IsFair
 fair_keys B NoKey = All-nil IsFair
 fair_keys B (Sender sender) = All-nil IsFair
 fair_keys B (Both sender receiver) = All-cons IsFair (says.Keys receiver sender) [] tt (All-nil IsFair)
-fair_keys B (WithData sender receiver len checksum) = All-cons IsFair (says.Keys receiver sender) (mapping_items 0 1 len) tt (fair_mapping 0 1 len)
+fair_keys B (WithData sender receiver len checksum) = All-cons IsFair (says.Keys receiver sender) (mapping_items 0 1 len) tt (fair_mapping 0 1 len false)
 
 fair_join : (s : Side) (form : JoinForm) → All IsFair (join_items s form)
 fair_join A (Syn backup id token nonce) = All-nil IsFair

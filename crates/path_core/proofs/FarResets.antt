@@ -9,9 +9,11 @@ use Rattle.segment_wire.specs.Changes as changes
 use Rattle.segment_wire.proofs.Again.{segment_meaning-written}
 use Rattle.outside_kit.specs.declared.side.Side.{Side}
 use Rattle.path_segments.specs.declared.expected.Expected.{Expected}
+use Rattle.path_segments.specs.declared.position.HeardPosition.{HeardPosition}
+use Rattle.path_segments.specs.declared.position.HeardPosition.TheVariants.{At, Nowhere}
 use Rattle.path_segments.specs.declared.spelling.Side.{Side as SpelledSide}
 use Rattle.path_segments.specs.declared.spelling.Spelling.{Spelling}
-use Rattle.path_segments.specs.Spelling.{numbers_of, peer_of, addresses_from}
+use Rattle.path_segments.specs.Spelling.{numbers_of, subflow_number, peer_of, addresses_from}
 use Rattle.path_segments.specs.Spelled.{PlainSegment, CanSay, spelled, spelled_text}
 use Rattle.path_segments.specs.Heard.{heard_in, heard_segment}
 use Rattle.path_segments.specs.HeardLent.{IsExpected}
@@ -29,16 +31,16 @@ use Rattle.subflow_tcp.specs.State.{EndState, is_at_limit}
 use Rattle.path_agenda.specs.declared.heard.Heard.{Heard}
 use Rattle.path_core.specs.declared.judged.Judged.{Judged}
 use Rattle.path_core.specs.Joins.{is_joined}
-use Rattle.path_core.specs.Arriving.{acknowledged_in, copy_of, options_heard, items_of, held_of, zero_position, reset_by, reset_for, with_held, after_copy, after_join, judged_of, judged_in, taken_as, after_judged, template_of}
+use Rattle.path_core.specs.Arriving.{position_in, copy_of, options_heard, items_of, held_of, position_numbered, reset_by, reset_for, with_held, after_copy, after_join, judged_of, judged_in, taken_as, after_judged, template_of}
 use Rattle.path_core.specs.Codec.{HeardSegment}
 use Rattle.path_core.specs.Ends.{PathEnd}
 use Rattle.path_core.specs.Events.{told_at, copy_heard}
 use Rattle.path_core.specs.Shown.{IsFarReset}
 use Rattle.path_core.specs.State.{PathState, Profile, end_at, goes_on}
 
--- without its position
-abbrev pub unplaced : HeardSegment → HeardSegment
-unplaced h = record h { position = None }
+-- by this number, which names no position
+abbrev pub unplaced : ℕ → HeardSegment → HeardSegment
+unplaced number h = record h { position = Nowhere number }
 
 -- ---- what octets tell
 
@@ -64,27 +66,27 @@ module _ (spelling : Spelling) (from : SpelledSide) (expected : Expected) where
     can_move = record { path = can.path; window = can.window; options = can.options; room = can.room; fits = can.fits }
 
     position_alone : heard_segment spelling from expected (spelled spelling from s)
-        ≡ unplaced (heard_segment spelling from expected (spelled spelling from moved))
+        ≡ unplaced (subflow_number spelling from s.position) (heard_segment spelling from expected (spelled spelling from moved))
     unfolding spelled
     position_alone = rw (far_is_nowhere (numbers_of spelling from).initial.0 expected.edge s.position far.ahead far.low) refl
 
-    pub far_heard : IsExpected expected → heard_in spelling from expected (spelled_text spelling from s) ≡ Some (unplaced (meant s))
+    pub far_heard : IsExpected expected → heard_in spelling from expected (spelled_text spelling from s) ≡ Some (unplaced (subflow_number spelling from s.position) (meant s))
     far_heard is =
         from_text s can ∙ ap (λ h. Some h) position_alone
-        ∙ ap (option_map unplaced) (sym (from_text moved can_move) ∙ heard_as_meant spelling from expected moved can_move is far.others)
+        ∙ ap (option_map (unplaced (subflow_number spelling from s.position))) (sym (from_text moved can_move) ∙ heard_as_meant spelling from expected moved can_move is far.others)
 
     stripped_position_alone : heard_segment spelling from expected (changes.stripped (spelled spelling from s))
-        ≡ unplaced (heard_segment spelling from expected (changes.stripped (spelled spelling from moved)))
+        ≡ unplaced (subflow_number spelling from s.position) (heard_segment spelling from expected (changes.stripped (spelled spelling from moved)))
     unfolding spelled
     stripped_position_alone = rw (far_is_nowhere (numbers_of spelling from).initial.0 expected.edge s.position far.ahead far.low) refl
 
     -- so it is without its options
     pub far_stripped_heard : IsExpected expected
         → heard_in spelling from expected (changes.text_stripped (addresses_from spelling.path from) (spelled_text spelling from s))
-        ≡ Some (unplaced (record (meant s) { options = [] }))
+        ≡ Some (unplaced (subflow_number spelling from s.position) (record (meant s) { options = [] }))
     far_stripped_heard is =
         stripped_means spelling from s can expected ∙ ap (λ h. Some h) stripped_position_alone
-        ∙ ap (option_map unplaced) (sym (stripped_means spelling from moved can_move expected) ∙ stripped_is_heard spelling from expected moved can_move is far.others)
+        ∙ ap (option_map (unplaced (subflow_number spelling from s.position))) (sym (stripped_means spelling from moved can_move expected) ∙ stripped_is_heard spelling from expected moved can_move is far.others)
 
 -- ---- what it means for the subflow
 
@@ -135,13 +137,13 @@ module _ (c : Copy) (pos : ℕ) (tcp : EndState) (far : tcp.recv.edge + 2 ^ 31 �
 
 -- ---- what it makes of the end
 
-same_answer : (c : Profile) (s : Side) (position another occupied : ℕ) (acknowledged : Option (Option ℕ)) → IsSome acknowledged
-    → reset_by c s (acknowledged_in acknowledged) position occupied ≡ reset_by c s (acknowledged_in acknowledged) another occupied
+same_answer : (c : Profile) (s : Side) (position another : HeardPosition) (occupied : ℕ) (acknowledged : Option HeardPosition) → IsSome acknowledged
+    → reset_by c s acknowledged position occupied ≡ reset_by c s acknowledged another occupied
 same_answer c s position another occupied (Some heard) some = refl
 same_answer c s position another occupied None some = absurd (cc some)
 
-module _ (items : List Heard) (now : ℕ) (h : HeardSegment) where
-  same_effect : (answer : Outgoing) (m : Meaning) (e : PathEnd) → after_copy items answer now (unplaced h) m e ≡ after_copy items answer now h m e
+module _ (items : List Heard) (now number : ℕ) (h : HeardSegment) where
+  same_effect : (answer : Outgoing) (m : Meaning) (e : PathEnd) → after_copy items answer now (unplaced number h) m e ≡ after_copy items answer now h m e
   same_effect answer means.Ignored e = refl
   same_effect answer means.Unwanted e = refl
   same_effect answer means.Opens e = refl
@@ -154,38 +156,38 @@ module _ (items : List Heard) (now : ℕ) (h : HeardSegment) where
   same_effect answer means.Ahead e = refl
   same_effect answer (means.Taken position acknowledged) e = refl
 
-module _ (s : Side) (now : ℕ) (h : HeardSegment) where
+module _ (s : Side) (now number : ℕ) (h : HeardSegment) where
   same_end : (c : Profile) (verdict : Judged) (e : PathEnd) → IsSome h.acknowledged
-      → after_judged c s now (unplaced h) verdict e ≡ after_judged c s now h verdict e
+      → after_judged c s now (unplaced number h) verdict e ≡ after_judged c s now h verdict e
   same_end c verdict e some =
       let items = items_of (is_joined c) s h in let m = taken_as verdict in
       let before : PathEnd = after_join (is_joined c) items m (with_held (held_of c s h) h m e) in
-      ap (λ (answer : Outgoing). after_copy items answer now (unplaced h) m before)
-      (same_answer c s 0 (unwrap_or h.position 0) (occupied (copy_of h)) h.acknowledged some)
-      ∙ same_effect items now h (reset_for c s (copy_of h)) m before
+      ap (λ (answer : Outgoing). after_copy items answer now (unplaced number h) m before)
+      (same_answer c s (Nowhere number) h.position (occupied (copy_of h)) h.acknowledged some)
+      ∙ same_effect items now number h (reset_for c s h) m before
 
-module _ (h : HeardSegment) (pos : ℕ) (reset : h.rst ≡ true) (at : h.position ≡ Some pos) where
-  heard_meaning : (tcp : EndState) → tcp.recv.edge + 2 ^ 31 ≤ pos → meaning_of (copy_of (unplaced h)) tcp ≡ meaning_of (copy_of h) tcp
+module _ (number : ℕ) (h : HeardSegment) (pos : ℕ) (reset : h.rst ≡ true) (at : h.position ≡ At pos) where
+  heard_meaning : (tcp : EndState) → tcp.recv.edge + 2 ^ 31 ≤ pos → meaning_of (copy_of (unplaced number h)) tcp ≡ meaning_of (copy_of h) tcp
   heard_meaning tcp far =
-      ap (λ (b : Bool). meaning_of (record (copy_of (unplaced h)) { rst = b }) tcp) reset
+      ap (λ (b : Bool). meaning_of (record (copy_of (unplaced number h)) { rst = b }) tcp) reset
       ∙ same_meaning (copy_of h) pos tcp far
       ∙ sym (ap (λ (b : Bool). meaning_of (record (copy_of h) { rst = b }) tcp) reset
-      ∙ ap (λ (o : Option ℕ). meaning_of (record (copy_of h) { rst = true; position = o }) tcp) at)
+      ∙ ap (λ (o : HeardPosition). meaning_of (record (copy_of h) { rst = true; position = position_in o }) tcp) at)
 
   far_told : {C : Type 0} (s : Side) (now : ℕ) (p : PathState C) → IsSome h.acknowledged → (end_at s p).tcp.recv.edge + 2 ^ 31 ≤ pos
-      → told_at now s (unplaced h) p ≡ told_at now s h p
+      → told_at now s (unplaced number h) p ≡ told_at now s h p
   far_told s now p some far =
       let e = end_at s p in let joined = is_joined p.profile in let items = items_of joined s h in
       ap (λ (m : Meaning).
-      let verdict = judged_of joined h.rst items m e in goes_on s (after_judged p.profile s now (unplaced h) verdict e) (template_of joined s items verdict) p)
+      let verdict = judged_of joined h.rst items m e in goes_on s (after_judged p.profile s now (unplaced number h) verdict e) (template_of joined s items verdict) p)
       (heard_meaning e.tcp far)
       ∙ ap (λ (after : PathEnd). goes_on s after (template_of joined s items (judged_in joined s h e)) p)
-      (same_end s now h p.profile (judged_in joined s h e) e some)
+      (same_end s now number h p.profile (judged_in joined s h e) e some)
 
-pub far_treated : (h : HeardSegment) (pos : ℕ) → h.rst ≡ true → h.position ≡ Some pos
+pub far_treated : (number : ℕ) (h : HeardSegment) (pos : ℕ) → h.rst ≡ true → h.position ≡ At pos
     → {C : Type 0} (s : Side) (p : PathState C) → IsSome h.acknowledged → (end_at s p).tcp.recv.edge + 2 ^ 31 ≤ pos
-    → copy_heard s (Some (unplaced h)) p ≡ copy_heard s (Some h) p
-far_treated h pos reset at s p some far = far_told (options_heard (end_at s p) h) pos reset at s p.clock p some far
+    → copy_heard s (Some (unplaced number h)) p ≡ copy_heard s (Some h) p
+far_treated number h pos reset at s p some far = far_told number (options_heard (end_at s p) h) pos reset at s p.clock p some far
 
 -- ---- which resets are far
 
@@ -196,5 +198,5 @@ near_or_far edge position few low =
     (cases_lt position (edge + 2 ^ 31))
 
 -- that of number 0 is below 2^32
-pub zero_is_low : (c : Profile) (s : Side) → zero_position c s < 2 ^ 32
+pub zero_is_low : (c : Profile) (s : Side) → position_numbered c s 0 < 2 ^ 32
 zero_is_low c s = omega arith

@@ -310,7 +310,7 @@ module _ {C : Type 0} where
   heard_lowers k s (Some (says.DataAck place window)) r p t next heavy =
       goes_less s (with_acked place r (end_at s p)) (told_next s (is_acked r && nat_lt 0 place) p) p t
       (same_rests p.clock (end_at s p) (with_acked place r (end_at s p)) refl) (told_less s (is_acked r && nat_lt 0 place) p heavy.done next)
-  heard_lowers k s (Some says.Mapping) r p t next heavy = mapping_lowers k s r p t heavy
+  heard_lowers k s (Some (says.Mapping fin)) r p t next heavy = mapping_lowers k s r p t heavy
   heard_lowers k s (Some (says.DataFin place)) r p t next heavy =
       let f : PathEnd = with_fin place (after_fell events.MappingHeard r (end_at s p)) in
       fell_less s f r p t (same_rests p.clock (end_at s p) f refl) heavy

@@ -7,7 +7,7 @@ use Rattle.outside_kit.specs.declared.side.Side.{Side}
 use Rattle.outside_kit.specs.declared.side.Side.TheVariants.{A, B}
 use Rattle.dss_mapping.specs.declared.kept.KeptMapping.{KeptMapping}
 use Rattle.dss_mapping.specs.Learning.{IsWithin}
-use Rattle.dss_mapping.specs.Mappings.{Mappings, mapping_at, run_of}
+use Rattle.dss_mapping.specs.Mappings.{Mappings, mapping_at, octets_in, run_of}
 use Rattle.dss_mapping.specs.Runs.{covers}
 use Rattle.mptcp_options.specs.declared.capable.CapableKeys.{CapableKeys}
 use Rattle.mptcp_options.specs.declared.capable.CapableKeys.TheVariants.{NoKey, Sender, Both, WithData}
@@ -47,11 +47,11 @@ mapping_begins v p = by (nat_lt p v.forgotten) (found_begins p v.live)
 
 -- ---- the mappings that a copy says
 
-within_if : (c : Profile) (s : Side) (place position len : ℕ) (checksum : Option ℕ) → All IsWithin (held_if c s place position len checksum)
-within_if c s place position len checksum = by (nat_lt 0 position) (nat_le (place + len) (2 ^ 62)) refl
+within_if : (c : Profile) (s : Side) (place position len : ℕ) (fin : Bool) (checksum : Option ℕ) → All IsWithin (held_if c s place position len fin checksum)
+within_if c s place position len fin checksum = by (nat_lt 0 position) (nat_le (place + octets_in len fin) (2 ^ 62)) refl
   where
-    by : (a b : Bool) → nat_le (place + len) (2 ^ 62) ≡ b
-        → All IsWithin (if a && b then kept_of c s place position len (checksum_heard checksum) ∷ [] else [])
+    by : (a b : Bool) → nat_le (place + octets_in len fin) (2 ^ 62) ≡ b
+        → All IsWithin (if a && b then kept_of c s place position len fin (checksum_heard checksum) ∷ [] else [])
     by true true is = All-cons IsWithin _ [] (leb-true _ _ is) (All-nil IsWithin)
     by true false is = All-nil IsWithin
     by false b is = All-nil IsWithin
@@ -61,14 +61,13 @@ within_keys c A keys = All-nil IsWithin
 within_keys c B NoKey = All-nil IsWithin
 within_keys c B (Sender sender) = All-nil IsWithin
 within_keys c B (Both sender receiver) = All-nil IsWithin
-within_keys c B (WithData sender receiver len checksum) = within_if c B 0 1 len checksum
+within_keys c B (WithData sender receiver len checksum) = within_if c B 0 1 len false checksum
 
 within_map : (c : Profile) (s : Side) (mapping : Option (PathMapping (Option ℕ))) → All IsWithin (map_held c s mapping)
 within_map c s None = All-nil IsWithin
 within_map c s (Some (Bytes None position len fin checksum)) = All-nil IsWithin
 within_map c s (Some (Bytes (Some place) None len fin checksum)) = All-nil IsWithin
-within_map c s (Some (Bytes (Some place) (Some position) len true checksum)) = All-nil IsWithin
-within_map c s (Some (Bytes (Some place) (Some position) len false checksum)) = within_if c s place position len checksum
+within_map c s (Some (Bytes (Some place) (Some position) len fin checksum)) = within_if c s place position len fin checksum
 within_map c s (Some (End place checksum)) = All-nil IsWithin
 within_map c s (Some (Infinite place position)) = All-nil IsWithin
 

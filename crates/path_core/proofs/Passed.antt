@@ -11,7 +11,7 @@ use Rattle.path_core.specs.Duties.{stands, passed}
 use Rattle.path_core.specs.Emission.{after_timer}
 use Rattle.path_core.specs.Ends.{PathEnd}
 use Rattle.path_core.specs.Passing.{after_pass_fin}
-use Rattle.path_core.specs.Placing.{mapping_here, after_check, after_unmapped}
+use Rattle.path_core.specs.Placing.{mapping_here, after_check, after_pieces}
 use Rattle.path_agenda.specs.Weights.{weights}
 use Rattle.path_core.specs.State.{PathState, end_at, with_end, with_agenda}
 use Rattle.path_core.specs.Steps.{settled}
@@ -56,7 +56,7 @@ module _ {C : Type 0} where
   passed_calm (duties.PlainAck s) p t =
       let e = end_at s p in end_calm s (with_plain_ack e) p t (same_rests p.clock e (with_plain_ack e) refl)
   passed_calm (duties.Unmapped s) p t =
-      let e = end_at s p in end_calm s (after_unmapped e) p t (same_rests p.clock e (after_unmapped e) refl)
+      let e = end_at s p in end_calm s (after_pieces e) p t (same_rests p.clock e (after_pieces e) refl)
   passed_calm (duties.Keep s) p t =
       let e = end_at s p in end_calm s (after_keep s e) p t (same_rests p.clock e (after_keep s e) (keep_same s e))
   passed_calm (duties.Edge s) p t =

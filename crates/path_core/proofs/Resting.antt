@@ -160,7 +160,7 @@ pub item_same : (s : Side) (item : Option Heard) (e : PathEnd) → (item_passed 
 item_same s None e = refl
 item_same s (Some says.Dss) e = refl
 item_same s (Some (says.DataAck next window)) e = refl
-item_same s (Some says.Mapping) e = mapping_same (counts e) e
+item_same s (Some (says.Mapping fin)) e = mapping_same (counts e) e
 item_same s (Some (says.DataFin place)) e = either_same (counts e) (with_fin place e) e refl
 item_same s (Some says.InfiniteMapping) e = refl
 item_same s (Some (says.PeerKey key)) e = refl

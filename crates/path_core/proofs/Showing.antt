@@ -12,7 +12,9 @@ use Rattle.link_model.specs.Laws.{shown, shown_flight}
 use Rattle.link_model.specs.State.{LinkState}
 use Rattle.link_model.specs.Steps.{taken, next_number, peer, is_due, next_due, arriving, after_delivery, without, after_send, changed, arrivals, with_flights, one_more}
 use Rattle.link_model.proofs.Shown.{sent_shown}
+use Rattle.path_segments.specs.declared.position.HeardPosition.TheVariants.{At}
 use Rattle.path_segments.specs.declared.spelling.Spelling.{Spelling}
+use Rattle.path_segments.specs.Spelling.{subflow_number}
 use Rattle.path_segments.specs.Spelled.{PlainSegment}
 use Rattle.actor_desk.specs.declared.ask.Reply.{Reply}
 use Rattle.actor_desk.specs.declared.ask.Reply.TheVariants as replies
@@ -160,7 +162,7 @@ same_item : (s : Side) (item : Option Heard) (p : PathState Carried) → item_as
 same_item s None p = refl
 same_item s (Some says.Dss) p = refl
 same_item s (Some (says.DataAck next window)) p = refl
-same_item s (Some says.Mapping) p = same_break_or s (is_clash (end_at s p)) 1 events.MappingHeard p
+same_item s (Some (says.Mapping fin)) p = same_break_or s (is_clash (end_at s p)) 1 events.MappingHeard p
 same_item s (Some (says.DataFin place)) p = refl
 same_item s (Some says.InfiniteMapping) p = refl
 same_item s (Some (says.PeerKey key)) p = refl
@@ -380,7 +382,7 @@ same_heard s None r p nothing = refl
 same_heard s (Some says.Dss) r p nothing = refl
 same_heard s (Some (says.DataAck next window)) r p nothing =
     ap (λ ds. goes_on s (with_acked next r (end_at s p)) ds (shown_path p)) (same_told s (is_acked r && nat_lt 0 next) p)
-same_heard s (Some says.Mapping) r p nothing =
+same_heard s (Some (says.Mapping fin)) r p nothing =
     same_broken_or s (is_clash (end_at s p)) 1 r (with_learned (after_fell events.MappingHeard r (end_at s p))) p nothing
 same_heard s (Some (says.DataFin place)) r p nothing = same_fallen s r (with_fin place (after_fell events.MappingHeard r (end_at s p))) p
 same_heard s (Some says.InfiniteMapping) r p nothing = same_fell s events.InfiniteHeard r p
@@ -471,7 +473,7 @@ same_copy_heard : (s : Side) (heard : Option HeardSegment) (p : PathState Carrie
 same_copy_heard s None p = refl
 same_copy_heard s (Some h) p = refl
 
-heard_ack : (acknowledged : Option ℕ) → IsSome acknowledged → IsSome (option_map (λ n. Some n) acknowledged)
+heard_ack : (acknowledged : Option ℕ) → IsSome acknowledged → IsSome (option_map (λ n. At n) acknowledged)
 heard_ack (Some n) some = refl
 heard_ack None some = absurd (cc some)
 
@@ -496,7 +498,7 @@ same_read s (Some flight) p q same fresh = by (fresh flight refl).fresh
     by (inl near) = ap (λ h. copy_heard s h q) (near_read p.profile.spelling (peer s) expected flight.carried is.from is.sayable is.expected near)
     by (inr far) =
         ap (λ h. copy_heard s h q) (far_read p.profile.spelling (peer s) expected flight.carried is.from is.sayable is.expected far)
-        ∙ far_treated (meant segment) segment.position far.reset refl s q (heard_ack segment.acknowledged far.acknowledging) (subst (λ e. e.tcp.recv.edge + 2 ^ 31 ≤ segment.position) (sym same) far.ahead)
+        ∙ far_treated (subflow_number p.profile.spelling (spelled_by (peer s)) segment.position) (meant segment) segment.position far.reset refl s q (heard_ack segment.acknowledged far.acknowledging) (subst (λ e. e.tcp.recv.edge + 2 ^ 31 ≤ segment.position) (sym same) far.ahead)
 
 same_copy : (due : Due) (p : PathState Carried)
     → ((flight : Flight Carried) → arriving due p.link ≡ Some flight → IsFreshCopy p due.to flight.carried)

@@ -1,16 +1,20 @@
 -- A copy that arrives: what it says, and what it makes of the end at once. The rest is treated duty by duty.
 use Rattle.std.specs.Prelude.{ℕ, ◌≡◌, ◌⊎◌, ◌+◌, ◌-◌, ◌%◌, ◌^◌, ◌<◌, ◌≤◌, ◌&&◌, ◌||◌, not, Bool, true, false, nat_lt, nat_le, if◌then◌else◌, unwrap_or, is_some, is_none, Option, Some, None, List, [], ◌∷◌, ◌++◌, length, take}
 use Rattle.std.specs.List.{flat_map, list_any}
+use Rattle.link_model.specs.Steps.{peer}
 use Rattle.outside_kit.specs.declared.side.Side.{Side}
 use Rattle.outside_kit.specs.declared.side.Side.TheVariants.{A, B}
 use Rattle.dss_mapping.specs.declared.kept.KeptMapping.{KeptMapping}
 use Rattle.dss_mapping.specs.Learning.{after_hold}
+use Rattle.dss_mapping.specs.Mappings.{octets_in}
 use Rattle.join_handshake.specs.declared.hearing.JoinAnswer.{JoinAnswer}
 use Rattle.mptcp_options.specs.declared.join.JoinForm.{JoinForm}
 use Rattle.mptcp_options.specs.declared.join.JoinForm.TheVariants.{Syn, Answer, Third}
 use Rattle.mptcp_options.specs.declared.capable.CapableKeys.{CapableKeys}
 use Rattle.mptcp_options.specs.declared.capable.CapableKeys.TheVariants.{NoKey, Sender, Both, WithData}
 use Rattle.path_segments.specs.declared.expected.Expected.{Expected}
+use Rattle.path_segments.specs.declared.position.HeardPosition.{HeardPosition}
+use Rattle.path_segments.specs.declared.position.HeardPosition.TheVariants.{At, Nowhere}
 use Rattle.path_segments.specs.declared.segment.PathOption.{PathOption}
 use Rattle.path_segments.specs.declared.segment.PathOption.TheVariants.{Capable, Dss, Join}
 use Rattle.path_segments.specs.declared.segment.PathMapping.{PathMapping}
@@ -57,13 +61,17 @@ expected_by e = record {
 
 -- ---- the header
 
-abbrev pub acknowledged_in : Option (Option ℕ) → Option ℕ
+abbrev pub position_in : HeardPosition → Option ℕ
+position_in (At position) = Some position
+position_in (Nowhere number) = None
+
+abbrev pub acknowledged_in : Option HeardPosition → Option ℕ
 acknowledged_in None = None
-acknowledged_in (Some heard) = Some (unwrap_or heard 0)
+acknowledged_in (Some heard) = Some (unwrap_or (position_in heard) 0)
 
 abbrev pub copy_of : HeardSegment → Copy
 copy_of h = record {
-  position = h.position;
+  position = position_in h.position;
   acknowledged = acknowledged_in h.acknowledged;
   syn = h.syn;
   fin = h.fin;
@@ -85,12 +93,12 @@ ack_items _ window = []
 abbrev pub checksum_heard : Option ℕ → ℕ
 checksum_heard checksum = unwrap_or checksum 0
 
--- a mapping of bytes behind the SYN, all of which have places below 2^62
+-- a mapping of so many bytes behind the SYN, all of which have places below 2^62
 abbrev pub is_mapping : ℕ → ℕ → ℕ → Bool
-is_mapping place position len = nat_lt 0 position && nat_le (place + len) (2 ^ 62)
+is_mapping place position count = nat_lt 0 position && nat_le (place + count) (2 ^ 62)
 
-abbrev pub mapping_items : ℕ → ℕ → ℕ → List Heard
-mapping_items place position len = if is_mapping place position len then says.Mapping ∷ [] else []
+abbrev pub mapping_items : ℕ → ℕ → ℕ → Bool → List Heard
+mapping_items place position count fin = if is_mapping place position count then says.Mapping fin ∷ [] else []
 
 -- the end of the stream, at a place of at most 2^62
 abbrev pub end_items : ℕ → List Heard
@@ -100,9 +108,9 @@ end_items place = if nat_le place (2 ^ 62) then says.DataFin place ∷ [] else [
 abbrev pub infinite_items : ℕ → List Heard
 infinite_items place = if nat_lt place (2 ^ 62) then says.InfiniteMapping ∷ [] else []
 
--- a mapping that names a place; DATA_FIN stands on an acknowledgement
+-- a mapping that names a place, the last number of which may be the DATA_FIN's; a DATA_FIN alone; an infinite mapping
 abbrev pub map_items : Option (PathMapping (Option ℕ)) → List Heard
-map_items (Some (Bytes (Some place) (Some position) len false checksum)) = mapping_items place position len
+map_items (Some (Bytes (Some place) (Some position) len fin checksum)) = mapping_items place position (octets_in len fin) fin
 map_items (Some (End (Some place) checksum)) = end_items place
 map_items (Some (Infinite (Some place) position)) = infinite_items place
 map_items _ = []
@@ -111,7 +119,7 @@ map_items _ = []
 abbrev pub key_items : Side → CapableKeys → List Heard
 key_items A (Sender sender) = says.PeerKey sender ∷ []
 key_items B (Both sender receiver) = says.Keys receiver sender ∷ []
-key_items B (WithData sender receiver len checksum) = says.Keys receiver sender ∷ mapping_items 0 1 len
+key_items B (WithData sender receiver len checksum) = says.Keys receiver sender ∷ mapping_items 0 1 len false
 key_items _ _ = []
 
 -- A hears the answer to its SYN, and B the SYN and the third segment
@@ -138,16 +146,16 @@ options_heard e h = record h { options = (if e.modes.identity then [] else h.opt
 
 -- ---- the mappings among them, which the end holds
 
-abbrev pub held_if : Profile → Side → ℕ → ℕ → ℕ → Option ℕ → List KeptMapping
-held_if c s place position len checksum =
-    if is_mapping place position len then kept_of c s place position len (checksum_heard checksum) ∷ [] else []
+abbrev pub held_if : Profile → Side → ℕ → ℕ → ℕ → Bool → Option ℕ → List KeptMapping
+held_if c s place position len fin checksum =
+    if is_mapping place position (octets_in len fin) then kept_of c s place position len fin (checksum_heard checksum) ∷ [] else []
 
 abbrev pub map_held : Profile → Side → Option (PathMapping (Option ℕ)) → List KeptMapping
-map_held c s (Some (Bytes (Some place) (Some position) len false checksum)) = held_if c s place position len checksum
+map_held c s (Some (Bytes (Some place) (Some position) len fin checksum)) = held_if c s place position len fin checksum
 map_held c s _ = []
 
 abbrev pub key_held : Profile → Side → CapableKeys → List KeptMapping
-key_held c B (WithData sender receiver len checksum) = held_if c B 0 1 len checksum
+key_held c B (WithData sender receiver len checksum) = held_if c B 0 1 len false checksum
 key_held c _ _ = []
 
 abbrev pub held_in : Profile → Side → HeardOption → List KeptMapping
@@ -166,26 +174,31 @@ pub record IsShortCopy (c : Copy) : Type 0 where
 
 -- ---- a dead end's answer
 
--- the position at which a side's subflow has the number 0
-abbrev pub zero_position : Profile → Side → ℕ
-zero_position c s = (2 ^ 32 - (numbers_of c.spelling (spelled_by s)).initial.0 % 2 ^ 32) % 2 ^ 32
+-- the position below 2^32 at which a side's subflow has a number
+abbrev pub position_numbered : Profile → Side → ℕ → ℕ
+position_numbered c s number = (number + (2 ^ 32 - (numbers_of c.spelling (spelled_by s)).initial.0 % 2 ^ 32)) % 2 ^ 32
+
+-- a position with the number that was heard, whether that names one or not
+abbrev pub position_meant : Profile → Side → HeardPosition → ℕ
+position_meant c s (At position) = position
+position_meant c s (Nowhere number) = position_numbered c s number
 
 -- at the number that the copy acknowledges, or else at number 0 with an acknowledgement of all that it occupies (RFC 9293,
 -- section 3.10.7.1)
-abbrev pub reset_by : Profile → Side → Option ℕ → ℕ → ℕ → Outgoing
+abbrev pub reset_by : Profile → Side → Option HeardPosition → HeardPosition → ℕ → Outgoing
 reset_by c s (Some acknowledged) position occupied =
-    record { position = acknowledged; acknowledged = None; syn = false; fin = false; rst = true; length = 0 }
+    record { position = position_meant c s acknowledged; acknowledged = None; syn = false; fin = false; rst = true; length = 0 }
 reset_by c s None position occupied = record {
-  position = zero_position c s;
-  acknowledged = Some (position + occupied);
+  position = position_numbered c s 0;
+  acknowledged = Some (position_meant c (peer s) position + occupied);
   syn = false;
   fin = false;
   rst = true;
   length = 0;
 }
 
-abbrev pub reset_for : Profile → Side → Copy → Outgoing
-reset_for c s copy = reset_by c s copy.acknowledged (unwrap_or copy.position 0) (occupied copy)
+abbrev pub reset_for : Profile → Side → HeardSegment → Outgoing
+reset_for c s h = reset_by c s h.acknowledged h.position (occupied (copy_of h))
 
 -- ---- what it makes of the end at once
 
@@ -346,7 +359,7 @@ judged_in joined s h e = judged_of joined h.rst (items_of joined s h) (meaning_o
 
 abbrev pub after_judged : Profile → Side → ℕ → HeardSegment → Judged → PathEnd → PathEnd
 after_judged c s now h verdict e =
-    copy_judged (is_joined c) (held_of c s h) (reset_for c s (copy_of h)) s now h (taken_as verdict) e
+    copy_judged (is_joined c) (held_of c s h) (reset_for c s h) s now h (taken_as verdict) e
 
 abbrev pub segment_heard : Bool → List KeptMapping → Outgoing → Side → ℕ → HeardSegment → PathEnd → PathEnd
 segment_heard joined told answer s now h e = copy_judged joined told answer s now h (taken_as (judged_in joined s h e)) e

@@ -22,7 +22,7 @@ use Rattle.path_agenda.specs.Items.{key_heard, keys_heard}
 use Rattle.path_core.specs.Falling.{fell_ask, answered_fell, identity_ask, answered_identity}
 use Rattle.path_core.specs.Opening.{syn_window_ask, syn_ack_of, answered_syn_ack, is_plain_syn, peer_key_stands, peer_key_ask, answered_peer_key, is_opened_by_keys, is_opened_plainly, opened_ask, answered_opened, live_ask}
 use Rattle.path_core.specs.Passing.{piece_of, piece_ask, is_placed, answered_piece, is_fin_set, fin_of, fin_ask, answered_fin_heard, after_pass_fin, plain_fin, answered_plain_fin, rate_ask, answered_rate, first_segment, answered_again, answer_of, answered_answer, dead_answer, answered_dead, resend_of, answered_resend}
-use Rattle.path_core.specs.Placing.{after_check, breaks_by_unmapped, after_unmapped}
+use Rattle.path_core.specs.Placing.{after_check, breaks_by_unmapped, after_pieces}
 use Rattle.path_core.specs.Sends.{sends}
 use Rattle.path_core.specs.Standing.{look_ask, answered_look, ack_out_ask, answered_ack_out, is_update_due, ack_segment, acknowledges}
 use Rattle.path_core.specs.State.{PathState, end_at, with_end, left, path_of, with_agenda}
@@ -136,7 +136,7 @@ passed (duties.Heard s index) p = with_end s (item_passed s (item_of index (end_
 passed (duties.PlainAck s) p = with_end s (with_plain_ack (end_at s p)) p
 passed (duties.Keep s) p = with_end s (after_keep s (end_at s p)) p
 passed (duties.Edge s) p = with_end s (after_check p.profile (end_at s p)) p
-passed (duties.Unmapped s) p = with_end s (after_unmapped (end_at s p)) p
+passed (duties.Unmapped s) p = with_end s (after_pieces (end_at s p)) p
 passed (duties.PassFin s) p = with_end s (after_pass_fin (end_at s p)) p
 passed _ p = p
 

@@ -7,6 +7,7 @@ use Rattle.fallback_state.specs.declared.fall.Mode.TheVariants.{Starting}
 use Rattle.subflow_tcp.specs.declared.segments.Outgoing.{Outgoing}
 use Rattle.subflow_tcp.specs.State.{EndState}
 use Rattle.path_agenda.specs.declared.heard.Heard.{Heard}
+use Rattle.path_core.specs.declared.mapped_fin.MappedFin.{MappedFin}
 use Rattle.path_core.specs.declared.modes.Modes.{Modes}
 
 -- the side's own stream
@@ -40,6 +41,8 @@ pub record Receiving : Type 0 where
   pub unmapped_at : ℕ
   -- the peer's FIN was told as the end of its stream
   pub fin_told : Bool
+  -- a DATA_FIN behind bytes that the edge hasn't passed yet
+  pub mapped_fin : Option MappedFin
 
 -- the same, and for how many mappings more there is room
 pub record ReceivingStore : Type 0 where
@@ -57,7 +60,7 @@ pub record Treated : Type 0 where
   pub keys_told : Bool
   -- it has an option of Multipath TCP
   pub has_option : Bool
-  -- the ends of the stream that its DATA_FINs told, in their order
+  -- the ends of the stream that are to be told: those of its DATA_FINs, and of one that the edge reached
   pub fins : List ℕ
   -- bytes or an end were told since the book was asked last what is to be acknowledged
   pub asked : Bool
@@ -95,7 +98,7 @@ no_sending = record {
 
 abbrev pub no_receiving : Receiving
 no_receiving =
-    record { next = 0; window = 0; told_edge = 0; mappings = no_mappings; unmapped = 0; unmapped_at = 0; fin_told = false }
+    record { next = 0; window = 0; told_edge = 0; mappings = no_mappings; unmapped = 0; unmapped_at = 0; fin_told = false; mapped_fin = None }
 
 -- no copy is treated
 abbrev pub nothing_treated : Treated

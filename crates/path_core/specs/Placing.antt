@@ -1,9 +1,9 @@
 -- The mappings that an end learns, and the bytes that its receive edge passes (RFC 8684, section 3.3.1).
-use Rattle.std.specs.Prelude.{ℕ, ◌+◌, ◌-◌, ◌^◌, min, Bool, not, ◌&&◌, ◌==◌, nat_lt, nat_le, is_none, if◌then◌else◌, Option, Some, None, List, length, take}
+use Rattle.std.specs.Prelude.{ℕ, ◌+◌, ◌-◌, ◌^◌, min, Bool, not, ◌&&◌, ◌==◌, nat_lt, nat_le, is_none, is_some, if◌then◌else◌, Option, Some, None, List, [], ◌∷◌, ◌++◌, length, take}
 use Rattle.dss_checksum.specs.Checksum.{dss_checksum}
 use Rattle.dss_mapping.specs.declared.kept.KeptMapping.{KeptMapping}
-use Rattle.dss_mapping.specs.Learning.{after_learn_held, after_skip_held}
-use Rattle.dss_mapping.specs.Mappings.{mapping_at, after_forget}
+use Rattle.dss_mapping.specs.Learning.{first_held, after_learn_held, after_skip_held}
+use Rattle.dss_mapping.specs.Mappings.{octets_of, run_of, mapping_at, after_forget}
 use Rattle.link_model.specs.Steps.{peer}
 use Rattle.outside_kit.specs.declared.side.Side.{Side}
 use Rattle.subflow_recv.specs.Receiving.{filled, after_advance, after_forget_from}
@@ -11,6 +11,7 @@ use Rattle.subflow_tcp.specs.State.{EndState}
 use Rattle.subflow_tcp.specs.Judging.{is_at}
 use Rattle.control_book.specs.Replies.{is_sure}
 use Rattle.path_core.specs.declared.in_order.InOrder.{InOrder}
+use Rattle.path_core.specs.declared.mapped_fin.MappedFin.{MappedFin}
 use Rattle.path_core.specs.Ends.{PathEnd}
 use Rattle.path_core.specs.State.{Profile}
 use Rattle.path_core.specs.Segments.{bare_mapping}
@@ -19,16 +20,28 @@ use Rattle.path_core.specs.Words.{one_more}
 -- ---- mappings
 
 -- a mapping of the peer, as it was heard by the end of this side
-abbrev pub kept_of : Profile → Side → ℕ → ℕ → ℕ → ℕ → KeptMapping
-kept_of c s place position len checksum = record {
+abbrev pub kept_of : Profile → Side → ℕ → ℕ → ℕ → Bool → ℕ → KeptMapping
+kept_of c s place position len fin checksum = record {
   pos = position;
   place = place;
   mapping = record (bare_mapping c (peer s) place position len) { checksum = checksum };
+  fin = fin;
 }
+
+-- a DATA_FIN behind its bytes waits for the edge
+abbrev pub fin_behind : Option KeptMapping → Option MappedFin → Option MappedFin
+fin_behind None other = other
+fin_behind (Some kept) other =
+    if kept.fin then Some (record { position = (run_of kept).to; place = kept.place + octets_of kept }) else other
 
 -- the first mapping that is held is learned, or passed over
 abbrev pub with_learned : PathEnd → PathEnd
-with_learned e = record e { receiving = record e.receiving { mappings = after_learn_held e.receiving.mappings } }
+with_learned e = record e {
+  receiving = record e.receiving {
+    mappings = after_learn_held e.receiving.mappings;
+    mapped_fin = fin_behind (first_held e.receiving.mappings) e.receiving.mapped_fin;
+  };
+}
 
 abbrev pub with_skipped : PathEnd → PathEnd
 with_skipped e = record e { receiving = record e.receiving { mappings = after_skip_held e.receiving.mappings } }
@@ -42,7 +55,7 @@ pub record Piece : Type 0 where
 
 -- without checksums: what is in order up to the mapping's end, with places below 2^62
 abbrev pub count_in : ℕ → KeptMapping → ℕ
-count_in edge kept = min (kept.pos + kept.mapping.length - edge) (2 ^ 62 - (kept.place + (edge - kept.pos)))
+count_in edge kept = min (kept.pos + octets_of kept - edge) (2 ^ 62 - (kept.place + (edge - kept.pos)))
 
 abbrev pub piece_in : KeptMapping → EndState → Piece
 piece_in kept s = record {
@@ -57,12 +70,12 @@ piece_from found s = record { place = found.place; octets = take found.count (fi
 -- with checksums: the whole mapping is there
 abbrev pub is_whole : KeptMapping → EndState → Bool
 is_whole kept s =
-    kept.pos == s.recv.edge && (nat_lt 0 kept.mapping.length && (nat_le kept.mapping.length (length (filled s.recv.places))
-    && nat_le (kept.place + kept.mapping.length) (2 ^ 62)))
+    kept.pos == s.recv.edge && (nat_lt 0 (octets_of kept) && (nat_le (octets_of kept) (length (filled s.recv.places))
+    && nat_le (kept.place + octets_of kept) (2 ^ 62)))
 
--- and the checksum is that of its bytes
+-- and the checksum is that of its bytes, with its whole length
 abbrev pub is_right : KeptMapping → EndState → Bool
-is_right kept s = dss_checksum kept.mapping (take kept.mapping.length (filled s.recv.places)) == kept.mapping.checksum
+is_right kept s = dss_checksum kept.mapping (take (octets_of kept) (filled s.recv.places)) == kept.mapping.checksum
 
 abbrev pub some_piece : Piece → Option Piece
 some_piece piece = if nat_lt 0 (length piece.octets) then Some piece else None
@@ -134,3 +147,28 @@ after_unmapped e = record e {
     unmapped_at = (if is_unmapped e then e.tcp.recv.edge else e.receiving.unmapped_at);
   };
 }
+
+-- ---- a DATA_FIN behind bytes
+
+-- the end of the stream, once the edge reached it
+abbrev pub end_reached : Option MappedFin → ℕ → Option ℕ
+end_reached None edge = None
+end_reached (Some fin) edge = if nat_le fin.position edge then Some fin.place else None
+
+-- one end of the stream more that is to be told; three at most come together: two DATA_FINs alone, and one behind bytes
+abbrev pub fins_and : Option ℕ → List ℕ → List ℕ
+fins_and None fins = fins
+fins_and (Some place) fins = if nat_lt (length fins) 3 then fins ++ place ∷ [] else fins
+
+-- it is told next, and waits no more
+abbrev pub with_end_reached : PathEnd → PathEnd
+with_end_reached e = record e {
+  receiving = record e.receiving {
+    mapped_fin = (if is_some (end_reached e.receiving.mapped_fin e.tcp.recv.edge) then None else e.receiving.mapped_fin);
+  };
+  treated = record e.treated { fins = fins_and (end_reached e.receiving.mapped_fin e.tcp.recv.edge) e.treated.fins };
+}
+
+-- no more bytes can be placed
+abbrev pub after_pieces : PathEnd → PathEnd
+after_pieces e = with_end_reached (after_unmapped e)

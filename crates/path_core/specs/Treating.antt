@@ -24,7 +24,7 @@ use Rattle.path_core.specs.Codec.{Codec}
 use Rattle.path_core.specs.declared.modes.Modes.{Modes}
 use Rattle.path_core.specs.Ends.{PathEnd, Sending}
 use Rattle.path_core.specs.Opening.{keys_ask, after_keys}
-use Rattle.path_core.specs.Placing.{with_learned, with_skipped}
+use Rattle.path_core.specs.Placing.{with_learned, with_skipped, fins_and}
 use Rattle.path_core.specs.Joins.{is_joined}
 use Rattle.path_core.specs.State.{PathState, Profile, end_at, goes_on, left, with_agenda}
 use Rattle.path_agenda.specs.Words.{replaced}
@@ -49,7 +49,7 @@ mapping_stands e = counts e && (is_clash e || is_starting e.modes.mode)
 abbrev pub heard_stands : Heard → PathEnd → Bool
 heard_stands says.Dss e = false
 heard_stands (says.DataAck next window) e = true
-heard_stands says.Mapping e = mapping_stands e
+heard_stands (says.Mapping fin) e = mapping_stands e
 heard_stands (says.DataFin place) e = counts e && is_starting e.modes.mode
 heard_stands says.InfiniteMapping e = counts e && reads_mappings e.modes.mode
 heard_stands (says.PeerKey key) e = false
@@ -61,7 +61,7 @@ mapping_ask k s p = if is_clash (end_at s p) then break_ask k s 1 p else fell_as
 
 abbrev pub heard_ask : {C : Type 0} → Codec C → Side → Heard → PathState C → Ask
 heard_ask k s (says.DataAck next window) p = asks.Send s (send_calls.AckIn next window)
-heard_ask k s says.Mapping p = mapping_ask k s p
+heard_ask k s (says.Mapping fin) p = mapping_ask k s p
 heard_ask k s (says.DataFin place) p = fell_ask s events.MappingHeard p
 heard_ask k s says.InfiniteMapping p = fell_ask s events.InfiniteHeard p
 heard_ask k s (says.Keys own peer) p = keys_ask s (Some (record { own = own; peer = peer }))
@@ -98,14 +98,14 @@ answered_mapping k s r p =
     if is_clash (end_at s p) then answered_break k s 1 r p
     else goes_on s (with_learned (after_fell events.MappingHeard r (end_at s p))) (fell_duties s r p) p
 
--- the end of the stream is told later; no more than two fit in a segment
+-- the end of the stream is told later
 abbrev pub with_fin : ℕ → PathEnd → PathEnd
 with_fin place e =
-    record e { treated = record e.treated { fins = (if nat_lt (length e.treated.fins) 2 then e.treated.fins ++ place ∷ [] else e.treated.fins) } }
+    record e { treated = record e.treated { fins = fins_and (Some place) e.treated.fins } }
 
 abbrev pub answered_heard : {C : Type 0} → Codec C → Side → Heard → Reply → PathState C → PathState C
 answered_heard k s (says.DataAck next window) r p = answered_ack s next r p
-answered_heard k s says.Mapping r p = answered_mapping k s r p
+answered_heard k s (says.Mapping fin) r p = answered_mapping k s r p
 answered_heard k s (says.DataFin place) r p =
     goes_on s (with_fin place (after_fell events.MappingHeard r (end_at s p))) (fell_duties s r p) p
 answered_heard k s says.InfiniteMapping r p = answered_fell s events.InfiniteHeard r p
@@ -123,7 +123,7 @@ after_dss s e = record e {
 -- what is passed in silence
 abbrev pub heard_passed : Side → Heard → PathEnd → PathEnd
 heard_passed s says.Dss e = after_dss s e
-heard_passed s says.Mapping e = if counts e then with_learned e else with_skipped e
+heard_passed s (says.Mapping fin) e = if counts e then with_learned e else with_skipped e
 heard_passed s (says.DataFin place) e = if counts e then with_fin place e else e
 heard_passed s _ e = e
 

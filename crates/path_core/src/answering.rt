@@ -3,12 +3,12 @@
 ghost use Rattle.std.specs.Prelude.{◌≡◌, ◌+◌, ◌<◌, ◌≤◌, ◌^◌, unwrap_or, length, IfSome, IsSome, IsTrue};
 ghost use Rattle.subflow_tcp.specs.Segments as subflow;
 ghost use Rattle.path_segments.specs.HeardSegments.{heard_value};
-ghost use Rattle.path_core.specs.Arriving.{copy_of, zero_position, reset_for, IsShortCopy};
+ghost use Rattle.path_core.specs.Arriving.{copy_of, position_in, position_numbered, position_meant, reset_for, IsShortCopy};
 
 use crate::arriving::arriving_of;
-use crate::profile::Profile;
+use crate::profile::{Profile, peer};
 use outside_kit::Side;
-use path_segments::HeardSegment;
+use path_segments::{HeardPosition, HeardSegment};
 use seq_units::Pos;
 use subflow_tcp::{Arriving, Outgoing};
 
@@ -21,36 +21,54 @@ fn is_short(copy: &Arriving<'_>) -> bool
         && copy.acknowledged.unwrap_or(0) <= 1 << 62
 }
 
-/// The position behind all that it occupies.
-fn end_of(copy: &Arriving<'_>) -> Pos
-    requires { IsShortCopy (subflow.copy_of copy.now) }
-    ensures { result ≡ unwrap_or copy.now.position 0 + subflow.occupied (subflow.copy_of copy.now) }
+/// How many positions it occupies.
+fn occupied(heard: &HeardSegment<'_>) -> u64
+    requires { IsShortCopy (copy_of (heard_value heard.now)) }
+    ensures value { result ≡ subflow.occupied (copy_of (heard_value heard.now)) }
+    ensures few { result ≤ 65537 }
 {
-    let occupied = copy.payload.len() as u64 + u64::from(copy.syn) + u64::from(copy.fin);
-    copy.position.unwrap_or(0) + occupied
+    heard.payload.len() as u64 + u64::from(heard.syn) + u64::from(heard.fin)
 }
 
 impl Profile {
-    /// The position at which a side's subflow has the number 0.
-    fn zero_position(&self, side: Side) -> Pos
-        ensures { result ≡ zero_position self.now side }
+    /// The position below 2^32 at which a side's subflow has a number.
+    fn position_numbered(&self, side: Side, number: u32) -> Pos
+        ensures value { result ≡ position_numbered self.now side number }
+        ensures low { result < 2 ^ 32 }
     {
         let initial = match side {
             Side::A => self.spelling().a.initial,
             Side::B => self.spelling().b.initial,
         };
-        u64::from(0u32.wrapping_sub(initial.0))
+        u64::from(number.wrapping_sub(initial.0))
+    }
+
+    /// A position with the number that was heard, whether that names one or not.
+    fn position_meant(&self, side: Side, heard: HeardPosition) -> Pos
+        ensures value { result ≡ position_meant self.now side heard }
+        ensures low { unwrap_or (position_in heard) 0 < 2 ^ 63 → result < 2 ^ 63 }
+    {
+        match heard {
+            HeardPosition::At(position) => position,
+            HeardPosition::Nowhere(number) => self.position_numbered(side, number),
+        }
     }
 
     /// The reset that answers a copy at a dead end: at the number that the copy acknowledges, or else at number 0 with an
     /// acknowledgement of all that it occupies (RFC 9293, section 3.10.7.1). Its positions are below 2^63.
-    fn reset_for(&self, side: Side, copy: &Arriving<'_>) -> Outgoing
-        requires { IsShortCopy (subflow.copy_of copy.now) }
-        ensures { result ≡ reset_for self.now side (subflow.copy_of copy.now) }
+    fn reset_for(&self, side: Side, heard: &HeardSegment<'_>) -> Outgoing
+        requires { IsShortCopy (copy_of (heard_value heard.now)) }
+        ensures { result ≡ reset_for self.now side (heard_value heard.now) }
     {
-        let (position, acknowledged) = match copy.acknowledged {
-            Some(acknowledged) => (acknowledged, None),
-            None => (self.zero_position(side), Some(end_of(copy))),
+        let (position, acknowledged) = match heard.acknowledged {
+            Some(acknowledged) => (self.position_meant(side, acknowledged), None),
+            None => {
+                let first = self.position_meant(peer(side), heard.position);
+                (
+                    self.position_numbered(side, 0),
+                    Some(first + occupied(heard)),
+                )
+            }
         };
         Outgoing {
             position,
@@ -65,13 +83,13 @@ impl Profile {
     /// The same for a segment that is heard; none where that has more octets, or stands at or acknowledges another position, than
     /// it could.
     pub fn answer_to(&self, side: Side, heard: &HeardSegment<'_>) -> Option<Outgoing>
-        ensures value { IfSome result (λ answer. answer ≡ reset_for self.now side (copy_of (heard_value heard.now))) }
+        ensures value { IfSome result (λ answer. answer ≡ reset_for self.now side (heard_value heard.now)) }
         ensures small { IsSome result → length heard.now.payload.now ≤ 65535 }
         ensures near { IsSome result → unwrap_or (copy_of (heard_value heard.now)).acknowledged 0 ≤ 2 ^ 62 }
     {
         let copy = arriving_of(heard);
         if is_short(&copy) {
-            Some(self.reset_for(side, &copy))
+            Some(self.reset_for(side, heard))
         } else {
             None
         }

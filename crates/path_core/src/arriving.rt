@@ -10,7 +10,7 @@ ghost use Rattle.subflow_tcp.specs.Taking.{after_arrival, arrival_of, unkept};
 ghost use Rattle.path_agenda.specs.Items.{IsFair};
 ghost use Rattle.subflow_tcp.specs.Segments as subflow;
 ghost use Rattle.path_core.specs.declared.event.Event.TheVariants as event;
-ghost use Rattle.path_core.specs.Arriving.{expected_by, acknowledged_in, copy_of, items_of, with_payload, with_held, after_copy, is_ignored, is_taken, taken_as, judged_in, copy_judged, segment_heard, template_by, template_judged, template_of, IsTakenAs};
+ghost use Rattle.path_core.specs.Arriving.{expected_by, position_in, acknowledged_in, copy_of, items_of, with_payload, with_held, after_copy, is_ignored, is_taken, taken_as, judged_in, copy_judged, segment_heard, template_by, template_judged, template_of, IsTakenAs};
 ghost use Rattle.path_core.specs.Events.{told_at, heard_at, copy_taken, CanHappen};
 ghost use Rattle.path_core.specs.Octets.{octets, read};
 ghost use Rattle.path_core.specs.State.{end_at};
@@ -27,7 +27,7 @@ use dss_mapping::KeptMapping;
 use link_model::Due;
 use outside_kit::Side;
 use path_agenda::{Agenda, Items, place_in_first};
-use path_segments::{Expected, HeardSegment, hear};
+use path_segments::{Expected, HeardPosition, HeardSegment, hear};
 use seq_units::Pos;
 use std::alloc::AllocError;
 use subflow_tcp::{Arrival, Arriving, Meaning, Outgoing, Subflow};
@@ -53,7 +53,7 @@ pub(crate) fn arriving_of<'a>(heard: &HeardSegment<'a>) -> Arriving<'a>
     ensures { subflow.copy_of result ≡ copy_of (heard_value heard.now) }
 {
     Arriving {
-        position: heard.position,
+        position: position_in(heard.position),
         acknowledged: acknowledged_in(heard.acknowledged),
         syn: heard.syn,
         fin: heard.fin,
@@ -63,11 +63,21 @@ pub(crate) fn arriving_of<'a>(heard: &HeardSegment<'a>) -> Arriving<'a>
     }
 }
 
+/// The position that a number means.
+fn position_in(heard: HeardPosition) -> Option<Pos>
+    ensures { result ≡ position_in heard }
+{
+    match heard {
+        HeardPosition::At(position) => Some(position),
+        HeardPosition::Nowhere(_) => None,
+    }
+}
+
 /// The position that it acknowledges, 0 where its number means none.
-fn acknowledged_in(heard: Option<Option<u64>>) -> Option<Pos>
+fn acknowledged_in(heard: Option<HeardPosition>) -> Option<Pos>
     ensures { result ≡ acknowledged_in heard }
 {
-    Some(heard?.unwrap_or(0))
+    Some(position_in(heard?).unwrap_or(0))
 }
 
 /// What is to be done after a copy of this meaning that says so many things, ten at most.

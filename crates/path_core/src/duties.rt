@@ -199,7 +199,7 @@ impl Path {
             Duty::PlainAck(side) => self.pass_plain_ack(side),
             Duty::Keep(side) => self.keep(side),
             Duty::Edge(side) => self.check(side),
-            Duty::Unmapped(side) => self.pass_unmapped(side),
+            Duty::Unmapped(side) => self.pass_pieces(side),
             Duty::PassFin(side) => self.pass_fin(side),
             _ => {}
         }

@@ -3,6 +3,7 @@
 ghost use Rattle.std.specs.Prelude.{◌≡◌, ◌∷◌, [], not, if◌then◌else◌, All};
 ghost use Rattle.std.specs.List.{list_any};
 ghost use Rattle.actor_desk.specs.Words.{is_nil};
+ghost use Rattle.dss_mapping.specs.Mappings.{octets_in};
 ghost use Rattle.path_segments.specs.HeardLent.{heard_plain};
 ghost use Rattle.path_segments.specs.HeardSegments.{heard_value};
 ghost use Rattle.path_agenda.specs.declared.heard.Heard.TheVariants as says;
@@ -28,11 +29,18 @@ fn put(items: &mut Items, item: Heard)
     }
 }
 
-/// A mapping counts where it is of bytes behind the SYN, all of which have places below 2^62.
-pub(crate) fn is_mapping(place: u64, position: Pos, length: u16) -> bool
-    ensures { result ≡ is_mapping place position length }
+/// How many octets a mapping of this length has: its last number may be the DATA_FIN's (RFC 8684, section 3.3.3).
+pub(crate) fn octets_in(length: u16, fin: bool) -> u16
+    ensures { result ≡ octets_in length fin }
 {
-    0 < position && place.saturating_add(u64::from(length)) <= LIMIT
+    if fin { length.saturating_sub(1) } else { length }
+}
+
+/// A mapping counts where it is of so many bytes behind the SYN, all of which have places below 2^62.
+pub(crate) fn is_mapping(place: u64, position: Pos, count: u16) -> bool
+    ensures { result ≡ is_mapping place position count }
+{
+    0 < position && place.saturating_add(u64::from(count)) <= LIMIT
 }
 
 /// What MP_CAPABLE says by its keys.
@@ -54,7 +62,7 @@ fn put_keys(items: &mut Items, side: Side, keys: CapableKeys)
             },
         ) => {
             put_both(items, receiver, sender);
-            put_mapping(items, 0, 1, length);
+            put_mapping(items, 0, 1, length, false);
         }
         _ => {}
     }
@@ -67,12 +75,12 @@ fn put_both(items: &mut Items, own: u64, peer: u64)
     put(items, Heard::Keys { own, peer });
 }
 
-/// A mapping, where it counts.
-fn put_mapping(items: &mut Items, place: u64, position: Pos, length: u16)
-    ensures { items.new.items ≡ with_items items.old.items (mapping_items place position length) }
+/// A mapping of so many bytes, where it counts.
+fn put_mapping(items: &mut Items, place: u64, position: Pos, count: u16, fin: bool)
+    ensures { items.new.items ≡ with_items items.old.items (mapping_items place position count fin) }
 {
-    if is_mapping(place, position, length) {
-        put(items, Heard::Mapping);
+    if is_mapping(place, position, count) {
+        put(items, Heard::Mapping { fin });
     }
 }
 
@@ -114,10 +122,10 @@ fn put_map(items: &mut Items, mapping: Option<HeardMapping>)
                 place: Some(place),
                 position: Some(position),
                 length,
-                fin: false,
+                fin,
                 ..
             },
-        ) => put_mapping(items, place, position, length),
+        ) => put_mapping(items, place, position, octets_in(length, fin), fin),
         Some(
             PathMapping::End {
                 place: Some(place),

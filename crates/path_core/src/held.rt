@@ -8,7 +8,7 @@ ghost use Rattle.path_segments.specs.HeardSegments.{heard_value};
 ghost use Rattle.path_core.specs.Arriving.{checksum_heard, held_if, map_held, key_held, held_in, held_of};
 ghost use Rattle.path_core.specs.Placing.{kept_of};
 
-use crate::hearing::is_mapping;
+use crate::hearing::{is_mapping, octets_in};
 use crate::profile::{Profile, peer};
 use dss_mapping::KeptMapping;
 use mptcp_options::CapableKeys;
@@ -25,9 +25,10 @@ impl Profile {
         place: u64,
         position: Pos,
         length: u16,
+        fin: bool,
         checksum: Option<u16>,
     ) -> KeptMapping
-        ensures { result ≡ kept_of self.now side place position length (checksum_heard checksum) }
+        ensures { result ≡ kept_of self.now side place position length fin (checksum_heard checksum) }
     {
         let bare = self.bare_mapping(peer(side), place, position, length);
         KeptMapping {
@@ -37,6 +38,7 @@ impl Profile {
                 checksum: checksum.unwrap_or(0),
                 ..bare
             },
+            fin,
         }
     }
 
@@ -47,12 +49,13 @@ impl Profile {
         place: u64,
         position: Pos,
         length: u16,
+        fin: bool,
         checksum: Option<u16>,
     ) -> Option<KeptMapping>
-        ensures { option_to_list result ≡ held_if self.now side place position length checksum }
+        ensures { option_to_list result ≡ held_if self.now side place position length fin checksum }
     {
-        if is_mapping(place, position, length) {
-            Some(self.kept_of(side, place, position, length, checksum))
+        if is_mapping(place, position, octets_in(length, fin)) {
+            Some(self.kept_of(side, place, position, length, fin, checksum))
         } else {
             None
         }
@@ -68,10 +71,10 @@ impl Profile {
                     place: Some(place),
                     position: Some(position),
                     length,
-                    fin: false,
+                    fin,
                     checksum,
                 },
-            ) => self.held_if(side, place, position, length, checksum),
+            ) => self.held_if(side, place, position, length, fin, checksum),
             _ => None,
         }
     }
@@ -88,7 +91,7 @@ impl Profile {
                     checksum,
                     ..
                 },
-            ) => self.held_if(Side::B, 0, 1, length, checksum),
+            ) => self.held_if(Side::B, 0, 1, length, false, checksum),
             _ => None,
         }
     }

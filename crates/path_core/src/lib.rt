@@ -27,6 +27,7 @@ mod joins;
 mod judged;
 mod laws;
 mod lines;
+mod mapped_fin;
 mod modes;
 mod opening;
 mod passing;

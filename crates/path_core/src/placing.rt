@@ -71,7 +71,7 @@ fn count_in(edge: Pos, kept: KeptMapping) -> u64
     ensures places { 0 < result → kept.place + (edge - kept.pos) + result ≤ 2 ^ 62 }
 {
     let offset = edge - kept.pos;
-    let left = u64::from(kept.mapping.length).saturating_sub(offset);
+    let left = u64::from(kept.octets()).saturating_sub(offset);
     left.min(LAST_PLACE.saturating_sub(kept.place.saturating_add(offset)))
 }
 
@@ -107,18 +107,18 @@ impl PathEnd {
     fn is_whole(&self, kept: KeptMapping) -> bool
         ensures { result ≡ is_whole kept self.now.tcp }
     {
-        let length = u64::from(kept.mapping.length);
+        let octets = u64::from(kept.octets());
         kept.pos == self.tcp.edge()
-            && 0 < length
-            && length <= self.in_order()
-            && kept.place.saturating_add(length) <= LAST_PLACE
+            && 0 < octets
+            && octets <= self.in_order()
+            && kept.place.saturating_add(octets) <= LAST_PLACE
     }
 
-    /// The checksum is that of its bytes.
+    /// The checksum is that of its bytes, with its whole length.
     fn is_right(&self, kept: KeptMapping) -> bool
         ensures { result ≡ is_right kept self.now.tcp }
     {
-        let sum = checksum_of(&kept.mapping, self.tcp.held(), kept.mapping.length);
+        let sum = checksum_of(&kept.mapping, self.tcp.held(), kept.octets());
         sum == kept.mapping.checksum
     }
 

@@ -1,9 +1,10 @@
 //! What an end keeps of the peer's stream (RFC 8684, section 3.3.1).
 
-ghost use Rattle.std.specs.Prelude.{◌≡◌, ◌≤◌, ◌+◌, ◌^◌, ◌==◌, if◌then◌else◌, true};
+ghost use Rattle.std.specs.Prelude.{◌≡◌, ◌≤◌, ◌+◌, ◌^◌, ◌==◌, if◌then◌else◌, true, is_some, None, IfSome};
 ghost use Rattle.path_core.specs.Words.{one_more};
 
 use crate::counts::one_more;
+use crate::mapped_fin::{MappedFin, fin_behind};
 use dss_mapping::Mappings;
 use seq_units::Pos;
 use std::alloc::Global;
@@ -26,10 +27,12 @@ pub(crate) struct Receiving {
     unmapped_at: Pos,
     /// The peer's FIN was told as the end of its stream.
     fin_told: bool,
+    /// A DATA_FIN behind bytes that the edge hasn't passed yet. Its place is at most 2^62.
+    mapped_fin: Option<MappedFin>,
 }
 
 impl Model for Receiving {
-    ghost use Rattle.std.specs.Prelude.{◌≤◌, ◌+◌, ◌^◌};
+    ghost use Rattle.std.specs.Prelude.{◌≤◌, ◌+◌, ◌^◌, IfSome, ∥◌∥₁};
     ghost use Rattle.std.specs.Coded.{codes};
     ghost use Rattle.dss_mapping.specs.Mappings.{mappings_code};
     ghost use Rattle.path_core.specs.Ends.{ReceivingStore};
@@ -47,15 +50,19 @@ impl Model for Receiving {
         unmapped = v.unmapped;
         unmapped_at = v.unmapped_at;
         fin_told = v.fin_told;
+        mapped_fin = v.mapped_fin;
       };
       ready = v.mappings.ready;
     } };
 
-    ghost invariant = { λ v. (v.next ≤ 2 ^ 62 + 2 ^ 20) × (v.window ≤ 2 ^ 20) × (v.told_edge ≤ 2 ^ 62 + 2 ^ 21) };
+    ghost invariant = { λ v. (v.next ≤ 2 ^ 62 + 2 ^ 20) × (v.window ≤ 2 ^ 20) × (v.told_edge ≤ 2 ^ 62 + 2 ^ 21)
+        × ∥ IfSome v.mapped_fin (λ fin. fin.place ≤ 2 ^ 62) ∥₁ };
 }
 
 impl Receiving {
+    ghost use Rattle.dss_mapping.specs.Learning.{first_held, after_learn_held};
     ghost use Rattle.path_core.specs.Ends.{no_receiving};
+    ghost use Rattle.path_core.specs.Placing.{fin_behind, end_reached};
 
     /// Nothing came and nothing was told. Takes no memory.
     pub fn new(alloc: Global) -> Self
@@ -69,6 +76,7 @@ impl Receiving {
             unmapped: 0,
             unmapped_at: 0,
             fin_told: false,
+            mapped_fin: None,
         }
     }
 
@@ -127,6 +135,29 @@ impl Receiving {
         ensures { self.new ≡ record self.old { receiving = record self.old.receiving { fin_told = true } } }
     {
         self.fin_told = true;
+    }
+
+    /// The first mapping that is held is learned; a DATA_FIN behind its bytes waits for the edge. Takes no memory.
+    pub fn learn_held(&mut self)
+        ensures { self.new.receiving ≡ record self.old.receiving { mappings = after_learn_held self.old.receiving.mappings; mapped_fin = fin_behind (first_held self.old.receiving.mappings) self.old.receiving.mapped_fin } }
+    {
+        self.mapped_fin = fin_behind(self.mappings.first_held(), self.mapped_fin);
+        self.mappings.learn_held();
+    }
+
+    /// The DATA_FIN behind bytes whose end this edge reached. It waits no more.
+    pub fn take_reached(&mut self, edge: Pos) -> Option<u64>
+        ensures value { result ≡ end_reached self.old.receiving.mapped_fin edge }
+        ensures after { self.new ≡ record self.old { receiving = record self.old.receiving { mapped_fin = (if is_some (end_reached self.old.receiving.mapped_fin edge) then None else self.old.receiving.mapped_fin) } } }
+        ensures bound { IfSome result (λ place. place ≤ 2 ^ 62) }
+    {
+        match self.mapped_fin {
+            Some(fin) if fin.position <= edge => {
+                self.mapped_fin = None;
+                Some(fin.place)
+            }
+            _ => None,
+        }
     }
 
     /// A segment told this edge.

@@ -6,7 +6,7 @@ ghost use Rattle.actor_desk.specs.Kinds.{CanBeAsked};
 ghost use Rattle.path_core.specs.Breaking.{break_ask, answered_break};
 ghost use Rattle.path_core.specs.Octets.{octets};
 ghost use Rattle.path_core.specs.Passing.{is_fin_set, fin_ask, having_asked, with_peer_end, plain_fin, with_fin_told, answered_plain_fin};
-ghost use Rattle.path_core.specs.Placing.{is_unmapped, times_unmapped, breaks_by_unmapped, after_unmapped};
+ghost use Rattle.path_core.specs.Placing.{is_unmapped, times_unmapped, breaks_by_unmapped, after_unmapped, with_end_reached, after_pieces};
 ghost use Rattle.path_core.specs.Replies.{IsAckBounded};
 ghost use Rattle.path_core.specs.State.{end_at, with_end};
 ghost use Rattle.path_core.specs.Treating.{lacks_data_ack, breaks_by_ack, plain_ack_stands, plain_ack_ask, with_plain_ack, answered_plain_ack, plain_next, subflow_ack_stands, subflow_ack_ask, with_plain_acked, answered_subflow_ack, plain_data_stands};
@@ -125,6 +125,23 @@ impl PathEnd {
         }
     }
 
+    /// A DATA_FIN behind bytes is told next, where the edge reached it.
+    fn reach_end(&mut self)
+        ensures { self.new ≡ with_end_reached self.old }
+    {
+        if let Some(place) = self.receiving.take_reached(self.tcp.edge()) {
+            self.treated.note_fin(place);
+        }
+    }
+
+    /// No more bytes can be placed.
+    fn pass_pieces(&mut self)
+        ensures { self.new ≡ after_pieces self.old }
+    {
+        self.count_unmapped();
+        self.reach_end();
+    }
+
     /// After a fallback: the end of the stream by the peer's FIN, where the edge passed it and it wasn't told.
     pub fn plain_fin(&self) -> Option<u64>
         ensures value { result ≡ plain_fin self.now }
@@ -218,11 +235,11 @@ impl Path {
         self.answer_break(side, STRIPPED, reply)
     }
 
-    /// A byte without a mapping is counted.
-    pub(crate) fn pass_unmapped(&mut self, side: Side)
-        ensures { self.new ≡ with_end side (after_unmapped (end_at side self.old)) self.old }
+    /// No more bytes can be placed: the next one is counted where it has no mapping, and an end that the edge reached is told next.
+    pub(crate) fn pass_pieces(&mut self, side: Side)
+        ensures { self.new ≡ with_end side (after_pieces (end_at side self.old)) self.old }
     {
-        self.end_mut(side).count_unmapped();
+        self.end_mut(side).pass_pieces();
     }
 
     /// The peer's FIN is told as the end of its stream.

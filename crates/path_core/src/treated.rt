@@ -1,6 +1,6 @@
 //! What the last copy said, as far as it is still to be treated.
 
-ghost use Rattle.std.specs.Prelude.{◌≡◌, ◌++◌, ◌∷◌, [], true, false, nat_lt, if◌then◌else◌, length, ◌≤◌, ◌^◌, All, IfSome, Some, None};
+ghost use Rattle.std.specs.Prelude.{◌≡◌, true, false, ◌≤◌, ◌^◌, All, IfSome, Some, None};
 ghost use Rattle.path_agenda.specs.Items.{IsFair};
 ghost use Rattle.path_core.specs.Words.{item_at};
 
@@ -22,8 +22,8 @@ pub(crate) struct Treated {
     keys_told: bool,
     /// It has an option of Multipath TCP.
     has_option: bool,
-    /// The ends of the stream that its DATA_FINs told, in their order.
-    fins: ArrayVec<u64, 2>,
+    /// The ends of the stream that are to be told, in their order: those of its DATA_FINs, and of one that the edge reached.
+    fins: ArrayVec<u64, 3>,
     /// Bytes or an end were told since the book was asked last what is to be acknowledged.
     asked: bool,
     /// The reset that answers it at a dead end, and at an end that refuses it.
@@ -68,6 +68,7 @@ impl Model for Treated {
 
 impl Treated {
     ghost use Rattle.path_core.specs.Ends.{nothing_treated};
+    ghost use Rattle.path_core.specs.Placing.{fins_and};
 
     /// No copy is treated.
     pub fn nothing() -> Self
@@ -199,7 +200,7 @@ impl Treated {
         self.keys_told
     }
 
-    /// The end of the stream that its DATA_FIN of this number told, the first being 0.
+    /// The end of the stream of this number that is to be told, the first being 0.
     pub fn fin(&self, index: u64) -> Option<u64>
         ensures value { result ≡ item_at index self.now.fins }
         ensures bound { IfSome result (λ place. place ≤ 2 ^ 62) }
@@ -207,12 +208,12 @@ impl Treated {
         self.fins.as_slice().get(index as usize).copied()
     }
 
-    /// A DATA_FIN told this end of the stream, at most 2^62; a third one counts no more.
+    /// This end of the stream, at most 2^62, is to be told; a fourth one counts no more.
     pub fn note_fin(&mut self, place: u64)
         requires { place ≤ 2 ^ 62 }
-        ensures { self.new ≡ record self.old { fins = (if nat_lt (length self.old.fins) 2 then self.old.fins ++ place ∷ [] else self.old.fins) } }
+        ensures { self.new ≡ record self.old { fins = fins_and (Some place) self.old.fins } }
     {
-        if self.fins.len() < 2 {
+        if self.fins.len() < 3 {
             self.fins.push(place);
         }
     }

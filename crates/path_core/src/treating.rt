@@ -69,7 +69,7 @@ impl PathEnd {
         match item {
             Heard::Dss | Heard::PeerKey { .. } | Heard::Join { .. } => false,
             Heard::DataAck { .. } => true,
-            Heard::Mapping => self.counts() && (self.is_clash() || starting),
+            Heard::Mapping { .. } => self.counts() && (self.is_clash() || starting),
             Heard::DataFin { .. } => self.counts() && starting,
             Heard::InfiniteMapping => self.counts() && self.reads_mappings(),
             Heard::Keys { .. } => !self.treated.are_keys_told(),
@@ -112,7 +112,7 @@ impl PathEnd {
     fn learn(&mut self)
         ensures { self.new ≡ with_learned self.old }
     {
-        self.receiving.mappings.learn_held();
+        self.receiving.learn_held();
     }
 
     /// The first mapping that is held is learned where it counts, and is held no longer.
@@ -120,7 +120,7 @@ impl PathEnd {
         ensures { self.new ≡ (if counts self.old then with_learned self.old else with_skipped self.old) }
     {
         if self.counts() {
-            self.receiving.mappings.learn_held();
+            self.receiving.learn_held();
         } else {
             self.receiving.mappings.skip_held();
         }
@@ -160,7 +160,7 @@ impl PathEnd {
     {
         match item {
             Heard::Dss => self.pass_dss(side),
-            Heard::Mapping => self.pass_mapping(),
+            Heard::Mapping { .. } => self.pass_mapping(),
             Heard::DataFin { place } => {
                 if self.counts() {
                     self.note_fin(place);
@@ -238,7 +238,7 @@ impl Path {
                 let window = u64::from(window);
                 Ask::Send(side, SendCall::AckIn { next, window })
             }
-            Heard::Mapping => self.mapping_ask(side),
+            Heard::Mapping { .. } => self.mapping_ask(side),
             Heard::DataFin { .. } => self.fell_ask(side, Event::MappingHeard),
             Heard::InfiniteMapping => self.fell_ask(side, Event::InfiniteHeard),
             Heard::Keys { own, peer } => keys_ask(side, Some(KeyPair { own, peer })),
@@ -316,7 +316,7 @@ impl Path {
                 self.answer_ack(side, next, reply);
                 Ok(())
             }
-            Heard::Mapping => self.answer_mapping(side, reply),
+            Heard::Mapping { .. } => self.answer_mapping(side, reply),
             Heard::DataFin { place } => {
                 self.answer_data_fin(side, place, reply);
                 Ok(())

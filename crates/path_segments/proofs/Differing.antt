@@ -1,5 +1,7 @@
 -- What was meant tells the segment.
 use Rattle.std.proofs.Common.{◌≡◌, refl, sym, ◌∙◌, ap, ℕ, Option, Some, None, option_map, unwrap_or, List, [], ◌∷◌, map}
+use Rattle.path_segments.specs.declared.position.HeardPosition.{HeardPosition}
+use Rattle.path_segments.specs.declared.position.HeardPosition.TheVariants.{At, Nowhere}
 use Rattle.path_segments.specs.declared.segment.PathSegment.{PathSegment}
 use Rattle.path_segments.specs.declared.segment.PathOption.{PathOption}
 use Rattle.path_segments.specs.declared.segment.PathOption.TheVariants.{Capable, Join, Dss, AddAddr, Remove, Prio, Fail, FastClose, Reset}
@@ -12,11 +14,15 @@ use Rattle.path_segments.specs.Laws.{meant_mapping, meant_option, meant, window_
 use Rattle.path_segments.proofs.SegmentsAgain.{heard_as_meant}
 
 abbrev HeardPlain : Type 0
-HeardPlain = PathSegment (Option ℕ) (List (PathOption (Option ℕ) (List ℕ))) (List ℕ)
+HeardPlain = PathSegment HeardPosition (List (PathOption (Option ℕ) (List ℕ))) (List ℕ)
 
 -- each number back again
 abbrev number : Option ℕ → ℕ
 number n = unwrap_or n 0
+
+abbrev position_of : HeardPosition → ℕ
+position_of (At position) = position
+position_of (Nowhere number) = 0
 
 abbrev back_mapping : PathMapping (Option ℕ) → PathMapping ℕ
 back_mapping (Bytes place position len fin checksum) = Bytes (number place) (number position) len fin checksum
@@ -36,8 +42,8 @@ back_option (Reset transient reason) = Reset transient reason
 
 abbrev back : HeardPlain → PlainSegment
 back s = record {
-  position = number s.position;
-  acknowledged = option_map number s.acknowledged;
+  position = position_of s.position;
+  acknowledged = option_map position_of s.acknowledged;
   syn = s.syn;
   fin = s.fin;
   rst = s.rst;
@@ -55,6 +61,10 @@ mapping_back (Infinite place position) = refl
 number_back_if : (n : Option ℕ) → option_map number (option_map (λ m. Some m) n) ≡ n
 number_back_if None = refl
 number_back_if (Some n) = refl
+
+position_back_if : (n : Option ℕ) → option_map position_of (option_map (λ m. At m) n) ≡ n
+position_back_if None = refl
+position_back_if (Some n) = refl
 
 mapping_back_if : (m : Option (PathMapping ℕ)) → option_map back_mapping (option_map meant_mapping m) ≡ m
 mapping_back_if None = refl
@@ -76,7 +86,7 @@ options_back [] = refl
 options_back (o ∷ options) = rw (option_back o, options_back options) refl
 
 segment_back : (s : PlainSegment) → window_told s.syn s.window ≡ s.window → back (meant s) ≡ s
-segment_back s told = rw (number_back_if s.acknowledged, told, options_back s.options) refl
+segment_back s told = rw (position_back_if s.acknowledged, told, options_back s.options) refl
 
 some_is : {X : Type 0} (x y : X) → Some x ≡ Some y → x ≡ y
 some_is x y e = cc

@@ -10,7 +10,8 @@ use Rattle.path_segments.specs.declared.spelling.Side.TheVariants.{A, B}
 use Rattle.path_segments.specs.declared.spelling.Spelling.{Spelling}
 use Rattle.path_segments.specs.Spelling.{peer_of, address_of, addresses_from, port_of, subflow_number}
 use Rattle.path_segments.specs.Spelled.{PlainSegment, CanSay, window_field, spelled_head, spelled}
-use Rattle.path_segments.specs.Heard.{position_heard, window_heard, heard_segment}
+use Rattle.path_segments.specs.Heard.{position_or, number_means, window_heard, heard_segment}
+use Rattle.path_segments.specs.declared.position.HeardPosition.TheVariants.{At}
 use Rattle.path_segments.specs.HeardLent.{IsExpected}
 use Rattle.path_segments.specs.Laws.{IsPositionFresh, IsFresh, IsHeardAsMeant, window_told, meant}
 use Rattle.path_segments.proofs.Carried.{carried}
@@ -55,10 +56,10 @@ window_again false window = refl
 module _ (spelling : Spelling) (from : Side) (expected : ℕ) where
   pub ack_again : (position : Option ℕ) → IfSome position (IsPositionFresh expected)
       → (if is_some position
-      then Some (position_heard spelling from expected (unwrap_or (option_map (subflow_number spelling from) position) 0)) else None)
-      ≡ option_map (λ n. Some n) position
+      then Some (number_means spelling from expected (unwrap_or (option_map (subflow_number spelling from) position) 0)) else None)
+      ≡ option_map (λ n. At n) position
   ack_again None fresh = refl
-  ack_again (Some position) fresh = ap (λ n. Some n) (position_again spelling from expected position fresh)
+  ack_again (Some position) fresh = ap (λ n. Some (position_or _ n)) (position_again spelling from expected position fresh)
 
 module _ (spelling : Spelling) (from : Side) (expected : Expected) (s : PlainSegment)
     (can : CanSay spelling from s) (is : IsExpected expected) (fresh : IsFresh spelling from expected s) where

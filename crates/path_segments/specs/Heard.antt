@@ -13,6 +13,8 @@ use Rattle.mptcp_options.specs.declared.dss.DssMap.{DssMap}
 use Rattle.mptcp_options.specs.Value as wire
 use Rattle.mptcp_options.specs.Meaning.{option_meaning}
 use Rattle.path_segments.specs.declared.expected.Expected.{Expected}
+use Rattle.path_segments.specs.declared.position.HeardPosition.{HeardPosition}
+use Rattle.path_segments.specs.declared.position.HeardPosition.TheVariants.{At, Nowhere}
 use Rattle.path_segments.specs.declared.segment.PathSegment.{PathSegment}
 use Rattle.path_segments.specs.declared.segment.PathOption.{PathOption}
 use Rattle.path_segments.specs.declared.segment.PathOption.TheVariants.{Capable, Join, Dss, AddAddr, Remove, Prio, Fail, FastClose, Reset}
@@ -25,6 +27,15 @@ use Rattle.path_segments.specs.Spelling.{peer_of, numbers_of, addresses_from}
 -- the position of a side's subflow that a number means
 abbrev pub position_heard : Spelling → Side → ℕ → ℕ → Option ℕ
 position_heard spelling side expected number = position_near (2 ^ 32) (numbers_of spelling side).initial.0 expected number
+
+-- a position, or else the number that means none
+abbrev pub position_or : ℕ → Option ℕ → HeardPosition
+position_or number (Some position) = At position
+position_or number None = Nowhere number
+
+-- what a number of a header means
+abbrev pub number_means : Spelling → Side → ℕ → ℕ → HeardPosition
+number_means spelling side expected number = position_or number (position_heard spelling side expected number)
 
 -- all 64 bits of a data number, the half that isn't there by the expected place
 abbrev pub number_heard : Spelling → Side → ℕ → DataNumber → ℕ
@@ -96,11 +107,11 @@ abbrev pub window_heard : Bool → ℕ → ℕ
 window_heard syn window = if syn then window else 32 * window
 
 abbrev pub heard_segment : Spelling → Side → Expected → Segment
-    → PathSegment (Option ℕ) (List (PathOption (Option ℕ) (List ℕ))) (List ℕ)
+    → PathSegment HeardPosition (List (PathOption (Option ℕ) (List ℕ))) (List ℕ)
 heard_segment spelling from expected s = record {
-  position = position_heard spelling from expected.edge s.head.seq;
+  position = number_means spelling from expected.edge s.head.seq;
   acknowledged = (if s.head.ack_set
-      then Some (position_heard spelling (peer_of from) expected.unacknowledged s.head.ack)
+      then Some (number_means spelling (peer_of from) expected.unacknowledged s.head.ack)
       else None);
   syn = s.head.syn;
   fin = s.head.fin;
@@ -113,6 +124,6 @@ heard_segment spelling from expected s = record {
 
 -- what octets say that a side sent, where they are a segment
 abbrev pub heard_in : Spelling → Side → Expected → List ℕ
-    → Option (PathSegment (Option ℕ) (List (PathOption (Option ℕ) (List ℕ))) (List ℕ))
+    → Option (PathSegment HeardPosition (List (PathOption (Option ℕ) (List ℕ))) (List ℕ))
 heard_in spelling from expected octets =
     option_map (heard_segment spelling from expected) (result_ok (segment_meaning (addresses_from spelling.path from) octets))

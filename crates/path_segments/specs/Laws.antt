@@ -4,6 +4,8 @@ use Rattle.seq_units.specs.Number.{IsNear}
 use Rattle.segment_wire.specs.Changes.{with_turned_bit, text_stripped, text_altered}
 use Rattle.mptcp_options.specs.Text.{Fits}
 use Rattle.path_segments.specs.declared.expected.Expected.{Expected}
+use Rattle.path_segments.specs.declared.position.HeardPosition.{HeardPosition}
+use Rattle.path_segments.specs.declared.position.HeardPosition.TheVariants.{At}
 use Rattle.path_segments.specs.declared.segment.PathSegment.{PathSegment}
 use Rattle.path_segments.specs.declared.segment.PathOption.{PathOption}
 use Rattle.path_segments.specs.declared.segment.PathOption.TheVariants.{Capable, Join, Dss, AddAddr, Remove, Prio, Fail, FastClose, Reset}
@@ -38,10 +40,10 @@ meant_option (Reset transient reason) = Reset transient reason
 abbrev pub window_told : Bool → ℕ → ℕ
 window_told syn window = if syn then min 65535 window else 32 * (window / 32)
 
-abbrev pub meant : PlainSegment → PathSegment (Option ℕ) (List (PathOption (Option ℕ) (List ℕ))) (List ℕ)
+abbrev pub meant : PlainSegment → PathSegment HeardPosition (List (PathOption (Option ℕ) (List ℕ))) (List ℕ)
 meant s = record {
-  position = Some s.position;
-  acknowledged = option_map (λ n. Some n) s.acknowledged;
+  position = At s.position;
+  acknowledged = option_map (λ n. At n) s.acknowledged;
   syn = s.syn;
   fin = s.fin;
   rst = s.rst;

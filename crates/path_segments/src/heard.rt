@@ -9,6 +9,7 @@ ghost use Rattle.path_segments.specs.HeardLent.{heard_plain, IsExpected};
 
 use crate::expected::Expected;
 use crate::hearing::HeardOption;
+use crate::position::HeardPosition;
 use crate::segment::PathSegment;
 use crate::spelling::{Side, Spelling};
 use mptcp_options::{MpOption, Read, read};
@@ -28,7 +29,7 @@ pub struct HeardOptions<'a> {
 }
 
 /// A segment that is heard.
-pub type HeardSegment<'a> = PathSegment<Option<u64>, HeardOptions<'a>, &'a [u8]>;
+pub type HeardSegment<'a> = PathSegment<HeardPosition, HeardOptions<'a>, &'a [u8]>;
 
 impl<'a> Iterator for HeardOptions<'a> {
     ghost use Rattle.path_segments.specs.HeardSegments.{heard_left};

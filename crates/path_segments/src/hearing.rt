@@ -2,11 +2,12 @@
 
 ghost use Rattle.std.specs.Prelude.{◌≡◌, ◌<◌, ◌^◌, option_map};
 ghost use Rattle.mptcp_options.specs.Value.{value_of};
-ghost use Rattle.path_segments.specs.Heard.{position_heard, number_heard, place_behind, place_heard, heard_mapping, heard_option};
+ghost use Rattle.path_segments.specs.Heard.{position_heard, number_means, number_heard, place_behind, place_heard, heard_mapping, heard_option};
 ghost use Rattle.path_segments.specs.HeardLent.{heard_plain, IsExpected};
 ghost use Rattle.path_segments.specs.Spelling.{peer_of};
 
 use crate::expected::Expected;
+use crate::position::HeardPosition;
 use crate::segment::{PathMapping, PathOption};
 use crate::spelling::{Side, Spelling};
 use mptcp_options::{DataNumber, DssMap, MpOption};
@@ -20,11 +21,22 @@ pub type HeardOption<'a> = PathOption<Option<u64>, &'a [u8]>;
 
 impl Spelling {
     /// The position of a side's subflow that a number means beside the expected one.
-    pub(crate) fn position_heard(&self, side: Side, expected: Pos, number: u32) -> Option<Pos>
+    fn position_heard(&self, side: Side, expected: Pos, number: u32) -> Option<Pos>
         requires { expected < 2 ^ 62 }
         ensures { result ≡ position_heard self.now side expected number }
     {
         near32(self.numbers(side).initial, expected, Seq32(number))
+    }
+
+    /// What a number of a header means beside the expected position.
+    pub(crate) fn number_means(&self, side: Side, expected: Pos, number: u32) -> HeardPosition
+        requires { expected < 2 ^ 62 }
+        ensures { result ≡ number_means self.now side expected number }
+    {
+        match self.position_heard(side, expected, number) {
+            Some(position) => HeardPosition::At(position),
+            None => HeardPosition::Nowhere(number),
+        }
     }
 
     /// The place of a side's stream that a data number means beside the expected one.

@@ -10,6 +10,7 @@ mod heard;
 mod hearing;
 mod laws;
 mod listening;
+mod position;
 mod sayable;
 mod segment;
 mod spelling;
@@ -24,6 +25,7 @@ pub use laws::{
     written_is_heard_as_meant,
 };
 pub use listening::hear;
+pub use position::HeardPosition;
 pub use sayable::can_say;
 pub use segment::{PathMapping, PathOption, PathSegment, SaidSegment};
 pub use spelling::{EndNumbers, Side, Spelling};

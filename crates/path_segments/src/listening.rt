@@ -3,13 +3,14 @@
 ghost use Rattle.std.specs.Prelude.{◌≡◌, Some, None, if◌then◌else◌, option_map};
 ghost use Rattle.segment_wire.specs.Options.{option_octets};
 ghost use Rattle.segment_wire.specs.Reading.{segment_of};
-ghost use Rattle.path_segments.specs.Heard.{position_heard, first_mss, window_heard, heard_segment, heard_in};
+ghost use Rattle.path_segments.specs.Heard.{number_means, first_mss, window_heard, heard_segment, heard_in};
 ghost use Rattle.path_segments.specs.HeardLent.{IsExpected};
 ghost use Rattle.path_segments.specs.HeardSegments.{heard_value};
 ghost use Rattle.path_segments.specs.Spelling.{peer_of};
 
 use crate::expected::Expected;
 use crate::heard::{HeardOptions, HeardSegment};
+use crate::position::HeardPosition;
 use crate::segment::PathSegment;
 use crate::spelling::{Side, Spelling};
 use segment_wire::options::mss;
@@ -44,7 +45,7 @@ fn heard_segment<'a>(
 {
     let head = segment.head;
     PathSegment {
-        position: spelling.position_heard(from, expected.edge, head.seq),
+        position: spelling.number_means(from, expected.edge, head.seq),
         acknowledged: acknowledged_heard(spelling, from, expected, head.ack_set, head.ack),
         syn: head.syn,
         fin: head.fin,
@@ -62,12 +63,12 @@ fn acknowledged_heard(
     expected: &Expected,
     ack_set: bool,
     ack: u32,
-) -> Option<Option<u64>>
+) -> Option<HeardPosition>
     requires { IsExpected expected.now }
-    ensures { result ≡ (if ack_set then Some (position_heard spelling.now (peer_of from) expected.now.unacknowledged ack) else None) }
+    ensures { result ≡ (if ack_set then Some (number_means spelling.now (peer_of from) expected.now.unacknowledged ack) else None) }
 {
     if ack_set {
-        Some(spelling.position_heard(from.peer(), expected.unacknowledged, ack))
+        Some(spelling.number_means(from.peer(), expected.unacknowledged, ack))
     } else {
         None
     }

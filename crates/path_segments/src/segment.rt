@@ -3,7 +3,7 @@ use mptcp_options::{CapableKeys, JoinForm};
 
 /// A segment of a path by positions and places.
 ///
-/// `N` is what a number says: a position or a place where it is written, and perhaps none where it is heard. `O` are
+/// `N` is what a number of the header says: a position where it is written, and perhaps none where it is heard. `O` are
 /// the options of Multipath TCP, in their order, and `P` the payload: both are lent in code, and lists in definitions.
 #[derive(Clone, Copy, Debug)]
 pub struct PathSegment<N, O, P> {

@@ -43,6 +43,8 @@ use Rattle.world_laws.proofs.Roads.{Strolls, stays}
 use Rattle.world_laws.proofs.Showing.{HasSub, HasNone, HasData, HasFin, Knowledge, knowledge_of, is_unfinished, AcksShow, SegmentShows, EndShows}
 use Rattle.world_laws.proofs.Taking.{heard_lane, hears, heard_goes, heard_under, heard_more}
 use Rattle.world_laws.proofs.Rules.{sub_of_none}
+use Rattle.path_segments.specs.declared.position.HeardPosition.{HeardPosition}
+use Rattle.path_segments.specs.declared.position.HeardPosition.TheVariants.{At}
 
 -- the octets of a payload are on the lane, where they are held
 pub record Holding (c : Profile) (s : Side) (k : Knowledge) (live : List KeptMapping) (out back : Lane) (tcp : EndState) : Type 0 where
@@ -211,7 +213,7 @@ told_owing : (P : ℕ → Type 0) (b : Bool) (tcp : EndState) → P tcp.congesti
 told_owing P true tcp h = h
 told_owing P false tcp h = h
 
-reset_none : (c : Profile) (s : Side) (o : Option ℕ) (position occupied : ℕ) → ((reset_by c s o position occupied).fin ≡ false) × ((reset_by c s o position occupied).rst ≡ true)
+reset_none : (c : Profile) (s : Side) (o : Option HeardPosition) (position : HeardPosition) (occupied : ℕ) → ((reset_by c s o position occupied).fin ≡ false) × ((reset_by c s o position occupied).rst ≡ true)
 reset_none c s None position occupied = (refl, refl)
 reset_none c s (Some acknowledged) position occupied = (refl, refl)
 
@@ -306,8 +308,8 @@ acknowledged_shows_in : (acks : List AckCopy) (p : Lane) (sg : PlainSegment) (m 
     → HasSub acks ((if is_taken m then unwrap_or (copy_of (meant sg)).acknowledged 0 else 0) - 1) (window_told sg.syn sg.window)
 acknowledged_shows_in acks p sg (means.Taken position acknowledged) u fits said = by sg.acknowledged fits.acknowledged_is (said.sub fits.no_syn fits.no_reset)
   where
-    by : (o : Option ℕ) → acknowledged_in (option_map (λ n. Some n) o) ≡ Some acknowledged → IfSome o (λ n. HasSub acks (n - 1) (window_told sg.syn sg.window))
-        → HasSub acks (unwrap_or (acknowledged_in (option_map (λ n. Some n) o)) 0 - 1) (window_told sg.syn sg.window)
+    by : (o : Option ℕ) → acknowledged_in (option_map (λ n. At n) o) ≡ Some acknowledged → IfSome o (λ n. HasSub acks (n - 1) (window_told sg.syn sg.window))
+        → HasSub acks (unwrap_or (acknowledged_in (option_map (λ n. At n) o)) 0 - 1) (window_told sg.syn sg.window)
     by None is has = cc
     by (Some n) is has = has
 acknowledged_shows_in acks p sg means.Ignored u fits said = sub_of_none _ said.window
@@ -381,11 +383,11 @@ arrived_end c s now sg e out back v path holds said calm h =
         treated = record {
           items = taken_say out.acks q (window_told sg.syn sg.window) 10 _ (options_say out.acks q (window_told sg.syn sg.window) (is_joined c) s sg.options told.options);
           fins = Every-nil _;
-          answer = reset_none c s copy.acknowledged _ _;
+          answer = reset_none c s (meant sg).acknowledged _ _;
           window = if_some (join_asked items) said.window;
           sub = acknowledged_shows_in out.acks back sg m (is_unfinished e.tcp.state) fits said;
           nothing = h.treated.nothing;
         };
-        held = options_hold c (window_told sg.syn sg.window) out.acks q s sg.options told.options;
+        held = record { each = options_hold c (window_told sg.syn sg.window) out.acks q s sg.options told.options; none = h.held.none };
       };
     }

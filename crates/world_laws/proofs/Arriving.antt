@@ -51,16 +51,16 @@ module _ (acks : List AckCopy) (p : Lane) (window : ℕ) where
   said_if true item h = one item h
   said_if false item h = Every-nil _
 
-  mapping_says : (place position len : ℕ) → Says (mapping_items place position len)
+  mapping_says : (place position len : ℕ) → Says (mapping_items place position len false)
   mapping_says place position len = by (is_mapping place position len)
     where
-      by : (b : Bool) → Says (if b then says.Mapping ∷ [] else [])
-      by true = one says.Mapping tt
+      by : (b : Bool) → Says (if b then says.Mapping false ∷ [] else [])
+      by true = one (says.Mapping false) tt
       by false = Every-nil _
 
   map_says : (o : Option (PathMapping ℕ)) → MappingShows o p → Says (map_items (option_map meant_mapping o))
   map_says None h = Every-nil _
-  map_says (Some (Bytes place position len true checksum)) h = Every-nil _
+  map_says (Some (Bytes place position len true checksum)) h = absurd h
   map_says (Some (Bytes place position len false checksum)) h = mapping_says place position len
   map_says (Some (End place checksum)) h = said_if (nat_le place (2 ^ 62)) (says.DataFin place) h
   map_says (Some (Infinite place position)) h = said_if (nat_lt place (2 ^ 62)) says.InfiniteMapping tt
@@ -114,16 +114,16 @@ module _ (c : Profile) (window : ℕ) (acks : List AckCopy) (p : Lane) where
   abbrev Held : List KeptMapping → Type 0
   Held kept = Every (HeldShows p.datas) kept
 
-  if_held : (s : Side) (place position len : ℕ) (checksum : Option ℕ) → HasMapping p.datas place position len → Held (held_if c s place position len checksum)
+  if_held : (s : Side) (place position len : ℕ) (checksum : Option ℕ) → HasMapping p.datas place position len → Held (held_if c s place position len false checksum)
   if_held s place position len checksum h = by (is_mapping place position len)
     where
-      by : (b : Bool) → Held (if b then kept_of c s place position len (checksum_heard checksum) ∷ [] else [])
-      by true = every_cons _ [] h (Every-nil _)
+      by : (b : Bool) → Held (if b then kept_of c s place position len false (checksum_heard checksum) ∷ [] else [])
+      by true = every_cons _ [] (h, refl) (Every-nil _)
       by false = Every-nil _
 
   map_holds : (s : Side) (o : Option (PathMapping ℕ)) → MappingShows o p → Held (map_held c s (option_map meant_mapping o))
   map_holds s None h = Every-nil _
-  map_holds s (Some (Bytes place position len true checksum)) h = Every-nil _
+  map_holds s (Some (Bytes place position len true checksum)) h = absurd h
   map_holds s (Some (Bytes place position len false checksum)) h = if_held s place position len checksum h
   map_holds s (Some (End place checksum)) h = Every-nil _
   map_holds s (Some (Infinite place position)) h = Every-nil _

@@ -88,7 +88,7 @@ module _ {C : Type 0} (k : Codec C) (p : PathState C) where
   item_leaves s None = tt
   item_leaves s (Some says.Dss) = tt
   item_leaves s (Some (says.DataAck next window)) = tt
-  item_leaves s (Some says.Mapping) = mapping_leaves s
+  item_leaves s (Some (says.Mapping fin)) = mapping_leaves s
   item_leaves s (Some (says.DataFin place)) = tt
   item_leaves s (Some says.InfiniteMapping) = tt
   item_leaves s (Some (says.PeerKey key)) = tt

@@ -55,7 +55,7 @@ use Rattle.path_core.specs.Joining.{asked_at, is_never, join_heard_ask, join_tak
 use Rattle.path_core.specs.Joins.{is_joined, join_answer}
 use Rattle.path_core.specs.Opening.{after_keys, keys_in, opened_ask, answered_opened, peer_key_ask, answered_peer_key, with_peer_key}
 use Rattle.path_core.specs.Passing.{after_pass_fin, answer_occasion, answer_of, resend_occasion, answered_fin_heard, answered_plain_fin, answered_piece, dead_answer, is_fin_set, is_placed, piece_of, resend_of}
-use Rattle.path_core.specs.Placing.{Piece, after_check, after_unmapped, mapping_here, is_wrong, with_learned, with_skipped, forgotten_by}
+use Rattle.path_core.specs.Placing.{Piece, after_check, after_pieces, mapping_here, is_wrong, with_learned, with_skipped, forgotten_by}
 use Rattle.path_core.specs.Sends.{sent_on}
 use Rattle.path_core.specs.Standing.{after_ack_out, after_look, answered_ack_out, modes_told}
 use Rattle.path_core.specs.State.{PathState, end_at, goes_on, left, with_agenda, with_end}
@@ -213,7 +213,7 @@ module _ {C : Type 0} (k : Codec C) (W : Type 0) where
   item_goes s None p = same_goes s (end_at s p) p refl refl refl
   item_goes s (Some says.Dss) p = same_goes s (item_passed s (Some says.Dss) (end_at s p)) p refl refl refl
   item_goes s (Some (says.DataAck next window)) p = same_goes s (end_at s p) p refl refl refl
-  item_goes s (Some says.Mapping) p = by (counts (end_at s p))
+  item_goes s (Some (says.Mapping fin)) p = by (counts (end_at s p))
     where
       by : (b : Bool) → Goes s p (if b then with_learned (end_at s p) else with_skipped (end_at s p))
       by true = same_goes s (with_learned (end_at s p)) p refl refl refl
@@ -253,7 +253,7 @@ module _ {C : Type 0} (k : Codec C) (W : Type 0) where
   passed_awake (duties.Heard s index) p h = put s (item_passed s (item_of index (end_at s p)) (end_at s p)) p (item_goes s (item_of index (end_at s p)) p) h
   passed_awake (duties.Keep s) p h = put s (after_keep s (end_at s p)) p (keep_goes s (is_dropped s (end_at s p)) _ p) h
   passed_awake (duties.PlainAck s) p h = put s (with_plain_ack (end_at s p)) p (same_goes s (with_plain_ack (end_at s p)) p refl refl refl) h
-  passed_awake (duties.Unmapped s) p h = put s (after_unmapped (end_at s p)) p (same_goes s (after_unmapped (end_at s p)) p refl refl refl) h
+  passed_awake (duties.Unmapped s) p h = put s (after_pieces (end_at s p)) p (same_goes s (after_pieces (end_at s p)) p refl refl refl) h
   passed_awake (duties.Edge s) p h = put s (after_check p.profile (end_at s p)) p (edge_goes s p.profile.spelling.checksums (mapping_here (end_at s p)) p) h
   passed_awake (duties.PassFin s) p h = put s (after_pass_fin (end_at s p)) p (up_goes s (after_pass_fin (end_at s p)) p (passing_up (end_at s p).tcp) refl) h
   passed_awake duties.JoinAgain p h = h
@@ -359,9 +359,9 @@ module _ {C : Type 0} (k : Codec C) (W : Type 0) where
       told = held_of p.profile s heard
 
       answer : Outgoing
-      answer = reset_for p.profile s (copy_of heard)
+      answer = reset_for p.profile s heard
 
-      copied : (s : Side) → Goes s p (copy_judged true (held_of p.profile s heard) (reset_for p.profile s (copy_of heard)) s now heard (taken_as (judged_in true s heard (end_at s p))) (end_at s p))
+      copied : (s : Side) → Goes s p (copy_judged true (held_of p.profile s heard) (reset_for p.profile s heard) s now heard (taken_as (judged_in true s heard (end_at s p))) (end_at s p))
       copied B = tt
       copied A =
           let items = items_of true A heard in
@@ -487,7 +487,7 @@ module _ {C : Type 0} (k : Codec C) (W : Type 0) where
           goes_by s (with_acked next r (end_at s p)) (replaced (duties.AckHeard s) p.agenda) p (same_goes s (with_acked next r (end_at s p)) p refl refl refl) (told s said)
           (λ joins is. h.calm joins (replaced_speaks (inr A) (duties.AckHeard s) p.agenda refl is)) h
       by false = same s (with_acked next r (end_at s p)) (left p) p refl refl refl (tail_less p.agenda) h
-  heard_answered_awake s says.Mapping r p said so h = by (is_clash (end_at s p)) so
+  heard_answered_awake s (says.Mapping fin) r p said so h = by (is_clash (end_at s p)) so
     where
       by : (b : Bool) → So (if b then break_ask k s 1 p else fell_ask s fall.MappingHeard p) r
           → Awake (if b then answered_break k s 1 r p else goes_on s (with_learned (after_fell fall.MappingHeard r (end_at s p))) (fell_duties s r p) p)

@@ -116,7 +116,7 @@ opening_shows c s number state opens path own key nonce = record {
   };
   told = first_none number;
   treated = record { items = Every-nil _; fins = Every-nil _; answer = tt; window = tt; sub = first_sub number; nothing = first_none number };
-  held = Every-nil _;
+  held = record { each = Every-nil _; none = refl };
 }
 
 module _ (start : Start) (can : IsPlain start) where

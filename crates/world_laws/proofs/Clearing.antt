@@ -115,7 +115,7 @@ begun_end (Some keys) e = (λ h. h, λ h. h)
 
 item_end : (s : Side) (item : Heard) (e : PathEnd) → EndStays e (heard_passed s item e)
 item_end s says.Dss e = (λ h. or_left e.modes.clear (is_side_a s) h, λ h. h)
-item_end s says.Mapping e = either_end (counts e) e _ _ (λ h. h, λ h. h) (λ h. h, λ h. h)
+item_end s (says.Mapping fin) e = either_end (counts e) e _ _ (λ h. h, λ h. h) (λ h. h, λ h. h)
 item_end s (says.DataFin place) e = either_end (counts e) e _ _ (λ h. h, λ h. h) (λ h. h, λ h. h)
 item_end s _ e = (λ h. h, λ h. h)
 
@@ -232,7 +232,7 @@ module _ {C : Type 0} where
 
   heard_item_clear : (k : Codec C) (s : Side) (item : Heard) (r : Reply) (p : PathState C) → Clears p (answered_heard k s item r p)
   heard_item_clear k s (says.DataAck next window) r p = side_clear s _ p _ (λ h. h, λ h. h) refl refl
-  heard_item_clear k s says.Mapping r p =
+  heard_item_clear k s (says.Mapping fin) r p =
       either_clear (is_clash (end_at s p)) _ _ p (break_clear k s 1 r p) (fell_path s events.MappingHeard r _ _ p (λ h. h, λ h. h) refl refl)
   heard_item_clear k s (says.DataFin place) r p = fell_path s events.MappingHeard r _ _ p (λ h. h, λ h. h) refl refl
   heard_item_clear k s says.InfiniteMapping r p = fell_path s events.InfiniteHeard r _ _ p (λ h. h, λ h. h) refl refl

@@ -284,7 +284,7 @@ module _ {C : Type 0} where
       item_ahead : (o : Option Heard) → Ahead (answered_item k s o r p).agenda
       item_ahead None = left_ahead
       item_ahead (Some (says.DataAck next window)) = told_ahead _
-      item_ahead (Some says.Mapping) = mapping_ahead
+      item_ahead (Some (says.Mapping fin)) = mapping_ahead
       item_ahead (Some (says.DataFin place)) = fell_ahead s r p left_ahead told
       item_ahead (Some says.InfiniteMapping) = fell_ahead s r p left_ahead told
       item_ahead (Some (says.Keys own peer)) = left_ahead

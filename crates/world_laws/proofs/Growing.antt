@@ -24,6 +24,7 @@ use Rattle.path_core.specs.Ends.{PathEnd, Treated}
 use Rattle.path_core.specs.Joins.{join_asked}
 use Rattle.path_core.specs.State.{Profile}
 use Rattle.world_laws.proofs.Showing.{HasAck, HasSub, HasNone, HasData, HasMapping, HasNumber, HasFin, Knowledge, identity_of, knowledge_of, SenderShows, Under, IsAtEdge, IsPastFin, AcksShow, ReceiverShows, ItemShows, TreatedShows, EndShows, MappingShows, KeysShow, OptionShows, SegmentShows}
+use Rattle.dss_mapping.specs.Mappings.{octets_of}
 
 -- ---- how a lane goes on
 
@@ -98,7 +99,8 @@ keys_more _ p datas h = h
 mapping_more : (o : Option (PathMapping ℕ)) (p q : Lane) (datas : List DataCopy) (data_fins : List ℕ) → q.datas ≡ p.datas ++ datas → q.data_fins ≡ p.data_fins ++ data_fins
     → MappingShows o p → MappingShows o q
 mapping_more None p q datas data_fins d f h = tt
-mapping_more (Some (Bytes place position len fin checksum)) p q datas data_fins d f h = subst (λ xs. HasMapping xs place position len) (sym d) (Has-more datas h)
+mapping_more (Some (Bytes place position len true checksum)) p q datas data_fins d f h = h
+mapping_more (Some (Bytes place position len false checksum)) p q datas data_fins d f h = subst (λ xs. HasMapping xs place position len) (sym d) (Has-more datas h)
 mapping_more (Some (End place checksum)) p q datas data_fins d f h = subst (λ xs. HasNumber xs place) (sym f) (Has-more data_fins h)
 mapping_more (Some (Infinite place position)) p q datas data_fins d f h = tt
 
@@ -254,5 +256,5 @@ peer_shows c s e out out_after back back_after g r h =
       acks = peer_acks e.receiving.next e.receiving.window e.treated.asked e.tcp.recv.edge out out_after g h.acks;
       told = none_longer l e.tcp.congestion.told.window h.told;
       treated = treated_longer l e.treated h.treated;
-      held = Every-map (λ kept has. mapping_longer l kept.place kept.pos kept.mapping.length has) h.held;
+      held = record { each = Every-map (λ kept has. (mapping_longer l kept.place kept.pos (octets_of kept) has.0, has.1)) h.held.each; none = h.held.none };
     }

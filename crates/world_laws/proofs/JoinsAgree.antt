@@ -155,7 +155,7 @@ module _ (p : PathState Carried) where
   no_item None = refl
   no_item (Some says.Dss) = refl
   no_item (Some (says.DataAck next window)) = refl
-  no_item (Some says.Mapping) = no_mapping
+  no_item (Some (says.Mapping fin)) = no_mapping
   no_item (Some (says.DataFin place)) = refl
   no_item (Some says.InfiniteMapping) = refl
   no_item (Some (says.PeerKey key)) = refl

@@ -120,7 +120,7 @@ module _ (k : Secrets) (right : Bool) (w back : Side → Type 0) (p : PathState 
   item_is s None own = tt
   item_is s (Some says.Dss) own = tt
   item_is s (Some (says.DataAck next window)) own = tt
-  item_is s (Some says.Mapping) own = mapping_is s
+  item_is s (Some (says.Mapping fin)) own = mapping_is s
   item_is s (Some (says.DataFin place)) own = tt
   item_is s (Some says.InfiniteMapping) own = tt
   item_is s (Some (says.PeerKey key)) own = tt

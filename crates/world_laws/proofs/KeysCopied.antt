@@ -256,7 +256,7 @@ module _ (k : Secrets) (right : Bool) (w back : Side → Type 0) where
       told = held_of p.profile s heard
 
       answer : Outgoing
-      answer = reset_for p.profile s (copy_of heard)
+      answer = reset_for p.profile s heard
 
       by : (joined : Bool) → is_joined p.profile ≡ joined → EndIs k right w back joined s e → Every (ItemIs k right w back joined s) (items_of joined s heard)
           → PathIs k right w back (goes_on s (copy_judged joined told answer s now heard (taken_as (judged_in joined s heard e)) e) (template_of joined s (items_of joined s heard) (judged_in joined s heard e)) p)

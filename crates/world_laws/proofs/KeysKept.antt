@@ -47,7 +47,7 @@ use Rattle.path_core.specs.Joining.{asked_at, is_never, join_heard_ask, join_tak
 use Rattle.path_core.specs.Joins.{is_joined}
 use Rattle.path_core.specs.Opening.{peer_key_ask, opened_ask, answered_peer_key, answered_opened}
 use Rattle.path_core.specs.Passing.{after_pass_fin, is_placed, piece_of, answered_piece, is_fin_set, answered_fin_heard, answered_plain_fin, answer_occasion, resend_occasion, first_record, answer_of, resend_of}
-use Rattle.path_core.specs.Placing.{Piece, with_learned, with_skipped, mapping_here, is_wrong, forgotten_by, after_unmapped}
+use Rattle.path_core.specs.Placing.{Piece, with_learned, with_skipped, mapping_here, is_wrong, forgotten_by, after_pieces}
 use Rattle.path_core.specs.Segments.{ack_said, syn_ack_said, record_or_ack}
 use Rattle.path_core.specs.Standing.{answered_ack_out}
 use Rattle.path_core.specs.State.{PathState, end_at, with_end, with_agenda, goes_on, left}
@@ -116,7 +116,7 @@ module _ (k : Secrets) (right : Bool) (w back : Side → Type 0) where
       by A has = has
       by B has = has
   passed_item joined s (Some (says.DataAck next window)) e said h = h
-  passed_item joined s (Some says.Mapping) e said h = by (counts e)
+  passed_item joined s (Some (says.Mapping fin)) e said h = by (counts e)
     where
       by : (b : Bool) → EndIs k right w back joined s (if b then with_learned e else with_skipped e)
       by true = record { modes = h.modes; items = h.items; woken = h.woken; past = h.past }
@@ -137,7 +137,7 @@ module _ (k : Secrets) (right : Bool) (w back : Side → Type 0) where
   passed_stays A s (Some says.Dss) e has = (has.0, has.1)
   passed_stays B s (Some says.Dss) e has = (has.0, has.1)
   passed_stays t s (Some (says.DataAck next window)) e has = has
-  passed_stays t s (Some says.Mapping) e has = by (counts e)
+  passed_stays t s (Some (says.Mapping fin)) e has = by (counts e)
     where
       by : (b : Bool) → Knows k right w back t (if b then with_learned e else with_skipped e).modes
       by true = has
@@ -156,7 +156,7 @@ module _ (k : Secrets) (right : Bool) (w back : Side → Type 0) where
   item_waits s None e is = is
   item_waits s (Some says.Dss) e is = is
   item_waits s (Some (says.DataAck next window)) e is = is
-  item_waits s (Some says.Mapping) e is = by (counts e) is
+  item_waits s (Some (says.Mapping fin)) e is = by (counts e) is
     where
       by : (b : Bool) → is_waiting (if b then with_learned e else with_skipped e).tcp.state ≡ true → is_waiting e.tcp.state ≡ true
       by true is = is
@@ -216,8 +216,8 @@ module _ (k : Secrets) (right : Bool) (w back : Side → Type 0) where
       by A has = has
       by B has = has
   passed_is (duties.Unmapped s) p h =
-      with_is k right w back s (after_unmapped (end_at s p)) p
-      (kept_end k right w back (is_joined p.profile) s (end_at s p) (after_unmapped (end_at s p)) refl refl (record { up = λ x. x; waits = λ x. x; past = λ x. x }) (end_is k right w back s p h)) (λ is. is) (λ is has. has) h
+      with_is k right w back s (after_pieces (end_at s p)) p
+      (kept_end k right w back (is_joined p.profile) s (end_at s p) (after_pieces (end_at s p)) refl refl (record { up = λ x. x; waits = λ x. x; past = λ x. x }) (end_is k right w back s p h)) (λ is. is) (λ is has. has) h
   passed_is _ p h = h
 
   passed_known : (d : Duty) (ds : List Duty) (p : PathState Carried) → AreKnown k right w back p ds → AreKnown k right w back (passed d p) ds
@@ -236,7 +236,7 @@ module _ (k : Secrets) (right : Bool) (w back : Side → Type 0) where
       by (duties.Heard s index) = with_known s (item_passed s (item_of index (end_at s p)) (end_at s p)) (λ is has. passed_stays s s (item_of index (end_at s p)) (end_at s p) has)
       by (duties.Keep s) = kept_known s (is_dropped s (end_at s p)) _
       by (duties.PlainAck s) = with_known s (with_plain_ack (end_at s p)) (λ is has. same_knows k right w back s (end_at s p).modes (with_plain_ack (end_at s p)).modes refl has)
-      by (duties.Unmapped s) = with_known s (after_unmapped (end_at s p)) (λ is has. has)
+      by (duties.Unmapped s) = with_known s (after_pieces (end_at s p)) (λ is has. has)
       by (duties.Edge s) =
           let e = end_at s p in
           checked p.profile.spelling.checksums (mapping_here e) e (λ f. AreKnown k right w back (with_end s f p) ds)
@@ -474,7 +474,7 @@ module _ (k : Secrets) (right : Bool) (w back : Side → Type 0) where
           (replaced_known k right w back s (duties.AckHeard s) e p
           (λ x telling. subst (VoiceIs k right w back (with_end s e p)) (sym (tells_same x s telling)) (with_voice k right w back s e p stays (inl s) said)) stays h) h
       by false = same_goes k right w back s (with_acked next r (end_at s p)) (left p) p refl refl (record { up = λ x. x; waits = λ x. x; past = λ x. x }) (none_left k right w back p) h
-  heard_answered s says.Mapping r p own said is h = by (is_clash (end_at s p)) is
+  heard_answered s (says.Mapping fin) r p own said is h = by (is_clash (end_at s p)) is
     where
       by : (b : Bool) → ReplyIs (if b then break_ask values s 1 p else fell_ask s fall.MappingHeard p) r
           → PathIs k right w back (if b then answered_break values s 1 r p else goes_on s (with_learned (after_fell fall.MappingHeard r (end_at s p))) (fell_duties s r p) p)

@@ -51,7 +51,7 @@ use Rattle.path_core.specs.Events.{heard_at, heard_in, at_tick, died, is_death, 
 use Rattle.path_core.specs.Joining.{is_never, keys_begun, opened_by}
 use Rattle.path_core.specs.Joins.{is_joined}
 use Rattle.path_core.specs.Passing.{after_pass_fin}
-use Rattle.path_core.specs.Placing.{after_check, after_unmapped, mapping_here, is_wrong, with_learned, with_skipped, forgotten_by}
+use Rattle.path_core.specs.Placing.{after_check, after_pieces, mapping_here, is_wrong, with_learned, with_skipped, forgotten_by}
 use Rattle.path_core.specs.Sends.{sent_on}
 use Rattle.path_core.specs.Standing.{modes_told}
 use Rattle.path_core.specs.State.{PathState, end_at, goes_on, with_agenda, with_end}
@@ -191,7 +191,7 @@ module _ (T : Type 0) where
   item_goes s None p = same_goes s (end_at s p) p refl refl
   item_goes s (Some says.Dss) p = same_goes s (item_passed s (Some says.Dss) (end_at s p)) p refl refl
   item_goes s (Some (says.DataAck next window)) p = same_goes s (end_at s p) p refl refl
-  item_goes s (Some says.Mapping) p = by (counts (end_at s p))
+  item_goes s (Some (says.Mapping fin)) p = by (counts (end_at s p))
     where
       by : (b : Bool) → Goes s p (if b then with_learned (end_at s p) else with_skipped (end_at s p))
       by true = same_goes s (with_learned (end_at s p)) p refl refl
@@ -236,7 +236,7 @@ module _ (T : Type 0) where
   passed_met (duties.Heard s index) ds p h = put_met s (item_passed s (item_of index (end_at s p)) (end_at s p)) ds p (item_goes s (item_of index (end_at s p)) p) h
   passed_met (duties.Keep s) ds p h = put_met s (after_keep s (end_at s p)) ds p (keep_goes s (is_dropped s (end_at s p)) _ p) h
   passed_met (duties.PlainAck s) ds p h = put_met s (with_plain_ack (end_at s p)) ds p (same_goes s (with_plain_ack (end_at s p)) p refl refl) h
-  passed_met (duties.Unmapped s) ds p h = put_met s (after_unmapped (end_at s p)) ds p (same_goes s (after_unmapped (end_at s p)) p refl refl) h
+  passed_met (duties.Unmapped s) ds p h = put_met s (after_pieces (end_at s p)) ds p (same_goes s (after_pieces (end_at s p)) p refl refl) h
   passed_met (duties.Edge s) ds p h = put_met s (after_check p.profile (end_at s p)) ds p (edge_goes s p.profile.spelling.checksums (mapping_here (end_at s p)) p) h
   passed_met (duties.PassFin s) ds p h = put_met s (after_pass_fin (end_at s p)) ds p (fin_goes s (is_fin_next (end_at s p).tcp) p) h
   passed_met duties.JoinAgain ds p h = h
@@ -400,10 +400,10 @@ module _ (T : Type 0) where
         by (means.Taken pos acknowledged) fit = inl (calm (means.Taken pos acknowledged) refl fit)
 
     heard_a : (joined : Bool) → joined ≡ false → CalmMet p
-        → PathMet (goes_on A (copy_judged joined (held_of p.profile A heard) (reset_for p.profile A (copy_of heard)) A now heard (taken_as (judged_in joined A heard p.a)) p.a)
+        → PathMet (goes_on A (copy_judged joined (held_of p.profile A heard) (reset_for p.profile A heard) A now heard (taken_as (judged_in joined A heard p.a)) p.a)
         (template_of joined A (items_of joined A heard) (judged_in joined A heard p.a)) p)
     heard_a true joins h = absurd (false≢true (sym joins))
-    heard_a false joins h = a_heard (held_of p.profile A heard) (reset_for p.profile A (copy_of heard)) h
+    heard_a false joins h = a_heard (held_of p.profile A heard) (reset_for p.profile A heard) h
 
     heard_b : (joined : Bool) → CalmMet p → (e : PathEnd) → CalmMet (goes_on B e (template_of joined B (items_of joined B heard) (judged_in joined B heard p.b)) p)
     heard_b joined h e =

@@ -37,7 +37,8 @@ use Rattle.path_agenda.specs.declared.duty.Duty.{Duty}
 use Rattle.path_agenda.specs.declared.duty.Duty.TheVariants as duties
 use Rattle.path_core.specs.declared.judged.Judged.{Judged}
 use Rattle.path_core.specs.declared.judged.Judged.TheVariants as judged
-use Rattle.path_core.specs.Arriving.{items_of, owing_if, reset_by, reset_for, taken_as, template_judged, with_payload}
+use Rattle.path_core.specs.Codec.{HeardSegment}
+use Rattle.path_core.specs.Arriving.{items_of, owing_if, reset_by, reset_for, taken_as, template_judged, with_payload, copy_of}
 use Rattle.path_core.specs.Ends.{PathEnd}
 use Rattle.path_core.specs.Joins.{is_joined, join_options}
 use Rattle.path_core.specs.Passing.{outgoing_or}
@@ -47,6 +48,7 @@ use Rattle.path_core.specs.Words.{is_side_a}
 use Rattle.path_agenda.specs.declared.heard.JoinStep.TheVariants as step
 use Rattle.world_laws.proofs.KeysWoken.{is_opens}
 use Rattle.world_laws.proofs.KeysWoken.{is_lively}
+use Rattle.path_segments.specs.declared.position.HeardPosition.{HeardPosition}
 
 -- ---- states
 
@@ -424,10 +426,10 @@ syn_ack_tells c s e = syn_tells c s e (syn_ack_segment e.tcp) []
 abbrev pub IsNoSyn : Option Outgoing → Type 0
 IsNoSyn o = IfSome o (λ outgoing. outgoing.syn ≡ false)
 
-pub reset_answers : (c : Profile) (s : Side) (copy : Copy) → (reset_for c s copy).syn ≡ false
-reset_answers c s copy = by copy.acknowledged
+pub reset_answers : (c : Profile) (s : Side) (h : HeardSegment) → (reset_for c s h).syn ≡ false
+reset_answers c s h = by h.acknowledged
   where
-    by : (o : Option ℕ) → (reset_by c s o (unwrap_or copy.position 0) (occupied copy)).syn ≡ false
+    by : (o : Option HeardPosition) → (reset_by c s o h.position (occupied (copy_of h))).syn ≡ false
     by None = refl
     by (Some acknowledged) = refl
 

@@ -33,6 +33,7 @@ use Rattle.path_core.specs.Ends.{PathEnd}
 use Rattle.path_core.specs.Joins.{is_joined, peer_key_of, join_options, third_options}
 use Rattle.path_core.specs.Segments.{capable_options, syn_options, key_options, opening_options, ack_options, end_mapping, is_first_piece, first_piece_options, piece_options, piece_mapping, owes_mapping, plain_options, fin_options, record_options, reset_options, reset_said, ack_said, syn_ack_said, record_or_ack}
 use Rattle.path_core.specs.State.{Profile}
+use Rattle.dss_mapping.specs.Mappings.{octets_in}
 
 every_one : {X : Type 0} {P : X → Type 0} (x : X) → P x → Every P (x ∷ [])
 every_one {X} {P} x h = Every-push {xs = []} x (Every-nil P) h
@@ -358,10 +359,10 @@ module _ (k : Secrets) (right : Bool) (w back : Side → Type 0) where
         by true = every_one _ tt
         by false = Every-nil _
 
-    mapping_items_are : (s : Side) (place position len : ℕ) → Every (ItemIs joined s) (mapping_items place position len)
-    mapping_items_are s place position len = by (is_mapping place position len)
+    mapping_items_are : (s : Side) (place position count : ℕ) (fin : Bool) → Every (ItemIs joined s) (mapping_items place position count fin)
+    mapping_items_are s place position count fin = by (is_mapping place position count)
       where
-        by : (b : Bool) → Every (ItemIs joined s) (if b then says.Mapping ∷ [] else [])
+        by : (b : Bool) → Every (ItemIs joined s) (if b then says.Mapping fin ∷ [] else [])
         by true = every_one _ tt
         by false = Every-nil _
 
@@ -381,8 +382,7 @@ module _ (k : Secrets) (right : Bool) (w back : Side → Type 0) where
 
     map_items_are : (s : Side) (o : Option (PathMapping (Option ℕ))) → Every (ItemIs joined s) (map_items o)
     map_items_are s None = Every-nil _
-    map_items_are s (Some (Bytes (Some place) (Some position) len false checksum)) = mapping_items_are s place position len
-    map_items_are s (Some (Bytes (Some place) (Some position) len true checksum)) = Every-nil _
+    map_items_are s (Some (Bytes (Some place) (Some position) len fin checksum)) = mapping_items_are s place position (octets_in len fin) fin
     map_items_are s (Some (Bytes (Some place) None len fin checksum)) = Every-nil _
     map_items_are s (Some (Bytes None position len fin checksum)) = Every-nil _
     map_items_are s (Some (End (Some place) checksum)) = end_items_are s place
@@ -406,7 +406,7 @@ module _ (k : Secrets) (right : Bool) (w back : Side → Type 0) where
   key_items_are B NoKey h = Every-nil _
   key_items_are B (Sender sender) h = Every-nil _
   key_items_are B (Both sender receiver) h = every_one _ (refl, (h.1, h.0))
-  key_items_are B (WithData sender receiver len checksum) h = Every-append {xs = says.Keys receiver sender ∷ []} (every_one _ (refl, (h.1, h.0))) (mapping_items_are false B 0 1 len)
+  key_items_are B (WithData sender receiver len checksum) h = Every-append {xs = says.Keys receiver sender ∷ []} (every_one _ (refl, (h.1, h.0))) (mapping_items_are false B 0 1 len false)
 
   -- MP_CAPABLE says nothing on a path that joins
   capable_heard : (joined : Bool) (s : Side) (keys : CapableKeys) → (sure_if k right joined ≡ true → KeysAre k right (peer s) keys)

@@ -150,7 +150,7 @@ module _ (T : Type 0) where
       by : (b : Bool) → CalmMet T (goes_on s (with_acked next r (end_at s p)) (if b then replaced (duties.AckHeard s) p.agenda else left p) p)
       by true = same_met s (with_acked next r (end_at s p)) (replaced (duties.AckHeard s) p.agenda) p refl refl (told s sign) h
       by false = same_met s (with_acked next r (end_at s p)) (left p) p refl refl (tail_fewer p.agenda) h
-  heard_answered_met s says.Mapping r p gains sign h = by (is_clash (end_at s p)) gains
+  heard_answered_met s (says.Mapping fin) r p gains sign h = by (is_clash (end_at s p)) gains
     where
       by : (b : Bool) → Gains T (if b then break_ask values s 1 p else fell_ask s fall.MappingHeard p) r
           → CalmMet T (if b then answered_break values s 1 r p else goes_on s (with_learned (after_fell fall.MappingHeard r (end_at s p))) (fell_duties s r p) p)

@@ -59,7 +59,7 @@ use Rattle.world_laws.proofs.Verdicts.{fell_cases}
 -- a thing that a DSS says comes behind it
 abbrev pub IsLed : Bool → Heard → Type 0
 IsLed seen (says.DataAck next window) = seen ≡ true
-IsLed seen says.Mapping = seen ≡ true
+IsLed seen (says.Mapping fin) = seen ≡ true
 IsLed seen (says.DataFin place) = seen ≡ true
 IsLed seen says.InfiniteMapping = seen ≡ true
 IsLed seen _ = Unit {0}
@@ -70,7 +70,7 @@ Led seen (item ∷ items) = IsLed seen item × Led (seen || is_dss item) items
 
 one_led : (seen later : Bool) (item : Heard) → (seen ≡ true → later ≡ true) → IsLed seen item → IsLed later item
 one_led seen later (says.DataAck next window) on h = on h
-one_led seen later says.Mapping on h = on h
+one_led seen later (says.Mapping fin) on h = on h
 one_led seen later (says.DataFin place) on h = on h
 one_led seen later says.InfiniteMapping on h = on h
 one_led seen later says.Dss on h = tt
@@ -98,7 +98,7 @@ led_take seen (suc n) (item ∷ items) h = (h.0, led_take (seen || is_dss item) 
 
 one_seen : (item : Heard) → IsLed true item
 one_seen (says.DataAck next window) = refl
-one_seen says.Mapping = refl
+one_seen (says.Mapping fin) = refl
 one_seen (says.DataFin place) = refl
 one_seen says.InfiniteMapping = refl
 one_seen says.Dss = tt
@@ -249,7 +249,7 @@ same_items : (s : Side) (o : Option Heard) (e : PathEnd) → (item_passed s o e)
 same_items s None e = refl
 same_items s (Some says.Dss) e = refl
 same_items s (Some (says.DataAck next window)) e = refl
-same_items s (Some says.Mapping) e = by (counts e)
+same_items s (Some (says.Mapping fin)) e = by (counts e)
   where
     by : (b : Bool) → (if b then with_learned e else with_skipped e).treated.items ≡ e.treated.items
     by true = refl
@@ -332,8 +332,8 @@ module _ {C : Type 0} where
       by (Some says.Dss) is u = inl (or_right p.a.modes.clear true refl)
       by (Some (says.DataAck next window)) is u =
           absurd (false≢true (unled u.n p.a.treated.items (says.DataAck next window) h.led (unheard p u.n above u.none) (subst (λ n. item_at n p.a.treated.items ≡ Some (says.DataAck next window)) u.follows.0 is)))
-      by (Some says.Mapping) is u =
-          absurd (false≢true (unled u.n p.a.treated.items says.Mapping h.led (unheard p u.n above u.none) (subst (λ n. item_at n p.a.treated.items ≡ Some says.Mapping) u.follows.0 is)))
+      by (Some (says.Mapping fin)) is u =
+          absurd (false≢true (unled u.n p.a.treated.items (says.Mapping fin) h.led (unheard p u.n above u.none) (subst (λ n. item_at n p.a.treated.items ≡ Some (says.Mapping fin)) u.follows.0 is)))
       by (Some (says.DataFin place)) is u =
           absurd (false≢true (unled u.n p.a.treated.items (says.DataFin place) h.led (unheard p u.n above u.none) (subst (λ n. item_at n p.a.treated.items ≡ Some (says.DataFin place)) u.follows.0 is)))
       by (Some says.InfiniteMapping) is u =
@@ -556,7 +556,7 @@ module _ {C : Type 0} where
   heard_goes k index ds r p None = record { recalls = recalls_all _ _ refl; follows = λ n f. f }
   heard_goes k index ds r p (Some says.Dss) = record { recalls = recalls_all _ _ refl; follows = λ n f. f }
   heard_goes k index ds r p (Some (says.DataAck next window)) = record { recalls = recalls_all _ _ refl; follows = λ n f. told_follows n _ index ds p f }
-  heard_goes k index ds r p (Some says.Mapping) =
+  heard_goes k index ds r p (Some (says.Mapping fin)) =
       let m = with_agenda (duties.Heard B index ∷ ds) p in
       either_goes (is_clash p.b) (duties.Heard B index) ds m (answered_break k B 1 r m) (goes_on B (with_learned (after_fell events.MappingHeard r p.b)) (fell_duties B r m) m)
       (break_goes k (duties.Heard B index) B 1 r ds m) (record { recalls = recalls_all _ _ refl; follows = λ n f. fell_follows B (duties.Heard B index) ds r p n f })
@@ -622,7 +622,7 @@ module _ {C : Type 0} where
   heard_recalls k index ds r p None = recalls_all _ _ refl
   heard_recalls k index ds r p (Some says.Dss) = recalls_all _ _ refl
   heard_recalls k index ds r p (Some (says.DataAck next window)) = recalls_all _ _ refl
-  heard_recalls k index ds r p (Some says.Mapping) = by (is_clash p.a) p.a.treated.asked
+  heard_recalls k index ds r p (Some (says.Mapping fin)) = by (is_clash p.a) p.a.treated.asked
     where
       by : (clash asked : Bool) → let m = with_agenda (duties.Heard A index ∷ ds) p in
           Recalls p.a (if clash then (if asked then answered_ack_out A r (resets A 1) m else reset_on k A (Some 1) (leaves A) m) else goes_on A (with_learned (after_fell events.MappingHeard r p.a)) (fell_duties A r m) m).a
@@ -643,8 +643,8 @@ module _ {C : Type 0} where
   heard_unclear k index ds r p above (Some says.Dss) is stands_so led u = absurd (false≢true stands_so)
   heard_unclear k index ds r p above (Some (says.DataAck next window)) is stands_so led u =
       absurd (false≢true (unled u.n p.a.treated.items (says.DataAck next window) led (unheard p u.n above u.none) (subst (λ n. item_at n p.a.treated.items ≡ Some (says.DataAck next window)) u.follows.0 is)))
-  heard_unclear k index ds r p above (Some says.Mapping) is stands_so led u =
-      absurd (false≢true (unled u.n p.a.treated.items says.Mapping led (unheard p u.n above u.none) (subst (λ n. item_at n p.a.treated.items ≡ Some says.Mapping) u.follows.0 is)))
+  heard_unclear k index ds r p above (Some (says.Mapping fin)) is stands_so led u =
+      absurd (false≢true (unled u.n p.a.treated.items (says.Mapping fin) led (unheard p u.n above u.none) (subst (λ n. item_at n p.a.treated.items ≡ Some (says.Mapping fin)) u.follows.0 is)))
   heard_unclear k index ds r p above (Some (says.DataFin place)) is stands_so led u =
       absurd (false≢true (unled u.n p.a.treated.items (says.DataFin place) led (unheard p u.n above u.none) (subst (λ n. item_at n p.a.treated.items ≡ Some (says.DataFin place)) u.follows.0 is)))
   heard_unclear k index ds r p above (Some says.InfiniteMapping) is stands_so led u =

@@ -94,7 +94,7 @@ module _ {C : Type 0} (k : Codec C) (p : PathState C) where
   item_is s None = tt
   item_is s (Some says.Dss) = tt
   item_is s (Some (says.DataAck next window)) = tt
-  item_is s (Some says.Mapping) = mapping_is s
+  item_is s (Some (says.Mapping fin)) = mapping_is s
   item_is s (Some (says.DataFin place)) = tt
   item_is s (Some says.InfiniteMapping) = tt
   item_is s (Some (says.PeerKey key)) = tt
@@ -296,7 +296,7 @@ module _ {C : Type 0} (k : Codec C) (p : PathState C) where
   heard_asks s None = tt
   heard_asks s (Some says.Dss) = tt
   heard_asks s (Some (says.DataAck next window)) = refl
-  heard_asks s (Some says.Mapping) = mapping_heard s
+  heard_asks s (Some (says.Mapping fin)) = mapping_heard s
   heard_asks s (Some (says.DataFin place)) = tt
   heard_asks s (Some says.InfiniteMapping) = tt
   heard_asks s (Some (says.PeerKey key)) = tt

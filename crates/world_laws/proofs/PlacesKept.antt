@@ -167,7 +167,7 @@ module _ (R : Side → ℕ → ℕ → Type 0) where
   item_knows s None e h = h
   item_knows s (Some says.Dss) e h = h
   item_knows s (Some (says.DataAck next window)) e h = h
-  item_knows s (Some says.Mapping) e h = by (counts e)
+  item_knows s (Some (says.Mapping fin)) e h = by (counts e)
     where
       by : (b : Bool) → EndKnows s (if b then with_learned e else with_skipped e)
       by true = learned_held (R s) e.receiving.mappings h
@@ -286,7 +286,7 @@ module _ (R : Side → ℕ → ℕ → Type 0) where
 
   heard_knows : (s : Side) (item : Heard) (r : Reply) (p : PathState Carried) → PathKnows p → PathKnows (answered_heard values s item r p)
   heard_knows s (says.DataAck next window) r p h = same_goes s _ _ p refl h
-  heard_knows s says.Mapping r p h = by (is_clash (end_at s p))
+  heard_knows s (says.Mapping fin) r p h = by (is_clash (end_at s p))
     where
       by : (b : Bool) → PathKnows (if b then answered_break values s 1 r p else goes_on s (with_learned (after_fell events.MappingHeard r (end_at s p))) (fell_duties s r p) p)
       by true = break_knows s 1 r p h

@@ -8,7 +8,7 @@ use Rattle.outside_kit.specs.declared.side.Side.{Side}
 use Rattle.outside_kit.specs.declared.side.Side.TheVariants.{A, B}
 use Rattle.std.specs.Option.{IfSome}
 use Rattle.dss_mapping.specs.declared.kept.KeptMapping.{KeptMapping}
-use Rattle.dss_mapping.specs.Mappings.{run_of}
+use Rattle.dss_mapping.specs.Mappings.{run_of, octets_of}
 use Rattle.send_book.specs.declared.call.SendCall.TheVariants.{AckIn}
 use Rattle.send_book.specs.declared.call.Span.{Span}
 use Rattle.send_book.specs.declared.call.Why.{Why}
@@ -249,7 +249,7 @@ longer_places p q longer at place h = record {
       ∙ in_more (places_of p.sent) (places_of longer.more) h.pos place h.there;
 }
 
-right_tells : (sent : List Cell) (m : Mapping) (kept : KeptMapping) → IsRight sent m → m.place ≡ kept.place → suc m.pos ≡ kept.pos → m.len ≡ kept.mapping.length
+right_tells : (sent : List Cell) (m : Mapping) (kept : KeptMapping) → IsRight sent m → m.place ≡ kept.place → suc m.pos ≡ kept.pos → m.len ≡ octets_of kept
     → Tells (IsPlaceOf sent) (run_of kept)
 right_tells sent m kept right place position len = record {
   each = λ p from to. record {
@@ -262,8 +262,9 @@ right_tells sent m kept right place position len = record {
 -- a mapping that was sent tells the places of its lane
 pub held_tells : (v : View) (path : ℕ) (p : Lane) → LaneHolds v path p → (kept : KeptMapping) → HeldShows p.datas kept → Tells (IsPlaceOf p.sent) (run_of kept)
 held_tells v path p h kept has =
-    let right : IfSome (Some has.holds.mapping) (IsRight p.sent) = subst (λ o. IfSome o (IsRight p.sent)) has.holds.there (h.bytes.honest.each has.at has.item has.there).mapping in
-    right_tells p.sent has.holds.mapping kept right has.holds.is.place_is has.holds.is.position_is has.holds.is.len_is
+    let mapped = has.0 in
+    let right : IfSome (Some mapped.holds.mapping) (IsRight p.sent) = subst (λ o. IfSome o (IsRight p.sent)) mapped.holds.there (h.bytes.honest.each mapped.at mapped.item mapped.there).mapping in
+    right_tells p.sent mapped.holds.mapping kept right mapped.holds.is.place_is mapped.holds.is.position_is mapped.holds.is.len_is
 
 -- ---- the records of both lanes: A hears what B sent, and B what A sent
 

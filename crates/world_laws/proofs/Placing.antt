@@ -11,7 +11,7 @@ use Rattle.dss_mapping.specs.declared.kept.KeptMapping.{KeptMapping}
 use Rattle.dss_mapping.specs.declared.learn.Learn.{Learn}
 use Rattle.dss_mapping.specs.declared.learn.Learn.TheVariants.{New, Same, Clash}
 use Rattle.dss_mapping.specs.Learning.{first_of, others_of, learn_of, after_skip_held, learned_if}
-use Rattle.dss_mapping.specs.Mappings.{Mappings, run_of, mapping_at, after_learn}
+use Rattle.dss_mapping.specs.Mappings.{Mappings, run_of, mapping_at, after_learn, octets_of}
 use Rattle.dss_mapping.specs.Runs.{covers}
 use Rattle.reassembly_book.specs.declared.call.ReassemblyReply.TheVariants as reassembly_replies
 use Rattle.subflow_recv.specs.Receiving.{Receiving, filled, after_advance}
@@ -29,7 +29,7 @@ use Rattle.stream_lanes.specs.Words.{Every}
 use Rattle.stream_lanes.proofs.Lists.{Every-map, Every-push, Has-more, in_drop, in_map}
 use Rattle.path_core.specs.Ends.{PathEnd}
 use Rattle.path_core.specs.Passing.{having_asked, after_pass_fin, place_passed, plain_fin}
-use Rattle.path_core.specs.Placing.{Piece, count_in, piece_in, is_whole, is_right, some_piece, checked_piece, piece_by, next_piece, after_piece, with_learned, with_skipped, plain_piece}
+use Rattle.path_core.specs.Placing.{Piece, count_in, piece_in, is_whole, is_right, some_piece, checked_piece, piece_by, next_piece, after_piece, with_learned, with_skipped, plain_piece, fin_behind}
 use Rattle.path_core.specs.State.{Profile}
 use Rattle.world_laws.proofs.Ending.{Did, did_nothing}
 use Rattle.world_laws.proofs.Growing.{sender_stays, receiver_stays, same_edge}
@@ -59,7 +59,7 @@ module _ (c : Profile) (s : Side) (out back : Lane) where
   skipped_held (kept ∷ xs) h = every_rest kept xs h
 
   pub skipped_shows : (e : PathEnd) → EndShows c s e out back → EndShows c s (with_skipped e) out back
-  skipped_shows e h = record { sender = h.sender; receiver = h.receiver; acks = h.acks; told = h.told; treated = h.treated; held = skipped_held e.receiving.mappings.held h.held }
+  skipped_shows e h = record { sender = h.sender; receiver = h.receiver; acks = h.acks; told = h.told; treated = h.treated; held = record { each = skipped_held e.receiving.mappings.held h.held.each; none = h.held.none } }
 
   learn_live : (kept : KeptMapping) (learn : Learn) (v : Mappings) (maps : List Mapping) → KeptShows maps kept → Every (KeptShows maps) v.live → Every (KeptShows maps) (after_learn kept learn v).live
   learn_live kept New v maps new h = Every-push kept h new
@@ -73,13 +73,13 @@ module _ (c : Profile) (s : Side) (out back : Lane) where
 
   -- the first one is learned: so is that of its copy on the lane
   pub learned_end : (e : PathEnd) → ((copy : ℕ) → copy_clashes (slice_get back.datas copy) back ≡ false) → EndShows c s e out back → Did c s (with_learned e) out out back back
-  learned_end e agree h = by e.receiving.mappings.held refl h.held
+  learned_end e agree h = by e.receiving.mappings.held refl h.held.each
     where
       v : Mappings
       v = e.receiving.mappings
 
       by : (xs : List KeptMapping) → v.held ≡ xs → Every (HeldShows back.datas) xs
-          → Did c s (record e { receiving = record e.receiving { mappings = after_skip_held (learned_if (first_of xs) v) } }) out out back back
+          → Did c s (record e { receiving = record e.receiving { mappings = after_skip_held (learned_if (first_of xs) v); mapped_fin = fin_behind (first_of xs) e.receiving.mapped_fin } }) out out back back
       by [] is held = record {
         out_after = out;
         back_after = back;
@@ -87,27 +87,31 @@ module _ (c : Profile) (s : Side) (out back : Lane) where
         back_moves = stays back;
         sender = sender_stays out;
         receiver = receiver_stays back;
-        shows = record { sender = h.sender; receiver = h.receiver; acks = h.acks; told = h.told; treated = h.treated; held = skipped_held v.held h.held };
+        shows = record { sender = h.sender; receiver = h.receiver; acks = h.acks; told = h.told; treated = h.treated; held = record { each = skipped_held v.held h.held.each; none = h.held.none } };
       }
       by (kept ∷ xs) is held =
-          let has : HasMapping back.datas kept.place kept.pos kept.mapping.length = every_first kept xs held in
-          let q : Lane = learned_lane back kept.place kept.pos kept.mapping.length has (agree has.at) in
+          let both : HeldShows back.datas kept = every_first kept xs held in
+          let has : HasMapping back.datas kept.place kept.pos (octets_of kept) = both.0 in
+          let q : Lane = learned_lane back kept.place kept.pos (octets_of kept) has (agree has.at) in
           record {
             out_after = out;
             back_after = q;
             out_moves = stays out;
-            back_moves = learns_it back kept.place kept.pos kept.mapping.length has (agree has.at);
+            back_moves = learns_it back kept.place kept.pos (octets_of kept) has (agree has.at);
             sender = sender_stays out;
-            receiver = learned_goes back kept.place kept.pos kept.mapping.length has (agree has.at);
+            receiver = learned_goes back kept.place kept.pos (octets_of kept) has (agree has.at);
             shows = record {
               sender = h.sender;
               receiver = more_maps e.tcp.recv e.tcp.fin_at v.live (after_learn kept (learn_of kept v) v).live (identity_of e) back q.maps
-                  (learn_live kept (learn_of kept v) v q.maps (learned_there back kept.place kept.pos kept.mapping.length has (agree has.at))
+                  (learn_live kept (learn_of kept v) v q.maps (learned_there back kept.place kept.pos (octets_of kept) has (agree has.at))
                   (Every-map (λ m there. Has-more _ there) h.receiver.mapped)) h.receiver;
               acks = record { windows = h.acks.windows; latest = h.acks.latest; due = h.acks.due; sub = h.acks.sub };
               told = h.told;
               treated = record { items = h.treated.items; fins = h.treated.fins; answer = h.treated.answer; window = h.treated.window; sub = h.treated.sub; nothing = h.treated.nothing };
-              held = subst (λ ys. Every (HeldShows back.datas) (others_of ys)) (sym (learn_held kept (learn_of kept v) v)) (skipped_held v.held h.held);
+              held = record {
+                each = subst (λ ys. Every (HeldShows back.datas) (others_of ys)) (sym (learn_held kept (learn_of kept v) v)) (skipped_held v.held h.held.each);
+                none = rw both.1 h.held.none;
+              };
             };
           }
 
@@ -162,7 +166,7 @@ module _ (c : Profile) (s : Side) (out back : Lane) where
     pub kept : KeptMapping
     pub has : KeptShows back.maps kept
     pub after : kept.pos ≤ e.tcp.recv.edge
-    pub before : e.tcp.recv.edge < kept.pos + kept.mapping.length
+    pub before : e.tcp.recv.edge < kept.pos + octets_of kept
     pub is : piece ≡ piece_in kept e.tcp
     pub some : 0 < length piece.octets
 
@@ -238,7 +242,7 @@ module _ (c : Profile) (s : Side) (out back : Lane) where
       let at = at_edge e piece n h in
       let l = length-take (count_in e.tcp.recv.edge n.kept) (filled e.tcp.recv.places) in
       subst (λ x. Strolls back (record back { asking = AskPlace x.place x.octets })) (sym n.is)
-      (wants_place back e.tcp.recv.edge e.tcp.recv.places (count_in e.tcp.recv.edge n.kept) at.edge_is at.under n.kept.place n.kept.pos n.kept.mapping.length n.has n.after n.before (omega (arith, l)))
+      (wants_place back e.tcp.recv.edge e.tcp.recv.places (count_in e.tcp.recv.edge n.kept) at.edge_is at.under n.kept.place n.kept.pos (octets_of n.kept) n.has n.after n.before (omega (arith, l)))
 
   -- the next bytes may be placed, by a mapping or in plain TCP by their positions
   pub record IsNextReady (e : PathEnd) (piece : Piece) : Type 0 where

@@ -72,7 +72,7 @@ fin_shows c s place e out back has h = record {
   receiver = h.receiver;
   acks = h.acks;
   told = h.told;
-  treated = record { items = h.treated.items; fins = by (nat_lt (length e.treated.fins) 2); answer = h.treated.answer; window = h.treated.window; sub = h.treated.sub; nothing = h.treated.nothing };
+  treated = record { items = h.treated.items; fins = by (nat_lt (length e.treated.fins) 3); answer = h.treated.answer; window = h.treated.window; sub = h.treated.sub; nothing = h.treated.nothing };
   held = h.held;
 }
   where
@@ -183,7 +183,7 @@ module _ (six : SixBooks) (others : Others) (p : PathState Carried) (ab ba : Lan
     -- the next acknowledgement, bytes, end or sign of Multipath TCP of a copy, which an end hears that didn't fall back
     heard_step : (item : Heard) → e.modes.identity ≡ false → ItemShows out.acks back item → Makes (heard_ask values s item p) (answered_heard values s item (reply_of six (heard_ask values s item p)) p)
     heard_step (says.DataAck next window) above has = data_ack_step next window above has
-    heard_step says.Mapping above has = mapping_step
+    heard_step (says.Mapping fin) above has = mapping_step
     heard_step (says.DataFin place) above has =
         fell_step events.MappingHeard tt (with_fin place) (λ f x. fin_shows p.profile s place f out back has x) (fell_duties s (reply_of six (fell_ask s events.MappingHeard p)) p)
     heard_step says.InfiniteMapping above has = told_fell events.InfiniteHeard tt

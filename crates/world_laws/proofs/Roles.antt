@@ -54,7 +54,7 @@ use Rattle.path_core.specs.Joining.{asked_at, is_listening, is_never, join_taken
 use Rattle.path_core.specs.Joins.{is_joined}
 use Rattle.path_core.specs.Opening.{after_keys, answered_opened, answered_peer_key, with_peer_key}
 use Rattle.path_core.specs.Passing.{after_pass_fin, answer_occasion, answer_of, resend_occasion, answered_fin_heard, answered_plain_fin, answered_piece, dead_answer, first_record, is_fin_set, is_placed, piece_of, resend_of}
-use Rattle.path_core.specs.Placing.{Piece, after_check, after_unmapped, mapping_here, is_wrong, with_learned, with_skipped, forgotten_by}
+use Rattle.path_core.specs.Placing.{Piece, after_check, after_pieces, mapping_here, is_wrong, with_learned, with_skipped, forgotten_by}
 use Rattle.path_core.specs.Segments.{ack_said, reset_options, record_or_ack, syn_ack_said}
 use Rattle.path_core.specs.Sends.{having_sent, sent_on}
 use Rattle.path_core.specs.Standing.{after_ack_out, answered_ack_out}
@@ -181,7 +181,7 @@ item_goes : (s : Side) (o : Option Heard) (p : PathState Carried) → HasRoles p
 item_goes s None p h = same_goes s (end_at s p) p refl refl h
 item_goes s (Some says.Dss) p h = same_goes s (item_passed s (Some says.Dss) (end_at s p)) p refl refl h
 item_goes s (Some (says.DataAck next window)) p h = same_goes s (end_at s p) p refl refl h
-item_goes s (Some says.Mapping) p h = by (counts (end_at s p))
+item_goes s (Some (says.Mapping fin)) p h = by (counts (end_at s p))
   where
     by : (b : Bool) → Goes s p (if b then with_learned (end_at s p) else with_skipped (end_at s p))
     by true = same_goes s (with_learned (end_at s p)) p refl refl h
@@ -221,7 +221,7 @@ passed_roles (duties.Timer s) p h = with_roles s (after_timer p.clock (end_at s 
 passed_roles (duties.Heard s index) p h = with_roles s (item_passed s (item_of index (end_at s p)) (end_at s p)) p (item_goes s (item_of index (end_at s p)) p h) h
 passed_roles (duties.Keep s) p h = with_roles s (after_keep s (end_at s p)) p (keep_goes s (is_dropped s (end_at s p)) _ p h) h
 passed_roles (duties.PlainAck s) p h = with_roles s (with_plain_ack (end_at s p)) p (same_goes s (with_plain_ack (end_at s p)) p refl refl h) h
-passed_roles (duties.Unmapped s) p h = with_roles s (after_unmapped (end_at s p)) p (same_goes s (after_unmapped (end_at s p)) p refl refl h) h
+passed_roles (duties.Unmapped s) p h = with_roles s (after_pieces (end_at s p)) p (same_goes s (after_pieces (end_at s p)) p refl refl h) h
 passed_roles (duties.Edge s) p h = with_roles s (after_check p.profile (end_at s p)) p (edge_goes s p.profile.spelling.checksums (mapping_here (end_at s p)) p h) h
 passed_roles (duties.PassFin s) p h = with_roles s (after_pass_fin (end_at s p)) p (fin_goes s (is_fin_next (end_at s p).tcp) p h) h
 passed_roles duties.JoinAgain p h = h
@@ -304,8 +304,8 @@ heard_roles now s h p roles =
     let v : Judged = judged_in joined s heard (end_at s p) in
     goes_roles s (after_judged p.profile s now heard v (end_at s p)) (template_of joined s (items_of joined s heard) v) p
     (record {
-      role = λ joins is. joined_role now heard s (held_of p.profile s heard) (reset_for p.profile s (copy_of heard)) (end_at s p) joined joins is;
-      answer = reset_answers p.profile s (copy_of heard);
+      role = λ joins is. joined_role now heard s (held_of p.profile s heard) (reset_for p.profile s heard) (end_at s p) joined joins is;
+      answer = reset_answers p.profile s heard;
     }) roles
 
 copy_roles : (s : Side) (o : Option HeardSegment) (p : PathState Carried) → HasRoles p → HasRoles (copy_heard s o p)
@@ -358,7 +358,7 @@ keys_roles s r o p h = same_roles s (after_keys r o (end_at s p)) (left p) p ref
 
 heard_answered_roles : (s : Side) (item : Heard) (r : Reply) (p : PathState Carried) → HasRoles p → HasRoles (answered_heard values s item r p)
 heard_answered_roles s (says.DataAck next window) r p h = same_roles s (with_acked next r (end_at s p)) _ p refl refl h
-heard_answered_roles s says.Mapping r p h = by (is_clash (end_at s p))
+heard_answered_roles s (says.Mapping fin) r p h = by (is_clash (end_at s p))
   where
     by : (b : Bool) → HasRoles (if b then answered_break values s 1 r p else goes_on s (with_learned (after_fell fall.MappingHeard r (end_at s p))) (fell_duties s r p) p)
     by true = break_roles s 1 r p h

@@ -88,7 +88,7 @@ module _ {C : Type 0} (k : Codec C) (p : PathState C) (some : 1 ≤ payload_size
   item_some s None = tt
   item_some s (Some says.Dss) = tt
   item_some s (Some (says.DataAck next window)) = tt
-  item_some s (Some says.Mapping) = mapping_some s
+  item_some s (Some (says.Mapping fin)) = mapping_some s
   item_some s (Some (says.DataFin place)) = tt
   item_some s (Some says.InfiniteMapping) = tt
   item_some s (Some (says.PeerKey key)) = tt

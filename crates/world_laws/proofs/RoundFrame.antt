@@ -94,7 +94,7 @@ module _ {C : Type 0} where
 
   heard_keeps : (k : Codec C) (s : Side) (item : Heard) (r : Reply) (p : PathState C) → Keeps p (answered_heard k s item r p)
   heard_keeps k s (says.DataAck next window) r p = (refl, refl, refl)
-  heard_keeps k s says.Mapping r p = either_keeps _ _ _ p (break_keeps k s 1 r p) (refl, refl, refl)
+  heard_keeps k s (says.Mapping fin) r p = either_keeps _ _ _ p (break_keeps k s 1 r p) (refl, refl, refl)
   heard_keeps k s (says.DataFin place) r p = (refl, refl, refl)
   heard_keeps k s (says.Keys own peer) r p = (refl, refl, refl)
   heard_keeps k s _ r p = (refl, refl, refl)

@@ -108,7 +108,7 @@ module _ {C : Type 0} (k : Codec C) (p : PathState C) where
   item_none s None = tt
   item_none s (Some says.Dss) = tt
   item_none s (Some (says.DataAck next window)) = tt
-  item_none s (Some says.Mapping) = mapping_none s
+  item_none s (Some (says.Mapping fin)) = mapping_none s
   item_none s (Some (says.DataFin place)) = tt
   item_none s (Some says.InfiniteMapping) = tt
   item_none s (Some (says.PeerKey key)) = tt

@@ -354,7 +354,7 @@ module _ {C : Type 0} where
 
     -- the end after a copy that is taken so
     abbrev ended : Bool → Side → ℕ → HeardSegment → Meaning → PathEnd
-    ended joined s now h m = copy_judged joined (held_of p.profile s h) (reset_for p.profile s (copy_of h)) s now h m (end_at s p)
+    ended joined s now h m = copy_judged joined (held_of p.profile s h) (reset_for p.profile s h) s now h m (end_at s p)
 
     heard_done : (joined : Bool) (s : Side) (now count : ℕ) (h : HeardSegment) (m : Meaning) → Granting (goes_on s (ended joined s now h m) (template_by joined s count m) p) refused
     heard_done joined s now count h means.Ignored = owed_came s (ended joined s now h means.Ignored) (emission s) (emission_there s)
@@ -602,7 +602,7 @@ module _ {C : Type 0} where
         by None = done_on ds xs rest (λ t. each t)
         by (Some says.Dss) = done_on ds xs rest (λ t. each t)
         by (Some (says.DataAck next window)) = told _ _
-        by (Some says.Mapping) = mapping (is_clash (end_at s p))
+        by (Some (says.Mapping fin)) = mapping (is_clash (end_at s p))
         by (Some (says.DataFin place)) = fell_done s _ (duties.Heard s index) ds rest need.0 paid
         by (Some says.InfiniteMapping) = fell_done s _ (duties.Heard s index) ds rest need.0 paid
         by (Some (says.PeerKey key)) = done_on ds xs rest (λ t. each t)

@@ -31,7 +31,7 @@ use Rattle.join_handshake.specs.declared.hearing.JoinSyn.{JoinSyn}
 use Rattle.path_core.specs.Joining.{opened_by, syn_alone, is_listening, joined_by}
 use Rattle.path_core.specs.Opening.{with_peer_key, after_keys, keys_in}
 use Rattle.path_core.specs.Passing.{having_asked, with_peer_end, after_rate, with_fin_told}
-use Rattle.path_core.specs.Placing.{is_wrong, forgotten_by, after_unmapped}
+use Rattle.path_core.specs.Placing.{is_wrong, forgotten_by, after_pieces}
 use Rattle.path_core.specs.Standing.{after_look, modes_told}
 use Rattle.path_core.specs.State.{Profile}
 use Rattle.path_core.specs.Treating.{after_dss, after_keep, is_dropped, covered_by, is_not_kept, with_plain_ack}
@@ -134,9 +134,23 @@ module _ (c : Profile) (s : Side) (out back : Lane) where
   pub plain_ack_shows : (e : PathEnd) → Shows e → Shows (with_plain_ack e)
   plain_ack_shows e h = record { sender = h.sender; receiver = h.receiver; acks = h.acks; told = h.told; treated = h.treated; held = h.held }
 
-  -- so does a byte without a mapping
-  pub unmapped_shows : (e : PathEnd) → Shows e → Shows (after_unmapped e)
-  unmapped_shows e h = record { sender = h.sender; receiver = h.receiver; acks = h.acks; told = h.told; treated = h.treated; held = h.held }
+  -- so does a byte without a mapping; and no DATA_FIN waits behind bytes
+  pub unmapped_shows : (e : PathEnd) → Shows e → Shows (after_pieces e)
+  unmapped_shows e h = record {
+    sender = h.sender;
+    receiver = h.receiver;
+    acks = h.acks;
+    told = h.told;
+    treated = record {
+      items = h.treated.items;
+      fins = rw (h.held.none) h.treated.fins;
+      answer = h.treated.answer;
+      window = h.treated.window;
+      sub = h.treated.sub;
+      nothing = h.treated.nothing;
+    };
+    held = record { each = h.held.each; none = rw (h.held.none) refl };
+  }
 
   pub fin_told_shows : (e : PathEnd) → Shows e → Shows (with_fin_told e)
   fin_told_shows e h = record { sender = h.sender; receiver = h.receiver; acks = h.acks; told = h.told; treated = h.treated; held = h.held }

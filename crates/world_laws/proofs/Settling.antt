@@ -15,7 +15,7 @@ use Rattle.path_core.specs.Duties.{stands, passed}
 use Rattle.path_core.specs.Emission.{after_timer}
 use Rattle.path_core.specs.Ends.{PathEnd}
 use Rattle.path_core.specs.Passing.{after_pass_fin}
-use Rattle.path_core.specs.Placing.{after_check, with_learned, with_skipped, mapping_here, after_unmapped}
+use Rattle.path_core.specs.Placing.{after_check, with_learned, with_skipped, mapping_here, after_pieces}
 use Rattle.path_core.specs.State.{PathState, Profile, end_at, with_end, with_agenda}
 use Rattle.path_core.specs.Steps.{settled}
 use Rattle.path_core.specs.Treating.{counts, with_fin, after_dss, after_keep, heard_passed, item_passed, item_of, with_plain_ack}
@@ -120,7 +120,7 @@ module _ (six : SixBooks) (others : Others) (c : Profile) where
       item_did : (item : Heard) → ItemShows out.acks back item → Did c s (heard_passed s item e) out out back back
       item_did says.Dss has = did_nothing c s out back (after_dss s e) (dss_shows c s out back e shows)
       item_did (says.DataAck next window) has = did_nothing c s out back e shows
-      item_did says.Mapping has = by (counts e)
+      item_did (says.Mapping fin) has = by (counts e)
         where
           by : (b : Bool) → Did c s (if b then with_learned e else with_skipped e) out out back back
           by true = learned_end c s out back e (agrees six others s ab ba holds) shows
@@ -171,7 +171,7 @@ module _ (six : SixBooks) (others : Others) (c : Profile) where
     passes (duties.Live s) = stays_so c p ab ba h
     passes (duties.AckHeard s) = stays_so c p ab ba h
     passes (duties.PlainAck s) = same_lanes s (with_plain_ack (end_at s p)) (plain_ack_shows c s (pick s ab ba) (pick s ba ab) (end_at s p) (side_shows c s p ab ba h))
-    passes (duties.Unmapped s) = same_lanes s (after_unmapped (end_at s p)) (unmapped_shows c s (pick s ab ba) (pick s ba ab) (end_at s p) (side_shows c s p ab ba h))
+    passes (duties.Unmapped s) = same_lanes s (after_pieces (end_at s p)) (unmapped_shows c s (pick s ab ba) (pick s ba ab) (end_at s p) (side_shows c s p ab ba h))
     passes (duties.PlainHandshake s) = stays_so c p ab ba h
     passes (duties.SubflowAck s) = stays_so c p ab ba h
     passes (duties.PlainData s) = stays_so c p ab ba h

@@ -39,7 +39,7 @@ use Rattle.path_core.specs.Joining.{keys_begun, is_never, opened_by, join_taken,
 use Rattle.path_core.specs.Joins.{is_joined}
 use Rattle.path_core.specs.Opening.{answered_peer_key, answered_opened}
 use Rattle.path_core.specs.Passing.{answered_piece, is_placed, is_fin_set, piece_of, after_pass_fin, having_asked, refused, with_peer_end, with_fin_told, answered_fin_heard, answered_plain_fin}
-use Rattle.path_core.specs.Placing.{Piece, is_wrong, forgotten_by, mapping_here, with_learned, with_skipped, after_check, after_unmapped, after_piece}
+use Rattle.path_core.specs.Placing.{Piece, is_wrong, forgotten_by, mapping_here, with_learned, with_skipped, after_check, after_pieces, after_piece}
 use Rattle.path_core.specs.Standing.{after_ack_out, answered_ack_out}
 use Rattle.path_core.specs.State.{PathState, end_at, goes_on, with_agenda}
 use Rattle.path_core.specs.Steps.{settled, takes, next_round}
@@ -169,7 +169,7 @@ begun_end None e h = h
 begun_end (Some keys) e h = h
 
 item_end : (s : Side) (item : Heard) (e : PathEnd) → EndCalms e (heard_passed s item e)
-item_end s says.Mapping e = either_end (counts e) e (with_learned e) (with_skipped e) (λ h. h) (λ h. h)
+item_end s (says.Mapping fin) e = either_end (counts e) e (with_learned e) (with_skipped e) (λ h. h) (λ h. h)
 item_end s (says.DataFin place) e = either_end (counts e) e (with_fin place e) e (λ h. h) (λ h. h)
 item_end s _ e = λ h. h
 
@@ -207,7 +207,7 @@ module _ {C : Type 0} where
   passed_calms (duties.PlainAck s) p = side_calms s (with_plain_ack (end_at s p)) p _ (λ h. h) refl refl
   passed_calms (duties.Keep s) p = side_calms s (after_keep s (end_at s p)) p _ (λ h. h) refl refl
   passed_calms (duties.Edge s) p = side_calms s (after_check p.profile (end_at s p)) p _ (checked_end p.profile.spelling.checksums (mapping_here (end_at s p)) (end_at s p)) refl refl
-  passed_calms (duties.Unmapped s) p = side_calms s (after_unmapped (end_at s p)) p _ (λ h. h) refl refl
+  passed_calms (duties.Unmapped s) p = side_calms s (after_pieces (end_at s p)) p _ (λ h. h) refl refl
   passed_calms (duties.PassFin s) p = side_calms s (after_pass_fin (end_at s p)) p _ (λ h. h) refl refl
   passed_calms _ p = record { a = λ h. h; b = λ h. h }
 
@@ -342,7 +342,7 @@ module _ {C : Type 0} where
     item_goes s index None p = rests (first (duties.Heard s index) p) _ refl refl shape
     item_goes s index (Some says.Dss) p = rests (first (duties.Heard s index) p) _ refl refl shape
     item_goes s index (Some (says.DataAck next window)) p = side_goes s _ (first (duties.Heard s index) p) _ (λ h. h) refl refl (told_shape s index _ p)
-    item_goes s index (Some says.Mapping) p =
+    item_goes s index (Some (says.Mapping fin)) p =
         let m = first (duties.Heard s index) p in
         either_goes (is_clash (end_at s m)) (answered_break k s 1 r m) (goes_on s (with_learned (after_fell events.MappingHeard r (end_at s m))) (fell_duties s r m) m) m
         (break_goes s (duties.Heard s index) 1 p) (side_goes s _ m _ (λ h. h) refl refl (fell_shape s (duties.Heard s index) p))

@@ -32,6 +32,8 @@ use Rattle.path_core.specs.Segments.{place_numbered}
 use Rattle.path_core.specs.State.{PathState, Profile}
 use Rattle.path_core.specs.Shown.{AltersNothing}
 use Rattle.path_core.specs.Values.{Carried}
+use Rattle.dss_mapping.specs.Mappings.{octets_of}
+use Rattle.path_core.specs.declared.mapped_fin.MappedFin.{MappedFin}
 
 -- ---- what was ever sent on a lane
 
@@ -172,11 +174,16 @@ pub record IsPastFin (fin_at : Option ℕ) (recv : Receiving) (p : Lane) : Type 
   pub fin_in : p.fin_in ≡ true
 
 abbrev pub KeptShows : List Mapping → KeptMapping → Type 0
-KeptShows maps kept = Has (IsMappingOf kept.place kept.pos kept.mapping.length) maps
+KeptShows maps kept = Has (IsMappingOf kept.place kept.pos (octets_of kept)) maps
 
 -- a mapping that was heard and isn't learned yet
 abbrev pub HeldShows : List DataCopy → KeptMapping → Type 0
-HeldShows datas kept = HasMapping datas kept.place kept.pos kept.mapping.length
+HeldShows datas kept = HasMapping datas kept.place kept.pos (octets_of kept) × (kept.fin ≡ false)
+
+-- none of them has a DATA_FIN behind its bytes, and none waits for the edge
+pub record HoldsShow (datas : List DataCopy) (held : List KeptMapping) (mapped_fin : Option MappedFin) : Type 0 where
+  pub each : Every (HeldShows datas) held
+  pub none : mapped_fin ≡ None
 
 -- the windows that segments tell are those of acknowledgements of the lane, with and without the place
 pub record WindowShows (next window : ℕ) (acks : List AckCopy) : Type 0 where
@@ -223,14 +230,15 @@ pub record EndShows (c : Profile) (s : Side) (e : PathEnd) (out back : Lane) : T
   pub acks : AcksShow e.receiving.next e.receiving.window e.treated.asked e.tcp.recv.edge back
   pub told : HasNone out.acks e.tcp.congestion.told.window
   pub treated : TreatedShows e.treated out.acks back
-  pub held : Every (HeldShows back.datas) e.receiving.mappings.held
+  pub held : HoldsShow back.datas e.receiving.mappings.held e.receiving.mapped_fin
 
 -- ---- copies
 
 -- a mapping in an option
 abbrev pub MappingShows : Option (PathMapping ℕ) → Lane → Type 0
 MappingShows None p = Unit {0}
-MappingShows (Some (Bytes place position len fin checksum)) p = HasMapping p.datas place position len
+MappingShows (Some (Bytes place position len true checksum)) p = ⊥
+MappingShows (Some (Bytes place position len false checksum)) p = HasMapping p.datas place position len
 MappingShows (Some (End place checksum)) p = HasNumber p.data_fins place
 MappingShows (Some (Infinite place position)) p = Unit {0}
 

@@ -282,7 +282,7 @@ module _ (p : PathState Carried) where
   item_b None = tt
   item_b (Some says.Dss) = tt
   item_b (Some (says.DataAck next window)) = tt
-  item_b (Some says.Mapping) = mapping_b
+  item_b (Some (says.Mapping fin)) = mapping_b
   item_b (Some (says.DataFin place)) = tt
   item_b (Some says.InfiniteMapping) = tt
   item_b (Some (says.PeerKey key)) = tt
@@ -300,7 +300,7 @@ module _ (p : PathState Carried) where
   item_a index ds above None is h unclear = tt
   item_a index ds above (Some says.Dss) is h unclear = tt
   item_a index ds above (Some (says.DataAck next window)) is h unclear = tt
-  item_a index ds above (Some says.Mapping) is h unclear = absurd (false≢true (led_by index ds says.Mapping h unclear above is))
+  item_a index ds above (Some (says.Mapping fin)) is h unclear = absurd (false≢true (led_by index ds (says.Mapping fin) h unclear above is))
   item_a index ds above (Some (says.DataFin place)) is h unclear = absurd (false≢true (led_by index ds (says.DataFin place) h unclear above is))
   item_a index ds above (Some says.InfiniteMapping) is h unclear = tt
   item_a index ds above (Some (says.PeerKey key)) is h unclear = tt

@@ -37,7 +37,7 @@ use Rattle.actor_desk.specs.Words.{is_nil}
 use Rattle.path_agenda.specs.declared.heard.Heard.{Heard}
 use Rattle.path_agenda.specs.declared.heard.Heard.TheVariants as says
 use Rattle.path_agenda.specs.declared.keys.KeyPair.{KeyPair}
-use Rattle.path_core.specs.Arriving.{copy_of, ack_items, is_mapping, mapping_items, map_items, key_items, join_items, items_in, items_of, HeardOption, hint_of, reset_for, reset_by, owing_if, owes_by, asked_in, is_taken, with_payload, with_answer, answered_in, cleared_in, judged_in, taken_as, after_judged, zero_position}
+use Rattle.path_core.specs.Arriving.{copy_of, ack_items, is_mapping, mapping_items, map_items, key_items, join_items, items_in, items_of, HeardOption, hint_of, reset_for, reset_by, owing_if, owes_by, asked_in, is_taken, with_payload, with_answer, answered_in, cleared_in, judged_in, taken_as, after_judged, position_numbered}
 use Rattle.path_core.specs.declared.modes.Modes.{Modes}
 use Rattle.path_core.specs.Joining.{with_keys, syn_alone, is_listening, joined_by}
 use Rattle.path_core.specs.Joins.{is_joined, join_answer}
@@ -46,6 +46,8 @@ use Rattle.path_core.specs.State.{Profile}
 use Rattle.world_laws.proofs.Records.{every_cons}
 use Rattle.world_laws.proofs.Telling.{IsShort, MappingIsShort, OptionTells, SegmentTells, IsNonce, ItemTells, AnswerTells, SenderTells, ModesTell, EndTells}
 use Rattle.world_laws.proofs.TellingRules.{acknowledged_tells, AreKeys, answer_nonce}
+use Rattle.dss_mapping.specs.Mappings.{octets_in}
+use Rattle.path_segments.specs.declared.position.HeardPosition.TheVariants.{At}
 
 -- ---- what it says
 
@@ -63,13 +65,12 @@ acks_tell : (o : Option ℕ) (window : ℕ) → IfSome o IsShort → Tell (ack_i
 acks_tell None window h = Every-nil ItemTells
 acks_tell (Some n) window h = tell_if (nat_lt n (2 ^ 62)) (says.DataAck n window) h
 
-mapping_tells : (place position len : ℕ) → Tell (mapping_items place position len)
-mapping_tells place position len = tell_if (is_mapping place position len) says.Mapping tt
+mapping_tells : (place position count : ℕ) (fin : Bool) → Tell (mapping_items place position count fin)
+mapping_tells place position count fin = tell_if (is_mapping place position count) (says.Mapping fin) tt
 
 map_tells : (o : Option (PathMapping ℕ)) → IfSome o MappingIsShort → Tell (map_items (option_map meant_mapping o))
 map_tells None h = Every-nil ItemTells
-map_tells (Some (Bytes place position len true checksum)) h = Every-nil ItemTells
-map_tells (Some (Bytes place position len false checksum)) h = mapping_tells place position len
+map_tells (Some (Bytes place position len fin checksum)) h = mapping_tells place position (octets_in len fin) fin
 map_tells (Some (End place checksum)) h = tell_if (nat_le place (2 ^ 62)) (says.DataFin place) h
 map_tells (Some (Infinite place position)) h = tell_if (nat_lt place (2 ^ 62)) says.InfiniteMapping tt
 
@@ -81,7 +82,7 @@ keys_tell A (WithData sender receiver len checksum) h = Every-nil ItemTells
 keys_tell B NoKey h = Every-nil ItemTells
 keys_tell B (Sender sender) h = Every-nil ItemTells
 keys_tell B (Both sender receiver) h = one (says.Keys receiver sender) (h.1, h.0)
-keys_tell B (WithData sender receiver len checksum) h = every_cons (says.Keys receiver sender) (mapping_items 0 1 len) (h.1, h.0) (mapping_tells 0 1 len)
+keys_tell B (WithData sender receiver len checksum) h = every_cons (says.Keys receiver sender) (mapping_items 0 1 len false) (h.1, h.0) (mapping_tells 0 1 len false)
 
 joins_tell : (s : Side) (form : JoinForm) → FormFits form → Tell (join_items s form)
 joins_tell A (joins.Answer backup id hmac nonce) h = one (says.Join (joins.Answer backup id hmac nonce)) h
@@ -116,10 +117,11 @@ taken_tell n items h = record { each = λ i x is. h.each i x (in_take n items i 
 
 -- ---- the answer of a dead end
 
-zero_low : (c : Profile) (s : Side) → zero_position c s < 2 ^ 32
+zero_low : (c : Profile) (s : Side) → position_numbered c s 0 < 2 ^ 32
 zero_low c s = omega arith
 
-answer_tells : (c : Profile) (s : Side) (o : Option ℕ) (position occupied : ℕ) → IfSome o IsShort → (o ≡ None → IsShort (position + occupied)) → AnswerTells (reset_by c s o position occupied)
+answer_tells : (c : Profile) (s : Side) (o : Option ℕ) (position occupied : ℕ) → IfSome o IsShort → (o ≡ None → IsShort (position + occupied))
+    → AnswerTells (reset_by c s (option_map (λ n. At n) o) (At position) occupied)
 answer_tells c s None position occupied short reaches = record { rst = refl; low = zero_low c s; acknowledged = reaches refl; reaches = λ is. cc; syn = refl; fin = refl }
 answer_tells c s (Some acknowledged) position occupied short reaches = record { rst = refl; low = omega (arith, short); acknowledged = tt; reaches = λ is. short; syn = refl; fin = refl }
 
@@ -290,12 +292,12 @@ arrived_tells c s now sg e tells h =
     }
   where
     position_told : (taken : Bool) (o : Option ℕ) → IfSome o IsShort
-        → IsShort (if taken then unwrap_or (copy_of (record (meant sg) { acknowledged = option_map (λ n. Some n) o })).acknowledged 0 else 0)
+        → IsShort (if taken then unwrap_or (copy_of (record (meant sg) { acknowledged = option_map (λ n. At n) o })).acknowledged 0 else 0)
     position_told false o short = omega arith
     position_told true None short = omega arith
     position_told true (Some n) short = short
 
     by : (o : Option ℕ) → IfSome o IsShort → (o ≡ None → IsShort (sg.position + occupied (copy_of (meant sg))))
-        → AnswerTells (reset_for c s (record (copy_of (meant sg)) { acknowledged = (copy_of (record (meant sg) { acknowledged = option_map (λ n. Some n) o })).acknowledged }))
+        → AnswerTells (reset_by c s (option_map (λ n. At n) o) (At sg.position) (occupied (copy_of (meant sg))))
     by None short reaches = answer_tells c s None sg.position (occupied (copy_of (meant sg))) tt reaches
     by (Some n) short reaches = answer_tells c s (Some n) sg.position (occupied (copy_of (meant sg))) short (λ is. cc)

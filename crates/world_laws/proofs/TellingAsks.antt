@@ -200,7 +200,7 @@ module _ (c : Profile) (p : PathState Carried) (h : PathTells c p) where
   item_tells s None said = tt
   item_tells s (Some says.Dss) said = tt
   item_tells s (Some (says.DataAck next window)) said = tt
-  item_tells s (Some says.Mapping) said = mapping_tells s
+  item_tells s (Some (says.Mapping fin)) said = mapping_tells s
   item_tells s (Some (says.DataFin place)) said = tt
   item_tells s (Some says.InfiniteMapping) said = tt
   item_tells s (Some (says.PeerKey key)) said = tt

@@ -390,7 +390,7 @@ module _ (six : SixBooks) (others : Others) (p : PathState Carried) (ab ba : Lan
     heard_told (says.DataAck next window) x =
         let r : SendReply = ack_reply next (send_of s six) in
         on (with_acked next (replies.Send r) e) (told_next s (is_acked (replies.Send r) && nat_lt 0 next) p) (rules.stream_acked p.profile s e tells next r x) (acked_fair (is_acked (replies.Send r) && nat_lt 0 next))
-    heard_told says.Mapping x = mapping_told
+    heard_told (says.Mapping fin) x = mapping_told
     heard_told (says.DataFin place) x =
         let r : Reply = reply_of six (fell_ask s events.MappingHeard p) in
         let f : PathEnd = after_fell events.MappingHeard r e in

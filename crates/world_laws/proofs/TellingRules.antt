@@ -56,7 +56,7 @@ use Rattle.path_core.specs.Joins.{peer_key_of, join_value, join_asked, join_answ
 use Rattle.path_core.specs.Opening.{with_peer_key, keys_in, after_keys}
 use Rattle.path_core.specs.Falling.{mode_in, fell_in, after_fell, in_identity}
 use Rattle.path_core.specs.Passing.{having_asked, with_peer_end, with_fin_told, after_rate, after_pass_fin}
-use Rattle.path_core.specs.Placing.{Piece, is_wrong, forgotten_by, after_piece, with_learned, with_skipped, after_unmapped}
+use Rattle.path_core.specs.Placing.{Piece, is_wrong, forgotten_by, after_piece, with_learned, with_skipped, after_pieces}
 use Rattle.path_core.specs.Segments.{bare_mapping}
 use Rattle.path_core.specs.Sends.{with_told, having_sent}
 use Rattle.path_core.specs.Standing.{modes_told, after_look, after_ack_out}
@@ -315,8 +315,8 @@ module _ (c : Profile) (s : Side) (e : PathEnd) (h : EndTells c s e) where
   pub fin_told_tells : EndTells c s (with_fin_told e)
   fin_told_tells = record { sender = h.sender; edge = h.edge; stream = h.stream; window = record { next = h.window.next; window = h.window.window }; modes = h.modes; treated = h.treated }
 
-  pub unmapped_tells : EndTells c s (after_unmapped e)
-  unmapped_tells = record { sender = h.sender; edge = h.edge; stream = h.stream; window = record { next = h.window.next; window = h.window.window }; modes = h.modes; treated = h.treated }
+  pub unmapped_tells : EndTells c s (after_pieces e)
+  unmapped_tells = record { sender = h.sender; edge = h.edge; stream = h.stream; window = record { next = h.window.next; window = h.window.window }; modes = h.modes; treated = record { items = h.treated.items; answer = h.treated.answer; acknowledged = h.treated.acknowledged } }
 
   pub piece_tells : (piece : Piece) → IsShort (e.tcp.recv.edge + length piece.octets) → EndTells c s (after_piece piece e)
   piece_tells piece short = record { sender = h.sender; edge = short; stream = h.stream; window = record { next = h.window.next; window = h.window.window }; modes = h.modes; treated = h.treated }

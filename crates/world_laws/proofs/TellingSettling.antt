@@ -19,7 +19,7 @@ use Rattle.path_core.specs.Duties.{stands, passed}
 use Rattle.path_core.specs.Emission.{after_timer}
 use Rattle.path_core.specs.Ends.{PathEnd}
 use Rattle.path_core.specs.Passing.{after_pass_fin}
-use Rattle.path_core.specs.Placing.{mapping_here, after_check, with_learned, with_skipped, after_unmapped}
+use Rattle.path_core.specs.Placing.{mapping_here, after_check, with_learned, with_skipped, after_pieces}
 use Rattle.path_core.specs.State.{PathState, Profile, end_at, with_end, with_agenda}
 use Rattle.path_core.specs.Steps.{settled}
 use Rattle.path_core.specs.Treating.{counts, with_fin, with_plain_ack, after_keep, heard_passed, item_passed, item_of}
@@ -41,7 +41,7 @@ end_tells c p t s e x = tells_on c p t s e p.agenda x t.agenda
 item_told : (c : Profile) (s : Side) (e : PathEnd) → EndTells c s e → (item : Heard) → EndTells c s (heard_passed s item e)
 item_told c s e h says.Dss = rules.dss_tells c s e h
 item_told c s e h (says.DataAck next window) = h
-item_told c s e h says.Mapping = by (counts e)
+item_told c s e h (says.Mapping fin) = by (counts e)
   where
     by : (b : Bool) → EndTells c s (if b then with_learned e else with_skipped e)
     by true = rules.learned_tells c s e h
@@ -79,7 +79,7 @@ module _ (six : SixBooks) (others : Others) (c : Profile) (short : BooksAreShort
       end_tells c p t s (after_check p.profile (end_at s p))
       (rules.check_tells c s (end_at s p) (tells_at c p t s) p.profile.spelling.checksums (mapping_here (end_at s p)))
   passed_tells p ab ba h holds t (duties.PlainAck s) = end_tells c p t s (with_plain_ack (end_at s p)) (rules.plain_ack_tells c s (end_at s p) (tells_at c p t s))
-  passed_tells p ab ba h holds t (duties.Unmapped s) = end_tells c p t s (after_unmapped (end_at s p)) (rules.unmapped_tells c s (end_at s p) (tells_at c p t s))
+  passed_tells p ab ba h holds t (duties.Unmapped s) = end_tells c p t s (after_pieces (end_at s p)) (rules.unmapped_tells c s (end_at s p) (tells_at c p t s))
   passed_tells p ab ba h holds t (duties.PassFin s) =
       let e : PathEnd = end_at s p in
       end_tells c p t s (after_pass_fin e) (rules.pass_fin_tells c s e (tells_at c p t s)
