@@ -12,12 +12,12 @@ use Rattle.subflow_tcp.specs.Taking.{after_arrival}
 use Rattle.path_core.specs.Arriving.{options_heard, copy_of, hint_of, items_of, owes_by, with_payload, judged_in, taken_as, after_judged, template_of}
 use Rattle.path_core.specs.Joining.{is_never, keys_begun, opened_by}
 use Rattle.path_core.specs.Joins.{is_joined}
-use Rattle.path_core.proofs.Joined.{died_rests, opened_rests}
+use Rattle.path_core.proofs.Joined.{died_rests, never_rests, opened_rests}
 use Rattle.actor_desk.specs.declared.ask.Reply.{Reply}
 use Rattle.path_agenda.specs.Agenda.{rest_of_turn, emission, leaves}
 use Rattle.path_core.specs.Codec.{Codec, HeardSegment}
 use Rattle.path_core.specs.Ends.{PathEnd}
-use Rattle.path_core.specs.Events.{tick_of, next_join, next_line, next_copy, next_fire, earlier, earliest, before, next_event, is_death, died, died_unless_dead, after_line, line_taken, at_tick, joins_at_tick, told_at, copy_heard, heard_in, copy_taken, timer_fired, happens, happens_if, CanHappen}
+use Rattle.path_core.specs.Events.{tick_of, next_join, next_line, next_copy, next_fire, earlier, earliest, before, next_event, is_death, died, never_joined, died_unless_dead, after_line, line_taken, at_tick, joins_at_tick, told_at, copy_heard, heard_in, copy_taken, timer_fired, happens, happens_if, CanHappen}
 use Rattle.path_core.specs.declared.event.Event.{Event}
 use Rattle.path_core.specs.declared.event.Event.TheVariants as happenings
 use Rattle.path_core.specs.Ranks.{ticks_left, one_if_due, due_copies, due_lines, due_timer, due_by_now}
@@ -126,8 +126,8 @@ module _ {C : Type 0} where
       both : (q : PathState C) → Calm after q → Calm p q
       both q next = record { ticks = omega (arith, first.ticks, next.ticks); due = omega (arith, first.due, next.due); time = next.time }
 
-      by : (b : Bool) → Calm p (if b then goes_on A (died p.a) (leaves A) after else goes_on A (opened_by (keys_begun r) p.a) (emission A) after)
-      by true = both _ (goes_calm A (died p.a) (leaves A) after first.time (died_rests p.clock p.a))
+      by : (b : Bool) → Calm p (if b then goes_on A (never_joined r p.a) (leaves A) after else goes_on A (opened_by (keys_begun r) p.a) (emission A) after)
+      by true = both _ (goes_calm A (never_joined r p.a) (leaves A) after first.time (never_rests p.clock r p.a))
       by false = both _ (goes_calm A (opened_by (keys_begun r) p.a) (emission A) after first.time (opened_rests p.clock (keys_begun r) p.a))
 
   join_lowers : (r : Reply) (tick : ℕ) (p : PathState C) → TakesTime p → p.joined_at ≡ Some tick → tick < p.until

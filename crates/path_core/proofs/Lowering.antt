@@ -25,11 +25,11 @@ use Rattle.path_core.specs.Codec.{Codec}
 use Rattle.path_core.specs.Duties.{stands, ask_for, answered}
 use Rattle.path_core.specs.Emission.{first_unsent, unsent_segment, having_sent_unsent, end_segment, having_sent_end, fin_segment_of, having_sent_fin, may_ask, data_stands, payload_size, grant_ask, data_ask, Grant, grant_in, granted, refused, answered_grant, answered_data}
 use Rattle.path_core.specs.Ends.{PathEnd}
-use Rattle.path_core.specs.Events.{died, join_begun}
-use Rattle.path_core.specs.Joining.{is_never, keys_begun, opened_by, joined_by, asked_at, join_taken, refusal_of}
+use Rattle.path_core.specs.Events.{died, never_joined, join_begun}
+use Rattle.path_core.specs.Joining.{with_mode_refused, is_never, keys_begun, opened_by, joined_by, asked_at, join_taken, refusal_of}
 use Rattle.path_agenda.specs.declared.keys.KeyPair.{KeyPair}
 use Rattle.join_handshake.specs.declared.hearing.JoinSyn.{JoinSyn}
-use Rattle.path_core.proofs.Joined.{died_rests, opened_rests, joined_rests}
+use Rattle.path_core.proofs.Joined.{died_rests, never_rests, opened_rests, joined_rests}
 use Rattle.actor_desk.specs.Kinds.{IsOfKind, IsSomeOf}
 use Rattle.path_agenda.specs.Items.{key_heard, keys_heard}
 use Rattle.fallback_state.specs.declared.fall.Event.{Event}
@@ -327,17 +327,19 @@ module _ {C : Type 0} where
       → Lowers p (join_begun r dead living p)
   join_less r dead living p t less_dead less_living = by (is_never r)
     where
-      by : (b : Bool) → Lowers p (if b then goes_on A (died (end_at A p)) dead p else goes_on A (opened_by (keys_begun r) (end_at A p)) living p)
-      by true = goes_less A (died p.a) dead p t (died_rests p.clock p.a) less_dead
+      by : (b : Bool) → Lowers p (if b then goes_on A (never_joined r (end_at A p)) dead p else goes_on A (opened_by (keys_begun r) (end_at A p)) living p)
+      by true = goes_less A (never_joined r p.a) dead p t (never_rests p.clock r p.a) less_dead
       by false = goes_less A (opened_by (keys_begun r) p.a) living p t (opened_rests p.clock (keys_begun r) p.a) less_living
 
-  taken_less : (s : Side) (keys : Option KeyPair) (asked : Option JoinSyn) (p : PathState C) → TakesTime p
+  taken_less : (s : Side) (keys : Option KeyPair) (asked : Option JoinSyn) (r : Reply) (p : PathState C) → TakesTime p
       → weights (replaced (duties.SynAck s) p.agenda) < weights p.agenda → weights (replaced (duties.Refuse s) p.agenda) < weights p.agenda
-      → Lowers p (join_taken s keys asked p)
-  taken_less s (Some keys) (Some asked) p t less_taken less_refused =
+      → Lowers p (join_taken s keys asked r p)
+  taken_less s (Some keys) (Some asked) r p t less_taken less_refused =
       goes_less s (joined_by keys asked (end_at s p)) (replaced (duties.SynAck s) p.agenda) p t (joined_rests p.clock keys asked (end_at s p)) less_taken
-  taken_less s (Some keys) None p t less_taken less_refused = agenda_less (replaced (duties.Refuse s) p.agenda) p t less_refused
-  taken_less s None asked p t less_taken less_refused = agenda_less (replaced (duties.Refuse s) p.agenda) p t less_refused
+  taken_less s (Some keys) None r p t less_taken less_refused = agenda_less (replaced (duties.Refuse s) p.agenda) p t less_refused
+  taken_less s None None r p t less_taken less_refused = agenda_less (replaced (duties.Refuse s) p.agenda) p t less_refused
+  taken_less s None (Some asked) r p t less_taken less_refused =
+      goes_less s (with_mode_refused r (end_at s p)) (replaced (duties.Refuse s) p.agenda) p t (same_rests p.clock (end_at s p) (with_mode_refused r (end_at s p)) refl) less_refused
 
   -- ---- every duty
 
@@ -376,7 +378,7 @@ module _ {C : Type 0} where
       let e = end_at s p in let f : PathEnd = having_sent to_send.SynAck p.clock (syn_ack_of s p) e in
       sent_less k s (syn_ack_of s p) f (left p) p t (same_rests p.clock e f refl) (left_less _ ds p is)
   answered_lowers k (duties.JoinHeard s) ds r p t is stands kind =
-      taken_less s (keys_begun r) (asked_at s p) p t (rw is (omega arith)) (rw is (omega arith))
+      taken_less s (keys_begun r) (asked_at s p) r p t (rw is (omega arith)) (rw is (omega arith))
   answered_lowers k (duties.Refuse s) ds r p t is stands kind =
       sent_less k s (refusal_of s p) (end_at s p) (left p) p t (same_rests p.clock (end_at s p) (end_at s p) refl) (left_less _ ds p is)
   answered_lowers k (duties.Opened s) ds r p t is stands kind =

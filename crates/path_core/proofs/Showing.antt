@@ -30,7 +30,7 @@ use Rattle.path_core.specs.Codec.{HeardSegment}
 use Rattle.path_core.specs.Segments.{spelled_by}
 use Rattle.actor_desk.specs.Words.{tail_of}
 use Rattle.subflow_tcp.specs.declared.segments.Occasion.TheVariants as to_send
-use Rattle.path_core.specs.Events.{is_death, after_line, at_tick, copy_heard, heard_in, copy_taken, happens_if, died, step_for, next_event}
+use Rattle.path_core.specs.Events.{never_joined, is_death, after_line, at_tick, copy_heard, heard_in, copy_taken, happens_if, died, step_for, next_event}
 use Rattle.path_core.specs.declared.event.Event.{Event}
 use Rattle.path_core.specs.declared.event.Event.TheVariants as happenings
 use Rattle.control_book.specs.declared.call.ControlReply.TheVariants as control_replies
@@ -415,23 +415,24 @@ same_plain_fin s false p = refl
 -- ---- joins
 
 same_begun : (never : Bool) (r : Reply) (dead living : List Duty) (p : PathState Carried)
-    → (if never then goes_on A (died (end_at A p)) dead (shown_path p) else goes_on A (opened_by (keys_begun r) (end_at A p)) living (shown_path p))
-    ≡ shown_path (if never then goes_on A (died (end_at A p)) dead p else goes_on A (opened_by (keys_begun r) (end_at A p)) living p)
+    → (if never then goes_on A (never_joined r (end_at A p)) dead (shown_path p) else goes_on A (opened_by (keys_begun r) (end_at A p)) living (shown_path p))
+    ≡ shown_path (if never then goes_on A (never_joined r (end_at A p)) dead p else goes_on A (opened_by (keys_begun r) (end_at A p)) living p)
 same_begun true r dead living p = refl
 same_begun false r dead living p = refl
 
 same_join_again : (never : Bool) (r : Reply) (p : PathState Carried)
-    → (if never then goes_on A (died (end_at A p)) (replaced (duties.Leave A) p.agenda) (shown_path p)
+    → (if never then goes_on A (never_joined r (end_at A p)) (replaced (duties.Leave A) p.agenda) (shown_path p)
     else goes_on A (opened_by (keys_begun r) (end_at A p)) (left p) (shown_path p))
-    ≡ shown_path (if never then goes_on A (died (end_at A p)) (replaced (duties.Leave A) p.agenda) p
+    ≡ shown_path (if never then goes_on A (never_joined r (end_at A p)) (replaced (duties.Leave A) p.agenda) p
     else goes_on A (opened_by (keys_begun r) (end_at A p)) (left p) p)
 same_join_again never r p = same_begun never r (replaced (duties.Leave A) p.agenda) (left p) p
 
-same_join_taken : (s : Side) (keys : Option KeyPair) (asked : Option JoinSyn) (p : PathState Carried)
-    → join_taken s keys asked (shown_path p) ≡ shown_path (join_taken s keys asked p)
-same_join_taken s (Some keys) (Some asked) p = refl
-same_join_taken s (Some keys) None p = refl
-same_join_taken s None asked p = refl
+same_join_taken : (s : Side) (keys : Option KeyPair) (asked : Option JoinSyn) (r : Reply) (p : PathState Carried)
+    → join_taken s keys asked r (shown_path p) ≡ shown_path (join_taken s keys asked r p)
+same_join_taken s (Some keys) (Some asked) r p = refl
+same_join_taken s (Some keys) None r p = refl
+same_join_taken s None (Some asked) r p = refl
+same_join_taken s None None r p = refl
 
 -- ---- events
 
@@ -542,7 +543,7 @@ same_answered (duties.SynAnswered s) r p nothing fresh = refl
 same_answered (duties.PlainHandshake s) r p nothing fresh = same_fell s events.PlainHandshake r p
 same_answered (duties.PeerKey s) r p nothing fresh = same_peer_key_answered s (key_heard (end_at s p).treated.items) r p
 same_answered (duties.SynAck s) r p nothing fresh = same_sent s (syn_ack_of s p) (having_sent to_send.SynAck p.clock (syn_ack_of s p) (end_at s p)) (left p) p nothing
-same_answered (duties.JoinHeard s) r p nothing fresh = same_join_taken s (keys_begun r) (asked_at s p) p
+same_answered (duties.JoinHeard s) r p nothing fresh = same_join_taken s (keys_begun r) (asked_at s p) r p
 same_answered (duties.Refuse s) r p nothing fresh = same_sent s (refusal_of s p) (end_at s p) (left p) p nothing
 same_answered (duties.Opened s) r p nothing fresh = same_opened_answered s (keys_heard (end_at s p).treated.items) r p
 same_answered (duties.Live s) r p nothing fresh = refl

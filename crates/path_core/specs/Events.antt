@@ -26,7 +26,7 @@ use Rattle.path_agenda.specs.Words.{replaced}
 use Rattle.path_core.specs.Arriving.{expected_by, items_of, options_heard, judged_in, after_judged, template_of}
 use Rattle.path_core.specs.Codec.{Codec, HeardSegment}
 use Rattle.path_core.specs.Ends.{PathEnd, nothing_treated}
-use Rattle.path_core.specs.Joining.{join_begin_ask, keys_begun, is_never, opened_by}
+use Rattle.path_core.specs.Joining.{join_begin_ask, keys_begun, is_never, with_mode_refused, opened_by}
 use Rattle.path_core.specs.Joins.{is_joined}
 use Rattle.path_core.specs.State.{PathState, end_at, with_agenda, goes_on, left}
 use Rattle.path_core.specs.declared.lines.LineLeft.{LineLeft}
@@ -109,10 +109,14 @@ died e = record e { tcp = after_death false e.tcp; treated = nothing_treated }
 abbrev pub died_unless_dead : PathEnd → PathEnd
 died_unless_dead e = if is_dead e.tcp.state then e else died e
 
+-- the path won't be joined
+abbrev pub never_joined : Reply → PathEnd → PathEnd
+never_joined r e = with_mode_refused r (died e)
+
 -- A's end opens, or waits on, or it is dead where the path won't be joined
 abbrev pub join_begun : {C : Type 0} → Reply → List Duty → List Duty → PathState C → PathState C
 join_begun r dead living p =
-    if is_never r then goes_on A (died (end_at A p)) dead p else goes_on A (opened_by (keys_begun r) (end_at A p)) living p
+    if is_never r then goes_on A (never_joined r (end_at A p)) dead p else goes_on A (opened_by (keys_begun r) (end_at A p)) living p
 
 abbrev pub answered_join_again : {C : Type 0} → Reply → PathState C → PathState C
 answered_join_again r p = join_begun r (replaced (duties.Leave A) p.agenda) (left p) p

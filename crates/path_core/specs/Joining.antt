@@ -4,6 +4,7 @@ use Rattle.outside_kit.specs.declared.side.Side.{Side}
 use Rattle.outside_kit.specs.declared.side.Side.TheVariants.{A}
 use Rattle.control_book.specs.declared.call.ControlCall.TheVariants as control_calls
 use Rattle.control_book.specs.declared.call.ControlReply.TheVariants as control_replies
+use Rattle.fallback_state.specs.declared.fall.Mode.{Mode}
 use Rattle.join_handshake.specs.declared.hearing.JoinSyn.{JoinSyn}
 use Rattle.path_segments.specs.Spelled.{PlainSegment}
 use Rattle.subflow_tcp.specs.Emitting.{reset_segment}
@@ -38,6 +39,15 @@ keys_begun _ = None
 
 abbrev pub with_keys : KeyPair → Modes → Modes
 with_keys keys m = record m { own_key = keys.own; peer_key = Some keys.peer }
+
+-- a refusal tells the mode that keeps the side from joining
+abbrev pub mode_refused : Reply → Mode → Mode
+mode_refused (replies.Control (control_replies.Never mode)) other = mode
+mode_refused (replies.Control (control_replies.Fallen mode)) other = mode
+mode_refused _ other = other
+
+abbrev pub with_mode_refused : Reply → PathEnd → PathEnd
+with_mode_refused r e = record e { modes = record e.modes { mode = mode_refused r e.modes.mode } }
 
 -- ---- A begins
 
@@ -86,15 +96,16 @@ joined_by keys asked e = record e {
 }
 
 -- the SYN/ACK goes out, or the reset that refuses the path
-abbrev pub join_taken : {C : Type 0} → Side → Option KeyPair → Option JoinSyn → PathState C → PathState C
-join_taken s (Some keys) (Some asked) p = goes_on s (joined_by keys asked (end_at s p)) (replaced (duties.SynAck s) p.agenda) p
-join_taken s _ _ p = with_agenda (replaced (duties.Refuse s) p.agenda) p
+abbrev pub join_taken : {C : Type 0} → Side → Option KeyPair → Option JoinSyn → Reply → PathState C → PathState C
+join_taken s (Some keys) (Some asked) r p = goes_on s (joined_by keys asked (end_at s p)) (replaced (duties.SynAck s) p.agenda) p
+join_taken s None (Some asked) r p = goes_on s (with_mode_refused r (end_at s p)) (replaced (duties.Refuse s) p.agenda) p
+join_taken s keys None r p = with_agenda (replaced (duties.Refuse s) p.agenda) p
 
 abbrev pub asked_at : {C : Type 0} → Side → PathState C → Option JoinSyn
 asked_at s p = join_asked (end_at s p).treated.items
 
 abbrev pub answered_join_heard : {C : Type 0} → Side → Reply → PathState C → PathState C
-answered_join_heard s r p = join_taken s (keys_begun r) (asked_at s p) p
+answered_join_heard s r p = join_taken s (keys_begun r) (asked_at s p) r p
 
 -- a reset that answers the SYN, with the reason 1; the end listens on
 abbrev pub refusal_of : {C : Type 0} → Side → PathState C → PlainSegment

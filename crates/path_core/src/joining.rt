@@ -5,7 +5,7 @@ ghost use Rattle.subflow_tcp.specs.Opening.{after_begin};
 ghost use Rattle.subflow_tcp.specs.States.{is_waiting};
 ghost use Rattle.actor_desk.specs.Kinds.{CanBeAsked};
 ghost use Rattle.path_core.specs.Events.{answered_join_again, join_begun, joins_at_tick};
-ghost use Rattle.path_core.specs.Joining.{keys_begun, with_keys, join_begin_ask, is_never, is_join_pending, opened_by, join_heard_ask, after_joining_syn, joined_by, join_taken, asked_at, answered_join_heard, answered_refusal};
+ghost use Rattle.path_core.specs.Joining.{keys_begun, mode_refused, with_mode_refused, with_keys, join_begin_ask, is_never, is_join_pending, opened_by, join_heard_ask, after_joining_syn, joined_by, join_taken, asked_at, answered_join_heard, answered_refusal};
 ghost use Rattle.path_core.specs.Octets.{octets};
 
 use crate::end::PathEnd;
@@ -15,6 +15,7 @@ use crate::path::Path;
 use crate::segment_kind::SegmentKind;
 use actor_desk::{Ask, LocalStep, Reply};
 use control_book::{ControlCall, ControlReply};
+use fallback_state::Mode;
 use join_handshake::JoinSyn;
 use outside_kit::Side;
 use path_agenda::{Agenda, Duty, KeyPair};
@@ -36,6 +37,17 @@ fn is_never(reply: &Reply) -> bool
     ensures { result ≡ is_never reply.now }
 {
     matches!(reply, Reply::Control(ControlReply::Never(_)))
+}
+
+/// The mode that a refusal tells, or else this one.
+fn mode_refused(reply: &Reply, other: Mode) -> Mode
+    ensures { result ≡ mode_refused reply.now other }
+{
+    match *reply {
+        Reply::Control(ControlReply::Never(mode)) => mode,
+        Reply::Control(ControlReply::Fallen(mode)) => mode,
+        _ => other,
+    }
 }
 
 /// It is asked whether the path of this number may join the connection.
@@ -89,6 +101,13 @@ impl Modes {
 }
 
 impl PathEnd {
+    /// A refusal tells the mode that keeps the side from joining.
+    fn hear_refusal(&mut self, reply: &Reply)
+        ensures { self.new ≡ with_mode_refused reply.now self.old }
+    {
+        self.modes.mode = mode_refused(reply, self.modes.mode);
+    }
+
     /// The waiting end opens.
     fn open(&mut self, keys: Option<KeyPair>)
         ensures { self.new ≡ opened_by keys self.old }
@@ -124,6 +143,7 @@ impl Path {
     {
         if is_never(reply) {
             self.a.die();
+            self.a.hear_refusal(reply);
         } else {
             self.a.open(keys_begun(reply));
         }
@@ -179,16 +199,20 @@ impl Path {
     }
 
     /// The SYN/ACK goes out next, or the reset that refuses the path.
-    fn take_join(&mut self, side: Side, keys: Option<KeyPair>, asked: Option<JoinSyn>)
-        ensures { self.new ≡ join_taken side keys asked self.old }
+    fn take_join(&mut self, side: Side, asked: Option<JoinSyn>, reply: &Reply)
+        ensures { self.new ≡ join_taken side (keys_begun reply.now) asked reply.now self.old }
     {
-        match (keys, asked) {
+        match (keys_begun(reply), asked) {
             (Some(keys), Some(asked)) => {
                 let now = self.clock.now();
                 self.end_mut(side).join(keys, asked, now);
                 self.turns_to(Duty::SynAck(side));
             }
-            _ => self.turns_to(Duty::Refuse(side)),
+            (None, Some(_)) => {
+                self.end_mut(side).hear_refusal(reply);
+                self.turns_to(Duty::Refuse(side));
+            }
+            (_, None) => self.turns_to(Duty::Refuse(side)),
         }
     }
 
@@ -196,7 +220,7 @@ impl Path {
     pub(crate) fn answer_join_heard(&mut self, side: Side, reply: &Reply)
         ensures { self.new ≡ answered_join_heard side reply.now self.old }
     {
-        self.take_join(side, keys_begun(reply), self.asked_at(side));
+        self.take_join(side, self.asked_at(side), reply);
     }
 
     /// The reset that refuses the path is sent; the end listens on.

@@ -34,7 +34,7 @@ use Rattle.path_core.specs.Emission.{first_unsent, unsent_segment, having_sent_u
 use Rattle.path_core.specs.Ends.{PathEnd}
 use Rattle.path_core.specs.Events.{died}
 use Rattle.path_core.specs.Opening.{syn_ack_of}
-use Rattle.path_core.specs.Joining.{keys_begun, asked_at, join_heard_ask, joined_by, join_taken, answered_join_heard, refusal_of, answered_refusal}
+use Rattle.path_core.specs.Joining.{keys_begun, asked_at, join_heard_ask, joined_by, join_taken, answered_join_heard, refusal_of, answered_refusal, with_mode_refused}
 use Rattle.path_core.specs.Passing.{first_record, first_segment, answer_of, answer_occasion, answered_answer, answered_again, outgoing_or, dead_answer, answered_dead, resend_occasion, resend_of, answered_resend, rate_ask}
 use Rattle.path_core.specs.Segments.{ack_said, syn_ack_said, record_or_ack, reset_options, segment_of}
 use Rattle.path_core.specs.Sends.{sends, having_sent, sent_on}
@@ -47,7 +47,7 @@ use Rattle.world_laws.proofs.Growing.{receiver_stays}
 use Rattle.world_laws.proofs.Ending.{Did, did_nothing, told_end, finished_shows, unfinished_if}
 use Rattle.world_laws.proofs.Records.{every_find, every_at, sent_end}
 use Rattle.world_laws.proofs.Roads.{stays}
-use Rattle.world_laws.proofs.Rules.{died_shows, joined_shows}
+use Rattle.world_laws.proofs.Rules.{refused_shows, died_shows, joined_shows}
 use Rattle.world_laws.proofs.Lanes.{Others, MayAnswer}
 use Rattle.world_laws.proofs.Saying.{ack_says, syn_ack_says, fin_says, reset_says, outgoing_says, record_or_ack_says}
 use Rattle.world_laws.proofs.Showing.{HasMapping, HasFin, RecordShows, EndShows, SegmentShows, PathShows, HasNone}
@@ -249,16 +249,16 @@ module _ (six : SixBooks) (others : Others) (p : PathState Carried) (ab ba : Lan
     join_heard_quiet None may = tt
     join_heard_quiet (Some asked) may = may
 
-    join_by : (keys : Option KeyPair) (o : Option JoinSyn) (ask : Ask) → IsQuiet six ask → IfSome o (λ asked. HasNone out.acks e.treated.window) → Steps ask (join_taken s keys o p)
-    join_by (Some keys) (Some asked) ask is has =
+    join_by : (keys : Option KeyPair) (o : Option JoinSyn) (r : Reply) (ask : Ask) → IsQuiet six ask → IfSome o (λ asked. HasNone out.acks e.treated.window) → Steps ask (join_taken s keys o r p)
+    join_by (Some keys) (Some asked) r ask is has =
         end_step s ask (joined_by keys asked e) (replaced (duties.SynAck s) p.agenda) is (joined_shows p.profile s out back keys asked e has shows)
-    join_by (Some keys) None ask is has = agenda_step ask (replaced (duties.Refuse s) p.agenda) is
-    join_by None (Some asked) ask is has = agenda_step ask (replaced (duties.Refuse s) p.agenda) is
-    join_by None None ask is has = agenda_step ask (replaced (duties.Refuse s) p.agenda) is
+    join_by (Some keys) None r ask is has = agenda_step ask (replaced (duties.Refuse s) p.agenda) is
+    join_by None (Some asked) r ask is has = end_step s ask (with_mode_refused r e) (replaced (duties.Refuse s) p.agenda) is (refused_shows p.profile s out back r e shows)
+    join_by None None r ask is has = agenda_step ask (replaced (duties.Refuse s) p.agenda) is
 
     -- the reply to JoinHeard
     pub join_heard_step : (r : Reply) → MayAnswer s six → Steps (join_heard_ask s (asked_at s p) p) (answered_join_heard s r p)
-    join_heard_step r may = join_by (keys_begun r) (asked_at s p) (join_heard_ask s (asked_at s p) p) (join_heard_quiet (asked_at s p) may) shows.treated.window
+    join_heard_step r may = join_by (keys_begun r) (asked_at s p) r (join_heard_ask s (asked_at s p) p) (join_heard_quiet (asked_at s p) may) shows.treated.window
 
     -- ---- a break
 

@@ -36,7 +36,7 @@ use Rattle.path_core.specs.Codec.{Codec}
 use Rattle.path_core.specs.Duties.{stands, ask_for, passed, answered}
 use Rattle.path_core.specs.Emission.{first_unsent, data_stands, data_ask, after_timer}
 use Rattle.path_core.specs.Ends.{PathEnd}
-use Rattle.path_core.specs.Events.{tick_of, next_join, next_line, next_copy, next_fire, earlier, before, next_event, step_for, is_death, died, died_unless_dead, leaves_unless_dead, join_begun, after_line, at_tick, happens, happens_if}
+use Rattle.path_core.specs.Events.{tick_of, next_join, next_line, next_copy, next_fire, earlier, before, next_event, step_for, is_death, died, died_unless_dead, leaves_unless_dead, join_begun, after_line, at_tick, happens, happens_if, never_joined}
 use Rattle.path_core.specs.Joining.{keys_begun, is_never, opened_by}
 use Rattle.path_core.specs.Standing.{after_look, after_ack_out, is_connected}
 use Rattle.path_core.specs.Starts.{PathStart, first_state, waiting_path, first_turn}
@@ -233,8 +233,8 @@ module _ {C : Type 0} where
   join_asleep : (r : Reply) (dead living : List Duty) (p : PathState C) → keys_begun r ≡ None → AreIdle dead → AreIdle living → IsAsleep p → IsAsleep (join_begun r dead living p)
   join_asleep r dead living p none dead_idle living_idle h = by (is_never r)
     where
-      by : (b : Bool) → IsAsleep (if b then goes_on A (died p.a) dead p else goes_on A (opened_by (keys_begun r) p.a) living p)
-      by true = goes_asleep A (died p.a) dead p (record { closed = refl; timer = refl }) dead_idle h
+      by : (b : Bool) → IsAsleep (if b then goes_on A (never_joined r p.a) dead p else goes_on A (opened_by (keys_begun r) p.a) living p)
+      by true = goes_asleep A (never_joined r p.a) dead p (record { closed = refl; timer = refl }) dead_idle h
       by false = goes_asleep A (opened_by (keys_begun r) p.a) living p (subst (λ keys. IsShut (opened_by keys p.a)) (sym none) h.a) living_idle h
 
   own_asleep : (k : Codec C) (r : Reply) (event : Event) (p : PathState C) → keys_begun r ≡ None → is_own event ≡ true → IsAsleep p → IsAsleep (happens k event r p)

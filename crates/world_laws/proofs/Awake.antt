@@ -49,9 +49,9 @@ use Rattle.path_core.specs.Codec.{Codec, HeardSegment}
 use Rattle.path_core.specs.Duties.{stands, passed, answered, ask_for}
 use Rattle.path_core.specs.Emission.{Grant, after_timer, fin_segment_of, grant_in, answered_grant, answered_data, first_unsent, having_sent_fin}
 use Rattle.path_core.specs.Ends.{PathEnd}
-use Rattle.path_core.specs.Events.{next_event, step_for, heard_in, at_tick, died, is_death, after_line, copy_heard, happens_if, join_begun, timer_fired, template_fired}
+use Rattle.path_core.specs.Events.{next_event, step_for, heard_in, at_tick, died, is_death, after_line, copy_heard, happens_if, join_begun, timer_fired, template_fired, never_joined}
 use Rattle.path_core.specs.Falling.{is_fall, fell_ask, fell_in, after_fell, fell_duties, answered_fell, in_identity}
-use Rattle.path_core.specs.Joining.{asked_at, is_never, join_heard_ask, join_taken, keys_begun, opened_by, refusal_of}
+use Rattle.path_core.specs.Joining.{asked_at, is_never, join_heard_ask, join_taken, keys_begun, opened_by, refusal_of, with_mode_refused}
 use Rattle.path_core.specs.Joins.{is_joined, join_answer}
 use Rattle.path_core.specs.Opening.{after_keys, keys_in, opened_ask, answered_opened, peer_key_ask, answered_peer_key, with_peer_key}
 use Rattle.path_core.specs.Passing.{after_pass_fin, answer_occasion, answer_of, resend_occasion, answered_fin_heard, answered_plain_fin, answered_piece, dead_answer, is_fin_set, is_placed, piece_of, resend_of}
@@ -322,8 +322,8 @@ module _ {C : Type 0} (k : Codec C) (W : Type 0) where
       opens (Some keys) begins =
           record { woken = λ joins up. begins refl; known = λ joins is. begins refl; calm = λ joins is. h.calm joins (to_living.falls is); plain = h.plain }
 
-      by : (b : Bool) → Awake (if b then goes_on A (died p.a) dead p else goes_on A (opened_by (keys_begun r) p.a) living p)
-      by true = goes A (died p.a) dead p (died_goes A p) to_dead h
+      by : (b : Bool) → Awake (if b then goes_on A (never_joined r p.a) dead p else goes_on A (opened_by (keys_begun r) p.a) living p)
+      by true = goes A (never_joined r p.a) dead p (died_goes A p) to_dead h
       by false = opens (keys_begun r) begins
 
   fired_awake : (s : Side) (p : PathState C) → is_up (end_at s p).tcp ≡ true → Awake p → Awake (timer_fired s p)
@@ -534,8 +534,9 @@ module _ {C : Type 0} (k : Codec C) (W : Type 0) where
   plain_fin_awake s true p h = same s _ (left p) p refl refl refl (tail_less p.agenda) h
   plain_fin_awake s false p h = same s _ (breaks s 1) p refl refl refl (new_less p.agenda _ refl refl) h
 
-  joined_awake : (s : Side) (o : Option KeyPair) (asked : Option JoinSyn) (r : Reply) (p : PathState C) → keys_begun r ≡ o → So (join_heard_ask s asked p) r → Awake p → Awake (join_taken s o asked p)
-  joined_awake s None asked r p is so h = agenda _ p (replaced_less (duties.Refuse s) p.agenda refl refl) h
+  joined_awake : (s : Side) (o : Option KeyPair) (asked : Option JoinSyn) (r : Reply) (p : PathState C) → keys_begun r ≡ o → So (join_heard_ask s asked p) r → Awake p → Awake (join_taken s o asked r p)
+  joined_awake s None (Some asked) r p is so h = same s (with_mode_refused r (end_at s p)) (replaced (duties.Refuse s) p.agenda) p refl refl refl (replaced_less (duties.Refuse s) p.agenda refl refl) h
+  joined_awake s None None r p is so h = agenda _ p (replaced_less (duties.Refuse s) p.agenda refl refl) h
   joined_awake s (Some keys) None r p is so h = agenda _ p (replaced_less (duties.Refuse s) p.agenda refl refl) h
   joined_awake A (Some keys) (Some asked) r p is so h =
       let now : W = so (ap (λ o. is_some o) is) in

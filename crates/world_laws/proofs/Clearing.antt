@@ -36,7 +36,7 @@ use Rattle.path_core.specs.declared.modes.Modes.{Modes}
 use Rattle.path_core.specs.Duties.{stands, passed, answered}
 use Rattle.path_core.specs.Emission.{Grant, grant_in, answered_grant, answered_data, first_unsent}
 use Rattle.path_core.specs.Ends.{PathEnd}
-use Rattle.path_core.specs.Events.{next_event, after_line, is_death, at_tick, died, join_begun, copy_heard, heard_in, happens_if, told_at}
+use Rattle.path_core.specs.Events.{next_event, after_line, is_death, at_tick, died, join_begun, copy_heard, heard_in, happens_if, told_at, never_joined}
 use Rattle.path_core.specs.Joining.{keys_begun, is_never, opened_by, join_taken, asked_at}
 use Rattle.path_core.specs.Joins.{is_joined, join_answer}
 use Rattle.path_core.specs.Opening.{keys_in, answered_peer_key, answered_opened}
@@ -169,7 +169,7 @@ module _ {C : Type 0} where
 
   begun_clear : (r : Reply) (dead living : List Duty) (p : PathState C) → Clears p (join_begun r dead living p)
   begun_clear r dead living p =
-      either_clear (is_never r) (goes_on A (died (end_at A p)) dead p) (goes_on A (opened_by (keys_begun r) (end_at A p)) living p) p
+      either_clear (is_never r) (goes_on A (never_joined r (end_at A p)) dead p) (goes_on A (opened_by (keys_begun r) (end_at A p)) living p) p
       (record { a = (λ h. h, λ h. h); b = (λ h. h, λ h. h) }) (record { a = begun_end (keys_begun r) p.a; b = (λ h. h, λ h. h) })
 
   line_clear : (death : Bool) (p : PathState C) → Clears p (after_line death p)
@@ -248,11 +248,11 @@ module _ {C : Type 0} where
   piece_clear s None taken p = side_clear s _ p _ (λ h. h, λ h. h) refl refl
   piece_clear s (Some piece) taken p = either_clear taken _ _ p (side_clear s _ p _ (λ h. h, λ h. h) refl refl) (side_clear s _ p _ (λ h. h, λ h. h) refl refl)
 
-  joined_clear : (s : Side) (keys : Option KeyPair) (asked : Option JoinSyn) (p : PathState C) → Clears p (join_taken s keys asked p)
-  joined_clear s (Some keys) (Some asked) p = side_clear s _ p _ (λ h. h, λ h. h) refl refl
-  joined_clear s (Some keys) None p = record { a = (λ h. h, λ h. h); b = (λ h. h, λ h. h) }
-  joined_clear s None (Some asked) p = record { a = (λ h. h, λ h. h); b = (λ h. h, λ h. h) }
-  joined_clear s None None p = record { a = (λ h. h, λ h. h); b = (λ h. h, λ h. h) }
+  joined_clear : (s : Side) (keys : Option KeyPair) (asked : Option JoinSyn) (r : Reply) (p : PathState C) → Clears p (join_taken s keys asked r p)
+  joined_clear s (Some keys) (Some asked) r p = side_clear s _ p _ (λ h. h, λ h. h) refl refl
+  joined_clear s (Some keys) None r p = record { a = (λ h. h, λ h. h); b = (λ h. h, λ h. h) }
+  joined_clear s None (Some asked) r p = side_clear s _ p _ (λ h. h, λ h. h) refl refl
+  joined_clear s None None r p = record { a = (λ h. h, λ h. h); b = (λ h. h, λ h. h) }
 
   pub answered_clear : (k : Codec C) (d : Duty) (r : Reply) (p : PathState C) → Clears p (answered k d r p)
   answered_clear k duties.JoinAgain r p = begun_clear r (replaced (duties.Leave A) p.agenda) (left p) p
@@ -266,7 +266,7 @@ module _ {C : Type 0} where
   answered_clear k duties.Events r p = happens_clear k (next_event p) r p
   answered_clear k (duties.PeerKey s) r p = key_clear s (key_heard (end_at s p).treated.items) r p
   answered_clear k (duties.SynAck s) r p = side_clear s _ p _ (λ h. h, λ h. h) refl refl
-  answered_clear k (duties.JoinHeard s) r p = joined_clear s (keys_begun r) (asked_at s p) p
+  answered_clear k (duties.JoinHeard s) r p = joined_clear s (keys_begun r) (asked_at s p) r p
   answered_clear k (duties.Refuse s) r p = side_clear s _ p _ (λ h. h, λ h. h) refl refl
   answered_clear k (duties.Opened s) r p = opened_clear s (keys_heard (end_at s p).treated.items) r p
   answered_clear k (duties.Heard s index) r p = item_clear k s (item_of index (end_at s p)) r p

@@ -31,7 +31,7 @@ use Rattle.path_core.specs.Duties.{stands, passed, answered}
 use Rattle.path_core.specs.Emission.{first_unsent, Grant, grant_in, answered_grant, answered_data}
 use Rattle.path_core.specs.declared.judged.Judged.{Judged}
 use Rattle.path_core.specs.declared.judged.Judged.TheVariants as judged
-use Rattle.path_core.specs.Events.{next_event, heard_in, at_tick, is_death, died, join_begun, after_line, copy_heard, template_fired, happens_if}
+use Rattle.path_core.specs.Events.{next_event, heard_in, at_tick, is_death, died, join_begun, after_line, copy_heard, template_fired, happens_if, never_joined}
 use Rattle.path_core.specs.Joining.{is_never, keys_begun, opened_by, asked_at, join_taken}
 use Rattle.path_core.specs.Joins.{is_joined}
 use Rattle.join_handshake.specs.declared.hearing.JoinSyn.{JoinSyn}
@@ -204,7 +204,7 @@ module _ {C : Type 0} where
   begun_ahead : (r : Reply) (dead living : List Duty) (p : PathState C) → Ahead dead → Ahead living → Ahead (join_begun r dead living p).agenda
   begun_ahead r dead living p x y = by (is_never r)
     where
-      by : (b : Bool) → Ahead (if b then goes_on A (died (end_at A p)) dead p else goes_on A (opened_by (keys_begun r) (end_at A p)) living p).agenda
+      by : (b : Bool) → Ahead (if b then goes_on A (never_joined r (end_at A p)) dead p else goes_on A (opened_by (keys_begun r) (end_at A p)) living p).agenda
       by true = x
       by false = y
 
@@ -292,10 +292,11 @@ module _ {C : Type 0} where
       item_ahead (Some (says.Join form)) = left_ahead
       item_ahead (Some says.Dss) = left_ahead
 
-  join_ahead : (s : Side) (keys : Option KeyPair) (asked : Option JoinSyn) (ds : List Duty) (p : PathState C) → Ahead ds → Ahead (join_taken s keys asked (with_agenda (duties.JoinHeard s ∷ ds) p)).agenda
-  join_ahead s None asked ds p a = a
-  join_ahead s (Some keys) None ds p a = a
-  join_ahead s (Some keys) (Some asked) ds p a = a
+  join_ahead : (s : Side) (keys : Option KeyPair) (asked : Option JoinSyn) (r : Reply) (ds : List Duty) (p : PathState C) → Ahead ds → Ahead (join_taken s keys asked r (with_agenda (duties.JoinHeard s ∷ ds) p)).agenda
+  join_ahead s None (Some asked) r ds p a = a
+  join_ahead s None None r ds p a = a
+  join_ahead s (Some keys) None r ds p a = a
+  join_ahead s (Some keys) (Some asked) r ds p a = a
 
   from_left : (ds : List Duty) (q : PathState C) → Ahead ds ⊎ ⊥ → Shaped ds q
   from_left ds q h = onward ds q h
@@ -319,7 +320,7 @@ module _ {C : Type 0} where
   answered_shaped k (duties.PlainHandshake s) ds r p h = with_ahead ds h (λ a. inl (fell_ahead s r (with_agenda (duties.PlainHandshake s ∷ ds) p) a a))
   answered_shaped k (duties.PeerKey s) ds r p h = with_ahead ds h (λ a. inl (key_ahead k s r (with_agenda (duties.PeerKey s ∷ ds) p) a a a (key_heard (end_at s p).treated.items)))
   answered_shaped k (duties.SynAck s) ds r p h = from_left ds _ h
-  answered_shaped k (duties.JoinHeard s) ds r p h = with_ahead ds h (λ a. inl (join_ahead s (keys_begun r) (asked_at s p) ds p a))
+  answered_shaped k (duties.JoinHeard s) ds r p h = with_ahead ds h (λ a. inl (join_ahead s (keys_begun r) (asked_at s p) r ds p a))
   answered_shaped k (duties.Refuse s) ds r p h = from_left ds _ h
   answered_shaped k (duties.Opened s) ds r p h = with_ahead ds h (λ a. inl (keys_ahead k s r (with_agenda (duties.Opened s ∷ ds) p) a a a (keys_heard (end_at s p).treated.items)))
   answered_shaped k (duties.Live s) ds r p h = from_left ds _ h

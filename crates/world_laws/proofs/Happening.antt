@@ -28,7 +28,7 @@ use Rattle.path_core.specs.Arriving.{items_of, judged_in, after_judged, template
 use Rattle.path_core.specs.Ends.{PathEnd}
 use Rattle.path_core.specs.Joining.{is_never, keys_begun, opened_by}
 use Rattle.path_core.specs.Joins.{is_joined}
-use Rattle.path_core.specs.Events.{step_for, is_death, at_tick, died, join_begun, path_died, after_line, line_taken, heard_in, copy_heard, copy_taken, after_firing, template_fired, timer_fired, happens, happens_if, told_at}
+use Rattle.path_core.specs.Events.{step_for, is_death, at_tick, died, join_begun, path_died, after_line, line_taken, heard_in, copy_heard, copy_taken, after_firing, template_fired, timer_fired, happens, happens_if, told_at, never_joined}
 use Rattle.path_core.specs.State.{PathState, end_at, path_of, goes_on, with_agenda}
 use Rattle.path_core.specs.Values.{Carried, as_arrived, values}
 use Rattle.world_laws.proofs.Arrived.{arrived_end}
@@ -36,7 +36,7 @@ use Rattle.world_laws.proofs.Ending.{Did, did_nothing}
 use Rattle.world_laws.proofs.Lanes.{Others, duo_at}
 use Rattle.world_laws.proofs.Records.{every_find}
 use Rattle.world_laws.proofs.Roads.{stays}
-use Rattle.world_laws.proofs.Rules.{opened_shows, died_shows as died_end_shows, died_unless_shows, fired_shows}
+use Rattle.world_laws.proofs.Rules.{opened_shows, died_shows as died_end_shows, refused_shows, died_unless_shows, fired_shows}
 use Rattle.world_laws.proofs.Showing.{FlightShows, EndShows, SegmentShows, PathShows}
 use Rattle.world_laws.proofs.Sides.{Answered, IsQuiet, side_kept, quiet, quiet_side}
 use Rattle.world_laws.proofs.Strolling.{Strolled, side_shows, back_holds}
@@ -197,8 +197,8 @@ module _ (six : SixBooks) (others : Others) (p : PathState Carried) (ab ba : Lan
           quiet_side p.profile six others A q (goes_on A e ds q) ab ba ask x is
           (side_kept p.profile q ab ba x A ab ba e ds (did_nothing p.profile A ab ba e shows))
 
-      by : (b : Bool) → Steps ask (if b then goes_on A (died (end_at A q)) dead q else goes_on A (opened_by (keys_begun r) (end_at A q)) living q)
-      by true = becomes (died q.a) dead (died_end_shows p.profile A ab ba q.a (calm A) x.a)
+      by : (b : Bool) → Steps ask (if b then goes_on A (never_joined r (end_at A q)) dead q else goes_on A (opened_by (keys_begun r) (end_at A q)) living q)
+      by true = becomes (never_joined r q.a) dead (refused_shows p.profile A ab ba r (died q.a) (died_end_shows p.profile A ab ba q.a (calm A) x.a))
       by false = becomes (opened_by (keys_begun r) q.a) living (opened_shows p.profile A ab ba (keys_begun r) q.a x.a)
 
   -- ---- the earliest

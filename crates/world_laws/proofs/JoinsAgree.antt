@@ -506,13 +506,13 @@ module _ (key_a key_b : ℕ) where
   told_gains d None same fine = tt
   told_gains d (Some mode) same fine = λ is. knew_past d fine (ap is_starting same ∙ is)
 
-  begin_told : (T : Type 0) (c : Control) → ModeGains T (replies.Control (control.join_begin_reply c))
-  begin_told T c = by (control.is_sure c.fall.mode) (control.is_starting c.fall.mode && stands_path c.paths 0)
+  begin_told : (T : Type 0) (c : Control) → (is_starting c.fall.mode ≡ false → T) → ModeGains T (replies.Control (control.join_begin_reply c))
+  begin_told T c past = by (control.is_sure c.fall.mode) (control.is_starting c.fall.mode && stands_path c.paths 0)
     where
       by : (x y : Bool) → ModeGains T (replies.Control (if x then control.begin c else (if y then control_replies.NotYet else control_replies.Never c.fall.mode)))
       by true y = tt
       by false true = tt
-      by false false = tt
+      by false false = past
 
   keys_told : (T : Type 0) (own : ℕ) (c : Control) → ModeGains T (replies.Control (control.keys_reply own c))
   keys_told T own c = by (own == c.keys.own)
@@ -537,7 +537,8 @@ module _ (key_a key_b : ℕ) where
             told_gains d (mode_told (replies.Control (control_replies.Verdict (fall_step c.fall path (sole_path c.paths path) event).1))) (event_turned path (sole_path c.paths path) event c.fall is).told (keeps.fine fine),
             fell_gains c path event fine,
           )
-      by (control_calls.JoinBegin path) is keeps = (begin_told (Knew (controlling.after c (control_calls.JoinBegin path))) c, tt)
+      by (control_calls.JoinBegin path) is keeps =
+          let d : Control = controlling.after c (control_calls.JoinBegin path) in (begin_told (Knew d) c (λ starts. knew_keeps c d keeps (knew_past c fine starts)), tt)
       by (control_calls.JoinHeard path token) is keeps = cc
       by (control_calls.Live path backup) is keeps = (tt, tt)
       by (control_calls.Dead path) is keeps = (tt, tt)

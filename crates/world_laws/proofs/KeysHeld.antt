@@ -46,7 +46,7 @@ use Rattle.path_core.specs.declared.modes.Modes.{Modes}
 use Rattle.path_core.specs.Ends.{PathEnd}
 use Rattle.path_core.specs.Events.{died, died_unless_dead}
 use Rattle.path_agenda.specs.Items.{is_of_step, join_heard, key_heard, keys_heard}
-use Rattle.path_core.specs.Joining.{joined_by, opened_by, syn_alone, is_listening}
+use Rattle.path_core.specs.Joining.{joined_by, opened_by, syn_alone, is_listening, with_mode_refused}
 use Rattle.path_core.specs.Joins.{is_joined, join_answer, join_asked, join_value, peer_key_of}
 use Rattle.path_core.specs.Opening.{after_keys, keys_in}
 use Rattle.path_core.specs.Sends.{sent_on}
@@ -322,6 +322,9 @@ module _ (k : Secrets) (right : Bool) (w back : Side → Type 0) where
 
   pub died_is : (joined : Bool) (s : Side) (e : PathEnd) → EndIs k right w back joined s e → EndIs k right w back joined s (died e)
   died_is joined s e h = record { modes = h.modes; items = Every-nil _; woken = λ is up. absurd (false≢true up); past = λ is so. absurd (false≢true so) }
+
+  pub refused_is : (joined : Bool) (s : Side) (r : Reply) (e : PathEnd) → EndIs k right w back joined s e → EndIs k right w back joined s (with_mode_refused r e)
+  refused_is joined s r e h = kept_end joined s e (with_mode_refused r e) refl refl (record { up = λ x. x; waits = λ x. x; past = λ x. x }) h
 
   pub unless_dead_is : (joined : Bool) (s : Side) (e : PathEnd) → EndIs k right w back joined s e → EndIs k right w back joined s (died_unless_dead e)
   unless_dead_is joined s e h = by (is_dead e.tcp.state)

@@ -40,10 +40,10 @@ use Rattle.path_core.specs.Closing.{is_end_owed}
 use Rattle.path_core.specs.Duties.{stands, passed, answered, ask_for}
 use Rattle.path_core.specs.Emission.{Grant, grant_in, answered_grant, answered_data, first_unsent, fin_segment_of, data_stands, fits, after_timer, having_sent_fin}
 use Rattle.path_core.specs.Ends.{PathEnd}
-use Rattle.path_core.specs.Events.{next_event, step_for, at_tick, died, path_died, is_death, after_line, happens_if, join_begun, timer_fired, template_fired}
+use Rattle.path_core.specs.Events.{next_event, step_for, at_tick, died, path_died, is_death, after_line, happens_if, join_begun, timer_fired, template_fired, never_joined}
 use Rattle.path_agenda.specs.Items.{key_heard, keys_heard}
 use Rattle.path_agenda.specs.Words.{replaced}
-use Rattle.path_core.specs.Joining.{asked_at, is_never, join_heard_ask, join_taken, joined_by, keys_begun, opened_by, refusal_of}
+use Rattle.path_core.specs.Joining.{asked_at, is_never, join_heard_ask, join_taken, joined_by, keys_begun, opened_by, refusal_of, with_mode_refused}
 use Rattle.path_core.specs.Joins.{is_joined}
 use Rattle.path_core.specs.Opening.{peer_key_ask, opened_ask, answered_peer_key, answered_opened}
 use Rattle.path_core.specs.Passing.{after_pass_fin, is_placed, piece_of, answered_piece, is_fin_set, answered_fin_heard, answered_plain_fin, answer_occasion, resend_occasion, first_record, answer_of, resend_of}
@@ -63,7 +63,7 @@ use Rattle.fallback_state.specs.declared.fall.Event.{Event as FallEvent}
 use Rattle.fallback_state.specs.declared.fall.Event.TheVariants as fall
 use Rattle.subflow_tcp.specs.Emitting.{fin_position}
 use Rattle.world_laws.proofs.Verdicts.{fell_cases}
-use Rattle.world_laws.proofs.KeysHeld.{VoiceIs, with_voice, fewer_known, stays_same, replaced_known, look_leaves, verdict_leaves, fell_leaves, opening_open, not_closed, finish_open, IsSign, FlightIs, OnJoined, AreKnown, PathIs, end_is, Fewer, none_left, Stays, goes_by, goes_is, with_is, agenda_is, kept_end, same_goes, sent_is, same_sent, died_is, unless_dead_is, key_found, PairIs, pair_found, AskedIs, asked_is, rekeyed, rekeyed_knows, keys_are, keys_stay, BeginIs, opened_end, opened_stays, joined_end, joined_knows, joined_waits}
+use Rattle.world_laws.proofs.KeysHeld.{VoiceIs, with_voice, fewer_known, stays_same, replaced_known, look_leaves, verdict_leaves, fell_leaves, opening_open, not_closed, finish_open, IsSign, FlightIs, OnJoined, AreKnown, PathIs, end_is, Fewer, none_left, Stays, goes_by, goes_is, with_is, agenda_is, kept_end, same_goes, sent_is, same_sent, died_is, refused_is, unless_dead_is, key_found, PairIs, pair_found, AskedIs, asked_is, rekeyed, rekeyed_knows, keys_are, keys_stay, BeginIs, opened_end, opened_stays, joined_end, joined_knows, joined_waits}
 use Rattle.world_laws.proofs.KeysRight.{Secrets, known_in, OfB, drawn_key, SegmentIs, ItemIs, EndIs, Needs, Knows, same_knows, reset_options_are, reset_is as reset_said_is, fin_options_are, ack_is, syn_ack_is, record_or_ack_is}
 use Rattle.world_laws.proofs.KeysWoken.{is_up, NoWaking, open_is_up, timer_up, sending_up, finishing_up, passing_up, is_said_by, speaks, tail_speaks, replaced_speaks, same_or_calm, itself, next_happens, first_speaks, Voice, tells_same, falls_same}
 use Rattle.world_laws.proofs.KeysCopied.{copy_is, delivered_is, own_knows, voices}
@@ -349,8 +349,8 @@ module _ (k : Secrets) (right : Bool) (w back : Side → Type 0) where
           at true waits waiting = waits
           at false waits waiting = waiting
 
-      by : (b : Bool) → PathIs k right w back (if b then goes_on A (died p.a) dead p else goes_on A (opened_by (keys_begun r) p.a) living p)
-      by true = goes_is k right w back A (died p.a) dead p (died_is k right w back (is_joined p.profile) A p.a h.a) (λ waiting. absurd (false≢true waiting)) to_dead (λ is has. has) h
+      by : (b : Bool) → PathIs k right w back (if b then goes_on A (never_joined r p.a) dead p else goes_on A (opened_by (keys_begun r) p.a) living p)
+      by true = goes_is k right w back A (never_joined r p.a) dead p (refused_is k right w back (is_joined p.profile) A r (died p.a) (died_is k right w back (is_joined p.profile) A p.a h.a)) (λ waiting. absurd (false≢true waiting)) to_dead (λ is has. has) h
       by false =
           goes_is k right w back A (opened_by (keys_begun r) p.a) living p
           (subst (λ j. EndIs k right w back j A (opened_by (keys_begun r) p.a)) (sym joins) (opened_end k right w back A (keys_begun r) p.a is own refl))
@@ -570,10 +570,13 @@ module _ (k : Secrets) (right : Bool) (w back : Side → Type 0) where
   plain_fin_is s false p h = same_goes k right w back s _ _ p refl refl (record { up = λ x. x; waits = λ x. x; past = λ x. x }) (λ t spoken. absurd (false≢true spoken)) h
 
   -- the join that B heard of
-  heard_join : (s : Side) (o : Option KeyPair) (asked : Option Asked) (p : PathState Carried) → (IfSome asked (λ x. IfSome o (BeginIs k right w back s))) → IfSome asked (AskedIs k right w back (is_joined p.profile) s) → PathIs k right w back p → PathIs k right w back (join_taken s o asked p)
-  heard_join s None asked p begins heard h = agenda_is k right w back _ p (λ t spoken. replaced_speaks t (duties.Refuse s) p.agenda refl spoken) h
-  heard_join s (Some keys) None p begins heard h = agenda_is k right w back _ p (λ t spoken. replaced_speaks t (duties.Refuse s) p.agenda refl spoken) h
-  heard_join s (Some keys) (Some asked) p begins heard h =
+  heard_join : (s : Side) (o : Option KeyPair) (asked : Option Asked) (r : Reply) (p : PathState Carried) → (IfSome asked (λ x. IfSome o (BeginIs k right w back s))) → IfSome asked (AskedIs k right w back (is_joined p.profile) s) → PathIs k right w back p → PathIs k right w back (join_taken s o asked r p)
+  heard_join s None (Some asked) r p begins heard h =
+      same_goes k right w back s (with_mode_refused r (end_at s p)) (replaced (duties.Refuse s) p.agenda) p refl refl (record { up = λ x. x; waits = λ x. x; past = λ x. x })
+      (λ t spoken. replaced_speaks t (duties.Refuse s) p.agenda refl spoken) h
+  heard_join s None None r p begins heard h = agenda_is k right w back _ p (λ t spoken. replaced_speaks t (duties.Refuse s) p.agenda refl spoken) h
+  heard_join s (Some keys) None r p begins heard h = agenda_is k right w back _ p (λ t spoken. replaced_speaks t (duties.Refuse s) p.agenda refl spoken) h
+  heard_join s (Some keys) (Some asked) r p begins heard h =
       let joins = heard.0 in
       let now : EndIs k right w back true s (end_at s p) = subst (λ j. EndIs k right w back j s (end_at s p)) joins (end_is k right w back s p h) in
       let told : AskedIs k right w back true s asked = subst (λ j. AskedIs k right w back j s asked) joins heard in
@@ -621,7 +624,7 @@ module _ (k : Secrets) (right : Bool) (w back : Side → Type 0) where
       same_sent k right w back s _ _ _ p (syn_ack_is k right w back p.profile s (end_at s p) (end_is k right w back s p h) (said (inl s) (itself s))) refl refl
       (sending_up to_send.SynAck p.clock (end_at s p).tcp) (none_left k right w back p) h
   answered_is (duties.JoinHeard s) r p stands said is h =
-      heard_join s (keys_begun r) (asked_at s p) p (by (asked_at s p) is) (asked_is k right w back (is_joined p.profile) s (end_at s p).treated.items (end_is k right w back s p h).items) h
+      heard_join s (keys_begun r) (asked_at s p) r p (by (asked_at s p) is) (asked_is k right w back (is_joined p.profile) s (end_at s p).treated.items (end_is k right w back s p h).items) h
     where
       by : (o : Option Asked) → ReplyIs (join_heard_ask s o p) r → IfSome o (λ x. IfSome (keys_begun r) (BeginIs k right w back s))
       by None is = tt

@@ -47,14 +47,14 @@ use Rattle.path_core.specs.Codec.{HeardSegment}
 use Rattle.path_core.specs.Duties.{stands, passed}
 use Rattle.path_core.specs.Emission.{after_timer}
 use Rattle.path_core.specs.Ends.{PathEnd}
-use Rattle.path_core.specs.Events.{heard_at, heard_in, at_tick, died, is_death, after_line, copy_heard, happens_if, join_begun, timer_fired, template_fired}
-use Rattle.path_core.specs.Joining.{is_never, keys_begun, opened_by}
+use Rattle.path_core.specs.Events.{heard_at, heard_in, at_tick, died, is_death, after_line, copy_heard, happens_if, join_begun, timer_fired, template_fired, never_joined, step_for}
+use Rattle.path_core.specs.Joining.{is_never, keys_begun, opened_by, mode_refused}
 use Rattle.path_core.specs.Joins.{is_joined}
 use Rattle.path_core.specs.Passing.{after_pass_fin}
 use Rattle.path_core.specs.Placing.{after_check, after_pieces, mapping_here, is_wrong, with_learned, with_skipped, forgotten_by}
 use Rattle.path_core.specs.Sends.{sent_on}
 use Rattle.path_core.specs.Standing.{modes_told}
-use Rattle.path_core.specs.State.{PathState, end_at, goes_on, with_agenda, with_end}
+use Rattle.path_core.specs.State.{PathState, end_at, goes_on, with_agenda, with_end, path_of}
 use Rattle.path_core.specs.Steps.{settled}
 use Rattle.path_core.specs.Treating.{after_keep, counts, is_dropped, item_of, item_passed, mode_in, with_fin, with_plain_ack}
 use Rattle.path_core.specs.Falling.{fell_in}
@@ -67,6 +67,8 @@ use Rattle.world_laws.proofs.KeysMet.{is_met, passed_met_state, is_accepts, Fits
 abbrev pub mode_told : Reply → Option Mode
 mode_told (replies.Control (control_replies.Standing mode standby sole notice)) = Some mode
 mode_told (replies.Control (control_replies.Verdict (verdicts.Went mode))) = Some mode
+mode_told (replies.Control (control_replies.Never mode)) = Some mode
+mode_told (replies.Control (control_replies.Fallen mode)) = Some mode
 mode_told _ = None
 
 -- What is said of path 0, where T is that A's control book has B's key, or is past being sure.
@@ -122,6 +124,15 @@ module _ (T : Type 0) where
   fell_mode fall.PlainAck r m gains is = told_mode r m gains is
   fell_mode fall.PlainHandshake r m gains is = told_mode r m gains is
   fell_mode _ r m gains is = told_mode r m gains is
+
+  pub refused_mode : (r : Reply) (mode : Mode) → ModeGains r → is_starting (mode_refused r mode) ≡ false → (is_starting mode ≡ false) ⊎ T
+  refused_mode (replies.Control (control_replies.Never told)) mode gains is = inr (gains is)
+  refused_mode (replies.Control (control_replies.Fallen told)) mode gains is = inr (gains is)
+  refused_mode (replies.Control control_replies.Noted) mode gains is = inl is
+  refused_mode (replies.Control _) mode gains is = inl is
+  refused_mode (replies.Send reply) mode gains is = inl is
+  refused_mode (replies.Reassembly reply) mode gains is = inl is
+  refused_mode replies.Done mode gains is = inl is
 
   -- ---- a path
 
@@ -315,8 +326,8 @@ module _ (T : Type 0) where
       quiet false false = refl
 
   -- A begins a join
-  pub begun_met : (r : Reply) (dead living : List Duty) (p : PathState Carried) → Fewer p.agenda dead → Fewer p.agenda living → CalmMet p → CalmMet (join_begun r dead living p)
-  begun_met r dead living p to_dead to_living h = by (is_never r)
+  pub begun_met : (r : Reply) (dead living : List Duty) (p : PathState Carried) → ModeGains r → Fewer p.agenda dead → Fewer p.agenda living → CalmMet p → CalmMet (join_begun r dead living p)
+  begun_met r dead living p gains to_dead to_living h = by (is_never r)
     where
       begun : (b : Bool) → is_met (if b then after_begin p.a.tcp else p.a.tcp).state ≡ true → is_met p.a.tcp.state ≡ true
       begun true is = absurd (false≢true is)
@@ -326,8 +337,8 @@ module _ (T : Type 0) where
       opens None = goes_met A p.a living p (same_goes A p.a p refl refl) to_living h
       opens (Some keys) = goes_met A (opened_by (Some keys) p.a) living p (state_goes A (opened_by (Some keys) p.a) p (begun (is_waiting p.a.tcp.state)) refl) to_living h
 
-      by : (b : Bool) → CalmMet (if b then goes_on A (died p.a) dead p else goes_on A (opened_by (keys_begun r) p.a) living p)
-      by true = goes_met A (died p.a) dead p (died_goes A p) to_dead h
+      by : (b : Bool) → CalmMet (if b then goes_on A (never_joined r p.a) dead p else goes_on A (opened_by (keys_begun r) p.a) living p)
+      by true = goes_met A (never_joined r p.a) dead p (λ is. absurd (false≢true is), λ is. refused_mode r p.a.modes.mode gains is) to_dead h
       by false = opens (keys_begun r)
 
   fired_met : (s : Side) (p : PathState Carried) → CalmMet p → CalmMet (timer_fired s p)
@@ -422,17 +433,17 @@ module _ (T : Type 0) where
       calm B = new_duties p.agenda _ refl refl
   copy_met s (Some heard) p h = heard_met p.clock s heard p h
 
-  pub event_met : (o : Option Event) (r : Reply) (p : PathState Carried) → CalmMet p → PathMet (happens_if values o r p)
-  event_met None r p h = inl (agenda_met rest_of_turn p (new_duties p.agenda rest_of_turn refl refl) h)
-  event_met (Some (happenings.Joins tick)) r p h =
-      inl (begun_met r (leaves A) (emission A) (record (at_tick tick p) { joined_at = None }) (new_duties p.agenda _ refl refl) (new_duties p.agenda _ refl refl)
+  pub event_met : (o : Option Event) (r : Reply) (p : PathState Carried) → Gains (step_for (path_of p) o) r → CalmMet p → PathMet (happens_if values o r p)
+  event_met None r p gains h = inl (agenda_met rest_of_turn p (new_duties p.agenda rest_of_turn refl refl) h)
+  event_met (Some (happenings.Joins tick)) r p gains h =
+      inl (begun_met r (leaves A) (emission A) (record (at_tick tick p) { joined_at = None }) gains.0 (new_duties p.agenda _ refl refl) (new_duties p.agenda _ refl refl)
       (record { first = h.first; calm = h.calm; met = h.met; signed = h.signed; mode = h.mode }))
-  event_met (Some (happenings.Takes line)) r p h =
+  event_met (Some (happenings.Takes line)) r p gains h =
       inl (line_met (is_death line.line) (record (at_tick line.tick p) { lines = tail_of p.lines }) (record { first = h.first; calm = h.calm; met = h.met; signed = h.signed; mode = h.mode }))
-  event_met (Some (happenings.Arrives due)) r p h =
+  event_met (Some (happenings.Arrives due)) r p gains h =
       copy_met due.to (heard_in values due.to (arriving due p.link) p) (record (at_tick due.tick p) { link = after_delivery due p.link })
       (record { first = h.first; calm = h.calm; met = h.met; signed = h.signed; mode = h.mode })
-  event_met (Some (happenings.Fires s tick)) r p h = inl (fired_met s (at_tick tick p) (record { first = h.first; calm = h.calm; met = h.met; signed = h.signed; mode = h.mode }))
+  event_met (Some (happenings.Fires s tick)) r p gains h = inl (fired_met s (at_tick tick p) (record { first = h.first; calm = h.calm; met = h.met; signed = h.signed; mode = h.mode }))
 
 -- the more T says
 pub more_met : (T U : Type 0) (p : PathState Carried) → (T → U) → PathMet T p → PathMet U p

@@ -28,7 +28,7 @@ use Rattle.path_core.specs.Duties.{answered, ask_for}
 use Rattle.path_core.specs.Emission.{Grant, fin_segment_of, grant_in, answered_grant, answered_data, first_unsent, having_sent_fin}
 use Rattle.path_core.specs.Ends.{PathEnd}
 use Rattle.path_core.specs.Events.{next_event, died}
-use Rattle.path_core.specs.Joining.{asked_at, refusal_of, join_taken, joined_by, keys_begun}
+use Rattle.path_core.specs.Joining.{asked_at, refusal_of, join_taken, joined_by, keys_begun, with_mode_refused, join_heard_ask}
 use Rattle.path_core.specs.Opening.{after_keys, keys_in, opened_ask, answered_opened, peer_key_ask, answered_peer_key, with_peer_key}
 use Rattle.path_core.specs.Passing.{answer_occasion, answer_of, resend_occasion, answered_fin_heard, answered_plain_fin, answered_piece, dead_answer, is_fin_set, is_placed, piece_of, resend_of}
 use Rattle.path_core.specs.Placing.{Piece, with_learned}
@@ -53,7 +53,7 @@ use Rattle.subflow_tcp.specs.declared.handshake.State.{State as EndPhase}
 use Rattle.subflow_tcp.specs.declared.handshake.State.TheVariants as phase
 use Rattle.world_laws.proofs.Verdicts.{fell_cases}
 use Rattle.world_laws.proofs.KeysMet.{is_met, finish_met, is_key_duty, is_calm, is_sign_duty, signs, Fewer, same_duties, tail_fewer, replaced_fewer, new_duties}
-use Rattle.world_laws.proofs.KeysLearned.{settles_met, settled_met, agenda_met, own_agenda, died_goes, event_met, begun_met, goes_met, sent_met, same_goes, told_goes, state_goes, known_met, look_mode, fell_mode, CalmMet, PathMet, Keying, Gains, Goes, OfA}
+use Rattle.world_laws.proofs.KeysLearned.{settles_met, settled_met, agenda_met, own_agenda, died_goes, event_met, begun_met, goes_met, sent_met, same_goes, told_goes, state_goes, known_met, look_mode, fell_mode, refused_mode, CalmMet, PathMet, Keying, Gains, Goes, OfA}
 
 module _ (T : Type 0) where
   -- ---- replies
@@ -200,10 +200,14 @@ module _ (T : Type 0) where
   refuse_met A p h = agenda_met T (replaced (duties.Refuse A) p.agenda) p (other_fewer (duties.Refuse A) p.agenda refl refl) h
   refuse_met B p h = agenda_met T (replaced (duties.Refuse B) p.agenda) p (other_fewer (duties.Refuse B) p.agenda refl refl) h
 
-  joined_met : (s : Side) (o : Option KeyPair) (asked : Option JoinSyn) (p : PathState Carried) → CalmMet T p → CalmMet T (join_taken s o asked p)
-  joined_met s None asked p h = refuse_met s p h
-  joined_met s (Some keys) None p h = refuse_met s p h
-  joined_met A (Some keys) (Some asked) p h =
+  joined_met : (s : Side) (o : Option KeyPair) (asked : Option JoinSyn) (r : Reply) (p : PathState Carried) → Gains T (join_heard_ask s asked p) r → CalmMet T p → CalmMet T (join_taken s o asked r p)
+  joined_met A None (Some asked) r p gains h =
+      goes_met T A (with_mode_refused r p.a) (replaced (duties.Refuse A) p.agenda) p (told_goes T A (with_mode_refused r p.a) p refl (λ is. refused_mode T r p.a.modes.mode gains.0 is))
+      (other_fewer (duties.Refuse A) p.agenda refl refl) h
+  joined_met B None (Some asked) r p gains h = goes_met T B (with_mode_refused r p.b) (replaced (duties.Refuse B) p.agenda) p tt (other_fewer (duties.Refuse B) p.agenda refl refl) h
+  joined_met s None None r p gains h = refuse_met s p h
+  joined_met s (Some keys) None r p gains h = refuse_met s p h
+  joined_met A (Some keys) (Some asked) r p gains h =
       goes_met T A (joined_by keys asked p.a) (replaced (duties.SynAck A) p.agenda) p (state_goes T A (joined_by keys asked p.a) p (listens (is_listening p.a.tcp.state) refl) refl)
       (other_fewer (duties.SynAck A) p.agenda refl refl) h
     where
@@ -215,7 +219,7 @@ module _ (T : Type 0) where
       listens : (b : Bool) → is_listening p.a.tcp.state ≡ b → is_met (if b then after_syn (unkept None) (syn_alone p.a.treated.window) p.a.tcp else p.a.tcp).state ≡ true → is_met p.a.tcp.state ≡ true
       listens true is met = listening p.a.tcp.state is
       listens false is met = met
-  joined_met B (Some keys) (Some asked) p h =
+  joined_met B (Some keys) (Some asked) r p gains h =
       goes_met T B (joined_by keys asked p.b) (replaced (duties.SynAck B) p.agenda) p tt (other_fewer (duties.SynAck B) p.agenda refl refl) h
 
   occasion_goes : (s : Side) (o : Occasion) (sg : PlainSegment) (p : PathState Carried) → Goes T s p (having_sent o p.clock sg (end_at s p))
@@ -242,7 +246,7 @@ module _ (T : Type 0) where
   answered_met : (d : Duty) (r : Reply) (p : PathState Carried) → is_key_duty d ≡ false → (is_sign_duty d ≡ true → signs p.agenda ≡ true) → Gains T (ask_for values d p) r
       → CalmMet T p → PathMet T (answered values d r p)
   answered_met duties.JoinAgain r p none sign gains h =
-      inl (begun_met T r (replaced (duties.Leave A) p.agenda) (left p) p (other_fewer (duties.Leave A) p.agenda refl refl) (tail_fewer p.agenda) h)
+      inl (begun_met T r (replaced (duties.Leave A) p.agenda) (left p) p gains.0 (other_fewer (duties.Leave A) p.agenda refl refl) (tail_fewer p.agenda) h)
   answered_met (duties.Look s) r p none sign gains h = inl (goes_met T s (after_look r (end_at s p)) (left p) p (look_goes s r p gains) (tail_fewer p.agenda) h)
   answered_met (duties.Window s) r p none sign gains h = inl (same_met s (after_ack_out r (end_at s p)) (left p) p refl refl (tail_fewer p.agenda) h)
   answered_met (duties.Update s) r p none sign gains h = inl (same_sent_met s _ _ (left p) p refl refl (tail_fewer p.agenda) h)
@@ -251,7 +255,7 @@ module _ (T : Type 0) where
   answered_met (duties.DataFin s) r p none sign gains h = inl (same_sent_met s _ _ (left p) p refl refl (tail_fewer p.agenda) h)
   answered_met (duties.Fin s) r p none sign gains h =
       inl (sent_met T s (fin_segment_of s p) (having_sent_fin s p) (left p) p (state_goes T s (having_sent_fin s p) p (λ met. sym (finish_met (end_at s p).tcp.state) ∙ met) refl) (tail_fewer p.agenda) h)
-  answered_met duties.Events r p none sign gains h = event_met T (next_event p) r p h
+  answered_met duties.Events r p none sign gains h = event_met T (next_event p) r p gains h
   answered_met (duties.PlainHandshake s) r p none sign gains h = inl (told_met s fall.PlainHandshake r p gains h)
   answered_met (duties.PeerKey A) r p none sign gains h = absurd (false≢true (sym none))
   answered_met (duties.PeerKey B) r p none sign gains h = inl (b_key (key_heard p.b.treated.items))
@@ -262,7 +266,7 @@ module _ (T : Type 0) where
   answered_met (duties.SynAnswered A) r p none sign gains h = absurd (false≢true (sym none))
   answered_met (duties.SynAnswered B) r p none sign gains h = inl (agenda_met T (left p) p (tail_fewer p.agenda) h)
   answered_met (duties.SynAck s) r p none sign gains h = inl (same_sent_met s _ _ (left p) p refl refl (tail_fewer p.agenda) h)
-  answered_met (duties.JoinHeard s) r p none sign gains h = inl (joined_met s (keys_begun r) (asked_at s p) p h)
+  answered_met (duties.JoinHeard s) r p none sign gains h = inl (joined_met s (keys_begun r) (asked_at s p) r p gains h)
   answered_met (duties.Refuse s) r p none sign gains h = inl (same_sent_met s (refusal_of s p) (end_at s p) (left p) p refl refl (tail_fewer p.agenda) h)
   answered_met (duties.Opened s) r p none sign gains h = inl (opened_met s (keys_heard (end_at s p).treated.items) r p gains h)
   answered_met (duties.Heard s index) r p none sign gains h = inl (item_answered_met s (item_of index (end_at s p)) r p gains (by s sign) h)

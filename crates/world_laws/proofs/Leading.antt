@@ -489,11 +489,12 @@ module _ {C : Type 0} where
       by (Some grant) = record { recalls = side_recalls s _ (with_agenda (duties.Data s ∷ ds) p) _ (recalls_all _ _ refl) refl; follows = λ n f. f }
       by None = record { recalls = side_recalls s _ (with_agenda (duties.Data s ∷ ds) p) _ (recalls_all _ _ refl) refl; follows = λ n f. f }
 
-  join_goes : (s : Side) (keys : Option KeyPair) (asked : Option JoinSyn) (ds : List Duty) (p : PathState C)
-      → let m = with_agenda (duties.JoinHeard s ∷ ds) p in let q = join_taken s keys asked m in Goes (duties.JoinHeard s) ds m q q.agenda
-  join_goes s (Some keys) (Some asked) ds p = record { recalls = side_recalls s _ (with_agenda (duties.JoinHeard s ∷ ds) p) _ (recalls_all _ _ refl) refl; follows = λ n f. f }
-  join_goes s (Some keys) None ds p = record { recalls = recalls_all _ _ refl; follows = λ n f. f }
-  join_goes s None asked ds p = record { recalls = recalls_all _ _ refl; follows = λ n f. f }
+  join_goes : (s : Side) (keys : Option KeyPair) (asked : Option JoinSyn) (r : Reply) (ds : List Duty) (p : PathState C)
+      → let m = with_agenda (duties.JoinHeard s ∷ ds) p in let q = join_taken s keys asked r m in Goes (duties.JoinHeard s) ds m q q.agenda
+  join_goes s (Some keys) (Some asked) r ds p = record { recalls = side_recalls s _ (with_agenda (duties.JoinHeard s ∷ ds) p) _ (recalls_all _ _ refl) refl; follows = λ n f. f }
+  join_goes s (Some keys) None r ds p = record { recalls = recalls_all _ _ refl; follows = λ n f. f }
+  join_goes s None None r ds p = record { recalls = recalls_all _ _ refl; follows = λ n f. f }
+  join_goes s None (Some asked) r ds p = record { recalls = side_recalls s _ (with_agenda (duties.JoinHeard s ∷ ds) p) _ (recalls_all _ _ refl) refl; follows = λ n f. f }
 
   -- a break is to be made, whatever was first
   break_goes : (k : Codec C) (d : Duty) (s : Side) (reason : ℕ) (r : Reply) (ds : List Duty) (m : PathState C)
@@ -601,7 +602,7 @@ module _ {C : Type 0} where
   answered_goes k duties.Events other ds r p = absurd other
   answered_goes k duties.JoinAgain other ds r p = begun_goes r ds p
   answered_goes k (duties.Data s) other ds r p = data_goes k s r ds p (first_unsent (end_at s p))
-  answered_goes k (duties.JoinHeard s) other ds r p = join_goes s (keys_begun r) (asked_at s p) ds p
+  answered_goes k (duties.JoinHeard s) other ds r p = join_goes s (keys_begun r) (asked_at s p) r ds p
   answered_goes k (duties.PlainAck s) other ds r p = plain_ack_goes k s ds r p
   answered_goes k (duties.PlainHandshake s) other ds r p = event_goes s (duties.PlainHandshake s) events.PlainHandshake ds r p (λ n f. f)
   answered_goes k (duties.PlainData s) other ds r p = event_goes s (duties.PlainData s) events.PlainData ds r p (λ n f. f)

@@ -45,7 +45,7 @@ use Rattle.path_core.specs.Breaking.{reset_of, reset_on, answered_break}
 use Rattle.path_core.specs.Duties.{stands, passed, answered}
 use Rattle.path_core.specs.Emission.{Grant, grant_in, answered_grant, answered_data, first_unsent}
 use Rattle.path_core.specs.Ends.{PathEnd, Receiving}
-use Rattle.path_core.specs.Events.{next_event, heard_in, at_tick, died, died_unless_dead, is_death, after_line, copy_heard, happens_if, join_begun, told_at}
+use Rattle.path_core.specs.Events.{next_event, heard_in, at_tick, died, died_unless_dead, is_death, after_line, copy_heard, happens_if, join_begun, told_at, never_joined}
 use Rattle.path_core.specs.Joining.{asked_at, is_never, join_taken, keys_begun, opened_by}
 use Rattle.path_core.specs.Passing.{is_placed, piece_of, answered_piece, is_fin_set, answered_fin_heard, answered_plain_fin}
 use Rattle.path_core.specs.Placing.{Piece, with_learned, with_skipped, is_wrong, forgotten_by, mapping_here}
@@ -241,8 +241,8 @@ module _ (R : Side → ℕ → ℕ → Type 0) where
       opened_knows None = h.a
       opened_knows (Some keys) = h.a
 
-      by : (b : Bool) → EndKnows A (opened_by (keys_begun r) p.a) → PathKnows (if b then goes_on A (died p.a) dead p else goes_on A (opened_by (keys_begun r) p.a) living p)
-      by true own = goes A (died p.a) dead p h.a h
+      by : (b : Bool) → EndKnows A (opened_by (keys_begun r) p.a) → PathKnows (if b then goes_on A (never_joined r p.a) dead p else goes_on A (opened_by (keys_begun r) p.a) living p)
+      by true own = goes A (never_joined r p.a) dead p h.a h
       by false own = goes A (opened_by (keys_begun r) p.a) living p own h
 
   event_knows : (o : Option Event) (r : Reply) (p : PathState Carried) → CopiesTell p → PathKnows p → PathKnows (happens_if values o r p)
@@ -324,14 +324,15 @@ module _ (R : Side → ℕ → ℕ → Type 0) where
   opened_knows s (Some keys) r p h = same_goes s _ _ p refl h
 
   -- B hears of a join
-  joined_knows : (s : Side) (o : Option KeyPair) (asked : Option JoinSyn) (p : PathState Carried) → PathKnows p → PathKnows (join_taken s o asked p)
-  joined_knows s None asked p h = agenda _ p h
-  joined_knows s (Some keys) None p h = agenda _ p h
-  joined_knows s (Some keys) (Some asked) p h = same_goes s _ _ p refl h
+  joined_knows : (s : Side) (o : Option KeyPair) (asked : Option JoinSyn) (r : Reply) (p : PathState Carried) → PathKnows p → PathKnows (join_taken s o asked r p)
+  joined_knows s None None r p h = agenda _ p h
+  joined_knows s None (Some asked) r p h = same_goes s _ _ p refl h
+  joined_knows s (Some keys) None r p h = agenda _ p h
+  joined_knows s (Some keys) (Some asked) r p h = same_goes s _ _ p refl h
 
   answered_knows : (d : Duty) (r : Reply) (p : PathState Carried) → CopiesTell p → PathKnows p → PathKnows (answered values d r p)
   answered_knows duties.JoinAgain r p tell h = begun_knows r (replaced (duties.Leave A) p.agenda) (left p) p h
-  answered_knows (duties.JoinHeard s) r p tell h = joined_knows s (keys_begun r) (asked_at s p) p h
+  answered_knows (duties.JoinHeard s) r p tell h = joined_knows s (keys_begun r) (asked_at s p) r p h
   answered_knows (duties.Refuse s) r p tell h = same_sent s _ _ _ p refl h
   answered_knows (duties.PlainHandshake s) r p tell h = same_goes s _ _ p refl h
   answered_knows (duties.PlainAck s) r p tell h = by (breaks_by_ack p.profile (end_at s p))

@@ -48,9 +48,9 @@ use Rattle.path_core.specs.Closing.{is_end_owed}
 use Rattle.path_core.specs.Duties.{stands, passed, answered}
 use Rattle.path_core.specs.Emission.{Grant, after_timer, fin_segment_of, grant_in, answered_grant, answered_data, first_unsent, having_sent_fin}
 use Rattle.path_core.specs.Ends.{PathEnd}
-use Rattle.path_core.specs.Events.{next_event, heard_at, heard_in, at_tick, died, died_unless_dead, is_death, after_line, copy_heard, happens_if, join_begun, timer_fired, template_fired}
+use Rattle.path_core.specs.Events.{next_event, heard_at, heard_in, at_tick, died, died_unless_dead, is_death, after_line, copy_heard, happens_if, join_begun, timer_fired, template_fired, never_joined}
 use Rattle.path_core.specs.Falling.{after_fell, fell_duties, answered_fell}
-use Rattle.path_core.specs.Joining.{asked_at, is_listening, is_never, join_taken, joined_by, keys_begun, opened_by, refusal_of, syn_alone}
+use Rattle.path_core.specs.Joining.{asked_at, is_listening, is_never, join_taken, joined_by, keys_begun, opened_by, refusal_of, syn_alone, with_mode_refused}
 use Rattle.path_core.specs.Joins.{is_joined}
 use Rattle.path_core.specs.Opening.{after_keys, answered_opened, answered_peer_key, with_peer_key}
 use Rattle.path_core.specs.Passing.{after_pass_fin, answer_occasion, answer_of, resend_occasion, answered_fin_heard, answered_plain_fin, answered_piece, dead_answer, first_record, is_fin_set, is_placed, piece_of, resend_of}
@@ -271,8 +271,8 @@ begun_roles r dead living p h = by (is_never r)
     opens None = same_roles A p.a living p refl refl h
     opens (Some keys) = goes_roles A (opened_by (Some keys) p.a) living p (record { role = λ joins. begun (is_waiting p.a.tcp.state); answer = h.answer_a }) h
 
-    by : (b : Bool) → HasRoles (if b then goes_on A (died p.a) dead p else goes_on A (opened_by (keys_begun r) p.a) living p)
-    by true = goes_roles A (died p.a) dead p (died_goes A p) h
+    by : (b : Bool) → HasRoles (if b then goes_on A (never_joined r p.a) dead p else goes_on A (opened_by (keys_begun r) p.a) living p)
+    by true = goes_roles A (never_joined r p.a) dead p (record { role = λ joins is. absurd (false≢true is); answer = tt }) h
     by false = opens (keys_begun r)
 
 fired_roles : (s : Side) (p : PathState Carried) → HasRoles p → HasRoles (timer_fired s p)
@@ -435,10 +435,11 @@ heard_apart A true e listens is = listening_apart e.tcp.state listens
 heard_apart B true e listens is = absurd (false≢true is)
 heard_apart s false e listens is = is
 
-joined_roles : (s : Side) (o : Option KeyPair) (asked : Option JoinSyn) (p : PathState Carried) → HasRoles p → HasRoles (join_taken s o asked p)
-joined_roles s None asked p h = agenda_roles _ p h
-joined_roles s (Some keys) None p h = agenda_roles _ p h
-joined_roles s (Some keys) (Some asked) p h =
+joined_roles : (s : Side) (o : Option KeyPair) (asked : Option JoinSyn) (r : Reply) (p : PathState Carried) → HasRoles p → HasRoles (join_taken s o asked r p)
+joined_roles s None None r p h = agenda_roles _ p h
+joined_roles s None (Some asked) r p h = same_roles s (with_mode_refused r (end_at s p)) (replaced (duties.Refuse s) p.agenda) p refl refl h
+joined_roles s (Some keys) None r p h = agenda_roles _ p h
+joined_roles s (Some keys) (Some asked) r p h =
     goes_roles s (joined_by keys asked (end_at s p)) _ p
     (record { role = λ joins is. heard_apart s (is_listening (end_at s p).tcp.state) (end_at s p) refl is; answer = answer_at s p h }) h
 
@@ -473,7 +474,7 @@ answered_roles duties.Events r p h = event_roles (next_event p) r p h
 answered_roles (duties.PlainHandshake s) r p h = told_roles s fall.PlainHandshake r p h
 answered_roles (duties.PeerKey s) r p h = key_roles s (key_heard (end_at s p).treated.items) r p h
 answered_roles (duties.SynAck s) r p h = same_sent s _ _ (left p) p (syn_ack_tells p.profile s (end_at s p)) refl refl h
-answered_roles (duties.JoinHeard s) r p h = joined_roles s (keys_begun r) (asked_at s p) p h
+answered_roles (duties.JoinHeard s) r p h = joined_roles s (keys_begun r) (asked_at s p) r p h
 answered_roles (duties.Refuse s) r p h =
     same_sent s (refusal_of s p) (end_at s p) (left p) p (outgoing_tells p.profile s (end_at s p) (end_at s p).treated.answer (reset_options (Some 1)) (answer_at s p h)) refl refl h
 answered_roles (duties.Opened s) r p h = opened_roles s (keys_heard (end_at s p).treated.items) r p h

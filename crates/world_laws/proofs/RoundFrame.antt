@@ -103,10 +103,11 @@ module _ {C : Type 0} where
   item_keeps k s None r p = (refl, refl, refl)
   item_keeps k s (Some item) r p = heard_keeps k s item r p
 
-  join_keeps : (s : Side) (keys : Option KeyPair) (asked : Option JoinSyn) (p : PathState C) → Keeps p (join_taken s keys asked p)
-  join_keeps s None asked p = (refl, refl, refl)
-  join_keeps s (Some keys) None p = (refl, refl, refl)
-  join_keeps s (Some keys) (Some asked) p = (refl, refl, refl)
+  join_keeps : (s : Side) (keys : Option KeyPair) (asked : Option JoinSyn) (r : Reply) (p : PathState C) → Keeps p (join_taken s keys asked r p)
+  join_keeps s None None r p = (refl, refl, refl)
+  join_keeps s None (Some asked) r p = (refl, refl, refl)
+  join_keeps s (Some keys) None r p = (refl, refl, refl)
+  join_keeps s (Some keys) (Some asked) r p = (refl, refl, refl)
 
   piece_keeps : (s : Side) (piece : Option Piece) (taken : Bool) (p : PathState C) → Keeps p (answered_piece s piece taken p)
   piece_keeps s None taken p = (refl, refl, refl)
@@ -132,7 +133,7 @@ module _ {C : Type 0} where
   answered_keeps k duties.Events r p = happens_keeps k (next_event p) r p
   answered_keeps k (duties.PeerKey s) r p = key_keeps s (key_heard (end_at s p).treated.items) r p
   answered_keeps k (duties.SynAck s) r p = (refl, refl, one_more_path s _)
-  answered_keeps k (duties.JoinHeard s) r p = join_keeps s (keys_begun r) (asked_at s p) p
+  answered_keeps k (duties.JoinHeard s) r p = join_keeps s (keys_begun r) (asked_at s p) r p
   answered_keeps k (duties.Refuse s) r p = (refl, refl, one_more_path s _)
   answered_keeps k (duties.Opened s) r p = opened_keeps s (keys_heard (end_at s p).treated.items) r p
   answered_keeps k (duties.Heard s index) r p = item_keeps k s (item_of index (end_at s p)) r p

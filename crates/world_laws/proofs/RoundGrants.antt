@@ -38,7 +38,7 @@ use Rattle.path_core.specs.declared.judged.Judged.{Judged}
 use Rattle.path_core.specs.declared.judged.Judged.TheVariants as judged
 use Rattle.path_core.specs.Joining.{is_never, keys_begun, opened_by, asked_at, join_taken}
 use Rattle.path_core.specs.Joins.{is_joined}
-use Rattle.path_core.specs.Events.{next_event, heard_in, at_tick, join_begun, died, died_unless_dead, path_died, is_death, after_line, copy_heard, template_fired, happens_if}
+use Rattle.path_core.specs.Events.{next_event, heard_in, at_tick, join_begun, died, died_unless_dead, path_died, is_death, after_line, copy_heard, template_fired, happens_if, never_joined}
 use Rattle.path_core.specs.Passing.{piece_of, is_placed, answered_piece, is_fin_set, answered_fin_heard, answered_plain_fin}
 use Rattle.path_core.specs.Placing.{Piece, with_learned}
 use Rattle.path_core.specs.Sends.{sent_on}
@@ -401,8 +401,8 @@ module _ {C : Type 0} where
     join_done : (r : Reply) → Granting (join_begun r (leaves A) (emission A) p) refused
     join_done r = by (is_never r)
       where
-        by : (b : Bool) → Granting (if b then goes_on A (died (end_at A p)) (leaves A) p else goes_on A (opened_by (keys_begun r) (end_at A p)) (emission A) p) refused
-        by true = on p refused A (died p.a) (leaves A) refl (inr (closed_paid p.profile A (died p.a) (refused A) refl)) (inr (paid B))
+        by : (b : Bool) → Granting (if b then goes_on A (never_joined r (end_at A p)) (leaves A) p else goes_on A (opened_by (keys_begun r) (end_at A p)) (emission A) p) refused
+        by true = on p refused A (never_joined r p.a) (leaves A) refl (inr (closed_paid p.profile A (never_joined r p.a) (refused A) refl)) (inr (paid B))
         by false = on p refused A (opened_by (keys_begun r) p.a) (emission A) refl (inl refl) (inr (paid B))
 
     fired_done : (s : Side) (e : PathEnd) (sixth : Bool) → Granting (goes_on s e (template_fired sixth s) p) refused
@@ -620,12 +620,12 @@ module _ {C : Type 0} where
         rest : is_followed ds ≡ true
         rest = rest_followed duties.JoinAgain ds f
 
-        by : (b : Bool) → Granting (if b then goes_on A (died p.a) (duties.Leave A ∷ ds) (at xs) else goes_on A (opened_by (keys_begun r) p.a) ds (at xs)) refused
-        by true = touched A (died p.a) (duties.Leave A ∷ ds) rest (first_need duties.JoinAgain ds f) xs (each B)
+        by : (b : Bool) → Granting (if b then goes_on A (never_joined r p.a) (duties.Leave A ∷ ds) (at xs) else goes_on A (opened_by (keys_begun r) p.a) ds (at xs)) refused
+        by true = touched A (never_joined r p.a) (duties.Leave A ∷ ds) rest (first_need duties.JoinAgain ds f) xs (each B)
         by false = touched A (opened_by (keys_begun r) p.a) ds rest (first_need duties.JoinAgain ds f) xs (each B)
 
     join_heard_done : (s : Side) (ds : List Duty) → is_followed (duties.JoinHeard s ∷ ds) ≡ true → ((t : Side) → Pays (at (duties.JoinHeard s ∷ ds)) (duties.JoinHeard s ∷ ds) refused t)
-        → (keys : Option KeyPair) (asked : Option JoinSyn) → Granting (join_taken s keys asked (at (duties.JoinHeard s ∷ ds))) refused
+        → (keys : Option KeyPair) (asked : Option JoinSyn) → Granting (join_taken s keys asked r (at (duties.JoinHeard s ∷ ds))) refused
     join_heard_done s ds f each = by
       where
         xs : List Duty
@@ -637,8 +637,9 @@ module _ {C : Type 0} where
         rest : is_followed ds ≡ true
         rest = rest_followed (duties.JoinHeard s) ds f
 
-        by : (keys : Option KeyPair) (asked : Option JoinSyn) → Granting (join_taken s keys asked (at xs)) refused
-        by None asked = done_on (duties.Refuse s ∷ ds) xs rest (λ t. each t)
+        by : (keys : Option KeyPair) (asked : Option JoinSyn) → Granting (join_taken s keys asked r (at xs)) refused
+        by None None = done_on (duties.Refuse s ∷ ds) xs rest (λ t. each t)
+        by None (Some asked) = touched s _ (duties.Refuse s ∷ ds) (rw (need, rest) refl) need xs (each (peer s))
         by (Some keys) None = done_on (duties.Refuse s ∷ ds) xs rest (λ t. each t)
         by (Some keys) (Some asked) = touched s _ (duties.SynAck s ∷ ds) (rw (need, rest) refl) need xs (each (peer s))
 

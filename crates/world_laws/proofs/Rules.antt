@@ -28,7 +28,7 @@ use Rattle.path_core.specs.Ends.{PathEnd, Treated, nothing_treated}
 use Rattle.path_core.specs.Events.{died, died_unless_dead, after_firing}
 use Rattle.path_agenda.specs.declared.keys.KeyPair.{KeyPair}
 use Rattle.join_handshake.specs.declared.hearing.JoinSyn.{JoinSyn}
-use Rattle.path_core.specs.Joining.{opened_by, syn_alone, is_listening, joined_by}
+use Rattle.path_core.specs.Joining.{opened_by, syn_alone, is_listening, joined_by, with_mode_refused}
 use Rattle.path_core.specs.Opening.{with_peer_key, after_keys, keys_in}
 use Rattle.path_core.specs.Passing.{having_asked, with_peer_end, after_rate, with_fin_told}
 use Rattle.path_core.specs.Placing.{is_wrong, forgotten_by, after_pieces}
@@ -200,6 +200,10 @@ module _ (c : Profile) (s : Side) (out back : Lane) where
     held = h.held;
   }
   opened_state false e un h = h
+
+  -- a join is refused, which tells the mode
+  pub refused_shows : (r : Reply) (e : PathEnd) → Shows e → Shows (with_mode_refused r e)
+  refused_shows r e h = with_modes c s out back e (with_mode_refused r e).modes refl h
 
   pub opened_shows : (keys : Option KeyPair) (e : PathEnd) → Shows e → Shows (opened_by keys e)
   opened_shows None e h = h

@@ -34,7 +34,7 @@ use Rattle.path_core.specs.Codec.{Codec, HeardSegment}
 use Rattle.path_core.specs.Duties.{stands, passed, answered}
 use Rattle.path_core.specs.Emission.{Grant, grant_in, answered_grant, answered_data, first_unsent, after_timer}
 use Rattle.path_core.specs.Ends.{PathEnd}
-use Rattle.path_core.specs.Events.{next_event, after_line, is_death, at_tick, died, join_begun, copy_heard, heard_in, happens_if, told_at, died_unless_dead, template_fired, after_firing}
+use Rattle.path_core.specs.Events.{next_event, after_line, is_death, at_tick, died, join_begun, copy_heard, heard_in, happens_if, told_at, died_unless_dead, template_fired, after_firing, never_joined}
 use Rattle.path_core.specs.Joining.{keys_begun, is_never, opened_by, join_taken, asked_at}
 use Rattle.path_core.specs.Joins.{is_joined}
 use Rattle.path_core.specs.Opening.{answered_peer_key, answered_opened}
@@ -263,7 +263,7 @@ module _ {C : Type 0} where
 
   begun_goes : (r : Reply) (dead living : List Duty) (p : PathState C) → is_sheltered dead ≡ true → is_sheltered living ≡ true → Goes p (join_begun r dead living p)
   begun_goes r dead living p x y =
-      either_goes (is_never r) (goes_on A (died (end_at A p)) dead p) (goes_on A (opened_by (keys_begun r) (end_at A p)) living p) p
+      either_goes (is_never r) (goes_on A (never_joined r (end_at A p)) dead p) (goes_on A (opened_by (keys_begun r) (end_at A p)) living p) p
       (record { calms = record { a = λ h. absurd (false≢true h); b = λ h. h }; shape = x }) (record { calms = record { a = begun_end (keys_begun r) p.a; b = λ h. h }; shape = y })
 
   line_goes : (death : Bool) (p : PathState C) → Goes p (after_line death p)
@@ -358,10 +358,10 @@ module _ {C : Type 0} where
         either_goes (breaks_by_ack m.profile (end_at s m)) (answered_break k s 6 r m) (goes_on s (with_plain_ack (after_fell events.PlainAck r (end_at s m))) (fell_duties s r m) m) m
         (break_goes s (duties.PlainAck s) 6 p) (side_goes s _ m _ (λ h. h) refl refl (fell_shape s (duties.PlainAck s) p))
 
-    joined_goes : (s : Side) (keys : Option KeyPair) (asked : Option JoinSyn) (p : PathState C) → Goes (first (duties.JoinHeard s) p) (join_taken s keys asked (first (duties.JoinHeard s) p))
+    joined_goes : (s : Side) (keys : Option KeyPair) (asked : Option JoinSyn) (p : PathState C) → Goes (first (duties.JoinHeard s) p) (join_taken s keys asked r (first (duties.JoinHeard s) p))
     joined_goes s (Some keys) (Some asked) p = side_goes s _ (first (duties.JoinHeard s) p) _ (λ h. h) refl refl shape
     joined_goes s (Some keys) None p = rests (first (duties.JoinHeard s) p) _ refl refl shape
-    joined_goes s None (Some asked) p = rests (first (duties.JoinHeard s) p) _ refl refl shape
+    joined_goes s None (Some asked) p = side_goes s _ (first (duties.JoinHeard s) p) _ (λ h. h) refl refl shape
     joined_goes s None None p = rests (first (duties.JoinHeard s) p) _ refl refl shape
 
     -- whatever is replied to a duty by which no reassembly book is told or asked

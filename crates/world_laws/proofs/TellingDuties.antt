@@ -61,7 +61,7 @@ use Rattle.path_core.specs.Duties.{stands, ask_for, answered}
 use Rattle.path_core.specs.Emission.{payload_size, first_unsent, unsent_segment, data_stands, data_ask, answered_data, grant_in, granted, refused, answered_grant, end_segment, having_sent_end, answered_end, fin_segment_of, having_sent_fin, answered_fin}
 use Rattle.path_core.specs.Ends.{PathEnd}
 use Rattle.path_core.specs.Events.{next_event, step_for, died}
-use Rattle.path_core.specs.Joining.{keys_begun, asked_at, join_heard_ask, joined_by, join_taken, answered_join_heard, refusal_of, answered_refusal}
+use Rattle.path_core.specs.Joining.{keys_begun, asked_at, join_heard_ask, joined_by, join_taken, answered_join_heard, refusal_of, answered_refusal, with_mode_refused}
 use Rattle.path_core.specs.Opening.{with_peer_key, peer_key_ask, answered_peer_key, keys_ask, after_keys, opened_ask, answered_opened, syn_ack_of}
 use Rattle.path_core.specs.Passing.{having_asked, with_peer_end, plain_fin, with_fin_told, answered_plain_fin, piece_ask, answered_piece, is_placed, piece_of, fin_of, fin_ask, answered_fin_heard, is_fin_set, rate_ask, after_rate, first_record, first_segment, answer_of, answer_occasion, dead_answer, answered_dead, resend_occasion, resend_of}
 use Rattle.path_core.specs.Placing.{Piece, after_piece, with_learned}
@@ -404,8 +404,11 @@ module _ (six : SixBooks) (others : Others) (p : PathState Carried) (ab ba : Lan
 
     -- ---- the SYN of a join
 
-    join_by : (keys : Option KeyPair) (asked : Option JoinSyn) → IfSome keys AreKeys → IfSome asked (λ a. IsNonce a.nonce) → Tells (join_taken s keys asked p)
-    join_by None asked pair nonce = tells_agenda p.profile p t (replaced (duties.Refuse s) p.agenda) (replaced_fair (duties.Refuse s) p.agenda refl t.agenda)
+    join_by : (keys : Option KeyPair) (asked : Option JoinSyn) → IfSome keys AreKeys → IfSome asked (λ a. IsNonce a.nonce) → Tells (join_taken s keys asked (reply_of six (join_heard_ask s (asked_at s p) p)) p)
+    join_by None (Some asked) pair nonce =
+        on (with_mode_refused (reply_of six (join_heard_ask s (asked_at s p) p)) e) (replaced (duties.Refuse s) p.agenda) (rules.refused_tells p.profile s e tells (reply_of six (join_heard_ask s (asked_at s p) p)))
+        (replaced_fair (duties.Refuse s) p.agenda refl t.agenda)
+    join_by None None pair nonce = tells_agenda p.profile p t (replaced (duties.Refuse s) p.agenda) (replaced_fair (duties.Refuse s) p.agenda refl t.agenda)
     join_by (Some keys) None pair nonce = tells_agenda p.profile p t (replaced (duties.Refuse s) p.agenda) (replaced_fair (duties.Refuse s) p.agenda refl t.agenda)
     join_by (Some keys) (Some asked) pair nonce =
         on (joined_by keys asked e) (replaced (duties.SynAck s) p.agenda) (joined_tells p.profile s keys asked e pair nonce tells) (replaced_fair (duties.SynAck s) p.agenda refl t.agenda)

@@ -28,14 +28,14 @@ use Rattle.path_core.specs.declared.judged.Judged.TheVariants as judged
 use Rattle.path_core.specs.Joining.{is_never, keys_begun, opened_by}
 use Rattle.path_core.specs.Joins.{is_joined}
 use Rattle.path_core.specs.Ends.{PathEnd}
-use Rattle.path_core.specs.Events.{is_death, at_tick, died, join_begun, after_line, told_at, heard_in, copy_heard, copy_taken, after_firing, template_fired, timer_fired, happens, happens_if}
+use Rattle.path_core.specs.Events.{is_death, at_tick, died, join_begun, after_line, told_at, heard_in, copy_heard, copy_taken, after_firing, template_fired, timer_fired, happens, happens_if, never_joined}
 use Rattle.path_core.specs.State.{PathState, Profile, end_at, goes_on}
 use Rattle.path_core.specs.Values.{Carried, as_arrived, values}
 use Rattle.world_laws.proofs.Happening.{without_kept, found_due, side_is}
 use Rattle.world_laws.proofs.Records.{every_find}
 use Rattle.world_laws.proofs.Telling.{SegmentTells, bare_tells}
 use Rattle.world_laws.proofs.TellingArrivals.{arrived_tells}
-use Rattle.world_laws.proofs.TellingRules.{AreKeys, opened_tells, died_tells, died_unless_tells, fired_tells}
+use Rattle.world_laws.proofs.TellingRules.{AreKeys, opened_tells, died_tells, refused_tells, died_unless_tells, fired_tells}
 use Rattle.world_laws.proofs.TellingSteps.{CopyTells, AreFair, PathTells, tells_at, tells_on, tells_agenda}
 
 -- ---- templates
@@ -158,8 +158,8 @@ module _ (p : PathState Carried) (h : PathTells p.profile p) where
   pub join_tells : (r : Reply) (dead living : List Duty) (q : PathState Carried) → IfSome (keys_begun r) AreKeys → AreFair dead → AreFair living → Tells q → Tells (join_begun r dead living q)
   join_tells r dead living q keys dead_fair living_fair x = by (is_never r)
     where
-      by : (b : Bool) → Tells (if b then goes_on A (died q.a) dead q else goes_on A (opened_by (keys_begun r) q.a) living q)
-      by true = tells_on p.profile q x A (died q.a) dead (died_tells p.profile A q.a x.a) dead_fair
+      by : (b : Bool) → Tells (if b then goes_on A (never_joined r q.a) dead q else goes_on A (opened_by (keys_begun r) q.a) living q)
+      by true = tells_on p.profile q x A (never_joined r q.a) dead (refused_tells p.profile A (died q.a) (died_tells p.profile A q.a x.a) r) dead_fair
       by false = tells_on p.profile q x A (opened_by (keys_begun r) q.a) living (opened_tells p.profile A q.a x.a (keys_begun r) keys) living_fair
 
   -- ---- the earliest

@@ -51,7 +51,7 @@ use Rattle.path_core.specs.Emission.{granted, refused, after_timer}
 use Rattle.path_core.specs.Ends.{PathEnd, Treated, nothing_treated}
 use Rattle.path_core.specs.Events.{died, died_unless_dead, after_firing}
 use Rattle.path_agenda.specs.Items.{key_in, key_heard, pair_in, keys_heard, is_of_step, join_in, join_heard}
-use Rattle.path_core.specs.Joining.{with_keys, opened_by}
+use Rattle.path_core.specs.Joining.{with_keys, opened_by, with_mode_refused}
 use Rattle.path_core.specs.Joins.{peer_key_of, join_value, join_asked, join_answer}
 use Rattle.path_core.specs.Opening.{with_peer_key, keys_in, after_keys}
 use Rattle.path_core.specs.Falling.{mode_in, fell_in, after_fell, in_identity}
@@ -208,6 +208,10 @@ AreKeys keys = IsKey keys.own × IsKey keys.peer
 module _ (c : Profile) (s : Side) (e : PathEnd) (h : EndTells c s e) where
   with_modes : (m : Modes) → ModesTell m → EndTells c s (record e { modes = m })
   with_modes m modes = record { sender = h.sender; edge = h.edge; stream = h.stream; window = h.window; modes = modes; treated = h.treated }
+
+  -- a join is refused, which tells the mode
+  pub refused_tells : (r : Reply) → EndTells c s (with_mode_refused r e)
+  refused_tells r = with_modes (with_mode_refused r e).modes (record { own_key = h.modes.own_key; peer_key = h.modes.peer_key; own_nonce = h.modes.own_nonce; peer_nonce = h.modes.peer_nonce })
 
   pub look_tells : (r : Reply) → EndTells c s (after_look r e)
   look_tells r = with_modes (modes_told r e.modes) (told_modes r e.modes h.modes)
