@@ -138,11 +138,14 @@ impl Actor {
         }
     }
 
-    /// The link of the path takes these octets from A's side, where the actor is that path.
+    /// The link of the path takes these segments from A's side, where the actor is that path.
     pub fn inject(&mut self, injected: &Injected) -> Result<(), AllocError> {
         match &mut self.member {
             Member::Path(path) if path.number() == injected.path => {
-                path.inject(Side::A, injected.octets.as_slice())
+                for segment in injected.segments.iter() {
+                    path.inject(Side::A, segment.as_slice())?;
+                }
+                Ok(())
             }
             _ => Ok(()),
         }

@@ -1,7 +1,8 @@
 //! A case is `SCRIPT | FILE_A | FILE_B | ROUNDS | SHOWN`, or so with ` | OCTETS` or ` | OCTETS | PATH`. In the script `;` stands for LF. A file is
 //! `none` where the side has no application, `-` where it is empty, `text` and its text, `hex` and its octets, or `made`
-//! and how many octets: the one at place k is k modulo 251. `SHOWN` is `log`, `sums` or `places`. `OCTETS`, in hexadecimal
-//! digits, go to the link of that path, or of path 0, from A's side after the first round, and A's end doesn't know of them.
+//! and how many octets: the one at place k is k modulo 251. `SHOWN` is `log`, `sums`, `places` or `ends`. `OCTETS` are segments in
+//! hexadecimal digits, with `,` between them. They go to the link of that path, or of path 0, from A's side after the first round, and
+//! A's end doesn't know of them.
 ghost use Rattle.std.specs.Prelude.{IfOk};
 ghost use Rattle.link_script.specs.Scripts.{HasRanges};
 
@@ -18,6 +19,8 @@ pub enum Shown {
     Sums,
     /// Which copies arrived, and what was to be placed.
     Places,
+    /// The same, and which ends of the streams were told.
+    Ends,
 }
 
 /// What a connection is to do, and what is shown of it.
@@ -35,10 +38,10 @@ pub struct Case {
     pub injected: Option<Injected>,
 }
 
-/// Octets that go to the link of a path.
+/// Segments that go to the link of a path.
 #[derive(Drop)]
 pub struct Injected {
-    pub octets: Vec<u8>,
+    pub segments: Vec<Vec<u8>>,
     pub path: u8,
 }
 
@@ -65,6 +68,7 @@ fn shown_at(fields: &[&str], place: usize) -> Result<Shown, CaseFault> {
         "log" => Ok(Shown::Log),
         "sums" => Ok(Shown::Sums),
         "places" => Ok(Shown::Places),
+        "ends" => Ok(Shown::Ends),
         _ => Err(CaseFault::Form),
     }
 }
@@ -98,11 +102,20 @@ fn path_at(fields: &[&str]) -> Result<u8, CaseFault> {
     }
 }
 
+/// The octets of segments with `,` between them.
+fn segments_at(alloc: Global, field: &str) -> Result<Vec<Vec<u8>>, CaseFault> {
+    let mut segments = Vec::new(alloc);
+    for digits in field.split(',') {
+        segments.push(octets_at(alloc, &[digits], 0)?)?;
+    }
+    Ok(segments)
+}
+
 /// What goes to a link, where the case has a sixth field.
 fn injection(alloc: Global, fields: &[&str]) -> Result<Option<Injected>, CaseFault> {
     match fields.get(5) {
         Some(_) => Ok(Some(Injected {
-            octets: octets_at(alloc, fields, 5)?,
+            segments: segments_at(alloc, word_at(fields, 5)?)?,
             path: path_at(fields)?,
         })),
         None => Ok(None),

@@ -70,6 +70,26 @@ fn place_line(alloc: Global, ask: &Ask) -> Result<String, AllocError> {
     }
 }
 
+/// The line of an end of a stream that was told; nothing for other steps.
+fn end_line(alloc: Global, ask: &Ask) -> Result<String, AllocError> {
+    match ask {
+        Ask::Reassembly(side, ReassemblyCall::Fin { at }) => {
+            format!(in alloc; "  fin {} {}\n", side_word(*side), at)
+        }
+        _ => Ok(String::new(alloc)),
+    }
+}
+
+/// The lines of all copies that arrived, of all that was to be placed, and of all ends that were told.
+fn end_lines(alloc: Global, notes: &[Note]) -> Result<String, AllocError> {
+    let mut lines = String::new(alloc);
+    for note in notes {
+        lines.push_str(place_line(alloc, &note.ask)?.as_str())?;
+        lines.push_str(end_line(alloc, &note.ask)?.as_str())?;
+    }
+    Ok(lines)
+}
+
 /// The lines of all copies that arrived, and of all that was to be placed.
 fn place_lines(alloc: Global, notes: &[Note]) -> Result<String, AllocError> {
     let mut lines = String::new(alloc);
@@ -133,5 +153,10 @@ impl Journal {
     /// Which copies arrived, and what was to be placed, a line each.
     pub fn places(&self) -> Result<String, AllocError> {
         place_lines(self.alloc, self.notes.as_slice())
+    }
+
+    /// The same, and which ends of the streams were told.
+    pub fn ends(&self) -> Result<String, AllocError> {
+        end_lines(self.alloc, self.notes.as_slice())
     }
 }

@@ -8,7 +8,7 @@
 //!
 //! Of what was made, `log` shows each line of the log, and `sums` how many steps and rounds there were, the SHA-256 of the
 //! log's lines, and how many octets each side read with the SHA-256 of these. Both show how the run ended. `places` shows
-//! which copies arrived, and which octets were to be placed where.
+//! which copies arrived, and which octets were to be placed where; `ends` shows also which ends of the streams were told.
 #![tactic(auto)]
 
 ghost use Rattle.link_script.specs.Scripts.{HasRanges};
@@ -46,6 +46,7 @@ fn answer(alloc: Global, line: &str) -> Result<String, CaseFault> {
         Shown::Log => journal.log()?,
         Shown::Sums => journal.sums()?,
         Shown::Places => journal.places()?,
+        Shown::Ends => journal.ends()?,
     };
     Ok(format!(in alloc; "{line}\n{answer}")?)
 }
