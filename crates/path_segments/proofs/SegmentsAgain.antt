@@ -59,7 +59,7 @@ module _ (spelling : Spelling) (from : Side) (expected : ℕ) where
       then Some (number_means spelling from expected (unwrap_or (option_map (subflow_number spelling from) position) 0)) else None)
       ≡ option_map (λ n. At n) position
   ack_again None fresh = refl
-  ack_again (Some position) fresh = ap (λ n. Some (position_or _ n)) (position_again spelling from expected position fresh)
+  ack_again (Some position) fresh = ap (λ n. Some (position_or (subflow_number spelling from position) n)) (position_again spelling from expected position fresh)
 
 module _ (spelling : Spelling) (from : Side) (expected : Expected) (s : PlainSegment)
     (can : CanSay spelling from s) (is : IsExpected expected) (fresh : IsFresh spelling from expected s) where

@@ -102,11 +102,17 @@ fn path_at(fields: &[&str]) -> Result<u8, CaseFault> {
     }
 }
 
+/// One segment more.
+fn put(segments: &mut Vec<Vec<u8>>, octets: Vec<u8>) -> Result<(), AllocError> {
+    segments.push(octets)?;
+    Ok(())
+}
+
 /// The octets of segments with `,` between them.
 fn segments_at(alloc: Global, field: &str) -> Result<Vec<Vec<u8>>, CaseFault> {
     let mut segments = Vec::new(alloc);
     for digits in field.split(',') {
-        segments.push(octets_at(alloc, &[digits], 0)?)?;
+        put(&mut segments, octets_at(alloc, &[digits], 0)?)?;
     }
     Ok(segments)
 }
