@@ -1,5 +1,5 @@
 -- A copy that arrives: what it says, and what it makes of the end at once. The rest is treated duty by duty.
-use Rattle.std.specs.Prelude.{ℕ, ◌≡◌, ◌⊎◌, ◌+◌, ◌-◌, ◌%◌, ◌^◌, ◌<◌, ◌≤◌, ◌&&◌, ◌||◌, not, Bool, true, false, nat_lt, nat_le, if◌then◌else◌, unwrap_or, is_some, is_none, Option, Some, None, List, [], ◌∷◌, ◌++◌, length, take}
+use Rattle.std.specs.Prelude.{ℕ, ◌≡◌, ◌⊎◌, ◌+◌, ◌-◌, ◌%◌, ◌^◌, ◌<◌, ◌≤◌, ◌&&◌, ◌||◌, not, Bool, true, false, nat_lt, nat_le, if◌then◌else◌, unwrap_or, is_some, is_none, option_map, Option, Some, None, List, [], ◌∷◌, ◌++◌, length, take}
 use Rattle.std.specs.List.{flat_map, list_any}
 use Rattle.link_model.specs.Steps.{peer}
 use Rattle.outside_kit.specs.declared.side.Side.{Side}
@@ -30,6 +30,7 @@ use Rattle.subflow_tcp.specs.declared.verdicts.Meaning.TheVariants as means
 use Rattle.subflow_tcp.specs.declared.handshake.State.{State as EndPhase}
 use Rattle.subflow_tcp.specs.State.{EndState}
 use Rattle.subflow_tcp.specs.Segments.{Copy, occupied}
+use Rattle.subflow_tcp.specs.Spelling.{ResetNumbers, reset_numbers}
 use Rattle.subflow_tcp.specs.States.{is_half_open}
 use Rattle.subflow_tcp.specs.Judging.{meaning_of}
 use Rattle.subflow_tcp.specs.Taking.{after_arrival, arrival_of, after_holding}
@@ -183,19 +184,15 @@ abbrev pub position_meant : Profile → Side → HeardPosition → ℕ
 position_meant c s (At position) = position
 position_meant c s (Nowhere number) = position_numbered c s number
 
--- at the number that the copy acknowledges, or else at number 0 with an acknowledgement of all that it occupies (RFC 9293,
--- section 3.10.7.1)
+-- by the numbers of the copy, as they stand
+abbrev pub outgoing_reset : ResetNumbers ℕ → Outgoing
+outgoing_reset reset =
+    record { position = reset.at; acknowledged = reset.acknowledged; syn = false; fin = false; rst = true; length = 0 }
+
 abbrev pub reset_by : Profile → Side → Option HeardPosition → HeardPosition → ℕ → Outgoing
-reset_by c s (Some acknowledged) position occupied =
-    record { position = position_meant c s acknowledged; acknowledged = None; syn = false; fin = false; rst = true; length = 0 }
-reset_by c s None position occupied = record {
-  position = position_numbered c s 0;
-  acknowledged = Some (position_meant c (peer s) position + occupied);
-  syn = false;
-  fin = false;
-  rst = true;
-  length = 0;
-}
+reset_by c s acknowledged position occupied =
+    outgoing_reset (reset_numbers (position_numbered c s 0) (λ first n. first + n) (option_map (position_meant c s) acknowledged)
+    (position_meant c (peer s) position) occupied)
 
 abbrev pub reset_for : Profile → Side → HeardSegment → Outgoing
 reset_for c s h = reset_by c s h.acknowledged h.position (occupied (copy_of h))

@@ -1,6 +1,7 @@
 -- The laws of every end.
 use Rattle.std.proofs.Common.{◌≡◌, ℕ, ◌+◌, ◌≤◌, ◌⊎◌, Bool, true, false, if◌then◌else◌, ◌||◌, is_none, Option, Some, None, IfSome, refl, inl, inr, arith}
 use Rattle.std.proofs.Math.Nat.{le_trans}
+use Rattle.std.specs.Option.{IsSome}
 use Rattle.subflow_send.specs.Rules.{ack_kind, sample_of, after_acknowledge}
 use Rattle.subflow_tcp.specs.declared.handshake.State.TheVariants.{Established}
 use Rattle.subflow_tcp.specs.declared.segments.Hint.{Hint}
@@ -10,7 +11,7 @@ use Rattle.subflow_tcp.specs.Segments.{Copy}
 use Rattle.subflow_tcp.specs.State.{EndState}
 use Rattle.subflow_tcp.specs.Taking.{after_payload, after_hearing, after_established, after_acknowledgement, is_duplicate, told_by, after_duplicate, after_interruption, after_death}
 use Rattle.subflow_tcp.specs.Expiring.{is_timed, is_sixth, after_expiry}
-use Rattle.subflow_tcp.specs.Laws.{FiredTimersRest, SettlingSetsTheTimeout, NoTimerWithoutAReason, window_of, recovers, ArrivalsKeepTheWindow, GrowthsKeepTheWindow, SendingsKeepTheWindow}
+use Rattle.subflow_tcp.specs.Laws.{FiredTimersRest, SettlingSetsTheTimeout, NoTimerWithoutAReason, TimerWithAReason, window_of, recovers, ArrivalsKeepTheWindow, GrowthsKeepTheWindow, SendingsKeepTheWindow}
 use Rattle.subflow_tcp.proofs.WindowGrowth.{kind_grows, row_keeps, growth_keeps}
 
 -- ---- the timer
@@ -36,6 +37,14 @@ settling_sets on restart now s =
 
 pub none_without : NoTimerWithoutAReason
 none_without on restart now s e = rw e refl
+
+runs_either : (o : Option ℕ) (again : Bool) (tick : ℕ) → IsSome (if is_none o || again then Some tick else o)
+runs_either None again tick = refl
+runs_either (Some was) true tick = refl
+runs_either (Some was) false tick = refl
+
+pub some_with : TimerWithAReason
+some_with on restart now s e = rw e (runs_either s.timing.timer (s.timing.news || restart) (now + s.timing.rtt.rto))
 
 -- ---- the congestion window
 taken_keeps : (acknowledged now : ℕ) (hint : Hint) (c : Copy) (s : EndState) → window_of s ≤ 1048576 → recovers s ≡ false

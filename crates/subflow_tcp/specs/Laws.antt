@@ -1,5 +1,5 @@
 -- What the rules promise of every end.
-use Rattle.std.specs.Prelude.{ℕ, ◌≡◌, ◌+◌, ◌≤◌, ◌⊎◌, Bool, false, Option, Some, None, IfSome}
+use Rattle.std.specs.Prelude.{ℕ, ◌≡◌, ◌+◌, ◌≤◌, ◌⊎◌, Bool, true, false, Option, Some, None, IfSome, IsSome}
 use Rattle.rtt_timer.specs.Estimates.{IsWithinBounds}
 use Rattle.loss_recovery.specs.Windows.{after_growth}
 use Rattle.subflow_tcp.specs.declared.segments.Hint.{Hint}
@@ -28,6 +28,11 @@ SettlingSetsTheTimeout = (on restart : Bool) (now : ℕ) (s : EndState) → IsSe
 abbrev pub NoTimerWithoutAReason : Type 0
 NoTimerWithoutAReason = (on restart : Bool) (now : ℕ) (s : EndState) → is_timed on s ≡ false
     → (after_settling on restart now s).timing.timer ≡ None
+
+-- and with one a timer runs
+abbrev pub TimerWithAReason : Type 0
+TimerWithAReason = (on restart : Bool) (now : ℕ) (s : EndState) → is_timed on s ≡ true
+    → IsSome (after_settling on restart now s).timing.timer
 
 -- ---- the congestion window
 abbrev pub window_of : EndState → ℕ

@@ -72,16 +72,29 @@ abbrev pub said : Numbers → Outgoing → Emission
 said n o = record { head = head_said n o; pos = o.position; length = o.length }
 
 -- A segment that nobody wants gets a reset: at the number that it acknowledges, or else at number 0 with an
--- acknowledgement of all that it occupies (RFC 9293, section 3.10.7.1).
-abbrev pub reset_answer : Numbers → Head → ℕ → Head
-reset_answer n head occupied = record {
+-- acknowledgement of all that it occupies (RFC 9293, section 3.10.7.1). That is said of numbers, and of positions that have them.
+pub record ResetNumbers (N : Type 0) : Type 0 where
+  pub at : N
+  pub acknowledged : Option N
+
+-- the number 0, how one is counted on, and what the segment acknowledges, begins at and occupies
+abbrev pub reset_numbers : {N : Type 0} → N → (N → ℕ → N) → Option N → N → ℕ → ResetNumbers N
+reset_numbers zeroth behind (Some acknowledged) first occupied = record { at = acknowledged; acknowledged = None }
+reset_numbers zeroth behind None first occupied = record { at = zeroth; acknowledged = Some (behind first occupied) }
+
+abbrev pub reset_head : Numbers → ResetNumbers ℕ → Head
+reset_head n reset = record {
   source_port = own_port n;
   destination_port = peer_port n;
-  seq = (if head.ack_set then head.ack else 0);
-  ack = (if head.ack_set then 0 else number_of (2 ^ 32) head.seq occupied);
+  seq = reset.at;
+  ack = unwrap_or reset.acknowledged 0;
   syn = false;
   fin = false;
   rst = true;
-  ack_set = not head.ack_set;
+  ack_set = is_some reset.acknowledged;
   window = 0;
 }
+
+abbrev pub reset_answer : Numbers → Head → ℕ → Head
+reset_answer n head occupied =
+    reset_head n (reset_numbers 0 (number_of (2 ^ 32)) (if head.ack_set then Some head.ack else None) head.seq occupied)

@@ -2,7 +2,7 @@
 ghost use Rattle.std.specs.Prelude.{◌≡◌, ◌^◌, ◌<◌};
 ghost use Rattle.segment_wire.specs.Reading.{segment_of};
 ghost use Rattle.subflow_tcp.specs.Segments.{copy_of};
-ghost use Rattle.subflow_tcp.specs.Spelling.{own_port, peer_port, peer_initial, position_heard, acknowledged_heard, window_heard, heard, acknowledged_said, head_said, said, reset_answer};
+ghost use Rattle.subflow_tcp.specs.Spelling.{own_port, peer_port, peer_initial, position_heard, acknowledged_heard, window_heard, heard, acknowledged_said, head_said, said, reset_head, reset_answer};
 
 use crate::segments::{Arriving, Emission, Outgoing};
 use segment_wire::{Head, SegmentRef};
@@ -136,16 +136,27 @@ impl Numbers {
     pub(crate) fn reset_answer(&self, head: Head, occupied: u64) -> Head
         ensures { result ≡ reset_answer self.now head occupied }
     {
-        let after = number32(Seq32(head.seq), occupied).0;
+        if head.ack_set {
+            self.reset_head(head.ack, None)
+        } else {
+            let after = number32(Seq32(head.seq), occupied).0;
+            self.reset_head(0, Some(after))
+        }
+    }
+
+    /// A reset at this number, with this acknowledgement or none.
+    fn reset_head(&self, seq: u32, ack: Option<u32>) -> Head
+        ensures { result ≡ reset_head self.now (record { at = seq; acknowledged = ack }) }
+    {
         Head {
             source_port: self.own_port(),
             destination_port: self.peer_port(),
-            seq: if head.ack_set { head.ack } else { 0 },
-            ack: if head.ack_set { 0 } else { after },
+            seq,
+            ack: ack.unwrap_or(0),
             syn: false,
             fin: false,
             rst: true,
-            ack_set: !head.ack_set,
+            ack_set: ack.is_some(),
             window: 0,
         }
     }
