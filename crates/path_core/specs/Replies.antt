@@ -91,7 +91,23 @@ asks_segment (duties.Rate s) = false
 asks_segment (duties.Return s) = false
 asks_segment (duties.Leave s) = false
 asks_segment (duties.Dead s) = false
-asks_segment _ = true
+asks_segment (duties.Update s) = true
+asks_segment (duties.Syn s) = true
+asks_segment (duties.DataFin s) = true
+asks_segment (duties.Fin s) = true
+asks_segment (duties.Timer s) = true
+asks_segment (duties.SynAck s) = true
+asks_segment (duties.Refuse s) = true
+asks_segment (duties.Keep s) = true
+asks_segment (duties.PassFin s) = true
+asks_segment (duties.Acknowledge s) = true
+asks_segment (duties.Again s) = true
+asks_segment (duties.Answer s) = true
+asks_segment (duties.ResetAnswer s) = true
+asks_segment (duties.Resend s) = true
+asks_segment (duties.BreakReset s reason) = true
+asks_segment (duties.Reset s) = true
+asks_segment duties.End = true
 
 -- duties whose reply may take memory: they send, or store what came
 abbrev pub takes_memory : Duty → Bool
