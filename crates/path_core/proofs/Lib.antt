@@ -9,6 +9,7 @@ pub mod Parts
 pub mod Mapped
 pub mod Filling
 pub mod Sendings
+pub mod Handshakes
 pub mod Happening
 pub mod Fallen
 pub mod Lowering

@@ -8,6 +8,7 @@ pub mod Sends
 pub mod Closing
 pub mod Placing
 pub mod Arriving
+pub mod Handshakes
 pub mod Events
 pub mod Standing
 pub mod Emission

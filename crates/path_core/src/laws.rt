@@ -2,6 +2,7 @@
 ghost use Rattle.std.specs.Prelude.{◌≡◌, take};
 ghost use Rattle.path_core.specs.Example.{path_at_first, steps_made};
 ghost use Rattle.path_core.specs.FirstRound.{turn_of_path};
+ghost use Rattle.path_core.specs.Handshakes.{CapableIsTheHandshake, EndsAreThose};
 ghost use Rattle.path_core.specs.Octets.{octets};
 ghost use Rattle.path_core.specs.Shown.{AsksTheSame, TakesTheSame, BeginsTheSame};
 ghost use Rattle.path_core.specs.Turns.{EveryTurnEnds, EveryRoundEnds};
@@ -24,6 +25,13 @@ pub fn octets_do_as_values()
     ensures asks { AsksTheSame }
     ensures takes { TakesTheSame }
     ensures rounds { BeginsTheSame }
+{}
+
+/// A law: what a path says and hears by MP_CAPABLE is what `capable_handshake` says and hears (RFC 8684, section 3.1), and its
+/// DATA_FIN alone and the reason of its resets are said as by `data_close` (sections 3.3.3 and 3.6).
+pub fn options_are_those_of_the_handshakes()
+    ensures capable { CapableIsTheHandshake }
+    ensures ends { EndsAreThose }
 {}
 
 /// An example: the first 24 steps of path 0 of a connection that carries five octets, after the applications' first turns:

@@ -51,7 +51,9 @@ pub use actor_desk::{Ask, LocalStep, Note, Reply};
 pub use drawn::Drawn;
 pub use event::Event;
 pub use judged::Judged;
-pub use laws::{a_first_round, every_turn_ends, octets_do_as_values};
+pub use laws::{
+    a_first_round, every_turn_ends, octets_do_as_values, options_are_those_of_the_handshakes,
+};
 pub use lines::LineLeft;
 pub use modes::Modes;
 pub use path::Path;
