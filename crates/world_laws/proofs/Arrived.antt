@@ -213,10 +213,6 @@ told_owing : (P : ℕ → Type 0) (b : Bool) (tcp : EndState) → P tcp.congesti
 told_owing P true tcp h = h
 told_owing P false tcp h = h
 
-reset_none : (c : Profile) (s : Side) (o : Option HeardPosition) (position : HeardPosition) (occupied : ℕ) → ((reset_by c s o position occupied).fin ≡ false) × ((reset_by c s o position occupied).rst ≡ true)
-reset_none c s None position occupied = (refl, refl)
-reset_none c s (Some acknowledged) position occupied = (refl, refl)
-
 -- ---- the receive edge stays
 
 payload_edge : (pos : ℕ) (hint : Hint) (copy : Copy) (tcp : EndState) → hint.keep ≡ false → (taking.after_payload pos hint copy tcp).recv.edge ≡ tcp.recv.edge
@@ -383,7 +379,7 @@ arrived_end c s now sg e out back v path holds said calm h =
         treated = record {
           items = taken_say out.acks q (window_told sg.syn sg.window) 10 _ (options_say out.acks q (window_told sg.syn sg.window) (is_joined c) s sg.options told.options);
           fins = Every-nil _;
-          answer = reset_none c s (meant sg).acknowledged _ _;
+          answer = (refl, refl);
           window = if_some (join_asked items) said.window;
           sub = acknowledged_shows_in out.acks back sg m (is_unfinished e.tcp.state) fits said;
           nothing = h.treated.nothing;

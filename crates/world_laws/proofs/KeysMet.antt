@@ -427,11 +427,7 @@ abbrev pub IsNoSyn : Option Outgoing → Type 0
 IsNoSyn o = IfSome o (λ outgoing. outgoing.syn ≡ false)
 
 pub reset_answers : (c : Profile) (s : Side) (h : HeardSegment) → (reset_for c s h).syn ≡ false
-reset_answers c s h = by h.acknowledged
-  where
-    by : (o : Option HeardPosition) → (reset_by c s o h.position (occupied (copy_of h))).syn ≡ false
-    by None = refl
-    by (Some acknowledged) = refl
+reset_answers c s h = refl
 
 pub outgoing_tells : (c : Profile) (s : Side) (e : PathEnd) (o : Option Outgoing) (options : List PlainOption) → IsNoSyn o → TellsKey (is_joined c) (peer s) (segment_of c (outgoing_or o (reset_segment e.tcp)) options [] e)
 outgoing_tells c s e None options none = no_syn (is_joined c) s (segment_of c (reset_segment e.tcp) options [] e) refl
