@@ -32,7 +32,7 @@ pub(crate) struct Receiving {
 }
 
 impl Model for Receiving {
-    ghost use Rattle.std.specs.Prelude.{◌≤◌, ◌+◌, ◌^◌, IfSome, ∥◌∥₁};
+    ghost use Rattle.std.specs.Prelude.{◌≤◌, ◌+◌, ◌^◌, IfSome};
     ghost use Rattle.std.specs.Coded.{codes};
     ghost use Rattle.dss_mapping.specs.Mappings.{mappings_code};
     ghost use Rattle.path_core.specs.Ends.{ReceivingStore};
