@@ -65,7 +65,7 @@ fair_keys A (WithData sender receiver len checksum) = All-nil IsFair
 fair_keys B NoKey = All-nil IsFair
 fair_keys B (Sender sender) = All-nil IsFair
 fair_keys B (Both sender receiver) = All-cons IsFair (says.Keys receiver sender) [] tt (All-nil IsFair)
-fair_keys B (WithData sender receiver len checksum) = All-cons IsFair (says.Keys receiver sender) (mapping_items 0 1 len) tt (fair_mapping 0 1 len false)
+fair_keys B (WithData sender receiver len checksum) = All-cons IsFair (says.Keys receiver sender) (mapping_items 0 1 len false) tt (fair_mapping 0 1 len false)
 
 fair_join : (s : Side) (form : JoinForm) → All IsFair (join_items s form)
 fair_join A (Syn backup id token nonce) = All-nil IsFair

@@ -56,7 +56,7 @@ impl Model for Receiving {
     } };
 
     ghost invariant = { λ v. (v.next ≤ 2 ^ 62 + 2 ^ 20) × (v.window ≤ 2 ^ 20) × (v.told_edge ≤ 2 ^ 62 + 2 ^ 21)
-        × ∥ IfSome v.mapped_fin (λ fin. fin.place ≤ 2 ^ 62) ∥₁ };
+        × IfSome v.mapped_fin (λ fin. fin.place ≤ 2 ^ 62) };
 }
 
 impl Receiving {
