@@ -238,9 +238,7 @@ impl Path {
             return Err(AllocError);
         }
         let told_edge = self.edge_told(side, SegmentKind::Fin);
-        let Some(modes) = self.modes_after(side, SegmentKind::Fin) else {
-            return Err(AllocError);
-        };
+        let modes = self.modes_after(side, SegmentKind::Fin);
         self.hand(side, SegmentKind::Fin)?;
         let now = self.clock.now();
         self.end_mut(side).having_sent_fin(now, told_edge, modes);
