@@ -5,7 +5,7 @@ use Rattle.actor_desk.specs.declared.ask.Reply.{Reply}
 use Rattle.path_agenda.specs.declared.duty.Duty.{Duty}
 use Rattle.path_core.specs.Codec.{Codec}
 use Rattle.path_core.specs.Duties.{stands, ask_for, passed, answered}
-use Rattle.path_core.specs.Replies.{asks_bytes, asks_bytes_first}
+use Rattle.path_core.specs.Replies.{asks_bytes, asks_bytes_first, needs_memory, needs_memory_first}
 use Rattle.path_core.specs.State.{PathState, with_agenda}
 use Rattle.path_core.specs.Steps.{settled, settles_down, passable, passable_of, asks_first, answers}
 use Rattle.path_agenda.specs.Words.{first_of}
@@ -19,6 +19,10 @@ rest_is (d ∷ ds) = refl
 pub bytes_of_first : (ds : List Duty) (d : Duty) → first_of ds ≡ Some d → asks_bytes_first ds ≡ asks_bytes d
 bytes_of_first [] d is = cc
 bytes_of_first (x ∷ ds) d is = let same : x ≡ d = cc in ap asks_bytes same
+
+pub memory_of_first : {C : Type 0} (ds : List Duty) (d : Duty) (r : Reply) (p : PathState C) → first_of ds ≡ Some d → needs_memory_first ds r p ≡ needs_memory d r p
+memory_of_first [] d r p is = cc
+memory_of_first (x ∷ ds) d r p is = let same : x ≡ d = cc in ap (λ y. needs_memory y r p) same
 
 module _ {C : Type 0} (k : Codec C) where
   pub ask_of_first : (ds : List Duty) (d : Duty) (p : PathState C) → first_of ds ≡ Some d → asks_first k ds p ≡ Some (ask_for k d p)

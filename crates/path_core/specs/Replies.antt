@@ -1,5 +1,5 @@
 -- What the rules ask of a reply, and which duties ask for bytes.
-use Rattle.std.specs.Prelude.{ℕ, All, ◌+◌, ◌^◌, ◌<◌, ◌≤◌, Bool, true, false, Option, Some, None, List, [], ◌∷◌, length}
+use Rattle.std.specs.Prelude.{ℕ, All, ◌+◌, ◌^◌, ◌<◌, ◌≤◌, Bool, true, false, ◌||◌, is_some, Option, Some, None, List, [], ◌∷◌, length}
 use Rattle.reassembly_book.specs.declared.call.ReassemblyReply.TheVariants as reassembly_replies
 use Rattle.control_book.specs.declared.call.ControlReply.TheVariants as control_replies
 use Rattle.linked_increase.specs.Paths.{IsInRange}
@@ -10,7 +10,11 @@ use Rattle.actor_desk.specs.declared.ask.Reply.{Reply}
 use Rattle.actor_desk.specs.declared.ask.Reply.TheVariants as replies
 use Rattle.path_agenda.specs.declared.duty.Duty.{Duty}
 use Rattle.path_agenda.specs.declared.duty.Duty.TheVariants as duties
-use Rattle.path_core.specs.Emission.{Grant}
+use Rattle.path_core.specs.declared.event.Event.{Event}
+use Rattle.path_core.specs.declared.event.Event.TheVariants as happenings
+use Rattle.path_core.specs.Emission.{Grant, first_unsent, grant_in}
+use Rattle.path_core.specs.Events.{next_event}
+use Rattle.path_core.specs.State.{PathState, end_at}
 
 -- what is to be acknowledged is a place, and how much more is taken a window
 abbrev pub IsAckBounded : Reply → Type 0
@@ -130,6 +134,25 @@ takes_memory (duties.Resend s) = true
 takes_memory (duties.BreakReset s reason) = true
 takes_memory (duties.Reset s) = true
 takes_memory _ = false
+
+-- a copy arrives
+abbrev pub is_arrival : Option Event → Bool
+is_arrival None = false
+is_arrival (Some (happenings.Joins tick)) = false
+is_arrival (Some (happenings.Takes line)) = false
+is_arrival (Some (happenings.Arrives due)) = true
+is_arrival (Some (happenings.Fires s tick)) = false
+
+-- the reply to a duty needs memory where a segment is sent or may be, bytes were granted, or a copy arrives
+abbrev pub needs_memory : {C : Type 0} → Duty → Reply → PathState C → Bool
+needs_memory (duties.Data s) r p = is_some (first_unsent (end_at s p)) || is_some (grant_in r)
+needs_memory duties.Events r p = is_arrival (next_event p)
+needs_memory d r p = takes_memory d
+
+abbrev pub needs_memory_first : {C : Type 0} → List Duty → Reply → PathState C → Bool
+needs_memory_first [] r p = false
+needs_memory_first (d ∷ ds) r p = needs_memory d r p
+
 
 -- the turn hasn't ended, and the reply is of the asked kind, within bounds
 abbrev pub TakesReply : Option Ask → Reply → Type 0

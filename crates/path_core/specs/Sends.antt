@@ -1,5 +1,5 @@
 -- Handing a segment to the link: the step that tells it, and what it makes of the end and of the link.
-use Rattle.std.specs.Prelude.{ℕ, ◌+◌, min, ◌&&◌, ◌||◌, nat_lt, Bool, if◌then◌else◌, Option, Some, None, List, length}
+use Rattle.std.specs.Prelude.{ℕ, ◌+◌, ◌-◌, ◌^◌, min, ◌&&◌, ◌||◌, nat_lt, Bool, if◌then◌else◌, Option, Some, None, List, length}
 use Rattle.outside_kit.specs.declared.side.Side.{Side}
 use Rattle.link_model.specs.State.{LinkState}
 use Rattle.link_model.specs.Steps.{after_send, next_number}
@@ -38,9 +38,9 @@ with_edge_told segment e = record e { receiving = record e.receiving { told_edge
 abbrev pub has_mapping : PlainSegment → PathEnd → Bool
 has_mapping segment e = e.modes.identity && (owes_mapping e && (segment.fin || nat_lt 0 (length segment.payload)))
 
--- the position behind a segment of data or FIN
+-- the position behind a segment of data or FIN; those from 2 ^ 64 - 1 on count as one
 abbrev pub end_of : PlainSegment → ℕ
-end_of segment = segment.position + (length segment.payload + (if segment.fin then 1 else 0))
+end_of segment = min (segment.position + (length segment.payload + (if segment.fin then 1 else 0))) (2 ^ 64 - 1)
 
 abbrev pub least : Option ℕ → ℕ → Option ℕ
 least None n = Some n

@@ -5,7 +5,7 @@ ghost use Rattle.std.specs.Prelude.{◌≡◌, true, false, IfOk, IsOk, OnOk, On
 ghost use Rattle.actor_desk.specs.Kinds.{CanBeAsked};
 ghost use Rattle.path_core.specs.Octets.{octets};
 ghost use Rattle.path_core.specs.Duties.{stands, ask_for, passed, answered};
-ghost use Rattle.path_core.specs.Replies.{IsAckBounded, AreRowsInRange, asks_bytes, is_of_copy, asks_segment, takes_memory};
+ghost use Rattle.path_core.specs.Replies.{IsAckBounded, AreRowsInRange, asks_bytes, is_of_copy, asks_segment, takes_memory, needs_memory};
 
 use crate::joining::join_begin_ask;
 use crate::path::Path;
@@ -209,12 +209,13 @@ impl Path {
     ///
     /// # Errors
     ///
-    /// Only where there is no memory; all is then as it was.
+    /// Only where there is no memory, and the reply needs some; all is then as it was.
     pub(crate) fn answer(&mut self, duty: Duty, reply: &Reply) -> Result<(), AllocError>
         requires acks { IsAckBounded reply.now }
         requires rows { AreRowsInRange reply.now }
         ensures ok { OnOk result (self.new ≡ answered octets duty reply.now self.old) }
         ensures err { OnErr result (self.new ≡ self.old) }
+        ensures plain { needs_memory duty reply.now self.old ≡ false → IsOk result }
     {
         match duty {
             Duty::Data(side) => self.answer_data(side, reply),

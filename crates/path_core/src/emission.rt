@@ -1,6 +1,6 @@
 //! What an end sends by itself: its SYN, records and grants as long as there is room, DATA_FIN, FIN; and its timer.
 
-ghost use Rattle.std.specs.Prelude.{◌≡◌, ◌≤◌, ◌<◌, ◌+◌, ◌-◌, ◌^◌, false, OnOk, OnErr, IsTrue};
+ghost use Rattle.std.specs.Prelude.{◌≡◌, ◌≤◌, ◌<◌, ◌+◌, ◌-◌, ◌^◌, ◌||◌, false, is_some, IsOk, OnOk, OnErr, IsTrue};
 ghost use Rattle.actor_desk.specs.Kinds.{CanBeAsked};
 ghost use Rattle.subflow_send.specs.Records.{record_of};
 ghost use Rattle.subflow_tcp.specs.declared.segments.Occasion.TheVariants.{Fin};
@@ -191,6 +191,7 @@ impl Path {
     fn hear_grant(&mut self, side: Side, reply: &Reply) -> Result<(), AllocError>
         ensures ok { OnOk result (self.new ≡ answered_grant side (grant_in reply.now) reply.now self.old) }
         ensures err { OnErr result (self.new ≡ self.old) }
+        ensures plain { is_some (grant_in reply.now) ≡ false → IsOk result }
     {
         match reply {
             Reply::Send(SendReply::Granted { span, piece }) => {
@@ -211,6 +212,7 @@ impl Path {
     pub(crate) fn answer_data(&mut self, side: Side, reply: &Reply) -> Result<(), AllocError>
         ensures ok { OnOk result (self.new ≡ answered_data octets side (first_unsent (end_at side self.old)) reply.now self.old) }
         ensures err { OnErr result (self.new ≡ self.old) }
+        ensures plain { (is_some (first_unsent (end_at side self.old)) || is_some (grant_in reply.now)) ≡ false → IsOk result }
     {
         if self.end(side).tcp.first_unsent().is_some() {
             self.send(side, SegmentKind::Unsent, Occasion::Unsent)
@@ -238,9 +240,7 @@ impl Path {
             return Err(AllocError);
         }
         let told_edge = self.edge_told(side, SegmentKind::Fin);
-        let Some(modes) = self.modes_after(side, SegmentKind::Fin) else {
-            return Err(AllocError);
-        };
+        let modes = self.modes_after(side, SegmentKind::Fin);
         self.hand(side, SegmentKind::Fin)?;
         let now = self.clock.now();
         self.end_mut(side).having_sent_fin(now, told_edge, modes);

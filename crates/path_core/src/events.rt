@@ -1,6 +1,6 @@
 //! What happens on a path by itself: its join, lines of the script, copies that arrive, timers that run out.
 
-ghost use Rattle.std.specs.Prelude.{◌≡◌, ◌&&◌, ◌∷◌, ◌++◌, ◌<◌, ◌^◌, ◌-◌, [], max, if◌then◌else◌, IfSome, IsSome, OnOk, OnErr};
+ghost use Rattle.std.specs.Prelude.{◌≡◌, ◌&&◌, ◌∷◌, ◌++◌, ◌<◌, ◌^◌, ◌-◌, [], false, max, if◌then◌else◌, IfSome, IsSome, IsOk, OnOk, OnErr};
 ghost use Rattle.actor_desk.specs.Kinds.{CanBeAsked};
 ghost use Rattle.link_model.specs.Steps.{next_due};
 ghost use Rattle.outside_kit.specs.declared.side.Side.TheVariants.{A, B};
@@ -9,6 +9,7 @@ ghost use Rattle.subflow_tcp.specs.States.{is_dead};
 ghost use Rattle.path_agenda.specs.declared.duty.Duty.TheVariants as duties;
 ghost use Rattle.path_core.specs.declared.event.Event.TheVariants as event;
 ghost use Rattle.path_agenda.specs.Agenda.{rest_of_turn};
+ghost use Rattle.path_core.specs.Replies.{is_arrival};
 ghost use Rattle.path_core.specs.Events.{is_dead_or_listening, is_dead_path, tick_of, next_join, next_line, next_copy, next_fire, earlier, earliest, before, next_event, step_of, step_for, is_death, died_unless_dead, path_died, line_taken, after_firing, template_fired, timer_fired, at_tick, copy_taken, joins_at_tick, happens_if, CanHappen};
 ghost use Rattle.path_core.specs.Octets.{octets};
 ghost use Rattle.path_core.specs.State.{end_at, path_of};
@@ -257,6 +258,7 @@ impl Path {
     pub(crate) fn answer_event(&mut self, reply: &Reply) -> Result<(), AllocError>
         ensures ok { OnOk result (self.new ≡ happens_if octets (next_event self.old) reply.now self.old) }
         ensures err { OnErr result (self.new ≡ self.old) }
+        ensures plain { is_arrival (next_event self.old) ≡ false → IsOk result }
     {
         match self.next_event() {
             Some(Event::Joins(tick)) => {

@@ -1,6 +1,6 @@
 //! Handing a segment to the link: the step that tells it, and what it makes of the end and of the link.
 
-ghost use Rattle.std.specs.Prelude.{◌≡◌, ◌≤◌, ◌<◌, ◌+◌, ◌^◌, IfSome, OnOk, OnErr};
+ghost use Rattle.std.specs.Prelude.{◌≡◌, ◌≤◌, ◌+◌, ◌^◌, OnOk, OnErr};
 ghost use Rattle.actor_desk.specs.Kinds.{CanBeAsked};
 ghost use Rattle.link_model.specs.Octets.{after_octets};
 ghost use Rattle.path_core.specs.Octets.{octets};
@@ -25,16 +25,14 @@ use subflow_tcp::Occasion;
 /// A link takes fewer segments than this from a side.
 const MOST_SEGMENTS: u64 = 1 << 63;
 
-/// Positions lie below this one.
-const LIMIT: u64 = 1 << 62;
-
 /// The position behind a segment of data or FIN.
 fn end_of(said: &Said<'_>) -> Pos
-    requires { said.now.outgoing.position < 2 ^ 62 }
     ensures { result ≡ end_of (plain_said said.now) }
 {
     let fin = if said.outgoing.fin { 1 } else { 0 };
-    said.outgoing.position + (said.payload.len() as u64 + fin)
+    said.outgoing
+        .position
+        .saturating_add(said.payload.len() as u64 + fin)
 }
 
 /// The least of several positions.
@@ -80,18 +78,15 @@ impl PathEnd {
         self.modes.identity && self.owes_mapping() && some
     }
 
-    /// What the end knows after a segment, of which it may have to know where it ends; none where positions are used up.
-    fn modes_after(&self, said: &Said<'_>) -> Option<Modes>
-        ensures { IfSome result (λ modes. modes ≡ (with_mapping_told (plain_said said.now) self.now).modes) }
+    /// What the end knows after a segment, of which it may have to know where it ends.
+    fn modes_after(&self, said: &Said<'_>) -> Modes
+        ensures { result ≡ (with_mapping_told (plain_said said.now) self.now).modes }
     {
-        if said.outgoing.position >= LIMIT {
-            return None;
-        }
         let mut modes = self.modes;
         if self.has_mapping(said) {
             modes.mapped_to = least(modes.mapped_to, end_of(said));
         }
-        Some(modes)
+        modes
     }
 
     /// A segment was sent on this occasion, which told this edge.
@@ -140,9 +135,9 @@ impl Path {
         self.end(side).edge_told(&self.said(side, kind))
     }
 
-    /// What the end of a side knows after the segment; none where positions are used up.
-    pub(crate) fn modes_after(&self, side: Side, kind: SegmentKind) -> Option<Modes>
-        ensures { IfSome result (λ modes. modes ≡ (with_mapping_told (said_by kind self.now.profile side (end_at side self.now)) (end_at side self.now)).modes) }
+    /// What the end of a side knows after the segment.
+    pub(crate) fn modes_after(&self, side: Side, kind: SegmentKind) -> Modes
+        ensures { result ≡ (with_mapping_told (said_by kind self.now.profile side (end_at side self.now)) (end_at side self.now)).modes }
     {
         self.end(side).modes_after(&self.said(side, kind))
     }
@@ -190,9 +185,7 @@ impl Path {
         ensures err { OnErr result (self.new ≡ self.old) }
     {
         let told_edge = self.edge_told(side, kind);
-        let Some(modes) = self.modes_after(side, kind) else {
-            return Err(AllocError);
-        };
+        let modes = self.modes_after(side, kind);
         self.hand(side, kind)?;
         let now = self.clock.now();
         self.end_mut(side)

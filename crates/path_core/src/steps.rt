@@ -3,7 +3,7 @@
 ghost use Rattle.std.specs.Prelude.{◌≡◌, ◌≤◌, ◌*◌, ◌^◌, [], false, IfOk, IfSome, IsOk, OnOk, OnErr};
 ghost use Rattle.actor_desk.specs.Kinds.{CanBeAsked};
 ghost use Rattle.path_core.specs.Octets.{octets};
-ghost use Rattle.path_core.specs.Replies.{TakesReply, IsAckBounded, AreRowsInRange, asks_bytes_first};
+ghost use Rattle.path_core.specs.Replies.{TakesReply, IsAckBounded, AreRowsInRange, asks_bytes_first, needs_memory_first};
 ghost use Rattle.path_core.specs.Steps.{passable, settles_down, answers, asks_of, takes, next_round};
 
 use crate::path::Path;
@@ -48,12 +48,13 @@ impl Path {
     }
 
     /// The reply answers the first duty.
-    #[tactic(auto, using(crate::proofs::FirstDuty::answer_of_first, crate::proofs::FirstDuty::answer_of_none))]
+    #[tactic(auto, using(crate::proofs::FirstDuty::answer_of_first, crate::proofs::FirstDuty::answer_of_none, crate::proofs::FirstDuty::memory_of_first))]
     fn answer_first(&mut self, reply: &Reply) -> Result<(), AllocError>
         requires acks { IsAckBounded reply.now }
         requires rows { AreRowsInRange reply.now }
         ensures ok { OnOk result (self.new ≡ answers octets self.old.agenda reply.now self.old) }
         ensures err { OnErr result (self.new ≡ self.old) }
+        ensures plain { needs_memory_first self.old.agenda reply.now self.old ≡ false → IsOk result }
     {
         match self.agenda.first() {
             Some(duty) => self.answer(duty, reply),
@@ -65,12 +66,14 @@ impl Path {
     ///
     /// # Errors
     ///
-    /// Only where there is no memory; the path is then as it was.
+    /// Only where there is no memory, and the reply needs some: a segment is sent or may be, bytes were granted, or a copy arrives.
+    /// The path is then as it was.
     #[tactic(auto, using(crate::proofs::InBounds::acks_bounded, crate::proofs::InBounds::rows_in_range))]
     pub fn take(&mut self, reply: &Reply) -> Result<(), AllocError>
         requires { TakesReply (asks_of octets self.old) reply.now }
         ensures ok { OnOk result (self.new ≡ takes octets reply.now self.old) }
         ensures err { OnErr result (self.new ≡ self.old) }
+        ensures plain { needs_memory_first self.old.agenda reply.now self.old ≡ false → IsOk result }
     {
         self.answer_first(reply)?;
         self.settle();
