@@ -28,7 +28,7 @@ use Rattle.stream_lanes.specs.View.{View}
 use Rattle.stream_lanes.proofs.Lists.{Every-nil}
 use Rattle.actor_desk.specs.Words.{is_nil}
 use Rattle.path_agenda.specs.declared.heard.Heard.{Heard}
-use Rattle.path_core.specs.Arriving.{asked_in, is_taken, copy_of, items_of, hint_of, reset_by, owing_if, owes_by, with_payload, judged_in, taken_as, after_judged, HeardOption, acknowledged_in, after_join, answered_in, cleared_in, held_of, with_answer, with_held}
+use Rattle.path_core.specs.Arriving.{asked_in, is_taken, copy_of, items_of, hint_of, owing_if, owes_by, with_payload, judged_in, taken_as, after_judged, HeardOption, acknowledged_in, after_join, answered_in, cleared_in, held_of, with_answer, with_held}
 use Rattle.path_core.specs.Ends.{PathEnd}
 use Rattle.path_core.specs.Joins.{is_joined, join_asked, join_answer}
 use Rattle.path_core.specs.State.{Profile}
@@ -43,7 +43,6 @@ use Rattle.world_laws.proofs.Roads.{Strolls, stays}
 use Rattle.world_laws.proofs.Showing.{HasSub, HasNone, HasData, HasFin, Knowledge, knowledge_of, is_unfinished, AcksShow, SegmentShows, EndShows}
 use Rattle.world_laws.proofs.Taking.{heard_lane, hears, heard_goes, heard_under, heard_more}
 use Rattle.world_laws.proofs.Rules.{sub_of_none}
-use Rattle.path_segments.specs.declared.position.HeardPosition.{HeardPosition}
 use Rattle.path_segments.specs.declared.position.HeardPosition.TheVariants.{At}
 
 -- the octets of a payload are on the lane, where they are held

@@ -1,6 +1,6 @@
 -- The states of A's end of path 0: as soon as A hears a sign of B that may make its side sure, B's answer to the SYN was heard. And
 -- what the SYNs of a path that joins show.
-use Rattle.std.proofs.Common.{◌≡◌, refl, sym, ◌∙◌, ap, ℕ, zero, suc, ◌+◌, ◌&&◌, ◌||◌, ◌==◌, nat_lt, nat_le, is_some, not, unwrap_or, Bool, true, false, if◌then◌else◌, Option, Some, None, List, [], ◌∷◌, subst}
+use Rattle.std.proofs.Common.{◌≡◌, refl, sym, ◌∙◌, ap, ℕ, zero, suc, ◌+◌, ◌&&◌, ◌||◌, ◌==◌, nat_lt, nat_le, is_some, not, Bool, true, false, if◌then◌else◌, Option, Some, None, List, [], ◌∷◌, subst}
 use Rattle.std.proofs.lemmas.Bool.{and_parts, and_from, both_ways, or_right, false≢true}
 use Rattle.std.specs.List.{list_all, list_any}
 use Rattle.std.specs.Option.{IfSome}
@@ -38,7 +38,7 @@ use Rattle.path_agenda.specs.declared.duty.Duty.TheVariants as duties
 use Rattle.path_core.specs.declared.judged.Judged.{Judged}
 use Rattle.path_core.specs.declared.judged.Judged.TheVariants as judged
 use Rattle.path_core.specs.Codec.{HeardSegment}
-use Rattle.path_core.specs.Arriving.{items_of, owing_if, reset_by, reset_for, taken_as, template_judged, with_payload, copy_of}
+use Rattle.path_core.specs.Arriving.{items_of, owing_if, reset_for, taken_as, template_judged, with_payload}
 use Rattle.path_core.specs.Ends.{PathEnd}
 use Rattle.path_core.specs.Joins.{is_joined, join_options}
 use Rattle.path_core.specs.Passing.{outgoing_or}
@@ -48,7 +48,6 @@ use Rattle.path_core.specs.Words.{is_side_a}
 use Rattle.path_agenda.specs.declared.heard.JoinStep.TheVariants as step
 use Rattle.world_laws.proofs.KeysWoken.{is_opens}
 use Rattle.world_laws.proofs.KeysWoken.{is_lively}
-use Rattle.path_segments.specs.declared.position.HeardPosition.{HeardPosition}
 
 -- ---- states
 
