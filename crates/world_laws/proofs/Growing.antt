@@ -1,5 +1,5 @@
 -- What was sent on a lane stays, so what the ends and the copies have to do with the lanes stays as these go on.
-use Rattle.std.proofs.Common.{◌≡◌, refl, sym, ◌∙◌, ap, subst, ℕ, suc, ◌-◌, ◌⊎◌, inl, inr, ⊎_elim, Bool, Option, Some, None, List, [], ◌++◌, true, arith}
+use Rattle.std.proofs.Common.{◌≡◌, refl, sym, ◌∙◌, ap, subst, ℕ, suc, ◌-◌, ◌⊎◌, inl, inr, ⊎_elim, Bool, Option, Some, None, List, [], ◌++◌, true, false, arith}
 use Rattle.std.proofs.lemmas.List.{append-nil}
 use Rattle.std.specs.Option.{IfSome}
 use Rattle.std.proofs.lemmas.Bool.{lt-ltb}

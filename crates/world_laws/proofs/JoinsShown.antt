@@ -23,6 +23,7 @@ use Rattle.path_core.specs.State.{PathState, end_at}
 use Rattle.path_core.specs.Values.{Carried, as_arrived, values}
 use Rattle.path_core.specs.Codec.{HeardSegment}
 use Rattle.path_core.proofs.CopiesRead.{near_read, far_read}
+use Rattle.path_segments.specs.Spelling.{subflow_number}
 use Rattle.path_core.proofs.FarResets.{unplaced}
 use Rattle.path_core.proofs.Showing.{same_event}
 use Rattle.world_laws.specs.declared.member.Member.TheVariants.{App, Path}
@@ -72,8 +73,8 @@ module _ (p : PathState Carried) (fresh : NextIsFresh p) (welcomes : NextIsWelco
 
       by_far : IsFarReset p.profile.spelling (spelled_by side) expected carried.segment → Welcomed heard
       by_far far =
-          let same = same_Some (unplaced (meant (as_arrived carried))) heard (sym (far_read p.profile.spelling side expected carried copy.from copy.sayable copy.expected far) ∙ reads) in
-          subst Welcomed same (reset_welcome due.to (end_at due.to p) (unplaced (meant (as_arrived carried))) far.reset (is_joined p.profile))
+          let same = same_Some (unplaced (subflow_number p.profile.spelling (spelled_by side) carried.segment.position) (meant (as_arrived carried))) heard (sym (far_read p.profile.spelling side expected carried copy.from copy.sayable copy.expected far) ∙ reads) in
+          subst Welcomed same (reset_welcome due.to (end_at due.to p) (unplaced (subflow_number p.profile.spelling (spelled_by side) carried.segment.position) (meant (as_arrived carried))) far.reset (is_joined p.profile))
 
   heard_welcome : (o : Option (Flight Carried)) → arriving due p.link ≡ o → heard_in octets due.to (option_map (shown_flight (octets_of p.profile.spelling)) o) (shown_path p) ≡ Some heard
       → Welcomed heard

@@ -639,7 +639,7 @@ module _ {C : Type 0} where
 
         by : (keys : Option KeyPair) (asked : Option JoinSyn) → Granting (join_taken s keys asked r (at xs)) refused
         by None None = done_on (duties.Refuse s ∷ ds) xs rest (λ t. each t)
-        by None (Some asked) = touched s _ (duties.Refuse s ∷ ds) (rw (need, rest) refl) need xs (each (peer s))
+        by None (Some asked) = touched s _ (duties.Refuse s ∷ ds) rest need xs (each (peer s))
         by (Some keys) None = done_on (duties.Refuse s ∷ ds) xs rest (λ t. each t)
         by (Some keys) (Some asked) = touched s _ (duties.SynAck s ∷ ds) (rw (need, rest) refl) need xs (each (peer s))
 

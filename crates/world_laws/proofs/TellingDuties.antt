@@ -406,7 +406,7 @@ module _ (six : SixBooks) (others : Others) (p : PathState Carried) (ab ba : Lan
 
     join_by : (keys : Option KeyPair) (asked : Option JoinSyn) → IfSome keys AreKeys → IfSome asked (λ a. IsNonce a.nonce) → Tells (join_taken s keys asked (reply_of six (join_heard_ask s (asked_at s p) p)) p)
     join_by None (Some asked) pair nonce =
-        on (with_mode_refused (reply_of six (join_heard_ask s (asked_at s p) p)) e) (replaced (duties.Refuse s) p.agenda) (rules.refused_tells p.profile s e tells (reply_of six (join_heard_ask s (asked_at s p) p)))
+        on (with_mode_refused (reply_of six (join_heard_ask s (asked_at s p) p)) e) (replaced (duties.Refuse s) p.agenda) (rules.join_refused_tells p.profile s e tells (reply_of six (join_heard_ask s (asked_at s p) p)))
         (replaced_fair (duties.Refuse s) p.agenda refl t.agenda)
     join_by None None pair nonce = tells_agenda p.profile p t (replaced (duties.Refuse s) p.agenda) (replaced_fair (duties.Refuse s) p.agenda refl t.agenda)
     join_by (Some keys) None pair nonce = tells_agenda p.profile p t (replaced (duties.Refuse s) p.agenda) (replaced_fair (duties.Refuse s) p.agenda refl t.agenda)

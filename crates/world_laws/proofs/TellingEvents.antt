@@ -35,7 +35,7 @@ use Rattle.world_laws.proofs.Happening.{without_kept, found_due, side_is}
 use Rattle.world_laws.proofs.Records.{every_find}
 use Rattle.world_laws.proofs.Telling.{SegmentTells, bare_tells}
 use Rattle.world_laws.proofs.TellingArrivals.{arrived_tells}
-use Rattle.world_laws.proofs.TellingRules.{AreKeys, opened_tells, died_tells, refused_tells, died_unless_tells, fired_tells}
+use Rattle.world_laws.proofs.TellingRules.{AreKeys, opened_tells, died_tells, join_refused_tells, died_unless_tells, fired_tells}
 use Rattle.world_laws.proofs.TellingSteps.{CopyTells, AreFair, PathTells, tells_at, tells_on, tells_agenda}
 
 -- ---- templates
@@ -159,7 +159,7 @@ module _ (p : PathState Carried) (h : PathTells p.profile p) where
   join_tells r dead living q keys dead_fair living_fair x = by (is_never r)
     where
       by : (b : Bool) → Tells (if b then goes_on A (never_joined r q.a) dead q else goes_on A (opened_by (keys_begun r) q.a) living q)
-      by true = tells_on p.profile q x A (never_joined r q.a) dead (refused_tells p.profile A (died q.a) (died_tells p.profile A q.a x.a) r) dead_fair
+      by true = tells_on p.profile q x A (never_joined r q.a) dead (join_refused_tells p.profile A (died q.a) (died_tells p.profile A q.a x.a) r) dead_fair
       by false = tells_on p.profile q x A (opened_by (keys_begun r) q.a) living (opened_tells p.profile A q.a x.a (keys_begun r) keys) living_fair
 
   -- ---- the earliest

@@ -210,8 +210,8 @@ module _ (c : Profile) (s : Side) (e : PathEnd) (h : EndTells c s e) where
   with_modes m modes = record { sender = h.sender; edge = h.edge; stream = h.stream; window = h.window; modes = modes; treated = h.treated }
 
   -- a join is refused, which tells the mode
-  pub refused_tells : (r : Reply) → EndTells c s (with_mode_refused r e)
-  refused_tells r = with_modes (with_mode_refused r e).modes (record { own_key = h.modes.own_key; peer_key = h.modes.peer_key; own_nonce = h.modes.own_nonce; peer_nonce = h.modes.peer_nonce })
+  pub join_refused_tells : (r : Reply) → EndTells c s (with_mode_refused r e)
+  join_refused_tells r = with_modes (with_mode_refused r e).modes (record { own_key = h.modes.own_key; peer_key = h.modes.peer_key; own_nonce = h.modes.own_nonce; peer_nonce = h.modes.peer_nonce })
 
   pub look_tells : (r : Reply) → EndTells c s (after_look r e)
   look_tells r = with_modes (modes_told r e.modes) (told_modes r e.modes h.modes)
