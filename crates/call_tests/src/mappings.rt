@@ -30,6 +30,7 @@ fn kept(pos: u64, place: u64) -> KeptMapping
         pos,
         place,
         mapping,
+        fin: false,
     }
 }
 
@@ -62,11 +63,13 @@ fn the_first_mapping_is_told(rt: HostRuntime) -> Result<(), Fail> {
         pos: 1,
         place: 0,
         mapping: mapping(3_000),
+        fin: false,
     };
     let second = KeptMapping {
         pos: 2_001,
         place: 2_000,
         mapping: mapping(2_000),
+        fin: false,
     };
     assert_eq!(rt; mappings.learn(1, 0, &first.mapping)?, Learn::New);
     assert_eq!(rt; mappings.learn(1, 0, &first.mapping)?, Learn::Same);

@@ -3,7 +3,7 @@ ghost use Rattle.std.specs.Prelude.{◌<◌, ◌^◌};
 use key_material::{Address, drawn, idsn};
 use mptcp_options::{CapableKeys, JoinForm};
 use path_segments::{
-    EndNumbers, Expected, PathMapping, PathOption, PathSegment, SaidSegment, Side, Spelling,
+    EndNumbers, Expected, HeardPosition, PathMapping, PathOption, PathSegment, SaidSegment, Side, Spelling,
     can_say, hear, write,
 };
 use seq_units::{Seq32, Seq64};
@@ -92,7 +92,7 @@ fn a_syn_both_ways(rt: HostRuntime) -> Result<(), Fail> {
         place: 0,
     };
     let heard = hear(&s, Side::A, &expected, octets.as_slice()).ok_or("a segment")?;
-    assert_eq!(rt; heard.position, Some(0));
+    assert_eq!(rt; heard.position, HeardPosition::At(0));
     assert_eq!(rt; heard.acknowledged, None);
     assert_eq!(rt; heard.window, 65_535);
     assert_eq!(rt; heard.mss, Some(1400));
@@ -186,7 +186,7 @@ fn a_reset_far_into_a_subflow(rt: HostRuntime) -> Result<(), Fail> {
     let heard = hear(&s, Side::B, &expected, octets.as_slice()).ok_or("a segment")?;
     assert_eq!(rt;
         (heard.position, heard.acknowledged, heard.rst, heard.window),
-        (Some(far), None, true, 96)
+        (HeardPosition::At(far), None, true, 96)
     );
     let mut options = heard.options;
     assert!(rt; matches!(options.next(), Some(PathOption::Fail { place: Some(12) })));
