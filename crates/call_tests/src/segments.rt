@@ -3,8 +3,8 @@ ghost use Rattle.std.specs.Prelude.{◌<◌, ◌^◌};
 use key_material::{Address, drawn, idsn};
 use mptcp_options::{CapableKeys, JoinForm};
 use path_segments::{
-    EndNumbers, Expected, HeardPosition, PathMapping, PathOption, PathSegment, SaidSegment, Side, Spelling,
-    can_say, hear, write,
+    EndNumbers, Expected, HeardPosition, PathMapping, PathOption, PathSegment, SaidSegment, Side,
+    Spelling, can_say, hear, write,
 };
 use seq_units::{Seq32, Seq64};
 use std::alloc::Global;

@@ -153,7 +153,6 @@ abbrev pub needs_memory_first : {C : Type 0} → List Duty → Reply → PathSta
 needs_memory_first [] r p = false
 needs_memory_first (d ∷ ds) r p = needs_memory d r p
 
-
 -- the turn hasn't ended, and the reply is of the asked kind, within bounds
 abbrev pub TakesReply : Option Ask → Reply → Type 0
 TakesReply None r = ⊥

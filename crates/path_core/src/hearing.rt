@@ -33,7 +33,11 @@ fn put(items: &mut Items, item: Heard)
 pub(crate) fn octets_in(length: u16, fin: bool) -> u16
     ensures { result ≡ octets_in length fin }
 {
-    if fin { length.saturating_sub(1) } else { length }
+    if fin {
+        length.saturating_sub(1)
+    } else {
+        length
+    }
 }
 
 /// A mapping counts where it is of so many bytes behind the SYN, all of which have places below 2^62.
