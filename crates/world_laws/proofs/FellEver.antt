@@ -44,7 +44,7 @@ fell_by_more book [] entry is = or_cases (is_identity book.fall.mode) (is_identi
 fell_by_more book (first ∷ journal) entry is = ⊎_elim
     (λ here. inl (or_first (is_identity book.fall.mode) (fell_by (control.after book first.call) journal) here))
     (λ later. ⊎_elim (λ before. inl (or_second (is_identity book.fall.mode) (fell_by (control.after book first.call) journal) before)) (λ by_it. inr by_it)
-        (fell_by_more (control.after book first.call) journal entry later))
+    (fell_by_more (control.after book first.call) journal entry later))
     (or_cases (is_identity book.fall.mode) (fell_by (control.after book first.call) (journal ++ entry ∷ [])) is)
 
 -- the side was in plain TCP, by its control book's journal
@@ -75,7 +75,7 @@ turn_ever start (Turn.Step actor) w known h s = by (slice_get w.crew actor) refl
     asking c there None is fell = h s fell
     asking c there (Some x) is fell = ⊎_elim
         (λ before. subst (λ (y : SixBooks). FellBack y s) (sym (books_after x c.pass w.books))
-            (fell_stays start.key_a start.key_b false (books_in w.books) x (member_asks_are start.key_a start.key_b false (books_in w.books) c.member x (known.crew.each actor c there) is) s (h s before)))
+        (fell_stays start.key_a start.key_b false (books_in w.books) x (member_asks_are start.key_a start.key_b false (books_in w.books) c.member x (known.crew.each actor c there) is) s (h s before)))
         (λ by_it. by_it)
         (fell_more x c.pass w.books s fell)
 

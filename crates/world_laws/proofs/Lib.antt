@@ -111,6 +111,7 @@ pub mod Ready
 pub mod CatchingUp
 pub mod RoundCatch
 pub mod AskingBooks
+pub mod AskingStamps
 pub mod RoundAsksAll
 pub mod AskingForAll
 pub mod FellEver

@@ -82,9 +82,9 @@ pub fn grants_are_done()
 
 /// A law: in each round, in whatever order the actors go, where the turn of a path is over, an end that has no record to send and
 /// may ask for bytes, with room in its window for a full segment, asked for all: of the octets that were written as the round began
-/// none below the edge of the peer's window is left that the path may take, unless it asked for octets in this round while it was
-/// on standby, or another path took an acknowledgement or gave back octets in this round, and so freed some, or after a fallback path
-/// 0 alone is given octets.
+/// none below the edge of the peer's window is left that the path may take. Else it was on standby when it asked last in this round;
+/// or after a fallback path 0 alone is given octets; or after the path asked last another one gave back some octets, or took an
+/// acknowledgement with a window past the edge as the round began.
 pub fn paths_ask_for_all()
     ensures octets { InEachRound octets PathsAskForAll }
     ensures values { InEachRound values PathsAskForAll }
