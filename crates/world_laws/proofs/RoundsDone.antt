@@ -11,10 +11,10 @@ use Rattle.world_laws.specs.declared.member.Member.TheVariants.{App, Path}
 use Rattle.world_laws.specs.Actors.{Actor, ActorCrew, member_asks, member_takes, member_next}
 use Rattle.world_laws.specs.Fine.{IsFineSince}
 use Rattle.world_laws.specs.Openings.{Start, path_begins, opened_world}
-use Rattle.world_laws.specs.RoundDone.{RoundState, first_round, next_round, round_by, round_after, round_of, EndsAt, EndsOnTime, RoundsEndOnTime, RoundsAreDone, StampsSinceTheRound}
+use Rattle.world_laws.specs.RoundDone.{RoundState, first_round, next_round, round_by, round_after, round_of, EndsAt, EndsOnTime, RoundsEndOnTime, RoundsAreDone, LawfulRoundsAreDone, StampsSinceTheRound}
 use Rattle.world_laws.specs.RoundNumbers.{BeginsRound, PathsAskForAll, ReadersCaughtUp, after_steps}
 use Rattle.world_laws.specs.StampedBooks.{answer_to}
-use Rattle.world_laws.specs.Worlds.{WorldState, Turn, crew_after, asked, stepped, world_step, all_over, greatest, begins, end_round, after_turn, world_run}
+use Rattle.world_laws.specs.Worlds.{WorldState, Turn, crew_after, asked, stepped, world_step, all_over, greatest, begins, end_round, after_turn, world_run, AreLawful}
 use Rattle.world_laws.proofs.AskingForAll.{paths_ask}
 use Rattle.world_laws.proofs.CastLifting.{nothing_due_is_left}
 use Rattle.world_laws.proofs.Opened.{opened_actors}
@@ -158,3 +158,10 @@ module _ {C : Type 0} (k : Codec C) where
         readers = reads.readers_are_done k start turns;
         caught_up = subst (ReadersCaughtUp r.begun) (sym now.is) (readers_caught_up k start r.begun now.order now.begun);
       }
+
+  lawful_later : (before later : List Turn) (w : WorldState C) → AreLawful k (before ++ later) w → AreLawful k later (world_run k before w)
+  lawful_later [] later w h = h
+  lawful_later (turn ∷ before) later w h = lawful_later before later (after_turn k turn w) h.1
+
+  pub lawful_rounds_are_done : LawfulRoundsAreDone k
+  lawful_rounds_are_done start before later lawful = rounds_are_done start before (lawful_later before (Turn.Round ∷ later) (opened_world start) lawful).0

@@ -45,7 +45,8 @@ pub record EndIsPlain (c : Profile) (s : Side) (e : PathEnd) : Type 0 where
 -- whether this control book, or one that the entries make of it one by one, is in plain TCP
 abbrev pub fell_by : Control → List (Entry ControlCall ControlReply) → Bool
 fell_by book [] = is_identity book.fall.mode
-fell_by book (entry ∷ entries) = is_identity book.fall.mode || fell_by (control.after book entry.call) entries
+fell_by book (entry ∷ entries) =
+    is_identity book.fall.mode || fell_by (control.after book entry.call) entries
 
 abbrev pub fell_in : ControlJournal → Bool
 fell_in stamped = fell_by stamped.opening stamped.journal
@@ -76,7 +77,8 @@ module _ {C : Type 0} where
 
   -- and it stays in plain TCP
   abbrev pub FallsLast : Codec C → WorldState C → Type 0
-  FallsLast k w = (s : Side) (more : List Turn) → has_fallen s w ≡ true → is_fallen s (world_run k more w) ≡ true
+  FallsLast k w =
+      (s : Side) (more : List Turn) → has_fallen s w ≡ true → is_fallen s (world_run k more w) ≡ true
 
   -- on path 0 positions are places
   abbrev pub PathIsPlain : Actor C → Type 0

@@ -59,14 +59,16 @@ PlainScriptsKeepAllPromises =
 -- After these turns the connection over octets is the one over segments as values, shown in octets: what it sends is spelled from
 -- the segments of that one, and what it receives is read as them. There short numbers go short.
 pub record IsShownOfValues (start : Start) (turns : List Turn) : Type 0 where
-  pub shown : world_run octets turns (opened_world start) ≡ shown_world (world_run values turns (opened_world start))
+  pub shown : world_run octets turns (opened_world start)
+      ≡ shown_world (world_run values turns (opened_world start))
   pub short : ShortNumbersGoShort start (world_run values turns (opened_world start))
 
 abbrev pub PlainScriptsAreShownOfValues : Type 0
 PlainScriptsAreShownOfValues =
-    (script : Script) (file_a file_b : List ℕ) (turns : List Turn) → IsPlainScript script file_a file_b
-    → IsShownOfValues (start_of script file_a file_b) turns
+    (script : Script) (file_a file_b : List ℕ) (turns : List Turn)
+    → IsPlainScript script file_a file_b → IsShownOfValues (start_of script file_a file_b) turns
 
 -- a connection by any script can run: so there are serial turns at every moment
 abbrev pub ScriptsCanRun : Type 0
-ScriptsCanRun = (script : Script) (file_a file_b : List ℕ) → HasRanges script → CanRun (start_of script file_a file_b)
+ScriptsCanRun =
+    (script : Script) (file_a file_b : List ℕ) → HasRanges script → CanRun (start_of script file_a file_b)

@@ -50,7 +50,8 @@ last_on_standby s before (note ∷ notes) = last_on_standby s (standby_after s n
 -- the stamp of the last of these steps that asked for bytes of this side's stream, or this stamp
 abbrev pub last_asked : Side → ℕ → List Note → ℕ
 last_asked s stamp [] = stamp
-last_asked s stamp (note ∷ notes) = last_asked s (if asks_grant s note.ask then note.stamp else stamp) notes
+last_asked s stamp (note ∷ notes) =
+    last_asked s (if asks_grant s note.ask then note.stamp else stamp) notes
 
 -- Of so many bytes none below the edge of the peer's window is left that the path may take; or when it asked for bytes last, in
 -- these steps, it was on standby; or the book gives bytes to another path alone, as after a fallback.
@@ -104,11 +105,16 @@ module _ {C : Type 0} where
   abbrev pub steps_since : ℕ → WorldState C → WorldState C → List Note
   steps_since actor begun w = drop (length (notes_at actor begun.crew)) (notes_at actor w.crew)
 
-  -- in this round, after the actor asked for bytes last, another one made such a step, past the edge as the round began
+  -- the step of another actor frees bytes, past the edge as the round began, after this actor asked for bytes last in it
+  abbrev pub frees_since : WorldState C → WorldState C → ℕ → Side → Note → Bool
+  frees_since begun w actor s note =
+      frees_after s (last_asked s 0 (steps_since actor begun w)) (written_by s begun).edge note
+
+  -- in this round another actor made such a step
   pub record OthersFreed (begun w : WorldState C) (actor : ℕ) (s : Side) : Type 0 where
     pub other : ℕ
     pub apart : other ≡ actor → ⊥
-    pub freed : list_any (frees_after s (last_asked s 0 (steps_since actor begun w)) (written_by s begun).edge) (steps_since other begun w) ≡ true
+    pub freed : list_any (frees_since begun w actor s) (steps_since other begun w) ≡ true
 
   -- An end that has no record to send and may ask for bytes, with room in its window for a full segment, asked for all, unless
   -- another path made more to be asked for.

@@ -6,7 +6,7 @@ ghost use Rattle.world_laws.specs.JoinsWait.{JoinsWait};
 ghost use Rattle.world_laws.specs.Laws.{AfterFreshTurns, Always, NothingDueIsLeft, SerialExists, SerialIsOne, StaysFine, OctetsDoAsValues, WritesTheFiles};
 ghost use Rattle.world_laws.specs.PlainScripts.{PlainScriptsAreShownOfValues, PlainScriptsKeepAllPromises, PlainScriptsStartPlainly, ScriptsCanRun};
 ghost use Rattle.world_laws.specs.Promises.{BothKeepTheirWord, EachTurnIsOneStep, EveryListIsFresh, IsPromised, IsPromisedOfOctets, JoinsAreRight, KeysNeverDiffer, NothingFollows, NothingWasRefused, OctetsAreValuesShown};
-ghost use Rattle.world_laws.specs.RoundDone.{RoundsAreDone, RoundsEndOnTime, StampsSinceTheRound};
+ghost use Rattle.world_laws.specs.RoundDone.{LawfulRoundsAreDone, RoundsAreDone, RoundsEndOnTime, StampsSinceTheRound};
 ghost use Rattle.world_laws.specs.RoundEnd.{GrantsAreDone, ReadersAreDone};
 ghost use Rattle.world_laws.specs.RoundNumbers.{InEachRound, PathsAskForAll, ReadersCaughtUp};
 ghost use Rattle.world_laws.specs.ShortNumbers.{ShortNumbersGoShort};
@@ -53,10 +53,12 @@ pub fn rounds_end_on_time()
 /// A law: where all turns of a round are over, in whatever order the actors went, its end is as it has to be. It is at its tick;
 /// nothing that was due before it is left; each end of a path that may still ask for bytes was refused its last grant, and asked
 /// for all; and each reader was told the end, or read as much as a side buffers, or found nothing more. Each part is a law of its
-/// own, too.
+/// own, too. So it is at each end of a round in lawful turns, and serial turns are lawful.
 pub fn rounds_are_done()
     ensures octets { RoundsAreDone octets }
     ensures values { RoundsAreDone values }
+    ensures octets_lawful { LawfulRoundsAreDone octets }
+    ensures values_lawful { LawfulRoundsAreDone values }
 {}
 
 /// A law: at every moment, where the turn of an application is over, it was told that the stream ended or was aborted, or it read
