@@ -3,3 +3,4 @@ pub mod RecordLaws
 pub mod Whole
 pub mod Covering
 pub mod ByPosition
+pub mod Counting

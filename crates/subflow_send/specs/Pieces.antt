@@ -1,5 +1,6 @@
 -- The representation: the SYN, the pieces and the FIN in fields of their own.
-use Rattle.std.specs.Prelude.{ℕ, ◌≡◌, ◌+◌, ◌-◌, ◌^◌, ◌<◌, ◌≤◌, ◌↔◌, Bool, true, false, IsSome, nat_le, if◌then◌else◌, Option, Some, None, List, [], ◌∷◌, ◌++◌, length, map}
+use Rattle.std.specs.Prelude.{ℕ, ◌≡◌, ◌+◌, ◌-◌, ◌^◌, ◌<◌, ◌≤◌, ◌↔◌, Bool, true, false, IsSome, nat_le, if◌then◌else◌, Option, Some, None, List, [], ◌∷◌, ◌++◌, length, map, sum_by}
+use Rattle.std.proofs.Common.{get_or}
 use Rattle.subflow_send.specs.declared.pieces.Piece.{Piece}
 use Rattle.subflow_send.specs.declared.record.RecordKind.TheVariants.{Data}
 use Rattle.subflow_send.specs.declared.record.Sending.{Sending}
@@ -53,6 +54,21 @@ piece_len p = length p.bytes
 
 abbrev pub piece_under_way : Piece → ℕ
 piece_under_way p = if is_unsent_piece p then 0 else length p.bytes
+
+-- whether the first piece ends at or before this position
+abbrev pub first_is_covered : ℕ → List Piece → Bool
+first_is_covered pos [] = false
+first_is_covered pos (p ∷ ps) = nat_le (piece_end p) pos
+
+-- this piece is sent once more
+abbrev pub sent_piece : ℕ → Piece → Piece
+sent_piece now p = record p { sending = sent_again now p.sending }
+
+-- what is kept beside the pieces: none before this place is to be sent, and so many octets are under way
+pub record IsCounted (pieces : List Piece) (sent_to under_way : ℕ) : Type 0 where
+  pub within : sent_to ≤ length pieces
+  pub before : (k : ℕ) (d : Piece) → k < sent_to → is_unsent_piece (get_or pieces k d) ≡ false
+  pub octets : under_way ≡ sum_by piece_under_way pieces
 
 -- what is kept of a sending side
 pub record IsKept (una nxt : ℕ) (syn : Option Sending) (pieces : List Piece) (fin : Option Sending) (finished : Bool) : Type 0 where

@@ -6,6 +6,7 @@
 mod laws;
 mod octets;
 mod pieces;
+mod queue;
 mod record;
 mod send;
 

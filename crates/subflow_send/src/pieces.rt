@@ -1,11 +1,11 @@
 //! The data pieces of a sending side, in order of their positions.
-ghost use Rattle.std.specs.Prelude.{◌≡◌, ◌<◌, ◌≤◌, ◌^◌, ◌==◌, not, ◌++◌, take, drop, length, map, sum_by, find, IfSome};
-ghost use Rattle.std.specs.List.{list_any};
+ghost use Rattle.std.specs.Prelude.{◌≡◌, ℕ, ◌<◌, ◌≤◌, ◌++◌, true, false, take, drop, length, map, find, IfSome, nat_le};
+ghost use Rattle.std.specs.Prelude.{slice_index_or};
 ghost use Rattle.std.specs.Option.{option_map};
 ghost use Rattle.subflow_send.specs.Records.{record_of};
-ghost use Rattle.subflow_send.specs.Rules.{stands_at, is_unsent, first_sent, expired_records, last_covered};
+ghost use Rattle.subflow_send.specs.Rules.{stands_at, last_covered};
 ghost use Rattle.subflow_send.specs.Sendings.{sent_again, first_at_an_expiry};
-ghost use Rattle.subflow_send.specs.Pieces.{piece_record, piece_len, piece_under_way, is_unsent_piece, unsent_piece, uncovered_pieces, sent_pieces, sending_of};
+ghost use Rattle.subflow_send.specs.Pieces.{piece_record, piece_end, piece_under_way, is_unsent_piece, unsent_piece, sending_of};
 
 use crate::octets::Octets;
 use crate::record::{RecordKind, RecordRef, Sending};
@@ -38,6 +38,24 @@ impl Piece {
             mapping: self.mapping,
             sending: self.sending,
         }
+    }
+
+    /// How many of its octets are under way: none where it is to be sent.
+    pub(crate) fn under_way(&self) -> u64
+        ensures { result ≡ piece_under_way self.now }
+    {
+        if self.sending.unsent {
+            0
+        } else {
+            self.bytes.len() as u64
+        }
+    }
+
+    /// Whether it ends at or before this position.
+    pub(crate) fn ends_by(&self, pos: Pos) -> bool
+        ensures { result ≡ nat_le (piece_end self.now) pos }
+    {
+        self.pos <= pos && self.bytes.len() as u64 <= pos - self.pos
     }
 }
 
@@ -73,30 +91,20 @@ impl Sending {
     }
 }
 
-/// Lets go of the pieces that end at or before this position.
-pub(crate) fn drop_covered(pieces: &mut VecDeque<Piece>, pos: Pos)
-    ensures { pieces.new.items ≡ uncovered_pieces pos pieces.old.items }
+/// The place of the first piece from the place `from` on that is to be sent, and the number of pieces where there is none.
+pub(crate) fn next_unsent(pieces: &VecDeque<Piece>, from: usize) -> usize
+    requires within { from ≤ length pieces.now.items }
+    requires sent { (k : ℕ) (d : Piece) → k < from → is_unsent_piece (slice_index_or pieces.now.items k d) ≡ false }
+    ensures within { result ≤ length pieces.now.items }
+    ensures before { (k : ℕ) (d : Piece) → k < result → is_unsent_piece (slice_index_or pieces.now.items k d) ≡ false }
+    ensures here { (d : Piece) → result < length pieces.now.items → is_unsent_piece (slice_index_or pieces.now.items result d) ≡ true }
 {
-    while let Some(first) = pieces.front() {
-        if pos < first.pos || pos - first.pos < first.bytes.len() as u64 {
-            return;
-        }
-        pieces.pop_front();
-    }
-}
-
-/// The first piece that is to be sent, lent.
-pub(crate) fn first_unsent(pieces: &VecDeque<Piece>) -> Option<RecordRef<'_>>
-    ensures value { option_map record_of result ≡ find is_unsent (map piece_record pieces.now.items) }
-    ensures bound { IfSome result (λ found. length found.piece.now ≤ 65475) }
-{
-    for index in 0..pieces.len() {
-        let piece = &pieces[index];
-        if piece.sending.unsent {
-            return Some(piece.lend());
+    for index in from..pieces.len() {
+        if pieces[index].sending.unsent {
+            return index;
         }
     }
-    None
+    pieces.len()
 }
 
 /// The piece at this position, lent.
@@ -113,49 +121,6 @@ pub(crate) fn piece_at(pieces: &VecDeque<Piece>, pos: Pos) -> Option<RecordRef<'
     None
 }
 
-/// Sends the first piece that is to be sent. Answers whether there is one.
-pub(crate) fn send_unsent(pieces: &mut VecDeque<Piece>, now: u64) -> bool
-    ensures sent { pieces.new.items ≡ sent_pieces now pieces.old.items }
-    ensures some { result ≡ list_any is_unsent_piece pieces.old.items }
-{
-    for index in 0..pieces.len() {
-        if pieces[index].sending.unsent {
-            let sending = pieces[index].sending.again(now);
-            pieces[index].sending = sending;
-            return true;
-        }
-    }
-    false
-}
-
-/// Sends the first piece. Answers whether there is one.
-pub(crate) fn send_first(pieces: &mut VecDeque<Piece>, now: u64) -> bool
-    ensures sent { map piece_record pieces.new.items ≡ first_sent now (map piece_record pieces.old.items) }
-    ensures some { result ≡ not (length pieces.old.items == 0) }
-{
-    if pieces.is_empty() {
-        return false;
-    }
-    let sending = pieces[0].sending.again(now);
-    pieces[0].sending = sending;
-    true
-}
-
-/// Marks the first piece as the first one at an expiry, and every other one as to be sent. Answers whether there is one.
-pub(crate) fn expire_first(pieces: &mut VecDeque<Piece>) -> bool
-    ensures marked { map piece_record pieces.new.items ≡ expired_records (map piece_record pieces.old.items) }
-    ensures some { result ≡ not (length pieces.old.items == 0) }
-{
-    let len = pieces.len();
-    if len == 0 {
-        return false;
-    }
-    let sending = pieces[0].sending.first_at_an_expiry();
-    pieces[0].sending = sending;
-    unsend_from(pieces, 1);
-    true
-}
-
 /// Marks each piece from this index on as to be sent.
 pub(crate) fn unsend_from(pieces: &mut VecDeque<Piece>, from: usize)
     ensures { pieces.new.items ≡ take from pieces.old.items ++ map unsent_piece (drop from pieces.old.items) }
@@ -163,21 +128,6 @@ pub(crate) fn unsend_from(pieces: &mut VecDeque<Piece>, from: usize)
     for index in from..pieces.len() {
         pieces[index].sending.unsent = true;
     }
-}
-
-/// How many octets of these pieces are under way.
-pub(crate) fn octets_under_way(pieces: &VecDeque<Piece>) -> u64
-    requires { sum_by piece_len pieces.now.items < 2 ^ 63 }
-    ensures { result ≡ sum_by piece_under_way pieces.now.items }
-{
-    let mut octets = 0;
-    for index in 0..pieces.len() {
-        let piece = &pieces[index];
-        if !piece.sending.unsent {
-            octets += piece.bytes.len() as u64;
-        }
-    }
-    octets
 }
 
 /// How the last of the pieces that end at or before this position was sent; `None` where there is none.

@@ -7,14 +7,11 @@ ghost use Rattle.subflow_send.specs.Sendings.{sent_again, to_be_sent};
 ghost use Rattle.subflow_send.specs.Pieces.{sending_of, unsent_sending};
 
 use crate::octets::Octets;
-use crate::pieces::{
-    Piece, drop_covered, expire_first, first_unsent, last_covered, octets_under_way, piece_at,
-    send_first, send_unsent, unsend_from,
-};
+use crate::pieces::Piece;
+use crate::queue::PieceQueue;
 use crate::record::{AckKind, RecordKind, RecordRef, Sending};
 use seq_units::{Mapping, Pos};
 use std::alloc::{AllocError, Global};
-use std::collections::VecDeque;
 use std::marker::Model;
 
 /// The mapping of a record that has no octets.
@@ -37,7 +34,7 @@ pub struct SubflowSend {
     /// How the SYN was sent, until it is acknowledged.
     syn: Option<Sending>,
     /// The data pieces that are not acknowledged whole, in order.
-    pieces: VecDeque<Piece>,
+    pieces: PieceQueue,
     /// How the FIN was sent, from its push until it is acknowledged.
     fin: Option<Sending>,
     /// The FIN was pushed.
@@ -52,9 +49,9 @@ impl Model for SubflowSend {
     ghost use Rattle.std.specs.Prelude.{◌-◌};
     ghost use Rattle.subflow_send.specs.Pieces.{all_records, IsKept};
 
-    ghost view = { λ s. record { una = s.una; nxt = s.nxt; records = all_records s.syn s.pieces.items (s.nxt - 1) s.fin; finished = s.finished } };
+    ghost view = { λ s. record { una = s.una; nxt = s.nxt; records = all_records s.syn s.pieces (s.nxt - 1) s.fin; finished = s.finished } };
 
-    ghost invariant = { λ s. IsKept s.una s.nxt s.syn s.pieces.items s.fin s.finished };
+    ghost invariant = { λ s. IsKept s.una s.nxt s.syn s.pieces s.fin s.finished };
 }
 
 impl SubflowSend {
@@ -70,7 +67,7 @@ impl SubflowSend {
             una: 0,
             nxt: 1,
             syn: Some(Sending::NEVER),
-            pieces: VecDeque::new(alloc),
+            pieces: PieceQueue::new(alloc),
             fin: None,
             finished: false,
         }
@@ -112,7 +109,7 @@ impl SubflowSend {
     {
         let pos = self.nxt;
         let bytes = Octets::of(self.alloc, piece)?;
-        self.pieces.push_back(Piece {
+        self.pieces.push(Piece {
             pos,
             bytes,
             mapping: *mapping,
@@ -179,7 +176,7 @@ impl SubflowSend {
         ensures { self.new ≡ after_acknowledge pos self.old }
     {
         self.syn = None;
-        drop_covered(&mut self.pieces, pos);
+        self.pieces.drop_covered(pos);
         self.fin = unless(pos >= self.nxt, self.fin);
         self.una = pos;
     }
@@ -209,7 +206,7 @@ impl SubflowSend {
         if let Some(fin) = unless(pos < self.nxt, self.fin) {
             return Some(fin);
         }
-        if let Some(sending) = last_covered(&self.pieces, pos) {
+        if let Some(sending) = self.pieces.last_covered(pos) {
             return Some(sending);
         }
         self.syn
@@ -223,8 +220,8 @@ impl SubflowSend {
         if let Some(syn) = self.syn {
             return Some(syn_ref(syn));
         }
-        if let Some(piece) = self.pieces.front() {
-            return Some(piece.lend());
+        if let Some(piece) = self.pieces.first() {
+            return Some(piece);
         }
         if let Some(fin) = self.fin {
             return Some(fin_ref(self.nxt - 1, fin));
@@ -240,7 +237,7 @@ impl SubflowSend {
         if let Some(syn) = if_unsent(self.syn) {
             return Some(syn_ref(syn));
         }
-        if let Some(piece) = first_unsent(&self.pieces) {
+        if let Some(piece) = self.pieces.first_unsent() {
             return Some(piece);
         }
         if let Some(fin) = if_unsent(self.fin) {
@@ -258,7 +255,7 @@ impl SubflowSend {
             self.syn = Some(syn.again(now));
             return;
         }
-        if send_unsent(&mut self.pieces, now) {
+        if self.pieces.send_unsent(now) {
             return;
         }
         self.fin = again(self.fin, now);
@@ -273,7 +270,7 @@ impl SubflowSend {
             self.syn = Some(syn.again(now));
             return;
         }
-        if send_first(&mut self.pieces, now) {
+        if self.pieces.send_first(now) {
             return;
         }
         self.fin = again(self.fin, now);
@@ -287,7 +284,7 @@ impl SubflowSend {
         if let Some(syn) = unless(pos != 0, self.syn) {
             return Some(syn_ref(syn));
         }
-        if let Some(piece) = piece_at(&self.pieces, pos) {
+        if let Some(piece) = self.pieces.at(pos) {
             return Some(piece);
         }
         if let Some(fin) = unless(pos != self.nxt - 1, self.fin) {
@@ -320,11 +317,11 @@ impl SubflowSend {
     {
         if let Some(syn) = self.syn {
             self.syn = Some(syn.first_at_an_expiry());
-            unsend_from(&mut self.pieces, 0);
+            self.pieces.expire_all();
             self.fin = unsent_again(self.fin);
             return;
         }
-        if expire_first(&mut self.pieces) {
+        if self.pieces.expire_first() {
             self.fin = unsent_again(self.fin);
             return;
         }
@@ -348,7 +345,7 @@ impl SubflowSend {
     pub fn flight(&self) -> u64
         ensures { result ≡ flight self.now }
     {
-        octets_under_way(&self.pieces)
+        self.pieces.under_way()
     }
 }
 

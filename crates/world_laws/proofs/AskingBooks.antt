@@ -1,7 +1,7 @@
 -- What a refused grant says of a send book in numbers, and what the calls of applications and paths make of it.
 use Rattle.std.proofs.Common.{◌≡◌, refl, sym, ◌∙◌, ap, subst, ℕ, zero, suc, ◌+◌, ◌-◌, ◌≤◌, ◌&&◌, ◌||◌, ◌==◌, not, min, max, nat_lt, nat_le, inl, inr, ◌⊎◌, ⊎_elim, Bool, true, false, cond, if◌then◌else◌, Option, Some, None, Result, Ok, Err, List, [], ◌∷◌, ◌++◌, length, take, drop, map, replicate, arith}
 use Rattle.std.proofs.lemmas.Bool.{and_parts, eqb-true, leb-true, ltb-false, false≢true}
-use Rattle.std.proofs.lemmas.List.{drop-drop, length-append, length-take, length-drop, length-map, length-replicate}
+use Rattle.std.proofs.lemmas.List.{drop-drop, drop_min, length-append, length-take, length-drop, length-map, length-replicate}
 use Rattle.std.proofs.lemmas.List.Sums.{count_by-le-length, sum_by-cons}
 use Rattle.std.specs.List.{count_by, list_any, position}
 use Rattle.outside_kit.specs.declared.side.Side.{Side}
@@ -12,7 +12,7 @@ use Rattle.send_book.specs.declared.call.SendCall.{SendCall}
 use Rattle.send_book.specs.declared.call.SendCall.TheVariants.{Write, Close, Grant, AckIn, Return, GoIdentity, GoInfinite, Abort}
 use Rattle.send_book.specs.declared.mark.ByteMark.{ByteMark}
 use Rattle.send_book.specs.declared.mark.ByteMark.TheVariants.{Acked, Held, Free}
-use Rattle.send_book.specs.Marks.{is_acked, is_free_for, given, returned}
+use Rattle.send_book.specs.Marks.{is_acked, is_free_for, is_held_by, given, returned}
 use Rattle.send_book.specs.State.{Sending, acked_len}
 use Rattle.send_book.specs.Steps.{taken, is_for, span_at, decision, reply_by, run_len, given_by, is_future, fin_after, after_call}
 use Rattle.send_book.specs.Tried.{contains, no_paths}
@@ -23,7 +23,8 @@ use Rattle.stream_lanes.proofs.Lists.{Every-append, in_take, in_drop, in_map, in
 use Rattle.actor_desk.specs.declared.ask.Note.{Note}
 use Rattle.actor_desk.specs.declared.ask.Reply.TheVariants as replies
 use Rattle.path_core.specs.Emission.{grant_in}
-use Rattle.world_laws.specs.RoundNumbers.{taken_len, asks_on_standby, AskedForAll}
+use Rattle.world_laws.specs.RoundEnd.{asks_grant}
+use Rattle.world_laws.specs.RoundNumbers.{taken_len, is_standby, standby_after, last_on_standby, last_asked, AskedForAll}
 use Rattle.world_laws.specs.RoundNumbers.AskedForAll.{Taken, Standby, Barred}
 
 -- ---- marks
@@ -128,6 +129,34 @@ module _ (path : ℕ) (change : ByteMark → ByteMark) where
 taken_returned : (path : ℕ) (ms : List ByteMark) → Every (IsTried path) ms → taken_len path ms ≤ taken_len path (map (returned path) ms)
 taken_returned path ms h = taken_changed path (returned path) ms (record { each = λ i m at. returned_taken path m (h.each i m at) })
 
+-- where some are acknowledged
+covered : (path n : ℕ) (ms : List ByteMark) → taken_len path ms ≤ taken_len path (replicate n Acked ++ drop n ms)
+covered path zero ms = omega arith
+covered path (suc n) [] = omega arith
+covered path (suc n) (m ∷ ms) = taken_first path (λ x. x) m Acked ms (replicate n Acked ++ drop n ms) (λ is. refl) (covered path n ms)
+
+taken_covered : (path n : ℕ) (ms : List ByteMark) → taken_len path ms ≤ taken_len path (replicate (min n (length ms)) Acked ++ drop n ms)
+taken_covered path n ms =
+    subst (λ xs. taken_len path ms ≤ taken_len path (replicate (min n (length ms)) Acked ++ xs)) (drop_min n ms) (covered path (min n (length ms)) ms)
+
+-- where a path holds none it gives back none
+none_returned : (who : ℕ) (ms : List ByteMark) → count_by (is_held_by who) ms ≡ 0 → map (returned who) ms ≡ ms
+none_returned who [] none = refl
+none_returned who (Acked ∷ ms) none =
+    let count : count_by (is_held_by who) (Acked ∷ ms) ≡ 0 + count_by (is_held_by who) ms = sum_by-cons (λ (x : ByteMark). cond (is_held_by who x) 1 0) Acked ms in
+    ap (λ xs. Acked ∷ xs) (none_returned who ms (omega (arith, none, count)))
+none_returned who (Free tried ∷ ms) none =
+    let count : count_by (is_held_by who) (Free tried ∷ ms) ≡ 0 + count_by (is_held_by who) ms = sum_by-cons (λ (x : ByteMark). cond (is_held_by who x) 1 0) (Free tried) ms in
+    ap (λ xs. Free tried ∷ xs) (none_returned who ms (omega (arith, none, count)))
+none_returned who (Held holder tried ∷ ms) none =
+    by (holder == who) (sum_by-cons (λ (x : ByteMark). cond (is_held_by who x) 1 0) (Held holder tried) ms) (λ rest. none_returned who ms rest)
+  where
+    by : (c : Bool) → count_by (is_held_by who) (Held holder tried ∷ ms) ≡ cond c 1 0 + count_by (is_held_by who) ms
+        → (count_by (is_held_by who) ms ≡ 0 → map (returned who) ms ≡ ms)
+        → (if c then Free tried else Held holder tried) ∷ map (returned who) ms ≡ Held holder tried ∷ ms
+    by true count rest = absurd (omega (arith, none, count))
+    by false count rest = ap (λ xs. Held holder tried ∷ xs) (rest (omega (arith, none, count)))
+
 -- where all are acknowledged all are taken
 all_acked : (path : ℕ) (ms : List ByteMark) → length ms ≤ count_by is_acked ms → length ms ≤ taken_len path ms
 all_acked path [] h = omega arith
@@ -151,14 +180,6 @@ any_last test (m ∷ steps) n is = by (test m) (any_last test steps n is)
     by true rest = refl
     by false rest = rest
 
-any_before : (test : Note → Bool) (steps : List Note) (n : Note) → list_any test steps ≡ true → list_any test (steps ++ n ∷ []) ≡ true
-any_before test [] n is = absurd (false≢true is)
-any_before test (m ∷ steps) n is = by (test m) is (any_before test steps n)
-  where
-    by : (b : Bool) → (b || list_any test steps) ≡ true → (list_any test steps ≡ true → list_any test (steps ++ n ∷ []) ≡ true) → (b || list_any test (steps ++ n ∷ [])) ≡ true
-    by true is rest = refl
-    by false is rest = rest is
-
 pub any_more : (test : Note → Bool) (steps more : List Note) → list_any test steps ≡ true → list_any test (steps ++ more) ≡ true
 any_more test [] more is = absurd (false≢true is)
 any_more test (m ∷ steps) more is = by (test m) is (any_more test steps more)
@@ -166,6 +187,15 @@ any_more test (m ∷ steps) more is = by (test m) is (any_more test steps more)
     by : (b : Bool) → (b || list_any test steps) ≡ true → (list_any test steps ≡ true → list_any test (steps ++ more) ≡ true) → (b || list_any test (steps ++ more)) ≡ true
     by true is rest = refl
     by false is rest = rest is
+
+pub last_more : (s : Side) (before : Bool) (steps : List Note) (n : Note) → last_on_standby s before (steps ++ n ∷ []) ≡ standby_after s n (last_on_standby s before steps)
+last_more s before [] n = refl
+last_more s before (m ∷ steps) n = last_more s (standby_after s m before) steps n
+
+pub asked_last : (s : Side) (stamp : ℕ) (steps : List Note) (n : Note)
+    → last_asked s stamp (steps ++ n ∷ []) ≡ (if asks_grant s n.ask then n.stamp else last_asked s stamp steps)
+asked_last s stamp [] n = refl
+asked_last s stamp (m ∷ steps) n = asked_last s (if asks_grant s m.ask then m.stamp else stamp) steps n
 
 -- ---- a book and a path, of which so much was written as the round began
 
@@ -323,6 +353,26 @@ module _ (path written : ℕ) (b : Sending) (h : IsOnes path written b) where
   barred_after (GoInfinite asker) is barred = absurd is
   barred_after Abort is barred = absurd is
 
+  -- an acknowledgement by which the window reaches no further
+  pub all_acknowledged : (s : Side) (steps : List Note) (next window : ℕ) → next + window ≤ b.edge → AskedForAll path s steps written b
+      → AskedForAll path s steps written (after_call b (AckIn next window))
+  all_acknowledged s steps next window below asked = by (is_future next b) asked
+    where
+      by : (future : Bool) → AskedForAll path s steps written b → AskedForAll path s steps written (if future then b else record b {
+        marks = replicate (min next (length b.marks)) Acked ++ drop next b.marks;
+        edge = max b.edge (next + window);
+        fin = fin_after next b;
+      })
+      by true asked = asked
+      by false (Taken all) = let more = taken_covered path next b.marks in Taken (omega (arith, all, more, below))
+      by false (Standby told) = Standby told
+      by false (Barred barred) = Barred barred
+
+  -- a return of nothing
+  pub all_returned : (s : Side) (steps : List Note) (who : ℕ) → count_by (is_held_by who) b.marks ≡ 0 → AskedForAll path s steps written b
+      → AskedForAll path s steps written (after_call b (Return who))
+  all_returned s steps who none asked = subst (λ marks. AskedForAll path s steps written (record b { marks = marks })) (sym (none_returned who b.marks none)) asked
+
   pub all_after : (s : Side) (steps : List Note) (call : SendCall) → IsQuiet path call → AskedForAll path s steps written b → AskedForAll path s steps written (after_call b call)
   all_after s steps call is (Taken all) = Taken (taken_after call is all)
   all_after s steps call is (Standby told) = Standby told
@@ -407,14 +457,16 @@ module _ (path written : ℕ) (b : Sending) (h : IsOnes path written b) where
   same_given (Ok span) none = cc
   same_given (Err why) none = refl
 
-  pub grant_refused : (s : Side) (steps : List Note) (n : Note) (max : ℕ) (standby : Bool) → asks_on_standby s n ≡ standby
+  pub grant_refused : (s : Side) (steps : List Note) (n : Note) (max : ℕ) (standby : Bool) → ((before : Bool) → standby_after s n before ≡ standby)
       → grant_in (replies.Send (reply_by (decision path max standby b) b)) ≡ None → AskedForAll path s (steps ++ n ∷ []) written (after_call b (Grant path max standby))
   grant_refused s steps n max standby told none =
       subst (AskedForAll path s (steps ++ n ∷ []) written) (sym (same_given (decision path max standby b) none))
-      (⊎_elim (λ all. Taken all) (λ other. ⊎_elim (λ is. Standby (any_last (asks_on_standby s) steps n (told ∙ is))) (λ barred. Barred barred) other) (refused_all max standby none))
+      (⊎_elim (λ all. Taken all) (λ other. ⊎_elim (λ is. Standby (last_more s false steps n ∙ told (last_on_standby s false steps) ∙ is)) (λ barred. Barred barred) other) (refused_all max standby none))
 
--- with a step more
-pub asked_more : (path : ℕ) (s : Side) (steps : List Note) (n : Note) (written : ℕ) (b : Sending) → AskedForAll path s steps written b → AskedForAll path s (steps ++ n ∷ []) written b
-asked_more path s steps n written b (Taken all) = Taken all
-asked_more path s steps n written b (Standby told) = Standby (any_before (asks_on_standby s) steps n told)
-asked_more path s steps n written b (Barred barred) = Barred barred
+-- with a step more that asks for no bytes
+pub asked_more : (path : ℕ) (s : Side) (steps : List Note) (n : Note) (written : ℕ) (b : Sending) → asks_grant s n.ask ≡ false → AskedForAll path s steps written b
+    → AskedForAll path s (steps ++ n ∷ []) written b
+asked_more path s steps n written b isn't (Taken all) = Taken all
+asked_more path s steps n written b isn't (Standby told) =
+    Standby (last_more s false steps n ∙ ap (λ (c : Bool). if c then is_standby n.ask else last_on_standby s false steps) isn't ∙ told)
+asked_more path s steps n written b isn't (Barred barred) = Barred barred

@@ -1,17 +1,19 @@
 -- In each round, where the turn of a path is over, an end that may ask for bytes asked for all that was written as it began.
-use Rattle.std.proofs.Common.{◌≡◌, refl, sym, ◌∙◌, ap, subst, ℕ, zero, suc, ◌+◌, ◌||◌, ◌⊎◌, inl, inr, ⊎_elim, Bool, true, false, Some, List, [], ◌∷◌, ◌++◌, length, drop, set, arith}
+use Rattle.std.proofs.Common.{◌≡◌, refl, sym, ◌∙◌, ap, subst, ℕ, zero, suc, ◌+◌, ◌≤◌, nat_lt, ◌||◌, ◌⊎◌, inl, inr, ⊎_elim, Bool, true, false, if◌then◌else◌, Some, List, [], ◌∷◌, ◌++◌, length, drop, set, arith}
 use Rattle.std.proofs.lemmas.List.{append-nil, append_assoc}
 use Rattle.std.proofs.lemmas.Option.{same_Some}
 use Rattle.std.specs.List.{slice_get, list_any}
 use Rattle.std.proofs.lemmas.Bool.{cases_eq}
 use Rattle.outside_kit.specs.declared.side.Side.{Side}
 use Rattle.outside_kit.specs.declared.side.Side.TheVariants.{A, B}
+use Rattle.stamped_book.specs.declared.stamped.Pass.{Pass}
+use Rattle.stamped_book.specs.Journal.{last_stamp}
 use Rattle.send_book.specs.State.{Sending, opened}
 use Rattle.stream_lanes.proofs.Lists.{Every-nil, in_map, in_set, set_same, set_other}
 use Rattle.actor_desk.specs.declared.ask.Ask.{Ask}
 use Rattle.actor_desk.specs.declared.ask.Note.{Note}
-use Rattle.actor_desk.specs.Books.{books_in}
-use Rattle.actor_desk.specs.Desk.{send_of, after_ask}
+use Rattle.actor_desk.specs.Books.{StampedBooks, books_in, after_entry}
+use Rattle.actor_desk.specs.Desk.{SixBooks, send_of, after_ask}
 use Rattle.actor_desk.specs.Words.{pick}
 use Rattle.stream_apps.specs.declared.duty.AppDuty.{AppDuty}
 use Rattle.stream_apps.specs.AppSteps.{app_ask}
@@ -26,10 +28,12 @@ use Rattle.world_laws.specs.Actors.{ActorCrew}
 use Rattle.world_laws.specs.Openings.{Start, path_begins, opened_world}
 use Rattle.world_laws.specs.Outcomes.{notes_or, notes_at}
 use Rattle.world_laws.specs.Promises.{written_by}
-use Rattle.world_laws.specs.RoundNumbers.{after_steps, BeginsRound, InEachRound, steps_since, frees_bytes, OthersFreed, AskForAll, AskedForAll, PathsAskForAll}
+use Rattle.world_laws.specs.RoundEnd.{asks_grant}
+use Rattle.world_laws.specs.RoundNumbers.{after_steps, BeginsRound, InEachRound, steps_since, last_asked, frees_bytes, frees_after, OthersFreed, AskForAll, AskedForAll, PathsAskForAll}
 use Rattle.world_laws.specs.StampedBooks.{answer_to}
 use Rattle.world_laws.specs.Worlds.{WorldState, Turn, note_of, greatest, world_run}
-use Rattle.world_laws.proofs.AskingBooks.{IsOnes, any_last, any_more}
+use Rattle.world_laws.proofs.AskingBooks.{IsOnes, any_last, any_more, asked_last}
+use Rattle.world_laws.proofs.AskingStamps.{edge_grows, stamp_grows, grant_entered, freeing_entered, lt_true, both_true}
 use Rattle.world_laws.proofs.Journaling.{books_after}
 use Rattle.world_laws.proofs.RoundAsking.{begun_grants}
 use Rattle.world_laws.proofs.RoundAsksAll.{SideAsks, BothAsk, own_a, own_b, other_a, other_b, path_step, freed_then, other_both}
@@ -47,15 +51,19 @@ record Went (earlier list : List Note) : Type 0 where
   is : list ≡ earlier ++ steps
 
 module _ {C : Type 0} (k : Codec C) (start : Start) where
-  -- another path freed bytes in a round that began with these lists of the paths
-  record Freed (number : ℕ) (earlier : ℕ → List Note) (s : Side) (t : Cast C) : Type 0 where
+  -- another path freed bytes past an edge, after a stamp, in a round that began with these lists of the paths
+  record Freed (number : ℕ) (earlier : ℕ → List Note) (s : Side) (stamp edge : ℕ) (t : Cast C) : Type 0 where
     other : ℕ
     apart : other ≡ number → ⊥
     walker : Walker C
     there : slice_get t.paths other ≡ Some walker
     steps : List Note
     list_is : walker.at.list ≡ earlier other ++ steps
-    freed : list_any (λ note. frees_bytes s note.ask) steps ≡ true
+    freed : list_any (frees_after s stamp edge) steps ≡ true
+
+  -- the last stamp of a side's send book
+  abbrev book_stamp : Side → StampedBooks → ℕ
+  book_stamp s books = last_stamp 0 (pick s books.send_a books.send_b).journal
 
   -- each path has its number, and its list went on
   record AreGoing (earlier : ℕ → List Note) (t : Cast C) : Type 0 where
@@ -63,23 +71,36 @@ module _ {C : Type 0} (k : Codec C) (start : Start) where
     went : (n : ℕ) (y : Walker C) → slice_get t.paths n ≡ Some y → Went (earlier n) y.at.list
 
   -- a path in such a round, in which so much was written as it began
-  record PathAsking (number : ℕ) (earlier : ℕ → List Note) (written_a written_b : ℕ) (x : Walker C) (t : Cast C) : Type 0 where
+  record PathAsking (number : ℕ) (earlier : ℕ → List Note) (written_a written_b : ℕ) (edges : Side → ℕ) (x : Walker C) (t : Cast C) : Type 0 where
     steps : List Note
     list_is : x.at.list ≡ earlier number ++ steps
     flags : Side → Bool
     freed : Side → Bool
     granting : Granting x.path flags
     both : BothAsk (path_of x.path) written_a written_b steps flags freed (books_in t.books)
-    others : (s : Side) → freed s ≡ true → Freed number earlier s t
+    others : (s : Side) → freed s ≡ true → Freed number earlier s (last_asked s 0 steps) (edges s) t
+    -- the edges are no less than as the round began, and the book has the path's last ask for bytes
+    low : (s : Side) → edges s ≤ (send_of s (books_in t.books)).edge
+    known : (s : Side) → last_asked s 0 steps ≤ book_stamp s t.books
 
-  pub record RoundAsks (number : ℕ) (earlier : ℕ → List Note) (written_a written_b : ℕ) (t : Cast C) : Type 0 where
+  pub record RoundAsks (number : ℕ) (earlier : ℕ → List Note) (written_a written_b : ℕ) (edges : Side → ℕ) (t : Cast C) : Type 0 where
     going : AreGoing earlier t
-    asking : (x : Walker C) → slice_get t.paths number ≡ Some x → PathAsking number earlier written_a written_b x t
+    asking : (x : Walker C) → slice_get t.paths number ≡ Some x → PathAsking number earlier written_a written_b edges x t
+
+  -- an ask at a book of the edges, and of the stamps
+  ask_low : (edges : Side → ℕ) (x : Ask) (pass : Pass) (books : StampedBooks) → ((s : Side) → edges s ≤ (send_of s (books_in books)).edge)
+      → (s : Side) → edges s ≤ (send_of s (books_in (after_entry x pass books))).edge
+  ask_low edges x pass books low s =
+      let more = edge_grows s x (books_in books) in let least = low s in
+      subst (λ (y : SixBooks). edges s ≤ (send_of s y).edge) (sym (books_after x pass books)) (omega (arith, more, least))
+
+  ask_known : (stamp : ℕ) (s : Side) (x : Ask) (pass : Pass) (books : StampedBooks) → stamp ≤ book_stamp s books → stamp ≤ book_stamp s (after_entry x pass books)
+  ask_known stamp s x pass books known = let more = stamp_grows s x pass books in omega (arith, more, known)
 
   -- what was freed stays so as other paths go on
-  freed_stays : (number : ℕ) (earlier : ℕ → List Note) (s : Side) (t u : Cast C) → ((n : ℕ) (y : Walker C) → slice_get t.paths n ≡ Some y → (z : Walker C) × (slice_get u.paths n ≡ Some z) × Went y.at.list z.at.list)
-      → Freed number earlier s t → Freed number earlier s u
-  freed_stays number earlier s t u goes h =
+  freed_stays : (number : ℕ) (earlier : ℕ → List Note) (s : Side) (stamp edge : ℕ) (t u : Cast C) → ((n : ℕ) (y : Walker C) → slice_get t.paths n ≡ Some y → (z : Walker C) × (slice_get u.paths n ≡ Some z) × Went y.at.list z.at.list)
+      → Freed number earlier s stamp edge t → Freed number earlier s stamp edge u
+  freed_stays number earlier s stamp edge t u goes h =
       let next = goes h.other h.walker h.there in
       record {
         other = h.other;
@@ -88,12 +109,12 @@ module _ {C : Type 0} (k : Codec C) (start : Start) where
         there = next.1;
         steps = h.steps ++ next.2.steps;
         list_is = next.2.is ∙ ap (λ xs. xs ++ next.2.steps) h.list_is ∙ append_assoc (earlier h.other) h.steps next.2.steps;
-        freed = any_more (λ note. frees_bytes s note.ask) h.steps next.2.steps h.freed;
+        freed = any_more (frees_after s stamp edge) h.steps next.2.steps h.freed;
       }
 
-  module _ (number : ℕ) (earlier : ℕ → List Note) (written_a written_b : ℕ) where
+  module _ (number : ℕ) (earlier : ℕ → List Note) (written_a written_b : ℕ) (edges : Side → ℕ) where
     abbrev Q : Cast C → Type 0
-    Q t = RoundAsks number earlier written_a written_b t
+    Q t = RoundAsks number earlier written_a written_b edges t
 
     same_paths : (t u : Cast C) → u.paths ≡ t.paths → (n : ℕ) (y : Walker C) → slice_get t.paths n ≡ Some y → (z : Walker C) × (slice_get u.paths n ≡ Some z) × Went y.at.list z.at.list
     same_paths t u same n y there = (y, ap (λ paths. slice_get paths n) same ∙ there, record { steps = []; is = sym (append-nil y.at.list) })
@@ -101,7 +122,7 @@ module _ {C : Type 0} (k : Codec C) (start : Start) where
     by_a : (t : Cast C) → Fare start t → (d : AppDuty) (ds : List AppDuty) → t.a.agenda ≡ d ∷ ds → Q t → Q (after_a (app_ask d t.a) t)
     by_a t f d ds is h = record { going = record { numbered = h.going.numbered; went = h.going.went }; asking = λ x there. at x (h.asking x there) }
       where
-        at : (x : Walker C) → PathAsking number earlier written_a written_b x t → PathAsking number earlier written_a written_b x (after_a (app_ask d t.a) t)
+        at : (x : Walker C) → PathAsking number earlier written_a written_b edges x t → PathAsking number earlier written_a written_b edges x (after_a (app_ask d t.a) t)
         at x h =
             let six = books_in t.books in let path = path_of x.path in
             record {
@@ -114,13 +135,15 @@ module _ {C : Type 0} (k : Codec C) (start : Start) where
                 a = own_a path written_a h.steps (h.flags A) (h.freed A) t.a six d f.a.side_is h.both.a;
                 b = other_b path written_b h.steps (h.flags B) (h.freed B) t.a six d f.a.side_is h.both.b;
               });
-              others = λ s on. freed_stays number earlier s t (after_a (app_ask d t.a) t) (same_paths t (after_a (app_ask d t.a) t) refl) (h.others s on);
+              others = λ s on. freed_stays number earlier s (last_asked s 0 h.steps) (edges s) t (after_a (app_ask d t.a) t) (same_paths t (after_a (app_ask d t.a) t) refl) (h.others s on);
+              low = ask_low edges (app_ask d t.a) t.at_a.pass t.books h.low;
+              known = λ s. ask_known (last_asked s 0 h.steps) s (app_ask d t.a) t.at_a.pass t.books (h.known s);
             }
 
     by_b : (t : Cast C) → Fare start t → (d : AppDuty) (ds : List AppDuty) → t.b.agenda ≡ d ∷ ds → Q t → Q (after_b (app_ask d t.b) t)
     by_b t f d ds is h = record { going = record { numbered = h.going.numbered; went = h.going.went }; asking = λ x there. at x (h.asking x there) }
       where
-        at : (x : Walker C) → PathAsking number earlier written_a written_b x t → PathAsking number earlier written_a written_b x (after_b (app_ask d t.b) t)
+        at : (x : Walker C) → PathAsking number earlier written_a written_b edges x t → PathAsking number earlier written_a written_b edges x (after_b (app_ask d t.b) t)
         at x h =
             let six = books_in t.books in let path = path_of x.path in
             record {
@@ -133,7 +156,9 @@ module _ {C : Type 0} (k : Codec C) (start : Start) where
                 a = other_a path written_a h.steps (h.flags A) (h.freed A) t.b six d f.b.side_is h.both.a;
                 b = own_b path written_b h.steps (h.flags B) (h.freed B) t.b six d f.b.side_is h.both.b;
               });
-              others = λ s on. freed_stays number earlier s t (after_b (app_ask d t.b) t) (same_paths t (after_b (app_ask d t.b) t) refl) (h.others s on);
+              others = λ s on. freed_stays number earlier s (last_asked s 0 h.steps) (edges s) t (after_b (app_ask d t.b) t) (same_paths t (after_b (app_ask d t.b) t) refl) (h.others s on);
+              low = ask_low edges (app_ask d t.b) t.at_b.pass t.books h.low;
+              known = λ s. ask_known (last_asked s 0 h.steps) s (app_ask d t.b) t.at_b.pass t.books (h.known s);
             }
 
     module _ (t : Cast C) (n : ℕ) (y : Walker C) (there : slice_get t.paths n ≡ Some y) (d : Duty) (ds : List Duty) (is : y.path.agenda ≡ d ∷ ds) (h : Q t) where
@@ -173,25 +198,39 @@ module _ {C : Type 0} (k : Codec C) (start : Start) where
       books_are : (path : ℕ) (steps : List Note) (flags freed : Side → Bool) → BothAsk path written_a written_b steps flags freed (after_ask ask (books_in t.books)) → BothAsk path written_a written_b steps flags freed (books_in u.books)
       books_are path steps flags freed both = subst (BothAsk path written_a written_b steps flags freed) (sym (books_after ask y.at.pass t.books)) both
 
+      -- what the last ask for bytes is after a step
+      last_is : (s : Side) (steps : List Note) (b : Bool) → asks_grant s ask ≡ b → last_asked s 0 (steps ++ note ∷ []) ≡ (if b then note.stamp else last_asked s 0 steps)
+      last_is s steps b is = asked_last s 0 steps note ∙ ap (λ (c : Bool). if c then note.stamp else last_asked s 0 steps) is
+
       -- the path itself
-      own_step : PathAsking number earlier written_a written_b y t → PathAsking number earlier written_a written_b z u
+      own_step : PathAsking number earlier written_a written_b edges y t → PathAsking number earlier written_a written_b edges z u
       own_step g =
           let then_is = path_step k y.path written_a written_b g.steps note g.flags g.freed (books_in t.books) g.both d ds is refl g.granting in
           record {
             steps = g.steps ++ note ∷ [];
             list_is = ap (λ xs. xs ++ note ∷ []) g.list_is ∙ append_assoc (earlier number) g.steps (note ∷ []);
             flags = then_is.flags;
-            freed = g.freed;
+            freed = then_is.others;
             granting = then_is.granting;
-            both = books_are (path_of z.path) (g.steps ++ note ∷ []) then_is.flags g.freed
-                (subst (λ path. BothAsk path written_a written_b (g.steps ++ note ∷ []) then_is.flags g.freed (after_ask ask (books_in t.books))) (sym (takes_keeps k (answer_to t.books ask) y.path).2) then_is.both);
-            others = λ s on. freed_stays number earlier s t u goes (g.others s on);
+            both = books_are (path_of z.path) (g.steps ++ note ∷ []) then_is.flags then_is.others
+                (subst (λ path. BothAsk path written_a written_b (g.steps ++ note ∷ []) then_is.flags then_is.others (after_ask ask (books_in t.books))) (sym (takes_keeps k (answer_to t.books ask) y.path).2) then_is.both);
+            others = λ s on. let before = then_is.before s on in
+                subst (λ stamp. Freed number earlier s stamp (edges s) u) (sym (last_is s g.steps false before.1))
+                (freed_stays number earlier s (last_asked s 0 g.steps) (edges s) t u goes (g.others s before.0));
+            low = ask_low edges ask y.at.pass t.books g.low;
+            known = λ s. own_known s g (asks_grant s ask) refl;
           }
+        where
+          own_known : (s : Side) (g : PathAsking number earlier written_a written_b edges y t) (b : Bool) → asks_grant s ask ≡ b → last_asked s 0 (g.steps ++ note ∷ []) ≤ book_stamp s u.books
+          own_known s g true is = let last = last_is s g.steps true is in let entered = grant_entered s ask y.at.pass t.books is in omega (arith, last, entered)
+          own_known s g false is =
+              let last = last_is s g.steps false is in let kept = ask_known (last_asked s 0 g.steps) s ask y.at.pass t.books (g.known s) in omega (arith, last, kept)
 
       -- another one
-      freed_by : (n ≡ number → ⊥) → (s : Side) (before : Bool) → (before ≡ true → Freed number earlier s u) → before || frees_bytes s ask ≡ true → Freed number earlier s u
-      freed_by apart s true old on = old refl
-      freed_by apart s false old on =
+      freed_by : (n ≡ number → ⊥) → (s : Side) (stamp : ℕ) → stamp ≤ book_stamp s t.books → (before : Bool) → (before ≡ true → Freed number earlier s stamp (edges s) u)
+          → before || frees_bytes s (edges s) ask (answer_to t.books ask) ≡ true → Freed number earlier s stamp (edges s) u
+      freed_by apart s stamp known true old on = old refl
+      freed_by apart s stamp known false old on =
           let went = h.going.went n y there in
           record {
             other = n;
@@ -200,28 +239,34 @@ module _ {C : Type 0} (k : Codec C) (start : Start) where
             there = set_same t.paths n z y there;
             steps = went.steps ++ note ∷ [];
             list_is = ap (λ xs. xs ++ note ∷ []) went.is ∙ append_assoc (earlier n) went.steps (note ∷ []);
-            freed = any_last (λ m. frees_bytes s m.ask) went.steps note on;
+            freed = any_last (frees_after s stamp (edges s)) went.steps note (both_true later on);
           }
+        where
+          later : nat_lt stamp note.stamp ≡ true
+          later = let above = freeing_entered s (edges s) ask (answer_to t.books ask) y.at.pass t.books on in lt_true stamp note.stamp (omega (arith, above, known))
 
-      other_step : (n ≡ number → ⊥) → (x : Walker C) → slice_get t.paths number ≡ Some x → PathAsking number earlier written_a written_b x t → PathAsking number earlier written_a written_b x u
+      other_step : (n ≡ number → ⊥) → (x : Walker C) → slice_get t.paths number ≡ Some x → PathAsking number earlier written_a written_b edges x t → PathAsking number earlier written_a written_b edges x u
       other_step apart x at g =
           let mine = h.going.numbered number x at in let its = h.going.numbered n y there in
+          let freed = freed_then edges ask (answer_to t.books ask) g.freed in
           record {
             steps = g.steps;
             list_is = g.list_is;
             flags = g.flags;
-            freed = freed_then ask g.freed;
+            freed = freed;
             granting = g.granting;
-            both = books_are (path_of x.path) g.steps g.flags (freed_then ask g.freed)
-                (other_both (path_of x.path) written_a written_b g.steps g.flags g.freed (books_in t.books) g.both (path_of y.path) ask (λ same. apart (sym its ∙ same ∙ mine)) (own_calls k y.path d));
-            others = λ s on. freed_by apart s (g.freed s) (λ old. freed_stays number earlier s t u goes (g.others s old)) on;
+            both = books_are (path_of x.path) g.steps g.flags freed
+                (other_both (path_of x.path) written_a written_b edges g.steps g.flags g.freed (books_in t.books) g.both g.low (path_of y.path) ask (λ same. apart (sym its ∙ same ∙ mine)) (own_calls k y.path d));
+            others = λ s on. freed_by apart s (last_asked s 0 g.steps) (g.known s) (g.freed s) (λ old. freed_stays number earlier s (last_asked s 0 g.steps) (edges s) t u goes (g.others s old)) on;
+            low = ask_low edges ask y.at.pass t.books g.low;
+            known = λ s. ask_known (last_asked s 0 g.steps) s ask y.at.pass t.books (g.known s);
           }
 
       pub by_path : Q u
       by_path = record {
         going = going_on;
         asking = λ x at. ⊎_elim
-            (λ here. subst (λ w. PathAsking number earlier written_a written_b w u) here.1 (own_step (h.asking y (ap (slice_get t.paths) here.0 ∙ there))))
+            (λ here. subst (λ w. PathAsking number earlier written_a written_b edges w u) here.1 (own_step (h.asking y (ap (slice_get t.paths) here.0 ∙ there))))
             (λ other. other_step (λ same. other.0 (sym same)) x other.1 (h.asking x other.1))
             (in_set t.paths n z number x at);
       }
@@ -234,13 +279,14 @@ module _ {C : Type 0} (k : Codec C) (start : Start) where
     pub earlier : ℕ → List Note
     pub written_a : ℕ
     pub written_b : ℕ
-    pub round : RoundAsks number earlier written_a written_b t
+    pub edges : Side → ℕ
+    pub round : RoundAsks number earlier written_a written_b edges t
 
   asking_stepwise : (number : ℕ) → Stepwise k start (Asking number)
   asking_stepwise number = record {
-    a = λ t f d ds is h. record { earlier = h.earlier; written_a = h.written_a; written_b = h.written_b; round = by_a number h.earlier h.written_a h.written_b t f d ds is h.round };
-    b = λ t f d ds is h. record { earlier = h.earlier; written_a = h.written_a; written_b = h.written_b; round = by_b number h.earlier h.written_a h.written_b t f d ds is h.round };
-    path = λ t f n y there d ds is h. record { earlier = h.earlier; written_a = h.written_a; written_b = h.written_b; round = by_path number h.earlier h.written_a h.written_b t n y there d ds is h.round };
+    a = λ t f d ds is h. record { earlier = h.earlier; written_a = h.written_a; written_b = h.written_b; edges = h.edges; round = by_a number h.earlier h.written_a h.written_b h.edges t f d ds is h.round };
+    b = λ t f d ds is h. record { earlier = h.earlier; written_a = h.written_a; written_b = h.written_b; edges = h.edges; round = by_b number h.earlier h.written_a h.written_b h.edges t f d ds is h.round };
+    path = λ t f n y there d ds is h. record { earlier = h.earlier; written_a = h.written_a; written_b = h.written_b; edges = h.edges; round = by_path number h.earlier h.written_a h.written_b h.edges t n y there d ds is h.round };
   }
 
   -- ---- as a round begins
@@ -249,8 +295,12 @@ module _ {C : Type 0} (k : Codec C) (start : Start) where
   abbrev lists_at : WorldState C → ℕ → List Note
   lists_at w number = notes_at (suc (suc number)) w.crew
 
+  -- the edges of the send books
+  abbrev edges_at : StampedBooks → Side → ℕ
+  edges_at books s = (send_of s (books_in books)).edge
+
   abbrev Begun : ℕ → Cast C → Type 0
-  Begun number t = RoundAsks number (lists_at (world_of t)) (length (books_in t.books).send_a.written) (length (books_in t.books).send_b.written) t
+  Begun number t = RoundAsks number (lists_at (world_of t)) (length (books_in t.books).send_a.written) (length (books_in t.books).send_b.written) (edges_at t.books) t
 
   list_there : (t : Cast C) (number : ℕ) (x : Walker C) → slice_get t.paths number ≡ Some x → x.at.list ≡ lists_at (world_of t) number
   list_there t number x there = sym (ap notes_or (path_actor t number x there))
@@ -264,7 +314,7 @@ module _ {C : Type 0} (k : Codec C) (start : Start) where
   -- a path begins a round with books that are its own, or another's
   begun_path : (number written_a written_b : ℕ) (q : PathState C) (seat : Seat) (t : Cast C) → IsOnes (path_of q) written_a (books_in t.books).send_a → IsOnes (path_of q) written_b (books_in t.books).send_b
       → seat.list ≡ lists_at (world_of t) number
-      → PathAsking number (lists_at (world_of t)) (length (books_in t.books).send_a.written) (length (books_in t.books).send_b.written) (record { path = begins_turn q; at = seat }) t
+      → PathAsking number (lists_at (world_of t)) (length (books_in t.books).send_a.written) (length (books_in t.books).send_b.written) (edges_at t.books) (record { path = begins_turn q; at = seat }) t
   begun_path number written_a written_b q seat t a b list_is = record {
     steps = [];
     list_is = list_is ∙ sym (append-nil (lists_at (world_of t) number));
@@ -276,6 +326,8 @@ module _ {C : Type 0} (k : Codec C) (start : Start) where
       b = begun_side (path_of q) written_b B (books_in t.books).send_b b;
     });
     others = λ s never. cc;
+    low = λ s. omega arith;
+    known = λ s. omega arith;
   }
 
   going_anew : (t : Cast C) → ((n : ℕ) (y : Walker C) → slice_get t.paths n ≡ Some y → path_of y.path ≡ n) → AreGoing (lists_at (world_of t)) t
@@ -293,11 +345,11 @@ module _ {C : Type 0} (k : Codec C) (start : Start) where
           subst (λ z. path_of z.path ≡ n) found.2 ((first_keeps (record found.0.path { clock = found.0.path.until; until = found.0.path.until + 100 })).2 ∙ h.round.going.numbered n found.0 found.1)
 
       asking : (x : Walker C) → slice_get (next_cast t).paths number ≡ Some x
-          → PathAsking number (lists_at (world_of (next_cast t))) (length (books_in t.books).send_a.written) (length (books_in t.books).send_b.written) x (next_cast t)
+          → PathAsking number (lists_at (world_of (next_cast t))) (length (books_in t.books).send_a.written) (length (books_in t.books).send_b.written) (edges_at t.books) x (next_cast t)
       asking x there =
           let found = in_map (walks_on (greatest 0 (world_of t).crew)) t.paths number x there in
           let g = h.round.asking found.0 found.1 in
-          subst (λ z. PathAsking number (lists_at (world_of (next_cast t))) (length (books_in t.books).send_a.written) (length (books_in t.books).send_b.written) z (next_cast t)) found.2
+          subst (λ z. PathAsking number (lists_at (world_of (next_cast t))) (length (books_in t.books).send_a.written) (length (books_in t.books).send_b.written) (edges_at t.books) z (next_cast t)) found.2
           (begun_path number h.written_a h.written_b (record found.0.path { clock = found.0.path.until; until = found.0.path.until + 100 }) (raised_to (greatest 0 (world_of t).crew) found.0.at) (next_cast t)
           g.both.a.ones g.both.b.ones (ap (λ z. z.at.list) found.2 ∙ list_there (next_cast t) number x there))
 
@@ -312,10 +364,10 @@ module _ {C : Type 0} (k : Codec C) (start : Start) where
           let found = walker_there start 0 n n start.paths y (omega arith) there in
           subst (λ z. path_of z.path ≡ n) (sym found.2) (first_keeps {C = C} (waiting_path (path_begins start n found.0) start.lines)).2
 
-      asking : (x : Walker C) → slice_get (first_cast {C = C} start).paths number ≡ Some x → PathAsking number (lists_at (world_of (first_cast start))) 0 0 x (first_cast start)
+      asking : (x : Walker C) → slice_get (first_cast {C = C} start).paths number ≡ Some x → PathAsking number (lists_at (world_of (first_cast start))) 0 0 (edges_at (first_cast {C = C} start).books) x (first_cast start)
       asking x there =
           let found = walker_there start 0 number number start.paths x (omega arith) there in
-          subst (λ z. PathAsking number (lists_at (world_of (first_cast start))) 0 0 z (first_cast start)) (sym found.2)
+          subst (λ z. PathAsking number (lists_at (world_of (first_cast start))) 0 0 (edges_at (first_cast {C = C} start).books) z (first_cast start)) (sym found.2)
           (begun_path number 0 0 (waiting_path (path_begins start number found.0) start.lines) (new_seat (2 + number)) (first_cast start)
           (opened_ones _ start.buffer) (opened_ones _ start.buffer) (ap (λ z. z.at.list) (sym found.2) ∙ list_there (first_cast start) number x there))
 
@@ -323,7 +375,7 @@ module _ {C : Type 0} (k : Codec C) (start : Start) where
   opened_has number = record { cast = first_cast start; is = opened_is start; fare = first_fare start; holds = opened_begun number }
 
   asking_from : (number : ℕ) (t : Cast C) → Begun number t → Asking number t
-  asking_from number t h = record { earlier = _; written_a = _; written_b = _; round = h }
+  asking_from number t h = record { earlier = _; written_a = _; written_b = _; edges = _; round = h }
 
   always_asking : (number : ℕ) (turns : List Turn) → Has start (Asking number) (world_run k turns (opened_world start))
   always_asking number turns =
@@ -332,7 +384,7 @@ module _ {C : Type 0} (k : Codec C) (start : Start) where
 
   -- in a round that began in this world
   abbrev Since : ℕ → WorldState C → Cast C → Type 0
-  Since number u t = RoundAsks number (lists_at u) (length (written_by A u).written) (length (written_by B u).written) t
+  Since number u t = RoundAsks number (lists_at u) (length (written_by A u).written) (length (written_by B u).written) (edges_at u.books) t
 
   since_begun : (number : ℕ) (u : WorldState C) → Has start (Begun number) u → Has start (Since number u) u
   since_begun number u h = subst (λ v. Has start (Since number v) v) (sym h.is) (record { cast = h.cast; is = refl; fare = h.fare; holds = h.holds })
@@ -358,7 +410,7 @@ module _ {C : Type 0} (k : Codec C) (start : Start) where
   path_asked_all : (u : WorldState C) (t : Cast C) (number : ℕ) (x : Walker C) → slice_get t.paths number ≡ Some x → Since number u t → AskForAll u (world_of t) (suc (suc number)) (Path x.path)
   path_asked_all u t number x there h over s none may = by (g.freed s) refl
     where
-      g : PathAsking number (lists_at u) (length (written_by A u).written) (length (written_by B u).written) x t
+      g : PathAsking number (lists_at u) (length (written_by A u).written) (length (written_by B u).written) (edges_at u.books) x t
       g = h.asking x there
 
       side_all : (s : Side) → g.flags s ≡ true → g.freed s ≡ false → AskedForAll (path_of x.path) s g.steps (length (written_by s u).written) (send_of s (books_in t.books))
@@ -375,7 +427,8 @@ module _ {C : Type 0} (k : Codec C) (start : Start) where
           inr (record {
             other = suc (suc f.other);
             apart = λ same. f.apart (omega (arith, same));
-            freed = subst (λ steps. list_any (λ note. frees_bytes s note.ask) steps ≡ true) (sym (since_is u t f.other f.walker f.steps f.there f.list_is)) f.freed;
+            freed = subst (λ steps. list_any (frees_after s (last_asked s 0 steps) (written_by s u).edge) (steps_since (suc (suc f.other)) u (world_of t)) ≡ true) (sym (since_is u t number x g.steps there g.list_is))
+                (subst (λ steps. list_any (frees_after s (last_asked s 0 g.steps) (written_by s u).edge) steps ≡ true) (sym (since_is u t f.other f.walker f.steps f.there f.list_is)) f.freed);
           })
 
   has_asked : (u w : WorldState C) → ((number : ℕ) → Has start (Since number u) w) → PathsAskForAll u w
@@ -403,5 +456,5 @@ module _ {C : Type 0} (k : Codec C) (start : Start) where
 pub paths_ask : {C : Type 0} (k : Codec C) → InEachRound k PathsAskForAll
 paths_ask k start begun order begins =
     has_asked k start begun (after_steps k order begun)
-    (λ number. steps_have k start (Since k start number begun) (asks_stepwise k start number (lists_at k start begun) (length (written_by A begun).written) (length (written_by B begun).written)) order begun
+    (λ number. steps_have k start (Since k start number begun) (asks_stepwise k start number (lists_at k start begun) (length (written_by A begun).written) (length (written_by B begun).written) (edges_at k start begun.books)) order begun
     (since_begun k start number begun (begun_has k start number begun begins)))

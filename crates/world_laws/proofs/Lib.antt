@@ -111,5 +111,9 @@ pub mod Ready
 pub mod CatchingUp
 pub mod RoundCatch
 pub mod AskingBooks
+pub mod AskingStamps
 pub mod RoundAsksAll
 pub mod AskingForAll
+pub mod FellEver
+pub mod WrittenShort
+pub mod RoundsDone

@@ -1,18 +1,22 @@
 -- Where the turn of a path is over, an end that may ask for bytes was refused over all that was written as the round began.
-use Rattle.std.proofs.Common.{◌≡◌, refl, sym, ◌∙◌, ap, subst, ℕ, not, ◌||◌, inl, Bool, true, false, Option, Some, None, List, [], ◌∷◌, ◌++◌}
-use Rattle.std.proofs.lemmas.Bool.{and_parts, false≢true}
+use Rattle.std.proofs.Common.{◌≡◌, refl, sym, ◌∙◌, ap, subst, ℕ, ◌+◌, ◌<◌, ◌≤◌, not, nat_lt, ◌||◌, inl, Bool, true, false, if◌then◌else◌, Option, Some, None, List, [], ◌∷◌, ◌++◌, arith}
+use Rattle.std.proofs.lemmas.Bool.{and_parts, false≢true, ltb-false}
+use Rattle.std.specs.List.{count_by}
 use Rattle.outside_kit.specs.declared.side.Side.{Side}
 use Rattle.outside_kit.specs.declared.side.Side.TheVariants.{A, B}
 use Rattle.link_model.specs.Steps.{peer}
 use Rattle.send_book.specs.declared.call.SendCall.{SendCall}
 use Rattle.send_book.specs.declared.call.SendCall.TheVariants as send_calls
 use Rattle.send_book.specs.State.{Sending}
-use Rattle.send_book.specs.Steps.{after_call}
+use Rattle.send_book.specs.Marks.{is_held_by}
+use Rattle.send_book.specs.Steps.{reply_to, after_call}
 use Rattle.subflow_send.specs.Records.{Record}
 use Rattle.actor_desk.specs.declared.ask.Ask.{Ask}
 use Rattle.actor_desk.specs.declared.ask.Ask.TheVariants as asks
 use Rattle.actor_desk.specs.declared.ask.Note.{Note}
-use Rattle.actor_desk.specs.Desk.{SixBooks, reply_of, after_ask, after_send_call}
+use Rattle.actor_desk.specs.declared.ask.Reply.{Reply}
+use Rattle.actor_desk.specs.declared.ask.Reply.TheVariants as replies
+use Rattle.actor_desk.specs.Desk.{SixBooks, send_of, reply_of, after_ask, after_send_call}
 use Rattle.stream_apps.specs.declared.duty.AppDuty.{AppDuty}
 use Rattle.stream_apps.specs.declared.duty.AppDuty.TheVariants as app_duties
 use Rattle.stream_apps.specs.Apps.{AppState}
@@ -25,17 +29,18 @@ use Rattle.path_core.specs.Emission.{first_unsent, Grant, grant_in, grant_ask, a
 use Rattle.path_core.specs.State.{PathState, end_at, with_agenda, path_of}
 use Rattle.path_core.specs.Steps.{takes}
 use Rattle.path_core.specs.Treating.{item_of}
-use Rattle.world_laws.specs.RoundNumbers.{asks_on_standby, frees_bytes, AskedForAll}
-use Rattle.world_laws.proofs.AskingBooks.{IsOnes, IsQuiet, ones_after, all_after, ones_other, all_other, grant_refused, asked_more}
+use Rattle.world_laws.specs.RoundEnd.{asks_grant}
+use Rattle.world_laws.specs.RoundNumbers.{is_standby, frees_bytes, AskedForAll}
+use Rattle.world_laws.proofs.AskingBooks.{IsOnes, IsQuiet, ones_after, all_after, all_acknowledged, all_returned, ones_other, all_other, grant_refused, asked_more}
 use Rattle.world_laws.proofs.PathAsks.{IsCallOf, IsQuietAsk, IsHeardAsk, IsQuietDuty, quiet_asks, heard_asks}
-use Rattle.world_laws.proofs.RoundGrantAsks.{MayNotAsk}
+use Rattle.world_laws.proofs.RoundGrantAsks.{MayNotAsk, ask_isn't, asks_none}
 use Rattle.world_laws.proofs.RoundGrants.{Pays, Granting, needs, is_followed, is_owed, settled_done, data_sent, granted_done, refused_done, answered_done}
 
--- an acknowledgement, or a return
-abbrev is_freeing : SendCall → Bool
-is_freeing (send_calls.AckIn next window) = true
-is_freeing (send_calls.Return path) = true
-is_freeing _ = false
+-- an acknowledgement by which the window reaches past this edge, or a return of some bytes
+abbrev is_freeing : ℕ → Sending → SendCall → Bool
+is_freeing edge b (send_calls.AckIn next window) = nat_lt edge (next + window)
+is_freeing edge b (send_calls.Return path) = nat_lt 0 (count_by (is_held_by path) b.marks)
+is_freeing edge b _ = false
 
 -- ---- one side's book in a round
 
@@ -60,8 +65,9 @@ module _ (path written : ℕ) (s : Side) where
   quiet_side steps refused freed b (send_calls.GoInfinite asker) is h = absurd is
   quiet_side steps refused freed b send_calls.Abort is h = absurd is
 
-  noted_side : (steps : List Note) (n : Note) (refused freed : Bool) (b : Sending) → SideAsks path written s steps refused freed b → SideAsks path written s (steps ++ n ∷ []) refused freed b
-  noted_side steps n refused freed b h = record { ones = h.ones; all = λ on alone. asked_more path s steps n written b (h.all on alone) }
+  noted_side : (steps : List Note) (n : Note) (refused freed : Bool) (b : Sending) → asks_grant s n.ask ≡ false → SideAsks path written s steps refused freed b
+      → SideAsks path written s (steps ++ n ∷ []) refused freed b
+  noted_side steps n refused freed b isn't h = record { ones = h.ones; all = λ on alone. asked_more path s steps n written b isn't (h.all on alone) }
 
 -- ---- an application
 
@@ -115,161 +121,202 @@ never_on : {X : Type 0} → false ≡ true → X
 never_on is = absurd (false≢true is)
 
 module _ (path written_a written_b : ℕ) (steps : List Note) (n : Note) (refused freed : Side → Bool) (six : SixBooks) (h : BothAsk path written_a written_b steps refused freed six) where
-  abbrev Asks : (Side → Bool) → SixBooks → Type 0
-  Asks flags books = BothAsk path written_a written_b (steps ++ n ∷ []) flags freed books
+  abbrev Asks : (Side → Bool) → (Side → Bool) → SixBooks → Type 0
+  Asks flags others books = BothAsk path written_a written_b (steps ++ n ∷ []) flags others books
 
-  noted : Asks refused six
-  noted = record { a = noted_side path written_a A steps n (refused A) (freed A) six.send_a h.a; b = noted_side path written_b B steps n (refused B) (freed B) six.send_b h.b }
+  noted_a : asks_grant A n.ask ≡ false → SideAsks path written_a A (steps ++ n ∷ []) (refused A) (freed A) six.send_a
+  noted_a isn't = noted_side path written_a A steps n (refused A) (freed A) six.send_a isn't h.a
 
-  -- an ask that is neither grant nor acknowledgement
-  quiet_both : (ask : Ask) → IsQuietAsk path ask → Asks refused (after_ask ask six)
-  quiet_both (asks.Send A call) is = record { a = quiet_side path written_a A (steps ++ n ∷ []) (refused A) (freed A) six.send_a call is noted.a; b = noted.b }
-  quiet_both (asks.Send B call) is = record { a = noted.a; b = quiet_side path written_b B (steps ++ n ∷ []) (refused B) (freed B) six.send_b call is noted.b }
-  quiet_both (asks.Reassembly s call) is = record { a = noted.a; b = noted.b }
-  quiet_both (asks.Control s call) is = record { a = noted.a; b = noted.b }
-  quiet_both (asks.Local step) is = record { a = noted.a; b = noted.b }
+  noted_b : asks_grant B n.ask ≡ false → SideAsks path written_b B (steps ++ n ∷ []) (refused B) (freed B) six.send_b
+  noted_b isn't = noted_side path written_b B steps n (refused B) (freed B) six.send_b isn't h.b
 
-  -- what was heard at one side: an acknowledgement, or nothing for the send books
-  lowered : (s : Side) → Asks (with_flag s false refused) six
-  lowered A = record { a = record { ones = h.a.ones; all = λ on alone. never_on on }; b = noted.b }
-  lowered B = record { a = noted.a; b = record { ones = h.b.ones; all = λ on alone. never_on on } }
+  -- asks for no bytes
+  module _ (isn't : (t : Side) → asks_grant t n.ask ≡ false) where
+    -- an ask that is neither grant nor acknowledgement
+    quiet_both : (ask : Ask) → IsQuietAsk path ask → Asks refused freed (after_ask ask six)
+    quiet_both (asks.Send A call) is = record { a = quiet_side path written_a A (steps ++ n ∷ []) (refused A) (freed A) six.send_a call is (noted_a (isn't A)); b = noted_b (isn't B) }
+    quiet_both (asks.Send B call) is = record { a = noted_a (isn't A); b = quiet_side path written_b B (steps ++ n ∷ []) (refused B) (freed B) six.send_b call is (noted_b (isn't B)) }
+    quiet_both (asks.Reassembly s call) is = record { a = noted_a (isn't A); b = noted_b (isn't B) }
+    quiet_both (asks.Control s call) is = record { a = noted_a (isn't A); b = noted_b (isn't B) }
+    quiet_both (asks.Local step) is = record { a = noted_a (isn't A); b = noted_b (isn't B) }
 
-  heard_call : (s : Side) (call : SendCall) → IsHeardAsk s (asks.Send s call) → Asks (with_flag s false refused) (after_send_call s call six)
-  heard_call A (send_calls.AckIn next window) is = record { a = record { ones = ones_after path written_a six.send_a h.a.ones (send_calls.AckIn next window) tt; all = λ on alone. never_on on }; b = noted.b }
-  heard_call B (send_calls.AckIn next window) is = record { a = noted.a; b = record { ones = ones_after path written_b six.send_b h.b.ones (send_calls.AckIn next window) tt; all = λ on alone. never_on on } }
-  heard_call s (send_calls.Write bytes) is = absurd is
-  heard_call s send_calls.Close is = absurd is
-  heard_call s (send_calls.Grant asker max standby) is = absurd is
-  heard_call s (send_calls.Return asker) is = absurd is
-  heard_call s send_calls.GoIdentity is = absurd is
-  heard_call s (send_calls.GoInfinite asker) is = absurd is
-  heard_call s send_calls.Abort is = absurd is
+    -- what was heard at one side: an acknowledgement, or nothing for the send books
+    lowered : (s : Side) → Asks (with_flag s false refused) freed six
+    lowered A = record { a = record { ones = h.a.ones; all = λ on alone. never_on on }; b = noted_b (isn't B) }
+    lowered B = record { a = noted_a (isn't A); b = record { ones = h.b.ones; all = λ on alone. never_on on } }
 
-  heard_both : (s : Side) (ask : Ask) → IsHeardAsk s ask → Asks (with_flag s false refused) (after_ask ask six)
-  heard_both A (asks.Send A call) is = heard_call A call is
-  heard_both B (asks.Send B call) is = heard_call B call is
-  heard_both A (asks.Send B call) is = other_side call is
-    where
-      other_side : (call : SendCall) → IsHeardAsk A (asks.Send B call) → Asks (with_flag A false refused) (after_send_call B call six)
-      other_side (send_calls.AckIn next window) is = (let never : B ≡ A = is in cc)
-      other_side (send_calls.Write bytes) is = absurd is
-      other_side send_calls.Close is = absurd is
-      other_side (send_calls.Grant asker max standby) is = absurd is
-      other_side (send_calls.Return asker) is = absurd is
-      other_side send_calls.GoIdentity is = absurd is
-      other_side (send_calls.GoInfinite asker) is = absurd is
-      other_side send_calls.Abort is = absurd is
-  heard_both B (asks.Send A call) is = other_side call is
-    where
-      other_side : (call : SendCall) → IsHeardAsk B (asks.Send A call) → Asks (with_flag B false refused) (after_send_call A call six)
-      other_side (send_calls.AckIn next window) is = (let never : A ≡ B = is in cc)
-      other_side (send_calls.Write bytes) is = absurd is
-      other_side send_calls.Close is = absurd is
-      other_side (send_calls.Grant asker max standby) is = absurd is
-      other_side (send_calls.Return asker) is = absurd is
-      other_side send_calls.GoIdentity is = absurd is
-      other_side (send_calls.GoInfinite asker) is = absurd is
-      other_side send_calls.Abort is = absurd is
-  heard_both s (asks.Reassembly t call) is = lowered_with s
-    where
-      lowered_with : (s : Side) → Asks (with_flag s false refused) (after_ask (asks.Reassembly t call) six)
-      lowered_with A = record { a = (lowered A).a; b = (lowered A).b }
-      lowered_with B = record { a = (lowered B).a; b = (lowered B).b }
-  heard_both s (asks.Control t call) is = lowered_with s
-    where
-      lowered_with : (s : Side) → Asks (with_flag s false refused) (after_ask (asks.Control t call) six)
-      lowered_with A = record { a = (lowered A).a; b = (lowered A).b }
-      lowered_with B = record { a = (lowered B).a; b = (lowered B).b }
-  heard_both s (asks.Local step) is = lowered s
+    heard_call : (s : Side) (call : SendCall) → IsHeardAsk s (asks.Send s call) → Asks (with_flag s false refused) freed (after_send_call s call six)
+    heard_call A (send_calls.AckIn next window) is = record {
+      a = record { ones = ones_after path written_a six.send_a h.a.ones (send_calls.AckIn next window) tt; all = λ on alone. never_on on };
+      b = noted_b (isn't B);
+    }
+    heard_call B (send_calls.AckIn next window) is = record {
+      a = noted_a (isn't A);
+      b = record { ones = ones_after path written_b six.send_b h.b.ones (send_calls.AckIn next window) tt; all = λ on alone. never_on on };
+    }
+    heard_call s (send_calls.Write bytes) is = absurd is
+    heard_call s send_calls.Close is = absurd is
+    heard_call s (send_calls.Grant asker max standby) is = absurd is
+    heard_call s (send_calls.Return asker) is = absurd is
+    heard_call s send_calls.GoIdentity is = absurd is
+    heard_call s (send_calls.GoInfinite asker) is = absurd is
+    heard_call s send_calls.Abort is = absurd is
 
-  -- a grant
-  granted_both : (s : Side) (max : ℕ) (standby : Bool) → Asks (with_flag s false refused) (after_ask (asks.Send s (send_calls.Grant path max standby)) six)
-  granted_both A max standby = record { a = record { ones = ones_after path written_a six.send_a h.a.ones (send_calls.Grant path max standby) refl; all = λ on alone. never_on on }; b = noted.b }
-  granted_both B max standby = record { a = noted.a; b = record { ones = ones_after path written_b six.send_b h.b.ones (send_calls.Grant path max standby) refl; all = λ on alone. never_on on } }
+    heard_both : (s : Side) (ask : Ask) → IsHeardAsk s ask → Asks (with_flag s false refused) freed (after_ask ask six)
+    heard_both A (asks.Send A call) is = heard_call A call is
+    heard_both B (asks.Send B call) is = heard_call B call is
+    heard_both A (asks.Send B call) is = other_side call is
+      where
+        other_side : (call : SendCall) → IsHeardAsk A (asks.Send B call) → Asks (with_flag A false refused) freed (after_send_call B call six)
+        other_side (send_calls.AckIn next window) is = (let never : B ≡ A = is in cc)
+        other_side (send_calls.Write bytes) is = absurd is
+        other_side send_calls.Close is = absurd is
+        other_side (send_calls.Grant asker max standby) is = absurd is
+        other_side (send_calls.Return asker) is = absurd is
+        other_side send_calls.GoIdentity is = absurd is
+        other_side (send_calls.GoInfinite asker) is = absurd is
+        other_side send_calls.Abort is = absurd is
+    heard_both B (asks.Send A call) is = other_side call is
+      where
+        other_side : (call : SendCall) → IsHeardAsk B (asks.Send A call) → Asks (with_flag B false refused) freed (after_send_call A call six)
+        other_side (send_calls.AckIn next window) is = (let never : A ≡ B = is in cc)
+        other_side (send_calls.Write bytes) is = absurd is
+        other_side send_calls.Close is = absurd is
+        other_side (send_calls.Grant asker max standby) is = absurd is
+        other_side (send_calls.Return asker) is = absurd is
+        other_side send_calls.GoIdentity is = absurd is
+        other_side (send_calls.GoInfinite asker) is = absurd is
+        other_side send_calls.Abort is = absurd is
+    heard_both s (asks.Reassembly t call) is = lowered_with s
+      where
+        lowered_with : (s : Side) → Asks (with_flag s false refused) freed (after_ask (asks.Reassembly t call) six)
+        lowered_with A = record { a = (lowered A).a; b = (lowered A).b }
+        lowered_with B = record { a = (lowered B).a; b = (lowered B).b }
+    heard_both s (asks.Control t call) is = lowered_with s
+      where
+        lowered_with : (s : Side) → Asks (with_flag s false refused) freed (after_ask (asks.Control t call) six)
+        lowered_with A = record { a = (lowered A).a; b = (lowered A).b }
+        lowered_with B = record { a = (lowered B).a; b = (lowered B).b }
+    heard_both s (asks.Local step) is = lowered s
+
+  -- A grant: what other paths freed before is of no account any more.
+  granted_both : (s : Side) (max : ℕ) (standby : Bool) → n.ask ≡ asks.Send s (send_calls.Grant path max standby)
+      → Asks (with_flag s false refused) (with_flag s false freed) (after_ask (asks.Send s (send_calls.Grant path max standby)) six)
+  granted_both A max standby asks = record {
+    a = record { ones = ones_after path written_a six.send_a h.a.ones (send_calls.Grant path max standby) refl; all = λ on alone. never_on on };
+    b = noted_b (ap (asks_grant B) asks);
+  }
+  granted_both B max standby asks = record {
+    a = noted_a (ap (asks_grant A) asks);
+    b = record { ones = ones_after path written_b six.send_b h.b.ones (send_calls.Grant path max standby) refl; all = λ on alone. never_on on };
+  }
 
   -- and a refusal
   refused_both : (s : Side) (max : ℕ) (standby : Bool) → n.ask ≡ asks.Send s (send_calls.Grant path max standby) → grant_in (reply_of six (asks.Send s (send_calls.Grant path max standby))) ≡ None
-      → Asks (with_flag s true refused) (after_ask (asks.Send s (send_calls.Grant path max standby)) six)
+      → Asks (with_flag s true refused) (with_flag s false freed) (after_ask (asks.Send s (send_calls.Grant path max standby)) six)
   refused_both A max standby asks none = record {
     a = record {
       ones = ones_after path written_a six.send_a h.a.ones (send_calls.Grant path max standby) refl;
-      all = λ on alone. grant_refused path written_a six.send_a h.a.ones A steps n max standby (ap (λ x. asks_on_standby A (record n { ask = x })) asks) none;
+      all = λ on alone. grant_refused path written_a six.send_a h.a.ones A steps n max standby (λ before. ap (λ x. if asks_grant A x then is_standby x else before) asks) none;
     };
-    b = noted.b;
+    b = noted_b (ap (asks_grant B) asks);
   }
   refused_both B max standby asks none = record {
-    a = noted.a;
+    a = noted_a (ap (asks_grant A) asks);
     b = record {
       ones = ones_after path written_b six.send_b h.b.ones (send_calls.Grant path max standby) refl;
-      all = λ on alone. grant_refused path written_b six.send_b h.b.ones B steps n max standby (ap (λ x. asks_on_standby B (record n { ask = x })) asks) none;
+      all = λ on alone. grant_refused path written_b six.send_b h.b.ones B steps n max standby (λ before. ap (λ x. if asks_grant B x then is_standby x else before) asks) none;
     };
   }
 
 -- ---- a step of another path
 
 -- whether bytes were freed then
-abbrev pub freed_then : Ask → (Side → Bool) → Side → Bool
-freed_then ask freed s = freed s || frees_bytes s ask
-
-freed_now : {X : Type 0} (b : Bool) → b || true ≡ false → X
-freed_now true is = absurd (false≢true (sym is))
-freed_now false is = absurd (false≢true (sym is))
+abbrev pub freed_then : (Side → ℕ) → Ask → Reply → (Side → Bool) → Side → Bool
+freed_then edges ask reply freed s = freed s || frees_bytes s (edges s) ask reply
 
 freed_before : (b c : Bool) → b || c ≡ false → b ≡ false
 freed_before true c is = is
 freed_before false c is = refl
 
-module _ (path written : ℕ) (s : Side) (steps : List Note) (refused freed : Bool) (b : Sending) (h : SideAsks path written s steps refused freed b) where
+freed_after : (b c : Bool) → b || c ≡ false → c ≡ false
+freed_after true c is = absurd (false≢true (sym is))
+freed_after false c is = is
+
+same_freeing : (s : Side) (edge : ℕ) (b : Sending) (call : SendCall) → frees_bytes s edge (asks.Send s call) (replies.Send (reply_to b call)) ≡ is_freeing edge b call
+same_freeing A edge b (send_calls.AckIn next window) = refl
+same_freeing A edge b (send_calls.Return who) = refl
+same_freeing A edge b (send_calls.Grant who max standby) = refl
+same_freeing A edge b (send_calls.Write bytes) = refl
+same_freeing A edge b send_calls.Close = refl
+same_freeing A edge b send_calls.GoIdentity = refl
+same_freeing A edge b (send_calls.GoInfinite who) = refl
+same_freeing A edge b send_calls.Abort = refl
+same_freeing B edge b (send_calls.AckIn next window) = refl
+same_freeing B edge b (send_calls.Return who) = refl
+same_freeing B edge b (send_calls.Grant who max standby) = refl
+same_freeing B edge b (send_calls.Write bytes) = refl
+same_freeing B edge b send_calls.Close = refl
+same_freeing B edge b send_calls.GoIdentity = refl
+same_freeing B edge b (send_calls.GoInfinite who) = refl
+same_freeing B edge b send_calls.Abort = refl
+
+module _ (path written edge : ℕ) (s : Side) (steps : List Note) (refused freed : Bool) (b : Sending) (h : SideAsks path written s steps refused freed b) where
   -- the own book stays
   stays_side : (more : Bool) → SideAsks path written s steps refused (freed || more) b
   stays_side more = record { ones = h.ones; all = λ on alone. h.all on (freed_before freed more alone) }
 
-  other_call : (asker : ℕ) (t : Side) (call : SendCall) → (asker ≡ path → ⊥) → IsCallOf asker (asks.Send t call) → frees_bytes s (asks.Send s call) ≡ is_freeing call → SideAsks path written s steps refused (freed || frees_bytes s (asks.Send s call)) (after_call b call)
-  other_call asker t (send_calls.Grant who max standby) apart is same =
+  freeing_call : (asker : ℕ) (t : Side) (call : SendCall) → (asker ≡ path → ⊥) → IsCallOf asker (asks.Send t call) → edge ≤ b.edge
+      → SideAsks path written s steps refused (freed || is_freeing edge b call) (after_call b call)
+  freeing_call asker t (send_calls.Grant who max standby) apart is low =
       let other : who ≡ path → ⊥ = λ own. apart (sym is ∙ own) in
       record { ones = ones_other path written b h.ones who max standby other; all = λ on alone. all_other path written b h.ones who max standby other s steps (h.all on (freed_before freed _ alone)) }
-  other_call asker t (send_calls.AckIn next window) apart is same =
-      record { ones = ones_after path written b h.ones (send_calls.AckIn next window) tt; all = λ on alone. freed_now freed (ap (λ c. freed || c) (sym same) ∙ alone) }
-  other_call asker t (send_calls.Return who) apart is same =
-      record { ones = ones_after path written b h.ones (send_calls.Return who) tt; all = λ on alone. freed_now freed (ap (λ c. freed || c) (sym same) ∙ alone) }
-  other_call asker t (send_calls.Write bytes) apart is same = absurd is
-  other_call asker t send_calls.Close apart is same = absurd is
-  other_call asker t send_calls.GoIdentity apart is same =
+  freeing_call asker t (send_calls.AckIn next window) apart is low = record {
+    ones = ones_after path written b h.ones (send_calls.AckIn next window) tt;
+    all = λ on alone. let least = ltb-false edge (next + window) (freed_after freed (nat_lt edge (next + window)) alone) in
+        all_acknowledged path written b h.ones s steps next window (omega (arith, least, low)) (h.all on (freed_before freed (nat_lt edge (next + window)) alone));
+  }
+  freeing_call asker t (send_calls.Return who) apart is low = record {
+    ones = ones_after path written b h.ones (send_calls.Return who) tt;
+    all = λ on alone. let held = count_by (is_held_by who) b.marks in let none = ltb-false 0 held (freed_after freed (nat_lt 0 held) alone) in
+        all_returned path written b h.ones s steps who (omega (arith, none)) (h.all on (freed_before freed (nat_lt 0 held) alone));
+  }
+  freeing_call asker t (send_calls.Write bytes) apart is low = absurd is
+  freeing_call asker t send_calls.Close apart is low = absurd is
+  freeing_call asker t send_calls.GoIdentity apart is low =
       record { ones = ones_after path written b h.ones send_calls.GoIdentity tt; all = λ on alone. all_after path written b h.ones s steps send_calls.GoIdentity tt (h.all on (freed_before freed _ alone)) }
-  other_call asker t (send_calls.GoInfinite who) apart is same = absurd is
-  other_call asker t send_calls.Abort apart is same = absurd is
+  freeing_call asker t (send_calls.GoInfinite who) apart is low = absurd is
+  freeing_call asker t send_calls.Abort apart is low = absurd is
 
-same_freeing : (s : Side) (call : SendCall) → frees_bytes s (asks.Send s call) ≡ is_freeing call
-same_freeing A (send_calls.AckIn next window) = refl
-same_freeing A (send_calls.Return who) = refl
-same_freeing A (send_calls.Grant who max standby) = refl
-same_freeing A (send_calls.Write bytes) = refl
-same_freeing A send_calls.Close = refl
-same_freeing A send_calls.GoIdentity = refl
-same_freeing A (send_calls.GoInfinite who) = refl
-same_freeing A send_calls.Abort = refl
-same_freeing B (send_calls.AckIn next window) = refl
-same_freeing B (send_calls.Return who) = refl
-same_freeing B (send_calls.Grant who max standby) = refl
-same_freeing B (send_calls.Write bytes) = refl
-same_freeing B send_calls.Close = refl
-same_freeing B send_calls.GoIdentity = refl
-same_freeing B (send_calls.GoInfinite who) = refl
-same_freeing B send_calls.Abort = refl
+  other_call : (asker : ℕ) (call : SendCall) → (asker ≡ path → ⊥) → IsCallOf asker (asks.Send s call) → edge ≤ b.edge
+      → SideAsks path written s steps refused (freed || frees_bytes s edge (asks.Send s call) (replies.Send (reply_to b call))) (after_call b call)
+  other_call asker call apart is low =
+      subst (λ c. SideAsks path written s steps refused (freed || c) (after_call b call)) (sym (same_freeing s edge b call)) (freeing_call asker s call apart is low)
 
-module _ (path written_a written_b : ℕ) (steps : List Note) (refused freed : Side → Bool) (six : SixBooks) (h : BothAsk path written_a written_b steps refused freed six) where
-  pub other_both : (asker : ℕ) (ask : Ask) → (asker ≡ path → ⊥) → IsCallOf asker ask → BothAsk path written_a written_b steps refused (freed_then ask freed) (after_ask ask six)
+module _ (path written_a written_b : ℕ) (edges : Side → ℕ) (steps : List Note) (refused freed : Side → Bool) (six : SixBooks) (h : BothAsk path written_a written_b steps refused freed six)
+    (low : (s : Side) → edges s ≤ (send_of s six).edge) where
+  pub other_both : (asker : ℕ) (ask : Ask) → (asker ≡ path → ⊥) → IsCallOf asker ask
+      → BothAsk path written_a written_b steps refused (freed_then edges ask (reply_of six ask) freed) (after_ask ask six)
   other_both asker (asks.Send A call) apart is = record {
-    a = other_call path written_a A steps (refused A) (freed A) six.send_a h.a asker A call apart is (same_freeing A call);
-    b = stays_side path written_b B steps (refused B) (freed B) six.send_b h.b _;
+    a = other_call path written_a (edges A) A steps (refused A) (freed A) six.send_a h.a asker call apart is (low A);
+    b = stays_side path written_b (edges B) B steps (refused B) (freed B) six.send_b h.b _;
   }
   other_both asker (asks.Send B call) apart is = record {
-    a = stays_side path written_a A steps (refused A) (freed A) six.send_a h.a _;
-    b = other_call path written_b B steps (refused B) (freed B) six.send_b h.b asker B call apart is (same_freeing B call);
+    a = stays_side path written_a (edges A) A steps (refused A) (freed A) six.send_a h.a _;
+    b = other_call path written_b (edges B) B steps (refused B) (freed B) six.send_b h.b asker call apart is (low B);
   }
-  other_both asker (asks.Reassembly t call) apart is = record { a = stays_side path written_a A steps (refused A) (freed A) six.send_a h.a _; b = stays_side path written_b B steps (refused B) (freed B) six.send_b h.b _ }
-  other_both asker (asks.Control t call) apart is = record { a = stays_side path written_a A steps (refused A) (freed A) six.send_a h.a _; b = stays_side path written_b B steps (refused B) (freed B) six.send_b h.b _ }
-  other_both asker (asks.Local step) apart is = record { a = stays_side path written_a A steps (refused A) (freed A) six.send_a h.a _; b = stays_side path written_b B steps (refused B) (freed B) six.send_b h.b _ }
+  other_both asker (asks.Reassembly t call) apart is = record {
+    a = stays_side path written_a (edges A) A steps (refused A) (freed A) six.send_a h.a _;
+    b = stays_side path written_b (edges B) B steps (refused B) (freed B) six.send_b h.b _;
+  }
+  other_both asker (asks.Control t call) apart is = record {
+    a = stays_side path written_a (edges A) A steps (refused A) (freed A) six.send_a h.a _;
+    b = stays_side path written_b (edges B) B steps (refused B) (freed B) six.send_b h.b _;
+  }
+  other_both asker (asks.Local step) apart is = record {
+    a = stays_side path written_a (edges A) A steps (refused A) (freed A) six.send_a h.a _;
+    b = stays_side path written_b (edges B) B steps (refused B) (freed B) six.send_b h.b _;
+  }
 
 -- ---- a step of the path
 
@@ -278,23 +325,31 @@ module _ {C : Type 0} (k : Codec C) (p : PathState C) (written_a written_b : ℕ
   -- what is ahead on the path then, and both books
   pub record AskThen (q : PathState C) : Type 0 where
     pub flags : Side → Bool
+    -- what other paths freed since the last grant
+    pub others : Side → Bool
     pub granting : Granting q flags
-    pub both : BothAsk (path_of p) written_a written_b (steps ++ n ∷ []) flags freed (after_ask n.ask six)
+    pub both : BothAsk (path_of p) written_a written_b (steps ++ n ∷ []) flags others (after_ask n.ask six)
+    pub before : (t : Side) → others t ≡ true → (freed t ≡ true) × (asks_grant t n.ask ≡ false)
 
   abbrev Here : List Duty → PathState C
   Here ds = with_agenda ds p
 
-  asked_is : (x : Ask) (flags : Side → Bool) → n.ask ≡ x → BothAsk (path_of p) written_a written_b (steps ++ n ∷ []) flags freed (after_ask x six)
-      → BothAsk (path_of p) written_a written_b (steps ++ n ∷ []) flags freed (after_ask n.ask six)
-  asked_is x flags is both = subst (λ y. BothAsk (path_of p) written_a written_b (steps ++ n ∷ []) flags freed (after_ask y six)) (sym is) both
+  asked_is : (x : Ask) (flags others : Side → Bool) → n.ask ≡ x → BothAsk (path_of p) written_a written_b (steps ++ n ∷ []) flags others (after_ask x six)
+      → BothAsk (path_of p) written_a written_b (steps ++ n ∷ []) flags others (after_ask n.ask six)
+  asked_is x flags others is both = subst (λ y. BothAsk (path_of p) written_a written_b (steps ++ n ∷ []) flags others (after_ask y six)) (sym is) both
+
+  asks_nothing : (d : Duty) (ds : List Duty) → MayNotAsk d → n.ask ≡ ask_for k d (Here (d ∷ ds)) → (t : Side) → asks_grant t n.ask ≡ false
+  asks_nothing d ds may is t = ap (asks_grant t) is ∙ ask_isn't t (ask_for k d (Here (d ∷ ds))) (asks_none k (Here (d ∷ ds)) d may)
 
   quiet_duty : (d : Duty) (ds : List Duty) → IsQuietDuty d → MayNotAsk d → n.ask ≡ ask_for k d (Here (d ∷ ds)) → is_followed (d ∷ ds) ≡ true
       → ((t : Side) → Pays (Here (d ∷ ds)) (d ∷ ds) refused t) → AskThen (answered k d (reply_of six (ask_for k d (Here (d ∷ ds)))) (Here (d ∷ ds)))
   quiet_duty d ds quiet may is f each = record {
     flags = refused;
+    others = freed;
+    before = λ t on. (on, asks_nothing d ds may is t);
     granting = answered_done k (reply_of six (ask_for k d (Here (d ∷ ds)))) p refused d ds may f each;
-    both = asked_is (ask_for k d (Here (d ∷ ds))) refused is
-        (quiet_both (path_of p) written_a written_b steps n refused freed six h (ask_for k d (Here (d ∷ ds))) (quiet_asks k (Here (d ∷ ds)) d quiet));
+    both = asked_is (ask_for k d (Here (d ∷ ds))) refused freed is
+        (quiet_both (path_of p) written_a written_b steps n refused freed six h (asks_nothing d ds may is) (ask_for k d (Here (d ∷ ds))) (quiet_asks k (Here (d ∷ ds)) d quiet));
   }
 
   -- the flag of a side that has what it needs ahead is of no account
@@ -308,9 +363,11 @@ module _ {C : Type 0} (k : Codec C) (p : PathState C) (written_a written_b : ℕ
       → is_followed (d ∷ ds) ≡ true → ((t : Side) → Pays (Here (d ∷ ds)) (d ∷ ds) refused t) → AskThen (answered k d (reply_of six (ask_for k d (Here (d ∷ ds)))) (Here (d ∷ ds)))
   heard_duty d s ds heard may owed is f each = record {
     flags = with_flag s false refused;
+    others = freed;
+    before = λ t on. (on, asks_nothing d ds may is t);
     granting = answered_done k (reply_of six (ask_for k d (Here (d ∷ ds)))) p (with_flag s false refused) d ds may f (lower_each s (d ∷ ds) false owed each);
-    both = asked_is (ask_for k d (Here (d ∷ ds))) (with_flag s false refused) is
-        (heard_both (path_of p) written_a written_b steps n refused freed six h s (ask_for k d (Here (d ∷ ds))) heard);
+    both = asked_is (ask_for k d (Here (d ∷ ds))) (with_flag s false refused) freed is
+        (heard_both (path_of p) written_a written_b steps n refused freed six h (asks_nothing d ds may is) s (ask_for k d (Here (d ∷ ds))) heard);
   }
 
   first_needs : (d : Duty) (ds : List Duty) → is_followed (d ∷ ds) ≡ true → needs d ds ≡ true
@@ -326,26 +383,39 @@ module _ {C : Type 0} (k : Codec C) (p : PathState C) (written_a written_b : ℕ
   other_each B xs flag each A apart = each A
   other_each B xs flag each B apart = absurd (apart refl)
 
+  since_grant : (s : Side) → n.ask ≡ grant_ask s p → (t : Side) → with_flag s false freed t ≡ true → (freed t ≡ true) × (asks_grant t n.ask ≡ false)
+  since_grant A is A on = never_on on
+  since_grant A is B on = (on, ap (asks_grant B) is)
+  since_grant B is A on = (on, ap (asks_grant A) is)
+  since_grant B is B on = never_on on
+
   grant_duty : (s : Side) (ds : List Duty) → n.ask ≡ grant_ask s p → is_followed (duties.Data s ∷ ds) ≡ true → ((t : Side) → Pays (Here (duties.Data s ∷ ds)) (duties.Data s ∷ ds) refused t)
       → (o : Option Grant) → grant_in (reply_of six (grant_ask s p)) ≡ o → AskThen (answered_grant s o (reply_of six (grant_ask s p)) (Here (duties.Data s ∷ ds)))
   grant_duty s ds is f each (Some grant) found = record {
     flags = with_flag s false refused;
+    others = with_flag s false freed;
+    before = since_grant s is;
     granting = granted_done k (reply_of six (grant_ask s p)) p (with_flag s false refused) s ds grant f (lower_each s (duties.Data s ∷ ds) false (own_data s ds) each);
-    both = asked_is (grant_ask s p) (with_flag s false refused) is (granted_both (path_of p) written_a written_b steps n refused freed six h s _ _);
+    both = asked_is (grant_ask s p) (with_flag s false refused) (with_flag s false freed) is (granted_both (path_of p) written_a written_b steps n refused freed six h s _ _ is);
   }
   grant_duty s ds is f each None found = record {
     flags = with_flag s true refused;
+    others = with_flag s false freed;
+    before = since_grant s is;
     granting = refused_done k (reply_of six (grant_ask s p)) p (with_flag s true refused) s ds (own_flag s true refused) f (other_each s (duties.Data s ∷ ds) true each);
-    both = asked_is (grant_ask s p) (with_flag s true refused) is (refused_both (path_of p) written_a written_b steps n refused freed six h s _ _ is found);
+    both = asked_is (grant_ask s p) (with_flag s true refused) (with_flag s false freed) is (refused_both (path_of p) written_a written_b steps n refused freed six h s _ _ is found);
   }
 
   data_duty : (s : Side) (ds : List Duty) → is_followed (duties.Data s ∷ ds) ≡ true → ((t : Side) → Pays (Here (duties.Data s ∷ ds)) (duties.Data s ∷ ds) refused t)
       → (o : Option Record) → n.ask ≡ data_ask k s o (Here (duties.Data s ∷ ds)) → AskThen (answered_data k s o (reply_of six (data_ask k s o (Here (duties.Data s ∷ ds)))) (Here (duties.Data s ∷ ds)))
   data_duty s ds f each (Some u) is = record {
     flags = refused;
+    others = freed;
+    before = λ t on. (on, ap (asks_grant t) is ∙ ask_isn't t (data_ask k s (Some u) (Here (duties.Data s ∷ ds))) tt);
     granting = data_sent k (reply_of six (data_ask k s (Some u) (Here (duties.Data s ∷ ds)))) p refused s ds u f each;
-    both = asked_is (data_ask k s (Some u) (Here (duties.Data s ∷ ds))) refused is
-        (quiet_both (path_of p) written_a written_b steps n refused freed six h (data_ask k s (Some u) (Here (duties.Data s ∷ ds))) tt);
+    both = asked_is (data_ask k s (Some u) (Here (duties.Data s ∷ ds))) refused freed is
+        (quiet_both (path_of p) written_a written_b steps n refused freed six h
+        (λ t. ap (asks_grant t) is ∙ ask_isn't t (data_ask k s (Some u) (Here (duties.Data s ∷ ds))) tt) (data_ask k s (Some u) (Here (duties.Data s ∷ ds))) tt);
   }
   data_duty s ds f each None is = grant_duty s ds is f each (grant_in (reply_of six (grant_ask s p))) refl
 
@@ -403,7 +473,7 @@ module _ {C : Type 0} (k : Codec C) (p : PathState C) (written_a written_b : ℕ
   here_asks d ds is g =
       let q : PathState C = answered k d (reply_of six (ask_for k d (Here (d ∷ ds)))) (Here (d ∷ ds)) in
       let t : AskThen q = duty_asks d ds is g.followed g.each in
-      record { flags = t.flags; granting = settled_done q.agenda q t.flags t.granting.followed t.granting.each; both = t.both }
+      record { flags = t.flags; others = t.others; granting = settled_done q.agenda q t.flags t.granting.followed t.granting.each; both = t.both; before = t.before }
 
   pub path_step : (d : Duty) (ds : List Duty) → p.agenda ≡ d ∷ ds → n.ask ≡ ask_for k d p → Granting p refused → AskThen (takes k (reply_of six (ask_for k d p)) p)
   path_step d ds agenda =

@@ -1,9 +1,10 @@
 -- What is done by the end of a round, in numbers of what stood as it began.
-use Rattle.std.specs.Prelude.{ℕ, ◌≡◌, ◌≤◌, ◌⊎◌, min, ◌&&◌, Bool, true, false, Some, None, List, [], length, map, drop, slice_get}
+use Rattle.std.specs.Prelude.{ℕ, ◌≡◌, ◌+◌, ◌≤◌, ◌⊎◌, min, ◌&&◌, nat_lt, if◌then◌else◌, Bool, true, false, Some, None, List, [], ◌∷◌, length, map, drop, slice_get}
 use Rattle.std.specs.List.{list_any, position_or_len}
 use Rattle.outside_kit.specs.declared.side.Side.{Side}
 use Rattle.outside_kit.specs.declared.side.Side.TheVariants.{A, B}
 use Rattle.send_book.specs.declared.call.SendCall.TheVariants as send_calls
+use Rattle.send_book.specs.declared.call.SendReply.TheVariants as send_replies
 use Rattle.send_book.specs.declared.mark.ByteMark.{ByteMark}
 use Rattle.send_book.specs.Marks.{is_free_for}
 use Rattle.send_book.specs.State.{Sending}
@@ -12,6 +13,8 @@ use Rattle.reassembly_book.specs.State.{received}
 use Rattle.actor_desk.specs.declared.ask.Ask.{Ask}
 use Rattle.actor_desk.specs.declared.ask.Ask.TheVariants as asks
 use Rattle.actor_desk.specs.declared.ask.Note.{Note}
+use Rattle.actor_desk.specs.declared.ask.Reply.{Reply}
+use Rattle.actor_desk.specs.declared.ask.Reply.TheVariants as replies
 use Rattle.actor_desk.specs.Words.{pick}
 use Rattle.path_core.specs.Codec.{Codec}
 use Rattle.path_core.specs.Emission.{first_unsent, may_ask}
@@ -35,23 +38,45 @@ abbrev pub is_standby : Ask → Bool
 is_standby (asks.Send s (send_calls.Grant path max standby)) = standby
 is_standby _ = false
 
-abbrev pub asks_on_standby : Side → Note → Bool
-asks_on_standby s note = asks_grant s note.ask && is_standby note.ask
+-- after a step: whether bytes were asked for last while on standby
+abbrev pub standby_after : Side → Note → Bool → Bool
+standby_after s note before = if asks_grant s note.ask then is_standby note.ask else before
 
--- Of so many bytes none below the edge of the peer's window is left that the path may take; or it asked for bytes, in these steps,
--- while it was on standby; or the book gives bytes to another path alone, as after a fallback.
+-- of these steps, where this was so before
+abbrev pub last_on_standby : Side → Bool → List Note → Bool
+last_on_standby s before [] = before
+last_on_standby s before (note ∷ notes) = last_on_standby s (standby_after s note before) notes
+
+-- the stamp of the last of these steps that asked for bytes of this side's stream, or this stamp
+abbrev pub last_asked : Side → ℕ → List Note → ℕ
+last_asked s stamp [] = stamp
+last_asked s stamp (note ∷ notes) =
+    last_asked s (if asks_grant s note.ask then note.stamp else stamp) notes
+
+-- Of so many bytes none below the edge of the peer's window is left that the path may take; or when it asked for bytes last, in
+-- these steps, it was on standby; or the book gives bytes to another path alone, as after a fallback.
 pub data AskedForAll (path : ℕ) (s : Side) (steps : List Note) (written : ℕ) (book : Sending) : Type 0 where
   Taken : min written book.edge ≤ taken_len path book.marks → AskedForAll path s steps written book
-  Standby : list_any (asks_on_standby s) steps ≡ true → AskedForAll path s steps written book
+  Standby : last_on_standby s false steps ≡ true → AskedForAll path s steps written book
   Barred : is_for path book.owner ≡ false → AskedForAll path s steps written book
 
--- another path takes an acknowledgement for this side's stream, or gives back bytes of it: then more may be left to be taken
-abbrev pub frees_bytes : Side → Ask → Bool
-frees_bytes A (asks.Send A (send_calls.AckIn next window)) = true
-frees_bytes A (asks.Send A (send_calls.Return path)) = true
-frees_bytes B (asks.Send B (send_calls.AckIn next window)) = true
-frees_bytes B (asks.Send B (send_calls.Return path)) = true
-frees_bytes _ _ = false
+-- bytes were given back
+abbrev pub gives_back : Reply → Bool
+gives_back (replies.Send (send_replies.Returned bytes)) = nat_lt 0 bytes
+gives_back _ = false
+
+-- More may be left to be taken of this side's stream by this ask of another path, with its reply: its peer's window reaches past this
+-- edge, or bytes are given back.
+abbrev pub frees_bytes : Side → ℕ → Ask → Reply → Bool
+frees_bytes A edge (asks.Send A (send_calls.AckIn next window)) reply = nat_lt edge (next + window)
+frees_bytes A edge (asks.Send A (send_calls.Return path)) reply = gives_back reply
+frees_bytes B edge (asks.Send B (send_calls.AckIn next window)) reply = nat_lt edge (next + window)
+frees_bytes B edge (asks.Send B (send_calls.Return path)) reply = gives_back reply
+frees_bytes _ edge _ reply = false
+
+-- it is so, after this stamp
+abbrev pub frees_after : Side → ℕ → ℕ → Note → Bool
+frees_after s stamp edge note = nat_lt stamp note.stamp && frees_bytes s edge note.ask note.reply
 
 -- ---- rounds
 
@@ -80,11 +105,16 @@ module _ {C : Type 0} where
   abbrev pub steps_since : ℕ → WorldState C → WorldState C → List Note
   steps_since actor begun w = drop (length (notes_at actor begun.crew)) (notes_at actor w.crew)
 
+  -- the step of another actor frees bytes, past the edge as the round began, after this actor asked for bytes last in it
+  abbrev pub frees_since : WorldState C → WorldState C → ℕ → Side → Note → Bool
+  frees_since begun w actor s note =
+      frees_after s (last_asked s 0 (steps_since actor begun w)) (written_by s begun).edge note
+
   -- in this round another actor made such a step
   pub record OthersFreed (begun w : WorldState C) (actor : ℕ) (s : Side) : Type 0 where
     pub other : ℕ
     pub apart : other ≡ actor → ⊥
-    pub freed : list_any (λ note. frees_bytes s note.ask) (steps_since other begun w) ≡ true
+    pub freed : list_any (frees_since begun w actor s) (steps_since other begun w) ≡ true
 
   -- An end that has no record to send and may ask for bytes, with room in its window for a full segment, asked for all, unless
   -- another path made more to be asked for.

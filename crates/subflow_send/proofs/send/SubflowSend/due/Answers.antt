@@ -12,8 +12,8 @@ returns-in-Some-first_unsent-clause-value c =
     let syn_none = sym c.if_unsent.ensures ∙ c.in_default.is in
     let rest : Option Record = option_map (fin_record (c.self.inside.nxt - 1)) (unsent_sending c.self.inside.fin) in
     rw (← c.self.view_is)
-    (sym (find_all c.self.inside.syn c.self.inside.pieces.items (c.self.inside.nxt - 1) c.self.inside.fin
-    ∙ ap (λ (o : Option Sending). first_some (option_map syn_record o) (first_some (find is_unsent (map piece_record c.self.inside.pieces.items)) rest)) syn_none
+    (sym (find_all c.self.inside.syn c.self.inside.pieces (c.self.inside.nxt - 1) c.self.inside.fin
+    ∙ ap (λ (o : Option Sending). first_some (option_map syn_record o) (first_some (find is_unsent (map piece_record c.self.inside.pieces)) rest)) syn_none
     ∙ ap (λ (o : Option Record). first_some o rest) (sym c.in-Some-first_unsent.ensures.value)))
 
 pub returns-in-Some-if_unsent-clause-value : goal.returns-in-Some-if_unsent-clause-value
@@ -21,8 +21,8 @@ returns-in-Some-if_unsent-clause-value c =
     let syn_none = sym c.if_unsent.ensures ∙ c.in_default.is in
     let rest : Option Record = option_map (fin_record (c.self.inside.nxt - 1)) (unsent_sending c.self.inside.fin) in
     rw (← c.self.view_is)
-    (sym (find_all c.self.inside.syn c.self.inside.pieces.items (c.self.inside.nxt - 1) c.self.inside.fin
-    ∙ ap (λ (o : Option Sending). first_some (option_map syn_record o) (first_some (find is_unsent (map piece_record c.self.inside.pieces.items)) rest)) syn_none
+    (sym (find_all c.self.inside.syn c.self.inside.pieces (c.self.inside.nxt - 1) c.self.inside.fin
+    ∙ ap (λ (o : Option Sending). first_some (option_map syn_record o) (first_some (find is_unsent (map piece_record c.self.inside.pieces)) rest)) syn_none
     ∙ ap (λ (o : Option Record). first_some o rest) (sym c.in_default-first_unsent.ensures.value)
     ∙ ap (option_map (fin_record (c.self.inside.nxt - 1))) (sym c.if_unsent-2.ensures ∙ c.in-Some-if_unsent.is)
     ∙ ap (λ (r : Record). Some r) (sym c.fin_ref.ensures.value)))
@@ -32,7 +32,7 @@ returns-clause-value c =
     let syn_none = sym c.if_unsent.ensures ∙ c.in_default.is in
     let rest : Option Record = option_map (fin_record (c.self.inside.nxt - 1)) (unsent_sending c.self.inside.fin) in
     rw (← c.self.view_is)
-    (sym (find_all c.self.inside.syn c.self.inside.pieces.items (c.self.inside.nxt - 1) c.self.inside.fin
-    ∙ ap (λ (o : Option Sending). first_some (option_map syn_record o) (first_some (find is_unsent (map piece_record c.self.inside.pieces.items)) rest)) syn_none
+    (sym (find_all c.self.inside.syn c.self.inside.pieces (c.self.inside.nxt - 1) c.self.inside.fin
+    ∙ ap (λ (o : Option Sending). first_some (option_map syn_record o) (first_some (find is_unsent (map piece_record c.self.inside.pieces)) rest)) syn_none
     ∙ ap (λ (o : Option Record). first_some o rest) (sym c.in_default-first_unsent.ensures.value)
     ∙ ap (option_map (fin_record (c.self.inside.nxt - 1))) (sym c.if_unsent-2.ensures ∙ c.in_default-if_unsent.is)))

@@ -8,5 +8,5 @@ pub returns : goal.returns
 returns c =
     rw (← c.self.view_is)
     (ap (λ (rs : List Record). record { una = c.self.inside.una; nxt = c.self.inside.nxt; records = rs; finished = c.self.inside.finished })
-    (ap (all_records c.self.inside.syn c.self.inside.pieces.items (c.self.inside.nxt - 1)) c.again-self-inside.ensures
-    ∙ sym (fin_sent_of_all c.args.now c.self.inside.syn c.self.inside.pieces.items (c.self.inside.nxt - 1) c.self.inside.fin)))
+    (ap (all_records c.self.inside.syn c.self.inside.pieces (c.self.inside.nxt - 1)) c.again-self-inside.ensures
+    ∙ sym (fin_sent_of_all c.args.now c.self.inside.syn c.self.inside.pieces (c.self.inside.nxt - 1) c.self.inside.fin)))

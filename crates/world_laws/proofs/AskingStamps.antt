@@ -1,0 +1,113 @@
+-- The edges of send books, and the stamps of their journals, as asks are entered.
+use Rattle.std.proofs.Common.{◌≡◌, refl, sym, ◌∙◌, ap, subst, ℕ, ◌+◌, ◌<◌, ◌≤◌, ◌&&◌, ◌||◌, max, nat_lt, Bool, true, false, if◌then◌else◌, Result, Ok, Err, List, [], ◌∷◌, ◌++◌, arith}
+use Rattle.std.proofs.lemmas.Bool.{false≢true, ltb-false}
+use Rattle.outside_kit.specs.declared.side.Side.{Side}
+use Rattle.outside_kit.specs.declared.side.Side.TheVariants.{A, B}
+use Rattle.stamped_book.specs.declared.stamped.Pass.{Pass}
+use Rattle.stamped_book.specs.Entering.{entry_of, after_entering, next_stamp}
+use Rattle.stamped_book.specs.Journal.{last_stamp}
+use Rattle.stamped_book.proofs.Journals.{last_stamp-append}
+use Rattle.send_book.specs.declared.call.SendCall.{SendCall}
+use Rattle.send_book.specs.declared.call.SendCall.TheVariants.{Write, Close, Grant, AckIn, Return, GoIdentity, GoInfinite, Abort}
+use Rattle.send_book.specs.declared.call.Span.{Span}
+use Rattle.send_book.specs.declared.call.Why.{Why}
+use Rattle.send_book.specs.State.{Sending}
+use Rattle.send_book.specs.Steps.{decision, given_by, is_future, is_gathered, reply_to, after_call}
+use Rattle.actor_desk.specs.declared.ask.Ask.{Ask}
+use Rattle.actor_desk.specs.declared.ask.Ask.TheVariants as asks
+use Rattle.actor_desk.specs.declared.ask.Reply.{Reply}
+use Rattle.actor_desk.specs.Books.{SendJournal, StampedBooks, stamp_of, after_entry}
+use Rattle.actor_desk.specs.Desk.{SixBooks, send_of, after_ask}
+use Rattle.actor_desk.specs.Words.{pick}
+use Rattle.world_laws.specs.RoundEnd.{asks_grant}
+use Rattle.world_laws.specs.RoundNumbers.{frees_bytes}
+
+-- ---- edges
+
+either_edge : (c : Bool) (least : ℕ) (x y : Sending) → least ≤ x.edge → least ≤ y.edge → least ≤ (if c then x else y).edge
+either_edge true least x y h g = h
+either_edge false least x y h g = g
+
+call_edge : (b : Sending) (call : SendCall) → b.edge ≤ (after_call b call).edge
+call_edge b (Write bytes) = either_edge (b.closed || b.aborted) b.edge b _ (omega arith) (omega arith)
+call_edge b Close = either_edge b.aborted b.edge b _ (omega arith) (omega arith)
+call_edge b (Grant path most standby) = by (decision path most standby b)
+  where
+    by : (o : Result Span Why) → b.edge ≤ (given_by path o b).edge
+    by (Ok span) = omega arith
+    by (Err why) = omega arith
+call_edge b (AckIn next window) = either_edge (is_future next b) b.edge b _ (omega arith) (omega arith)
+call_edge b (Return path) = omega arith
+call_edge b GoIdentity = omega arith
+call_edge b (GoInfinite path) = either_edge (is_gathered path b) b.edge _ b (omega arith) (omega arith)
+call_edge b Abort = omega arith
+
+-- the edge of a side's window is never taken back
+pub edge_grows : (s : Side) (x : Ask) (six : SixBooks) → (send_of s six).edge ≤ (send_of s (after_ask x six)).edge
+edge_grows A (asks.Send A call) six = call_edge six.send_a call
+edge_grows A (asks.Send B call) six = omega arith
+edge_grows B (asks.Send A call) six = omega arith
+edge_grows B (asks.Send B call) six = call_edge six.send_b call
+edge_grows A (asks.Reassembly t call) six = omega arith
+edge_grows B (asks.Reassembly t call) six = omega arith
+edge_grows A (asks.Control t call) six = omega arith
+edge_grows B (asks.Control t call) six = omega arith
+edge_grows s (asks.Local step) six = omega arith
+
+-- ---- stamps
+
+-- a book has the stamp of the call that is entered
+entered_last : (book : SendJournal) (pass : Pass) (call : SendCall) → last_stamp 0 (after_entering reply_to after_call book pass call).journal ≡ next_stamp book pass
+entered_last book pass call = last_stamp-append 0 book.journal (entry_of reply_to after_call book pass call ∷ [])
+
+pub stamp_grows : (s : Side) (x : Ask) (pass : Pass) (books : StampedBooks)
+    → last_stamp 0 (pick s books.send_a books.send_b).journal ≤ last_stamp 0 (pick s (after_entry x pass books).send_a (after_entry x pass books).send_b).journal
+stamp_grows A (asks.Send A call) pass books = let last = entered_last books.send_a pass call in omega (arith, last)
+stamp_grows A (asks.Send B call) pass books = omega arith
+stamp_grows B (asks.Send A call) pass books = omega arith
+stamp_grows B (asks.Send B call) pass books = let last = entered_last books.send_b pass call in omega (arith, last)
+stamp_grows A (asks.Reassembly t call) pass books = omega arith
+stamp_grows B (asks.Reassembly t call) pass books = omega arith
+stamp_grows A (asks.Control t call) pass books = omega arith
+stamp_grows B (asks.Control t call) pass books = omega arith
+stamp_grows s (asks.Local step) pass books = omega arith
+
+-- an ask for bytes is the last entry of its book then
+pub grant_entered : (s : Side) (x : Ask) (pass : Pass) (books : StampedBooks) → asks_grant s x ≡ true
+    → stamp_of x books pass ≤ last_stamp 0 (pick s (after_entry x pass books).send_a (after_entry x pass books).send_b).journal
+grant_entered A (asks.Send A call) pass books is = let last = entered_last books.send_a pass call in omega (arith, last)
+grant_entered A (asks.Send B call) pass books is = absurd (false≢true is)
+grant_entered B (asks.Send A call) pass books is = absurd (false≢true is)
+grant_entered B (asks.Send B call) pass books is = let last = entered_last books.send_b pass call in omega (arith, last)
+grant_entered A (asks.Reassembly t call) pass books is = absurd (false≢true is)
+grant_entered B (asks.Reassembly t call) pass books is = absurd (false≢true is)
+grant_entered A (asks.Control t call) pass books is = absurd (false≢true is)
+grant_entered B (asks.Control t call) pass books is = absurd (false≢true is)
+grant_entered A (asks.Local step) pass books is = absurd (false≢true is)
+grant_entered B (asks.Local step) pass books is = absurd (false≢true is)
+
+-- what frees bytes has a later stamp than all before at its book
+pub freeing_entered : (s : Side) (edge : ℕ) (x : Ask) (reply : Reply) (pass : Pass) (books : StampedBooks) → frees_bytes s edge x reply ≡ true
+    → last_stamp 0 (pick s books.send_a books.send_b).journal < stamp_of x books pass
+freeing_entered A edge (asks.Send A call) reply pass books is = omega arith
+freeing_entered A edge (asks.Send B call) reply pass books is = absurd (false≢true is)
+freeing_entered B edge (asks.Send A call) reply pass books is = absurd (false≢true is)
+freeing_entered B edge (asks.Send B call) reply pass books is = omega arith
+freeing_entered A edge (asks.Reassembly t call) reply pass books is = absurd (false≢true is)
+freeing_entered B edge (asks.Reassembly t call) reply pass books is = absurd (false≢true is)
+freeing_entered A edge (asks.Control t call) reply pass books is = absurd (false≢true is)
+freeing_entered B edge (asks.Control t call) reply pass books is = absurd (false≢true is)
+freeing_entered A edge (asks.Local step) reply pass books is = absurd (false≢true is)
+freeing_entered B edge (asks.Local step) reply pass books is = absurd (false≢true is)
+
+-- ---- tests
+
+pub lt_true : (a b : ℕ) → a < b → nat_lt a b ≡ true
+lt_true a b below = by (nat_lt a b) refl
+  where
+    by : (c : Bool) → nat_lt a b ≡ c → c ≡ true
+    by true is = refl
+    by false is = let most = ltb-false a b is in absurd (omega (arith, below, most))
+
+pub both_true : {a b : Bool} → a ≡ true → b ≡ true → (a && b) ≡ true
+both_true {a} {b} first second = ap (λ c. c && b) first ∙ second
