@@ -3,9 +3,6 @@ use Rattle.std.specs.Prelude.{ℕ, All, ◌+◌, ◌^◌, ◌<◌, ◌≤◌, Bo
 use Rattle.reassembly_book.specs.declared.call.ReassemblyReply.TheVariants as reassembly_replies
 use Rattle.control_book.specs.declared.call.ControlReply.TheVariants as control_replies
 use Rattle.linked_increase.specs.Paths.{IsInRange}
-use Rattle.actor_desk.specs.declared.ask.Ask.{Ask}
-use Rattle.actor_desk.specs.Kinds.{IsOfKind}
-use Rattle.actor_desk.specs.Bounds.{IsBounded}
 use Rattle.actor_desk.specs.declared.ask.Reply.{Reply}
 use Rattle.actor_desk.specs.declared.ask.Reply.TheVariants as replies
 use Rattle.path_agenda.specs.declared.duty.Duty.{Duty}
@@ -152,8 +149,3 @@ needs_memory d r p = takes_memory d
 abbrev pub needs_memory_first : {C : Type 0} → List Duty → Reply → PathState C → Bool
 needs_memory_first [] r p = false
 needs_memory_first (d ∷ ds) r p = needs_memory d r p
-
--- the turn hasn't ended, and the reply is of the asked kind, within bounds
-abbrev pub TakesReply : Option Ask → Reply → Type 0
-TakesReply None r = ⊥
-TakesReply (Some x) r = IsOfKind x r × IsBounded x r
