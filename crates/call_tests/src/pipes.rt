@@ -12,9 +12,21 @@ fn octets_are_kept_in_order(rt: HostRuntime) -> Result<(), Fail> {
     assert!(rt; text == text.copy()?);
     assert!(rt; text == Text::of(rt.alloc(), b"hello")?);
     assert!(rt; text != Text::of(rt.alloc(), b"hell")?);
-    let bytes = text.into_vec();
+    let bytes = text.into_vec()?;
     assert_eq!(rt; bytes.as_slice(), b"hello".as_slice());
     assert!(rt; Text::from(bytes) == Text::of(rt.alloc(), b"hello")?);
+    Ok(())
+}
+
+// A part of a text, and of one that shares its octets.
+#[test]
+fn parts_are_cut(rt: HostRuntime) -> Result<(), Fail> {
+    let own = Text::of(rt.alloc(), b"hello")?;
+    let expected = Text::of(rt.alloc(), b"ell")?;
+    assert!(rt; own.slice(1, 4)? == expected);
+    let shared = own.share()?;
+    assert!(rt; shared.slice(1, 4)? == expected);
+    assert_eq!(rt; shared.into_vec()?.as_slice(), b"hello".as_slice());
     Ok(())
 }
 

@@ -104,7 +104,7 @@ impl Journal {
     pub fn open(alloc: Global, width: u8, key_a: u64, key_b: u64) -> Result<Self, AllocError> {
         Ok(Journal {
             alloc,
-            log: opening(alloc, width, key_a, key_b)?.into_vec(),
+            log: opening(alloc, width, key_a, key_b)?.into_vec()?,
             notes: Notes::new(alloc),
             rounds: 0,
             outcome: Outcome::Rounds,

@@ -3,3 +3,4 @@ pub mod Octets
 pub mod Pipe
 pub mod Prefix
 pub mod Runs
+pub mod Texts

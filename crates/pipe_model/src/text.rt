@@ -1,14 +1,37 @@
-ghost use Rattle.std.specs.Prelude.{◌≡◌, ◌++◌, ◌==◌, ◌↔◌, [], length, IsTrue, IfOk, OnOk, OnErr};
+ghost use Rattle.std.specs.Prelude.{◌≡◌, ◌-◌, ◌≤◌, ◌++◌, ◌==◌, ◌↔◌, [], length, take, drop, IsTrue, IfOk, OnOk, OnErr};
 ghost use Rattle.std.specs.Cmp.Lexicographic.{pointwise};
+ghost use Rattle.pipe_model.specs.Texts.{octets_of};
 
+use bytes::Bytes;
 use std::alloc::{AllocError, Global};
 use std::marker::Model;
 
+/// Where the octets of a text are.
+#[derive(Debug, Drop)]
+enum Octets {
+    /// In a vector of its own.
+    Owned(Vec<u8>),
+    /// In a block that its copies and parts share.
+    Shared(Bytes),
+}
+
+impl Octets {
+    fn as_slice(&self) -> &[u8]
+        ensures { result.now ≡ octets_of self.now }
+    {
+        match self {
+            Octets::Owned(octets) => octets.as_slice(),
+            Octets::Shared(octets) => octets.as_slice(),
+        }
+    }
+}
+
 /// Octets in order: a part of a stream, of a segment, or of a file. Contracts see the list of its octets, and two
-/// texts are equal exactly where these lists are.
+/// texts are equal exactly where these lists are. A text that is shared gives copies and parts that share its octets.
 #[derive(Debug, Drop)]
 pub struct Text {
-    bytes: Vec<u8>,
+    alloc: Global,
+    octets: Octets,
 }
 
 impl Model for Text {
@@ -16,7 +39,9 @@ impl Model for Text {
 
     ghost Value = { List ℕ };
 
-    ghost view = { λ text. text.bytes.items };
+    ghost use Rattle.pipe_model.specs.Texts.{octets_of};
+
+    ghost view = { λ text. octets_of text.octets };
 }
 
 impl Text {
@@ -25,16 +50,19 @@ impl Text {
         ensures { result ≡ [] }
     {
         Text {
-            bytes: Vec::new(alloc),
+            alloc,
+            octets: Octets::Owned(Vec::new(alloc)),
         }
     }
 
-    /// A copy of these octets.
+    /// A copy of these octets, in a vector of its own.
     pub fn of(alloc: Global, bytes: &[u8]) -> Result<Self, AllocError>
         ensures { IfOk result (λ text. text ≡ bytes.now) }
     {
+        let octets = Vec::from_slice(alloc, bytes)?;
         Ok(Text {
-            bytes: Vec::from_slice(alloc, bytes)?,
+            alloc,
+            octets: Octets::Owned(octets),
         })
     }
 
@@ -42,44 +70,98 @@ impl Text {
     pub fn as_bytes(&self) -> &[u8]
         ensures { result.now ≡ self.now }
     {
-        self.bytes.as_slice()
+        self.octets.as_slice()
     }
 
     /// How many octets there are.
     pub fn len(&self) -> usize
         ensures { result ≡ length self.now }
     {
-        self.bytes.len()
+        self.as_bytes().len()
     }
 
     /// Whether there are no octets.
     pub fn is_empty(&self) -> bool
         ensures { result ≡ (length self.now == 0) }
     {
-        self.bytes.is_empty()
+        self.as_bytes().is_empty()
     }
 
-    /// Puts the octets at the end, or changes nothing where there is no memory for them.
+    /// Puts the octets at the end, or changes nothing where there is no memory for them. Shared octets are copied first.
     pub fn append(&mut self, bytes: &[u8]) -> Result<(), AllocError>
         ensures ok { OnOk result (self.new ≡ self.old ++ bytes.now) }
         ensures err { OnErr result (self.new ≡ self.old) }
     {
-        self.bytes.extend_from_slice(bytes)
+        match &mut self.octets {
+            Octets::Owned(octets) => octets.extend_from_slice(bytes),
+            Octets::Shared(octets) => {
+                let mut own = Vec::from_slice(self.alloc, octets.as_slice())?;
+                own.extend_from_slice(bytes)?;
+                self.octets = Octets::Owned(own);
+                Ok(())
+            }
+        }
     }
 
-    /// Another text with the same octets.
+    /// The same text, whose copies and parts share its octets from now on. No octet is copied.
+    pub fn share(self) -> Result<Self, AllocError>
+        ensures { IfOk result (λ text. text ≡ self) }
+    {
+        let Text { alloc, octets } = self;
+        match octets {
+            Octets::Owned(octets) => Ok(shared(alloc, Bytes::from_vec(octets)?)),
+            Octets::Shared(octets) => Ok(shared(alloc, octets)),
+        }
+    }
+
+    /// Another text with the same octets, which shares them where this one is shared. Otherwise they are copied once, and
+    /// the copy is shared.
     pub fn copy(&self) -> Result<Self, AllocError>
         ensures { IfOk result (λ text. text ≡ self.now) }
     {
-        Text::of(*self.bytes.allocator(), self.as_bytes())
+        match &self.octets {
+            Octets::Owned(octets) => {
+                let copied = Bytes::copy_from_slice(self.alloc, octets)?;
+                Ok(shared(self.alloc, copied))
+            }
+            Octets::Shared(octets) => Ok(shared(self.alloc, octets.clone()?)),
+        }
     }
 
-    /// The octets as a vector, which takes no memory.
-    pub fn into_vec(self) -> Vec<u8>
-        ensures { result.items ≡ self }
+    /// The text of the octets from the place `from` up to the place `to`, which shares them where this one is shared.
+    pub fn slice(&self, from: usize, to: usize) -> Result<Self, AllocError>
+        requires order { from ≤ to }
+        requires within { to ≤ length self.now }
+        ensures { IfOk result (λ text. text ≡ take (to - from) (drop from self.now)) }
     {
-        let Text { bytes } = self;
-        bytes
+        match &self.octets {
+            Octets::Owned(octets) => {
+                let copied = Bytes::copy_from_slice(self.alloc, &octets[from..to])?;
+                Ok(shared(self.alloc, copied))
+            }
+            Octets::Shared(octets) => Ok(shared(self.alloc, octets.slice(from..to)?)),
+        }
+    }
+
+    /// The octets as a vector, which takes no memory where the text is not shared.
+    pub fn into_vec(self) -> Result<Vec<u8>, AllocError>
+        ensures { IfOk result (λ octets. octets.items ≡ self) }
+    {
+        let Text { alloc, octets } = self;
+        match octets {
+            Octets::Owned(octets) => Ok(octets),
+            Octets::Shared(octets) => Vec::from_slice(alloc, octets.as_slice()),
+        }
+    }
+}
+
+/// The text that shares these octets.
+fn shared(alloc: Global, octets: Bytes) -> Text
+    ensures { result ≡ octets }
+{
+    Text {
+        alloc,
+        octets: Octets::Shared(octets),
     }
 }
 
@@ -90,7 +172,10 @@ impl From<Vec<u8>> for Text {
 
     /// The text of a vector's octets, which takes no memory.
     fn from(bytes: Vec<u8>) -> Self {
-        Text { bytes }
+        Text {
+            alloc: *bytes.allocator(),
+            octets: Octets::Owned(bytes),
+        }
     }
 }
 
@@ -106,7 +191,7 @@ impl PartialEq for Text {
         ensures comparison { result ≡ pointwise ◌==◌ self.now other.now }
         ensures same { IsTrue result ↔ (self.now ≡ other.now) }
     {
-        self.bytes == other.bytes
+        self.as_bytes() == other.as_bytes()
     }
 }
 

@@ -37,7 +37,7 @@ drop-past (suc n) [] past = refl
 drop-past zero (x ∷ xs) past = absurd (omega (arith, past))
 drop-past (suc n) (x ∷ xs) past = drop-past n xs (omega (arith, past))
 
-take-past : {X : Type 0} (n : ℕ) (xs : List X) → length xs ≤ n → take n xs ≡ xs
+pub take-past : {X : Type 0} (n : ℕ) (xs : List X) → length xs ≤ n → take n xs ≡ xs
 take-past zero [] past = refl
 take-past (suc n) [] past = refl
 take-past zero (x ∷ xs) past = absurd (omega (arith, past))

@@ -5,3 +5,4 @@ pub mod Lists
 pub mod PathSets
 pub mod RunMarks
 pub mod Sums
+pub mod Parts

@@ -6,3 +6,4 @@ pub mod OpeningStays
 pub mod State
 pub mod Steps
 pub mod Tried
+pub mod Written

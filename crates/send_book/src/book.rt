@@ -3,9 +3,10 @@ ghost use Rattle.send_book.specs.Marks.{is_acked, is_held, is_free};
 ghost use Rattle.send_book.specs.State.{Tile};
 
 use crate::call::{SendCall, SendReply, Span, Why};
-use crate::kept::{append, moved};
+use crate::kept::moved;
 use crate::mark::ByteMark;
 use crate::runs::{Move, first_in, free_up_to, gathered_in, held_in};
+use crate::written::Written;
 use pipe_model::Text;
 use range_marks::RangeMarks;
 use stamped_book::Book;
@@ -22,7 +23,7 @@ pub struct SendBook {
     /// How many bytes may be unacknowledged.
     buffer: u64,
     /// All written bytes.
-    written: Vec<u8>,
+    written: Written,
     /// The marks of the written bytes. The acknowledged ones, and no others, are forgotten.
     marks: RangeMarks<ByteMark>,
     closed: bool,
@@ -42,9 +43,9 @@ impl Model for SendBook {
 
     ghost use Rattle.send_book.specs.Kept.{shown, IsKept};
 
-    ghost view = { λ b. shown b.buffer b.written.items b.marks b.closed b.aborted b.edge b.fin b.owner };
+    ghost view = { λ b. shown b.buffer b.written b.marks b.closed b.aborted b.edge b.fin b.owner };
 
-    ghost invariant = { λ b. IsKept b.written.items b.marks };
+    ghost invariant = { λ b. IsKept b.written b.marks };
 }
 
 impl SendBook {
@@ -61,7 +62,7 @@ impl SendBook {
         SendBook {
             alloc,
             buffer,
-            written: Vec::new(alloc),
+            written: Written::new(alloc),
             marks: RangeMarks::new(alloc),
             closed: false,
             aborted: false,
@@ -88,6 +89,7 @@ impl SendBook {
     // How many of these bytes are taken.
     fn taken(&self, bytes: &Text) -> u64
         ensures value { result ≡ taken bytes.now self.now }
+        ensures room { length self.now.written + result < 2 ^ 63 }
     {
         let unacked = self.written_len() - self.acked_len();
         let room = self.buffer.saturating_sub(unacked);
@@ -112,11 +114,8 @@ impl SendBook {
             return Ok(());
         }
         let count = self.taken(bytes) as usize;
-        append(
-            &mut self.written,
-            &mut self.marks,
-            &bytes.as_bytes()[..count],
-        )
+        let octets = bytes.slice(0, count)?;
+        self.written.append(&mut self.marks, octets)
     }
 
     fn close_reply(&self) -> SendReply
@@ -204,8 +203,7 @@ impl SendBook {
     {
         match self.decide(path, max, standby) {
             Ok(span) => {
-                let bytes = &self.written[span.from as usize..span.to as usize];
-                let piece = Text::of(self.alloc, bytes)?;
+                let piece = self.written.part(self.alloc, span.from, span.to)?;
                 Ok(SendReply::Granted { span, piece })
             }
             Err(why) => Ok(SendReply::NoGrant {

@@ -13,6 +13,7 @@ mod laws;
 mod mark;
 mod runs;
 mod tried;
+mod written;
 
 pub use book::{SendBook, marks_tile};
 pub use call::{SendCall, SendReply, Span, Why};

@@ -96,14 +96,15 @@ impl App {
         self.due.is_none()
     }
 
-    /// What it asks; nothing where its turn ended. Only an ask with bytes takes memory, for their copy.
-    pub fn ask(&self, alloc: Global) -> Result<Option<Ask>, AllocError>
+    /// What it asks; nothing where its turn ended. Only an ask with bytes can want memory: a part of its file that shares
+    /// its octets, or a copy of them where the file isn't shared.
+    pub fn ask(&self, _alloc: Global) -> Result<Option<Ask>, AllocError>
         ensures ask { IfOk result (λ ask. ask ≡ app_asks_of self.now) }
         ensures plain { asks_bytes self.now.agenda ≡ false → IsOk result }
     {
         match self.due {
             Some(AppDuty::Write) => {
-                let bytes = Text::of(alloc, self.offered())?;
+                let bytes = self.offered()?;
                 Ok(Some(Ask::Send(self.side, SendCall::Write { bytes })))
             }
             Some(AppDuty::Close) => Ok(Some(Ask::Send(self.side, SendCall::Close))),
@@ -138,11 +139,12 @@ impl App {
     }
 
     // The next bytes of the file, as many as a side buffers at most.
-    fn offered(&self) -> &[u8]
-        ensures { result.now ≡ offered self.now }
+    fn offered(&self) -> Result<Text, AllocError>
+        ensures { IfOk result (λ bytes. bytes ≡ offered self.now) }
     {
-        let rest = &self.file.as_bytes()[self.written..];
-        &rest[..rest.len().min(self.buffer as usize)]
+        let left = self.file.len() - self.written;
+        let to = self.written + left.min(self.buffer as usize);
+        self.file.slice(self.written, to)
     }
 
     // Whether its file has no byte left.
