@@ -43,7 +43,7 @@ granted_kind path max standby b tile positive (Ok span) is =
       record { whole = omega (arith, len, may.whole, may.within, tile.whole) },
     )
 
-send_kind : (b : Sending) (call : SendCall) → Tile b → send.CanAsk call → IsSendKind call (send.reply_to b call)
+pub send_kind : (b : Sending) (call : SendCall) → Tile b → send.CanAsk call → IsSendKind call (send.reply_to b call)
 send_kind b (send_calls.Write bytes) tile can = by (b.closed || b.aborted)
   where
     by : (c : Bool) → IsSendKind (send_calls.Write bytes) (if c then send_replies.Shut else send_replies.Taken (send.taken bytes b))
@@ -85,7 +85,7 @@ reading_kind : (aborted : Option Bool) (max : ℕ) (b : Arriving) → IsReassemb
 reading_kind None max b = read_kind max b (take max (filled b.places)) refl
 reading_kind (Some by_peer) max b = tt
 
-reassembly_kind : (b : Arriving) (call : ReassemblyCall) → IsReassemblyKind call (reassembly.reply_to b call)
+pub reassembly_kind : (b : Arriving) (call : ReassemblyCall) → IsReassemblyKind call (reassembly.reply_to b call)
 reassembly_kind b (reassembly_calls.Place at bytes) = by (reassembly.reaches_past (reassembly.edge b) at bytes) (reassembly.clash b.known_end at bytes)
   where
     by : (c : Bool) (o : Option ℕ) → IsReassemblyKind (reassembly_calls.Place at bytes)
@@ -113,7 +113,7 @@ told_kind id address port hmac heard.Echo = tt
 told_kind id address port hmac heard.BadHmac = tt
 told_kind id address port hmac heard.Known = tt
 
-control_kind : (c : Control) (call : ControlCall) → IsControlKind call (control.reply_to c call)
+pub control_kind : (c : Control) (call : ControlCall) → IsControlKind call (control.reply_to c call)
 control_kind c (control_calls.Look path) = tt
 control_kind c (control_calls.PeerKey key) = tt
 control_kind c (control_calls.Keys own peer) = either_kind (control_calls.Keys own peer) (own == c.keys.own) _ _ tt tt

@@ -1,5 +1,5 @@
 -- How large the numbers of a reply are, and what of the books keeps them so.
-use Rattle.std.specs.Prelude.{ℕ, ◌+◌, ◌-◌, ◌^◌, ◌≤◌, IfSome, List, length, All, Contains}
+use Rattle.std.specs.Prelude.{ℕ, ◌+◌, ◌-◌, ◌^◌, ◌≤◌, IfSome, Option, Some, None, List, length, All, Contains}
 use Rattle.linked_increase.specs.declared.rows.Row.{Row}
 use Rattle.linked_increase.specs.Paths.{IsInRange}
 use Rattle.send_book.specs.declared.call.SendReply.{SendReply}
@@ -18,7 +18,7 @@ use Rattle.actor_desk.specs.declared.ask.Ask.TheVariants as asks
 use Rattle.actor_desk.specs.declared.ask.Reply.{Reply}
 use Rattle.actor_desk.specs.declared.ask.Reply.TheVariants as replies
 use Rattle.actor_desk.specs.Desk.{SixBooks, reply_of, after_ask, opened_books}
-use Rattle.actor_desk.specs.Kinds.{AreTiled, CanBeAsked}
+use Rattle.actor_desk.specs.Kinds.{AreTiled, CanBeAsked, IsOfKind}
 
 -- ---- replies within bounds
 
@@ -59,6 +59,11 @@ IsBounded (asks.Send s call) (replies.Send reply) = IsSmallSend reply
 IsBounded (asks.Reassembly s call) (replies.Reassembly reply) = IsSmallReassembly reply
 IsBounded (asks.Control s call) (replies.Control reply) = IsSmallControl call reply
 IsBounded _ _ = Unit {0}
+
+-- the turn hasn't ended, and the reply is of the asked kind, within bounds
+abbrev pub TakesReply : Option Ask → Reply → Type 0
+TakesReply None r = ⊥
+TakesReply (Some x) r = IsOfKind x r × IsBounded x r
 
 -- ---- books within bounds
 

@@ -5,3 +5,4 @@ pub mod Bounds
 pub mod Journals
 pub mod Books
 pub mod Noted
+pub mod Keeping

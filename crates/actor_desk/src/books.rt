@@ -1,5 +1,5 @@
 //! The six books of a connection, each with its journal.
-ghost use Rattle.std.specs.Prelude.{◌≡◌, ◌^◌, ◌≤◌, ◌↔◌, ℕ, false, Some, IfOk, OnOk, OnErr};
+ghost use Rattle.std.specs.Prelude.{◌≡◌, ◌^◌, ◌≤◌, ◌↔◌, ℕ, false, [], Some, IfOk, OnOk, OnErr};
 ghost use Rattle.send_book.specs.Steps as sending;
 ghost use Rattle.reassembly_book.specs.Steps as arriving;
 ghost use Rattle.control_book.specs.Calls as controlling;
@@ -177,6 +177,8 @@ impl Desk for Books {
     ghost notes = { λ books. Some (notes_in books) };
 
     ghost origin = { origin_of };
+
+    ghost root = { λ books. [] };
 
     /// Asks a book. What it answers is the book's own reply; its journal has one entry more, and the other five books stay.
     /// Every actor is served. After a refusal all is as before.

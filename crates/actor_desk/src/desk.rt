@@ -1,5 +1,5 @@
 //! Who takes an actor's calls.
-ghost use Rattle.std.specs.Prelude.{◌≡◌, ℕ, false, Option, IfOk, OnOk, OnErr};
+ghost use Rattle.std.specs.Prelude.{◌≡◌, ℕ, false, List, Option, IfOk, OnOk, OnErr};
 ghost use Rattle.stamped_book.specs.declared.stamped.Refusal.TheVariants as refusals;
 ghost use Rattle.stamped_book.specs.declared.stamped.Pass.{Pass};
 ghost use Rattle.actor_desk.specs.declared.ask.Ask.{Ask};
@@ -26,6 +26,9 @@ pub trait Desk {
     /// The books that the six were opened with.
     ghost origin: { Self → SixBooks };
 
+    /// The names of the table that the seat came from; none of a desk that came from none.
+    ghost root: { Self → List ℕ };
+
     /// Asks a book. The reply is of the asked kind and within bounds, and the pass has the stamp of the call. After a
     /// refusal the pass and the desk's notes are as before.
     fn call(&mut self, pass: &mut Pass, ask: &Ask) -> Result<Reply, Refusal>
@@ -37,8 +40,9 @@ pub trait Desk {
         ensures rises { OnOk result (Rises pass.old pass.new) }
         ensures notes { IfOk result (λ reply. notes self.new ≡ noted (notes self.old) (note_of pass.old pass.new ask.now reply)) }
         ensures origin { origin self.new ≡ origin self.old }
+        ensures root { root self.new ≡ root self.old }
         ensures serving { (actor : ℕ) → serves self.old actor → serves self.new actor }
-        ensures full { result ≡ Err refusals.Stamps → is_full self.old ask.now pass.old }
+        ensures full { result ≡ Err refusals.Stamps → is_full self.new ask.now pass.old }
         ensures err { OnErr result (notes self.new ≡ notes self.old) }
         ensures pass_err { OnErr result (pass.new ≡ pass.old) };
 }

@@ -4,15 +4,19 @@
 //! that puts it after all that its actor and the book had seen.
 #![tactic(auto)]
 
+mod actor;
 mod ask;
 mod books;
 mod copies;
 mod desk;
+mod kept;
 mod laws;
 mod notes;
 
+pub use actor::{Actor, Crew};
 pub use ask::{Ask, LocalStep, Note, Reply};
 pub use books::Books;
 pub use desk::Desk;
+pub use kept::Kept;
 pub use laws::{books_answer_in_kind, books_answer_within_bounds};
 pub use notes::Notes;

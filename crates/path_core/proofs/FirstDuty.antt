@@ -29,6 +29,11 @@ module _ {C : Type 0} (k : Codec C) where
   ask_of_none [] p is = refl
   ask_of_none (x ∷ ds) p is = cc
 
+  -- where nothing is asked nothing is left to be done
+  pub none_asked : (ds : List Duty) (p : PathState C) → asks_first k ds p ≡ None → ds ≡ []
+  none_asked [] p is = refl
+  none_asked (d ∷ ds) p is = cc
+
   pub answer_of_first : (ds : List Duty) (d : Duty) (r : Reply) (p : PathState C) → first_of ds ≡ Some d → answers k ds r p ≡ answered k d r p
   answer_of_first [] d r p is = cc
   answer_of_first (x ∷ ds) d r p is = let same : x ≡ d = cc in ap (λ y. answered k y r p) same

@@ -11,8 +11,8 @@ use Rattle.actor_desk.specs.declared.ask.Reply.TheVariants as replies
 use Rattle.linked_increase.specs.declared.rows.Row.{Row}
 use Rattle.linked_increase.specs.Paths.{IsInRange}
 use Rattle.actor_desk.specs.Kinds.{IsOfKind}
-use Rattle.actor_desk.specs.Bounds.{IsBounded}
-use Rattle.path_core.specs.Replies.{TakesReply, IsAckBounded, AreRowsInRange}
+use Rattle.actor_desk.specs.Bounds.{IsBounded, TakesReply}
+use Rattle.path_core.specs.Replies.{IsAckBounded, AreRowsInRange}
 
 pub acks_bounded : (x : Option Ask) (r : Reply) → TakesReply x r → IsAckBounded r
 acks_bounded None r takes = absurd takes

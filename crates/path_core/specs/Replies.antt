@@ -3,9 +3,6 @@ use Rattle.std.specs.Prelude.{ℕ, All, ◌+◌, ◌^◌, ◌<◌, ◌≤◌, Bo
 use Rattle.reassembly_book.specs.declared.call.ReassemblyReply.TheVariants as reassembly_replies
 use Rattle.control_book.specs.declared.call.ControlReply.TheVariants as control_replies
 use Rattle.linked_increase.specs.Paths.{IsInRange}
-use Rattle.actor_desk.specs.declared.ask.Ask.{Ask}
-use Rattle.actor_desk.specs.Kinds.{IsOfKind}
-use Rattle.actor_desk.specs.Bounds.{IsBounded}
 use Rattle.actor_desk.specs.declared.ask.Reply.{Reply}
 use Rattle.actor_desk.specs.declared.ask.Reply.TheVariants as replies
 use Rattle.path_agenda.specs.declared.duty.Duty.{Duty}
@@ -114,8 +111,3 @@ takes_memory (duties.Resend s) = true
 takes_memory (duties.BreakReset s reason) = true
 takes_memory (duties.Reset s) = true
 takes_memory _ = false
-
--- the turn hasn't ended, and the reply is of the asked kind, within bounds
-abbrev pub TakesReply : Option Ask → Reply → Type 0
-TakesReply None r = ⊥
-TakesReply (Some x) r = IsOfKind x r × IsBounded x r

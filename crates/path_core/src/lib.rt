@@ -7,6 +7,7 @@
 //! values the machine that theorems speak of.
 #![tactic(auto)]
 
+mod acting;
 mod answering;
 mod arriving;
 mod breaking;

@@ -1,9 +1,10 @@
 //! The steps of a path: what it asks, what it takes, and how a round begins.
 
 ghost use Rattle.std.specs.Prelude.{◌≡◌, ◌≤◌, ◌*◌, ◌^◌, [], false, IfOk, IfSome, IsOk, OnOk, OnErr};
+ghost use Rattle.actor_desk.specs.Bounds.{TakesReply};
 ghost use Rattle.actor_desk.specs.Kinds.{CanBeAsked};
 ghost use Rattle.path_core.specs.Octets.{octets};
-ghost use Rattle.path_core.specs.Replies.{TakesReply, IsAckBounded, AreRowsInRange, asks_bytes_first};
+ghost use Rattle.path_core.specs.Replies.{IsAckBounded, AreRowsInRange, asks_bytes_first};
 ghost use Rattle.path_core.specs.Steps.{passable, settles_down, answers, asks_of, takes, next_round};
 
 use crate::path::Path;

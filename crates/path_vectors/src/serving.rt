@@ -1,7 +1,7 @@
 //! The step that an actor asks: by the desk that is asked, or by nobody.
 ghost use Rattle.std.specs.Prelude.{IfOk, Some};
+ghost use Rattle.actor_desk.specs.Bounds.{TakesReply};
 ghost use Rattle.actor_desk.specs.Kinds.{CanBeAsked};
-ghost use Rattle.path_core.specs.Replies.{TakesReply};
 
 use actor_desk::{Ask, Desk, Note, Reply};
 use case_fields::CaseFault;

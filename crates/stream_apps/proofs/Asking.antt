@@ -1,9 +1,10 @@
 -- What an application asks can be asked.
-use Rattle.std.proofs.Common.{List, [], ◌∷◌, IfSome, arith}
+use Rattle.std.proofs.Common.{◌≡◌, sym, subst, List, [], ◌∷◌, Option, IfSome, Result, Ok, Err, IfOk, arith}
 use Rattle.actor_desk.specs.Kinds.{CanBeAsked}
+use Rattle.actor_desk.specs.declared.ask.Ask.{Ask}
 use Rattle.stream_apps.specs.declared.duty.AppDuty.{AppDuty}
 use Rattle.stream_apps.specs.declared.duty.AppDuty.TheVariants.{Write, Close, Read, End}
-use Rattle.stream_apps.specs.AppSteps.{app_asks_first}
+use Rattle.stream_apps.specs.AppSteps.{app_asks_first, app_asks_of}
 use Rattle.stream_apps.specs.Apps.{AppState}
 use Rattle.stream_apps.specs.Turns.{EveryAppAskCanBeAsked}
 
@@ -16,3 +17,7 @@ first_can (End ∷ ds) a = tt
 
 pub app_asks_can : EveryAppAskCanBeAsked
 app_asks_can a = first_can a.agenda a
+
+pub app_able : {E : Type 0} (a : AppState) (r : Result (Option Ask) E) → IfOk r (λ ask. ask ≡ app_asks_of a) → IfOk r (λ ask. IfSome ask CanBeAsked)
+app_able a (Ok ask) is = subst (λ o. IfSome o CanBeAsked) (sym is) (app_asks_can a)
+app_able a (Err e) is = tt

@@ -2,6 +2,7 @@
 //! reads from its side's reassembly book what has come.
 #![tactic(auto)]
 
+mod acting;
 mod app;
 mod duty;
 mod laws;

@@ -15,14 +15,14 @@ use Rattle.world_laws.specs.Fine.{IsFine}
 use Rattle.world_laws.specs.Openings.{Start, opened_world, path_begins}
 use Rattle.actor_desk.specs.Books.{StampedBooks}
 use Rattle.world_laws.specs.Worlds.{all_over, greatest, begins, end_round}
-use Rattle.world_laws.specs.Timely.{IsTimely, IsTimelyMember}
+use Rattle.world_laws.specs.Timely.{CanBegin, IsTimely, IsTimelyMember}
 use Rattle.world_laws.proofs.Pairing.{round_fine, stays_fine}
 use Rattle.world_laws.proofs.RoundFrame.{first_keeps, first_stands}
 use Rattle.world_laws.proofs.RoundLifting.{opened_lifted}
 use Rattle.world_core.specs.Kept.{world, IsSound, IsKept}
 use Rattle.world_core.specs.declared.hearing.Hearing.{Hearing}
 use Rattle.world_core.specs.Hearing.{heard_by}
-use Rattle.world_core.specs.Timely.{IsTimelyCrew, AreTimely, CanBegin, IsReady}
+use Rattle.world_core.specs.Timely.{IsTimelyCrew, AreTimely, IsReady}
 use Rattle.world_core.proofs.Showing.{heard_begun}
 
 first_of_both : (a b : Bool) → (a && b) ≡ true → a ≡ true

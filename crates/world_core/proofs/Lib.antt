@@ -1,5 +1,4 @@
 mod Lists
-mod AbleAsks
 mod AsValues
 mod Showing
 mod StepMade

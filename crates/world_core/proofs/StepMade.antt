@@ -45,6 +45,18 @@ pub going_asks : (m : Actor (List ℕ)) → is_over m ≡ false → member_asks 
 going_asks (App a) going nothing = app_asks a.agenda a going nothing
 going_asks (Path p) going nothing = path_asks p.agenda p going nothing
 
+pub over_asks_none : (m : Actor (List ℕ)) → is_over m ≡ true → member_asks octets m ≡ None
+over_asks_none (App a) over = by a.agenda over
+  where
+    by : (ds : List AppDuty) → is_nil ds ≡ true → app_asks_first ds a ≡ None
+    by [] over = refl
+    by (d ∷ ds) over = cc
+over_asks_none (Path p) over = by p.agenda over
+  where
+    by : (ds : List Duty) → is_nil ds ≡ true → asks_first octets ds p ≡ None
+    by [] over = refl
+    by (d ∷ ds) over = cc
+
 over_asks : (m : Actor (List ℕ)) → is_some (member_asks octets m) ≡ not (is_over m)
 over_asks (App a) = by a.agenda
   where

@@ -1,9 +1,8 @@
 -- How many notes an actor has, and so how many rounds it has begun at most.
-use Rattle.std.specs.Prelude.{◌≡◌, ◌*◌, ◌^◌, ◌<◌, ◌≤◌, true, List, length, All}
+use Rattle.std.specs.Prelude.{◌≡◌, ◌^◌, ◌<◌, true, List, length, All}
 use Rattle.stream_lanes.specs.Words.{Every}
-use Rattle.world_laws.specs.declared.member.Member.TheVariants.{App, Path}
-use Rattle.world_laws.specs.Actors.{Actor, ActorCrew, is_over}
-use Rattle.world_laws.specs.Timely.{IsTimelyMember}
+use Rattle.world_laws.specs.Actors.{ActorCrew, is_over}
+use Rattle.world_laws.specs.Timely.{CanBegin, IsTimelyMember}
 
 module _ {C : Type 0} where
   -- it has fewer than 2^57 notes, and began no more rounds
@@ -13,11 +12,6 @@ module _ {C : Type 0} where
 
   abbrev pub AreTimely : List (ActorCrew C) → Type 0
   AreTimely crew = Every IsTimelyCrew crew
-
-  -- fewer than 2^57 rounds were begun
-  abbrev pub CanBegin : Actor C → Type 0
-  CanBegin (App a) = Unit {0}
-  CanBegin (Path p) = p.until ≤ 100 * 2 ^ 57
 
   -- its turn ended, and it can begin a round
   pub record IsReady (c : ActorCrew C) : Type 0 where

@@ -1,9 +1,9 @@
 //! The step of an actor at a book, or at none.
 
 ghost use Rattle.std.specs.Prelude.{◌≡◌, ◌+◌, ◌^◌, ◌<◌, ◌↔◌, Some, IsTrue, IfOk, OnOk};
+ghost use Rattle.actor_desk.specs.Bounds.{TakesReply};
 ghost use Rattle.actor_desk.specs.Kinds.{CanBeAsked};
 ghost use Rattle.actor_desk.specs.Noted.{Rises};
-ghost use Rattle.path_core.specs.Replies.{TakesReply};
 ghost use Rattle.world_laws.specs.StampedBooks.{answer_to};
 ghost use Rattle.actor_desk.specs.Books.{stamp_of, after_entry};
 ghost use Rattle.world_laws.specs.Worlds.{note_of};

@@ -4,12 +4,12 @@ ghost use Rattle.std.specs.Prelude.{◌≡◌, ◌^◌, ◌<◌, ◌++◌, [], �
 ghost use Rattle.actor_desk.specs.declared.ask.Note.{Note};
 ghost use Rattle.path_core.specs.Octets.{octets};
 ghost use Rattle.world_core.specs.Steps.{GoesUp, note_if, crew_if, books_if};
-ghost use Rattle.path_core.specs.Replies.{TakesReply};
+ghost use Rattle.actor_desk.specs.Bounds.{TakesReply};
 ghost use Rattle.world_laws.specs.Actors.{member_asks, member_takes, is_over};
 
 use crate::asking::serve;
-use crate::member::{Crew, ask_of, take};
-use actor_desk::{Books, Note, Notes, Reply};
+use crate::member::Crew;
+use actor_desk::{Actor, Books, Note, Notes, Reply};
 use stamped_book::Refusal;
 use std::alloc::{AllocError, Global};
 
@@ -37,7 +37,7 @@ fn keep(crew: &mut Crew, note: Note, reply: &Reply) -> Result<(), AllocError>
     ensures err { OnErr result (crew.new ≡ crew.old) }
 {
     crew.list.push(note)?;
-    let taken = take(&mut crew.member, reply);
+    let taken = crew.member.take(reply);
     if taken.is_err() {
         take_back(&mut crew.list);
     }
@@ -59,7 +59,7 @@ pub(crate) fn step(
     ensures member_err { OnErr result (crew.new.member ≡ crew.old.member) }
     ensures list_err { OnErr result (crew.new.list ≡ crew.old.list) }
 {
-    let Some(ask) = ask_of(alloc, &crew.member)? else {
+    let Some(ask) = crew.member.ask(alloc)? else {
         return Ok(None);
     };
     if !has_room(crew) {

@@ -5,12 +5,14 @@ ghost use Rattle.std.specs.List.{list_all};
 ghost use Rattle.stamped_book.specs.Entering.{raised};
 ghost use Rattle.world_core.specs.AsValues.{EndsAsValues};
 ghost use Rattle.world_core.specs.Kept.{standing};
-ghost use Rattle.world_core.specs.Timely.{CanBegin, AreReady, AreTimely};
+ghost use Rattle.world_core.specs.Timely.{AreReady, AreTimely};
 ghost use Rattle.world_laws.specs.Actors.{is_over};
+ghost use Rattle.world_laws.specs.Timely.{CanBegin};
 ghost use Rattle.world_laws.specs.Worlds.{all_over, greatest, begins, end_round};
 
-use crate::member::{Crew, is_over, next_round};
+use crate::member::{Crew, is_over};
 use crate::world::World;
+use actor_desk::Actor;
 use stamped_book::raise;
 
 // Whether the actor's turn has ended.
@@ -45,12 +47,13 @@ fn greatest(crew: &[Crew]) -> u64
 }
 
 // The actor begins a round, and knows this stamp.
+#[tactic(auto, using(crate::proofs::StepMade::over_asks_none))]
 fn begin(crew: &mut Crew, stamp: u64)
     requires over { is_over crew.old.member ≡ true }
     requires rounds { CanBegin crew.old.member }
     ensures { crew.new ≡ begins stamp crew.old }
 {
-    next_round(&mut crew.member);
+    crew.member.next_round();
     raise(&mut crew.pass, stamp);
 }
 

@@ -262,10 +262,10 @@ module _ (f : Note → ℕ) where
 -- ---- above a stamp
 
 module _ (top : ℕ) where
-  in_above : (list : List Note) (n : Note) → In n (above top list) → In n list × (top < n.stamp)
+  pub in_above : (list : List Note) (n : Note) → In n (above top list) → In n list × (top < n.stamp)
   in_above list n there = let found = in_filter (λ x. nat_lt top x.stamp) list n there in (found.0, ltb-true top n.stamp found.1)
 
-  above_in : (list : List Note) (n : Note) → In n list → top < n.stamp → In n (above top list)
+  pub above_in : (list : List Note) (n : Note) → In n list → top < n.stamp → In n (above top list)
   above_in list n there later = filter_in (λ x. nat_lt top x.stamp) list n there (lt-ltb top n.stamp later)
 
   pub in_order_of : (lists : List (List Note)) (n : Note) → In n (in_order top lists) → Occurs n lists × (top < n.stamp)
@@ -275,7 +275,7 @@ module _ (top : ℕ) where
       (λ later. let rest = in_order_of lists n later in (inr rest.0, rest.1))
       (in_all n (above top list) (in_order top lists) there)
 
-  order_has : (lists : List (List Note)) (n : Note) → Occurs n lists → top < n.stamp → In n (in_order top lists)
+  pub order_has : (lists : List (List Note)) (n : Note) → Occurs n lists → top < n.stamp → In n (in_order top lists)
   order_has [] n none later = absurd none
   order_has (list ∷ lists) n (inl here) later = all_in n (above top list) (in_order top lists) (inl (above_in list n here later))
   order_has (list ∷ lists) n (inr rest) later = all_in n (above top list) (in_order top lists) (inr (order_has lists n rest later))

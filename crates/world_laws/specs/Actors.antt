@@ -1,5 +1,6 @@
 -- The actors of a connection: two applications and the paths. What the links of the paths carry is a type of its own.
 use Rattle.std.specs.Prelude.{Bool, Option}
+use Rattle.actor_desk.specs.declared.actor.Crew.{Crew}
 use Rattle.actor_desk.specs.declared.ask.Ask.{Ask}
 use Rattle.actor_desk.specs.declared.ask.Reply.{Reply}
 use Rattle.actor_desk.specs.Words.{is_nil}
@@ -9,7 +10,6 @@ use Rattle.path_core.specs.Codec.{Codec}
 use Rattle.path_core.specs.State.{PathState}
 use Rattle.path_core.specs.Steps.{asks_of, takes, next_round}
 use Rattle.world_laws.specs.declared.member.Member.{Member}
-use Rattle.world_laws.specs.declared.member.Crew.{Crew}
 use Rattle.world_laws.specs.declared.member.Member.TheVariants.{App, Path}
 
 abbrev pub Actor : Type 0 → Type 0
@@ -17,7 +17,7 @@ Actor C = Member AppState (PathState C)
 
 -- with its pass and its steps
 abbrev pub ActorCrew : Type 0 → Type 0
-ActorCrew C = Crew AppState (PathState C)
+ActorCrew C = Crew (Actor C)
 
 module _ {C : Type 0} where
   -- what it asks: nothing where its turn ended

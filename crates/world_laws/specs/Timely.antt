@@ -1,5 +1,5 @@
 -- How many rounds a path has begun: each leaves its actor a step at least.
-use Rattle.std.specs.Prelude.{ℕ, ◌≡◌, ◌+◌, ◌*◌, ◌≤◌, true, Some, length, slice_get}
+use Rattle.std.specs.Prelude.{ℕ, ◌≡◌, ◌+◌, ◌*◌, ◌^◌, ◌≤◌, true, Some, length, slice_get}
 use Rattle.actor_desk.specs.Words.{is_nil}
 use Rattle.path_core.specs.State.{PathState}
 use Rattle.world_laws.specs.declared.member.Member.TheVariants.{App, Path}
@@ -16,6 +16,11 @@ module _ {C : Type 0} where
   abbrev pub IsTimelyMember : ℕ → Actor C → Type 0
   IsTimelyMember steps (App a) = Unit {0}
   IsTimelyMember steps (Path p) = IsTimely steps p
+
+  -- fewer than 2^57 rounds were begun
+  abbrev pub CanBegin : Actor C → Type 0
+  CanBegin (App a) = Unit {0}
+  CanBegin (Path p) = p.until ≤ 100 * 2 ^ 57
 
   pub record EachRoundHasAStep (w : WorldState C) : Type 0 where
     pub each : (actor : ℕ) (c : ActorCrew C) → slice_get w.crew actor ≡ Some c → IsTimelyMember (length c.list) c.member

@@ -17,5 +17,5 @@ pub use laws::{
     serial_is_one, short_numbers_are_low_halves, turns_are_fresh, what_is_fine_stays_fine,
     woven_rounds_do_the_same,
 };
-pub use member::{Crew, Member};
+pub use member::Member;
 pub use outcome::Outcome;

@@ -1,7 +1,13 @@
 //! Who takes part in a connection.
+ghost use Rattle.std.specs.Prelude.{◌≡◌, None, IfOk, IfSome, OnOk, OnErr};
+ghost use Rattle.actor_desk.specs.Bounds.{TakesReply};
+ghost use Rattle.actor_desk.specs.Kinds.{CanBeAsked};
+ghost use Rattle.path_core.specs.Octets.{octets};
 
-use actor_desk::Notes;
-use stamped_book::{Pass, Refusal};
+use actor_desk::{Actor, Ask, Reply};
+use path_core::Path;
+use std::alloc::{AllocError, Global};
+use stream_apps::App;
 
 /// An actor: an application, or a path.
 #[derive(Drop)]
@@ -10,14 +16,47 @@ pub enum Member<A, P> {
     Path(P),
 }
 
-/// An actor with what it shows when it asks, and with its steps.
-#[derive(Drop)]
-pub struct Crew<A, P> {
-    pub member: Member<A, P>,
-    /// Its number, and the greatest stamp that it knows. 0 and 1 are the applications of A and B, and 2 + i is path i.
-    pub pass: Pass,
-    /// Every step that it made, in order.
-    pub list: Notes,
-    /// Why its last turn stopped before its end, where it did.
-    pub refused: Option<Refusal>,
+impl Actor for Member<App, Path> {
+    ghost use Rattle.world_laws.specs.Actors.{member_asks, member_takes, member_next};
+    ghost use Rattle.world_laws.specs.Timely.{CanBegin};
+
+    ghost asks = { member_asks octets };
+
+    ghost takes = { member_takes octets };
+
+    ghost next = { member_next };
+
+    ghost can_begin = { CanBegin };
+
+    fn ask(&self, alloc: Global) -> Result<Option<Ask>, AllocError>
+        ensures ask { IfOk result (λ ask. ask ≡ member_asks octets self.now) }
+        ensures able { IfOk result (λ ask. IfSome ask CanBeAsked) }
+    {
+        match self {
+            Member::App(app) => Actor::ask(app, alloc),
+            Member::Path(path) => Actor::ask(path, alloc),
+        }
+    }
+
+    fn take(&mut self, reply: &Reply) -> Result<(), AllocError>
+        requires { TakesReply (member_asks octets self.old) reply.now }
+        ensures ok { OnOk result (self.new ≡ member_takes octets reply.now self.old) }
+        ensures err { OnErr result (self.new ≡ self.old) }
+    {
+        match self {
+            Member::App(app) => Actor::take(app, reply),
+            Member::Path(path) => Actor::take(path, reply),
+        }
+    }
+
+    fn next_round(&mut self)
+        requires over { member_asks octets self.old ≡ None }
+        requires rounds { CanBegin self.old }
+        ensures { self.new ≡ member_next self.old }
+    {
+        match self {
+            Member::App(app) => Actor::next_round(app),
+            Member::Path(path) => Actor::next_round(path),
+        }
+    }
 }
