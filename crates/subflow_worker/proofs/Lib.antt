@@ -1,0 +1,5 @@
+mod Lists
+mod Steps
+mod Asked
+mod Entering
+mod Refused

@@ -1,0 +1,36 @@
+-- The last of a list.
+use Rattle.std.proofs.Common.{◌≡◌, refl, sym, ◌∙◌, subst, ℕ, List, [], ◌∷◌, ◌++◌, length, Option, Some, None, IfSome, IsNone}
+use Rattle.std.specs.List.{slice_get}
+
+module _ {X : Type 0} where
+  -- lists that are the same with a last item are the same without it
+  pub same_front : (xs ys : List X) (a b : X) → xs ++ a ∷ [] ≡ ys ++ b ∷ [] → xs ≡ ys
+  same_front [] [] a b e = refl
+  same_front [] (y ∷ []) a b e = cc
+  same_front [] (y ∷ z ∷ ys) a b e = cc
+  same_front (x ∷ []) [] a b e = cc
+  same_front (x ∷ z ∷ xs) [] a b e = cc
+  same_front (x ∷ xs) (y ∷ ys) a b e = let rest = same_front xs ys a b cc in cc
+
+  -- a list that had a last item more, without it
+  pub popped : (r : Option X) (old new xs : List X) (x : X) → IfSome r (λ y. old ≡ new ++ y ∷ []) → (IsNone r → old ≡ []) → old ≡ xs ++ x ∷ [] → new ≡ xs
+  popped None old new xs x some none is = absurd (not_nil xs (sym (none refl) ∙ is))
+    where
+      not_nil : (xs : List X) → [] ≡ xs ++ x ∷ [] → ⊥
+      not_nil [] e = cc
+      not_nil (z ∷ xs) e = cc
+  popped (Some y) old new xs x some none is = same_front new xs y x (sym some ∙ is)
+
+  -- the last item stands at the place of the length
+  pub last_there : (xs : List X) (x : X) → slice_get (xs ++ x ∷ []) (length xs) ≡ Some x
+  last_there [] x = refl
+  last_there (y ∷ xs) x = last_there xs x
+
+  -- what holds of the item that was put at the end holds of what stands there
+  pub at_last : (xs ys : List X) (x : X) (n : ℕ) (P : X → Type 0) → ys ≡ xs ++ x ∷ [] → n ≡ length xs → P x → IfSome (slice_get ys n) P
+  at_last xs ys x n P is at holds =
+      subst (λ zs. IfSome (slice_get zs n) P) (sym is) (subst (λ k. IfSome (slice_get (xs ++ x ∷ []) k) P) (sym at) (subst (λ o. IfSome o P) (sym (last_there xs x)) holds))
+
+  pub from_last : (xs ys : List X) (x : X) (n : ℕ) (P : X → Type 0) → ys ≡ xs ++ x ∷ [] → n ≡ length xs → IfSome (slice_get ys n) P → P x
+  from_last xs ys x n P is at holds =
+      subst (λ o. IfSome o P) (last_there xs x) (subst (λ k. IfSome (slice_get (xs ++ x ∷ []) k) P) at (subst (λ zs. IfSome (slice_get zs n) P) is holds))

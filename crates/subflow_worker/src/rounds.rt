@@ -1,0 +1,145 @@
+//! Seats at the locks, and rounds by threads: the calls that may wait.
+ghost use Rattle.std.specs.Prelude.{◌≡◌, ◌<◌, ◌↔◌, ℕ, true, false, None, [], All, length, IfOk, OnOk, OnErr};
+ghost use Rattle.std.specs.List.{list_any, slice_index_or};
+ghost use Rattle.stamped_book.specs.declared.stamped.Refusal.TheVariants.{Memory, Stamps};
+ghost use Rattle.actor_desk.specs.declared.actor.Crew.{Crew};
+ghost use Rattle.subflow_worker.specs.Turns.{Turned, is_refused};
+
+use crate::asking::{ask_control, ask_reassembly, ask_send};
+use crate::desk::{LockedDesk, Naming};
+use crate::refusing::outcome_of;
+use crate::turning::turn;
+use actor_desk::{Actor, Ask, Crew, Desk, Reply};
+use outside_kit::{Gate, Object, Side};
+use stamped_book::{Pass, Refusal};
+use std::alloc::Global;
+use std::sync::Wait;
+use std::thread;
+use std::thread::Threads;
+
+/// A seat at a desk of locks: it takes one lock for one call, and tells the gate so before the call is made.
+#[derive(Drop)]
+pub struct LockedSeat<'a, N: Naming, G: Gate, R: Wait> {
+    desk: &'a LockedDesk<N>,
+    gate: &'a G,
+    rt: &'a R,
+}
+
+impl<N: Naming> LockedDesk<N> {
+    /// A seat for an actor. It takes no memory.
+    pub fn seat<'a, G: Gate, R: Wait>(&'a self, rt: &'a R, gate: &'a G) -> LockedSeat<'a, N, G, R> {
+        LockedSeat {
+            desk: self,
+            gate,
+            rt,
+        }
+    }
+}
+
+impl<N: Naming, G: Gate, R: Wait> Desk for LockedSeat<'_, N, G, R> {
+    ghost use Rattle.std.specs.Prelude.{Option};
+    ghost use Rattle.actor_desk.specs.Books.{origin_of};
+    ghost use Rattle.actor_desk.specs.Bounds.{IsBounded};
+    ghost use Rattle.actor_desk.specs.Journals.{is_local};
+    ghost use Rattle.actor_desk.specs.Kinds.{CanBeAsked, IsOfKind};
+    ghost use Rattle.actor_desk.specs.Noted.{Rises, note_of, noted};
+    ghost use Rattle.subflow_worker.specs.Turns.{unnoted};
+
+    ghost serves = { λ seat actor. Unit {0} };
+
+    ghost is_full = { λ seat ask pass. Unit {0} };
+
+    ghost notes = { λ seat. unnoted };
+
+    ghost origin = { λ seat. origin_of N.given };
+
+    ghost root = { λ seat. [] };
+
+    /// Asks a book, which may wait for its lock. Every actor is served. After a refusal the pass is as before.
+    fn call(&mut self, pass: &mut Pass, ask: &Ask) -> Result<Reply, Refusal>
+        requires book { is_local ask.now ≡ false }
+        requires conditions { CanBeAsked ask.now }
+        ensures kind { IfOk result (λ reply. IsOfKind ask.now reply) }
+        ensures bounds { IfOk result (λ reply. IsBounded ask.now reply) }
+        ensures rises { OnOk result (Rises pass.old pass.new) }
+        ensures notes { IfOk result (λ reply. unnoted ≡ noted unnoted (note_of pass.old pass.new ask.now reply)) }
+        ensures err { OnErr result (unnoted ≡ unnoted) }
+        ensures pass_err { OnErr result (pass.new ≡ pass.old) }
+    {
+        match ask {
+            Ask::Send(Side::A, call) => {
+                let mut held = self.desk.send_a.lock(self.rt);
+                self.gate.held(pass.actor, Object::Send(Side::A));
+                Ok(Reply::Send(ask_send(&mut held, pass, call)?))
+            }
+            Ask::Send(Side::B, call) => {
+                let mut held = self.desk.send_b.lock(self.rt);
+                self.gate.held(pass.actor, Object::Send(Side::B));
+                Ok(Reply::Send(ask_send(&mut held, pass, call)?))
+            }
+            Ask::Reassembly(Side::A, call) => {
+                let mut held = self.desk.reassembly_a.lock(self.rt);
+                self.gate.held(pass.actor, Object::Reassembly(Side::A));
+                Ok(Reply::Reassembly(ask_reassembly(&mut held, pass, call)?))
+            }
+            Ask::Reassembly(Side::B, call) => {
+                let mut held = self.desk.reassembly_b.lock(self.rt);
+                self.gate.held(pass.actor, Object::Reassembly(Side::B));
+                Ok(Reply::Reassembly(ask_reassembly(&mut held, pass, call)?))
+            }
+            Ask::Control(Side::A, call) => {
+                let mut held = self.desk.control_a.lock(self.rt);
+                self.gate.held(pass.actor, Object::Control(Side::A));
+                Ok(Reply::Control(ask_control(&mut held, pass, call)?))
+            }
+            Ask::Control(Side::B, call) => {
+                let mut held = self.desk.control_b.lock(self.rt);
+                self.gate.held(pass.actor, Object::Control(Side::B));
+                Ok(Reply::Control(ask_control(&mut held, pass, call)?))
+            }
+            Ask::Local(_) => unreachable!(),
+        }
+    }
+}
+
+// The turn of one actor, at a seat of its own.
+fn turn_at<A: Actor, N: Naming, G: Gate, R: Wait>(
+    rt: &R,
+    alloc: Global,
+    crew: &mut Crew<A>,
+    desk: &LockedDesk<N>,
+    gate: &G,
+)
+    ensures { Turned A.asks A.takes crew.old crew.new }
+{
+    let mut seat = desk.seat(rt, gate);
+    let _told = turn(alloc, crew, &mut seat, gate);
+}
+
+/// A round: the turns of all actors, each in a thread of its own, or one after the other where no thread can be made. The
+/// steps that were made so far stand, whatever the answer.
+///
+/// # Errors
+///
+/// `Memory` where a turn stopped for want of memory; else `Stamps` where one stopped since stamps were used up.
+pub fn round<A: Actor + Send, N: Naming + Send + Sync, G: Gate + Sync, R: Threads + Wait + Sync>(
+    rt: &R,
+    alloc: Global,
+    crew: &mut [Crew<A>],
+    desk: &LockedDesk<N>,
+    gate: &G,
+) -> Result<(), Refusal>
+    ensures turned { (i : ℕ) (d : Crew A) → i < length crew.old → Turned A.asks A.takes (slice_index_or crew.old i d) (slice_index_or crew.new i d) }
+    ensures done { OnOk result (All (λ c. c.refused ≡ None) crew.new) }
+    ensures memory { (result ≡ Err Memory) ↔ (list_any (is_refused Memory) crew.new ≡ true) }
+    ensures stamps { (result ≡ Err Stamps) ↔ ((list_any (is_refused Memory) crew.new ≡ false) × (list_any (is_refused Stamps) crew.new ≡ true)) }
+{
+    let threads = crew.len().max(1);
+    thread::for_each_mut(
+        rt,
+        crew,
+        threads,
+        &|_, crew| turn_at(rt, alloc, crew, desk, gate),
+    );
+    outcome_of(crew)
+}

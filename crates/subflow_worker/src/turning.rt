@@ -1,0 +1,188 @@
+//! The turn of an actor at a desk, step by step to its end.
+ghost use Rattle.std.specs.Prelude.{◌≡◌, ◌+◌, ◌-◌, ◌^◌, ◌<◌, ◌≤◌, ◌++◌, ◌⊎◌, ◌∷◌, ℕ, true, false, [], nat_lt, None, Some, List, length, IfOk, IfSome, OnOk, OnErr, MatchResult};
+ghost use Rattle.std.specs.List.{slice_get};
+ghost use Rattle.stamped_book.specs.declared.stamped.Refusal.TheVariants as refusals;
+ghost use Rattle.actor_desk.specs.declared.ask.Note.{Note};
+ghost use Rattle.actor_desk.specs.Bounds.{TakesReply};
+ghost use Rattle.actor_desk.specs.Journals.{is_local};
+ghost use Rattle.actor_desk.specs.Kinds.{CanBeAsked};
+ghost use Rattle.actor_desk.specs.Noted.{Rises, note_of, noted};
+ghost use Rattle.subflow_worker.specs.Turns.{DoesStep, IsLeft, IsUsedUp, NotesOneMore, Stopped, Went};
+
+use actor_desk::{Actor, Ask, Crew, Desk, Note, Notes, Reply};
+use outside_kit::Gate;
+use stamped_book::{Pass, Refusal};
+use std::alloc::{AllocError, Global};
+
+// The greatest stamp.
+const LAST_STAMP: u64 = (1 << 62) - 1;
+
+// The most notes that a list has. 2^57 are longer than a vector can be.
+const MOST_NOTES: u64 = (1 << 57) - 1;
+
+// The stamp after this one.
+fn go_on(pass: &mut Pass) -> Result<(), Refusal>
+    ensures rises { OnOk result (Rises pass.old pass.new) }
+    ensures next { OnOk result (pass.new.stamp ≡ pass.old.stamp + 1) }
+    ensures err { OnErr result (pass.new ≡ pass.old) }
+    ensures stamps { result ≡ Err refusals.Stamps → 2 ^ 62 - 1 ≤ pass.old.stamp }
+{
+    if pass.stamp >= LAST_STAMP {
+        return Err(Refusal::Stamps);
+    }
+    pass.stamp += 1;
+    Ok(())
+}
+
+// The reply to an ask: of the desk, or of nobody to a local step.
+fn answered<D: Desk>(desk: &mut D, pass: &mut Pass, ask: &Ask) -> Result<Reply, Refusal>
+    requires conditions { CanBeAsked ask.now }
+    requires serves { D.serves desk.old pass.old.actor }
+    ensures takes { IfOk result (λ reply. TakesReply (Some ask.now) reply) }
+    ensures rises { OnOk result (Rises pass.old pass.new) }
+    ensures local { OnOk result (is_local ask.now ≡ true → pass.new.stamp ≡ pass.old.stamp + 1) }
+    ensures notes { IfOk result (λ reply. D.notes desk.new ≡ noted (D.notes desk.old) (note_of pass.old pass.new ask.now reply)) }
+    ensures err { OnErr result (D.notes desk.new ≡ D.notes desk.old) }
+    ensures pass_err { OnErr result (pass.new ≡ pass.old) }
+    ensures full { result ≡ Err refusals.Stamps → (2 ^ 62 - 1 ≤ pass.old.stamp) ⊎ D.is_full desk.new ask.now pass.old }
+    ensures origin { D.origin desk.new ≡ D.origin desk.old }
+    ensures root { D.root desk.new ≡ D.root desk.old }
+    ensures serving { (actor : ℕ) → D.serves desk.old actor → D.serves desk.new actor }
+{
+    match ask {
+        Ask::Local(_) => {
+            go_on(pass)?;
+            Ok(Reply::Done)
+        }
+        Ask::Send(_, _) => desk.call(pass, ask),
+        Ask::Reassembly(_, _) => desk.call(pass, ask),
+        Ask::Control(_, _) => desk.call(pass, ask),
+    }
+}
+
+// Whether the list has room for a note.
+fn has_room(list: &Notes) -> bool
+    ensures { result ≡ nat_lt (length list.now) 144115188075855871 }
+{
+    (list.len() as u64) < MOST_NOTES
+}
+
+// The last note leaves the list.
+fn take_back(list: &mut Notes)
+    ensures { (notes : List Note) (note : Note) → list.old ≡ notes ++ note ∷ [] → list.new ≡ notes }
+{
+    list.pop();
+}
+
+// The actor takes the reply of a note of its list.
+fn take_at<A: Actor>(member: &mut A, list: &Notes, at: usize) -> Result<(), AllocError>
+    requires { IfSome (slice_get list.now at) (λ note. TakesReply (A.asks member.old) note.reply) }
+    ensures ok { OnOk result (IfSome (slice_get list.now at) (λ note. member.new ≡ A.takes note.reply member.old)) }
+    ensures err { OnErr result (member.new ≡ member.old) }
+{
+    match list.get(at) {
+        Some(note) => member.take(&note.reply),
+        None => Ok(()),
+    }
+}
+
+// Notes a step, and takes its reply, which is the last that can fail: the actor is then as it was.
+fn keep<A: Actor>(crew: &mut Crew<A>, note: Note) -> Result<(), AllocError>
+    requires { TakesReply (A.asks crew.old.member) note.reply }
+    ensures ok { OnOk result (crew.new ≡ record crew.old { member = A.takes note.reply crew.old.member; list = crew.old.list ++ note ∷ [] }) }
+    ensures err { OnErr result (crew.new ≡ crew.old) }
+{
+    let at = crew.list.len();
+    crew.list.push(note)?;
+    let taken = take_at(&mut crew.member, &crew.list, at);
+    if taken.is_err() {
+        take_back(&mut crew.list);
+    }
+    taken
+}
+
+// One step; false where nothing is left to ask, and then nothing changes.
+fn step<A: Actor, D: Desk>(alloc: Global, crew: &mut Crew<A>, desk: &mut D) -> Result<bool, Refusal>
+    requires { D.serves desk.old crew.old.pass.actor }
+    ensures made { IfOk result (λ went. went ≡ true → DoesStep A.asks A.takes crew.old crew.new (λ note. D.notes desk.new ≡ noted (D.notes desk.old) note)) }
+    ensures over { IfOk result (λ went. went ≡ false → A.asks crew.old.member ≡ None) }
+    ensures rests { IfOk result (λ went. went ≡ false → crew.new ≡ crew.old) }
+    ensures quiet { IfOk result (λ went. went ≡ false → D.notes desk.new ≡ D.notes desk.old) }
+    ensures left { OnErr result (IsLeft crew.old crew.new) }
+    ensures more { OnErr result (NotesOneMore (D.notes desk.old) (D.notes desk.new)) }
+    ensures full { result ≡ Err refusals.Stamps → IsUsedUp A.asks (D.is_full desk.new) crew.new }
+    ensures few { length crew.old.list < 2 ^ 57 → length crew.new.list < 2 ^ 57 }
+    ensures origin { D.origin desk.new ≡ D.origin desk.old }
+    ensures root { D.root desk.new ≡ D.root desk.old }
+    ensures serving { (actor : ℕ) → D.serves desk.old actor → D.serves desk.new actor }
+{
+    let Some(ask) = crew.member.ask(alloc)? else {
+        return Ok(false);
+    };
+    if !has_room(&crew.list) {
+        return Err(Refusal::Memory);
+    }
+    let seen = crew.pass.stamp;
+    let reply = answered(desk, &mut crew.pass, &ask)?;
+    let note = Note {
+        stamp: crew.pass.stamp,
+        seen,
+        actor: crew.pass.actor,
+        ask,
+        reply,
+    };
+    keep(crew, note)?;
+    Ok(true)
+}
+
+// All steps to the end of the turn.
+fn steps<A: Actor, D: Desk>(alloc: Global, crew: &mut Crew<A>, desk: &mut D) -> Result<(), Refusal>
+    requires { D.serves desk.old crew.old.pass.actor }
+    ensures ok { OnOk result (Went A.asks A.takes crew.old crew.new (D.notes desk.old) (D.notes desk.new)) }
+    ensures over { OnOk result (A.asks crew.new.member ≡ None) }
+    ensures err { OnErr result (Stopped A.asks A.takes crew.old crew.new (D.notes desk.old) (D.notes desk.new)) }
+    ensures full { result ≡ Err refusals.Stamps → IsUsedUp A.asks (D.is_full desk.new) crew.new }
+    ensures few { length crew.old.list < 2 ^ 57 → length crew.new.list < 2 ^ 57 }
+    ensures origin { D.origin desk.new ≡ D.origin desk.old }
+    ensures root { D.root desk.new ≡ D.root desk.old }
+    ensures serving { (actor : ℕ) → D.serves desk.old actor → D.serves desk.new actor }
+{
+    loop {
+        match step(alloc, crew, desk) {
+            Ok(true) => {}
+            Ok(false) => return Ok(()),
+            Err(refusal) => return Err(refusal),
+        }
+    }
+}
+
+/// The turn of an actor: it asks, and takes the reply, until it asks nothing. Each step is appended to its list, each stamp
+/// being above the one before it and above that of the pass. A turn takes no lock itself: it waits only where its desk
+/// does, or its gate, which it passes first.
+///
+/// # Errors
+///
+/// `Memory` where there is none for a step, and `Stamps` where the next stamp would be 2^62 or more. The steps made so far
+/// stand; the desk may have noted one more. `refused` is told which it was.
+pub fn turn<A: Actor, D: Desk, G: Gate>(
+    alloc: Global,
+    crew: &mut Crew<A>,
+    desk: &mut D,
+    gate: &G,
+) -> Result<(), Refusal>
+    requires { D.serves desk.old crew.old.pass.actor }
+    ensures ok { OnOk result (Went A.asks A.takes crew.old crew.new (D.notes desk.old) (D.notes desk.new)) }
+    ensures over { OnOk result (A.asks crew.new.member ≡ None) }
+    ensures err { OnErr result (Stopped A.asks A.takes crew.old crew.new (D.notes desk.old) (D.notes desk.new)) }
+    ensures refused { MatchResult result (λ _. crew.new.refused ≡ None) (λ refusal. crew.new.refused ≡ Some refusal) }
+    ensures full { result ≡ Err refusals.Stamps → IsUsedUp A.asks (D.is_full desk.new) crew.new }
+    ensures few { length crew.old.list < 2 ^ 57 → length crew.new.list < 2 ^ 57 }
+    ensures origin { D.origin desk.new ≡ D.origin desk.old }
+    ensures root { D.root desk.new ≡ D.root desk.old }
+    ensures serving { (actor : ℕ) → D.serves desk.old actor → D.serves desk.new actor }
+{
+    gate.turn(crew.pass.actor);
+    let told = steps(alloc, crew, desk);
+    crew.refused = told.err();
+    told
+}
