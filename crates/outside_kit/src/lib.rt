@@ -9,6 +9,7 @@
 mod calls;
 mod files;
 mod gate;
+mod meet;
 mod memory;
 mod outside;
 mod port;
@@ -17,6 +18,7 @@ mod side;
 pub use calls::{OutsideCall, RecordedCall};
 pub use files::{FailAt, NamedFile};
 pub use gate::{Gate, OpenGate};
+pub use meet::MeetGate;
 pub use memory::MemoryOutside;
 pub use outside::{LoadFault, Outside, PutFault};
 pub use port::Port;
