@@ -11,5 +11,5 @@ mod rounds;
 mod turning;
 
 pub use desk::{LockedDesk, Naming};
-pub use rounds::{LockedSeat, round};
+pub use rounds::{LockedSeat, round, threaded_round};
 pub use turning::turn;

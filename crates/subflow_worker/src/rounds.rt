@@ -4,15 +4,17 @@ ghost use Rattle.std.specs.List.{list_any, slice_index_or};
 ghost use Rattle.stamped_book.specs.declared.stamped.Refusal.TheVariants.{Memory, Stamps};
 ghost use Rattle.actor_desk.specs.declared.actor.Crew.{Crew};
 ghost use Rattle.subflow_worker.specs.Turns.{Turned, is_refused};
+ghost use Rattle.subflow_worker.specs.Extending.{BooksExtend};
 
 use crate::asking::{ask_control, ask_reassembly, ask_send};
 use crate::desk::{LockedDesk, Naming};
 use crate::refusing::outcome_of;
 use crate::turning::turn;
-use actor_desk::{Actor, Ask, Crew, Desk, Reply};
+use actor_desk::{Actor, Ask, Books, Crew, Desk, Reply};
 use outside_kit::{Gate, Object, Side};
 use stamped_book::{Pass, Refusal};
 use std::alloc::Global;
+use std::marker::Brand;
 use std::sync::Wait;
 use std::thread;
 use std::thread::Threads;
@@ -142,4 +144,42 @@ pub fn round<A: Actor + Send, N: Naming + Send + Sync, G: Gate + Sync, R: Thread
         &|_, crew| turn_at(rt, alloc, crew, desk, gate),
     );
     outcome_of(crew)
+}
+
+// A round over the books that N names.
+fn round_at<A: Actor + Send, N: Naming + Send + Sync, G: Gate + Sync, R: Threads + Wait + Sync>(
+    rt: &R,
+    alloc: Global,
+    crew: &mut [Crew<A>],
+    books: Books,
+    gate: &G,
+) -> (Result<(), Refusal>, Books)
+    requires { books ≡ N.given }
+    ensures turned { (i : ℕ) (d : Crew A) → i < length crew.old → Turned A.asks A.takes (slice_index_or crew.old i d) (slice_index_or crew.new i d) }
+    ensures done { OnOk result.0 (All (λ c. c.refused ≡ None) crew.new) }
+    ensures memory { (result.0 ≡ Err Memory) ↔ (list_any (is_refused Memory) crew.new ≡ true) }
+    ensures stamps { (result.0 ≡ Err Stamps) ↔ ((list_any (is_refused Memory) crew.new ≡ false) × (list_any (is_refused Stamps) crew.new ≡ true)) }
+    ensures books { BooksExtend N.given result.1 }
+{
+    let desk: LockedDesk<N> = LockedDesk::new(books);
+    let told = round(rt, alloc, crew, &desk, gate);
+    (told, desk.into_books())
+}
+
+/// A round over these books, each behind a lock of its own for as long as the round takes: what [`round`] answers, and the
+/// books, whose journals begin with those that they had.
+pub fn threaded_round<A: Actor + Send, G: Gate + Sync, R: Threads + Wait + Sync>(
+    rt: &R,
+    alloc: Global,
+    crew: &mut [Crew<A>],
+    books: Books,
+    gate: &G,
+) -> (Result<(), Refusal>, Books)
+    ensures turned { (i : ℕ) (d : Crew A) → i < length crew.old → Turned A.asks A.takes (slice_index_or crew.old i d) (slice_index_or crew.new i d) }
+    ensures done { OnOk result.0 (All (λ c. c.refused ≡ None) crew.new) }
+    ensures memory { (result.0 ≡ Err Memory) ↔ (list_any (is_refused Memory) crew.new ≡ true) }
+    ensures stamps { (result.0 ≡ Err Stamps) ↔ ((list_any (is_refused Memory) crew.new ≡ false) × (list_any (is_refused Stamps) crew.new ≡ true)) }
+    ensures books { BooksExtend books result.1 }
+{
+    round_at::<A, Brand, G, R>(rt, alloc, crew, books, gate)
 }
