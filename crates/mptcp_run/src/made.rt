@@ -43,7 +43,7 @@ fn made_file(alloc: Global, number: u16, stream: u64) -> Result<Text, AllocError
 {
     let number = u64::from(number);
     let octets = drawn_octets(alloc, number, stream, 16_384 * number)?;
-    Ok(Text::from(octets))
+    Text::from(octets).share()
 }
 
 fn path(mss: u16, delay: u32, join: u64) -> PathLine

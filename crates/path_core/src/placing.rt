@@ -27,7 +27,7 @@ use subflow_tcp::Parts;
 /// The first place that no byte has.
 const LAST_PLACE: u64 = 1 << 62;
 
-/// So many octets of these parts, in order. Takes memory for them.
+/// So many octets of these parts, in order, as a text that is shared. Takes memory for them.
 fn text_of(alloc: Global, parts: Parts<'_>, count: u64) -> Result<Text, AllocError>
     ensures octets { IfOk result (λ text. text ≡ take count (concat parts.entry)) }
     ensures few { IfOk result (λ text. length text ≤ count) }
@@ -39,7 +39,7 @@ fn text_of(alloc: Global, parts: Parts<'_>, count: u64) -> Result<Text, AllocErr
         text.append(&part[..taken as usize])?;
         left -= taken;
     }
-    Ok(text)
+    text.share()
 }
 
 /// The checksum of a mapping and so many octets of these parts.

@@ -207,7 +207,7 @@ impl ReassemblyBook {
         let far = (count - near).min(second.len());
         let mut text = Text::of(self.alloc, &first[..near])?;
         text.append(&second[..far])?;
-        Ok(text)
+        text.share()
     }
 
     // The bytes before the first gap, or why there are none.
