@@ -8,14 +8,14 @@ mod TurnsMade
 mod Inserting
 mod Performing
 mod Answering
-mod Causing
+mod Complete
 mod Gathering
 mod Turning
 mod Promised
 mod Unaltering
 mod LogEnds
 mod PlainTasks
-mod Promising
+mod Asking
 mod Starting
 mod RowsInRange
 mod LogWoven

@@ -15,7 +15,8 @@ use Rattle.world_laws.proofs.Serially.{serial_is_one}
 use Rattle.mptcp_run.specs.declared.report.Report.TheVariants as report
 use Rattle.mptcp_run.specs.declared.status.Status.{Status}
 use Rattle.mptcp_run.specs.Ports.{HoldsMore, HoldsWithin, IsBetween}
-use Rattle.mptcp_run.specs.Putting.{round_ends, last_end, steps_by_round, opening_in, log_text, RoundsFit, status_of, last_line_of, last_line, ends_of, read_so_far, log_so_far, world_after, HoldsRounds, HoldsRun, IsWhole, IsStopped, AreFirstOf, HoldsCut, IsCut}
+use Rattle.mptcp_run.specs.Putting.{round_ends, last_end, steps_by_round, opening_in, log_text, RoundsFit, status_of, last_line_of, last_line, ends_of, read_so_far, log_so_far, world_after, HoldsRounds, HoldsRun, IsWhole, IsStopped, AreFirstOf}
+use Rattle.mptcp_run.specs.Ends.{HoldsCut, HoldsSomeRounds, HoldsToLine}
 use Rattle.mptcp_run.specs.Rounds.{HoldsEnds, HoldsPart, ends_by, RoundsPut, RoundsCut, TurnsPut, TurnRefused, TurnsCut}
 use Rattle.mptcp_run.specs.Task.{Connection, Task, Course, opened, AreTurnsOf}
 use Rattle.mptcp_run.specs.Task as course
@@ -81,12 +82,9 @@ run_held task turns line a c d is h k = record {
 
 -- ---- early ends
 
-between_more : (low high : List ℕ) (text : List ℕ) → IsBetween low high text → IsBetween low (high ++ []) text
-between_more low high text h = record { least = h.least; most = IsPrefix-trans text high (high ++ []) h.most (IsPrefix-front high []) }
-
 -- some rounds, and a part of the next one
 pub part_cut : (task : Task) (turns more : List Turn) (low high : List Connection) (a b c : Ports) → low ≡ ends_of task turns → high ≡ ends_of task (turns ++ more)
-    → AreBound a b → HoldsPart (opening_in task) 0 (opened task) low high b c → HoldsCut task turns more [] a c
+    → AreBound a b → HoldsPart (opening_in task) 0 (opened task) low high b c → HoldsCut task turns more a c
 part_cut task turns more low high a b c low_is high_is bound h = record {
   read_by_b = subst (λ es. HoldsWithin (turns ++ more ≡ []) (a port.ReadByB) (c port.ReadByB) (output_of B (last_end (opened task) es)) (read_so_far B task (turns ++ more))) low_is
       (subst (λ es. HoldsWithin (turns ++ more ≡ []) (a port.ReadByB) (c port.ReadByB) (output_of B (last_end (opened task) low)) (output_of B (last_end (opened task) es))) high_is
@@ -94,15 +92,14 @@ part_cut task turns more low high a b c low_is high_is bound h = record {
   read_by_a = subst (λ es. HoldsWithin (turns ++ more ≡ []) (a port.ReadByA) (c port.ReadByA) (output_of A (last_end (opened task) es)) (read_so_far A task (turns ++ more))) low_is
       (subst (λ es. HoldsWithin (turns ++ more ≡ []) (a port.ReadByA) (c port.ReadByA) (output_of A (last_end (opened task) low)) (output_of A (last_end (opened task) es))) high_is
       (part_held (turns ++ more ≡ []) (a port.ReadByA) (b port.ReadByA) (c port.ReadByA) _ _ bound.read_by_a h.read_by_a));
-  log = subst (λ es. HoldsMore (a port.Log) (c port.Log) [] (IsBetween (log_text (opening_in task) 0 (steps_by_round (opened task) es)) (log_so_far task (turns ++ more) ++ []))) low_is
-      (subst (λ es. HoldsMore (a port.Log) (c port.Log) [] (IsBetween (log_text (opening_in task) 0 (steps_by_round (opened task) low)) (log_text (opening_in task) 0 (steps_by_round (opened task) es) ++ []))) high_is
-      (more_weaker (a port.Log) (c port.Log) [] _ _ (λ text between. between_more _ _ text between)
-      (more_from (a port.Log) (b port.Log) (c port.Log) [] _ bound.log h.log)));
+  log = subst (λ es. HoldsMore (a port.Log) (c port.Log) [] (IsBetween (log_text (opening_in task) 0 (steps_by_round (opened task) es)) (log_so_far task (turns ++ more)))) low_is
+      (subst (λ es. HoldsMore (a port.Log) (c port.Log) [] (IsBetween (log_text (opening_in task) 0 (steps_by_round (opened task) low)) (log_text (opening_in task) 0 (steps_by_round (opened task) es)))) high_is
+      (more_from (a port.Log) (b port.Log) (c port.Log) [] _ bound.log h.log));
 }
 
 -- nothing was put yet, and maybe not all was bound
 pub begin_cut : (task : Task) (a b : Ports) → HoldsWithin (Unit {0}) (a port.ReadByB) (b port.ReadByB) [] [] → HoldsWithin (Unit {0}) (a port.ReadByA) (b port.ReadByA) [] []
-    → b port.Log ≡ a port.Log → HoldsCut task [] [] [] a b
+    → b port.Log ≡ a port.Log → HoldsCut task [] [] a b
 begin_cut task a b read_by_b read_by_a log = record {
   read_by_b = within _ refl (a port.ReadByB) (b port.ReadByB) read_by_b;
   read_by_a = within _ refl (a port.ReadByA) (b port.ReadByA) read_by_a;
@@ -113,10 +110,6 @@ begin_cut task a b read_by_b read_by_a log = record {
     within U u None b h = tt
     within U u (Some held) b (inl h) = inl (u, h.1)
     within U u (Some held) b (inr h) = inr h
-
-after_within : (unbegun : Type 0) (a c d : Option (List ℕ)) (text high : List ℕ) → HoldsAfter a c (λ _. text) → d ≡ c → high ≡ text → HoldsWithin unbegun a d text high
-after_within unbegun None c d text high h same is = tt
-after_within unbegun (Some held) c d text high h same is = inr (text, (same ∙ h, record { least = IsPrefix-refl text; most = subst (λ t. IsPrefix text t) (sym is) (IsPrefix-refl text) }))
 
 after_part : (a c d : Option (List ℕ)) (x y : List ℕ) → HoldsAfter a c (λ held. held ++ x) → HoldsPrefix c d y → HoldsMore a d [] (IsBetween x (x ++ y))
 after_part None c d x y h k = tt
@@ -132,14 +125,13 @@ after_part (Some held) c d x y h k =
       ),
     )
 
--- all rounds, and a part of the last line
-pub end_cut : (task : Task) (turns : List Turn) (line : List ℕ) (a c d : Ports) → HoldsRounds task turns a c → LogGrewPart line c d → HoldsCut task turns [] line a d
-end_cut task turns line a c d h k = record {
-  read_by_b = after_within (turns ++ [] ≡ []) (a port.ReadByB) (c port.ReadByB) (d port.ReadByB) (read_so_far B task turns) (read_so_far B task (turns ++ [])) h.read_by_b k.read_by_b
-      (ap (read_so_far B task) (append-nil turns));
-  read_by_a = after_within (turns ++ [] ≡ []) (a port.ReadByA) (c port.ReadByA) (d port.ReadByA) (read_so_far A task turns) (read_so_far A task (turns ++ [])) h.read_by_a k.read_by_a
-      (ap (read_so_far A task) (append-nil turns));
-  log = subst (λ ts. HoldsMore (a port.Log) (d port.Log) [] (IsBetween (log_so_far task turns) (log_so_far task ts ++ line))) (sym (append-nil turns))
+-- all rounds, and a prefix of the last line
+pub line_held : (task : Task) (turns : List Turn) (line : List ℕ) (a c d : Ports) → line ≡ last_line task turns → HoldsRounds task turns a c → LogGrewPart line c d
+    → HoldsToLine task turns a d
+line_held task turns line a c d is h k = record {
+  read_by_b = subst (λ o. HoldsAfter (a port.ReadByB) o (λ _. read_so_far B task turns)) (sym k.read_by_b) h.read_by_b;
+  read_by_a = subst (λ o. HoldsAfter (a port.ReadByA) o (λ _. read_so_far A task turns)) (sym k.read_by_a) h.read_by_a;
+  log = subst (λ last. HoldsMore (a port.Log) (d port.Log) [] (IsBetween (log_so_far task turns) (log_so_far task turns ++ last))) is
       (after_part (a port.Log) (c port.Log) (d port.Log) (log_so_far task turns) line h.log k.log);
 }
 
@@ -237,14 +229,12 @@ module _ (task : Task) (most : ℕ) (is : task.course ≡ course.rounds most) wh
       by (inl none) = inl (ap spelled none)
       by (inr (low, (one, are))) = inr (low, (rounds ++ more, are, sym (spelled-append rounds more)))
 
-  pub serial_cut : (a b c : Ports) → AreBound a b → RoundsCut (opening_in task) most 0 (opened task) b c → IsCut task a c
+  pub serial_cut : (a b c : Ports) → AreBound a b → RoundsCut (opening_in task) most 0 (opened task) b c → HoldsSomeRounds task a c
   serial_cut a b c bound h = record {
     turns = spelled h.rounds;
     more = spelled h.more;
     are = first_of h.n h.rounds h.more h.few h.are h.next;
     one = subst (λ es. length es ≤ 1) (spelled_ends h.more (world_after task (spelled h.rounds))) (one h.next);
-    line = [];
-    line_is = inl refl;
     ports = part_cut task (spelled h.rounds) (spelled h.more) (ends_by h.rounds (opened task)) (ends_by (h.rounds ++ h.more) (opened task)) a b c
         (spelled_ends h.rounds (opened task))
         (spelled_ends (h.rounds ++ h.more) (opened task) ∙ ap (λ ts. round_ends ts (opened task)) (spelled-append h.rounds h.more)) bound h.ports;
@@ -255,31 +245,26 @@ module _ (task : Task) (most : ℕ) (is : task.course ≡ course.rounds most) wh
       one (inl none) = subst (λ m. length (ends_by m (world_after task (spelled h.rounds))) ≤ 1) (sym none) (omega arith)
       one (inr (low, (single, are))) = subst (λ m. length (ends_by m (world_after task (spelled h.rounds))) ≤ 1) (sym single.1) (omega arith)
 
-  pub serial_begin_cut : (a b : Ports) → HoldsCut task [] [] [] a b → IsCut task a b
-  serial_begin_cut a b h = record {
-    turns = [];
-    more = [];
-    are = first_of 0 [] [] (omega arith) refl (inl refl);
-    one = omega arith;
-    line = [];
-    line_is = inl refl;
-    ports = h;
-  }
+  -- no round
+  pub no_round : AreFirstOf task.course [] [] (opened task)
+  no_round = first_of 0 [] [] (omega arith) refl (inl refl)
 
+  pub serial_begin_cut : (a b : Ports) → HoldsCut task [] [] a b → HoldsSomeRounds task a b
+  serial_begin_cut a b h = record { turns = []; more = []; are = no_round; one = omega arith; ports = h }
+
+  -- all rounds, and a prefix of the line behind them
   pub serial_end_cut : (count : ℕ) (v : Connection) (a b c d : Ports) → AreBound a b → RoundsPut (opening_in task) most 0 count (opened task) v b c
-      → LogGrewPart (last_line_of task.report count v) c d → IsCut task a d
+      → LogGrewPart (last_line_of task.report count v) c d
+      → (turns : List Turn) × (IsSerial octets most turns (opened task) × HoldsToLine task turns a d)
   serial_end_cut count v a b c d bound h grew =
-      let end : v ≡ world_after task (spelled h.rounds) = h.world ∙ sym (spelled_run h.rounds (opened task)) in
-      record {
-        turns = spelled h.rounds;
-        more = [];
-        are = first_of most h.rounds [] (omega arith) h.are (inl refl);
-        one = omega arith;
-        line = last_line_of task.report count v;
-        line_is = inr (are_turns h.rounds h.are, line_after count v h.rounds h.count_is end);
-        ports = end_cut task (spelled h.rounds) (last_line_of task.report count v) a c d
-            (rounds_held task (spelled h.rounds) (ends_by h.rounds (opened task)) a b c (spelled_ends h.rounds (opened task)) bound h.ports) grew;
-      }
+      let end : v ≡ world_after task (spelled h.rounds) = h.world ∙ sym (spelled_run h.rounds (opened task)) in (
+        spelled h.rounds,
+        (
+          (h.rounds, h.are, refl),
+          line_held task (spelled h.rounds) (last_line_of task.report count v) a c d (line_after count v h.rounds h.count_is end)
+              (rounds_held task (spelled h.rounds) (ends_by h.rounds (opened task)) a b c (spelled_ends h.rounds (opened task)) bound h.ports) grew,
+        ),
+      )
 
 -- ---- the turns of a log
 
@@ -310,39 +295,28 @@ module _ (task : Task) (order : List Turn) (is : task.course ≡ course.told ord
       → AreFirstOf task.course turns more (opened task)
   told_first turns more behind parts lawful = subst (λ c. AreFirstOf c turns more (opened task)) (sym is) (behind, (parts, lawful))
 
-  pub replay_cut : (a b c : Ports) → AreBound a b → TurnsCut (opening_in task) 0 order (opened task) (opened task) b c → IsCut task a c
+  pub replay_cut : (a b c : Ports) → AreBound a b → TurnsCut (opening_in task) 0 order (opened task) (opened task) b c → HoldsSomeRounds task a c
   replay_cut a b c bound h = record {
     turns = h.turns;
     more = h.more;
     are = told_first h.turns h.more h.behind h.order_is h.lawful;
     one = h.one;
-    line = [];
-    line_is = inl refl;
     ports = part_cut task h.turns h.more (round_ends h.turns (opened task)) (round_ends (h.turns ++ h.more) (opened task)) a b c refl refl bound h.ports;
   }
 
-  pub replay_begin_cut : (a b : Ports) → HoldsCut task [] [] [] a b → IsCut task a b
-  replay_begin_cut a b h = record {
-    turns = [];
-    more = [];
-    are = told_first [] [] order refl tt;
-    one = omega arith;
-    line = [];
-    line_is = inl refl;
-    ports = h;
-  }
+  -- no turn
+  pub no_turn : AreFirstOf task.course [] [] (opened task)
+  no_turn = told_first [] [] order refl tt
 
+  pub replay_begin_cut : (a b : Ports) → HoldsCut task [] [] a b → HoldsSomeRounds task a b
+  replay_begin_cut a b h = record { turns = []; more = []; are = no_turn; one = omega arith; ports = h }
+
+  -- all turns, and a prefix of the line behind them
   pub replay_end_cut : (count : ℕ) (v : Connection) (a b c d : Ports) → task.report ≡ report.Log → AreBound a b → TurnsPut (opening_in task) 0 order (opened task) (opened task) v b c
-      → LogGrewPart (last_line_of report.Log count v) c d → IsCut task a d
-  replay_end_cut count v a b c d kept bound h grew = record {
-    turns = order;
-    more = [];
-    are = told_first order [] [] (sym (append-nil order)) (subst (λ ts. AreLawful octets ts (opened task)) (sym (append-nil order)) h.lawful);
-    one = omega arith;
-    line = last_line_of report.Log count v;
-    line_is = inr (are_told h.lawful, logged_line task order count v kept h.world);
-    ports = end_cut task order (last_line_of report.Log count v) a c d (rounds_held task order (round_ends order (opened task)) a b c refl bound h.ports) grew;
-  }
+      → LogGrewPart (last_line_of report.Log count v) c d → HoldsToLine task order a d
+  replay_end_cut count v a b c d kept bound h grew =
+      line_held task order (last_line_of report.Log count v) a c d (logged_line task order count v kept h.world)
+      (rounds_held task order (round_ends order (opened task)) a b c refl bound h.ports) grew
 
   pub replay_stopped : (lines count line : ℕ) (a b c : Ports) → AreBound a b → line ≡ lines + count + 1
       → TurnRefused (opening_in task) 0 order count (opened task) (opened task) b c → IsStopped task lines line a c

@@ -16,16 +16,16 @@ use Rattle.mptcp_run.specs.declared.report.Report.TheVariants as report
 use Rattle.mptcp_run.specs.declared.rounds.Run.{Run}
 use Rattle.mptcp_run.specs.declared.status.Status.{Status}
 use Rattle.mptcp_run.specs.declared.status.Status.TheVariants.{Delivered, Rounds, NoPath, Aborted, Usage, Script, Load, Put, TooLong, Memory, Log}
-use Rattle.mptcp_run.specs.Answers.{HasEnded}
+use Rattle.mptcp_run.specs.Ends.{HasEnded, HoldsSomeRounds, HoldsToLine}
 use Rattle.mptcp_run.specs.Ports.{NeverFall, IsPortsFault, HoldsWithin}
 use Rattle.mptcp_run.proofs.PortsLemmas.{risen_later}
-use Rattle.mptcp_run.specs.Putting.{status_of, last_line, last_line_of, log_opening, opening_of, IsWhole, IsCut, ReplayEnds}
+use Rattle.mptcp_run.specs.Putting.{status_of, last_line, last_line_of, log_opening, opening_of, IsWhole}
 use Rattle.mptcp_run.specs.Replaying.{IsReplayFault}
 use Rattle.mptcp_run.specs.Rounds.{Begins, AtRound, IsOpened, RoundsPut, RoundsCut, TurnsPut, TurnsFault}
 use Rattle.mptcp_run.specs.Task.{Connection, Task, task_from, task_with, opened}
 use Rattle.mptcp_run.specs.Task as course
 use Rattle.mptcp_run.proofs.UnderWay.{opened_begins}
-use Rattle.mptcp_run.proofs.Performing.{AreBound, LogGrew, LogGrewPart, begin_cut, serial_whole, serial_cut, serial_begin_cut, serial_end_cut, line_of_serial, replay_whole, replay_cut, replay_begin_cut, replay_end_cut, replay_stopped}
+use Rattle.mptcp_run.proofs.Performing.{AreBound, LogGrew, LogGrewPart, begin_cut, serial_whole, serial_cut, serial_begin_cut, serial_end_cut, line_of_serial, replay_whole, replay_begin_cut, replay_end_cut}
 
 abbrev Ports : Type 0
 Ports = Port → Option (List ℕ)
@@ -65,20 +65,21 @@ module _ (input : Input) (kind : Report) (run : Run) (h : IsOpened input kind ru
       → (turns : List Turn) → IsSerial octets most turns (opened serial_run) → last_line_of kind count v ≡ last_line (task_with input (course.rounds most) kind) turns
   serial_line count v b c put turns serial = line_of_serial serial_run most refl count v b c (start_put count v b c put) turns serial
 
-  pub serial_is_cut : (a b c : Ports) → AreBound a b → RoundsCut run.opening most 0 run.world.state b c → IsCut (task_with input (course.rounds most) kind) a c
+  pub serial_is_cut : (a b c : Ports) → AreBound a b → RoundsCut run.opening most 0 run.world.state b c → HoldsSomeRounds (task_with input (course.rounds most) kind) a c
   serial_is_cut a b c bound cut = serial_cut serial_run most refl a b c bound (start_cut b c cut)
 
   pub serial_line_cut : (count : ℕ) (v : Connection) (a b c d : Ports) → AreBound a b → RoundsPut run.opening most 0 count run.world.state v b c
-      → LogGrewPart (last_line_of kind count v) c d → IsCut (task_with input (course.rounds most) kind) a d
+      → LogGrewPart (last_line_of kind count v) c d
+      → (turns : List Turn) × (IsSerial octets most turns (opened serial_run) × HoldsToLine (task_with input (course.rounds most) kind) turns a d)
   serial_line_cut count v a b c d bound put grew =
       serial_end_cut serial_run most refl count v a b c d bound (start_put count v b c put) grew
 
 pub serial_unbegun : (task : Task) (most : ℕ) (a b : Ports) → task.course ≡ course.rounds most → HoldsWithin (Unit {0}) (a port.ReadByB) (b port.ReadByB) [] []
-    → HoldsWithin (Unit {0}) (a port.ReadByA) (b port.ReadByA) [] [] → b port.Log ≡ a port.Log → IsCut task a b
+    → HoldsWithin (Unit {0}) (a port.ReadByA) (b port.ReadByA) [] [] → b port.Log ≡ a port.Log → HoldsSomeRounds task a b
 serial_unbegun task most a b is read_by_b read_by_a log = serial_begin_cut task most is a b (begin_cut task a b read_by_b read_by_a log)
 
 -- nothing was bound or put
-pub serial_untouched : (task : Task) (most : ℕ) (a b : Ports) → task.course ≡ course.rounds most → ((p : Port) → b p ≡ a p) → IsCut task a b
+pub serial_untouched : (task : Task) (most : ℕ) (a b : Ports) → task.course ≡ course.rounds most → ((p : Port) → b p ≡ a p) → HoldsSomeRounds task a b
 serial_untouched task most a b is same = serial_unbegun task most a b is (unbound (a port.ReadByB) (b port.ReadByB) (same port.ReadByB)) (unbound (a port.ReadByA) (b port.ReadByA) (same port.ReadByA)) (same port.Log)
   where
     unbound : (old new : Option (List ℕ)) → new ≡ old → HoldsWithin (Unit {0}) old new [] []
@@ -96,47 +97,17 @@ module _ (input : Input) (run : Run) (h : IsOpened input report.Log run) (order 
       replay_whole (task_from input (course.told order)) order refl count v status a b c d refl bound (turns_put v b c put) shown grew
 
   pub replay_line_cut : (count : ℕ) (v : Connection) (a b c d : Ports) → AreBound a b → TurnsPut run.opening 0 order run.world.state run.world.state v b c
-      → LogGrewPart (last_line_of report.Log count v) c d → IsCut (task_from input (course.told order)) a d
+      → LogGrewPart (last_line_of report.Log count v) c d → HoldsToLine (task_from input (course.told order)) order a d
   replay_line_cut count v a b c d bound put grew =
       replay_end_cut (task_from input (course.told order)) order refl count v a b c d refl bound (turns_put v b c put) grew
 
-  by_fault : (lines : ℕ) (a b c : Ports) (status : Status) → AreBound a b
+  pub replay_fault : (lines : ℕ) (b c : Ports) (status : Status) → TurnsFault run.opening 0 order run.world.state run.world.state lines b c status
       → TurnsFault (Some (log_opening input.script)) 0 order (opened (task_from input (course.told order))) (opened (task_from input (course.told order))) lines b c status
-      → ReplayEnds (task_from input (course.told order)) lines a c status
-  by_fault lines a b c (Log line) bound fault = replay_stopped (task_from input (course.told order)) order refl lines fault.0 line a b c bound fault.1.0 fault.1.1
-  by_fault lines a b c (Put p) bound fault = replay_cut (task_from input (course.told order)) order refl a b c bound fault
-  by_fault lines a b c Memory bound fault = replay_cut (task_from input (course.told order)) order refl a b c bound fault
-  by_fault lines a b c Delivered bound fault = absurd fault
-  by_fault lines a b c Rounds bound fault = absurd fault
-  by_fault lines a b c NoPath bound fault = absurd fault
-  by_fault lines a b c (Aborted reader) bound fault = absurd fault
-  by_fault lines a b c Usage bound fault = absurd fault
-  by_fault lines a b c (Script at kind) bound fault = absurd fault
-  by_fault lines a b c (Load named) bound fault = absurd fault
-  by_fault lines a b c (TooLong named) bound fault = absurd fault
-
-  pub replay_faults : (lines : ℕ) (a b c : Ports) (status : Status) → AreBound a b → TurnsFault run.opening 0 order run.world.state run.world.state lines b c status
-      → ReplayEnds (task_from input (course.told order)) lines a c status
-  replay_faults lines a b c status bound fault =
-      by_fault lines a b c status bound
-      (subst (λ o. TurnsFault o 0 order (opened (task_from input (course.told order))) (opened (task_from input (course.told order))) lines b c status) h.opening (subst (λ (k : Kept). TurnsFault run.opening 0 order k.state k.state lines b c status) h.world fault))
-
--- a run that was cut off by a port
-pub ends_cut : (task : Task) (lines : ℕ) (a b : Ports) (before faults : Port → ℕ) (status : Status) → IsPortsFault before faults status → IsCut task a b → ReplayEnds task lines a b status
-ends_cut task lines a b before faults (Put p) cause cut = cut
-ends_cut task lines a b before faults Memory cause cut = cut
-ends_cut task lines a b before faults Delivered cause cut = absurd cause
-ends_cut task lines a b before faults Rounds cause cut = absurd cause
-ends_cut task lines a b before faults NoPath cause cut = absurd cause
-ends_cut task lines a b before faults (Aborted reader) cause cut = absurd cause
-ends_cut task lines a b before faults Usage cause cut = absurd cause
-ends_cut task lines a b before faults (Script at kind) cause cut = absurd cause
-ends_cut task lines a b before faults (Load named) cause cut = absurd cause
-ends_cut task lines a b before faults (TooLong named) cause cut = absurd cause
-ends_cut task lines a b before faults (Log at) cause cut = absurd cause
+  replay_fault lines b c status fault =
+      subst (λ o. TurnsFault o 0 order (opened (task_from input (course.told order))) (opened (task_from input (course.told order))) lines b c status) h.opening (subst (λ (k : Kept). TurnsFault run.opening 0 order k.state k.state lines b c status) h.world fault)
 
 pub replay_unbegun : (input : Input) (order : List Turn) (a b : Ports) → HoldsWithin (Unit {0}) (a port.ReadByB) (b port.ReadByB) [] []
-    → HoldsWithin (Unit {0}) (a port.ReadByA) (b port.ReadByA) [] [] → b port.Log ≡ a port.Log → IsCut (task_from input (course.told order)) a b
+    → HoldsWithin (Unit {0}) (a port.ReadByA) (b port.ReadByA) [] [] → b port.Log ≡ a port.Log → HoldsSomeRounds (task_from input (course.told order)) a b
 replay_unbegun input order a b read_by_b read_by_a log =
     replay_begin_cut (task_from input (course.told order)) order refl a b (begin_cut (task_from input (course.told order)) a b read_by_b read_by_a log)
 

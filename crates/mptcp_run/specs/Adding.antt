@@ -7,11 +7,11 @@ use Rattle.world_core.specs.Rounds.{RoundTo, after_rounds}
 use Rattle.world_laws.specs.Serial.{AreRounds}
 use Rattle.world_laws.specs.Worlds.{Turn, end_round, world_run, AreLawful, IsLawfulTurn}
 use Rattle.mptcp_run.specs.declared.status.Status.{Status}
-use Rattle.mptcp_run.specs.declared.status.Status.TheVariants.{Delivered, Rounds, NoPath, Aborted, Usage, Script, Load, Put, TooLong, Memory, Log}
-use Rattle.mptcp_run.specs.Plan.{AddsAll, AddsCut, AddsLoadsTo, binds_of, round_puts, puts_by_round, ArePuts, ArePutsBefore, AreFirstPuts}
+use Rattle.mptcp_run.specs.declared.status.Status.TheVariants.{Script, Load, Put, TooLong, Memory, Log}
+use Rattle.mptcp_run.specs.Plan.{AddsAll, AddsCut, AddsLoadsTo, round_puts, puts_by_round}
 use Rattle.mptcp_run.specs.Putting.{round_ends}
 use Rattle.mptcp_run.specs.Rounds.{ends_by}
-use Rattle.mptcp_run.specs.Task.{Connection, Task}
+use Rattle.mptcp_run.specs.Task.{Connection}
 
 -- ---- loads
 
@@ -93,34 +93,3 @@ TurnsEnd opening number order last w old new (Log at) = TurnsAddBefore opening n
 TurnsEnd opening number order last w old new (Put port) = TurnsAddCut opening number order last w old new (Put port)
 TurnsEnd opening number order last w old new Memory = TurnsAddCut opening number order last w old new Memory
 TurnsEnd opening number order last w old new status = ⊥
-
--- ---- a run behind its loads
-
--- it made its binds, and such puts
-abbrev pub AddsWork : (Task → List Call → Type 0) → Line → Task → Option (List Made) → Option (List Made) → Type 0
-AddsWork Are line task old new = (puts : List Call) × (Are task puts × AddsAll (binds_of line ++ puts) old new)
-
--- it was cut off
-abbrev pub AddsWorkCut : Line → Task → Option (List Made) → Option (List Made) → Status → Type 0
-AddsWorkCut line task old new status = (puts : List Call) × (AreFirstPuts task puts × AddsCut (binds_of line ++ puts) status old new)
-
--- a run of the turns of a log ends with this status
-abbrev pub ReplayAdds : Line → Task → Option (List Made) → Option (List Made) → Status → Type 0
-ReplayAdds line task old new (Log at) = AddsWork ArePutsBefore line task old new
-ReplayAdds line task old new (Put port) = AddsWorkCut line task old new (Put port)
-ReplayAdds line task old new Memory = AddsWorkCut line task old new Memory
-ReplayAdds line task old new status = ⊥
-
--- the calls that were made by a run of the made input that ends with this status
-abbrev pub MadeAdds : Line → Task → Option (List Made) → Option (List Made) → Status → Type 0
-MadeAdds line task old new (Put port) = AddsWorkCut line task old new (Put port)
-MadeAdds line task old new Memory = AddsWorkCut line task old new Memory
-MadeAdds line task old new Delivered = AddsWork ArePuts line task old new
-MadeAdds line task old new Rounds = AddsWork ArePuts line task old new
-MadeAdds line task old new NoPath = AddsWork ArePuts line task old new
-MadeAdds line task old new (Aborted reader) = AddsWork ArePuts line task old new
-MadeAdds line task old new Usage = ⊥
-MadeAdds line task old new (Load named) = ⊥
-MadeAdds line task old new (TooLong named) = ⊥
-MadeAdds line task old new (Script at kind) = ⊥
-MadeAdds line task old new (Log at) = ⊥
