@@ -3,8 +3,6 @@
 ghost use Rattle.std.specs.Prelude.{◌≡◌, ◌+◌, ◌-◌, ◌^◌, ◌<◌, IfErr, OnOk, OnErr};
 ghost use Rattle.path_core.specs.Octets.{octets};
 ghost use Rattle.world_core.specs.Rounds.{RoundTo};
-ghost use Rattle.world_laws.specs.Outcomes.{outcome_of};
-ghost use Rattle.world_laws.specs.Serial.{goes_on};
 ghost use Rattle.mptcp_run.specs.Adding.{RoundsAdd, RoundAddsCut, RoundsAddCut};
 ghost use Rattle.mptcp_run.specs.Plan.{AddsAll, round_puts};
 ghost use Rattle.mptcp_run.specs.Ports.{NeverFall, IsPortsFault};
@@ -14,7 +12,7 @@ use crate::rounds::Run;
 use crate::status::Status;
 use outside_kit::Outside;
 use std::alloc::Global;
-use world_core::{Outcome, World, round};
+use world_core::{goes_on, round};
 
 /// Makes one round, and puts it.
 fn make_round<O: Outside>(alloc: Global, outside: &mut O, run: &mut Run) -> Result<(), Status>
@@ -36,13 +34,6 @@ fn make_round<O: Outside>(alloc: Global, outside: &mut O, run: &mut Run) -> Resu
         Ok(()) => run.put_round(alloc, outside),
         Err(_) => Err(Status::Memory),
     }
-}
-
-/// Whether the connection goes on.
-fn goes_on(world: &World) -> bool
-    ensures { result ≡ goes_on (outcome_of world.now.state.crew) }
-{
-    matches!(world.outcome(), Outcome::Going)
 }
 
 /// Makes at most so many rounds, and puts each; the last one is the first after which the connection doesn't go on.

@@ -48,8 +48,8 @@ pub fn round(world: &mut World) -> Result<(), AllocError>
     Ok(())
 }
 
-// Whether the connection goes on.
-fn goes_on(world: &World) -> bool
+/// Whether the connection goes on.
+pub fn goes_on(world: &World) -> bool
     ensures { result ≡ goes_on (outcome_of world.now.state.crew) }
 {
     matches!(world.outcome(), Outcome::Going)
