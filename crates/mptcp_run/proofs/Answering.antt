@@ -1,5 +1,5 @@
 -- What each status of a run says, from what its parts say.
-use Rattle.std.proofs.Common.{◌≡◌, refl, sym, ap, subst, ℕ, ◌≤◌, inl, inr, ◌⊎◌, List, [], Option, Some, None, Result, Ok, Err, IfSome, IsSome, length}
+use Rattle.std.proofs.Common.{◌≡◌, refl, sym, ap, subst, ℕ, ◌≤◌, inl, inr, List, [], ◌++◌, Option, Some, None, Result, Ok, Err, IfSome, IsSome, length}
 use Rattle.std.specs.Prelude.{option_and_then, option_map, map, IsOk, IsSomeAnd}
 use Rattle.std.specs.Result.{result_ok}
 use Rattle.outside_kit.specs.declared.port.Port.{Port}
@@ -24,7 +24,7 @@ use Rattle.mptcp_run.specs.Ends.{HasEnded, HoldsSomeRounds, HoldsToLine, AddsWor
 use Rattle.mptcp_run.specs.Inputs.{order_of, content_of, AreFirstWithinLimits, IsInputFault, IsReplayInputFault}
 use Rattle.mptcp_run.specs.Logged.{HasRounds, LogTellsTheRun}
 use Rattle.mptcp_run.specs.Made.{Bench}
-use Rattle.mptcp_run.specs.Plan.{AddsAll, AddsCut, plan_of, loads_of, ArePuts, ArePutsBefore}
+use Rattle.mptcp_run.specs.Plan.{AddsAll, AddsCut, puts_so_far, last_put, plan_of, loads_of, ArePuts, ArePutsBefore}
 use Rattle.mptcp_run.specs.Ports.{IsUntouched, IsPortsFault, HoldsMore, HoldsWithin}
 use Rattle.mptcp_run.specs.Promised.{IsPlainTask, EndsWithRound, IsAlwaysKept, HoldsPrefixOf, HoldsPrefixIfBound, ReadersHaveFiles, ReadersHavePrefixes, ReadersHavePrefixesIfBound}
 use Rattle.mptcp_run.specs.Putting.{IsWhole, IsStopped}
@@ -217,8 +217,9 @@ cut_prefixes loads line task held holds ta tb status plain (inr h) =
 -- the calls alone
 cut_calls : (loads : List Call) (line : Line) (task : Task) (held holds : Ports) (ta tb : Told) (status : Status) → IsCut loads line task held holds ta tb status
     → (puts : List Call) × AddsCut (plan_of loads line puts) status ta tb
-cut_calls loads line task held holds ta tb status (inl h) = (_, h.calls.1.1)
-cut_calls loads line task held holds ta tb status (inr h) = (_, short_cut _ status ta tb h.calls)
+cut_calls loads line task held holds ta tb status (inl h) = (puts_so_far task h.calls.0, h.calls.1.1)
+cut_calls loads line task held holds ta tb status (inr h) =
+    (puts_so_far task h.turns ++ last_put task h.turns, short_cut _ status ta tb h.calls)
 
 -- ---- what was read
 

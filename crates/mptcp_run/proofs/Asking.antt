@@ -10,10 +10,12 @@ use Rattle.mptcp_run.specs.Asked.{asked_in, if_run}
 use Rattle.mptcp_run.specs.Made.{Bench, made_task, bench_by, bench_of, bench_in}
 use Rattle.mptcp_run.specs.Plan.{loads_of}
 use Rattle.mptcp_run.specs.Promised.{ReadersHaveFiles}
+use Rattle.mptcp_run.specs.Task.{opened}
 use Rattle.mptcp_run.proofs.Answering.{made_cut_answer}
 use Rattle.mptcp_run.proofs.Calls.{Told, adds_none, cut_none}
 use Rattle.mptcp_run.proofs.MadeTasks.{made_is_plain, of_words}
-use Rattle.mptcp_run.proofs.Planning.{made_memory_cut}
+use Rattle.mptcp_run.proofs.Courses.{no_round}
+use Rattle.mptcp_run.proofs.Performing.{nothing_made}
 
 abbrev Ports : Type 0
 Ports = Port → Option (List ℕ)
@@ -63,7 +65,7 @@ module _ (loads : ℕ) (faults : Port → ℕ) (holds : Ports) (ta : Told) where
       → IsMadeAnswer (record { line = line; task = made_task number most }) loads loads faults faults holds holds ta ta Memory
   made_memory line number most few =
       made_cut_answer (record { line = line; task = made_task number most }) (made_is_plain number most few) loads loads refl faults faults holds holds ta ta Memory tt
-      (made_memory_cut line (made_task number most) most ta holds refl)
+      (nothing_made line (made_task number most) holds ta (no_round most (opened (made_task number most))))
 
   pub words_memory : (words : List (List ℕ)) → IfSome (bench_in words) (λ made. IsMadeAnswer made loads loads faults faults holds holds ta ta Memory)
   words_memory words = of_words (λ made. IsMadeAnswer made loads loads faults faults holds holds ta ta Memory) made_memory words

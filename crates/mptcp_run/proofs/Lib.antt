@@ -25,5 +25,6 @@ mod AskedRounds
 mod MadeTasks
 mod Calls
 mod Loading
+mod Folding
+mod Courses
 mod PutsMade
-mod Planning

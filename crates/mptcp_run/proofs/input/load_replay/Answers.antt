@@ -5,7 +5,6 @@ use Rattle.run_words.specs.Lines.{shown}
 use Rattle.mptcp_run.specs.declared.status.Named.TheVariants as named
 use Rattle.mptcp_run.specs.Inputs.{order_of}
 use Rattle.mptcp_run.specs.Plan.{AddsAll, load_of, first_loads, loads_of}
-use Rattle.mptcp_run.specs.Script.{actors_of, width_of}
 use Rattle.mptcp_run.proofs.Calls.{all_then}
 use Rattle.mptcp_run.proofs.LogEnds.{turns_end}
 use Rattle.mptcp_run.proofs.Loading.{load_cut, loads_longer, input_adds, script_adds, form_adds, replay_loads}
@@ -39,5 +38,4 @@ returns-in_err-turns-clause-calls_cut g c =
     rw (p.1, p.2) (form_adds line (loads_of line) _ _ c.in_ok-input.input.script _ c.in_err-turns.field-0.0 loaded c.in_err-turns.ensures.fault)
 
 pub returns-clause-ends : goal.returns-clause-ends
-returns-clause-ends g c =
-    turns_end (actors_of c.in_ok-input.input.script) (width_of c.in_ok-input.input.script) c.in_ok-log.log.items c.in_ok-turns.turns.items c.in_ok-turns.ensures.turns
+returns-clause-ends g c = turns_end _ _ _ _ c.in_ok-turns.ensures.turns

@@ -1,18 +1,18 @@
-use Rattle.std.proofs.Common.{subst, List, arith}
+use Rattle.std.proofs.Common.{refl, subst, List, arith}
 use Rattle.std.proofs.lemmas.Result.{err_from_is_err_and}
 use Rattle.outside_kit.specs.declared.port.Port.TheVariants.{ReadByA, ReadByB}
 use Rattle.run_words.specs.Lines.{shown}
 use Rattle.run_log.specs.declared.turn.Turn.{Turn}
 use Rattle.mptcp_run.specs.declared.report.Report.TheVariants as report
-use Rattle.mptcp_run.specs.Adding.{TurnsEnd}
-use Rattle.mptcp_run.specs.Plan.{AddsAll, puts_by_round}
-use Rattle.mptcp_run.specs.Putting.{round_ends}
-use Rattle.mptcp_run.specs.Rounds.{TurnsPut, TurnsFault, all_turns}
-use Rattle.mptcp_run.specs.Task.{task_from}
+use Rattle.mptcp_run.specs.Courses.{CourseMade, LogStops}
+use Rattle.mptcp_run.specs.Putting.{last_line_of}
+use Rattle.mptcp_run.specs.Rounds.{all_turns}
+use Rattle.mptcp_run.specs.Task.{Task, task_from, opened}
 use Rattle.mptcp_run.specs.Task as course
+use Rattle.mptcp_run.proofs.Courses.{no_turn}
+use Rattle.mptcp_run.proofs.Performing.{line_done, line_short, binds_short}
 use Rattle.mptcp_run.proofs.PortsLemmas.{IfOk-and, IfErr-map, IfErr-three, fault_after, b_isnt_log, a_isnt_log}
-use Rattle.mptcp_run.proofs.Planning.{replay_done, replay_at_line, replay_ends, replay_binds_cut, replay_is_cut}
-use Rattle.mptcp_run.proofs.Starting.{opened_at, replay_cause, cause_after}
+use Rattle.mptcp_run.proofs.Starting.{opened_at, as_opened, logged_line, log_stops, replay_is_cut, replay_cause, cause_after}
 use Rattle.mptcp_run.proofs.top_call.perform_replay.Goals as goal
 
 pub make_turns-requires-clause-begins : goal.make_turns-requires-clause-begins
@@ -20,27 +20,30 @@ make_turns-requires-clause-begins g c = opened_at c.args.replay.now.input report
 
 pub returns-in_err-run-clause-err : goal.returns-in_err-run-clause-err
 returns-in_err-run-clause-err g c =
+    let order = all_turns c.args.replay.now.turns.items in let task : Task = task_from c.args.replay.now.input (course.told order) in
     let p = err_from_is_err_and c.from_residual.result c.from_residual.ensures.1 in
-    rw (p.1, p.2) (replay_is_cut (shown c.args.line.now) (task_from c.args.replay.now.input (course.told (all_turns c.args.replay.now.turns.items))) c.args.replay.now.lines
+    rw (p.1, p.2) (replay_is_cut (shown c.args.line.now) task c.args.replay.now.lines
     (g.O.Outside.calls c.args.outside.now) (g.O.Outside.calls c.begin.new.outside) (g.O.Outside.holds c.args.outside.now) (g.O.Outside.holds c.begin.new.outside)
     _ _ c.in_err-run.field-0.0 c.in_err-run.ensures.fault
-    (replay_binds_cut c.args.replay.now.input (shown c.args.line.now) (all_turns c.args.replay.now.turns.items)
-    (g.O.Outside.calls c.args.outside.now) (g.O.Outside.calls c.begin.new.outside) (g.O.Outside.holds c.args.outside.now) (g.O.Outside.holds c.begin.new.outside)
-    c.in_err-run.field-0.0 c.in_err-run.ensures.read_by_b_err c.in_err-run.ensures.read_by_a_err c.begin.ensures.log c.in_err-run.ensures.calls_cut))
+    (binds_short (shown c.args.line.now) task
+    (g.O.Outside.holds c.args.outside.now) (g.O.Outside.holds c.begin.new.outside) (g.O.Outside.calls c.args.outside.now) (g.O.Outside.calls c.begin.new.outside)
+    c.in_err-run.field-0.0 (no_turn order (opened task)) c.in_err-run.ensures.read_by_b_err c.in_err-run.ensures.read_by_a_err c.begin.ensures.log c.in_err-run.ensures.calls_cut))
 
 pub returns-in_err-make_turns-clause-err : goal.returns-in_err-make_turns-clause-err
 returns-in_err-make_turns-clause-err g c =
     let begun = c.in_ok-run.ensures in
+    let order = all_turns c.args.replay.now.turns.items in let task : Task = task_from c.args.replay.now.input (course.told order) in
     let p = err_from_is_err_and c.from_residual-in_err-make_turns.result c.from_residual-in_err-make_turns.ensures.1 in
-    rw (p.1, p.2) (replay_ends c.args.replay.now.input c.in_ok-run.run' begun.run (shown c.args.line.now) (all_turns c.args.replay.now.turns.items)
-    (g.O.Outside.calls c.args.outside.now) (g.O.Outside.calls c.begin.new.outside) (g.O.Outside.calls c.make_turns.new.outside) begun.calls
+    rw (p.1, p.2) (log_stops (shown c.args.line.now) task order refl c.args.replay.now.lines
     (g.O.Outside.holds c.args.outside.now) (g.O.Outside.holds c.begin.new.outside) (g.O.Outside.holds c.make_turns.new.outside)
     (record { read_by_b = begun.read_by_b; read_by_a = begun.read_by_a; log = c.begin.ensures.log })
-    c.args.replay.now.lines c.in_err-make_turns.field-0.0
-    (subst (λ (ts : List Turn). TurnsFault c.in_ok-run.run'.opening 0 (all_turns ts) c.in_ok-run.run'.world.state c.in_ok-run.run'.world.state c.args.replay.now.lines
-    (g.O.Outside.holds c.begin.new.outside) (g.O.Outside.holds c.make_turns.new.outside) c.in_err-make_turns.field-0.0) c.deref.ensures.value c.in_err-make_turns.ensures.fault)
-    (subst (λ (ts : List Turn). TurnsEnd c.in_ok-run.run'.opening 0 (all_turns ts) c.in_ok-run.run'.world.state c.in_ok-run.run'.world.state (g.O.Outside.calls c.begin.new.outside)
-    (g.O.Outside.calls c.make_turns.new.outside) c.in_err-make_turns.field-0.0) c.deref.ensures.value c.in_err-make_turns.ensures.calls_cut))
+    (g.O.Outside.calls c.args.outside.now) (g.O.Outside.calls c.begin.new.outside) (g.O.Outside.calls c.make_turns.new.outside) begun.calls c.in_err-make_turns.field-0.0
+    (as_opened c.args.replay.now.input report.Log c.in_ok-run.run' begun.run
+    (λ o w. LogStops order c.args.replay.now.lines o w (g.O.Outside.holds c.begin.new.outside) (g.O.Outside.holds c.make_turns.new.outside)
+    (g.O.Outside.calls c.begin.new.outside) (g.O.Outside.calls c.make_turns.new.outside) c.in_err-make_turns.field-0.0)
+    (subst (λ (ts : List Turn). LogStops (all_turns ts) c.args.replay.now.lines c.in_ok-run.run'.opening c.in_ok-run.run'.world.state
+    (g.O.Outside.holds c.begin.new.outside) (g.O.Outside.holds c.make_turns.new.outside) (g.O.Outside.calls c.begin.new.outside) (g.O.Outside.calls c.make_turns.new.outside)
+    c.in_err-make_turns.field-0.0) c.deref.ensures.value c.in_err-make_turns.ensures.stop)))
 
 pub returns-in_err-make_turns-clause-fault : goal.returns-in_err-make_turns-clause-fault
 returns-in_err-make_turns-clause-fault g c =
@@ -57,19 +60,21 @@ returns-clause-fault g c =
 
 pub returns-clause-ended : goal.returns-clause-ended
 returns-clause-ended g c =
-    let begun = c.in_ok-run.ensures in
-    let turns = c.args.replay.now.turns.items in
+    let begun = c.in_ok-run.ensures in let v = c.make_turns.new.run.world.state in
+    let order = all_turns c.args.replay.now.turns.items in let task : Task = task_from c.args.replay.now.input (course.told order) in
+    let made = as_opened c.args.replay.now.input report.Log c.in_ok-run.run' begun.run
+    (λ o w. CourseMade (course.told order) o w v (g.O.Outside.holds c.begin.new.outside) (g.O.Outside.holds c.make_turns.new.outside)
+    (g.O.Outside.calls c.begin.new.outside) (g.O.Outside.calls c.make_turns.new.outside))
+    (subst (λ (ts : List Turn). CourseMade (course.told (all_turns ts)) c.in_ok-run.run'.opening c.in_ok-run.run'.world.state v
+    (g.O.Outside.holds c.begin.new.outside) (g.O.Outside.holds c.make_turns.new.outside) (g.O.Outside.calls c.begin.new.outside) (g.O.Outside.calls c.make_turns.new.outside))
+    c.deref.ensures.value c.in_ok-make_turns.ensures.ok) in
     IfOk-and c.end.result
-    (λ status is grew told. replay_done c.args.replay.now.input c.in_ok-run.run' begun.run (shown c.args.line.now) (all_turns turns)
-    (g.O.Outside.calls c.args.outside.now) (g.O.Outside.calls c.begin.new.outside) (g.O.Outside.calls c.make_turns.new.outside) begun.calls
+    (λ status is grew told. line_done (shown c.args.line.now) task
     (g.O.Outside.holds c.args.outside.now) (g.O.Outside.holds c.begin.new.outside) (g.O.Outside.holds c.make_turns.new.outside)
     (record { read_by_b = begun.read_by_b; read_by_a = begun.read_by_a; log = c.begin.ensures.log })
-    c.make_turns.new.run.rounds c.make_turns.new.run.world.state status (g.O.Outside.calls c.end.new.outside) (g.O.Outside.holds c.end.new.outside)
-    (subst (λ (ts : List Turn). TurnsPut c.in_ok-run.run'.opening 0 (all_turns ts) c.in_ok-run.run'.world.state c.in_ok-run.run'.world.state c.make_turns.new.run.world.state
-    (g.O.Outside.holds c.begin.new.outside) (g.O.Outside.holds c.make_turns.new.outside)) c.deref.ensures.value c.in_ok-make_turns.ensures.ok)
-    (subst (λ (ts : List Turn). AddsAll (puts_by_round c.in_ok-run.run'.opening 0 c.in_ok-run.run'.world.state (round_ends (all_turns ts) c.in_ok-run.run'.world.state)) (g.O.Outside.calls c.begin.new.outside)
-    (g.O.Outside.calls c.make_turns.new.outside)) c.deref.ensures.value c.in_ok-make_turns.ensures.calls)
-    is
+    (g.O.Outside.calls c.args.outside.now) (g.O.Outside.calls c.begin.new.outside) (g.O.Outside.calls c.make_turns.new.outside) begun.calls
+    v made (last_line_of report.Log c.make_turns.new.run.rounds v) (logged_line task made.turns c.make_turns.new.run.rounds v refl made.world)
+    status (g.O.Outside.holds c.end.new.outside) (g.O.Outside.calls c.end.new.outside) is
     (record {
       read_by_b = c.end.ensures.other_ports ReadByB b_isnt_log;
       read_by_a = c.end.ensures.other_ports ReadByA a_isnt_log;
@@ -80,20 +85,23 @@ returns-clause-ended g c =
 
 pub returns-clause-err : goal.returns-clause-err
 returns-clause-err g c =
-    let begun = c.in_ok-run.ensures in
-    let turns = c.args.replay.now.turns.items in
+    let begun = c.in_ok-run.ensures in let v = c.make_turns.new.run.world.state in
+    let order = all_turns c.args.replay.now.turns.items in let task : Task = task_from c.args.replay.now.input (course.told order) in
+    let made = as_opened c.args.replay.now.input report.Log c.in_ok-run.run' begun.run
+    (λ o w. CourseMade (course.told order) o w v (g.O.Outside.holds c.begin.new.outside) (g.O.Outside.holds c.make_turns.new.outside)
+    (g.O.Outside.calls c.begin.new.outside) (g.O.Outside.calls c.make_turns.new.outside))
+    (subst (λ (ts : List Turn). CourseMade (course.told (all_turns ts)) c.in_ok-run.run'.opening c.in_ok-run.run'.world.state v
+    (g.O.Outside.holds c.begin.new.outside) (g.O.Outside.holds c.make_turns.new.outside) (g.O.Outside.calls c.begin.new.outside) (g.O.Outside.calls c.make_turns.new.outside))
+    c.deref.ensures.value c.in_ok-make_turns.ensures.ok) in
     IfErr-three c.end.result
-    (λ status fault cut part. replay_is_cut (shown c.args.line.now) (task_from c.args.replay.now.input (course.told (all_turns turns))) c.args.replay.now.lines
+    (λ status fault cut part. replay_is_cut (shown c.args.line.now) task c.args.replay.now.lines
     (g.O.Outside.calls c.args.outside.now) (g.O.Outside.calls c.end.new.outside) (g.O.Outside.holds c.args.outside.now) (g.O.Outside.holds c.end.new.outside) _ _ status fault
-    (replay_at_line c.args.replay.now.input c.in_ok-run.run' begun.run (shown c.args.line.now) (all_turns turns)
-    (g.O.Outside.calls c.args.outside.now) (g.O.Outside.calls c.begin.new.outside) (g.O.Outside.calls c.make_turns.new.outside) begun.calls
+    (line_short (shown c.args.line.now) task
     (g.O.Outside.holds c.args.outside.now) (g.O.Outside.holds c.begin.new.outside) (g.O.Outside.holds c.make_turns.new.outside)
     (record { read_by_b = begun.read_by_b; read_by_a = begun.read_by_a; log = c.begin.ensures.log })
-    c.make_turns.new.run.rounds c.make_turns.new.run.world.state status (g.O.Outside.calls c.end.new.outside) (g.O.Outside.holds c.end.new.outside)
-    (subst (λ (ts : List Turn). TurnsPut c.in_ok-run.run'.opening 0 (all_turns ts) c.in_ok-run.run'.world.state c.in_ok-run.run'.world.state c.make_turns.new.run.world.state
-    (g.O.Outside.holds c.begin.new.outside) (g.O.Outside.holds c.make_turns.new.outside)) c.deref.ensures.value c.in_ok-make_turns.ensures.ok)
-    (subst (λ (ts : List Turn). AddsAll (puts_by_round c.in_ok-run.run'.opening 0 c.in_ok-run.run'.world.state (round_ends (all_turns ts) c.in_ok-run.run'.world.state)) (g.O.Outside.calls c.begin.new.outside)
-    (g.O.Outside.calls c.make_turns.new.outside)) c.deref.ensures.value c.in_ok-make_turns.ensures.calls)
+    (g.O.Outside.calls c.args.outside.now) (g.O.Outside.calls c.begin.new.outside) (g.O.Outside.calls c.make_turns.new.outside) begun.calls
+    v made (last_line_of report.Log c.make_turns.new.run.rounds v) (logged_line task made.turns c.make_turns.new.run.rounds v refl made.world)
+    status (g.O.Outside.holds c.end.new.outside) (g.O.Outside.calls c.end.new.outside)
     (record { read_by_b = c.end.ensures.other_ports ReadByB b_isnt_log; read_by_a = c.end.ensures.other_ports ReadByA a_isnt_log; log = part })
     cut))
     c.end.ensures.fault c.end.ensures.calls_cut c.end.ensures.err

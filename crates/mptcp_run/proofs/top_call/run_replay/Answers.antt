@@ -7,6 +7,9 @@ use Rattle.mptcp_run.proofs.Answering.{replay_task, script_valid, replay_order, 
 use Rattle.mptcp_run.proofs.Starting.{cause_after}
 use Rattle.mptcp_run.proofs.top_call.run_replay.Goals as goal
 
+pub perform_replay-requires-clause-ranges : goal.perform_replay-requires-clause-ranges
+perform_replay-requires-clause-ranges g c = c.in-Ok.ensures.plain.ranges
+
 pub returns-in-Err : goal.returns-in-Err
 returns-in-Err g c =
     let cut = c.in-Err.ensures in

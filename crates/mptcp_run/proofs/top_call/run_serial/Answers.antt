@@ -9,6 +9,9 @@ use Rattle.mptcp_run.proofs.Loading.{serial_loads}
 use Rattle.mptcp_run.proofs.PortsLemmas.{fault_after}
 use Rattle.mptcp_run.proofs.top_call.run_serial.Goals as goal
 
+pub perform_serial-requires : goal.perform_serial-requires
+perform_serial-requires g c = c.in-Ok.ensures.plain.ranges
+
 pub returns-in-Err : goal.returns-in-Err
 returns-in-Err g c =
     let line = shown c.args.line.now in let cut = c.in-Err.ensures in
