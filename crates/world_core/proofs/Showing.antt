@@ -8,6 +8,7 @@ use Rattle.outside_kit.specs.declared.side.Side.TheVariants.{A, B}
 use Rattle.actor_desk.specs.declared.ask.Note.{Note}
 use Rattle.actor_desk.specs.declared.ask.Reply.{Reply}
 use Rattle.world_laws.specs.Actors.{ActorCrew}
+use Rattle.world_laws.specs.Fine.{lists_of}
 use Rattle.world_laws.specs.Outcomes.{note_tells, was_told, tells_end, tells_abort, notes_at, notes_of, are_all_dead, is_no_live_path, outcome_by, outcome_of}
 use Rattle.world_laws.specs.Worlds.{begins}
 use Rattle.world_core.specs.Hearing.{told_by, told_more, heard_more, heard_by, ShowsTheSame}
@@ -35,6 +36,11 @@ module _ {C : Type 0} where
   notes_other (x ∷ crew) (suc i) c d zero there same = refl
   notes_other (x ∷ crew) (suc i) c d (suc n) there same = notes_other crew i c d n there same
 
+  lists_other : (crew : List (ActorCrew C)) (i : ℕ) (c d : ActorCrew C) → slice_get crew i ≡ Some c → d.list ≡ c.list → lists_of (set crew i d) ≡ lists_of crew
+  lists_other [] i c d there same = refl
+  lists_other (x ∷ crew) zero c d there same = ap (λ list. list ∷ lists_of crew) (same ∙ ap (λ y. y.list) (sym (same_Some x c there)))
+  lists_other (x ∷ crew) (suc i) c d there same = ap (λ lists. x.list ∷ lists) (lists_other crew i c d there same)
+
   dead_other : (crew : List (ActorCrew C)) (i : ℕ) (c d : ActorCrew C) → slice_get crew i ≡ Some c → d.member ≡ c.member
       → are_all_dead (set crew i d) ≡ are_all_dead crew
   dead_other [] i c d there same = refl
@@ -46,6 +52,7 @@ module _ {C : Type 0} where
   pub shows_other : (crew : List (ActorCrew C)) (i : ℕ) (c d : ActorCrew C) → slice_get crew i ≡ Some c → d.member ≡ c.member → d.list ≡ c.list
       → ShowsTheSame crew (set crew i d)
   shows_other crew i c d there member list = record {
+    lists = lists_other crew i c d there list;
     a = notes_other crew i c d 0 there list;
     b = notes_other crew i c d 1 there list;
     dead = dead_other crew i c d there member;
@@ -53,7 +60,7 @@ module _ {C : Type 0} where
   }
 
   pub shows_itself : (crew : List (ActorCrew C)) → ShowsTheSame crew crew
-  shows_itself crew = record { a = refl; b = refl; dead = refl; many = refl }
+  shows_itself crew = record { lists = refl; a = refl; b = refl; dead = refl; many = refl }
 
   -- so the outcome is the same, and what was told
   pub outcome_same : (before after : List (ActorCrew C)) → ShowsTheSame before after → outcome_of after ≡ outcome_of before

@@ -4,6 +4,7 @@ use Rattle.outside_kit.specs.declared.side.Side.TheVariants.{A, B}
 use Rattle.actor_desk.specs.declared.ask.Note.{Note}
 use Rattle.actor_desk.specs.declared.ask.Reply.{Reply}
 use Rattle.world_laws.specs.Actors.{ActorCrew}
+use Rattle.world_laws.specs.Fine.{lists_of}
 use Rattle.world_laws.specs.Outcomes.{tells_end, tells_abort, was_told, notes_of, are_all_dead}
 use Rattle.world_core.specs.declared.hearing.Told.{Told}
 use Rattle.world_core.specs.declared.hearing.Hearing.{Hearing}
@@ -31,8 +32,9 @@ module _ {C : Type 0} where
   abbrev pub heard_by : List (ActorCrew C) → Hearing
   heard_by crew = record { a = told_by (notes_of A crew); b = told_by (notes_of B crew) }
 
-  -- the outcome is the same, and what the readers were told
+  -- the outcome is the same, what the readers were told, and every list of steps
   pub record ShowsTheSame (before after : List (ActorCrew C)) : Type 0 where
+    pub lists : lists_of after ≡ lists_of before
     pub a : notes_of A after ≡ notes_of A before
     pub b : notes_of B after ≡ notes_of B before
     pub dead : are_all_dead after ≡ are_all_dead before

@@ -32,8 +32,8 @@ pub struct Input {
     pub file_b: Text,
 }
 
-/// The key whose halves are the two words of stream 0 from this one on, as they are drawn from a seed.
-pub fn key_of(seed: u64, first: u64) -> u64
+// The key whose halves are two words of stream 0.
+fn key_of(seed: u64, first: u64) -> u64
     requires { first < 2 ^ 32 }
     ensures { result ≡ key_of seed first }
 {

@@ -15,9 +15,9 @@ mod stepping;
 mod whole_turns;
 mod world;
 
-pub use input::{Input, key_of};
+pub use input::Input;
 pub use member::{Crew, Member};
 pub use stepped::Stepped;
-pub use whole_turns::{goes_on, round, serial, turn};
+pub use whole_turns::{round, serial, turn};
 pub use world::World;
 pub use world_laws::Outcome;

@@ -6,6 +6,7 @@ ghost use Rattle.world_core.specs.AsValues.{StepsAsValues};
 ghost use Rattle.world_core.specs.Hearing.{ShowsTheSame, heard_by, heard_with};
 ghost use Rattle.world_core.specs.Kept.{IsSound, standing, world};
 ghost use Rattle.world_core.specs.Steps.{StampRises, next_note, stepped_by, is_made};
+ghost use Rattle.world_laws.specs.Fine.{lists_of};
 ghost use Rattle.world_laws.specs.Outcomes.{outcome_of};
 ghost use Rattle.world_laws.specs.Worlds.{RunTo, world_step, is_going};
 ghost use Rattle.world_core.specs.declared.stepped.Stepped.TheVariants.{Ended};
@@ -46,7 +47,8 @@ impl World {
     ///
     /// # Errors
     ///
-    /// Where there is no memory. The world has failed then: every later step answers so too, and the outcome stays.
+    /// Where there is no memory. The world has failed then: every later step answers so too, and the outcome stays, and the list
+    /// of each actor.
     pub fn step(&mut self, actor: u8) -> Result<Stepped, AllocError>
         ensures told { IfOk result (λ stepped. stepped ≡ stepped_by (next_note actor self.old.state)) }
         ensures going { IfOk result (λ stepped. is_made stepped ≡ is_going actor self.old.state) }
@@ -57,6 +59,7 @@ impl World {
         ensures was { OnOk result (self.old.failed ≡ false) }
         ensures err { OnErr result (self.new.failed ≡ true) }
         ensures outcome { OnErr result (outcome_of self.new.state.crew ≡ outcome_of self.old.state.crew) }
+        ensures lists { OnErr result (lists_of self.new.state.crew ≡ lists_of self.old.state.crew) }
     {
         if self.failed {
             return Err(AllocError);

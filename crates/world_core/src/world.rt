@@ -4,6 +4,7 @@ ghost use Rattle.std.specs.Prelude.{◌≡◌, ◌<◌, false, length};
 ghost use Rattle.std.specs.List.{list_all};
 ghost use Rattle.world_core.specs.Kept.{IsSound, standing, world};
 ghost use Rattle.world_laws.specs.Outcomes.{are_all_dead, is_no_live_path, notes_at, outcome_of};
+ghost use Rattle.world_laws.specs.Serial.{goes_on};
 
 use crate::hearing::{Hearing, notes_at};
 use crate::member::{Crew, is_no_live_path};
@@ -76,6 +77,13 @@ impl World {
         } else {
             Outcome::Going
         }
+    }
+
+    /// Whether the connection goes on. Takes no memory.
+    pub fn goes_on(&self) -> bool
+        ensures { result ≡ goes_on (outcome_of self.now.state.crew) }
+    {
+        matches!(self.outcome(), Outcome::Going)
     }
 
     /// The steps that an actor made, in order; none where there is no such actor.

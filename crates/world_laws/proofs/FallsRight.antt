@@ -31,6 +31,7 @@ use Rattle.path_agenda.specs.declared.duty.Duty.{Duty}
 use Rattle.path_agenda.specs.declared.duty.Duty.TheVariants as duties
 use Rattle.path_core.specs.Duties.{stands, ask_for}
 use Rattle.path_core.specs.Emission.{first_unsent, data_stands, data_ask}
+use Rattle.path_core.specs.Octets.{octets}
 use Rattle.path_core.specs.Shown.{shown_path}
 use Rattle.path_core.specs.State.{PathState, Profile, end_at}
 use Rattle.path_core.specs.Steps.{asks_first}
@@ -38,7 +39,7 @@ use Rattle.path_core.specs.Turns.{FirstStands}
 use Rattle.path_core.specs.Values.{Carried, values}
 use Rattle.world_laws.specs.declared.member.Member.TheVariants.{App, Path}
 use Rattle.world_laws.specs.Actors.{Actor, ActorCrew, member_asks}
-use Rattle.world_laws.specs.FallsRight.{asks_bytes, IsAtPlace, EndIsPlain, FallsAreRight, FallsLast, PathIsPlain, PositionsArePlaces}
+use Rattle.world_laws.specs.FallsRight.{asks_bytes, has_fallen, is_fallen, IsAtPlace, EndIsPlain, FallsAreRight, FallsLast, PathIsPlain, PositionsArePlaces}
 use Rattle.world_laws.specs.Fresh.{shown_crew, shown_member, shown_world}
 use Rattle.world_laws.specs.Laws.{Always}
 use Rattle.world_laws.specs.Openings.{Start, opened_world}
@@ -49,6 +50,7 @@ use Rattle.world_laws.proofs.Applying.{any_more}
 use Rattle.world_laws.proofs.Beginning.{each_run_shows}
 use Rattle.world_laws.proofs.Casts.{Walker, walking, world_of}
 use Rattle.world_laws.proofs.Falls.{IsUnjoined, unjoined_stays}
+use Rattle.world_laws.proofs.FellEver.{ever_fallen}
 use Rattle.world_laws.proofs.JoinedSo.{always_joined}
 use Rattle.world_laws.proofs.Journaling.{books_after}
 use Rattle.world_laws.proofs.KeysAgree.{Joined, FellBack, KeysAsk, MemberIs, WorldIs, fell_stays, joined_stays, lasting_call, member_asks_are, turn_keys, opened_keys}
@@ -58,6 +60,7 @@ use Rattle.world_laws.proofs.PromisesMade.{run_fresh}
 use Rattle.world_laws.proofs.RoundGrantAsks.{MayNotAsk, ask_isn't, asks_none}
 use Rattle.world_laws.proofs.Showing.{HasMapping, KeptShows, KindShows, EndShows, PathShows}
 use Rattle.world_laws.proofs.Steady.{always_steady}
+use Rattle.world_laws.proofs.WeavingRounds.{run_append}
 
 -- ---- what asks for bytes
 
@@ -230,15 +233,22 @@ opened_right start = record {
     right A is = absurd (false≢true is)
     right B is = absurd (false≢true is)
 
+at_fell : (six : SixBooks) (s : Side) → FellBack six s → is_identity (control_of s six).fall.mode ≡ true
+at_fell six A is = is
+at_fell six B is = is
+
 -- ---- falls are right
 
 pub falls_are_right : Always values (λ start w. FallsAreRight w)
 falls_are_right start turns = record {
-  joins = h.right;
-  answered = unanswered;
-  only = λ s fell. record { each = λ number c there. none number c there (unanswered s fell) (list_any asks_bytes c.list) refl };
+  joins = λ s fell. h.right s (now s fell);
+  answered = λ s fell. unanswered s (now s fell);
+  only = λ s fell. record { each = λ number c there. none number c there (unanswered s (now s fell)) (list_any asks_bytes c.list) refl };
 }
   where
+    now : (s : Side) → has_fallen s (world_run values turns (opened_world start)) ≡ true → is_identity (control_of s (books_in (world_run values turns (opened_world start)).books)).fall.mode ≡ true
+    now s fell = at_fell (books_in (world_run values turns (opened_world start)).books) s (ever_fallen start turns s fell)
+
     h : Rightly start (world_run values turns (opened_world start))
     h = run_right start turns (opened_world start) (always_steady start) (opened_right start)
 
@@ -257,14 +267,6 @@ falls_are_right start turns = record {
     none number c there unjoined true is = absurd (both_ways _ unjoined (h.asked_after number c there is))
 
 -- ---- and last
-
-fell_at : (six : SixBooks) (s : Side) → is_identity (control_of s six).fall.mode ≡ true → FellBack six s
-fell_at six A is = is
-fell_at six B is = is
-
-at_fell : (six : SixBooks) (s : Side) → FellBack six s → is_identity (control_of s six).fall.mode ≡ true
-at_fell six A is = is
-at_fell six B is = is
 
 turn_fell : (start : Start) (turn : Turn) (w : WorldState Carried) → WorldIs start.key_a start.key_b false w → (s : Side) → FellBack (books_in w.books) s → FellBack (books_in (after_turn values turn w).books) s
 turn_fell start (Turn.Step actor) w known s fell = by (slice_get w.crew actor) refl
@@ -293,7 +295,7 @@ pub falls_last : Always values (λ start w. FallsLast values w)
 falls_last start turns s more fell =
     let w = world_run values turns (opened_world start) in
     let h : Rightly start w = run_right start turns (opened_world start) (always_steady start) (opened_right start) in
-    at_fell (books_in (world_run values more w).books) s (run_fell start more w h.known s (fell_at (books_in w.books) s fell))
+    at_fell (books_in (world_run values more w).books) s (run_fell start more w h.known s (ever_fallen start turns s fell))
 
 -- ---- positions are places
 
@@ -337,7 +339,7 @@ shown_plain start d w held h right = record { each = λ s fell c at. path s fell
     holds : Holds (duo_of (books_in h.cast.books) h.lanes_ab h.lanes_ba h.reader_a h.reader_b)
     holds = subst Holds h.duo_is held
 
-    path : (s : Side) → is_identity (control_of s (books_in w.books)).fall.mode ≡ true → (c : ActorCrew Carried) → slice_get (world_of h.cast).crew 2 ≡ Some c → PathIsPlain c.member
+    path : (s : Side) → has_fallen s w ≡ true → (c : ActorCrew Carried) → slice_get (world_of h.cast).crew 2 ≡ Some c → PathIsPlain c.member
     path s fell c at =
         let found = in_map walking h.cast.paths 0 c at in
         let x : Walker Carried = found.0 in
@@ -386,6 +388,22 @@ places_shown w h = record {
 
 pub falls_in_octets : IsPromisedOfOctets FallsAreRight
 falls_in_octets start turns plain fit = subst FallsAreRight (sym (run_fresh start turns plain fit)) (falls_shown (world_run values turns (opened_world start)) (falls_are_right start turns))
+
+same_fallen : (s : Side) (w : WorldState Carried) → is_fallen s (shown_world w) ≡ is_fallen s w
+same_fallen A w = refl
+same_fallen B w = refl
+
+same_has_fallen : (s : Side) (w : WorldState Carried) → has_fallen s (shown_world w) ≡ has_fallen s w
+same_has_fallen A w = refl
+same_has_fallen B w = refl
+
+pub falls_last_in_octets : IsPromisedOfOctets (FallsLast octets)
+falls_last_in_octets start turns plain fit s more fell =
+    let w : WorldState Carried = world_run values turns (opened_world start) in
+    let shown = run_fresh start turns plain fit in
+    let later = run_fresh start (turns ++ more) plain fit in
+    ap (is_fallen s) (sym (run_append octets turns more (opened_world start)) ∙ later ∙ ap shown_world (run_append values turns more (opened_world start))) ∙ same_fallen s (world_run values more w)
+    ∙ falls_last start turns s more (sym (same_has_fallen s w) ∙ ap (has_fallen s) (sym shown) ∙ fell)
 
 pub places_in_octets : IsPromisedOfOctets PositionsArePlaces
 places_in_octets start turns plain fit = subst PositionsArePlaces (sym (run_fresh start turns plain fit)) (places_shown (world_run values turns (opened_world start)) (positions_are_places start turns plain))

@@ -1,13 +1,11 @@
 -- Every turn of the world is a turn of the two directions, and so is every list of turns from the opening on.
 use Rattle.std.proofs.Common.{◌≡◌, refl, sym, ◌∙◌, ap, subst, ℕ, zero, suc, ◌+◌, ◌-◌, ◌^◌, ◌<◌, ◌≤◌, nat_lt, Bool, true, false, if◌then◌else◌, Option, Some, None, List, [], ◌∷◌, ◌++◌, length, map, set, arith, ◌||◌, ◌==◌}
 use Rattle.std.proofs.lemmas.Bool.{lt-ltb, false≢true}
-use Rattle.std.proofs.lemmas.List.{length-append}
 use Rattle.std.proofs.lemmas.Option.{same_Some, slice_get_within}
 use Rattle.std.specs.List.{slice_get}
 use Rattle.std.specs.Option.{option_map}
 use Rattle.outside_kit.specs.declared.side.Side.{Side}
 use Rattle.outside_kit.specs.declared.side.Side.TheVariants.{A, B}
-use Rattle.send_book.specs.State.{Sending}
 use Rattle.subflow_tcp.specs.States.{may_finish}
 use Rattle.stream_lanes.specs.Holding.{Holds}
 use Rattle.stream_lanes.specs.Lane.{Lane}
@@ -36,7 +34,7 @@ use Rattle.world_laws.specs.Openings.{PathPlan, Start, path_begins}
 use Rattle.world_laws.specs.Promises.{IsPlain}
 use Rattle.world_laws.specs.StampedBooks.{answer_to}
 use Rattle.world_laws.specs.Worlds.{WorldState, Turn, note_of, asked, all_over, greatest, begins, end_round, after_turn}
-use Rattle.world_laws.proofs.Applying.{Reads, Writes, settled_app}
+use Rattle.world_laws.proofs.Applying.{Reads, settled_app}
 use Rattle.world_laws.proofs.Answering.{IsReady}
 use Rattle.world_laws.proofs.Casts.{Walker, Cast, Fare, Every-put, world_of, walking, seated, walked, after_a, after_b, after_path, fare_after_a, fare_after_b, fare_after_path, map_there, path_asked, path_stepped, path_step_is, walks_on, next_cast, next_is, next_fare}
 use Rattle.world_laws.proofs.Clearing.{unclear_before, takes_clear, next_clear}
@@ -64,13 +62,6 @@ settled_first (d ∷ ds) p = by (stands d p) refl (settled_first ds (passed d p)
     by : (b : Bool) → stands d p ≡ b → IsSettled (settled ds (passed d p)) → IsSettled (if b then with_agenda (d ∷ ds) p else settled ds (passed d p))
     by true is rest = stands_anyway d (d ∷ ds) p ∙ is
     by false is rest = rest
-
--- a book has no more marks than its file has bytes
-pub few_marks : (file rest : List ℕ) (b : Sending) → length file < 2 ^ 31 - 2 → Writes file rest b → length b.marks ≡ length b.written → length b.marks < 2 ^ 63
-few_marks file rest b short w whole =
-    let l : length file ≡ length (b.written ++ rest) = ap (λ (xs : List ℕ). length xs) w.front in
-    let more = length-append b.written rest in
-    omega (arith, short, l, more, whole)
 
 -- what a world is after a round's end, or without it
 abbrev end_round_of : WorldState Carried → Bool → WorldState Carried
@@ -330,8 +321,8 @@ module _ (start : Start) (can : IsPlain start) where
     -- ---- a path
 
     short : (s : Side) → length (send_of s six).marks < 2 ^ 63
-    short A = few_marks start.file_a t.a.rest six.send_a can.short_a fare.a.writes holds.ab.send.whole
-    short B = few_marks start.file_b t.b.rest six.send_b can.short_b fare.b.writes holds.ba.send.whole
+    short A = let most = steady.short A in let whole = holds.ab.send.whole in omega (arith, most, whole)
+    short B = let most = steady.short B in let whole = holds.ba.send.whole in omega (arith, most, whole)
 
     module _ (number : ℕ) (x : Walker Carried) (there : slice_get t.paths number ≡ Some x) where
       abbrev p : PathState Carried

@@ -1,6 +1,6 @@
 -- What the two directions of a connection show of its world, and what a step of the world is there: moves of the lanes, at most
 -- one call of a book, and moves again.
-use Rattle.std.proofs.Common.{◌≡◌, refl, sym, ◌∙◌, ap, ℕ, zero, suc, ◌<◌, Bool, true, false, Option, Some, None, List, [], ◌∷◌, ◌++◌, length, set}
+use Rattle.std.proofs.Common.{◌≡◌, refl, sym, ◌∙◌, ap, ℕ, zero, suc, ◌-◌, ◌^◌, ◌<◌, ◌≤◌, Bool, true, false, Option, Some, None, List, [], ◌∷◌, ◌++◌, length, set}
 use Rattle.std.specs.List.{slice_get, list_all}
 use Rattle.std.proofs.lemmas.Bool.{and_parts, and_from}
 use Rattle.outside_kit.specs.declared.side.Side.TheVariants.{A, B}
@@ -24,7 +24,7 @@ use Rattle.stream_lanes.specs.Words.{Every, From}
 use Rattle.actor_desk.specs.declared.ask.Ask.{Ask}
 use Rattle.actor_desk.specs.declared.ask.Ask.TheVariants as asks
 use Rattle.actor_desk.specs.Books.{books_in}
-use Rattle.actor_desk.specs.Desk.{SixBooks, control_of}
+use Rattle.actor_desk.specs.Desk.{SixBooks, control_of, send_of}
 use Rattle.path_agenda.specs.declared.duty.Duty.{Duty}
 use Rattle.path_agenda.specs.declared.duty.Duty.TheVariants as duties
 use Rattle.path_core.specs.State.{PathState, end_at}
@@ -273,6 +273,8 @@ MemberIsSteady six number (Path p) = PathIsSteady six number p
 
 pub record IsSteady (w : WorldState Carried) : Type 0 where
   pub each : (number : ℕ) (c : ActorCrew Carried) → slice_get w.crew (suc (suc number)) ≡ Some c → MemberIsSteady (books_in w.books) number c.member
+  -- and no book has too many bytes
+  pub short : (s : Side) → length (send_of s (books_in w.books)).written ≤ 2 ^ 62 - 3
 
 -- The connection goes from one state to another by moves of its lanes, the call that was asked, and moves.
 pub record TurnShows (ask : Option Ask) (d e : Duo) : Type 0 where

@@ -113,3 +113,6 @@ pub mod RoundCatch
 pub mod AskingBooks
 pub mod RoundAsksAll
 pub mod AskingForAll
+pub mod FellEver
+pub mod WrittenShort
+pub mod RoundsDone

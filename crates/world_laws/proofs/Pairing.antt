@@ -16,7 +16,7 @@ use Rattle.path_core.specs.Codec.{Codec}
 use Rattle.world_laws.specs.Actors.{Actor, ActorCrew, member_asks}
 use Rattle.world_laws.specs.Laws.{StaysFine}
 use Rattle.world_laws.specs.Openings.{PathPlan, Start, new_crew, new_path, paths_from, opened_world}
-use Rattle.world_laws.specs.Fine.{BooksAreStamped, IsChainedAbove, IsFineCrew, lists_of, IsFine}
+use Rattle.world_laws.specs.Fine.{BooksAreStamped, IsChainedAbove, IsFineCrew, lists_of, IsFine, IsFineSince}
 use Rattle.actor_desk.specs.Books.{StampedBooks, after_entry}
 use Rattle.world_laws.specs.StampedBooks.{journals_of}
 use Rattle.world_laws.specs.Worlds.{WorldState, Turn, note_of, crew_after, asked, stepped, world_step, all_over, greatest, begins, end_round, after_turn, world_run}
@@ -117,12 +117,24 @@ module _ {C : Type 0} where
     paired = λ after. paired_from after _ _ (step_pairs k actor ask c w there (fine_pairs w h) (is_local ask) refl);
   }
 
-  pub step_fine : (k : Codec C) (actor : ℕ) (w : WorldState C) → IsFine w → IsFine (world_step k actor w)
-  step_fine k actor w h = by (slice_get w.crew actor) refl
+  asked_since : (k : Codec C) (actor : ℕ) (o : Option Ask) (c : ActorCrew C) (w : WorldState C) → slice_get w.crew actor ≡ Some c → (top : ℕ) → IsFineSince top w
+      → IsFineSince top (asked k actor o c w)
+  unfolding asked_fine
+  asked_since k actor None c w there top h = h
+  asked_since k actor (Some ask) c w there top h = record { fine = asked_fine k actor (Some ask) c w there h.fine; top_is = h.top_is }
+
+  pub step_since : (k : Codec C) (actor top : ℕ) (w : WorldState C) → IsFineSince top w → IsFineSince top (world_step k actor w)
+  step_since k actor top w h = by (slice_get w.crew actor) refl
     where
-      by : (o : Option (ActorCrew C)) → slice_get w.crew actor ≡ o → IsFine (stepped k actor o w)
+      by : (o : Option (ActorCrew C)) → slice_get w.crew actor ≡ o → IsFineSince top (stepped k actor o w)
       by None there = h
-      by (Some c) there = asked_fine k actor (member_asks k c.member) c w there h
+      by (Some c) there = asked_since k actor (member_asks k c.member) c w there top h
+
+  since_its_top : (w : WorldState C) (h : IsFine w) → IsFineSince h.top w
+  since_its_top w h = record { fine = h; top_is = refl }
+
+  pub step_fine : (k : Codec C) (actor : ℕ) (w : WorldState C) → IsFine w → IsFine (world_step k actor w)
+  step_fine k actor w h = (step_since k actor h.top w (since_its_top w h)).fine
 
   -- ---- the end of a round
 
@@ -167,12 +179,19 @@ module _ {C : Type 0} where
     paired = λ after. subst (λ lists. ArePaired after lists (journals_of w.books)) (sym (same_lists (greatest 0 w.crew) w.crew)) (h.paired after);
   }
 
-  pub round_fine : (w : WorldState C) → IsFine w → IsFine (end_round w)
-  round_fine w h = by (all_over w.crew)
+  begun_since : (w : WorldState C) → IsFine w → IsFineSince (greatest 0 w.crew) (record w { crew = map (begins (greatest 0 w.crew)) w.crew })
+  unfolding begun_fine
+  begun_since w h = record { fine = begun_fine w h; top_is = refl }
+
+  pub round_since : (top : ℕ) (w : WorldState C) → IsFineSince top w → IsFineSince (if all_over w.crew then greatest 0 w.crew else top) (end_round w)
+  round_since top w h = by (all_over w.crew)
     where
-      by : (b : Bool) → IsFine (if b then record w { crew = map (begins (greatest 0 w.crew)) w.crew } else w)
-      by true = begun_fine w h
+      by : (b : Bool) → IsFineSince (if b then greatest 0 w.crew else top) (if b then record w { crew = map (begins (greatest 0 w.crew)) w.crew } else w)
+      by true = begun_since w h.fine
       by false = h
+
+  pub round_fine : (w : WorldState C) → IsFine w → IsFine (end_round w)
+  round_fine w h = (round_since h.top w (since_its_top w h)).fine
 
   -- ---- all turns
 
@@ -229,6 +248,10 @@ module _ {C : Type 0} where
       no_entry n (inr (inr (inr (inr (inl none))))) = absurd none
       no_entry n (inr (inr (inr (inr (inr (inl none)))))) = absurd none
       no_entry n (inr (inr (inr (inr (inr (inr none)))))) = absurd none
+
+  pub opened_since : (start : Start) → IsFineSince {C = C} 0 (opened_world start)
+  unfolding opened_fine
+  opened_since start = record { fine = opened_fine start; top_is = refl }
 
   pub stays_fine : (k : Codec C) → StaysFine k
   stays_fine k = record { always = λ start turns. run_fine k turns (opened_world start) (opened_fine start); turns = turn_fine k }

@@ -15,13 +15,18 @@ use Rattle.link_script.specs.declared.script.Script.{Script}
 use Rattle.link_script.specs.declared.script.ScriptLine.{ScriptLine}
 use Rattle.link_script.specs.declared.script.ScriptLine.TheVariants.{Alter}
 use Rattle.link_script.specs.Scripts.{IsPath}
+use Rattle.path_core.specs.Octets.{octets}
 use Rattle.path_core.specs.Shown.{AltersNothing}
 use Rattle.path_core.specs.Starts.{key_of}
 use Rattle.world_laws.specs.Openings.{PathPlan, plan_of, plans_from, start_of}
-use Rattle.world_laws.specs.PlainScripts.{alters_payload, PlainScriptsStartPlainly, PlainScriptsKeepAllPromises}
+use Rattle.world_laws.specs.Laws.{CanRunPath}
+use Rattle.world_laws.specs.PlainScripts.{alters_payload, PlainScriptsStartPlainly, PlainScriptsKeepAllPromises, PlainScriptsAreShownOfValues, ScriptsCanRun}
+use Rattle.world_laws.proofs.FallsRight.{falls_in_octets, falls_last_in_octets, places_in_octets}
+use Rattle.world_laws.proofs.GrantingOnce.{granted_once}
+use Rattle.world_laws.proofs.LowHalves.{short_numbers}
 use Rattle.world_laws.proofs.PlacesAgree.{mappings_agree_in_octets}
 use Rattle.world_laws.proofs.JoinsShown.{each_copy_is_welcome_in_octets}
-use Rattle.world_laws.proofs.PromisesMade.{keep_their_word_in_octets, nothing_follows_in_octets, one_step_each_in_octets, nothing_refused_in_octets, keys_in_octets, joins_in_octets}
+use Rattle.world_laws.proofs.PromisesMade.{keep_their_word_in_octets, nothing_follows_in_octets, one_step_each_in_octets, nothing_refused_in_octets, keys_in_octets, joins_in_octets, run_fresh}
 
 -- ---- lines
 
@@ -51,9 +56,9 @@ key_below seed first = let high = drawn_word_below seed 0 first in let low = dra
 
 -- the plan of a line
 plan_there : (script : Script) (first i : ℕ) (lines : List PathLine) (plan : PathPlan) → slice_get (plans_from script first lines) i ≡ Some plan
-    → (line : PathLine) × (slice_get lines i ≡ Some line) × (plan.mss ≡ line.mss)
+    → (line : PathLine) × (slice_get lines i ≡ Some line) × ((plan.mss ≡ line.mss) × (plan.delay ≡ line.delay))
 plan_there script first i [] plan there = cc
-plan_there script first zero (line ∷ lines) plan there = (line, refl, ap (λ p. p.mss) (sym (same_Some _ plan there)))
+plan_there script first zero (line ∷ lines) plan there = let is = sym (same_Some _ plan there) in (line, refl, (ap (λ p. p.mss) is, ap (λ p. p.delay) is))
 plan_there script first (suc i) (line ∷ lines) plan there = plan_there script (suc first) i lines plan there
 
 -- nonces are words
@@ -76,8 +81,10 @@ line_fits (suc i) (first ∷ lines) line all there = line_fits i lines line (All
 
 pub plain_scripts_start_plainly : PlainScriptsStartPlainly
 plain_scripts_start_plainly script file_a file_b h = (
-  record { unaltered = λ path. alters_nothing path script.lines h.unaltered; size = record { each = λ i plan there. (size i plan there).0 }; short_a = h.short_a; short_b = h.short_b },
+  record { unaltered = λ path. alters_nothing path script.lines h.unaltered; size = record { each = λ i plan there. (size i plan there).0 } },
   record {
+    short_a = h.short_a;
+    short_b = h.short_b;
     paths = let count = plan_count script 0 script.paths in let most = h.ranges.few_paths in omega (arith, count, most);
     size = record { each = λ i plan there. (size i plan there).1 };
     buffer = let most = h.ranges.buffer.most in omega (arith, most);
@@ -92,7 +99,7 @@ plain_scripts_start_plainly script file_a file_b h = (
     size i plan there =
         let found = plan_there script 0 i script.paths plan there in
         let mss = (line_fits i script.paths found.0 h.ranges.paths found.1).mss in
-        let least = mss.least in let most = mss.most in let same = found.2 in
+        let least = mss.least in let most = mss.most in let same = found.2.0 in
         (omega (arith, least, same), omega (arith, most, same))
 
 -- ---- promises
@@ -110,4 +117,26 @@ plain_scripts_keep_all_promises script file_a file_b turns h =
       joins = joins_in_octets start turns starts.0 starts.1;
       copies = each_copy_is_welcome_in_octets start turns starts.0 starts.1;
       mappings = mappings_agree_in_octets start turns starts.0 starts.1;
+      falls = falls_in_octets start turns starts.0 starts.1;
+      lasting = falls_last_in_octets start turns starts.0 starts.1;
+      places = places_in_octets start turns starts.0 starts.1;
+      granted = granted_once octets start turns;
     }
+
+pub plain_scripts_are_shown_of_values : PlainScriptsAreShownOfValues
+plain_scripts_are_shown_of_values script file_a file_b turns h =
+    let start = start_of script file_a file_b in
+    let starts = plain_scripts_start_plainly script file_a file_b h in
+    record { shown = run_fresh start turns starts.0 starts.1; short = short_numbers start turns }
+
+-- ---- running
+
+pub scripts_can_run : ScriptsCanRun
+scripts_can_run script file_a file_b ranges = record { paths = record { each = at } }
+  where
+    at : (i : ℕ) (plan : PathPlan) → slice_get (plans_from script 0 script.paths) i ≡ Some plan → CanRunPath plan
+    at i plan there =
+        let found = plan_there script 0 i script.paths plan there in
+        let line = line_fits i script.paths found.0 ranges.paths found.1 in
+        let size = line.mss.least in let mss = found.2.0 in let wait = line.delay.least in let delay = found.2.1 in
+        record { delay = omega (arith, wait, delay); payload = omega (arith, size, mss) }

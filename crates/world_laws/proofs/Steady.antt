@@ -32,6 +32,7 @@ use Rattle.world_laws.proofs.KeysAgree.{Joined, KeysAsk, WorldIs, lasting_call, 
 use Rattle.world_laws.proofs.Lanes.{IsClearAt, SureIsClear, MayDo, MemberIsSteady, IsSteady}
 use Rattle.world_laws.proofs.Sheltered.{MemberShielded, shielded_calm, always_shielded}
 use Rattle.world_laws.proofs.Surely.{sure_is_clear}
+use Rattle.world_laws.proofs.WrittenShort.{always_bounded}
 
 -- ---- A joins only where it may send a DSS on path 0
 
@@ -183,4 +184,5 @@ always_steady start turns =
     record {
       each = λ number c there. member_steady (books_in w.books) number c.member (joined.each number c there) (shielded.each (suc (suc number)) c there)
           (λ zero is. s.clear (joined.order is) c (subst (λ n. slice_get w.crew (suc (suc n)) ≡ Some c) zero there));
+      short = always_bounded values start turns;
     }

@@ -51,7 +51,7 @@ use Rattle.world_laws.specs.Worlds.{WorldState, Turn, asked, all_over, greatest,
 use Rattle.world_laws.proofs.Steady.{always_steady}
 use Rattle.world_laws.proofs.Applying.{Reads, Writes}
 use Rattle.world_laws.proofs.Beginning.{first_lane, waiting, six, waiting_shows, alone, alone_holds, turn_reached, opened_reached}
-use Rattle.world_laws.proofs.Joining.{few_marks, beside, beside_is, begun_path, readied, readied_holds}
+use Rattle.world_laws.proofs.Joining.{beside, beside_is, begun_path, readied, readied_holds}
 use Rattle.world_laws.proofs.Journaling.{books_after}
 use Rattle.world_laws.proofs.Lanes.{duo_of, Others, duo_at, PathThere, WorldShows, PathIsSteady, IsSteady, first_duo, Reached}
 use Rattle.world_laws.proofs.Opened.{opened_actors}
@@ -179,8 +179,8 @@ module _ (start : Start) (plain : IsPlain start) (fit : NumbersFit start) where
   books_short t fare rooms keys = record { written = written; room = room; keys = kept_at (books_in t.books) keys }
     where
       written : (s : Side) → length (send_of s (books_in t.books)).written + 3 ≤ 2 ^ 31
-      written A = file_short start.file_a t.a.rest (books_in t.books).send_a plain.short_a fare.a.writes
-      written B = file_short start.file_b t.b.rest (books_in t.books).send_b plain.short_b fare.b.writes
+      written A = file_short start.file_a t.a.rest (books_in t.books).send_a fit.short_a fare.a.writes
+      written B = file_short start.file_b t.b.rest (books_in t.books).send_b fit.short_b fare.b.writes
 
       room : (s : Side) → (reassembly_of s (books_in t.books)).capacity ≤ 2 ^ 20
       room A = let same = rooms.a in let most = fit.buffer in omega (arith, same, most)
@@ -193,8 +193,8 @@ module _ (start : Start) (plain : IsPlain start) (fit : NumbersFit start) where
     books = books_in t.books
 
     short : (s : Side) → length (send_of s books).marks < 2 ^ 63
-    short A = few_marks start.file_a t.a.rest books.send_a plain.short_a fare.a.writes holds.ab.send.whole
-    short B = few_marks start.file_b t.b.rest books.send_b plain.short_b fare.b.writes holds.ba.send.whole
+    short A = let most = steady.short A in let whole = holds.ab.send.whole in omega (arith, most, whole)
+    short B = let most = steady.short B in let whole = holds.ba.send.whole in omega (arith, most, whole)
 
     later_rooms : (ask : Ask) → RoomsAre start.buffer (after_ask ask books)
     later_rooms ask = ask_rooms start.buffer ask books tells.rooms

@@ -1,17 +1,23 @@
 -- A side that fell back to plain TCP did so rightly: neither side began or answers a join, so that path 0 carries all of both streams,
 -- each byte at the position of its place (RFC 8684, section 3.7).
-use Rattle.std.specs.Prelude.{ℕ, suc, ◌≡◌, ◌||◌, Bool, true, false, Some, List, slice_get}
+use Rattle.std.specs.Prelude.{ℕ, suc, ◌≡◌, ◌||◌, Bool, true, false, Some, List, [], ◌∷◌, slice_get}
 use Rattle.std.specs.List.{list_any}
 use Rattle.outside_kit.specs.declared.side.Side.{Side}
 use Rattle.outside_kit.specs.declared.side.Side.TheVariants.{A, B}
+use Rattle.stamped_book.specs.declared.stamped.Entry.{Entry}
 use Rattle.fallback_state.specs.Modes.{is_identity}
 use Rattle.subflow_send.specs.declared.record.RecordKind.{RecordKind}
 use Rattle.subflow_send.specs.declared.record.RecordKind.TheVariants.{Syn, Data, Fin}
 use Rattle.subflow_send.specs.Records.{Record}
+use Rattle.control_book.specs.declared.call.ControlCall.{ControlCall}
+use Rattle.control_book.specs.declared.call.ControlReply.{ControlReply}
+use Rattle.control_book.specs.Control.{Control}
+use Rattle.control_book.specs.Steps as control
 use Rattle.stream_lanes.specs.Words.{Every}
 use Rattle.actor_desk.specs.declared.ask.Note.{Note}
-use Rattle.actor_desk.specs.Books.{books_in}
+use Rattle.actor_desk.specs.Books.{ControlJournal, books_in}
 use Rattle.actor_desk.specs.Desk.{control_of}
+use Rattle.actor_desk.specs.Words.{pick}
 use Rattle.path_core.specs.Codec.{Codec}
 use Rattle.path_core.specs.Ends.{PathEnd}
 use Rattle.path_core.specs.Segments.{place_numbered}
@@ -36,10 +42,22 @@ pub record EndIsPlain (c : Profile) (s : Side) (e : PathEnd) : Type 0 where
   pub records : Every (λ r. IsAtPlace r.kind c s r) e.tcp.send.records
   pub learned : Every (λ kept. suc kept.place ≡ kept.pos) e.receiving.mappings.live
 
+-- whether this control book, or one that the entries make of it one by one, is in plain TCP
+abbrev pub fell_by : Control → List (Entry ControlCall ControlReply) → Bool
+fell_by book [] = is_identity book.fall.mode
+fell_by book (entry ∷ entries) = is_identity book.fall.mode || fell_by (control.after book entry.call) entries
+
+abbrev pub fell_in : ControlJournal → Bool
+fell_in stamped = fell_by stamped.opening stamped.journal
+
 module _ {C : Type 0} where
   -- the side is in plain TCP
+  abbrev pub is_fallen : Side → WorldState C → Bool
+  is_fallen s w = is_identity (control_of s (books_in w.books)).fall.mode
+
+  -- or was, by its control book's journal
   abbrev pub has_fallen : Side → WorldState C → Bool
-  has_fallen s w = is_identity (control_of s (books_in w.books)).fall.mode
+  has_fallen s w = fell_in (pick s w.books.control_a w.books.control_b)
 
   -- it began a join, or answered one
   abbrev pub has_joined : Side → WorldState C → Bool
@@ -56,9 +74,9 @@ module _ {C : Type 0} where
     pub answered : (s : Side) → has_fallen s w ≡ true → has_joined B w ≡ false
     pub only : (s : Side) → has_fallen s w ≡ true → OnlyFirstAsked w
 
-  -- and it stays so
+  -- and it stays in plain TCP
   abbrev pub FallsLast : Codec C → WorldState C → Type 0
-  FallsLast k w = (s : Side) (more : List Turn) → has_fallen s w ≡ true → has_fallen s (world_run k more w) ≡ true
+  FallsLast k w = (s : Side) (more : List Turn) → has_fallen s w ≡ true → is_fallen s (world_run k more w) ≡ true
 
   -- on path 0 positions are places
   abbrev pub PathIsPlain : Actor C → Type 0

@@ -58,8 +58,13 @@ module _ {C : Type 0} where
   lists_of crew = map (λ c. c.list) crew
 
   pub record IsFine (w : WorldState C) : Type 0 where
-    -- the greatest stamp at the last round's end
+    -- `IsFineSince` says which: the greatest stamp at the last round's end
     pub top : ℕ
     pub crew : From (IsFineCrew top) 0 w.crew
     pub journals : BooksAreStamped w.books
     pub paired : (after : ℕ) → ArePaired after (lists_of w.crew) (journals_of w.books)
+
+  -- chained above this stamp
+  pub record IsFineSince (top : ℕ) (w : WorldState C) : Type 0 where
+    pub fine : IsFine w
+    pub top_is : fine.top ≡ top

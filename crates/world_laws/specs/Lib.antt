@@ -19,3 +19,4 @@ pub mod PlainScripts
 pub mod Granted
 pub mod Agreement
 pub mod Laws
+pub mod RoundDone

@@ -6,9 +6,15 @@ use Rattle.link_script.specs.declared.script.ScriptLine.{ScriptLine}
 use Rattle.link_script.specs.declared.script.ScriptLine.TheVariants.{Alter}
 use Rattle.link_script.specs.Scripts.{HasRanges}
 use Rattle.path_core.specs.Octets.{octets}
+use Rattle.path_core.specs.Values.{values}
 use Rattle.world_laws.specs.Agreement.{MappingsAgree}
-use Rattle.world_laws.specs.Openings.{opened_world, start_of}
+use Rattle.world_laws.specs.FallsRight.{FallsAreRight, FallsLast, PositionsArePlaces}
+use Rattle.world_laws.specs.Fresh.{shown_world}
+use Rattle.world_laws.specs.Granted.{GrantedOnce}
+use Rattle.world_laws.specs.Laws.{CanRun}
+use Rattle.world_laws.specs.Openings.{Start, opened_world, start_of}
 use Rattle.world_laws.specs.Promises.{IsPlain, NumbersFit, BothKeepTheirWord, NothingFollows, EachTurnIsOneStep, NothingWasRefused, KeysNeverDiffer, JoinsAreRight}
+use Rattle.world_laws.specs.ShortNumbers.{ShortNumbersGoShort}
 use Rattle.world_laws.specs.Welcome.{EachCopyIsWelcome}
 use Rattle.world_laws.specs.Worlds.{WorldState, Turn, world_run}
 
@@ -39,9 +45,28 @@ pub record KeepsAllPromises (w : WorldState (List ℕ)) : Type 0 where
   pub joins : JoinsAreRight w
   pub copies : EachCopyIsWelcome octets w
   pub mappings : MappingsAgree w
+  pub falls : FallsAreRight w
+  pub lasting : FallsLast octets w
+  pub places : PositionsArePlaces w
+  pub granted : GrantedOnce w
 
 -- so it keeps all promises, whatever the order of the steps
 abbrev pub PlainScriptsKeepAllPromises : Type 0
 PlainScriptsKeepAllPromises =
     (script : Script) (file_a file_b : List ℕ) (turns : List Turn) → IsPlainScript script file_a file_b
     → KeepsAllPromises (world_run octets turns (opened_world (start_of script file_a file_b)))
+
+-- After these turns the connection over octets is the one over segments as values, shown in octets: what it sends is spelled from
+-- the segments of that one, and what it receives is read as them. There short numbers go short.
+pub record IsShownOfValues (start : Start) (turns : List Turn) : Type 0 where
+  pub shown : world_run octets turns (opened_world start) ≡ shown_world (world_run values turns (opened_world start))
+  pub short : ShortNumbersGoShort start (world_run values turns (opened_world start))
+
+abbrev pub PlainScriptsAreShownOfValues : Type 0
+PlainScriptsAreShownOfValues =
+    (script : Script) (file_a file_b : List ℕ) (turns : List Turn) → IsPlainScript script file_a file_b
+    → IsShownOfValues (start_of script file_a file_b) turns
+
+-- a connection by any script can run: so there are serial turns at every moment
+abbrev pub ScriptsCanRun : Type 0
+ScriptsCanRun = (script : Script) (file_a file_b : List ℕ) → HasRanges script → CanRun (start_of script file_a file_b)

@@ -25,17 +25,17 @@ use Rattle.world_laws.specs.Openings.{Start, opened_world}
 use Rattle.world_laws.specs.Outcomes.{tells_end, was_told, notes_at, notes_of, output_of, pipe_of}
 use Rattle.world_laws.specs.Worlds.{WorldState, Turn, after_turn, world_run}
 
--- Where it is promised: the script alters no payload, a full segment of each path has room for octets beside its options, and both
--- files are shorter than 2^31 - 2 octets.
+-- Where it is promised: the script alters no payload, and a full segment of each path has room for octets beside its options.
 pub record IsPlain (start : Start) : Type 0 where
   pub unaltered : (path : ℕ) → AltersNothing (lines_of path start.lines)
   pub size : Every (λ plan. 29 ≤ plan.mss) start.paths
+
+-- Where every segment can be said, and heard as it was meant: both files are shorter than 2^31 - 2 octets, there are sixteen paths
+-- at most, a full segment with its header has 65,535 octets at most, a side buffers 2^20 octets at most, keys have 64 bits, and
+-- nonces 32 bits. But for the files it is so by each script.
+pub record NumbersFit (start : Start) : Type 0 where
   pub short_a : length start.file_a < 2 ^ 31 - 2
   pub short_b : length start.file_b < 2 ^ 31 - 2
-
--- Where every segment can be said, and heard as it was meant: there are sixteen paths at most, a full segment with its header has
--- 65,535 octets at most, a side buffers 2^20 octets at most, keys have 64 bits, and nonces 32 bits. It is so by each script.
-pub record NumbersFit (start : Start) : Type 0 where
   pub paths : length start.paths ≤ 16
   pub size : Every (λ plan. plan.mss ≤ 65503) start.paths
   pub buffer : start.buffer ≤ 2 ^ 20

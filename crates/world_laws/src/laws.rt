@@ -4,8 +4,9 @@ ghost use Rattle.world_laws.specs.FallsRight.{FallsAreRight, FallsLast, Position
 ghost use Rattle.world_laws.specs.Granted.{GrantedOnce};
 ghost use Rattle.world_laws.specs.JoinsWait.{JoinsWait};
 ghost use Rattle.world_laws.specs.Laws.{AfterFreshTurns, Always, NothingDueIsLeft, SerialExists, SerialIsOne, StaysFine, OctetsDoAsValues, WritesTheFiles};
-ghost use Rattle.world_laws.specs.PlainScripts.{PlainScriptsKeepAllPromises, PlainScriptsStartPlainly};
+ghost use Rattle.world_laws.specs.PlainScripts.{PlainScriptsAreShownOfValues, PlainScriptsKeepAllPromises, PlainScriptsStartPlainly, ScriptsCanRun};
 ghost use Rattle.world_laws.specs.Promises.{BothKeepTheirWord, EachTurnIsOneStep, EveryListIsFresh, IsPromised, IsPromisedOfOctets, JoinsAreRight, KeysNeverDiffer, NothingFollows, NothingWasRefused, OctetsAreValuesShown};
+ghost use Rattle.world_laws.specs.RoundDone.{RoundsAreDone, RoundsEndOnTime, StampsSinceTheRound};
 ghost use Rattle.world_laws.specs.RoundEnd.{GrantsAreDone, ReadersAreDone};
 ghost use Rattle.world_laws.specs.RoundNumbers.{InEachRound, PathsAskForAll, ReadersCaughtUp};
 ghost use Rattle.world_laws.specs.ShortNumbers.{ShortNumbersGoShort};
@@ -28,11 +29,34 @@ pub fn serial_exists()
     ensures values { SerialExists values }
 {}
 
+/// A law: a connection by any script can run, as `serial_exists` asks of it.
+pub fn scripts_can_run()
+    ensures { ScriptsCanRun }
+{}
+
 /// A law: in each world that comes about by steps and ends of rounds, lawful or not, lists and journals are paired at every
 /// stamp, stamps rise in each, and they are chained above the greatest stamp at the last round's end.
 pub fn what_is_fine_stays_fine()
     ensures octets { StaysFine octets }
     ensures values { StaysFine values }
+    ensures octets_since { StampsSinceTheRound octets }
+    ensures values_since { StampsSinceTheRound values }
+{}
+
+/// A law: at every moment, in whatever order the actors go, the round that goes on, r rounds having ended, ends on each path at
+/// tick 100 (r + 1).
+pub fn rounds_end_on_time()
+    ensures octets { RoundsEndOnTime octets }
+    ensures values { RoundsEndOnTime values }
+{}
+
+/// A law: where all turns of a round are over, in whatever order the actors went, its end is as it has to be. It is at its tick;
+/// nothing that was due before it is left; each end of a path that may still ask for bytes was refused its last grant, and asked
+/// for all; and each reader was told the end, or read as much as a side buffers, or found nothing more. Each part is a law of its
+/// own, too.
+pub fn rounds_are_done()
+    ensures octets { RoundsAreDone octets }
+    ensures values { RoundsAreDone values }
 {}
 
 /// A law: at every moment, where the turn of an application is over, it was told that the stream ended or was aborted, or it read
@@ -94,10 +118,10 @@ pub fn octets_do_as_values()
     ensures { OctetsDoAsValues }
 {}
 
-/// A law: every list of turns is fresh, lawful or not, where the script alters no payload, both files are shorter than
-/// 2^31 - 2 octets, and the numbers of the start fit: there are sixteen paths at most, with a maximum segment size of 29 to 65,503
-/// octets each, a side buffers 2^20 octets at most, keys have 64 bits, and the nonces of the paths 32. So such a world over octets is
-/// always the world over segments as values, shown in octets.
+/// A law: every list of turns is fresh, lawful or not, where the script alters no payload, and the numbers of the start fit: both
+/// files are shorter than 2^31 - 2 octets, there are sixteen paths at most, with a maximum segment size of 29 to 65,503 octets each,
+/// a side buffers 2^20 octets at most, keys have 64 bits, and the nonces of the paths 32. So such a world over octets is always the
+/// world over segments as values, shown in octets.
 pub fn turns_are_fresh()
     ensures fresh { EveryListIsFresh }
     ensures same { OctetsAreValuesShown }
@@ -142,9 +166,9 @@ pub fn joins_are_right()
 /// received, and what was received was written; where DATA_FIN is acknowledged the stream is closed and all of it was received;
 /// and the end is told only where the stream is closed and the reader has all of it.
 ///
-/// The script alters no payload, the maximum segment size of each path is 29 octets or more, and both files are shorter than
-/// 2^31 - 2 octets; any segment may lose its options on the way. The steps are in any order. Over octets the numbers of the start
-/// have to fit, as those of each script do.
+/// The script alters no payload, and the maximum segment size of each path is 29 octets or more; any segment may lose its options on
+/// the way. The steps are in any order. Over octets the numbers of the start have to fit, so that every list of turns is fresh: both
+/// files are shorter than 2^31 - 2 octets, and the rest is so by each script.
 pub fn both_sides_keep_their_word()
     ensures values { IsPromised BothKeepTheirWord }
     ensures octets { IsPromisedOfOctets BothKeepTheirWord }
@@ -171,10 +195,13 @@ pub fn nothing_is_refused()
 /// A law: a connection by a script that alters no payload, with files shorter than 2^31 - 2 octets, starts plainly, with
 /// numbers that fit; so over octets it keeps every promise, in whatever order its actors go: both sides keep their word, nothing
 /// follows the end, each turn is on each pipe one step or none, nothing is refused, keys never differ, joins are right, no copy is
-/// refused for what it says of a join, and mappings agree.
+/// refused for what it says of a join, mappings agree, falls are right and last, positions are places after one, and each byte is
+/// granted to a path once at most. And it is the connection over segments as values, shown in octets, whose short data numbers go
+/// short.
 pub fn plain_scripts_keep_all_promises()
     ensures starts { PlainScriptsStartPlainly }
     ensures promises { PlainScriptsKeepAllPromises }
+    ensures shown { PlainScriptsAreShownOfValues }
 {}
 
 /// A law: at every moment each byte of a stream was granted to a path once at most, by whichever steps of all actors.
@@ -190,9 +217,9 @@ pub fn mappings_agree()
     ensures octets { IsPromisedOfOctets MappingsAgree }
 {}
 
-/// A law: a side that fell back to plain TCP has begun and answered no join. Where either side fell B answered none, and no path but
-/// path 0 ever asked for bytes; and it stays so (RFC 8684, section 3.7). Over segments as values this holds whatever the script strips
-/// or alters.
+/// A law: a side that is in plain TCP, or was by its control book's journal, has begun and answered no join. Where either side fell
+/// B answered none, and no path but path 0 ever asked for bytes; and the side stays in plain TCP (RFC 8684, section 3.7). Over segments
+/// as values this holds whatever the script strips or alters.
 ///
 /// And on path 0 positions are places then: each record of data, and each mapping that an end learned, has the place before its
 /// position. Premises as for `both_sides_keep_their_word`.
@@ -200,6 +227,7 @@ pub fn falls_are_right()
     ensures values { Always values (λ start w. FallsAreRight w) }
     ensures last { Always values (λ start w. FallsLast values w) }
     ensures octets { IsPromisedOfOctets FallsAreRight }
+    ensures last_of_octets { IsPromisedOfOctets (FallsLast octets) }
     ensures places { IsPromised PositionsArePlaces }
     ensures heard { IsPromisedOfOctets PositionsArePlaces }
 {}

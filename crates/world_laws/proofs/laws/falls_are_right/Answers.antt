@@ -10,6 +10,9 @@ returns-clause-last c = falls.falls_last
 pub returns-clause-octets : goal.returns-clause-octets
 returns-clause-octets c = falls.falls_in_octets
 
+pub returns-clause-last_of_octets : goal.returns-clause-last_of_octets
+returns-clause-last_of_octets c = falls.falls_last_in_octets
+
 pub returns-clause-places : goal.returns-clause-places
 returns-clause-places c = falls.positions_are_places
 

@@ -6,3 +6,6 @@ returns-clause-starts c = scripts.plain_scripts_start_plainly
 
 pub returns-clause-promises : goal.returns-clause-promises
 returns-clause-promises c = scripts.plain_scripts_keep_all_promises
+
+pub returns-clause-shown : goal.returns-clause-shown
+returns-clause-shown c = scripts.plain_scripts_are_shown_of_values

@@ -1,7 +1,7 @@
 use Rattle.std.proofs.Common.{◌≡◌, ◌≤◌, ◌-◌, false}
 use Rattle.path_core.specs.Octets.{octets}
 use Rattle.world_core.specs.Rounds.{RoundsTo}
-use Rattle.world_core.proofs.whole_turns.rounds.Given as goal
+use Rattle.world_core.proofs.whole_turns.serial.Given as goal
 
 -- what the rounds that are left come to, all rounds do
 abbrev pub invariant-loop-round : goal.invariant-loop-round

@@ -1,0 +1,10 @@
+use Rattle.path_core.specs.Octets.{octets}
+use Rattle.path_core.specs.Values.{values}
+use Rattle.world_laws.proofs.RoundsDone as done
+use Rattle.world_laws.proofs.laws.rounds_are_done.Goals as goal
+
+pub returns-clause-octets : goal.returns-clause-octets
+returns-clause-octets c = done.rounds_are_done octets
+
+pub returns-clause-values : goal.returns-clause-values
+returns-clause-values c = done.rounds_are_done values
