@@ -10,7 +10,8 @@ use Rattle.world_laws.specs.Openings.{start_of}
 use Rattle.world_laws.specs.Outcomes.{outcome_by, outcome_of, output_of, tells_end, was_told, notes_of}
 use Rattle.world_laws.specs.Serial.{steps_and, round_and, spelled}
 use Rattle.world_laws.specs.Worlds.{Turn, world_step, end_round, world_run}
-use Rattle.world_laws.proofs.PromisesOfScripts.{plain_scripts_keep_all_promises}
+use Rattle.world_laws.proofs.PromisesOfScripts.{plain_scripts_keep_all_promises, plain_scripts_are_shown_of_values}
+use Rattle.world_laws.proofs.RoundsDone.{rounds_end_on_time, rounds_are_done}
 use Rattle.world_laws.proofs.CastLifting.{writes_the_files}
 use Rattle.mptcp_run.specs.declared.status.Status.TheVariants.{Delivered}
 use Rattle.mptcp_run.specs.Ports.{HoldsWithin}
@@ -99,6 +100,9 @@ pub plain_tasks_are_kept : PlainTasksAreKept
 plain_tasks_are_kept task turns plain = record {
   promises = plain_scripts_keep_all_promises task.script task.file_a task.file_b turns plain;
   files = writes_the_files octets (start_of task.script task.file_a task.file_b) turns;
+  values = plain_scripts_are_shown_of_values task.script task.file_a task.file_b turns plain;
+  on_time = rounds_end_on_time octets (start_of task.script task.file_a task.file_b) turns;
+  done = rounds_are_done octets (start_of task.script task.file_a task.file_b) turns;
 }
 
 module _ (task : Task) (plain : IsPlainTask task) where

@@ -1,5 +1,5 @@
 -- What users of a run rely on, where its script alters no payload: what the readers have is what the other side writes.
-use Rattle.std.specs.Prelude.{◌≡◌, ℕ, ◌⊎◌, List, [], ◌∷◌, ◌++◌, Option, Some, IfSome, IsSomeAnd}
+use Rattle.std.specs.Prelude.{◌≡◌, ℕ, true, ◌⊎◌, List, [], ◌∷◌, ◌++◌, Option, Some, IfSome, IsSomeAnd}
 use Rattle.run_words.specs.Lines.{Line}
 use Rattle.outside_kit.specs.declared.port.Port.{Port}
 use Rattle.outside_kit.specs.declared.port.Port.TheVariants.{ReadByA, ReadByB}
@@ -7,8 +7,10 @@ use Rattle.outside_kit.specs.Outside.{HoldsAfter}
 use Rattle.pipe_model.specs.Prefix.{IsPrefix}
 use Rattle.world_laws.specs.Laws.{WritesTheFiles}
 use Rattle.world_laws.specs.Openings.{start_of}
-use Rattle.world_laws.specs.PlainScripts.{IsPlainScript, KeepsAllPromises}
-use Rattle.world_laws.specs.Worlds.{Turn}
+use Rattle.world_laws.specs.PlainScripts.{IsPlainScript, KeepsAllPromises, IsShownOfValues}
+use Rattle.world_laws.specs.RoundDone.{EndsOnTime, RoundIsDone, round_of}
+use Rattle.world_laws.specs.Worlds.{Turn, all_over}
+use Rattle.path_core.specs.Octets.{octets}
 use Rattle.mptcp_run.specs.declared.status.Status.{Status}
 use Rattle.mptcp_run.specs.declared.status.Status.TheVariants.{Delivered}
 use Rattle.mptcp_run.specs.Ends.{HoldsSomeRounds, HoldsToLine}
@@ -58,12 +60,19 @@ module _ (file_a file_b : Option (List ℕ)) (old new : Port → Option (List �
     pub read_by_b : IfSome file_a (λ file. HoldsPrefixIfBound (old ReadByB) (new ReadByB) file)
     pub read_by_a : IfSome file_b (λ file. HoldsPrefixIfBound (old ReadByA) (new ReadByA) file)
 
--- The connection after these turns keeps all promises: in each direction what was read is a prefix of what was written, what was
--- acknowledged was received, the end was told only at the whole, and nothing follows it. And what was written is a prefix of
--- the side's file, and all of it where the stream was closed.
+-- The connection after these turns.
 pub record IsKept (task : Task) (turns : List Turn) : Type 0 where
+  -- In each direction what was read is a prefix of what was written, what was acknowledged was received, the end was told only at
+  -- the whole, and nothing follows it; and all else that is promised of a connection over octets.
   pub promises : KeepsAllPromises (world_after task turns)
+  -- What was written is a prefix of the side's file, and all of it where the stream was closed.
   pub files : WritesTheFiles (start_of task.script task.file_a task.file_b) (world_after task turns)
+  -- It is the connection over segments as values, shown in octets.
+  pub values : IsShownOfValues (start_of task.script task.file_a task.file_b) turns
+  -- The round that goes on ends on each path at its tick; and where all turns are over, all that was due is done.
+  pub on_time : EndsOnTime (round_of octets (start_of task.script task.file_a task.file_b) turns) (world_after task turns)
+  pub done : all_over (world_after task turns).crew ≡ true
+      → RoundIsDone (round_of octets (start_of task.script task.file_a task.file_b) turns) (world_after task turns)
 
 -- so it is after all turns, in whatever order
 abbrev pub IsAlwaysKept : Task → Type 0

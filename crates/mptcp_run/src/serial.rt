@@ -3,8 +3,6 @@
 ghost use Rattle.std.specs.Prelude.{◌≡◌, ◌+◌, ◌-◌, ◌^◌, ◌<◌, length, IfErr, OnOk, OnErr};
 ghost use Rattle.path_core.specs.Octets.{octets};
 ghost use Rattle.world_core.specs.Rounds.{RoundTo};
-ghost use Rattle.world_laws.specs.Outcomes.{outcome_of};
-ghost use Rattle.world_laws.specs.Serial.{goes_on};
 ghost use Rattle.mptcp_run.specs.Adding.{RoundAddsCut};
 ghost use Rattle.mptcp_run.specs.Courses.{CourseMade, CourseCut};
 ghost use Rattle.mptcp_run.specs.Plan.{AddsAll, round_puts};
@@ -17,7 +15,7 @@ use crate::rounds::Run;
 use crate::status::Status;
 use outside_kit::Outside;
 use std::alloc::Global;
-use world_core::{Outcome, World, round};
+use world_core::round;
 
 /// Makes one round, and puts it.
 fn make_round<O: Outside>(alloc: Global, outside: &mut O, run: &mut Run) -> Result<(), Status>
@@ -39,13 +37,6 @@ fn make_round<O: Outside>(alloc: Global, outside: &mut O, run: &mut Run) -> Resu
         Ok(()) => run.put_round(alloc, outside),
         Err(_) => Err(Status::Memory),
     }
-}
-
-/// Whether the connection goes on.
-fn goes_on(world: &World) -> bool
-    ensures { result ≡ goes_on (outcome_of world.now.state.crew) }
-{
-    matches!(world.outcome(), Outcome::Going)
 }
 
 /// Makes at most so many rounds, and puts each; the last one is the first after which the connection doesn't go on.
@@ -71,7 +62,7 @@ pub fn make_rounds<O: Outside>(
 {
     for _round in 0..most {
         make_round(alloc, outside, run)?;
-        if !goes_on(&run.world) {
+        if !run.world.goes_on() {
             return Ok(());
         }
     }

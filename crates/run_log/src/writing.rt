@@ -116,6 +116,6 @@ pub fn outcome_line(alloc: Global, outcome: Outcome) -> Result<Text, AllocError>
     ensures exact { IfOk result (λ text. text ≡ ended (outcome_text outcome)) }
 {
     let mut text = String::new(alloc);
-    writeln!(text, "outcome {}", outcome.word())?;
+    writeln!(text, "outcome {outcome}")?;
     Ok(Text::from(text.into_bytes()))
 }
