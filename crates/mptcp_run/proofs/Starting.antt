@@ -5,23 +5,24 @@ use Rattle.run_words.specs.Lines.{Line}
 use Rattle.world_core.specs.declared.input.Input.{Input}
 use Rattle.world_core.specs.Kept.{Kept}
 use Rattle.world_laws.specs.Openings.{start_of, opened_world}
+use Rattle.world_laws.specs.Outcomes.{outcome_of}
 use Rattle.world_laws.specs.Worlds.{Turn}
 use Rattle.mptcp_run.specs.declared.report.Report.{Report}
 use Rattle.mptcp_run.specs.declared.report.Report.TheVariants as report
 use Rattle.mptcp_run.specs.declared.rounds.Run.{Run}
 use Rattle.mptcp_run.specs.declared.status.Status.{Status}
 use Rattle.mptcp_run.specs.declared.status.Status.TheVariants.{Delivered, Rounds, NoPath, Aborted, Usage, Script, Load, Put, TooLong, Memory, Log}
-use Rattle.mptcp_run.specs.Courses.{CourseCut, LogStops}
-use Rattle.mptcp_run.specs.Ends.{IsCut, ReplayEnds}
-use Rattle.mptcp_run.specs.Plan.{AddsAll, binds_of, puts_so_far}
+use Rattle.mptcp_run.specs.Courses.{CourseMade, CourseCut, LogStops}
+use Rattle.mptcp_run.specs.Ends.{CameToEnd, IsCut, ReplayEnds}
+use Rattle.mptcp_run.specs.Plan.{AddsAll, AddsShort, binds_of, puts_so_far}
 use Rattle.mptcp_run.specs.Ports.{NeverFall, IsPortsFault}
-use Rattle.mptcp_run.specs.Putting.{opening_of, opening_in, ends_of, world_after, last_line, last_line_of}
+use Rattle.mptcp_run.specs.Putting.{round_ends, opening_of, opening_in, status_of, ends_of, world_after, last_line, last_line_of}
 use Rattle.mptcp_run.specs.Replaying.{IsReplayFault}
 use Rattle.mptcp_run.specs.Rounds.{Begins, AtRound, IsOpened}
-use Rattle.mptcp_run.specs.Task.{Connection, Task, opened}
+use Rattle.mptcp_run.specs.Task.{Connection, Task, task_with, task_from, opened}
 use Rattle.mptcp_run.specs.Task as course
 use Rattle.mptcp_run.proofs.Calls.{Told, all_then}
-use Rattle.mptcp_run.proofs.Performing.{AreBound, rounds_held, rounds_short}
+use Rattle.mptcp_run.proofs.Performing.{AreBound, LogGrew, LogGrewPart, rounds_held, line_put, line_done, line_short, rounds_short}
 use Rattle.mptcp_run.proofs.PortsLemmas.{risen_later}
 use Rattle.mptcp_run.proofs.UnderWay.{opened_begins}
 
@@ -56,6 +57,58 @@ pub logged_line : (task : Task) (turns : List Turn) (count : ℕ) (v : Connectio
     → last_line_of report.Log count v ≡ last_line task turns
 logged_line task turns count v kept end =
     ap (last_line_of report.Log (length (ends_of task turns))) end ∙ ap (λ r. last_line_of r (length (ends_of task turns)) (world_after task turns)) (sym kept)
+
+-- ---- from its first round to the last line
+
+module _ (input : Input) (kind : Report) (run : Run) (h : IsOpened input kind run) (line : Line) (ha hb hc : Ports) (held : AreBound ha hb) (a b c : Told)
+    (bound : AddsAll (binds_of line) a b) where
+  -- whole turns
+  module _ (most : ℕ) where
+    abbrev serial_run : Task
+    serial_run = task_with input (course.rounds most) kind
+
+    pub serial_short : (status : Status) → CourseCut (course.rounds most) run.opening run.world.state hb hc b c status
+        → IsCut [] line (task_with input (course.rounds most) kind) ha hc a c status
+    serial_short status cut =
+        rounds_short line serial_run ha hb hc held a b c bound status (as_opened input kind run h (λ o w. CourseCut (course.rounds most) o w hb hc b c status) cut)
+
+    module _ (count : ℕ) (v : Connection) (status : Status) (hd : Ports) (d : Told)
+        (ok : (m : CourseMade (course.rounds most) run.opening run.world.state v hb hc b c) × (count ≡ length (round_ends m.turns run.world.state))) where
+      made : (m : CourseMade (course.rounds most) (opening_in serial_run) (opened serial_run) v hb hc b c) × (count ≡ length (ends_of serial_run m.turns))
+      made = as_opened input kind run h (λ o w. (m : CourseMade (course.rounds most) o w v hb hc b c) × (count ≡ length (round_ends m.turns w))) ok
+
+      pub serial_done : status ≡ status_of (outcome_of v.crew) → LogGrew (last_line_of kind count v) hc hd → AddsAll (line_put (last_line_of kind count v)) c d
+          → CameToEnd [] line (task_with input (course.rounds most) kind) ha hd a d status
+      serial_done shown grew told =
+          line_done line serial_run ha hb hc held a b c bound v made.0 (last_line_of kind count v) (line_after serial_run count v made.0.turns made.1 made.0.world)
+          status hd d shown grew told
+
+      pub serial_line_short : LogGrewPart (last_line_of kind count v) hc hd → AddsShort (line_put (last_line_of kind count v)) status c d
+          → IsCut [] line (task_with input (course.rounds most) kind) ha hd a d status
+      serial_line_short grew cut =
+          line_short line serial_run ha hb hc held a b c bound v made.0 (last_line_of kind count v) (line_after serial_run count v made.0.turns made.1 made.0.world)
+          status hd d grew cut
+
+module _ (input : Input) (run : Run) (h : IsOpened input report.Log run) (line : Line) (ha hb hc : Ports) (held : AreBound ha hb) (a b c : Told)
+    (bound : AddsAll (binds_of line) a b) (order : List Turn) where
+  abbrev replay_run : Task
+  replay_run = task_from input (course.told order)
+
+  module _ (count : ℕ) (v : Connection) (status : Status) (hd : Ports) (d : Told) (ok : CourseMade (course.told order) run.opening run.world.state v hb hc b c) where
+    told_made : CourseMade (course.told order) (opening_in replay_run) (opened replay_run) v hb hc b c
+    told_made = as_opened input report.Log run h (λ o w. CourseMade (course.told order) o w v hb hc b c) ok
+
+    pub replay_done : status ≡ status_of (outcome_of v.crew) → LogGrew (last_line_of report.Log count v) hc hd → AddsAll (line_put (last_line_of report.Log count v)) c d
+        → CameToEnd [] line (task_from input (course.told order)) ha hd a d status
+    replay_done shown grew told =
+        line_done line replay_run ha hb hc held a b c bound v told_made (last_line_of report.Log count v) (logged_line replay_run told_made.turns count v refl told_made.world)
+        status hd d shown grew told
+
+    pub replay_line_short : LogGrewPart (last_line_of report.Log count v) hc hd → AddsShort (line_put (last_line_of report.Log count v)) status c d
+        → IsCut [] line (task_from input (course.told order)) ha hd a d status
+    replay_line_short grew cut =
+        line_short line replay_run ha hb hc held a b c bound v told_made (last_line_of report.Log count v) (logged_line replay_run told_made.turns count v refl told_made.world)
+        status hd d grew cut
 
 -- ---- the turns of a log
 
@@ -103,6 +156,13 @@ module _ (line : Line) (task : Task) (order : List Turn) (is : task.course ≡ c
   log_stops (Script at kind) h = absurd h
   log_stops (Load named) h = absurd h
   log_stops (TooLong named) h = absurd h
+
+pub replay_stops : (input : Input) (run : Run) → IsOpened input report.Log run → (line : Line) (ha hb hc : Ports) → AreBound ha hb → (a b c : Told)
+    → AddsAll (binds_of line) a b → (order : List Turn) (lines : ℕ) (status : Status) → LogStops order lines run.opening run.world.state hb hc b c status
+    → ReplayEnds [] line (task_from input (course.told order)) ha hc a c lines status
+replay_stops input run h line ha hb hc held a b c bound order lines status stops =
+    log_stops line (task_from input (course.told order)) order refl lines ha hb hc held a b c bound status
+    (as_opened input report.Log run h (λ o w. LogStops order lines o w hb hc b c status) stops)
 
 -- a replay that was cut off by a port
 pub replay_is_cut : (line : Line) (task : Task) (lines : ℕ) (a b : Told) (ha hb : Ports) (before faults : Port → ℕ) (status : Status) → IsPortsFault before faults status

@@ -1,8 +1,11 @@
 //! What a run reads before it begins.
 
-ghost use Rattle.std.specs.Prelude.{◌≡◌, ◌≤◌, ℕ, List, [], ◌∷◌, Ok, IfOk, IfErr, IfSome, OnOk, OnErr, vec_len};
+ghost use Rattle.std.specs.List.{list_any};
+ghost use Rattle.std.specs.Prelude.{◌≡◌, ◌≤◌, ℕ, false, length, List, [], ◌∷◌, Ok, IfOk, IfErr, IfSome, OnOk, OnErr, vec_len};
 ghost use Rattle.outside_kit.specs.declared.port.Port.{Port};
+ghost use Rattle.link_script.specs.Scripts.{HasRanges};
 ghost use Rattle.run_words.specs.Lines.{replay, shown};
+ghost use Rattle.world_laws.specs.PlainScripts.{alters_payload};
 ghost use Rattle.mptcp_run.specs.declared.status.Named.TheVariants as named;
 ghost use Rattle.mptcp_run.specs.Causes.{IsLoadFault, IsScriptFault};
 ghost use Rattle.mptcp_run.specs.Inputs.{IsWithinLimit, IsLoadsFault, AreFirstWithinLimits, IsInputFault, IsReplayInputFault};
@@ -48,8 +51,8 @@ pub fn load_contents<O: Outside>(
     ensures file_a { IfOk result (λ contents. IfSome (O.content outside.old line.now.file_a.now) (λ told. contents.file_a.items ≡ told)) }
     ensures file_b { IfOk result (λ contents. IfSome (O.content outside.old line.now.file_b.now) (λ told. contents.file_b.items ≡ told)) }
     ensures script_within { IfOk result (λ contents. vec_len contents.script ≤ 65536) }
-    ensures file_a_within { IfOk result (λ contents. vec_len contents.file_a ≤ 16777216) }
-    ensures file_b_within { IfOk result (λ contents. vec_len contents.file_b ≤ 16777216) }
+    ensures file_a_within { IfOk result (λ contents. length contents.file_a.items ≤ 16777216) }
+    ensures file_b_within { IfOk result (λ contents. length contents.file_b.items ≤ 16777216) }
     ensures within { OnOk result (AreFirstWithinLimits (O.content outside.old) (shown line.now)) }
     ensures fault { IfErr result (IsLoadsFault (O.content outside.old) (shown line.now) (O.load_faults outside.old) (O.load_faults outside.new)) }
     ensures counted { O.load_faults outside.old ≤ O.load_faults outside.new }
@@ -93,13 +96,13 @@ pub fn load_order<O: Outside>(
 
 /// What the contents say: the script is read.
 pub fn input_of(alloc: Global, contents: Contents) -> Result<Input, Status>
-    requires script { vec_len contents.script ≤ 65536 }
-    requires file_a { vec_len contents.file_a ≤ 16777216 }
-    requires file_b { vec_len contents.file_b ≤ 16777216 }
+    requires { vec_len contents.script ≤ 65536 }
     ensures script { IfOk result (λ input. script_meaning contents.script.items ≡ Ok input.script) }
     ensures file_a { IfOk result (λ input. input.file_a ≡ contents.file_a.items) }
     ensures file_b { IfOk result (λ input. input.file_b ≡ contents.file_b.items) }
-    ensures plain { IfOk result IsPlainInput }
+    ensures ranges { IfOk result (λ input. HasRanges input.script) }
+    // No line of the script alters a payload.
+    ensures unaltered { IfOk result (λ input. list_any alters_payload input.script.lines ≡ false) }
     ensures fault { IfErr result (IsScriptFault contents.script.items) }
 {
     match read_script(alloc, &contents.script) {

@@ -7,7 +7,7 @@ use Rattle.mptcp_run.specs.Inputs.{order_of}
 use Rattle.mptcp_run.specs.Plan.{AddsAll, load_of, first_loads, loads_of}
 use Rattle.mptcp_run.proofs.Calls.{all_then}
 use Rattle.mptcp_run.proofs.LogEnds.{turns_end}
-use Rattle.mptcp_run.proofs.Loading.{load_cut, loads_longer, input_adds, script_adds, form_adds, replay_loads}
+use Rattle.mptcp_run.proofs.Loading.{load_cut, loads_longer, input_adds, script_adds, form_adds, replay_loads, plain_of}
 use Rattle.mptcp_run.proofs.input.load_replay.Goals as goal
 
 pub returns-in_err-contents-clause-calls_cut : goal.returns-in_err-contents-clause-calls_cut
@@ -39,3 +39,8 @@ returns-in_err-turns-clause-calls_cut g c =
 
 pub returns-clause-ends : goal.returns-clause-ends
 returns-clause-ends g c = turns_end _ _ _ _ c.in_ok-turns.ensures.turns
+
+pub returns-clause-plain : goal.returns-clause-plain
+returns-clause-plain g c =
+    let read = c.in_ok-input.ensures in
+    plain_of c.in_ok-input.input _ _ read.ranges read.unaltered read.file_a read.file_b c.in_ok-contents.ensures.file_a_within c.in_ok-contents.ensures.file_b_within

@@ -1,18 +1,17 @@
-use Rattle.std.proofs.Common.{refl, subst, List, arith}
+use Rattle.std.proofs.Common.{subst, List, arith}
 use Rattle.std.proofs.lemmas.Result.{err_from_is_err_and}
 use Rattle.outside_kit.specs.declared.port.Port.TheVariants.{ReadByA, ReadByB}
 use Rattle.run_words.specs.Lines.{shown}
 use Rattle.run_log.specs.declared.turn.Turn.{Turn}
 use Rattle.mptcp_run.specs.declared.report.Report.TheVariants as report
 use Rattle.mptcp_run.specs.Courses.{CourseMade, LogStops}
-use Rattle.mptcp_run.specs.Putting.{last_line_of}
 use Rattle.mptcp_run.specs.Rounds.{all_turns}
 use Rattle.mptcp_run.specs.Task.{Task, task_from, opened}
 use Rattle.mptcp_run.specs.Task as course
 use Rattle.mptcp_run.proofs.Courses.{no_turn}
-use Rattle.mptcp_run.proofs.Performing.{line_done, line_short, binds_short}
+use Rattle.mptcp_run.proofs.Performing.{binds_short}
 use Rattle.mptcp_run.proofs.PortsLemmas.{IfOk-and, IfErr-map, IfErr-three, fault_after, b_isnt_log, a_isnt_log}
-use Rattle.mptcp_run.proofs.Starting.{opened_at, as_opened, logged_line, log_stops, replay_is_cut, replay_cause, cause_after}
+use Rattle.mptcp_run.proofs.Starting.{opened_at, replay_done, replay_stops, replay_line_short, replay_is_cut, replay_cause, cause_after}
 use Rattle.mptcp_run.proofs.top_call.perform_replay.Goals as goal
 
 pub make_turns-requires-clause-begins : goal.make_turns-requires-clause-begins
@@ -31,19 +30,15 @@ returns-in_err-run-clause-err g c =
 
 pub returns-in_err-make_turns-clause-err : goal.returns-in_err-make_turns-clause-err
 returns-in_err-make_turns-clause-err g c =
-    let begun = c.in_ok-run.ensures in
-    let order = all_turns c.args.replay.now.turns.items in let task : Task = task_from c.args.replay.now.input (course.told order) in
     let p = err_from_is_err_and c.from_residual-in_err-make_turns.result c.from_residual-in_err-make_turns.ensures.1 in
-    rw (p.1, p.2) (log_stops (shown c.args.line.now) task order refl c.args.replay.now.lines
+    rw (p.1, p.2) (replay_stops c.args.replay.now.input c.in_ok-run.run' c.in_ok-run.ensures.run (shown c.args.line.now)
     (g.O.Outside.holds c.args.outside.now) (g.O.Outside.holds c.begin.new.outside) (g.O.Outside.holds c.make_turns.new.outside)
-    (record { read_by_b = begun.read_by_b; read_by_a = begun.read_by_a; log = c.begin.ensures.log })
-    (g.O.Outside.calls c.args.outside.now) (g.O.Outside.calls c.begin.new.outside) (g.O.Outside.calls c.make_turns.new.outside) begun.calls c.in_err-make_turns.field-0.0
-    (as_opened c.args.replay.now.input report.Log c.in_ok-run.run' begun.run
-    (λ o w. LogStops order c.args.replay.now.lines o w (g.O.Outside.holds c.begin.new.outside) (g.O.Outside.holds c.make_turns.new.outside)
-    (g.O.Outside.calls c.begin.new.outside) (g.O.Outside.calls c.make_turns.new.outside) c.in_err-make_turns.field-0.0)
+    (record { read_by_b = c.in_ok-run.ensures.read_by_b; read_by_a = c.in_ok-run.ensures.read_by_a; log = c.begin.ensures.log })
+    (g.O.Outside.calls c.args.outside.now) (g.O.Outside.calls c.begin.new.outside) (g.O.Outside.calls c.make_turns.new.outside) c.in_ok-run.ensures.calls
+    (all_turns c.args.replay.now.turns.items) c.args.replay.now.lines c.in_err-make_turns.field-0.0
     (subst (λ (ts : List Turn). LogStops (all_turns ts) c.args.replay.now.lines c.in_ok-run.run'.opening c.in_ok-run.run'.world.state
     (g.O.Outside.holds c.begin.new.outside) (g.O.Outside.holds c.make_turns.new.outside) (g.O.Outside.calls c.begin.new.outside) (g.O.Outside.calls c.make_turns.new.outside)
-    c.in_err-make_turns.field-0.0) c.deref.ensures.value c.in_err-make_turns.ensures.stop)))
+    c.in_err-make_turns.field-0.0) c.deref.ensures.value c.in_err-make_turns.ensures.stop))
 
 pub returns-in_err-make_turns-clause-fault : goal.returns-in_err-make_turns-clause-fault
 returns-in_err-make_turns-clause-fault g c =
@@ -60,21 +55,15 @@ returns-clause-fault g c =
 
 pub returns-clause-ended : goal.returns-clause-ended
 returns-clause-ended g c =
-    let begun = c.in_ok-run.ensures in let v = c.make_turns.new.run.world.state in
-    let order = all_turns c.args.replay.now.turns.items in let task : Task = task_from c.args.replay.now.input (course.told order) in
-    let made = as_opened c.args.replay.now.input report.Log c.in_ok-run.run' begun.run
-    (λ o w. CourseMade (course.told order) o w v (g.O.Outside.holds c.begin.new.outside) (g.O.Outside.holds c.make_turns.new.outside)
-    (g.O.Outside.calls c.begin.new.outside) (g.O.Outside.calls c.make_turns.new.outside))
-    (subst (λ (ts : List Turn). CourseMade (course.told (all_turns ts)) c.in_ok-run.run'.opening c.in_ok-run.run'.world.state v
-    (g.O.Outside.holds c.begin.new.outside) (g.O.Outside.holds c.make_turns.new.outside) (g.O.Outside.calls c.begin.new.outside) (g.O.Outside.calls c.make_turns.new.outside))
-    c.deref.ensures.value c.in_ok-make_turns.ensures.ok) in
     IfOk-and c.end.result
-    (λ status is grew told. line_done (shown c.args.line.now) task
+    (λ status is grew told. replay_done c.args.replay.now.input c.in_ok-run.run' c.in_ok-run.ensures.run (shown c.args.line.now)
     (g.O.Outside.holds c.args.outside.now) (g.O.Outside.holds c.begin.new.outside) (g.O.Outside.holds c.make_turns.new.outside)
-    (record { read_by_b = begun.read_by_b; read_by_a = begun.read_by_a; log = c.begin.ensures.log })
-    (g.O.Outside.calls c.args.outside.now) (g.O.Outside.calls c.begin.new.outside) (g.O.Outside.calls c.make_turns.new.outside) begun.calls
-    v made (last_line_of report.Log c.make_turns.new.run.rounds v) (logged_line task made.turns c.make_turns.new.run.rounds v refl made.world)
-    status (g.O.Outside.holds c.end.new.outside) (g.O.Outside.calls c.end.new.outside) is
+    (record { read_by_b = c.in_ok-run.ensures.read_by_b; read_by_a = c.in_ok-run.ensures.read_by_a; log = c.begin.ensures.log })
+    (g.O.Outside.calls c.args.outside.now) (g.O.Outside.calls c.begin.new.outside) (g.O.Outside.calls c.make_turns.new.outside) c.in_ok-run.ensures.calls
+    (all_turns c.args.replay.now.turns.items) c.make_turns.new.run.rounds c.make_turns.new.run.world.state status (g.O.Outside.holds c.end.new.outside) (g.O.Outside.calls c.end.new.outside)
+    (subst (λ (ts : List Turn). CourseMade (course.told (all_turns ts)) c.in_ok-run.run'.opening c.in_ok-run.run'.world.state c.make_turns.new.run.world.state
+    (g.O.Outside.holds c.begin.new.outside) (g.O.Outside.holds c.make_turns.new.outside) (g.O.Outside.calls c.begin.new.outside) (g.O.Outside.calls c.make_turns.new.outside))
+    c.deref.ensures.value c.in_ok-make_turns.ensures.ok) is
     (record {
       read_by_b = c.end.ensures.other_ports ReadByB b_isnt_log;
       read_by_a = c.end.ensures.other_ports ReadByA a_isnt_log;
@@ -85,23 +74,17 @@ returns-clause-ended g c =
 
 pub returns-clause-err : goal.returns-clause-err
 returns-clause-err g c =
-    let begun = c.in_ok-run.ensures in let v = c.make_turns.new.run.world.state in
-    let order = all_turns c.args.replay.now.turns.items in let task : Task = task_from c.args.replay.now.input (course.told order) in
-    let made = as_opened c.args.replay.now.input report.Log c.in_ok-run.run' begun.run
-    (λ o w. CourseMade (course.told order) o w v (g.O.Outside.holds c.begin.new.outside) (g.O.Outside.holds c.make_turns.new.outside)
-    (g.O.Outside.calls c.begin.new.outside) (g.O.Outside.calls c.make_turns.new.outside))
-    (subst (λ (ts : List Turn). CourseMade (course.told (all_turns ts)) c.in_ok-run.run'.opening c.in_ok-run.run'.world.state v
-    (g.O.Outside.holds c.begin.new.outside) (g.O.Outside.holds c.make_turns.new.outside) (g.O.Outside.calls c.begin.new.outside) (g.O.Outside.calls c.make_turns.new.outside))
-    c.deref.ensures.value c.in_ok-make_turns.ensures.ok) in
     IfErr-three c.end.result
-    (λ status fault cut part. replay_is_cut (shown c.args.line.now) task c.args.replay.now.lines
+    (λ status fault cut part. replay_is_cut (shown c.args.line.now) (task_from c.args.replay.now.input (course.told (all_turns c.args.replay.now.turns.items))) c.args.replay.now.lines
     (g.O.Outside.calls c.args.outside.now) (g.O.Outside.calls c.end.new.outside) (g.O.Outside.holds c.args.outside.now) (g.O.Outside.holds c.end.new.outside) _ _ status fault
-    (line_short (shown c.args.line.now) task
+    (replay_line_short c.args.replay.now.input c.in_ok-run.run' c.in_ok-run.ensures.run (shown c.args.line.now)
     (g.O.Outside.holds c.args.outside.now) (g.O.Outside.holds c.begin.new.outside) (g.O.Outside.holds c.make_turns.new.outside)
-    (record { read_by_b = begun.read_by_b; read_by_a = begun.read_by_a; log = c.begin.ensures.log })
-    (g.O.Outside.calls c.args.outside.now) (g.O.Outside.calls c.begin.new.outside) (g.O.Outside.calls c.make_turns.new.outside) begun.calls
-    v made (last_line_of report.Log c.make_turns.new.run.rounds v) (logged_line task made.turns c.make_turns.new.run.rounds v refl made.world)
-    status (g.O.Outside.holds c.end.new.outside) (g.O.Outside.calls c.end.new.outside)
+    (record { read_by_b = c.in_ok-run.ensures.read_by_b; read_by_a = c.in_ok-run.ensures.read_by_a; log = c.begin.ensures.log })
+    (g.O.Outside.calls c.args.outside.now) (g.O.Outside.calls c.begin.new.outside) (g.O.Outside.calls c.make_turns.new.outside) c.in_ok-run.ensures.calls
+    (all_turns c.args.replay.now.turns.items) c.make_turns.new.run.rounds c.make_turns.new.run.world.state status (g.O.Outside.holds c.end.new.outside) (g.O.Outside.calls c.end.new.outside)
+    (subst (λ (ts : List Turn). CourseMade (course.told (all_turns ts)) c.in_ok-run.run'.opening c.in_ok-run.run'.world.state c.make_turns.new.run.world.state
+    (g.O.Outside.holds c.begin.new.outside) (g.O.Outside.holds c.make_turns.new.outside) (g.O.Outside.calls c.begin.new.outside) (g.O.Outside.calls c.make_turns.new.outside))
+    c.deref.ensures.value c.in_ok-make_turns.ensures.ok)
     (record { read_by_b = c.end.ensures.other_ports ReadByB b_isnt_log; read_by_a = c.end.ensures.other_ports ReadByA a_isnt_log; log = part })
     cut))
     c.end.ensures.fault c.end.ensures.calls_cut c.end.ensures.err

@@ -1,15 +1,13 @@
-use Rattle.std.proofs.Common.{◌≡◌, length, arith}
+use Rattle.std.proofs.Common.{arith}
 use Rattle.std.proofs.lemmas.Result.{err_from_is_err_and}
 use Rattle.outside_kit.specs.declared.port.Port.TheVariants.{ReadByA, ReadByB}
 use Rattle.run_words.specs.Lines.{shown}
-use Rattle.mptcp_run.specs.Courses.{CourseMade, CourseCut}
-use Rattle.mptcp_run.specs.Putting.{round_ends, last_line_of}
 use Rattle.mptcp_run.specs.Task.{Task, task_with, opened}
 use Rattle.mptcp_run.specs.Task as course
 use Rattle.mptcp_run.proofs.Courses.{no_round}
-use Rattle.mptcp_run.proofs.Performing.{line_done, line_short, rounds_short, binds_short}
+use Rattle.mptcp_run.proofs.Performing.{binds_short}
 use Rattle.mptcp_run.proofs.PortsLemmas.{IfOk-and, IfErr-both, IfErr-map, fault_after, b_isnt_log, a_isnt_log}
-use Rattle.mptcp_run.proofs.Starting.{opened_at, as_opened, line_after}
+use Rattle.mptcp_run.proofs.Starting.{opened_at, serial_done, serial_short, serial_line_short}
 use Rattle.mptcp_run.proofs.top_call.perform_serial.Goals as goal
 
 pub make_rounds-requires-clause-begins : goal.make_rounds-requires-clause-begins
@@ -25,17 +23,12 @@ returns-in_err-run-clause-cut g c =
 
 pub returns-in_err-make_rounds-clause-cut : goal.returns-in_err-make_rounds-clause-cut
 returns-in_err-make_rounds-clause-cut g c =
-    let begun = c.in_ok-run.ensures in
-    let task : Task = task_with c.args.input.now (course.rounds c.args.rounds) c.args.report in
     let p = err_from_is_err_and c.from_residual-in_err-make_rounds.result c.from_residual-in_err-make_rounds.ensures.1 in
-    rw (p.1, p.2) (rounds_short (shown c.args.line.now) task
+    rw (p.1, p.2) (serial_short c.args.input.now c.args.report c.in_ok-run.run' c.in_ok-run.ensures.run (shown c.args.line.now)
     (g.O.Outside.holds c.args.outside.now) (g.O.Outside.holds c.begin.new.outside) (g.O.Outside.holds c.make_rounds.new.outside)
-    (record { read_by_b = begun.read_by_b; read_by_a = begun.read_by_a; log = c.begin.ensures.log })
-    (g.O.Outside.calls c.args.outside.now) (g.O.Outside.calls c.begin.new.outside) (g.O.Outside.calls c.make_rounds.new.outside) begun.calls c.in_err-make_rounds.field-0.0
-    (as_opened c.args.input.now c.args.report c.in_ok-run.run' begun.run
-    (λ o w. CourseCut (course.rounds c.args.rounds) o w (g.O.Outside.holds c.begin.new.outside) (g.O.Outside.holds c.make_rounds.new.outside)
-    (g.O.Outside.calls c.begin.new.outside) (g.O.Outside.calls c.make_rounds.new.outside) c.in_err-make_rounds.field-0.0)
-    c.in_err-make_rounds.ensures.cut))
+    (record { read_by_b = c.in_ok-run.ensures.read_by_b; read_by_a = c.in_ok-run.ensures.read_by_a; log = c.begin.ensures.log })
+    (g.O.Outside.calls c.args.outside.now) (g.O.Outside.calls c.begin.new.outside) (g.O.Outside.calls c.make_rounds.new.outside) c.in_ok-run.ensures.calls
+    c.args.rounds c.in_err-make_rounds.field-0.0 c.in_err-make_rounds.ensures.cut)
 
 pub returns-in_err-make_rounds-clause-fault : goal.returns-in_err-make_rounds-clause-fault
 returns-in_err-make_rounds-clause-fault g c =
@@ -52,19 +45,13 @@ returns-clause-fault g c =
 
 pub returns-clause-ended : goal.returns-clause-ended
 returns-clause-ended g c =
-    let begun = c.in_ok-run.ensures in let v = c.make_rounds.new.run.world.state in let count = c.make_rounds.new.run.rounds in
-    let task : Task = task_with c.args.input.now (course.rounds c.args.rounds) c.args.report in
-    let made = as_opened c.args.input.now c.args.report c.in_ok-run.run' begun.run
-    (λ o w. (m : CourseMade (course.rounds c.args.rounds) o w v (g.O.Outside.holds c.begin.new.outside) (g.O.Outside.holds c.make_rounds.new.outside)
-    (g.O.Outside.calls c.begin.new.outside) (g.O.Outside.calls c.make_rounds.new.outside)) × (count ≡ length (round_ends m.turns w)))
-    c.in_ok-make_rounds.ensures.ok in
     IfOk-and c.end.result
-    (λ status is grew told. line_done (shown c.args.line.now) task
+    (λ status is grew told. serial_done c.args.input.now c.args.report c.in_ok-run.run' c.in_ok-run.ensures.run (shown c.args.line.now)
     (g.O.Outside.holds c.args.outside.now) (g.O.Outside.holds c.begin.new.outside) (g.O.Outside.holds c.make_rounds.new.outside)
-    (record { read_by_b = begun.read_by_b; read_by_a = begun.read_by_a; log = c.begin.ensures.log })
-    (g.O.Outside.calls c.args.outside.now) (g.O.Outside.calls c.begin.new.outside) (g.O.Outside.calls c.make_rounds.new.outside) begun.calls
-    v made.0 (last_line_of c.args.report count v) (line_after task count v made.0.turns made.1 made.0.world)
-    status (g.O.Outside.holds c.end.new.outside) (g.O.Outside.calls c.end.new.outside) is
+    (record { read_by_b = c.in_ok-run.ensures.read_by_b; read_by_a = c.in_ok-run.ensures.read_by_a; log = c.begin.ensures.log })
+    (g.O.Outside.calls c.args.outside.now) (g.O.Outside.calls c.begin.new.outside) (g.O.Outside.calls c.make_rounds.new.outside) c.in_ok-run.ensures.calls
+    c.args.rounds c.make_rounds.new.run.rounds c.make_rounds.new.run.world.state status (g.O.Outside.holds c.end.new.outside) (g.O.Outside.calls c.end.new.outside)
+    c.in_ok-make_rounds.ensures.ok is
     (record {
       read_by_b = c.end.ensures.other_ports ReadByB b_isnt_log;
       read_by_a = c.end.ensures.other_ports ReadByA a_isnt_log;
@@ -75,19 +62,13 @@ returns-clause-ended g c =
 
 pub returns-clause-cut : goal.returns-clause-cut
 returns-clause-cut g c =
-    let begun = c.in_ok-run.ensures in let v = c.make_rounds.new.run.world.state in let count = c.make_rounds.new.run.rounds in
-    let task : Task = task_with c.args.input.now (course.rounds c.args.rounds) c.args.report in
-    let made = as_opened c.args.input.now c.args.report c.in_ok-run.run' begun.run
-    (λ o w. (m : CourseMade (course.rounds c.args.rounds) o w v (g.O.Outside.holds c.begin.new.outside) (g.O.Outside.holds c.make_rounds.new.outside)
-    (g.O.Outside.calls c.begin.new.outside) (g.O.Outside.calls c.make_rounds.new.outside)) × (count ≡ length (round_ends m.turns w)))
-    c.in_ok-make_rounds.ensures.ok in
     IfErr-both c.end.result
-    (λ status cut part. line_short (shown c.args.line.now) task
+    (λ status cut part. serial_line_short c.args.input.now c.args.report c.in_ok-run.run' c.in_ok-run.ensures.run (shown c.args.line.now)
     (g.O.Outside.holds c.args.outside.now) (g.O.Outside.holds c.begin.new.outside) (g.O.Outside.holds c.make_rounds.new.outside)
-    (record { read_by_b = begun.read_by_b; read_by_a = begun.read_by_a; log = c.begin.ensures.log })
-    (g.O.Outside.calls c.args.outside.now) (g.O.Outside.calls c.begin.new.outside) (g.O.Outside.calls c.make_rounds.new.outside) begun.calls
-    v made.0 (last_line_of c.args.report count v) (line_after task count v made.0.turns made.1 made.0.world)
-    status (g.O.Outside.holds c.end.new.outside) (g.O.Outside.calls c.end.new.outside)
+    (record { read_by_b = c.in_ok-run.ensures.read_by_b; read_by_a = c.in_ok-run.ensures.read_by_a; log = c.begin.ensures.log })
+    (g.O.Outside.calls c.args.outside.now) (g.O.Outside.calls c.begin.new.outside) (g.O.Outside.calls c.make_rounds.new.outside) c.in_ok-run.ensures.calls
+    c.args.rounds c.make_rounds.new.run.rounds c.make_rounds.new.run.world.state status (g.O.Outside.holds c.end.new.outside) (g.O.Outside.calls c.end.new.outside)
+    c.in_ok-make_rounds.ensures.ok
     (record {
       read_by_b = c.end.ensures.other_ports ReadByB b_isnt_log;
       read_by_a = c.end.ensures.other_ports ReadByA a_isnt_log;
