@@ -1,11 +1,13 @@
 -- What each status of a run says, from what its parts say.
-use Rattle.std.proofs.Common.{◌≡◌, refl, sym, ap, subst, ℕ, ◌≤◌, inl, inr, List, [], Option, Some, None, Result, Ok, Err, IfSome, length}
-use Rattle.std.specs.Prelude.{option_and_then, option_map, map, IsOk}
+use Rattle.std.proofs.Common.{◌≡◌, refl, sym, ap, subst, ℕ, ◌≤◌, inl, inr, List, [], ◌++◌, Option, Some, None, Result, Ok, Err, IfSome, IsSome, length}
+use Rattle.std.specs.Prelude.{option_and_then, option_map, map, IsOk, IsSomeAnd}
 use Rattle.std.specs.Result.{result_ok}
 use Rattle.outside_kit.specs.declared.port.Port.{Port}
 use Rattle.outside_kit.specs.declared.port.Port.TheVariants as port
+use Rattle.outside_kit.specs.Calls.{Call, Made}
 use Rattle.outside_kit.specs.Outside.{HoldsAfter}
 use Rattle.link_script.specs.declared.script.Script.{Script}
+use Rattle.pipe_model.specs.Prefix.{IsPrefix}
 use Rattle.run_words.specs.Lines.{Line, serial, replay, ◌>>=◌}
 use Rattle.run_log.specs.declared.turn.Turn as log_turn
 use Rattle.run_log.specs.declared.fault.LogFault.TheVariants as log_fault
@@ -15,15 +17,24 @@ use Rattle.mptcp_run.specs.declared.report.Report.TheVariants as report
 use Rattle.mptcp_run.specs.declared.status.Named.TheVariants as input
 use Rattle.mptcp_run.specs.declared.status.Status.{Status}
 use Rattle.mptcp_run.specs.declared.status.Status.TheVariants.{Delivered, Rounds, NoPath, Aborted, Usage, Script as ScriptStatus, Load, Put, TooLong, Memory, Log}
-use Rattle.mptcp_run.specs.Answers.{HasEnded, IsRefusedLine, HasBeenReadWhole, IsAnswer, IsMadeAnswer}
+use Rattle.mptcp_run.specs.Adding.{InputAdds}
+use Rattle.mptcp_run.specs.Answers.{WasRead, TurnRow, CutRow, EndRow, IsAnswer, MadeEndRow, MadeCutRow, MadeRow, IsMadeAnswer}
 use Rattle.mptcp_run.specs.Causes.{limit_of}
+use Rattle.mptcp_run.specs.Ends.{HasEnded, HoldsSomeRounds, HoldsToLine, AddsWork, CameToEnd, IsCut, IsHalted, ReplayEnds}
 use Rattle.mptcp_run.specs.Inputs.{order_of, content_of, AreFirstWithinLimits, IsInputFault, IsReplayInputFault}
+use Rattle.mptcp_run.specs.Logged.{HasRounds, LogTellsTheRun}
+use Rattle.mptcp_run.specs.Made.{Bench}
+use Rattle.mptcp_run.specs.Plan.{AddsAll, AddsCut, puts_so_far, last_put, plan_of, loads_of, ArePuts, ArePutsBefore}
 use Rattle.mptcp_run.specs.Ports.{IsUntouched, IsPortsFault, HoldsMore, HoldsWithin}
-use Rattle.mptcp_run.specs.Putting.{IsWhole, IsStopped, IsCut, ReplayEnds}
+use Rattle.mptcp_run.specs.Promised.{IsPlainTask, EndsWithRound, IsAlwaysKept, HoldsPrefixOf, HoldsPrefixIfBound, ReadersHaveFiles, ReadersHavePrefixes, ReadersHavePrefixesIfBound}
+use Rattle.mptcp_run.specs.Putting.{IsWhole, IsStopped}
 use Rattle.mptcp_run.specs.Replaying.{IsReplayFault}
 use Rattle.mptcp_run.specs.Script.{script_meaning, script_in, script_of, log_reading}
 use Rattle.mptcp_run.specs.Task.{Task, Course, rounds, told, task_from, turn_of, turns_in, course_of, task_of, opening_count, AreWithinLimits, HasValidScript, HasValidOrder}
 use Rattle.mptcp_run.specs.Rounds.{all_turns}
+use Rattle.mptcp_run.proofs.Calls.{Told, all_then, cut_then, short_then, short_cut}
+use Rattle.mptcp_run.proofs.Logged.{whole_runs_are_told}
+use Rattle.mptcp_run.proofs.Promised.{plain_tasks_are_kept, whole_runs_give_prefixes, delivered_runs_give_files, stopped_runs_give_prefixes, cut_runs_give_prefixes, lines_cut_give_prefixes}
 
 abbrev Ports : Type 0
 Ports = Port → Option (List ℕ)
@@ -93,14 +104,14 @@ replay_task content line log turns input is script file_a file_b order =
 after_from : (a b c : Option (List ℕ)) (f : List ℕ → List ℕ) → b ≡ a → HoldsAfter b c f → HoldsAfter a c f
 after_from a b c f same h = subst (λ o. HoldsAfter o c f) same h
 
-more_from : (a b c : Option (List ℕ)) (front : List ℕ) (P : List ℕ → Type 0) → b ≡ a → HoldsMore b c front P → HoldsMore a c front P
-more_from a b c front P same h = subst (λ o. HoldsMore o c front P) same h
+more_from : (a b c : Option (List ℕ)) (before : List ℕ) (P : List ℕ → Type 0) → b ≡ a → HoldsMore b c before P → HoldsMore a c before P
+more_from a b c before P same h = subst (λ o. HoldsMore o c before P) same h
 
 within_from : (unbegun : Type 0) (a b c : Option (List ℕ)) (low high : List ℕ) → b ≡ a → HoldsWithin unbegun b c low high → HoldsWithin unbegun a c low high
 within_from unbegun a b c low high same h = subst (λ o. HoldsWithin unbegun o c low high) same h
 
 module _ (a b c : Ports) (same : (p : Port) → b p ≡ a p) where
-  pub whole_from : (task : Task) (status : Status) → IsWhole task status b c → IsWhole task status a c
+  whole_from : (task : Task) (status : Status) → IsWhole task status b c → IsWhole task status a c
   whole_from task status h = record {
     turns = h.turns;
     are = h.are;
@@ -113,14 +124,12 @@ module _ (a b c : Ports) (same : (p : Port) → b p ≡ a p) where
     };
   }
 
-  pub cut_from : (task : Task) → IsCut task b c → IsCut task a c
-  cut_from task h = record {
+  rounds_from : (task : Task) → HoldsSomeRounds task b c → HoldsSomeRounds task a c
+  rounds_from task h = record {
     turns = h.turns;
     more = h.more;
     are = h.are;
     one = h.one;
-    line = h.line;
-    line_is = h.line_is;
     ports = record {
       read_by_b = within_from _ (a port.ReadByB) (b port.ReadByB) (c port.ReadByB) _ _ (same port.ReadByB) h.ports.read_by_b;
       read_by_a = within_from _ (a port.ReadByA) (b port.ReadByA) (c port.ReadByA) _ _ (same port.ReadByA) h.ports.read_by_a;
@@ -128,7 +137,14 @@ module _ (a b c : Ports) (same : (p : Port) → b p ≡ a p) where
     };
   }
 
-  pub stopped_from : (task : Task) (opening line : ℕ) → IsStopped task opening line b c → IsStopped task opening line a c
+  line_from : (task : Task) (turns : List Turn) → HoldsToLine task turns b c → HoldsToLine task turns a c
+  line_from task turns h = record {
+    read_by_b = after_from (a port.ReadByB) (b port.ReadByB) (c port.ReadByB) _ (same port.ReadByB) h.read_by_b;
+    read_by_a = after_from (a port.ReadByA) (b port.ReadByA) (c port.ReadByA) _ (same port.ReadByA) h.read_by_a;
+    log = more_from (a port.Log) (b port.Log) (c port.Log) [] _ (same port.Log) h.log;
+  }
+
+  stopped_from : (task : Task) (opening line : ℕ) → IsStopped task opening line b c → IsStopped task opening line a c
   stopped_from task opening line h = record {
     before = h.before;
     turn = h.turn;
@@ -144,6 +160,66 @@ module _ (a b c : Ports) (same : (p : Port) → b p ≡ a p) where
       fits = h.ports.fits;
     };
   }
+
+  -- behind loads
+  module _ (line : Line) (task : Task) (ta tb tc : Told) (loaded : AddsAll (loads_of line) ta tb) where
+    pub end_from : (status : Status) → CameToEnd [] line task b c tb tc status → CameToEnd (loads_of line) line task a c ta tc status
+    end_from status h = record {
+      ended = h.ended;
+      whole = whole_from task status h.whole;
+      calls = (h.calls.0, (h.calls.1.0, all_then (loads_of line) _ ta tb tc loaded h.calls.1.1));
+    }
+
+    pub cut_from : (status : Status) → IsCut [] line task b c tb tc status → IsCut (loads_of line) line task a c ta tc status
+    cut_from status (inl h) = inl (record {
+      ports = rounds_from task h.ports;
+      calls = (h.calls.0, (h.calls.1.0, cut_then (loads_of line) _ status ta tb tc loaded h.calls.1.1));
+    })
+    cut_from status (inr h) = inr (record {
+      turns = h.turns;
+      are = h.are;
+      ports = line_from task h.turns h.ports;
+      calls = short_then (loads_of line) _ status ta tb tc loaded h.calls;
+    })
+
+    pub replay_from : (lines : ℕ) (status : Status) → ReplayEnds [] line task b c tb tc lines status → ReplayEnds (loads_of line) line task a c ta tc lines status
+    replay_from lines (Log at) h = record {
+      stopped = stopped_from task lines at h.stopped;
+      calls = (h.calls.0, (h.calls.1.0, all_then (loads_of line) _ ta tb tc loaded h.calls.1.1));
+    }
+    replay_from lines (Put p) h = cut_from (Put p) h
+    replay_from lines Memory h = cut_from Memory h
+    replay_from lines Delivered h = absurd h
+    replay_from lines Rounds h = absurd h
+    replay_from lines NoPath h = absurd h
+    replay_from lines (Aborted reader) h = absurd h
+    replay_from lines Usage h = absurd h
+    replay_from lines (ScriptStatus at kind) h = absurd h
+    replay_from lines (Load named) h = absurd h
+    replay_from lines (TooLong named) h = absurd h
+
+-- ---- prefixes
+
+bound_or_not : (old new : Option (List ℕ)) (file : List ℕ) → HoldsPrefixOf old new file → HoldsPrefixIfBound old new file
+bound_or_not None new file h = tt
+bound_or_not (Some held) new file h = inr h
+
+pub cut_prefixes : (loads : List Call) (line : Line) (task : Task) (held holds : Ports) (ta tb : Told) (status : Status) → IsPlainTask task
+    → IsCut loads line task held holds ta tb status → ReadersHavePrefixesIfBound (Some task.file_a) (Some task.file_b) held holds
+cut_prefixes loads line task held holds ta tb status plain (inl h) = cut_runs_give_prefixes task held holds plain h.ports
+cut_prefixes loads line task held holds ta tb status plain (inr h) =
+    let p = lines_cut_give_prefixes task h.turns held holds plain h.ports in
+    record {
+      read_by_b = bound_or_not (held port.ReadByB) (holds port.ReadByB) task.file_a p.read_by_b;
+      read_by_a = bound_or_not (held port.ReadByA) (holds port.ReadByA) task.file_b p.read_by_a;
+    }
+
+-- the calls alone
+cut_calls : (loads : List Call) (line : Line) (task : Task) (held holds : Ports) (ta tb : Told) (status : Status) → IsCut loads line task held holds ta tb status
+    → (puts : List Call) × AddsCut (plan_of loads line puts) status ta tb
+cut_calls loads line task held holds ta tb status (inl h) = (puts_so_far task h.calls.0, h.calls.1.1)
+cut_calls loads line task held holds ta tb status (inr h) =
+    (puts_so_far task h.turns ++ last_put task h.turns, short_cut _ status ta tb h.calls)
 
 -- ---- what was read
 
@@ -178,145 +254,216 @@ module _ (content : List ℕ → Option (List ℕ)) (line : Line) where
       (subst (λ w. IfSome (option_and_then content (order_of w)) (λ told. IsOk (log_reading script told))) (sym is)
       (some_weaker (content log) _ _ (λ text same. ok_known (log_reading script text) turns same) h))
 
--- of two that may be known, in the other order
-turned : {X Y : Type 0} (o : Option X) (p : Option Y) (P : X → Y → Type 0) → IfSome o (λ x. IfSome p (λ y. P x y)) → IfSome p (λ y. IfSome o (λ x. P x y))
-turned None None P h = tt
-turned None (Some y) P h = tt
-turned (Some x) None P h = tt
-turned (Some x) (Some y) P h = h
-
 -- ---- answers
 
-module _ (content : List ℕ → Option (List ℕ)) (line : Line) (loads_before loads : ℕ) (faults_before faults : Port → ℕ) (held holds : Ports) where
+some_of : {X : Type 0} (o : Option X) (x : X) (P : X → Type 0) → IfSome o (λ y. x ≡ y) → P x → IfSome o P
+some_of None x P is p = tt
+some_of (Some y) x P is p = subst P is p
+
+module _ (content : List ℕ → Option (List ℕ)) (line : Line) (loads_before loads : ℕ) (faults_before faults : Port → ℕ) (held holds : Ports) (ta tb : Told) where
   abbrev Answer : Status → Type 0
-  Answer status = IsAnswer content line loads_before loads faults_before faults held holds status
+  Answer status = IsAnswer content line loads_before loads faults_before faults held holds ta tb status
 
   -- what a run of whole turns reads ends it
-  pub input_answer : (most : ℕ) (status : Status) → line.work ≡ serial most → IsUntouched held holds faults_before faults
-      → IsInputFault content line loads_before loads status → IsAnswer content line loads_before loads faults_before faults held holds status
-  input_answer most (Load named) is still h = record { cause = h; untouched = still }
-  input_answer most (TooLong named) is still h = record { cause = h; untouched = still }
-  input_answer most (ScriptStatus at kind) is still h = record { within = serial_within content line most is h.0; cause = h.1; untouched = still }
-  input_answer most Memory is still h = inl still
-  input_answer most Delivered is still h = absurd h
-  input_answer most Rounds is still h = absurd h
-  input_answer most NoPath is still h = absurd h
-  input_answer most (Aborted reader) is still h = absurd h
-  input_answer most Usage is still h = absurd h
-  input_answer most (Put p) is still h = absurd h
-  input_answer most (Log at) is still h = absurd h
+  pub input_answer : (most : ℕ) (plan : List Call) (status : Status) → line.work ≡ serial most → IsUntouched held holds faults_before faults
+      → IsInputFault content line loads_before loads status → plan ≡ loads_of line → InputAdds line plan ta tb status
+      → IsAnswer content line loads_before loads faults_before faults held holds ta tb status
+  input_answer most plan (Load named) is still h plan_is calls = record { cause = h; untouched = still; calls = calls }
+  input_answer most plan (TooLong named) is still h plan_is calls = record { cause = h; untouched = still; calls = calls }
+  input_answer most plan (ScriptStatus at kind) is still h plan_is calls = record {
+    within = serial_within content line most is h.0;
+    cause = h.1;
+    untouched = still;
+    calls = subst (λ xs. AddsAll xs ta tb) plan_is calls;
+  }
+  input_answer most plan Memory is still h plan_is calls = inl (record { untouched = still; calls = subst (λ xs. AddsCut xs Memory ta tb) plan_is calls })
+  input_answer most plan Delivered is still h plan_is calls = absurd h
+  input_answer most plan Rounds is still h plan_is calls = absurd h
+  input_answer most plan NoPath is still h plan_is calls = absurd h
+  input_answer most plan (Aborted reader) is still h plan_is calls = absurd h
+  input_answer most plan Usage is still h plan_is calls = absurd h
+  input_answer most plan (Put p) is still h plan_is calls = absurd h
+  input_answer most plan (Log at) is still h plan_is calls = absurd h
 
   -- what a run of the turns of a log reads does
   pub replay_input_answer : (log : List ℕ) (status : Status) → line.work ≡ replay log → IsUntouched held holds faults_before faults
-      → IsReplayInputFault content line loads_before loads status → IsAnswer content line loads_before loads faults_before faults held holds status
-  replay_input_answer log (Load named) is still h = record { cause = h; untouched = still }
-  replay_input_answer log (TooLong named) is still h = record { cause = h; untouched = still }
-  replay_input_answer log (ScriptStatus at kind) is still h = record { within = h.0; cause = h.1; untouched = still }
-  replay_input_answer log (Log at) is still h = record {
-    read = record { within = h.0; script = h.1.0 };
-    replay = (log, ap order_of is);
-    cause = some_weaker (content_of content line input.Order) _ _ (λ text form. inl (form, still))
-        (turned (script_of content line) (content_of content line input.Order) (λ script text. log_reading script text ≡ Err (log_fault.Line at)) h.1.1);
-  }
-  replay_input_answer log Memory is still h = inl still
-  replay_input_answer log Delivered is still h = absurd h
-  replay_input_answer log Rounds is still h = absurd h
-  replay_input_answer log NoPath is still h = absurd h
-  replay_input_answer log (Aborted reader) is still h = absurd h
-  replay_input_answer log Usage is still h = absurd h
-  replay_input_answer log (Put p) is still h = absurd h
+      → IsReplayInputFault content line loads_before loads status → InputAdds line (loads_of line) ta tb status
+      → IsAnswer content line loads_before loads faults_before faults held holds ta tb status
+  replay_input_answer log (Load named) is still h calls = record { cause = h; untouched = still; calls = calls }
+  replay_input_answer log (TooLong named) is still h calls = record { cause = h; untouched = still; calls = calls }
+  replay_input_answer log (ScriptStatus at kind) is still h calls = record { within = h.0; cause = h.1; untouched = still; calls = calls }
+  replay_input_answer log (Log at) is still h calls = inl (record {
+    replay = subst (λ w. IsSome (order_of w)) (sym is) refl;
+    within = h.0;
+    script = h.1.0;
+    cause = h.1.1;
+    untouched = still;
+    calls = calls;
+  })
+  replay_input_answer log Memory is still h calls = inl (record { untouched = still; calls = calls })
+  replay_input_answer log Delivered is still h calls = absurd h
+  replay_input_answer log Rounds is still h calls = absurd h
+  replay_input_answer log NoPath is still h calls = absurd h
+  replay_input_answer log (Aborted reader) is still h calls = absurd h
+  replay_input_answer log Usage is still h calls = absurd h
+  replay_input_answer log (Put p) is still h calls = absurd h
 
-  -- a run came to one of its own ends
-  pub end_answer : (status : Status) → HasEnded status → HasBeenReadWhole content line loads_before loads faults_before faults held holds → IfSome (task_of content line) (λ task. IsWhole task status held holds)
-      → IsAnswer content line loads_before loads faults_before faults held holds status
-  end_answer Delivered ended read whole = record { read = read; whole = whole }
-  end_answer Rounds ended read whole = record { read = read; whole = whole }
-  end_answer NoPath ended read whole = record { read = read; whole = whole }
-  end_answer (Aborted reader) ended read whole = record { read = read; whole = whole }
-  end_answer Usage ended read whole = absurd ended
-  end_answer (ScriptStatus at kind) ended read whole = absurd ended
-  end_answer (Load named) ended read whole = absurd ended
-  end_answer (Put p) ended read whole = absurd ended
-  end_answer (TooLong named) ended read whole = absurd ended
-  end_answer Memory ended read whole = absurd ended
-  end_answer (Log at) ended read whole = absurd ended
+  -- ---- behind the loads
 
-  -- a run of whole turns was cut off
-  pub cut_answer : (status : Status) → HasBeenReadWhole content line loads_before loads faults_before faults held holds → IsPortsFault faults_before faults status
-      → IfSome (task_of content line) (λ task. IsCut task held holds) → IsAnswer content line loads_before loads faults_before faults held holds status
-  cut_answer (Put p) read fault cut = record { read = read; cause = fault; cut = cut }
-  cut_answer Memory read fault cut = inr (record { read = read; cut = cut })
-  cut_answer Delivered read fault cut = absurd fault
-  cut_answer Rounds read fault cut = absurd fault
-  cut_answer NoPath read fault cut = absurd fault
-  cut_answer (Aborted reader) read fault cut = absurd fault
-  cut_answer Usage read fault cut = absurd fault
-  cut_answer (ScriptStatus at kind) read fault cut = absurd fault
-  cut_answer (Load named) read fault cut = absurd fault
-  cut_answer (TooLong named) read fault cut = absurd fault
-  cut_answer (Log at) read fault cut = absurd fault
+  module _ (task : Task) (known : IfSome (task_of content line) (λ t. t ≡ task)) (plain : IsPlainTask task)
+      (file_a : IfSome (content line.names.file_a) (λ text. task.file_a ≡ text)) (file_b : IfSome (content line.names.file_b) (λ text. task.file_b ≡ text))
+      (within : AreWithinLimits content line) (script : HasValidScript content line) (order : HasValidOrder content line) where
+    was_read : WasRead content line
+    was_read = record {
+      within = within;
+      script = script;
+      order = order;
+      kept = some_is (task_of content line) task IsAlwaysKept known (λ turns. plain_tasks_are_kept task turns plain);
+    }
 
-  -- a run of the turns of a log was, or one of them can't be made
-  pub replay_answer : (log : List ℕ) (opening : ℕ) (task : Task) (status : Status) → line.work ≡ replay log → HasBeenReadWhole content line loads_before loads faults_before faults held holds
-      → IfSome (content log) (λ text. opening ≡ opening_count text) → IfSome (task_of content line) (λ t. t ≡ task) → IsReplayFault faults_before faults status
-      → ReplayEnds task opening held holds status → IsAnswer content line loads_before loads faults_before faults held holds status
-  replay_answer log opening task (Log at) is read count known fault h = record {
-    read = record { within = read.within; script = read.script };
-    replay = (log, ap order_of is);
-    cause = subst (λ w. IfSome (option_and_then content (order_of w)) (λ text. IsRefusedLine (script_of content line) (task_of content line) text at (IsUntouched held holds faults_before faults) held holds)) (sym is)
-        (some_weaker (content log) (λ text. opening ≡ opening_count text) (λ text. IsRefusedLine (script_of content line) (task_of content line) text at (IsUntouched held holds faults_before faults) held holds)
-        (λ text same. inr (some_is (task_of content line) task (λ t. IsStopped t (opening_count text) at held holds) known (subst (λ n. IsStopped task n at held holds) same h))) count);
-  }
-  replay_answer log opening task (Put p) is read count known fault h = record { read = read; cause = fault; cut = some_is (task_of content line) task (λ t. IsCut t held holds) known h }
-  replay_answer log opening task Memory is read count known fault h = inr (record { read = read; cut = some_is (task_of content line) task (λ t. IsCut t held holds) known h })
-  replay_answer log opening task Delivered is read count known fault h = absurd h
-  replay_answer log opening task Rounds is read count known fault h = absurd h
-  replay_answer log opening task NoPath is read count known fault h = absurd h
-  replay_answer log opening task (Aborted reader) is read count known fault h = absurd h
-  replay_answer log opening task Usage is read count known fault h = absurd h
-  replay_answer log opening task (ScriptStatus at kind) is read count known fault h = absurd h
-  replay_answer log opening task (Load named) is read count known fault h = absurd h
-  replay_answer log opening task (TooLong named) is read count known fault h = absurd h
+    prefixes : ReadersHavePrefixes (Some task.file_a) (Some task.file_b) held holds
+        → ReadersHavePrefixes (content line.names.file_a) (content line.names.file_b) held holds
+    prefixes h = record {
+      read_by_b = some_of (content line.names.file_a) task.file_a _ file_a h.read_by_b;
+      read_by_a = some_of (content line.names.file_b) task.file_b _ file_b h.read_by_a;
+    }
 
--- the end of a replay, from ports that hold the same
-pub ends_from : (a b c : Ports) → ((p : Port) → b p ≡ a p) → (task : Task) (lines : ℕ) (status : Status) → ReplayEnds task lines b c status → ReplayEnds task lines a c status
-ends_from a b c same task lines (Log at) h = stopped_from a b c same task lines at h
-ends_from a b c same task lines (Put p) h = cut_from a b c same task h
-ends_from a b c same task lines Memory h = cut_from a b c same task h
-ends_from a b c same task lines Delivered h = absurd h
-ends_from a b c same task lines Rounds h = absurd h
-ends_from a b c same task lines NoPath h = absurd h
-ends_from a b c same task lines (Aborted reader) h = absurd h
-ends_from a b c same task lines Usage h = absurd h
-ends_from a b c same task lines (ScriptStatus at kind) h = absurd h
-ends_from a b c same task lines (Load named) h = absurd h
-ends_from a b c same task lines (TooLong named) h = absurd h
+    prefixes_if_bound : ReadersHavePrefixesIfBound (Some task.file_a) (Some task.file_b) held holds
+        → ReadersHavePrefixesIfBound (content line.names.file_a) (content line.names.file_b) held holds
+    prefixes_if_bound h = record {
+      read_by_b = some_of (content line.names.file_a) task.file_a _ file_a h.read_by_b;
+      read_by_a = some_of (content line.names.file_b) task.file_b _ file_b h.read_by_a;
+    }
+
+    files : ReadersHaveFiles (Some task.file_a) (Some task.file_b) held holds
+        → ReadersHaveFiles (content line.names.file_a) (content line.names.file_b) held holds
+    files h = record {
+      read_by_b = some_of (content line.names.file_a) task.file_a _ file_a h.read_by_b;
+      read_by_a = some_of (content line.names.file_b) task.file_b _ file_b h.read_by_a;
+    }
+
+    -- a run came to its own end
+    module _ (kept : task.report ≡ report.Log) (some : HasRounds task.course) (ends : EndsWithRound task.course) where
+      end_row : (status : Status) → CameToEnd (loads_of line) line task held holds ta tb status
+          → EndRow content line loads_before loads faults_before faults held holds ta tb status
+      end_row status h = record {
+        read = was_read;
+        whole = some_is (task_of content line) task (λ t. IsWhole t status held holds) known h.whole;
+        prefixes = prefixes (whole_runs_give_prefixes task status held holds plain h.whole);
+        logged = some_is (task_of content line) task (λ t. LogTellsTheRun t status held holds) known
+            (whole_runs_are_told task status held holds kept plain.ranges.few_paths some h.whole);
+        calls = (h.calls.0, (some_is (task_of content line) task (λ t. ArePuts t h.calls.0) known h.calls.1.0, h.calls.1.1));
+      }
+
+      pub end_answer : (status : Status) → CameToEnd (loads_of line) line task held holds ta tb status
+          → IsAnswer content line loads_before loads faults_before faults held holds ta tb status
+      end_answer Delivered h = (end_row Delivered h, files (delivered_runs_give_files task held holds plain ends h.whole))
+      end_answer Rounds h = end_row Rounds h
+      end_answer NoPath h = end_row NoPath h
+      end_answer (Aborted reader) h = end_row (Aborted reader) h
+      end_answer Usage h = absurd h.ended
+      end_answer (ScriptStatus at kind) h = absurd h.ended
+      end_answer (Load named) h = absurd h.ended
+      end_answer (Put p) h = absurd h.ended
+      end_answer (TooLong named) h = absurd h.ended
+      end_answer Memory h = absurd h.ended
+      end_answer (Log at) h = absurd h.ended
+
+    -- it was cut off
+    cut_row : (status : Status) → IsCut (loads_of line) line task held holds ta tb status
+        → CutRow content line loads_before loads faults_before faults held holds ta tb status
+    cut_row status h = record {
+      read = was_read;
+      cut = some_is (task_of content line) task (λ t. IsCut (loads_of line) line t held holds ta tb status) known h;
+      prefixes = prefixes_if_bound (cut_prefixes (loads_of line) line task held holds ta tb status plain h);
+      calls = cut_calls (loads_of line) line task held holds ta tb status h;
+    }
+
+    pub cut_answer : (status : Status) → IsPortsFault faults_before faults status → IsCut (loads_of line) line task held holds ta tb status
+        → IsAnswer content line loads_before loads faults_before faults held holds ta tb status
+    cut_answer (Put p) fault h = (fault, cut_row (Put p) h)
+    cut_answer Memory fault h = inr (cut_row Memory h)
+    cut_answer Delivered fault h = absurd fault
+    cut_answer Rounds fault h = absurd fault
+    cut_answer NoPath fault h = absurd fault
+    cut_answer (Aborted reader) fault h = absurd fault
+    cut_answer Usage fault h = absurd fault
+    cut_answer (ScriptStatus at kind) fault h = absurd fault
+    cut_answer (Load named) fault h = absurd fault
+    cut_answer (TooLong named) fault h = absurd fault
+    cut_answer (Log at) fault h = absurd fault
+
+    -- or one of its turns can't be made
+    module _ (log : List ℕ) (opening : ℕ) (is : line.work ≡ replay log) (count : IfSome (content log) (λ text. opening ≡ opening_count text)) where
+      turn_row : (at : ℕ) → IsHalted (loads_of line) line task held holds ta tb opening at
+          → TurnRow content line loads_before loads faults_before faults held holds ta tb at
+      turn_row at h = record {
+        replay = subst (λ w. IsSome (order_of w)) (sym is) refl;
+        read = was_read;
+        stopped = subst (λ w. IfSome (option_and_then content (order_of w)) (λ text. IfSome (task_of content line) (λ t. IsStopped t (opening_count text) at held holds))) (sym is)
+            (some_weaker (content log) (λ text. opening ≡ opening_count text) (λ text. IfSome (task_of content line) (λ t. IsStopped t (opening_count text) at held holds))
+            (λ text same. some_is (task_of content line) task (λ t. IsStopped t (opening_count text) at held holds) known (subst (λ n. IsStopped task n at held holds) same h.stopped)) count);
+        prefixes = prefixes (stopped_runs_give_prefixes task opening at held holds plain h.stopped);
+        calls = (h.calls.0, (some_is (task_of content line) task (λ t. ArePutsBefore t h.calls.0) known h.calls.1.0, h.calls.1.1));
+      }
+
+      pub replay_answer : (status : Status) → IsReplayFault faults_before faults status → ReplayEnds (loads_of line) line task held holds ta tb opening status
+          → IsAnswer content line loads_before loads faults_before faults held holds ta tb status
+      replay_answer (Log at) fault h = inr (turn_row at h)
+      replay_answer (Put p) fault h = (fault, cut_row (Put p) h)
+      replay_answer Memory fault h = inr (cut_row Memory h)
+      replay_answer Delivered fault h = absurd h
+      replay_answer Rounds fault h = absurd h
+      replay_answer NoPath fault h = absurd h
+      replay_answer (Aborted reader) fault h = absurd h
+      replay_answer Usage fault h = absurd h
+      replay_answer (ScriptStatus at kind) fault h = absurd h
+      replay_answer (Load named) fault h = absurd h
+      replay_answer (TooLong named) fault h = absurd h
 
 -- ---- the made input
 
-module _ (task : Task) (faults_before faults : Port → ℕ) (held holds : Ports) where
-  pub made_end_answer : (status : Status) → HasEnded status → IsWhole task status held holds → IsMadeAnswer task faults_before faults held holds status
-  made_end_answer Delivered ended whole = whole
-  made_end_answer Rounds ended whole = whole
-  made_end_answer NoPath ended whole = whole
-  made_end_answer (Aborted reader) ended whole = whole
-  made_end_answer Usage ended whole = absurd ended
-  made_end_answer (ScriptStatus at kind) ended whole = absurd ended
-  made_end_answer (Load named) ended whole = absurd ended
-  made_end_answer (Put p) ended whole = absurd ended
-  made_end_answer (TooLong named) ended whole = absurd ended
-  made_end_answer Memory ended whole = absurd ended
-  made_end_answer (Log at) ended whole = absurd ended
+module _ (made : Bench) (plain : IsPlainTask made.task) (loads_before loads : ℕ) (same : loads ≡ loads_before) (faults_before faults : Port → ℕ) (held holds : Ports) (ta tb : Told) where
+  with_row : (status : Status) → MadeRow made loads_before loads faults_before faults held holds ta tb status
+      → IsMadeAnswer made loads_before loads faults_before faults held holds ta tb status
+  with_row status row = record { row = row; kept = λ turns. plain_tasks_are_kept made.task turns plain; unloaded = same }
 
-  pub made_cut_answer : (status : Status) → IsPortsFault faults_before faults status → IsCut task held holds → IsMadeAnswer task faults_before faults held holds status
-  made_cut_answer (Put p) fault cut = record { cause = fault; cut = cut }
-  made_cut_answer Memory fault cut = cut
-  made_cut_answer Delivered fault cut = absurd fault
-  made_cut_answer Rounds fault cut = absurd fault
-  made_cut_answer NoPath fault cut = absurd fault
-  made_cut_answer (Aborted reader) fault cut = absurd fault
-  made_cut_answer Usage fault cut = absurd fault
-  made_cut_answer (ScriptStatus at kind) fault cut = absurd fault
-  made_cut_answer (Load named) fault cut = absurd fault
-  made_cut_answer (TooLong named) fault cut = absurd fault
-  made_cut_answer (Log at) fault cut = absurd fault
+  made_end_row : (status : Status) → CameToEnd [] made.line made.task held holds ta tb status
+      → MadeEndRow made loads_before loads faults_before faults held holds ta tb status
+  made_end_row status h = record {
+    whole = h.whole;
+    prefixes = whole_runs_give_prefixes made.task status held holds plain h.whole;
+    calls = h.calls;
+  }
+
+  pub made_end_answer : (status : Status) → EndsWithRound made.task.course → CameToEnd [] made.line made.task held holds ta tb status
+      → IsMadeAnswer made loads_before loads faults_before faults held holds ta tb status
+  made_end_answer Delivered ends h = with_row Delivered (made_end_row Delivered h, delivered_runs_give_files made.task held holds plain ends h.whole)
+  made_end_answer Rounds ends h = with_row Rounds (made_end_row Rounds h)
+  made_end_answer NoPath ends h = with_row NoPath (made_end_row NoPath h)
+  made_end_answer (Aborted reader) ends h = with_row (Aborted reader) (made_end_row (Aborted reader) h)
+  made_end_answer Usage ends h = absurd h.ended
+  made_end_answer (ScriptStatus at kind) ends h = absurd h.ended
+  made_end_answer (Load named) ends h = absurd h.ended
+  made_end_answer (Put p) ends h = absurd h.ended
+  made_end_answer (TooLong named) ends h = absurd h.ended
+  made_end_answer Memory ends h = absurd h.ended
+  made_end_answer (Log at) ends h = absurd h.ended
+
+  made_cut_row : (status : Status) → IsCut [] made.line made.task held holds ta tb status
+      → MadeCutRow made loads_before loads faults_before faults held holds ta tb status
+  made_cut_row status h = record { cut = h; prefixes = cut_prefixes [] made.line made.task held holds ta tb status plain h }
+
+  pub made_cut_answer : (status : Status) → IsPortsFault faults_before faults status → IsCut [] made.line made.task held holds ta tb status
+      → IsMadeAnswer made loads_before loads faults_before faults held holds ta tb status
+  made_cut_answer (Put p) fault h = with_row (Put p) (fault, made_cut_row (Put p) h)
+  made_cut_answer Memory fault h = with_row Memory (made_cut_row Memory h)
+  made_cut_answer Delivered fault h = absurd fault
+  made_cut_answer Rounds fault h = absurd fault
+  made_cut_answer NoPath fault h = absurd fault
+  made_cut_answer (Aborted reader) fault h = absurd fault
+  made_cut_answer Usage fault h = absurd fault
+  made_cut_answer (ScriptStatus at kind) fault h = absurd fault
+  made_cut_answer (Load named) fault h = absurd fault
+  made_cut_answer (TooLong named) fault h = absurd fault
+  made_cut_answer (Log at) fault h = absurd fault

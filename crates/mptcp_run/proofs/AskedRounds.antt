@@ -1,5 +1,5 @@
 -- A serial run is asked for one round at least, and the number of a made input is at most 256.
-use Rattle.std.proofs.Common.{◌≡◌, refl, ℕ, ◌≤◌, Bool, true, false, ◌&&◌, if◌then◌else◌, List, Option, Some, None, IfSome, arith}
+use Rattle.std.proofs.Common.{◌≡◌, refl, subst, ℕ, ◌≤◌, Bool, true, false, ◌&&◌, if◌then◌else◌, List, Option, Some, None, IfSome, arith}
 use Rattle.std.specs.Prelude.{nat_le, codes, option_map, option_and_then}
 use Rattle.std.specs.Str.{bytes_eq}
 use Rattle.std.specs.Str.Parse.{digits_value}
@@ -7,16 +7,10 @@ use Rattle.std.proofs.lemmas.Bool.{and_parts, leb-true}
 use Rattle.run_words.specs.Numbers.{is_numeral, number_within}
 use Rattle.run_words.specs.Parts.{Word, Part, parts_of, mode_option, rounds_option, order_option, number_option}
 use Rattle.run_words.specs.Lines.{at_most_once, values_of, names_of, names_in, Work, run, serial, replay, bench, Names, Line, ◌>>=◌, is_given, rounds_in, work_in, line_of_parts, line_of}
-use Rattle.mptcp_run.specs.Asked.{is_run, if_run, asked_in}
-
-abbrev pub AsksRounds : Work → Type 0
-AsksRounds (serial most) = 1 ≤ most
-AsksRounds (run most) = Unit {0}
-AsksRounds (replay log) = Unit {0}
-AsksRounds (bench most number) = number ≤ 256
+use Rattle.mptcp_run.specs.Asked.{AsksInRange}
 
 abbrev Asks : Line → Type 0
-Asks line = AsksRounds line.work
+Asks line = AsksInRange line.work
 
 bind_has : {X Y : Type 0} (o : Option X) (f : X → Option Y) (P : Y → Type 0) → ((x : X) → IfSome (f x) P) → IfSome (o >>= f) P
 bind_has None f P h = tt
@@ -55,24 +49,24 @@ some_rounds (Some word) = within_least 1 65536 word
 
 -- ---- the work
 
-plain_asks : (b c : Bool) (o : Option ℕ) → IfSome o (λ n. 1 ≤ n) → IfSome (if b then option_map run o else (if c then option_map serial o else None)) AsksRounds
+plain_asks : (b c : Bool) (o : Option ℕ) → IfSome o (λ n. 1 ≤ n) → IfSome (if b then option_map run o else (if c then option_map serial o else None)) AsksInRange
 plain_asks true c None h = tt
 plain_asks true c (Some n) h = tt
 plain_asks false true None h = tt
 plain_asks false true (Some n) h = h
 plain_asks false false o h = tt
 
-replay_asks : (b : Bool) (log : Word) → IfSome (if b then Some (replay log) else None) AsksRounds
+replay_asks : (b : Bool) (log : Word) → IfSome (if b then Some (replay log) else None) AsksInRange
 replay_asks true log = tt
 replay_asks false log = tt
 
-bench_asks : (b : Bool) (most number : Option ℕ) → IfSome number (λ n. n ≤ 256) → IfSome (if b then (most >>= λ n. number >>= λ input. Some (bench n input)) else None) AsksRounds
+bench_asks : (b : Bool) (most number : Option ℕ) → IfSome number (λ n. n ≤ 256) → IfSome (if b then (most >>= λ n. number >>= λ input. Some (bench n input)) else None) AsksInRange
 bench_asks true None number few = tt
 bench_asks true (Some n) None few = tt
 bench_asks true (Some n) (Some input) few = few
 bench_asks false most number few = tt
 
-work_asks : (word : Word) (rounds log number : Option Word) → IfSome (work_in word rounds log number) AsksRounds
+work_asks : (word : Word) (rounds log number : Option Word) → IfSome (work_in word rounds log number) AsksInRange
 work_asks word rounds None None = plain_asks (bytes_eq word (codes "run")) (bytes_eq word (codes "serial")) (rounds_in rounds) (some_rounds rounds)
 work_asks word None (Some log) None = replay_asks (bytes_eq word (codes "replay") && is_given log) log
 work_asks word (Some most) (Some log) None = tt
@@ -82,7 +76,7 @@ work_asks word (Some most) (Some log) (Some number) = tt
 
 -- ---- the line
 
-line_with : (o : Option Work) (names : Names) → IfSome o AsksRounds → IfSome (o >>= λ work. Some (record { work = work; names = names })) Asks
+line_with : (o : Option Work) (names : Names) → IfSome o AsksInRange → IfSome (o >>= λ work. Some (record { work = work; names = names })) Asks
 line_with None names h = tt
 line_with (Some work) names h = h
 
@@ -120,14 +114,6 @@ pub line_asks : (words : List Word) → IfSome (line_of words) Asks
 unfolding line_of
 line_asks words = bind_has (parts_of None words) line_of_parts Asks parts_ask
 
-run_asks : (o : Option Line) → IfSome o Asks → IfSome (option_and_then if_run o) Asks
-run_asks None h = tt
-run_asks (Some line) h = by (is_run line.work)
-  where
-    by : (b : Bool) → IfSome (if b then Some line else None) Asks
-    by true = h
-    by false = tt
-
-pub asked_rounds : (words : List (List ℕ)) → IfSome (asked_in words) (λ line. AsksRounds line.work)
-unfolding asked_in
-asked_rounds words = run_asks (line_of words) (line_asks words)
+-- so it is of a line that was read
+pub line_asked : (words : List Word) (line : Line) → line_of words ≡ Some line → AsksInRange line.work
+line_asked words line is = subst (λ (o : Option Line). IfSome o Asks) is (line_asks words)

@@ -5,7 +5,7 @@ use Rattle.outside_kit.specs.Calls.{Call, Made}
 use Rattle.mptcp_run.specs.declared.status.Status.{Status}
 use Rattle.mptcp_run.specs.declared.status.Status.TheVariants.{Memory}
 use Rattle.world_laws.specs.Serial.{OneOf}
-use Rattle.mptcp_run.specs.Plan.{succeeded, failed, Adds, AddsAll, Ends, AreCutAt, AddsCut}
+use Rattle.mptcp_run.specs.Plan.{succeeded, failed, Adds, AddsAll, Ends, AreCutAt, AddsCut, AreShortOf, AddsShort}
 
 abbrev pub Told : Type 0
 Told = Option (List Made)
@@ -62,3 +62,38 @@ cut_none plan status a b is h = ([], (is, h))
 -- memory was wanting behind the last call
 pub cut_over : (plan : List Call) (a b : Told) → AddsAll plan a b → AddsCut plan Memory a b
 cut_over plan a b h = subst (λ xs. AddsCut xs Memory a b) (append-nil plan) (cut_then plan [] Memory a b b h (cut_none [] Memory b b refl (adds_none b)))
+
+-- ---- plans that weren't made whole
+
+short_behind : (xs plan : List Call) (status : Status) (made : List Made) → AreShortOf plan status made
+    → AreShortOf (xs ++ plan) status (map succeeded xs ++ made)
+short_behind [] plan status made h = h
+short_behind (x ∷ xs) plan status made h = (refl, short_behind xs plan status made h)
+
+-- a part, and then one that isn't made whole
+pub short_then : (xs plan : List Call) (status : Status) (a b c : Told) → AddsAll xs a b → AddsShort plan status b c
+    → AddsShort (xs ++ plan) status a c
+short_then xs plan status a b c h k = (
+  map succeeded xs ++ k.0,
+  (short_behind xs plan status k.0 k.1.0, adds_then (map succeeded xs) k.0 a b c h k.1.1),
+)
+
+short_is_cut : (plan : List Call) (status : Status) (made : List Made) → AreShortOf plan status made → AreCutAt plan status made
+short_is_cut [] status made h = absurd h
+short_is_cut (x ∷ plan) status [] h = h
+short_is_cut (x ∷ plan) status (m ∷ made) h = (h.0, by m.ok (λ k. short_is_cut plan status made k) h.1)
+  where
+    by : (b : Bool) → (AreShortOf plan status made → AreCutAt plan status made)
+        → OneOf b (AreShortOf plan status made) ((made ≡ []) × Ends x status)
+        → OneOf b (AreCutAt plan status made) ((made ≡ []) × Ends x status)
+    by true f k = f k
+    by false f k = k
+
+-- such a plan was cut off
+pub short_cut : (plan : List Call) (status : Status) (a b : Told) → AddsShort plan status a b → AddsCut plan status a b
+short_cut plan status a b h = (h.0, (short_is_cut plan status h.0 h.1.0, h.1.1))
+
+-- the one call failed
+pub short_first : (call : Call) (status : Status) (a b : Told) → Ends call status → Adds (failed call ∷ []) a b
+    → AddsShort (call ∷ []) status a b
+short_first call status a b ends h = (failed call ∷ [], ((refl, (refl, ends)), h))

@@ -8,14 +8,14 @@ mod TurnsMade
 mod Inserting
 mod Performing
 mod Answering
-mod Causing
+mod Complete
 mod Gathering
 mod Turning
 mod Promised
 mod Unaltering
 mod LogEnds
 mod PlainTasks
-mod Promising
+mod Asking
 mod Starting
 mod RowsInRange
 mod LogWoven
@@ -25,5 +25,6 @@ mod AskedRounds
 mod MadeTasks
 mod Calls
 mod Loading
+mod Folding
+mod Courses
 mod PutsMade
-mod Planning

@@ -1,9 +1,14 @@
 -- Loads, one after the other, up to one that failed.
-use Rattle.std.proofs.Common.{◌≡◌, sym, ap, subst, ℕ, List, [], ◌∷◌, ◌++◌, map, Option, Some}
+use Rattle.std.proofs.Common.{◌≡◌, sym, ap, subst, ℕ, ◌<◌, ◌≤◌, false, List, [], ◌∷◌, ◌++◌, length, map, Option, Some, Result, Ok, Err, IfOk, arith}
+use Rattle.std.specs.List.{list_any}
 use Rattle.std.specs.Prelude.{IsSomeAnd}
 use Rattle.outside_kit.specs.Calls.{Call, Made}
 use Rattle.outside_kit.specs.Calls as call
 use Rattle.link_script.specs.declared.script.Script as link
+use Rattle.link_script.specs.Scripts.{HasRanges}
+use Rattle.world_core.specs.declared.input.Input.{Input}
+use Rattle.world_laws.specs.PlainScripts.{alters_payload}
+use Rattle.mptcp_run.specs.Promised.{IsPlainInput}
 use Rattle.run_words.specs.Lines.{Line, serial, replay}
 use Rattle.mptcp_run.specs.declared.status.Named.{Named}
 use Rattle.mptcp_run.specs.declared.status.Status.{Status}
@@ -100,3 +105,21 @@ serial_loads line most is = ap (λ w. first_loads line ++ load_of (order_of w)) 
 
 pub replay_loads : (line : Line) (log : List ℕ) → line.work ≡ replay log → first_loads line ++ call.Load log ∷ [] ≡ loads_of line
 replay_loads line log is = ap (λ w. first_loads line ++ load_of (order_of w)) (sym is)
+
+-- ---- what was read
+
+-- a script of which no line alters a payload, and two files within their limit
+pub plain_of : (input : Input) (a b : List ℕ) → HasRanges input.script → list_any alters_payload input.script.lines ≡ false
+    → input.file_a ≡ a → input.file_b ≡ b → length a ≤ 16777216 → length b ≤ 16777216 → IsPlainInput input
+plain_of input a b ranges unaltered a_is b_is few_a few_b = record {
+  ranges = ranges;
+  unaltered = unaltered;
+  short_a = subst (λ xs. length xs < 2147483646) (sym a_is) (omega (arith, few_a));
+  short_b = subst (λ xs. length xs < 2147483646) (sym b_is) (omega (arith, few_b));
+}
+
+pub plain_read : {E : Type 0} (r : Result Input E) (a b : List ℕ) → IfOk r (λ input. HasRanges input.script)
+    → IfOk r (λ input. list_any alters_payload input.script.lines ≡ false) → IfOk r (λ input. input.file_a ≡ a) → IfOk r (λ input. input.file_b ≡ b)
+    → length a ≤ 16777216 → length b ≤ 16777216 → IfOk r IsPlainInput
+plain_read (Ok input) a b ranges unaltered a_is b_is few_a few_b = plain_of input a b ranges unaltered a_is b_is few_a few_b
+plain_read (Err e) a b ranges unaltered a_is b_is few_a few_b = tt

@@ -23,7 +23,7 @@ use Rattle.mptcp_run.specs.Script.{actors_of, width_of}
 use Rattle.mptcp_run.specs.Task.{Connection, Task, Course, rounds, told, opened, turns_in, AreTurnsOf}
 use Rattle.mptcp_run.proofs.LogAgain.{log_read, rounds_logged}
 use Rattle.mptcp_run.proofs.LogWoven.{told_turns, AreWoven, turns_woven, told_to_the_end, course_lawful}
-use Rattle.mptcp_run.proofs.Performing.{counts_ends}
+use Rattle.mptcp_run.proofs.Courses.{counts_ends}
 use Rattle.mptcp_run.proofs.PortsLemmas.{whole_more, more_weaker}
 use Rattle.mptcp_run.proofs.Promised.{last_end_of_course}
 use Rattle.mptcp_run.proofs.UnderWay.{opened_begins}

@@ -15,13 +15,14 @@ use Rattle.link_script.specs.Ranges.{seeds, buffers, segment_sizes, delays, segm
 use Rattle.link_script.specs.Scripts.{IsInRange, IsPath, IsEvent, SettleApart, HasRanges}
 use Rattle.link_script.specs.Writing.{seed_lines, checksum_lines, short_lines, buffer_lines, path_lines, event_lines, lines_of}
 use Rattle.outside_kit.specs.declared.side.Side.TheVariants.{A, B}
-use Rattle.run_words.specs.Lines.{Line, Work, run, serial, replay, bench, line_of}
 use Rattle.mptcp_run.specs.Made.{words_at, path_line, made_paths, made_lines, drawn_octets, made_file, made_script, made_task, Bench, bench_by, bench_of, bench_in}
 use Rattle.world_core.specs.declared.input.Input.{Input}
 use Rattle.mptcp_run.specs.declared.report.Report.TheVariants.{Summary}
 use Rattle.mptcp_run.specs.Task.{rounds, task_with}
-use Rattle.mptcp_run.specs.Promised.{IsPlainTask, EndsWithRound}
-use Rattle.mptcp_run.proofs.AskedRounds.{AsksRounds, line_asks}
+use Rattle.mptcp_run.specs.Asked.{AsksInRange}
+use Rattle.mptcp_run.specs.Promised.{IsPlainTask}
+use Rattle.mptcp_run.proofs.AskedRounds.{line_asks}
+use Rattle.run_words.specs.Lines.{Line, Work, run, serial, replay, bench, line_of}
 
 -- ---- drawing
 
@@ -112,7 +113,7 @@ script_in_range number low = record {
   few_lines = few_lines number;
 }
 
-made_is_plain : (number most : ℕ) → number ≤ 256 → IsPlainTask (made_task number most)
+pub made_is_plain : (number most : ℕ) → number ≤ 256 → IsPlainTask (made_task number most)
 made_is_plain number most few = record {
   ranges = script_in_range number (omega (arith, few));
   unaltered = refl;
@@ -120,26 +121,21 @@ made_is_plain number most few = record {
   short_b = let many = octets_many number 1001 (16384 * number) in omega (arith, many, few);
 }
 
+-- what holds of each made input that can be asked for
 module _ (P : Bench → Type 0) (p : (line : Line) (number most : ℕ) → number ≤ 256 → P (record { line = line; task = made_task number most })) where
-  of_work : (work : Work) (line : Line) → AsksRounds work → IfSome (bench_by work line) P
+  of_work : (work : Work) (line : Line) → AsksInRange work → IfSome (bench_by work line) P
   of_work (bench most number) line few = p line number most few
   of_work (run most) line few = tt
   of_work (serial most) line few = tt
   of_work (replay log) line few = tt
 
-  of_line : (o : Option Line) → IfSome o (λ line. AsksRounds line.work) → IfSome (option_and_then bench_of o) P
+  of_line : (o : Option Line) → IfSome o (λ line. AsksInRange line.work) → IfSome (option_and_then bench_of o) P
   of_line None h = tt
   of_line (Some line) h = of_work line.work line h
 
   pub of_words : (words : List (List ℕ)) → IfSome (bench_in words) P
   unfolding bench_in
   of_words words = of_line (line_of words) (line_asks words)
-
-pub bench_is_plain : (words : List (List ℕ)) → IfSome (bench_in words) (λ bench. IsPlainTask bench.task)
-bench_is_plain = of_words (λ bench. IsPlainTask bench.task) (λ line number most few. made_is_plain number most few)
-
-pub bench_ends : (words : List (List ℕ)) → IfSome (bench_in words) (λ bench. IsPlainTask bench.task × EndsWithRound bench.task.course)
-bench_ends = of_words (λ bench. IsPlainTask bench.task × EndsWithRound bench.task.course) (λ line number most few. (made_is_plain number most few, tt))
 
 -- what was made is the task's
 pub made_with : (input : Input) (number most : ℕ) → input.script ≡ made_script number → input.file_a ≡ made_file number 1000 → input.file_b ≡ made_file number 1001

@@ -141,10 +141,6 @@ after_from a b c f same h = subst (λ o. HoldsAfter o c f) same h
 
 -- ---- faults
 
-pub IfOk-with : {T E S : Type 0} {P Q : T → Type 0} (r : Result T E) → ((x : T) → P x → S → Q x) → IfOk r P → OnOk r S → IfOk r Q
-IfOk-with (Ok x) f p s = f x p s
-IfOk-with (Err e) f p s = tt
-
 pub IfErr-map : {T E : Type 0} {P Q : E → Type 0} (r : Result T E) → ((e : E) → P e → Q e) → IfErr r P → IfErr r Q
 IfErr-map (Ok x) f p = tt
 IfErr-map (Err e) f p = f e p
@@ -153,9 +149,13 @@ pub IfErr-both : {T E S : Type 0} {P Q : E → Type 0} (r : Result T E) → ((e 
 IfErr-both (Ok x) f p s = tt
 IfErr-both (Err e) f p s = f e p s
 
-pub IfErr-two : {T E : Type 0} {P Q R : E → Type 0} (r : Result T E) → ((e : E) → P e → Q e → R e) → IfErr r P → IfErr r Q → IfErr r R
-IfErr-two (Ok x) f p q = tt
-IfErr-two (Err e) f p q = f e p q
+pub IfOk-and : {T E S R : Type 0} {P Q : T → Type 0} (r : Result T E) → ((x : T) → P x → S → R → Q x) → IfOk r P → OnOk r S → OnOk r R → IfOk r Q
+IfOk-and (Ok x) f p s t = f x p s t
+IfOk-and (Err e) f p s t = tt
+
+pub IfErr-three : {T E S : Type 0} {P Q R : E → Type 0} (r : Result T E) → ((e : E) → P e → Q e → S → R e) → IfErr r P → IfErr r Q → OnErr r S → IfErr r R
+IfErr-three (Ok x) f p q s = tt
+IfErr-three (Err e) f p q s = f e p q s
 
 -- a count that has risen later has risen
 pub risen_later : (old middle new : ℕ) → old ≤ middle → HasRisen middle new → HasRisen old new

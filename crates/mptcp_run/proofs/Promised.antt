@@ -1,4 +1,4 @@
--- The reader ports hold fronts of the files.
+-- The readers' ports hold prefixes of the files.
 use Rattle.std.proofs.Common.{◌≡◌, refl, sym, ◌∙◌, ap, subst, ℕ, zero, suc, inl, inr, ◌⊎◌, Bool, true, false, ◌&&◌, List, [], ◌∷◌, ◌++◌, Option, Some, None}
 use Rattle.std.specs.Prelude.{IsSomeAnd}
 use Rattle.std.proofs.lemmas.List.{append_assoc}
@@ -10,12 +10,13 @@ use Rattle.world_laws.specs.Openings.{start_of}
 use Rattle.world_laws.specs.Outcomes.{outcome_by, outcome_of, output_of, tells_end, was_told, notes_of}
 use Rattle.world_laws.specs.Serial.{steps_and, round_and, spelled}
 use Rattle.world_laws.specs.Worlds.{Turn, world_step, end_round, world_run}
-use Rattle.world_laws.proofs.PromisesOfScripts.{plain_scripts_keep_all_promises}
+use Rattle.world_laws.proofs.PromisesOfScripts.{plain_scripts_keep_all_promises, plain_scripts_are_shown_of_values}
+use Rattle.world_laws.proofs.RoundsDone.{rounds_end_on_time, rounds_are_done}
 use Rattle.world_laws.proofs.CastLifting.{writes_the_files}
 use Rattle.mptcp_run.specs.declared.status.Status.TheVariants.{Delivered}
 use Rattle.mptcp_run.specs.Ports.{HoldsWithin}
 use Rattle.mptcp_run.specs.Putting.{round_ends, last_end, status_of, read_so_far, world_after}
-use Rattle.mptcp_run.specs.Promised.{IsPlainTask, EndsWithRound, HoldsFront, HoldsFrontIfBound, PlainTasksAreKept, WholeRunsGiveFronts, DeliveredRunsGiveFiles, StoppedRunsGiveFronts, CutRunsGiveFronts}
+use Rattle.mptcp_run.specs.Promised.{IsPlainTask, EndsWithRound, HoldsPrefixOf, HoldsPrefixIfBound, PlainTasksAreKept, WholeRunsGivePrefixes, DeliveredRunsGiveFiles, StoppedRunsGivePrefixes, CutRunsGivePrefixes, LinesCutGivePrefixes}
 use Rattle.mptcp_run.specs.Task.{Connection, Task, Course, rounds, told, opened, AreTurnsOf}
 
 -- ---- prefixes
@@ -24,20 +25,20 @@ prefix_of_prefix : (xs ys zs : List ℕ) → IsPrefix xs ys → IsPrefix ys zs �
 prefix_of_prefix xs ys zs p q =
     record { rest = p.rest ++ q.rest; whole_is = q.whole_is ∙ ap (λ front. front ++ q.rest) p.whole_is ∙ append_assoc xs p.rest q.rest }
 
-front_held : (old new : Option (List ℕ)) (text file : List ℕ) → HoldsAfter old new (λ _. text) → IsPrefix text file → HoldsFront old new file
-front_held None new text file holds front = tt
-front_held (Some held) new text file holds front = subst (λ (o : Option (List ℕ)). IsSomeAnd o (λ text. IsPrefix text file)) (sym holds) front
+prefix_held : (old new : Option (List ℕ)) (text file : List ℕ) → HoldsAfter old new (λ _. text) → IsPrefix text file → HoldsPrefixOf old new file
+prefix_held None new text file holds part = tt
+prefix_held (Some held) new text file holds part = subst (λ (o : Option (List ℕ)). IsSomeAnd o (λ text. IsPrefix text file)) (sym holds) part
 
 file_held : (old new : Option (List ℕ)) (text file : List ℕ) → HoldsAfter old new (λ _. text) → text ≡ file → HoldsAfter old new (λ _. file)
 file_held None new text file holds is = tt
 file_held (Some held) new text file holds is = holds ∙ ap (λ xs. Some xs) is
 
 cut_held : (unbegun : Type 0) (old new : Option (List ℕ)) (low high file : List ℕ) → HoldsWithin unbegun old new low high → IsPrefix high file
-    → HoldsFrontIfBound old new file
-cut_held unbegun None new low high file holds front = tt
-cut_held unbegun (Some held) new low high file (inl before) front = inl before.1
-cut_held unbegun (Some held) new low high file (inr (text, both)) front =
-    inr (subst (λ (o : Option (List ℕ)). IsSomeAnd o (λ text. IsPrefix text file)) (sym both.0) (prefix_of_prefix text high file both.1.most front))
+    → HoldsPrefixIfBound old new file
+cut_held unbegun None new low high file holds part = tt
+cut_held unbegun (Some held) new low high file (inl before) part = inl before.1
+cut_held unbegun (Some held) new low high file (inr (text, both)) part =
+    inr (subst (λ (o : Option (List ℕ)). IsSomeAnd o (λ text. IsPrefix text file)) (sym both.0) (prefix_of_prefix text high file both.1.most part))
 
 -- ---- the last round's end
 
@@ -99,16 +100,19 @@ pub plain_tasks_are_kept : PlainTasksAreKept
 plain_tasks_are_kept task turns plain = record {
   promises = plain_scripts_keep_all_promises task.script task.file_a task.file_b turns plain;
   files = writes_the_files octets (start_of task.script task.file_a task.file_b) turns;
+  values = plain_scripts_are_shown_of_values task.script task.file_a task.file_b turns plain;
+  on_time = rounds_end_on_time octets (start_of task.script task.file_a task.file_b) turns;
+  done = rounds_are_done octets (start_of task.script task.file_a task.file_b) turns;
 }
 
 module _ (task : Task) (plain : IsPlainTask task) where
   -- after turns
-  b_reads_a_front : (turns : List Turn) → IsPrefix (output_of B (world_after task turns)) task.file_a
-  b_reads_a_front turns =
+  b_reads_a_prefix : (turns : List Turn) → IsPrefix (output_of B (world_after task turns)) task.file_a
+  b_reads_a_prefix turns =
       let kept = plain_tasks_are_kept task turns plain in prefix_of_prefix _ _ task.file_a kept.promises.word.ab.prefix kept.files.a.front
 
-  a_reads_a_front : (turns : List Turn) → IsPrefix (output_of A (world_after task turns)) task.file_b
-  a_reads_a_front turns =
+  a_reads_a_prefix : (turns : List Turn) → IsPrefix (output_of A (world_after task turns)) task.file_b
+  a_reads_a_prefix turns =
       let kept = plain_tasks_are_kept task turns plain in prefix_of_prefix _ _ task.file_b kept.promises.word.ba.prefix kept.files.b.front
 
   -- at the last round's end
@@ -122,30 +126,36 @@ module _ (task : Task) (plain : IsPlainTask task) where
         by (inl is) = subst P (sym is) (always [])
         by (inr (front, is)) = subst P (sym is) (always front)
 
-  b_has_a_front : (turns : List Turn) → IsPrefix (read_so_far B task turns) task.file_a
-  b_has_a_front = at_last_end (λ w. IsPrefix (output_of B w) task.file_a) b_reads_a_front
+  b_has_a_prefix : (turns : List Turn) → IsPrefix (read_so_far B task turns) task.file_a
+  b_has_a_prefix = at_last_end (λ w. IsPrefix (output_of B w) task.file_a) b_reads_a_prefix
 
-  a_has_a_front : (turns : List Turn) → IsPrefix (read_so_far A task turns) task.file_b
-  a_has_a_front = at_last_end (λ w. IsPrefix (output_of A w) task.file_b) a_reads_a_front
+  a_has_a_prefix : (turns : List Turn) → IsPrefix (read_so_far A task turns) task.file_b
+  a_has_a_prefix = at_last_end (λ w. IsPrefix (output_of A w) task.file_b) a_reads_a_prefix
 
-pub whole_runs_give_fronts : WholeRunsGiveFronts
-whole_runs_give_fronts task status old new plain whole = record {
-  read_by_b = front_held _ _ (read_so_far B task whole.turns) task.file_a whole.ports.read_by_b (b_has_a_front task plain whole.turns);
-  read_by_a = front_held _ _ (read_so_far A task whole.turns) task.file_b whole.ports.read_by_a (a_has_a_front task plain whole.turns);
+pub whole_runs_give_prefixes : WholeRunsGivePrefixes
+whole_runs_give_prefixes task status old new plain whole = record {
+  read_by_b = prefix_held _ _ (read_so_far B task whole.turns) task.file_a whole.ports.read_by_b (b_has_a_prefix task plain whole.turns);
+  read_by_a = prefix_held _ _ (read_so_far A task whole.turns) task.file_b whole.ports.read_by_a (a_has_a_prefix task plain whole.turns);
 }
 
-pub stopped_runs_give_fronts : StoppedRunsGiveFronts
-stopped_runs_give_fronts task opening line old new plain stopped = record {
-  read_by_b = front_held _ _ (read_so_far B task stopped.before) task.file_a stopped.ports.read_by_b (b_has_a_front task plain stopped.before);
-  read_by_a = front_held _ _ (read_so_far A task stopped.before) task.file_b stopped.ports.read_by_a (a_has_a_front task plain stopped.before);
+pub stopped_runs_give_prefixes : StoppedRunsGivePrefixes
+stopped_runs_give_prefixes task opening line old new plain stopped = record {
+  read_by_b = prefix_held _ _ (read_so_far B task stopped.before) task.file_a stopped.ports.read_by_b (b_has_a_prefix task plain stopped.before);
+  read_by_a = prefix_held _ _ (read_so_far A task stopped.before) task.file_b stopped.ports.read_by_a (a_has_a_prefix task plain stopped.before);
 }
 
-pub cut_runs_give_fronts : CutRunsGiveFronts
-cut_runs_give_fronts task old new plain cut = record {
+pub cut_runs_give_prefixes : CutRunsGivePrefixes
+cut_runs_give_prefixes task old new plain cut = record {
   read_by_b = cut_held _ _ _ (read_so_far B task cut.turns) (read_so_far B task (cut.turns ++ cut.more)) task.file_a cut.ports.read_by_b
-      (b_has_a_front task plain (cut.turns ++ cut.more));
+      (b_has_a_prefix task plain (cut.turns ++ cut.more));
   read_by_a = cut_held _ _ _ (read_so_far A task cut.turns) (read_so_far A task (cut.turns ++ cut.more)) task.file_b cut.ports.read_by_a
-      (a_has_a_front task plain (cut.turns ++ cut.more));
+      (a_has_a_prefix task plain (cut.turns ++ cut.more));
+}
+
+pub lines_cut_give_prefixes : LinesCutGivePrefixes
+lines_cut_give_prefixes task turns old new plain ports = record {
+  read_by_b = prefix_held _ _ (read_so_far B task turns) task.file_a ports.read_by_b (b_has_a_prefix task plain turns);
+  read_by_a = prefix_held _ _ (read_so_far A task turns) task.file_b ports.read_by_a (a_has_a_prefix task plain turns);
 }
 
 -- ---- delivered

@@ -12,12 +12,11 @@ use Rattle.world_laws.specs.Serial.{goes_on, after_round}
 use Rattle.world_laws.specs.Worlds.{Turn, end_round, after_turn, IsLawfulTurn}
 use Rattle.mptcp_run.specs.declared.status.Status.{Status}
 use Rattle.mptcp_run.specs.declared.status.Status.TheVariants.{Delivered, Rounds, NoPath, Aborted, Usage, Script, Load, Put, TooLong, Memory, Log}
-use Rattle.mptcp_run.specs.Adding.{RoundsAdd, RoundAddsCut, RoundsAddCut, turn_puts, TurnAddsCut, TurnEnds, TurnsAddCut, TurnsEnd}
+use Rattle.mptcp_run.specs.Adding.{RoundAddsCut, turn_puts, TurnAddsCut, TurnEnds}
 use Rattle.mptcp_run.specs.Plan.{AddsAll, AddsCut, puts_of, read_in, round_puts, puts_by_round}
 use Rattle.mptcp_run.specs.Ports.{IsPortsFault}
 use Rattle.mptcp_run.specs.Putting.{round_ends, round_text}
 use Rattle.mptcp_run.specs.Replaying.{last_after, rounds_after, round_turn, StepFault}
-use Rattle.mptcp_run.specs.Rounds.{ends_by}
 use Rattle.run_log.specs.declared.turn.Turn as log_turn
 use Rattle.run_log.specs.declared.turn.Turn.TheVariants as logged
 use Rattle.mptcp_run.specs.Task.{Connection, turn_of}
@@ -25,6 +24,7 @@ use Rattle.mptcp_run.specs.Weaving.{IsSince, made_at, since}
 use Rattle.mptcp_run.proofs.Calls.{Told, adds_none, all_then, cut_then, cut_longer, cut_none}
 use Rattle.mptcp_run.proofs.RoundSteps.{read_grew, steps_since}
 use Rattle.mptcp_run.proofs.RoundsMade.{one_true, one_false, one_both}
+use Rattle.mptcp_run.proofs.Folding.{RoundsAdd, RoundsAddCut, TurnsAddCut, TurnsEnd, ends_by}
 
 -- ---- one round
 

@@ -6,10 +6,11 @@ use Rattle.path_core.specs.Octets.{octets}
 use Rattle.world_laws.specs.Outcomes.{outcome_of, output_of}
 use Rattle.world_laws.specs.Serial.{goes_on, OneOf, AreRounds, after_round}
 use Rattle.world_core.specs.Rounds.{RoundTo}
-use Rattle.mptcp_run.specs.Rounds.{HoldsRound, HoldsPart, ends_by, RoundsPut, RoundCut, RoundsCut}
+use Rattle.mptcp_run.specs.Rounds.{HoldsRound, HoldsPart, RoundCut}
 use Rattle.mptcp_run.specs.Task.{Connection}
 use Rattle.mptcp_run.proofs.PortsLemmas.{IsPrefix-refl}
 use Rattle.mptcp_run.proofs.RoundSteps.{nothing_part, nothing_ends, ends_more, part_behind}
+use Rattle.mptcp_run.proofs.Folding.{ends_by, RoundsPut, RoundsCut}
 
 pub one_true : (b : Bool) (this that : Type 0) → b ≡ true → this → OneOf b this that
 one_true b this that is x = subst (λ c. OneOf c this that) (sym is) x

@@ -1,144 +1,183 @@
--- A run from its opening to its end.
-use Rattle.std.proofs.Common.{◌≡◌, refl, sym, ap, subst, ℕ, inl, List, [], Option, Some, None}
+-- A run that was opened, and how it goes on.
+use Rattle.std.proofs.Common.{◌≡◌, refl, sym, ◌∙◌, ap, subst, ℕ, ◌+◌, List, [], Option, length}
 use Rattle.outside_kit.specs.declared.port.Port.{Port}
-use Rattle.outside_kit.specs.declared.port.Port.TheVariants as port
+use Rattle.run_words.specs.Lines.{Line}
 use Rattle.world_core.specs.declared.input.Input.{Input}
 use Rattle.world_core.specs.Kept.{Kept}
-use Rattle.world_laws.specs.Openings.{start_of}
-use Rattle.world_laws.specs.declared.outcome.Outcome.{Outcome}
-use Rattle.world_laws.specs.declared.outcome.Outcome.TheVariants as outcome
+use Rattle.world_laws.specs.Openings.{start_of, opened_world}
 use Rattle.world_laws.specs.Outcomes.{outcome_of}
-use Rattle.world_laws.specs.Serial.{IsSerial}
 use Rattle.world_laws.specs.Worlds.{Turn}
-use Rattle.path_core.specs.Octets.{octets}
 use Rattle.mptcp_run.specs.declared.report.Report.{Report}
 use Rattle.mptcp_run.specs.declared.report.Report.TheVariants as report
 use Rattle.mptcp_run.specs.declared.rounds.Run.{Run}
 use Rattle.mptcp_run.specs.declared.status.Status.{Status}
 use Rattle.mptcp_run.specs.declared.status.Status.TheVariants.{Delivered, Rounds, NoPath, Aborted, Usage, Script, Load, Put, TooLong, Memory, Log}
-use Rattle.mptcp_run.specs.Answers.{HasEnded}
-use Rattle.mptcp_run.specs.Ports.{NeverFall, IsPortsFault, HoldsWithin}
-use Rattle.mptcp_run.proofs.PortsLemmas.{risen_later}
-use Rattle.mptcp_run.specs.Putting.{status_of, last_line, last_line_of, log_opening, opening_of, IsWhole, IsCut, ReplayEnds}
+use Rattle.mptcp_run.specs.Courses.{CourseMade, CourseCut, LogStops}
+use Rattle.mptcp_run.specs.Ends.{CameToEnd, IsCut, ReplayEnds}
+use Rattle.mptcp_run.specs.Plan.{AddsAll, AddsShort, binds_of, puts_so_far}
+use Rattle.mptcp_run.specs.Ports.{NeverFall, IsPortsFault}
+use Rattle.mptcp_run.specs.Putting.{round_ends, opening_of, opening_in, status_of, ends_of, world_after, last_line, last_line_of}
 use Rattle.mptcp_run.specs.Replaying.{IsReplayFault}
-use Rattle.mptcp_run.specs.Rounds.{Begins, AtRound, IsOpened, RoundsPut, RoundsCut, TurnsPut, TurnsFault}
-use Rattle.mptcp_run.specs.Task.{Connection, Task, task_from, task_with, opened}
+use Rattle.mptcp_run.specs.Rounds.{Begins, AtRound, IsOpened}
+use Rattle.mptcp_run.specs.Task.{Connection, Task, task_with, task_from, opened}
 use Rattle.mptcp_run.specs.Task as course
+use Rattle.mptcp_run.proofs.Calls.{Told, all_then}
+use Rattle.mptcp_run.proofs.Performing.{AreBound, LogGrew, LogGrewPart, rounds_held, line_put, line_done, line_short, rounds_short}
+use Rattle.mptcp_run.proofs.PortsLemmas.{risen_later}
 use Rattle.mptcp_run.proofs.UnderWay.{opened_begins}
-use Rattle.mptcp_run.proofs.Performing.{AreBound, LogGrew, LogGrewPart, begin_cut, serial_whole, serial_cut, serial_begin_cut, serial_end_cut, line_of_serial, replay_whole, replay_cut, replay_begin_cut, replay_end_cut, replay_stopped}
 
 abbrev Ports : Type 0
 Ports = Port → Option (List ℕ)
 
--- a run that was opened begins its first round
-pub opened_at : (input : Input) (kind : Report) (run : Run) → IsOpened input kind run → AtRound run
-opened_at input kind run h = record {
-  stands = ap (λ (k : Kept). k.failed) h.world;
-  begins = subst (λ (k : Kept). Begins k.state) (sym h.world) (opened_begins (start_of input.script input.file_a input.file_b));
-  made_is = h.made_is;
-}
+module _ (input : Input) (kind : Report) (run : Run) (h : IsOpened input kind run) where
+  -- it begins its first round
+  pub opened_at : AtRound run
+  opened_at = record {
+    stands = ap (λ (k : Kept). k.failed) h.world;
+    begins = subst (λ (k : Kept). Begins k.state) (sym h.world) (opened_begins (start_of input.script input.file_a input.file_b));
+    made_is = h.made_is;
+  }
 
-pub has_ended : (o : Outcome) (status : Status) → status ≡ status_of o → HasEnded status
-has_ended outcome.Going status is = subst HasEnded (sym is) tt
-has_ended outcome.Delivered status is = subst HasEnded (sym is) tt
-has_ended (outcome.Aborted reader) status is = subst HasEnded (sym is) tt
-has_ended outcome.NoPath status is = subst HasEnded (sym is) tt
+  -- what holds from it on holds from the opening on
+  pub as_opened : (P : Option (List ℕ) → Connection → Type 0) → P run.opening run.world.state
+      → P (opening_of kind input.script) (opened_world (start_of input.script input.file_a input.file_b))
+  as_opened P p =
+      subst (λ o. P o (opened_world (start_of input.script input.file_a input.file_b))) h.opening (subst (λ (k : Kept). P run.opening k.state) h.world p)
 
-module _ (input : Input) (kind : Report) (run : Run) (h : IsOpened input kind run) (most : ℕ) where
-  abbrev serial_run : Task
-  serial_run = task_with input (course.rounds most) kind
+-- ---- the last line
 
-  start_put : (count : ℕ) (v : Connection) (b c : Ports) → RoundsPut run.opening most 0 count run.world.state v b c
-      → RoundsPut (opening_of kind input.script) most 0 count (opened serial_run) v b c
-  start_put count v b c put = subst (λ o. RoundsPut o most 0 count (opened serial_run) v b c) h.opening (subst (λ (k : Kept). RoundsPut run.opening most 0 count k.state v b c) h.world put)
+-- after so many rounds
+pub line_after : (task : Task) (count : ℕ) (v : Connection) (turns : List Turn) → count ≡ length (ends_of task turns) → v ≡ world_after task turns
+    → last_line_of task.report count v ≡ last_line task turns
+line_after task count v turns many end =
+    ap (λ n. last_line_of task.report n v) many ∙ ap (last_line_of task.report (length (ends_of task turns))) end
 
-  start_cut : (b c : Ports) → RoundsCut run.opening most 0 run.world.state b c
-      → RoundsCut (opening_of kind input.script) most 0 (opened serial_run) b c
-  start_cut b c cut = subst (λ o. RoundsCut o most 0 (opened serial_run) b c) h.opening (subst (λ (k : Kept). RoundsCut run.opening most 0 k.state b c) h.world cut)
+-- that of a log doesn't tell how many rounds ended
+pub logged_line : (task : Task) (turns : List Turn) (count : ℕ) (v : Connection) → task.report ≡ report.Log → v ≡ world_after task turns
+    → last_line_of report.Log count v ≡ last_line task turns
+logged_line task turns count v kept end =
+    ap (last_line_of report.Log (length (ends_of task turns))) end ∙ ap (λ r. last_line_of r (length (ends_of task turns)) (world_after task turns)) (sym kept)
 
-  pub serial_ends : (count : ℕ) (v : Connection) (status : Status) (a b c d : Ports) → AreBound a b → RoundsPut run.opening most 0 count run.world.state v b c
-      → status ≡ status_of (outcome_of v.crew) → LogGrew (last_line_of kind count v) c d → IsWhole (task_with input (course.rounds most) kind) status a d
-  serial_ends count v status a b c d bound put shown grew =
-      serial_whole serial_run most refl count v status a b c d bound (start_put count v b c put) shown grew
+-- ---- from its first round to the last line
 
-  pub serial_line : (count : ℕ) (v : Connection) (b c : Ports) → RoundsPut run.opening most 0 count run.world.state v b c
-      → (turns : List Turn) → IsSerial octets most turns (opened serial_run) → last_line_of kind count v ≡ last_line (task_with input (course.rounds most) kind) turns
-  serial_line count v b c put turns serial = line_of_serial serial_run most refl count v b c (start_put count v b c put) turns serial
+module _ (input : Input) (kind : Report) (run : Run) (h : IsOpened input kind run) (line : Line) (ha hb hc : Ports) (held : AreBound ha hb) (a b c : Told)
+    (bound : AddsAll (binds_of line) a b) where
+  -- whole turns
+  module _ (most : ℕ) where
+    abbrev serial_run : Task
+    serial_run = task_with input (course.rounds most) kind
 
-  pub serial_is_cut : (a b c : Ports) → AreBound a b → RoundsCut run.opening most 0 run.world.state b c → IsCut (task_with input (course.rounds most) kind) a c
-  serial_is_cut a b c bound cut = serial_cut serial_run most refl a b c bound (start_cut b c cut)
+    pub serial_short : (status : Status) → CourseCut (course.rounds most) run.opening run.world.state hb hc b c status
+        → IsCut [] line (task_with input (course.rounds most) kind) ha hc a c status
+    serial_short status cut =
+        rounds_short line serial_run ha hb hc held a b c bound status (as_opened input kind run h (λ o w. CourseCut (course.rounds most) o w hb hc b c status) cut)
 
-  pub serial_line_cut : (count : ℕ) (v : Connection) (a b c d : Ports) → AreBound a b → RoundsPut run.opening most 0 count run.world.state v b c
-      → LogGrewPart (last_line_of kind count v) c d → IsCut (task_with input (course.rounds most) kind) a d
-  serial_line_cut count v a b c d bound put grew =
-      serial_end_cut serial_run most refl count v a b c d bound (start_put count v b c put) grew
+    module _ (count : ℕ) (v : Connection) (status : Status) (hd : Ports) (d : Told)
+        (ok : (m : CourseMade (course.rounds most) run.opening run.world.state v hb hc b c) × (count ≡ length (round_ends m.turns run.world.state))) where
+      made : (m : CourseMade (course.rounds most) (opening_in serial_run) (opened serial_run) v hb hc b c) × (count ≡ length (ends_of serial_run m.turns))
+      made = as_opened input kind run h (λ o w. (m : CourseMade (course.rounds most) o w v hb hc b c) × (count ≡ length (round_ends m.turns w))) ok
 
-pub serial_unbegun : (task : Task) (most : ℕ) (a b : Ports) → task.course ≡ course.rounds most → HoldsWithin (Unit {0}) (a port.ReadByB) (b port.ReadByB) [] []
-    → HoldsWithin (Unit {0}) (a port.ReadByA) (b port.ReadByA) [] [] → b port.Log ≡ a port.Log → IsCut task a b
-serial_unbegun task most a b is read_by_b read_by_a log = serial_begin_cut task most is a b (begin_cut task a b read_by_b read_by_a log)
+      pub serial_done : status ≡ status_of (outcome_of v.crew) → LogGrew (last_line_of kind count v) hc hd → AddsAll (line_put (last_line_of kind count v)) c d
+          → CameToEnd [] line (task_with input (course.rounds most) kind) ha hd a d status
+      serial_done shown grew told =
+          line_done line serial_run ha hb hc held a b c bound v made.0 (last_line_of kind count v) (line_after serial_run count v made.0.turns made.1 made.0.world)
+          status hd d shown grew told
 
--- nothing was bound or put
-pub serial_untouched : (task : Task) (most : ℕ) (a b : Ports) → task.course ≡ course.rounds most → ((p : Port) → b p ≡ a p) → IsCut task a b
-serial_untouched task most a b is same = serial_unbegun task most a b is (unbound (a port.ReadByB) (b port.ReadByB) (same port.ReadByB)) (unbound (a port.ReadByA) (b port.ReadByA) (same port.ReadByA)) (same port.Log)
-  where
-    unbound : (old new : Option (List ℕ)) → new ≡ old → HoldsWithin (Unit {0}) old new [] []
-    unbound None new is = tt
-    unbound (Some held) new is = inl (tt, is)
+      pub serial_line_short : LogGrewPart (last_line_of kind count v) hc hd → AddsShort (line_put (last_line_of kind count v)) status c d
+          → IsCut [] line (task_with input (course.rounds most) kind) ha hd a d status
+      serial_line_short grew cut =
+          line_short line serial_run ha hb hc held a b c bound v made.0 (last_line_of kind count v) (line_after serial_run count v made.0.turns made.1 made.0.world)
+          status hd d grew cut
 
-module _ (input : Input) (run : Run) (h : IsOpened input report.Log run) (order : List Turn) where
-  turns_put : (v : Connection) (b c : Ports) → TurnsPut run.opening 0 order run.world.state run.world.state v b c
-      → TurnsPut (Some (log_opening input.script)) 0 order (opened (task_from input (course.told order))) (opened (task_from input (course.told order))) v b c
-  turns_put v b c put = subst (λ o. TurnsPut o 0 order (opened (task_from input (course.told order))) (opened (task_from input (course.told order))) v b c) h.opening (subst (λ (k : Kept). TurnsPut run.opening 0 order k.state k.state v b c) h.world put)
+module _ (input : Input) (run : Run) (h : IsOpened input report.Log run) (line : Line) (ha hb hc : Ports) (held : AreBound ha hb) (a b c : Told)
+    (bound : AddsAll (binds_of line) a b) (order : List Turn) where
+  abbrev replay_run : Task
+  replay_run = task_from input (course.told order)
 
-  pub replay_ends : (count : ℕ) (v : Connection) (status : Status) (a b c d : Ports) → AreBound a b → TurnsPut run.opening 0 order run.world.state run.world.state v b c
-      → status ≡ status_of (outcome_of v.crew) → LogGrew (last_line_of report.Log count v) c d → IsWhole (task_from input (course.told order)) status a d
-  replay_ends count v status a b c d bound put shown grew =
-      replay_whole (task_from input (course.told order)) order refl count v status a b c d refl bound (turns_put v b c put) shown grew
+  module _ (count : ℕ) (v : Connection) (status : Status) (hd : Ports) (d : Told) (ok : CourseMade (course.told order) run.opening run.world.state v hb hc b c) where
+    told_made : CourseMade (course.told order) (opening_in replay_run) (opened replay_run) v hb hc b c
+    told_made = as_opened input report.Log run h (λ o w. CourseMade (course.told order) o w v hb hc b c) ok
 
-  pub replay_line_cut : (count : ℕ) (v : Connection) (a b c d : Ports) → AreBound a b → TurnsPut run.opening 0 order run.world.state run.world.state v b c
-      → LogGrewPart (last_line_of report.Log count v) c d → IsCut (task_from input (course.told order)) a d
-  replay_line_cut count v a b c d bound put grew =
-      replay_end_cut (task_from input (course.told order)) order refl count v a b c d refl bound (turns_put v b c put) grew
+    pub replay_done : status ≡ status_of (outcome_of v.crew) → LogGrew (last_line_of report.Log count v) hc hd → AddsAll (line_put (last_line_of report.Log count v)) c d
+        → CameToEnd [] line (task_from input (course.told order)) ha hd a d status
+    replay_done shown grew told =
+        line_done line replay_run ha hb hc held a b c bound v told_made (last_line_of report.Log count v) (logged_line replay_run told_made.turns count v refl told_made.world)
+        status hd d shown grew told
 
-  by_fault : (lines : ℕ) (a b c : Ports) (status : Status) → AreBound a b
-      → TurnsFault (Some (log_opening input.script)) 0 order (opened (task_from input (course.told order))) (opened (task_from input (course.told order))) lines b c status
-      → ReplayEnds (task_from input (course.told order)) lines a c status
-  by_fault lines a b c (Log line) bound fault = replay_stopped (task_from input (course.told order)) order refl lines fault.0 line a b c bound fault.1.0 fault.1.1
-  by_fault lines a b c (Put p) bound fault = replay_cut (task_from input (course.told order)) order refl a b c bound fault
-  by_fault lines a b c Memory bound fault = replay_cut (task_from input (course.told order)) order refl a b c bound fault
-  by_fault lines a b c Delivered bound fault = absurd fault
-  by_fault lines a b c Rounds bound fault = absurd fault
-  by_fault lines a b c NoPath bound fault = absurd fault
-  by_fault lines a b c (Aborted reader) bound fault = absurd fault
-  by_fault lines a b c Usage bound fault = absurd fault
-  by_fault lines a b c (Script at kind) bound fault = absurd fault
-  by_fault lines a b c (Load named) bound fault = absurd fault
-  by_fault lines a b c (TooLong named) bound fault = absurd fault
+    pub replay_line_short : LogGrewPart (last_line_of report.Log count v) hc hd → AddsShort (line_put (last_line_of report.Log count v)) status c d
+        → IsCut [] line (task_from input (course.told order)) ha hd a d status
+    replay_line_short grew cut =
+        line_short line replay_run ha hb hc held a b c bound v told_made (last_line_of report.Log count v) (logged_line replay_run told_made.turns count v refl told_made.world)
+        status hd d grew cut
 
-  pub replay_faults : (lines : ℕ) (a b c : Ports) (status : Status) → AreBound a b → TurnsFault run.opening 0 order run.world.state run.world.state lines b c status
-      → ReplayEnds (task_from input (course.told order)) lines a c status
-  replay_faults lines a b c status bound fault =
-      by_fault lines a b c status bound
-      (subst (λ o. TurnsFault o 0 order (opened (task_from input (course.told order))) (opened (task_from input (course.told order))) lines b c status) h.opening (subst (λ (k : Kept). TurnsFault run.opening 0 order k.state k.state lines b c status) h.world fault))
+-- ---- the turns of a log
 
--- a run that was cut off by a port
-pub ends_cut : (task : Task) (lines : ℕ) (a b : Ports) (before faults : Port → ℕ) (status : Status) → IsPortsFault before faults status → IsCut task a b → ReplayEnds task lines a b status
-ends_cut task lines a b before faults (Put p) cause cut = cut
-ends_cut task lines a b before faults Memory cause cut = cut
-ends_cut task lines a b before faults Delivered cause cut = absurd cause
-ends_cut task lines a b before faults Rounds cause cut = absurd cause
-ends_cut task lines a b before faults NoPath cause cut = absurd cause
-ends_cut task lines a b before faults (Aborted reader) cause cut = absurd cause
-ends_cut task lines a b before faults Usage cause cut = absurd cause
-ends_cut task lines a b before faults (Script at kind) cause cut = absurd cause
-ends_cut task lines a b before faults (Load named) cause cut = absurd cause
-ends_cut task lines a b before faults (TooLong named) cause cut = absurd cause
-ends_cut task lines a b before faults (Log at) cause cut = absurd cause
+module _ (line : Line) (task : Task) (order : List Turn) (is : task.course ≡ course.told order) (lines : ℕ) (ha hb hc : Ports) (held : AreBound ha hb)
+    (a b c : Told) (bound : AddsAll (binds_of line) a b) where
+  pub log_stops : (status : Status) → LogStops order lines (opening_in task) (opened task) hb hc b c status → ReplayEnds [] line task ha hc a c lines status
+  log_stops (Log at) h =
+      let halted = h.1.1 in
+      record {
+        stopped = record {
+          before = halted.made;
+          turn = halted.turn;
+          behind = halted.behind;
+          order = is ∙ ap course.told halted.order_is;
+          lawful = halted.lawful;
+          refused = halted.refused;
+          line_is = h.1.0 ∙ ap (λ n. lines + n + 1) halted.count_is;
+          ports = rounds_held task halted.made ha hb hc held halted.ports;
+        };
+        calls = (
+          puts_so_far task halted.made,
+          (
+            record {
+              before = halted.made;
+              turn = halted.turn;
+              behind = halted.behind;
+              order = is ∙ ap course.told halted.order_is;
+              lawful = halted.lawful;
+              refused = halted.refused;
+              puts_are = refl;
+            },
+            all_then (binds_of line) _ a b c bound halted.calls,
+          ),
+        );
+      }
+  log_stops (Put p) h =
+      rounds_short line task ha hb hc held a b c bound (Put p) (subst (λ x. CourseCut x (opening_in task) (opened task) hb hc b c (Put p)) (sym is) h)
+  log_stops Memory h =
+      rounds_short line task ha hb hc held a b c bound Memory (subst (λ x. CourseCut x (opening_in task) (opened task) hb hc b c Memory) (sym is) h)
+  log_stops Delivered h = absurd h
+  log_stops Rounds h = absurd h
+  log_stops NoPath h = absurd h
+  log_stops (Aborted reader) h = absurd h
+  log_stops Usage h = absurd h
+  log_stops (Script at kind) h = absurd h
+  log_stops (Load named) h = absurd h
+  log_stops (TooLong named) h = absurd h
 
-pub replay_unbegun : (input : Input) (order : List Turn) (a b : Ports) → HoldsWithin (Unit {0}) (a port.ReadByB) (b port.ReadByB) [] []
-    → HoldsWithin (Unit {0}) (a port.ReadByA) (b port.ReadByA) [] [] → b port.Log ≡ a port.Log → IsCut (task_from input (course.told order)) a b
-replay_unbegun input order a b read_by_b read_by_a log =
-    replay_begin_cut (task_from input (course.told order)) order refl a b (begin_cut (task_from input (course.told order)) a b read_by_b read_by_a log)
+pub replay_stops : (input : Input) (run : Run) → IsOpened input report.Log run → (line : Line) (ha hb hc : Ports) → AreBound ha hb → (a b c : Told)
+    → AddsAll (binds_of line) a b → (order : List Turn) (lines : ℕ) (status : Status) → LogStops order lines run.opening run.world.state hb hc b c status
+    → ReplayEnds [] line (task_from input (course.told order)) ha hc a c lines status
+replay_stops input run h line ha hb hc held a b c bound order lines status stops =
+    log_stops line (task_from input (course.told order)) order refl lines ha hb hc held a b c bound status
+    (as_opened input report.Log run h (λ o w. LogStops order lines o w hb hc b c status) stops)
+
+-- a replay that was cut off by a port
+pub replay_is_cut : (line : Line) (task : Task) (lines : ℕ) (a b : Told) (ha hb : Ports) (before faults : Port → ℕ) (status : Status) → IsPortsFault before faults status
+    → IsCut [] line task ha hb a b status → ReplayEnds [] line task ha hb a b lines status
+replay_is_cut line task lines a b ha hb before faults (Put p) cause cut = cut
+replay_is_cut line task lines a b ha hb before faults Memory cause cut = cut
+replay_is_cut line task lines a b ha hb before faults Delivered cause cut = absurd cause
+replay_is_cut line task lines a b ha hb before faults Rounds cause cut = absurd cause
+replay_is_cut line task lines a b ha hb before faults NoPath cause cut = absurd cause
+replay_is_cut line task lines a b ha hb before faults (Aborted reader) cause cut = absurd cause
+replay_is_cut line task lines a b ha hb before faults Usage cause cut = absurd cause
+replay_is_cut line task lines a b ha hb before faults (Script at kind) cause cut = absurd cause
+replay_is_cut line task lines a b ha hb before faults (Load named) cause cut = absurd cause
+replay_is_cut line task lines a b ha hb before faults (TooLong named) cause cut = absurd cause
+replay_is_cut line task lines a b ha hb before faults (Log at) cause cut = absurd cause
 
 -- ---- causes
 

@@ -12,10 +12,11 @@ use Rattle.mptcp_run.specs.declared.status.Status.TheVariants.{Delivered, Rounds
 use Rattle.mptcp_run.specs.Ports.{HoldsMore, IsBetween}
 use Rattle.mptcp_run.specs.Putting.{round_ends, last_end, steps_by_round, log_text}
 use Rattle.mptcp_run.specs.Replaying.{last_after, rounds_after, TurnHolds, TurnCut, TurnFault}
-use Rattle.mptcp_run.specs.Rounds.{HoldsEnds, HoldsPart, TurnsPut, TurnRefused, TurnsCut, TurnsFault}
+use Rattle.mptcp_run.specs.Rounds.{HoldsEnds, HoldsPart}
 use Rattle.mptcp_run.specs.Task.{Connection}
 use Rattle.mptcp_run.proofs.PortsLemmas.{IsPrefix-refl}
 use Rattle.mptcp_run.proofs.RoundSteps.{nothing_part, nothing_ends, ends_more, part_behind}
+use Rattle.mptcp_run.proofs.Folding.{TurnsPut, TurnRefused, TurnsCut, TurnsFault}
 
 abbrev Ports : Type 0
 Ports = Port → Option (List ℕ)

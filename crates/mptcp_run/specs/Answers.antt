@@ -1,131 +1,166 @@
--- What each status of a run says.
-use Rattle.std.specs.Prelude.{◌≡◌, ℕ, ◌⊎◌, List, Err, Option, Some, IfSome}
+-- What a run says by its status: a row for each.
+use Rattle.std.specs.Prelude.{◌≡◌, ℕ, ◌⊎◌, List, [], Err, Option, Some, IfSome, IsSome}
 use Rattle.outside_kit.specs.declared.port.Port.{Port}
+use Rattle.outside_kit.specs.Calls.{Call, Made}
 use Rattle.outside_kit.specs.Outside.{HasRisen}
 use Rattle.link_script.specs.declared.fault.ScriptKind.{ScriptKind}
 use Rattle.link_script.specs.declared.fault.ScriptFault.TheVariants as script_fault
-use Rattle.link_script.specs.declared.script.Script as link
 use Rattle.run_log.specs.declared.fault.LogFault.TheVariants as log_fault
 use Rattle.run_words.specs.Lines.{Line}
+use Rattle.mptcp_run.specs.declared.status.Named.{Named}
 use Rattle.mptcp_run.specs.declared.status.Named.TheVariants as input
 use Rattle.mptcp_run.specs.declared.status.Status.{Status}
 use Rattle.mptcp_run.specs.declared.status.Status.TheVariants.{Delivered, Rounds, NoPath, Aborted, Usage, Script, Load, Put, TooLong, Memory, Log}
+use Rattle.mptcp_run.specs.Ends.{HasEnded, AddsWork, IsCut}
 use Rattle.mptcp_run.specs.Inputs.{order_of, content_of, IsLoadsFault}
+use Rattle.mptcp_run.specs.Logged.{LogTellsTheRun}
+use Rattle.mptcp_run.specs.Made.{Bench}
+use Rattle.mptcp_run.specs.Plan.{AddsAll, AddsCut, AddsLoadsTo, ArePuts, ArePutsBefore, loads_of, plan_of}
 use Rattle.mptcp_run.specs.Ports.{IsUntouched}
-use Rattle.mptcp_run.specs.Putting.{IsWhole, IsStopped, IsCut}
+use Rattle.mptcp_run.specs.Promised.{IsAlwaysKept, ReadersHaveFiles, ReadersHavePrefixes, ReadersHavePrefixesIfBound}
+use Rattle.mptcp_run.specs.Putting.{IsWhole, IsStopped}
 use Rattle.mptcp_run.specs.Script.{script_meaning, script_of, log_reading}
-use Rattle.mptcp_run.specs.Task.{Task, task_of, opening_count, AreWithinLimits, HasValidScript, HasValidOrder}
+use Rattle.mptcp_run.specs.Task.{Task, task_of, opening_count, AreWithinLimits, HasValidScript, HasValidOrder, IsValid}
 
--- the run came to one of its own ends
-abbrev pub HasEnded : Status → Type 0
-HasEnded Delivered = Unit {0}
-HasEnded Rounds = Unit {0}
-HasEnded NoPath = Unit {0}
-HasEnded (Aborted reader) = Unit {0}
-HasEnded _ = ⊥
+abbrev Ports : Type 0
+Ports = Port → Option (List ℕ)
 
--- nothing was bound or put yet
-abbrev pub IsRefusal : Status → Type 0
-IsRefusal Usage = Unit {0}
-IsRefusal (Load input) = Unit {0}
-IsRefusal (TooLong input) = Unit {0}
-IsRefusal (Script line kind) = Unit {0}
-IsRefusal _ = ⊥
+-- ---- what was read
 
--- all was loaded
-abbrev pub HasLoaded : Status → Type 0
-HasLoaded Usage = ⊥
-HasLoaded (Load input) = ⊥
-HasLoaded (TooLong input) = ⊥
-HasLoaded Memory = ⊥
-HasLoaded _ = Unit {0}
+-- The inputs are within their limits, the script is valid, and a log of `replay` has its form. Of the task that they make: after
+-- each list of turns its connection keeps all promises.
+pub record WasRead (content : List ℕ → Option (List ℕ)) (line : Line) : Type 0 where
+  pub within : AreWithinLimits content line
+  pub script : HasValidScript content line
+  pub order : HasValidOrder content line
+  pub kept : IfSome (task_of content line) IsAlwaysKept
 
--- all was loaded, and the script is valid
-abbrev pub HasRead : Status → Type 0
-HasRead (Script line kind) = ⊥
-HasRead status = HasLoaded status
+-- ---- a run of `serial` or `replay`
 
--- and a log of `replay` has its form
-abbrev pub HasBegun : Status → Type 0
-HasBegun (Log line) = ⊥
-HasBegun status = HasRead status
+module _ (content : List ℕ → Option (List ℕ)) (line : Line) (loads_before loads : ℕ)
+    (faults_before faults : Port → ℕ) (held holds : Ports) (told tells : Option (List Made)) where
+  -- all of a plan was made whose puts are such ones of the task
+  abbrev pub AddsPlan : (Task → List Call → Type 0) → Type 0
+  AddsPlan Are =
+      (puts : List Call)
+      × (IfSome (task_of content line) (λ task. Are task puts) × AddsAll (plan_of (loads_of line) line puts) told tells)
 
--- a line of the log is refused: it has no right form there, or is the first turn that can't be made
-abbrev pub IsRefusedLine : Option link.Script → Option Task → List ℕ → ℕ → Type 0 → (Port → Option (List ℕ)) → (Port → Option (List ℕ)) → Type 0
-IsRefusedLine script task log line untouched held holds =
-    (IfSome script (λ script. log_reading script log ≡ Err (log_fault.Line line)) × untouched)
-    ⊎ IfSome task (λ task. IsStopped task (opening_count log) line held holds)
-
--- ---- all of it, as one fact of a status
-
-module _ (content : List ℕ → Option (List ℕ)) (line : Line) (loads_before loads : ℕ) (faults_before faults : Port → ℕ)
-    (held holds : Port → Option (List ℕ)) where
-  pub record HasBeenRead : Type 0 where
-    pub within : AreWithinLimits content line
-    pub script : HasValidScript content line
-
-  pub record HasBeenReadWhole : Type 0 where
-    pub within : AreWithinLimits content line
-    pub script : HasValidScript content line
-    pub order : HasValidOrder content line
-
-  pub record LoadAnswer (status : Status) : Type 0 where
+  -- an input can't be loaded, or is too long
+  pub record LoadRow (named : Named) (status : Status) : Type 0 where
     pub cause : IsLoadsFault content line loads_before loads status
     pub untouched : IsUntouched held holds faults_before faults
+    pub calls : AddsLoadsTo named line told tells
 
-  pub record ScriptAnswer (at : ℕ) (kind : ScriptKind) : Type 0 where
+  -- the script is refused at this line
+  pub record ScriptRow (at : ℕ) (kind : ScriptKind) : Type 0 where
     pub within : AreWithinLimits content line
-    pub cause : IfSome (content line.names.script) (λ told. script_meaning told ≡ Err (script_fault.Line at kind))
+    pub cause : IfSome (content line.names.script) (λ text. script_meaning text ≡ Err (script_fault.Line at kind))
     pub untouched : IsUntouched held holds faults_before faults
+    pub calls : AddsAll (loads_of line) told tells
 
-  pub record LogAnswer (at : ℕ) : Type 0 where
-    pub read : HasBeenRead
-    pub replay : (log : List ℕ) × (order_of line.work ≡ Some log)
-    pub cause : IfSome (content_of content line input.Order)
-        (λ log. IsRefusedLine (script_of content line) (task_of content line) log at (IsUntouched held holds faults_before faults) held holds)
+  -- the log breaks its form at this line
+  pub record FormRow (at : ℕ) : Type 0 where
+    pub replay : IsSome (order_of line.work)
+    pub within : AreWithinLimits content line
+    pub script : HasValidScript content line
+    pub cause : IfSome (script_of content line) (λ script.
+        IfSome (content_of content line input.Order) (λ log. log_reading script log ≡ Err (log_fault.Line at)))
+    pub untouched : IsUntouched held holds faults_before faults
+    pub calls : AddsAll (loads_of line) told tells
 
-  pub record PutAnswer (port : Port) : Type 0 where
-    pub read : HasBeenReadWhole
-    pub cause : HasRisen (faults_before port) (faults port)
-    pub cut : IfSome (task_of content line) (λ task. IsCut task held holds)
+  -- the log has its form, and its turn in this line is the first that can't be made
+  pub record TurnRow (at : ℕ) : Type 0 where
+    pub replay : IsSome (order_of line.work)
+    pub read : WasRead content line
+    pub stopped : IfSome (content_of content line input.Order) (λ log.
+        IfSome (task_of content line) (λ task. IsStopped task (opening_count log) at held holds))
+    pub prefixes : ReadersHavePrefixes (content line.names.file_a) (content line.names.file_b) held holds
+    pub calls : AddsPlan ArePutsBefore
 
-  pub record MemoryAnswer : Type 0 where
-    pub read : HasBeenReadWhole
-    pub cut : IfSome (task_of content line) (λ task. IsCut task held holds)
+  -- the run was cut off behind its loads
+  pub record CutRow (status : Status) : Type 0 where
+    pub read : WasRead content line
+    pub cut : IfSome (task_of content line) (λ task. IsCut (loads_of line) line task held holds told tells status)
+    pub prefixes : ReadersHavePrefixesIfBound (content line.names.file_a) (content line.names.file_b) held holds
+    pub calls : (puts : List Call) × AddsCut (plan_of (loads_of line) line puts) status told tells
 
-  pub record EndAnswer (status : Status) : Type 0 where
-    pub read : HasBeenReadWhole
+  -- before them, or in them
+  pub record UnbegunRow : Type 0 where
+    pub untouched : IsUntouched held holds faults_before faults
+    pub calls : AddsCut (loads_of line) Memory told tells
+
+  -- the run came to its own end
+  pub record EndRow (status : Status) : Type 0 where
+    pub read : WasRead content line
     pub whole : IfSome (task_of content line) (λ task. IsWhole task status held holds)
+    pub prefixes : ReadersHavePrefixes (content line.names.file_a) (content line.names.file_b) held holds
+    pub logged : IfSome (task_of content line) (λ task. LogTellsTheRun task status held holds)
+    pub calls : AddsPlan ArePuts
 
   abbrev pub IsAnswer : Status → Type 0
+  IsAnswer Delivered =
+      EndRow Delivered × ReadersHaveFiles (content line.names.file_a) (content line.names.file_b) held holds
+  IsAnswer Rounds = EndRow Rounds
+  IsAnswer NoPath = EndRow NoPath
+  IsAnswer (Aborted reader) = EndRow (Aborted reader)
+  IsAnswer (Put port) = HasRisen (faults_before port) (faults port) × CutRow (Put port)
+  IsAnswer Memory = UnbegunRow ⊎ CutRow Memory
+  IsAnswer (Log at) = FormRow at ⊎ TurnRow at
+  IsAnswer (Script at kind) = ScriptRow at kind
+  IsAnswer (Load named) = LoadRow named (Load named)
+  IsAnswer (TooLong named) = LoadRow named (TooLong named)
   IsAnswer Usage = ⊥
-  IsAnswer (Load named) = LoadAnswer (Load named)
-  IsAnswer (TooLong named) = LoadAnswer (TooLong named)
-  IsAnswer (Script at kind) = ScriptAnswer at kind
-  IsAnswer (Log at) = LogAnswer at
-  IsAnswer (Put port) = PutAnswer port
-  IsAnswer Memory = IsUntouched held holds faults_before faults ⊎ MemoryAnswer
-  IsAnswer Delivered = EndAnswer Delivered
-  IsAnswer Rounds = EndAnswer Rounds
-  IsAnswer NoPath = EndAnswer NoPath
-  IsAnswer (Aborted reader) = EndAnswer (Aborted reader)
 
--- ---- the made input: nothing is read
+-- ---- a run of `bench`: nothing is loaded
 
-module _ (task : Task) (faults_before faults : Port → ℕ) (held holds : Port → Option (List ℕ)) where
-  pub record MadePutAnswer (port : Port) : Type 0 where
-    pub cause : HasRisen (faults_before port) (faults port)
-    pub cut : IsCut task held holds
+module _ (made : Bench) (loads_before loads : ℕ) (faults_before faults : Port → ℕ) (held holds : Ports)
+    (told tells : Option (List Made)) where
+  pub record MadeEndRow (status : Status) : Type 0 where
+    pub whole : IsWhole made.task status held holds
+    pub prefixes : ReadersHavePrefixes (Some made.task.file_a) (Some made.task.file_b) held holds
+    pub calls : AddsWork [] made.line made.task told tells ArePuts
 
-  abbrev pub IsMadeAnswer : Status → Type 0
-  IsMadeAnswer (Put port) = MadePutAnswer port
-  IsMadeAnswer Memory = IsCut task held holds
-  IsMadeAnswer Delivered = IsWhole task Delivered held holds
-  IsMadeAnswer Rounds = IsWhole task Rounds held holds
-  IsMadeAnswer NoPath = IsWhole task NoPath held holds
-  IsMadeAnswer (Aborted reader) = IsWhole task (Aborted reader) held holds
-  IsMadeAnswer Usage = ⊥
-  IsMadeAnswer (Load named) = ⊥
-  IsMadeAnswer (TooLong named) = ⊥
-  IsMadeAnswer (Script at kind) = ⊥
-  IsMadeAnswer (Log at) = ⊥
+  pub record MadeCutRow (status : Status) : Type 0 where
+    pub cut : IsCut [] made.line made.task held holds told tells status
+    pub prefixes : ReadersHavePrefixesIfBound (Some made.task.file_a) (Some made.task.file_b) held holds
+
+  abbrev pub MadeRow : Status → Type 0
+  MadeRow Delivered =
+      MadeEndRow Delivered × ReadersHaveFiles (Some made.task.file_a) (Some made.task.file_b) held holds
+  MadeRow Rounds = MadeEndRow Rounds
+  MadeRow NoPath = MadeEndRow NoPath
+  MadeRow (Aborted reader) = MadeEndRow (Aborted reader)
+  MadeRow (Put port) = HasRisen (faults_before port) (faults port) × MadeCutRow (Put port)
+  MadeRow Memory = MadeCutRow Memory
+  MadeRow (Log at) = ⊥
+  MadeRow (Script at kind) = ⊥
+  MadeRow (Load named) = ⊥
+  MadeRow (TooLong named) = ⊥
+  MadeRow Usage = ⊥
+
+  pub record IsMadeAnswer (status : Status) : Type 0 where
+    pub row : MadeRow status
+    pub kept : IsAlwaysKept made.task
+    pub unloaded : loads ≡ loads_before
+
+-- ---- words that ask for no run
+
+pub record NothingWasRun (loads_before loads : ℕ) (faults_before faults : Port → ℕ) (held holds : Ports)
+    (told tells : Option (List Made)) (status : Status) : Type 0 where
+  pub answer : (status ≡ Usage) ⊎ (status ≡ Memory)
+  pub untouched : IsUntouched held holds faults_before faults
+  pub unloaded : loads ≡ loads_before
+  pub calls : AddsAll [] told tells
+
+-- ---- laws
+
+-- A run of words whose inputs are told, within their limits and valid, of which no count rose, comes to its own end, or memory
+-- is wanting, or in `replay` a turn can't be made.
+abbrev pub ValidInputsAreRun : Type 0
+ValidInputsAreRun =
+    (content : List ℕ → Option (List ℕ)) (line : Line) (loads_before loads : ℕ) (faults_before faults : Port → ℕ)
+    (held holds : Ports) (told tells : Option (List Made)) (status : Status)
+    → IsAnswer content line loads_before loads faults_before faults held holds told tells status
+    → IsValid content line → (HasRisen loads_before loads → ⊥)
+    → ((port : Port) → HasRisen (faults_before port) (faults port) → ⊥)
+    → HasEnded status ⊎ ((status ≡ Memory) ⊎ ((at : ℕ) × ((status ≡ Log at) × IsSome (order_of line.work))))

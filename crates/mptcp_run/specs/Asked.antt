@@ -1,5 +1,5 @@
 -- What of a command line is run: the modes `serial` and `replay`.
-use Rattle.std.specs.Prelude.{ℕ, Bool, true, false, List, Option, Some, None, option_and_then, if◌then◌else◌}
+use Rattle.std.specs.Prelude.{ℕ, ◌≤◌, Bool, true, false, List, Option, Some, None, option_and_then, if◌then◌else◌}
 use Rattle.run_words.specs.Lines.{Line, Work, run, serial, replay, bench, line_of}
 
 abbrev pub is_run : Work → Bool
@@ -14,3 +14,10 @@ if_run line = if is_run line.work then Some line else None
 -- what the words behind the program's name ask for; None where they break the line form, or name another mode
 unfoldable pub asked_in : List (List ℕ) → Option Line
 asked_in words = option_and_then if_run (line_of words)
+
+-- a run of whole turns is asked for one round at least, and the number of a made input is at most 256
+abbrev pub AsksInRange : Work → Type 0
+AsksInRange (serial most) = 1 ≤ most
+AsksInRange (run most) = Unit {0}
+AsksInRange (replay log) = Unit {0}
+AsksInRange (bench most number) = number ≤ 256

@@ -2,6 +2,8 @@ pub mod Adding
 pub mod Answers
 pub mod Asked
 pub mod Causes
+pub mod Courses
+pub mod Ends
 pub mod Inputs
 pub mod Logged
 pub mod Made

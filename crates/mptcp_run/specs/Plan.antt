@@ -1,5 +1,5 @@
 -- The order of work: which calls a run makes on its outside.
-use Rattle.std.specs.Prelude.{◌≡◌, ℕ, suc, ◌⊎◌, List, [], ◌∷◌, ◌++◌, map, drop, length, true, false, Option, Some, None, IfSome, IsSomeAnd}
+use Rattle.std.specs.Prelude.{◌≡◌, ℕ, suc, List, [], ◌∷◌, ◌++◌, map, drop, length, true, false, Option, Some, None, IfSome, IsSomeAnd}
 use Rattle.outside_kit.specs.declared.port.Port.{Port}
 use Rattle.outside_kit.specs.declared.port.Port.TheVariants as port
 use Rattle.outside_kit.specs.declared.side.Side.{Side}
@@ -14,10 +14,10 @@ use Rattle.world_laws.specs.Worlds.{Turn, AreLawful, IsLawfulTurn}
 use Rattle.mptcp_run.specs.declared.status.Named.{Named}
 use Rattle.mptcp_run.specs.declared.status.Named.TheVariants as input
 use Rattle.mptcp_run.specs.declared.status.Status.{Status}
-use Rattle.mptcp_run.specs.declared.status.Status.TheVariants.{Delivered, Rounds, NoPath, Aborted, Usage, Script, Load, Put, TooLong, Memory, Log}
+use Rattle.mptcp_run.specs.declared.status.Status.TheVariants.{Load, Put, TooLong, Memory}
 use Rattle.mptcp_run.specs.Inputs.{order_of, name_of}
-use Rattle.mptcp_run.specs.Putting.{round_steps, round_text, opening_in, last_line, ends_of, world_after, AreFirstOf}
-use Rattle.mptcp_run.specs.Task.{Connection, Task, opened, AreTurnsOf, task_of}
+use Rattle.mptcp_run.specs.Putting.{round_steps, round_text, opening_in, last_line, ends_of, world_after}
+use Rattle.mptcp_run.specs.Task.{Connection, Task, opened, AreTurnsOf}
 use Rattle.mptcp_run.specs.Task as way
 
 -- ---- calls that were made
@@ -54,6 +54,17 @@ AreCutAt (call ∷ plan) status (made ∷ more) = (made.call ≡ call) × OneOf 
 
 abbrev pub AddsCut : List Call → Status → Option (List Made) → Option (List Made) → Type 0
 AddsCut plan status old new = (made : List Made) × (AreCutAt plan status made × Adds made old new)
+
+-- So it was, and not behind the last call of the plan: one of them failed, or wasn't made for want of memory.
+abbrev pub AreShortOf : List Call → Status → List Made → Type 0
+AreShortOf [] status made = ⊥
+AreShortOf (call ∷ plan) status [] = status ≡ Memory
+AreShortOf (call ∷ plan) status (made ∷ more) =
+    (made.call ≡ call) × OneOf made.ok (AreShortOf plan status more) ((more ≡ []) × Ends call status)
+
+abbrev pub AddsShort : List Call → Status → Option (List Made) → Option (List Made) → Type 0
+AddsShort plan status old new =
+    (made : List Made) × (AreShortOf plan status made × Adds made old new)
 
 -- ---- the plan: loads
 
@@ -115,14 +126,15 @@ puts_by_round opening number last (w ∷ ends) = round_puts opening number last 
 abbrev pub puts_so_far : Task → List Turn → List Call
 puts_so_far task turns = puts_by_round (opening_in task) 0 (opened task) (ends_of task turns)
 
+-- the put of the last line
+abbrev pub last_put : Task → List Turn → List Call
+last_put task turns = call.Put port.Log (last_line task turns) ∷ []
+
 -- all puts of a run: those of all its rounds, and the last line
 abbrev pub ArePuts : Task → List Call → Type 0
 ArePuts task puts =
-    (turns : List Turn) × (AreTurnsOf task.course turns (opened task) × (puts ≡ puts_so_far task turns ++ call.Put port.Log (last_line task turns) ∷ []))
-
--- those of its first rounds, or all of them
-abbrev pub AreFirstPuts : Task → List Call → Type 0
-AreFirstPuts task puts = ArePuts task puts ⊎ ((turns : List Turn) × (AreFirstOf task.course turns [] (opened task) × (puts ≡ puts_so_far task turns)))
+    (turns : List Turn)
+    × (AreTurnsOf task.course turns (opened task) × (puts ≡ puts_so_far task turns ++ last_put task turns))
 
 -- those of the rounds that ended before a turn that can't be made
 pub record ArePutsBefore (task : Task) (puts : List Call) : Type 0 where
@@ -136,34 +148,6 @@ pub record ArePutsBefore (task : Task) (puts : List Call) : Type 0 where
 
 -- ---- all calls of a run
 
--- loads, binds, and these puts
-abbrev pub plan_with : Line → List Call → List Call
-plan_with line puts = loads_of line ++ (binds_of line ++ puts)
-
-module _ (content : List ℕ → Option (List ℕ)) (line : Line) (old new : Option (List Made)) where
-  -- all of a plan was made whose puts are such ones of the task, where that is told and valid
-  abbrev pub AddsPlan : (Task → List Call → Type 0) → Type 0
-  AddsPlan Are = (puts : List Call) × (IfSome (task_of content line) (λ task. Are task puts) × AddsAll (plan_with line puts) old new)
-
-  -- or its first calls
-  abbrev pub AddsFirst : Status → Type 0
-  AddsFirst status = (puts : List Call) × (IfSome (task_of content line) (λ task. AreFirstPuts task puts) × AddsCut (plan_with line puts) status old new)
-
-  -- the calls that were made by a run of these words that ends with this status
-  abbrev pub AreCallsAt : Status → Type 0
-  AreCallsAt Usage = ⊥
-  AreCallsAt (Load named) = AddsLoadsTo named line old new
-  AreCallsAt (TooLong named) = AddsLoadsTo named line old new
-  AreCallsAt (Script at kind) = AddsAll (loads_of line) old new
-  AreCallsAt (Log at) = AddsAll (loads_of line) old new ⊎ AddsPlan ArePutsBefore
-  AreCallsAt (Put port) = AddsFirst (Put port)
-  AreCallsAt Memory = AddsCut (loads_of line) Memory old new ⊎ AddsFirst Memory
-  AreCallsAt Delivered = AddsPlan ArePuts
-  AreCallsAt Rounds = AddsPlan ArePuts
-  AreCallsAt NoPath = AddsPlan ArePuts
-  AreCallsAt (Aborted reader) = AddsPlan ArePuts
-
--- those of a run of words that ask for this, if they ask for anything that is run
-abbrev pub AreCallsOf : (List ℕ → Option (List ℕ)) → Option Line → Status → Option (List Made) → Option (List Made) → Type 0
-AreCallsOf content None status old new = AddsAll [] old new
-AreCallsOf content (Some line) status old new = AreCallsAt content line old new status
+-- these loads, the binds of both readers, and these puts
+abbrev pub plan_of : List Call → Line → List Call → List Call
+plan_of loads line puts = loads ++ (binds_of line ++ puts)

@@ -25,12 +25,10 @@ use Rattle.world_laws.specs.Worlds.{Turn, world_step, end_round, world_run, grea
 use Rattle.mptcp_run.specs.declared.report.Report.{Report}
 use Rattle.mptcp_run.specs.declared.report.Report.TheVariants as report
 use Rattle.mptcp_run.specs.declared.status.Status.{Status}
-use Rattle.mptcp_run.specs.declared.status.Status.TheVariants.{Delivered, Rounds, NoPath, Aborted, Put, Memory}
-use Rattle.mptcp_run.specs.declared.status.Status.TheVariants as status_is
+use Rattle.mptcp_run.specs.declared.status.Status.TheVariants.{Delivered, Rounds, NoPath, Aborted}
 use Rattle.mptcp_run.specs.Script.{width_of}
 use Rattle.mptcp_run.specs.Task.{Connection, Task, Course, opened, AreTurnsOf}
 use Rattle.mptcp_run.specs.Task as way
-use Rattle.mptcp_run.specs.Ports.{HoldsMore, HoldsWithin, IsBetween}
 
 -- ---- rounds
 
@@ -195,32 +193,3 @@ abbrev pub AreFirstOf : Course → List Turn → List Turn → Connection → Ty
 AreFirstOf (way.rounds most) turns more w =
     (n : ℕ) × ((n ≤ most) × (IsSerial octets n turns w × ((more ≡ []) ⊎ ((suc n ≤ most) × IsSerial octets (suc n) (turns ++ more) w))))
 AreFirstOf (way.told order) turns more w = (behind : List Turn) × ((order ≡ turns ++ (more ++ behind)) × AreLawful octets (turns ++ more) w)
-
--- the last line is that of a run that came to its end
-abbrev pub IsLastLine : Task → List Turn → List ℕ → Type 0
-IsLastLine task turns line = (line ≡ []) ⊎ (AreTurnsOf task.course turns (opened task) × (line ≡ last_line task turns))
-
--- each port that was bound, and the log, holds its text for the rounds of these turns, and of the next round, or of this line, a part
-pub record HoldsCut (task : Task) (turns more : List Turn) (line : List ℕ) (old new : Port → Option (List ℕ)) : Type 0 where
-  pub read_by_b : HoldsWithin (turns ++ more ≡ []) (old ReadByB) (new ReadByB) (read_so_far B task turns) (read_so_far B task (turns ++ more))
-  pub read_by_a : HoldsWithin (turns ++ more ≡ []) (old ReadByA) (new ReadByA) (read_so_far A task turns) (read_so_far A task (turns ++ more))
-  pub log : HoldsMore (old Log) (new Log) [] (IsBetween (log_so_far task turns) (log_so_far task (turns ++ more) ++ line))
-
--- A run that was cut off, while it was bound, in a round or at the last line: the ports hold the rounds before, and of what was
--- put then a part.
-pub record IsCut (task : Task) (old new : Port → Option (List ℕ)) : Type 0 where
-  pub turns : List Turn
-  pub more : List Turn
-  pub are : AreFirstOf task.course turns more (opened task)
-  -- one round at most
-  pub one : length (round_ends more (world_after task turns)) ≤ 1
-  pub line : List ℕ
-  pub line_is : IsLastLine task turns line
-  pub ports : HoldsCut task turns more line old new
-
--- the turns of a log end a run with this status; so many lines stand before the first of them
-abbrev pub ReplayEnds : Task → ℕ → (Port → Option (List ℕ)) → (Port → Option (List ℕ)) → Status → Type 0
-ReplayEnds task opening old new (status_is.Log line) = IsStopped task opening line old new
-ReplayEnds task opening old new (Put port) = IsCut task old new
-ReplayEnds task opening old new Memory = IsCut task old new
-ReplayEnds task opening old new status = ⊥

@@ -1,5 +1,5 @@
--- Rounds made one after the other, with what each put.
-use Rattle.std.specs.Prelude.{◌≡◌, ℕ, suc, false, ◌+◌, ◌≤◌, ◌⊎◌, List, [], ◌∷◌, ◌++◌, map, length, Option}
+-- A round that was made, with what it put.
+use Rattle.std.specs.Prelude.{◌≡◌, ℕ, false, ◌⊎◌, List, [], ◌∷◌, map, length, Option}
 use Rattle.outside_kit.specs.declared.port.Port.{Port}
 use Rattle.outside_kit.specs.declared.port.Port.TheVariants as port
 use Rattle.outside_kit.specs.declared.side.Side.TheVariants.{A, B}
@@ -11,15 +11,12 @@ use Rattle.world_laws.specs.Openings.{start_of, opened_world}
 use Rattle.world_laws.specs.Outcomes.{output_of}
 use Rattle.world_core.specs.declared.input.Input.{Input}
 use Rattle.world_core.specs.Kept.{standing}
-use Rattle.world_laws.specs.Serial.{AreRounds, after_round}
-use Rattle.world_laws.specs.Worlds.{Turn, world_run, greatest, AreLawful, IsLawfulTurn}
-use Rattle.world_core.specs.Rounds.{RoundTo, after_rounds}
+use Rattle.world_laws.specs.Worlds.{Turn, greatest}
+use Rattle.world_core.specs.Rounds.{RoundTo}
 use Rattle.mptcp_run.specs.declared.report.Report.{Report}
 use Rattle.mptcp_run.specs.declared.rounds.Run.{Run}
-use Rattle.mptcp_run.specs.declared.status.Status.{Status}
-use Rattle.mptcp_run.specs.declared.status.Status.TheVariants.{Put, Memory, Log}
 use Rattle.mptcp_run.specs.Ports.{HoldsMore, IsBetween}
-use Rattle.mptcp_run.specs.Putting.{round_steps, steps_by_round, round_ends, last_end, opening_of, round_text, log_text, RoundFits, RoundsFit}
+use Rattle.mptcp_run.specs.Putting.{round_steps, steps_by_round, last_end, opening_of, round_text, log_text, RoundFits, RoundsFit}
 use Rattle.mptcp_run.specs.Task.{Connection, turn_of}
 
 -- a round begins: each actor knows the greatest stamp so far
@@ -63,71 +60,12 @@ pub record HoldsPart (opening : Option (List ℕ)) (number : ℕ) (w : Connectio
   pub log : HoldsMore (old port.Log) (new port.Log) []
       (IsBetween (log_text opening number (steps_by_round w low)) (log_text opening number (steps_by_round w high)))
 
--- ---- whole turns in order of number
-
-abbrev pub ends_by : List (List ℕ) → Connection → List Connection
-ends_by [] w = []
-ends_by (counts ∷ rounds) w = after_round octets counts w ∷ ends_by rounds (after_round octets counts w)
-
--- at most so many rounds were made and put, from this world to that one, which has so many behind it
-pub record RoundsPut (opening : Option (List ℕ)) (most number count : ℕ) (w v : Connection) (old new : Port → Option (List ℕ)) : Type 0 where
-  pub rounds : List (List ℕ)
-  pub count_is : count ≡ number + length rounds
-  pub are : AreRounds octets most rounds w
-  pub world : v ≡ after_rounds octets rounds w
-  pub ports : HoldsEnds opening number w (ends_by rounds w) old new
-
 -- a part of the round after this world was put, or nothing
 abbrev pub RoundCut : Option (List ℕ) → ℕ → Connection → (Port → Option (List ℕ)) → (Port → Option (List ℕ)) → Type 0
 RoundCut opening number w old new =
     ((port : Port) → new port ≡ old port) ⊎ ((v : Connection) × (RoundTo octets w v × HoldsPart opening number w [] (v ∷ []) old new))
 
--- some of at most so many rounds were put, and of the next one a part
-pub record RoundsCut (opening : Option (List ℕ)) (most number : ℕ) (w : Connection) (old new : Port → Option (List ℕ)) : Type 0 where
-  pub n : ℕ
-  pub rounds : List (List ℕ)
-  pub more : List (List ℕ)
-  pub few : n ≤ most
-  pub are : AreRounds octets n rounds w
-  pub next : (more ≡ []) ⊎ ((suc n ≤ most) × (((counts : List ℕ) × (more ≡ counts ∷ [])) × AreRounds octets (suc n) (rounds ++ more) w))
-  pub ports : HoldsPart opening number w (ends_by rounds w) (ends_by (rounds ++ more) w) old new
-
 -- ---- the turns of a log
 
 abbrev pub all_turns : List log_turn.Turn → List Turn
 all_turns order = map turn_of order
-
--- the turns of a log were made and put, from this world on, the last round having ended at that one
-pub record TurnsPut (opening : Option (List ℕ)) (number : ℕ) (order : List Turn) (last w v : Connection) (old new : Port → Option (List ℕ)) : Type 0 where
-  pub lawful : AreLawful octets order w
-  pub world : v ≡ world_run octets order w
-  pub ports : HoldsEnds opening number last (round_ends order w) old new
-
--- a turn of the log, the one behind so many, is the first that can't be made; the rounds before it were put
-pub record TurnRefused (opening : Option (List ℕ)) (number : ℕ) (order : List Turn) (count : ℕ) (last w : Connection) (old new : Port → Option (List ℕ)) : Type 0 where
-  pub before : List Turn
-  pub turn : Turn
-  pub behind : List Turn
-  pub order_is : order ≡ before ++ turn ∷ behind
-  pub count_is : count ≡ length before
-  pub lawful : AreLawful octets before w
-  pub refused : IsLawfulTurn turn (world_run octets before w) → ⊥
-  pub ports : HoldsEnds opening number last (round_ends before w) old new
-
--- some turns were made and put, and of the round that ends next a part
-pub record TurnsCut (opening : Option (List ℕ)) (number : ℕ) (order : List Turn) (last w : Connection) (old new : Port → Option (List ℕ)) : Type 0 where
-  pub turns : List Turn
-  pub more : List Turn
-  pub behind : List Turn
-  pub order_is : order ≡ turns ++ (more ++ behind)
-  pub lawful : AreLawful octets (turns ++ more) w
-  pub one : length (round_ends more (world_run octets turns w)) ≤ 1
-  pub ports : HoldsPart opening number last (round_ends turns w) (round_ends (turns ++ more) w) old new
-
--- the turns of a log end a run with this status; the first of them stands behind so many lines
-abbrev pub TurnsFault : Option (List ℕ) → ℕ → List Turn → Connection → Connection → ℕ → (Port → Option (List ℕ)) → (Port → Option (List ℕ)) → Status → Type 0
-TurnsFault opening number order last w lines old new (Log line) =
-    (count : ℕ) × ((line ≡ lines + count + 1) × TurnRefused opening number order count last w old new)
-TurnsFault opening number order last w lines old new (Put port) = TurnsCut opening number order last w old new
-TurnsFault opening number order last w lines old new Memory = TurnsCut opening number order last w old new
-TurnsFault opening number order last w lines old new status = ⊥

@@ -5,7 +5,7 @@ ghost use Rattle.outside_kit.specs.Outside.{HoldsAfter, HoldsPrefix};
 ghost use Rattle.outside_kit.specs.declared.port.Port.{Port};
 ghost use Rattle.outside_kit.specs.Calls as call;
 ghost use Rattle.mptcp_run.specs.Causes.{limit_of, IsLoadFault, IsPutFault};
-ghost use Rattle.mptcp_run.specs.Plan.{failed, Adds, AddsAll, AddsCut};
+ghost use Rattle.mptcp_run.specs.Plan.{failed, Adds, AddsAll, AddsCut, AddsShort};
 
 use crate::status::{Named, Status};
 use outside_kit::{LoadFault, Outside, Port, PutFault};
@@ -80,6 +80,7 @@ pub fn put<O: Outside>(outside: &mut O, port: Port, piece: &[u8]) -> Result<(), 
     ensures load_counts { O.load_faults outside.new ≡ O.load_faults outside.old }
     ensures calls { OnOk result (AddsAll (call.Put port piece.now ∷ []) (O.calls outside.old) (O.calls outside.new)) }
     ensures calls_cut { IfErr result (λ status. AddsCut (call.Put port piece.now ∷ []) status (O.calls outside.old) (O.calls outside.new)) }
+    ensures short { IfErr result (λ status. AddsShort (call.Put port piece.now ∷ []) status (O.calls outside.old) (O.calls outside.new)) }
 {
     match outside.put(port, piece) {
         Ok(()) => Ok(()),

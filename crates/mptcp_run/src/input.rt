@@ -1,16 +1,21 @@
 //! What a run reads before it begins.
 
-ghost use Rattle.std.specs.Prelude.{◌≡◌, ◌≤◌, ℕ, List, [], ◌∷◌, Ok, IfOk, IfErr, IfSome, OnOk, OnErr, vec_len};
+ghost use Rattle.std.specs.List.{list_any};
+ghost use Rattle.std.specs.Prelude.{◌≡◌, ◌≤◌, ℕ, false, length, List, [], ◌∷◌, Ok, IfOk, IfErr, IfSome, OnOk, OnErr, vec_len};
 ghost use Rattle.outside_kit.specs.declared.port.Port.{Port};
 ghost use Rattle.link_script.specs.Scripts.{HasRanges};
 ghost use Rattle.run_words.specs.Lines.{replay, shown};
+ghost use Rattle.world_laws.specs.PlainScripts.{alters_payload};
 ghost use Rattle.mptcp_run.specs.declared.status.Named.TheVariants as named;
 ghost use Rattle.mptcp_run.specs.Causes.{IsLoadFault, IsScriptFault};
 ghost use Rattle.mptcp_run.specs.Inputs.{IsWithinLimit, IsLoadsFault, AreFirstWithinLimits, IsInputFault, IsReplayInputFault};
 ghost use Rattle.outside_kit.specs.Calls as call;
 ghost use Rattle.mptcp_run.specs.Plan.{failed, Adds, AddsAll, first_loads, loads_of};
 ghost use Rattle.mptcp_run.specs.Adding.{LoadsAdd, InputAdds};
+ghost use Rattle.mptcp_run.specs.Promised.{IsPlainInput, EndsWithRound};
+ghost use Rattle.mptcp_run.specs.Rounds.{all_turns};
 ghost use Rattle.mptcp_run.specs.Task.{AreWithinLimits, opening_count};
+ghost use Rattle.mptcp_run.specs.Task as course;
 ghost use Rattle.mptcp_run.specs.Script.{script_meaning, log_reading};
 
 use crate::device::load;
@@ -46,6 +51,8 @@ pub fn load_contents<O: Outside>(
     ensures file_a { IfOk result (λ contents. IfSome (O.content outside.old line.now.file_a.now) (λ told. contents.file_a.items ≡ told)) }
     ensures file_b { IfOk result (λ contents. IfSome (O.content outside.old line.now.file_b.now) (λ told. contents.file_b.items ≡ told)) }
     ensures script_within { IfOk result (λ contents. vec_len contents.script ≤ 65536) }
+    ensures file_a_within { IfOk result (λ contents. length contents.file_a.items ≤ 16777216) }
+    ensures file_b_within { IfOk result (λ contents. length contents.file_b.items ≤ 16777216) }
     ensures within { OnOk result (AreFirstWithinLimits (O.content outside.old) (shown line.now)) }
     ensures fault { IfErr result (IsLoadsFault (O.content outside.old) (shown line.now) (O.load_faults outside.old) (O.load_faults outside.new)) }
     ensures counted { O.load_faults outside.old ≤ O.load_faults outside.new }
@@ -94,6 +101,8 @@ pub fn input_of(alloc: Global, contents: Contents) -> Result<Input, Status>
     ensures file_a { IfOk result (λ input. input.file_a ≡ contents.file_a.items) }
     ensures file_b { IfOk result (λ input. input.file_b ≡ contents.file_b.items) }
     ensures ranges { IfOk result (λ input. HasRanges input.script) }
+    // No line of the script alters a payload.
+    ensures unaltered { IfOk result (λ input. list_any alters_payload input.script.lines ≡ false) }
     ensures fault { IfErr result (IsScriptFault contents.script.items) }
 {
     match read_script(alloc, &contents.script) {
@@ -116,7 +125,7 @@ pub fn load_input<O: Outside>(
     ensures script { IfOk result (λ input. IfSome (O.content outside.old line.now.script.now) (λ told. script_meaning told ≡ Ok input.script)) }
     ensures file_a { IfOk result (λ input. IfSome (O.content outside.old line.now.file_a.now) (λ told. input.file_a ≡ told)) }
     ensures file_b { IfOk result (λ input. IfSome (O.content outside.old line.now.file_b.now) (λ told. input.file_b ≡ told)) }
-    ensures ranges { IfOk result (λ input. HasRanges input.script) }
+    ensures plain { IfOk result IsPlainInput }
     ensures within { OnOk result (AreFirstWithinLimits (O.content outside.old) (shown line.now)) }
     ensures fault { IfErr result (IsInputFault (O.content outside.old) (shown line.now) (O.load_faults outside.old) (O.load_faults outside.new)) }
     ensures counted { O.load_faults outside.old ≤ O.load_faults outside.new }
@@ -153,7 +162,9 @@ pub fn load_replay<O: Outside>(
     ensures turns { IfOk result (λ replay. IfSome (O.content outside.old order.now) (λ told. log_reading replay.input.script told ≡ Ok replay.turns.items)) }
     ensures lines { IfOk result (λ replay. IfSome (O.content outside.old order.now) (λ told. replay.lines ≡ opening_count told)) }
     ensures few { IfOk result (λ replay. replay.lines ≤ 3) }
-    ensures ranges { IfOk result (λ replay. HasRanges replay.input.script) }
+    // The last turn of a log is the end of a round.
+    ensures ends { IfOk result (λ replay. EndsWithRound (course.told (all_turns replay.turns.items))) }
+    ensures plain { IfOk result (λ replay. IsPlainInput replay.input) }
     ensures within { OnOk result (AreWithinLimits (O.content outside.old) (shown line.now)) }
     ensures fault { IfErr result (IsReplayInputFault (O.content outside.old) (shown line.now) (O.load_faults outside.old) (O.load_faults outside.new)) }
     ensures counted { O.load_faults outside.old ≤ O.load_faults outside.new }

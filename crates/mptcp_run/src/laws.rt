@@ -1,15 +1,23 @@
 //! What holds of every run, as clauses of functions that do nothing.
 ghost use Rattle.mptcp_run.specs.Logged.{WholeRunsAgree, WholeRunsAreTold};
-ghost use Rattle.mptcp_run.specs.Promised.{LoadedTasksArePlain, PlainTasksAreKept, WholeRunsGiveFronts, DeliveredRunsGiveFiles, StoppedRunsGiveFronts, CutRunsGiveFronts};
+ghost use Rattle.mptcp_run.specs.Answers.{ValidInputsAreRun};
+ghost use Rattle.mptcp_run.specs.Promised.{LoadedTasksArePlain, PlainTasksAreKept, WholeRunsGivePrefixes, DeliveredRunsGiveFiles, StoppedRunsGivePrefixes, CutRunsGivePrefixes, LinesCutGivePrefixes};
 
 /// A law: where the script alters no payload, each reader has a prefix of what the other side writes, at whichever end of a run,
 /// and at `Delivered` all of it. The connection after the turns that were made keeps all promises.
 pub fn plain_runs_keep_their_word()
     ensures kept { PlainTasksAreKept }
-    ensures whole { WholeRunsGiveFronts }
+    ensures whole { WholeRunsGivePrefixes }
     ensures delivered { DeliveredRunsGiveFiles }
-    ensures stopped { StoppedRunsGiveFronts }
-    ensures cut_off { CutRunsGiveFronts }
+    ensures stopped { StoppedRunsGivePrefixes }
+    ensures cut_off { CutRunsGivePrefixes }
+    ensures line_cut { LinesCutGivePrefixes }
+{}
+
+/// A law: words whose inputs are told, within their limits and valid are run. Where no count of faults rose, the run comes to
+/// its own end, or memory is wanting, or in `replay` a turn of the log can't be made.
+pub fn valid_inputs_are_run()
+    ensures { ValidInputsAreRun }
 {}
 
 /// A law: where the inputs of a command line are within their limits, the script of its task alters no payload, both files are

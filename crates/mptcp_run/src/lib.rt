@@ -17,7 +17,9 @@ mod status;
 mod top_call;
 mod weaving;
 
-pub use laws::{loaded_tasks_are_plain, logs_tell_their_runs, plain_runs_keep_their_word};
+pub use laws::{
+    loaded_tasks_are_plain, logs_tell_their_runs, plain_runs_keep_their_word, valid_inputs_are_run,
+};
 pub use link_script::ScriptKind;
 pub use status::{Named, Status, fault_text};
 pub use top_call::run;

@@ -4,7 +4,7 @@ ghost use Rattle.std.specs.Prelude.{◌≡◌, ◌≢◌, ◌++◌, [], ◌∷�
 ghost use Rattle.outside_kit.specs.declared.port.Port.{Port};
 ghost use Rattle.outside_kit.specs.Outside.{HoldsAfter, HoldsPrefix};
 ghost use Rattle.outside_kit.specs.Calls as call;
-ghost use Rattle.mptcp_run.specs.Plan.{AddsAll, AddsCut};
+ghost use Rattle.mptcp_run.specs.Plan.{AddsAll, AddsShort};
 ghost use Rattle.mptcp_run.specs.Ports.{NeverFall, IsPortsFault};
 ghost use Rattle.mptcp_run.specs.Putting.{status_of, last_line_of};
 
@@ -42,7 +42,7 @@ pub fn put_last<O: Outside>(
     ensures other_ports { (other : Port) → other ≢ Port.Log → O.holds outside.new other ≡ O.holds outside.old other }
     ensures load_counts { O.load_faults outside.new ≡ O.load_faults outside.old }
     ensures calls { OnOk result (AddsAll (call.Put Port.Log (last_line_of report run.now.rounds run.now.world.state) ∷ []) (O.calls outside.old) (O.calls outside.new)) }
-    ensures calls_cut { IfErr result (λ status. AddsCut (call.Put Port.Log (last_line_of report run.now.rounds run.now.world.state) ∷ []) status (O.calls outside.old) (O.calls outside.new)) }
+    ensures calls_cut { IfErr result (λ status. AddsShort (call.Put Port.Log (last_line_of report run.now.rounds run.now.world.state) ∷ []) status (O.calls outside.old) (O.calls outside.new)) }
 {
     match last_line(alloc, run, report) {
         Ok(line) => put(outside, Port::Log, line.as_bytes()),

@@ -5,13 +5,14 @@ ghost use Rattle.outside_kit.specs.declared.port.Port.{Port};
 ghost use Rattle.path_core.specs.Octets.{octets};
 ghost use Rattle.world_core.specs.Kept.{standing};
 ghost use Rattle.world_laws.specs.Worlds.{is_going, world_step, IsLawfulTurn, after_turn};
-ghost use Rattle.mptcp_run.specs.Adding.{turn_puts, TurnEnds, TurnsEnd};
-ghost use Rattle.mptcp_run.specs.Plan.{AddsAll, puts_by_round};
-ghost use Rattle.mptcp_run.specs.Putting.{round_ends};
+ghost use Rattle.mptcp_run.specs.Adding.{turn_puts, TurnEnds};
+ghost use Rattle.mptcp_run.specs.Courses.{CourseMade, LogStops};
+ghost use Rattle.mptcp_run.specs.Plan.{AddsAll};
 ghost use Rattle.mptcp_run.specs.Ports.{NeverFall};
-ghost use Rattle.mptcp_run.specs.Rounds.{AtRound, TurnsPut, TurnsFault, all_turns};
+ghost use Rattle.mptcp_run.specs.Rounds.{AtRound, all_turns};
 ghost use Rattle.mptcp_run.specs.Replaying.{UnderWay, StepFault, TurnHolds, TurnFault, last_after, rounds_after, round_turn, IsReplayFault};
 ghost use Rattle.mptcp_run.specs.Task.{Connection, turn_of};
+ghost use Rattle.mptcp_run.specs.Task as course;
 
 use crate::rounds::Run;
 use crate::status::Status;
@@ -101,13 +102,15 @@ pub fn make_turns<O: Outside>(
     requires begins { AtRound run.old }
     requires none { run.old.rounds ≡ 0 }
     requires few { lines ≤ 3 }
-    ensures ok { OnOk result (TurnsPut run.old.opening 0 (all_turns order.now) run.old.world.state run.old.world.state run.new.world.state (O.holds outside.old) (O.holds outside.new)) }
-    ensures fault { IfErr result (TurnsFault run.old.opening 0 (all_turns order.now) run.old.world.state run.old.world.state lines (O.holds outside.old) (O.holds outside.new)) }
-    ensures cause { IfErr result (IsReplayFault (O.port_faults outside.old) (O.port_faults outside.new)) }
+    ensures ok { OnOk result (CourseMade (course.told (all_turns order.now)) run.old.opening
+        run.old.world.state run.new.world.state (O.holds outside.old) (O.holds outside.new)
+        (O.calls outside.old) (O.calls outside.new)) }
+    ensures stop { IfErr result (LogStops (all_turns order.now) lines run.old.opening run.old.world.state
+        (O.holds outside.old) (O.holds outside.new) (O.calls outside.old) (O.calls outside.new)) }
+    ensures cause { IfErr result
+        (IsReplayFault (O.port_faults outside.old) (O.port_faults outside.new)) }
     ensures counted { NeverFall (O.port_faults outside.old) (O.port_faults outside.new) }
     ensures load_counts { O.load_faults outside.new ≡ O.load_faults outside.old }
-    ensures calls { OnOk result (AddsAll (puts_by_round run.old.opening 0 run.old.world.state (round_ends (all_turns order.now) run.old.world.state)) (O.calls outside.old) (O.calls outside.new)) }
-    ensures calls_cut { IfErr result (TurnsEnd run.old.opening 0 (all_turns order.now) run.old.world.state run.old.world.state (O.calls outside.old) (O.calls outside.new)) }
 {
     let mut line = lines;
     for turn in order {

@@ -57,7 +57,8 @@ fn summary(
     let mut text = String::new(alloc);
     writeln!(
         text,
-        "bench {number} rounds {rounds} steps {steps} outcome {outcome}"
+        "bench {number} rounds {rounds} steps {steps} outcome {}",
+        outcome.word(),
     )?;
     Ok(Text::from(text.into_bytes()))
 }

@@ -1,20 +1,21 @@
 //! Rounds in which the actors take whole turns, one after the other.
 
-ghost use Rattle.std.specs.Prelude.{◌≡◌, ◌+◌, ◌-◌, ◌^◌, ◌<◌, IfErr, OnOk, OnErr};
+ghost use Rattle.std.specs.Prelude.{◌≡◌, ◌+◌, ◌-◌, ◌^◌, ◌<◌, length, IfErr, OnOk, OnErr};
 ghost use Rattle.path_core.specs.Octets.{octets};
 ghost use Rattle.world_core.specs.Rounds.{RoundTo};
-ghost use Rattle.world_laws.specs.Outcomes.{outcome_of};
-ghost use Rattle.world_laws.specs.Serial.{goes_on};
-ghost use Rattle.mptcp_run.specs.Adding.{RoundsAdd, RoundAddsCut, RoundsAddCut};
+ghost use Rattle.mptcp_run.specs.Adding.{RoundAddsCut};
+ghost use Rattle.mptcp_run.specs.Courses.{CourseMade, CourseCut};
 ghost use Rattle.mptcp_run.specs.Plan.{AddsAll, round_puts};
 ghost use Rattle.mptcp_run.specs.Ports.{NeverFall, IsPortsFault};
-ghost use Rattle.mptcp_run.specs.Rounds.{AtRound, HoldsRound, RoundCut, RoundsPut, RoundsCut};
+ghost use Rattle.mptcp_run.specs.Putting.{round_ends};
+ghost use Rattle.mptcp_run.specs.Rounds.{AtRound, HoldsRound, RoundCut};
+ghost use Rattle.mptcp_run.specs.Task as course;
 
 use crate::rounds::Run;
 use crate::status::Status;
 use outside_kit::Outside;
 use std::alloc::Global;
-use world_core::{Outcome, World, round};
+use world_core::round;
 
 /// Makes one round, and puts it.
 fn make_round<O: Outside>(alloc: Global, outside: &mut O, run: &mut Run) -> Result<(), Status>
@@ -38,13 +39,6 @@ fn make_round<O: Outside>(alloc: Global, outside: &mut O, run: &mut Run) -> Resu
     }
 }
 
-/// Whether the connection goes on.
-fn goes_on(world: &World) -> bool
-    ensures { result ≡ goes_on (outcome_of world.now.state.crew) }
-{
-    matches!(world.outcome(), Outcome::Going)
-}
-
 /// Makes at most so many rounds, and puts each; the last one is the first after which the connection doesn't go on.
 pub fn make_rounds<O: Outside>(
     alloc: Global,
@@ -54,17 +48,21 @@ pub fn make_rounds<O: Outside>(
 ) -> Result<(), Status>
     requires begins { AtRound run.old }
     requires none { run.old.rounds ≡ 0 }
-    ensures ok { OnOk result (RoundsPut run.old.opening most 0 run.new.rounds run.old.world.state run.new.world.state (O.holds outside.old) (O.holds outside.new)) }
-    ensures err { OnErr result (RoundsCut run.old.opening most 0 run.old.world.state (O.holds outside.old) (O.holds outside.new)) }
-    ensures fault { IfErr result (IsPortsFault (O.port_faults outside.old) (O.port_faults outside.new)) }
+    // All turns of such a course, and as many rounds as they end.
+    ensures ok { OnOk result ((made : CourseMade (course.rounds most) run.old.opening
+        run.old.world.state run.new.world.state (O.holds outside.old) (O.holds outside.new)
+        (O.calls outside.old) (O.calls outside.new))
+        × (run.new.rounds ≡ length (round_ends made.turns run.old.world.state))) }
+    ensures cut { IfErr result (CourseCut (course.rounds most) run.old.opening run.old.world.state
+        (O.holds outside.old) (O.holds outside.new) (O.calls outside.old) (O.calls outside.new)) }
+    ensures fault { IfErr result
+        (IsPortsFault (O.port_faults outside.old) (O.port_faults outside.new)) }
     ensures counted { NeverFall (O.port_faults outside.old) (O.port_faults outside.new) }
     ensures load_counts { O.load_faults outside.new ≡ O.load_faults outside.old }
-    ensures calls { OnOk result (RoundsAdd run.old.opening most 0 run.old.world.state run.new.world.state (O.calls outside.old) (O.calls outside.new)) }
-    ensures calls_cut { IfErr result (RoundsAddCut run.old.opening most 0 run.old.world.state (O.calls outside.old) (O.calls outside.new)) }
 {
     for _round in 0..most {
         make_round(alloc, outside, run)?;
-        if !goes_on(&run.world) {
+        if !run.world.goes_on() {
             return Ok(());
         }
     }

@@ -1,32 +1,23 @@
 //! The top call.
 
-ghost use Rattle.std.specs.Prelude.{◌≡◌, ◌≢◌, ◌≤◌, ◌<◌, ◌++◌, ◌⊎◌, ℕ, List, [], ◌∷◌, length, map, Some, Ok, Err, IsNone, IsSome, IsSomeAnd, IsOk, IfOk, IfErr, IfSome, OnOk, OnErr, string_bytes};
+ghost use Rattle.std.specs.Prelude.{◌≡◌, ◌≢◌, ◌≤◌, ◌++◌, List, [], ◌∷◌, map, IsNone, IfOk, IfErr, IfSome, OnOk, OnErr, string_bytes};
 ghost use Rattle.outside_kit.specs.declared.port.Port.{Port};
-ghost use Rattle.outside_kit.specs.Outside.{HasRisen, HoldsAfter, HoldsPrefix};
-ghost use Rattle.link_script.specs.declared.fault.ScriptKind.{ScriptKind};
-ghost use Rattle.link_script.specs.declared.fault.ScriptFault.TheVariants as script_fault;
-ghost use Rattle.link_script.specs.Scripts.{HasRanges};
-ghost use Rattle.run_words.specs.Lines.{Line, serial, replay, shown};
-ghost use Rattle.world_laws.specs.Outcomes.{outcome_of};
-ghost use Rattle.mptcp_run.specs.declared.status.Named.{Named};
-ghost use Rattle.mptcp_run.specs.declared.status.Named.TheVariants as named;
-ghost use Rattle.mptcp_run.specs.Answers.{HasEnded, IsRefusal, HasLoaded, HasRead, HasBegun, IsRefusedLine, IsAnswer, IsMadeAnswer};
-ghost use Rattle.mptcp_run.specs.Asked.{asked_in, if_run};
-ghost use Rattle.mptcp_run.specs.Causes.{limit_of};
-ghost use Rattle.mptcp_run.specs.Inputs.{name_of, order_of, content_of, AreWithinLimitsBefore};
-ghost use Rattle.mptcp_run.specs.Logged.{LogTellsTheRun};
-ghost use Rattle.mptcp_run.specs.Made.{made_task, bench_of, bench_in};
 ghost use Rattle.outside_kit.specs.Calls as call;
-ghost use Rattle.mptcp_run.specs.Adding.{AddsWork, AddsWorkCut, MadeAdds, ReplayAdds};
-ghost use Rattle.mptcp_run.specs.Plan.{AddsAll, AddsCut, binds_of, ArePuts, AreCallsAt, AreCallsOf};
-ghost use Rattle.mptcp_run.specs.Ports.{NeverFall, IsUntouched, IsPortsFault, HoldsWithin};
-ghost use Rattle.mptcp_run.specs.Promised.{IsAlwaysKept, ReadersHaveFronts, ReadersHaveFrontsIfBound, ReadersHaveFiles};
-ghost use Rattle.mptcp_run.specs.Putting.{last_line_of, status_of, IsWhole, IsCut, ReplayEnds};
+ghost use Rattle.outside_kit.specs.Outside.{HoldsAfter, HoldsPrefix};
+ghost use Rattle.link_script.specs.Scripts.{HasRanges};
+ghost use Rattle.run_words.specs.Lines.{serial, replay, bench, shown};
+ghost use Rattle.world_laws.specs.Outcomes.{outcome_of};
+ghost use Rattle.mptcp_run.specs.Answers.{IsAnswer, IsMadeAnswer, NothingWasRun};
+ghost use Rattle.mptcp_run.specs.Asked.{AsksInRange, asked_in, if_run};
+ghost use Rattle.mptcp_run.specs.Ends.{CameToEnd, IsCut, ReplayEnds};
+ghost use Rattle.mptcp_run.specs.Made.{Bench, made_task, bench_of, bench_in};
+ghost use Rattle.mptcp_run.specs.Plan.{AddsAll, AddsCut, AddsShort, binds_of};
+ghost use Rattle.mptcp_run.specs.Ports.{NeverFall, IsPortsFault, HoldsWithin};
+ghost use Rattle.mptcp_run.specs.Promised.{ReadersHaveFiles};
+ghost use Rattle.mptcp_run.specs.Putting.{last_line_of, status_of};
 ghost use Rattle.mptcp_run.specs.Replaying.{IsReplayFault};
-ghost use Rattle.mptcp_run.specs.Rounds.{IsOpened};
-ghost use Rattle.mptcp_run.specs.Script.{script_meaning, script_of};
-ghost use Rattle.mptcp_run.specs.Task.{task_from, task_with, task_of, task_in, opening_count, AreWithinLimits, HasValidScript, HasValidOrder, IsValid};
-ghost use Rattle.mptcp_run.specs.Rounds.{all_turns};
+ghost use Rattle.mptcp_run.specs.Rounds.{IsOpened, all_turns};
+ghost use Rattle.mptcp_run.specs.Task.{task_from, task_with};
 ghost use Rattle.mptcp_run.specs.Task as course;
 
 use crate::input::{Replay, load_input, load_replay};
@@ -88,7 +79,7 @@ fn end<O: Outside>(
     ensures other_ports { (other : Port) → other ≢ Port.Log → O.holds outside.new other ≡ O.holds outside.old other }
     ensures load_counts { O.load_faults outside.new ≡ O.load_faults outside.old }
     ensures calls { OnOk result (AddsAll (call.Put Port.Log (last_line_of report run.now.rounds run.now.world.state) ∷ []) (O.calls outside.old) (O.calls outside.new)) }
-    ensures calls_cut { IfErr result (λ status. AddsCut (call.Put Port.Log (last_line_of report run.now.rounds run.now.world.state) ∷ []) status (O.calls outside.old) (O.calls outside.new)) }
+    ensures calls_cut { IfErr result (λ status. AddsShort (call.Put Port.Log (last_line_of report run.now.rounds run.now.world.state) ∷ []) status (O.calls outside.old) (O.calls outside.new)) }
 {
     put_last(alloc, outside, run, report)?;
     Ok(status_of(run.world.outcome()))
@@ -104,14 +95,15 @@ fn perform_serial<O: Outside>(
     report: Report,
 ) -> Result<Status, Status>
     requires { HasRanges input.now.script }
-    ensures ended { IfOk result HasEnded }
-    ensures whole { IfOk result (λ status. IsWhole (task_with input.now (course.rounds rounds) report) status (O.holds outside.old) (O.holds outside.new)) }
-    ensures cut { OnErr result (IsCut (task_with input.now (course.rounds rounds) report) (O.holds outside.old) (O.holds outside.new)) }
-    ensures fault { IfErr result (IsPortsFault (O.port_faults outside.old) (O.port_faults outside.new)) }
-    ensures counted { NeverFall (O.port_faults outside.old) (O.port_faults outside.new) }
+    ensures ended { IfOk result (CameToEnd [] (shown line.now)
+        (task_with input.now (course.rounds rounds) report)
+        (O.holds outside.old) (O.holds outside.new) (O.calls outside.old) (O.calls outside.new)) }
+    ensures cut { IfErr result (IsCut [] (shown line.now)
+        (task_with input.now (course.rounds rounds) report)
+        (O.holds outside.old) (O.holds outside.new) (O.calls outside.old) (O.calls outside.new)) }
+    ensures fault { IfErr result
+        (IsPortsFault (O.port_faults outside.old) (O.port_faults outside.new)) }
     ensures load_counts { O.load_faults outside.new ≡ O.load_faults outside.old }
-    ensures calls { OnOk result (AddsWork ArePuts (shown line.now) (task_with input.now (course.rounds rounds) report) (O.calls outside.old) (O.calls outside.new)) }
-    ensures calls_cut { IfErr result (AddsWorkCut (shown line.now) (task_with input.now (course.rounds rounds) report) (O.calls outside.old) (O.calls outside.new)) }
 {
     let mut run = begin(alloc, outside, line, input, report)?;
     make_rounds(alloc, outside, &mut run, rounds)?;
@@ -127,14 +119,15 @@ fn perform_replay<O: Outside>(
 ) -> Result<Status, Status>
     requires ranges { HasRanges replay.now.input.script }
     requires few { replay.now.lines ≤ 3 }
-    ensures ended { IfOk result HasEnded }
-    ensures whole { IfOk result (λ status. IsWhole (task_from replay.now.input (course.told (all_turns replay.now.turns.items))) status (O.holds outside.old) (O.holds outside.new)) }
-    ensures err { IfErr result (ReplayEnds (task_from replay.now.input (course.told (all_turns replay.now.turns.items))) replay.now.lines (O.holds outside.old) (O.holds outside.new)) }
-    ensures fault { IfErr result (IsReplayFault (O.port_faults outside.old) (O.port_faults outside.new)) }
-    ensures counted { NeverFall (O.port_faults outside.old) (O.port_faults outside.new) }
-    ensures load_counts { O.load_faults outside.new ≡ O.load_faults outside.old }
-    ensures calls { OnOk result (AddsWork ArePuts (shown line.now) (task_from replay.now.input (course.told (all_turns replay.now.turns.items))) (O.calls outside.old) (O.calls outside.new)) }
-    ensures calls_cut { IfErr result (ReplayAdds (shown line.now) (task_from replay.now.input (course.told (all_turns replay.now.turns.items))) (O.calls outside.old) (O.calls outside.new)) }
+    ensures ended { IfOk result (CameToEnd [] (shown line.now)
+        (task_from replay.now.input (course.told (all_turns replay.now.turns.items)))
+        (O.holds outside.old) (O.holds outside.new) (O.calls outside.old) (O.calls outside.new)) }
+    ensures err { IfErr result (ReplayEnds [] (shown line.now)
+        (task_from replay.now.input (course.told (all_turns replay.now.turns.items)))
+        (O.holds outside.old) (O.holds outside.new) (O.calls outside.old) (O.calls outside.new)
+        replay.now.lines) }
+    ensures fault { IfErr result
+        (IsReplayFault (O.port_faults outside.old) (O.port_faults outside.new)) }
 {
     let mut run = begin(alloc, outside, line, &replay.input, Report::Log)?;
     make_turns(alloc, outside, &mut run, &replay.turns, replay.lines)?;
@@ -148,10 +141,13 @@ fn run_serial<O: Outside>(
     line: &CommandLine<'_>,
     rounds: u32,
 ) -> Status
-    requires { (shown line.now).work ≡ serial rounds }
-    ensures answer { IsAnswer (O.content outside.old) (shown line.now) (O.load_faults outside.old) (O.load_faults outside.new)
-        (O.port_faults outside.old) (O.port_faults outside.new) (O.holds outside.old) (O.holds outside.new) result }
-    ensures calls { AreCallsAt (O.content outside.old) (shown line.now) (O.calls outside.old) (O.calls outside.new) result }
+    requires asked { (shown line.now).work ≡ serial rounds }
+    requires in_range { AsksInRange (shown line.now).work }
+    ensures { IsAnswer (O.content outside.old) (shown line.now)
+        (O.load_faults outside.old) (O.load_faults outside.new)
+        (O.port_faults outside.old) (O.port_faults outside.new)
+        (O.holds outside.old) (O.holds outside.new)
+        (O.calls outside.old) (O.calls outside.new) result }
 {
     let input = match load_input(alloc, outside, line) {
         Ok(input) => input,
@@ -171,9 +167,13 @@ fn run_bench<O: Outside>(
     rounds: u32,
     number: u16,
 ) -> Status
-    ensures answer { IsMadeAnswer (made_task number rounds) (O.port_faults outside.old) (O.port_faults outside.new) (O.holds outside.old) (O.holds outside.new) result }
-    ensures load_counts { O.load_faults outside.new ≡ O.load_faults outside.old }
-    ensures calls { MadeAdds (shown line.now) (made_task number rounds) (O.calls outside.old) (O.calls outside.new) result }
+    requires asked { (shown line.now).work ≡ bench rounds number }
+    requires in_range { AsksInRange (shown line.now).work }
+    ensures { IfSome (bench_of (shown line.now)) (λ made. IsMadeAnswer made
+        (O.load_faults outside.old) (O.load_faults outside.new)
+        (O.port_faults outside.old) (O.port_faults outside.new)
+        (O.holds outside.old) (O.holds outside.new)
+        (O.calls outside.old) (O.calls outside.new) result) }
 {
     let Ok(input) = made_input(alloc, number) else {
         return Status::Memory;
@@ -193,9 +193,11 @@ fn run_replay<O: Outside>(
     order: &str,
 ) -> Status
     requires { (shown line.now).work ≡ replay order.now }
-    ensures answer { IsAnswer (O.content outside.old) (shown line.now) (O.load_faults outside.old) (O.load_faults outside.new)
-        (O.port_faults outside.old) (O.port_faults outside.new) (O.holds outside.old) (O.holds outside.new) result }
-    ensures calls { AreCallsAt (O.content outside.old) (shown line.now) (O.calls outside.old) (O.calls outside.new) result }
+    ensures { IsAnswer (O.content outside.old) (shown line.now)
+        (O.load_faults outside.old) (O.load_faults outside.new)
+        (O.port_faults outside.old) (O.port_faults outside.new)
+        (O.holds outside.old) (O.holds outside.new)
+        (O.calls outside.old) (O.calls outside.new) result }
 {
     let replay = match load_replay(alloc, outside, line, order) {
         Ok(replay) => replay,
@@ -209,41 +211,28 @@ fn run_replay<O: Outside>(
 
 /// What a command line asks for, if it is run.
 fn run_line<O: Outside>(alloc: Global, outside: &mut O, line: &CommandLine<'_>) -> Status
-    ensures run { IfSome (if_run (shown line.now)) (λ asked. IsAnswer (O.content outside.old) asked (O.load_faults outside.old) (O.load_faults outside.new)
-        (O.port_faults outside.old) (O.port_faults outside.new) (O.holds outside.old) (O.holds outside.new) result) }
-    ensures bench { IfSome (bench_of (shown line.now)) (λ bench. IsMadeAnswer bench.task (O.port_faults outside.old) (O.port_faults outside.new) (O.holds outside.old) (O.holds outside.new) result) }
-    ensures bench_unloaded { IsSome (bench_of (shown line.now)) → O.load_faults outside.new ≡ O.load_faults outside.old }
-    ensures bench_calls { IfSome (bench_of (shown line.now)) (λ bench. MadeAdds bench.line bench.task (O.calls outside.old) (O.calls outside.new) result) }
-    ensures other { IsNone (if_run (shown line.now)) → IsNone (bench_of (shown line.now)) → result ≡ Status.Usage }
-    ensures untouched { IsNone (if_run (shown line.now)) → IsNone (bench_of (shown line.now)) → IsUntouched (O.holds outside.old) (O.holds outside.new) (O.port_faults outside.old) (O.port_faults outside.new) }
-    ensures unloaded { IsNone (if_run (shown line.now)) → IsNone (bench_of (shown line.now)) → O.load_faults outside.new ≡ O.load_faults outside.old }
-    ensures calls { IsNone (bench_of (shown line.now)) → AreCallsOf (O.content outside.old) (if_run (shown line.now)) result (O.calls outside.old) (O.calls outside.new) }
+    requires { AsksInRange (shown line.now).work }
+    ensures answer { IfSome (if_run (shown line.now)) (λ asked. IsAnswer (O.content outside.old) asked
+        (O.load_faults outside.old) (O.load_faults outside.new)
+        (O.port_faults outside.old) (O.port_faults outside.new)
+        (O.holds outside.old) (O.holds outside.new)
+        (O.calls outside.old) (O.calls outside.new) result) }
+    ensures bench { IfSome (bench_of (shown line.now)) (λ made. IsMadeAnswer made
+        (O.load_faults outside.old) (O.load_faults outside.new)
+        (O.port_faults outside.old) (O.port_faults outside.new)
+        (O.holds outside.old) (O.holds outside.new)
+        (O.calls outside.old) (O.calls outside.new) result) }
+    ensures neither { IsNone (if_run (shown line.now)) → IsNone (bench_of (shown line.now)) → NothingWasRun
+        (O.load_faults outside.old) (O.load_faults outside.new)
+        (O.port_faults outside.old) (O.port_faults outside.new)
+        (O.holds outside.old) (O.holds outside.new)
+        (O.calls outside.old) (O.calls outside.new) result }
 {
     match line.mode {
         Mode::Serial { rounds } => run_serial(alloc, outside, line, rounds),
         Mode::Replay { order } => run_replay(alloc, outside, line, order),
         Mode::Bench { rounds, number } => run_bench(alloc, outside, line, rounds, number),
         Mode::Run { .. } => Status::Usage,
-    }
-}
-
-/// What the words ask for, and how that ended.
-fn run_words<O: Outside>(alloc: Global, outside: &mut O, words: &[String]) -> Status
-    ensures asked { IfSome (asked_in (map string_bytes words.now)) (λ line. IsAnswer (O.content outside.old) line (O.load_faults outside.old) (O.load_faults outside.new)
-        (O.port_faults outside.old) (O.port_faults outside.new) (O.holds outside.old) (O.holds outside.new) result) }
-    ensures usage { result ≡ Status.Usage → IsNone (asked_in (map string_bytes words.now)) }
-    ensures bench { IfSome (bench_in (map string_bytes words.now)) (λ bench. IsMadeAnswer bench.task (O.port_faults outside.old) (O.port_faults outside.new) (O.holds outside.old) (O.holds outside.new) result) }
-    ensures bench_unloaded { IsSome (bench_in (map string_bytes words.now)) → O.load_faults outside.new ≡ O.load_faults outside.old }
-    ensures bench_calls { IfSome (bench_in (map string_bytes words.now)) (λ bench. MadeAdds bench.line bench.task (O.calls outside.old) (O.calls outside.new) result) }
-    ensures other { IsNone (asked_in (map string_bytes words.now)) → IsNone (bench_in (map string_bytes words.now)) → (result ≡ Status.Usage) ⊎ (result ≡ Status.Memory) }
-    ensures untouched { IsNone (asked_in (map string_bytes words.now)) → IsNone (bench_in (map string_bytes words.now)) → IsUntouched (O.holds outside.old) (O.holds outside.new) (O.port_faults outside.old) (O.port_faults outside.new) }
-    ensures unloaded { IsNone (asked_in (map string_bytes words.now)) → IsNone (bench_in (map string_bytes words.now)) → O.load_faults outside.new ≡ O.load_faults outside.old }
-    ensures calls { IsNone (bench_in (map string_bytes words.now)) → AreCallsOf (O.content outside.old) (asked_in (map string_bytes words.now)) result (O.calls outside.old) (O.calls outside.new) }
-{
-    match read(alloc, words) {
-        Ok(line) => run_line(alloc, outside, &line),
-        Err(WordsFault::Usage) => Status::Usage,
-        Err(WordsFault::Memory) => Status::Memory,
     }
 }
 
@@ -262,76 +251,32 @@ pub fn run<O: Outside, G: Gate + Sync>(
     outside: &mut O,
     _gate: &G,
 ) -> Status
-    // The answers and their causes.
-    ensures usage { result ≡ Status.Usage → IsNone (asked_in (map string_bytes words.now)) }
-    ensures unasked { IsNone (asked_in (map string_bytes words.now)) → IsNone (bench_in (map string_bytes words.now)) → (result ≡ Status.Usage) ⊎ (result ≡ Status.Memory) }
-    ensures load { (input : Named) → result ≡ Status.Load input → HasRisen (O.load_faults outside.old) (O.load_faults outside.new) }
-    ensures too_long { (input : Named) → result ≡ Status.TooLong input → IfSome (asked_in (map string_bytes words.now)) (λ line.
-        IfSome (content_of (O.content outside.old) line input) (λ told. limit_of input < length told)) }
-    ensures script { (at : ℕ) (kind : ScriptKind) → result ≡ Status.Script at kind → IfSome (asked_in (map string_bytes words.now)) (λ line.
-        IfSome (O.content outside.old line.names.script) (λ told. script_meaning told ≡ Err (script_fault.Line at kind))) }
-    ensures put { (port : Port) → result ≡ Status.Put port → HasRisen (O.port_faults outside.old port) (O.port_faults outside.new port) }
-    ensures log { (at : ℕ) → result ≡ Status.Log at → IfSome (asked_in (map string_bytes words.now)) (λ line.
-        IsSome (order_of line.work) × IfSome (content_of (O.content outside.old) line named.Order) (λ log. IsRefusedLine (script_of (O.content outside.old) line) (task_of (O.content outside.old) line) log at
-        (IsUntouched (O.holds outside.old) (O.holds outside.new) (O.port_faults outside.old) (O.port_faults outside.new)) (O.holds outside.old) (O.holds outside.new))) }
-
-    // An answer comes only where no earlier one does: what is loaded before is within its limits, and what was read is valid.
-    ensures loaded_before { (input : Named) → (result ≡ Status.Load input) ⊎ (result ≡ Status.TooLong input) → IfSome (asked_in (map string_bytes words.now)) (λ line.
-        IsSome (name_of input line) × AreWithinLimitsBefore (O.content outside.old) line input) }
-    ensures all_loaded { HasLoaded result → IfSome (asked_in (map string_bytes words.now)) (AreWithinLimits (O.content outside.old)) }
-    ensures valid_script { HasRead result → IfSome (asked_in (map string_bytes words.now)) (HasValidScript (O.content outside.old)) }
-    ensures valid_order { HasBegun result → IfSome (asked_in (map string_bytes words.now)) (HasValidOrder (O.content outside.old)) }
-    ensures complete { (line : Line) → asked_in (map string_bytes words.now) ≡ Some line → IsValid (O.content outside.old) line
-        → ¬ HasRisen (O.load_faults outside.old) (O.load_faults outside.new)
-        → ((port : Port) → ¬ HasRisen (O.port_faults outside.old port) (O.port_faults outside.new port))
-        → HasEnded result ⊎ ((result ≡ Status.Memory) ⊎ ((at : ℕ) × ((result ≡ Status.Log at) × IsSome (order_of line.work)))) }
-
-    // Refused: nothing was bound or put, and for wrong words nothing was loaded.
-    ensures unloaded { result ≡ Status.Usage → O.load_faults outside.new ≡ O.load_faults outside.old }
-    ensures untouched { IsRefusal result → IsUntouched (O.holds outside.old) (O.holds outside.new) (O.port_faults outside.old) (O.port_faults outside.new) }
-
-    // At its own end: all turns were made, the status is what the connection shows then, and the ports hold the run.
-    ensures whole { HasEnded result → IfSome (task_in (O.content outside.old) (map string_bytes words.now)) (λ task.
-        IsWhole task result (O.holds outside.old) (O.holds outside.new)) }
-
-    // Cut off by a port that failed, or by want of memory.
-    ensures cut_off { (port : Port) → result ≡ Status.Put port → IfSome (task_in (O.content outside.old) (map string_bytes words.now)) (λ task.
-        IsCut task (O.holds outside.old) (O.holds outside.new)) }
-    ensures memory { result ≡ Status.Memory → IsUntouched (O.holds outside.old) (O.holds outside.new) (O.port_faults outside.old) (O.port_faults outside.new)
-        ⊎ IfSome (task_in (O.content outside.old) (map string_bytes words.now)) (λ task. IsCut task (O.holds outside.old) (O.holds outside.new)) }
-
-    // What that says of what was read: no script that is run changes a segment, so the connection keeps all its promises.
-    ensures kept { HasEnded result → IfSome (task_in (O.content outside.old) (map string_bytes words.now)) IsAlwaysKept }
-    ensures fronts { HasEnded result → IfSome (task_in (O.content outside.old) (map string_bytes words.now)) (λ task. ReadersHaveFronts task (O.holds outside.old) (O.holds outside.new)) }
-    ensures delivered { result ≡ Status.Delivered → IfSome (task_in (O.content outside.old) (map string_bytes words.now)) (λ task. ReadersHaveFiles task (O.holds outside.old) (O.holds outside.new)) }
-    ensures put_fronts { (port : Port) → result ≡ Status.Put port → IfSome (task_in (O.content outside.old) (map string_bytes words.now)) (λ task.
-        ReadersHaveFrontsIfBound task (O.holds outside.old) (O.holds outside.new)) }
-    ensures memory_fronts { result ≡ Status.Memory → IsUntouched (O.holds outside.old) (O.holds outside.new) (O.port_faults outside.old) (O.port_faults outside.new)
-        ⊎ IfSome (task_in (O.content outside.old) (map string_bytes words.now)) (λ task. ReadersHaveFrontsIfBound task (O.holds outside.old) (O.holds outside.new)) }
-    // Where the log of `replay` has no right form nothing was bound or put.
-    ensures log_fronts { (at : ℕ) → result ≡ Status.Log at → IsUntouched (O.holds outside.old) (O.holds outside.new) (O.port_faults outside.old) (O.port_faults outside.new)
-        ⊎ IfSome (task_in (O.content outside.old) (map string_bytes words.now)) (λ task. ReadersHaveFronts task (O.holds outside.old) (O.holds outside.new)) }
-
-    // What `Log` grew by is read as a log of turns that are lawful from the opening on. As a run of their own they drive the
-    // connection to the same end, with the same status, and leave the same ports.
-    ensures logged { HasEnded result → IfSome (task_in (O.content outside.old) (map string_bytes words.now)) (λ task.
-        LogTellsTheRun task result (O.holds outside.old) (O.holds outside.new)) }
-
-    // The order of work: where the outside tells its calls, they are those of a plan, in its order, and none follows one that failed.
-    ensures calls { IsNone (bench_in (map string_bytes words.now)) → AreCallsOf (O.content outside.old) (asked_in (map string_bytes words.now)) result (O.calls outside.old) (O.calls outside.new) }
-
-    // `bench`: nothing is loaded, and the made input is run as `serial` runs one. `Log` gets one line, last.
-    ensures bench_answers { IsSome (bench_in (map string_bytes words.now)) → HasEnded result ⊎ ((result ≡ Status.Memory) ⊎ ((port : Port) × (result ≡ Status.Put port))) }
-    ensures bench_unloaded { IsSome (bench_in (map string_bytes words.now)) → O.load_faults outside.new ≡ O.load_faults outside.old }
-    ensures bench_whole { HasEnded result → IfSome (bench_in (map string_bytes words.now)) (λ bench. IsWhole bench.task result (O.holds outside.old) (O.holds outside.new)) }
-    ensures bench_cut_off { (port : Port) → (result ≡ Status.Put port) ⊎ (result ≡ Status.Memory) → IfSome (bench_in (map string_bytes words.now)) (λ bench.
-        IsCut bench.task (O.holds outside.old) (O.holds outside.new)) }
-    ensures bench_kept { IfSome (bench_in (map string_bytes words.now)) (λ bench. IsAlwaysKept bench.task) }
-    ensures bench_fronts { HasEnded result → IfSome (bench_in (map string_bytes words.now)) (λ bench. ReadersHaveFronts bench.task (O.holds outside.old) (O.holds outside.new)) }
-    ensures bench_delivered { result ≡ Status.Delivered → IfSome (bench_in (map string_bytes words.now)) (λ bench. ReadersHaveFiles bench.task (O.holds outside.old) (O.holds outside.new)) }
-    ensures bench_cut_fronts { (port : Port) → (result ≡ Status.Put port) ⊎ (result ≡ Status.Memory) → IfSome (bench_in (map string_bytes words.now)) (λ bench.
-        ReadersHaveFrontsIfBound bench.task (O.holds outside.old) (O.holds outside.new)) }
-    ensures bench_calls { IfSome (bench_in (map string_bytes words.now)) (λ bench. MadeAdds bench.line bench.task (O.calls outside.old) (O.calls outside.new) result) }
+    // Status 0: what each reader's port holds is what the other side's file holds.
+    ensures delivered { result ≡ Status.Delivered → IfSome (asked_in (map string_bytes words.now)) (λ line.
+        ReadersHaveFiles (O.content outside.old line.names.file_a) (O.content outside.old line.names.file_b)
+        (O.holds outside.old) (O.holds outside.new)) }
+    // Words that ask for `serial` or `replay`: the row of the answer.
+    ensures answer { IfSome (asked_in (map string_bytes words.now)) (λ line. IsAnswer (O.content outside.old) line
+        (O.load_faults outside.old) (O.load_faults outside.new)
+        (O.port_faults outside.old) (O.port_faults outside.new)
+        (O.holds outside.old) (O.holds outside.new)
+        (O.calls outside.old) (O.calls outside.new) result) }
+    // Words that ask for `bench`: its row.
+    ensures bench { IfSome (bench_in (map string_bytes words.now)) (λ made. IsMadeAnswer made
+        (O.load_faults outside.old) (O.load_faults outside.new)
+        (O.port_faults outside.old) (O.port_faults outside.new)
+        (O.holds outside.old) (O.holds outside.new)
+        (O.calls outside.old) (O.calls outside.new) result) }
+    // Words that ask for neither: they are refused, and nothing is done.
+    ensures neither { IsNone (asked_in (map string_bytes words.now)) → IsNone (bench_in (map string_bytes words.now)) → NothingWasRun
+        (O.load_faults outside.old) (O.load_faults outside.new)
+        (O.port_faults outside.old) (O.port_faults outside.new)
+        (O.holds outside.old) (O.holds outside.new)
+        (O.calls outside.old) (O.calls outside.new) result }
 {
-    run_words(alloc, outside, words)
+    match read(alloc, words) {
+        Ok(line) => run_line(alloc, outside, &line),
+        Err(WordsFault::Usage) => Status::Usage,
+        Err(WordsFault::Memory) => Status::Memory,
+    }
 }

@@ -6,7 +6,8 @@ use Rattle.mptcp_run.specs.declared.status.Named.TheVariants as named
 use Rattle.mptcp_run.specs.Inputs.{order_of}
 use Rattle.mptcp_run.specs.Plan.{AddsAll, load_of, first_loads, loads_of}
 use Rattle.mptcp_run.proofs.Calls.{all_then}
-use Rattle.mptcp_run.proofs.Loading.{load_cut, loads_longer, input_adds, script_adds, form_adds, replay_loads}
+use Rattle.mptcp_run.proofs.LogEnds.{turns_end}
+use Rattle.mptcp_run.proofs.Loading.{load_cut, loads_longer, input_adds, script_adds, form_adds, replay_loads, plain_of}
 use Rattle.mptcp_run.proofs.input.load_replay.Goals as goal
 
 pub returns-in_err-contents-clause-calls_cut : goal.returns-in_err-contents-clause-calls_cut
@@ -35,3 +36,11 @@ returns-in_err-turns-clause-calls_cut g c =
     let loaded = subst (λ plan. AddsAll plan (g.O.Outside.calls c.args.outside.now) (g.O.Outside.calls c.load_order.new.outside)) (replay_loads line c.args.order.now c.requires.named)
     (all_then (first_loads line) (call.Load c.args.order.now ∷ []) _ _ _ c.in_ok-contents.ensures.calls c.in_ok-log.ensures.calls) in
     rw (p.1, p.2) (form_adds line (loads_of line) _ _ c.in_ok-input.input.script _ c.in_err-turns.field-0.0 loaded c.in_err-turns.ensures.fault)
+
+pub returns-clause-ends : goal.returns-clause-ends
+returns-clause-ends g c = turns_end _ _ _ _ c.in_ok-turns.ensures.turns
+
+pub returns-clause-plain : goal.returns-clause-plain
+returns-clause-plain g c =
+    let read = c.in_ok-input.ensures in
+    plain_of c.in_ok-input.input _ _ read.ranges read.unaltered read.file_a read.file_b c.in_ok-contents.ensures.file_a_within c.in_ok-contents.ensures.file_b_within

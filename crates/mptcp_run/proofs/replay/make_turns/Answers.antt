@@ -1,16 +1,17 @@
 use Rattle.std.proofs.Common.{◌∙◌, refl, sym, subst, ap, arith, map, drop, ◌+◌}
 use Rattle.std.proofs.lemmas.List.{drop_more, at_drop_all}
 use Rattle.std.proofs.lemmas.Result.{err_from_is_err_and}
-use Rattle.mptcp_run.specs.Adding.{TurnsEnd}
 use Rattle.mptcp_run.specs.Plan.{AddsAll, puts_by_round}
 use Rattle.mptcp_run.specs.Putting.{round_ends}
 use Rattle.mptcp_run.specs.Task.{turn_of}
-use Rattle.mptcp_run.specs.Rounds.{TurnsPut, TurnsFault, all_turns}
+use Rattle.mptcp_run.specs.Rounds.{all_turns}
 use Rattle.mptcp_run.proofs.Turning.{under_length, under_begins}
 use Rattle.mptcp_run.proofs.TurnsMade.{put_turn, turns_over, fault_later, fault_now, rounds_few}
 use Rattle.mptcp_run.proofs.Calls.{adds_none}
+use Rattle.mptcp_run.proofs.Courses.{turns_made, turns_stop}
 use Rattle.mptcp_run.proofs.PutsMade.{add_turn, end_later, end_now}
 use Rattle.mptcp_run.proofs.replay.make_turns.Goals as goal
+use Rattle.mptcp_run.proofs.Folding.{TurnsEnd, TurnsPut, TurnsFault}
 
 pub loop-turn-init : goal.loop-turn-init
 loop-turn-init g c = (
@@ -31,14 +32,6 @@ loop-turn-init g c = (
 
 pub make_turn-requires-clause-made : goal.make_turn-requires-clause-made
 make_turn-requires-clause-made g c = under_length c.loop-turn.invariant.0 c.loop-turn.run c.loop-turn.invariant.1.under
-
-pub returns-in_err-make_turn-clause-fault : goal.returns-in_err-make_turn-clause-fault
-returns-in_err-make_turn-clause-fault g c =
-    let inv = c.loop-turn.invariant.1 in let fault = c.in_err-make_turn.ensures.fault c.loop-turn.invariant.0 inv.under in
-    let p = err_from_is_err_and c.from_residual.result c.from_residual.ensures.1 in
-    rw (p.1, p.2) (inv.fault c.in_err-make_turn.field-0.0 _
-    (fault_now c.loop-turn.run.opening c.loop-turn.run.rounds c.loop-turn.line (c.loop-turn.line + 1) _ _ (all_turns (drop c.loop-turn.turn-index c.args.order.now)) c.loop-turn.invariant.0
-    c.loop-turn.run.world.state _ _ c.in_err-make_turn.field-0.0 refl (ap (map turn_of) (drop_more c.args.order.now c.loop-turn.turn-index _ c.loop-turn-test.true)) fault))
 
 pub loop-turn-preserved : goal.loop-turn-preserved
 loop-turn-preserved g c =
@@ -64,25 +57,27 @@ loop-turn-preserved g c =
       },
     )
 
+pub returns-in_err-make_turn-clause-stop : goal.returns-in_err-make_turn-clause-stop
+returns-in_err-make_turn-clause-stop g c =
+    let inv = c.loop-turn.invariant.1 in let fault = c.in_err-make_turn.ensures.fault c.loop-turn.invariant.0 inv.under in
+    let p = err_from_is_err_and c.from_residual.result c.from_residual.ensures.1 in
+    rw (p.1, p.2) (turns_stop c.args.run.now.opening (all_turns c.args.order.now) c.args.run.now.world.state _ _ _ _ c.args.lines c.in_err-make_turn.field-0.0
+    (inv.fault c.in_err-make_turn.field-0.0 _
+    (fault_now c.loop-turn.run.opening c.loop-turn.run.rounds c.loop-turn.line (c.loop-turn.line + 1) _ _ (all_turns (drop c.loop-turn.turn-index c.args.order.now)) c.loop-turn.invariant.0
+    c.loop-turn.run.world.state _ _ c.in_err-make_turn.field-0.0 refl (ap (map turn_of) (drop_more c.args.order.now c.loop-turn.turn-index _ c.loop-turn-test.true)) fault))
+    (inv.ended c.in_err-make_turn.field-0.0 _
+    (end_now c.loop-turn.run.opening c.loop-turn.run.rounds _ _ (all_turns (drop c.loop-turn.turn-index c.args.order.now)) c.loop-turn.invariant.0 c.loop-turn.run.world.state _ _ c.in_err-make_turn.field-0.0
+    (ap (map turn_of) (drop_more c.args.order.now c.loop-turn.turn-index _ c.loop-turn-test.true)) (c.in_err-make_turn.ensures.calls_cut c.loop-turn.invariant.0 inv.under))))
+
 pub returns-clause-ok : goal.returns-clause-ok
 returns-clause-ok g c =
-    c.loop-turn.invariant.1.put _ _
+    turns_made c.args.run.now.opening (all_turns c.args.order.now) c.args.run.now.world.state _ _ _ _ c.loop-turn.run.world.state
+    (c.loop-turn.invariant.1.put _ _
     (subst (λ ts. TurnsPut c.loop-turn.run.opening c.loop-turn.run.rounds (all_turns ts) c.loop-turn.invariant.0 c.loop-turn.run.world.state c.loop-turn.run.world.state
     (g.O.Outside.holds c.loop-turn.outside) (g.O.Outside.holds c.loop-turn.outside))
     (sym (at_drop_all (λ ts. ts) c.args.order.now c.loop-turn.turn-index (let over = c.loop-turn-test.false in omega (arith, over))))
-    (turns_over c.loop-turn.run.opening c.loop-turn.run.rounds c.loop-turn.invariant.0 c.loop-turn.run.world.state (g.O.Outside.holds c.loop-turn.outside)))
-
-pub returns-in_err-make_turn-clause-calls_cut : goal.returns-in_err-make_turn-clause-calls_cut
-returns-in_err-make_turn-clause-calls_cut g c =
-    let inv = c.loop-turn.invariant.1 in
-    let p = err_from_is_err_and c.from_residual.result c.from_residual.ensures.1 in
-    rw (p.1, p.2) (inv.ended c.in_err-make_turn.field-0.0 _
-    (end_now c.loop-turn.run.opening c.loop-turn.run.rounds _ _ (all_turns (drop c.loop-turn.turn-index c.args.order.now)) c.loop-turn.invariant.0 c.loop-turn.run.world.state _ _ c.in_err-make_turn.field-0.0
-    (ap (map turn_of) (drop_more c.args.order.now c.loop-turn.turn-index _ c.loop-turn-test.true)) (c.in_err-make_turn.ensures.calls_cut c.loop-turn.invariant.0 inv.under)))
-
-pub returns-clause-calls : goal.returns-clause-calls
-returns-clause-calls g c =
-    c.loop-turn.invariant.1.added _
+    (turns_over c.loop-turn.run.opening c.loop-turn.run.rounds c.loop-turn.invariant.0 c.loop-turn.run.world.state (g.O.Outside.holds c.loop-turn.outside))))
+    (c.loop-turn.invariant.1.added _
     (subst (λ ts. AddsAll (puts_by_round c.loop-turn.run.opening c.loop-turn.run.rounds c.loop-turn.invariant.0 (round_ends (all_turns ts) c.loop-turn.run.world.state)) (g.O.Outside.calls c.loop-turn.outside)
     (g.O.Outside.calls c.loop-turn.outside))
-    (sym (at_drop_all (λ ts. ts) c.args.order.now c.loop-turn.turn-index (let over = c.loop-turn-test.false in omega (arith, over)))) (adds_none (g.O.Outside.calls c.loop-turn.outside)))
+    (sym (at_drop_all (λ ts. ts) c.args.order.now c.loop-turn.turn-index (let over = c.loop-turn-test.false in omega (arith, over)))) (adds_none (g.O.Outside.calls c.loop-turn.outside))))

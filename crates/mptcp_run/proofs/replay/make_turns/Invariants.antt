@@ -1,12 +1,12 @@
 use Rattle.std.proofs.Common.{◌≡◌, ◌≤◌, ◌+◌, drop, length}
-use Rattle.mptcp_run.specs.Adding.{TurnsEnd}
 use Rattle.mptcp_run.specs.Plan.{AddsAll, puts_by_round}
 use Rattle.mptcp_run.specs.Putting.{round_ends}
 use Rattle.mptcp_run.specs.Ports.{NeverFall}
 use Rattle.mptcp_run.specs.Replaying.{UnderWay}
-use Rattle.mptcp_run.specs.Rounds.{TurnsPut, TurnsFault, all_turns}
+use Rattle.mptcp_run.specs.Rounds.{all_turns}
 use Rattle.mptcp_run.specs.Task.{Connection}
 use Rattle.mptcp_run.proofs.replay.make_turns.Given as goal
+use Rattle.mptcp_run.proofs.Folding.{TurnsEnd, TurnsPut, TurnsFault}
 
 -- what the turns that are left come to, all turns do
 abbrev pub invariant-loop-turn : goal.invariant-loop-turn

@@ -1,6 +1,6 @@
 use Rattle.std.proofs.Common.{◌∙◌, sym, ap, ◌+◌, ◌-◌, arith}
 use Rattle.std.proofs.lemmas.Result.{err_from_is_err_and}
-use Rattle.mptcp_run.proofs.PortsLemmas.{OnErr-holds}
+use Rattle.mptcp_run.proofs.Courses.{rounds_made, rounds_cut}
 use Rattle.mptcp_run.proofs.RoundsMade.{put_more, put_last, cut_later, cut_now, rounds_over}
 use Rattle.mptcp_run.proofs.PutsMade.{add_more, add_last, add_cut_later, add_cut_now, adds_over}
 use Rattle.mptcp_run.proofs.serial.make_rounds.Goals as goal
@@ -30,40 +30,31 @@ loop-round-preserved g c =
       load_counts = made.load_counts ∙ inv.load_counts;
     }
 
-pub returns-in_err-make_round-clause-err : goal.returns-in_err-make_round-clause-err
-returns-in_err-make_round-clause-err g c =
-    let inv = c.loop-round.invariant in
-    OnErr-holds _ _ (inv.cut _
+pub returns-in_err-make_round-clause-cut : goal.returns-in_err-make_round-clause-cut
+returns-in_err-make_round-clause-cut g c =
+    let inv = c.loop-round.invariant in let p = err_from_is_err_and c.from_residual.result c.from_residual.ensures.1 in
+    rw (p.1, p.2) (rounds_cut c.args.run.now.opening c.args.most c.args.run.now.world.state _ _ _ _ c.in_err-make_round.field-0.0
+    (inv.cut _
     (cut_now c.loop-round.run.opening (c.args.most - c.loop-round._round) (c.args.most - (c.loop-round._round + 1)) c.loop-round._round c.loop-round.run.rounds c.loop-round.run.world.state _ _
     (omega (arith, c.loop-round-test.true)) inv.rounds c.in_err-make_round.ensures.err))
+    (inv.added_cut c.in_err-make_round.field-0.0 _
+    (add_cut_now c.loop-round.run.opening (c.args.most - c.loop-round._round) (c.args.most - (c.loop-round._round + 1)) c.loop-round._round c.loop-round.run.rounds c.loop-round.run.world.state _ _
+    c.in_err-make_round.field-0.0 (omega (arith, c.loop-round-test.true)) inv.rounds c.in_err-make_round.ensures.calls_cut)))
 
 pub returns-then-not-goes_on-clause-ok : goal.returns-then-not-goes_on-clause-ok
 returns-then-not-goes_on-clause-ok g c =
     let inv = c.loop-round.invariant in let made = c.in_ok-make_round.ensures in
-    inv.put _ _ _
+    rounds_made c.args.run.now.opening c.args.most c.args.run.now.world.state _ _ _ _ c.make_round.new.run.rounds c.make_round.new.run.world.state
+    (inv.put _ _ _
     (put_last c.loop-round.run.opening (c.args.most - c.loop-round._round) (c.args.most - (c.loop-round._round + 1)) c.loop-round._round c.loop-round.run.rounds c.make_round.new.run.rounds c.loop-round.run.world.state
-    c.make_round.new.run.world.state _ _ (omega (arith, c.loop-round-test.true)) inv.rounds made.round (sym c.goes_on.ensures ∙ c.if-not-goes_on.true) made.ok (made.rounds ∙ ap (λ n. n + 1) inv.rounds))
+    c.make_round.new.run.world.state _ _ (omega (arith, c.loop-round-test.true)) inv.rounds made.round (sym c.goes_on.ensures ∙ c.if-not-goes_on.true) made.ok (made.rounds ∙ ap (λ n. n + 1) inv.rounds)))
+    (inv.added _ _
+    (add_last c.loop-round.run.opening (c.args.most - c.loop-round._round) (c.args.most - (c.loop-round._round + 1)) c.loop-round._round c.loop-round.run.rounds c.loop-round.run.world.state
+    c.make_round.new.run.world.state _ _ (omega (arith, c.loop-round-test.true)) inv.rounds made.round (sym c.goes_on.ensures ∙ c.if-not-goes_on.true) made.calls))
 
 pub returns-clause-ok : goal.returns-clause-ok
 returns-clause-ok g c =
     let inv = c.loop-round.invariant in
-    inv.put _ _ _ (rounds_over c.loop-round.run.opening (c.args.most - c.loop-round._round) c.loop-round._round c.loop-round.run.rounds c.loop-round.run.world.state _ (omega (arith, c.loop-round-test.false)) inv.rounds)
-
-pub returns-in_err-make_round-clause-calls_cut : goal.returns-in_err-make_round-clause-calls_cut
-returns-in_err-make_round-clause-calls_cut g c =
-    let inv = c.loop-round.invariant in let p = err_from_is_err_and c.from_residual.result c.from_residual.ensures.1 in
-    rw (p.1, p.2) (inv.added_cut c.in_err-make_round.field-0.0 _
-    (add_cut_now c.loop-round.run.opening (c.args.most - c.loop-round._round) (c.args.most - (c.loop-round._round + 1)) c.loop-round._round c.loop-round.run.rounds c.loop-round.run.world.state _ _
-    c.in_err-make_round.field-0.0 (omega (arith, c.loop-round-test.true)) inv.rounds c.in_err-make_round.ensures.calls_cut))
-
-pub returns-then-not-goes_on-clause-calls : goal.returns-then-not-goes_on-clause-calls
-returns-then-not-goes_on-clause-calls g c =
-    let inv = c.loop-round.invariant in let made = c.in_ok-make_round.ensures in
-    inv.added _ _
-    (add_last c.loop-round.run.opening (c.args.most - c.loop-round._round) (c.args.most - (c.loop-round._round + 1)) c.loop-round._round c.loop-round.run.rounds c.loop-round.run.world.state
-    c.make_round.new.run.world.state _ _ (omega (arith, c.loop-round-test.true)) inv.rounds made.round (sym c.goes_on.ensures ∙ c.if-not-goes_on.true) made.calls)
-
-pub returns-clause-calls : goal.returns-clause-calls
-returns-clause-calls g c =
-    let inv = c.loop-round.invariant in
-    inv.added _ _ (adds_over c.loop-round.run.opening (c.args.most - c.loop-round._round) c.loop-round._round c.loop-round.run.world.state _ (omega (arith, c.loop-round-test.false)))
+    rounds_made c.args.run.now.opening c.args.most c.args.run.now.world.state _ _ _ _ c.loop-round.run.rounds c.loop-round.run.world.state
+    (inv.put _ _ _ (rounds_over c.loop-round.run.opening (c.args.most - c.loop-round._round) c.loop-round._round c.loop-round.run.rounds c.loop-round.run.world.state _ (omega (arith, c.loop-round-test.false)) inv.rounds))
+    (inv.added _ _ (adds_over c.loop-round.run.opening (c.args.most - c.loop-round._round) c.loop-round._round c.loop-round.run.world.state _ (omega (arith, c.loop-round-test.false))))

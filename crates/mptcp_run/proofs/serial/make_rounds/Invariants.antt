@@ -1,8 +1,8 @@
 use Rattle.std.proofs.Common.{◌≡◌, ◌≤◌, ◌-◌}
-use Rattle.mptcp_run.specs.Adding.{RoundsAdd, RoundsAddCut}
 use Rattle.mptcp_run.specs.Ports.{NeverFall}
-use Rattle.mptcp_run.specs.Rounds.{AtRound, RoundsPut, RoundsCut}
+use Rattle.mptcp_run.specs.Rounds.{AtRound}
 use Rattle.mptcp_run.proofs.serial.make_rounds.Given as goal
+use Rattle.mptcp_run.proofs.Folding.{RoundsAdd, RoundsAddCut, RoundsPut, RoundsCut}
 
 -- what the rounds that are left come to, all rounds do
 abbrev pub invariant-loop-round : goal.invariant-loop-round

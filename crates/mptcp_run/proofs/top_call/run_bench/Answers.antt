@@ -1,48 +1,43 @@
-use Rattle.std.proofs.Common.{refl, subst}
-use Rattle.run_words.specs.Lines.{shown}
-use Rattle.mptcp_run.specs.Adding.{AddsWork, AddsWorkCut}
+use Rattle.std.proofs.Common.{subst, []}
+use Rattle.run_words.specs.Lines.{Work, shown}
+use Rattle.mptcp_run.specs.Asked.{AsksInRange}
+use Rattle.mptcp_run.specs.Ends.{CameToEnd, IsCut}
 use Rattle.mptcp_run.specs.Made.{made_task}
-use Rattle.mptcp_run.specs.Plan.{ArePuts}
-use Rattle.mptcp_run.specs.Putting.{IsWhole, IsCut}
 use Rattle.mptcp_run.specs.Task.{Task}
 use Rattle.mptcp_run.proofs.Answering.{made_end_answer, made_cut_answer}
-use Rattle.mptcp_run.proofs.MadeTasks.{made_with}
-use Rattle.mptcp_run.proofs.Planning.{made_end_adds, made_cut_adds, made_memory_adds}
-use Rattle.mptcp_run.proofs.Starting.{serial_untouched}
+use Rattle.mptcp_run.proofs.Asking.{made_by_work, made_memory}
+use Rattle.mptcp_run.proofs.MadeTasks.{made_with, made_is_plain}
 use Rattle.mptcp_run.proofs.top_call.run_bench.Goals as goal
 
-pub returns-in_default-clause-answer : goal.returns-in_default-clause-answer
-returns-in_default-clause-answer g c = serial_untouched (made_task c.args.number c.args.rounds) c.args.rounds _ _ refl (λ p. refl)
+pub returns-in_default : goal.returns-in_default
+returns-in_default g c =
+    let line = shown c.args.line.now in
+    made_by_work line c.args.rounds c.args.number _ c.requires.asked
+    (made_memory (g.O.Outside.load_faults c.args.outside.now) (g.O.Outside.port_faults c.args.outside.now) (g.O.Outside.holds c.args.outside.now) (g.O.Outside.calls c.args.outside.now)
+    line c.args.number c.args.rounds (subst (λ (w : Work). AsksInRange w) c.requires.asked c.requires.in_range))
 
-pub returns-in_default-clause-calls : goal.returns-in_default-clause-calls
-returns-in_default-clause-calls g c = made_memory_adds (shown c.args.line.now) (made_task c.args.number c.args.rounds) c.args.rounds _ refl
+pub returns-in-Ok-perform_serial : goal.returns-in-Ok-perform_serial
+returns-in-Ok-perform_serial g c =
+    let line = shown c.args.line.now in let made = c.in-Ok.ensures in
+    let few = subst (λ (w : Work). AsksInRange w) c.requires.asked c.requires.in_range in
+    made_by_work line c.args.rounds c.args.number _ c.requires.asked
+    (made_end_answer (record { line = line; task = made_task c.args.number c.args.rounds }) (made_is_plain c.args.number c.args.rounds few)
+    (g.O.Outside.load_faults c.args.outside.now) (g.O.Outside.load_faults c.perform_serial.new.outside) c.perform_serial.ensures.load_counts
+    (g.O.Outside.port_faults c.args.outside.now) (g.O.Outside.port_faults c.perform_serial.new.outside) (g.O.Outside.holds c.args.outside.now) (g.O.Outside.holds c.perform_serial.new.outside)
+    (g.O.Outside.calls c.args.outside.now) (g.O.Outside.calls c.perform_serial.new.outside) c.in-Ok-perform_serial.status tt
+    (subst (λ (task : Task). CameToEnd [] line task (g.O.Outside.holds c.args.outside.now) (g.O.Outside.holds c.perform_serial.new.outside)
+    (g.O.Outside.calls c.args.outside.now) (g.O.Outside.calls c.perform_serial.new.outside) c.in-Ok-perform_serial.status)
+    (made_with c.in-Ok.input c.args.number c.args.rounds made.script made.file_a made.file_b) c.in-Ok-perform_serial.ensures.ended))
 
-pub returns-in-Ok-perform_serial-clause-answer : goal.returns-in-Ok-perform_serial-clause-answer
-returns-in-Ok-perform_serial-clause-answer g c =
-    let made = c.in-Ok.ensures in let done = c.in-Ok-perform_serial.ensures in
-    made_end_answer (made_task c.args.number c.args.rounds) (g.O.Outside.port_faults c.args.outside.now) (g.O.Outside.port_faults c.perform_serial.new.outside)
-    (g.O.Outside.holds c.args.outside.now) (g.O.Outside.holds c.perform_serial.new.outside) c.in-Ok-perform_serial.status done.ended
-    (subst (λ (task : Task). IsWhole task c.in-Ok-perform_serial.status (g.O.Outside.holds c.args.outside.now) (g.O.Outside.holds c.perform_serial.new.outside))
-    (made_with c.in-Ok.input c.args.number c.args.rounds made.script made.file_a made.file_b) done.whole)
-
-pub returns-clause-answer : goal.returns-clause-answer
-returns-clause-answer g c =
-    let made = c.in-Ok.ensures in let cut = c.in-Err.ensures in
-    made_cut_answer (made_task c.args.number c.args.rounds) (g.O.Outside.port_faults c.args.outside.now) (g.O.Outside.port_faults c.perform_serial.new.outside)
-    (g.O.Outside.holds c.args.outside.now) (g.O.Outside.holds c.perform_serial.new.outside) c.in-Err.status cut.fault
-    (subst (λ (task : Task). IsCut task (g.O.Outside.holds c.args.outside.now) (g.O.Outside.holds c.perform_serial.new.outside))
-    (made_with c.in-Ok.input c.args.number c.args.rounds made.script made.file_a made.file_b) cut.cut)
-
-pub returns-in-Ok-perform_serial-clause-calls : goal.returns-in-Ok-perform_serial-clause-calls
-returns-in-Ok-perform_serial-clause-calls g c =
-    let made = c.in-Ok.ensures in let done = c.in-Ok-perform_serial.ensures in
-    made_end_adds (shown c.args.line.now) (made_task c.args.number c.args.rounds) _ _ c.in-Ok-perform_serial.status done.ended
-    (subst (λ (task : Task). AddsWork ArePuts (shown c.args.line.now) task (g.O.Outside.calls c.args.outside.now) (g.O.Outside.calls c.perform_serial.new.outside))
-    (made_with c.in-Ok.input c.args.number c.args.rounds made.script made.file_a made.file_b) done.calls)
-
-pub returns-clause-calls : goal.returns-clause-calls
-returns-clause-calls g c =
-    let made = c.in-Ok.ensures in let cut = c.in-Err.ensures in
-    made_cut_adds (shown c.args.line.now) (made_task c.args.number c.args.rounds) _ _ _ _ c.in-Err.status cut.fault
-    (subst (λ (task : Task). AddsWorkCut (shown c.args.line.now) task (g.O.Outside.calls c.args.outside.now) (g.O.Outside.calls c.perform_serial.new.outside) c.in-Err.status)
-    (made_with c.in-Ok.input c.args.number c.args.rounds made.script made.file_a made.file_b) cut.calls_cut)
+pub returns : goal.returns
+returns g c =
+    let line = shown c.args.line.now in let made = c.in-Ok.ensures in
+    let few = subst (λ (w : Work). AsksInRange w) c.requires.asked c.requires.in_range in
+    made_by_work line c.args.rounds c.args.number _ c.requires.asked
+    (made_cut_answer (record { line = line; task = made_task c.args.number c.args.rounds }) (made_is_plain c.args.number c.args.rounds few)
+    (g.O.Outside.load_faults c.args.outside.now) (g.O.Outside.load_faults c.perform_serial.new.outside) c.perform_serial.ensures.load_counts
+    (g.O.Outside.port_faults c.args.outside.now) (g.O.Outside.port_faults c.perform_serial.new.outside) (g.O.Outside.holds c.args.outside.now) (g.O.Outside.holds c.perform_serial.new.outside)
+    (g.O.Outside.calls c.args.outside.now) (g.O.Outside.calls c.perform_serial.new.outside) c.in-Err.status c.in-Err.ensures.fault
+    (subst (λ (task : Task). IsCut [] line task (g.O.Outside.holds c.args.outside.now) (g.O.Outside.holds c.perform_serial.new.outside)
+    (g.O.Outside.calls c.args.outside.now) (g.O.Outside.calls c.perform_serial.new.outside) c.in-Err.status)
+    (made_with c.in-Ok.input c.args.number c.args.rounds made.script made.file_a made.file_b) c.in-Err.ensures.cut))

@@ -1,60 +1,53 @@
-use Rattle.std.proofs.Common.{subst, arith}
-use Rattle.run_words.specs.Lines.{shown}
+use Rattle.std.proofs.Common.{refl, subst, arith}
+use Rattle.run_words.specs.Lines.{Work, shown}
+use Rattle.mptcp_run.specs.Asked.{AsksInRange}
 use Rattle.mptcp_run.specs.Plan.{AddsAll, first_loads}
-use Rattle.mptcp_run.specs.Task.{Task, task_from, task_of}
+use Rattle.mptcp_run.specs.Task.{Task, task_from}
 use Rattle.mptcp_run.specs.Task as course
-use Rattle.mptcp_run.proofs.Answering.{some_is, serial_task, whole_from, cut_from, serial_within, script_valid, serial_order, end_answer, cut_answer}
+use Rattle.mptcp_run.proofs.Answering.{serial_task, serial_within, script_valid, serial_order, end_from, cut_from, input_answer, end_answer, cut_answer}
 use Rattle.mptcp_run.proofs.Loading.{serial_loads}
 use Rattle.mptcp_run.proofs.PortsLemmas.{fault_after}
-use Rattle.mptcp_run.proofs.Planning.{end_calls, cut_calls, input_calls}
 use Rattle.mptcp_run.proofs.top_call.run_serial.Goals as goal
 
-pub returns-in-Ok-perform_serial-clause-answer : goal.returns-in-Ok-perform_serial-clause-answer
-returns-in-Ok-perform_serial-clause-answer g c =
-    let content = g.O.Outside.content c.args.outside.now in let line = shown c.args.line.now in let read = c.in-Ok.ensures in
-    let task : Task = task_from c.in-Ok.input (course.rounds c.args.rounds) in
-    end_answer content line _ _ _ _ (g.O.Outside.holds c.args.outside.now) (g.O.Outside.holds c.perform_serial.new.outside) c.in-Ok-perform_serial.status c.in-Ok-perform_serial.ensures.ended
-    (record {
-      within = serial_within content line c.args.rounds c.requires read.within;
-      script = script_valid content line c.in-Ok.input.script read.script;
-      order = serial_order content line c.args.rounds c.requires;
-    })
-    (some_is (task_of content line) task _ (serial_task content line c.args.rounds c.in-Ok.input c.requires read.script read.file_a read.file_b)
-    (whole_from (g.O.Outside.holds c.args.outside.now) (g.O.Outside.holds c.load_input.new.outside) (g.O.Outside.holds c.perform_serial.new.outside) read.same_ports task
-    c.in-Ok-perform_serial.status c.in-Ok-perform_serial.ensures.whole))
+pub perform_serial-requires : goal.perform_serial-requires
+perform_serial-requires g c = c.in-Ok.ensures.plain.ranges
 
-pub returns-clause-answer : goal.returns-clause-answer
-returns-clause-answer g c =
+pub returns-in-Err : goal.returns-in-Err
+returns-in-Err g c =
+    let line = shown c.args.line.now in let cut = c.in-Err.ensures in
+    input_answer (g.O.Outside.content c.args.outside.now) line (g.O.Outside.load_faults c.args.outside.now) (g.O.Outside.load_faults c.load_input.new.outside)
+    (g.O.Outside.port_faults c.args.outside.now) (g.O.Outside.port_faults c.load_input.new.outside) (g.O.Outside.holds c.args.outside.now) (g.O.Outside.holds c.load_input.new.outside)
+    (g.O.Outside.calls c.args.outside.now) (g.O.Outside.calls c.load_input.new.outside) c.args.rounds (first_loads line) c.in-Err.status c.requires.asked
+    (λ p. (c.load_input.ensures.same_ports p, c.load_input.ensures.same_counts p)) cut.fault (serial_loads line c.args.rounds c.requires.asked) cut.calls_cut
+
+pub returns-in-Ok-perform_serial : goal.returns-in-Ok-perform_serial
+returns-in-Ok-perform_serial g c =
     let content = g.O.Outside.content c.args.outside.now in let line = shown c.args.line.now in let read = c.in-Ok.ensures in
     let task : Task = task_from c.in-Ok.input (course.rounds c.args.rounds) in
-    cut_answer content line _ _ (g.O.Outside.port_faults c.args.outside.now) (g.O.Outside.port_faults c.perform_serial.new.outside) (g.O.Outside.holds c.args.outside.now)
-    (g.O.Outside.holds c.perform_serial.new.outside) c.in-Err-perform_serial.status
-    (record {
-      within = serial_within content line c.args.rounds c.requires read.within;
-      script = script_valid content line c.in-Ok.input.script read.script;
-      order = serial_order content line c.args.rounds c.requires;
-    })
+    end_answer content line (g.O.Outside.load_faults c.args.outside.now) (g.O.Outside.load_faults c.perform_serial.new.outside)
+    (g.O.Outside.port_faults c.args.outside.now) (g.O.Outside.port_faults c.perform_serial.new.outside) (g.O.Outside.holds c.args.outside.now) (g.O.Outside.holds c.perform_serial.new.outside)
+    (g.O.Outside.calls c.args.outside.now) (g.O.Outside.calls c.perform_serial.new.outside) task
+    (serial_task content line c.args.rounds c.in-Ok.input c.requires.asked read.script read.file_a read.file_b) read.plain read.file_a read.file_b
+    (serial_within content line c.args.rounds c.requires.asked read.within) (script_valid content line c.in-Ok.input.script read.script) (serial_order content line c.args.rounds c.requires.asked)
+    refl (subst (λ (w : Work). AsksInRange w) c.requires.asked c.requires.in_range) tt c.in-Ok-perform_serial.status
+    (end_from (g.O.Outside.holds c.args.outside.now) (g.O.Outside.holds c.load_input.new.outside) (g.O.Outside.holds c.perform_serial.new.outside) read.same_ports line task
+    (g.O.Outside.calls c.args.outside.now) (g.O.Outside.calls c.load_input.new.outside) (g.O.Outside.calls c.perform_serial.new.outside)
+    (subst (λ plan. AddsAll plan (g.O.Outside.calls c.args.outside.now) (g.O.Outside.calls c.load_input.new.outside)) (serial_loads line c.args.rounds c.requires.asked) read.calls)
+    c.in-Ok-perform_serial.status c.in-Ok-perform_serial.ensures.ended)
+
+pub returns : goal.returns
+returns g c =
+    let content = g.O.Outside.content c.args.outside.now in let line = shown c.args.line.now in let read = c.in-Ok.ensures in
+    let task : Task = task_from c.in-Ok.input (course.rounds c.args.rounds) in
+    cut_answer content line (g.O.Outside.load_faults c.args.outside.now) (g.O.Outside.load_faults c.perform_serial.new.outside)
+    (g.O.Outside.port_faults c.args.outside.now) (g.O.Outside.port_faults c.perform_serial.new.outside) (g.O.Outside.holds c.args.outside.now) (g.O.Outside.holds c.perform_serial.new.outside)
+    (g.O.Outside.calls c.args.outside.now) (g.O.Outside.calls c.perform_serial.new.outside) task
+    (serial_task content line c.args.rounds c.in-Ok.input c.requires.asked read.script read.file_a read.file_b) read.plain read.file_a read.file_b
+    (serial_within content line c.args.rounds c.requires.asked read.within) (script_valid content line c.in-Ok.input.script read.script) (serial_order content line c.args.rounds c.requires.asked)
+    c.in-Err-perform_serial.status
     (fault_after (g.O.Outside.port_faults c.args.outside.now) (g.O.Outside.port_faults c.load_input.new.outside) (g.O.Outside.port_faults c.perform_serial.new.outside)
     c.in-Err-perform_serial.status (λ p. let same = read.same_counts p in omega (arith, same)) c.in-Err-perform_serial.ensures.fault)
-    (some_is (task_of content line) task _ (serial_task content line c.args.rounds c.in-Ok.input c.requires read.script read.file_a read.file_b)
-    (cut_from (g.O.Outside.holds c.args.outside.now) (g.O.Outside.holds c.load_input.new.outside) (g.O.Outside.holds c.perform_serial.new.outside) read.same_ports task
-    c.in-Err-perform_serial.ensures.cut))
-
-pub returns-in-Err-clause-calls : goal.returns-in-Err-clause-calls
-returns-in-Err-clause-calls g c =
-    let line = shown c.args.line.now in
-    input_calls (g.O.Outside.content c.args.outside.now) line (first_loads line) _ _ c.in-Err.status (serial_loads line c.args.rounds c.requires) c.in-Err.ensures.calls_cut
-
-pub returns-in-Ok-perform_serial-clause-calls : goal.returns-in-Ok-perform_serial-clause-calls
-returns-in-Ok-perform_serial-clause-calls g c =
-    let content = g.O.Outside.content c.args.outside.now in let line = shown c.args.line.now in let read = c.in-Ok.ensures in
-    end_calls content line _ _ _ (subst (λ plan. AddsAll plan (g.O.Outside.calls c.args.outside.now) (g.O.Outside.calls c.load_input.new.outside)) (serial_loads line c.args.rounds c.requires) read.calls)
-    (task_from c.in-Ok.input (course.rounds c.args.rounds)) (serial_task content line c.args.rounds c.in-Ok.input c.requires read.script read.file_a read.file_b)
-    c.in-Ok-perform_serial.status c.in-Ok-perform_serial.ensures.ended c.in-Ok-perform_serial.ensures.calls
-
-pub returns-clause-calls : goal.returns-clause-calls
-returns-clause-calls g c =
-    let content = g.O.Outside.content c.args.outside.now in let line = shown c.args.line.now in let read = c.in-Ok.ensures in
-    cut_calls content line _ _ _ (subst (λ plan. AddsAll plan (g.O.Outside.calls c.args.outside.now) (g.O.Outside.calls c.load_input.new.outside)) (serial_loads line c.args.rounds c.requires) read.calls)
-    (task_from c.in-Ok.input (course.rounds c.args.rounds)) (serial_task content line c.args.rounds c.in-Ok.input c.requires read.script read.file_a read.file_b) _ _
-    c.in-Err-perform_serial.status c.in-Err-perform_serial.ensures.fault c.in-Err-perform_serial.ensures.calls_cut
+    (cut_from (g.O.Outside.holds c.args.outside.now) (g.O.Outside.holds c.load_input.new.outside) (g.O.Outside.holds c.perform_serial.new.outside) read.same_ports line task
+    (g.O.Outside.calls c.args.outside.now) (g.O.Outside.calls c.load_input.new.outside) (g.O.Outside.calls c.perform_serial.new.outside)
+    (subst (λ plan. AddsAll plan (g.O.Outside.calls c.args.outside.now) (g.O.Outside.calls c.load_input.new.outside)) (serial_loads line c.args.rounds c.requires.asked) read.calls)
+    c.in-Err-perform_serial.status c.in-Err-perform_serial.ensures.cut)

@@ -1,0 +1,76 @@
+-- What the words ask for, and what stands at each answer to them.
+use Rattle.std.proofs.Common.{◌≡◌, refl, sym, ap, subst, ℕ, ◌≤◌, inl, inr, List, Option, Some, None, IfSome}
+use Rattle.std.specs.Prelude.{option_and_then}
+use Rattle.outside_kit.specs.declared.port.Port.{Port}
+use Rattle.run_words.specs.Lines.{Line, bench, line_of}
+use Rattle.mptcp_run.specs.declared.status.Status.{Status}
+use Rattle.mptcp_run.specs.declared.status.Status.TheVariants.{Delivered, Usage, Memory}
+use Rattle.mptcp_run.specs.Answers.{IsAnswer, IsMadeAnswer, NothingWasRun}
+use Rattle.mptcp_run.specs.Asked.{asked_in, if_run}
+use Rattle.mptcp_run.specs.Made.{Bench, made_task, bench_by, bench_of, bench_in}
+use Rattle.mptcp_run.specs.Plan.{loads_of}
+use Rattle.mptcp_run.specs.Promised.{ReadersHaveFiles}
+use Rattle.mptcp_run.specs.Task.{opened}
+use Rattle.mptcp_run.proofs.Answering.{made_cut_answer}
+use Rattle.mptcp_run.proofs.Calls.{Told, adds_none, cut_none}
+use Rattle.mptcp_run.proofs.MadeTasks.{made_is_plain, of_words}
+use Rattle.mptcp_run.proofs.Courses.{no_round}
+use Rattle.mptcp_run.proofs.Performing.{nothing_made}
+
+abbrev Ports : Type 0
+Ports = Port → Option (List ℕ)
+
+pub asked_is : (words : List (List ℕ)) (line : Line) → line_of words ≡ Some line → asked_in words ≡ if_run line
+unfolding asked_in
+asked_is words line is = ap (option_and_then if_run) is
+
+-- where they ask for the made input
+pub bench_is : (words : List (List ℕ)) (line : Line) → line_of words ≡ Some line → bench_in words ≡ bench_of line
+unfolding bench_in
+bench_is words line is = ap (option_and_then bench_of) is
+
+pub bench_nothing : (words : List (List ℕ)) → line_of words ≡ None → bench_in words ≡ None
+unfolding bench_in
+bench_nothing words is = ap (option_and_then bench_of) is
+
+pub asks_nothing : (words : List (List ℕ)) → line_of words ≡ None → asked_in words ≡ None
+unfolding asked_in
+asks_nothing words is = ap (option_and_then if_run) is
+
+-- status 0
+pub delivered_files : (content : List ℕ → Option (List ℕ)) (loads_before loads : ℕ) (faults_before faults : Port → ℕ) (held holds : Ports) (ta tb : Told)
+    (asked : Option Line) (status : Status) → IfSome asked (λ line. IsAnswer content line loads_before loads faults_before faults held holds ta tb status)
+    → status ≡ Delivered → IfSome asked (λ line. ReadersHaveFiles (content line.names.file_a) (content line.names.file_b) held holds)
+delivered_files content loads_before loads faults_before faults held holds ta tb None status a is = tt
+delivered_files content loads_before loads faults_before faults held holds ta tb (Some line) status a is =
+    (subst (λ st. IsAnswer content line loads_before loads faults_before faults held holds ta tb st) is a).1
+
+-- ---- nothing was done
+
+module _ (loads : ℕ) (faults : Port → ℕ) (holds : Ports) (ta : Told) where
+  pub nothing_asked : NothingWasRun loads loads faults faults holds holds ta ta Usage
+  nothing_asked = record { answer = inl refl; untouched = λ p. (refl, refl); unloaded = refl; calls = adds_none ta }
+
+  pub nothing_read : NothingWasRun loads loads faults faults holds holds ta ta Memory
+  nothing_read = record { answer = inr refl; untouched = λ p. (refl, refl); unloaded = refl; calls = adds_none ta }
+
+  -- for want of memory
+  pub asked_memory : (content : List ℕ → Option (List ℕ)) (asked : Option Line)
+      → IfSome asked (λ line. IsAnswer content line loads loads faults faults holds holds ta ta Memory)
+  asked_memory content None = tt
+  asked_memory content (Some line) =
+      inl (record { untouched = λ p. (refl, refl); calls = cut_none (loads_of line) Memory ta ta refl (adds_none ta) })
+
+  pub made_memory : (line : Line) (number most : ℕ) → number ≤ 256
+      → IsMadeAnswer (record { line = line; task = made_task number most }) loads loads faults faults holds holds ta ta Memory
+  made_memory line number most few =
+      made_cut_answer (record { line = line; task = made_task number most }) (made_is_plain number most few) loads loads refl faults faults holds holds ta ta Memory tt
+      (nothing_made line (made_task number most) holds ta (no_round most (opened (made_task number most))))
+
+  pub words_memory : (words : List (List ℕ)) → IfSome (bench_in words) (λ made. IsMadeAnswer made loads loads faults faults holds holds ta ta Memory)
+  words_memory words = of_words (λ made. IsMadeAnswer made loads loads faults faults holds holds ta ta Memory) made_memory words
+
+-- what a line that asks for `bench` is to do
+pub made_by_work : (line : Line) (most number : ℕ) (P : Bench → Type 0) → line.work ≡ bench most number → P (record { line = line; task = made_task number most })
+    → IfSome (bench_of line) P
+made_by_work line most number P is p = subst (λ w. IfSome (bench_by w line) P) (sym is) p

@@ -1,0 +1,101 @@
+-- How a run ends behind its loads: at its own end, at a turn that can't be made, or cut off.
+use Rattle.std.specs.Prelude.{◌≡◌, ℕ, ◌≤◌, ◌⊎◌, List, [], ◌++◌, length, Option}
+use Rattle.outside_kit.specs.declared.side.Side.TheVariants.{A, B}
+use Rattle.outside_kit.specs.declared.port.Port.{Port}
+use Rattle.outside_kit.specs.declared.port.Port.TheVariants.{ReadByA, ReadByB, Log}
+use Rattle.outside_kit.specs.Calls.{Call, Made}
+use Rattle.outside_kit.specs.Outside.{HoldsAfter}
+use Rattle.run_words.specs.Lines.{Line}
+use Rattle.world_laws.specs.Worlds.{Turn}
+use Rattle.mptcp_run.specs.declared.status.Status.{Status}
+use Rattle.mptcp_run.specs.declared.status.Status.TheVariants.{Delivered, Rounds, NoPath, Aborted, Put, Memory}
+use Rattle.mptcp_run.specs.declared.status.Status.TheVariants as status_is
+use Rattle.mptcp_run.specs.Plan.{AddsAll, AddsCut, AddsShort, puts_so_far, last_put, ArePuts, ArePutsBefore, plan_of}
+use Rattle.mptcp_run.specs.Ports.{HoldsMore, HoldsWithin, IsBetween}
+use Rattle.mptcp_run.specs.Putting.{round_ends, last_line, read_so_far, log_so_far, world_after, IsWhole, IsStopped, AreFirstOf}
+use Rattle.mptcp_run.specs.Task.{Task, opened, AreTurnsOf}
+
+abbrev Ports : Type 0
+Ports = Port → Option (List ℕ)
+
+-- the run came to one of its own ends
+abbrev pub HasEnded : Status → Type 0
+HasEnded Delivered = Unit {0}
+HasEnded Rounds = Unit {0}
+HasEnded NoPath = Unit {0}
+HasEnded (Aborted reader) = Unit {0}
+HasEnded _ = ⊥
+
+-- ---- what the ports hold
+
+-- each port that was bound, and the log, holds its text for the rounds of these turns, and of the next round a part
+pub record HoldsCut (task : Task) (turns more : List Turn) (old new : Ports) : Type 0 where
+  pub read_by_b : HoldsWithin (turns ++ more ≡ []) (old ReadByB) (new ReadByB)
+      (read_so_far B task turns) (read_so_far B task (turns ++ more))
+  pub read_by_a : HoldsWithin (turns ++ more ≡ []) (old ReadByA) (new ReadByA)
+      (read_so_far A task turns) (read_so_far A task (turns ++ more))
+  pub log : HoldsMore (old Log) (new Log) []
+      (IsBetween (log_so_far task turns) (log_so_far task (turns ++ more)))
+
+-- so it is for the first rounds of the task, and one more at most
+pub record HoldsSomeRounds (task : Task) (old new : Ports) : Type 0 where
+  pub turns : List Turn
+  pub more : List Turn
+  pub are : AreFirstOf task.course turns more (opened task)
+  pub one : length (round_ends more (world_after task turns)) ≤ 1
+  pub ports : HoldsCut task turns more old new
+
+-- the ports hold all that was read, and the log the whole text of all rounds and then a prefix of the last line
+pub record HoldsToLine (task : Task) (turns : List Turn) (old new : Ports) : Type 0 where
+  pub read_by_b : HoldsAfter (old ReadByB) (new ReadByB) (λ _. read_so_far B task turns)
+  pub read_by_a : HoldsAfter (old ReadByA) (new ReadByA) (λ _. read_so_far A task turns)
+  pub log : HoldsMore (old Log) (new Log) []
+      (IsBetween (log_so_far task turns) (log_so_far task turns ++ last_line task turns))
+
+-- ---- with the calls that were made: these loads, the binds, and puts
+
+-- all of a plan was made whose puts are such ones of the task
+abbrev pub AddsWork : List Call → Line → Task → Option (List Made) → Option (List Made) → (Task → List Call → Type 0) → Type 0
+AddsWork loads line task told tells Are =
+    (puts : List Call) × (Are task puts × AddsAll (plan_of loads line puts) told tells)
+
+-- its first calls were, up to puts of the first rounds of the task
+abbrev pub AddsSome : List Call → Line → Task → Option (List Made) → Option (List Made) → Status → Type 0
+AddsSome loads line task told tells status =
+    (turns : List Turn)
+    × (AreFirstOf task.course turns [] (opened task)
+    × AddsCut (plan_of loads line (puts_so_far task turns)) status told tells)
+
+module _ (loads : List Call) (line : Line) (task : Task) (held holds : Ports) (told tells : Option (List Made)) where
+  -- the run came to its own end
+  pub record CameToEnd (status : Status) : Type 0 where
+    pub ended : HasEnded status
+    pub whole : IsWhole task status held holds
+    pub calls : AddsWork loads line task told tells ArePuts
+
+  -- it was cut off while it was bound or in its rounds
+  pub record IsCutInRounds (status : Status) : Type 0 where
+    pub ports : HoldsSomeRounds task held holds
+    pub calls : AddsSome loads line task told tells status
+
+  -- or at its last line, which wasn't put whole
+  pub record IsCutAtLine (status : Status) : Type 0 where
+    pub turns : List Turn
+    pub are : AreTurnsOf task.course turns (opened task)
+    pub ports : HoldsToLine task turns held holds
+    pub calls : AddsShort (plan_of loads line (puts_so_far task turns ++ last_put task turns)) status told tells
+
+  abbrev pub IsCut : Status → Type 0
+  IsCut status = IsCutInRounds status ⊎ IsCutAtLine status
+
+  -- a turn of its log can't be made, where so many lines stand before the first one
+  pub record IsHalted (opening at : ℕ) : Type 0 where
+    pub stopped : IsStopped task opening at held holds
+    pub calls : AddsWork loads line task told tells ArePutsBefore
+
+  -- the turns of a log end a run with this status
+  abbrev pub ReplayEnds : ℕ → Status → Type 0
+  ReplayEnds opening (status_is.Log at) = IsHalted opening at
+  ReplayEnds opening (Put port) = IsCut (Put port)
+  ReplayEnds opening Memory = IsCut Memory
+  ReplayEnds opening status = ⊥
