@@ -27,8 +27,8 @@ Ports = Port → Option (List ℕ)
 
 -- ---- what was read
 
--- The inputs are within their limits, the script is valid, and a log of `replay` has its form. Of the task that they make: after
--- each list of turns its connection keeps all promises.
+-- The inputs are within their limits, the script is valid, and a log of `replay` has its form. Of
+-- the task that they make: after each list of turns its connection keeps all promises.
 pub record WasRead (content : List ℕ → Option (List ℕ)) (line : Line) : Type 0 where
   pub within : AreWithinLimits content line
   pub script : HasValidScript content line
@@ -43,7 +43,8 @@ module _ (content : List ℕ → Option (List ℕ)) (line : Line) (loads_before 
   abbrev pub AddsPlan : (Task → List Call → Type 0) → Type 0
   AddsPlan Are =
       (puts : List Call)
-      × (IfSome (task_of content line) (λ task. Are task puts) × AddsAll (plan_of (loads_of line) line puts) told tells)
+      × (IfSome (task_of content line) (λ task. Are task puts)
+      × AddsAll (plan_of (loads_of line) line puts) told tells)
 
   -- an input can't be loaded, or is too long
   pub record LoadRow (named : Named) (status : Status) : Type 0 where
@@ -54,7 +55,8 @@ module _ (content : List ℕ → Option (List ℕ)) (line : Line) (loads_before 
   -- the script is refused at this line
   pub record ScriptRow (at : ℕ) (kind : ScriptKind) : Type 0 where
     pub within : AreWithinLimits content line
-    pub cause : IfSome (content line.names.script) (λ text. script_meaning text ≡ Err (script_fault.Line at kind))
+    pub cause : IfSome (content line.names.script)
+        (λ text. script_meaning text ≡ Err (script_fault.Line at kind))
     pub untouched : IsUntouched held holds faults_before faults
     pub calls : AddsAll (loads_of line) told tells
 
@@ -64,7 +66,8 @@ module _ (content : List ℕ → Option (List ℕ)) (line : Line) (loads_before 
     pub within : AreWithinLimits content line
     pub script : HasValidScript content line
     pub cause : IfSome (script_of content line) (λ script.
-        IfSome (content_of content line input.Order) (λ log. log_reading script log ≡ Err (log_fault.Line at)))
+        IfSome (content_of content line input.Order)
+        (λ log. log_reading script log ≡ Err (log_fault.Line at)))
     pub untouched : IsUntouched held holds faults_before faults
     pub calls : AddsAll (loads_of line) told tells
 
@@ -74,14 +77,17 @@ module _ (content : List ℕ → Option (List ℕ)) (line : Line) (loads_before 
     pub read : WasRead content line
     pub stopped : IfSome (content_of content line input.Order) (λ log.
         IfSome (task_of content line) (λ task. IsStopped task (opening_count log) at held holds))
-    pub prefixes : ReadersHavePrefixes (content line.names.file_a) (content line.names.file_b) held holds
+    pub prefixes : ReadersHavePrefixes (content line.names.file_a) (content line.names.file_b)
+        held holds
     pub calls : AddsPlan ArePutsBefore
 
   -- the run was cut off behind its loads
   pub record CutRow (status : Status) : Type 0 where
     pub read : WasRead content line
-    pub cut : IfSome (task_of content line) (λ task. IsCut (loads_of line) line task held holds told tells status)
-    pub prefixes : ReadersHavePrefixesIfBound (content line.names.file_a) (content line.names.file_b) held holds
+    pub cut : IfSome (task_of content line)
+        (λ task. IsCut (loads_of line) line task held holds told tells status)
+    pub prefixes : ReadersHavePrefixesIfBound (content line.names.file_a)
+        (content line.names.file_b) held holds
     pub calls : (puts : List Call) × AddsCut (plan_of (loads_of line) line puts) status told tells
 
   -- before them, or in them
@@ -93,13 +99,15 @@ module _ (content : List ℕ → Option (List ℕ)) (line : Line) (loads_before 
   pub record EndRow (status : Status) : Type 0 where
     pub read : WasRead content line
     pub whole : IfSome (task_of content line) (λ task. IsWhole task status held holds)
-    pub prefixes : ReadersHavePrefixes (content line.names.file_a) (content line.names.file_b) held holds
+    pub prefixes : ReadersHavePrefixes (content line.names.file_a) (content line.names.file_b)
+        held holds
     pub logged : IfSome (task_of content line) (λ task. LogTellsTheRun task status held holds)
     pub calls : AddsPlan ArePuts
 
   abbrev pub IsAnswer : Status → Type 0
   IsAnswer Delivered =
-      EndRow Delivered × ReadersHaveFiles (content line.names.file_a) (content line.names.file_b) held holds
+      EndRow Delivered
+      × ReadersHaveFiles (content line.names.file_a) (content line.names.file_b) held holds
   IsAnswer Rounds = EndRow Rounds
   IsAnswer NoPath = EndRow NoPath
   IsAnswer (Aborted reader) = EndRow (Aborted reader)
@@ -113,20 +121,23 @@ module _ (content : List ℕ → Option (List ℕ)) (line : Line) (loads_before 
 
 -- ---- a run of `bench`: nothing is loaded
 
-module _ (made : Bench) (loads_before loads : ℕ) (faults_before faults : Port → ℕ) (held holds : Ports)
-    (told tells : Option (List Made)) where
+module _ (made : Bench) (loads_before loads : ℕ) (faults_before faults : Port → ℕ)
+    (held holds : Ports) (told tells : Option (List Made)) where
   pub record MadeEndRow (status : Status) : Type 0 where
     pub whole : IsWhole made.task status held holds
-    pub prefixes : ReadersHavePrefixes (Some made.task.file_a) (Some made.task.file_b) held holds
+    pub prefixes : ReadersHavePrefixes (Some made.task.file_a) (Some made.task.file_b)
+        held holds
     pub calls : AddsWork [] made.line made.task told tells ArePuts
 
   pub record MadeCutRow (status : Status) : Type 0 where
     pub cut : IsCut [] made.line made.task held holds told tells status
-    pub prefixes : ReadersHavePrefixesIfBound (Some made.task.file_a) (Some made.task.file_b) held holds
+    pub prefixes : ReadersHavePrefixesIfBound (Some made.task.file_a) (Some made.task.file_b)
+        held holds
 
   abbrev pub MadeRow : Status → Type 0
   MadeRow Delivered =
-      MadeEndRow Delivered × ReadersHaveFiles (Some made.task.file_a) (Some made.task.file_b) held holds
+      MadeEndRow Delivered
+      × ReadersHaveFiles (Some made.task.file_a) (Some made.task.file_b) held holds
   MadeRow Rounds = MadeEndRow Rounds
   MadeRow NoPath = MadeEndRow NoPath
   MadeRow (Aborted reader) = MadeEndRow (Aborted reader)
@@ -145,8 +156,8 @@ module _ (made : Bench) (loads_before loads : ℕ) (faults_before faults : Port 
 
 -- ---- words that ask for no run
 
-pub record NothingWasRun (loads_before loads : ℕ) (faults_before faults : Port → ℕ) (held holds : Ports)
-    (told tells : Option (List Made)) (status : Status) : Type 0 where
+pub record NothingWasRun (loads_before loads : ℕ) (faults_before faults : Port → ℕ)
+    (held holds : Ports) (told tells : Option (List Made)) (status : Status) : Type 0 where
   pub answer : (status ≡ Usage) ⊎ (status ≡ Memory)
   pub untouched : IsUntouched held holds faults_before faults
   pub unloaded : loads ≡ loads_before
@@ -154,13 +165,15 @@ pub record NothingWasRun (loads_before loads : ℕ) (faults_before faults : Port
 
 -- ---- laws
 
--- A run of words whose inputs are told, within their limits and valid, of which no count rose, comes to its own end, or memory
--- is wanting, or in `replay` a turn can't be made.
+-- A run of words whose inputs are told, within their limits and valid, of which no count rose,
+-- comes to its own end, or memory is wanting, or in `replay` a turn can't be made.
 abbrev pub ValidInputsAreRun : Type 0
 ValidInputsAreRun =
-    (content : List ℕ → Option (List ℕ)) (line : Line) (loads_before loads : ℕ) (faults_before faults : Port → ℕ)
-    (held holds : Ports) (told tells : Option (List Made)) (status : Status)
+    (content : List ℕ → Option (List ℕ)) (line : Line) (loads_before loads : ℕ)
+    (faults_before faults : Port → ℕ) (held holds : Ports) (told tells : Option (List Made))
+    (status : Status)
     → IsAnswer content line loads_before loads faults_before faults held holds told tells status
     → IsValid content line → (HasRisen loads_before loads → ⊥)
     → ((port : Port) → HasRisen (faults_before port) (faults port) → ⊥)
-    → HasEnded status ⊎ ((status ≡ Memory) ⊎ ((at : ℕ) × ((status ≡ Log at) × IsSome (order_of line.work))))
+    → HasEnded status
+    ⊎ ((status ≡ Memory) ⊎ ((at : ℕ) × ((status ≡ Log at) × IsSome (order_of line.work))))

@@ -14,8 +14,8 @@ use Rattle.mptcp_run.specs.Task.{Connection, Course, told, AreTurnsOf}
 abbrev Ports : Type 0
 Ports = Port → Option (List ℕ)
 
--- All turns of a course were made, from this world to that one. With the end of each round the ports grew by what it puts, and
--- these puts are the calls that were made.
+-- All turns of a course were made, from this world to that one. With the end of each round the
+-- ports grew by what it puts, and these puts are the calls that were made.
 pub record CourseMade (course : Course) (opening : Option (List ℕ)) (w v : Connection) (old new : Ports)
     (before after : Option (List Made)) : Type 0 where
   pub turns : List Turn
@@ -24,8 +24,8 @@ pub record CourseMade (course : Course) (opening : Option (List ℕ)) (w v : Con
   pub ports : HoldsEnds opening 0 w (round_ends turns w) old new
   pub calls : AddsAll (puts_by_round opening 0 w (round_ends turns w)) before after
 
--- Those of its first rounds were, and a run ends with this status: the ports grew by what these put, and by a part of what the
--- next one puts.
+-- Those of its first rounds were, and a run ends with this status: the ports grew by what these
+-- put, and by a part of what the next one puts.
 pub record CourseCut (course : Course) (opening : Option (List ℕ)) (w : Connection) (old new : Ports)
     (before after : Option (List Made)) (status : Status) : Type 0 where
   pub turns : List Turn
@@ -37,7 +37,8 @@ pub record CourseCut (course : Course) (opening : Option (List ℕ)) (w : Connec
   pub made_are : AreFirstOf course made [] w
   pub calls : AddsCut (puts_by_round opening 0 w (round_ends made w)) status before after
 
--- a turn of a log, the one behind so many, is the first that can't be made; the rounds before it were put
+-- a turn of a log, the one behind so many, is the first that can't be made; the rounds before it
+-- were put
 pub record LogHalted (order : List Turn) (count : ℕ) (opening : Option (List ℕ)) (w : Connection) (old new : Ports)
     (before after : Option (List Made)) : Type 0 where
   pub made : List Turn

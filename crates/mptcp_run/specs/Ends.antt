@@ -28,7 +28,8 @@ HasEnded _ = ⊥
 
 -- ---- what the ports hold
 
--- each port that was bound, and the log, holds its text for the rounds of these turns, and of the next round a part
+-- each port that was bound, and the log, holds its text for the rounds of these turns, and of the
+-- next round a part
 pub record HoldsCut (task : Task) (turns more : List Turn) (old new : Ports) : Type 0 where
   pub read_by_b : HoldsWithin (turns ++ more ≡ []) (old ReadByB) (new ReadByB)
       (read_so_far B task turns) (read_so_far B task (turns ++ more))
@@ -45,7 +46,8 @@ pub record HoldsSomeRounds (task : Task) (old new : Ports) : Type 0 where
   pub one : length (round_ends more (world_after task turns)) ≤ 1
   pub ports : HoldsCut task turns more old new
 
--- the ports hold all that was read, and the log the whole text of all rounds and then a prefix of the last line
+-- the ports hold all that was read, and the log the whole text of all rounds and then a prefix of
+-- the last line
 pub record HoldsToLine (task : Task) (turns : List Turn) (old new : Ports) : Type 0 where
   pub read_by_b : HoldsAfter (old ReadByB) (new ReadByB) (λ _. read_so_far B task turns)
   pub read_by_a : HoldsAfter (old ReadByA) (new ReadByA) (λ _. read_so_far A task turns)
@@ -55,18 +57,21 @@ pub record HoldsToLine (task : Task) (turns : List Turn) (old new : Ports) : Typ
 -- ---- with the calls that were made: these loads, the binds, and puts
 
 -- all of a plan was made whose puts are such ones of the task
-abbrev pub AddsWork : List Call → Line → Task → Option (List Made) → Option (List Made) → (Task → List Call → Type 0) → Type 0
+abbrev pub AddsWork : List Call → Line → Task → Option (List Made) → Option (List Made)
+    → (Task → List Call → Type 0) → Type 0
 AddsWork loads line task told tells Are =
     (puts : List Call) × (Are task puts × AddsAll (plan_of loads line puts) told tells)
 
 -- its first calls were, up to puts of the first rounds of the task
-abbrev pub AddsSome : List Call → Line → Task → Option (List Made) → Option (List Made) → Status → Type 0
+abbrev pub AddsSome : List Call → Line → Task → Option (List Made) → Option (List Made)
+    → Status → Type 0
 AddsSome loads line task told tells status =
     (turns : List Turn)
     × (AreFirstOf task.course turns [] (opened task)
     × AddsCut (plan_of loads line (puts_so_far task turns)) status told tells)
 
-module _ (loads : List Call) (line : Line) (task : Task) (held holds : Ports) (told tells : Option (List Made)) where
+module _ (loads : List Call) (line : Line) (task : Task) (held holds : Ports)
+    (told tells : Option (List Made)) where
   -- the run came to its own end
   pub record CameToEnd (status : Status) : Type 0 where
     pub ended : HasEnded status
@@ -83,7 +88,8 @@ module _ (loads : List Call) (line : Line) (task : Task) (held holds : Ports) (t
     pub turns : List Turn
     pub are : AreTurnsOf task.course turns (opened task)
     pub ports : HoldsToLine task turns held holds
-    pub calls : AddsShort (plan_of loads line (puts_so_far task turns ++ last_put task turns)) status told tells
+    pub calls : AddsShort (plan_of loads line (puts_so_far task turns ++ last_put task turns))
+        status told tells
 
   abbrev pub IsCut : Status → Type 0
   IsCut status = IsCutInRounds status ⊎ IsCutAtLine status

@@ -1,4 +1,5 @@
--- What users of a run rely on, where its script alters no payload: what the readers have is what the other side writes.
+-- What users of a run rely on, where its script alters no payload: what the readers have is what
+-- the other side writes.
 use Rattle.std.specs.Prelude.{◌≡◌, ℕ, true, ◌⊎◌, List, [], ◌∷◌, ◌++◌, Option, Some, IfSome, IsSomeAnd}
 use Rattle.run_words.specs.Lines.{Line}
 use Rattle.outside_kit.specs.declared.port.Port.{Port}
@@ -62,14 +63,16 @@ module _ (file_a file_b : Option (List ℕ)) (old new : Port → Option (List �
 
 -- The connection after these turns.
 pub record IsKept (task : Task) (turns : List Turn) : Type 0 where
-  -- In each direction what was read is a prefix of what was written, what was acknowledged was received, the end was told only at
-  -- the whole, and nothing follows it; and all else that is promised of a connection over octets.
+  -- In each direction what was read is a prefix of what was written, what was acknowledged was
+  -- received, the end was told only at the whole, and nothing follows it; and all else that is
+  -- promised of a connection over octets.
   pub promises : KeepsAllPromises (world_after task turns)
   -- What was written is a prefix of the side's file, and all of it where the stream was closed.
   pub files : WritesTheFiles (start_of task.script task.file_a task.file_b) (world_after task turns)
   -- It is the connection over segments as values, shown in octets.
   pub values : IsShownOfValues (start_of task.script task.file_a task.file_b) turns
-  -- The round that goes on ends on each path at its tick; and where all turns are over, all that was due is done.
+  -- The round that goes on ends on each path at its tick; and where all turns are over, all that
+  -- was due is done.
   pub on_time : EndsOnTime (round_of octets (start_of task.script task.file_a task.file_b) turns) (world_after task turns)
   pub done : all_over (world_after task turns).crew ≡ true
       → RoundIsDone (round_of octets (start_of task.script task.file_a task.file_b) turns) (world_after task turns)
@@ -80,7 +83,8 @@ IsAlwaysKept task = (turns : List Turn) → IsKept task turns
 
 -- ---- laws
 
--- the task of a command line, where its files are within their limits: each script that is run is plain
+-- the task of a command line, where its files are within their limits: each script that is run is
+-- plain
 abbrev pub LoadedTasksArePlain : Type 0
 LoadedTasksArePlain = (content : List ℕ → Option (List ℕ)) (line : Line) → AreWithinLimits content line → IfSome (task_of content line) IsPromisedTask
 

@@ -44,16 +44,23 @@ fn begin<O: Outside>(
 ) -> Result<Run, Status>
     requires { HasRanges input.now.script }
     ensures run { IfOk result (IsOpened input.now report) }
-    ensures read_by_b { OnOk result (HoldsAfter (O.holds outside.old Port.ReadByB) (O.holds outside.new Port.ReadByB) (λ _. [])) }
-    ensures read_by_a { OnOk result (HoldsAfter (O.holds outside.old Port.ReadByA) (O.holds outside.new Port.ReadByA) (λ _. [])) }
-    ensures read_by_b_err { OnErr result (HoldsWithin (Unit {0}) (O.holds outside.old Port.ReadByB) (O.holds outside.new Port.ReadByB) [] []) }
-    ensures read_by_a_err { OnErr result (HoldsWithin (Unit {0}) (O.holds outside.old Port.ReadByA) (O.holds outside.new Port.ReadByA) [] []) }
+    ensures read_by_b { OnOk result (HoldsAfter
+        (O.holds outside.old Port.ReadByB) (O.holds outside.new Port.ReadByB) (λ _. [])) }
+    ensures read_by_a { OnOk result (HoldsAfter
+        (O.holds outside.old Port.ReadByA) (O.holds outside.new Port.ReadByA) (λ _. [])) }
+    ensures read_by_b_err { OnErr result (HoldsWithin (Unit {0})
+        (O.holds outside.old Port.ReadByB) (O.holds outside.new Port.ReadByB) [] []) }
+    ensures read_by_a_err { OnErr result (HoldsWithin (Unit {0})
+        (O.holds outside.old Port.ReadByA) (O.holds outside.new Port.ReadByA) [] []) }
     ensures log { O.holds outside.new Port.Log ≡ O.holds outside.old Port.Log }
-    ensures fault { IfErr result (IsPortsFault (O.port_faults outside.old) (O.port_faults outside.new)) }
+    ensures fault { IfErr result
+        (IsPortsFault (O.port_faults outside.old) (O.port_faults outside.new)) }
     ensures counted { NeverFall (O.port_faults outside.old) (O.port_faults outside.new) }
     ensures load_counts { O.load_faults outside.new ≡ O.load_faults outside.old }
-    ensures calls { OnOk result (AddsAll (binds_of (shown line.now)) (O.calls outside.old) (O.calls outside.new)) }
-    ensures calls_cut { IfErr result (λ status. AddsCut (binds_of (shown line.now)) status (O.calls outside.old) (O.calls outside.new)) }
+    ensures calls { OnOk result (AddsAll (binds_of (shown line.now))
+        (O.calls outside.old) (O.calls outside.new)) }
+    ensures calls_cut { IfErr result (λ status. AddsCut (binds_of (shown line.now)) status
+        (O.calls outside.old) (O.calls outside.new)) }
 {
     match Run::open(alloc, input, report) {
         Ok(run) => match bind_readers(outside, line) {
@@ -71,15 +78,26 @@ fn end<O: Outside>(
     run: &Run,
     report: Report,
 ) -> Result<Status, Status>
-    ensures status { IfOk result (λ status. status ≡ status_of (outcome_of run.now.world.state.crew)) }
-    ensures ok { OnOk result (HoldsAfter (O.holds outside.old Port.Log) (O.holds outside.new Port.Log) (λ held. held ++ last_line_of report run.now.rounds run.now.world.state)) }
-    ensures err { OnErr result (HoldsPrefix (O.holds outside.old Port.Log) (O.holds outside.new Port.Log) (last_line_of report run.now.rounds run.now.world.state)) }
-    ensures fault { IfErr result (IsPortsFault (O.port_faults outside.old) (O.port_faults outside.new)) }
+    ensures status { IfOk result
+        (λ status. status ≡ status_of (outcome_of run.now.world.state.crew)) }
+    ensures ok { OnOk result (HoldsAfter
+        (O.holds outside.old Port.Log) (O.holds outside.new Port.Log)
+        (λ held. held ++ last_line_of report run.now.rounds run.now.world.state)) }
+    ensures err { OnErr result (HoldsPrefix
+        (O.holds outside.old Port.Log) (O.holds outside.new Port.Log)
+        (last_line_of report run.now.rounds run.now.world.state)) }
+    ensures fault { IfErr result
+        (IsPortsFault (O.port_faults outside.old) (O.port_faults outside.new)) }
     ensures counted { NeverFall (O.port_faults outside.old) (O.port_faults outside.new) }
-    ensures other_ports { (other : Port) → other ≢ Port.Log → O.holds outside.new other ≡ O.holds outside.old other }
+    ensures other_ports { (other : Port) → other ≢ Port.Log →
+        O.holds outside.new other ≡ O.holds outside.old other }
     ensures load_counts { O.load_faults outside.new ≡ O.load_faults outside.old }
-    ensures calls { OnOk result (AddsAll (call.Put Port.Log (last_line_of report run.now.rounds run.now.world.state) ∷ []) (O.calls outside.old) (O.calls outside.new)) }
-    ensures calls_cut { IfErr result (λ status. AddsShort (call.Put Port.Log (last_line_of report run.now.rounds run.now.world.state) ∷ []) status (O.calls outside.old) (O.calls outside.new)) }
+    ensures calls { OnOk result (AddsAll
+        (call.Put Port.Log (last_line_of report run.now.rounds run.now.world.state) ∷ [])
+        (O.calls outside.old) (O.calls outside.new)) }
+    ensures calls_cut { IfErr result (λ status. AddsShort
+        (call.Put Port.Log (last_line_of report run.now.rounds run.now.world.state) ∷ []) status
+        (O.calls outside.old) (O.calls outside.new)) }
 {
     put_last(alloc, outside, run, report)?;
     Ok(status_of(run.world.outcome()))
@@ -212,7 +230,8 @@ fn run_replay<O: Outside>(
 /// What a command line asks for, if it is run.
 fn run_line<O: Outside>(alloc: Global, outside: &mut O, line: &CommandLine<'_>) -> Status
     requires { AsksInRange (shown line.now).work }
-    ensures answer { IfSome (if_run (shown line.now)) (λ asked. IsAnswer (O.content outside.old) asked
+    ensures answer { IfSome (if_run (shown line.now)) (λ asked. IsAnswer
+        (O.content outside.old) asked
         (O.load_faults outside.old) (O.load_faults outside.new)
         (O.port_faults outside.old) (O.port_faults outside.new)
         (O.holds outside.old) (O.holds outside.new)
@@ -222,7 +241,8 @@ fn run_line<O: Outside>(alloc: Global, outside: &mut O, line: &CommandLine<'_>) 
         (O.port_faults outside.old) (O.port_faults outside.new)
         (O.holds outside.old) (O.holds outside.new)
         (O.calls outside.old) (O.calls outside.new) result) }
-    ensures neither { IsNone (if_run (shown line.now)) → IsNone (bench_of (shown line.now)) → NothingWasRun
+    ensures neither { IsNone (if_run (shown line.now)) →
+        IsNone (bench_of (shown line.now)) → NothingWasRun
         (O.load_faults outside.old) (O.load_faults outside.new)
         (O.port_faults outside.old) (O.port_faults outside.new)
         (O.holds outside.old) (O.holds outside.new)
@@ -236,15 +256,19 @@ fn run_line<O: Outside>(alloc: Global, outside: &mut O, line: &CommandLine<'_>) 
     }
 }
 
-/// Runs a connection as the words say: `--mode serial SCRIPT FILE_A FILE_B READ_BY_B READ_BY_A [--rounds N]`, `--mode replay` with
-/// `--order LOG` in the place of the rounds, or `--mode bench` with `--number N`.
+/// Runs a connection as the words say: `--mode serial SCRIPT FILE_A FILE_B READ_BY_B READ_BY_A
+/// [--rounds N]`, `--mode replay` with `--order LOG` in the place of the rounds, or `--mode bench`
+/// with `--number N`.
 ///
-/// In `serial` the actors take whole turns, one after the other, round by round, until both readers were told the end, each path
-/// is dead, or N rounds were made (1 to 65,536; 4,096 where nothing is said). In `replay` they take the turns that a log tells.
-/// After each round what B's reader and A's reader have read in it is put to `ReadByB` and `ReadByA`, if it is anything, and the
-/// lines of the round's steps to `Log`, by stamp, then actor; and last the outcome. In `bench`, with `--number N` (1 to 256), nothing is
-/// loaded: the input is made from the number and run as in `serial`, and `Log` gets one line in the place of a log, at the end. The mode
-/// `run` isn't run yet. The promises on what `outside` holds are kept as far as it tells it. No thread is started, and `gate` isn't passed.
+/// In `serial` the actors take whole turns, one after the other, round by round, until both readers
+/// were told the end, each path is dead, or N rounds were made (1 to 65,536; 4,096 where nothing is
+/// said). In `replay` they take the turns that a log tells. After each round what B's reader and A's
+/// reader have read in it is put to `ReadByB` and `ReadByA`, if it is anything, and the lines of the
+/// round's steps to `Log`, by stamp, then actor; and last the outcome. In `bench`, with `--number N`
+/// (1 to 256), nothing is loaded: the input is made from the number and run as in `serial`, and
+/// `Log` gets one line in the place of a log, at the end. The mode `run` isn't run yet. The promises
+/// on what `outside` holds are kept as far as it tells it. No thread is started, and `gate` isn't
+/// passed.
 pub fn run<O: Outside, G: Gate + Sync>(
     alloc: Global,
     words: &[String],
@@ -252,11 +276,13 @@ pub fn run<O: Outside, G: Gate + Sync>(
     _gate: &G,
 ) -> Status
     // Status 0: what each reader's port holds is what the other side's file holds.
-    ensures delivered { result ≡ Status.Delivered → IfSome (asked_in (map string_bytes words.now)) (λ line.
-        ReadersHaveFiles (O.content outside.old line.names.file_a) (O.content outside.old line.names.file_b)
+    ensures delivered { result ≡ Status.Delivered →
+        IfSome (asked_in (map string_bytes words.now)) (λ line. ReadersHaveFiles
+        (O.content outside.old line.names.file_a) (O.content outside.old line.names.file_b)
         (O.holds outside.old) (O.holds outside.new)) }
     // Words that ask for `serial` or `replay`: the row of the answer.
-    ensures answer { IfSome (asked_in (map string_bytes words.now)) (λ line. IsAnswer (O.content outside.old) line
+    ensures answer { IfSome (asked_in (map string_bytes words.now)) (λ line. IsAnswer
+        (O.content outside.old) line
         (O.load_faults outside.old) (O.load_faults outside.new)
         (O.port_faults outside.old) (O.port_faults outside.new)
         (O.holds outside.old) (O.holds outside.new)
@@ -268,7 +294,8 @@ pub fn run<O: Outside, G: Gate + Sync>(
         (O.holds outside.old) (O.holds outside.new)
         (O.calls outside.old) (O.calls outside.new) result) }
     // Words that ask for neither: they are refused, and nothing is done.
-    ensures neither { IsNone (asked_in (map string_bytes words.now)) → IsNone (bench_in (map string_bytes words.now)) → NothingWasRun
+    ensures neither { IsNone (asked_in (map string_bytes words.now)) →
+        IsNone (bench_in (map string_bytes words.now)) → NothingWasRun
         (O.load_faults outside.old) (O.load_faults outside.new)
         (O.port_faults outside.old) (O.port_faults outside.new)
         (O.holds outside.old) (O.holds outside.new)
