@@ -1,78 +1,61 @@
-//! Prints what the books of a side answer to lists of calls, one line for each line of standard input. `stdin` holds the
-//! calls, `stdout` the wanted answers. Lines that begin with `#` are printed as they stand, and say where the answers come
-//! from.
+//! Prints what the books of a side, the ends of subflows and the texts of logs answer, one case for each line of standard input.
+//! `stdin` holds the cases, `stdout` the wanted answers. Lines that are empty or begin with `#` are printed as they stand, and say
+//! where the answers come from.
 //!
-//! `send BUFFER`, `reassembly CAPACITY` and `control SIDE KEY` open a book, of which the calls that follow are asked. A
-//! call is its name and its numbers with one blank between them, and is printed again with ` = ` and the reply. The head
-//! of each file says the calls that it reads.
+//! The first word of a case says what is asked: `book`, `end`, `pair` or `log`; the file of each part tells the form of what
+//! follows. A case is printed again with ` = ` and its answer, of a log the answer alone.
 #![tactic(auto)]
 
-mod control;
-mod octets;
-mod reassembly;
-mod send;
-mod words;
+mod books;
+mod ends;
+mod logs;
+mod pairs;
 
+use books::Open;
 use case_fields::CaseFault;
-use control::open_control;
-use control_book::ControlBook;
-use reassembly::{Reading, open_reassembly};
-use send::{Writing, open_send};
 use std::alloc::{AllocError, Global};
-use std::io::{self, BufRead, BufReader, BufWriter, Write};
+use std::io::{self, BufWriter, Write};
+use subflow_tcp::Subflow;
 
-/// The book that is asked.
+/// What the cases go on with: the book and the end that were opened last.
 #[derive(Drop)]
-enum Open {
-    Nothing,
-    Send(Writing),
-    Reassembly(Reading),
-    Control(ControlBook),
+struct Opened {
+    book: Open,
+    end: Subflow,
 }
 
-/// The book that a line opens, if it is one that does.
-fn opened(alloc: Global, name: &str, fields: &[&str]) -> Result<Option<Open>, CaseFault> {
-    match name {
-        "send" => Ok(Some(Open::Send(open_send(alloc, fields)?))),
-        "reassembly" => Ok(Some(Open::Reassembly(open_reassembly(alloc, fields)?))),
-        "control" => Ok(Some(Open::Control(open_control(alloc, fields)?))),
-        _ => Ok(None),
-    }
-}
-
-/// The words of the open book's reply.
-fn asked(alloc: Global, open: &mut Open, name: &str, fields: &[&str]) -> Result<String, CaseFault> {
-    match open {
-        Open::Nothing => Err(CaseFault::Form),
-        Open::Send(book) => send::asked(alloc, book, name, fields),
-        Open::Reassembly(book) => reassembly::asked(alloc, book, name, fields),
-        Open::Control(book) => control::asked(alloc, book, name, fields),
-    }
+/// The answer to a case.
+fn answer(alloc: Global, opened: &mut Opened, line: &str) -> Result<String, CaseFault> {
+    let Some((part, case)) = line.split_once(" ") else {
+        return Err(CaseFault::Form);
+    };
+    let answer = match part {
+        "book" => books::answer(alloc, &mut opened.book, case)?,
+        "end" => ends::answer(alloc, &mut opened.end, case)?,
+        "pair" => pairs::answer(alloc, case)?,
+        "log" => return logs::answer(alloc, case),
+        _ => return Err(CaseFault::Form),
+    };
+    Ok(format!(in alloc; "{line} = {answer}")?)
 }
 
 /// What is printed for a line of input.
-fn answer(alloc: Global, open: &mut Open, line: &str) -> Result<String, CaseFault> {
-    if line.is_empty() || line.starts_with('#') {
-        return Ok(format!(in alloc; "{line}")?);
+fn respond(alloc: Global, opened: &mut Opened, line: &str) -> Result<String, CaseFault> {
+    if line.is_empty() || line.starts_with("#") {
+        return Ok(String::from_str(alloc, line)?);
     }
-    let words: Vec<&str> = line.split(' ').collect(alloc)?;
-    let Some((name, fields)) = words.as_slice().split_first() else {
-        return Err(CaseFault::Form);
-    };
-    if let Some(book) = opened(alloc, name, fields)? {
-        *open = book;
-        return Ok(format!(in alloc; "{line}")?);
-    }
-    let reply = asked(alloc, open, name, fields)?;
-    Ok(format!(in alloc; "{line} = {reply}")?)
+    answer(alloc, opened, line)
 }
 
 fn main(rt: HostRuntime) -> io::Result<()> {
     let mut out = BufWriter::new(rt.alloc(), io::writer(&rt))?;
-    let mut open = Open::Nothing;
-    for line in BufReader::new(rt.alloc(), rt.reader())?.lines(rt.alloc()) {
+    let mut opened = Opened {
+        book: Open::Nothing,
+        end: Subflow::open(rt.alloc(), 0, 0, 1_400),
+    };
+    for line in rt.lines(rt.alloc()) {
         let line = line?;
-        match answer(rt.alloc(), &mut open, line.as_str()) {
+        match respond(rt.alloc(), &mut opened, line.as_str()) {
             Ok(text) => writeln!(out, "{text}")?,
             Err(CaseFault::Form) => writeln!(out, "not a case: {line}")?,
             Err(CaseFault::Memory) => return Err(AllocError.into()),

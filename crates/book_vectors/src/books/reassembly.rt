@@ -1,0 +1,193 @@
+//! Calls of the reassembly book: `place AT OCTETS`, `fin AT`, `read MAX`, `ackout`, `abort BY_PEER`. `front` shows what is
+//! lent of the bytes that can be read. `reversed AT N SIZE` places N made octets in pieces of SIZE, the last piece first,
+//! and tells how many were placed; `reads MAX` reads until nothing is left.
+
+ghost use Rattle.std.specs.Prelude.{IfOk, ◌≤◌, ◌^◌};
+ghost use Rattle.reassembly_book.specs.Steps.{CanAsk};
+
+use crate::books::octets::{made, octets_at, shown};
+use crate::books::words::bit;
+use case_fields::{CaseFault, parsed_at, truth_at};
+use pipe_model::Text;
+use reassembly_book::{ReassemblyBook, ReassemblyCall, ReassemblyReply};
+use stamped_book::Book;
+use std::alloc::{AllocError, Global};
+
+/// The greatest place of a case.
+const MOST: u64 = 1 << 32;
+
+/// A book, and how many bytes were read from it.
+#[derive(Drop)]
+pub struct Reading {
+    book: ReassemblyBook,
+    read: u64,
+}
+
+/// An empty book of a capacity of 1 to 1,048,576 bytes.
+pub fn open_reassembly(alloc: Global, fields: &[&str]) -> Result<Reading, CaseFault> {
+    let capacity: u64 = parsed_at(fields, 0)?;
+    if capacity < 1 || capacity > 1_048_576 {
+        return Err(CaseFault::Form);
+    }
+    Ok(Reading {
+        book: ReassemblyBook::new(alloc, capacity)?,
+        read: 0,
+    })
+}
+
+/// A place of the stream.
+fn place_at(fields: &[&str], field: usize) -> Result<u64, CaseFault>
+    ensures { IfOk result (λ place. place ≤ 2 ^ 32) }
+{
+    let place: u64 = parsed_at(fields, field)?;
+    if place <= MOST {
+        Ok(place)
+    } else {
+        Err(CaseFault::Form)
+    }
+}
+
+fn placing(at: u64, bytes: Text) -> Result<ReassemblyCall, CaseFault>
+    requires { at ≤ 2 ^ 33 }
+    ensures { IfOk result (λ call. CanAsk call) }
+{
+    if bytes.len() as u64 <= MOST {
+        Ok(ReassemblyCall::Place { at, bytes })
+    } else {
+        Err(CaseFault::Form)
+    }
+}
+
+fn read_call(max: u32) -> Result<ReassemblyCall, CaseFault>
+    ensures { IfOk result (λ call. CanAsk call) }
+{
+    if max < 1 {
+        return Err(CaseFault::Form);
+    }
+    Ok(ReassemblyCall::Read { max })
+}
+
+/// The call of this name and these fields.
+fn call_of(alloc: Global, name: &str, fields: &[&str]) -> Result<ReassemblyCall, CaseFault>
+    ensures { IfOk result (λ call. CanAsk call) }
+{
+    match name {
+        "place" => {
+            let at = place_at(fields, 0)?;
+            placing(at, octets_at(alloc, fields, 1, at)?)
+        }
+        "fin" => Ok(ReassemblyCall::Fin {
+            at: place_at(fields, 0)?,
+        }),
+        "read" => read_call(parsed_at(fields, 0)?),
+        "ackout" => Ok(ReassemblyCall::AckOut),
+        "abort" => Ok(ReassemblyCall::Abort {
+            by_peer: truth_at(fields, 0)?,
+        }),
+        _ => Err(CaseFault::Form),
+    }
+}
+
+/// The words of a reply to a reader that has read so many bytes before.
+fn words_of(alloc: Global, read: u64, reply: &ReassemblyReply) -> Result<String, AllocError> {
+    match reply {
+        ReassemblyReply::Placed(count) => format!(in alloc; "placed {count}"),
+        ReassemblyReply::Beyond { edge } => format!(in alloc; "beyond {edge}"),
+        ReassemblyReply::FinSet => format!(in alloc; "set"),
+        ReassemblyReply::FinClash { fin, at } => format!(in alloc; "clash {fin} {at}"),
+        ReassemblyReply::Bytes(bytes) => {
+            let bytes = shown(alloc, read, bytes.as_bytes())?;
+            format!(in alloc; "bytes {bytes}")
+        }
+        ReassemblyReply::End => format!(in alloc; "end"),
+        ReassemblyReply::NoneYet => format!(in alloc; "none"),
+        ReassemblyReply::Aborted { by_peer } => format!(in alloc; "aborted {}", bit(*by_peer)),
+        ReassemblyReply::Ack { next, window } => format!(in alloc; "ack {next} {window}"),
+        ReassemblyReply::Noted => format!(in alloc; "noted"),
+    }
+}
+
+/// The words of the book's reply to one call.
+fn told(alloc: Global, reading: &mut Reading, call: &ReassemblyCall) -> Result<String, AllocError>
+    requires { CanAsk call.now }
+{
+    let before = reading.read;
+    let reply = reading.book.apply(call)?;
+    if let ReassemblyReply::Bytes(bytes) = &reply {
+        reading.read = before.saturating_add(bytes.len() as u64);
+    }
+    words_of(alloc, before, &reply)
+}
+
+/// What is lent of the bytes that can be read.
+fn front(alloc: Global, reading: &Reading) -> Result<String, AllocError> {
+    shown(alloc, reading.read, reading.book.front())
+}
+
+/// How many of the octets that are made for the places from `at` on are placed.
+fn placed(alloc: Global, book: &mut ReassemblyBook, at: u64, count: u64) -> Result<u64, CaseFault>
+    requires { at ≤ 2 ^ 33 }
+{
+    let call = placing(at, made(alloc, at, count)?)?;
+    match book.apply(&call)? {
+        ReassemblyReply::Placed(count) => Ok(count),
+        _ => Ok(0),
+    }
+}
+
+/// Places made octets in pieces, the last piece first.
+fn reversed(alloc: Global, reading: &mut Reading, fields: &[&str]) -> Result<String, CaseFault> {
+    let at = place_at(fields, 0)?;
+    let count = place_at(fields, 1)?;
+    let size: u64 = parsed_at(fields, 2)?;
+    if size < 1 || size > MOST {
+        return Err(CaseFault::Form);
+    }
+    let mut all: u64 = 0;
+    let pieces = count.div_ceil(size);
+    for step in 0..pieces {
+        let after = pieces.saturating_sub(step);
+        let from = after.saturating_sub(1).saturating_mul(size).min(count);
+        let len = size.min(count - from);
+        all = all.saturating_add(placed(alloc, &mut reading.book, at + from, len)?);
+    }
+    Ok(format!(in alloc; "{all}")?)
+}
+
+/// Reads until no bytes are left: how many were read and whether they are made ones, and the last reply.
+fn reads(alloc: Global, reading: &mut Reading, fields: &[&str]) -> Result<String, CaseFault> {
+    let max = parsed_at(fields, 0)?;
+    let mut all = Text::new(alloc);
+    let start = reading.read;
+    for _ in 0..10_000 {
+        let call = read_call(max)?;
+        match reading.book.apply(&call)? {
+            ReassemblyReply::Bytes(bytes) => all.append(bytes.as_bytes())?,
+            reply => {
+                reading.read = start.saturating_add(all.len() as u64);
+                let all = shown(alloc, start, all.as_bytes())?;
+                let last = words_of(alloc, start, &reply)?;
+                return Ok(format!(in alloc; "{all} {last}")?);
+            }
+        }
+    }
+    Err(CaseFault::Form)
+}
+
+/// The words of the book's reply to a call.
+pub fn asked(
+    alloc: Global,
+    reading: &mut Reading,
+    name: &str,
+    fields: &[&str],
+) -> Result<String, CaseFault> {
+    match name {
+        "front" => Ok(front(alloc, reading)?),
+        "reversed" => reversed(alloc, reading, fields),
+        "reads" => reads(alloc, reading, fields),
+        _ => {
+            let call = call_of(alloc, name, fields)?;
+            Ok(told(alloc, reading, &call)?)
+        }
+    }
+}
