@@ -1,0 +1,10 @@
+//! Whole messages over a stream of octets: each goes behind its length, and a reader gets whole messages in order, or none.
+#![tactic(auto)]
+
+mod framing;
+mod laws;
+mod messages;
+
+pub use framing::frame;
+pub use laws::{frames_are_read_again, messages_come_whole};
+pub use messages::Messages;
