@@ -1,9 +1,9 @@
 //! The calls that are made on an outside.
 
-ghost use Rattle.std.specs.Prelude.{◌≡◌, [], List, map, Some, is_ok, IfOk, option_map};
+ghost use Rattle.std.specs.Prelude.{◌≡◌, ◌++◌, [], ◌∷◌, List, map, Some, None, IsSome, is_ok, IfOk, OnOk, OnErr, option_map};
 ghost use Rattle.outside_kit.specs.Calls.{Call, Load, Bind, Put, AreCallsAfter, call_of, made_of};
 
-use crate::outside::{LoadFault, PutFault};
+use crate::outside::LoadFault;
 use crate::port::Port;
 use std::alloc::{AllocError, Global};
 use std::marker::Model;
@@ -85,66 +85,70 @@ impl CallRecord {
         }
     }
 
-    /// Notes a call at the end.
-    fn note(&mut self, call: Result<OutsideCall, AllocError>, ok: bool)
-        ensures { (asked : Call) → IfOk call (λ call. call_of call ≡ asked) → AreCallsAfter asked ok self.old self.new }
+    /// Notes a call at the end. Where memory for it is wanting that is answered, and no call is told any more; where none is told
+    /// nothing is noted.
+    fn note(&mut self, call: Result<OutsideCall, AllocError>, ok: bool) -> Result<(), AllocError>
+        ensures recorded { (asked : Call) → IfOk call (λ call. call_of call ≡ asked) → AreCallsAfter asked ok self.old self.new }
+        ensures told { OnOk result (IsSome self.old → IsSome self.new) }
+        ensures lost { OnErr result (self.new ≡ None) }
     {
-        self.made = with_call(self.made.take(), call, ok);
+        if let Some(made) = self.made.take() {
+            self.made = Some(with_call(made, call?, ok)?);
+        }
+        Ok(())
     }
 
-    /// Notes a load, and gives its answer on.
+    /// Notes a load, and gives its answer on, or want of memory where a load that succeeded can't be noted.
     pub fn note_load(
         &mut self,
         name: &str,
         answer: Result<Vec<u8>, LoadFault>,
     ) -> Result<Vec<u8>, LoadFault>
-        ensures given { result ≡ answer }
-        ensures recorded { AreCallsAfter (Load name.now) (is_ok answer) self.old self.new }
+        ensures given { OnOk result (result ≡ answer) }
+        ensures refused { OnErr answer (result ≡ answer) }
+        ensures memory { OnOk answer (OnErr result (result ≡ Err LoadFault.Memory)) }
+        ensures recorded { AreCallsAfter (Load name.now) (is_ok result) self.old self.new }
+        ensures told { OnOk result (IsSome self.old → IsSome self.new) }
     {
-        self.note(load_call(self.alloc, name), answer.is_ok());
-        answer
+        match answer {
+            Ok(bytes) => match self.note(load_call(self.alloc, name), true) {
+                Ok(()) => Ok(bytes),
+                Err(_) => Err(LoadFault::Memory),
+            },
+            Err(fault) => {
+                let _noted = self.note(load_call(self.alloc, name), false);
+                Err(fault)
+            }
+        }
     }
 
-    /// Notes a bind, and gives its answer on.
-    pub fn note_bind(
-        &mut self,
-        port: Port,
-        name: &str,
-        answer: Result<(), PutFault>,
-    ) -> Result<(), PutFault>
-        ensures given { result ≡ answer }
-        ensures recorded { AreCallsAfter (Bind port name.now) (is_ok answer) self.old self.new }
+    /// Notes a bind, and whether it is to succeed.
+    pub fn note_bind(&mut self, port: Port, name: &str, ok: bool) -> Result<(), AllocError>
+        ensures recorded { AreCallsAfter (Bind port name.now) ok self.old self.new }
+        ensures told { OnOk result (IsSome self.old → IsSome self.new) }
+        ensures lost { OnErr result (self.new ≡ None) }
     {
-        self.note(bind_call(self.alloc, port, name), answer.is_ok());
-        answer
+        self.note(bind_call(self.alloc, port, name), ok)
     }
 
-    /// Notes a put, and gives its answer on.
-    pub fn note_put(
-        &mut self,
-        port: Port,
-        piece: &[u8],
-        answer: Result<(), PutFault>,
-    ) -> Result<(), PutFault>
-        ensures given { result ≡ answer }
-        ensures recorded { AreCallsAfter (Put port piece.now) (is_ok answer) self.old self.new }
+    /// Notes a put, and whether it succeeded.
+    pub fn note_put(&mut self, port: Port, piece: &[u8], ok: bool) -> Result<(), AllocError>
+        ensures recorded { AreCallsAfter (Put port piece.now) ok self.old self.new }
+        ensures told { OnOk result (IsSome self.old → IsSome self.new) }
+        ensures lost { OnErr result (self.new ≡ None) }
     {
-        self.note(put_call(self.alloc, port, piece), answer.is_ok());
-        answer
+        self.note(put_call(self.alloc, port, piece), ok)
     }
 }
 
-/// The calls with one more at the end, or nothing where memory for it was wanting.
+/// The calls with one more at the end.
 fn with_call(
-    made: Option<Vec<RecordedCall>>,
-    call: Result<OutsideCall, AllocError>,
+    mut made: Vec<RecordedCall>,
+    call: OutsideCall,
     ok: bool,
-) -> Option<Vec<RecordedCall>>
-    ensures { (asked : Call) → IfOk call (λ call. call_of call ≡ asked) →
-        AreCallsAfter asked ok (option_map (λ made. map made_of made.items) made) (option_map (λ made. map made_of made.items) result) }
+) -> Result<Vec<RecordedCall>, AllocError>
+    ensures { IfOk result (λ after. map made_of after.items ≡ map made_of made.items ++ record { call = call_of call; ok = ok } ∷ []) }
 {
-    let mut made = made?;
-    let call = call.ok()?;
-    made.push(RecordedCall { call, ok }).ok()?;
-    Some(made)
+    made.push(RecordedCall { call, ok })?;
+    Ok(made)
 }

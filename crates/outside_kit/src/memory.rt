@@ -1,7 +1,7 @@
 ghost use Rattle.outside_kit.specs.Memory.{content_named, kept_at, stored, emptied, grown, after_fault};
 ghost use Rattle.outside_kit.specs.Calls.{Load, Bind, Put, AreCallsAfter, made_of};
 ghost use Rattle.outside_kit.specs.Outside.{HasRisen};
-ghost use Rattle.std.specs.Prelude.{◌≡◌, ◌≢◌, ◌≤◌, ◌<◌, ◌↔◌, ◌⊎◌, [], length, map, Option, Some, None, take, IsSome, IsNone, IfOk, IfSome, OnOk, OnErr, vec_len, option_copied, option_map, IsTrue, IsErrOf, IsSomeAnd};
+ghost use Rattle.std.specs.Prelude.{◌≡◌, ◌≢◌, ◌≤◌, ◌<◌, ◌↔◌, ◌⊎◌, [], length, map, Option, Some, None, take, is_ok, IsSome, IsNone, IfOk, IfSome, OnOk, OnErr, vec_len, option_copied, option_map, IsTrue, IsErrOf, IsSomeAnd};
 
 use crate::calls::{CallRecord, RecordedCall};
 use crate::files::{FailAt, NamedFile};
@@ -10,8 +10,9 @@ use crate::port::Port;
 use std::alloc::Global;
 use std::marker::Model;
 
-/// An outside whose files and ports lie in memory. It tells everything, and fails where it is told to. Of the calls that were
-/// made on it, it tells nothing more once memory for one of them was wanting.
+/// An outside whose files and ports lie in memory. It tells everything, and fails where it is told to. A call that can't be noted
+/// for want of memory is refused for it, and then it tells nothing more of the calls that were made on it; but a load that fails
+/// otherwise is answered so all the same.
 #[derive(Debug, Drop)]
 pub struct MemoryOutside {
     files: Vec<NamedFile>,
@@ -80,6 +81,14 @@ impl MemoryPort {
             Ok(()) => Ok(()),
             Err(_) => Err(PutFault::Memory),
         }
+    }
+
+    /// The port with so much of what it holds, and this count of faults.
+    fn restore(&mut self, len: usize, faults: u64)
+        ensures { self.new ≡ record { held = take len self.old.held; faults = faults } }
+    {
+        self.held.truncate(len);
+        self.faults = faults;
     }
 
     /// A put fails with these octets put all the same, or is refused for want of memory.
@@ -220,6 +229,32 @@ fn put_port(port: &mut MemoryPort, kept: Option<u64>, piece: &[u8]) -> Result<()
     }
 }
 
+/// Puts a piece to a port and notes the put. Where it can't be noted the port is as it was.
+fn put_noted(
+    made: &mut CallRecord,
+    name: Port,
+    port: &mut MemoryPort,
+    kept: Option<u64>,
+    piece: &[u8],
+) -> Result<(), PutFault>
+    ensures ok { OnOk result (port.new ≡ grown piece.now port.old) }
+    ensures allowed { OnOk result (kept ≡ None) }
+    ensures cause { result ≡ Err PutFault.Failed → IsSomeAnd kept (λ count. port.new ≡ after_fault (grown (take count piece.now) port.old)) }
+    ensures memory { result ≡ Err PutFault.Memory → port.new ≡ port.old }
+    ensures counted { port.old.faults ≤ port.new.faults }
+    ensures failed { result ≡ Err PutFault.Failed → HasRisen port.old.faults port.new.faults }
+    ensures recorded { AreCallsAfter (Put name piece.now) (is_ok result) made.old made.new }
+    ensures told { result ≢ Err PutFault.Memory → IsSome made.old → IsSome made.new }
+{
+    let (len, faults) = (port.held.len(), port.faults);
+    let answer = put_port(port, kept, piece);
+    if made.note_put(name, piece, answer.is_ok()).is_err() {
+        port.restore(len, faults);
+        return Err(PutFault::Memory);
+    }
+    answer
+}
+
 /// The first `count` octets of the piece, or all of it where it is shorter.
 fn prefix(piece: &[u8], count: u64) -> &[u8]
     ensures { result.now ≡ take count piece.now }
@@ -260,6 +295,7 @@ impl Outside for MemoryOutside {
         ensures after_failed { result ≡ Err LoadFault.Failed → self.new.memory ≡ after_failed_load self.old.memory }
         ensures after { result ≢ Err LoadFault.Failed → self.new.memory ≡ after_call self.old.memory }
         ensures recorded { AreCallsAfter (Load name.now) (is_ok result) self.old.made self.new.made }
+        ensures told { OnOk result (IsSome self.old.made → IsSome self.new.made) }
     {
         let fails = self.start_call().is_some();
         match content_of(&self.files, name) {
@@ -274,28 +310,33 @@ impl Outside for MemoryOutside {
         }
     }
 
-    /// As [`Outside::bind`] says. It fails exactly where this call is to fail.
+    /// As [`Outside::bind`] says. It fails exactly where this call is to fail, unless it can't be noted: then nothing changes.
     fn bind(&mut self, port: Port, name: &str) -> Result<(), PutFault>
         ensures ok { OnOk result (self.new.memory ≡ with_port port (emptied (port_of port self.old.memory)) (after_call self.old.memory)) }
-        ensures err { OnErr result (self.new.memory ≡ with_port port (after_fault (port_of port self.old.memory)) (after_call self.old.memory)) }
-        ensures fails { result ≡ Err PutFault.Failed ↔ IsSome (kept_next self.old.memory) }
-        ensures memory { result ≢ Err PutFault.Memory }
+        ensures allowed { OnOk result (kept_next self.old.memory ≡ None) }
+        ensures fails { result ≡ Err PutFault.Failed → IsSome (kept_next self.old.memory) }
+        ensures after_failed { result ≡ Err PutFault.Failed →
+            self.new.memory ≡ with_port port (after_fault (port_of port self.old.memory)) (after_call self.old.memory) }
+        ensures memory { result ≡ Err PutFault.Memory → self.new.memory ≡ after_call self.old.memory }
         ensures counted { (port_of port self.old.memory).faults ≤ (port_of port self.new.memory).faults }
         ensures failed { result ≡ Err PutFault.Failed →
             HasRisen (port_of port self.old.memory).faults (port_of port self.new.memory).faults }
         ensures recorded { AreCallsAfter (Bind port name.now) (is_ok result) self.old.made self.new.made }
+        ensures told { result ≢ Err PutFault.Memory → IsSome self.old.made → IsSome self.new.made }
     {
         let fails = self.start_call().is_some();
-        let made = &mut self.made;
+        if self.made.note_bind(port, name, !fails).is_err() {
+            return Err(PutFault::Memory);
+        }
         match port {
-            Port::ReadByA => made.note_bind(port, name, bind_port(&mut self.read_by_a, fails)),
-            Port::ReadByB => made.note_bind(port, name, bind_port(&mut self.read_by_b, fails)),
-            Port::Log => made.note_bind(port, name, bind_port(&mut self.log, fails)),
+            Port::ReadByA => bind_port(&mut self.read_by_a, fails),
+            Port::ReadByB => bind_port(&mut self.read_by_b, fails),
+            Port::Log => bind_port(&mut self.log, fails),
         }
     }
 
     /// As [`Outside::put`] says. It fails where this call is to fail, and then keeps as much of the piece as that
-    /// call is to keep.
+    /// call is to keep; where it can't be noted it keeps nothing.
     fn put(&mut self, port: Port, piece: &[u8]) -> Result<(), PutFault>
         ensures ok { OnOk result (self.new.memory ≡ with_port port (grown piece.now (port_of port self.old.memory)) (after_call self.old.memory)) }
         ensures allowed { OnOk result (kept_next self.old.memory ≡ None) }
@@ -306,13 +347,14 @@ impl Outside for MemoryOutside {
         ensures failed { result ≡ Err PutFault.Failed →
             HasRisen (port_of port self.old.memory).faults (port_of port self.new.memory).faults }
         ensures recorded { AreCallsAfter (Put port piece.now) (is_ok result) self.old.made self.new.made }
+        ensures told { result ≢ Err PutFault.Memory → IsSome self.old.made → IsSome self.new.made }
     {
         let kept = self.start_call();
         let made = &mut self.made;
         match port {
-            Port::ReadByA => made.note_put(port, piece, put_port(&mut self.read_by_a, kept, piece)),
-            Port::ReadByB => made.note_put(port, piece, put_port(&mut self.read_by_b, kept, piece)),
-            Port::Log => made.note_put(port, piece, put_port(&mut self.log, kept, piece)),
+            Port::ReadByA => put_noted(made, port, &mut self.read_by_a, kept, piece),
+            Port::ReadByB => put_noted(made, port, &mut self.read_by_b, kept, piece),
+            Port::Log => put_noted(made, port, &mut self.log, kept, piece),
         }
     }
 }
