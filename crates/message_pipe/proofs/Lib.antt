@@ -1,3 +1,6 @@
+pub mod Cuts
 pub mod Framed
+pub mod PortsStand
 pub mod ReadAgain
+pub mod ShownMore
 pub mod Whole

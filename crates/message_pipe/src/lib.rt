@@ -3,7 +3,10 @@
 
 mod framing;
 mod laws;
+mod line_port;
+mod lines;
 mod messages;
+mod showing;
 
 pub use framing::frame;
 pub use laws::{frames_are_read_again, messages_come_whole};
