@@ -31,5 +31,5 @@ framed (a ∷ b ∷ c ∷ d ∷ octets) message n small some is fits taken =
     let rest : drop (4 + n) (a ∷ b ∷ c ∷ d ∷ octets) ≡ drop n octets = drop_four a b c d n octets in
     let whole : message ++ drop n octets ≡ octets = rw taken (take-append-drop n octets) in
     let all : to_be_bytes w32 n ++ (message ++ drop (4 + n) (a ∷ b ∷ c ∷ d ∷ octets)) ≡ a ∷ b ∷ c ∷ d ∷ octets =
-      ap (λ end. to_be_bytes w32 n ++ (message ++ end)) rest ∙ (ap (λ end. to_be_bytes w32 n ++ end) whole ∙ ap (λ front. front ++ octets) head) in
+    ap (λ end. to_be_bytes w32 n ++ (message ++ end)) rest ∙ (ap (λ end. to_be_bytes w32 n ++ end) whole ∙ ap (λ front. front ++ octets) head) in
     sym (ap (λ k. to_be_bytes w32 k ++ (message ++ drop (4 + k) (a ∷ b ∷ c ∷ d ∷ octets))) long ∙ all)

@@ -1,15 +1,16 @@
 -- A port keeps showing the messages that came whole.
-use Rattle.std.proofs.Common.{◌≡◌, ℕ, ◌+◌, ◌-◌, ◌<◌, ◌≤◌, List, [], ◌∷◌, ◌++◌, length, take, drop, Option, Some, None, refl, sym, ◌∙◌, ap, subst, append_assoc, append-nil, arith}
-use Rattle.std.specs.Prelude.{IfSome, IsSome, IsSomeAnd, Result, Ok, Err, OnOk, OnErr, IfErr}
+use Rattle.std.proofs.Common.{◌≡◌, ℕ, ◌≤◌, List, ◌++◌, length, take, drop, Option, Some, None, sym, ◌∙◌, ap, subst, append_assoc, arith}
+use Rattle.std.specs.Prelude.{◌≢◌, IfSome, IsSome, IsSomeAnd, Result, Ok, Err, OnOk, OnErr, IfErr}
 use Rattle.std.proofs.lemmas.List.{drop-append-le, take-append-drop}
 use Rattle.outside_kit.specs.declared.outside.PutFault.{PutFault}
 use Rattle.outside_kit.specs.declared.outside.PutFault.TheVariants.{Failed}
+use Rattle.outside_kit.specs.declared.port.Port.TheVariants.{ReadByA, ReadByB}
 use Rattle.outside_kit.specs.Outside.{HasRisen, HoldsAfter, HoldsPrefix}
 use Rattle.pipe_model.specs.Prefix.{IsPrefix}
-use Rattle.message_pipe.specs.Frames.{frames, HaveFrames, first_message}
+use Rattle.message_pipe.specs.Frames.{frames, first_message}
 use Rattle.message_pipe.specs.Lines.{shown}
 use Rattle.message_pipe.specs.Showing.{ShowsMore, ShowsPart, Counted, ShowsMessages, ShowsPrefix, PortStands}
-use Rattle.message_pipe.proofs.ShownMore.{frames-append, shown-append, have-append, risen_from, risen_later}
+use Rattle.message_pipe.proofs.ShownMore.{frames-append, shown-append, have-append, risen_from}
 
 -- ---- what is held, by what was told at first
 
@@ -60,9 +61,9 @@ shows_more octets piece end to was refused first old new within before more none
   messages = before.messages ++ more.messages;
   have = have-append before.messages more.messages before.have more.have;
   octets_are = front_and octets piece end within before.messages before.octets_are
-    ∙ (ap (λ rest. frames before.messages ++ rest) more.frames_are
-    ∙ (sym (append_assoc (frames before.messages) (frames more.messages) (drop to (octets ++ piece)))
-    ∙ ap (λ front. front ++ drop to (octets ++ piece)) (sym (frames-append before.messages more.messages))));
+      ∙ (ap (λ rest. frames before.messages ++ rest) more.frames_are
+      ∙ (sym (append_assoc (frames before.messages) (frames more.messages) (drop to (octets ++ piece)))
+      ∙ ap (λ front. front ++ drop to (octets ++ piece)) (sym (frames-append before.messages more.messages))));
   no_more = none;
   shown_is = held_all first old new before.messages more.messages before.shown_is more.shown_is;
 }
@@ -75,9 +76,9 @@ shows_part octets piece end to was refused first old new within before more = re
   have = have-append before.messages more.messages before.have more.have;
   rest = more.behind;
   octets_are = front_and octets piece end within before.messages before.octets_are
-    ∙ (ap (λ rest. frames before.messages ++ rest) more.frames_are
-    ∙ (sym (append_assoc (frames before.messages) (frames more.messages) more.behind)
-    ∙ ap (λ front. front ++ more.behind) (sym (frames-append before.messages more.messages))));
+      ∙ (ap (λ rest. frames before.messages ++ rest) more.frames_are
+      ∙ (sym (append_assoc (frames before.messages) (frames more.messages) more.behind)
+      ∙ ap (λ front. front ++ more.behind) (sym (frames-append before.messages more.messages))));
   shown_is = held_front first old new before.messages more.messages before.shown_is more.shown_is;
 }
 
@@ -141,3 +142,18 @@ stands_still fault octets piece last end was first held f0 f1 l some before =
       counted = before.counted;
       risen = before.risen;
     })
+
+-- ---- other ports
+
+-- nothing changes at a port that holds what it held, with the count that it had
+pub stands_same : (port : Counted) (first old new : Option (List ℕ)) (f0 f1 f2 : ℕ) → new ≡ old → f2 ≡ f1 → PortStands port first old f0 f1 → PortStands port first new f0 f2
+stands_same port first old new f0 f1 f2 same count before =
+    let P : Option (List ℕ) → Type 0 = λ held. PortStands port first held f0 f1 in
+    let Q : ℕ → Type 0 = λ faults. PortStands port first new f0 faults in
+    subst Q (sym count) (subst P (sym same) before)
+
+pub b_is_not_a : ReadByB ≢ ReadByA
+b_is_not_a e = cc
+
+pub a_is_not_b : ReadByA ≢ ReadByB
+a_is_not_b e = cc

@@ -1,11 +1,11 @@
 -- What was framed is read again, whatever follows it.
-use Rattle.std.proofs.Common.{◌≡◌, ℕ, ◌+◌, ◌-◌, ◌<◌, ◌≤◌, ◌^◌, List, [], ◌∷◌, ◌++◌, length, take, drop, Option, Some, refl, sym, ◌∙◌, ap, append_assoc, length-append, arith, rules}
+use Rattle.std.proofs.Common.{◌≡◌, ℕ, ◌+◌, ◌-◌, ◌≤◌, List, [], ◌∷◌, ◌++◌, length, take, drop, Some, sym, ◌∙◌, ap, length-append, arith, rules}
 use Rattle.std.proofs.Math.Seq.{take-append_seam, drop-append_seam}
 use Rattle.std.proofs.lemmas.Grind.{common_steps}
 use Rattle.std.proofs.lemmas.List.{take-append-le, drop-append-le}
 use Rattle.std.proofs.lemmas.Nat.{from_be_bytes-to_be_bytes_4}
-use Rattle.message_pipe.specs.Frames.{frame_of, told_length, has_frame, first_message, behind_first}
-use Rattle.message_pipe.specs.Uses.{IsReadAgain, FramesAreReadAgain}
+use Rattle.message_pipe.specs.Frames.{frame_of, told_length, first_message, behind_first}
+use Rattle.message_pipe.specs.Uses.{FramesAreReadAgain}
 use Rattle.message_pipe.proofs.Framed.{drop_four}
 
 -- the octets begin with a whole frame, of this message, and this stands behind it
@@ -46,9 +46,10 @@ stays_begun (w ∷ x ∷ y ∷ z ∷ octets) more message behind b =
     let n = told_length (w ∷ x ∷ y ∷ z ∷ octets) in
     let long : length (octets ++ more) ≡ length octets + length more = length-append octets more in
     let is = is_first (w ∷ x ∷ y ∷ z ∷ (octets ++ more)) (omega arith) (let fits = b.fits in omega (arith, long)) in
-    let within : n ≤ length octets = let fits = b.fits in omega arith in
-    (is.0 ∙ ap (λ m. Some m) (take-append-le n octets more within ∙ sym b.message_is),
-     is.1 ∙ (drop_four w x y z n (octets ++ more) ∙ (drop-append-le n octets more within ∙ ap (λ end. end ++ more) (sym (b.behind_is ∙ drop_four w x y z n octets)))))
+    let within : n ≤ length octets = let fits = b.fits in omega arith in (
+      is.0 ∙ ap (λ m. Some m) (take-append-le n octets more within ∙ sym b.message_is),
+      is.1 ∙ (drop_four w x y z n (octets ++ more) ∙ (drop-append-le n octets more within ∙ ap (λ end. end ++ more) (sym (b.behind_is ∙ drop_four w x y z n octets)))),
+    )
 
 -- a whole frame stays the first one, whatever is put behind
 pub stays_first : (held more message : List ℕ) → first_message held ≡ Some message → first_message (held ++ more) ≡ Some message × (behind_first (held ++ more) ≡ behind_first held ++ more)

@@ -3,7 +3,6 @@ use Rattle.std.proofs.Common.{◌≡◌, ℕ, ◌+◌, ◌-◌, ◌<◌, ◌≤�
 use Rattle.std.proofs.Math.Seq.{take-append-add}
 use Rattle.std.proofs.lemmas.Bool.Decides.{leb_tells}
 use Rattle.std.proofs.lemmas.List.{drop-drop}
-use Rattle.std.specs.Prelude.{IfSome, IsSome, IsSomeAnd, ◌≢◌}
 use Rattle.outside_kit.specs.declared.port.Port.{Port}
 use Rattle.outside_kit.specs.Outside.{HasRisen, HoldsAfter, HoldsPrefix}
 use Rattle.message_pipe.specs.Frames.{frame_of, frames, HaveFrames}
@@ -46,10 +45,11 @@ held_part : (messages : List (List ℕ)) (message : List ℕ) (old mid new : Opt
     → HoldsPrefix mid new (line_of message) → HoldsPrefix old new (shown (messages ++ message ∷ []))
 held_part messages message None mid new first next = tt
 held_part messages message (Some held) mid new first next =
-    let last : HoldsPrefix (Some (held ++ shown messages)) new (line_of message) = let P : Option (List ℕ) → Type 0 = λ m. HoldsPrefix m new (line_of message) in subst P first next in
-    (length (shown messages) + last.0,
-     last.1 ∙ ap (λ text. Some text) (append_assoc held (shown messages) (take last.0 (line_of message))
-       ∙ ap (λ end. held ++ end) (sym (ap (λ text. take (length (shown messages) + last.0) text) (shown_more messages message) ∙ take-append-add (shown messages) (line_of message) last.0))))
+    let last : HoldsPrefix (Some (held ++ shown messages)) new (line_of message) = let P : Option (List ℕ) → Type 0 = λ m. HoldsPrefix m new (line_of message) in subst P first next in (
+      length (shown messages) + last.0,
+      last.1 ∙ ap (λ text. Some text) (append_assoc held (shown messages) (take last.0 (line_of message))
+          ∙ ap (λ end. held ++ end) (sym (ap (λ text. take (length (shown messages) + last.0) text) (shown_more messages message) ∙ take-append-add (shown messages) (line_of message) last.0))),
+    )
 
 drop_further : (octets : List ℕ) (end count : ℕ) → drop count (drop end octets) ≡ drop (end + count) octets
 drop_further octets end count = drop-drop count end octets
@@ -71,8 +71,8 @@ one_more octets from end message old mid new shows is small next =
       have = have-append shows.messages (message ∷ []) shows.have (small, tt);
       within = let within = shows.within in omega (arith, whole, sum, left, frame);
       frames_are = shows.frames_are ∙ (ap (λ rest. frames shows.messages ++ rest) (is ∙ ap (λ rest. frame_of message ++ rest) (drop_further octets end (4 + length message)))
-        ∙ (sym (append_assoc (frames shows.messages) (frame_of message) (drop (end + (4 + length message)) octets))
-        ∙ ap (λ front. front ++ drop (end + (4 + length message)) octets) (sym (frames_more shows.messages message))));
+          ∙ (sym (append_assoc (frames shows.messages) (frame_of message) (drop (end + (4 + length message)) octets))
+          ∙ ap (λ front. front ++ drop (end + (4 + length message)) octets) (sym (frames_more shows.messages message))));
       shown_is = held_more shows.messages message old mid new shows.shown_is next;
     }
 
@@ -85,8 +85,8 @@ last_part octets from end message old mid new shows is small next = record {
   have = have-append shows.messages (message ∷ []) shows.have (small, tt);
   behind = drop (4 + length message) (drop end octets);
   frames_are = shows.frames_are ∙ (ap (λ rest. frames shows.messages ++ rest) is
-    ∙ (sym (append_assoc (frames shows.messages) (frame_of message) (drop (4 + length message) (drop end octets)))
-    ∙ ap (λ front. front ++ drop (4 + length message) (drop end octets)) (sym (frames_more shows.messages message))));
+      ∙ (sym (append_assoc (frames shows.messages) (frame_of message) (drop (4 + length message) (drop end octets)))
+      ∙ ap (λ front. front ++ drop (4 + length message) (drop end octets)) (sym (frames_more shows.messages message))));
   shown_is = held_part shows.messages message old mid new shows.shown_is next;
 }
 

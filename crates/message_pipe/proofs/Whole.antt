@@ -1,7 +1,7 @@
 -- However the frames of messages are cut, the messages come whole and in order.
-use Rattle.std.proofs.Common.{◌≡◌, ℕ, ◌+◌, ◌-◌, ◌<◌, ◌≤◌, ◌^◌, Bool, true, false, cond, ◌⊎◌, inl, inr, List, [], ◌∷◌, ◌++◌, length, Option, Some, None, refl, sym, ◌∙◌, ap, subst, append_assoc, append-nil, rules}
+use Rattle.std.proofs.Common.{◌≡◌, ℕ, ◌<◌, ◌^◌, Bool, true, false, cond, ◌⊎◌, inl, inr, List, [], ◌∷◌, ◌++◌, length, Option, Some, None, refl, sym, ◌∙◌, ap, subst, append_assoc, append-nil}
 use Rattle.message_pipe.specs.Frames.{frame_of, frames, HaveFrames, has_frame, first_message, behind_first}
-use Rattle.message_pipe.specs.Uses.{Use, Feed, Next, after_use, after_uses, fed_by, with_first, given_by, AreFirst, IsReadAgain, ComeWhole, MessagesComeWhole}
+use Rattle.message_pipe.specs.Uses.{Use, Feed, Next, after_uses, fed_by, with_first, given_by, AreFirst, ComeWhole, MessagesComeWhole}
 use Rattle.message_pipe.proofs.ReadAgain.{read_again, stays_first}
 
 -- where there is no whole frame, all octets stay

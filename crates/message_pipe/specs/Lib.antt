@@ -1,4 +1,5 @@
 pub mod Frames
+pub mod Lined
 pub mod Lines
 pub mod Showing
 pub mod Uses

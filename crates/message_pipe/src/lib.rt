@@ -3,6 +3,7 @@
 
 mod framing;
 mod laws;
+mod line_outside;
 mod line_port;
 mod lines;
 mod messages;
@@ -10,4 +11,5 @@ mod showing;
 
 pub use framing::frame;
 pub use laws::{frames_are_read_again, messages_come_whole};
+pub use line_outside::{LineOutside, Naming};
 pub use messages::Messages;

@@ -1,9 +1,10 @@
 //! The lines of a content, as messages.
 
-ghost use Rattle.std.specs.Prelude.{◌≡◌, ◌+◌, ◌^◌, ◌<◌, ◌≤◌, ◌∷◌, ◌==◌, ◌↔◌, length, position, IfOk, IsTrue};
+ghost use Rattle.std.specs.Prelude.{◌≡◌, ◌+◌, ◌^◌, ◌<◌, ◌≤◌, ◌∷◌, ◌==◌, ◌↔◌, ◌≢◌, length, position, vec_len, IfOk, IsTrue};
 ghost use Rattle.message_pipe.specs.Lines.{lines, framed};
 
 use crate::framing::push_frame;
+use outside_kit::LoadFault;
 use std::alloc::{AllocError, Global};
 
 /// The place of the first LF.
@@ -56,4 +57,21 @@ pub(crate) fn framed(alloc: Global, content: &[u8]) -> Result<Vec<u8>, AllocErro
         rest = behind;
     }
     Ok(frames)
+}
+
+/// The frames of the lines of a content, where they are within the limit.
+pub(crate) fn framed_within(alloc: Global, content: &[u8], limit: u64) -> Result<Vec<u8>, LoadFault>
+    requires { length content.now < 2 ^ 32 }
+    ensures whole { IfOk result (λ frames. frames.items ≡ framed content.now) }
+    ensures within { IfOk result (λ frames. vec_len frames ≤ limit) }
+    ensures too_long { result ≡ Err LoadFault.TooLong → limit < length (framed content.now) }
+    ensures failed { result ≢ Err LoadFault.Failed }
+{
+    if !has_room(content, limit) {
+        return Err(LoadFault::TooLong);
+    }
+    match framed(alloc, content) {
+        Ok(frames) => Ok(frames),
+        Err(_) => Err(LoadFault::Memory),
+    }
 }

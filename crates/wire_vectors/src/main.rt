@@ -1,6 +1,6 @@
 //! Prints what the calls of the wire's crates answer, one line for each line of standard input: octets read and
-//! written as options and segments, checksums, keys, numbers of positions, the growth of linked windows, and the steps of a stream. `stdin` holds the cases, `stdout` the
-//! wanted answers. Lines that begin with `#` are printed as they stand, and say where the answers come from.
+//! written as options and segments, checksums, keys, numbers of positions, the growth of linked windows, the steps of a stream, and
+//! messages in frames. `stdin` holds the cases, `stdout` the wanted answers. Lines that begin with `#` are printed as they stand, and say where the answers come from.
 //!
 //! A case is a name and its fields with one blank between them. Octets are hexadecimal digits, or `-` where there are
 //! none; numbers are decimal. The head of each file says the cases that it answers.
@@ -8,6 +8,7 @@
 
 mod increase_cases;
 mod key_cases;
+mod message_cases;
 mod number_cases;
 mod option_cases;
 mod pipe_cases;
@@ -37,6 +38,8 @@ fn answer(alloc: Global, line: &str) -> Result<String, CaseFault> {
         "address" => key_cases::address(alloc, fields),
         "grow" => increase_cases::grow(alloc, fields),
         "pipe" => pipe_cases::pipe(alloc, fields),
+        "message" => message_cases::message(alloc, fields),
+        "frames" => message_cases::frames(alloc, fields),
         "drawn" => key_cases::drawn(alloc, fields),
         "number" => number_cases::number(alloc, fields),
         "near32" => number_cases::near32(alloc, fields),

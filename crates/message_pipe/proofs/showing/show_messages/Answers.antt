@@ -1,4 +1,3 @@
-use Rattle.std.proofs.Common.{arith}
 use Rattle.std.proofs.lemmas.List.{take_rest}
 use Rattle.std.proofs.lemmas.Result.{err_from_is_err_and}
 use Rattle.message_pipe.proofs.ShownMore.{one_more, last_part, stays_then}
@@ -12,6 +11,7 @@ returns-in_err-put_line-clause-err g c =
 
 pub loop-message-preserved : goal.loop-message-preserved
 loop-message-preserved g c =
-    let is = rw take_rest at c.in-Some.ensures.whole in
-    (one_more c.args.octets.now c.args.from c.loop-message.end c.in-Some.message.now _ _ _ c.loop-message.invariant.0 is c.in-Some.ensures.short c.in_ok-put_line.ensures.ok,
-     stays_then _ _ _ _ _ _ _ _ _ _ _ _ _ c.loop-message.invariant.1 c.in_ok-put_line.ensures.stays)
+    let is = rw take_rest at c.in-Some.ensures.whole in (
+      one_more c.args.octets.now c.args.from c.loop-message.end c.in-Some.message.now _ _ _ c.loop-message.invariant.0 is c.in-Some.ensures.short c.in_ok-put_line.ensures.ok,
+      stays_then _ _ _ _ _ _ _ _ _ _ _ _ _ c.loop-message.invariant.1 c.in_ok-put_line.ensures.stays,
+    )
