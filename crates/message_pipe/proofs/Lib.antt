@@ -1,5 +1,6 @@
 pub mod Cuts
 pub mod Framed
+pub mod LinesAgain
 pub mod Longer
 pub mod PortsStand
 pub mod ReadAgain

@@ -38,9 +38,11 @@ fn told_length(octets: &[u8]) -> u32
 /// The message of the frame that the octets begin with, where all of it is there.
 pub(crate) fn first_message(octets: &[u8]) -> Option<&[u8]>
     ensures given { option_map (λ message. message.now) result ≡ first_message octets.now }
-    ensures whole { IfSome result (λ message. octets.now ≡ frame_of message.now ++ drop (4 + length message.now) octets.now) }
+    ensures whole { IfSome result
+        (λ message. octets.now ≡ frame_of message.now ++ drop (4 + length message.now) octets.now) }
     ensures short { IfSome result (λ message. length message.now < 2 ^ 32) }
-    ensures behind { IfSome result (λ message. behind_first octets.now ≡ drop (4 + length message.now) octets.now) }
+    ensures behind { IfSome result
+        (λ message. behind_first octets.now ≡ drop (4 + length message.now) octets.now) }
 {
     if octets.len() < 4 {
         return None;

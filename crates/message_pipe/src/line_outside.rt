@@ -59,8 +59,10 @@ impl<O: Outside, N: Naming> Model for LineOutside<O, N> {
       read_by_b = counted_of lines.read_by_b;
     } };
 
-    ghost invariant = { λ lines. (lines.read_by_a.end ≤ length lines.read_by_a.octets.items) × (lines.read_by_b.end ≤ length lines.read_by_b.octets.items)
-        × PortsStand (counted_of lines.read_by_a) (counted_of lines.read_by_b) N.held (O.holds lines.inner) N.faults (O.port_faults lines.inner) };
+    ghost invariant = { λ lines. (lines.read_by_a.end ≤ length lines.read_by_a.octets.items)
+        × (lines.read_by_b.end ≤ length lines.read_by_b.octets.items)
+        × PortsStand (counted_of lines.read_by_a) (counted_of lines.read_by_b) N.held
+        (O.holds lines.inner) N.faults (O.port_faults lines.inner) };
 }
 
 /// Loads a content through the outside below, as the frames of its lines where the name is one of these two.
@@ -72,17 +74,25 @@ fn load_from<O: Outside>(
     limit: u64,
 ) -> Result<Vec<u8>, LoadFault>
     requires { limit < 2 ^ 32 }
-    ensures whole { IfOk result (λ bytes. IfSome (lined_content lined.entry.0.now lined.entry.1.now (O.content inner.old) name.now) (λ told. bytes.items ≡ told)) }
+    ensures whole { IfOk result
+        (λ bytes. IfSome (lined_content lined.entry.0.now lined.entry.1.now (O.content inner.old)
+        name.now) (λ told. bytes.items ≡ told)) }
     ensures within { IfOk result (λ bytes. vec_len bytes ≤ limit) }
     ensures too_long { result ≡ Err LoadFault.TooLong →
-        IfSome (lined_content lined.entry.0.now lined.entry.1.now (O.content inner.old) name.now) (λ told. limit < length told) }
-    ensures source_within { OnOk result (IfSome (O.source inner.old name.now) (λ told. length told ≤ limit)) }
-    ensures fits { result ≡ Err LoadFault.Memory → IfSome (O.source inner.old name.now) (λ told. length told ≤ limit) }
+        IfSome (lined_content lined.entry.0.now lined.entry.1.now (O.content inner.old) name.now)
+        (λ told. limit < length told) }
+    ensures source_within { OnOk result
+        (IfSome (O.source inner.old name.now) (λ told. length told ≤ limit)) }
+    ensures fits { result ≡ Err LoadFault.Memory →
+        IfSome (O.source inner.old name.now) (λ told. length told ≤ limit) }
     ensures counted { O.load_faults inner.old ≤ O.load_faults inner.new }
-    ensures failed { result ≡ Err LoadFault.Failed → HasRisen (O.load_faults inner.old) (O.load_faults inner.new) }
-    ensures same_contents { (other : List ℕ) → O.content inner.new other ≡ O.content inner.old other }
+    ensures failed { result ≡ Err LoadFault.Failed →
+        HasRisen (O.load_faults inner.old) (O.load_faults inner.new) }
+    ensures same_contents { (other : List ℕ) →
+        O.content inner.new other ≡ O.content inner.old other }
     ensures same_ports { (port : Port) → O.holds inner.new port ≡ O.holds inner.old port }
-    ensures same_counts { (port : Port) → O.port_faults inner.new port ≡ O.port_faults inner.old port }
+    ensures same_counts { (port : Port) →
+        O.port_faults inner.new port ≡ O.port_faults inner.old port }
 {
     let bytes = inner.load(alloc, name, limit)?;
     if name == lined.0 || name == lined.1 {
@@ -105,11 +115,16 @@ fn bind_for<O: Outside>(
     ensures empty { OnOk result (lines.new.octets.items ≡ []) }
     ensures err { OnErr result (lines.new.octets.items ≡ lines.old.octets.items) }
     ensures stands { (first : Option (List ℕ)) (faults_first : ℕ) →
-        PortStands (counted_of lines.old) first (O.holds inner.old port) faults_first (O.port_faults inner.old port) →
-        PortStands (counted_of lines.new) first (O.holds inner.new port) faults_first (O.port_faults inner.new port) }
-    ensures stays { StaysElsewhere port (O.content inner.old) (O.content inner.new) (O.holds inner.old) (O.holds inner.new)
-        (O.port_faults inner.old) (O.port_faults inner.new) (O.load_faults inner.old) (O.load_faults inner.new) }
-    ensures failed { result ≡ Err PutFault.Failed → HasRisen (O.port_faults inner.old port) (O.port_faults inner.new port) }
+        PortStands (counted_of lines.old) first (O.holds inner.old port) faults_first
+        (O.port_faults inner.old port) →
+        PortStands (counted_of lines.new) first (O.holds inner.new port) faults_first
+        (O.port_faults inner.new port) }
+    ensures stays { StaysElsewhere port (O.content inner.old) (O.content inner.new)
+        (O.holds inner.old) (O.holds inner.new)
+        (O.port_faults inner.old) (O.port_faults inner.new) (O.load_faults inner.old)
+        (O.load_faults inner.new) }
+    ensures failed { result ≡ Err PutFault.Failed →
+        HasRisen (O.port_faults inner.old port) (O.port_faults inner.new port) }
 {
     match inner.bind(port, name) {
         Ok(()) => {
@@ -163,7 +178,8 @@ impl<O: Outside, N: Naming> LineOutside<O, N> {
     /// The outside below, as it stands. Its readers' ports show the messages of what was put for them.
     pub fn into_inner(self) -> O
         ensures inner { result ≡ self.inner }
-        ensures ports { PortsStand self.read_by_a self.read_by_b N.held (O.holds result) N.faults (O.port_faults result) }
+        ensures ports { PortsStand self.read_by_a self.read_by_b N.held (O.holds result) N.faults
+            (O.port_faults result) }
     {
         let LineOutside {
             alloc: _,
@@ -186,7 +202,8 @@ impl<O: Outside, N: Naming> Outside for LineOutside<O, N> {
 
     ghost source = { λ lines. O.source lines.inner };
 
-    ghost holds = { λ lines. lined_holds lines.read_by_a.octets lines.read_by_b.octets (O.holds lines.inner) };
+    ghost holds = { λ lines. lined_holds lines.read_by_a.octets lines.read_by_b.octets
+        (O.holds lines.inner) };
 
     ghost load_faults = { λ lines. O.load_faults lines.inner };
 

@@ -45,14 +45,20 @@ fn show<O: Outside>(
     requires { lines.old.end ≤ length lines.old.octets.items }
     ensures octets { lines.new.octets.items ≡ lines.old.octets.items }
     ensures within { lines.new.end ≤ length lines.new.octets.items }
-    ensures ok { OnOk result (ShowsMore lines.old.octets.items lines.old.end lines.new.end (O.holds outside.old port) (O.holds outside.new port)) }
+    ensures ok { OnOk result (ShowsMore lines.old.octets.items lines.old.end lines.new.end
+        (O.holds outside.old port) (O.holds outside.new port)) }
     ensures all { OnOk result (first_message (drop lines.new.end lines.old.octets.items) ≡ None) }
     ensures kept { OnOk result (lines.new.refused ≡ lines.old.refused) }
-    ensures err { OnErr result (ShowsPart lines.old.octets.items lines.old.end (O.holds outside.old port) (O.holds outside.new port)) }
+    ensures err { OnErr result
+        (ShowsPart lines.old.octets.items lines.old.end (O.holds outside.old port)
+        (O.holds outside.new port)) }
     ensures refused { IfErr result (λ fault. lines.new.refused ≡ Some fault) }
-    ensures stays { StaysElsewhere port (O.content outside.old) (O.content outside.new) (O.holds outside.old) (O.holds outside.new)
-        (O.port_faults outside.old) (O.port_faults outside.new) (O.load_faults outside.old) (O.load_faults outside.new) }
-    ensures failed { result ≡ Err PutFault.Failed → HasRisen (O.port_faults outside.old port) (O.port_faults outside.new port) }
+    ensures stays { StaysElsewhere port (O.content outside.old) (O.content outside.new)
+        (O.holds outside.old) (O.holds outside.new)
+        (O.port_faults outside.old) (O.port_faults outside.new) (O.load_faults outside.old)
+        (O.load_faults outside.new) }
+    ensures failed { result ≡ Err PutFault.Failed →
+        HasRisen (O.port_faults outside.old port) (O.port_faults outside.new port) }
 {
     match show_messages(alloc, outside, port, &lines.octets, lines.end) {
         Ok(end) => {
@@ -78,13 +84,19 @@ pub(crate) fn put_for<O: Outside>(
     requires { lines.old.end ≤ length lines.old.octets.items }
     ensures within { lines.new.end ≤ length lines.new.octets.items }
     ensures ok { OnOk result (lines.new.octets.items ≡ lines.old.octets.items ++ piece.now) }
-    ensures err { OnErr result (HoldsPrefix (Some lines.old.octets.items) (Some lines.new.octets.items) piece.now) }
+    ensures err { OnErr result
+        (HoldsPrefix (Some lines.old.octets.items) (Some lines.new.octets.items) piece.now) }
     ensures stands { (first : Option (List ℕ)) (faults_first : ℕ) →
-        PortStands (counted_of lines.old) first (O.holds outside.old port) faults_first (O.port_faults outside.old port) →
-        PortStands (counted_of lines.new) first (O.holds outside.new port) faults_first (O.port_faults outside.new port) }
-    ensures stays { StaysElsewhere port (O.content outside.old) (O.content outside.new) (O.holds outside.old) (O.holds outside.new)
-        (O.port_faults outside.old) (O.port_faults outside.new) (O.load_faults outside.old) (O.load_faults outside.new) }
-    ensures failed { result ≡ Err PutFault.Failed → HasRisen (O.port_faults outside.old port) (O.port_faults outside.new port) }
+        PortStands (counted_of lines.old) first (O.holds outside.old port) faults_first
+        (O.port_faults outside.old port) →
+        PortStands (counted_of lines.new) first (O.holds outside.new port) faults_first
+        (O.port_faults outside.new port) }
+    ensures stays { StaysElsewhere port (O.content outside.old) (O.content outside.new)
+        (O.holds outside.old) (O.holds outside.new)
+        (O.port_faults outside.old) (O.port_faults outside.new) (O.load_faults outside.old)
+        (O.load_faults outside.new) }
+    ensures failed { result ≡ Err PutFault.Failed →
+        HasRisen (O.port_faults outside.old port) (O.port_faults outside.new port) }
 {
     let Ok(()) = lines.octets.extend_from_slice(piece) else {
         return Err(PutFault::Memory);

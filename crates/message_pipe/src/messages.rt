@@ -51,7 +51,8 @@ impl Messages {
     pub fn next(&mut self) -> Result<Option<Text>, AllocError>
         ensures given { IfOk result (λ found. found ≡ first_message self.old) }
         ensures ok { OnOk result (self.new ≡ behind_first self.old) }
-        ensures whole { IfOk result (λ found. IfSome found (λ message. self.old ≡ frame_of message ++ self.new)) }
+        ensures whole { IfOk result
+            (λ found. IfSome found (λ message. self.old ≡ frame_of message ++ self.new)) }
         ensures short { IfOk result (λ found. IfSome found (λ message. length message < 2 ^ 32)) }
         ensures err { OnErr result (self.new ≡ self.old) }
     {

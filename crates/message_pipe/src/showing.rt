@@ -28,10 +28,14 @@ fn put_line<O: Outside>(
 ) -> Result<(), PutFault>
     ensures ok { OnOk result (HoldsAfter (O.holds outside.old port) (O.holds outside.new port)
         (λ held. held ++ line_of message.now)) }
-    ensures err { OnErr result (HoldsPrefix (O.holds outside.old port) (O.holds outside.new port) (line_of message.now)) }
-    ensures stays { StaysElsewhere port (O.content outside.old) (O.content outside.new) (O.holds outside.old) (O.holds outside.new)
-        (O.port_faults outside.old) (O.port_faults outside.new) (O.load_faults outside.old) (O.load_faults outside.new) }
-    ensures failed { result ≡ Err PutFault.Failed → HasRisen (O.port_faults outside.old port) (O.port_faults outside.new port) }
+    ensures err { OnErr result
+        (HoldsPrefix (O.holds outside.old port) (O.holds outside.new port) (line_of message.now)) }
+    ensures stays { StaysElsewhere port (O.content outside.old) (O.content outside.new)
+        (O.holds outside.old) (O.holds outside.new)
+        (O.port_faults outside.old) (O.port_faults outside.new) (O.load_faults outside.old)
+        (O.load_faults outside.new) }
+    ensures failed { result ≡ Err PutFault.Failed →
+        HasRisen (O.port_faults outside.old port) (O.port_faults outside.new port) }
 {
     match line_of(alloc, message) {
         Ok(line) => outside.put(port, &line),
@@ -48,12 +52,17 @@ pub(crate) fn show_messages<O: Outside>(
     from: usize,
 ) -> Result<usize, PutFault>
     requires { from ≤ length octets.now }
-    ensures ok { IfOk result (λ end. ShowsMore octets.now from end (O.holds outside.old port) (O.holds outside.new port)) }
+    ensures ok { IfOk result (λ end. ShowsMore octets.now from end (O.holds outside.old port)
+        (O.holds outside.new port)) }
     ensures all { IfOk result (λ end. first_message (drop end octets.now) ≡ None) }
-    ensures err { OnErr result (ShowsPart octets.now from (O.holds outside.old port) (O.holds outside.new port)) }
-    ensures stays { StaysElsewhere port (O.content outside.old) (O.content outside.new) (O.holds outside.old) (O.holds outside.new)
-        (O.port_faults outside.old) (O.port_faults outside.new) (O.load_faults outside.old) (O.load_faults outside.new) }
-    ensures failed { result ≡ Err PutFault.Failed → HasRisen (O.port_faults outside.old port) (O.port_faults outside.new port) }
+    ensures err { OnErr result
+        (ShowsPart octets.now from (O.holds outside.old port) (O.holds outside.new port)) }
+    ensures stays { StaysElsewhere port (O.content outside.old) (O.content outside.new)
+        (O.holds outside.old) (O.holds outside.new)
+        (O.port_faults outside.old) (O.port_faults outside.new) (O.load_faults outside.old)
+        (O.load_faults outside.new) }
+    ensures failed { result ≡ Err PutFault.Failed →
+        HasRisen (O.port_faults outside.old port) (O.port_faults outside.new port) }
 {
     let mut end = from;
     while let Some(message) = first_message(&octets[end..]) {
