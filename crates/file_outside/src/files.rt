@@ -121,6 +121,8 @@ impl<R: Files + Print + Alloc<A = Global>> Outside for FileOutside<'_, R> {
 
     ghost content = { λ _ _. None };
 
+    ghost source = { λ _ _. None };
+
     ghost holds = { λ _ _. None };
 
     ghost load_faults = { λ outside. outside.load_faults };

@@ -273,6 +273,8 @@ impl Outside for MemoryOutside {
 
     ghost content = { λ outside name. content_named outside.memory.files name };
 
+    ghost source = { λ outside name. content_named outside.memory.files name };
+
     ghost holds = { λ outside port. Some (port_of port outside.memory).held };
 
     ghost load_faults = { λ outside. outside.memory.load_faults };

@@ -82,6 +82,9 @@ pub trait Outside {
     /// The content of a name, where it is told.
     ghost content: { Self → List ℕ → Option (List ℕ) };
 
+    /// The content of a name as it lies outside, where it is told. An outside may give it in another form.
+    ghost source: { Self → List ℕ → Option (List ℕ) };
+
     /// What a port holds, where it is told.
     ghost holds: { Self → Port → Option (List ℕ) };
 
@@ -103,8 +106,9 @@ pub trait Outside {
         ensures within { IfOk result (λ bytes. vec_len bytes ≤ limit) }
         ensures too_long { result ≡ Err LoadFault.TooLong →
             IfSome (content self.old name.now) (λ told. limit < length told) }
+        ensures source_within { OnOk result (IfSome (source self.old name.now) (λ told. length told ≤ limit)) }
         ensures fits { result ≡ Err LoadFault.Memory →
-            IfSome (content self.old name.now) (λ told. length told ≤ limit) }
+            IfSome (source self.old name.now) (λ told. length told ≤ limit) }
 
         // The count of loads never falls, and a fault of the device has raised it.
         ensures counted { load_faults self.old ≤ load_faults self.new }

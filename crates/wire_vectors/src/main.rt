@@ -12,6 +12,7 @@ mod key_cases;
 mod mapping_cases;
 mod marks_cases;
 mod mode_cases;
+mod message_cases;
 mod number_cases;
 mod option_cases;
 mod pipe_cases;
@@ -41,6 +42,8 @@ fn wire_answer(alloc: Global, name: &str, fields: &[&str]) -> Result<String, Cas
         "hmac" => key_cases::hmac(alloc, fields),
         "join" => key_cases::join(alloc, fields),
         "address" => key_cases::address(alloc, fields),
+        "message" => message_cases::message(alloc, fields),
+        "frames" => message_cases::frames(alloc, fields),
         "drawn" => key_cases::drawn(alloc, fields),
         "number" => number_cases::number(alloc, fields),
         "near32" => number_cases::near32(alloc, fields),

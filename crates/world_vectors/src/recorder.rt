@@ -65,6 +65,8 @@ impl Outside for Recorder {
 
     ghost content = { λ _ _. None };
 
+    ghost source = { λ _ _. None };
+
     ghost holds = { λ _ _. None };
 
     ghost load_faults = { λ recorder. recorder.outside.memory.load_faults };

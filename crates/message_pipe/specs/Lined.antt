@@ -1,0 +1,37 @@
+-- An outside whose files and readers' ports have lines that are messages.
+use Rattle.std.specs.Prelude.{ℕ, ◌||◌, if◌then◌else◌, List, Option, Some, None, option_map}
+use Rattle.std.specs.Str.{bytes_eq}
+use Rattle.outside_kit.specs.declared.port.Port.{Port}
+use Rattle.outside_kit.specs.declared.port.Port.TheVariants.{ReadByA, ReadByB, Log}
+use Rattle.outside_kit.specs.declared.outside.PutFault.{PutFault}
+use Rattle.message_pipe.specs.Lines.{framed}
+use Rattle.message_pipe.specs.Showing.{Counted, PortStands}
+
+-- the outside that lies below, the names whose contents are lines, and what was put for the readers' ports
+pub record Lined (O : Type 0) : Type 0 where
+  pub inner : O
+  pub file_a : List ℕ
+  pub file_b : List ℕ
+  pub read_by_a : Counted
+  pub read_by_b : Counted
+
+-- of these two names the content is the frames of the lines of what lies below; of others it is that itself
+abbrev pub lined_content : List ℕ → List ℕ → (List ℕ → Option (List ℕ)) → List ℕ → Option (List ℕ)
+lined_content file_a file_b content name = if bytes_eq name file_a || bytes_eq name file_b then option_map framed (content name) else content name
+
+-- a reader's port holds what was put for it
+abbrev pub lined_holds : List ℕ → List ℕ → (Port → Option (List ℕ)) → Port → Option (List ℕ)
+lined_holds read_by_a read_by_b holds ReadByA = Some read_by_a
+lined_holds read_by_a read_by_b holds ReadByB = Some read_by_b
+lined_holds read_by_a read_by_b holds Log = holds Log
+
+-- both readers' ports show the messages of what was put for them
+pub record PortsStand (a b : Counted) (first holds : Port → Option (List ℕ)) (faults_first faults : Port → ℕ) : Type 0 where
+  pub read_by_a : PortStands a (first ReadByA) (holds ReadByA) (faults_first ReadByA) (faults ReadByA)
+  pub read_by_b : PortStands b (first ReadByB) (holds ReadByB) (faults_first ReadByB) (faults ReadByB)
+
+-- the refusal that a port keeps
+abbrev pub refused_of : {O : Type 0} → Port → Lined O → Option PutFault
+refused_of ReadByA lines = lines.read_by_a.refused
+refused_of ReadByB lines = lines.read_by_b.refused
+refused_of Log lines = None

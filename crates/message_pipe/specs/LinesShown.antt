@@ -1,0 +1,28 @@
+-- What a port shows of the lines of a content whose frames are put for it.
+use Rattle.std.specs.Prelude.{◌≡◌, ℕ, ◌^◌, ◌<◌, List, length, Option, IfSome, IsSomeAnd}
+use Rattle.outside_kit.specs.Outside.{HoldsAfter}
+use Rattle.pipe_model.specs.Prefix.{IsPrefix}
+use Rattle.message_pipe.specs.Lines.{lines, shown, framed}
+use Rattle.message_pipe.specs.Showing.{Counted, ShowsMessages, ShowsPrefix}
+use Rattle.message_pipe.specs.Uses.{AreFirst}
+
+-- of the lines of a content the port shows some first ones, each whole
+pub record ShowsFirstLines (content : List ℕ) (first held : Option (List ℕ)) : Type 0 where
+  pub messages : List (List ℕ)
+  pub are : AreFirst messages (lines content)
+  pub shown_is : HoldsAfter first held (λ _. shown messages)
+
+abbrev pub WholePortsShowAllLines : Type 0
+WholePortsShowAllLines =
+    (port : Counted) (content : List ℕ) (first held : Option (List ℕ)) → length content < 2 ^ 32 → port.octets ≡ framed content
+    → ShowsMessages port first held → HoldsAfter first held (λ _. shown (lines content))
+
+abbrev pub PortsShowFirstLines : Type 0
+PortsShowFirstLines =
+    (port : Counted) (content : List ℕ) (first held : Option (List ℕ)) → length content < 2 ^ 32 → IsPrefix port.octets (framed content)
+    → ShowsMessages port first held → ShowsFirstLines content first held
+
+abbrev pub RefusedPortsShowPrefixes : Type 0
+RefusedPortsShowPrefixes =
+    (port : Counted) (content : List ℕ) (first held : Option (List ℕ)) → length content < 2 ^ 32 → IsPrefix port.octets (framed content)
+    → ShowsPrefix port first held → IfSome first (λ _. IsSomeAnd held (λ text. IsPrefix text (shown (lines content))))

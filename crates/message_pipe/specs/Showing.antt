@@ -1,0 +1,73 @@
+-- What a port that shows messages as lines holds, by the octets that were put for it.
+use Rattle.std.specs.Prelude.{◌≡◌, ◌≢◌, ℕ, ◌≤◌, List, ◌++◌, length, drop, Option, Some, None, IfSome, IsSome, IsSomeAnd}
+use Rattle.outside_kit.specs.declared.port.Port.{Port}
+use Rattle.message_pipe.specs.declared.line_port.LinePort.{LinePort}
+use Rattle.outside_kit.specs.declared.outside.PutFault.{PutFault}
+use Rattle.outside_kit.specs.declared.outside.PutFault.TheVariants.{Failed}
+use Rattle.outside_kit.specs.Outside.{HasRisen, HoldsAfter, HoldsPrefix}
+use Rattle.pipe_model.specs.Prefix.{IsPrefix}
+use Rattle.message_pipe.specs.Frames.{frames, HaveFrames, first_message}
+use Rattle.message_pipe.specs.Lines.{shown}
+
+-- ---- puts
+
+-- the messages whose frames stand between these places were shown
+pub record ShowsMore (octets : List ℕ) (from to : ℕ) (old new : Option (List ℕ)) : Type 0 where
+  pub messages : List (List ℕ)
+  pub have : HaveFrames messages
+  pub within : to ≤ length octets
+  pub frames_are : drop from octets ≡ frames messages ++ drop to octets
+  pub shown_is : HoldsAfter old new (λ held. held ++ shown messages)
+
+-- of the messages whose frames stand from this place on a prefix was shown
+pub record ShowsPart (octets : List ℕ) (from : ℕ) (old new : Option (List ℕ)) : Type 0 where
+  pub messages : List (List ℕ)
+  pub have : HaveFrames messages
+  pub behind : List ℕ
+  pub frames_are : drop from octets ≡ frames messages ++ behind
+  pub shown_is : HoldsPrefix old new (shown messages)
+
+-- after puts to this port: what was told is told, no count falls, and other ports and their counts are as they were
+pub record StaysElsewhere (port : Port) (content_before content : List ℕ → Option (List ℕ)) (held holds : Port → Option (List ℕ))
+    (faults_before faults : Port → ℕ) (loads_before loads : ℕ) : Type 0 where
+  pub told : (name : List ℕ) → IsSome (content_before name) → IsSome (content name)
+  pub counted : faults_before port ≤ faults port
+  pub other_ports : (other : Port) → other ≢ port → holds other ≡ held other
+  pub other_counts : (other : Port) → other ≢ port → faults other ≡ faults_before other
+  pub load_counts : loads ≡ loads_before
+
+-- ---- ports
+
+-- the octets that were put for a port, those of them that stand behind the messages that are shown, and the refusal that is kept
+pub record Counted : Type 0 where
+  pub octets : List ℕ
+  pub behind : List ℕ
+  pub refused : Option PutFault
+
+abbrev pub counted_of : LinePort → Counted
+counted_of port = record { octets = port.octets.items; behind = drop port.end port.octets.items; refused = port.refused }
+
+-- The whole messages at the front of the octets are shown as lines, each of them, in order. What the port holds is said where it
+-- told at first what it held.
+pub record ShowsMessages (port : Counted) (first held : Option (List ℕ)) : Type 0 where
+  pub messages : List (List ℕ)
+  pub have : HaveFrames messages
+  pub octets_are : port.octets ≡ frames messages ++ port.behind
+  pub no_more : first_message port.behind ≡ None
+  pub shown_is : HoldsAfter first held (λ _. shown messages)
+
+-- a prefix of the lines of messages at the front of the octets is shown
+pub record ShowsPrefix (port : Counted) (first held : Option (List ℕ)) : Type 0 where
+  pub messages : List (List ℕ)
+  pub have : HaveFrames messages
+  pub rest : List ℕ
+  pub octets_are : port.octets ≡ frames messages ++ rest
+  pub shown_is : IfSome first (λ _. IsSomeAnd held (λ text. IsPrefix text (shown messages)))
+
+-- A port shows all whole messages, or after a refusal a prefix. A refusal of the device is kept only where the port's count has
+-- risen since it was this one at first.
+pub record PortStands (port : Counted) (first held : Option (List ℕ)) (faults_first faults : ℕ) : Type 0 where
+  pub shows : port.refused ≡ None → ShowsMessages port first held
+  pub part : IsSome port.refused → ShowsPrefix port first held
+  pub counted : faults_first ≤ faults
+  pub risen : port.refused ≡ Some Failed → HasRisen faults_first faults

@@ -1,0 +1,258 @@
+//! An outside over another one, whose files and readers' ports have lines where this one has frames.
+
+ghost use Rattle.std.specs.Prelude.{◌≡◌, ◌≢◌, ◌^◌, ◌<◌, ◌≤◌, ℕ, List, [], Option, None, Some, length, vec_len, option_map, string_bytes, IfOk, IfSome, OnOk, OnErr};
+ghost use Rattle.outside_kit.specs.declared.port.Port.{Port};
+ghost use Rattle.outside_kit.specs.Outside.{HasRisen};
+ghost use Rattle.message_pipe.specs.Showing.{StaysElsewhere, PortStands, counted_of};
+ghost use Rattle.message_pipe.specs.Lined.{lined_content};
+
+use crate::line_port::{LinePort, put_for};
+use crate::lines::framed_within;
+use outside_kit::{LoadFault, Outside, Port, PutFault};
+use std::alloc::Global;
+use std::marker::{Brand, Model, PhantomData};
+
+/// Names what the outside below told of its ports when a [`LineOutside`] was made of it. A call of [`Brand`] picks it.
+pub trait Naming {
+    ghost use Rattle.std.specs.Prelude.{ℕ, List, Option};
+    ghost use Rattle.outside_kit.specs.declared.port.Port.{Port};
+
+    /// What each port held, where that was told.
+    ghost held: { Port → Option (List ℕ) };
+
+    /// How many binds and puts of each port had failed.
+    ghost faults: { Port → ℕ };
+}
+
+impl Naming for Brand {
+    ghost use Rattle.std.specs.Prelude.{None};
+
+    ghost held = { λ _. None };
+
+    ghost faults = { λ _. 0 };
+}
+
+/// An outside over another one. Of two names the content is the frames of the lines of what the outside below has, and at the
+/// readers' ports each message of what is put is shown as a line, once all of it has come. All else is the outside below.
+pub struct LineOutside<O: Outside, N: Naming> {
+    alloc: Global,
+    inner: O,
+    file_a: String,
+    file_b: String,
+    read_by_a: LinePort,
+    read_by_b: LinePort,
+    of: PhantomData<N>,
+}
+
+impl<O: Outside, N: Naming> Model for LineOutside<O, N> {
+    ghost use Rattle.std.specs.Prelude.{◌≤◌, length, string_bytes};
+    ghost use Rattle.message_pipe.specs.Showing.{counted_of};
+    ghost use Rattle.message_pipe.specs.Lined.{Lined, PortsStand};
+
+    ghost Value = { Lined O };
+
+    ghost view = { λ lines. record {
+      inner = lines.inner;
+      file_a = string_bytes lines.file_a;
+      file_b = string_bytes lines.file_b;
+      read_by_a = counted_of lines.read_by_a;
+      read_by_b = counted_of lines.read_by_b;
+    } };
+
+    ghost invariant = { λ lines. (lines.read_by_a.end ≤ length lines.read_by_a.octets.items)
+        × (lines.read_by_b.end ≤ length lines.read_by_b.octets.items)
+        × PortsStand (counted_of lines.read_by_a) (counted_of lines.read_by_b) N.held
+        (O.holds lines.inner) N.faults (O.port_faults lines.inner) };
+}
+
+/// Loads a content through the outside below, as the frames of its lines where the name is one of these two.
+fn load_from<O: Outside>(
+    alloc: Global,
+    inner: &mut O,
+    lined: (&str, &str),
+    name: &str,
+    limit: u64,
+) -> Result<Vec<u8>, LoadFault>
+    requires { limit < 2 ^ 32 }
+    ensures whole { IfOk result
+        (λ bytes. IfSome (lined_content lined.entry.0.now lined.entry.1.now (O.content inner.old)
+        name.now) (λ told. bytes.items ≡ told)) }
+    ensures within { IfOk result (λ bytes. vec_len bytes ≤ limit) }
+    ensures too_long { result ≡ Err LoadFault.TooLong →
+        IfSome (lined_content lined.entry.0.now lined.entry.1.now (O.content inner.old) name.now)
+        (λ told. limit < length told) }
+    ensures source_within { OnOk result
+        (IfSome (O.source inner.old name.now) (λ told. length told ≤ limit)) }
+    ensures fits { result ≡ Err LoadFault.Memory →
+        IfSome (O.source inner.old name.now) (λ told. length told ≤ limit) }
+    ensures counted { O.load_faults inner.old ≤ O.load_faults inner.new }
+    ensures failed { result ≡ Err LoadFault.Failed →
+        HasRisen (O.load_faults inner.old) (O.load_faults inner.new) }
+    ensures same_contents { (other : List ℕ) →
+        O.content inner.new other ≡ O.content inner.old other }
+    ensures same_ports { (port : Port) → O.holds inner.new port ≡ O.holds inner.old port }
+    ensures same_counts { (port : Port) →
+        O.port_faults inner.new port ≡ O.port_faults inner.old port }
+{
+    let bytes = inner.load(alloc, name, limit)?;
+    if name == lined.0 || name == lined.1 {
+        framed_within(alloc, &bytes, limit)
+    } else {
+        Ok(bytes)
+    }
+}
+
+/// Binds a port below; nothing was put for it then.
+fn bind_for<O: Outside>(
+    alloc: Global,
+    inner: &mut O,
+    port: Port,
+    lines: &mut LinePort,
+    name: &str,
+) -> Result<(), PutFault>
+    requires { lines.old.end ≤ length lines.old.octets.items }
+    ensures within { lines.new.end ≤ length lines.new.octets.items }
+    ensures empty { OnOk result (lines.new.octets.items ≡ []) }
+    ensures err { OnErr result (lines.new.octets.items ≡ lines.old.octets.items) }
+    ensures stands { (first : Option (List ℕ)) (faults_first : ℕ) →
+        PortStands (counted_of lines.old) first (O.holds inner.old port) faults_first
+        (O.port_faults inner.old port) →
+        PortStands (counted_of lines.new) first (O.holds inner.new port) faults_first
+        (O.port_faults inner.new port) }
+    ensures stays { StaysElsewhere port (O.content inner.old) (O.content inner.new)
+        (O.holds inner.old) (O.holds inner.new)
+        (O.port_faults inner.old) (O.port_faults inner.new) (O.load_faults inner.old)
+        (O.load_faults inner.new) }
+    ensures failed { result ≡ Err PutFault.Failed →
+        HasRisen (O.port_faults inner.old port) (O.port_faults inner.new port) }
+{
+    match inner.bind(port, name) {
+        Ok(()) => {
+            *lines = LinePort::new(alloc);
+            Ok(())
+        }
+        Err(fault) => Err(fault),
+    }
+}
+
+impl<O: Outside, N: Naming> LineOutside<O, N> {
+    ghost use Rattle.message_pipe.specs.Lined.{PortsStand, refused_of};
+
+    /// Over this outside, with lines in the contents of these two names. Of the readers' ports it has to tell that they are empty,
+    /// where it tells what they hold.
+    pub fn new(alloc: Global, inner: O, file_a: String, file_b: String) -> Self
+        requires held { (port : Port) → N.held port ≡ O.holds inner port }
+        requires faults { (port : Port) → N.faults port ≡ O.port_faults inner port }
+        requires empty_a { IfSome (O.holds inner Port.ReadByA) (λ text. text ≡ []) }
+        requires empty_b { IfSome (O.holds inner Port.ReadByB) (λ text. text ≡ []) }
+        ensures { result ≡ record {
+          inner = inner;
+          file_a = string_bytes file_a;
+          file_b = string_bytes file_b;
+          read_by_a = record { octets = []; behind = []; refused = None };
+          read_by_b = record { octets = []; behind = []; refused = None };
+        } }
+    {
+        LineOutside {
+            alloc,
+            inner,
+            file_a,
+            file_b,
+            read_by_a: LinePort::new(alloc),
+            read_by_b: LinePort::new(alloc),
+            of: PhantomData,
+        }
+    }
+
+    /// The refusal of a line that a reader's port keeps; none for the log.
+    pub fn refused(&self, port: Port) -> Option<PutFault>
+        ensures { result ≡ refused_of port self.now }
+    {
+        match port {
+            Port::ReadByA => self.read_by_a.refused,
+            Port::ReadByB => self.read_by_b.refused,
+            Port::Log => None,
+        }
+    }
+
+    /// The outside below, as it stands. Its readers' ports show the messages of what was put for them.
+    pub fn into_inner(self) -> O
+        ensures inner { result ≡ self.inner }
+        ensures ports { PortsStand self.read_by_a self.read_by_b N.held (O.holds result) N.faults
+            (O.port_faults result) }
+    {
+        let LineOutside {
+            alloc: _,
+            inner,
+            file_a: _,
+            file_b: _,
+            read_by_a: _,
+            read_by_b: _,
+            of: _,
+        } = self;
+        inner
+    }
+}
+
+impl<O: Outside, N: Naming> Outside for LineOutside<O, N> {
+    ghost use Rattle.std.specs.Prelude.{None};
+    ghost use Rattle.message_pipe.specs.Lined.{lined_content, lined_holds};
+
+    ghost content = { λ lines. lined_content lines.file_a lines.file_b (O.content lines.inner) };
+
+    ghost source = { λ lines. O.source lines.inner };
+
+    ghost holds = { λ lines. lined_holds lines.read_by_a.octets lines.read_by_b.octets
+        (O.holds lines.inner) };
+
+    ghost load_faults = { λ lines. O.load_faults lines.inner };
+
+    ghost port_faults = { λ lines. O.port_faults lines.inner };
+
+    ghost calls = { λ _. None };
+
+    fn load(&mut self, alloc: Global, name: &str, limit: u64) -> Result<Vec<u8>, LoadFault> {
+        let lined = (self.file_a.as_str(), self.file_b.as_str());
+        load_from(alloc, &mut self.inner, lined, name, limit)
+    }
+
+    fn bind(&mut self, port: Port, name: &str) -> Result<(), PutFault> {
+        match port {
+            Port::ReadByA => bind_for(
+                self.alloc,
+                &mut self.inner,
+                Port::ReadByA,
+                &mut self.read_by_a,
+                name,
+            ),
+            Port::ReadByB => bind_for(
+                self.alloc,
+                &mut self.inner,
+                Port::ReadByB,
+                &mut self.read_by_b,
+                name,
+            ),
+            Port::Log => self.inner.bind(Port::Log, name),
+        }
+    }
+
+    fn put(&mut self, port: Port, piece: &[u8]) -> Result<(), PutFault> {
+        match port {
+            Port::ReadByA => put_for(
+                self.alloc,
+                &mut self.inner,
+                Port::ReadByA,
+                &mut self.read_by_a,
+                piece,
+            ),
+            Port::ReadByB => put_for(
+                self.alloc,
+                &mut self.inner,
+                Port::ReadByB,
+                &mut self.read_by_b,
+                piece,
+            ),
+            Port::Log => self.inner.put(Port::Log, piece),
+        }
+    }
+}
