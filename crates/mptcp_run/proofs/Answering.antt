@@ -1,13 +1,12 @@
 -- What each status of a run says, from what its parts say.
-use Rattle.std.proofs.Common.{◌≡◌, refl, sym, ap, subst, ℕ, ◌≤◌, inl, inr, List, [], ◌++◌, Option, Some, None, Result, Ok, Err, IfSome, IsSome, length}
-use Rattle.std.specs.Prelude.{option_and_then, option_map, map, IsOk, IsSomeAnd}
+use Rattle.std.proofs.Common.{◌≡◌, refl, sym, ap, subst, ℕ, ◌≤◌, inl, inr, List, [], ◌++◌, Option, Some, None, Result, Ok, IfSome, IsSome, length}
+use Rattle.std.specs.Prelude.{option_and_then, option_map, map, IsOk}
 use Rattle.std.specs.Result.{result_ok}
 use Rattle.outside_kit.specs.declared.port.Port.{Port}
 use Rattle.outside_kit.specs.declared.port.Port.TheVariants as port
-use Rattle.outside_kit.specs.Calls.{Call, Made}
+use Rattle.outside_kit.specs.Calls.{Call}
 use Rattle.outside_kit.specs.Outside.{HoldsAfter}
 use Rattle.link_script.specs.declared.script.Script.{Script}
-use Rattle.pipe_model.specs.Prefix.{IsPrefix}
 use Rattle.run_words.specs.Lines.{Line, serial, replay, ◌>>=◌}
 use Rattle.run_log.specs.declared.turn.Turn as log_turn
 use Rattle.run_log.specs.declared.fault.LogFault.TheVariants as log_fault
@@ -20,7 +19,7 @@ use Rattle.mptcp_run.specs.declared.status.Status.TheVariants.{Delivered, Rounds
 use Rattle.mptcp_run.specs.Adding.{InputAdds}
 use Rattle.mptcp_run.specs.Answers.{WasRead, TurnRow, CutRow, EndRow, IsAnswer, MadeEndRow, MadeCutRow, MadeRow, IsMadeAnswer}
 use Rattle.mptcp_run.specs.Causes.{limit_of}
-use Rattle.mptcp_run.specs.Ends.{HasEnded, HoldsSomeRounds, HoldsToLine, AddsWork, CameToEnd, IsCut, IsHalted, ReplayEnds}
+use Rattle.mptcp_run.specs.Ends.{HoldsSomeRounds, HoldsToLine, CameToEnd, IsCut, IsHalted, ReplayEnds}
 use Rattle.mptcp_run.specs.Inputs.{order_of, content_of, AreFirstWithinLimits, IsInputFault, IsReplayInputFault}
 use Rattle.mptcp_run.specs.Logged.{HasRounds, LogTellsTheRun}
 use Rattle.mptcp_run.specs.Made.{Bench}

@@ -1,6 +1,6 @@
 -- A serial run is asked for one round at least, and the number of a made input is at most 256.
 use Rattle.std.proofs.Common.{◌≡◌, refl, subst, ℕ, ◌≤◌, Bool, true, false, ◌&&◌, if◌then◌else◌, List, Option, Some, None, IfSome, arith}
-use Rattle.std.specs.Prelude.{nat_le, codes, option_map, option_and_then}
+use Rattle.std.specs.Prelude.{nat_le, codes, option_map}
 use Rattle.std.specs.Str.{bytes_eq}
 use Rattle.std.specs.Str.Parse.{digits_value}
 use Rattle.std.proofs.lemmas.Bool.{and_parts, leb-true}

@@ -1,9 +1,6 @@
 -- Words whose inputs are told, within their limits and valid are run.
-use Rattle.std.proofs.Common.{◌≡◌, refl, ap, subst, sym, ℕ, ◌<◌, ◌≤◌, inl, inr, ◌⊎◌, List, Option, Some, None, Result, Ok, Err, IfSome, IsSome, length, arith}
+use Rattle.std.proofs.Common.{◌≡◌, refl, ℕ, ◌<◌, ◌≤◌, inl, inr, ◌⊎◌, List, Option, Some, None, Result, Ok, Err, IfSome, IsSome, length, arith}
 use Rattle.std.specs.Prelude.{option_and_then, IsOk, IsSomeAnd}
-use Rattle.outside_kit.specs.declared.port.Port.{Port}
-use Rattle.outside_kit.specs.Calls.{Made}
-use Rattle.outside_kit.specs.Outside.{HasRisen}
 use Rattle.link_script.specs.declared.fault.ScriptKind.{ScriptKind}
 use Rattle.link_script.specs.declared.fault.ScriptFault.TheVariants as script_fault
 use Rattle.run_words.specs.Lines.{Line}

@@ -1,5 +1,5 @@
 -- A run from its binds to its last line.
-use Rattle.std.proofs.Common.{◌≡◌, refl, sym, ◌∙◌, ap, subst, ℕ, inl, inr, List, [], ◌∷◌, ◌++◌, length, take, Option, Some, None, arith}
+use Rattle.std.proofs.Common.{◌≡◌, refl, sym, ◌∙◌, ap, subst, ℕ, inl, inr, List, [], ◌∷◌, ◌++◌, take, Option, Some, None, arith}
 use Rattle.std.proofs.lemmas.List.{append_assoc}
 use Rattle.outside_kit.specs.Calls.{Call}
 use Rattle.outside_kit.specs.Calls as call
@@ -11,11 +11,11 @@ use Rattle.run_words.specs.Lines.{Line}
 use Rattle.world_laws.specs.declared.outcome.Outcome.{Outcome}
 use Rattle.world_laws.specs.declared.outcome.Outcome.TheVariants as outcome
 use Rattle.world_laws.specs.Outcomes.{outcome_of}
-use Rattle.world_laws.specs.Worlds.{Turn, world_run}
+use Rattle.world_laws.specs.Worlds.{Turn}
 use Rattle.mptcp_run.specs.declared.status.Status.{Status}
 use Rattle.mptcp_run.specs.declared.status.Status.TheVariants.{Memory}
 use Rattle.mptcp_run.specs.Courses.{CourseMade, CourseCut}
-use Rattle.mptcp_run.specs.Ends.{HasEnded, HoldsCut, HoldsSomeRounds, HoldsToLine, CameToEnd, IsCut}
+use Rattle.mptcp_run.specs.Ends.{HasEnded, HoldsCut, HoldsToLine, CameToEnd, IsCut}
 use Rattle.mptcp_run.specs.Plan.{AddsAll, AddsCut, AddsShort, binds_of, puts_so_far, last_put}
 use Rattle.mptcp_run.specs.Ports.{HoldsMore, HoldsWithin, IsBetween}
 use Rattle.mptcp_run.specs.Putting.{opening_in, status_of, last_line, ends_of, read_so_far, log_so_far, HoldsRounds, HoldsRun, AreFirstOf}

@@ -1,13 +1,11 @@
 -- The options of a path are those of the handshakes and of the ends.
-use Rattle.std.proofs.Common.{◌≡◌, refl, ℕ, Bool, true, false, Option, Some, None, List, [], ◌∷◌, map, if◌then◌else◌, is_some}
-use Rattle.outside_kit.specs.declared.side.Side.{Side}
+use Rattle.std.proofs.Common.{◌≡◌, refl, ℕ, Bool, true, false, Some, None, [], ◌∷◌, if◌then◌else◌, is_some}
 use Rattle.outside_kit.specs.declared.side.Side.TheVariants.{A, B}
 use Rattle.mptcp_options.specs.declared.capable.CapableKeys.{CapableKeys}
 use Rattle.mptcp_options.specs.declared.capable.CapableKeys.TheVariants.{NoKey, Sender, Both, WithData}
 use Rattle.mptcp_options.specs.Value as wire
-use Rattle.subflow_send.specs.Records.{Record}
 use Rattle.path_core.specs.Ends.{PathEnd}
-use Rattle.path_core.specs.Handshakes.{CapableIsSaid, CapableIsHeard, CapableIsTheHandshake, EndsAreSaid, EndsAreThose}
+use Rattle.path_core.specs.Handshakes.{CapableIsSaid, CapableIsHeard, CapableIsTheHandshake, EndsAreThose}
 use Rattle.path_core.specs.State.{Profile}
 
 -- the flag of the first data is that of the checksum beside it

@@ -12,7 +12,7 @@ use Rattle.subflow_tcp.specs.Taking.{after_arrival}
 use Rattle.path_core.specs.Arriving.{options_heard, copy_of, hint_of, items_of, owes_by, with_payload, judged_in, taken_as, after_judged, template_of}
 use Rattle.path_core.specs.Joining.{is_never, keys_begun, opened_by}
 use Rattle.path_core.specs.Joins.{is_joined}
-use Rattle.path_core.proofs.Joined.{died_rests, never_rests, opened_rests}
+use Rattle.path_core.proofs.Joined.{never_rests, opened_rests}
 use Rattle.actor_desk.specs.declared.ask.Reply.{Reply}
 use Rattle.path_agenda.specs.Agenda.{rest_of_turn, emission, leaves}
 use Rattle.path_core.specs.Codec.{Codec, HeardSegment}

@@ -29,7 +29,7 @@ use Rattle.path_core.specs.Events.{died, never_joined, join_begun}
 use Rattle.path_core.specs.Joining.{with_mode_refused, is_never, keys_begun, opened_by, joined_by, asked_at, join_taken, refusal_of}
 use Rattle.path_agenda.specs.declared.keys.KeyPair.{KeyPair}
 use Rattle.join_handshake.specs.declared.hearing.JoinSyn.{JoinSyn}
-use Rattle.path_core.proofs.Joined.{died_rests, never_rests, opened_rests, joined_rests}
+use Rattle.path_core.proofs.Joined.{never_rests, opened_rests, joined_rests}
 use Rattle.actor_desk.specs.Kinds.{IsOfKind, IsSomeOf}
 use Rattle.path_agenda.specs.Items.{key_heard, keys_heard}
 use Rattle.fallback_state.specs.declared.fall.Event.{Event}

@@ -1,6 +1,6 @@
 -- The options of a path are those of the handshakes and of the ends that crates below state by themselves (RFC 8684, sections
 -- 3.1, 3.3.3 and 3.6).
-use Rattle.std.specs.Prelude.{ℕ, ◌≡◌, Bool, true, false, is_some, Option, Some, option_map, List, [], ◌∷◌, map}
+use Rattle.std.specs.Prelude.{ℕ, ◌≡◌, Bool, true, false, is_some, Some, option_map, List, [], ◌∷◌, map}
 use Rattle.link_model.specs.Steps.{peer}
 use Rattle.outside_kit.specs.declared.side.Side.{Side}
 use Rattle.outside_kit.specs.declared.side.Side.TheVariants.{A, B}
@@ -15,7 +15,6 @@ use Rattle.path_segments.specs.Options.{PlainOption, said_option}
 use Rattle.path_segments.specs.Spelling.{numbers_of}
 use Rattle.subflow_send.specs.Records.{Record}
 use Rattle.path_agenda.specs.Items.{key_heard, keys_heard}
-use Rattle.path_agenda.specs.declared.keys.KeyPair.{KeyPair}
 use Rattle.path_core.specs.Arriving.{asks_capable, key_items}
 use Rattle.path_core.specs.Ends.{PathEnd}
 use Rattle.path_core.specs.Segments.{spelled_by, bare_mapping, checksum_in, checksum_told, capable_options, key_options, first_piece_options, end_mapping, reset_options}

@@ -1,5 +1,5 @@
 -- The numbers of an end's segments (RFC 9293, section 3.4), and its ports.
-use Rattle.std.specs.Prelude.{ℕ, ◌+◌, ◌*◌, ◌^◌, true, false, not, nat_lt, if◌then◌else◌, is_some, Option, Some, None}
+use Rattle.std.specs.Prelude.{ℕ, ◌+◌, ◌*◌, ◌^◌, true, false, nat_lt, if◌then◌else◌, is_some, Option, Some, None}
 use Rattle.std.specs.Prelude.{unwrap_or}
 use Rattle.seq_units.specs.Number.{number_of, position_near}
 use Rattle.segment_wire.specs.declared.head.Head.{Head}

@@ -11,7 +11,7 @@ use Rattle.world_laws.specs.declared.member.Member.TheVariants.{App, Path}
 use Rattle.world_laws.specs.Actors.{Actor, ActorCrew, member_asks, member_takes, member_next}
 use Rattle.world_laws.specs.Fine.{IsFineSince}
 use Rattle.world_laws.specs.Openings.{Start, path_begins, opened_world}
-use Rattle.world_laws.specs.RoundDone.{RoundState, first_round, next_round, round_by, round_after, round_of, EndsAt, EndsOnTime, RoundsEndOnTime, RoundsAreDone, LawfulRoundsAreDone, StampsSinceTheRound}
+use Rattle.world_laws.specs.RoundDone.{RoundState, first_round, next_round, round_by, round_after, round_of, EndsAt, RoundsEndOnTime, RoundsAreDone, LawfulRoundsAreDone, StampsSinceTheRound}
 use Rattle.world_laws.specs.RoundNumbers.{BeginsRound, PathsAskForAll, ReadersCaughtUp, after_steps}
 use Rattle.world_laws.specs.StampedBooks.{answer_to}
 use Rattle.world_laws.specs.Worlds.{WorldState, Turn, crew_after, asked, stepped, world_step, all_over, greatest, begins, end_round, after_turn, world_run, AreLawful}

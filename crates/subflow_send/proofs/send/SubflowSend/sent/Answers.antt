@@ -3,7 +3,7 @@ use Rattle.std.specs.Prelude.{is_some}
 use Rattle.subflow_send.specs.declared.pieces.Piece.{Piece}
 use Rattle.subflow_send.specs.Records.{Record, span_of}
 use Rattle.subflow_send.specs.Sendings.{sent_again}
-use Rattle.subflow_send.specs.Pieces.{piece_record, all_records, uncovered_pieces, IsKept}
+use Rattle.subflow_send.specs.Pieces.{piece_record, all_records}
 use Rattle.subflow_send.proofs.Whole.{kept_same, is_some-map, spans-sent, sent_all-pieces, sent_all-fin}
 use Rattle.subflow_send.proofs.Covering.{piece_len-all}
 use Rattle.subflow_send.proofs.send.SubflowSend.sent.Goals as goal
