@@ -107,6 +107,7 @@ fn kept_at(fields: &[&str]) -> Result<KeptMapping, CaseFault> {
         pos: parsed_at(fields, 1)?,
         place: parsed_at(fields, 2)?,
         mapping: mapping_of(parsed_at(fields, 3)?),
+        fin: false,
     })
 }
 
