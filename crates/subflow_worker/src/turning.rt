@@ -123,16 +123,20 @@ fn step<A: Actor, D: Desk>(alloc: Global, crew: &mut Crew<A>, desk: &mut D) -> R
         return Err(Refusal::Memory);
     }
     let seen = crew.pass.stamp;
-    let reply = answered(desk, &mut crew.pass, &ask)?;
-    let note = Note {
-        stamp: crew.pass.stamp,
-        seen,
-        actor: crew.pass.actor,
-        ask,
-        reply,
-    };
-    keep(crew, note)?;
-    Ok(true)
+    match answered(desk, &mut crew.pass, &ask) {
+        Ok(reply) => {
+            let note = Note {
+                stamp: crew.pass.stamp,
+                seen,
+                actor: crew.pass.actor,
+                ask,
+                reply,
+            };
+            keep(crew, note)?;
+            Ok(true)
+        }
+        Err(refusal) => Err(refusal),
+    }
 }
 
 // All steps to the end of the turn.
