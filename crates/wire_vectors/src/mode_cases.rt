@@ -69,7 +69,10 @@ fn put_events(text: &mut String, before: &Fall, sole: bool) -> Result<(), AllocE
 fn put_case(text: &mut String, before: &Fall, sole: bool, event: Event) -> Result<(), AllocError> {
     let (after, verdict) = fall_step(before, 0, sole, event);
     let (mode, joined, failed) = (before.mode, before.joined, before.failed);
-    write!(text, "{mode:?} joined {joined} sole {sole} failed {failed:?}: ")?;
+    write!(
+        text,
+        "{mode:?} joined {joined} sole {sole} failed {failed:?}: "
+    )?;
     write!(text, "{event:?} = {verdict:?} ")?;
     let (mode, confirmed) = (after.mode, after.confirmed);
     write!(text, "{mode:?} confirmed {confirmed} ")?;
