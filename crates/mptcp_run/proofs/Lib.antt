@@ -28,3 +28,4 @@ mod Loading
 mod Folding
 mod Courses
 mod PutsMade
+mod MessagesShown

@@ -7,6 +7,7 @@ pub mod Ends
 pub mod Inputs
 pub mod Logged
 pub mod Made
+pub mod Messages
 pub mod Plan
 pub mod Ports
 pub mod Promised

@@ -1,9 +1,9 @@
 //! Sends a file through a Multipath TCP connection over simulated links: `mptcp_sim --mode serial SCRIPT FILE_A FILE_B
-//! READ_BY_B READ_BY_A`.
+//! READ_BY_B READ_BY_A`. Behind a first word `messages` each line of a file goes as one message.
 #![tactic(auto)]
 
 use file_outside::FileOutside;
-use mptcp_run::{Status, fault_text, run};
+use mptcp_run::{Status, fault_text, run, run_messages};
 use outside_kit::OpenGate;
 use std::alloc::{AllocError, Global};
 use std::env::{self, Env};
@@ -33,14 +33,21 @@ fn has_output(rt: &HostRuntime) -> bool {
     rt.stdout().as_fd().try_clone_to_owned().is_ok()
 }
 
+/// Runs a connection as the words say, over files and standard output.
+fn status_of(rt: &HostRuntime, words: &[String]) -> Status {
+    let mut outside = FileOutside::new(rt, has_output(rt));
+    match words {
+        [first, others @ ..] if first.as_str() == "messages" => {
+            let (status, _outside) = run_messages(rt.alloc(), others, outside, &OpenGate);
+            status
+        }
+        _ => run(rt.alloc(), words, &mut outside, &OpenGate),
+    }
+}
+
 fn main(rt: HostRuntime) -> ExitCode {
     let status = match words_of(&rt) {
-        Ok(words) => run(
-            rt.alloc(),
-            &words,
-            &mut FileOutside::new(&rt, has_output(&rt)),
-            &OpenGate,
-        ),
+        Ok(words) => status_of(&rt, &words),
         Err(status) => status,
     };
     if let Ok(line) = fault_text(rt.alloc(), &status) {

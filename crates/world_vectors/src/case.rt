@@ -1,8 +1,9 @@
 //! A case is `WORDS | SCRIPT | FILE_A | FILE_B | ORDER | FAILS | SHOWN`.
 //!
-//! `WORDS` are those before the five names `script a b to-b to-a`, or `-` for none. In the script `;` stands for LF. A file's
+//! `WORDS` are those before the five names `script a b to-b to-a`, or `-` for none; a first word `messages` is none of them: then
+//! the lines of both files go as messages. In the script `;` stands for LF. A file's
 //! octets are told as `content.rt` says. `ORDER` is what the name `log` holds: `-` where there is no such content, `log` for
-//! the log of the last case that began with `--mode serial`, or `log` and edits of it, as `order.rt` says. `FAILS` is `-`, or
+//! the log of the last case whose words began with `--mode serial`, or `log` and edits of it, as `order.rt` says. `FAILS` is `-`, or
 //! the number of the call of the outside that fails, and how many octets it keeps of what it is to put. `SHOWN` is `log`,
 //! `sums` or `calls`.
 
@@ -27,6 +28,8 @@ pub enum Shown {
 #[derive(Clone, Copy)]
 pub struct Case<'a> {
     words: &'a str,
+    /// Whether the lines of both files go as messages.
+    pub has_messages: bool,
     script: &'a str,
     file_a: &'a str,
     file_b: &'a str,
@@ -40,8 +43,10 @@ impl<'a> Case<'a> {
     pub fn read(alloc: Global, line: &'a str) -> Result<Self, CaseFault> {
         let fields: Vec<&'a str> = line.split(" | ").collect(alloc)?;
         let fields = fields.as_slice();
+        let (words, has_messages) = behind_messages(word_at(fields, 0)?);
         Ok(Case {
-            words: word_at(fields, 0)?,
+            words,
+            has_messages,
             script: word_at(fields, 1)?,
             file_a: word_at(fields, 2)?,
             file_b: word_at(fields, 3)?,
@@ -77,6 +82,14 @@ impl<'a> Case<'a> {
             push_file(alloc, &mut files, "log", order)?;
         }
         Ok(MemoryOutside::new(alloc, files, failing(alloc, self.fails)?))
+    }
+}
+
+/// The words behind a first word `messages`, and whether it is there.
+fn behind_messages(words: &str) -> (&str, bool) {
+    match words.strip_prefix("messages ") {
+        Some(behind) => (behind, true),
+        None => (words, false),
     }
 }
 

@@ -1,5 +1,5 @@
-//! Cases of whole runs: reads one a line from standard input, and prints how `mptcp_run` ends it, and what the outside holds
-//! then. `stdin` holds the cases, `stdout` the wanted answers. Lines that begin with `#` are printed as they stand, and say
+//! Cases of whole runs, of bytes or of messages: reads one a line from standard input, and prints how `mptcp_run` ends it, and
+//! what the outside holds then. `stdin` holds the cases, `stdout` the wanted answers. Lines that begin with `#` are printed as they stand, and say
 //! how the answers were found.
 //!
 //! `case.rt` tells the form of a case, which is printed before its answer. Of the answer, `log` shows what the readers' ports
@@ -16,19 +16,33 @@ mod report;
 
 use case::Case;
 use case_fields::CaseFault;
-use mptcp_run::run;
+use mptcp_run::{Status, run, run_messages};
 use outside_kit::{OpenGate, Port};
 use recorder::Recorder;
 use report::report;
 use std::alloc::{AllocError, Global};
 use std::io;
 
+/// The run of a case: how it ended, and the outside then.
+fn ended(
+    alloc: Global,
+    case: &Case<'_>,
+    words: &[String],
+    mut outside: Recorder,
+) -> (Status, Recorder) {
+    if case.has_messages {
+        return run_messages(alloc, words, outside, &OpenGate);
+    }
+    let status = run(alloc, words, &mut outside, &OpenGate);
+    (status, outside)
+}
+
 /// How a case ends, and what is shown of it. A serial case leaves its log in `log`.
 fn answer(alloc: Global, line: &str, log: &mut Vec<u8>) -> Result<String, CaseFault> {
     let case = Case::read(alloc, line)?;
-    let mut outside = Recorder::new(alloc, case.outside(alloc, log.as_slice())?);
+    let outside = Recorder::new(alloc, case.outside(alloc, log.as_slice())?);
     let words = case.words(alloc)?;
-    let status = run(alloc, words.as_slice(), &mut outside, &OpenGate);
+    let (status, outside) = ended(alloc, &case, words.as_slice(), outside);
     let report = report(alloc, case.shown, &outside)?;
     if case.is_serial() {
         *log = Vec::from_slice(alloc, outside.port(Port::Log))?;

@@ -1,0 +1,436 @@
+-- What the readers' ports show after a run over the frames of lines.
+use Rattle.std.proofs.Common.{◌≡◌, refl, sym, ◌∙◌, ap, subst, ℕ, ◌+◌, ◌≤◌, ◌<◌, ◌^◌, Bool, true, false, if◌then◌else◌, List, [], ◌∷◌, ◌++◌, length, Option, Some, None, IfSome, IsSome, IsNone, inl, inr, ◌⊎◌, length-append, append-nil, arith}
+use Rattle.std.specs.Prelude.{◌==◌, ◌||◌, ◌&&◌, IsSomeAnd, option_map, option_and_then}
+use Rattle.std.specs.List.{onto_first}
+use Rattle.std.specs.Str.{bytes_eq}
+use Rattle.std.proofs.lemmas.Slice.Eq.{bytes_eq-Decides}
+use Rattle.outside_kit.specs.declared.port.Port.{Port}
+use Rattle.outside_kit.specs.declared.port.Port.TheVariants.{ReadByA, ReadByB}
+use Rattle.outside_kit.specs.declared.outside.PutFault.{PutFault}
+use Rattle.outside_kit.specs.declared.outside.PutFault.TheVariants as fault
+use Rattle.outside_kit.specs.Outside.{HasRisen, HoldsAfter}
+use Rattle.pipe_model.specs.Prefix.{IsPrefix}
+use Rattle.message_pipe.specs.Frames.{frame_of, frames}
+use Rattle.message_pipe.specs.Lines.{lines, shown, framed}
+use Rattle.message_pipe.specs.LinesShown.{ShowsFirstLines}
+use Rattle.message_pipe.specs.Showing.{Counted, ShowsPrefix, PortStands}
+use Rattle.message_pipe.specs.Lined.{lined_content, lined_holds, PortsStand}
+use Rattle.message_pipe.proofs.LinesAgain.{whole_ports_show_all_lines, ports_show_first_lines, refused_ports_show_prefixes}
+use Rattle.run_words.specs.Lines.{Line, line_of}
+use Rattle.mptcp_run.specs.declared.status.Named.TheVariants as input
+use Rattle.mptcp_run.specs.declared.status.Status.{Status}
+use Rattle.mptcp_run.specs.declared.status.Status.TheVariants.{Delivered, Rounds, NoPath, Aborted, Usage, Script, Load, Put, TooLong, Memory, Log}
+use Rattle.mptcp_run.specs.Answers.{IsAnswer}
+use Rattle.mptcp_run.specs.Asked.{asked_in, is_run}
+use Rattle.mptcp_run.specs.Messages.{ReadersShowLines, ReadersShowFirstLines, ReadersShowPrefixes, ReadersShowNothing, ReadersShow, refused_or, with_refusals, IsRunOverFrames, IsMessagesAnswer, takes_messages, if_messages, messages_in}
+use Rattle.mptcp_run.specs.Ports.{IsUntouched}
+use Rattle.mptcp_run.specs.Promised.{HoldsPrefixOf, HoldsPrefixIfBound, ReadersHaveFiles, ReadersHavePrefixes, ReadersHavePrefixesIfBound}
+use Rattle.mptcp_run.specs.Task.{AreWithinLimits}
+use Rattle.mptcp_run.proofs.Asking.{asked_is}
+
+abbrev Ports : Type 0
+Ports = Port → Option (List ℕ)
+
+-- ---- a content is no longer than the frames of its lines
+
+frame_is : (message : List ℕ) → length (frame_of message) ≡ 4 + length message
+frame_is message = omega arith
+
+frames_are : (message : List ℕ) (messages : List (List ℕ)) → length (frames (message ∷ messages)) ≡ 4 + length message + length (frames messages)
+frames_are message messages = let both = length-append (frame_of message) (frames messages) in let first = frame_is message in omega (arith, both, first)
+
+onto_is : (octet n : ℕ) (parts : List (List ℕ)) → n ≤ length (frames parts) → n + 1 ≤ length (frames (onto_first octet parts))
+onto_is octet n [] few = let whole = frames_are (octet ∷ []) [] in omega (arith, whole)
+onto_is octet n (part ∷ parts) few =
+    let whole = frames_are (octet ∷ part) parts in let before = frames_are part parts in omega (arith, whole, before)
+
+longer_by : (ends : Bool) (octet n : ℕ) (parts : List (List ℕ)) → n ≤ length (frames parts) → n + 1 ≤ length (frames (if ends then [] ∷ parts else onto_first octet parts))
+longer_by true octet n parts few = let whole = frames_are [] parts in omega (arith, whole)
+longer_by false octet n parts few = onto_is octet n parts few
+
+frames_longer : (content : List ℕ) → length content ≤ length (framed content)
+frames_longer [] = omega arith
+frames_longer (octet ∷ octets) =
+    let most = longer_by (octet == 10) octet (length octets) (lines octets) (frames_longer octets) in omega arith
+
+-- ---- one port
+
+module _ (port : Counted) (first held : Option (List ℕ)) (faults_first faults : ℕ) (stand : PortStands port first held faults_first faults) where
+  by_refusal : {X : Type 0} (refused : Option PutFault) → port.refused ≡ refused → (port.refused ≡ None → X) → (IsSome port.refused → X) → X
+  by_refusal None is whole part = whole is
+  by_refusal (Some fault) is whole part = let P : Option PutFault → Type 0 = λ o. IsSome o in part (subst P (sym is) refl)
+
+  -- all that is shown is a prefix of messages that were put
+  all_is_prefix : (messages : List (List ℕ)) (before after : Option (List ℕ)) → HoldsAfter before after (λ _. shown messages)
+      → IfSome before (λ _. IsSomeAnd after (λ text. IsPrefix text (shown messages)))
+  all_is_prefix messages None after is = tt
+  all_is_prefix messages (Some text) after is =
+      let P : Option (List ℕ) → Type 0 = λ o. IsSomeAnd o (λ text. IsPrefix text (shown messages)) in
+      subst P (sym is) (record { rest = []; whole_is = sym (append-nil (shown messages)) })
+
+  shows_prefix : ShowsPrefix port first held
+  shows_prefix = by_refusal port.refused refl
+      (λ none. let whole = stand.shows none in record {
+        messages = whole.messages;
+        have = whole.have;
+        rest = port.behind;
+        octets_are = whole.octets_are;
+        shown_is = all_is_prefix whole.messages first held whole.shown_is;
+      })
+      stand.part
+
+  pub shows_prefix_of : (file : List ℕ) → length file < 2 ^ 32 → IsPrefix port.octets (framed file) → HoldsPrefixOf first held (shown (lines file))
+  shows_prefix_of file small prefix = refused_ports_show_prefixes port file first held small prefix shows_prefix
+
+  pub shows_first_lines : port.refused ≡ None → (file : List ℕ) → length file < 2 ^ 32 → IsPrefix port.octets (framed file) → ShowsFirstLines file first held
+  shows_first_lines none file small prefix = ports_show_first_lines port file first held small prefix (stand.shows none)
+
+  pub shows_all_lines : port.refused ≡ None → (file : List ℕ) → length file < 2 ^ 32 → port.octets ≡ framed file → HoldsAfter first held (λ _. shown (lines file))
+  shows_all_lines none file small is = whole_ports_show_all_lines port file first held small is (stand.shows none)
+
+  -- where nothing was put nothing is shown
+  empty_is : (text rest : List ℕ) → [] ≡ text ++ rest → text ≡ []
+  empty_is [] rest is = refl
+  empty_is (octet ∷ text) rest is = absurd cc
+
+  shows_empty : (messages : List (List ℕ)) (rest : List ℕ) → [] ≡ frames messages ++ rest
+      → IfSome first (λ _. IsSomeAnd held (λ text. IsPrefix text (shown messages))) → HoldsAfter first held (λ _. [])
+  shows_empty [] rest is shows = by first held shows
+    where
+      by : (before after : Option (List ℕ)) → IfSome before (λ _. IsSomeAnd after (λ text. IsPrefix text [])) → HoldsAfter before after (λ _. [])
+      by None after shows = tt
+      by (Some text) None shows = absurd shows
+      by (Some text) (Some now) shows = ap (λ t. Some t) (empty_is now shows.rest shows.whole_is)
+  shows_empty (message ∷ messages) rest is shows = absurd cc
+
+  pub shows_nothing : port.octets ≡ [] → HoldsAfter first held (λ _. [])
+  shows_nothing none = shows_empty shows_prefix.messages shows_prefix.rest (sym none ∙ shows_prefix.octets_are) shows_prefix.shown_is
+
+-- what holds nothing holds a prefix
+nothing_is_prefix : (first held : Option (List ℕ)) (text : List ℕ) → HoldsAfter first held (λ _. []) → HoldsPrefixOf first held text
+nothing_is_prefix None held text is = tt
+nothing_is_prefix (Some before) held text is =
+    let P : Option (List ℕ) → Type 0 = λ o. IsSomeAnd o (λ now. IsPrefix now text) in subst P (sym is) (record { rest = text; whole_is = refl })
+
+-- ---- what was put for the ports
+
+some_is : (m n : List ℕ) → Some m ≡ Some n → m ≡ n
+some_is m n e = cc
+
+-- the contents of both files, as the run is told them
+same_name : (name : List ℕ) → bytes_eq name name ≡ true
+same_name name = (bytes_eq-Decides name name).1 refl
+
+file_a_is : (content : List ℕ → Option (List ℕ)) (file_a file_b : List ℕ) → lined_content file_a file_b content file_a ≡ option_map framed (content file_a)
+file_a_is content file_a file_b = ap (λ (same : Bool). if same || bytes_eq file_a file_b then option_map framed (content file_a) else content file_a) (same_name file_a)
+
+or_true : (a : Bool) → (a || true) ≡ true
+or_true true = refl
+or_true false = refl
+
+file_b_is : (content : List ℕ → Option (List ℕ)) (file_a file_b : List ℕ) → lined_content file_a file_b content file_b ≡ option_map framed (content file_b)
+file_b_is content file_a file_b =
+    ap (λ (same : Bool). if bytes_eq file_b file_a || same then option_map framed (content file_b) else content file_b) (same_name file_b)
+    ∙ ap (λ (same : Bool). if same then option_map framed (content file_b) else content file_b) (or_true (bytes_eq file_b file_a))
+
+-- the frames of a file are within their limit, and so is the file
+small_file : (file told : Option (List ℕ)) → told ≡ option_map framed file → IfSome told (λ frames. length frames ≤ 16777216) → IfSome file (λ text. length text < 2 ^ 32)
+small_file None told is within = tt
+small_file (Some text) told is within =
+    let P : Option (List ℕ) → Type 0 = λ o. IfSome o (λ frames. length frames ≤ 16777216) in
+    let few = subst P is within in let longer = frames_longer text in omega arith
+
+prefix_of : (octets : List ℕ) (file told : Option (List ℕ)) → told ≡ option_map framed file → IfSome told (λ frames. HoldsPrefixOf (Some []) (Some octets) frames)
+    → IfSome file (λ text. IsPrefix octets (framed text))
+prefix_of octets None told is prefix = tt
+prefix_of octets (Some text) told is prefix =
+    let P : Option (List ℕ) → Type 0 = λ o. IfSome o (λ frames. HoldsPrefixOf (Some []) (Some octets) frames) in subst P is prefix
+
+prefix_by : (octets frames : List ℕ) → (Some octets ≡ Some []) ⊎ IsPrefix octets frames → IsPrefix octets frames
+prefix_by octets frames (inl none) = let P : List ℕ → Type 0 = λ o. IsPrefix o frames in subst P (sym (some_is octets [] none)) (record { rest = frames; whole_is = refl })
+prefix_by octets frames (inr prefix) = prefix
+
+prefix_if_bound : (octets : List ℕ) (file told : Option (List ℕ)) → told ≡ option_map framed file → IfSome told (λ frames. HoldsPrefixIfBound (Some []) (Some octets) frames)
+    → IfSome file (λ text. IsPrefix octets (framed text))
+prefix_if_bound octets None told is prefix = tt
+prefix_if_bound octets (Some text) told is prefix =
+    let P : Option (List ℕ) → Type 0 = λ o. IfSome o (λ frames. HoldsPrefixIfBound (Some []) (Some octets) frames) in prefix_by octets (framed text) (subst P is prefix)
+
+all_of : (octets : List ℕ) (file told : Option (List ℕ)) → told ≡ option_map framed file → IfSome told (λ frames. HoldsAfter (Some []) (Some octets) (λ _. frames))
+    → IfSome file (λ text. octets ≡ framed text)
+all_of octets None told is all = tt
+all_of octets (Some text) told is all =
+    let P : Option (List ℕ) → Type 0 = λ o. IfSome o (λ frames. HoldsAfter (Some []) (Some octets) (λ _. frames)) in some_is octets (framed text) (subst P is all)
+
+-- what is known of a file gives what is shown of it
+of_file : (file : Option (List ℕ)) (A B P : List ℕ → Type 0) → ((text : List ℕ) → A text → B text → P text) → IfSome file A → IfSome file B → IfSome file P
+of_file None A B P step a b = tt
+of_file (Some text) A B P step a b = step text a b
+
+-- ---- both ports
+
+module _ (file_a file_b : Option (List ℕ)) (a b : Counted) (held holds : Ports) (faults_before faults : Port → ℕ) (stand : PortsStand a b held holds faults_before faults) where
+  abbrev IsSmall : Option (List ℕ) → Type 0
+  IsSmall file = IfSome file (λ text. length text < 2 ^ 32)
+
+  prefixes_shown : IsSmall file_a → IsSmall file_b → IfSome file_a (λ text. IsPrefix b.octets (framed text)) → IfSome file_b (λ text. IsPrefix a.octets (framed text))
+      → ReadersShowPrefixes file_a file_b held holds
+  prefixes_shown small_a small_b of_a of_b = record {
+    read_by_b = of_file file_a _ _ _ (λ text small prefix. shows_prefix_of b (held ReadByB) (holds ReadByB) _ _ stand.read_by_b text small prefix) small_a of_a;
+    read_by_a = of_file file_b _ _ _ (λ text small prefix. shows_prefix_of a (held ReadByA) (holds ReadByA) _ _ stand.read_by_a text small prefix) small_b of_b;
+  }
+
+  first_lines_shown : IsSmall file_a → IsSmall file_b → IfSome file_a (λ text. IsPrefix b.octets (framed text)) → IfSome file_b (λ text. IsPrefix a.octets (framed text))
+      → b.refused ≡ None → a.refused ≡ None → ReadersShowFirstLines file_a file_b held holds
+  first_lines_shown small_a small_b of_a of_b none_b none_a = record {
+    read_by_b = of_file file_a _ _ _ (λ text small prefix. shows_first_lines b (held ReadByB) (holds ReadByB) _ _ stand.read_by_b none_b text small prefix) small_a of_a;
+    read_by_a = of_file file_b _ _ _ (λ text small prefix. shows_first_lines a (held ReadByA) (holds ReadByA) _ _ stand.read_by_a none_a text small prefix) small_b of_b;
+  }
+
+  all_lines_shown : IsSmall file_a → IsSmall file_b → IfSome file_a (λ text. b.octets ≡ framed text) → IfSome file_b (λ text. a.octets ≡ framed text)
+      → b.refused ≡ None → a.refused ≡ None → ReadersShowLines file_a file_b held holds
+  all_lines_shown small_a small_b of_a of_b none_b none_a = record {
+    read_by_b = of_file file_a _ _ _ (λ text small all. shows_all_lines b (held ReadByB) (holds ReadByB) _ _ stand.read_by_b none_b text small all) small_a of_a;
+    read_by_a = of_file file_b _ _ _ (λ text small all. shows_all_lines a (held ReadByA) (holds ReadByA) _ _ stand.read_by_a none_a text small all) small_b of_b;
+  }
+
+  nothing_shown : IsUntouched (lined_holds [] [] held) (lined_holds a.octets b.octets holds) faults_before faults → ReadersShowNothing file_a file_b held holds
+  nothing_shown untouched = record {
+    read_by_b = shows_nothing b (held ReadByB) (holds ReadByB) _ _ stand.read_by_b (some_is b.octets [] (untouched ReadByB).0);
+    read_by_a = shows_nothing a (held ReadByA) (holds ReadByA) _ _ stand.read_by_a (some_is a.octets [] (untouched ReadByA).0);
+  }
+
+some_always : (o : Option (List ℕ)) (P : List ℕ → Type 0) → ((text : List ℕ) → P text) → IfSome o P
+some_always None P p = tt
+some_always (Some text) P p = p text
+
+pub nothing_is_cut : (file_a file_b : Option (List ℕ)) (held holds : Ports) → ReadersShowNothing file_a file_b held holds → ReadersShowPrefixes file_a file_b held holds
+nothing_is_cut file_a file_b held holds none = record {
+  read_by_b = some_always file_a _ (λ text. nothing_is_prefix (held ReadByB) (holds ReadByB) (shown (lines text)) none.read_by_b);
+  read_by_a = some_always file_b _ (λ text. nothing_is_prefix (held ReadByA) (holds ReadByA) (shown (lines text)) none.read_by_a);
+}
+
+-- ports that were empty, and are as they were
+still_empty : (first held : Option (List ℕ)) → IfSome first (λ text. text ≡ []) → held ≡ first → HoldsAfter first held (λ _. [])
+still_empty None held empty same = tt
+still_empty (Some text) held empty same = same ∙ ap (λ t. Some t) empty
+
+pub empty_still : (file_a file_b : Option (List ℕ)) (held holds : Ports) → IfSome (held ReadByA) (λ text. text ≡ []) → IfSome (held ReadByB) (λ text. text ≡ [])
+    → ((port : Port) → holds port ≡ held port) → ReadersShowNothing file_a file_b held holds
+empty_still file_a file_b held holds empty_a empty_b same = record {
+  read_by_b = still_empty (held ReadByB) (holds ReadByB) empty_b (same ReadByB);
+  read_by_a = still_empty (held ReadByA) (holds ReadByA) empty_a (same ReadByA);
+}
+
+-- a refusal in the place of a run's own end
+or_cut : (file_a file_b : Option (List ℕ)) (held holds : Ports) (ended : Status) (b a : Option PutFault) → ReadersShowPrefixes file_a file_b held holds
+    → (b ≡ None → a ≡ None → ReadersShow file_a file_b held holds ended) → ReadersShow file_a file_b held holds (refused_or ended b a)
+or_cut file_a file_b held holds ended (Some fault.Failed) a cut own = cut
+or_cut file_a file_b held holds ended (Some fault.Memory) a cut own = cut
+or_cut file_a file_b held holds ended None (Some fault.Failed) cut own = cut
+or_cut file_a file_b held holds ended None (Some fault.Memory) cut own = cut
+or_cut file_a file_b held holds ended None None cut own = own refl refl
+
+-- ---- by the answer of the run over frames
+
+module _ (content : List ℕ → Option (List ℕ)) (line : Line) (loads_before loads : ℕ) (faults_before faults : Port → ℕ) (held holds : Ports) (a b : Counted)
+    (stand : PortsStand a b held holds faults_before faults) where
+  abbrev told : List ℕ → Option (List ℕ)
+  told = lined_content line.names.file_a line.names.file_b content
+
+  abbrev old : Ports
+  old = lined_holds [] [] held
+
+  abbrev new : Ports
+  new = lined_holds a.octets b.octets holds
+
+  abbrev file_a : Option (List ℕ)
+  file_a = content line.names.file_a
+
+  abbrev file_b : Option (List ℕ)
+  file_b = content line.names.file_b
+
+  abbrev Shown : Status → Type 0
+  Shown = ReadersShow file_a file_b held holds
+
+  abbrev Answer : Status → Type 0
+  Answer = IsAnswer told line loads_before loads faults_before faults old new None None
+
+  told_a : told line.names.file_a ≡ option_map framed file_a
+  told_a = file_a_is content line.names.file_a line.names.file_b
+
+  told_b : told line.names.file_b ≡ option_map framed file_b
+  told_b = file_b_is content line.names.file_a line.names.file_b
+
+  small_a : AreWithinLimits told line → IfSome file_a (λ text. length text < 2 ^ 32)
+  small_a within = small_file file_a (told line.names.file_a) told_a (within input.FileA)
+
+  small_b : AreWithinLimits told line → IfSome file_b (λ text. length text < 2 ^ 32)
+  small_b within = small_file file_b (told line.names.file_b) told_b (within input.FileB)
+
+  all_shown : AreWithinLimits told line → ReadersHaveFiles (told line.names.file_a) (told line.names.file_b) old new → b.refused ≡ None → a.refused ≡ None
+      → ReadersShowLines file_a file_b held holds
+  all_shown within files = all_lines_shown file_a file_b a b held holds faults_before faults stand (small_a within) (small_b within)
+      (all_of b.octets file_a (told line.names.file_a) told_a files.read_by_b) (all_of a.octets file_b (told line.names.file_b) told_b files.read_by_a)
+
+  first_shown : AreWithinLimits told line → ReadersHavePrefixes (told line.names.file_a) (told line.names.file_b) old new → b.refused ≡ None → a.refused ≡ None
+      → ReadersShowFirstLines file_a file_b held holds
+  first_shown within prefixes = first_lines_shown file_a file_b a b held holds faults_before faults stand (small_a within) (small_b within)
+      (prefix_of b.octets file_a (told line.names.file_a) told_a prefixes.read_by_b) (prefix_of a.octets file_b (told line.names.file_b) told_b prefixes.read_by_a)
+
+  part_shown : AreWithinLimits told line → ReadersHavePrefixes (told line.names.file_a) (told line.names.file_b) old new → ReadersShowPrefixes file_a file_b held holds
+  part_shown within prefixes = prefixes_shown file_a file_b a b held holds faults_before faults stand (small_a within) (small_b within)
+      (prefix_of b.octets file_a (told line.names.file_a) told_a prefixes.read_by_b) (prefix_of a.octets file_b (told line.names.file_b) told_b prefixes.read_by_a)
+
+  cut_shown : AreWithinLimits told line → ReadersHavePrefixesIfBound (told line.names.file_a) (told line.names.file_b) old new → ReadersShowPrefixes file_a file_b held holds
+  cut_shown within prefixes = prefixes_shown file_a file_b a b held holds faults_before faults stand (small_a within) (small_b within)
+      (prefix_if_bound b.octets file_a (told line.names.file_a) told_a prefixes.read_by_b) (prefix_if_bound a.octets file_b (told line.names.file_b) told_b prefixes.read_by_a)
+
+  none_shown : IsUntouched old new faults_before faults → ReadersShowNothing file_a file_b held holds
+  none_shown = nothing_shown file_a file_b a b held holds faults_before faults stand
+
+  end_shown : (ended : Status) → AreWithinLimits told line → ReadersHavePrefixes (told line.names.file_a) (told line.names.file_b) old new
+      → (b.refused ≡ None → a.refused ≡ None → Shown ended) → Shown (refused_or ended b.refused a.refused)
+  end_shown ended within prefixes own = or_cut file_a file_b held holds ended b.refused a.refused (part_shown within prefixes) own
+
+  pub shown_by : (ended : Status) → Answer ended → Shown (with_refusals ended b.refused a.refused)
+  shown_by Delivered h = end_shown Delivered h.0.read.within h.0.prefixes (all_shown h.0.read.within h.1)
+  shown_by Rounds h = end_shown Rounds h.read.within h.prefixes (first_shown h.read.within h.prefixes)
+  shown_by NoPath h = end_shown NoPath h.read.within h.prefixes (first_shown h.read.within h.prefixes)
+  shown_by (Aborted reader) h = end_shown (Aborted reader) h.read.within h.prefixes (first_shown h.read.within h.prefixes)
+  shown_by (Put port) h = cut_shown h.1.read.within h.1.prefixes
+  shown_by Memory (inl h) = nothing_is_cut file_a file_b held holds (none_shown h.untouched)
+  shown_by Memory (inr h) = cut_shown h.read.within h.prefixes
+  shown_by (Log at) (inl h) = nothing_is_cut file_a file_b held holds (none_shown h.untouched)
+  shown_by (Log at) (inr h) = part_shown h.read.within h.prefixes
+  shown_by (Script at kind) h = none_shown h.untouched
+  shown_by (Load named) h = none_shown h.untouched
+  shown_by (TooLong named) h = none_shown h.untouched
+  shown_by Usage h = absurd h
+
+-- ---- a port that failed
+
+put_is : (p port : Port) → Put p ≡ Put port → p ≡ port
+put_is p port is = cc
+
+module _ (a b : Counted) (held holds : Ports) (faults_before faults : Port → ℕ) (stand : PortsStand a b held holds faults_before faults) where
+  abbrev Risen : Port → Type 0
+  Risen port = HasRisen (faults_before port) (faults port)
+
+  refused_risen : (ended : Status) (port : Port) (refused_b refused_a : Option PutFault) → b.refused ≡ refused_b → a.refused ≡ refused_a
+      → refused_or ended refused_b refused_a ≡ Put port → (ended ≡ Put port → ⊥) → Risen port
+  refused_risen ended port (Some fault.Failed) refused_a is_b is_a is own = subst Risen (put_is ReadByB port is) (stand.read_by_b.risen is_b)
+  refused_risen ended port (Some fault.Memory) refused_a is_b is_a is own = absurd cc
+  refused_risen ended port None (Some fault.Failed) is_b is_a is own = subst Risen (put_is ReadByA port is) (stand.read_by_a.risen is_a)
+  refused_risen ended port None (Some fault.Memory) is_b is_a is own = absurd cc
+  refused_risen ended port None None is_b is_a is own = absurd (own is)
+
+  put_risen : (content : List ℕ → Option (List ℕ)) (line : Line) (loads_before loads : ℕ) (old new : Ports) (ended : Status) (port : Port)
+      → IsAnswer content line loads_before loads faults_before faults old new None None ended → with_refusals ended b.refused a.refused ≡ Put port → Risen port
+  put_risen content line loads_before loads old new Delivered port answer is = refused_risen Delivered port b.refused a.refused refl refl is (λ e. cc)
+  put_risen content line loads_before loads old new Rounds port answer is = refused_risen Rounds port b.refused a.refused refl refl is (λ e. cc)
+  put_risen content line loads_before loads old new NoPath port answer is = refused_risen NoPath port b.refused a.refused refl refl is (λ e. cc)
+  put_risen content line loads_before loads old new (Aborted reader) port answer is = refused_risen (Aborted reader) port b.refused a.refused refl refl is (λ e. cc)
+  put_risen content line loads_before loads old new (Put p) port answer is = subst Risen (put_is p port is) answer.0
+  put_risen content line loads_before loads old new Memory port answer is = absurd cc
+  put_risen content line loads_before loads old new (Log at) port answer is = absurd cc
+  put_risen content line loads_before loads old new (Script at kind) port answer is = absurd cc
+  put_risen content line loads_before loads old new (Load named) port answer is = absurd cc
+  put_risen content line loads_before loads old new (TooLong named) port answer is = absurd cc
+  put_risen content line loads_before loads old new Usage port answer is = absurd cc
+
+-- what the ports show after a run over frames
+pub over_frames : (content : List ℕ → Option (List ℕ)) (line : Line) (loads_before loads : ℕ) (faults_before faults : Port → ℕ) (held holds : Ports) (status : Status)
+    → IsRunOverFrames content line loads_before loads faults_before faults held holds status
+    → ReadersShow (content line.names.file_a) (content line.names.file_b) held holds status
+over_frames content line loads_before loads faults_before faults held holds status h =
+    let P : Status → Type 0 = ReadersShow (content line.names.file_a) (content line.names.file_b) held holds in
+    subst P (sym h.status_is) (shown_by content line loads_before loads faults_before faults held holds h.read_by_a h.read_by_b h.stand h.ended h.answer)
+
+-- ---- from what a type parameter tells
+
+stand_from : (a b : Counted) (named first holds : Ports) (named_faults first_faults faults : Port → ℕ) → ((port : Port) → named port ≡ first port)
+    → ((port : Port) → named_faults port ≡ first_faults port) → PortsStand a b named holds named_faults faults → PortsStand a b first holds first_faults faults
+stand_from a b named first holds named_faults first_faults faults same same_faults stand =
+    let P : Counted → Port → Option (List ℕ) → Type 0 = λ c port o. PortStands c o (holds port) (first_faults port) (faults port) in
+    let Q : Counted → Port → ℕ → Type 0 = λ c port n. PortStands c (named port) (holds port) n (faults port) in
+    record {
+      read_by_a = subst (P a ReadByA) (same ReadByA) (subst (Q a ReadByA) (same_faults ReadByA) stand.read_by_a);
+      read_by_b = subst (P b ReadByB) (same ReadByB) (subst (Q b ReadByB) (same_faults ReadByB) stand.read_by_b);
+    }
+
+pub ran_over_frames : (asked : Option Line) (line : Line) (name_a name_b : List ℕ) (content : List ℕ → Option (List ℕ)) (loads_before loads : ℕ)
+    (faults_before faults named_faults : Port → ℕ) (held holds named : Ports) (a b : Counted) (ended status : Status) → asked ≡ Some line
+    → IfSome asked (λ line. IsAnswer (lined_content name_a name_b content) line loads_before loads faults_before faults (lined_holds [] [] held) (lined_holds a.octets b.octets holds) None None ended)
+    → ((port : Port) → named port ≡ held port) → ((port : Port) → named_faults port ≡ faults_before port) → PortsStand a b named holds named_faults faults
+    → status ≡ with_refusals ended b.refused a.refused → name_a ≡ line.names.file_a → name_b ≡ line.names.file_b
+    → IsRunOverFrames content line loads_before loads faults_before faults held holds status
+ran_over_frames asked line name_a name_b content loads_before loads faults_before faults named_faults held holds named a b ended status asks answer same same_faults stand is is_a is_b =
+    let P : List ℕ → List ℕ → Line → Type 0 =
+    λ x y asked. IsAnswer (lined_content x y content) asked loads_before loads faults_before faults (lined_holds [] [] held) (lined_holds a.octets b.octets holds) None None ended in
+    let asked_is : P name_a name_b line = subst (λ o. IfSome o (P name_a name_b)) asks answer in
+    let answer_is : P line.names.file_a line.names.file_b line = subst (λ x. P x line.names.file_b line) is_a (subst (λ y. P name_a y line) is_b asked_is) in
+    let stand_is : PortsStand a b held holds faults_before faults = stand_from a b named held holds named_faults faults_before faults same same_faults stand in
+    record {
+      ended = ended;
+      read_by_a = a;
+      read_by_b = b;
+      answer = answer_is;
+      stand = stand_is;
+      status_is = is;
+      risen = λ port put. put_risen a b held holds faults_before faults stand_is (lined_content line.names.file_a line.names.file_b content) line loads_before loads
+          (lined_holds [] [] held) (lined_holds a.octets b.octets holds) ended port answer_is (sym is ∙ put);
+    }
+
+-- ---- by the words
+
+-- what the ports show, by the answer
+pub messages_shown : (content : List ℕ → Option (List ℕ)) (line : Line) (loads_before loads : ℕ) (faults_before faults : Port → ℕ) (held holds : Ports) (status : Status)
+    → IfSome (held ReadByA) (λ text. text ≡ []) → IfSome (held ReadByB) (λ text. text ≡ [])
+    → IsMessagesAnswer content line loads_before loads faults_before faults held holds status
+    → ReadersShow (content line.names.file_a) (content line.names.file_b) held holds status
+messages_shown content line loads_before loads faults_before faults held holds status empty_a empty_b (inl none) =
+    let P : Status → Type 0 = ReadersShow (content line.names.file_a) (content line.names.file_b) held holds in
+    subst P (sym none.status_is) (nothing_is_cut (content line.names.file_a) (content line.names.file_b) held holds
+    (empty_still (content line.names.file_a) (content line.names.file_b) held holds empty_a empty_b (λ port. (none.untouched port).0)))
+messages_shown content line loads_before loads faults_before faults held holds status empty_a empty_b (inr ran) =
+    over_frames content line loads_before loads faults_before faults held holds status ran
+
+pub messages_are : (words : List (List ℕ)) (line : Line) → line_of words ≡ Some line → messages_in words ≡ if_messages line
+unfolding messages_in
+messages_are words line is = ap (option_and_then if_messages) is
+
+pub no_messages : (words : List (List ℕ)) → line_of words ≡ None → messages_in words ≡ None
+unfolding messages_in
+no_messages words is = ap (option_and_then if_messages) is
+
+pub taken : (words : List (List ℕ)) (line : Line) → line_of words ≡ Some line → takes_messages line ≡ true → messages_in words ≡ Some line
+taken words line is takes = messages_are words line is ∙ ap (λ (b : Bool). if b then Some line else None) takes
+
+pub not_taken : (words : List (List ℕ)) (line : Line) → line_of words ≡ Some line → takes_messages line ≡ false → messages_in words ≡ None
+not_taken words line is takes = messages_are words line is ∙ ap (λ (b : Bool). if b then Some line else None) takes
+
+run_of_both : (a b : Bool) → (a && b) ≡ true → a ≡ true
+run_of_both true b both = refl
+run_of_both false b both = absurd cc
+
+pub taken_is_asked : (words : List (List ℕ)) (line : Line) → line_of words ≡ Some line → takes_messages line ≡ true → asked_in words ≡ Some line
+taken_is_asked words line is takes = asked_is words line is ∙ ap (λ (b : Bool). if b then Some line else None) (run_of_both (is_run line.work) _ takes)
+
+-- what is said of what the words ask for, where they ask for this line or for nothing
+module _ (asked : Option Line) where
+  pub of_line : (line : Line) (P : Line → Type 0) → asked ≡ Some line → P line → IfSome asked P
+  of_line line P is p = subst (λ o. IfSome o P) (sym is) p
+
+  pub of_nothing : (P : Line → Type 0) → asked ≡ None → IfSome asked P
+  of_nothing P is = subst (λ o. IfSome o P) (sym is) tt
+
+  pub not_nothing : (line : Line) → asked ≡ Some line → IsNone asked → ⊥
+  not_nothing line is none = let no : IsNone (Some line) = subst (λ o. IsNone o) is none in absurd cc
+
+  pub nothing_asked_for : (P : Line → Type 0) → ((line : Line) → P line) → IfSome asked P
+  nothing_asked_for P p = some_line asked
+    where
+      some_line : (o : Option Line) → IfSome o P
+      some_line None = tt
+      some_line (Some line) = p line

@@ -1,0 +1,136 @@
+-- A run whose files go as messages, each line as one: what is asked, what the readers' ports show, and how it ends.
+use Rattle.std.specs.Prelude.{◌≡◌, ℕ, ◌⊎◌, Bool, false, ◌&&◌, not, List, [], Option, Some, None, option_and_then, IfSome, if◌then◌else◌}
+use Rattle.std.specs.Str.{bytes_eq}
+use Rattle.outside_kit.specs.declared.port.Port.{Port}
+use Rattle.outside_kit.specs.declared.port.Port.TheVariants.{ReadByA, ReadByB}
+use Rattle.outside_kit.specs.declared.outside.PutFault.{PutFault}
+use Rattle.outside_kit.specs.declared.outside.PutFault.TheVariants as fault
+use Rattle.outside_kit.specs.Outside.{HasRisen, HoldsAfter}
+use Rattle.message_pipe.specs.Lines.{lines, shown}
+use Rattle.message_pipe.specs.LinesShown.{ShowsFirstLines}
+use Rattle.message_pipe.specs.Showing.{Counted}
+use Rattle.message_pipe.specs.Lined.{lined_content, lined_holds, PortsStand}
+use Rattle.run_words.specs.Lines.{Line, line_of}
+use Rattle.mptcp_run.specs.declared.status.Status.{Status}
+use Rattle.mptcp_run.specs.declared.status.Status.TheVariants.{Delivered, Rounds, NoPath, Aborted, Usage, Script, Load, Put, TooLong, Memory, Log}
+use Rattle.mptcp_run.specs.Answers.{IsAnswer}
+use Rattle.mptcp_run.specs.Asked.{is_run}
+use Rattle.mptcp_run.specs.Inputs.{order_of}
+use Rattle.mptcp_run.specs.Ports.{IsUntouched}
+use Rattle.mptcp_run.specs.Promised.{HoldsPrefixOf}
+
+abbrev Ports : Type 0
+Ports = Port → Option (List ℕ)
+
+-- ---- what is asked
+
+abbrev pub is_order : Option (List ℕ) → List ℕ → Bool
+is_order None name = false
+is_order (Some log) name = bytes_eq name log
+
+-- not the name of the script, nor of the log of `replay`: these are read as they stand
+abbrev pub is_apart : Line → List ℕ → Bool
+is_apart line name = not (bytes_eq name line.names.script) && not (is_order (order_of line.work) name)
+
+-- the lines of both files can be messages: in `serial` and `replay`, of files that are neither the script nor the log
+abbrev pub takes_messages : Line → Bool
+takes_messages line = is_run line.work && (is_apart line line.names.file_a && is_apart line line.names.file_b)
+
+abbrev pub if_messages : Line → Option Line
+if_messages line = if takes_messages line then Some line else None
+
+-- what the words ask for, where the lines of its files can be messages
+unfoldable pub messages_in : List (List ℕ) → Option Line
+messages_in words = option_and_then if_messages (line_of words)
+
+-- ---- what the readers' ports show
+
+-- where these are the files that A and B write, as far as they are told
+module _ (file_a file_b : Option (List ℕ)) (old new : Ports) where
+  -- exactly the lines of the other side's file
+  pub record ReadersShowLines : Type 0 where
+    pub read_by_b : IfSome file_a (λ file. HoldsAfter (old ReadByB) (new ReadByB) (λ _. shown (lines file)))
+    pub read_by_a : IfSome file_b (λ file. HoldsAfter (old ReadByA) (new ReadByA) (λ _. shown (lines file)))
+
+  -- its first lines, each whole
+  pub record ReadersShowFirstLines : Type 0 where
+    pub read_by_b : IfSome file_a (λ file. ShowsFirstLines file (old ReadByB) (new ReadByB))
+    pub read_by_a : IfSome file_b (λ file. ShowsFirstLines file (old ReadByA) (new ReadByA))
+
+  -- a prefix of its lines, whose last one may be cut
+  pub record ReadersShowPrefixes : Type 0 where
+    pub read_by_b : IfSome file_a (λ file. HoldsPrefixOf (old ReadByB) (new ReadByB) (shown (lines file)))
+    pub read_by_a : IfSome file_b (λ file. HoldsPrefixOf (old ReadByA) (new ReadByA) (shown (lines file)))
+
+  -- nothing
+  pub record ReadersShowNothing : Type 0 where
+    pub read_by_b : HoldsAfter (old ReadByB) (new ReadByB) (λ _. [])
+    pub read_by_a : HoldsAfter (old ReadByA) (new ReadByA) (λ _. [])
+
+  -- by the status that is answered
+  abbrev pub ReadersShow : Status → Type 0
+  ReadersShow Delivered = ReadersShowLines
+  ReadersShow Rounds = ReadersShowFirstLines
+  ReadersShow NoPath = ReadersShowFirstLines
+  ReadersShow (Aborted reader) = ReadersShowFirstLines
+  ReadersShow (Put port) = ReadersShowPrefixes
+  ReadersShow Memory = ReadersShowPrefixes
+  ReadersShow (Log at) = ReadersShowPrefixes
+  ReadersShow (Script at kind) = ReadersShowNothing
+  ReadersShow (Load named) = ReadersShowNothing
+  ReadersShow (TooLong named) = ReadersShowNothing
+  ReadersShow Usage = ReadersShowNothing
+
+-- ---- how it ends
+
+-- a fault of a port as a status
+abbrev pub status_for : Port → PutFault → Status
+status_for port fault.Failed = Put port
+status_for port fault.Memory = Memory
+
+-- the first line that was refused, that for B's reader before that for A's; or else this end
+abbrev pub refused_or : Status → Option PutFault → Option PutFault → Status
+refused_or ended (Some fault) read_by_a = status_for ReadByB fault
+refused_or ended None (Some fault) = status_for ReadByA fault
+refused_or ended None None = ended
+
+-- a refusal stands in the place of a run's own end; another status stays
+abbrev pub with_refusals : Status → Option PutFault → Option PutFault → Status
+with_refusals Delivered read_by_b read_by_a = refused_or Delivered read_by_b read_by_a
+with_refusals Rounds read_by_b read_by_a = refused_or Rounds read_by_b read_by_a
+with_refusals NoPath read_by_b read_by_a = refused_or NoPath read_by_b read_by_a
+with_refusals (Aborted reader) read_by_b read_by_a = refused_or (Aborted reader) read_by_b read_by_a
+with_refusals (Put port) read_by_b read_by_a = Put port
+with_refusals Memory read_by_b read_by_a = Memory
+with_refusals (Log at) read_by_b read_by_a = Log at
+with_refusals (Script at kind) read_by_b read_by_a = Script at kind
+with_refusals (Load named) read_by_b read_by_a = Load named
+with_refusals (TooLong named) read_by_b read_by_a = TooLong named
+with_refusals Usage read_by_b read_by_a = Usage
+
+module _ (content : List ℕ → Option (List ℕ)) (line : Line) (loads_before loads : ℕ)
+    (faults_before faults : Port → ℕ) (held holds : Ports) where
+  -- A run whose two files hold the frames of their lines. What it put for the readers' ports was
+  -- counted, and the messages in it were shown; a line that was refused is the answer in the place
+  -- of the run's own end.
+  pub record IsRunOverFrames (status : Status) : Type 0 where
+    pub ended : Status
+    pub read_by_a : Counted
+    pub read_by_b : Counted
+    pub answer : IsAnswer (lined_content line.names.file_a line.names.file_b content) line
+        loads_before loads faults_before faults
+        (lined_holds [] [] held) (lined_holds read_by_a.octets read_by_b.octets holds) None None
+        ended
+    pub stand : PortsStand read_by_a read_by_b held holds faults_before faults
+    pub status_is : status ≡ with_refusals ended read_by_b.refused read_by_a.refused
+    -- a port is told as one that failed only where its count rose
+    pub risen : (port : Port) → status ≡ Put port → HasRisen (faults_before port) (faults port)
+
+  -- nothing was begun for want of memory
+  pub record IsUnbegun (status : Status) : Type 0 where
+    pub status_is : status ≡ Memory
+    pub untouched : IsUntouched held holds faults_before faults
+    pub unloaded : loads ≡ loads_before
+
+  abbrev pub IsMessagesAnswer : Status → Type 0
+  IsMessagesAnswer status = IsUnbegun status ⊎ IsRunOverFrames status

@@ -1,0 +1,191 @@
+//! Runs whose files go as messages, each line as one.
+
+ghost use Rattle.std.specs.Prelude.{◌≡◌, [], Some, map, string_bytes, IfOk, IfSome, IsNone};
+ghost use Rattle.outside_kit.specs.declared.port.Port.{Port};
+ghost use Rattle.run_words.specs.Lines.{shown, shown_work};
+ghost use Rattle.mptcp_run.specs.Answers.{NothingWasRun};
+ghost use Rattle.mptcp_run.specs.Asked.{asked_in, is_run};
+ghost use Rattle.mptcp_run.specs.Inputs.{order_of};
+ghost use Rattle.mptcp_run.specs.Messages.{IsMessagesAnswer, IsRunOverFrames, ReadersShow, is_apart, is_order, messages_in, refused_or, status_for, takes_messages, with_refusals};
+
+use crate::status::Status;
+use crate::top_call::run;
+use message_pipe::{LineOutside, Naming};
+use outside_kit::{Gate, Outside, Port, PutFault};
+use run_words::{CommandLine, Mode, WordsFault, read};
+use std::alloc::{AllocError, Global};
+use std::marker::Brand;
+
+/// Whether the mode is run.
+fn is_run(mode: Mode<'_>) -> bool
+    ensures { result ≡ is_run (shown_work mode.entry) }
+{
+    match mode {
+        Mode::Serial { .. } => true,
+        Mode::Replay { .. } => true,
+        Mode::Bench { .. } => false,
+        Mode::Run { .. } => false,
+    }
+}
+
+/// Whether a name is that of the log whose steps are made again.
+fn is_order(mode: Mode<'_>, name: &str) -> bool
+    ensures { result ≡ is_order (order_of (shown_work mode.entry)) name.now }
+{
+    match mode {
+        Mode::Replay { order } => name == order,
+        Mode::Serial { .. } => false,
+        Mode::Bench { .. } => false,
+        Mode::Run { .. } => false,
+    }
+}
+
+/// Whether a name is neither that of the script nor that of the log.
+fn is_apart(line: &CommandLine<'_>, name: &str) -> bool
+    ensures { result ≡ is_apart (shown line.now) name.now }
+{
+    name != line.script && !is_order(line.mode, name)
+}
+
+/// Whether the lines of both files can be messages.
+fn takes_messages(line: &CommandLine<'_>) -> bool
+    ensures { result ≡ takes_messages (shown line.now) }
+{
+    is_run(line.mode) && is_apart(line, line.file_a) && is_apart(line, line.file_b)
+}
+
+/// The names of both files, copied.
+fn file_names(alloc: Global, line: &CommandLine<'_>) -> Result<(String, String), AllocError>
+    ensures file_a { IfOk result (λ names. string_bytes names.0 ≡ line.now.file_a.now) }
+    ensures file_b { IfOk result (λ names. string_bytes names.1 ≡ line.now.file_b.now) }
+{
+    let file_a = String::from_str(alloc, line.file_a)?;
+    let file_b = String::from_str(alloc, line.file_b)?;
+    Ok((file_a, file_b))
+}
+
+/// The status of a port's fault.
+fn status_for(port: Port, fault: PutFault) -> Status
+    ensures { result ≡ status_for port fault }
+{
+    match fault {
+        PutFault::Failed => Status::Put { port },
+        PutFault::Memory => Status::Memory,
+    }
+}
+
+/// The first line that was refused, or else the end that the run came to.
+fn refused_or<O: Outside, N: Naming>(lines: &LineOutside<O, N>, ended: Status) -> Status
+    ensures { result ≡ refused_or ended lines.now.read_by_b.refused lines.now.read_by_a.refused }
+{
+    match lines.refused(Port::ReadByB) {
+        Some(fault) => status_for(Port::ReadByB, fault),
+        None => match lines.refused(Port::ReadByA) {
+            Some(fault) => status_for(Port::ReadByA, fault),
+            None => ended,
+        },
+    }
+}
+
+/// The status of a run that ended so, where a refusal stands in the place of its own end.
+fn with_refusals<O: Outside, N: Naming>(lines: &LineOutside<O, N>, ended: Status) -> Status
+    ensures { result ≡ with_refusals ended lines.now.read_by_b.refused lines.now.read_by_a.refused }
+{
+    match ended {
+        Status::Delivered => refused_or(lines, Status::Delivered),
+        Status::Rounds => refused_or(lines, Status::Rounds),
+        Status::NoPath => refused_or(lines, Status::NoPath),
+        Status::Aborted { reader } => refused_or(lines, Status::Aborted { reader }),
+        other => other,
+    }
+}
+
+/// Runs over the frames of the lines of both files, whose names are copied, in an outside whose ports N tells.
+fn run_over_frames<O: Outside, G: Gate + Sync, N: Naming>(
+    alloc: Global,
+    words: &[String],
+    line: &CommandLine<'_>,
+    files: (String, String),
+    outside: O,
+    gate: &G,
+) -> (Status, O)
+    requires held { (port : Port) → N.held port ≡ O.holds outside port }
+    requires faults { (port : Port) → N.faults port ≡ O.port_faults outside port }
+    requires empty_a { IfSome (O.holds outside Port.ReadByA) (λ text. text ≡ []) }
+    requires empty_b { IfSome (O.holds outside Port.ReadByB) (λ text. text ≡ []) }
+    requires words { asked_in (map string_bytes words.now) ≡ Some (shown line.now) }
+    requires file_a { string_bytes files.0 ≡ line.now.file_a.now }
+    requires file_b { string_bytes files.1 ≡ line.now.file_b.now }
+    ensures { IsRunOverFrames (O.content outside) (shown line.now)
+        (O.load_faults outside) (O.load_faults result.1)
+        (O.port_faults outside) (O.port_faults result.1)
+        (O.holds outside) (O.holds result.1) result.0 }
+{
+    let mut lines: LineOutside<O, N> = LineOutside::new(alloc, outside, files.0, files.1);
+    let ended = run(alloc, words, &mut lines, gate);
+    let status = with_refusals(&lines, ended);
+    (status, lines.into_inner())
+}
+
+/// Runs a command line whose files' lines are messages.
+fn run_line<O: Outside, G: Gate + Sync>(
+    alloc: Global,
+    words: &[String],
+    line: &CommandLine<'_>,
+    outside: O,
+    gate: &G,
+) -> (Status, O)
+    requires empty_a { IfSome (O.holds outside Port.ReadByA) (λ text. text ≡ []) }
+    requires empty_b { IfSome (O.holds outside Port.ReadByB) (λ text. text ≡ []) }
+    requires words { asked_in (map string_bytes words.now) ≡ Some (shown line.now) }
+    ensures { IsMessagesAnswer (O.content outside) (shown line.now)
+        (O.load_faults outside) (O.load_faults result.1)
+        (O.port_faults outside) (O.port_faults result.1)
+        (O.holds outside) (O.holds result.1) result.0 }
+{
+    match file_names(alloc, line) {
+        Ok(files) => run_over_frames::<O, G, Brand>(alloc, words, line, files, outside, gate),
+        Err(_) => (Status::Memory, outside),
+    }
+}
+
+/// Runs a connection as the words say, with each line of FILE_A and of FILE_B as one message: what [`run`](crate::run) does where
+/// both files hold the frames of their lines, each line behind its length in four octets. Lines end with LF, and a last line
+/// without one counts. A reader's port gets each message with LF behind it, in one put, once all of it has come.
+///
+/// The modes are `serial` and `replay`; a log of `replay` is that of a run of messages. Neither file is the script or the log. The
+/// limit of a file is that of its frames. The readers' ports are empty, where that is told. The outside is given back as
+/// it stands.
+pub fn run_messages<O: Outside, G: Gate + Sync>(
+    alloc: Global,
+    words: &[String],
+    outside: O,
+    gate: &G,
+) -> (Status, O)
+    requires empty_a { IfSome (O.holds outside Port.ReadByA) (λ text. text ≡ []) }
+    requires empty_b { IfSome (O.holds outside Port.ReadByB) (λ text. text ≡ []) }
+    // What each reader's port shows of the lines of the other side's file: all of them at status 0,
+    // first ones at another end of the run, a prefix where it was cut off, and else nothing.
+    ensures lines { IfSome (messages_in (map string_bytes words.now)) (λ line. ReadersShow
+        (O.content outside line.names.file_a) (O.content outside line.names.file_b)
+        (O.holds outside) (O.holds result.1) result.0) }
+    // Why it ends so: what `run` answers where both files hold the frames of their lines.
+    ensures answer { IfSome (messages_in (map string_bytes words.now)) (λ line. IsMessagesAnswer
+        (O.content outside) line
+        (O.load_faults outside) (O.load_faults result.1)
+        (O.port_faults outside) (O.port_faults result.1)
+        (O.holds outside) (O.holds result.1) result.0) }
+    // Words that ask for no such run: they are refused, and nothing is done.
+    ensures neither { IsNone (messages_in (map string_bytes words.now)) → NothingWasRun
+        (O.load_faults outside) (O.load_faults result.1)
+        (O.port_faults outside) (O.port_faults result.1)
+        (O.holds outside) (O.holds result.1)
+        (O.calls outside) (O.calls result.1) result.0 }
+{
+    match read(alloc, words) {
+        Ok(line) if takes_messages(&line) => run_line(alloc, words, &line, outside, gate),
+        Ok(_) => (Status::Usage, outside),
+        Err(WordsFault::Usage) => (Status::Usage, outside),
+        Err(WordsFault::Memory) => (Status::Memory, outside),
+    }
+}
