@@ -1,0 +1,95 @@
+-- Segments that arrive keep what holds of a lane.
+use Rattle.std.proofs.Common.{◌≡◌, refl, sym, subst, ℕ, ◌+◌, ◌-◌, ◌<◌, ◌≤◌, max, min, nat_lt, Bool, true, false, cond, ◌⊎◌, inl, inr, ⊎_elim, List, [], ◌∷◌, Option, Some, None, IfSome, le_refl, arith}
+use Rattle.std.proofs.lemmas.Bool.{both_ways, cases_lt, ltb-true, ltb-false}
+use Rattle.pace.specs.Lane.{Setting, Telling, Copy, Lane, Stage, data_ack, window_edge}
+use Rattle.pace.specs.Rules.{hears_data, skipped, hears_ack, repeats, next_row}
+use Rattle.pace.specs.Lists.{In, OneHas, Timed, Chain, Stays, repeated, LastIs, data_fins}
+use Rattle.pace.specs.Going.{Going, Reason, IsOld, IsSet, IsToldSoon, IsDone, Covers, may_tell, all_heard, pending}
+use Rattle.pace.specs.Moves.{MayHearData, MaySkip, MayHearAck}
+use Rattle.pace.proofs.Lists.{stays_taken, timed_from, chain_le, row_within}
+
+-- what the first segment brings came with it, or is on its way still
+flag_taken : (n m : ℕ) (f : Copy → ℕ) (c : Copy) (cs : List Copy) → (n ≤ m) ⊎ OneHas (λ x. n ≤ f x) (c ∷ cs)
+    → (n ≤ max m (f c)) ⊎ OneHas (λ x. n ≤ f x) cs
+flag_taken n m f c cs (inl came) = inl (omega (arith, came))
+flag_taken n m f c cs (inr one) = ⊎_elim
+    (λ here. inl (let has = subst (λ (x : Copy). n ≤ f x) here one.has in omega (arith, has)))
+    (λ rest. inr (record { copy = one.copy; among = rest; has = one.has }))
+    one.among
+
+module _ (k : Setting) (s : Lane) (t : ℕ) (p : Stage) where
+  pub heard_going : (c : Copy) (cs : List Copy) (w : Lane) → MayHearData p c cs w → Going k s t p w
+      → Going k s t (record p { ask = true; tell = true }) (hears_data c cs w)
+  heard_going c cs w may h = record {
+    numbers = omega (arith, up, chain_le _ _ _ chain.2, are, h.numbers);
+    since = omega (arith, up, h.since);
+    round = omega (arith, h.round);
+    under_way = record {
+      chain = chain.2;
+      datas_at = timed_from c.at w.clock (w.clock + k.delay) cs times.0 times.1;
+      acks_at = h.under_way.acks_at;
+      datas_are = λ x i. held x (inr i);
+      acks_are = λ x i. let old = h.under_way.acks_are x i in omega (arith, old, up);
+    };
+    told_soon = h.told_soon;
+    none_lost = record {
+      datas = stays_taken (IsDone w) (IsDone (hears_data c cs w)) s.datas c cs (λ x done. omega (arith, done, up)) (omega arith)
+          (subst (λ (ds : List Copy). Stays (IsDone w) s.datas ds) may.first h.none_lost.datas);
+      acks = h.none_lost.acks;
+    };
+    flags = record {
+      data_fin = flag_taken w.data_fin_sent w.data_fin_came (λ x. x.data_fin) c cs
+          (subst (λ (ds : List Copy). (w.data_fin_sent ≤ w.data_fin_came) ⊎ OneHas (λ x. w.data_fin_sent ≤ x.data_fin) ds) may.first h.flags.data_fin);
+      control = flag_taken w.control_sent w.control_came (λ x. x.control) c cs
+          (subst (λ (ds : List Copy). (w.control_sent ≤ w.control_came) ⊎ OneHas (λ x. w.control_sent ≤ x.control) ds) may.first h.flags.control);
+      keys = flag_taken w.keys_sent w.keys_came (λ x. x.keys) c cs
+          (subst (λ (ds : List Copy). (w.keys_sent ≤ w.keys_came) ⊎ OneHas (λ x. w.keys_sent ≤ x.keys) ds) may.first h.flags.keys);
+      once = omega (arith, once);
+    };
+    timer = h.timer;
+    shut = h.shut;
+    turns = h.turns;
+    repeats = record {
+      last = h.repeats.last;
+      few = few;
+    };
+    asked = record { next = λ e. absurd (both_ways _ e refl); limit = h.asked.limit };
+    answered = record { all = λ e. absurd (both_ways _ e refl); window = h.answered.window };
+    emitted = h.emitted;
+    none_due = λ over. absurd (both_ways _ over may.turn);
+  }
+    where
+      chain : Chain w.received (c ∷ cs) w.granted
+      chain = subst (λ (ds : List Copy). Chain w.received ds w.granted) may.first h.under_way.chain
+
+      up : w.received ≤ c.high
+      up = chain.1
+
+      times : Timed w.clock (c ∷ cs) (w.clock + k.delay)
+      times = subst (λ (ds : List Copy). Timed w.clock ds (w.clock + k.delay)) may.first h.under_way.datas_at
+
+      held : (x : Copy) → In x (c ∷ cs) → (x.data_fin ≤ w.data_fin_sent) × (x.control ≤ w.control_sent) × (x.keys ≤ w.keys_sent)
+      held = subst (λ (ds : List Copy). (x : Copy) → In x ds → (x.data_fin ≤ w.data_fin_sent) × (x.control ≤ w.control_sent) × (x.keys ≤ w.keys_sent))
+          may.first h.under_way.datas_are
+
+      are : (c.data_fin ≤ w.data_fin_sent) × (c.control ≤ w.control_sent) × (c.keys ≤ w.keys_sent)
+      are = held c (inl refl)
+
+      once : data_fins (c ∷ cs) + w.data_fin_came ≤ w.data_fin_sent
+      once = subst (λ (ds : List Copy). data_fins ds + w.data_fin_came ≤ w.data_fin_sent) may.first h.flags.once
+
+      before : (b : Bool) → w.row + repeated w.heard w.acks
+            + cond b (((1 - (data_ack k w - w.told.next)) - (w.control_came - w.told.seen)) - (w.keys_came - w.told.dss)) 0 ≤ w.said + w.data_fin_came
+          → w.row + repeated w.heard w.acks ≤ w.said + w.data_fin_came
+      before true e = omega (arith, e)
+      before false e = omega (arith, e)
+
+      few : w.row + repeated w.heard w.acks + pending k (record p { ask = true; tell = true }) (hears_data c cs w)
+          ≤ w.said + max w.data_fin_came c.data_fin
+      few = let old = before p.tell h.repeats.few in omega (arith, old, once, may.news, chain.0, up, h.numbers.told)
+
+  pub skipped_going : (c : Copy) (cs : List Copy) (w : Lane) → MaySkip p c cs w → Going k s t p w → Going k s t p (skipped cs w)
+  skipped_going c cs w may h = ?
+
+  pub acknowledged_going : (c : Copy) (cs : List Copy) (w : Lane) → MayHearAck p c cs w → Going k s t p w → Going k s t p (hears_ack c cs w)
+  acknowledged_going c cs w may h = ?

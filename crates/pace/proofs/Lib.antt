@@ -1,0 +1,6 @@
+pub mod Applying
+pub mod Hearing
+pub mod Lists
+pub mod Saying
+pub mod Sending
+pub mod Settling
