@@ -17,6 +17,15 @@ flag_taken n m f c cs (inr one) = ⊎_elim
     (λ rest. inr (record { copy = one.copy; among = rest; has = one.has }))
     one.among
 
+-- the first segment has nothing that hadn't come
+flag_passed : (n m : ℕ) (f : Copy → ℕ) (c : Copy) (cs : List Copy) → f c ≤ m → (n ≤ m) ⊎ OneHas (λ x. n ≤ f x) (c ∷ cs)
+    → (n ≤ m) ⊎ OneHas (λ x. n ≤ f x) cs
+flag_passed n m f c cs old (inl came) = inl came
+flag_passed n m f c cs old (inr one) = ⊎_elim
+    (λ here. inl (let has = subst (λ (x : Copy). n ≤ f x) here one.has in omega (arith, has, old)))
+    (λ rest. inr (record { copy = one.copy; among = rest; has = one.has }))
+    one.among
+
 module _ (k : Setting) (s : Lane) (t : ℕ) (p : Stage) where
   pub heard_going : (c : Copy) (cs : List Copy) (w : Lane) → MayHearData p c cs w → Going k s t p w
       → Going k s t (record p { ask = true; tell = true }) (hears_data c cs w)
@@ -89,7 +98,140 @@ module _ (k : Setting) (s : Lane) (t : ℕ) (p : Stage) where
       few = let old = before p.tell h.repeats.few in omega (arith, old, once, may.news, chain.0, up, h.numbers.told)
 
   pub skipped_going : (c : Copy) (cs : List Copy) (w : Lane) → MaySkip p c cs w → Going k s t p w → Going k s t p (skipped cs w)
-  skipped_going c cs w may h = ?
+  skipped_going c cs w may h = record {
+    numbers = omega (arith, h.numbers);
+    since = omega (arith, h.since);
+    round = omega (arith, h.round);
+    under_way = record {
+      chain = subst (λ (n : ℕ). Chain n cs w.granted) same chain.2;
+      datas_at = timed_from c.at w.clock (w.clock + k.delay) cs times.0 times.1;
+      acks_at = h.under_way.acks_at;
+      datas_are = λ x i. held x (inr i);
+      acks_are = h.under_way.acks_are;
+    };
+    told_soon = h.told_soon;
+    none_lost = record {
+      datas = stays_taken (IsDone w) (IsDone w) s.datas c cs (λ x done. done) (omega (arith, same, may))
+          (subst (λ (ds : List Copy). Stays (IsDone w) s.datas ds) may.first h.none_lost.datas);
+      acks = h.none_lost.acks;
+    };
+    flags = record {
+      data_fin = flag_passed w.data_fin_sent w.data_fin_came (λ x. x.data_fin) c cs (omega (arith, may.data_fin))
+          (subst (λ (ds : List Copy). (w.data_fin_sent ≤ w.data_fin_came) ⊎ OneHas (λ x. w.data_fin_sent ≤ x.data_fin) ds) may.first h.flags.data_fin);
+      control = flag_passed w.control_sent w.control_came (λ x. x.control) c cs may.control
+          (subst (λ (ds : List Copy). (w.control_sent ≤ w.control_came) ⊎ OneHas (λ x. w.control_sent ≤ x.control) ds) may.first h.flags.control);
+      keys = flag_passed w.keys_sent w.keys_came (λ x. x.keys) c cs may.keys
+          (subst (λ (ds : List Copy). (w.keys_sent ≤ w.keys_came) ⊎ OneHas (λ x. w.keys_sent ≤ x.keys) ds) may.first h.flags.keys);
+      once = omega (arith, once);
+    };
+    timer = h.timer;
+    shut = h.shut;
+    turns = h.turns;
+    repeats = h.repeats;
+    asked = h.asked;
+    answered = h.answered;
+    emitted = h.emitted;
+    none_due = λ over. absurd (both_ways _ over may.turn);
+  }
+    where
+      chain : Chain w.received (c ∷ cs) w.granted
+      chain = subst (λ (ds : List Copy). Chain w.received ds w.granted) may.first h.under_way.chain
+
+      same : c.high ≡ w.received
+      same = omega (arith, chain.0, chain.1, may.bytes)
+
+      times : Timed w.clock (c ∷ cs) (w.clock + k.delay)
+      times = subst (λ (ds : List Copy). Timed w.clock ds (w.clock + k.delay)) may.first h.under_way.datas_at
+
+      held : (x : Copy) → In x (c ∷ cs) → (x.data_fin ≤ w.data_fin_sent) × (x.control ≤ w.control_sent) × (x.keys ≤ w.keys_sent)
+      held = subst (λ (ds : List Copy). (x : Copy) → In x ds → (x.data_fin ≤ w.data_fin_sent) × (x.control ≤ w.control_sent) × (x.keys ≤ w.keys_sent))
+          may.first h.under_way.datas_are
+
+      once : data_fins (c ∷ cs) + w.data_fin_came ≤ w.data_fin_sent
+      once = subst (λ (ds : List Copy). data_fins ds + w.data_fin_came ≤ w.data_fin_sent) may.first h.flags.once
 
   pub acknowledged_going : (c : Copy) (cs : List Copy) (w : Lane) → MayHearAck p c cs w → Going k s t p w → Going k s t p (hears_ack c cs w)
-  acknowledged_going c cs w may h = ?
+  acknowledged_going c cs w may h = record {
+    numbers = omega (arith, here, h.numbers);
+    since = omega (arith, h.since);
+    round = omega (arith, h.round);
+    under_way = record {
+      chain = h.under_way.chain;
+      datas_at = h.under_way.datas_at;
+      acks_at = timed_from c.at w.clock (w.clock + k.delay) cs times.0 times.1;
+      datas_are = h.under_way.datas_are;
+      acks_are = λ x i. held x (inr i);
+    };
+    told_soon = told (subst (λ (xs : List Copy). Covers (all_heard w) w.told ⊎ OneHas (λ x. Covers x.telling w.told) xs) may.first h.told_soon);
+    none_lost = record {
+      datas = h.none_lost.datas;
+      acks = stays_taken (λ x. Covers (all_heard w) x.telling) (λ x. Covers (all_heard (hears_ack c cs w)) x.telling) s.acks c cs
+          (λ x all. omega (arith, all)) (omega arith)
+          (subst (λ (xs : List Copy). Stays (λ x. Covers (all_heard w) x.telling) s.acks xs) may.first h.none_lost.acks);
+    };
+    flags = h.flags;
+    timer = record {
+      late = late (nat_lt w.acked c.telling.next) refl w.timer refl h.timer.late;
+      anew = anew (nat_lt w.acked c.telling.next) refl w.timer refl h.timer.anew;
+    };
+    shut = h.shut;
+    turns = h.turns;
+    repeats = record {
+      last = subst (λ (xs : List Copy). LastIs w.heard xs w.told) may.first h.repeats.last;
+      few = let row = row_within (repeats w.heard c) w.row in omega (arith, row, few);
+    };
+    asked = h.asked;
+    answered = h.answered;
+    emitted = record {
+      bytes = λ over. absurd (both_ways _ over may.emit);
+      known = λ over. absurd (both_ways _ over may.emit);
+      data_fin = λ over. absurd (both_ways _ over may.finish);
+    };
+    none_due = λ over. absurd (both_ways _ over may.turn);
+  }
+    where
+      times : Timed w.clock (c ∷ cs) (w.clock + k.delay)
+      times = subst (λ (xs : List Copy). Timed w.clock xs (w.clock + k.delay)) may.first h.under_way.acks_at
+
+      held : (x : Copy) → In x (c ∷ cs) → Covers (may_tell k w) x.telling
+      held = subst (λ (xs : List Copy). (x : Copy) → In x xs → Covers (may_tell k w) x.telling) may.first h.under_way.acks_are
+
+      here : Covers (may_tell k w) c.telling
+      here = held c (inl refl)
+
+      few : w.row + repeated w.heard (c ∷ cs) + pending k p w ≤ w.said + w.data_fin_came
+      few = subst (λ (xs : List Copy). w.row + repeated w.heard xs + pending k p w ≤ w.said + w.data_fin_came) may.first h.repeats.few
+
+      told : Covers (all_heard w) w.told ⊎ OneHas (λ x. Covers x.telling w.told) (c ∷ cs) → IsToldSoon (hears_ack c cs w)
+      told (inl all) = inl (omega (arith, all))
+      told (inr one) = ⊎_elim
+          (λ same. inl (let has = subst (λ (x : Copy). Covers x.telling w.told) same one.has in omega (arith, has)))
+          (λ rest. inr (record { copy = one.copy; among = rest; has = one.has }))
+          one.among
+
+      -- where a timer runs, neither SYN nor FIN is acknowledged by it
+      seen : (x : ℕ) → w.timer ≡ Some x → c.telling.seen ≤ w.control_acked
+      seen x runs = ⊎_elim (λ more. absurd (unset (may.rests more))) (λ old. old) (cases_lt w.control_acked c.telling.seen)
+        where
+          unset : w.timer ≡ None → ⊥
+          unset none = cc
+
+      still : c.telling.next ≤ w.acked → c.telling.seen ≤ w.control_acked → Reason k w → Reason k (hears_ack c cs w)
+      still next seen (inl control) = inl (omega (arith, control, seen))
+      still next seen (inr bytes) = inr (omega (arith, bytes, next))
+
+      late : (b : Bool) → nat_lt w.acked c.telling.next ≡ b → (o : Option ℕ) → w.timer ≡ o → IfSome o (λ x. Reason k w × (t ≤ x))
+          → IfSome (cond b None o) (λ x. Reason k (hears_ack c cs w) × (t ≤ x))
+      late true e o is old = tt
+      late false e None is old = tt
+      late false e (Some x) is old = (still (ltb-false _ _ e) (seen x is) old.0, old.1)
+
+      anew : (b : Bool) → nat_lt w.acked c.telling.next ≡ b → (o : Option ℕ) → w.timer ≡ o → IsOld s w ⊎ IfSome o (λ x. s.clock + k.rto ≤ x)
+          → IsOld s (hears_ack c cs w) ⊎ IfSome (cond b None o) (λ x. s.clock + k.rto ≤ x)
+      anew true e o is old = inr tt
+      anew false e None is old = inr tt
+      anew false e (Some x) is (inr new) = inr new
+      anew false e (Some x) is (inl kept) =
+          let next = ltb-false _ _ e in
+          let control = seen x is in
+          inl (kept.0, omega (arith, kept.1, next), omega (arith, kept.2, control))

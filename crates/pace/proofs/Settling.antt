@@ -3,7 +3,7 @@ use Rattle.std.proofs.Common.{◌≡◌, refl, sym, subst, ℕ, ◌+◌, ◌-◌
 use Rattle.std.proofs.lemmas.Bool.{both_ways}
 use Rattle.pace.specs.Lane.{Setting, Copy, Lane, Stage}
 use Rattle.pace.specs.Rules.{refused_by, tick_or, settled_by, rested, flagged, grown, moved_to}
-use Rattle.pace.specs.Lists.{In, OneHas, first_at}
+use Rattle.pace.specs.Lists.{first_at, repeated}
 use Rattle.pace.specs.Going.{Going, Reason, IsOld, IsToldSoon, Covers, all_heard, pending}
 use Rattle.pace.specs.Moves.{HasEmitted, MayRefuse, MayFlag, MayMove, IsBefore}
 use Rattle.pace.proofs.Lists.{stays_done, timed_moved, if_some_map}
@@ -21,7 +21,10 @@ module _ (k : Setting) (s : Lane) (t : ℕ) (p : Stage) where
     timer = h.timer;
     shut = h.shut;
     turns = h.turns;
-    repeats = record { last = h.repeats.last; few = subst (λ (b : Bool). w.row + _ + pending k (record p { tell = b }) w ≤ w.said + w.data_fin_came) may.tell h.repeats.few };
+    repeats = record {
+      last = h.repeats.last;
+      few = subst (λ (b : Bool). w.row + repeated w.heard w.acks + pending k (record p { tell = b }) w ≤ w.said + w.data_fin_came) may.tell h.repeats.few;
+    };
     asked = record { next = λ e. h.asked.next (may.ask e); limit = λ e. h.asked.limit (may.window e) };
     answered = record { all = λ e. h.answered.all (subst (λ (b : Bool). b ≡ false) (sym may.tell) e); window = λ e. h.answered.window (may.update e) };
     emitted = record {

@@ -1,9 +1,5 @@
-use Rattle.pace.proofs.Applying
-use Rattle.pace.proofs.Saying
-use Rattle.pace.proofs.Sending
-use Rattle.pace.proofs.Settling
-use Rattle.pace.proofs.Hearing
+use Rattle.pace.proofs.Moving.{moves_going}
 use Rattle.pace.proofs.laws.lanes_go_on.Goals as goal
 
 pub returns : goal.returns
-returns c = ?
+returns c k ranges s t p w h q u move = moves_going k s t p w q u move h
