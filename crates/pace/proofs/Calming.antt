@@ -34,7 +34,57 @@ module _ (k : Setting) (ranges : HasRanges k) where
     timer = subst (λ (o : Option ℕ). IfSome o (λ y. Reason k u × (u.until + 800 ≤ y))) (sym is) (reason, late);
   }
 
-  -- one that has waited longer
-  waits_on : (w u : Lane) → HasWaited k w → Passed k w u → (x : ℕ) → u.timer ≡ Some x → Reason k u → (y : ℕ) → y ≤ x
-      → u.acked ≤ w.acked → u.control_acked ≤ w.control_acked → (b : HasWaited k w) → b.base.until + 800 ≤ x → HasWaited k u
-  waits_on w u a passed x is reason y later same same_control b late = ?
+  -- one that has waited longer: after the eighth round there would be news
+  waits_on : (w u : Lane) → Passed k w u → (x : ℕ) → u.timer ≡ Some x → Reason k u → u.acked ≤ w.acked → u.control_acked ≤ w.control_acked
+      → (b : HasWaited k w) → b.base.until + 800 ≤ x → HasWaited k u
+  waits_on w u passed x is reason same same_control b late = ⊎_elim
+      (λ more. record {
+        base = b.base;
+        count = suc b.count;
+        few = more;
+        ended = b.ended;
+        reason = b.reason;
+        trail = (w, b.trail, passed);
+        same = omega (arith, same, b.same);
+        same_control = omega (arith, same_control, b.same_control);
+        ticks = omega (arith, b.ticks, passed.going.round.same);
+        timer = subst (λ (o : Option ℕ). IfSome o (λ y. Reason k u × (b.base.until + 800 ≤ y))) (sym is) (reason, late);
+      })
+      (λ over. absurd (news (eight k ranges b.base u b.ended b.reason (w, subst (λ (n : ℕ). Trail k n b.base w) (seventh over) b.trail, passed))))
+      (cases_lt b.count 7)
+    where
+      seventh : 7 ≤ b.count → b.count ≡ 7
+      seventh over = omega (arith, over, b.few)
+
+      news : (b.base.acked < u.acked) ⊎ (b.base.control_acked < u.control_acked) → ⊥
+      news (inl more) = omega (arith, more, same, b.same)
+      news (inr more) = omega (arith, more, same_control, b.same_control)
+
+  pub calm_ends : (w u : Lane) (c : Calm k w) → Going k (opens_round w) (calm_tick k w c) none_left u → u.writer_over ≡ true → u.reader_over ≡ true
+      → Passed k w u × Calm k u
+  calm_ends w u c h writer reader = (passed, record { ended = ended; still = by c.still u.timer refl h.timer.late h.timer.anew })
+    where
+      passed : Passed k w u
+      passed = record { tick = calm_tick k w c; going = h; writer = writer; reader = reader }
+
+      ended : Ended k u
+      ended = record { begun = opens_round w; tick = calm_tick k w c; going = h }
+
+      by : (still : IsStill k w) (o : Option ℕ) → u.timer ≡ o → IfSome o (λ x. Reason k u × (tick_by k w still ≤ x))
+          → IsOld (opens_round w) u ⊎ IfSome o (λ x. w.until + k.rto ≤ x) → IsStill k u
+      by still None is late anew = rests is
+      by still (Some x) is late (inr new) = waits (begun_now u ended x is late.0 (omega (arith, new, h.round.same, ranges.rto)))
+      by (rests none) (Some x) is late (inl old) = absurd (subst IsSet none old.0)
+      by (waits b) (Some x) is late (inl old) = waits (waits_on w u passed x is late.0 old.1 old.2 b late.1)
+
+  -- the first round, in which a timer runs only if it began in it
+  pub calm_at_first : (window t : ℕ) (u : Lane) → Going k (first_lane window) t none_left u → Calm k u
+  calm_at_first window t u h = record { ended = ended; still = by u.timer refl h.timer.late h.timer.anew }
+    where
+      ended : Ended k u
+      ended = record { begun = first_lane window; tick = t; going = h }
+
+      by : (o : Option ℕ) → u.timer ≡ o → IfSome o (λ x. Reason k u × (t ≤ x)) → IsOld (first_lane window) u ⊎ IfSome o (λ x. 0 + k.rto ≤ x) → IsStill k u
+      by None is late anew = rests is
+      by (Some x) is late (inl old) = absurd old.0
+      by (Some x) is late (inr new) = waits (begun_now u ended x is late.0 (omega (arith, new, h.round.same, ranges.rto)))

@@ -1,6 +1,4 @@
 use Rattle.pace.proofs.Moving.{moves_going}
-use Rattle.pace.proofs.Passing
-use Rattle.pace.proofs.Calming
 use Rattle.pace.proofs.laws.lanes_go_on.Goals as goal
 
 pub returns : goal.returns
