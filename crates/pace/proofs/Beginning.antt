@@ -4,7 +4,7 @@ use Rattle.std.proofs.lemmas.Bool.{both_ways}
 use Rattle.pace.specs.Lane.{Setting, Lane, all_left, none_left}
 use Rattle.pace.specs.Rules.{first_lane, opens_round}
 use Rattle.pace.specs.Going.{Going, Reason, IsSet, IsOld}
-use Rattle.pace.specs.Rounds.{Ended}
+use Rattle.pace.specs.Ends.{Ended}
 use Rattle.pace.specs.Laws.{HasRanges}
 use Rattle.pace.proofs.Lists.{timed_moved}
 

@@ -4,10 +4,12 @@ use Rattle.std.proofs.lemmas.Bool.{cases_lt}
 use Rattle.pace.specs.Lane.{Setting, Lane, all_left, none_left}
 use Rattle.pace.specs.Rules.{first_lane, opens_round}
 use Rattle.pace.specs.Going.{Going, Reason, IsOld, IsSet}
-use Rattle.pace.specs.Rounds.{Ended, Passed, Trail, HasWaited, IsStill, Calm, tick_by, calm_tick}
-use Rattle.pace.specs.Rounds.IsStill.{rests, waits}
+use Rattle.pace.specs.Ends.{Ended, Passed, Trail, HasWaited, IsStill, Calm, tick_by, calm_tick}
+use Rattle.pace.specs.Ends.IsStill.{rests, waits}
 use Rattle.pace.specs.Laws.{HasRanges}
-use Rattle.pace.proofs.Beginning.{begins}
+use Rattle.pace.specs.Rounds.{Round}
+use Rattle.pace.proofs.Beginning.{first_going, begins}
+use Rattle.pace.proofs.Moving.{all_moves_going}
 use Rattle.pace.proofs.Passing.{eight}
 
 module _ (k : Setting) (ranges : HasRanges k) where
@@ -88,3 +90,11 @@ module _ (k : Setting) (ranges : HasRanges k) where
       by None is late anew = rests is
       by (Some x) is late (inl old) = absurd old.0
       by (Some x) is late (inr new) = waits (begun_now u ended x is late.0 (omega (arith, new, h.round.same, ranges.rto)))
+
+  pub first_rounds : (window : ℕ) (u : Lane) → k.payload + k.payload ≤ window → Round k (first_lane window) u → Calm k u
+  first_rounds window u wide r =
+      calm_at_first window k.rto u (all_moves_going k (first_lane window) k.rto r.count _ _ none_left u r.moves (first_going k ranges window wide))
+
+  pub later_rounds : (w u : Lane) → Calm k w → Round k (opens_round w) u → Passed k w u × Calm k u
+  later_rounds w u c r =
+      calm_ends w u c (all_moves_going k (opens_round w) (calm_tick k w c) r.count _ _ none_left u r.moves (calm_begins w c)) r.writer r.reader

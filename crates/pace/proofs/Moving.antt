@@ -1,9 +1,10 @@
--- Each move keeps what holds of a lane.
-use Rattle.std.proofs.Common.{ℕ}
+-- Each move keeps what holds of a lane, and so do many.
+use Rattle.std.proofs.Common.{◌≡◌, ℕ, zero, suc, subst, subst₂}
 use Rattle.pace.specs.Lane.{Setting, Lane, Stage}
 use Rattle.pace.specs.Going.{Going}
 use Rattle.pace.specs.Moves.{Move}
 use Rattle.pace.specs.Moves.Move.{writes, closes, ends_writing, reads, ends_reading, asks, says, keeps_quiet, sends_none, sends_bytes, is_refused, has_emitted, has_finished, waits_no_more, settles, rests, flags, grows, moves, hears, skips, is_acknowledged, goes_back}
+use Rattle.pace.specs.Rounds.{Moves}
 use Rattle.pace.proofs.Applying.{wrote_going, closed_going, writer_ended_going, read_going, reader_ended_going}
 use Rattle.pace.proofs.Saying.{asked_going, said_going, quiet_going}
 use Rattle.pace.proofs.Sending.{sent_going, granted_going}
@@ -35,3 +36,7 @@ module _ (k : Setting) (s : Lane) (t : ℕ) (p : Stage) (w : Lane) where
   moves_going q u (skips c rest may) = skipped_going k s t p c rest w may
   moves_going q u (is_acknowledged c rest may) = acknowledged_going k s t p c rest w may
   moves_going q u (goes_back r may) = back_going k s t p r w may
+
+pub all_moves_going : (k : Setting) (s : Lane) (t n : ℕ) (p : Stage) (w : Lane) (q : Stage) (u : Lane) → Moves k s n p w q u → Going k s t p w → Going k s t q u
+all_moves_going k s t zero p w q u same h = subst₂ (λ (r : Stage) (v : Lane). Going k s t r v) same.0 same.1 h
+all_moves_going k s t (suc n) p w q u m h = moves_going k s t m.0 m.1 q u m.3 (all_moves_going k s t n p w m.0 m.1 m.2 h)

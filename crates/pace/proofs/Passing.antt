@@ -5,7 +5,7 @@ use Rattle.pace.specs.Lane.{Setting, Copy, Lane, none_left}
 use Rattle.pace.specs.Rules.{opens_round}
 use Rattle.pace.specs.Lists.{In, OneHas, Timed, first_at}
 use Rattle.pace.specs.Going.{Going, Reason, Covers, all_heard, IsDone, IsToldSoon}
-use Rattle.pace.specs.Rounds.{Ended, Passed, Trail}
+use Rattle.pace.specs.Ends.{Ended, Passed, Trail}
 use Rattle.pace.specs.Laws.{HasRanges}
 use Rattle.pace.proofs.Lists.{timed_within, chain_has}
 

@@ -2,8 +2,10 @@
 use Rattle.std.proofs.Common.{◌≡◌, refl, sym, subst, ℕ, zero, suc, ◌+◌, ◌*◌, ◌<◌, ◌≤◌, min, ◌⊎◌, inl, inr, ⊎_elim, suc-mul, arith}
 use Rattle.std.proofs.lemmas.Bool.{cases_lt}
 use Rattle.pace.specs.Lane.{Setting, Lane}
-use Rattle.pace.specs.Rounds.{Ended, Passed, Trail, Linked, Twin}
+use Rattle.pace.specs.Rounds.{Linked, Course}
+use Rattle.pace.specs.Ends.{Ended, Passed, Trail, LinkedTrail, Calm}
 use Rattle.pace.specs.Laws.{HasRanges}
+use Rattle.pace.proofs.Calming.{first_rounds, later_rounds}
 use Rattle.pace.proofs.Passing.{HasArrived, end_of, arrives, seven, six}
 
 -- so many of the rounds, and the rest
@@ -58,11 +60,11 @@ module _ (k : Setting) (ranges : HasRanges k) where
           (omega (arith, long, p.sum)) p.last
 
 module _ (k j : Setting) (ranges : HasRanges k) (others : HasRanges j) where
-  forth : (n : ℕ) (w v u x : Lane) → Twin k j n w v u x → Trail k n w u
+  forth : (n : ℕ) (w v u x : Lane) → LinkedTrail k j n w v u x → Trail k n w u
   forth zero w v u x t = t.0
   forth (suc n) w v u x t = (t.0, forth n w v t.0 t.1 t.2, t.3)
 
-  back : (n : ℕ) (w v u x : Lane) → Twin k j n w v u x → Trail j n v x
+  back : (n : ℕ) (w v u x : Lane) → LinkedTrail k j n w v u x → Trail j n v x
   back zero w v u x t = t.1
   back (suc n) w v u x t = (t.1, back n w v t.0 t.1 t.2, t.4)
 
@@ -71,10 +73,10 @@ module _ (k j : Setting) (ranges : HasRanges k) (others : HasRanges j) where
     there : Lane
     rest : ℕ
     sum : a + rest ≡ m
-    first : Twin k j a w v here there
-    last : Twin k j rest here there u x
+    first : LinkedTrail k j a w v here there
+    last : LinkedTrail k j rest here there u x
 
-  halves : (a m : ℕ) (w v u x : Lane) → a ≤ m → Twin k j m w v u x → Halves a m w v u x
+  halves : (a m : ℕ) (w v u x : Lane) → a ≤ m → LinkedTrail k j m w v u x → Halves a m w v u x
   halves zero zero w v u x within t = record { here = w; there = v; rest = 0; sum = refl; first = (refl, refl); last = t }
   halves (suc a) zero w v u x within t = absurd (omega (arith, within))
   halves a (suc m) w v u x within t = go (λ inner. halves a m w v t.0 t.1 inner t.2) (cases_lt m a)
@@ -82,7 +84,7 @@ module _ (k j : Setting) (ranges : HasRanges k) (others : HasRanges j) where
       go : (a ≤ m → Halves a m w v t.0 t.1) → (m < a) ⊎ (a ≤ m) → Halves a (suc m) w v u x
       go split (inl all) =
           let same : suc m ≡ a = omega (arith, within, all) in
-          record { here = u; there = x; rest = 0; sum = omega (arith, same); first = subst (λ (n : ℕ). Twin k j n w v u x) same t; last = (refl, refl) }
+          record { here = u; there = x; rest = 0; sum = omega (arith, same); first = subst (λ (n : ℕ). LinkedTrail k j n w v u x) same t; last = (refl, refl) }
       go split (inr inner) =
           let p = split inner in
           record { here = p.here; there = p.there; rest = suc p.rest; sum = omega (arith, p.sum); first = p.first; last = (t.0, t.1, p.last, t.3, t.4, t.5) }
@@ -117,7 +119,7 @@ module _ (k j : Setting) (ranges : HasRanges k) (others : HasRanges j) where
     flags : (1 ≤ u.ready) × (1 ≤ u.clear)
     flags_back : (1 ≤ x.ready) × (1 ≤ x.clear)
 
-  opens : (w v u x : Lane) → Ended k w → Ended j v → 1 ≤ w.control_sent → Twin k j 8 w v u x → IsOpen u x
+  opens : (w v u x : Lane) → Ended k w → Ended j v → 1 ≤ w.control_sent → LinkedTrail k j 8 w v u x → IsOpen u x
   opens w v u x ended ended_back syn t8 =
       let t7 = t8.2 in
       let t6 = t7.2 in
@@ -145,11 +147,57 @@ module _ (k j : Setting) (ranges : HasRanges k) (others : HasRanges j) where
         flags_back = omega (arith, syn, a.came, answered, b.came_back, keys, c.keys, back_ready, back_clear, d.flags);
       }
 
+  -- a course is rounds from the end of the first one on, and ends calm
+  record IsRounds (m : ℕ) (u x : Lane) : Type 0 where
+    from : Lane
+    from_back : Lane
+    ended : Ended k from
+    ended_back : Ended j from_back
+    syn : 1 ≤ from.control_sent
+    trail : LinkedTrail k j m from from_back u x
+    calm : Calm k u
+    calm_back : Calm j x
+
+  rounds_of : (a b : ℕ) → k.payload + k.payload ≤ a → j.payload + j.payload ≤ b → (m : ℕ) (u x : Lane) → Course k j a b m u x → IsRounds m u x
+  rounds_of a b wide wide_back zero u x course =
+      let calm = first_rounds k ranges a u wide course.0 in
+      let calm_back = first_rounds j others b x wide_back course.1 in
+      record {
+        from = u;
+        from_back = x;
+        ended = calm.ended;
+        ended_back = calm_back.ended;
+        syn = course.3;
+        trail = (refl, refl);
+        calm = calm;
+        calm_back = calm_back;
+      }
+  rounds_of a b wide wide_back (suc m) u x course =
+      let before = rounds_of a b wide wide_back m course.0 course.1 course.2 in
+      let next = later_rounds k ranges course.0 u before.calm course.3 in
+      let next_back = later_rounds j others course.1 x before.calm_back course.4 in
+      record {
+        from = before.from;
+        from_back = before.from_back;
+        ended = before.ended;
+        ended_back = before.ended_back;
+        syn = before.syn;
+        trail = (course.0, course.1, before.trail, next.0, next_back.0, course.5);
+        calm = next.1;
+        calm_back = next_back.1;
+      }
+
   pub both_told : (n m : ℕ) (w v u x : Lane) → Ended k w → Ended j v → 1 ≤ w.control_sent → k.total ≤ n * k.payload → j.total ≤ n * j.payload
-      → 7 * n + 14 ≤ m → Twin k j m w v u x → (1 ≤ u.told_end) × (1 ≤ x.told_end)
+      → 7 * n + 14 ≤ m → LinkedTrail k j m w v u x → (1 ≤ u.told_end) × (1 ≤ x.told_end)
   both_told n m w v u x ended ended_back syn enough enough_back long t =
       let p = halves 8 m w v u x (omega (arith, long)) t in
       let o = opens w v p.here p.there ended ended_back syn p.first in
       let later : 7 * n + 6 ≤ p.rest = omega (arith, long, p.sum) in
       (delivers k ranges n p.rest p.here u o.ended o.flags (omega (arith, enough)) later (forth p.rest p.here p.there u x p.last),
         delivers j others n p.rest p.there x o.ended_back o.flags_back (omega (arith, enough_back)) later (back p.rest p.here p.there u x p.last))
+
+  pub courses_told : (a b : ℕ) → k.payload + k.payload ≤ a → j.payload + j.payload ≤ b → (n m : ℕ) → k.total ≤ n * k.payload
+      → j.total ≤ n * j.payload → 7 * n + 14 ≤ m → (u x : Lane) → Course k j a b m u x → (1 ≤ u.told_end) × (1 ≤ x.told_end)
+  courses_told a b wide wide_back n m enough enough_back long u x course =
+      let r = rounds_of a b wide wide_back m u x course in
+      both_told n m r.from r.from_back u x r.ended r.ended_back r.syn enough enough_back long r.trail

@@ -1,57 +1,20 @@
--- Rounds of a lane, one after the other, and what holds at their ends.
-use Rattle.std.specs.Prelude.{ℕ, zero, suc, ◌≡◌, ◌+◌, ◌*◌, ◌≤◌, min, true, Option, Some, None, IfSome}
-use Rattle.pace.specs.Lane.{Setting, Lane, all_left, none_left}
-use Rattle.pace.specs.Rules.{opens_round}
-use Rattle.pace.specs.Going.{Going, Reason}
+-- Rounds of moves, one after the other, from the opening of a connection on.
+use Rattle.std.specs.Prelude.{ℕ, zero, suc, ◌≡◌, ◌≤◌, min, true}
+use Rattle.pace.specs.Lane.{Setting, Lane, Stage, all_left, none_left}
+use Rattle.pace.specs.Rules.{opens_round, first_lane}
+use Rattle.pace.specs.Moves.{Move}
 
--- a round ended with this lane
-pub record Ended (k : Setting) (w : Lane) : Type 0 where
-  pub begun : Lane
-  pub tick : ℕ
-  pub going : Going k begun tick none_left w
+-- so many moves within a round that began at s, from one stage and lane to another
+abbrev pub Moves : Setting → Lane → ℕ → Stage → Lane → Stage → Lane → Type 0
+Moves k s zero p w q u = (p ≡ q) × (w ≡ u)
+Moves k s (suc n) p w q u = (r : Stage) × (v : Lane) × Moves k s n p w r v × Move k s r v q u
 
--- one round leads from w to u, in which both applications and the path came to the end of their turns
-pub record Passed (k : Setting) (w u : Lane) : Type 0 where
-  pub tick : ℕ
-  pub going : Going k (opens_round w) tick none_left u
+-- A whole round: it begins at s with everything still to be done, and ends once the path and both applications are at the end of their turns.
+pub record Round (k : Setting) (s u : Lane) : Type 0 where
+  pub count : ℕ
+  pub moves : Moves k s count all_left s none_left u
   pub writer : u.writer_over ≡ true
   pub reader : u.reader_over ≡ true
-
--- so many rounds lead from w to u
-abbrev pub Trail : Setting → ℕ → Lane → Lane → Type 0
-Trail k zero w u = w ≡ u
-Trail k (suc n) w u = (v : Lane) × Trail k n w v × Passed k v u
-
--- A timer runs at w, or may: since the end of a round at most seven rounds ago it has had a reason and no news, and it runs out no earlier than
--- 800 ticks after that end.
-pub record HasWaited (k : Setting) (w : Lane) : Type 0 where
-  pub base : Lane
-  pub count : ℕ
-  pub few : count ≤ 7
-  pub ended : Ended k base
-  pub reason : Reason k base
-  pub trail : Trail k count base w
-  pub same : w.acked ≤ base.acked
-  pub same_control : w.control_acked ≤ base.control_acked
-  pub ticks : w.until ≡ base.until + 100 * count
-  pub timer : IfSome w.timer (λ x. Reason k w × (base.until + 800 ≤ x))
-
-pub data IsStill (k : Setting) (w : Lane) : Type 0 where
-  rests : w.timer ≡ None → IsStill k w
-  waits : HasWaited k w → IsStill k w
-
--- a round ended, and no timer has waited for long
-pub record Calm (k : Setting) (w : Lane) : Type 0 where
-  pub ended : Ended k w
-  pub still : IsStill k w
-
-abbrev pub tick_by : (k : Setting) (w : Lane) → IsStill k w → ℕ
-tick_by k w (rests none) = w.until + k.rto
-tick_by k w (waits h) = h.base.until + 800
-
--- a tick before which no timer runs out in the round after a calm end
-abbrev pub calm_tick : (k : Setting) (w : Lane) → Calm k w → ℕ
-calm_tick k w c = tick_by k w c.still
 
 -- How the two lanes of a connection hang together at the ends of rounds: w is sent by the end that opens the connection, v by the other one.
 pub record Linked (w v : Lane) : Type 0 where
@@ -64,7 +27,7 @@ pub record Linked (w v : Lane) : Type 0 where
   pub ready_back : min 1 w.keys_came ≤ v.ready
   pub clear_back : min 1 w.keys_came ≤ v.clear
 
--- so many rounds lead from w and v to u and x, linked at the end of each
-abbrev pub Twin : Setting → Setting → ℕ → Lane → Lane → Lane → Lane → Type 0
-Twin k j zero w v u x = (w ≡ u) × (v ≡ x)
-Twin k j (suc n) w v u x = (y : Lane) × (z : Lane) × Twin k j n w v y z × Passed k y u × Passed j z x × Linked u x
+-- The first round and so many more lead both lanes to u and x, each lane by moves of its own. The SYN is sent in the first round.
+abbrev pub Course : Setting → Setting → ℕ → ℕ → ℕ → Lane → Lane → Type 0
+Course k j a b zero u x = Round k (first_lane a) u × Round j (first_lane b) x × Linked u x × (1 ≤ u.control_sent)
+Course k j a b (suc n) u x = (w : Lane) × (v : Lane) × Course k j a b n w v × Round k (opens_round w) u × Round j (opens_round v) x × Linked u x

@@ -1,7 +1,0 @@
-use Rattle.std.proofs.Common.{ℕ, ◌≤◌, arith}
-use Rattle.pace.specs.Going.{Reason}
-use Rattle.pace.proofs.Lists.{if_some_map}
-use Rattle.pace.proofs.laws.timers_outlast_the_round.Goals as goal
-
-pub returns : goal.returns
-returns c k ranges s t p w h = if_some_map (λ x. Reason k w × (t ≤ x)) (λ x. w.until ≤ x) w.timer (λ x runs. omega (arith, runs.1, h.round.timers)) h.timer.late
