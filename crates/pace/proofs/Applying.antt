@@ -1,5 +1,5 @@
 -- The applications' moves keep what holds of a lane.
-use Rattle.std.proofs.Common.{◌≡◌, ℕ, ◌+◌, ◌-◌, ◌≤◌, min, Bool, true, false, arith}
+use Rattle.std.proofs.Common.{ℕ, ◌+◌, ◌≤◌, arith}
 use Rattle.std.proofs.lemmas.Bool.{both_ways}
 use Rattle.pace.specs.Lane.{Setting, Lane, Stage}
 use Rattle.pace.specs.Rules.{wrote, closed_by, writer_ended, has_read, reader_ended}
@@ -109,7 +109,8 @@ module _ (k : Setting) (s : Lane) (t : ℕ) (p : Stage) where
     none_due = h.none_due;
   }
 
-  pub reader_ended_going : (n : ℕ) (w : Lane) → MayEndReading k s n w → Going k s t p w → Going k s t p (reader_ended n w)
+  pub reader_ended_going : (n : ℕ) (w : Lane) → MayEndReading k s n w → Going k s t p w
+      → Going k s t p (reader_ended n w)
   reader_ended_going n w may h = record {
     numbers = omega (arith, h.numbers);
     since = omega (arith, may, h.since);

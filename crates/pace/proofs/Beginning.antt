@@ -1,5 +1,5 @@
 -- What holds as the first round and each later one begins.
-use Rattle.std.proofs.Common.{◌≡◌, refl, sym, subst, ℕ, ◌+◌, ◌≤◌, Bool, true, false, ◌⊎◌, inl, inr, Option, Some, None, IfSome, le_refl, arith}
+use Rattle.std.proofs.Common.{◌≡◌, refl, sym, subst, ℕ, ◌+◌, ◌≤◌, ◌⊎◌, inl, inr, Option, Some, None, IfSome, le_refl, arith}
 use Rattle.std.proofs.lemmas.Bool.{both_ways}
 use Rattle.pace.specs.Lane.{Setting, Lane, all_left, none_left}
 use Rattle.pace.specs.Rules.{first_lane, opens_round}
@@ -9,7 +9,8 @@ use Rattle.pace.specs.Laws.{HasRanges}
 use Rattle.pace.proofs.Lists.{timed_moved}
 
 module _ (k : Setting) (ranges : HasRanges k) where
-  pub first_going : (window : ℕ) → k.payload + k.payload ≤ window → Going k (first_lane window) k.rto all_left (first_lane window)
+  pub first_going : (window : ℕ) → k.payload + k.payload ≤ window
+      → Going k (first_lane window) k.rto all_left (first_lane window)
   first_going window wide = record {
     numbers = omega (arith, wide);
     since = omega arith;
@@ -44,7 +45,8 @@ module _ (k : Setting) (ranges : HasRanges k) where
   }
 
   -- a round begins where one ended
-  pub begins : (w : Lane) → Ended k w → (t : ℕ) → w.until + 100 ≤ t → t ≤ w.until + k.rto → IfSome w.timer (λ x. Reason k w × (t ≤ x))
+  pub begins : (w : Lane) → Ended k w → (t : ℕ) → w.until + 100 ≤ t → t ≤ w.until + k.rto
+      → IfSome w.timer (λ x. Reason k w × (t ≤ x))
       → Going k (opens_round w) t all_left (opens_round w)
   begins w ended t late fresh timer = record {
     numbers = omega (arith, h.numbers);

@@ -1,5 +1,5 @@
 -- The words on segments on their way, as one is put at the end or taken from the front.
-use Rattle.std.proofs.Common.{◌≡◌, refl, sym, ap, subst, ℕ, zero, suc, ◌+◌, ◌-◌, ◌<◌, ◌≤◌, min, max, Bool, true, false, cond, ◌⊎◌, inl, inr, ⊎_elim, List, [], ◌∷◌, ◌++◌, Option, Some, None, IfSome, le_refl, le_trans, le_of_eq, arith}
+use Rattle.std.proofs.Common.{◌≡◌, refl, sym, subst, ℕ, zero, suc, ◌+◌, ◌≤◌, Bool, true, false, cond, ◌⊎◌, inl, inr, ⊎_elim, List, [], ◌∷◌, ◌++◌, Option, Some, None, IfSome, le_refl, le_of_eq, arith}
 use Rattle.pace.specs.Lane.{Telling, Copy}
 use Rattle.pace.specs.Rules.{tick_or, repeats, is_same, next_row}
 use Rattle.pace.specs.Lists.{In, OneHas, Timed, Chain, Stays, first_at, repeated, LastIs, data_fins}
@@ -23,7 +23,8 @@ in_either x c (y ∷ xs) (inl e) = inl (inl e)
 in_either x c (y ∷ xs) (inr h) = ⊎_elim (λ i. inl (inr i)) (λ e. inr e) (in_either x c xs h)
 
 -- what holds of each of them and of one more
-pub each_more : (P : Copy → Type 0) (x : Copy) (xs : List Copy) → P x → ((c : Copy) → In c xs → P c) → (c : Copy) → In c (xs ++ x ∷ []) → P c
+pub each_more : (P : Copy → Type 0) (x : Copy) (xs : List Copy) → P x → ((c : Copy) → In c xs → P c) → (c : Copy)
+    → In c (xs ++ x ∷ []) → P c
 each_more P x xs here all c i = ⊎_elim (λ among. all c among) (λ e. subst P (sym e) here) (in_either x c xs i)
 
 pub one_more : (P : Copy → Type 0) (xs ys : List Copy) → OneHas P xs → OneHas P (xs ++ ys)
@@ -34,11 +35,13 @@ one_more P xs ys h = record { copy = h.copy; among = in_more h.copy xs ys h.amon
 pub stays_more : (Done : Copy → Type 0) (before xs ys : List Copy) → Stays Done before xs → Stays Done before (xs ++ ys)
 stays_more Done before xs ys h c i = ⊎_elim (λ among. inl (in_more c xs ys among)) (λ done. inr done) (h c i)
 
-pub stays_done : (Done Later : Copy → Type 0) (before xs : List Copy) → ((c : Copy) → Done c → Later c) → Stays Done before xs → Stays Later before xs
+pub stays_done : (Done Later : Copy → Type 0) (before xs : List Copy) → ((c : Copy) → Done c → Later c)
+    → Stays Done before xs → Stays Later before xs
 stays_done Done Later before xs more h c i = ⊎_elim (λ among. inl among) (λ done. inr (more c done)) (h c i)
 
 -- the first is taken
-pub stays_taken : (Done Later : Copy → Type 0) (before : List Copy) (x : Copy) (xs : List Copy) → ((c : Copy) → Done c → Later c) → Later x
+pub stays_taken : (Done Later : Copy → Type 0) (before : List Copy) (x : Copy) (xs : List Copy)
+    → ((c : Copy) → Done c → Later c) → Later x
     → Stays Done before (x ∷ xs) → Stays Later before xs
 stays_taken Done Later before x xs more here h c i = ⊎_elim
     (λ among. ⊎_elim (λ e. inr (subst Later (sym e) here)) (λ rest. inl rest) among)
@@ -56,7 +59,8 @@ timed_up from to later [] up h = omega (arith, up, h)
 timed_up from to later (c ∷ cs) up h = (h.0, timed_up c.at to later cs up h.1)
 
 -- the clock goes on to a tick that is not past the first arrival
-pub timed_moved : (from to tick end later : ℕ) (cs : List Copy) → tick ≤ first_at end cs → tick ≤ later → to ≤ later → Timed from cs to → Timed tick cs later
+pub timed_moved : (from to tick end later : ℕ) (cs : List Copy) → tick ≤ first_at end cs → tick ≤ later
+    → to ≤ later → Timed from cs to → Timed tick cs later
 timed_moved from to tick end later [] first within up h = within
 timed_moved from to tick end later (c ∷ cs) first within up h = (first, timed_up c.at to later cs up h.1)
 
@@ -66,16 +70,20 @@ timed_from from before to (c ∷ cs) down h = (omega (arith, down, h.0), h.1)
 
 pub timed_within : (from to : ℕ) (cs : List Copy) (c : Copy) → Timed from cs to → In c cs → (from ≤ c.at) × (c.at ≤ to)
 timed_within from to [] c h i = absurd i
-timed_within from to (x ∷ xs) c h (inl e) = subst (λ (y : Copy). (from ≤ y.at) × (y.at ≤ to)) (sym e) (h.0, timed_to x.at to xs h.1)
+timed_within from to (x ∷ xs) c h (inl e) =
+    subst (λ (y : Copy). (from ≤ y.at) × (y.at ≤ to)) (sym e) (h.0, timed_to x.at to xs h.1)
   where
     timed_to : (low high : ℕ) (cs : List Copy) → Timed low cs high → low ≤ high
     timed_to low high [] t = t
     timed_to low high (y ∷ ys) t = let rest = timed_to y.at high ys t.1 in omega (arith, t.0, rest)
-timed_within from to (x ∷ xs) c h (inr i) = let rest = timed_within x.at to xs c h.1 i in (omega (arith, h.0, rest.0), rest.1)
+timed_within from to (x ∷ xs) c h (inr i) =
+    let rest = timed_within x.at to xs c h.1 i in
+    (omega (arith, h.0, rest.0), rest.1)
 
 -- ---- their bytes
 
-pub chain_more : (low high : ℕ) (x : Copy) (cs : List Copy) → x.low ≡ high → high ≤ x.high → Chain low cs high → Chain low (cs ++ x ∷ []) x.high
+pub chain_more : (low high : ℕ) (x : Copy) (cs : List Copy) → x.low ≡ high → high ≤ x.high → Chain low cs high
+    → Chain low (cs ++ x ∷ []) x.high
 chain_more low high x [] e up h = (omega (arith, e, h), omega (arith, up, h), refl)
 chain_more low high x (c ∷ cs) e up h = (h.0, h.1, chain_more c.high high x cs e up h.2)
 
@@ -93,7 +101,8 @@ chain_has low high (c ∷ cs) h = ⊎_elim
 
 -- ---- what they tell
 
-pub last_more : (before last : Telling) (x : Copy) (cs : List Copy) → LastIs before cs last → LastIs before (cs ++ x ∷ []) x.telling
+pub last_more : (before last : Telling) (x : Copy) (cs : List Copy) → LastIs before cs last
+    → LastIs before (cs ++ x ∷ []) x.telling
 last_more before last x [] h = refl
 last_more before last x (c ∷ cs) h = last_more c.telling last x cs h
 
@@ -124,6 +133,7 @@ pub if_some_map : (P Q : ℕ → Type 0) (o : Option ℕ) → ((x : ℕ) → P x
 if_some_map P Q None more h = tt
 if_some_map P Q (Some x) more h = more x h
 
-pub tick_late : (P : ℕ → Type 0) (t until : ℕ) (o : Option ℕ) → until ≤ t → IfSome o (λ x. P x × (t ≤ x)) → until ≤ tick_or until o
+pub tick_late : (P : ℕ → Type 0) (t until : ℕ) (o : Option ℕ) → until ≤ t → IfSome o (λ x. P x × (t ≤ x))
+    → until ≤ tick_or until o
 tick_late P t until None up h = le_refl until
 tick_late P t until (Some x) up h = omega (arith, up, h.1)

@@ -1,5 +1,5 @@
 -- Each move keeps what holds of a lane, and so do many.
-use Rattle.std.proofs.Common.{◌≡◌, ℕ, zero, suc, subst, subst₂}
+use Rattle.std.proofs.Common.{ℕ, zero, suc, subst₂}
 use Rattle.pace.specs.Lane.{Setting, Lane, Stage}
 use Rattle.pace.specs.Going.{Going}
 use Rattle.pace.specs.Moves.{Move}
@@ -37,6 +37,7 @@ module _ (k : Setting) (s : Lane) (t : ℕ) (p : Stage) (w : Lane) where
   moves_going q u (is_acknowledged c rest may) = acknowledged_going k s t p c rest w may
   moves_going q u (goes_back r may) = back_going k s t p r w may
 
-pub all_moves_going : (k : Setting) (s : Lane) (t n : ℕ) (p : Stage) (w : Lane) (q : Stage) (u : Lane) → Moves k s n p w q u → Going k s t p w → Going k s t q u
+pub all_moves_going : (k : Setting) (s : Lane) (t n : ℕ) (p : Stage) (w : Lane) (q : Stage) (u : Lane)
+    → Moves k s n p w q u → Going k s t p w → Going k s t q u
 all_moves_going k s t zero p w q u same h = subst₂ (λ (r : Stage) (v : Lane). Going k s t r v) same.0 same.1 h
 all_moves_going k s t (suc n) p w q u m h = moves_going k s t m.0 m.1 q u m.3 (all_moves_going k s t n p w m.0 m.1 m.2 h)

@@ -1,10 +1,9 @@
 -- What the receiving end asks its book and sends keeps what holds of a lane.
-use Rattle.std.proofs.Common.{◌≡◌, refl, ℕ, ◌+◌, ◌-◌, ◌<◌, ◌≤◌, max, Bool, true, false, ◌⊎◌, inl, inr, List, [], ◌∷◌, ◌++◌, le_refl, arith}
+use Rattle.std.proofs.Common.{ℕ, ◌+◌, ◌<◌, ◌≤◌, Bool, false, inr, [], ◌∷◌, le_refl, arith}
 use Rattle.std.proofs.lemmas.Bool.{both_ways}
-use Rattle.pace.specs.Lane.{Setting, Copy, Lane, Stage, data_ack, window_edge}
-use Rattle.pace.specs.Rules.{asked_out, said_by, repeats}
-use Rattle.pace.specs.Lists.{repeated}
-use Rattle.pace.specs.Going.{Going, Covers, may_tell, all_heard, pending}
+use Rattle.pace.specs.Lane.{Setting, Copy, Lane, Stage}
+use Rattle.pace.specs.Rules.{asked_out, said_by}
+use Rattle.pace.specs.Going.{Going, Covers, may_tell, all_heard}
 use Rattle.pace.specs.Moves.{MayAsk, MaySay}
 use Rattle.pace.proofs.Lists.{in_last, each_more, stays_more, timed_more, last_more, repeated_more}
 

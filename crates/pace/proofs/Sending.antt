@@ -1,9 +1,9 @@
 -- What the sending end sends keeps what holds of a lane.
-use Rattle.std.proofs.Common.{◌≡◌, refl, sym, ap, subst, ℕ, ◌+◌, ◌-◌, ◌<◌, ◌≤◌, max, min, Bool, true, false, ◌⊎◌, inl, inr, ⊎_elim, List, [], ◌∷◌, ◌++◌, IfSome, le_refl, arith}
+use Rattle.std.proofs.Common.{◌≡◌, refl, ℕ, ◌+◌, ◌<◌, ◌≤◌, max, Bool, true, false, ◌⊎◌, inl, inr, ⊎_elim, List, [], ◌∷◌, ◌++◌, arith}
 use Rattle.std.proofs.lemmas.Bool.{both_ways, cases_lt}
 use Rattle.pace.specs.Lane.{Setting, Copy, Lane, Stage}
 use Rattle.pace.specs.Rules.{sends, sent_by, granted_by}
-use Rattle.pace.specs.Lists.{In, OneHas, Chain, data_fins}
+use Rattle.pace.specs.Lists.{OneHas}
 use Rattle.pace.specs.Going.{Going, Reason, IsDone}
 use Rattle.pace.specs.Moves.{MaySend}
 use Rattle.pace.proofs.Lists.{in_last, each_more, one_more, stays_more, timed_more, chain_more, data_fins_more, if_some_map}
@@ -14,13 +14,17 @@ flag_more : (n m : ℕ) (f : Copy → ℕ) (x : Copy) (cs : List Copy) → (n �
 flag_more n m f x cs h = ⊎_elim
     (λ new. inr (record { copy = x; among = in_last x cs; has = omega (arith, new) }))
     (λ old. ⊎_elim
-      (λ came. inl (omega (arith, old, came)))
-      (λ one. inr (one_more (λ c. max n (f x) ≤ f c) cs (x ∷ []) (record { copy = one.copy; among = one.among; has = (let has = one.has in omega (arith, old, has)) })))
-      h)
+    (λ came. inl (omega (arith, old, came)))
+    (λ one.
+        let has = one.has in
+        let more : max n (f x) ≤ f one.copy = omega (arith, old, has) in
+        inr (one_more (λ c. max n (f x) ≤ f c) cs (x ∷ []) (record { copy = one.copy; among = one.among; has = more })))
+    h)
     (cases_lt n (f x))
 
 module _ (k : Setting) (s : Lane) (t : ℕ) (p : Stage) where
-  sends_going : (shut : Bool) (x : Copy) (w : Lane) → MaySend k p x w → (shut ≡ true → (x.high < w.written) × (1 ≤ w.ready))
+  sends_going : (shut : Bool) (x : Copy) (w : Lane) → MaySend k p x w
+      → (shut ≡ true → (x.high < w.written) × (1 ≤ w.ready))
       → Going k s t p w → Going k s t p (sends shut x w)
   sends_going shut x w may waits h = record {
     numbers = omega (arith, may, h.numbers);
@@ -31,7 +35,8 @@ module _ (k : Setting) (s : Lane) (t : ℕ) (p : Stage) where
       datas_at = timed_more w.clock (w.clock + k.delay) x w.datas may.at h.under_way.datas_at;
       acks_at = h.under_way.acks_at;
       datas_are = each_more
-          (λ c. (c.data_fin ≤ max w.data_fin_sent x.data_fin) × (c.control ≤ max w.control_sent x.control) × (c.keys ≤ max w.keys_sent x.keys))
+          (λ c. (c.data_fin ≤ max w.data_fin_sent x.data_fin) × (c.control ≤ max w.control_sent x.control)
+            × (c.keys ≤ max w.keys_sent x.keys))
           x w.datas (omega arith)
           (λ c i. let old = h.under_way.datas_are c i in omega (arith, old));
       acks_are = h.under_way.acks_are;
@@ -69,8 +74,12 @@ module _ (k : Setting) (s : Lane) (t : ℕ) (p : Stage) where
       still (inl control) = inl (omega (arith, control))
       still (inr bytes) = inr bytes
 
-  pub sent_going : (x : Copy) (w : Lane) → x.high ≡ w.granted → MaySend k p x w → Going k s t p w → Going k s t p (sent_by x w)
-  sent_going x w none may h = sends_going w.shut x w may (λ is. let old = h.shut is in ((let waits = old.0 in omega (arith, waits, none)), old.1)) h
+  pub sent_going : (x : Copy) (w : Lane) → x.high ≡ w.granted → MaySend k p x w → Going k s t p w
+      → Going k s t p (sent_by x w)
+  sent_going x w none may h = sends_going w.shut x w may waits h
+    where
+      waits : w.shut ≡ true → (x.high < w.written) × (1 ≤ w.ready)
+      waits is = let old = h.shut is in omega (arith, old, none)
 
   pub granted_going : (x : Copy) (w : Lane) → MaySend k p x w → Going k s t p w → Going k s t p (granted_by x w)
   granted_going x w may h = sends_going false x w may (λ is. absurd (both_ways _ refl is)) h

@@ -1,10 +1,10 @@
 -- Refusals, flags, the timer, the clock and the stages of a turn keep what holds of a lane.
-use Rattle.std.proofs.Common.{◌≡◌, refl, sym, subst, ℕ, ◌+◌, ◌-◌, ◌<◌, ◌≤◌, max, min, Bool, true, false, cond, ◌⊎◌, inl, inr, ⊎_elim, List, Option, Some, None, IfSome, le_refl, arith}
+use Rattle.std.proofs.Common.{◌≡◌, refl, sym, subst, ℕ, ◌+◌, ◌≤◌, Bool, true, false, cond, ◌⊎◌, inl, inr, ⊎_elim, Option, Some, None, IfSome, arith}
 use Rattle.std.proofs.lemmas.Bool.{both_ways}
-use Rattle.pace.specs.Lane.{Setting, Copy, Lane, Stage}
+use Rattle.pace.specs.Lane.{Setting, Lane, Stage}
 use Rattle.pace.specs.Rules.{refused_by, tick_or, settled_by, rested, flagged, grown, moved_to}
 use Rattle.pace.specs.Lists.{first_at, repeated}
-use Rattle.pace.specs.Going.{Going, Reason, IsOld, IsToldSoon, Covers, all_heard, pending}
+use Rattle.pace.specs.Going.{Going, Reason, IsOld, Covers, all_heard, pending}
 use Rattle.pace.specs.Moves.{HasEmitted, MayRefuse, MayFlag, MayMove, IsBefore}
 use Rattle.pace.proofs.Lists.{stays_done, timed_moved, if_some_map}
 
@@ -23,10 +23,14 @@ module _ (k : Setting) (s : Lane) (t : ℕ) (p : Stage) where
     turns = h.turns;
     repeats = record {
       last = h.repeats.last;
-      few = subst (λ (b : Bool). w.row + repeated w.heard w.acks + pending k (record p { tell = b }) w ≤ w.said + w.data_fin_came) may.tell h.repeats.few;
+      few = subst (λ (b : Bool). w.row + repeated w.heard w.acks + pending k (record p { tell = b }) w ≤ w.said + w.data_fin_came)
+          may.tell h.repeats.few;
     };
     asked = record { next = λ e. h.asked.next (may.ask e); limit = λ e. h.asked.limit (may.window e) };
-    answered = record { all = λ e. h.answered.all (subst (λ (b : Bool). b ≡ false) (sym may.tell) e); window = λ e. h.answered.window (may.update e) };
+    answered = record {
+      all = λ e. h.answered.all (subst (λ (b : Bool). b ≡ false) (sym may.tell) e);
+      window = λ e. h.answered.window (may.update e);
+    };
     emitted = record {
       bytes = λ e. h.emitted.bytes (may.emit e);
       known = λ e. h.emitted.known (may.emit e);
@@ -59,7 +63,8 @@ module _ (k : Setting) (s : Lane) (t : ℕ) (p : Stage) where
     none_due = h.none_due;
   }
 
-  pub emitted_going : (w : Lane) → HasEmitted k s w.known w → Going k s t p w → Going k s t (record p { emit = false }) w
+  pub emitted_going : (w : Lane) → HasEmitted k s w.known w → Going k s t p w
+      → Going k s t (record p { emit = false }) w
   emitted_going w may h = record {
     numbers = h.numbers;
     since = h.since;
@@ -78,7 +83,8 @@ module _ (k : Setting) (s : Lane) (t : ℕ) (p : Stage) where
     none_due = h.none_due;
   }
 
-  pub finished_going : (w : Lane) → (1 ≤ w.clear → w.known ≤ w.data_fin_sent) → Going k s t p w → Going k s t (record p { finish = false }) w
+  pub finished_going : (w : Lane) → (1 ≤ w.clear → w.known ≤ w.data_fin_sent) → Going k s t p w
+      → Going k s t (record p { finish = false }) w
   finished_going w may h = record {
     numbers = h.numbers;
     since = h.since;
@@ -171,7 +177,8 @@ module _ (k : Setting) (s : Lane) (t : ℕ) (p : Stage) where
     none_due = h.none_due;
   }
 
-  pub flagged_going : (ready clear : ℕ) (w : Lane) → MayFlag k s p ready clear w → Going k s t p w → Going k s t p (flagged ready clear w)
+  pub flagged_going : (ready clear : ℕ) (w : Lane) → MayFlag k s p ready clear w → Going k s t p w
+      → Going k s t p (flagged ready clear w)
   flagged_going ready clear w may h = record {
     numbers = omega (arith, h.numbers);
     since = omega (arith, may.ready, may.clear, h.since);
@@ -180,12 +187,13 @@ module _ (k : Setting) (s : Lane) (t : ℕ) (p : Stage) where
     told_soon = ⊎_elim (λ all. inl (all.0, all.1, all.2, omega (arith, all.3, may.clear))) (λ one. inr one) h.told_soon;
     none_lost = record {
       datas = h.none_lost.datas;
-      acks = stays_done (λ c. Covers (all_heard w) c.telling) (λ c. Covers (all_heard (flagged ready clear w)) c.telling) s.acks w.acks
-          (λ c all. (all.0, all.1, all.2, omega (arith, all.3, may.clear))) h.none_lost.acks;
+      acks = stays_done (λ c. Covers (all_heard w) c.telling) (λ c. Covers (all_heard (flagged ready clear w)) c.telling)
+          s.acks w.acks (λ c all. (all.0, all.1, all.2, omega (arith, all.3, may.clear))) h.none_lost.acks;
     };
     flags = h.flags;
     timer = record {
-      late = if_some_map (λ x. Reason k w × (t ≤ x)) (λ x. Reason k (flagged ready clear w) × (t ≤ x)) w.timer (λ x old. (still old.0, old.1)) h.timer.late;
+      late = if_some_map (λ x. Reason k w × (t ≤ x)) (λ x. Reason k (flagged ready clear w) × (t ≤ x)) w.timer
+          (λ x old. (still old.0, old.1)) h.timer.late;
       anew = h.timer.anew;
     };
     shut = λ is. let old = h.shut is in (old.0, omega (arith, old.1, may.ready));
@@ -235,8 +243,10 @@ module _ (k : Setting) (s : Lane) (t : ℕ) (p : Stage) where
     round = omega (arith, may.later, may.early, h.round);
     under_way = record {
       chain = h.under_way.chain;
-      datas_at = timed_moved w.clock (w.clock + k.delay) tick w.until (tick + k.delay) w.datas may.datas (omega arith) (omega (arith, may.later)) h.under_way.datas_at;
-      acks_at = timed_moved w.clock (w.clock + k.delay) tick w.until (tick + k.delay) w.acks may.acks (omega arith) (omega (arith, may.later)) h.under_way.acks_at;
+      datas_at = timed_moved w.clock (w.clock + k.delay) tick w.until (tick + k.delay) w.datas
+          may.datas (omega arith) (omega (arith, may.later)) h.under_way.datas_at;
+      acks_at = timed_moved w.clock (w.clock + k.delay) tick w.until (tick + k.delay) w.acks
+          may.acks (omega arith) (omega (arith, may.later)) h.under_way.acks_at;
       datas_are = h.under_way.datas_are;
       acks_are = h.under_way.acks_are;
     };

@@ -1,12 +1,12 @@
 -- Both ends are told: the opening takes eight rounds, each payload seven, and the end six.
-use Rattle.std.proofs.Common.{◌≡◌, refl, sym, subst, ℕ, zero, suc, ◌+◌, ◌*◌, ◌<◌, ◌≤◌, min, ◌⊎◌, inl, inr, ⊎_elim, suc-mul, arith}
+use Rattle.std.proofs.Common.{◌≡◌, refl, sym, subst, ℕ, zero, suc, ◌+◌, ◌*◌, ◌<◌, ◌≤◌, min, ◌⊎◌, inl, inr, suc-mul, arith}
 use Rattle.std.proofs.lemmas.Bool.{cases_lt}
 use Rattle.pace.specs.Lane.{Setting, Lane}
 use Rattle.pace.specs.Rounds.{Linked, Course}
 use Rattle.pace.specs.Ends.{Ended, Passed, Trail, LinkedTrail, Calm}
 use Rattle.pace.specs.Laws.{HasRanges}
 use Rattle.pace.proofs.Calming.{first_rounds, later_rounds}
-use Rattle.pace.proofs.Passing.{HasArrived, end_of, arrives, seven, six}
+use Rattle.pace.proofs.Passing.{end_of, arrives, seven, six}
 
 -- so many of the rounds, and the rest
 record Parts (k : Setting) (a m : ℕ) (w u : Lane) : Type 0 where
@@ -24,10 +24,22 @@ parts k a (suc m) w u within t = go (λ inner. parts k a m w t.0 inner t.1) (cas
     go : (a ≤ m → Parts k a m w t.0) → (m < a) ⊎ (a ≤ m) → Parts k a (suc m) w u
     go split (inl all) =
         let same : suc m ≡ a = omega (arith, within, all) in
-        record { between = u; rest = 0; sum = omega (arith, same); first = subst (λ (n : ℕ). Trail k n w u) same t; last = refl }
+        record {
+          between = u;
+          rest = 0;
+          sum = omega (arith, same);
+          first = subst (λ (n : ℕ). Trail k n w u) same t;
+          last = refl;
+        }
     go split (inr inner) =
         let p = split inner in
-        record { between = p.between; rest = suc p.rest; sum = omega (arith, p.sum); first = p.first; last = (t.0, p.last, t.2) }
+        record {
+          between = p.between;
+          rest = suc p.rest;
+          sum = omega (arith, p.sum);
+          first = p.first;
+          last = (t.0, p.last, t.2);
+        }
 
 module _ (k : Setting) (ranges : HasRanges k) where
   ended_after : (n : ℕ) (w u : Lane) → Ended k w → Trail k n w u → Ended k u
@@ -36,7 +48,9 @@ module _ (k : Setting) (ranges : HasRanges k) where
 
   told_after : (n : ℕ) (w u : Lane) → 1 ≤ w.told_end → Trail k n w u → 1 ≤ u.told_end
   told_after zero w u told t = subst (λ (x : Lane). 1 ≤ x.told_end) t told
-  told_after (suc n) w u told t = let before = told_after n w t.0 told t.1 in omega (arith, before, t.2.going.since.told_end)
+  told_after (suc n) w u told t =
+      let before = told_after n w t.0 told t.1 in
+      omega (arith, before, t.2.going.since.told_end)
 
   flags_after : (n : ℕ) (w u : Lane) → (1 ≤ w.ready) × (1 ≤ w.clear) → Trail k n w u → (1 ≤ u.ready) × (1 ≤ u.clear)
   flags_after zero w u flags t = subst (λ (x : Lane). (1 ≤ x.ready) × (1 ≤ x.clear)) t flags
@@ -45,10 +59,12 @@ module _ (k : Setting) (ranges : HasRanges k) where
       (omega (arith, before.0, t.2.going.since.ready), omega (arith, before.1, t.2.going.since.clear))
 
   -- one payload less is left to read
-  one_less : (n read later : ℕ) → k.total ≤ read + suc n * k.payload → min k.total (read + k.payload) ≤ later → k.total ≤ later + n * k.payload
+  one_less : (n read later : ℕ) → k.total ≤ read + suc n * k.payload → min k.total (read + k.payload) ≤ later
+      → k.total ≤ later + n * k.payload
   one_less n read later enough more = let product = suc-mul n k.payload in omega (arith, enough, more, product)
 
-  pub delivers : (n m : ℕ) (w u : Lane) → Ended k w → (1 ≤ w.ready) × (1 ≤ w.clear) → k.total ≤ w.read + n * k.payload → 7 * n + 6 ≤ m
+  pub delivers : (n m : ℕ) (w u : Lane) → Ended k w → (1 ≤ w.ready) × (1 ≤ w.clear)
+      → k.total ≤ w.read + n * k.payload → 7 * n + 6 ≤ m
       → Trail k m w u → 1 ≤ u.told_end
   delivers zero m w u ended flags enough long t =
       let p = parts k 6 m w u (omega (arith, long)) t in
@@ -56,8 +72,8 @@ module _ (k : Setting) (ranges : HasRanges k) where
   delivers (suc n) m w u ended flags enough long t =
       let p = parts k 7 m w u (omega (arith, long)) t in
       delivers n p.rest p.between u (ended_after 7 w p.between ended p.first) (flags_after 7 w p.between flags p.first)
-          (one_less n w.read p.between.read enough (seven k ranges w p.between ended flags.0 p.first))
-          (omega (arith, long, p.sum)) p.last
+      (one_less n w.read p.between.read enough (seven k ranges w p.between ended flags.0 p.first))
+      (omega (arith, long, p.sum)) p.last
 
 module _ (k j : Setting) (ranges : HasRanges k) (others : HasRanges j) where
   forth : (n : ℕ) (w v u x : Lane) → LinkedTrail k j n w v u x → Trail k n w u
@@ -84,10 +100,24 @@ module _ (k j : Setting) (ranges : HasRanges k) (others : HasRanges j) where
       go : (a ≤ m → Halves a m w v t.0 t.1) → (m < a) ⊎ (a ≤ m) → Halves a (suc m) w v u x
       go split (inl all) =
           let same : suc m ≡ a = omega (arith, within, all) in
-          record { here = u; there = x; rest = 0; sum = omega (arith, same); first = subst (λ (n : ℕ). LinkedTrail k j n w v u x) same t; last = (refl, refl) }
+          record {
+            here = u;
+            there = x;
+            rest = 0;
+            sum = omega (arith, same);
+            first = subst (λ (n : ℕ). LinkedTrail k j n w v u x) same t;
+            last = (refl, refl);
+          }
       go split (inr inner) =
           let p = split inner in
-          record { here = p.here; there = p.there; rest = suc p.rest; sum = omega (arith, p.sum); first = p.first; last = (t.0, t.1, p.last, t.3, t.4, t.5) }
+          record {
+            here = p.here;
+            there = p.there;
+            rest = suc p.rest;
+            sum = omega (arith, p.sum);
+            first = p.first;
+            last = (t.0, t.1, p.last, t.3, t.4, t.5);
+          }
 
   -- what two rounds of both lanes bring
   record Two (w v u x : Lane) : Type 0 where
@@ -100,7 +130,8 @@ module _ (k j : Setting) (ranges : HasRanges k) (others : HasRanges j) where
     flags : (w.ready ≤ u.ready) × (w.clear ≤ u.clear) × (v.ready ≤ x.ready) × (v.clear ≤ x.clear)
     linked : Linked u x
 
-  two : (w v y z u x : Lane) → Ended k w → Ended j v → Passed k w y → Passed j v z → Passed k y u → Passed j z x → Linked u x → Two w v u x
+  two : (w v y z u x : Lane) → Ended k w → Ended j v → Passed k w y → Passed j v z → Passed k y u → Passed j z x
+      → Linked u x → Two w v u x
   two w v y z u x ended ended_back first first_back second second_back linked = record {
     ended = end_of k ranges y u second;
     ended_back = end_of j others z x second_back;
@@ -158,7 +189,8 @@ module _ (k j : Setting) (ranges : HasRanges k) (others : HasRanges j) where
     calm : Calm k u
     calm_back : Calm j x
 
-  rounds_of : (a b : ℕ) → k.payload + k.payload ≤ a → j.payload + j.payload ≤ b → (m : ℕ) (u x : Lane) → Course k j a b m u x → IsRounds m u x
+  rounds_of : (a b : ℕ) → k.payload + k.payload ≤ a → j.payload + j.payload ≤ b → (m : ℕ) (u x : Lane)
+      → Course k j a b m u x → IsRounds m u x
   rounds_of a b wide wide_back zero u x course =
       let calm = first_rounds k ranges a u wide course.0 in
       let calm_back = first_rounds j others b x wide_back course.1 in
@@ -187,17 +219,21 @@ module _ (k j : Setting) (ranges : HasRanges k) (others : HasRanges j) where
         calm_back = next_back.1;
       }
 
-  pub both_told : (n m : ℕ) (w v u x : Lane) → Ended k w → Ended j v → 1 ≤ w.control_sent → k.total ≤ n * k.payload → j.total ≤ n * j.payload
+  pub both_told : (n m : ℕ) (w v u x : Lane) → Ended k w → Ended j v → 1 ≤ w.control_sent → k.total ≤ n * k.payload
+      → j.total ≤ n * j.payload
       → 7 * n + 14 ≤ m → LinkedTrail k j m w v u x → (1 ≤ u.told_end) × (1 ≤ x.told_end)
   both_told n m w v u x ended ended_back syn enough enough_back long t =
       let p = halves 8 m w v u x (omega (arith, long)) t in
       let o = opens w v p.here p.there ended ended_back syn p.first in
-      let later : 7 * n + 6 ≤ p.rest = omega (arith, long, p.sum) in
-      (delivers k ranges n p.rest p.here u o.ended o.flags (omega (arith, enough)) later (forth p.rest p.here p.there u x p.last),
-        delivers j others n p.rest p.there x o.ended_back o.flags_back (omega (arith, enough_back)) later (back p.rest p.here p.there u x p.last))
+      let later : 7 * n + 6 ≤ p.rest = omega (arith, long, p.sum) in (
+        delivers k ranges n p.rest p.here u o.ended o.flags (omega (arith, enough)) later (forth p.rest p.here p.there u x p.last),
+        delivers j others n p.rest p.there x o.ended_back o.flags_back (omega (arith, enough_back)) later (back p.rest p.here p.there u x p.last),
+      )
 
-  pub courses_told : (a b : ℕ) → k.payload + k.payload ≤ a → j.payload + j.payload ≤ b → (n m : ℕ) → k.total ≤ n * k.payload
-      → j.total ≤ n * j.payload → 7 * n + 14 ≤ m → (u x : Lane) → Course k j a b m u x → (1 ≤ u.told_end) × (1 ≤ x.told_end)
+  pub courses_told : (a b : ℕ) → k.payload + k.payload ≤ a → j.payload + j.payload ≤ b → (n m : ℕ)
+      → k.total ≤ n * k.payload
+      → j.total ≤ n * j.payload → 7 * n + 14 ≤ m → (u x : Lane) → Course k j a b m u x
+          → (1 ≤ u.told_end) × (1 ≤ x.told_end)
   courses_told a b wide wide_back n m enough enough_back long u x course =
       let r = rounds_of a b wide wide_back m u x course in
       both_told n m r.from r.from_back u x r.ended r.ended_back r.syn enough enough_back long r.trail

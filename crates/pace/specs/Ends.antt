@@ -1,6 +1,6 @@
 -- What holds of a lane at the ends of rounds.
-use Rattle.std.specs.Prelude.{ℕ, zero, suc, ◌≡◌, ◌+◌, ◌*◌, ◌≤◌, min, true, Option, Some, None, IfSome}
-use Rattle.pace.specs.Lane.{Setting, Lane, all_left, none_left}
+use Rattle.std.specs.Prelude.{ℕ, zero, suc, ◌≡◌, ◌+◌, ◌*◌, ◌≤◌, true, None, IfSome}
+use Rattle.pace.specs.Lane.{Setting, Lane, none_left}
 use Rattle.pace.specs.Rules.{opens_round}
 use Rattle.pace.specs.Going.{Going, Reason}
 use Rattle.pace.specs.Rounds.{Linked}
@@ -23,8 +23,8 @@ abbrev pub Trail : Setting → ℕ → Lane → Lane → Type 0
 Trail k zero w u = w ≡ u
 Trail k (suc n) w u = (v : Lane) × Trail k n w v × Passed k v u
 
--- A timer runs at w, or may: since the end of a round at most seven rounds ago it has had a reason and no news, and it runs out no earlier than
--- 800 ticks after that end.
+-- A timer runs at w, or may: since the end of a round at most seven rounds ago it has had a reason and no
+-- news, and it runs out no earlier than 800 ticks after that end.
 pub record HasWaited (k : Setting) (w : Lane) : Type 0 where
   pub base : Lane
   pub count : ℕ
@@ -57,4 +57,5 @@ calm_tick k w c = tick_by k w c.still
 -- the same of both lanes of a connection, from w and v to u and x, linked at the end of each round
 abbrev pub LinkedTrail : Setting → Setting → ℕ → Lane → Lane → Lane → Lane → Type 0
 LinkedTrail k j zero w v u x = (w ≡ u) × (v ≡ x)
-LinkedTrail k j (suc n) w v u x = (y : Lane) × (z : Lane) × LinkedTrail k j n w v y z × Passed k y u × Passed j z x × Linked u x
+LinkedTrail k j (suc n) w v u x = (y : Lane) × (z : Lane) × LinkedTrail k j n w v y z
+    × Passed k y u × Passed j z x × Linked u x

@@ -1,7 +1,7 @@
--- What holds of a lane at each moment of a round, whatever the order of steps: `s` is the lane as the round began, `t` a tick before which no
--- timer runs out, and the stage says what the path's turn has still to do.
-use Rattle.std.specs.Prelude.{ℕ, ◌≡◌, ◌+◌, ◌-◌, ◌<◌, ◌≤◌, ◌⊎◌, min, Bool, true, false, cond, Option, Some, None, IfSome, List}
-use Rattle.pace.specs.Lane.{Setting, Telling, Copy, Lane, Stage, is_whole, data_ack, window_edge}
+-- What holds of a lane at each moment of a round, whatever the order of steps: `s` is the lane as the round
+-- began, `t` a tick before which no timer runs out, and the stage says what the path's turn has still to do.
+use Rattle.std.specs.Prelude.{ℕ, ◌≡◌, ◌+◌, ◌-◌, ◌<◌, ◌≤◌, ◌⊎◌, min, true, false, cond, Option, Some, None, IfSome}
+use Rattle.pace.specs.Lane.{Setting, Telling, Copy, Lane, Stage, data_ack, window_edge}
 use Rattle.pace.specs.Lists.{In, OneHas, Timed, Chain, Stays, first_at, repeated, LastIs, data_fins}
 
 -- the first tells at least what the second does
@@ -78,7 +78,8 @@ UnderWay k w = record {
   chain : Chain w.received w.datas w.granted;
   datas_at : Timed w.clock w.datas (w.clock + k.delay);
   acks_at : Timed w.clock w.acks (w.clock + k.delay);
-  datas_are : (c : Copy) → In c w.datas → (c.data_fin ≤ w.data_fin_sent) × (c.control ≤ w.control_sent) × (c.keys ≤ w.keys_sent);
+  datas_are : (c : Copy) → In c w.datas
+      → (c.data_fin ≤ w.data_fin_sent) × (c.control ≤ w.control_sent) × (c.keys ≤ w.keys_sent);
   acks_are : (c : Copy) → In c w.acks → Covers (may_tell k w) c.telling;
 }
 
@@ -97,7 +98,8 @@ NoneIsLost s w = record {
   acks : Stays (λ c. Covers (all_heard w) c.telling) s.acks w.acks;
 }
 
--- DATA_FIN, SYN and FIN, and the keys came where they were sent, or are on their way; and no DATA_FIN is sent twice
+-- DATA_FIN, SYN and FIN, and the keys came where they were sent, or are on their way; and no DATA_FIN is sent
+-- twice
 abbrev pub FlagsCome : Lane → Type 0
 FlagsCome w = record {
   data_fin : (w.data_fin_sent ≤ w.data_fin_came) ⊎ OneHas (λ c. w.data_fin_sent ≤ c.data_fin) w.datas;
@@ -108,7 +110,8 @@ FlagsCome w = record {
 
 -- why a timer may run: SYN or FIN isn't acknowledged, or not all of the bytes and the DATA_FIN is
 abbrev pub Reason : Setting → Lane → Type 0
-Reason k w = (w.control_acked < w.control_sent) ⊎ ((w.acked < k.total + 1) × (1 ≤ w.ready) × (min 1 ((w.acked + 1) - k.total) ≤ w.clear))
+Reason k w = (w.control_acked < w.control_sent)
+    ⊎ ((w.acked < k.total + 1) × (1 ≤ w.ready) × (min 1 ((w.acked + 1) - k.total) ≤ w.clear))
 
 abbrev pub IsSet : Option ℕ → Type 0
 IsSet None = ⊥
@@ -136,7 +139,9 @@ TurnsDone k s w = record {
 
 -- a duplicate that may still be sent as an answer: one is owed, though nothing is new
 abbrev pub pending : Setting → Stage → Lane → ℕ
-pending k p w = cond p.tell (((1 - (data_ack k w - w.told.next)) - (w.control_came - w.told.seen)) - (w.keys_came - w.told.dss)) 0
+pending k p w = cond p.tell
+    (((1 - (data_ack k w - w.told.next)) - (w.control_came - w.told.seen)) - (w.keys_came - w.told.dss))
+    0
 
 -- Duplicates in a row, heard and on the way, are no more than the DATA_FINs of both directions.
 abbrev pub RepeatsAreFew : Setting → Stage → Lane → Type 0
@@ -159,7 +164,8 @@ Answered k s p w = record {
   window : p.update ≡ false → 1 ≤ w.ready → s.read + k.least < w.told.edge + 31 + k.threshold;
 }
 
--- What was sent: all that was written as the round began and has room in the windows; and once there was room for more, the end is known.
+-- What was sent: all that was written as the round began and has room in the windows; and once there was room
+-- for more, the end is known.
 abbrev pub Emitted : Setting → Lane → Stage → Lane → Type 0
 Emitted k s p w = record {
   bytes : p.emit ≡ false → 1 ≤ w.ready → min (min s.written w.edge) ((w.acked + w.window + 1) - k.payload) ≤ w.granted;

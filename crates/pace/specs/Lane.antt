@@ -1,5 +1,5 @@
--- One direction of a connection over one path that loses nothing, in numbers and ticks: what its writer, its sending end, its receiving
--- end and its reader have done so far, and the segments on the way.
+-- One direction of a connection over one path that loses nothing, in numbers and ticks: what its writer, its
+-- sending end, its receiving end and its reader have done so far, and the segments on the way.
 use Rattle.std.specs.Prelude.{ℕ, ◌+◌, ◌-◌, min, Bool, true, false, Option, List}
 
 -- What never changes while the direction is in use.
@@ -19,16 +19,17 @@ pub record Setting : Type 0 where
   -- ticks of the least retransmission timeout
   pub rto : ℕ
 
--- What a segment tells of the direction that its sender receives on: the Data ACK, the edge of the window, how many of SYN and FIN it
--- acknowledges, and how many DSS options it has, 0 or 1.
+-- What a segment tells of the direction that its sender receives on: the Data ACK, the edge of the window,
+-- how many of SYN and FIN it acknowledges, and how many DSS options it has, 0 or 1.
 pub record Telling : Type 0 where
   pub next : ℕ
   pub edge : ℕ
   pub seen : ℕ
   pub dss : ℕ
 
--- A segment on its way. It carries the bytes from place `low` up to `high`, a DATA_FIN or none (1 or 0), and up to it its sender has sent so
--- many of SYN and FIN, and has shown its keys so often; it is solid if it carries bytes or a FIN.
+-- A segment on its way. It carries the bytes from place `low` up to `high`, a DATA_FIN or none (1 or 0), and
+-- up to it its sender has sent so many of SYN and FIN, and has shown its keys so often; it is solid if it
+-- carries bytes or a FIN.
 pub record Copy : Type 0 where
   -- the tick of its arrival
   pub at : ℕ
@@ -59,7 +60,8 @@ pub record Reader : Type 0 where
   -- its turn of this round is over
   pub reader_over : Bool
 
--- The end that sends the bytes, with the send book of its side. Flags count as numbers, so that they only grow.
+-- The end that sends the bytes, with the send book of its side. Flags count as numbers, so that they only
+-- grow.
 pub record Sender : Type 0 where
   -- bytes that the book granted to the path: these were sent
   pub granted : ℕ

@@ -1,14 +1,14 @@
 -- What is promised of lanes.
-use Rattle.std.specs.Prelude.{ℕ, ◌≡◌, ◌+◌, ◌*◌, ◌<◌, ◌≤◌, ◌⊎◌, min, IfSome}
+use Rattle.std.specs.Prelude.{ℕ, ◌+◌, ◌*◌, ◌<◌, ◌≤◌, ◌⊎◌, min, IfSome}
 use Rattle.pace.specs.Lane.{Setting, Lane, Stage, all_left}
 use Rattle.pace.specs.Rules.{opens_round, first_lane}
 use Rattle.pace.specs.Going.{Going, Reason}
 use Rattle.pace.specs.Moves.{Move}
-use Rattle.pace.specs.Rounds.{Moves, Round, Course}
+use Rattle.pace.specs.Rounds.{Round, Course}
 use Rattle.pace.specs.Ends.{Ended, Passed, Trail, Calm, calm_tick}
 
--- What is assumed of the numbers: the delay is at most two rounds; a payload, the least growth of a window that is told and 31 octets fit into
--- the window of a SYN; and nine rounds pass before a timer runs out.
+-- What is assumed of the numbers: the delay is at most two rounds; a payload, the least growth of a window
+-- that is told and 31 octets fit into the window of a SYN; and nine rounds pass before a timer runs out.
 pub record HasRanges (k : Setting) : Type 0 where
   pub delay : k.delay ≤ 200
   pub payload : 1 ≤ k.payload
@@ -33,14 +33,15 @@ MovesKeepIt = Always (λ k s t p w. (q : Stage) (u : Lane) → Move k s p w q u 
 
 -- it holds as a round begins where the one before left the lane calm
 abbrev pub CalmRoundsBegin : Type 0
-CalmRoundsBegin = (k : Setting) → HasRanges k → (w : Lane) (c : Calm k w) → Going k (opens_round w) (calm_tick k w c) all_left (opens_round w)
+CalmRoundsBegin = (k : Setting) → HasRanges k → (w : Lane) (c : Calm k w)
+    → Going k (opens_round w) (calm_tick k w c) all_left (opens_round w)
 
 -- no timer runs out in the round
 abbrev pub NoTimerRunsOut : Type 0
 NoTimerRunsOut = Always (λ k s t p w. IfSome w.timer (λ x. w.until ≤ x))
 
--- There is no third duplicate in a row, which the sending end would take for a loss (RFC 5681, section 3.2); its receiving end sends one
--- DATA_FIN at most.
+-- There is no third duplicate in a row, which the sending end would take for a loss (RFC 5681, section 3.2);
+-- its receiving end sends one DATA_FIN at most.
 abbrev pub NoThirdDuplicate : Type 0
 NoThirdDuplicate = Always (λ k s t p w. w.said ≤ 1 → w.row ≤ 2)
 
@@ -48,11 +49,13 @@ NoThirdDuplicate = Always (λ k s t p w. w.said ≤ 1 → w.row ≤ 2)
 
 -- the first round leaves the lane calm
 abbrev pub FirstRoundsEndCalm : Type 0
-FirstRoundsEndCalm = (k : Setting) → HasRanges k → (window : ℕ) (u : Lane) → k.payload + k.payload ≤ window → Round k (first_lane window) u → Calm k u
+FirstRoundsEndCalm = (k : Setting) → HasRanges k → (window : ℕ) (u : Lane) → k.payload + k.payload ≤ window
+    → Round k (first_lane window) u → Calm k u
 
 -- so does each round after it, and it is a round in which all held
 abbrev pub LaterRoundsEndCalm : Type 0
-LaterRoundsEndCalm = (k : Setting) → HasRanges k → (w u : Lane) → Calm k w → Round k (opens_round w) u → Passed k w u × Calm k u
+LaterRoundsEndCalm = (k : Setting) → HasRanges k → (w u : Lane) → Calm k w → Round k (opens_round w) u
+    → Passed k w u × Calm k u
 
 -- in seven rounds the reader has read one payload more, or all that is left, once bytes may be sent
 abbrev pub SevenRoundsBringAPayload : Type 0
@@ -66,12 +69,12 @@ EightRoundsBringNews = (k : Setting) → HasRanges k → (w u : Lane) → Ended 
 
 -- once all is read, the reader is told the end in six rounds
 abbrev pub SixRoundsTellTheEnd : Type 0
-SixRoundsTellTheEnd = (k : Setting) → HasRanges k → (w u : Lane) → Ended k w → 1 ≤ w.ready → 1 ≤ w.clear → k.total ≤ w.read → Trail k 6 w u
-    → 1 ≤ u.told_end
+SixRoundsTellTheEnd = (k : Setting) → HasRanges k → (w u : Lane) → Ended k w → 1 ≤ w.ready → 1 ≤ w.clear → k.total ≤ w.read
+    → Trail k 6 w u → 1 ≤ u.told_end
 
--- Both readers are told the end after the first round and 14 more, and 7 for each payload of the longer file, in whatever order the moves of a
--- round come.
+-- Both readers are told the end after the first round and 14 more, and 7 for each payload of the longer file,
+-- in whatever order the moves of a round come.
 abbrev pub BothEndsAreTold : Type 0
-BothEndsAreTold = (k j : Setting) → HasRanges k → HasRanges j → (a b : ℕ) → k.payload + k.payload ≤ a → j.payload + j.payload ≤ b
-    → (n m : ℕ) → k.total ≤ n * k.payload → j.total ≤ n * j.payload → 7 * n + 14 ≤ m
+BothEndsAreTold = (k j : Setting) → HasRanges k → HasRanges j → (a b : ℕ)
+    → k.payload + k.payload ≤ a → j.payload + j.payload ≤ b → (n m : ℕ) → k.total ≤ n * k.payload → j.total ≤ n * j.payload → 7 * n + 14 ≤ m
     → (u x : Lane) → Course k j a b m u x → (1 ≤ u.told_end) × (1 ≤ x.told_end)

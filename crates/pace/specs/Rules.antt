@@ -66,9 +66,12 @@ abbrev pub tick_or : ℕ → Option ℕ → ℕ
 tick_or t None = t
 tick_or t (Some x) = x
 
--- the timer is settled: with a reason to run it runs on, or begins with this timeout, and else it stops (RFC 6298, section 5)
+-- the timer is settled: with a reason to run it runs on, or begins with this timeout, and else it stops (RFC
+-- 6298, section 5)
 abbrev pub settled_by : Bool → ℕ → Lane → Lane
-settled_by runs rto w = record w { sender = record w.sender { timer = cond runs (Some (tick_or (w.clock + rto) w.timer)) None } }
+settled_by runs rto w = record w {
+  sender = record w.sender { timer = cond runs (Some (tick_or (w.clock + rto) w.timer)) None };
+}
 
 -- the timer stops, since something was acknowledged
 abbrev pub rested : Lane → Lane
