@@ -56,8 +56,8 @@ module _ (k : Setting) (ranges : HasRanges k) where
         timer = subst (λ (o : Option ℕ). IfSome o (λ y. Reason k u × (b.base.until + 800 ≤ y))) (sym is) (reason, late);
       })
       (λ over.
-        let trail = subst (λ (n : ℕ). Trail k n b.base w) (seventh over) b.trail in
-        absurd (news (eight k ranges b.base u b.ended b.reason (w, trail, passed))))
+      let trail = subst (λ (n : ℕ). Trail k n b.base w) (seventh over) b.trail in
+      absurd (news (eight k ranges b.base u b.ended b.reason (w, trail, passed))))
       (cases_lt b.count 7)
     where
       seventh : 7 ≤ b.count → b.count ≡ 7

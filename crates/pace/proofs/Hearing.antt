@@ -1,9 +1,9 @@
 -- Segments that arrive keep what holds of a lane.
-use Rattle.std.proofs.Common.{◌≡◌, refl, sym, subst, ℕ, ◌+◌, ◌-◌, ◌<◌, ◌≤◌, max, nat_lt, Bool, true, false, cond, ◌⊎◌, inl, inr, ⊎_elim, List, ◌∷◌, Option, Some, None, IfSome, arith}
+use Rattle.std.proofs.Common.{◌≡◌, refl, subst, ℕ, ◌+◌, ◌-◌, ◌≤◌, max, nat_lt, Bool, true, false, cond, ◌⊎◌, inl, inr, ⊎_elim, List, ◌∷◌, Option, Some, None, IfSome, arith}
 use Rattle.std.proofs.lemmas.Bool.{both_ways, cases_lt, ltb-false}
 use Rattle.pace.specs.Lane.{Setting, Copy, Lane, Stage, data_ack}
 use Rattle.pace.specs.Rules.{hears_data, skipped, hears_ack, repeats}
-use Rattle.pace.specs.Lists.{In, OneHas, Chain, repeated, data_fins}
+use Rattle.pace.specs.Lists.{OneHas, Chain, repeated, data_fins}
 use Rattle.pace.specs.Going.{Going, Reason, IsOld, IsToldSoon, IsDone, Covers, may_tell, all_heard, pending}
 use Rattle.pace.specs.Moves.{MayHearData, MaySkip, MayHearAck}
 use Rattle.pace.proofs.Lists.{stays_taken, timed_from, chain_le, row_within}
@@ -82,8 +82,8 @@ module _ (k : Setting) (s : Lane) (t : ℕ) (p : Stage) where
       once = h.flags.once
 
       before : (b : Bool) → w.row + repeated w.heard w.acks
-            + cond b (((1 - (data_ack k w - w.told.next)) - (w.control_came - w.told.seen)) - (w.keys_came - w.told.dss)) 0
-            ≤ w.said + w.data_fin_came
+          + cond b (((1 - (data_ack k w - w.told.next)) - (w.control_came - w.told.seen)) - (w.keys_came - w.told.dss)) 0
+          ≤ w.said + w.data_fin_came
           → w.row + repeated w.heard w.acks ≤ w.said + w.data_fin_came
       before true e = omega (arith, e)
       before false e = omega (arith, e)

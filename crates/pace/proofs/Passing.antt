@@ -112,7 +112,7 @@ module _ (k : Setting) (ranges : HasRanges k) where
       go : (w6 : Lane) → Passed k w6 w7 → (w5 : Lane) → Passed k w5 w6 → (w4 : Lane) → Passed k w4 w5 → (w3 : Lane)
           → Passed k w3 w4
           → (w2 : Lane) → Passed k w2 w3 → (w1 : Lane) → Passed k w1 w2 → Passed k w0 w1
-              → min k.total (w0.read + k.payload) ≤ w7.read
+          → min k.total (w0.read + k.payload) ≤ w7.read
       go w6 p7 w5 p6 w4 p5 w3 p4 w2 p3 w1 p2 p1 =
           let told = ended.going.answered.all refl in
           let counts = ended.going.numbers.read in
@@ -123,7 +123,7 @@ module _ (k : Setting) (ranges : HasRanges k) where
           let opened = (arrives w1 w2 w3 (end_of w0 w1 p1) p2 p3).told in
           let wrote = p3.going.turns.wrote p3.writer in
           let ready4 : 1 ≤ w4.ready =
-              omega (arith, ready1, p2.going.since.ready, p3.going.since.ready, p4.going.since.ready) in
+          omega (arith, ready1, p2.going.since.ready, p3.going.since.ready, p4.going.since.ready) in
           let granted = granted_at w0.read w2 w3 w4 p3 p4 ready4 (omega (arith, wrote, told.0, counts, heard.0))
           (omega (arith, window, opened.1, p4.going.since.edge, ranges))
           (omega (arith, told.0, counts, heard.0, p3.going.since.acked, p4.going.since.acked)) in
@@ -249,7 +249,7 @@ module _ (k : Setting) (ranges : HasRanges k) where
           let ready2 : 1 ≤ w2.ready = omega (arith, ready, p1.going.since.ready, p2.going.since.ready) in
           let clear2 : 1 ≤ w2.clear = omega (arith, clear, p1.going.since.clear, p2.going.since.clear) in
           let room : w2.granted + k.payload ≤ w2.acked + w2.window =
-          omega (arith, all, counts.read, told.0, heard.0, p2.going.numbers.granted, p2.going.numbers.written, p2.going.numbers.window) in
+          omega (arith, all, counts.read, told.0, heard.0, p2.going.numbers) in
           let known = p2.going.emitted.known refl ready2 room in
           let sent = p2.going.emitted.data_fin refl clear2 in
           let came = (arrives w2 w3 w4 (end_of w1 w2 p2) p3 p4).data_fin in

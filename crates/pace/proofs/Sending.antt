@@ -16,9 +16,9 @@ flag_more n m f x cs h = ⊎_elim
     (λ old. ⊎_elim
     (λ came. inl (omega (arith, old, came)))
     (λ one.
-        let has = one.has in
-        let more : max n (f x) ≤ f one.copy = omega (arith, old, has) in
-        inr (one_more (λ c. max n (f x) ≤ f c) cs (x ∷ []) (record { copy = one.copy; among = one.among; has = more })))
+    let has = one.has in
+    let more : max n (f x) ≤ f one.copy = omega (arith, old, has) in
+    inr (one_more (λ c. max n (f x) ≤ f c) cs (x ∷ []) (record { copy = one.copy; among = one.among; has = more })))
     h)
     (cases_lt n (f x))
 
@@ -36,7 +36,7 @@ module _ (k : Setting) (s : Lane) (t : ℕ) (p : Stage) where
       acks_at = h.under_way.acks_at;
       datas_are = each_more
           (λ c. (c.data_fin ≤ max w.data_fin_sent x.data_fin) × (c.control ≤ max w.control_sent x.control)
-            × (c.keys ≤ max w.keys_sent x.keys))
+          × (c.keys ≤ max w.keys_sent x.keys))
           x w.datas (omega arith)
           (λ c i. let old = h.under_way.datas_are c i in omega (arith, old));
       acks_are = h.under_way.acks_are;

@@ -225,15 +225,16 @@ module _ (k j : Setting) (ranges : HasRanges k) (others : HasRanges j) where
   both_told n m w v u x ended ended_back syn enough enough_back long t =
       let p = halves 8 m w v u x (omega (arith, long)) t in
       let o = opens w v p.here p.there ended ended_back syn p.first in
-      let later : 7 * n + 6 ≤ p.rest = omega (arith, long, p.sum) in (
-        delivers k ranges n p.rest p.here u o.ended o.flags (omega (arith, enough)) later (forth p.rest p.here p.there u x p.last),
-        delivers j others n p.rest p.there x o.ended_back o.flags_back (omega (arith, enough_back)) later (back p.rest p.here p.there u x p.last),
+      let later : 7 * n + 6 ≤ p.rest = omega (arith, long, p.sum) in let trail = forth p.rest p.here p.there u x p.last in
+      let trail_back = back p.rest p.here p.there u x p.last in (
+        delivers k ranges n p.rest p.here u o.ended o.flags (omega (arith, enough)) later trail,
+        delivers j others n p.rest p.there x o.ended_back o.flags_back (omega (arith, enough_back)) later trail_back,
       )
 
   pub courses_told : (a b : ℕ) → k.payload + k.payload ≤ a → j.payload + j.payload ≤ b → (n m : ℕ)
       → k.total ≤ n * k.payload
       → j.total ≤ n * j.payload → 7 * n + 14 ≤ m → (u x : Lane) → Course k j a b m u x
-          → (1 ≤ u.told_end) × (1 ≤ x.told_end)
+      → (1 ≤ u.told_end) × (1 ≤ x.told_end)
   courses_told a b wide wide_back n m enough enough_back long u x course =
       let r = rounds_of a b wide wide_back m u x course in
       both_told n m r.from r.from_back u x r.ended r.ended_back r.syn enough enough_back long r.trail

@@ -37,6 +37,7 @@ pub record HasWaited (k : Setting) (w : Lane) : Type 0 where
   pub ticks : w.until ≡ base.until + 100 * count
   pub timer : IfSome w.timer (λ x. Reason k w × (base.until + 800 ≤ x))
 
+-- no timer runs, or one has waited
 pub data IsStill (k : Setting) (w : Lane) : Type 0 where
   rests : w.timer ≡ None → IsStill k w
   waits : HasWaited k w → IsStill k w
@@ -46,6 +47,7 @@ pub record Calm (k : Setting) (w : Lane) : Type 0 where
   pub ended : Ended k w
   pub still : IsStill k w
 
+-- a timer that begins in the next round runs for its whole timeout, and one that has waited for the rest of it
 abbrev pub tick_by : (k : Setting) (w : Lane) → IsStill k w → ℕ
 tick_by k w (rests none) = w.until + k.rto
 tick_by k w (waits h) = h.base.until + 800

@@ -69,12 +69,13 @@ EightRoundsBringNews = (k : Setting) → HasRanges k → (w u : Lane) → Ended 
 
 -- once all is read, the reader is told the end in six rounds
 abbrev pub SixRoundsTellTheEnd : Type 0
-SixRoundsTellTheEnd = (k : Setting) → HasRanges k → (w u : Lane) → Ended k w → 1 ≤ w.ready → 1 ≤ w.clear → k.total ≤ w.read
-    → Trail k 6 w u → 1 ≤ u.told_end
+SixRoundsTellTheEnd = (k : Setting) → HasRanges k → (w u : Lane) → Ended k w
+    → 1 ≤ w.ready → 1 ≤ w.clear → k.total ≤ w.read → Trail k 6 w u → 1 ≤ u.told_end
 
--- Both readers are told the end after the first round and 14 more, and 7 for each payload of the longer file,
--- in whatever order the moves of a round come.
+-- Both readers are told the end after the first round, 14 more, and 7 for each payload of the longer file, in
+-- whatever order the moves of a round come.
 abbrev pub BothEndsAreTold : Type 0
 BothEndsAreTold = (k j : Setting) → HasRanges k → HasRanges j → (a b : ℕ)
-    → k.payload + k.payload ≤ a → j.payload + j.payload ≤ b → (n m : ℕ) → k.total ≤ n * k.payload → j.total ≤ n * j.payload → 7 * n + 14 ≤ m
+    → k.payload + k.payload ≤ a → j.payload + j.payload ≤ b → (n m : ℕ)
+    → k.total ≤ n * k.payload → j.total ≤ n * j.payload → 7 * n + 14 ≤ m
     → (u x : Lane) → Course k j a b m u x → (1 ≤ u.told_end) × (1 ≤ x.told_end)

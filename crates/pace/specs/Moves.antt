@@ -86,12 +86,14 @@ pub record MayMove (p : Stage) (tick : ℕ) (w : Lane) : Type 0 where
   pub datas : tick ≤ first_at w.until w.datas
   pub acks : tick ≤ first_at w.until w.acks
 
--- the receiving end takes the segment that is first on its way, which brings something
+-- The receiving end takes the segment that is first on its way: it brings bytes, a DATA_FIN, SYN or FIN, or
+-- the keys.
 pub record MayHearData (p : Stage) (c : Copy) (rest : List Copy) (w : Lane) : Type 0 where
   pub first : w.datas ≡ c ∷ rest
   pub turn : p.wait ≡ true
   pub news : (c.low < c.high) ⊎ ((0 < c.data_fin) ⊎ ((w.control_came < c.control) ⊎ (w.keys_came < c.keys)))
 
+-- it brings nothing new, and only acknowledges
 pub record MaySkip (p : Stage) (c : Copy) (rest : List Copy) (w : Lane) : Type 0 where
   pub first : w.datas ≡ c ∷ rest
   pub turn : p.wait ≡ true
@@ -119,7 +121,7 @@ pub record IsBefore (q p : Stage) : Type 0 where
   pub finish : q.finish ≡ false → p.finish ≡ false
   pub wait : q.wait ≡ false → p.wait ≡ false
 
--- From p and w one move leads to a stage and a lane.
+-- From stage p and lane w one move leads to another stage and lane.
 pub data Move (k : Setting) (s : Lane) (p : Stage) (w : Lane) : Stage → Lane → Type 0 where
   writes : (n : ℕ) → MayWrite k n w → Move k s p w p (wrote n w)
   closes : (n : ℕ) → MayClose k n w → Move k s p w p (closed_by n w)
