@@ -9,7 +9,8 @@ use Rattle.pace.specs.Laws.{HasRanges}
 use Rattle.clean_finish.specs.Bound.{payload_of, segments, bound_of, enough_on}
 use Rattle.clean_finish.specs.Laws.{setting_of}
 
-pub in_ranges : (path : PathLine) (buffer length : ℕ) → IsPath path → IsInRange buffers buffer → HasRanges (setting_of path buffer length)
+pub in_ranges : (path : PathLine) (buffer length : ℕ) → IsPath path → IsInRange buffers buffer
+    → HasRanges (setting_of path buffer length)
 in_ranges path buffer length line sizes = record {
   delay = line.delay.most;
   payload = omega (arith, line.mss.least);

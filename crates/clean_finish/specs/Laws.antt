@@ -1,7 +1,9 @@
 -- What the bound rests on.
-use Rattle.std.specs.Prelude.{ℕ, ◌≡◌, ◌+◌, ◌-◌, ◌*◌, ◌/◌, ◌≤◌, min, [], ◌∷◌, Some}
+use Rattle.std.specs.Prelude.{ℕ, ◌≡◌, ◌+◌, ◌-◌, ◌*◌, ◌/◌, ◌≤◌, min, false, [], ◌∷◌, Some}
+use Rattle.outside_kit.specs.declared.side.Side.TheVariants.{A}
 use Rattle.link_script.specs.declared.script.PathLine.{PathLine}
 use Rattle.link_script.specs.declared.script.Script.{Script}
+use Rattle.link_script.specs.declared.script.ScriptLine.TheVariants.{Drop}
 use Rattle.link_script.specs.Scripts.{HasRanges}
 use Rattle.pace.specs.Lane.{Setting, Lane}
 use Rattle.pace.specs.Rounds.{Course}
@@ -25,7 +27,28 @@ setting_of path buffer length = record {
 -- payload that the lane leaves out of its window.
 abbrev pub CleanLanesFinish : Type 0
 CleanLanesFinish = (script : Script) (path : PathLine) (length_a length_b rounds : ℕ)
-    → HasRanges script → script.paths ≡ path ∷ [] → enough script length_a length_b ≡ Some rounds → (a b : ℕ) → 2 * path.mss ≤ a → 2 * path.mss ≤ b
+    → HasRanges script → script.paths ≡ path ∷ [] → enough script length_a length_b ≡ Some rounds
+    → (a b : ℕ) → 2 * path.mss ≤ a → 2 * path.mss ≤ b
     → (more : ℕ) → rounds ≤ more + 1 → (u x : Lane)
     → Course (setting_of path script.buffer length_a) (setting_of path script.buffer length_b) a b more u x
     → (1 ≤ u.told_end) × (1 ≤ x.told_end)
+
+abbrev pub a_path : PathLine
+a_path = record { mss = 1400; delay = 10; join = 0; backup = false }
+
+-- A script with one path of segments of 1,400 octets, and the same with another path or with a line.
+abbrev pub one_path : Script
+one_path = record {
+  seed = 1;
+  checksum = false;
+  short = false;
+  buffer = 65536;
+  paths = a_path ∷ [];
+  lines = [];
+}
+
+abbrev pub two_paths : Script
+two_paths = record one_path { paths = a_path ∷ a_path ∷ [] }
+
+abbrev pub one_drop : Script
+one_drop = record one_path { lines = Drop 0 A 3 ∷ [] }

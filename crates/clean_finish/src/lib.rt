@@ -8,4 +8,4 @@ mod bound;
 mod laws;
 
 pub use bound::rounds_enough;
-pub use laws::clean_lanes_finish;
+pub use laws::{clean_lanes_finish, examples_of_bounds};
