@@ -23,3 +23,4 @@ mod Settling
 mod FirstDuty
 mod Ordered
 mod LinesOf
+mod Rising

@@ -6,6 +6,7 @@ pub mod Joins
 pub mod Segments
 pub mod Sends
 pub mod Closing
+pub mod Rising
 pub mod Placing
 pub mod Arriving
 pub mod Handshakes

@@ -20,6 +20,7 @@ mod end;
 mod event;
 mod events;
 mod falling;
+mod granted;
 mod hearing;
 mod held;
 mod in_order;

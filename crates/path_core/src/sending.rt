@@ -1,12 +1,11 @@
 //! What an end keeps of its side's own stream (RFC 8684, sections 3.3.2 and 3.3.3).
 
-ghost use Rattle.std.specs.Prelude.{◌≡◌, ◌&&◌, ◌||◌, ◌++◌, ◌∷◌, [], false, true, not, is_some, List, OnOk, OnErr, filter};
-ghost use Rattle.std.specs.List.{list_any};
+ghost use Rattle.std.specs.Prelude.{◌≡◌, ◌&&◌, ◌||◌, ◌++◌, ◌∷◌, [], false, true, not, is_some, List, OnOk, OnErr};
 ghost use Rattle.send_book.specs.declared.call.Span.{Span};
 ghost use Rattle.data_close.specs.Closing as closing;
 ghost use Rattle.actor_desk.specs.Words.{is_nil};
-ghost use Rattle.path_core.specs.Closing.{is_newly_heard, is_open, granted_to};
 
+use crate::granted::GrantedSpans;
 use data_close::CloseState;
 use send_book::{Span, Why};
 use std::alloc::{AllocError, Global};
@@ -26,7 +25,7 @@ pub(crate) struct Sending {
     /// How many bytes of the stream, the DATA_FIN among them, the peer acknowledged to this end.
     heard: u64,
     /// The places that were granted to this end and aren't below all that it heard.
-    granted: Vec<Span>,
+    granted: GrantedSpans,
     /// One of them, or the DATA_FIN, was acknowledged since the timer was settled last.
     news: bool,
 }
@@ -42,7 +41,7 @@ impl Model for Sending {
       close = v.close;
       shut = v.shut;
       heard = v.heard;
-      granted = v.granted.items;
+      granted = v.granted;
       news = v.news;
     } };
 }
@@ -61,7 +60,7 @@ impl Sending {
             close: CloseState::new(),
             shut: false,
             heard: 0,
-            granted: Vec::new(alloc),
+            granted: GrantedSpans::new(alloc),
             news: false,
         }
     }
@@ -120,7 +119,7 @@ impl Sending {
         ensures { result ≡ is_all_granted self.now.known_end self.now }
     {
         match self.known_end {
-            Some(end) => granted_to(self.granted.as_slice()).max(self.heard.min(end)) == end,
+            Some(end) => self.granted.granted_to().max(self.heard.min(end)) == end,
             None => false,
         }
     }
@@ -198,7 +197,7 @@ impl Sending {
     {
         self.news |= self.is_news(next, fin);
         self.heard = self.heard.max(next);
-        let_go(&mut self.granted, self.heard);
+        self.granted.let_go(self.heard);
         self.close.own_acked |= fin;
     }
 
@@ -206,46 +205,7 @@ impl Sending {
     fn is_news(&self, next: u64, fin: bool) -> bool
         ensures { result ≡ is_news next fin self.now }
     {
-        has_newly_heard(self.granted.as_slice(), self.heard, next)
+        self.granted.has_newly_heard(self.heard, next)
             || fin && self.fin_sent && !self.close.own_acked
     }
-}
-
-/// The place behind the last byte of these spans.
-fn granted_to(granted: &[Span]) -> u64
-    ensures { result ≡ granted_to granted.now }
-{
-    let mut to = 0;
-    for span in granted {
-        to = span.to.max(to);
-    }
-    to
-}
-
-/// A place of one of these spans wasn't acknowledged before, and is now.
-fn has_newly_heard(granted: &[Span], heard: u64, next: u64) -> bool
-    ensures { result ≡ list_any (is_newly_heard heard next) granted.now }
-{
-    granted.iter().any(|span| is_newly_heard(heard, next, span))
-}
-
-/// A place of the span wasn't acknowledged before, and is now.
-fn is_newly_heard(heard: u64, next: u64, span: &Span) -> bool
-    ensures { result ≡ is_newly_heard heard next span.now }
-{
-    span.from.max(heard) < next
-}
-
-/// The spans that are acknowledged whole are let go.
-fn let_go(granted: &mut Vec<Span>, heard: u64)
-    ensures { granted.new.items ≡ filter (is_open heard) granted.old.items }
-{
-    granted.retain(|span| is_open(heard, span));
-}
-
-/// The span isn't acknowledged whole.
-fn is_open(heard: u64, span: &Span) -> bool
-    ensures { result ≡ is_open heard span.now }
-{
-    heard < span.to
 }
