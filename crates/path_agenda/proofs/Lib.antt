@@ -2,3 +2,4 @@ pub mod FirstTold
 mod FirstDss
 mod Things
 mod Ended
+mod Done

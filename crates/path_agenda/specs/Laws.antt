@@ -59,7 +59,7 @@ pub record ChainsEnd (s : Side) (index reason : ℕ) : Type 0 where
   -- from a break to the reset, and from a reset to the death
   pub break_ack : weights (resets s reason) < weights (duties.BreakAck s reason ∷ [])
   pub break_reset : weights (leaves s) < weights (duties.BreakReset s reason ∷ [])
-  pub reset : weights (leaves s) < weights (duties.Reset s ∷ [])
+  pub reset : weights (duties.Leave s ∷ []) < weights (duties.Reset s ∷ [])
   pub leave : weights (duties.Dead s ∷ []) < weights (duties.Leave s ∷ [])
 
 abbrev pub EveryChainEnds : Type 0

@@ -7,19 +7,23 @@ use crate::duty::Duty;
 use arrayvec::ArrayVec;
 use std::marker::Model;
 
-/// The duties of a turn, the first of which comes to something. There are at most 64.
+/// The duties of a turn, the first of which comes to something. There are at most 64, those that are done among them.
 #[derive(Debug, Drop)]
 pub struct Agenda {
     duties: ArrayVec<Duty, 64>,
+    /// So many of them, from the first on, are done.
+    done: usize,
 }
 
 impl Model for Agenda {
-    ghost use Rattle.std.specs.Prelude.{List};
+    ghost use Rattle.std.specs.Prelude.{◌≤◌, List, drop, length};
     ghost use Rattle.path_agenda.specs.declared.duty.Duty.{Duty};
 
     ghost Value = { List Duty };
 
-    ghost view = { λ agenda. agenda.duties.items };
+    ghost view = { λ agenda. drop agenda.done agenda.duties.items };
+
+    ghost invariant = { λ agenda. agenda.done ≤ length agenda.duties.items };
 }
 
 impl Agenda {
@@ -28,24 +32,42 @@ impl Agenda {
         requires { length duties.now ≤ 64 }
         ensures { result ≡ duties.now }
     {
-        let mut agenda = ArrayVec::new();
-        agenda.try_extend_from_slice(duties).unwrap();
-        Agenda { duties: agenda }
+        let mut listed = ArrayVec::new();
+        listed.try_extend_from_slice(duties).unwrap();
+        Agenda {
+            duties: listed,
+            done: 0,
+        }
+    }
+
+    /// These duties in three parts, one behind the other: at most 64 in all. Takes no memory.
+    pub(crate) fn of_parts(first: &[Duty], second: &[Duty], third: &[Duty]) -> Self
+        requires { length first.now + length second.now + length third.now ≤ 64 }
+        ensures { result ≡ first.now ++ (second.now ++ third.now) }
+    {
+        let mut listed = ArrayVec::new();
+        listed.try_extend_from_slice(first).unwrap();
+        listed.try_extend_from_slice(second).unwrap();
+        listed.try_extend_from_slice(third).unwrap();
+        Agenda {
+            duties: listed,
+            done: 0,
+        }
     }
 
     /// The duty that stands first, where there is one.
     pub fn first(&self) -> Option<Duty>
         ensures { result ≡ first_of self.now }
     {
-        self.duties.first().copied()
+        self.duties.as_slice().get(self.done).copied()
     }
 
     /// The first duty is done; an agenda with none stays as it is.
     pub fn pop(&mut self)
         ensures { self.new ≡ drop 1 self.old }
     {
-        if !self.duties.is_empty() {
-            self.duties.remove(0);
+        if self.done < self.duties.len() {
+            self.done += 1;
         }
     }
 
@@ -53,23 +75,8 @@ impl Agenda {
     pub fn replace_first(&mut self, duty: Duty)
         ensures { self.new ≡ replaced duty self.old }
     {
-        if let [first, ..] = self.duties.as_mut_slice() {
-            *first = duty;
+        if self.done < self.duties.len() {
+            self.duties[self.done] = duty;
         }
-    }
-
-    /// These duties behind all others: at most 64 in all.
-    pub fn put_last(&mut self, duties: &[Duty])
-        requires { length self.old + length duties.now ≤ 64 }
-        ensures { self.new ≡ self.old ++ duties.now }
-    {
-        self.duties.try_extend_from_slice(duties).unwrap();
-    }
-
-    /// All duties, in their order.
-    pub fn as_slice(&self) -> &[Duty]
-        ensures { result.now ≡ self.now }
-    {
-        self.duties.as_slice()
     }
 }

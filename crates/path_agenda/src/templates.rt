@@ -149,46 +149,17 @@ impl Agenda {
         ])
     }
 
-    /// What follows what a copy says: its acknowledgement, its payload, and the answers.
-    fn payload_came(side: Side) -> Self
-        ensures { result ≡ payload_came side }
-    {
-        Agenda::of(&[
-            Duty::PlainAck(side),
-            Duty::SubflowAck(side),
-            Duty::PlainData(side),
-            Duty::Keep(side),
-            Duty::Edge(side),
-            Duty::Unmapped(side),
-            Duty::HeardFin { side, index: 0 },
-            Duty::HeardFin { side, index: 1 },
-            Duty::HeardFin { side, index: 2 },
-            Duty::PassFin(side),
-            Duty::SubflowFin(side),
-            Duty::AckOut(side),
-            Duty::Rate(side),
-            Duty::Acknowledge(side),
-            Duty::Again(side),
-            Duty::Syn(side),
-            Duty::Data(side),
-            Duty::DataFin(side),
-            Duty::Fin(side),
-            Duty::Timer(side),
-            Duty::Events,
-            Duty::End,
-        ])
-    }
-
     /// A copy is taken, which says so many things, ten at most.
     #[tactic(auto, using(crate::proofs::Things::heard_first))]
     pub fn copy_came(side: Side, count: usize) -> Self
         requires { count ≤ 10 }
         ensures { result ≡ copy_came side count }
     {
-        let mut agenda = Agenda::of(&[Duty::Opened(side), Duty::Live(side)]);
-        agenda.put_last(&things_heard(side)[..count]);
-        agenda.put_last(Agenda::payload_came(side).as_slice());
-        agenda
+        Agenda::of_parts(
+            &[Duty::Opened(side), Duty::Live(side)],
+            &things_heard(side)[..count],
+            &payload_came(side),
+        )
     }
 
     /// The SYN came again: so does the SYN/ACK.
@@ -273,5 +244,35 @@ fn things_heard(side: Side) -> [Duty; 10]
         Duty::Heard { side, index: 7 },
         Duty::Heard { side, index: 8 },
         Duty::Heard { side, index: 9 },
+    ]
+}
+
+/// What follows what a copy says: its acknowledgement, its payload, and the answers.
+fn payload_came(side: Side) -> [Duty; 22]
+    ensures { result ≡ payload_came side }
+{
+    [
+        Duty::PlainAck(side),
+        Duty::SubflowAck(side),
+        Duty::PlainData(side),
+        Duty::Keep(side),
+        Duty::Edge(side),
+        Duty::Unmapped(side),
+        Duty::HeardFin { side, index: 0 },
+        Duty::HeardFin { side, index: 1 },
+        Duty::HeardFin { side, index: 2 },
+        Duty::PassFin(side),
+        Duty::SubflowFin(side),
+        Duty::AckOut(side),
+        Duty::Rate(side),
+        Duty::Acknowledge(side),
+        Duty::Again(side),
+        Duty::Syn(side),
+        Duty::Data(side),
+        Duty::DataFin(side),
+        Duty::Fin(side),
+        Duty::Timer(side),
+        Duty::Events,
+        Duty::End,
     ]
 }

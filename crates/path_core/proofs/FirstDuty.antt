@@ -1,5 +1,5 @@
 -- What the first duty of an agenda comes to.
-use Rattle.std.proofs.Common.{◌≡◌, refl, ap, subst, ◌∙◌, Bool, true, false, if◌then◌else◌, Some, None, List, [], ◌∷◌, drop}
+use Rattle.std.proofs.Common.{◌≡◌, refl, sym, ap, subst, ◌∙◌, Bool, true, false, if◌then◌else◌, is_none, Some, None, List, [], ◌∷◌, drop}
 use Rattle.actor_desk.specs.Words.{tail_of}
 use Rattle.actor_desk.specs.declared.ask.Reply.{Reply}
 use Rattle.path_agenda.specs.declared.duty.Duty.{Duty}
@@ -23,6 +23,15 @@ bytes_of_first (x ∷ ds) d is = let same : x ≡ d = cc in ap asks_bytes same
 pub memory_of_first : {C : Type 0} (ds : List Duty) (d : Duty) (r : Reply) (p : PathState C) → first_of ds ≡ Some d → needs_memory_first ds r p ≡ needs_memory d r p
 memory_of_first [] d r p is = cc
 memory_of_first (x ∷ ds) d r p is = let same : x ≡ d = cc in ap (λ y. needs_memory y r p) same
+
+-- it comes to something
+pub stands_of_first : {C : Type 0} (ds : List Duty) (d : Duty) (p : PathState C) → first_of ds ≡ Some d → is_none (passable_of ds p) ≡ true → stands d p ≡ true
+stands_of_first [] d p is none = cc
+stands_of_first (x ∷ ds) d p is none = by (stands x p) refl none
+  where
+    by : (b : Bool) → stands x p ≡ b → is_none (if b then None else Some x) ≡ true → stands d p ≡ true
+    by true comes none = let same : x ≡ d = cc in ap (λ y. stands y p) (sym same) ∙ comes
+    by false comes none = cc
 
 module _ {C : Type 0} (k : Codec C) where
   pub ask_of_first : (ds : List Duty) (d : Duty) (p : PathState C) → first_of ds ≡ Some d → asks_first k ds p ≡ Some (ask_for k d p)

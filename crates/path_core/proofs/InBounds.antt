@@ -1,6 +1,12 @@
 -- What a reply of the asked kind, within bounds, gives the rules.
-use Rattle.std.proofs.Common.{Option, Some, None, List}
+use Rattle.std.proofs.Common.{◌≡◌, ℕ, ◌≤◌, subst, false, is_some, Option, Some, None, List, [], ◌∷◌, arith}
 use Rattle.std.specs.Prelude.{All}
+use Rattle.outside_kit.specs.declared.side.Side.{Side}
+use Rattle.send_book.specs.declared.call.SendReply.TheVariants as send_replies
+use Rattle.subflow_send.specs.Records.{Record}
+use Rattle.path_agenda.specs.declared.duty.Duty.{Duty}
+use Rattle.path_agenda.specs.declared.duty.Duty.TheVariants as duties
+use Rattle.path_agenda.specs.Words.{first_of}
 use Rattle.reassembly_book.specs.declared.call.ReassemblyReply.TheVariants as reassembly_replies
 use Rattle.control_book.specs.declared.call.ControlCall.TheVariants as control_calls
 use Rattle.control_book.specs.declared.call.ControlReply.TheVariants as control_replies
@@ -12,7 +18,12 @@ use Rattle.linked_increase.specs.declared.rows.Row.{Row}
 use Rattle.linked_increase.specs.Paths.{IsInRange}
 use Rattle.actor_desk.specs.Kinds.{IsOfKind}
 use Rattle.actor_desk.specs.Bounds.{IsBounded, TakesReply}
-use Rattle.path_core.specs.Replies.{IsAckBounded, AreRowsInRange}
+use Rattle.path_core.specs.Replies.{IsAckBounded, AreRowsInRange, IsGrantSendable, IsGrantFit}
+use Rattle.path_core.specs.Duties.{ask_for}
+use Rattle.path_core.specs.Emission.{first_unsent, grant_ask, grant_in, data_ask}
+use Rattle.path_core.specs.Octets.{octets}
+use Rattle.path_core.specs.State.{PathState, end_at}
+use Rattle.path_core.specs.Steps.{asks_first}
 
 pub acks_bounded : (x : Option Ask) (r : Reply) → TakesReply x r → IsAckBounded r
 acks_bounded None r takes = absurd takes
@@ -76,3 +87,28 @@ rows_in_range (Some x) (replies.Control control_replies.BadHmac) takes = tt
 rows_in_range (Some x) (replies.Control control_replies.Known) takes = tt
 rows_in_range (Some x) (replies.Control control_replies.Stopped) takes = tt
 rows_in_range (Some x) (replies.Control (control_replies.OtherKey x0)) takes = tt
+
+-- ---- what is granted
+
+-- a piece of at most a full segment's payload can be sent
+granted_fits : (s : Side) (p : PathState (List ℕ)) (r : Reply) → IsOfKind (grant_ask s p) r → p.profile.mss ≤ 1460 → IsGrantSendable (grant_in r)
+granted_fits s p (replies.Send (send_replies.Granted span piece)) kind few =
+    let some = kind.0.some in let most = kind.0.most in record { some = omega (arith, some); most = omega (arith, most, few) }
+granted_fits s p (replies.Send send_replies.Noted) kind few = tt
+granted_fits s p (replies.Send _) kind few = tt
+granted_fits s p (replies.Reassembly reply) kind few = tt
+granted_fits s p (replies.Control reply) kind few = tt
+granted_fits s p replies.Done kind few = tt
+
+data_fits : (s : Side) (o : Option Record) (p : PathState (List ℕ)) (r : Reply) → TakesReply (Some (data_ask octets s o p)) r → p.profile.mss ≤ 1460 → is_some o ≡ false → IsGrantSendable (grant_in r)
+data_fits s None p r takes few none = granted_fits s p r takes.0 few
+data_fits s (Some unsent) p r takes few none = cc
+
+grant_fits : (d : Duty) (p : PathState (List ℕ)) (r : Reply) → TakesReply (Some (ask_for octets d p)) r → p.profile.mss ≤ 1460 → IsGrantFit d r p
+grant_fits (duties.Data s) p r takes few = data_fits s (first_unsent (end_at s p)) p r takes few
+grant_fits duties.JoinAgain p r takes few = tt
+grant_fits _ p r takes few = tt
+
+pub grant_of_first : (ds : List Duty) (d : Duty) (p : PathState (List ℕ)) (r : Reply) → first_of ds ≡ Some d → TakesReply (asks_first octets ds p) r → p.profile.mss ≤ 1460 → IsGrantFit d r p
+grant_of_first [] d p r is takes few = cc
+grant_of_first (x ∷ ds) d p r is takes few = let same : x ≡ d = cc in subst (λ y. IsGrantFit y r p) same (grant_fits x p r takes few)

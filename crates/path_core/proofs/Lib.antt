@@ -11,6 +11,8 @@ pub mod Filling
 pub mod Sendings
 pub mod Handshakes
 pub mod Happening
+mod Grants
+mod PathTurns
 pub mod Fallen
 pub mod Lowering
 pub mod TurnEnds

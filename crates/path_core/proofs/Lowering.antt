@@ -422,7 +422,7 @@ module _ {C : Type 0} where
   answered_lowers k (duties.BreakAck s reason) ds r p t is stands kind =
       goes_less s (after_ack_out r (end_at s p)) (resets s reason) p t (same_rests p.clock (end_at s p) (after_ack_out r (end_at s p)) refl) (rw is (omega arith))
   answered_lowers k (duties.BreakReset s reason) ds r p t is stands kind = reset_less k s (Some reason) (leaves s) p t (rw is (omega arith))
-  answered_lowers k (duties.Reset s) ds r p t is stands kind = reset_less k s None (leaves s) p t (rw is (omega arith))
+  answered_lowers k (duties.Reset s) ds r p t is stands kind = reset_less k s None (replaced (duties.Leave s) p.agenda) p t (rw is (omega arith))
   answered_lowers k (duties.Leave s) ds r p t is stands kind = agenda_less (replaced (duties.Dead s) p.agenda) p t (rw is (omega arith))
   answered_lowers k (duties.Dead s) ds r p t is stands kind = agenda_less (left p) p t (left_less _ ds p is)
   answered_lowers k duties.End ds r p t is stands kind = agenda_less [] p t (rw is (omega arith))

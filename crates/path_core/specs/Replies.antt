@@ -1,5 +1,5 @@
 -- What the rules ask of a reply, and which duties ask for bytes.
-use Rattle.std.specs.Prelude.{ℕ, All, ◌+◌, ◌^◌, ◌<◌, ◌≤◌, Bool, true, false, ◌||◌, is_some, Option, Some, None, List, [], ◌∷◌, length}
+use Rattle.std.specs.Prelude.{ℕ, ◌≡◌, All, ◌+◌, ◌^◌, ◌<◌, ◌≤◌, Bool, true, false, ◌||◌, is_some, Option, Some, None, List, [], ◌∷◌, length}
 use Rattle.reassembly_book.specs.declared.call.ReassemblyReply.TheVariants as reassembly_replies
 use Rattle.control_book.specs.declared.call.ControlReply.TheVariants as control_replies
 use Rattle.linked_increase.specs.Paths.{IsInRange}
@@ -26,6 +26,11 @@ pub record IsSendable (piece : List ℕ) : Type 0 where
 abbrev pub IsGrantSendable : Option Grant → Type 0
 IsGrantSendable None = Unit {0}
 IsGrantSendable (Some grant) = IsSendable grant.piece
+
+-- what was granted can be sent, where it was asked for
+abbrev pub IsGrantFit : {C : Type 0} → Duty → Reply → PathState C → Type 0
+IsGrantFit (duties.Data s) r p = is_some (first_unsent (end_at s p)) ≡ false → IsGrantSendable (grant_in r)
+IsGrantFit d r p = Unit {0}
 
 -- bytes that are to be placed are the only ones that a path asks with
 abbrev pub asks_bytes : Duty → Bool

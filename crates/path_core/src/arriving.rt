@@ -20,7 +20,7 @@ use crate::hearing::{
     asks_capable, edge_held, has_option, is_plain_ack, items_of, opens_by, options_heard, owes_by,
 };
 use crate::judged::Judged;
-use crate::path::Path;
+use crate::machine::Machine;
 use crate::profile::{peer, spelled_by};
 use crate::treated::Treated;
 use dss_mapping::KeptMapping;
@@ -294,7 +294,7 @@ impl PathEnd {
     }
 }
 
-impl Path {
+impl Machine {
     /// A segment is heard at a side at this tick, which follows the path's. At an error all is as it was.
     fn hear_segment(
         &mut self,

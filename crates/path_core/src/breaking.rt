@@ -4,20 +4,22 @@ ghost use Rattle.std.specs.Prelude.{◌≡◌, Some, None, OnOk, OnErr};
 ghost use Rattle.actor_desk.specs.Kinds.{CanBeAsked};
 ghost use Rattle.path_core.specs.declared.segment_kind.SegmentKind.TheVariants as to_say;
 ghost use Rattle.path_agenda.specs.Agenda.{leaves};
+ghost use Rattle.path_agenda.specs.Words.{replaced};
+ghost use Rattle.path_agenda.specs.declared.duty.Duty.TheVariants as duties;
 ghost use Rattle.path_core.specs.Breaking.{reset_of, reset_on, break_ask, answered_break, return_ask, dead_ask};
 ghost use Rattle.path_core.specs.Events.{died};
 ghost use Rattle.path_core.specs.Octets.{octets};
 ghost use Rattle.path_core.specs.Replies.{IsAckBounded};
 
 use crate::end::PathEnd;
-use crate::path::Path;
+use crate::machine::Machine;
 use crate::segment_kind::SegmentKind;
 use crate::standing::ack_out_ask;
 use crate::treated::Treated;
 use actor_desk::{Ask, Reply};
 use control_book::ControlCall;
 use outside_kit::Side;
-use path_agenda::Agenda;
+use path_agenda::{Agenda, Duty};
 use send_book::SendCall;
 use std::alloc::AllocError;
 
@@ -31,7 +33,7 @@ impl PathEnd {
     }
 }
 
-impl Path {
+impl Machine {
     /// What the end holds is given back.
     pub(crate) fn return_ask(&self, side: Side) -> Ask
         ensures value { result ≡ return_ask side self.now }
@@ -66,6 +68,18 @@ impl Path {
         self.hand(side, SegmentKind::Reset { reason })?;
         self.end_mut(side).die();
         self.sets_about(Agenda::leaves(side));
+        Ok(())
+    }
+
+    /// The reset of an end that gives up is sent, and the end is dead: it leaves in the place of that duty, and what follows stays to
+    /// be done. At an error all is as it was.
+    pub(crate) fn give_up(&mut self, side: Side) -> Result<(), AllocError>
+        ensures ok { OnOk result (self.new ≡ reset_on octets side None (replaced (duties.Leave side) self.old.agenda) self.old) }
+        ensures err { OnErr result (self.new ≡ self.old) }
+    {
+        self.hand(side, SegmentKind::Reset { reason: None })?;
+        self.end_mut(side).die();
+        self.turns_to(Duty::Leave(side));
         Ok(())
     }
 

@@ -1,7 +1,6 @@
 //! When DATA_FIN and FIN go out (RFC 8684, section 3.3.3).
 
-ghost use Rattle.std.specs.Prelude.{◌≡◌, false, IsTrue};
-ghost use Rattle.subflow_tcp.specs.States.{may_finish};
+ghost use Rattle.std.specs.Prelude.{◌≡◌};
 ghost use Rattle.path_core.specs.Closing.{is_end_owed, is_end_due, is_fin_due, is_waiting};
 
 use crate::end::PathEnd;
@@ -43,13 +42,5 @@ impl PathEnd {
         } else {
             self.sending.may_finish()
         }
-    }
-
-    /// A FIN may be pushed behind the last piece.
-    pub fn can_finish(&self) -> bool
-        ensures state { IsTrue result → IsTrue (may_finish self.now.tcp.state) }
-        ensures open { IsTrue result → self.now.tcp.send.finished ≡ false }
-    {
-        self.tcp.state().may_finish() && !self.tcp.is_finished()
     }
 }

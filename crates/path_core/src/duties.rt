@@ -5,10 +5,10 @@ ghost use Rattle.std.specs.Prelude.{◌≡◌, true, false, IfOk, IsOk, OnOk, On
 ghost use Rattle.actor_desk.specs.Kinds.{CanBeAsked};
 ghost use Rattle.path_core.specs.Octets.{octets};
 ghost use Rattle.path_core.specs.Duties.{stands, ask_for, passed, answered};
-ghost use Rattle.path_core.specs.Replies.{IsAckBounded, AreRowsInRange, asks_bytes, is_of_copy, asks_segment, takes_memory, needs_memory};
+ghost use Rattle.path_core.specs.Replies.{IsAckBounded, AreRowsInRange, IsGrantFit, asks_bytes, is_of_copy, asks_segment, takes_memory, needs_memory};
 
 use crate::joining::join_begin_ask;
-use crate::path::Path;
+use crate::machine::Machine;
 use crate::segment_kind::SegmentKind;
 use crate::standing::ack_out_ask;
 use actor_desk::{Ask, LocalStep, Reply};
@@ -42,7 +42,7 @@ fn is_of_copy(duty: Duty) -> bool
     )
 }
 
-impl Path {
+impl Machine {
     /// Whether a duty comes to something.
     pub(crate) fn stands(&self, duty: Duty) -> bool
         ensures { result ≡ stands duty self.now }
@@ -211,6 +211,8 @@ impl Path {
     ///
     /// Only where there is no memory, and the reply needs some; all is then as it was.
     pub(crate) fn answer(&mut self, duty: Duty, reply: &Reply) -> Result<(), AllocError>
+        requires first { stands duty self.old ≡ true }
+        requires grant { IsGrantFit duty reply.now self.old }
         requires acks { IsAckBounded reply.now }
         requires rows { AreRowsInRange reply.now }
         ensures ok { OnOk result (self.new ≡ answered octets duty reply.now self.old) }
@@ -235,7 +237,7 @@ impl Path {
             Duty::ResetAnswer(side) => self.send_dead_answer(side),
             Duty::Resend(side) => self.resend(side),
             Duty::BreakReset { side, reason } => self.send_reset(side, Some(reason)),
-            Duty::Reset(side) => self.send_reset(side, None),
+            Duty::Reset(side) => self.give_up(side),
             _ => {
                 self.hear(duty, reply);
                 Ok(())

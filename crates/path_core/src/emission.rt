@@ -1,6 +1,6 @@
 //! What an end sends by itself: its SYN, records and grants as long as there is room, DATA_FIN, FIN; and its timer.
 
-ghost use Rattle.std.specs.Prelude.{◌≡◌, ◌≤◌, ◌<◌, ◌+◌, ◌-◌, ◌^◌, ◌||◌, false, is_some, IsOk, OnOk, OnErr, IsTrue};
+ghost use Rattle.std.specs.Prelude.{◌≡◌, ◌≤◌, ◌<◌, ◌+◌, ◌-◌, ◌^◌, ◌||◌, true, false, is_some, IsOk, OnOk, OnErr, IsTrue};
 ghost use Rattle.actor_desk.specs.Kinds.{CanBeAsked};
 ghost use Rattle.subflow_send.specs.Records.{record_of};
 ghost use Rattle.subflow_tcp.specs.declared.segments.Occasion.TheVariants.{Fin};
@@ -9,12 +9,14 @@ ghost use Rattle.subflow_tcp.specs.Closing.{after_finishing};
 ghost use Rattle.subflow_tcp.specs.Emitting.{after_sending};
 ghost use Rattle.path_core.specs.Octets.{octets};
 ghost use Rattle.path_core.specs.Emission.{first_unsent, is_syn_due, fits, may_send_data, may_ask, data_stands, grant_ask, data_ask, grant_in, with_piece, granted, refused, answered_grant, answered_data, answered_syn, answered_end, answered_fin, after_timer};
-ghost use Rattle.path_core.specs.Replies.{IsSendable};
+ghost use Rattle.path_agenda.specs.declared.duty.Duty.TheVariants as duties;
+ghost use Rattle.path_core.specs.Duties.{stands};
+ghost use Rattle.path_core.specs.Replies.{IsSendable, IsGrantSendable, IsGrantFit};
 ghost use Rattle.path_core.specs.State.{end_at, with_end, goes_on, left};
 
 use crate::end::PathEnd;
 use crate::modes::Modes;
-use crate::path::Path;
+use crate::machine::Machine;
 use crate::profile::Profile;
 use crate::segment_kind::SegmentKind;
 use actor_desk::{Ask, Reply};
@@ -23,9 +25,6 @@ use send_book::{SendCall, SendReply, Span};
 use seq_units::Mapping;
 use std::alloc::AllocError;
 use subflow_tcp::{Occasion, RecordRef, State};
-
-/// A segment carries as many octets at most, beside forty octets of options.
-const MOST_OCTETS: usize = 65_475;
 
 impl PathEnd {
     /// The SYN of the end that opens is due: it was never sent.
@@ -72,13 +71,13 @@ impl PathEnd {
 
     /// The granted piece is to be sent, with this mapping for ever. At an error all is as it was.
     fn take_grant(&mut self, span: Span, piece: &[u8], mapping: &Mapping) -> Result<(), AllocError>
-        requires { IsSendable piece.now }
+        requires piece { IsSendable piece.now }
+        requires open { IsTrue (may_finish self.old.tcp.state) }
+        requires room { self.old.tcp.send.nxt < 2 ^ 61 }
         ensures ok { OnOk result (self.new ≡ with_piece span piece.now mapping.now self.old) }
         ensures err { OnErr result (self.new ≡ self.old) }
     {
-        if self.tcp.is_finished() || self.tcp.is_at_limit() {
-            return Err(AllocError);
-        }
+        let _finished = self.tcp.is_finished();
         self.sending.push_span(span)?;
         if let Err(error) = self.tcp.push(piece, mapping) {
             self.sending.pop_span();
@@ -110,7 +109,6 @@ impl PathEnd {
     /// The FIN was pushed and sent at once, and told this edge of the window.
     fn having_sent_fin(&mut self, now: u64, told_edge: u64, modes: Modes)
         requires state { IsTrue (may_finish self.old.tcp.state) }
-        requires open { self.old.tcp.send.finished ≡ false }
         requires edge { told_edge ≤ 2 ^ 62 + 2 ^ 21 }
         ensures { self.new ≡ record self.old {
           receiving = record self.old.receiving { told_edge = told_edge };
@@ -118,6 +116,7 @@ impl PathEnd {
           tcp = after_sending Fin now (after_finishing self.old.tcp);
         } }
     {
+        let _finished = self.tcp.is_finished();
         self.receiving.tell_edge(told_edge);
         self.modes = modes;
         self.tcp.finish();
@@ -125,7 +124,7 @@ impl PathEnd {
     }
 }
 
-impl Path {
+impl Machine {
     /// The timer of a side is settled.
     pub(crate) fn settle_timer(&mut self, side: Side)
         ensures { self.new ≡ with_end side (after_timer self.old.clock (end_at side self.old)) self.old }
@@ -169,8 +168,10 @@ impl Path {
     }
 
     /// The granted piece is to be sent; the duty stays. At an error all is as it was.
+    #[tactic(auto, using(crate::proofs::Grants::may_state, crate::proofs::Grants::may_room))]
     fn take_grant(&mut self, side: Side, span: Span, piece: &[u8]) -> Result<(), AllocError>
-        requires { IsSendable piece.now }
+        requires piece { IsSendable piece.now }
+        requires may { may_ask self.old.profile side (end_at side self.old) ≡ true }
         ensures ok { OnOk result (self.new ≡ goes_on side (granted self.old.profile side span piece.now (end_at side self.old)) self.old.agenda self.old) }
         ensures err { OnErr result (self.new ≡ self.old) }
     {
@@ -189,15 +190,14 @@ impl Path {
 
     /// What was granted is taken, or the refusal ends the asking. At an error all is as it was.
     fn hear_grant(&mut self, side: Side, reply: &Reply) -> Result<(), AllocError>
+        requires grant { IsGrantSendable (grant_in reply.now) }
+        requires may { may_ask self.old.profile side (end_at side self.old) ≡ true }
         ensures ok { OnOk result (self.new ≡ answered_grant side (grant_in reply.now) reply.now self.old) }
         ensures err { OnErr result (self.new ≡ self.old) }
         ensures plain { is_some (grant_in reply.now) ≡ false → IsOk result }
     {
         match reply {
             Reply::Send(SendReply::Granted { span, piece }) => {
-                if piece.is_empty() || piece.len() > MOST_OCTETS {
-                    return Err(AllocError);
-                }
                 self.take_grant(side, *span, piece.as_bytes())
             }
             _ => {
@@ -209,7 +209,10 @@ impl Path {
 
     /// A record is sent, or what was granted is taken; the duty stays, so that the next record is sent, or the next bytes
     /// are asked for.
+    #[tactic(auto, using(crate::proofs::Grants::may_of_stands))]
     pub(crate) fn answer_data(&mut self, side: Side, reply: &Reply) -> Result<(), AllocError>
+        requires first { stands (duties.Data side) self.old ≡ true }
+        requires grant { IsGrantFit (duties.Data side) reply.now self.old }
         ensures ok { OnOk result (self.new ≡ answered_data octets side (first_unsent (end_at side self.old)) reply.now self.old) }
         ensures err { OnErr result (self.new ≡ self.old) }
         ensures plain { (is_some (first_unsent (end_at side self.old)) || is_some (grant_in reply.now)) ≡ false → IsOk result }
@@ -232,13 +235,12 @@ impl Path {
     }
 
     /// The FIN is pushed and sent.
+    #[tactic(auto, using(crate::proofs::Grants::fin_state))]
     pub(crate) fn send_fin(&mut self, side: Side) -> Result<(), AllocError>
+        requires { stands (duties.Fin side) self.old ≡ true }
         ensures ok { OnOk result (self.new ≡ answered_fin octets side self.old) }
         ensures err { OnErr result (self.new ≡ self.old) }
     {
-        if !self.end(side).can_finish() {
-            return Err(AllocError);
-        }
         let told_edge = self.edge_told(side, SegmentKind::Fin);
         let modes = self.modes_after(side, SegmentKind::Fin);
         self.hand(side, SegmentKind::Fin)?;

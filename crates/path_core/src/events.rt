@@ -18,7 +18,7 @@ use crate::end::PathEnd;
 use crate::event::Event;
 use crate::joining::join_begin_ask;
 use crate::lines::LineLeft;
-use crate::path::Path;
+use crate::machine::Machine;
 use actor_desk::{Ask, LocalStep, Reply};
 use link_script::ScriptLine;
 use outside_kit::Side;
@@ -129,9 +129,9 @@ impl PathEnd {
     }
 }
 
-impl Path {
+impl Machine {
     /// Whether A's end is dead, and B's end is dead or was never reached.
-    pub fn is_dead(&self) -> bool
+    pub(crate) fn is_dead(&self) -> bool
         ensures { result ≡ is_dead_path self.now }
     {
         self.a.is_dead() && self.b.is_dead_or_listening()

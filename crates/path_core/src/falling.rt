@@ -9,7 +9,7 @@ ghost use Rattle.path_core.specs.State.{end_at, with_agenda};
 
 use crate::end::PathEnd;
 use crate::modes::Modes;
-use crate::path::Path;
+use crate::machine::Machine;
 use actor_desk::{Ask, Reply};
 use control_book::{ControlCall, ControlReply};
 use fallback_state::{Event, Mode, Verdict};
@@ -86,7 +86,7 @@ impl PathEnd {
     }
 }
 
-impl Path {
+impl Machine {
     /// An event is told that may change the mode.
     pub(crate) fn fell_ask(&self, side: Side, event: Event) -> Ask
         ensures value { result ≡ fell_ask side event self.now }

@@ -11,7 +11,7 @@ ghost use Rattle.path_core.specs.Octets.{octets};
 use crate::end::PathEnd;
 use crate::joins::join_asked;
 use crate::modes::Modes;
-use crate::path::Path;
+use crate::machine::Machine;
 use crate::segment_kind::SegmentKind;
 use actor_desk::{Ask, LocalStep, Reply};
 use control_book::{ControlCall, ControlReply};
@@ -129,7 +129,7 @@ impl PathEnd {
     }
 }
 
-impl Path {
+impl Machine {
     /// A had to wait at the path's tick, and asks again in each turn.
     pub(crate) fn is_join_pending(&self) -> bool
         ensures { result ≡ is_join_pending self.now }

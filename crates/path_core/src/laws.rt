@@ -5,12 +5,23 @@ ghost use Rattle.path_core.specs.FirstRound.{turn_of_path};
 ghost use Rattle.path_core.specs.Handshakes.{CapableIsTheHandshake, EndsAreThose};
 ghost use Rattle.path_core.specs.Octets.{octets};
 ghost use Rattle.path_core.specs.Shown.{AsksTheSame, TakesTheSame, BeginsTheSame};
-ghost use Rattle.path_core.specs.Turns.{EveryTurnEnds, EveryRoundEnds};
+ghost use Rattle.path_core.specs.Turns.{Ends, EveryTurnEnds, EveryRoundEnds};
+ghost use Rattle.path_core.specs.Steps.{next_round};
 ghost use Rattle.path_core.specs.Values.{values};
 
-/// A law: a turn of a path ends, whatever replies of the asked kind come, over octets and over segments as values; so does
-/// each turn that a round begins. A segment has to be on its way for a tick or longer, and a timeout to be at least a tick.
-pub fn every_turn_ends()
+use crate::path::Path;
+
+/// A law: the turn of each path ends, whatever replies of the asked kind come, and so does the turn that the next round begins.
+pub fn every_turn_ends(path: &Path)
+    ensures turn { Ends octets path.now }
+    ensures round { Ends octets (next_round path.now) }
+{
+    path.turn_ends();
+}
+
+/// A law: so do the turns of what a path may be, over octets and over segments as values, where its first duty comes to something,
+/// a segment is on its way for a tick or longer, and a timeout is at least a tick.
+pub fn settled_turns_end()
     ensures octets { EveryTurnEnds octets }
     ensures values { EveryTurnEnds values }
     ensures rounds { EveryRoundEnds octets }

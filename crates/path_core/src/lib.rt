@@ -29,6 +29,7 @@ mod joins;
 mod judged;
 mod laws;
 mod lines;
+mod machine;
 mod mapped_fin;
 mod modes;
 mod opening;
@@ -55,6 +56,7 @@ pub use event::Event;
 pub use judged::Judged;
 pub use laws::{
     a_first_round, every_turn_ends, octets_do_as_values, options_are_those_of_the_handshakes,
+    settled_turns_end,
 };
 pub use lines::LineLeft;
 pub use modes::Modes;

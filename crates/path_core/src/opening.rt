@@ -9,7 +9,7 @@ ghost use Rattle.path_core.specs.State.{end_at, goes_on, left};
 
 use crate::end::PathEnd;
 use crate::modes::Modes;
-use crate::path::Path;
+use crate::machine::Machine;
 use crate::segment_kind::SegmentKind;
 use crate::treated::Treated;
 use actor_desk::{Ask, LocalStep, Reply};
@@ -105,7 +105,7 @@ impl PathEnd {
     }
 }
 
-impl Path {
+impl Machine {
     /// The window of the SYN is told: it acknowledges nothing.
     pub(crate) fn syn_window_ask(&self, side: Side) -> Ask
         ensures value { result ≡ syn_window_ask side (end_at side self.now) }

@@ -11,7 +11,7 @@ ghost use Rattle.path_core.specs.Replies.{AreRowsInRange};
 ghost use Rattle.path_core.specs.State.{end_at, goes_on, left, path_of, with_end};
 
 use crate::end::PathEnd;
-use crate::path::Path;
+use crate::machine::Machine;
 use crate::segment_kind::SegmentKind;
 use actor_desk::{Ask, LocalStep, Reply};
 use control_book::{ControlCall, ControlReply};
@@ -134,7 +134,7 @@ impl PathEnd {
     }
 }
 
-impl Path {
+impl Machine {
     /// What the book refuses breaks the path.
     pub(crate) fn refuse(&mut self, side: Side)
         ensures { self.new ≡ refused side self.old }

@@ -1,128 +1,155 @@
-//! A path: its two ends, its link, and what is still to be done in its turn.
+//! A path of a connection: it makes steps, and each turn of it ends.
 
-ghost use Rattle.std.specs.Prelude.{◌≡◌, ◌<◌, [], Some};
-ghost use Rattle.std.specs.Borrow.{sem};
-ghost use Rattle.actor_desk.specs.Words.{tail_of};
-ghost use Rattle.path_agenda.specs.Words.{replaced};
+ghost use Rattle.std.specs.Prelude.{◌≡◌, ◌<◌, ◌≤◌, ◌*◌, ◌^◌, [], false, length, IfOk, IfSome, IsOk, OnOk, OnErr};
+ghost use Rattle.actor_desk.specs.Bounds.{TakesReply};
+ghost use Rattle.actor_desk.specs.Kinds.{CanBeAsked};
+ghost use Rattle.link_model.specs.Octets.{after_octets};
+ghost use Rattle.link_script.specs.Scripts.{HasRanges};
+ghost use Rattle.path_core.specs.Events.{is_dead_path};
+ghost use Rattle.path_core.specs.Octets.{octets};
+ghost use Rattle.path_core.specs.Replies.{asks_bytes_first, needs_memory_first};
+ghost use Rattle.path_core.specs.Starts.{first_turn_of};
+ghost use Rattle.path_core.specs.State.{path_of, has_ended};
+ghost use Rattle.path_core.specs.Steps.{settles_down, asks_of, takes, next_round};
+ghost use Rattle.path_core.specs.Turns.{Ends};
 
-use crate::end::PathEnd;
-use crate::lines::LineLeft;
-use crate::profile::Profile;
-use link_model::Link;
+use crate::machine::Machine;
+use actor_desk::{Ask, Reply};
+use link_script::Script;
 use outside_kit::Side;
-use path_agenda::{Agenda, Clock, Duty};
-use std::alloc::Global;
-use std::collections::VecDeque;
+use std::alloc::{AllocError, Global};
 use std::marker::Model;
 
 /// A path of a connection. Its turn is an agenda of duties, the first of which comes to something: to an ask, or to a
-/// segment.
+/// segment. A segment is on its way for a tick or longer, and so a timeout is.
 #[derive(Debug, Drop)]
 pub struct Path {
-    pub(crate) alloc: Global,
-    pub(crate) profile: Profile,
-    pub(crate) link: Link,
-    pub(crate) clock: Clock,
-    /// The lines of the script that aren't taken yet, in the order of their ticks.
-    pub(crate) lines: VecDeque<LineLeft>,
-    /// The tick at which A joins the path to the connection, as long as that is to come.
-    pub(crate) joined_at: Option<u64>,
-    pub(crate) a: PathEnd,
-    pub(crate) b: PathEnd,
-    pub(crate) agenda: Agenda,
+    machine: Machine,
 }
 
 impl Model for Path {
-    ghost use Rattle.std.specs.Prelude.{ℕ, ◌≡◌, List};
+    ghost use Rattle.std.specs.Prelude.{ℕ, ◌≡◌, true, is_none, List};
     ghost use Rattle.std.specs.Coded.{codes};
     ghost use Rattle.dss_mapping.specs.Mappings.{mappings_code};
     ghost use Rattle.path_core.specs.State.{PathState};
+    ghost use Rattle.path_core.specs.Steps.{passable};
+    ghost use Rattle.path_core.specs.Turns.{TakesTime};
 
     ghost Value = { PathState (List ℕ) };
 
     ghost coded = { Prim.hlevel (codes, mappings_code) };
 
-    ghost view = { λ p. record {
-      profile = p.profile;
-      link = p.link;
-      clock = p.clock.tick;
-      until = p.clock.until;
-      lines = p.lines.items;
-      joined_at = p.joined_at;
-      a = p.a;
-      b = p.b;
-      agenda = p.agenda;
-    } };
+    ghost view = { λ p. p.machine };
 
-    ghost invariant = { λ p. p.profile.spelling.path ≡ p.link.path };
+    ghost invariant = { λ p. (is_none (passable p.machine) ≡ true) × TakesTime p.machine };
 }
 
 impl Path {
-    ghost use Rattle.path_core.specs.Lending.{LendsEnd};
-    ghost use Rattle.path_core.specs.State.{end_at, with_agenda, path_of, has_ended};
-
-    /// Whether its turn has ended.
-    pub fn has_ended(&self) -> bool
-        ensures { result ≡ has_ended self.now }
+    /// A path of a script, at the start of its first turn: A opens path 0 at once and joins any other one later, and B
+    /// listens. Keys, initial sequence numbers and nonces are drawn from the script's seed.
+    ///
+    /// # Errors
+    ///
+    /// Only where there is no memory for the script's lines.
+    pub fn new(alloc: Global, script: &Script, path: u8) -> Result<Self, AllocError>
+        requires ranges { HasRanges script.now }
+        requires path { path < length script.now.paths }
+        ensures { IfOk result (λ first. first ≡ first_turn_of script.now path) }
     {
-        self.agenda.first().is_none()
+        let machine = Machine::new(alloc, script, path)?;
+        machine.takes_time();
+        Ok(Path { machine })
     }
 
-    /// The first tick after its round, in ticks of a millisecond. The first round ends at 100.
-    pub fn round_end(&self) -> u64
-        ensures { result ≡ self.now.until }
-    {
-        self.clock.until()
-    }
-
-    /// The end of a side.
-    pub(crate) fn end(&self, side: Side) -> &PathEnd
-        ensures { result.now ≡ end_at side self.now }
-    {
-        match side {
-            Side::A => &self.a,
-            Side::B => &self.b,
-        }
-    }
-
-    /// The end of a side, lent.
-    pub(crate) fn end_mut(&mut self, side: Side) -> &mut PathEnd
-        ensures* writes_back { sem 𝓛 (LendsEnd self.entry side result) }
-        ensures value { result.now ≡ end_at side self.old }
-    {
-        match side {
-            Side::A => &mut self.a,
-            Side::B => &mut self.b,
-        }
-    }
+    /// Its turn ends, whatever replies of the asked kind come, and so does the turn that the next round begins.
+    pub(crate) fn turn_ends(&self)
+        ensures turn { Ends octets self.now }
+        ensures round { Ends octets (next_round self.now) }
+    {}
 
     /// The number of the path, below 16.
     pub fn number(&self) -> u8
         ensures value { result ≡ path_of self.now }
         ensures bound { result < 16 }
     {
-        self.profile.spelling().path
+        self.machine.number()
     }
 
-    /// The first duty is done.
-    #[tactic(auto, using(crate::proofs::FirstDuty::rest_is))]
-    pub(crate) fn done(&mut self)
-        ensures { self.new ≡ with_agenda (tail_of self.old.agenda) self.old }
+    /// Whether its turn has ended.
+    pub fn has_ended(&self) -> bool
+        ensures { result ≡ has_ended self.now }
     {
-        self.agenda.pop();
+        self.machine.has_ended()
     }
 
-    /// Another duty stands in the place of the first.
-    pub(crate) fn turns_to(&mut self, duty: Duty)
-        ensures { self.new ≡ with_agenda (replaced duty self.old.agenda) self.old }
+    /// The first tick after its round, in ticks of a millisecond. The first round ends at 100.
+    pub fn round_end(&self) -> u64
+        ensures { result ≡ self.now.until }
     {
-        self.agenda.replace_first(duty);
+        self.machine.round_end()
     }
 
-    /// These duties are to be done, and no others.
-    pub(crate) fn sets_about(&mut self, agenda: Agenda)
-        ensures { self.new ≡ with_agenda agenda self.old }
+    /// Whether A's end is dead, and B's end is dead or was never reached.
+    pub fn is_dead(&self) -> bool
+        ensures { result ≡ is_dead_path self.now }
     {
-        self.agenda = agenda;
+        self.machine.is_dead()
+    }
+
+    /// What it asks: nothing where its turn ended. Only an ask that carries bytes takes memory.
+    ///
+    /// # Errors
+    ///
+    /// Only where there is no memory for those bytes.
+    pub fn ask(&self) -> Result<Option<Ask>, AllocError>
+        ensures ask { IfOk result (λ ask. ask ≡ asks_of octets self.now) }
+        ensures able { IfOk result (λ ask. IfSome ask CanBeAsked) }
+        ensures plain { asks_bytes_first self.now.agenda ≡ false → IsOk result }
+    {
+        self.machine.ask()
+    }
+
+    /// Takes the reply to what it asked last. The turn hasn't ended, and the reply is one that the ask can have.
+    ///
+    /// # Errors
+    ///
+    /// Only where there is no memory, and the reply needs some: a segment is sent or may be, bytes were granted, or a copy arrives.
+    /// The path is then as it was.
+    pub fn take(&mut self, reply: &Reply) -> Result<(), AllocError>
+        requires { TakesReply (asks_of octets self.old) reply.now }
+        ensures ok { OnOk result (self.new ≡ takes octets reply.now self.old) }
+        ensures err { OnErr result (self.new ≡ self.old) }
+        ensures plain { needs_memory_first self.old.agenda reply.now self.old ≡ false → IsOk result }
+    {
+        let taken = self.machine.take(reply);
+        self.machine.takes_time();
+        taken
+    }
+
+    /// Begins the next round: 100 ticks more. The turn has ended, and fewer than 2^57 rounds were begun so. Takes no
+    /// memory.
+    pub fn next_round(&mut self)
+        requires ended { self.old.agenda ≡ [] }
+        requires rounds { self.old.until ≤ 100 * 2 ^ 57 }
+        ensures { self.new ≡ next_round self.old }
+    {
+        self.machine.next_round();
+        self.machine.takes_time();
+    }
+
+    /// The link takes octets from a side at the path's tick, as a segment that the side's end doesn't know of. So a test
+    /// bench makes an end hear what no peer says; a connection never calls it.
+    ///
+    /// # Errors
+    ///
+    /// Only where there is no memory for the copies, or the link took 2^63 segments from that side; the path is then as it
+    /// was.
+    pub fn inject(&mut self, from: Side, octets: &[u8]) -> Result<(), AllocError>
+        ensures ok { OnOk result (self.new ≡ settles_down (record self.old { link = after_octets from octets.now self.old.clock self.old.link })) }
+        ensures err { OnErr result (self.new ≡ self.old) }
+    {
+        let taken = self.machine.inject(from, octets);
+        self.machine.takes_time();
+        taken
     }
 }

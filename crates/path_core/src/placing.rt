@@ -12,7 +12,7 @@ ghost use Rattle.path_core.specs.State.{end_at, with_end};
 
 use crate::end::PathEnd;
 use crate::in_order::InOrder;
-use crate::path::Path;
+use crate::machine::Machine;
 use crate::profile::Profile;
 use actor_desk::{Ask, LocalStep, Reply};
 use dss_checksum::DssSum;
@@ -216,7 +216,7 @@ impl PathEnd {
     }
 }
 
-impl Path {
+impl Machine {
     /// The next bytes to be placed at a side.
     fn piece(&self, side: Side) -> Option<InOrder>
         ensures value { option_map (λ found. piece_from found (end_at side self.now).tcp) result ≡ piece_of side self.now }

@@ -1,6 +1,6 @@
 //! Handing a segment to the link: the step that tells it, and what it makes of the end and of the link.
 
-ghost use Rattle.std.specs.Prelude.{◌≡◌, ◌≤◌, ◌+◌, ◌^◌, OnOk, OnErr};
+ghost use Rattle.std.specs.Prelude.{◌≡◌, ◌≤◌, ◌+◌, ◌^◌, true, is_none, OnOk, OnErr};
 ghost use Rattle.actor_desk.specs.Kinds.{CanBeAsked};
 ghost use Rattle.link_model.specs.Octets.{after_octets};
 ghost use Rattle.path_core.specs.Octets.{octets};
@@ -10,10 +10,11 @@ ghost use Rattle.path_core.specs.Said.{plain_said, said_by, sent_kind, CanBeSaid
 ghost use Rattle.path_core.specs.declared.modes.Modes.{Modes};
 ghost use Rattle.path_core.specs.Sends.{edge_told, has_mapping, end_of, least, with_mapping_told, sends, handed};
 ghost use Rattle.path_core.specs.State.{end_at, left, with_agenda};
+ghost use Rattle.path_core.specs.Steps.{passable, settles_down};
 
 use crate::end::PathEnd;
 use crate::modes::Modes;
-use crate::path::Path;
+use crate::machine::Machine;
 use crate::said::Said;
 use crate::segment_kind::SegmentKind;
 use actor_desk::{Ask, LocalStep};
@@ -104,7 +105,7 @@ impl PathEnd {
     }
 }
 
-impl Path {
+impl Machine {
     /// The segment of this kind that the end of a side sends.
     fn said(&self, side: Side, kind: SegmentKind) -> Said<'_>
         ensures value { plain_said result ≡ said_by kind self.now.profile side (end_at side self.now) }
@@ -156,14 +157,21 @@ impl Path {
         Ok(())
     }
 
-    /// The link takes octets from a side at the path's tick, as a segment that the side's end doesn't know of. So a test
-    /// bench makes an end hear what no peer says; a connection never calls it.
-    ///
-    /// # Errors
-    ///
-    /// Only where there is no memory for the copies, or the link took 2^63 segments from that side; the path is then as it
-    /// was.
-    pub fn inject(&mut self, from: Side, octets: &[u8]) -> Result<(), AllocError>
+    /// The link takes octets from a side at the path's tick, as a segment that the side's end doesn't know of. At an error all is
+    /// as it was.
+    pub(crate) fn inject(&mut self, from: Side, octets: &[u8]) -> Result<(), AllocError>
+        requires { is_none (passable self.old) ≡ true }
+        ensures ok { OnOk result (self.new ≡ settles_down (record self.old { link = after_octets from octets.now self.old.clock self.old.link })) }
+        ensures err { OnErr result (self.new ≡ self.old) }
+        ensures rests { is_none (passable self.new) ≡ true }
+    {
+        self.add(from, octets)?;
+        self.settle();
+        Ok(())
+    }
+
+    /// The link takes these octets from a side. At an error all is as it was.
+    fn add(&mut self, from: Side, octets: &[u8]) -> Result<(), AllocError>
         ensures ok { OnOk result (self.new ≡ record self.old { link = after_octets from octets.now self.old.clock self.old.link }) }
         ensures err { OnErr result (self.new ≡ self.old) }
     {

@@ -10,7 +10,7 @@ ghost use Rattle.path_core.specs.State.{left};
 
 use crate::end::PathEnd;
 use crate::modes::Modes;
-use crate::path::Path;
+use crate::machine::Machine;
 use crate::profile::Profile;
 use crate::segment_kind::SegmentKind;
 use crate::sends::window_told;
@@ -99,7 +99,7 @@ impl PathEnd {
     }
 }
 
-impl Path {
+impl Machine {
     /// It is asked how the side stands.
     pub(crate) fn look_ask(&self, side: Side) -> Ask
         ensures value { result ≡ look_ask side self.now }

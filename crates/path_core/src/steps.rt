@@ -1,18 +1,18 @@
-//! The steps of a path: what it asks, what it takes, and how a round begins.
+//! The steps of a path: what it asks, and what the reply to its first duty makes of it.
 
-ghost use Rattle.std.specs.Prelude.{◌≡◌, ◌≤◌, ◌*◌, ◌^◌, [], false, IfOk, IfSome, IsOk, OnOk, OnErr};
+ghost use Rattle.std.specs.Prelude.{◌≡◌, ◌≤◌, ◌*◌, ◌^◌, true, false, is_none, IfOk, IfSome, IsOk, OnOk, OnErr};
 ghost use Rattle.actor_desk.specs.Bounds.{TakesReply};
 ghost use Rattle.actor_desk.specs.Kinds.{CanBeAsked};
 ghost use Rattle.path_core.specs.Octets.{octets};
 ghost use Rattle.path_core.specs.Replies.{IsAckBounded, AreRowsInRange, asks_bytes_first, needs_memory_first};
 ghost use Rattle.path_core.specs.Steps.{passable, settles_down, answers, asks_of, takes, next_round};
 
-use crate::path::Path;
+use crate::machine::Machine;
 use actor_desk::{Ask, Reply};
 use path_agenda::{Agenda, Duty};
 use std::alloc::AllocError;
 
-impl Path {
+impl Machine {
     /// The first duty, where it comes to nothing.
     fn passable(&self) -> Option<Duty>
         ensures { result ≡ passable self.now }
@@ -23,7 +23,8 @@ impl Path {
 
     /// The duties that come to nothing are passed, up to the first that comes to something. Takes no memory.
     pub(crate) fn settle(&mut self)
-        ensures { self.new ≡ settles_down self.old }
+        ensures value { self.new ≡ settles_down self.old }
+        ensures rests { is_none (passable self.new) ≡ true }
     {
         while let Some(duty) = self.passable() {
             self.done();
@@ -32,12 +33,8 @@ impl Path {
     }
 
     /// What it asks: nothing where its turn ended. Only an ask that carries bytes takes memory.
-    ///
-    /// # Errors
-    ///
-    /// Only where there is no memory for those bytes.
     #[tactic(auto, using(crate::proofs::FirstDuty::ask_of_first, crate::proofs::FirstDuty::ask_of_none, crate::proofs::FirstDuty::bytes_of_first))]
-    pub fn ask(&self) -> Result<Option<Ask>, AllocError>
+    pub(crate) fn ask(&self) -> Result<Option<Ask>, AllocError>
         ensures ask { IfOk result (λ ask. ask ≡ asks_of octets self.now) }
         ensures able { IfOk result (λ ask. IfSome ask CanBeAsked) }
         ensures plain { asks_bytes_first self.now.agenda ≡ false → IsOk result }
@@ -49,44 +46,43 @@ impl Path {
     }
 
     /// The reply answers the first duty.
-    #[tactic(auto, using(crate::proofs::FirstDuty::answer_of_first, crate::proofs::FirstDuty::answer_of_none, crate::proofs::FirstDuty::memory_of_first))]
+    #[tactic(auto, using(crate::proofs::FirstDuty::answer_of_first, crate::proofs::FirstDuty::answer_of_none, crate::proofs::FirstDuty::memory_of_first, crate::proofs::FirstDuty::stands_of_first, crate::proofs::InBounds::grant_of_first))]
     fn answer_first(&mut self, reply: &Reply) -> Result<(), AllocError>
+        requires takes { TakesReply (asks_of octets self.old) reply.now }
         requires acks { IsAckBounded reply.now }
         requires rows { AreRowsInRange reply.now }
+        requires first { is_none (passable self.old) ≡ true }
         ensures ok { OnOk result (self.new ≡ answers octets self.old.agenda reply.now self.old) }
         ensures err { OnErr result (self.new ≡ self.old) }
         ensures plain { needs_memory_first self.old.agenda reply.now self.old ≡ false → IsOk result }
     {
+        let _mss = self.profile.mss();
         match self.agenda.first() {
             Some(duty) => self.answer(duty, reply),
             None => Ok(()),
         }
     }
 
-    /// Takes the reply to what it asked last. The turn hasn't ended, and the reply is one that the ask can have.
-    ///
-    /// # Errors
-    ///
-    /// Only where there is no memory, and the reply needs some: a segment is sent or may be, bytes were granted, or a copy arrives.
-    /// The path is then as it was.
+    /// Takes the reply to what it asked last. At an error all is as it was.
     #[tactic(auto, using(crate::proofs::InBounds::acks_bounded, crate::proofs::InBounds::rows_in_range))]
-    pub fn take(&mut self, reply: &Reply) -> Result<(), AllocError>
-        requires { TakesReply (asks_of octets self.old) reply.now }
+    pub(crate) fn take(&mut self, reply: &Reply) -> Result<(), AllocError>
+        requires takes { TakesReply (asks_of octets self.old) reply.now }
+        requires first { is_none (passable self.old) ≡ true }
         ensures ok { OnOk result (self.new ≡ takes octets reply.now self.old) }
         ensures err { OnErr result (self.new ≡ self.old) }
         ensures plain { needs_memory_first self.old.agenda reply.now self.old ≡ false → IsOk result }
+        ensures rests { is_none (passable self.new) ≡ true }
     {
         self.answer_first(reply)?;
         self.settle();
         Ok(())
     }
 
-    /// Begins the next round: 100 ticks more. The turn has ended, and fewer than 2^57 rounds were begun so. Takes no
-    /// memory.
-    pub fn next_round(&mut self)
-        requires ended { self.old.agenda ≡ [] }
+    /// Begins the next round: 100 ticks more. Fewer than 2^57 were begun so.
+    pub(crate) fn next_round(&mut self)
         requires rounds { self.old.until ≤ 100 * 2 ^ 57 }
-        ensures { self.new ≡ next_round self.old }
+        ensures value { self.new ≡ next_round self.old }
+        ensures rests { is_none (passable self.new) ≡ true }
     {
         self.clock.next_round();
         self.sets_about(Agenda::start_of_turn());

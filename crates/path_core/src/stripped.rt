@@ -14,7 +14,7 @@ ghost use Rattle.path_core.specs.Treating.{lacks_data_ack, breaks_by_ack, plain_
 use crate::counts::one_more;
 use crate::end::PathEnd;
 use crate::passing::is_fin_set;
-use crate::path::Path;
+use crate::machine::Machine;
 use crate::profile::Profile;
 use actor_desk::{Ask, LocalStep, Reply};
 use fallback_state::{Event, Mode};
@@ -165,7 +165,7 @@ impl PathEnd {
     }
 }
 
-impl Path {
+impl Machine {
     /// What an acknowledgement without a Data ACK asks: the first step of a break, or it is told.
     pub(crate) fn plain_ack_ask(&self, side: Side) -> Ask
         ensures value { result ≡ plain_ack_ask octets side self.now }

@@ -15,7 +15,7 @@ ghost use Rattle.path_core.specs.Treating.{counts, is_clash, mapping_stands, hea
 
 use crate::end::PathEnd;
 use crate::opening::keys_ask;
-use crate::path::Path;
+use crate::machine::Machine;
 use crate::sending::Sending;
 use actor_desk::{Ask, LocalStep, Reply};
 use fallback_state::{Event, Mode};
@@ -214,7 +214,7 @@ impl PathEnd {
     }
 }
 
-impl Path {
+impl Machine {
     /// What a mapping asks.
     fn mapping_ask(&self, side: Side) -> Ask
         ensures value { result ≡ mapping_ask octets side self.now }

@@ -160,6 +160,14 @@ impl Subflow {
         self.send.is_finished()
     }
 
+    /// The retransmission timeout, in ticks of a millisecond: at least a second (RFC 6298, section 2).
+    pub fn rto(&self) -> u32
+        ensures value { result ≡ self.now.timing.rtt.rto }
+        ensures least { 1000 ≤ result }
+    {
+        self.timing.rtt.rto()
+    }
+
     /// The receive edge, RCV.NXT: the first position that the end hasn't passed. It begins at 1, behind the SYN.
     pub fn edge(&self) -> Pos
         ensures value { result ≡ self.now.recv.edge }

@@ -601,7 +601,7 @@ module _ {C : Type 0} (k : Codec C) (W : Type 0) where
   answered_awake (duties.Resend s) r p said falls so h = same_sent s (resend_of s p) _ (left p) p (sending_up (resend_occasion (end_at s p)) p.clock (end_at s p).tcp) refl (tail_less p.agenda) h
   answered_awake (duties.BreakAck s reason) r p said falls so h = same s (after_ack_out r (end_at s p)) (resets s reason) p refl refl refl (new_less p.agenda _ refl refl) h
   answered_awake (duties.BreakReset s reason) r p said falls so h = reset_awake s (Some reason) (leaves s) p (new_less p.agenda _ refl refl) h
-  answered_awake (duties.Reset s) r p said falls so h = reset_awake s None (leaves s) p (new_less p.agenda _ refl refl) h
+  answered_awake (duties.Reset s) r p said falls so h = reset_awake s None (replaced (duties.Leave s) p.agenda) p (replaced_less (duties.Leave s) p.agenda refl refl) h
   answered_awake (duties.Leave s) r p said falls so h = agenda (replaced (duties.Dead s) p.agenda) p (replaced_less (duties.Dead s) p.agenda refl refl) h
   answered_awake duties.End r p said falls so h = agenda [] p (new_less p.agenda [] refl refl) h
   answered_awake _ r p said falls so h = agenda (left p) p (tail_less p.agenda) h

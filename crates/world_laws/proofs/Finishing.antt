@@ -346,7 +346,7 @@ module _ {C : Type 0} where
   answered_shaped k (duties.Resend s) ds r p h = from_left ds _ h
   answered_shaped k (duties.BreakAck s reason) ds r p h = inl refl
   answered_shaped k (duties.BreakReset s reason) ds r p h = inl refl
-  answered_shaped k (duties.Reset s) ds r p h = inl refl
+  answered_shaped k (duties.Reset s) ds r p h = with_ahead ds h (λ a. inl a)
   answered_shaped k (duties.Leave s) ds r p h = with_ahead ds h (λ a. inl a)
   answered_shaped k (duties.Dead s) ds r p h = from_left ds _ h
 

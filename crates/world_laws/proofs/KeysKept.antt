@@ -666,7 +666,7 @@ module _ (k : Secrets) (right : Bool) (w back : Side → Type 0) where
       same_sent k right w back s _ _ _ p (resend_is s p (said (inl s) (itself s)) h) refl refl (sending_up (resend_occasion (end_at s p)) p.clock (end_at s p).tcp) (none_left k right w back p) h
   answered_is (duties.BreakAck s reason) r p stands said is h = same_goes k right w back s _ _ p refl refl (record { up = λ x. x; waits = λ x. x; past = λ x. x }) (λ t spoken. absurd (false≢true spoken)) h
   answered_is (duties.BreakReset s reason) r p stands said is h = reset_is s (Some reason) (leaves s) p (λ t spoken. absurd (false≢true spoken)) h
-  answered_is (duties.Reset s) r p stands said is h = reset_is s None (leaves s) p (λ t spoken. absurd (false≢true spoken)) h
+  answered_is (duties.Reset s) r p stands said is h = reset_is s None (replaced (duties.Leave s) p.agenda) p (λ t spoken. replaced_speaks t (duties.Leave s) p.agenda refl spoken) h
   answered_is (duties.Leave s) r p stands said is h = agenda_is k right w back _ p (λ t spoken. replaced_speaks t (duties.Dead s) p.agenda refl spoken) h
   answered_is duties.End r p stands said is h = agenda_is k right w back _ p (λ t spoken. absurd (false≢true spoken)) h
   answered_is _ r p stands said is h = agenda_is k right w back _ p (none_left k right w back p) h

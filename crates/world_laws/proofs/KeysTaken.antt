@@ -82,6 +82,10 @@ module _ (T : Type 0) where
   falls_fewer A ds = other_fewer (duties.GoIdentity A) ds refl refl
   falls_fewer B ds = other_fewer (duties.GoIdentity B) ds refl refl
 
+  leave_fewer : (s : Side) (ds : List Duty) → Fewer ds (replaced (duties.Leave s) ds)
+  leave_fewer A ds = other_fewer (duties.Leave A) ds refl refl
+  leave_fewer B ds = other_fewer (duties.Leave B) ds refl refl
+
   fell_fewer : (s : Side) (r : Reply) (p : PathState Carried) → Fewer p.agenda (fell_duties s r p)
   fell_fewer s r p =
       fell_cases (λ ds. Fewer p.agenda ds) s p r (λ fell. falls_fewer s p.agenda) (λ reason. breaks_fewer s reason p.agenda) (λ reason. resets_fewer s reason p.agenda) (tail_fewer p.agenda)
@@ -294,7 +298,7 @@ module _ (T : Type 0) where
       inl (sent_met T s (resend_of s p) _ (left p) p (occasion_goes s (resend_occasion (end_at s p)) (resend_of s p) p) (tail_fewer p.agenda) h)
   answered_met (duties.BreakAck s reason) r p none sign gains h = inl (same_met s (after_ack_out r (end_at s p)) (resets s reason) p refl refl (resets_fewer s reason p.agenda) h)
   answered_met (duties.BreakReset s reason) r p none sign gains h = inl (reset_met s (Some reason) (leaves s) p (leaves_fewer s p.agenda) h)
-  answered_met (duties.Reset s) r p none sign gains h = inl (reset_met s None (leaves s) p (leaves_fewer s p.agenda) h)
+  answered_met (duties.Reset s) r p none sign gains h = inl (reset_met s None (replaced (duties.Leave s) p.agenda) p (leave_fewer s p.agenda) h)
   answered_met (duties.Leave s) r p none sign gains h = inl (agenda_met T (replaced (duties.Dead s) p.agenda) p (by s) h)
     where
       by : (s : Side) → Fewer p.agenda (replaced (duties.Dead s) p.agenda)

@@ -598,7 +598,7 @@ module _ {C : Type 0} where
   answered_goes k duties.End other ds r p = record { recalls = recalls_all _ _ refl; follows = λ n f. tt }
   answered_goes k (duties.BreakAck s reason) other ds r p = record { recalls = side_recalls s _ (with_agenda (duties.BreakAck s reason ∷ ds) p) _ (recalls_all _ _ refl) refl; follows = λ n f. tt }
   answered_goes k (duties.BreakReset s reason) other ds r p = record { recalls = side_recalls s _ (with_agenda (duties.BreakReset s reason ∷ ds) p) _ (forgets _ _ refl) refl; follows = λ n f. tt }
-  answered_goes k (duties.Reset s) other ds r p = record { recalls = side_recalls s _ (with_agenda (duties.Reset s ∷ ds) p) _ (forgets _ _ refl) refl; follows = λ n f. tt }
+  answered_goes k (duties.Reset s) other ds r p = record { recalls = side_recalls s _ (with_agenda (duties.Reset s ∷ ds) p) _ (forgets _ _ refl) refl; follows = λ n f. f }
   answered_goes k duties.Events other ds r p = absurd other
   answered_goes k duties.JoinAgain other ds r p = begun_goes r ds p
   answered_goes k (duties.Data s) other ds r p = data_goes k s r ds p (first_unsent (end_at s p))

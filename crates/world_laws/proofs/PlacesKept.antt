@@ -369,7 +369,7 @@ module _ (R : Side → ℕ → ℕ → Type 0) where
   answered_knows (duties.Resend s) r p tell h = same_sent s _ _ _ p refl h
   answered_knows (duties.BreakAck s reason) r p tell h = ack_out_knows s r _ p h
   answered_knows (duties.BreakReset s reason) r p tell h = reset_knows s (Some reason) (leaves s) p h
-  answered_knows (duties.Reset s) r p tell h = reset_knows s None (leaves s) p h
+  answered_knows (duties.Reset s) r p tell h = reset_knows s None (replaced (duties.Leave s) p.agenda) p h
   answered_knows (duties.Leave s) r p tell h = agenda _ p h
   answered_knows duties.End r p tell h = agenda _ p h
   answered_knows _ r p tell h = agenda _ p h

@@ -305,8 +305,8 @@ module _ {C : Type 0} where
 
     -- ---- a break, a reset
 
-    reset_done : (k : Codec C) (s : Side) (reason : Option ℕ) → IsPaid p.profile (peer s) (end_at (peer s) p) (refused (peer s)) → Granting (reset_on k s reason (leaves s) p) refused
-    reset_done k s reason other = sent k s (reset_of s reason p) (died (end_at s p)) (leaves s) refl (inr (closed_paid p.profile s (died (end_at s p)) (refused s) refl)) (inr other)
+    reset_done : (k : Codec C) (s : Side) (reason : Option ℕ) (ds : List Duty) → is_followed ds ≡ true → IsPaid p.profile (peer s) (end_at (peer s) p) (refused (peer s)) → Granting (reset_on k s reason ds p) refused
+    reset_done k s reason ds followed other = sent k s (reset_of s reason p) (died (end_at s p)) ds followed (inr (closed_paid p.profile s (died (end_at s p)) (refused s) refl)) (inr other)
 
     resets_done : (s : Side) (reason : ℕ) (r : Reply) → IsPaid p.profile (peer s) (end_at (peer s) p) (refused (peer s)) → Granting (answered_ack_out s r (resets s reason) p) refused
     resets_done A reason r other = on A _ (resets A reason) refl (inl refl) (inr other)
@@ -325,7 +325,7 @@ module _ {C : Type 0} where
       where
         by : (b : Bool) → Granting (if b then answered_ack_out s r (resets s reason) p else reset_on k s (Some reason) (leaves s) p) refused
         by true = resets_done s reason r other
-        by false = reset_done k s (Some reason) other
+        by false = reset_done k s (Some reason) (leaves s) refl other
 
   -- ---- events, where nothing is ahead
 
@@ -781,10 +781,10 @@ module _ {C : Type 0} where
         resets_done (at (duties.BreakAck s reason ∷ ds)) refused s reason r
         (other_paid (duties.BreakAck s reason) s ds (others_none s ds (first_need (duties.BreakAck s reason) ds f)) each)
     answered_done (duties.BreakReset s reason) ds other f each =
-        reset_done (at (duties.BreakReset s reason ∷ ds)) refused k s (Some reason)
+        reset_done (at (duties.BreakReset s reason ∷ ds)) refused k s (Some reason) (leaves s) refl
         (other_paid (duties.BreakReset s reason) s ds (others_none s ds (first_need (duties.BreakReset s reason) ds f)) each)
     answered_done (duties.Reset s) ds other f each =
-        reset_done (at (duties.Reset s ∷ ds)) refused k s None (other_paid (duties.Reset s) s ds (others_none s ds (first_need (duties.Reset s) ds f)) each)
+        reset_done (at (duties.Reset s ∷ ds)) refused k s None (duties.Leave s ∷ ds) (rest_followed (duties.Reset s) ds f) (other_paid (duties.Reset s) s ds (others_none s ds (first_need (duties.Reset s) ds f)) each)
     answered_done (duties.Leave s) ds other f each = done_on (duties.Dead s ∷ ds) (duties.Leave s ∷ ds) (rest_followed (duties.Leave s) ds f) (λ t. each t)
     answered_done (duties.Dead s) ds other f each = done_on ds (duties.Dead s ∷ ds) (rest_followed (duties.Dead s) ds f) (λ t. each t)
     answered_done duties.End ds other f each =

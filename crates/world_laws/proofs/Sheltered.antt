@@ -392,7 +392,7 @@ module _ {C : Type 0} where
     answered_goes (duties.Dead s) other p = rests (first (duties.Dead s) p) _ refl refl shape
     answered_goes duties.End other p = rests (first duties.End p) _ refl refl refl
     answered_goes (duties.BreakReset s reason) other p = side_goes s (died (end_at s p)) (first (duties.BreakReset s reason) p) _ (λ h. absurd (false≢true h)) refl refl refl
-    answered_goes (duties.Reset s) other p = side_goes s (died (end_at s p)) (first (duties.Reset s) p) _ (λ h. absurd (false≢true h)) refl refl refl
+    answered_goes (duties.Reset s) other p = side_goes s (died (end_at s p)) (first (duties.Reset s) p) _ (λ h. absurd (false≢true h)) refl refl shape
     answered_goes duties.JoinAgain other p = begun_goes r (duties.Leave A ∷ ds) ds (first duties.JoinAgain p) shape shape
     answered_goes duties.Events other p = happens_goes k (next_event (first duties.Events p)) r (first duties.Events p)
     answered_goes (duties.Data s) other p = data_goes s (first_unsent (end_at s p)) p

@@ -142,7 +142,7 @@ module _ (six : SixBooks) (others : Others) (p : PathState Carried) (ab ba : Lan
   duty_step (duties.Resend s) is calm may = answering.resend_step six others p ab ba h ready s (calm s refl)
   duty_step (duties.BreakAck s reason) is calm may = answering.told_step six others p ab ba h ready s (resets s reason)
   duty_step (duties.BreakReset s reason) is calm may = answering.reset_step six others p ab ba h ready s (calm s refl) (Some reason) (leaves s)
-  duty_step (duties.Reset s) is calm may = answering.reset_step six others p ab ba h ready s (calm s refl) None (leaves s)
+  duty_step (duties.Reset s) is calm may = answering.reset_step six others p ab ba h ready s (calm s refl) None (replaced (duties.Leave s) p.agenda)
   duty_step (duties.Leave s) is calm may = returns s (replaced (duties.Dead s) p.agenda)
   duty_step (duties.Dead s) is calm may = answering.agenda_step six others p ab ba h ready _ (left p) tt
   duty_step duties.End is calm may = answering.agenda_step six others p ab ba h ready _ [] tt

@@ -317,9 +317,9 @@ module _ (six : SixBooks) (others : Others) (p : PathState Carried) (ab ba : Lan
         by false false true = ack_tells e.tcp.send.nxt e.sending.known_end tells.sender.next tells.stream.known_end
         by false false false = ack_tells (e.tcp.send.una - 1) None (let una = tells.sender.unacknowledged in let next = tells.sender.next in omega (arith, una, next)) tt
 
-    reset_told : (reason : Option ℕ) → IfSome reason (λ n. n < 256) → Tells (reset_on values s reason (leaves s) p)
-    reset_told reason low =
-        tells_sent p.profile p t h.unchanged s (reset_of s reason p) (died e) (leaves s) (reset_tells p.profile s path wide e tells reason low) (rules.died_tells p.profile s e tells) refl
+    reset_told : (reason : Option ℕ) (ds : List Duty) → IfSome reason (λ n. n < 256) → AreFair ds → Tells (reset_on values s reason ds p)
+    reset_told reason ds low fair =
+        tells_sent p.profile p t h.unchanged s (reset_of s reason p) (died e) ds (reset_tells p.profile s path wide e tells reason low) (rules.died_tells p.profile s e tells) fair
 
     dead_told : Tells (answered_dead values s p)
     dead_told = tells_sent p.profile p t h.unchanged s (dead_answer s p) e (left p) (dead_answer_tells p.profile s path wide e tells) tells left_fair
@@ -339,7 +339,7 @@ module _ (six : SixBooks) (others : Others) (p : PathState Carried) (ab ba : Lan
       where
         by : (b : Bool) → Tells (if b then answered_ack_out s (reply_of six (if b then ack_out_ask s else sends values s (reset_of s (Some reason) p) p)) (resets s reason) p else reset_on values s (Some reason) (leaves s) p)
         by true = ack_out_told (resets s reason) fair
-        by false = reset_told (Some reason) low
+        by false = reset_told (Some reason) (leaves s) low refl
 
     -- ---- what is told of the mode
 
@@ -610,8 +610,8 @@ module _ (six : SixBooks) (others : Others) (p : PathState Carried) (ab ba : Lan
   duty_tells (duties.Return s) is fair = done_tells
   duty_tells (duties.Resend s) is fair = on_occasion s (resend_of s p) (resend_occasion (end_at s p)) (left p) (resend_told s) left_fair
   duty_tells (duties.BreakAck s reason) is fair = ack_out_told s (resets s reason) (and_from (nat_lt reason 256) true fair refl)
-  duty_tells (duties.BreakReset s reason) is fair = reset_told s (Some reason) (ltb-true reason 256 fair)
-  duty_tells (duties.Reset s) is fair = reset_told s None tt
+  duty_tells (duties.BreakReset s reason) is fair = reset_told s (Some reason) (leaves s) (ltb-true reason 256 fair) refl
+  duty_tells (duties.Reset s) is fair = reset_told s None (replaced (duties.Leave s) p.agenda) tt (replaced_fair (duties.Leave s) p.agenda refl t.agenda)
   duty_tells (duties.Leave s) is fair = tells_agenda p.profile p t (replaced (duties.Dead s) p.agenda) (replaced_fair (duties.Dead s) p.agenda refl t.agenda)
   duty_tells (duties.Dead s) is fair = done_tells
   duty_tells duties.End is fair = tells_agenda p.profile p t [] refl

@@ -2,7 +2,7 @@ use Rattle.std.proofs.Common.{◌+◌}
 use Rattle.path_core.specs.Octets.{octets}
 use Rattle.path_core.specs.Values.{values}
 use Rattle.path_core.proofs.TurnEnds.{turn_ends, begun_ends}
-use Rattle.path_core.proofs.laws.every_turn_ends.Goals as goal
+use Rattle.path_core.proofs.laws.settled_turns_end.Goals as goal
 
 pub returns-clause-octets : goal.returns-clause-octets
 returns-clause-octets c = turn_ends octets

@@ -1,6 +1,6 @@
 use Rattle.std.specs.Prelude.{◌≡◌, length}
 use Rattle.path_core.specs.Steps.{settles_down}
-use Rattle.path_core.proofs.path.Path.settle.Given as goal
+use Rattle.path_core.proofs.machine.Machine.settle.Given as goal
 
 -- what is to come of the path
 abbrev pub invariant-loop-duty : goal.invariant-loop-duty

@@ -5,7 +5,7 @@ use Rattle.path_core.specs.Arriving.{options_heard}
 use Rattle.path_core.specs.Codec.{HeardSegment}
 use Rattle.path_core.specs.Ends.{PathEnd}
 use Rattle.path_core.specs.Events.{told_at}
-use Rattle.path_core.proofs.path.Path.hear_told.Goals as goal
+use Rattle.path_core.proofs.machine.Machine.hear_told.Goals as goal
 
 pub returns-clause-ok : goal.returns-clause-ok
 returns-clause-ok c =

@@ -1,5 +1,5 @@
 use Rattle.std.proofs.Common.{refl}
-use Rattle.path_core.proofs.path.Path.hear_segment.Goals as goal
+use Rattle.path_core.proofs.machine.Machine.hear_segment.Goals as goal
 
 pub returns-clause-ok : goal.returns-clause-ok
 returns-clause-ok c =
