@@ -1,12 +1,14 @@
 pub mod Adding
 pub mod Answers
 pub mod Asked
+pub mod Calling
 pub mod Causes
 pub mod Courses
 pub mod Ends
 pub mod Inputs
 pub mod Logged
 pub mod Made
+pub mod Making
 pub mod Plan
 pub mod Ports
 pub mod Promised
@@ -16,4 +18,3 @@ pub mod Rounds
 pub mod Script
 pub mod Status
 pub mod Task
-pub mod Weaving
