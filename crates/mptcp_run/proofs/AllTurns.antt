@@ -13,7 +13,7 @@ use Rattle.world_laws.specs.Fine.{lists_of}
 use Rattle.world_core.specs.Rounds.{RoundTo}
 use Rattle.mptcp_run.specs.Rounds.{Begins}
 use Rattle.mptcp_run.specs.Task.{Connection}
-use Rattle.mptcp_run.specs.Weaving.{AllGrewAbove, IsSince}
+use Rattle.world_core.specs.Weaving.{AllGrewAbove, IsSince}
 use Rattle.mptcp_run.proofs.UnderWay.{begins_going, turns_go, next_begins, lists_at_end}
 
 -- a step of an actor leaves the turns of the others

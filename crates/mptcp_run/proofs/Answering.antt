@@ -28,7 +28,8 @@ use Rattle.mptcp_run.specs.Ports.{IsUntouched, IsPortsFault, HoldsMore, HoldsWit
 use Rattle.mptcp_run.specs.Promised.{IsPlainTask, EndsWithRound, IsAlwaysKept, HoldsPrefixOf, HoldsPrefixIfBound, ReadersHaveFiles, ReadersHavePrefixes, ReadersHavePrefixesIfBound}
 use Rattle.mptcp_run.specs.Putting.{IsWhole, IsStopped}
 use Rattle.mptcp_run.specs.Replaying.{IsReplayFault}
-use Rattle.mptcp_run.specs.Script.{script_meaning, script_in, script_of, log_reading}
+use Rattle.world_core.specs.Script.{script_meaning, script_in}
+use Rattle.mptcp_run.specs.Script.{script_of, log_reading}
 use Rattle.mptcp_run.specs.Task.{Task, Course, rounds, told, task_from, turn_of, turns_in, course_of, task_of, opening_count, AreWithinLimits, HasValidScript, HasValidOrder}
 use Rattle.mptcp_run.specs.Rounds.{all_turns}
 use Rattle.mptcp_run.proofs.Calls.{Told, all_then, cut_then, short_then, short_cut}

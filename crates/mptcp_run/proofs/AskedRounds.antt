@@ -26,8 +26,8 @@ within_least least most word =
     by : (b : Bool) → (is_numeral word && nat_le least (digits_value 10 word) && nat_le (digits_value 10 word) most) ≡ b
         → IfSome (if b then Some (digits_value 10 word) else None) (λ n. least ≤ n)
     by true is =
-        let front = and_parts (is_numeral word && nat_le least (digits_value 10 word)) (nat_le (digits_value 10 word) most) is in
-        let both = and_parts (is_numeral word) (nat_le least (digits_value 10 word)) front.0 in
+        let above = and_parts (is_numeral word && nat_le least (digits_value 10 word)) (nat_le (digits_value 10 word) most) is in
+        let both = and_parts (is_numeral word) (nat_le least (digits_value 10 word)) above.0 in
         leb-true least (digits_value 10 word) both.1
     by false is = tt
 
@@ -39,8 +39,8 @@ within_most least most word =
     by : (b : Bool) → (is_numeral word && nat_le least (digits_value 10 word) && nat_le (digits_value 10 word) most) ≡ b
         → IfSome (if b then Some (digits_value 10 word) else None) (λ n. n ≤ most)
     by true is =
-        let front = and_parts (is_numeral word && nat_le least (digits_value 10 word)) (nat_le (digits_value 10 word) most) is in
-        leb-true (digits_value 10 word) most front.1
+        let above = and_parts (is_numeral word && nat_le least (digits_value 10 word)) (nat_le (digits_value 10 word) most) is in
+        leb-true (digits_value 10 word) most above.1
     by false is = tt
 
 some_rounds : (o : Option Word) → IfSome (rounds_in o) (λ n. 1 ≤ n)

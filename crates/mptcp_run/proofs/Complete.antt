@@ -12,7 +12,7 @@ use Rattle.mptcp_run.specs.Answers.{IsAnswer, FormRow, TurnRow, ValidInputsAreRu
 use Rattle.mptcp_run.specs.Causes.{limit_of}
 use Rattle.mptcp_run.specs.Ends.{HasEnded}
 use Rattle.mptcp_run.specs.Inputs.{name_of, order_of, content_of}
-use Rattle.mptcp_run.specs.Script.{script_meaning}
+use Rattle.world_core.specs.Script.{script_meaning}
 use Rattle.mptcp_run.specs.Task.{IsValid}
 
 not_ok : {X E : Type 0} (r : Result X E) (e : E) → r ≡ Err e → IsOk r → ⊥

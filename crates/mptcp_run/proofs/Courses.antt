@@ -11,7 +11,8 @@ use Rattle.mptcp_run.specs.declared.status.Status.{Status}
 use Rattle.mptcp_run.specs.declared.status.Status.TheVariants.{Delivered, Rounds, NoPath, Aborted, Usage, Script, Load, Put, TooLong, Memory, Log}
 use Rattle.mptcp_run.specs.Courses.{CourseMade, CourseCut, LogStops}
 use Rattle.mptcp_run.specs.Plan.{AddsAll, AddsCut, puts_by_round}
-use Rattle.mptcp_run.specs.Putting.{round_ends, AreFirstOf}
+use Rattle.world_core.specs.RoundEnds.{round_ends}
+use Rattle.mptcp_run.specs.Putting.{AreFirstOf}
 use Rattle.mptcp_run.specs.Rounds.{HoldsEnds, HoldsPart}
 use Rattle.mptcp_run.specs.Task.{Connection}
 use Rattle.mptcp_run.specs.Task as course

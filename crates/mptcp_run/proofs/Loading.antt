@@ -1,9 +1,10 @@
 -- Loads, one after the other, up to one that failed.
-use Rattle.std.proofs.Common.{◌≡◌, sym, ap, subst, ℕ, ◌<◌, ◌≤◌, false, List, [], ◌∷◌, ◌++◌, length, map, Option, Some, Result, Ok, Err, IfOk, arith}
+use Rattle.std.proofs.Common.{◌≡◌, sym, ap, subst, ℕ, ◌<◌, ◌≤◌, false, List, [], ◌∷◌, ◌++◌, length, map, Option, Some, None, Result, Ok, Err, IfOk, IfSome, arith}
 use Rattle.std.specs.List.{list_any}
-use Rattle.std.specs.Prelude.{IsSomeAnd}
+use Rattle.std.specs.Prelude.{IsSome, IsSomeAnd, option_and_then}
 use Rattle.outside_kit.specs.Calls.{Call}
 use Rattle.outside_kit.specs.Calls as call
+use Rattle.outside_kit.specs.Outside.{HasRisen}
 use Rattle.link_script.specs.declared.script.Script as link
 use Rattle.link_script.specs.Scripts.{HasRanges}
 use Rattle.world_core.specs.declared.input.Input.{Input}
@@ -14,10 +15,11 @@ use Rattle.mptcp_run.specs.declared.status.Named.{Named}
 use Rattle.mptcp_run.specs.declared.status.Status.{Status}
 use Rattle.mptcp_run.specs.declared.status.Status.TheVariants.{Delivered, Rounds, NoPath, Aborted, Usage, Script, Load, Put, TooLong, Memory, Log}
 use Rattle.mptcp_run.specs.Adding.{LoadsAdd, InputAdds}
-use Rattle.mptcp_run.specs.Causes.{IsLoadFault, IsScriptFault, IsFormFault}
-use Rattle.mptcp_run.specs.Inputs.{name_of, order_of}
+use Rattle.mptcp_run.specs.Causes.{limit_of, IsLoadFault, IsScriptFault, IsFormFault}
+use Rattle.mptcp_run.specs.Inputs.{name_of, order_of, content_of, AreWithinLimitsBefore, IsLoadsFault, IsInputFault, IsReplayInputFault}
 use Rattle.mptcp_run.specs.Plan.{succeeded, failed, Adds, AddsAll, AddsCut, load_of, first_loads, loads_of, loads_before, AddsLoadsTo}
 use Rattle.mptcp_run.proofs.Calls.{Told, adds_then, cut_then, cut_longer, cut_first, cut_over}
+use Rattle.mptcp_run.proofs.PortsLemmas.{risen_later}
 
 -- the load of an input failed
 module _ (line : Line) (named : Named) (name : List ℕ) (is : name_of named line ≡ Some name) (a b c : Told) (before : AddsAll (loads_before named line) a b)
@@ -40,6 +42,64 @@ module _ (line : Line) (named : Named) (name : List ℕ) (is : name_of named lin
   load_cut plan more content old new (Script at kind) plan_is fault = absurd fault
   load_cut plan more content old new (Put p) plan_is fault = absurd fault
   load_cut plan more content old new (Log at) plan_is fault = absurd fault
+
+-- what is told has as many octets as what was loaded
+pub within_told : (o : Option (List ℕ)) (octets : List ℕ) (limit : ℕ) → IfSome o (λ told. octets ≡ told) → length octets ≤ limit → IfSome o (λ told. length told ≤ limit)
+within_told None octets limit same few = tt
+within_told (Some told) octets limit same few = subst (λ xs. length xs ≤ limit) same few
+
+-- such a load, behind others, ends a run
+pub load_fault : (now content : List ℕ → Option (List ℕ)) (line : Line) (named : Named) (name : List ℕ) (a b c : ℕ) (status : Status) → name_of named line ≡ Some name
+    → AreWithinLimitsBefore content line named → ((other : List ℕ) → now other ≡ content other) → a ≤ b → IsLoadFault named (now name) b c status
+    → IsLoadsFault content line a c status
+load_fault now content line named name a b c (Load other) is before same few fault =
+    subst (λ n. IsSome (name_of n line) × (HasRisen a c × AreWithinLimitsBefore content line n)) (sym fault.0)
+    (subst (λ (o : Option (List ℕ)). IsSome o) (sym is) tt, (risen_later a b c few fault.1, before))
+load_fault now content line named name a b c (TooLong other) is before same few fault =
+    subst (λ n. IsSome (name_of n line) × (IfSome (content_of content line n) (λ told. limit_of n < length told) × AreWithinLimitsBefore content line n)) (sym fault.0) (
+      subst (λ (o : Option (List ℕ)). IsSome o) (sym is) tt,
+      (
+        subst (λ (o : Option (List ℕ)). IfSome (option_and_then content o) (λ told. limit_of named < length told)) (sym is)
+            (subst (λ (o : Option (List ℕ)). IfSome o (λ told. limit_of named < length told)) (same name) fault.1),
+        before,
+      ),
+    )
+load_fault now content line named name a b c Memory is before same few fault = tt
+load_fault now content line named name a b c Delivered is before same few fault = absurd fault
+load_fault now content line named name a b c Rounds is before same few fault = absurd fault
+load_fault now content line named name a b c NoPath is before same few fault = absurd fault
+load_fault now content line named name a b c (Aborted reader) is before same few fault = absurd fault
+load_fault now content line named name a b c Usage is before same few fault = absurd fault
+load_fault now content line named name a b c (Script at kind) is before same few fault = absurd fault
+load_fault now content line named name a b c (Put p) is before same few fault = absurd fault
+load_fault now content line named name a b c (Log at) is before same few fault = absurd fault
+
+-- among what a run reads
+pub input_fault : (content : List ℕ → Option (List ℕ)) (line : Line) (a b : ℕ) (status : Status) → IsLoadsFault content line a b status → IsInputFault content line a b status
+input_fault content line a b (Load named) fault = fault
+input_fault content line a b (TooLong named) fault = fault
+input_fault content line a b Memory fault = tt
+input_fault content line a b Delivered fault = absurd fault
+input_fault content line a b Rounds fault = absurd fault
+input_fault content line a b NoPath fault = absurd fault
+input_fault content line a b (Aborted reader) fault = absurd fault
+input_fault content line a b Usage fault = absurd fault
+input_fault content line a b (Script at kind) fault = absurd fault
+input_fault content line a b (Put p) fault = absurd fault
+input_fault content line a b (Log at) fault = absurd fault
+
+pub replay_fault : (content : List ℕ → Option (List ℕ)) (line : Line) (a b : ℕ) (status : Status) → IsLoadsFault content line a b status → IsReplayInputFault content line a b status
+replay_fault content line a b (Load named) fault = fault
+replay_fault content line a b (TooLong named) fault = fault
+replay_fault content line a b Memory fault = tt
+replay_fault content line a b Delivered fault = absurd fault
+replay_fault content line a b Rounds fault = absurd fault
+replay_fault content line a b NoPath fault = absurd fault
+replay_fault content line a b (Aborted reader) fault = absurd fault
+replay_fault content line a b Usage fault = absurd fault
+replay_fault content line a b (Script at kind) fault = absurd fault
+replay_fault content line a b (Put p) fault = absurd fault
+replay_fault content line a b (Log at) fault = absurd fault
 
 -- in a longer plan
 pub loads_longer : (line : Line) (plan more : List Call) (a b : Told) (status : Status) → LoadsAdd line plan a b status → LoadsAdd line (plan ++ more) a b status

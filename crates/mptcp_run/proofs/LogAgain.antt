@@ -22,7 +22,8 @@ use Rattle.world_laws.proofs.Occurring.{In, Occurs}
 use Rattle.world_laws.proofs.Pairing.{stays_fine}
 use Rattle.world_laws.proofs.WeavingOrder.{in_order_of}
 use Rattle.world_laws.proofs.WeavingRounds.{run_append}
-use Rattle.mptcp_run.specs.Putting.{round_ends, round_steps, steps_by_round, log_text, RoundsFit}
+use Rattle.world_core.specs.RoundEnds.{round_ends, round_steps, steps_by_round}
+use Rattle.mptcp_run.specs.Putting.{log_text, RoundsFit}
 use Rattle.link_script.specs.declared.script.Script.{Script}
 use Rattle.mptcp_run.specs.Script.{actors_of, width_of}
 use Rattle.mptcp_run.specs.Task.{Connection, turn_of, turns_in}
@@ -126,15 +127,15 @@ module _ (start : Start) (few : length start.paths ≤ 16) (actors : ℕ) (many_
       let own = known n (inl refl) in
       (record { actor = own.actor; fits = fits.0; rows = own.rows }, all_logged notes fits.1 (λ m there. known m (inr there)))
 
-  pub rounds_logged : (opening : List ℕ) (turns front : List Turn) (last w : Connection) (number : ℕ) → w ≡ after front → RoundsFit (Some opening) number (steps_by_round last (round_ends turns w))
+  pub rounds_logged : (opening : List ℕ) (turns prefix : List Turn) (last w : Connection) (number : ℕ) → w ≡ after prefix → RoundsFit (Some opening) number (steps_by_round last (round_ends turns w))
       → AllByRecursion (AllByRecursion (CanBeLogged actors)) (steps_by_round last (round_ends turns w))
-  rounds_logged opening [] front last w number is fits = tt
-  rounds_logged opening (Turn.Step actor ∷ turns) front last w number is fits =
-      rounds_logged opening turns (front ++ Turn.Step actor ∷ []) last (world_step octets actor w) number
-      (ap (world_step octets actor) is ∙ sym (run_append octets front (Turn.Step actor ∷ []) (opened_world start))) fits
-  rounds_logged opening (Turn.Round ∷ turns) front last w number is fits =
-      let next : end_round w ≡ after (front ++ Turn.Round ∷ []) = ap end_round is ∙ sym (run_append octets front (Turn.Round ∷ []) (opened_world start)) in (
+  rounds_logged opening [] prefix last w number is fits = tt
+  rounds_logged opening (Turn.Step actor ∷ turns) prefix last w number is fits =
+      rounds_logged opening turns (prefix ++ Turn.Step actor ∷ []) last (world_step octets actor w) number
+      (ap (world_step octets actor) is ∙ sym (run_append octets prefix (Turn.Step actor ∷ []) (opened_world start))) fits
+  rounds_logged opening (Turn.Round ∷ turns) prefix last w number is fits =
+      let next : end_round w ≡ after (prefix ++ Turn.Round ∷ []) = ap end_round is ∙ sym (run_append octets prefix (Turn.Round ∷ []) (opened_world start)) in (
         all_logged (round_steps last (end_round w)) fits.0.1
-            (subst (λ v. (n : Note) → In n (round_steps last v) → IsKnown actors n) (sym next) (λ n there. note_known (front ++ Turn.Round ∷ []) (greatest 0 last.crew) n there)),
-        rounds_logged opening turns (front ++ Turn.Round ∷ []) (end_round w) (end_round w) (suc number) next fits.1,
+            (subst (λ v. (n : Note) → In n (round_steps last v) → IsKnown actors n) (sym next) (λ n there. note_known (prefix ++ Turn.Round ∷ []) (greatest 0 last.crew) n there)),
+        rounds_logged opening turns (prefix ++ Turn.Round ∷ []) (end_round w) (end_round w) (suc number) next fits.1,
       )

@@ -22,7 +22,7 @@ LogTurns = List logged_turn.Turn
 
 -- the last of these turns is the end of a round
 abbrev Ends : LogTurns → Type 0
-Ends turns = (front : LogTurns) × (turns ≡ front ++ logged.Round ∷ [])
+Ends turns = (prefix : LogTurns) × (turns ≡ prefix ++ logged.Round ∷ [])
 
 -- so it is where the log may end
 abbrev MayEnd : Expected → LogTurns → Type 0
@@ -92,11 +92,11 @@ log_ends : (actors width : ℕ) (text : List ℕ) (all : LogTurns) → reading a
 unfolding reading
 log_ends actors width text all e = read_ends (text_lines text) actors width 1 Format [] all tt e
 
-map_push : (front : LogTurns) → map turn_of (front ++ logged.Round ∷ []) ≡ map turn_of front ++ Turn.Round ∷ []
+map_push : (prefix : LogTurns) → map turn_of (prefix ++ logged.Round ∷ []) ≡ map turn_of prefix ++ Turn.Round ∷ []
 map_push [] = refl
-map_push (turn ∷ front) = ap (λ ts. turn_of turn ∷ ts) (map_push front)
+map_push (turn ∷ prefix) = ap (λ ts. turn_of turn ∷ ts) (map_push prefix)
 
 -- as turns of a connection
 pub turns_end : (actors width : ℕ) (text : List ℕ) (all : LogTurns) → reading actors width text ≡ Ok all
-    → (front : List Turn) × (map turn_of all ≡ front ++ Turn.Round ∷ [])
+    → (prefix : List Turn) × (map turn_of all ≡ prefix ++ Turn.Round ∷ [])
 turns_end actors width text all e = let ends = log_ends actors width text all e in (map turn_of ends.0, ap (map turn_of) ends.1 ∙ map_push ends.0)

@@ -11,7 +11,7 @@ use Rattle.world_laws.specs.Worlds.{Turn, world_step, all_over, end_round, great
 use Rattle.world_laws.proofs.Pairing.{step_fine}
 use Rattle.world_laws.proofs.RoundTurns.{rounds_lawful}
 use Rattle.world_laws.proofs.WeavingRounds.{run_append, lawful_append, steps_weave}
-use Rattle.mptcp_run.specs.Putting.{round_ends, last_end, round_steps, steps_by_round}
+use Rattle.world_core.specs.RoundEnds.{round_ends, last_end, round_steps, steps_by_round}
 use Rattle.mptcp_run.specs.Rounds.{Begins}
 use Rattle.mptcp_run.specs.Task.{Connection, Course, rounds, told, turn_of, AreTurnsOf}
 use Rattle.mptcp_run.proofs.UnderWay.{lists_at_end, next_begins}
@@ -53,7 +53,7 @@ pub record AreWoven (turns : List Turn) (last w : Connection) : Type 0 where
 fine_steps : (actors : List ℕ) (last w : Connection) → Begins last → w ≡ world_run octets (steps_by actors) last → IsFine w
 fine_steps actors last w begins is = subst IsFine (sym is) (steps_fine actors last begins.fine)
 
--- a round, which these actors' steps made, in front of others
+-- a round, which these actors' steps made, before others
 round_woven : (turns : List Turn) (actors : List ℕ) (last w : Connection) → Begins last → w ≡ world_run octets (steps_by actors) last → all_over w.crew ≡ true
     → AreWoven turns (end_round w) (end_round w) → AreWoven (Turn.Round ∷ turns) last w
 round_woven turns actors last w begins is over rest = record {

@@ -18,7 +18,8 @@ use Rattle.mptcp_run.specs.declared.report.Report.TheVariants as report
 use Rattle.mptcp_run.specs.declared.status.Status.{Status}
 use Rattle.mptcp_run.specs.Logged.{HasRounds, replayed, TellsTheRun, LogTellsTheRun, WholeRunsAreTold, WholeRunsAgree}
 use Rattle.mptcp_run.specs.Promised.{EndsWithRound}
-use Rattle.mptcp_run.specs.Putting.{round_ends, last_end, steps_by_round, log_opening, opening_in, log_text, status_of, told_outcome, last_line_of, last_line, RoundsFit, steps_so_far, read_so_far, log_so_far, world_after, IsWhole}
+use Rattle.world_core.specs.RoundEnds.{round_ends, last_end, steps_by_round}
+use Rattle.mptcp_run.specs.Putting.{log_opening, opening_in, log_text, status_of, told_outcome, last_line_of, last_line, RoundsFit, steps_so_far, read_so_far, log_so_far, world_after, IsWhole}
 use Rattle.mptcp_run.specs.Script.{actors_of, width_of}
 use Rattle.mptcp_run.specs.Task.{Connection, Task, Course, rounds, told, opened, turns_in, AreTurnsOf}
 use Rattle.mptcp_run.proofs.LogAgain.{log_read, rounds_logged}
@@ -35,10 +36,10 @@ record SomeEnded (ends : List Connection) : Type 0 where
   more : List Connection
   is : ends ≡ first ∷ more
 
-at_round : (front : List Turn) (w : Connection) → SomeEnded (round_ends (front ++ Turn.Round ∷ []) w)
+at_round : (prefix : List Turn) (w : Connection) → SomeEnded (round_ends (prefix ++ Turn.Round ∷ []) w)
 at_round [] w = record { first = end_round w; more = []; is = refl }
-at_round (Turn.Step actor ∷ front) w = at_round front (world_step octets actor w)
-at_round (Turn.Round ∷ front) w = record { first = end_round w; more = round_ends (front ++ Turn.Round ∷ []) (end_round w); is = refl }
+at_round (Turn.Step actor ∷ prefix) w = at_round prefix (world_step octets actor w)
+at_round (Turn.Round ∷ prefix) w = record { first = end_round w; more = round_ends (prefix ++ Turn.Round ∷ []) (end_round w); is = refl }
 
 serial_round : (most : ℕ) (counted : List (List ℕ)) (w : Connection) → 1 ≤ most → AreRounds octets most counted w → SomeEnded (round_ends (spelled counted) w)
 serial_round zero counted w some are = absurd (omega (arith, some))
@@ -51,7 +52,7 @@ serial_round (suc most) (counts ∷ counted) w some are = record {
 
 course_round : (course : Course) (turns : List Turn) (w : Connection) → HasRounds course → AreTurnsOf course turns w → SomeEnded (round_ends turns w)
 course_round (rounds most) turns w has (counted, are, is) = subst (λ ts. SomeEnded (round_ends ts w)) (sym is) (serial_round most counted w has are)
-course_round (told order) turns w (front, order_is) are = subst (λ ts. SomeEnded (round_ends ts w)) (sym (are.0 ∙ order_is)) (at_round front w)
+course_round (told order) turns w (prefix, order_is) are = subst (λ ts. SomeEnded (round_ends ts w)) (sym (are.0 ∙ order_is)) (at_round prefix w)
 
 -- ---- the run that the log tells
 

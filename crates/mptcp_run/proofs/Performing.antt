@@ -22,7 +22,7 @@ use Rattle.mptcp_run.specs.Putting.{opening_in, status_of, last_line, ends_of, r
 use Rattle.mptcp_run.specs.Rounds.{HoldsEnds, HoldsPart}
 use Rattle.mptcp_run.specs.Task.{Connection, Task, opened}
 use Rattle.mptcp_run.proofs.Calls.{Told, adds_none, all_then, cut_then, cut_longer, cut_none, short_then}
-use Rattle.mptcp_run.proofs.PortsLemmas.{IsPrefix-refl, IsPrefix-front, nothing_more, all_held, part_held, all_behind, taken_part}
+use Rattle.mptcp_run.proofs.PortsLemmas.{IsPrefix-refl, IsPrefix-append, nothing_more, all_held, part_held, all_behind, taken_part}
 
 abbrev Ports : Type 0
 Ports = Port → Option (List ℕ)
@@ -108,7 +108,7 @@ after_part (Some held) c d x y h k =
       (
         put.1 ∙ ap Some (append_assoc held x (take put.0 y)),
         record {
-          least = IsPrefix-front x (take put.0 y);
+          least = IsPrefix-append x (take put.0 y);
           most = taken_part x y put.0;
         },
       ),

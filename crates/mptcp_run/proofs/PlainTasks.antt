@@ -11,10 +11,11 @@ use Rattle.run_log.specs.declared.turn.Turn as logged_turn
 use Rattle.mptcp_run.specs.declared.report.Report.TheVariants as report
 use Rattle.mptcp_run.specs.declared.status.Named.TheVariants as input
 use Rattle.mptcp_run.specs.Promised.{EndsWithRound, IsPromisedTask, LoadedTasksArePlain}
-use Rattle.mptcp_run.specs.Script.{script_meaning, script_in, actors_of, width_of, log_reading}
+use Rattle.world_core.specs.Script.{script_meaning, script_in}
+use Rattle.mptcp_run.specs.Script.{actors_of, width_of, log_reading}
 use Rattle.mptcp_run.specs.Task.{Course, told, turn_of, turns_in, course_of}
 use Rattle.mptcp_run.proofs.LogEnds.{turns_end}
-use Rattle.mptcp_run.proofs.Unaltering.{run_script_is}
+use Rattle.world_core.proofs.Unaltering.{run_script_is}
 
 turns_of_log : (script : Script) (text : List ℕ) (r : Result (List logged_turn.Turn) LogFault) → log_reading script text ≡ r
     → IfSome (option_map told (option_map (map turn_of) (result_ok r))) EndsWithRound

@@ -16,8 +16,8 @@ use Rattle.mptcp_run.specs.Ports.{NeverFall, IsPortsFault, HoldsMore, HoldsWithi
 pub IsPrefix-refl : (xs : List ℕ) → IsPrefix xs xs
 IsPrefix-refl xs = record { rest = []; whole_is = sym (append-nil xs) }
 
-pub IsPrefix-front : (xs more : List ℕ) → IsPrefix xs (xs ++ more)
-IsPrefix-front xs more = record { rest = more; whole_is = refl }
+pub IsPrefix-append : (xs more : List ℕ) → IsPrefix xs (xs ++ more)
+IsPrefix-append xs more = record { rest = more; whole_is = refl }
 
 pub IsPrefix-trans : (xs ys zs : List ℕ) → IsPrefix xs ys → IsPrefix ys zs → IsPrefix xs zs
 IsPrefix-trans xs ys zs h k = record {
@@ -25,62 +25,62 @@ IsPrefix-trans xs ys zs h k = record {
   whole_is = k.whole_is ∙ ap (λ ws. ws ++ k.rest) h.whole_is ∙ append_assoc xs h.rest k.rest;
 }
 
--- the same in front of both
-pub IsPrefix-behind : (front xs ys : List ℕ) → IsPrefix xs ys → IsPrefix (front ++ xs) (front ++ ys)
-IsPrefix-behind front xs ys h = record { rest = h.rest; whole_is = ap (λ zs. front ++ zs) h.whole_is ∙ sym (append_assoc front xs h.rest) }
+-- the same before both
+pub IsPrefix-behind : (prefix xs ys : List ℕ) → IsPrefix xs ys → IsPrefix (prefix ++ xs) (prefix ++ ys)
+IsPrefix-behind prefix xs ys h = record { rest = h.rest; whole_is = ap (λ zs. prefix ++ zs) h.whole_is ∙ sym (append_assoc prefix xs h.rest) }
 
--- a part of a text, behind a front
-pub taken_part : (front text : List ℕ) (count : ℕ) → IsPrefix (front ++ take count text) (front ++ text)
-taken_part front text count = record {
+-- a part of a text, behind a prefix
+pub taken_part : (prefix text : List ℕ) (count : ℕ) → IsPrefix (prefix ++ take count text) (prefix ++ text)
+taken_part prefix text count = record {
   rest = drop count text;
-  whole_is = ap (λ zs. front ++ zs) (sym (take-append-drop count text)) ∙ sym (append_assoc front (take count text) (drop count text));
+  whole_is = ap (λ zs. prefix ++ zs) (sym (take-append-drop count text)) ∙ sym (append_assoc prefix (take count text) (drop count text));
 }
 
 -- ---- one put
 
 -- a text that was put whole
-pub whole_more : (a b : Option (List ℕ)) (front text high : List ℕ) → HoldsAfter a b (λ held. held ++ text) → high ≡ front ++ text
-    → HoldsMore a b front (λ all. all ≡ high)
-whole_more None b front text high h is = tt
-whole_more (Some held) b front text high h is = (text, (h, sym is))
+pub whole_more : (a b : Option (List ℕ)) (prefix text high : List ℕ) → HoldsAfter a b (λ held. held ++ text) → high ≡ prefix ++ text
+    → HoldsMore a b prefix (λ all. all ≡ high)
+whole_more None b prefix text high h is = tt
+whole_more (Some held) b prefix text high h is = (text, (h, sym is))
 
 -- a part of it
-pub part_more : (a b : Option (List ℕ)) (front text high : List ℕ) → HoldsPrefix a b text → high ≡ front ++ text
-    → HoldsMore a b front (IsBetween front high)
-part_more None b front text high h is = tt
-part_more (Some held) b front text high h is = (
+pub part_more : (a b : Option (List ℕ)) (prefix text high : List ℕ) → HoldsPrefix a b text → high ≡ prefix ++ text
+    → HoldsMore a b prefix (IsBetween prefix high)
+part_more None b prefix text high h is = tt
+part_more (Some held) b prefix text high h is = (
   take h.0 text,
   (
     h.1,
     record {
-      least = IsPrefix-front front (take h.0 text);
-      most = subst (IsPrefix (front ++ take h.0 text)) (sym is) (taken_part front text h.0);
+      least = IsPrefix-append prefix (take h.0 text);
+      most = subst (IsPrefix (prefix ++ take h.0 text)) (sym is) (taken_part prefix text h.0);
     },
   ),
 )
 
 -- nothing
-pub nothing_more : (a b : Option (List ℕ)) (front : List ℕ) (P : List ℕ → Type 0) → b ≡ a → P front → HoldsMore a b front P
-nothing_more None b front P same p = tt
-nothing_more (Some held) b front P same p = ([], (same ∙ ap Some (sym (append-nil held)), subst P (sym (append-nil front)) p))
+pub nothing_more : (a b : Option (List ℕ)) (prefix : List ℕ) (P : List ℕ → Type 0) → b ≡ a → P prefix → HoldsMore a b prefix P
+nothing_more None b prefix P same p = tt
+nothing_more (Some held) b prefix P same p = ([], (same ∙ ap Some (sym (append-nil held)), subst P (sym (append-nil prefix)) p))
 
 -- ---- one after the other
 
 -- what holds of more is weaker
-pub more_weaker : (a b : Option (List ℕ)) (front : List ℕ) (P Q : List ℕ → Type 0) → ((text : List ℕ) → P text → Q text) → HoldsMore a b front P → HoldsMore a b front Q
-more_weaker None b front P Q f h = tt
-more_weaker (Some held) b front P Q f h = (h.0, (h.1.0, f (front ++ h.0) h.1.1))
+pub more_weaker : (a b : Option (List ℕ)) (prefix : List ℕ) (P Q : List ℕ → Type 0) → ((text : List ℕ) → P text → Q text) → HoldsMore a b prefix P → HoldsMore a b prefix Q
+more_weaker None b prefix P Q f h = tt
+more_weaker (Some held) b prefix P Q f h = (h.0, (h.1.0, f (prefix ++ h.0) h.1.1))
 
 -- the port grew with a text, and goes on growing with it
-pub more_then : (a b c : Option (List ℕ)) (front middle : List ℕ) (P : List ℕ → Type 0) → HoldsMore a b front (λ all. all ≡ middle) → HoldsMore b c middle P
-    → HoldsMore a c front P
-more_then None b c front middle P h k = tt
-more_then (Some held) b c front middle P h k =
+pub more_then : (a b c : Option (List ℕ)) (prefix middle : List ℕ) (P : List ℕ → Type 0) → HoldsMore a b prefix (λ all. all ≡ middle) → HoldsMore b c middle P
+    → HoldsMore a c prefix P
+more_then None b c prefix middle P h k = tt
+more_then (Some held) b c prefix middle P h k =
     let next : (more : List ℕ) × ((c ≡ Some ((held ++ h.0) ++ more)) × P (middle ++ more)) = subst (λ o. HoldsMore o c middle P) h.1.0 k in (
       h.0 ++ next.0,
       (
         next.1.0 ∙ ap Some (append_assoc held h.0 next.0),
-        subst P (ap (λ xs. xs ++ next.0) (sym h.1.1) ∙ append_assoc front h.0 next.0) next.1.1,
+        subst P (ap (λ xs. xs ++ next.0) (sym h.1.1) ∙ append_assoc prefix h.0 next.0) next.1.1,
       ),
     )
 
@@ -186,3 +186,15 @@ b_isnt_log e = cc (e)
 
 pub a_isnt_log : port.ReadByA ≡ port.Log → ⊥
 a_isnt_log e = cc (e)
+
+-- a call of one port lets no count fall
+pub never_falls : (p : Port) (old new : Port → ℕ) → old p ≤ new p → ((other : Port) → (other ≡ p → ⊥) → new other ≡ old other) → NeverFall old new
+never_falls port.ReadByA old new h k port.ReadByA = h
+never_falls port.ReadByA old new h k port.ReadByB = let same = k port.ReadByB (λ e. cc (e)) in omega (arith, same)
+never_falls port.ReadByA old new h k port.Log = let same = k port.Log (λ e. cc (e)) in omega (arith, same)
+never_falls port.ReadByB old new h k port.ReadByA = let same = k port.ReadByA (λ e. cc (e)) in omega (arith, same)
+never_falls port.ReadByB old new h k port.ReadByB = h
+never_falls port.ReadByB old new h k port.Log = let same = k port.Log (λ e. cc (e)) in omega (arith, same)
+never_falls port.Log old new h k port.ReadByA = let same = k port.ReadByA (λ e. cc (e)) in omega (arith, same)
+never_falls port.Log old new h k port.ReadByB = let same = k port.ReadByB (λ e. cc (e)) in omega (arith, same)
+never_falls port.Log old new h k port.Log = h

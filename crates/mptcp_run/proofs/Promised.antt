@@ -15,7 +15,8 @@ use Rattle.world_laws.proofs.RoundsDone.{rounds_end_on_time, rounds_are_done}
 use Rattle.world_laws.proofs.CastLifting.{writes_the_files}
 use Rattle.mptcp_run.specs.declared.status.Status.TheVariants.{Delivered}
 use Rattle.mptcp_run.specs.Ports.{HoldsWithin}
-use Rattle.mptcp_run.specs.Putting.{round_ends, last_end, status_of, read_so_far, world_after}
+use Rattle.world_core.specs.RoundEnds.{round_ends, last_end}
+use Rattle.mptcp_run.specs.Putting.{status_of, read_so_far, world_after}
 use Rattle.mptcp_run.specs.Promised.{IsPlainTask, EndsWithRound, HoldsPrefixOf, HoldsPrefixIfBound, PlainTasksAreKept, WholeRunsGivePrefixes, DeliveredRunsGiveFiles, StoppedRunsGivePrefixes, CutRunsGivePrefixes, LinesCutGivePrefixes}
 use Rattle.mptcp_run.specs.Task.{Connection, Task, Course, rounds, told, opened, AreTurnsOf}
 
@@ -23,7 +24,7 @@ use Rattle.mptcp_run.specs.Task.{Connection, Task, Course, rounds, told, opened,
 
 prefix_of_prefix : (xs ys zs : List ℕ) → IsPrefix xs ys → IsPrefix ys zs → IsPrefix xs zs
 prefix_of_prefix xs ys zs p q =
-    record { rest = p.rest ++ q.rest; whole_is = q.whole_is ∙ ap (λ front. front ++ q.rest) p.whole_is ∙ append_assoc xs p.rest q.rest }
+    record { rest = p.rest ++ q.rest; whole_is = q.whole_is ∙ ap (λ prefix. prefix ++ q.rest) p.whole_is ∙ append_assoc xs p.rest q.rest }
 
 prefix_held : (old new : Option (List ℕ)) (text file : List ℕ) → HoldsAfter old new (λ _. text) → IsPrefix text file → HoldsPrefixOf old new file
 prefix_held None new text file holds part = tt
@@ -44,31 +45,31 @@ cut_held unbegun (Some held) new low high file (inr (text, both)) part =
 
 -- it is the connection after some turns
 last_end_after : (turns : List Turn) (w first : Connection) → (last_end first (round_ends turns w) ≡ first)
-    ⊎ ((front : List Turn) × (last_end first (round_ends turns w) ≡ world_run octets front w))
+    ⊎ ((prefix : List Turn) × (last_end first (round_ends turns w) ≡ world_run octets prefix w))
 last_end_after [] w first = inl refl
 last_end_after (Turn.Step actor ∷ turns) w first = by (last_end_after turns (world_step octets actor w) first)
   where
     by : (last_end first (round_ends turns (world_step octets actor w)) ≡ first)
-        ⊎ ((front : List Turn) × (last_end first (round_ends turns (world_step octets actor w)) ≡ world_run octets front (world_step octets actor w)))
+        ⊎ ((prefix : List Turn) × (last_end first (round_ends turns (world_step octets actor w)) ≡ world_run octets prefix (world_step octets actor w)))
         → (last_end first (round_ends turns (world_step octets actor w)) ≡ first)
-        ⊎ ((front : List Turn) × (last_end first (round_ends turns (world_step octets actor w)) ≡ world_run octets front w))
+        ⊎ ((prefix : List Turn) × (last_end first (round_ends turns (world_step octets actor w)) ≡ world_run octets prefix w))
     by (inl is) = inl is
-    by (inr (front, is)) = inr (Turn.Step actor ∷ front, is)
+    by (inr (prefix, is)) = inr (Turn.Step actor ∷ prefix, is)
 last_end_after (Turn.Round ∷ turns) w first = by (last_end_after turns (end_round w) (end_round w))
   where
     by : (last_end (end_round w) (round_ends turns (end_round w)) ≡ end_round w)
-        ⊎ ((front : List Turn) × (last_end (end_round w) (round_ends turns (end_round w)) ≡ world_run octets front (end_round w)))
+        ⊎ ((prefix : List Turn) × (last_end (end_round w) (round_ends turns (end_round w)) ≡ world_run octets prefix (end_round w)))
         → (last_end (end_round w) (round_ends turns (end_round w)) ≡ first)
-        ⊎ ((front : List Turn) × (last_end (end_round w) (round_ends turns (end_round w)) ≡ world_run octets front w))
+        ⊎ ((prefix : List Turn) × (last_end (end_round w) (round_ends turns (end_round w)) ≡ world_run octets prefix w))
     by (inl is) = inr (Turn.Round ∷ [], is)
-    by (inr (front, is)) = inr (Turn.Round ∷ front, is)
+    by (inr (prefix, is)) = inr (Turn.Round ∷ prefix, is)
 
 -- where the last turn is the end of a round, it is the connection after all turns
-last_end_at_round : (front : List Turn) (w first : Connection)
-    → last_end first (round_ends (front ++ Turn.Round ∷ []) w) ≡ world_run octets (front ++ Turn.Round ∷ []) w
+last_end_at_round : (prefix : List Turn) (w first : Connection)
+    → last_end first (round_ends (prefix ++ Turn.Round ∷ []) w) ≡ world_run octets (prefix ++ Turn.Round ∷ []) w
 last_end_at_round [] w first = refl
-last_end_at_round (Turn.Step actor ∷ front) w first = last_end_at_round front (world_step octets actor w) first
-last_end_at_round (Turn.Round ∷ front) w first = last_end_at_round front (end_round w) (end_round w)
+last_end_at_round (Turn.Step actor ∷ prefix) w first = last_end_at_round prefix (world_step octets actor w) first
+last_end_at_round (Turn.Round ∷ prefix) w first = last_end_at_round prefix (end_round w) (end_round w)
 
 last_end_of_steps : (actor n : ℕ) (rest : List Turn) (w first : Connection)
     → ((v : Connection) → last_end first (round_ends rest v) ≡ world_run octets rest v)
@@ -91,8 +92,8 @@ pub last_end_of_course : (course : Course) (turns : List Turn) (w : Connection) 
     → last_end w (round_ends turns w) ≡ world_run octets turns w
 last_end_of_course (rounds most) turns w ends (counted, are, is) =
     subst (λ (ts : List Turn). last_end w (round_ends ts w) ≡ world_run octets ts w) (sym is) (last_end_of_rounds counted w)
-last_end_of_course (told order) turns w (front, order_is) are =
-    subst (λ (ts : List Turn). last_end w (round_ends ts w) ≡ world_run octets ts w) (sym (are.0 ∙ order_is)) (last_end_at_round front w w)
+last_end_of_course (told order) turns w (prefix, order_is) are =
+    subst (λ (ts : List Turn). last_end w (round_ends ts w) ≡ world_run octets ts w) (sym (are.0 ∙ order_is)) (last_end_at_round prefix w w)
 
 -- ---- promises
 
@@ -121,10 +122,10 @@ module _ (task : Task) (plain : IsPlainTask task) where
     at_last_end turns = by (last_end_after turns (opened task) (opened task))
       where
         by : (last_end (opened task) (round_ends turns (opened task)) ≡ opened task)
-            ⊎ ((front : List Turn) × (last_end (opened task) (round_ends turns (opened task)) ≡ world_run octets front (opened task)))
+            ⊎ ((prefix : List Turn) × (last_end (opened task) (round_ends turns (opened task)) ≡ world_run octets prefix (opened task)))
             → P (last_end (opened task) (round_ends turns (opened task)))
         by (inl is) = subst P (sym is) (always [])
-        by (inr (front, is)) = subst P (sym is) (always front)
+        by (inr (prefix, is)) = subst P (sym is) (always prefix)
 
   b_has_a_prefix : (turns : List Turn) → IsPrefix (read_so_far B task turns) task.file_a
   b_has_a_prefix = at_last_end (λ w. IsPrefix (output_of B w) task.file_a) b_reads_a_prefix

@@ -15,14 +15,15 @@ use Rattle.mptcp_run.specs.declared.status.Status.TheVariants.{Delivered, Rounds
 use Rattle.mptcp_run.specs.Adding.{RoundAddsCut, turn_puts, TurnAddsCut, TurnEnds}
 use Rattle.mptcp_run.specs.Plan.{AddsAll, AddsCut, puts_of, read_in, round_puts, puts_by_round}
 use Rattle.mptcp_run.specs.Ports.{IsPortsFault}
-use Rattle.mptcp_run.specs.Putting.{round_ends, round_text}
+use Rattle.world_core.specs.RoundEnds.{round_ends}
+use Rattle.mptcp_run.specs.Putting.{round_text}
 use Rattle.mptcp_run.specs.Replaying.{last_after, rounds_after, round_turn, StepFault}
 use Rattle.run_log.specs.declared.turn.Turn as log_turn
 use Rattle.run_log.specs.declared.turn.Turn.TheVariants as logged
 use Rattle.mptcp_run.specs.Task.{Connection, turn_of}
-use Rattle.mptcp_run.specs.Weaving.{IsSince, made_at, since}
+use Rattle.world_core.specs.Weaving.{IsSince, made_at, since}
 use Rattle.mptcp_run.proofs.Calls.{Told, adds_none, all_then, cut_then, cut_longer, cut_none}
-use Rattle.mptcp_run.proofs.RoundSteps.{read_grew, steps_since}
+use Rattle.world_core.proofs.SinceRound.{read_grew, steps_since}
 use Rattle.mptcp_run.proofs.RoundsMade.{one_true, one_false, one_both}
 use Rattle.mptcp_run.proofs.Folding.{RoundsAdd, RoundsAddCut, TurnsAddCut, TurnsEnd, ends_by}
 
@@ -275,11 +276,7 @@ round_cut opening number last w old new before faults (Err status) over cause cu
     by (Log at) cause cut = absurd cause
 
 -- a step makes no call
-pub step_adds : (opening : Option (List ℕ)) (number : ℕ) (turn : log_turn.Turn) (actor : ℕ) (last w : Connection) (a : Told) → turn ≡ logged.Step actor
-    → AddsAll (turn_puts opening number (turn_of turn) last w) a a
-step_adds opening number turn actor last w a is = subst (λ t. AddsAll (turn_puts opening number (turn_of t) last w) a a) (sym is) (adds_none a)
-
-step_ends : (opening : Option (List ℕ)) (number actor : ℕ) (last w : Connection) (a : Told) (line : ℕ) (status : Status) → StepFault actor w line status
+pub step_ends : (opening : Option (List ℕ)) (number actor : ℕ) (last w : Connection) (a : Told) (line : ℕ) (status : Status) → StepFault actor w line status
     → TurnEnds opening number (Turn.Step actor) last w a a status
 step_ends opening number actor last w a line (Log at) h = (λ going. let stopped = h.1 in cc (going, stopped), adds_none a)
 step_ends opening number actor last w a line Memory h = inl (refl, adds_none a)
@@ -292,8 +289,3 @@ step_ends opening number actor last w a line (Script at kind) h = absurd h
 step_ends opening number actor last w a line (Load named) h = absurd h
 step_ends opening number actor last w a line (Put p) h = absurd h
 step_ends opening number actor last w a line (TooLong named) h = absurd h
-
-pub step_stops : (opening : Option (List ℕ)) (number : ℕ) (turn : log_turn.Turn) (actor : ℕ) (last w : Connection) (a : Told) (line : ℕ) (status : Status) → turn ≡ logged.Step actor
-    → StepFault actor w line status → TurnEnds opening number (turn_of turn) last w a a status
-step_stops opening number turn actor last w a line status is h =
-    subst (λ t. TurnEnds opening number (turn_of t) last w a a status) (sym is) (step_ends opening number actor last w a line status h)

@@ -17,80 +17,14 @@ use Rattle.world_laws.specs.Actors.{ActorCrew}
 use Rattle.world_laws.specs.Fine.{lists_of}
 use Rattle.world_laws.specs.Outcomes.{bytes_noted, read_by, notes_at, output_of}
 use Rattle.world_laws.specs.Worlds.{greatest}
+use Rattle.world_core.proofs.SinceRound.{steps_since, read_grew}
 use Rattle.mptcp_run.specs.Ports.{IsBetween}
-use Rattle.mptcp_run.specs.Putting.{NotesFit, round_steps, steps_by_round, last_end, round_text, log_text}
+use Rattle.world_core.specs.RoundEnds.{round_steps, steps_by_round, last_end}
+use Rattle.mptcp_run.specs.Putting.{NotesFit, round_text, log_text}
 use Rattle.mptcp_run.specs.Rounds.{HoldsRound, HoldsEnds, HoldsPart}
 use Rattle.mptcp_run.specs.Task.{Connection}
-use Rattle.mptcp_run.specs.Weaving.{GrewAbove, AllGrewAbove, IsSince, made_at, since}
+use Rattle.world_core.specs.Weaving.{GrewAbove, AllGrewAbove, IsSince, made_at, since}
 use Rattle.mptcp_run.proofs.PortsLemmas.{IsPrefix-refl, IsPrefix-behind, whole_more, part_more, nothing_more, more_then, more_behind}
-
--- ---- the steps of a round
-
-none_above : (top : ℕ) (notes : List Note) → Every (λ n. n.stamp ≤ top) notes → above top notes ≡ []
-none_above top [] below = refl
-none_above top (note ∷ notes) below = by (none_above top notes (record { each = λ i n there. below.each (suc i) n there })) (nat_lt top note.stamp) refl
-  where
-    by : above top notes ≡ [] → (b : Bool) → nat_lt top note.stamp ≡ b → above top (note ∷ notes) ≡ []
-    by rest true is = let low = below.each 0 note refl in absurd (grind arith)
-    by rest false is = rw is rest
-
-all_above : (top : ℕ) (notes : List Note) → Every (λ n. top < n.stamp) notes → above top notes ≡ notes
-all_above top [] high = refl
-all_above top (note ∷ notes) high = by (all_above top notes (record { each = λ i n there. high.each (suc i) n there })) (nat_lt top note.stamp) refl
-  where
-    by : above top notes ≡ notes → (b : Bool) → nat_lt top note.stamp ≡ b → above top (note ∷ notes) ≡ note ∷ notes
-    by rest true is = rw is (ap (λ xs. note ∷ xs) rest)
-    by rest false is = let up = high.each 0 note refl in absurd (grind arith)
-
-above_is : (top : ℕ) (before list : List Note) → GrewAbove top before list → drop (length before) list ≡ above top list
-above_is top before list h =
-    ap (drop (length before)) h.is ∙ drop-append_seam before h.more
-    ∙ sym (ap (above top) h.is ∙ filter-append (λ note. nat_lt top note.stamp) before h.more
-    ∙ ap (λ xs. xs ++ above top h.more) (none_above top before h.below) ∙ all_above top h.more h.above)
-
-since_is : (top : ℕ) (lasts lists : List (List Note)) → AllGrewAbove top lasts lists → since (map length lasts) lists ≡ in_order top lists
-since_is top [] [] h = refl
-since_is top [] (list ∷ lists) h = absurd h
-since_is top (before ∷ lasts) [] h = absurd h
-since_is top (before ∷ lasts) (list ∷ lists) h =
-    ap (λ xs. with_notes xs (since (map length lasts) lists)) (above_is top before list h.0)
-    ∙ ap (with_notes (above top list)) (since_is top lasts lists h.1)
-
--- the notes that were made since are the steps of the round
-pub steps_since : (made : List ℕ) (last w : Connection) → IsSince last made w → since made (lists_of w.crew) ≡ round_steps last w
-steps_since made last w h =
-    ap (λ ns. since ns (lists_of w.crew)) h.made_is ∙ since_is (greatest 0 last.crew) (lists_of last.crew) (lists_of w.crew) h.grew
-
--- ---- what a reader has read
-
-pub notes_at-is : (actor : ℕ) (crew : List (ActorCrew (List ℕ))) → notes_at actor crew ≡ get_or (lists_of crew) actor []
-notes_at-is actor [] = refl
-notes_at-is zero (c ∷ crew) = refl
-notes_at-is (suc actor) (c ∷ crew) = notes_at-is actor crew
-
-grown_at : (top actor : ℕ) (lasts lists : List (List Note)) → AllGrewAbove top lasts lists
-    → get_or lists actor [] ≡ get_or lasts actor [] ++ drop (get_or (map length lasts) actor 0) (get_or lists actor [])
-grown_at top actor [] [] h = refl
-grown_at top actor [] (list ∷ lists) h = absurd h
-grown_at top actor (before ∷ lasts) [] h = absurd h
-grown_at top zero (before ∷ lasts) (list ∷ lists) h =
-    h.0.is ∙ ap (λ xs. before ++ xs) (sym (ap (drop (length before)) h.0.is ∙ drop-append_seam before h.0.more))
-grown_at top (suc actor) (before ∷ lasts) (list ∷ lists) h = grown_at top actor lasts lists h.1
-
-notes_grew : (made : List ℕ) (last w : Connection) (actor : ℕ) → IsSince last made w
-    → notes_at actor w.crew ≡ notes_at actor last.crew ++ drop (made_at actor made) (notes_at actor w.crew)
-notes_grew made last w actor h =
-    notes_at-is actor w.crew ∙ grown_at (greatest 0 last.crew) actor (lists_of last.crew) (lists_of w.crew) h.grew
-    ∙ ap (λ xs. xs ++ drop (get_or (map length (lists_of last.crew)) actor 0) (get_or (lists_of w.crew) actor [])) (sym (notes_at-is actor last.crew))
-    ∙ ap (λ ns. notes_at actor last.crew ++ drop (get_or ns actor 0) (get_or (lists_of w.crew) actor [])) (sym h.made_is)
-    ∙ ap (λ xs. notes_at actor last.crew ++ drop (made_at actor made) xs) (sym (notes_at-is actor w.crew))
-
-pub read_grew : (made : List ℕ) (last w : Connection) (actor : ℕ) → IsSince last made w
-    → read_by (notes_at actor w.crew) ≡ read_by (notes_at actor last.crew) ++ read_by (drop (made_at actor made) (notes_at actor w.crew))
-read_grew made last w actor h =
-    ap read_by (notes_grew made last w actor h) ∙ flat_map-append bytes_noted (notes_at actor last.crew) (drop (made_at actor made) (notes_at actor w.crew))
-
--- ---- the ports
 
 module _ (made : List ℕ) (last w : Connection) (opening : Option (List ℕ)) (number : ℕ) (old new : Port → Option (List ℕ)) (read_by_b read_by_a lines : List ℕ)
     (b_is : read_by_b ≡ read_by (drop (made_at 1 made) (notes_at 1 w.crew))) (a_is : read_by_a ≡ read_by (drop (made_at 0 made) (notes_at 0 w.crew)))
@@ -143,7 +77,7 @@ nothing_ends opening number w old new same = record {
   fits = tt;
 }
 
--- a round in front of others
+-- a round before others
 pub ends_more : (opening : Option (List ℕ)) (number : ℕ) (w v : Connection) (ends : List Connection) (a b c : Port → Option (List ℕ)) → HoldsRound opening number w v a b
     → HoldsEnds opening (suc number) v ends b c → HoldsEnds opening number w (v ∷ ends) a c
 ends_more opening number w v ends a b c h k = record {
@@ -155,7 +89,7 @@ ends_more opening number w v ends a b c h k = record {
   fits = (h.fits, k.fits);
 }
 
--- in front of some, and of a part
+-- before some, and of a part
 pub part_behind : (opening : Option (List ℕ)) (number : ℕ) (w v : Connection) (low high : List Connection) (a b c : Port → Option (List ℕ)) → HoldsRound opening number w v a b
     → HoldsPart opening (suc number) v low high b c → HoldsPart opening number w (v ∷ low) (v ∷ high) a c
 part_behind opening number w v low high a b c h k = record {

@@ -28,7 +28,7 @@ Ports = Port → Option (List ℕ)
 module _ (opening : Option (List ℕ)) where
   -- ---- all of them
 
-  -- a round in front, whose outcome is Going
+  -- a round first, whose outcome is Going
   pub rounds_more : (most left number count : ℕ) (w v x : Connection) (a b c : Ports) → most ≡ suc left → RoundTo octets w v → goes_on (outcome_of v.crew) ≡ true
       → HoldsRound opening number w v a b → RoundsPut opening left (suc number) count v x b c → RoundsPut opening most number count w x a c
   rounds_more most left number count w v x a b c e r going round rest = subst (λ m. RoundsPut opening m number count w x a c) (sym e)

@@ -16,7 +16,8 @@ use Rattle.mptcp_run.specs.Courses.{CourseMade, CourseCut, LogStops}
 use Rattle.mptcp_run.specs.Ends.{CameToEnd, IsCut, ReplayEnds}
 use Rattle.mptcp_run.specs.Plan.{AddsAll, AddsShort, binds_of, puts_so_far}
 use Rattle.mptcp_run.specs.Ports.{NeverFall, IsPortsFault}
-use Rattle.mptcp_run.specs.Putting.{round_ends, opening_of, opening_in, status_of, ends_of, world_after, last_line, last_line_of}
+use Rattle.world_core.specs.RoundEnds.{round_ends}
+use Rattle.mptcp_run.specs.Putting.{opening_of, opening_in, status_of, ends_of, world_after, last_line, last_line_of}
 use Rattle.mptcp_run.specs.Replaying.{IsReplayFault}
 use Rattle.mptcp_run.specs.Rounds.{Begins, AtRound, IsOpened}
 use Rattle.mptcp_run.specs.Task.{Connection, Task, task_with, task_from, opened}

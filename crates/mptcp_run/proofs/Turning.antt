@@ -11,12 +11,10 @@ use Rattle.mptcp_run.specs.declared.rounds.Run.{Run}
 use Rattle.mptcp_run.specs.declared.status.Status.{Status}
 use Rattle.mptcp_run.specs.declared.status.Status.TheVariants.{Delivered, Rounds, NoPath, Aborted, Usage, Script, Load, Put, TooLong, Memory, Log}
 use Rattle.mptcp_run.specs.Ports.{IsPortsFault}
-use Rattle.mptcp_run.specs.Replaying.{GoesOn, UnderWay, TurnFault, round_turn, last_after}
-use Rattle.run_log.specs.declared.turn.Turn as log_turn
-use Rattle.run_log.specs.declared.turn.Turn.TheVariants as logged
+use Rattle.mptcp_run.specs.Replaying.{GoesOn, UnderWay, TurnFault, round_turn}
 use Rattle.mptcp_run.specs.Rounds.{AtRound, HoldsPart}
-use Rattle.mptcp_run.specs.Task.{Connection, turn_of}
-use Rattle.mptcp_run.specs.Weaving.{AllGrewAbove, IsSince}
+use Rattle.mptcp_run.specs.Task.{Connection}
+use Rattle.world_core.specs.Weaving.{AllGrewAbove, IsSince}
 use Rattle.mptcp_run.proofs.UnderWay.{step_goes, begins_going, lists_at_end, next_begins}
 use Rattle.mptcp_run.proofs.AllTurns.{since_length}
 
@@ -83,15 +81,12 @@ put_fault opening number last w line old new before faults (Err status) over cau
     by (TooLong input) cause = absurd cause
     by (Log at) cause = absurd cause
 
+-- a round didn't end, though the world stands: some turn isn't over
+pub not_over : (failed over result : Bool) → result ≡ (not failed && over) → failed ≡ false → result ≡ false → over ≡ true → ⊥
+not_over failed over result is stands none whole = cc (is, stands, none, whole)
+
 -- a round ended: the world hadn't failed, and each turn was over
 pub ended_parts : (failed over result : Bool) → result ≡ (not failed && over) → result ≡ true → (failed ≡ false) × (over ≡ true)
 ended_parts false true result is told = (refl, refl)
 ended_parts false false result is told = cc (is, told)
 ended_parts true over result is told = cc (is, told)
-
--- a step of the log, as the run goes on with a new world
-pub step_under : (last : Connection) (run : Run) (world : Kept) (turn : log_turn.Turn) (actor : ℕ) → turn ≡ logged.Step actor → UnderWay last run
-    → world ≡ standing (world_step octets actor run.world.state) → UnderWay (last_after (turn_of turn) last run.world.state) (record run { world = world })
-step_under last run world turn actor is h ok =
-    subst (λ t. UnderWay (last_after (turn_of t) last run.world.state) (record run { world = world })) (sym is)
-    (under_step last run (record run { world = world }) actor h ok refl)

@@ -10,7 +10,8 @@ use Rattle.world_laws.specs.Worlds.{Turn, end_round, after_turn, IsLawfulTurn}
 use Rattle.mptcp_run.specs.declared.status.Status.{Status}
 use Rattle.mptcp_run.specs.declared.status.Status.TheVariants.{Delivered, Rounds, NoPath, Aborted, Usage, Script, Load, Put, TooLong, Memory, Log}
 use Rattle.mptcp_run.specs.Ports.{HoldsMore, IsBetween}
-use Rattle.mptcp_run.specs.Putting.{round_ends, last_end, steps_by_round, log_text}
+use Rattle.world_core.specs.RoundEnds.{round_ends, last_end, steps_by_round}
+use Rattle.mptcp_run.specs.Putting.{log_text}
 use Rattle.mptcp_run.specs.Replaying.{last_after, rounds_after, TurnHolds, TurnCut, TurnFault}
 use Rattle.mptcp_run.specs.Rounds.{HoldsEnds, HoldsPart}
 use Rattle.mptcp_run.specs.Task.{Connection}
@@ -22,8 +23,8 @@ abbrev Ports : Type 0
 Ports = Port → Option (List ℕ)
 
 -- from ports that hold the same
-more_from : (a b c : Option (List ℕ)) (front : List ℕ) (P : List ℕ → Type 0) → b ≡ a → HoldsMore b c front P → HoldsMore a c front P
-more_from a b c front P same h = subst (λ o. HoldsMore o c front P) same h
+more_from : (a b c : Option (List ℕ)) (prefix : List ℕ) (P : List ℕ → Type 0) → b ≡ a → HoldsMore b c prefix P → HoldsMore a c prefix P
+more_from a b c prefix P same h = subst (λ o. HoldsMore o c prefix P) same h
 
 ends_from : (opening : Option (List ℕ)) (number : ℕ) (w : Connection) (ends : List Connection) (a b c : Ports) → ((p : Port) → b p ≡ a p) → HoldsEnds opening number w ends b c
     → HoldsEnds opening number w ends a c
@@ -43,7 +44,7 @@ part_from opening number w low high a b c same h = record {
 }
 
 module _ (opening : Option (List ℕ)) where
-  -- a turn in front of what others put
+  -- a turn before what others put
   ends_behind : (number : ℕ) (turn : Turn) (rest : List Turn) (last w : Connection) (a b c : Ports) → TurnHolds opening number turn last w a b
       → HoldsEnds opening (rounds_after turn number) (last_after turn last w) (round_ends rest (after_turn octets turn w)) b c
       → HoldsEnds opening number last (round_ends (turn ∷ rest) w) a c

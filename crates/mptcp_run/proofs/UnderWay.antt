@@ -20,7 +20,7 @@ use Rattle.world_laws.proofs.Pairing.{step_fine, round_fine, greatest_above, sta
 use Rattle.mptcp_run.specs.Rounds.{Begins}
 use Rattle.mptcp_run.specs.Replaying.{GoesOn}
 use Rattle.mptcp_run.specs.Task.{Connection}
-use Rattle.mptcp_run.specs.Weaving.{GrewAbove, AllGrewAbove}
+use Rattle.world_core.specs.Weaving.{GrewAbove, AllGrewAbove}
 
 -- ---- lists
 

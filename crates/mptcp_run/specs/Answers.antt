@@ -19,7 +19,8 @@ use Rattle.mptcp_run.specs.Plan.{AddsAll, AddsCut, AddsLoadsTo, ArePuts, ArePuts
 use Rattle.mptcp_run.specs.Ports.{IsUntouched}
 use Rattle.mptcp_run.specs.Promised.{IsAlwaysKept, ReadersHaveFiles, ReadersHavePrefixes, ReadersHavePrefixesIfBound}
 use Rattle.mptcp_run.specs.Putting.{IsWhole, IsStopped}
-use Rattle.mptcp_run.specs.Script.{script_meaning, script_of, log_reading}
+use Rattle.world_core.specs.Script.{script_meaning}
+use Rattle.mptcp_run.specs.Script.{script_of, log_reading}
 use Rattle.mptcp_run.specs.Task.{Task, task_of, opening_count, AreWithinLimits, HasValidScript, HasValidOrder, IsValid}
 
 abbrev Ports : Type 0

@@ -8,7 +8,8 @@ use Rattle.outside_kit.specs.Outside.{HasRisen}
 use Rattle.mptcp_run.specs.declared.status.Named.{Named}
 use Rattle.mptcp_run.specs.declared.status.Named.TheVariants as input
 use Rattle.mptcp_run.specs.declared.status.Status.{Status}
-use Rattle.mptcp_run.specs.Script.{script_meaning, log_reading}
+use Rattle.world_core.specs.Script.{script_meaning}
+use Rattle.mptcp_run.specs.Script.{log_reading}
 use Rattle.mptcp_run.specs.declared.status.Status.TheVariants.{Script, Load, Put, TooLong, Memory, Log}
 
 -- how many octets an input may have

@@ -7,7 +7,8 @@ use Rattle.world_laws.specs.Worlds.{Turn, world_run, AreLawful, IsLawfulTurn}
 use Rattle.mptcp_run.specs.declared.status.Status.{Status}
 use Rattle.mptcp_run.specs.declared.status.Status.TheVariants.{Put, Memory, Log}
 use Rattle.mptcp_run.specs.Plan.{AddsAll, AddsCut, puts_by_round}
-use Rattle.mptcp_run.specs.Putting.{round_ends, AreFirstOf}
+use Rattle.world_core.specs.RoundEnds.{round_ends}
+use Rattle.mptcp_run.specs.Putting.{AreFirstOf}
 use Rattle.mptcp_run.specs.Rounds.{HoldsEnds, HoldsPart}
 use Rattle.mptcp_run.specs.Task.{Connection, Course, told, AreTurnsOf}
 

@@ -12,7 +12,8 @@ use Rattle.mptcp_run.specs.declared.status.Status.TheVariants.{Delivered, Rounds
 use Rattle.mptcp_run.specs.declared.status.Status.TheVariants as status_is
 use Rattle.mptcp_run.specs.Plan.{AddsAll, AddsCut, AddsShort, puts_so_far, last_put, ArePuts, ArePutsBefore, plan_of}
 use Rattle.mptcp_run.specs.Ports.{HoldsMore, HoldsWithin, IsBetween}
-use Rattle.mptcp_run.specs.Putting.{round_ends, last_line, read_so_far, log_so_far, world_after, IsWhole, IsStopped, AreFirstOf}
+use Rattle.world_core.specs.RoundEnds.{round_ends}
+use Rattle.mptcp_run.specs.Putting.{last_line, read_so_far, log_so_far, world_after, IsWhole, IsStopped, AreFirstOf}
 use Rattle.mptcp_run.specs.Task.{Task, opened, AreTurnsOf}
 
 abbrev Ports : Type 0

@@ -9,7 +9,8 @@ use Rattle.mptcp_run.specs.declared.status.Named.TheVariants as input
 use Rattle.mptcp_run.specs.declared.status.Status.{Status}
 use Rattle.mptcp_run.specs.declared.status.Status.TheVariants.{Script, Load, TooLong, Memory, Log}
 use Rattle.mptcp_run.specs.Causes.{limit_of}
-use Rattle.mptcp_run.specs.Script.{script_meaning, script_of, log_reading}
+use Rattle.world_core.specs.Script.{script_meaning}
+use Rattle.mptcp_run.specs.Script.{script_of, log_reading}
 
 -- the name of the log whose steps are made again
 abbrev pub order_of : Work → Option (List ℕ)

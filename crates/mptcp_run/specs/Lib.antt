@@ -1,6 +1,7 @@
 pub mod Adding
 pub mod Answers
 pub mod Asked
+pub mod Calling
 pub mod Causes
 pub mod Courses
 pub mod Ends
@@ -8,6 +9,7 @@ pub mod Inputs
 pub mod Logged
 pub mod Made
 pub mod Messages
+pub mod Making
 pub mod Plan
 pub mod Ports
 pub mod Promised
@@ -17,4 +19,3 @@ pub mod Rounds
 pub mod Script
 pub mod Status
 pub mod Task
-pub mod Weaving

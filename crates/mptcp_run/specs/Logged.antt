@@ -13,7 +13,7 @@ use Rattle.mptcp_run.specs.Task.{Task, Course, rounds, told, opened, turns_in, A
 -- one round at least, and the last turn is the end of one
 abbrev pub HasRounds : Course → Type 0
 HasRounds (rounds most) = 1 ≤ most
-HasRounds (told order) = (front : List Turn) × (order ≡ front ++ Turn.Round ∷ [])
+HasRounds (told order) = (prefix : List Turn) × (order ≡ prefix ++ Turn.Round ∷ [])
 
 -- the same connection, and these turns
 abbrev pub replayed : Task → List Turn → Task

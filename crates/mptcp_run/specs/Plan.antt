@@ -16,7 +16,8 @@ use Rattle.mptcp_run.specs.declared.status.Named.TheVariants as input
 use Rattle.mptcp_run.specs.declared.status.Status.{Status}
 use Rattle.mptcp_run.specs.declared.status.Status.TheVariants.{Load, Put, TooLong, Memory}
 use Rattle.mptcp_run.specs.Inputs.{order_of, name_of}
-use Rattle.mptcp_run.specs.Putting.{round_steps, round_text, opening_in, last_line, ends_of, world_after}
+use Rattle.world_core.specs.RoundEnds.{round_steps}
+use Rattle.mptcp_run.specs.Putting.{round_text, opening_in, last_line, ends_of, world_after}
 use Rattle.mptcp_run.specs.Task.{Connection, Task, opened, AreTurnsOf}
 use Rattle.mptcp_run.specs.Task as way
 

@@ -22,7 +22,7 @@ IsPortsFault old new _ = ⊥
 
 -- where a port told what it held, it holds that and more; so much more, behind this text, is one of this kind
 abbrev pub HoldsMore : Option (List ℕ) → Option (List ℕ) → List ℕ → (List ℕ → Type 0) → Type 0
-HoldsMore old new front P = IfSome old (λ held. (more : List ℕ) × ((new ≡ Some (held ++ more)) × P (front ++ more)))
+HoldsMore old new prefix P = IfSome old (λ held. (more : List ℕ) × ((new ≡ Some (held ++ more)) × P (prefix ++ more)))
 
 -- a text begins with this one, and that one goes on from it
 pub record IsBetween (low high text : List ℕ) : Type 0 where

@@ -30,7 +30,7 @@ IsPlainInput input = IsPlainScript input.script input.file_a input.file_b
 -- the last turn is the end of a round, as it is of each serial run and in each log
 abbrev pub EndsWithRound : Course → Type 0
 EndsWithRound (rounds most) = Unit {0}
-EndsWithRound (told order) = (front : List Turn) × (order ≡ front ++ Turn.Round ∷ [])
+EndsWithRound (told order) = (prefix : List Turn) × (order ≡ prefix ++ Turn.Round ∷ [])
 
 pub record IsPromisedTask (task : Task) : Type 0 where
   pub plain : IsPlainTask task

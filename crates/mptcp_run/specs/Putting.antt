@@ -22,6 +22,7 @@ use Rattle.world_laws.specs.Fine.{lists_of}
 use Rattle.world_laws.specs.Outcomes.{outcome_of, output_of}
 use Rattle.world_laws.specs.Serial.{IsSerial}
 use Rattle.world_laws.specs.Worlds.{Turn, world_step, end_round, world_run, greatest, AreLawful, IsLawfulTurn}
+use Rattle.world_core.specs.RoundEnds.{round_ends, last_end, round_steps, steps_by_round, read_to_end}
 use Rattle.mptcp_run.specs.declared.report.Report.{Report}
 use Rattle.mptcp_run.specs.declared.report.Report.TheVariants as report
 use Rattle.mptcp_run.specs.declared.status.Status.{Status}
@@ -29,28 +30,6 @@ use Rattle.mptcp_run.specs.declared.status.Status.TheVariants.{Delivered, Rounds
 use Rattle.mptcp_run.specs.Script.{width_of}
 use Rattle.mptcp_run.specs.Task.{Connection, Task, Course, opened, AreTurnsOf}
 use Rattle.mptcp_run.specs.Task as way
-
--- ---- rounds
-
--- the connection at the end of each round of these turns
-abbrev pub round_ends : List Turn → Connection → List Connection
-round_ends [] w = []
-round_ends (Turn.Step actor ∷ turns) w = round_ends turns (world_step octets actor w)
-round_ends (Turn.Round ∷ turns) w = end_round w ∷ round_ends turns (end_round w)
-
--- at the end of the last one, or before all of them
-abbrev pub last_end : Connection → List Connection → Connection
-last_end w [] = w
-last_end w (v ∷ ends) = last_end v ends
-
--- the steps of a round, by stamp, then actor: those above the greatest stamp at its beginning
-abbrev pub round_steps : Connection → Connection → List Note
-round_steps w v = in_order (greatest 0 w.crew) (lists_of v.crew)
-
--- those of each round
-abbrev pub steps_by_round : Connection → List Connection → List (List Note)
-steps_by_round w [] = []
-steps_by_round w (v ∷ ends) = round_steps w v ∷ steps_by_round v ends
 
 -- ---- the log
 
@@ -133,7 +112,7 @@ ends_of task turns = round_ends turns (opened task)
 
 -- all that the reader of a side has read at the last round's end
 abbrev pub read_so_far : Side → Task → List Turn → List ℕ
-read_so_far s task turns = output_of s (last_end (opened task) (ends_of task turns))
+read_so_far s task turns = read_to_end s turns (opened task)
 
 -- the steps of each round that ended
 abbrev pub steps_so_far : Task → List Turn → List (List Note)

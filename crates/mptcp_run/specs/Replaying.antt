@@ -8,10 +8,10 @@ use Rattle.world_laws.specs.Worlds.{Turn, is_going, end_round, greatest, IsLawfu
 use Rattle.mptcp_run.specs.declared.rounds.Run.{Run}
 use Rattle.mptcp_run.specs.declared.status.Status.{Status}
 use Rattle.mptcp_run.specs.declared.status.Status.TheVariants.{Put, Memory, Log}
-use Rattle.mptcp_run.specs.Putting.{round_ends}
+use Rattle.world_core.specs.RoundEnds.{round_ends}
 use Rattle.mptcp_run.specs.Rounds.{Begins, HoldsRound, HoldsPart}
 use Rattle.mptcp_run.specs.Task.{Connection}
-use Rattle.mptcp_run.specs.Weaving.{AllGrewAbove}
+use Rattle.world_core.specs.Weaving.{AllGrewAbove}
 
 -- the round that began with that world goes on
 pub record GoesOn (last w : Connection) : Type 0 where

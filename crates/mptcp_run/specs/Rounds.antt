@@ -16,7 +16,8 @@ use Rattle.world_core.specs.Rounds.{RoundTo}
 use Rattle.mptcp_run.specs.declared.report.Report.{Report}
 use Rattle.mptcp_run.specs.declared.rounds.Run.{Run}
 use Rattle.mptcp_run.specs.Ports.{HoldsMore, IsBetween}
-use Rattle.mptcp_run.specs.Putting.{round_steps, steps_by_round, last_end, opening_of, round_text, log_text, RoundFits, RoundsFit}
+use Rattle.world_core.specs.RoundEnds.{round_steps, steps_by_round, last_end}
+use Rattle.mptcp_run.specs.Putting.{opening_of, round_text, log_text, RoundFits, RoundsFit}
 use Rattle.mptcp_run.specs.Task.{Connection, turn_of}
 
 -- a round begins: each actor knows the greatest stamp so far

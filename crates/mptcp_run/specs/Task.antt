@@ -12,7 +12,8 @@ use Rattle.world_laws.specs.Openings.{start_of, opened_world}
 use Rattle.world_laws.specs.Serial.{IsSerial}
 use Rattle.world_laws.specs.Worlds.{WorldState, Turn, AreLawful}
 use Rattle.mptcp_run.specs.Asked.{asked_in}
-use Rattle.mptcp_run.specs.Script.{parted_at, script_meaning, script_of, log_reading}
+use Rattle.world_core.specs.Script.{parted_at, script_meaning}
+use Rattle.mptcp_run.specs.Script.{script_of, log_reading}
 use Rattle.mptcp_run.specs.declared.report.Report.{Report}
 use Rattle.mptcp_run.specs.declared.report.Report.TheVariants.{Log}
 use Rattle.mptcp_run.specs.declared.status.Named.{Named}

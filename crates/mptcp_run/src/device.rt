@@ -4,8 +4,9 @@ ghost use Rattle.std.specs.Prelude.{◌≡◌, ◌≢◌, ◌≤◌, ◌<◌, �
 ghost use Rattle.outside_kit.specs.Outside.{HoldsAfter, HoldsPrefix};
 ghost use Rattle.outside_kit.specs.declared.port.Port.{Port};
 ghost use Rattle.outside_kit.specs.Calls as call;
-ghost use Rattle.mptcp_run.specs.Causes.{limit_of, IsLoadFault, IsPutFault};
-ghost use Rattle.mptcp_run.specs.Plan.{failed, Adds, AddsAll, AddsCut, AddsShort};
+ghost use Rattle.mptcp_run.specs.Calling.{Loads, Puts};
+ghost use Rattle.mptcp_run.specs.Causes.{limit_of, IsLoadFault};
+ghost use Rattle.mptcp_run.specs.Plan.{failed, Adds, AddsShort};
 
 use crate::status::{Named, Status};
 use outside_kit::{LoadFault, Outside, Port, PutFault};
@@ -32,15 +33,20 @@ pub fn load<O: Outside>(
     input: Named,
     name: &str,
 ) -> Result<Vec<u8>, Status>
-    ensures whole { IfOk result (λ bytes. IfSome (O.content outside.old name.now) (λ told. bytes.items ≡ told)) }
+    ensures whole { IfOk result
+        (λ bytes. IfSome (O.content outside.old name.now) (λ told. bytes.items ≡ told)) }
     ensures within { IfOk result (λ bytes. vec_len bytes ≤ limit_of input) }
-    ensures fault { IfErr result (IsLoadFault input (O.content outside.old name.now) (O.load_faults outside.old) (O.load_faults outside.new)) }
-    ensures counted { O.load_faults outside.old ≤ O.load_faults outside.new }
-    ensures same_contents { (other : List ℕ) → O.content outside.new other ≡ O.content outside.old other }
-    ensures same_ports { (port : Port) → O.holds outside.new port ≡ O.holds outside.old port }
-    ensures same_counts { (port : Port) → O.port_faults outside.new port ≡ O.port_faults outside.old port }
-    ensures calls { OnOk result (AddsAll (call.Load name.now ∷ []) (O.calls outside.old) (O.calls outside.new)) }
-    ensures calls_cut { OnErr result (Adds (failed (call.Load name.now) ∷ []) (O.calls outside.old) (O.calls outside.new)) }
+    ensures fault { IfErr result (IsLoadFault input (O.content outside.old name.now)
+        (O.load_faults outside.old) (O.load_faults outside.new)) }
+    ensures same_contents { (other : List ℕ) →
+        O.content outside.new other ≡ O.content outside.old other }
+    ensures calls_cut { OnErr result
+        (Adds (failed (call.Load name.now) ∷ []) (O.calls outside.old) (O.calls outside.new)) }
+    ensures loads { Loads (call.Load name.now ∷ [])
+        (O.load_faults outside.old) (O.load_faults outside.new)
+        (O.port_faults outside.old) (O.port_faults outside.new)
+        (O.holds outside.old) (O.holds outside.new)
+        (O.calls outside.old) (O.calls outside.new) result }
 {
     match outside.load(alloc, name, input.limit()) {
         Ok(bytes) => Ok(bytes),
@@ -52,15 +58,15 @@ pub fn load<O: Outside>(
 
 /// Keeps what is put to the port under this name, from nothing on.
 pub fn bind<O: Outside>(outside: &mut O, port: Port, name: &str) -> Result<(), Status>
-    ensures empty { OnOk result (HoldsAfter (O.holds outside.old port) (O.holds outside.new port) (λ _. [])) }
+    ensures empty { OnOk result
+        (HoldsAfter (O.holds outside.old port) (O.holds outside.new port) (λ _. [])) }
     ensures err { OnErr result (O.holds outside.new port ≡ O.holds outside.old port) }
-    ensures fault { IfErr result (IsPutFault port (O.port_faults outside.old port) (O.port_faults outside.new port)) }
-    ensures counted { O.port_faults outside.old port ≤ O.port_faults outside.new port }
-    ensures other_ports { (other : Port) → other ≢ port → O.holds outside.new other ≡ O.holds outside.old other }
-    ensures other_counts { (other : Port) → other ≢ port → O.port_faults outside.new other ≡ O.port_faults outside.old other }
-    ensures load_counts { O.load_faults outside.new ≡ O.load_faults outside.old }
-    ensures calls { OnOk result (AddsAll (call.Bind port name.now ∷ []) (O.calls outside.old) (O.calls outside.new)) }
-    ensures calls_cut { IfErr result (λ status. AddsCut (call.Bind port name.now ∷ []) status (O.calls outside.old) (O.calls outside.new)) }
+    ensures other_ports { (other : Port) → other ≢ port →
+        O.holds outside.new other ≡ O.holds outside.old other }
+    ensures puts { Puts (call.Bind port name.now ∷ [])
+        (O.load_faults outside.old) (O.load_faults outside.new)
+        (O.port_faults outside.old) (O.port_faults outside.new)
+        (O.calls outside.old) (O.calls outside.new) result }
 {
     match outside.bind(port, name) {
         Ok(()) => Ok(()),
@@ -71,16 +77,18 @@ pub fn bind<O: Outside>(outside: &mut O, port: Port, name: &str) -> Result<(), S
 
 /// Puts a piece to the port.
 pub fn put<O: Outside>(outside: &mut O, port: Port, piece: &[u8]) -> Result<(), Status>
-    ensures ok { OnOk result (HoldsAfter (O.holds outside.old port) (O.holds outside.new port) (λ held. held ++ piece.now)) }
-    ensures err { OnErr result (HoldsPrefix (O.holds outside.old port) (O.holds outside.new port) piece.now) }
-    ensures fault { IfErr result (IsPutFault port (O.port_faults outside.old port) (O.port_faults outside.new port)) }
-    ensures counted { O.port_faults outside.old port ≤ O.port_faults outside.new port }
-    ensures other_ports { (other : Port) → other ≢ port → O.holds outside.new other ≡ O.holds outside.old other }
-    ensures other_counts { (other : Port) → other ≢ port → O.port_faults outside.new other ≡ O.port_faults outside.old other }
-    ensures load_counts { O.load_faults outside.new ≡ O.load_faults outside.old }
-    ensures calls { OnOk result (AddsAll (call.Put port piece.now ∷ []) (O.calls outside.old) (O.calls outside.new)) }
-    ensures calls_cut { IfErr result (λ status. AddsCut (call.Put port piece.now ∷ []) status (O.calls outside.old) (O.calls outside.new)) }
-    ensures short { IfErr result (λ status. AddsShort (call.Put port piece.now ∷ []) status (O.calls outside.old) (O.calls outside.new)) }
+    ensures ok { OnOk result (HoldsAfter (O.holds outside.old port) (O.holds outside.new port)
+        (λ held. held ++ piece.now)) }
+    ensures err { OnErr result
+        (HoldsPrefix (O.holds outside.old port) (O.holds outside.new port) piece.now) }
+    ensures other_ports { (other : Port) → other ≢ port →
+        O.holds outside.new other ≡ O.holds outside.old other }
+    ensures short { IfErr result (λ status. AddsShort (call.Put port piece.now ∷ []) status
+        (O.calls outside.old) (O.calls outside.new)) }
+    ensures puts { Puts (call.Put port piece.now ∷ [])
+        (O.load_faults outside.old) (O.load_faults outside.new)
+        (O.port_faults outside.old) (O.port_faults outside.new)
+        (O.calls outside.old) (O.calls outside.new) result }
 {
     match outside.put(port, piece) {
         Ok(()) => Ok(()),

@@ -2,25 +2,25 @@
 
 ghost use Rattle.std.specs.List.{list_any};
 ghost use Rattle.std.specs.Prelude.{◌≡◌, ◌≤◌, ℕ, false, length, List, [], ◌∷◌, Ok, IfOk, IfErr, IfSome, OnOk, OnErr, vec_len};
-ghost use Rattle.outside_kit.specs.declared.port.Port.{Port};
 ghost use Rattle.link_script.specs.Scripts.{HasRanges};
 ghost use Rattle.run_words.specs.Lines.{replay, shown};
 ghost use Rattle.world_laws.specs.PlainScripts.{alters_payload};
+ghost use Rattle.mptcp_run.specs.Calling.{Loads};
 ghost use Rattle.mptcp_run.specs.declared.status.Named.TheVariants as named;
 ghost use Rattle.mptcp_run.specs.Causes.{IsLoadFault, IsScriptFault};
 ghost use Rattle.mptcp_run.specs.Inputs.{IsWithinLimit, IsLoadsFault, AreFirstWithinLimits, IsInputFault, IsReplayInputFault};
 ghost use Rattle.outside_kit.specs.Calls as call;
-ghost use Rattle.mptcp_run.specs.Plan.{failed, Adds, AddsAll, first_loads, loads_of};
+ghost use Rattle.mptcp_run.specs.Plan.{failed, Adds, first_loads, loads_of};
 ghost use Rattle.mptcp_run.specs.Adding.{LoadsAdd, InputAdds};
 ghost use Rattle.mptcp_run.specs.Promised.{IsPlainInput, EndsWithRound};
 ghost use Rattle.mptcp_run.specs.Rounds.{all_turns};
 ghost use Rattle.mptcp_run.specs.Task.{AreWithinLimits, opening_count};
 ghost use Rattle.mptcp_run.specs.Task as course;
-ghost use Rattle.mptcp_run.specs.Script.{script_meaning, log_reading};
+ghost use Rattle.world_core.specs.Script.{script_meaning};
+ghost use Rattle.mptcp_run.specs.Script.{log_reading};
 
 use crate::device::load;
 use crate::order::{opening_count, read_order};
-use crate::script::read_script;
 use crate::status::{Named, Status};
 use link_script::ScriptFault;
 use outside_kit::Outside;
@@ -28,7 +28,7 @@ use pipe_model::Text;
 use run_log::Turn;
 use run_words::CommandLine;
 use std::alloc::Global;
-use world_core::Input;
+use world_core::{Input, read_script};
 
 /// The contents that every run loads, each within its limit.
 #[derive(Debug, Drop)]
@@ -47,20 +47,27 @@ pub fn load_contents<O: Outside>(
     outside: &mut O,
     line: &CommandLine<'_>,
 ) -> Result<Contents, Status>
-    ensures script { IfOk result (λ contents. IfSome (O.content outside.old line.now.script.now) (λ told. contents.script.items ≡ told)) }
-    ensures file_a { IfOk result (λ contents. IfSome (O.content outside.old line.now.file_a.now) (λ told. contents.file_a.items ≡ told)) }
-    ensures file_b { IfOk result (λ contents. IfSome (O.content outside.old line.now.file_b.now) (λ told. contents.file_b.items ≡ told)) }
+    ensures script { IfOk result (λ contents. IfSome (O.content outside.old line.now.script.now)
+        (λ told. contents.script.items ≡ told)) }
+    ensures file_a { IfOk result (λ contents. IfSome (O.content outside.old line.now.file_a.now)
+        (λ told. contents.file_a.items ≡ told)) }
+    ensures file_b { IfOk result (λ contents. IfSome (O.content outside.old line.now.file_b.now)
+        (λ told. contents.file_b.items ≡ told)) }
     ensures script_within { IfOk result (λ contents. vec_len contents.script ≤ 65536) }
     ensures file_a_within { IfOk result (λ contents. length contents.file_a.items ≤ 16777216) }
     ensures file_b_within { IfOk result (λ contents. length contents.file_b.items ≤ 16777216) }
     ensures within { OnOk result (AreFirstWithinLimits (O.content outside.old) (shown line.now)) }
-    ensures fault { IfErr result (IsLoadsFault (O.content outside.old) (shown line.now) (O.load_faults outside.old) (O.load_faults outside.new)) }
-    ensures counted { O.load_faults outside.old ≤ O.load_faults outside.new }
-    ensures same_contents { (other : List ℕ) → O.content outside.new other ≡ O.content outside.old other }
-    ensures same_ports { (port : Port) → O.holds outside.new port ≡ O.holds outside.old port }
-    ensures same_counts { (port : Port) → O.port_faults outside.new port ≡ O.port_faults outside.old port }
-    ensures calls { OnOk result (AddsAll (first_loads (shown line.now)) (O.calls outside.old) (O.calls outside.new)) }
-    ensures calls_cut { IfErr result (LoadsAdd (shown line.now) (first_loads (shown line.now)) (O.calls outside.old) (O.calls outside.new)) }
+    ensures fault { IfErr result (IsLoadsFault (O.content outside.old) (shown line.now)
+        (O.load_faults outside.old) (O.load_faults outside.new)) }
+    ensures same_contents { (other : List ℕ) →
+        O.content outside.new other ≡ O.content outside.old other }
+    ensures calls_cut { IfErr result (LoadsAdd (shown line.now) (first_loads (shown line.now))
+        (O.calls outside.old) (O.calls outside.new)) }
+    ensures loads { Loads (first_loads (shown line.now))
+        (O.load_faults outside.old) (O.load_faults outside.new)
+        (O.port_faults outside.old) (O.port_faults outside.new)
+        (O.holds outside.old) (O.holds outside.new)
+        (O.calls outside.old) (O.calls outside.new) result }
 {
     let script = load(alloc, outside, Named::Script, line.script)?;
     let file_a = load(alloc, outside, Named::FileA, line.file_a)?;
@@ -81,15 +88,21 @@ pub fn load_order<O: Outside>(
 ) -> Result<Vec<u8>, Status>
     requires named { (shown line.now).work ≡ replay order.now }
     requires before { AreFirstWithinLimits (O.content outside.old) (shown line.now) }
-    ensures whole { IfOk result (λ log. IfSome (O.content outside.old order.now) (λ told. log.items ≡ told)) }
-    ensures within { OnOk result (IsWithinLimit (O.content outside.old) (shown line.now) named.Order) }
-    ensures fault { IfErr result (IsLoadsFault (O.content outside.old) (shown line.now) (O.load_faults outside.old) (O.load_faults outside.new)) }
-    ensures counted { O.load_faults outside.old ≤ O.load_faults outside.new }
-    ensures same_ports { (port : Port) → O.holds outside.new port ≡ O.holds outside.old port }
-    ensures same_counts { (port : Port) → O.port_faults outside.new port ≡ O.port_faults outside.old port }
-    ensures named { IfErr result (IsLoadFault named.Order (O.content outside.old order.now) (O.load_faults outside.old) (O.load_faults outside.new)) }
-    ensures calls { OnOk result (AddsAll (call.Load order.now ∷ []) (O.calls outside.old) (O.calls outside.new)) }
-    ensures calls_cut { OnErr result (Adds (failed (call.Load order.now) ∷ []) (O.calls outside.old) (O.calls outside.new)) }
+    ensures whole { IfOk result
+        (λ log. IfSome (O.content outside.old order.now) (λ told. log.items ≡ told)) }
+    ensures within { OnOk result
+        (IsWithinLimit (O.content outside.old) (shown line.now) named.Order) }
+    ensures fault { IfErr result (IsLoadsFault (O.content outside.old) (shown line.now)
+        (O.load_faults outside.old) (O.load_faults outside.new)) }
+    ensures named { IfErr result (IsLoadFault named.Order (O.content outside.old order.now)
+        (O.load_faults outside.old) (O.load_faults outside.new)) }
+    ensures calls_cut { OnErr result
+        (Adds (failed (call.Load order.now) ∷ []) (O.calls outside.old) (O.calls outside.new)) }
+    ensures loads { Loads (call.Load order.now ∷ [])
+        (O.load_faults outside.old) (O.load_faults outside.new)
+        (O.port_faults outside.old) (O.port_faults outside.new)
+        (O.holds outside.old) (O.holds outside.new)
+        (O.calls outside.old) (O.calls outside.new) result }
 {
     load(alloc, outside, Named::Order, order)
 }
@@ -122,17 +135,23 @@ pub fn load_input<O: Outside>(
     outside: &mut O,
     line: &CommandLine<'_>,
 ) -> Result<Input, Status>
-    ensures script { IfOk result (λ input. IfSome (O.content outside.old line.now.script.now) (λ told. script_meaning told ≡ Ok input.script)) }
-    ensures file_a { IfOk result (λ input. IfSome (O.content outside.old line.now.file_a.now) (λ told. input.file_a ≡ told)) }
-    ensures file_b { IfOk result (λ input. IfSome (O.content outside.old line.now.file_b.now) (λ told. input.file_b ≡ told)) }
+    ensures script { IfOk result (λ input. IfSome (O.content outside.old line.now.script.now)
+        (λ told. script_meaning told ≡ Ok input.script)) }
+    ensures file_a { IfOk result (λ input. IfSome (O.content outside.old line.now.file_a.now)
+        (λ told. input.file_a ≡ told)) }
+    ensures file_b { IfOk result (λ input. IfSome (O.content outside.old line.now.file_b.now)
+        (λ told. input.file_b ≡ told)) }
     ensures plain { IfOk result IsPlainInput }
     ensures within { OnOk result (AreFirstWithinLimits (O.content outside.old) (shown line.now)) }
-    ensures fault { IfErr result (IsInputFault (O.content outside.old) (shown line.now) (O.load_faults outside.old) (O.load_faults outside.new)) }
-    ensures counted { O.load_faults outside.old ≤ O.load_faults outside.new }
-    ensures same_ports { (port : Port) → O.holds outside.new port ≡ O.holds outside.old port }
-    ensures same_counts { (port : Port) → O.port_faults outside.new port ≡ O.port_faults outside.old port }
-    ensures calls { OnOk result (AddsAll (first_loads (shown line.now)) (O.calls outside.old) (O.calls outside.new)) }
-    ensures calls_cut { IfErr result (InputAdds (shown line.now) (first_loads (shown line.now)) (O.calls outside.old) (O.calls outside.new)) }
+    ensures fault { IfErr result (IsInputFault (O.content outside.old) (shown line.now)
+        (O.load_faults outside.old) (O.load_faults outside.new)) }
+    ensures calls_cut { IfErr result (InputAdds (shown line.now) (first_loads (shown line.now))
+        (O.calls outside.old) (O.calls outside.new)) }
+    ensures loads { Loads (first_loads (shown line.now))
+        (O.load_faults outside.old) (O.load_faults outside.new)
+        (O.port_faults outside.old) (O.port_faults outside.new)
+        (O.holds outside.old) (O.holds outside.new)
+        (O.calls outside.old) (O.calls outside.new) result }
 {
     let contents = load_contents(alloc, outside, line)?;
     input_of(alloc, contents)
@@ -156,22 +175,31 @@ pub fn load_replay<O: Outside>(
     order: &str,
 ) -> Result<Replay, Status>
     requires named { (shown line.now).work ≡ replay order.now }
-    ensures script { IfOk result (λ replay. IfSome (O.content outside.old line.now.script.now) (λ told. script_meaning told ≡ Ok replay.input.script)) }
-    ensures file_a { IfOk result (λ replay. IfSome (O.content outside.old line.now.file_a.now) (λ told. replay.input.file_a ≡ told)) }
-    ensures file_b { IfOk result (λ replay. IfSome (O.content outside.old line.now.file_b.now) (λ told. replay.input.file_b ≡ told)) }
-    ensures turns { IfOk result (λ replay. IfSome (O.content outside.old order.now) (λ told. log_reading replay.input.script told ≡ Ok replay.turns.items)) }
-    ensures lines { IfOk result (λ replay. IfSome (O.content outside.old order.now) (λ told. replay.lines ≡ opening_count told)) }
+    ensures script { IfOk result (λ replay. IfSome (O.content outside.old line.now.script.now)
+        (λ told. script_meaning told ≡ Ok replay.input.script)) }
+    ensures file_a { IfOk result (λ replay. IfSome (O.content outside.old line.now.file_a.now)
+        (λ told. replay.input.file_a ≡ told)) }
+    ensures file_b { IfOk result (λ replay. IfSome (O.content outside.old line.now.file_b.now)
+        (λ told. replay.input.file_b ≡ told)) }
+    ensures turns { IfOk result (λ replay. IfSome (O.content outside.old order.now)
+        (λ told. log_reading replay.input.script told ≡ Ok replay.turns.items)) }
+    ensures lines { IfOk result (λ replay. IfSome (O.content outside.old order.now)
+        (λ told. replay.lines ≡ opening_count told)) }
     ensures few { IfOk result (λ replay. replay.lines ≤ 3) }
     // The last turn of a log is the end of a round.
-    ensures ends { IfOk result (λ replay. EndsWithRound (course.told (all_turns replay.turns.items))) }
+    ensures ends { IfOk result
+        (λ replay. EndsWithRound (course.told (all_turns replay.turns.items))) }
     ensures plain { IfOk result (λ replay. IsPlainInput replay.input) }
     ensures within { OnOk result (AreWithinLimits (O.content outside.old) (shown line.now)) }
-    ensures fault { IfErr result (IsReplayInputFault (O.content outside.old) (shown line.now) (O.load_faults outside.old) (O.load_faults outside.new)) }
-    ensures counted { O.load_faults outside.old ≤ O.load_faults outside.new }
-    ensures same_ports { (port : Port) → O.holds outside.new port ≡ O.holds outside.old port }
-    ensures same_counts { (port : Port) → O.port_faults outside.new port ≡ O.port_faults outside.old port }
-    ensures calls { OnOk result (AddsAll (loads_of (shown line.now)) (O.calls outside.old) (O.calls outside.new)) }
-    ensures calls_cut { IfErr result (InputAdds (shown line.now) (loads_of (shown line.now)) (O.calls outside.old) (O.calls outside.new)) }
+    ensures fault { IfErr result (IsReplayInputFault (O.content outside.old) (shown line.now)
+        (O.load_faults outside.old) (O.load_faults outside.new)) }
+    ensures calls_cut { IfErr result (InputAdds (shown line.now) (loads_of (shown line.now))
+        (O.calls outside.old) (O.calls outside.new)) }
+    ensures loads { Loads (loads_of (shown line.now))
+        (O.load_faults outside.old) (O.load_faults outside.new)
+        (O.port_faults outside.old) (O.port_faults outside.new)
+        (O.holds outside.old) (O.holds outside.new)
+        (O.calls outside.old) (O.calls outside.new) result }
 {
     let contents = load_contents(alloc, outside, line)?;
     let log = load_order(alloc, outside, line, order)?;

@@ -26,12 +26,13 @@ pub fn loaded_tasks_are_plain()
     ensures { LoadedTasksArePlain }
 {}
 
-/// A law: where a run of at least one round over at most sixteen paths, which keeps a log, came to its own end, what its log grew by is read as a log. Its turns, those of the
-/// steps in their order, are lawful from the opening on, and drive the connection to the same end; a run of these turns has the same
-/// status, and leaves the same ports, the log among them (`told`).
+/// A law: where a run of at least one round over at most sixteen paths, which keeps a log, came to
+/// its own end, what its log grew by is read as a log. Its turns, those of the steps in their order,
+/// are lawful from the opening on, and drive the connection to the same end; a run of these turns
+/// has the same status, and leaves the same ports, the log among them (`told`).
 ///
-/// Two runs of one task that came to their own ends have one status, and put the same to each port; so a `replay` of that log
-/// comes to the same (`agree`).
+/// Two runs of one task that came to their own ends have one status, and put the same to each port;
+/// so a `replay` of that log comes to the same (`agree`).
 pub fn logs_tell_their_runs()
     ensures told { WholeRunsAreTold }
     ensures agree { WholeRunsAgree }

@@ -12,11 +12,9 @@ mod readers;
 mod replay;
 mod report;
 mod rounds;
-mod script;
 mod serial;
 mod status;
 mod top_call;
-mod weaving;
 
 pub use laws::{
     loaded_tasks_are_plain, logs_tell_their_runs, plain_runs_keep_their_word, valid_inputs_are_run,

@@ -6,11 +6,11 @@ ghost use Rattle.mptcp_run.specs.Causes.{IsFormFault};
 ghost use Rattle.mptcp_run.specs.Script.{actors_of, width_of, log_reading};
 ghost use Rattle.mptcp_run.specs.Task.{opening_count};
 
-use crate::script::split_at_first;
 use crate::status::Status;
 use link_script::Script;
 use run_log::{LogFault, Turn, read_log};
 use std::alloc::Global;
+use world_core::split_at_first;
 
 /// The first line of a log of the format that names no width.
 const OLD_FORMAT: &[u8] = b"mptcp-log 1";

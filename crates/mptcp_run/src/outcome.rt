@@ -4,8 +4,8 @@ ghost use Rattle.std.specs.Prelude.{◌≡◌, ◌≢◌, ◌++◌, [], ◌∷�
 ghost use Rattle.outside_kit.specs.declared.port.Port.{Port};
 ghost use Rattle.outside_kit.specs.Outside.{HoldsAfter, HoldsPrefix};
 ghost use Rattle.outside_kit.specs.Calls as call;
-ghost use Rattle.mptcp_run.specs.Plan.{AddsAll, AddsShort};
-ghost use Rattle.mptcp_run.specs.Ports.{NeverFall, IsPortsFault};
+ghost use Rattle.mptcp_run.specs.Calling.{Puts};
+ghost use Rattle.mptcp_run.specs.Plan.{AddsShort};
 ghost use Rattle.mptcp_run.specs.Putting.{status_of, last_line_of};
 
 use crate::device::put;
@@ -35,14 +35,21 @@ pub fn put_last<O: Outside>(
     run: &Run,
     report: Report,
 ) -> Result<(), Status>
-    ensures ok { OnOk result (HoldsAfter (O.holds outside.old Port.Log) (O.holds outside.new Port.Log) (λ held. held ++ last_line_of report run.now.rounds run.now.world.state)) }
-    ensures err { OnErr result (HoldsPrefix (O.holds outside.old Port.Log) (O.holds outside.new Port.Log) (last_line_of report run.now.rounds run.now.world.state)) }
-    ensures fault { IfErr result (IsPortsFault (O.port_faults outside.old) (O.port_faults outside.new)) }
-    ensures counted { NeverFall (O.port_faults outside.old) (O.port_faults outside.new) }
-    ensures other_ports { (other : Port) → other ≢ Port.Log → O.holds outside.new other ≡ O.holds outside.old other }
-    ensures load_counts { O.load_faults outside.new ≡ O.load_faults outside.old }
-    ensures calls { OnOk result (AddsAll (call.Put Port.Log (last_line_of report run.now.rounds run.now.world.state) ∷ []) (O.calls outside.old) (O.calls outside.new)) }
-    ensures calls_cut { IfErr result (λ status. AddsShort (call.Put Port.Log (last_line_of report run.now.rounds run.now.world.state) ∷ []) status (O.calls outside.old) (O.calls outside.new)) }
+    ensures ok { OnOk result (HoldsAfter (O.holds outside.old Port.Log)
+        (O.holds outside.new Port.Log)
+        (λ held. held ++ last_line_of report run.now.rounds run.now.world.state)) }
+    ensures err { OnErr result (HoldsPrefix (O.holds outside.old Port.Log)
+        (O.holds outside.new Port.Log) (last_line_of report run.now.rounds run.now.world.state)) }
+    ensures other_ports { (other : Port) → other ≢ Port.Log →
+        O.holds outside.new other ≡ O.holds outside.old other }
+    ensures short { IfErr result (λ status. AddsShort
+        (call.Put Port.Log (last_line_of report run.now.rounds run.now.world.state) ∷ [])
+        status (O.calls outside.old) (O.calls outside.new)) }
+    ensures puts { Puts
+        (call.Put Port.Log (last_line_of report run.now.rounds run.now.world.state) ∷ [])
+        (O.load_faults outside.old) (O.load_faults outside.new)
+        (O.port_faults outside.old) (O.port_faults outside.new)
+        (O.calls outside.old) (O.calls outside.new) result }
 {
     match last_line(alloc, run, report) {
         Ok(line) => put(outside, Port::Log, line.as_bytes()),

@@ -1,16 +1,14 @@
 //! The steps of a log, in its order.
 
-ghost use Rattle.std.specs.Prelude.{◌≡◌, ◌+◌, ◌-◌, ◌^◌, ◌≤◌, ◌<◌, length, true, IfErr, OnOk, OnErr};
-ghost use Rattle.outside_kit.specs.declared.port.Port.{Port};
+ghost use Rattle.std.specs.Prelude.{◌≡◌, ◌+◌, ◌-◌, ◌^◌, ◌≤◌, ◌<◌, length, true, IfErr, OnOk};
 ghost use Rattle.path_core.specs.Octets.{octets};
 ghost use Rattle.world_core.specs.Kept.{standing};
 ghost use Rattle.world_laws.specs.Worlds.{is_going, world_step, IsLawfulTurn, after_turn};
-ghost use Rattle.mptcp_run.specs.Adding.{turn_puts, TurnEnds};
+ghost use Rattle.mptcp_run.specs.Calling.{OnlyPuts};
+ghost use Rattle.mptcp_run.specs.Making.{TurnMade};
 ghost use Rattle.mptcp_run.specs.Courses.{CourseMade, LogStops};
-ghost use Rattle.mptcp_run.specs.Plan.{AddsAll};
-ghost use Rattle.mptcp_run.specs.Ports.{NeverFall};
 ghost use Rattle.mptcp_run.specs.Rounds.{AtRound, all_turns};
-ghost use Rattle.mptcp_run.specs.Replaying.{UnderWay, StepFault, TurnHolds, TurnFault, last_after, rounds_after, round_turn, IsReplayFault};
+ghost use Rattle.mptcp_run.specs.Replaying.{UnderWay, StepFault, rounds_after, round_turn, IsReplayFault};
 ghost use Rattle.mptcp_run.specs.Task.{Connection, turn_of};
 ghost use Rattle.mptcp_run.specs.Task as course;
 
@@ -43,18 +41,17 @@ fn end_round<O: Outside>(
 ) -> Result<(), Status>
     requires few { run.old.rounds < 2 ^ 64 - 1 }
     requires made { length run.old.made.items ≡ length run.old.world.state.crew }
-    ensures ok { OnOk result (run.new.world ≡ standing (after_turn octets round_turn run.old.world.state)) }
+    ensures ok { OnOk result
+        (run.new.world ≡ standing (after_turn octets round_turn run.old.world.state)) }
     ensures over { OnOk result (IsLawfulTurn round_turn run.old.world.state) }
-    ensures ports { (last : Connection) → UnderWay last run.old → OnOk result (TurnHolds run.old.opening run.old.rounds round_turn last run.old.world.state (O.holds outside.old) (O.holds outside.new)) }
-    ensures under { (last : Connection) → UnderWay last run.old → OnOk result (UnderWay (last_after round_turn last run.old.world.state) run.new) }
-    ensures fault { (last : Connection) → UnderWay last run.old → IfErr result (TurnFault run.old.opening run.old.rounds round_turn last run.old.world.state line (O.holds outside.old) (O.holds outside.new)) }
     ensures rounds { OnOk result (run.new.rounds ≡ rounds_after round_turn run.old.rounds) }
     ensures opening { run.new.opening ≡ run.old.opening }
-    ensures cause { IfErr result (IsReplayFault (O.port_faults outside.old) (O.port_faults outside.new)) }
-    ensures counted { NeverFall (O.port_faults outside.old) (O.port_faults outside.new) }
-    ensures load_counts { O.load_faults outside.new ≡ O.load_faults outside.old }
-    ensures calls { (last : Connection) → UnderWay last run.old → OnOk result (AddsAll (turn_puts run.old.opening run.old.rounds round_turn last run.old.world.state) (O.calls outside.old) (O.calls outside.new)) }
-    ensures calls_cut { (last : Connection) → UnderWay last run.old → IfErr result (TurnEnds run.old.opening run.old.rounds round_turn last run.old.world.state (O.calls outside.old) (O.calls outside.new)) }
+    ensures turn { (last : Connection) → UnderWay last run.old →
+        TurnMade run.old.opening run.old.rounds round_turn last run.old.world.state line run.new
+        (O.load_faults outside.old) (O.load_faults outside.new)
+        (O.port_faults outside.old) (O.port_faults outside.new)
+        (O.holds outside.old) (O.holds outside.new)
+        (O.calls outside.old) (O.calls outside.new) result }
 {
     if !run.world.end_round() {
         return Err(Status::Log { line });
@@ -72,18 +69,17 @@ fn make_turn<O: Outside>(
 ) -> Result<(), Status>
     requires few { run.old.rounds < 2 ^ 64 - 1 }
     requires made { length run.old.made.items ≡ length run.old.world.state.crew }
-    ensures ok { OnOk result (run.new.world ≡ standing (after_turn octets (turn_of turn) run.old.world.state)) }
+    ensures ok { OnOk result
+        (run.new.world ≡ standing (after_turn octets (turn_of turn) run.old.world.state)) }
     ensures lawful { OnOk result (IsLawfulTurn (turn_of turn) run.old.world.state) }
-    ensures ports { (last : Connection) → UnderWay last run.old → OnOk result (TurnHolds run.old.opening run.old.rounds (turn_of turn) last run.old.world.state (O.holds outside.old) (O.holds outside.new)) }
-    ensures under { (last : Connection) → UnderWay last run.old → OnOk result (UnderWay (last_after (turn_of turn) last run.old.world.state) run.new) }
-    ensures fault { (last : Connection) → UnderWay last run.old → IfErr result (TurnFault run.old.opening run.old.rounds (turn_of turn) last run.old.world.state line (O.holds outside.old) (O.holds outside.new)) }
     ensures rounds { OnOk result (run.new.rounds ≡ rounds_after (turn_of turn) run.old.rounds) }
     ensures opening { run.new.opening ≡ run.old.opening }
-    ensures cause { IfErr result (IsReplayFault (O.port_faults outside.old) (O.port_faults outside.new)) }
-    ensures counted { NeverFall (O.port_faults outside.old) (O.port_faults outside.new) }
-    ensures load_counts { O.load_faults outside.new ≡ O.load_faults outside.old }
-    ensures calls { (last : Connection) → UnderWay last run.old → OnOk result (AddsAll (turn_puts run.old.opening run.old.rounds (turn_of turn) last run.old.world.state) (O.calls outside.old) (O.calls outside.new)) }
-    ensures calls_cut { (last : Connection) → UnderWay last run.old → IfErr result (TurnEnds run.old.opening run.old.rounds (turn_of turn) last run.old.world.state (O.calls outside.old) (O.calls outside.new)) }
+    ensures turn { (last : Connection) → UnderWay last run.old →
+        TurnMade run.old.opening run.old.rounds (turn_of turn) last run.old.world.state line run.new
+        (O.load_faults outside.old) (O.load_faults outside.new)
+        (O.port_faults outside.old) (O.port_faults outside.new)
+        (O.holds outside.old) (O.holds outside.new)
+        (O.calls outside.old) (O.calls outside.new) result }
 {
     match turn {
         Turn::Step(actor) => make_step(&mut run.world, actor, line),
@@ -105,12 +101,14 @@ pub fn make_turns<O: Outside>(
     ensures ok { OnOk result (CourseMade (course.told (all_turns order.now)) run.old.opening
         run.old.world.state run.new.world.state (O.holds outside.old) (O.holds outside.new)
         (O.calls outside.old) (O.calls outside.new)) }
-    ensures stop { IfErr result (LogStops (all_turns order.now) lines run.old.opening run.old.world.state
-        (O.holds outside.old) (O.holds outside.new) (O.calls outside.old) (O.calls outside.new)) }
+    ensures stop { IfErr result (LogStops (all_turns order.now) lines
+        run.old.opening run.old.world.state (O.holds outside.old) (O.holds outside.new)
+        (O.calls outside.old) (O.calls outside.new)) }
     ensures cause { IfErr result
         (IsReplayFault (O.port_faults outside.old) (O.port_faults outside.new)) }
-    ensures counted { NeverFall (O.port_faults outside.old) (O.port_faults outside.new) }
-    ensures load_counts { O.load_faults outside.new ≡ O.load_faults outside.old }
+    ensures only { OnlyPuts
+        (O.load_faults outside.old) (O.load_faults outside.new)
+        (O.port_faults outside.old) (O.port_faults outside.new) }
 {
     let mut line = lines;
     for turn in order {

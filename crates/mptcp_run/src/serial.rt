@@ -1,14 +1,14 @@
 //! Rounds in which the actors take whole turns, one after the other.
 
-ghost use Rattle.std.specs.Prelude.{◌≡◌, ◌+◌, ◌-◌, ◌^◌, ◌<◌, length, IfErr, OnOk, OnErr};
+ghost use Rattle.std.specs.Prelude.{◌≡◌, ◌+◌, ◌-◌, ◌^◌, ◌<◌, length, IfErr, OnOk};
 ghost use Rattle.path_core.specs.Octets.{octets};
 ghost use Rattle.world_core.specs.Rounds.{RoundTo};
-ghost use Rattle.mptcp_run.specs.Adding.{RoundAddsCut};
+ghost use Rattle.mptcp_run.specs.Calling.{OnlyPuts};
+ghost use Rattle.mptcp_run.specs.Making.{RoundMade};
 ghost use Rattle.mptcp_run.specs.Courses.{CourseMade, CourseCut};
-ghost use Rattle.mptcp_run.specs.Plan.{AddsAll, round_puts};
-ghost use Rattle.mptcp_run.specs.Ports.{NeverFall, IsPortsFault};
-ghost use Rattle.mptcp_run.specs.Putting.{round_ends};
-ghost use Rattle.mptcp_run.specs.Rounds.{AtRound, HoldsRound, RoundCut};
+ghost use Rattle.mptcp_run.specs.Ports.{IsPortsFault};
+ghost use Rattle.world_core.specs.RoundEnds.{round_ends};
+ghost use Rattle.mptcp_run.specs.Rounds.{AtRound};
 ghost use Rattle.mptcp_run.specs.Task as course;
 
 use crate::rounds::Run;
@@ -22,16 +22,14 @@ fn make_round<O: Outside>(alloc: Global, outside: &mut O, run: &mut Run) -> Resu
     requires begins { AtRound run.old }
     requires few { run.old.rounds < 2 ^ 64 - 1 }
     ensures round { OnOk result (RoundTo octets run.old.world.state run.new.world.state) }
-    ensures ok { OnOk result (HoldsRound run.old.opening run.old.rounds run.old.world.state run.new.world.state (O.holds outside.old) (O.holds outside.new)) }
-    ensures err { OnErr result (RoundCut run.old.opening run.old.rounds run.old.world.state (O.holds outside.old) (O.holds outside.new)) }
     ensures begins { OnOk result (AtRound run.new) }
     ensures rounds { OnOk result (run.new.rounds ≡ run.old.rounds + 1) }
     ensures opening { run.new.opening ≡ run.old.opening }
-    ensures fault { IfErr result (IsPortsFault (O.port_faults outside.old) (O.port_faults outside.new)) }
-    ensures counted { NeverFall (O.port_faults outside.old) (O.port_faults outside.new) }
-    ensures load_counts { O.load_faults outside.new ≡ O.load_faults outside.old }
-    ensures calls { OnOk result (AddsAll (round_puts run.old.opening run.old.rounds run.old.world.state run.new.world.state) (O.calls outside.old) (O.calls outside.new)) }
-    ensures calls_cut { IfErr result (RoundAddsCut run.old.opening run.old.rounds run.old.world.state (O.calls outside.old) (O.calls outside.new)) }
+    ensures puts { RoundMade run.old.opening run.old.rounds run.old.world.state run.new.world.state
+        (O.load_faults outside.old) (O.load_faults outside.new)
+        (O.port_faults outside.old) (O.port_faults outside.new)
+        (O.holds outside.old) (O.holds outside.new)
+        (O.calls outside.old) (O.calls outside.new) result }
 {
     match round(&mut run.world) {
         Ok(()) => run.put_round(alloc, outside),
@@ -57,8 +55,9 @@ pub fn make_rounds<O: Outside>(
         (O.holds outside.old) (O.holds outside.new) (O.calls outside.old) (O.calls outside.new)) }
     ensures fault { IfErr result
         (IsPortsFault (O.port_faults outside.old) (O.port_faults outside.new)) }
-    ensures counted { NeverFall (O.port_faults outside.old) (O.port_faults outside.new) }
-    ensures load_counts { O.load_faults outside.new ≡ O.load_faults outside.old }
+    ensures only { OnlyPuts
+        (O.load_faults outside.old) (O.load_faults outside.new)
+        (O.port_faults outside.old) (O.port_faults outside.new) }
 {
     for _round in 0..most {
         make_round(alloc, outside, run)?;

@@ -1,18 +1,19 @@
 //! The top call.
 
-ghost use Rattle.std.specs.Prelude.{◌≡◌, ◌≢◌, ◌≤◌, ◌++◌, List, [], ◌∷◌, map, IsNone, IfOk, IfErr, IfSome, OnOk, OnErr, string_bytes};
+ghost use Rattle.std.specs.Prelude.{◌≡◌, ◌≢◌, ◌≤◌, ◌++◌, [], ◌∷◌, map, IsNone, IfOk, IfErr, IfSome, OnOk, OnErr, string_bytes};
 ghost use Rattle.outside_kit.specs.declared.port.Port.{Port};
 ghost use Rattle.outside_kit.specs.Calls as call;
 ghost use Rattle.outside_kit.specs.Outside.{HoldsAfter, HoldsPrefix};
 ghost use Rattle.link_script.specs.Scripts.{HasRanges};
 ghost use Rattle.run_words.specs.Lines.{serial, replay, bench, shown};
 ghost use Rattle.world_laws.specs.Outcomes.{outcome_of};
+ghost use Rattle.mptcp_run.specs.Calling.{Puts};
 ghost use Rattle.mptcp_run.specs.Answers.{IsAnswer, IsMadeAnswer, NothingWasRun};
 ghost use Rattle.mptcp_run.specs.Asked.{AsksInRange, asked_in, if_run};
 ghost use Rattle.mptcp_run.specs.Ends.{CameToEnd, IsCut, ReplayEnds};
-ghost use Rattle.mptcp_run.specs.Made.{Bench, made_task, bench_of, bench_in};
-ghost use Rattle.mptcp_run.specs.Plan.{AddsAll, AddsCut, AddsShort, binds_of};
-ghost use Rattle.mptcp_run.specs.Ports.{NeverFall, IsPortsFault, HoldsWithin};
+ghost use Rattle.mptcp_run.specs.Made.{Bench, bench_of, bench_in};
+ghost use Rattle.mptcp_run.specs.Plan.{AddsShort, binds_of};
+ghost use Rattle.mptcp_run.specs.Ports.{IsPortsFault, HoldsWithin};
 ghost use Rattle.mptcp_run.specs.Promised.{ReadersHaveFiles};
 ghost use Rattle.mptcp_run.specs.Putting.{last_line_of, status_of};
 ghost use Rattle.mptcp_run.specs.Replaying.{IsReplayFault};
@@ -53,14 +54,10 @@ fn begin<O: Outside>(
     ensures read_by_a_err { OnErr result (HoldsWithin (Unit {0})
         (O.holds outside.old Port.ReadByA) (O.holds outside.new Port.ReadByA) [] []) }
     ensures log { O.holds outside.new Port.Log ≡ O.holds outside.old Port.Log }
-    ensures fault { IfErr result
-        (IsPortsFault (O.port_faults outside.old) (O.port_faults outside.new)) }
-    ensures counted { NeverFall (O.port_faults outside.old) (O.port_faults outside.new) }
-    ensures load_counts { O.load_faults outside.new ≡ O.load_faults outside.old }
-    ensures calls { OnOk result (AddsAll (binds_of (shown line.now))
-        (O.calls outside.old) (O.calls outside.new)) }
-    ensures calls_cut { IfErr result (λ status. AddsCut (binds_of (shown line.now)) status
-        (O.calls outside.old) (O.calls outside.new)) }
+    ensures puts { Puts (binds_of (shown line.now))
+        (O.load_faults outside.old) (O.load_faults outside.new)
+        (O.port_faults outside.old) (O.port_faults outside.new)
+        (O.calls outside.old) (O.calls outside.new) result }
 {
     match Run::open(alloc, input, report) {
         Ok(run) => match bind_readers(outside, line) {
@@ -86,18 +83,16 @@ fn end<O: Outside>(
     ensures err { OnErr result (HoldsPrefix
         (O.holds outside.old Port.Log) (O.holds outside.new Port.Log)
         (last_line_of report run.now.rounds run.now.world.state)) }
-    ensures fault { IfErr result
-        (IsPortsFault (O.port_faults outside.old) (O.port_faults outside.new)) }
-    ensures counted { NeverFall (O.port_faults outside.old) (O.port_faults outside.new) }
     ensures other_ports { (other : Port) → other ≢ Port.Log →
         O.holds outside.new other ≡ O.holds outside.old other }
-    ensures load_counts { O.load_faults outside.new ≡ O.load_faults outside.old }
-    ensures calls { OnOk result (AddsAll
+    ensures short { IfErr result (λ status. AddsShort
         (call.Put Port.Log (last_line_of report run.now.rounds run.now.world.state) ∷ [])
-        (O.calls outside.old) (O.calls outside.new)) }
-    ensures calls_cut { IfErr result (λ status. AddsShort
-        (call.Put Port.Log (last_line_of report run.now.rounds run.now.world.state) ∷ []) status
-        (O.calls outside.old) (O.calls outside.new)) }
+        status (O.calls outside.old) (O.calls outside.new)) }
+    ensures puts { Puts
+        (call.Put Port.Log (last_line_of report run.now.rounds run.now.world.state) ∷ [])
+        (O.load_faults outside.old) (O.load_faults outside.new)
+        (O.port_faults outside.old) (O.port_faults outside.new)
+        (O.calls outside.old) (O.calls outside.new) result }
 {
     put_last(alloc, outside, run, report)?;
     Ok(status_of(run.world.outcome()))

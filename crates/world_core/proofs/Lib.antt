@@ -5,3 +5,8 @@ mod StepMade
 mod Ending
 mod Opening
 pub mod RoundsMade
+pub mod Gathering
+pub mod Inserting
+mod ScriptLemmas
+pub mod SinceRound
+pub mod Unaltering

@@ -4,3 +4,6 @@ pub mod Steps
 pub mod Hearing
 pub mod Rounds
 pub mod AsValues
+pub mod RoundEnds
+pub mod Script
+pub mod Weaving

@@ -1,4 +1,4 @@
-use Rattle.mptcp_run.proofs.Unaltering.{run_script_is}
+use Rattle.world_core.proofs.Unaltering.{run_script_is}
 use Rattle.mptcp_run.proofs.input.input_of.Goals as goal
 
 pub returns-in-Ok-clause-unaltered : goal.returns-in-Ok-clause-unaltered

@@ -1,13 +1,16 @@
-use Rattle.std.proofs.Common.{◌∙◌, sym, ap, subst, map, length, ◌∷◌, []}
+use Rattle.std.proofs.Common.{◌∙◌, refl, sym, ap, subst, map, length, ◌∷◌, []}
 use Rattle.std.proofs.lemmas.Result.{on_ok_weaker, on_err_weaker}
 use Rattle.world_core.specs.Kept.{Kept}
 use Rattle.world_laws.specs.Fine.{lists_of}
 use Rattle.mptcp_run.specs.Plan.{AddsAll, AddsCut, round_puts}
 use Rattle.mptcp_run.specs.Rounds.{HoldsRound, HoldsPart}
-use Rattle.mptcp_run.specs.Weaving.{IsSince}
-use Rattle.mptcp_run.proofs.Turning.{end_since, end_length, under_end, put_fault, ended_parts}
+use Rattle.world_core.specs.Weaving.{IsSince}
+use Rattle.mptcp_run.proofs.Calling.{only_none}
+use Rattle.mptcp_run.proofs.Calls.{adds_none}
+use Rattle.mptcp_run.proofs.Turning.{end_since, end_length, under_end, put_fault, ended_parts, not_over}
 use Rattle.mptcp_run.proofs.PortsLemmas.{IfErr-map}
 use Rattle.mptcp_run.proofs.PutsMade.{round_cut}
+use Rattle.mptcp_run.proofs.Starting.{replay_cause}
 use Rattle.mptcp_run.proofs.replay.end_round.Goals as goal
 
 pub put_round-requires-clause-made : goal.put_round-requires-clause-made
@@ -15,46 +18,45 @@ put_round-requires-clause-made g c =
     let ended = ended_parts _ _ _ c.end_round.ensures.over c.if-not-end_round.false in
     c.requires.made ∙ sym (end_length c.args.run.now.world.state) ∙ ap (λ (k : Kept). length k.state.crew) (sym (c.end_round.ensures.next ended.0))
 
-pub returns-clause-ports : goal.returns-clause-ports
-returns-clause-ports g c last under =
-    let ended = ended_parts _ _ _ c.end_round.ensures.over c.if-not-end_round.false in
-    let is = c.end_round.ensures.next ended.0 in
-    on_ok_weaker c.put_round.result
-    (λ held. subst (λ (k : Kept). HoldsRound c.args.run.now.opening c.args.run.now.rounds last k.state (g.O.Outside.holds c.args.outside.now) (g.O.Outside.holds c.put_round.new.outside)) is held)
-    (c.put_round.ensures.ok last (subst (λ (k : Kept). IsSince last c.args.run.now.made.items k.state) (sym is) (end_since last c.args.run.now under)))
+-- a turn isn't over
+pub returns-then-not-end_round-clause-turn : goal.returns-then-not-end_round-clause-turn
+returns-then-not-end_round-clause-turn g c last under =
+    let refused = not_over _ _ _ c.end_round.ensures.over under.stands c.if-not-end_round.true in
+    record {
+      under = tt;
+      whole = tt;
+      part = (refl, (refused, λ port. refl));
+      made = tt;
+      cut = (refused, adds_none _);
+      fault = tt;
+      only = only_none _ _;
+    }
 
-pub returns-clause-under : goal.returns-clause-under
-returns-clause-under g c last under =
+pub returns-clause-turn : goal.returns-clause-turn
+returns-clause-turn g c last under =
     let ended = ended_parts _ _ _ c.end_round.ensures.over c.if-not-end_round.false in
     let is = c.end_round.ensures.next ended.0 in
-    on_ok_weaker c.put_round.result
-    (λ made. under_end last c.args.run.now c.put_round.new.self under ended.1 (c.put_round.ensures.world ∙ is) (made ∙ ap (λ (k : Kept). map length (lists_of k.state.crew)) is))
-    c.put_round.ensures.made
-
-pub returns-clause-fault : goal.returns-clause-fault
-returns-clause-fault g c last under =
-    let ended = ended_parts _ _ _ c.end_round.ensures.over c.if-not-end_round.false in
-    let is = c.end_round.ensures.next ended.0 in
-    put_fault c.args.run.now.opening c.args.run.now.rounds last c.args.run.now.world.state c.args.line (g.O.Outside.holds c.args.outside.now) (g.O.Outside.holds c.put_round.new.outside) _ _
-    c.put_round.result ended.1 c.put_round.ensures.fault
-    (on_err_weaker c.put_round.result
-    (λ part. subst (λ (k : Kept). HoldsPart c.args.run.now.opening c.args.run.now.rounds last [] (k.state ∷ []) (g.O.Outside.holds c.args.outside.now) (g.O.Outside.holds c.put_round.new.outside)) is part)
-    (c.put_round.ensures.err last (subst (λ (k : Kept). IsSince last c.args.run.now.made.items k.state) (sym is) (end_since last c.args.run.now under))))
-
-pub returns-clause-calls : goal.returns-clause-calls
-returns-clause-calls g c last under =
-    let ended = ended_parts _ _ _ c.end_round.ensures.over c.if-not-end_round.false in
-    let is = c.end_round.ensures.next ended.0 in
-    on_ok_weaker c.put_round.result
-    (λ all. subst (λ (k : Kept). AddsAll (round_puts c.args.run.now.opening c.args.run.now.rounds last k.state) (g.O.Outside.calls c.args.outside.now) (g.O.Outside.calls c.put_round.new.outside)) is all)
-    (c.put_round.ensures.calls last (subst (λ (k : Kept). IsSince last c.args.run.now.made.items k.state) (sym is) (end_since last c.args.run.now under)))
-
-pub returns-clause-calls_cut : goal.returns-clause-calls_cut
-returns-clause-calls_cut g c last under =
-    let ended = ended_parts _ _ _ c.end_round.ensures.over c.if-not-end_round.false in
-    let is = c.end_round.ensures.next ended.0 in
-    round_cut c.args.run.now.opening c.args.run.now.rounds last c.args.run.now.world.state (g.O.Outside.calls c.args.outside.now) (g.O.Outside.calls c.put_round.new.outside) _ _
-    c.put_round.result ended.1 c.put_round.ensures.fault
-    (IfErr-map c.put_round.result
-    (λ status cut. subst (λ (k : Kept). AddsCut (round_puts c.args.run.now.opening c.args.run.now.rounds last k.state) status (g.O.Outside.calls c.args.outside.now) (g.O.Outside.calls c.put_round.new.outside)) is cut)
-    (c.put_round.ensures.calls_cut last (subst (λ (k : Kept). IsSince last c.args.run.now.made.items k.state) (sym is) (end_since last c.args.run.now under))))
+    let put = c.put_round.ensures.put last (subst (λ (k : Kept). IsSince last c.args.run.now.made.items k.state) (sym is) (end_since last c.args.run.now under)) in
+    record {
+      under = on_ok_weaker c.put_round.result
+          (λ made. under_end last c.args.run.now c.put_round.new.self under ended.1 (c.put_round.ensures.world ∙ is) (made ∙ ap (λ (k : Kept). map length (lists_of k.state.crew)) is))
+          c.put_round.ensures.made;
+      whole = on_ok_weaker c.put_round.result
+          (λ held. subst (λ (k : Kept). HoldsRound c.args.run.now.opening c.args.run.now.rounds last k.state (g.O.Outside.holds c.args.outside.now) (g.O.Outside.holds c.put_round.new.outside)) is held)
+          put.whole;
+      part = put_fault c.args.run.now.opening c.args.run.now.rounds last c.args.run.now.world.state c.args.line (g.O.Outside.holds c.args.outside.now) (g.O.Outside.holds c.put_round.new.outside) _ _
+          c.put_round.result ended.1 put.puts.fault
+          (on_err_weaker c.put_round.result
+          (λ part. subst (λ (k : Kept). HoldsPart c.args.run.now.opening c.args.run.now.rounds last [] (k.state ∷ []) (g.O.Outside.holds c.args.outside.now) (g.O.Outside.holds c.put_round.new.outside)) is part)
+          put.part);
+      made = on_ok_weaker c.put_round.result
+          (λ all. subst (λ (k : Kept). AddsAll (round_puts c.args.run.now.opening c.args.run.now.rounds last k.state) (g.O.Outside.calls c.args.outside.now) (g.O.Outside.calls c.put_round.new.outside)) is all)
+          put.puts.made;
+      cut = round_cut c.args.run.now.opening c.args.run.now.rounds last c.args.run.now.world.state (g.O.Outside.calls c.args.outside.now) (g.O.Outside.calls c.put_round.new.outside) _ _
+          c.put_round.result ended.1 put.puts.fault
+          (IfErr-map c.put_round.result
+          (λ status cut. subst (λ (k : Kept). AddsCut (round_puts c.args.run.now.opening c.args.run.now.rounds last k.state) status (g.O.Outside.calls c.args.outside.now) (g.O.Outside.calls c.put_round.new.outside)) is cut)
+          put.puts.cut);
+      fault = IfErr-map c.put_round.result (λ status fault. replay_cause _ _ status fault) put.puts.fault;
+      only = put.puts.only;
+    }

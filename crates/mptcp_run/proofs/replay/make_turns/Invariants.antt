@@ -1,7 +1,7 @@
 use Rattle.std.proofs.Common.{◌≡◌, ◌≤◌, ◌+◌, drop, length}
 use Rattle.mptcp_run.specs.Plan.{AddsAll, puts_by_round}
-use Rattle.mptcp_run.specs.Putting.{round_ends}
-use Rattle.mptcp_run.specs.Ports.{NeverFall}
+use Rattle.world_core.specs.RoundEnds.{round_ends}
+use Rattle.mptcp_run.specs.Calling.{OnlyPuts}
 use Rattle.mptcp_run.specs.Replaying.{UnderWay}
 use Rattle.mptcp_run.specs.Rounds.{all_turns}
 use Rattle.mptcp_run.specs.Task.{Connection}
@@ -24,6 +24,6 @@ invariant-loop-turn g l =
       rounds : l.run.rounds ≤ l.turn-index;
       line : l.line ≡ l.lines + l.turn-index;
       few : l.turn-index ≤ length l.order;
-      counted : NeverFall (g.O.Outside.port_faults l.initial.outside) (g.O.Outside.port_faults l.outside);
-      load_counts : g.O.Outside.load_faults l.outside ≡ g.O.Outside.load_faults l.initial.outside;
+      only : OnlyPuts (g.O.Outside.load_faults l.initial.outside) (g.O.Outside.load_faults l.outside)
+          (g.O.Outside.port_faults l.initial.outside) (g.O.Outside.port_faults l.outside);
     }

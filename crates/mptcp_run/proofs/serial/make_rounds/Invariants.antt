@@ -1,5 +1,5 @@
 use Rattle.std.proofs.Common.{◌≡◌, ◌≤◌, ◌-◌}
-use Rattle.mptcp_run.specs.Ports.{NeverFall}
+use Rattle.mptcp_run.specs.Calling.{OnlyPuts}
 use Rattle.mptcp_run.specs.Rounds.{AtRound}
 use Rattle.mptcp_run.proofs.serial.make_rounds.Given as goal
 use Rattle.mptcp_run.proofs.Folding.{RoundsAdd, RoundsAddCut, RoundsPut, RoundsCut}
@@ -19,6 +19,6 @@ invariant-loop-round g l = record {
       → RoundsAdd l.initial.run.opening l.most 0 l.initial.run.world.state v (g.O.Outside.calls l.initial.outside) new;
   added_cut : (status : _) (new : _) → RoundsAddCut l.run.opening (l.most - l._round) l._round l.run.world.state (g.O.Outside.calls l.outside) new status
       → RoundsAddCut l.initial.run.opening l.most 0 l.initial.run.world.state (g.O.Outside.calls l.initial.outside) new status;
-  counted : NeverFall (g.O.Outside.port_faults l.initial.outside) (g.O.Outside.port_faults l.outside);
-  load_counts : g.O.Outside.load_faults l.outside ≡ g.O.Outside.load_faults l.initial.outside;
+  only : OnlyPuts (g.O.Outside.load_faults l.initial.outside) (g.O.Outside.load_faults l.outside)
+      (g.O.Outside.port_faults l.initial.outside) (g.O.Outside.port_faults l.outside);
 }

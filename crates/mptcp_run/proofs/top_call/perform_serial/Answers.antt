@@ -1,4 +1,4 @@
-use Rattle.std.proofs.Common.{arith}
+use Rattle.std.proofs.Common.{◌∙◌, arith}
 use Rattle.std.proofs.lemmas.Result.{err_from_is_err_and}
 use Rattle.outside_kit.specs.declared.port.Port.TheVariants.{ReadByA, ReadByB}
 use Rattle.run_words.specs.Lines.{shown}
@@ -19,7 +19,7 @@ returns-in_err-run-clause-cut g c =
     let p = err_from_is_err_and c.from_residual.result c.from_residual.ensures.1 in
     rw (p.1, p.2) (binds_short (shown c.args.line.now) task
     (g.O.Outside.holds c.args.outside.now) (g.O.Outside.holds c.begin.new.outside) (g.O.Outside.calls c.args.outside.now) (g.O.Outside.calls c.begin.new.outside)
-    c.in_err-run.field-0.0 (no_round c.args.rounds (opened task)) c.in_err-run.ensures.read_by_b_err c.in_err-run.ensures.read_by_a_err c.begin.ensures.log c.in_err-run.ensures.calls_cut)
+    c.in_err-run.field-0.0 (no_round c.args.rounds (opened task)) c.in_err-run.ensures.read_by_b_err c.in_err-run.ensures.read_by_a_err c.begin.ensures.log c.in_err-run.ensures.puts.cut)
 
 pub returns-in_err-make_rounds-clause-cut : goal.returns-in_err-make_rounds-clause-cut
 returns-in_err-make_rounds-clause-cut g c =
@@ -27,21 +27,21 @@ returns-in_err-make_rounds-clause-cut g c =
     rw (p.1, p.2) (serial_short c.args.input.now c.args.report c.in_ok-run.run' c.in_ok-run.ensures.run (shown c.args.line.now)
     (g.O.Outside.holds c.args.outside.now) (g.O.Outside.holds c.begin.new.outside) (g.O.Outside.holds c.make_rounds.new.outside)
     (record { read_by_b = c.in_ok-run.ensures.read_by_b; read_by_a = c.in_ok-run.ensures.read_by_a; log = c.begin.ensures.log })
-    (g.O.Outside.calls c.args.outside.now) (g.O.Outside.calls c.begin.new.outside) (g.O.Outside.calls c.make_rounds.new.outside) c.in_ok-run.ensures.calls
+    (g.O.Outside.calls c.args.outside.now) (g.O.Outside.calls c.begin.new.outside) (g.O.Outside.calls c.make_rounds.new.outside) c.in_ok-run.ensures.puts.made
     c.args.rounds c.in_err-make_rounds.field-0.0 c.in_err-make_rounds.ensures.cut)
 
 pub returns-in_err-make_rounds-clause-fault : goal.returns-in_err-make_rounds-clause-fault
 returns-in_err-make_rounds-clause-fault g c =
     let p = err_from_is_err_and c.from_residual-in_err-make_rounds.result c.from_residual-in_err-make_rounds.ensures.1 in
     rw (p.1, p.2) (fault_after (g.O.Outside.port_faults c.args.outside.now) (g.O.Outside.port_faults c.begin.new.outside) (g.O.Outside.port_faults c.make_rounds.new.outside)
-    c.in_err-make_rounds.field-0.0 c.begin.ensures.counted c.in_err-make_rounds.ensures.fault)
+    c.in_err-make_rounds.field-0.0 c.begin.ensures.puts.only.counted c.in_err-make_rounds.ensures.fault)
 
 pub returns-clause-fault : goal.returns-clause-fault
 returns-clause-fault g c =
     IfErr-map c.end.result
     (λ status fault. fault_after (g.O.Outside.port_faults c.args.outside.now) (g.O.Outside.port_faults c.make_rounds.new.outside) (g.O.Outside.port_faults c.end.new.outside) status
-    (λ port. omega (arith, c.begin.ensures.counted port, c.make_rounds.ensures.counted port)) fault)
-    c.end.ensures.fault
+    (λ port. let first = c.begin.ensures.puts.only.counted port in let second = c.make_rounds.ensures.only.counted port in omega (arith, first, second)) fault)
+    c.end.ensures.puts.fault
 
 pub returns-clause-ended : goal.returns-clause-ended
 returns-clause-ended g c =
@@ -49,7 +49,7 @@ returns-clause-ended g c =
     (λ status is grew told. serial_done c.args.input.now c.args.report c.in_ok-run.run' c.in_ok-run.ensures.run (shown c.args.line.now)
     (g.O.Outside.holds c.args.outside.now) (g.O.Outside.holds c.begin.new.outside) (g.O.Outside.holds c.make_rounds.new.outside)
     (record { read_by_b = c.in_ok-run.ensures.read_by_b; read_by_a = c.in_ok-run.ensures.read_by_a; log = c.begin.ensures.log })
-    (g.O.Outside.calls c.args.outside.now) (g.O.Outside.calls c.begin.new.outside) (g.O.Outside.calls c.make_rounds.new.outside) c.in_ok-run.ensures.calls
+    (g.O.Outside.calls c.args.outside.now) (g.O.Outside.calls c.begin.new.outside) (g.O.Outside.calls c.make_rounds.new.outside) c.in_ok-run.ensures.puts.made
     c.args.rounds c.make_rounds.new.run.rounds c.make_rounds.new.run.world.state status (g.O.Outside.holds c.end.new.outside) (g.O.Outside.calls c.end.new.outside)
     c.in_ok-make_rounds.ensures.ok is
     (record {
@@ -58,7 +58,7 @@ returns-clause-ended g c =
       log = grew;
     })
     told)
-    c.end.ensures.status c.end.ensures.ok c.end.ensures.calls
+    c.end.ensures.status c.end.ensures.ok c.end.ensures.puts.made
 
 pub returns-clause-cut : goal.returns-clause-cut
 returns-clause-cut g c =
@@ -66,7 +66,7 @@ returns-clause-cut g c =
     (λ status cut part. serial_line_short c.args.input.now c.args.report c.in_ok-run.run' c.in_ok-run.ensures.run (shown c.args.line.now)
     (g.O.Outside.holds c.args.outside.now) (g.O.Outside.holds c.begin.new.outside) (g.O.Outside.holds c.make_rounds.new.outside)
     (record { read_by_b = c.in_ok-run.ensures.read_by_b; read_by_a = c.in_ok-run.ensures.read_by_a; log = c.begin.ensures.log })
-    (g.O.Outside.calls c.args.outside.now) (g.O.Outside.calls c.begin.new.outside) (g.O.Outside.calls c.make_rounds.new.outside) c.in_ok-run.ensures.calls
+    (g.O.Outside.calls c.args.outside.now) (g.O.Outside.calls c.begin.new.outside) (g.O.Outside.calls c.make_rounds.new.outside) c.in_ok-run.ensures.puts.made
     c.args.rounds c.make_rounds.new.run.rounds c.make_rounds.new.run.world.state status (g.O.Outside.holds c.end.new.outside) (g.O.Outside.calls c.end.new.outside)
     c.in_ok-make_rounds.ensures.ok
     (record {
@@ -75,4 +75,17 @@ returns-clause-cut g c =
       log = part;
     })
     cut)
-    c.end.ensures.calls_cut c.end.ensures.err
+    c.end.ensures.short c.end.ensures.err
+
+pub returns-in_err-run-clause-fault : goal.returns-in_err-run-clause-fault
+returns-in_err-run-clause-fault g c =
+    let p = err_from_is_err_and c.from_residual.result c.from_residual.ensures.1 in rw (p.1, p.2) c.in_err-run.ensures.puts.fault
+
+pub returns-in_err-run-clause-load_counts : goal.returns-in_err-run-clause-load_counts
+returns-in_err-run-clause-load_counts g c = c.begin.ensures.puts.only.unloaded
+
+pub returns-in_err-make_rounds-clause-load_counts : goal.returns-in_err-make_rounds-clause-load_counts
+returns-in_err-make_rounds-clause-load_counts g c = c.make_rounds.ensures.only.unloaded ∙ c.begin.ensures.puts.only.unloaded
+
+pub returns-clause-load_counts : goal.returns-clause-load_counts
+returns-clause-load_counts g c = c.end.ensures.puts.only.unloaded ∙ c.make_rounds.ensures.only.unloaded ∙ c.begin.ensures.puts.only.unloaded

@@ -16,7 +16,7 @@ returns-in-Err g c =
     replay_input_answer (g.O.Outside.content c.args.outside.now) (shown c.args.line.now) (g.O.Outside.load_faults c.args.outside.now) (g.O.Outside.load_faults c.load_replay.new.outside)
     (g.O.Outside.port_faults c.args.outside.now) (g.O.Outside.port_faults c.load_replay.new.outside) (g.O.Outside.holds c.args.outside.now) (g.O.Outside.holds c.load_replay.new.outside)
     (g.O.Outside.calls c.args.outside.now) (g.O.Outside.calls c.load_replay.new.outside) c.args.order.now c.in-Err.status c.requires
-    (λ p. (c.load_replay.ensures.same_ports p, c.load_replay.ensures.same_counts p)) cut.fault cut.calls_cut
+    c.load_replay.ensures.loads.untouched cut.fault cut.calls_cut
 
 pub returns-in-Ok-perform_replay : goal.returns-in-Ok-perform_replay
 returns-in-Ok-perform_replay g c =
@@ -28,8 +28,8 @@ returns-in-Ok-perform_replay g c =
     (replay_task content line c.args.order.now replay.turns.items replay.input c.requires read.script read.file_a read.file_b read.turns) read.plain read.file_a read.file_b
     read.within (script_valid content line replay.input.script read.script) (replay_order content line c.args.order.now replay.turns.items replay.input.script c.requires read.script read.turns)
     refl read.ends read.ends c.in-Ok-perform_replay.status
-    (end_from (g.O.Outside.holds c.args.outside.now) (g.O.Outside.holds c.load_replay.new.outside) (g.O.Outside.holds c.perform_replay.new.outside) read.same_ports line task
-    (g.O.Outside.calls c.args.outside.now) (g.O.Outside.calls c.load_replay.new.outside) (g.O.Outside.calls c.perform_replay.new.outside) read.calls
+    (end_from (g.O.Outside.holds c.args.outside.now) (g.O.Outside.holds c.load_replay.new.outside) (g.O.Outside.holds c.perform_replay.new.outside) (λ p. (read.loads.untouched p).0) line task
+    (g.O.Outside.calls c.args.outside.now) (g.O.Outside.calls c.load_replay.new.outside) (g.O.Outside.calls c.perform_replay.new.outside) read.loads.made
     c.in-Ok-perform_replay.status c.in-Ok-perform_replay.ensures.ended)
 
 pub returns : goal.returns
@@ -43,7 +43,7 @@ returns g c =
     read.within (script_valid content line replay.input.script read.script) (replay_order content line c.args.order.now replay.turns.items replay.input.script c.requires read.script read.turns)
     c.args.order.now replay.lines c.requires read.lines c.in-Err-perform_replay.status
     (cause_after (g.O.Outside.port_faults c.args.outside.now) (g.O.Outside.port_faults c.load_replay.new.outside) (g.O.Outside.port_faults c.perform_replay.new.outside)
-    c.in-Err-perform_replay.status (λ p. let same = read.same_counts p in omega (arith, same)) c.in-Err-perform_replay.ensures.fault)
-    (replay_from (g.O.Outside.holds c.args.outside.now) (g.O.Outside.holds c.load_replay.new.outside) (g.O.Outside.holds c.perform_replay.new.outside) read.same_ports line task
-    (g.O.Outside.calls c.args.outside.now) (g.O.Outside.calls c.load_replay.new.outside) (g.O.Outside.calls c.perform_replay.new.outside) read.calls replay.lines
+    c.in-Err-perform_replay.status (λ p. let same = (read.loads.untouched p).1 in omega (arith, same)) c.in-Err-perform_replay.ensures.fault)
+    (replay_from (g.O.Outside.holds c.args.outside.now) (g.O.Outside.holds c.load_replay.new.outside) (g.O.Outside.holds c.perform_replay.new.outside) (λ p. (read.loads.untouched p).0) line task
+    (g.O.Outside.calls c.args.outside.now) (g.O.Outside.calls c.load_replay.new.outside) (g.O.Outside.calls c.perform_replay.new.outside) read.loads.made replay.lines
     c.in-Err-perform_replay.status c.in-Err-perform_replay.ensures.err)

@@ -18,7 +18,7 @@ returns-in-Err g c =
     input_answer (g.O.Outside.content c.args.outside.now) line (g.O.Outside.load_faults c.args.outside.now) (g.O.Outside.load_faults c.load_input.new.outside)
     (g.O.Outside.port_faults c.args.outside.now) (g.O.Outside.port_faults c.load_input.new.outside) (g.O.Outside.holds c.args.outside.now) (g.O.Outside.holds c.load_input.new.outside)
     (g.O.Outside.calls c.args.outside.now) (g.O.Outside.calls c.load_input.new.outside) c.args.rounds (first_loads line) c.in-Err.status c.requires.asked
-    (λ p. (c.load_input.ensures.same_ports p, c.load_input.ensures.same_counts p)) cut.fault (serial_loads line c.args.rounds c.requires.asked) cut.calls_cut
+    c.load_input.ensures.loads.untouched cut.fault (serial_loads line c.args.rounds c.requires.asked) cut.calls_cut
 
 pub returns-in-Ok-perform_serial : goal.returns-in-Ok-perform_serial
 returns-in-Ok-perform_serial g c =
@@ -30,9 +30,9 @@ returns-in-Ok-perform_serial g c =
     (serial_task content line c.args.rounds c.in-Ok.input c.requires.asked read.script read.file_a read.file_b) read.plain read.file_a read.file_b
     (serial_within content line c.args.rounds c.requires.asked read.within) (script_valid content line c.in-Ok.input.script read.script) (serial_order content line c.args.rounds c.requires.asked)
     refl (subst (λ (w : Work). AsksInRange w) c.requires.asked c.requires.in_range) tt c.in-Ok-perform_serial.status
-    (end_from (g.O.Outside.holds c.args.outside.now) (g.O.Outside.holds c.load_input.new.outside) (g.O.Outside.holds c.perform_serial.new.outside) read.same_ports line task
+    (end_from (g.O.Outside.holds c.args.outside.now) (g.O.Outside.holds c.load_input.new.outside) (g.O.Outside.holds c.perform_serial.new.outside) (λ p. (read.loads.untouched p).0) line task
     (g.O.Outside.calls c.args.outside.now) (g.O.Outside.calls c.load_input.new.outside) (g.O.Outside.calls c.perform_serial.new.outside)
-    (subst (λ plan. AddsAll plan (g.O.Outside.calls c.args.outside.now) (g.O.Outside.calls c.load_input.new.outside)) (serial_loads line c.args.rounds c.requires.asked) read.calls)
+    (subst (λ plan. AddsAll plan (g.O.Outside.calls c.args.outside.now) (g.O.Outside.calls c.load_input.new.outside)) (serial_loads line c.args.rounds c.requires.asked) read.loads.made)
     c.in-Ok-perform_serial.status c.in-Ok-perform_serial.ensures.ended)
 
 pub returns : goal.returns
@@ -46,8 +46,8 @@ returns g c =
     (serial_within content line c.args.rounds c.requires.asked read.within) (script_valid content line c.in-Ok.input.script read.script) (serial_order content line c.args.rounds c.requires.asked)
     c.in-Err-perform_serial.status
     (fault_after (g.O.Outside.port_faults c.args.outside.now) (g.O.Outside.port_faults c.load_input.new.outside) (g.O.Outside.port_faults c.perform_serial.new.outside)
-    c.in-Err-perform_serial.status (λ p. let same = read.same_counts p in omega (arith, same)) c.in-Err-perform_serial.ensures.fault)
-    (cut_from (g.O.Outside.holds c.args.outside.now) (g.O.Outside.holds c.load_input.new.outside) (g.O.Outside.holds c.perform_serial.new.outside) read.same_ports line task
+    c.in-Err-perform_serial.status (λ p. let same = (read.loads.untouched p).1 in omega (arith, same)) c.in-Err-perform_serial.ensures.fault)
+    (cut_from (g.O.Outside.holds c.args.outside.now) (g.O.Outside.holds c.load_input.new.outside) (g.O.Outside.holds c.perform_serial.new.outside) (λ p. (read.loads.untouched p).0) line task
     (g.O.Outside.calls c.args.outside.now) (g.O.Outside.calls c.load_input.new.outside) (g.O.Outside.calls c.perform_serial.new.outside)
-    (subst (λ plan. AddsAll plan (g.O.Outside.calls c.args.outside.now) (g.O.Outside.calls c.load_input.new.outside)) (serial_loads line c.args.rounds c.requires.asked) read.calls)
+    (subst (λ plan. AddsAll plan (g.O.Outside.calls c.args.outside.now) (g.O.Outside.calls c.load_input.new.outside)) (serial_loads line c.args.rounds c.requires.asked) read.loads.made)
     c.in-Err-perform_serial.status c.in-Err-perform_serial.ensures.cut)

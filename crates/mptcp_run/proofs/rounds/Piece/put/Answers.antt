@@ -1,9 +1,9 @@
-use Rattle.std.proofs.Common.{◌≡◌, ◌∙◌, ◌++◌}
+use Rattle.std.proofs.Common.{◌≡◌, ◌∙◌, ◌++◌, Err}
 use Rattle.std.proofs.lemmas.Result.{err_from_is_err_and}
 use Rattle.outside_kit.specs.declared.port.Port.TheVariants.{ReadByA, ReadByB, Log}
 use Rattle.mptcp_run.specs.Plan.{put_of}
-use Rattle.mptcp_run.proofs.Calls.{cut_then, cut_longer}
-use Rattle.mptcp_run.proofs.PortsLemmas.{OnErr-holds, IfErr-map, whole_part, after_from}
+use Rattle.mptcp_run.proofs.Calling.{puts_then, puts_longer}
+use Rattle.mptcp_run.proofs.PortsLemmas.{OnErr-holds, whole_part, after_from}
 use Rattle.mptcp_run.proofs.rounds.Piece.put.Goals as goal
 
 pub returns-in_err-put_text-2-clause-read_by_b_err : goal.returns-in_err-put_text-2-clause-read_by_b_err
@@ -22,21 +22,22 @@ returns-clause-read_by_a_err g c =
     (after_from _ _ _ (λ held. held ++ c.args.self.now.read_by_a) (c.put_text.ensures.other_ports ReadByA (λ e. let no : ReadByA ≡ ReadByB = e in cc (no))) c.in_ok-put_text-2.ensures.ok)
     (c.put_text-3.ensures.other_ports ReadByA (λ e. let no : ReadByA ≡ Log = e in cc (no))))
 
-pub returns-in_err-put_text-clause-calls_cut : goal.returns-in_err-put_text-clause-calls_cut
-returns-in_err-put_text-clause-calls_cut g c =
+pub returns-in_err-put_text-clause-puts : goal.returns-in_err-put_text-clause-puts
+returns-in_err-put_text-clause-puts g c =
     let p = err_from_is_err_and c.from_residual.result c.from_residual.ensures.1 in
-    rw (p.1, p.2) (cut_longer (put_of ReadByB c.args.self.now.read_by_b) (put_of ReadByA c.args.self.now.read_by_a ++ put_of Log c.args.self.now.lines) c.in_err-put_text.field-0.0 _ _ c.in_err-put_text.ensures.calls_cut)
+    rw (p.1, p.2) (puts_longer (put_of ReadByB c.args.self.now.read_by_b) (put_of ReadByA c.args.self.now.read_by_a ++ put_of Log c.args.self.now.lines)
+    _ _ _ _ _ _ c.in_err-put_text.field-0.0 c.in_err-put_text.ensures.puts)
 
-pub returns-in_err-put_text-2-clause-calls_cut : goal.returns-in_err-put_text-2-clause-calls_cut
-returns-in_err-put_text-2-clause-calls_cut g c =
+pub returns-in_err-put_text-2-clause-puts : goal.returns-in_err-put_text-2-clause-puts
+returns-in_err-put_text-2-clause-puts g c =
     let p = err_from_is_err_and c.from_residual-in_err-put_text-2.result c.from_residual-in_err-put_text-2.ensures.1 in
-    rw (p.1, p.2) (cut_then (put_of ReadByB c.args.self.now.read_by_b) (put_of ReadByA c.args.self.now.read_by_a ++ put_of Log c.args.self.now.lines) c.in_err-put_text-2.field-0.0 _ _ _
-    c.in_ok-put_text.ensures.calls (cut_longer (put_of ReadByA c.args.self.now.read_by_a) (put_of Log c.args.self.now.lines) c.in_err-put_text-2.field-0.0 _ _ c.in_err-put_text-2.ensures.calls_cut))
+    rw (p.1, p.2) (puts_then (put_of ReadByB c.args.self.now.read_by_b) (put_of ReadByA c.args.self.now.read_by_a ++ put_of Log c.args.self.now.lines)
+    _ _ _ _ _ _ _ _ _ _ (Err c.in_err-put_text-2.field-0.0) c.in_ok-put_text.ensures.puts
+    (puts_longer (put_of ReadByA c.args.self.now.read_by_a) (put_of Log c.args.self.now.lines) _ _ _ _ _ _ c.in_err-put_text-2.field-0.0 c.in_err-put_text-2.ensures.puts))
 
-pub returns-clause-calls_cut : goal.returns-clause-calls_cut
-returns-clause-calls_cut g c =
-    IfErr-map c.put_text-3.result
-    (λ status cut. cut_then (put_of ReadByB c.args.self.now.read_by_b) (put_of ReadByA c.args.self.now.read_by_a ++ put_of Log c.args.self.now.lines) status _ _ _ c.in_ok-put_text.ensures.calls
-    (cut_then (put_of ReadByA c.args.self.now.read_by_a) (put_of Log c.args.self.now.lines) status _ _ _ c.in_ok-put_text-2.ensures.calls
-    cut))
-    c.put_text-3.ensures.calls_cut
+pub returns-clause-puts : goal.returns-clause-puts
+returns-clause-puts g c =
+    puts_then (put_of ReadByB c.args.self.now.read_by_b) (put_of ReadByA c.args.self.now.read_by_a ++ put_of Log c.args.self.now.lines)
+    _ _ _ _ _ _ _ _ _ _ c.put_text-3.result c.in_ok-put_text.ensures.puts
+    (puts_then (put_of ReadByA c.args.self.now.read_by_a) (put_of Log c.args.self.now.lines) _ _ _ _ _ _ _ _ _ _ c.put_text-3.result
+    c.in_ok-put_text-2.ensures.puts c.put_text-3.ensures.puts)

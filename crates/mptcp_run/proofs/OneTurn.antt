@@ -1,0 +1,72 @@
+-- A turn of a log that was made, from what its step or its round's end made.
+use Rattle.std.proofs.Common.{◌≡◌, refl, sym, subst, ℕ, List, Option, Result, OnOk, IfErr, inl}
+use Rattle.std.proofs.lemmas.Result.{on_ok_weaker}
+use Rattle.outside_kit.specs.declared.port.Port.{Port}
+use Rattle.path_core.specs.Octets.{octets}
+use Rattle.run_log.specs.declared.turn.Turn as log_turn
+use Rattle.run_log.specs.declared.turn.Turn.TheVariants as logged
+use Rattle.world_core.specs.Kept.{Kept, standing}
+use Rattle.world_laws.specs.Worlds.{Turn, world_step}
+use Rattle.mptcp_run.specs.declared.rounds.Run.{Run}
+use Rattle.mptcp_run.specs.declared.status.Status.{Status}
+use Rattle.mptcp_run.specs.declared.status.Status.TheVariants.{Delivered, Rounds, NoPath, Aborted, Usage, Script, Load, Put, TooLong, Memory, Log}
+use Rattle.mptcp_run.specs.Making.{TurnMade}
+use Rattle.mptcp_run.specs.Replaying.{UnderWay, StepFault, TurnFault, IsReplayFault, round_turn}
+use Rattle.mptcp_run.specs.Task.{Connection, turn_of}
+use Rattle.mptcp_run.proofs.Calls.{Told, adds_none}
+use Rattle.mptcp_run.proofs.Calling.{only_none}
+use Rattle.mptcp_run.proofs.PortsLemmas.{OnOk-holds, IfErr-map}
+use Rattle.mptcp_run.proofs.PutsMade.{step_ends}
+use Rattle.mptcp_run.proofs.Turning.{under_step}
+
+-- a step that wasn't made, as a turn
+step_part : (opening : Option (List ℕ)) (number actor : ℕ) (last w : Connection) (line : ℕ) (o : Port → Option (List ℕ)) (status : Status)
+    → StepFault actor w line status → TurnFault opening number (Turn.Step actor) last w line o o status
+step_part opening number actor last w line o (Log at) h = (h.0, (λ going. let stopped = h.1 in cc (going, stopped), λ port. refl))
+step_part opening number actor last w line o Memory h = inl (λ port. refl)
+step_part opening number actor last w line o Delivered h = absurd h
+step_part opening number actor last w line o Rounds h = absurd h
+step_part opening number actor last w line o NoPath h = absurd h
+step_part opening number actor last w line o (Aborted reader) h = absurd h
+step_part opening number actor last w line o Usage h = absurd h
+step_part opening number actor last w line o (Script at kind) h = absurd h
+step_part opening number actor last w line o (Load named) h = absurd h
+step_part opening number actor last w line o (Put p) h = absurd h
+step_part opening number actor last w line o (TooLong named) h = absurd h
+
+step_cause : (actor : ℕ) (w : Connection) (line : ℕ) (f : Port → ℕ) (status : Status) → StepFault actor w line status → IsReplayFault f f status
+step_cause actor w line f (Log at) h = tt
+step_cause actor w line f Memory h = tt
+step_cause actor w line f Delivered h = absurd h
+step_cause actor w line f Rounds h = absurd h
+step_cause actor w line f NoPath h = absurd h
+step_cause actor w line f (Aborted reader) h = absurd h
+step_cause actor w line f Usage h = absurd h
+step_cause actor w line f (Script at kind) h = absurd h
+step_cause actor w line f (Load named) h = absurd h
+step_cause actor w line f (Put p) h = absurd h
+step_cause actor w line f (TooLong named) h = absurd h
+
+-- a step: nothing is bound, put or loaded
+pub step_made : (opening : Option (List ℕ)) (number : ℕ) (turn : log_turn.Turn) (actor : ℕ) (last : Connection) (line : ℕ) (run : Run) (world : Kept)
+    (l : ℕ) (f : Port → ℕ) (o : Port → Option (List ℕ)) (a : Told) (r : Result (Unit {0}) Status) → turn ≡ logged.Step actor → UnderWay last run
+    → OnOk r (world ≡ standing (world_step octets actor run.world.state)) → IfErr r (StepFault actor run.world.state line)
+    → TurnMade opening number (turn_of turn) last run.world.state line (record run { world = world }) l l f f o o a a r
+step_made opening number turn actor last line run world l f o a r is under ok fault =
+    subst (λ t. TurnMade opening number (turn_of t) last run.world.state line (record run { world = world }) l l f f o o a a r) (sym is)
+    (record {
+      under = on_ok_weaker r (λ made. under_step last run (record run { world = world }) actor under made refl) ok;
+      whole = OnOk-holds r _ (λ port. refl);
+      part = IfErr-map r (λ status h. step_part opening number actor last run.world.state line o status h) fault;
+      made = OnOk-holds r _ (adds_none a);
+      cut = IfErr-map r (λ status h. step_ends opening number actor last run.world.state a line status h) fault;
+      fault = IfErr-map r (λ status h. step_cause actor run.world.state line f status h) fault;
+      only = only_none l f;
+    })
+
+-- the end of a round
+pub end_made : (opening : Option (List ℕ)) (number : ℕ) (turn : log_turn.Turn) (last w : Connection) (line : ℕ) (run : Run)
+    (l m : ℕ) (f g : Port → ℕ) (o n : Port → Option (List ℕ)) (a b : Told) (r : Result (Unit {0}) Status) → turn ≡ logged.Round
+    → TurnMade opening number round_turn last w line run l m f g o n a b r → TurnMade opening number (turn_of turn) last w line run l m f g o n a b r
+end_made opening number turn last w line run l m f g o n a b r is made =
+    subst (λ t. TurnMade opening number (turn_of t) last w line run l m f g o n a b r) (sym is) made

@@ -1,6 +1,0 @@
-use Rattle.std.proofs.Common.{◌≡◌, ◌++◌, drop}
-use Rattle.world_laws.specs.Outcomes.{read_by}
-use Rattle.mptcp_run.proofs.rounds.read_by.Given as goal
-
-abbrev pub invariant-loop-note : goal.invariant-loop-note
-invariant-loop-note l = l.text ++ read_by (drop l.note-index l.notes) ≡ read_by l.notes
