@@ -15,8 +15,8 @@ ghost use Rattle.path_core.specs.Replies.{IsSendable, IsGrantSendable, IsGrantFi
 ghost use Rattle.path_core.specs.State.{end_at, with_end, goes_on, left};
 
 use crate::end::PathEnd;
-use crate::modes::Modes;
 use crate::machine::Machine;
+use crate::modes::Modes;
 use crate::profile::Profile;
 use crate::segment_kind::SegmentKind;
 use actor_desk::{Ask, Reply};

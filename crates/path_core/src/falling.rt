@@ -8,8 +8,8 @@ ghost use Rattle.path_core.specs.Falling.{fell_ask, mode_in, after_verdict, is_f
 ghost use Rattle.path_core.specs.State.{end_at, with_agenda};
 
 use crate::end::PathEnd;
-use crate::modes::Modes;
 use crate::machine::Machine;
+use crate::modes::Modes;
 use actor_desk::{Ask, Reply};
 use control_book::{ControlCall, ControlReply};
 use fallback_state::{Event, Mode, Verdict};

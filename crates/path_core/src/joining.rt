@@ -10,8 +10,8 @@ ghost use Rattle.path_core.specs.Octets.{octets};
 
 use crate::end::PathEnd;
 use crate::joins::join_asked;
-use crate::modes::Modes;
 use crate::machine::Machine;
+use crate::modes::Modes;
 use crate::segment_kind::SegmentKind;
 use actor_desk::{Ask, LocalStep, Reply};
 use control_book::{ControlCall, ControlReply};

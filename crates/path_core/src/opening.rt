@@ -8,8 +8,8 @@ ghost use Rattle.path_core.specs.Opening.{keys_in, is_plain_syn, is_opened_by_ke
 ghost use Rattle.path_core.specs.State.{end_at, goes_on, left};
 
 use crate::end::PathEnd;
-use crate::modes::Modes;
 use crate::machine::Machine;
+use crate::modes::Modes;
 use crate::segment_kind::SegmentKind;
 use crate::treated::Treated;
 use actor_desk::{Ask, LocalStep, Reply};

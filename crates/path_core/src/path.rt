@@ -65,7 +65,9 @@ impl Path {
     pub(crate) fn turn_ends(&self)
         ensures turn { Ends octets self.now }
         ensures round { Ends octets (next_round self.now) }
-    {}
+    {
+        let _machine = &self.machine;
+    }
 
     /// The number of the path, below 16.
     pub fn number(&self) -> u8

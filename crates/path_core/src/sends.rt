@@ -13,8 +13,8 @@ ghost use Rattle.path_core.specs.State.{end_at, left, with_agenda};
 ghost use Rattle.path_core.specs.Steps.{passable, settles_down};
 
 use crate::end::PathEnd;
-use crate::modes::Modes;
 use crate::machine::Machine;
+use crate::modes::Modes;
 use crate::said::Said;
 use crate::segment_kind::SegmentKind;
 use actor_desk::{Ask, LocalStep};

@@ -9,8 +9,8 @@ ghost use Rattle.path_core.specs.Standing.{look_ask, modes_told, answered_look, 
 ghost use Rattle.path_core.specs.State.{left};
 
 use crate::end::PathEnd;
-use crate::modes::Modes;
 use crate::machine::Machine;
+use crate::modes::Modes;
 use crate::profile::Profile;
 use crate::segment_kind::SegmentKind;
 use crate::sends::window_told;

@@ -13,8 +13,8 @@ ghost use Rattle.path_core.specs.Treating.{lacks_data_ack, breaks_by_ack, plain_
 
 use crate::counts::one_more;
 use crate::end::PathEnd;
-use crate::passing::is_fin_set;
 use crate::machine::Machine;
+use crate::passing::is_fin_set;
 use crate::profile::Profile;
 use actor_desk::{Ask, LocalStep, Reply};
 use fallback_state::{Event, Mode};

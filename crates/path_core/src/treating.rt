@@ -14,8 +14,8 @@ ghost use Rattle.path_core.specs.Falling.{after_fell, fell_duties};
 ghost use Rattle.path_core.specs.Treating.{counts, is_clash, mapping_stands, heard_stands, mapping_ask, heard_ask, is_acked, told_next, acked_in, with_acked, answered_ack, answered_mapping, with_fin, answered_heard, after_dss, heard_passed, item_stands, item_ask, answered_item, item_passed, item_of, is_dropped, is_not_kept, after_keep};
 
 use crate::end::PathEnd;
-use crate::opening::keys_ask;
 use crate::machine::Machine;
+use crate::opening::keys_ask;
 use crate::sending::Sending;
 use actor_desk::{Ask, LocalStep, Reply};
 use fallback_state::{Event, Mode};
