@@ -1,5 +1,5 @@
 -- Loads, one after the other, up to one that failed.
-use Rattle.std.proofs.Common.{◌≡◌, sym, ap, subst, ℕ, ◌<◌, ◌≤◌, false, List, [], ◌∷◌, ◌++◌, length, map, Option, Some, None, Result, Ok, Err, IfOk, IfSome, arith}
+use Rattle.std.proofs.Common.{◌≡◌, refl, sym, ap, subst, ℕ, ◌<◌, ◌≤◌, false, List, [], ◌∷◌, ◌++◌, length, map, Option, Some, None, Result, Ok, Err, IfOk, IfSome, arith}
 use Rattle.std.specs.List.{list_any}
 use Rattle.std.specs.Prelude.{IsSome, IsSomeAnd, option_and_then}
 use Rattle.outside_kit.specs.Calls.{Call}
@@ -43,21 +43,16 @@ module _ (line : Line) (named : Named) (name : List ℕ) (is : name_of named lin
   load_cut plan more content old new (Put p) plan_is fault = absurd fault
   load_cut plan more content old new (Log at) plan_is fault = absurd fault
 
--- what is told has as many octets as what was loaded
-pub within_told : (o : Option (List ℕ)) (octets : List ℕ) (limit : ℕ) → IfSome o (λ told. octets ≡ told) → length octets ≤ limit → IfSome o (λ told. length told ≤ limit)
-within_told None octets limit same few = tt
-within_told (Some told) octets limit same few = subst (λ xs. length xs ≤ limit) same few
-
 -- such a load, behind others, ends a run
 pub load_fault : (now content : List ℕ → Option (List ℕ)) (line : Line) (named : Named) (name : List ℕ) (a b c : ℕ) (status : Status) → name_of named line ≡ Some name
     → AreWithinLimitsBefore content line named → ((other : List ℕ) → now other ≡ content other) → a ≤ b → IsLoadFault named (now name) b c status
     → IsLoadsFault content line a c status
 load_fault now content line named name a b c (Load other) is before same few fault =
     subst (λ n. IsSome (name_of n line) × (HasRisen a c × AreWithinLimitsBefore content line n)) (sym fault.0)
-    (subst (λ (o : Option (List ℕ)). IsSome o) (sym is) tt, (risen_later a b c few fault.1, before))
+    (subst (λ (o : Option (List ℕ)). IsSome o) (sym is) refl, (risen_later a b c few fault.1, before))
 load_fault now content line named name a b c (TooLong other) is before same few fault =
     subst (λ n. IsSome (name_of n line) × (IfSome (content_of content line n) (λ told. limit_of n < length told) × AreWithinLimitsBefore content line n)) (sym fault.0) (
-      subst (λ (o : Option (List ℕ)). IsSome o) (sym is) tt,
+      subst (λ (o : Option (List ℕ)). IsSome o) (sym is) refl,
       (
         subst (λ (o : Option (List ℕ)). IfSome (option_and_then content o) (λ told. limit_of named < length told)) (sym is)
             (subst (λ (o : Option (List ℕ)). IfSome o (λ told. limit_of named < length told)) (same name) fault.1),

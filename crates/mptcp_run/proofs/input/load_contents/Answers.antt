@@ -1,5 +1,4 @@
-use Rattle.std.proofs.Common.{◌≡◌, refl, ◌∙◌, subst, List, ℕ, Option, [], ◌∷◌, arith}
-use Rattle.std.specs.Prelude.{IfSome}
+use Rattle.std.proofs.Common.{refl, [], ◌∷◌}
 use Rattle.std.proofs.lemmas.Result.{err_from_is_err_and}
 use Rattle.outside_kit.specs.Calls as call
 use Rattle.run_words.specs.Lines.{shown}
@@ -7,7 +6,7 @@ use Rattle.mptcp_run.specs.declared.status.Named.TheVariants as named
 use Rattle.mptcp_run.specs.Plan.{first_loads}
 use Rattle.mptcp_run.proofs.Calling.{loads_ended, loads_any, loads_then}
 use Rattle.mptcp_run.proofs.Calls.{all_then}
-use Rattle.mptcp_run.proofs.Loading.{load_cut, load_fault, within_told}
+use Rattle.mptcp_run.proofs.Loading.{load_cut}
 use Rattle.mptcp_run.proofs.input.load_contents.Goals as goal
 
 pub returns-in_err-script-clause-loads : goal.returns-in_err-script-clause-loads
@@ -48,23 +47,3 @@ returns-in_err-file_b-clause-calls_cut g c =
     rw (p.1, p.2) (load_cut line named.FileB line.names.file_b refl _ _ _
     (all_then (call.Load line.names.script ∷ []) (call.Load line.names.file_a ∷ []) _ _ _ c.in_ok-script.ensures.loads.made c.in_ok-file_a.ensures.loads.made) c.in_err-file_b.ensures.calls_cut (first_loads line) [] _ _ _
     c.in_err-file_b.field-0.0 refl c.in_err-file_b.ensures.fault)
-
-pub returns-in_err-file_a-clause-fault : goal.returns-in_err-file_a-clause-fault
-returns-in_err-file_a-clause-fault g c =
-    let line = shown c.args.line.now in
-    let p = err_from_is_err_and c.from_residual-in_err-file_a.result c.from_residual-in_err-file_a.ensures.1 in
-    rw (p.1, p.2) (load_fault (g.O.Outside.content c.load.new.outside) (g.O.Outside.content c.args.outside.now) line named.FileA line.names.file_a _ _ _ c.in_err-file_a.field-0.0 refl
-    (within_told _ _ 65536 c.in_ok-script.ensures.whole c.in_ok-script.ensures.within) c.load.ensures.same_contents c.load.ensures.loads.counted c.in_err-file_a.ensures.fault)
-
-pub returns-in_err-file_b-clause-fault : goal.returns-in_err-file_b-clause-fault
-returns-in_err-file_b-clause-fault g c =
-    let line = shown c.args.line.now in
-    let p = err_from_is_err_and c.from_residual-in_err-file_b.result c.from_residual-in_err-file_b.ensures.1 in
-    let first = c.load.ensures.loads.counted in let second = c.load-2.ensures.loads.counted in
-    rw (p.1, p.2) (load_fault (g.O.Outside.content c.load-2.new.outside) (g.O.Outside.content c.args.outside.now) line named.FileB line.names.file_b _ _ _ c.in_err-file_b.field-0.0 refl (
-      within_told _ _ 65536 c.in_ok-script.ensures.whole c.in_ok-script.ensures.within,
-      within_told _ _ 16777216
-          (subst (λ (o : Option (List ℕ)). IfSome o (λ told. c.in_ok-file_a.file_a.items ≡ told)) (c.load.ensures.same_contents line.names.file_a) c.in_ok-file_a.ensures.whole)
-          c.in_ok-file_a.ensures.within,
-    )
-    (λ other. c.load-2.ensures.same_contents other ∙ c.load.ensures.same_contents other) (omega (arith, first, second)) c.in_err-file_b.ensures.fault)
