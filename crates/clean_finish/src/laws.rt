@@ -1,6 +1,7 @@
 //! What the bound rests on, as clauses of functions that do nothing.
 ghost use Rattle.std.specs.Prelude.{◌≡◌, Some, None};
 ghost use Rattle.clean_finish.specs.Bound.{enough};
+ghost use Rattle.clean_finish.specs.Machine.{SettlesAsALane, StaysLong, FlightsAreSmall};
 ghost use Rattle.clean_finish.specs.Laws.{CleanLanesFinish, one_path, two_paths, one_drop};
 
 /// A law: where both directions of a connection go on as lanes of `pace`, by the numbers of a clean script, both readers
@@ -16,4 +17,19 @@ pub fn examples_of_bounds()
     ensures long { enough one_path 100000 0 ≡ Some 1248 }
     ensures paths { enough two_paths 100000 0 ≡ None }
     ensures drops { enough one_drop 5 0 ≡ None }
+{}
+
+/// A law: the timer of an end is settled as that of a lane is, where what is new has stopped it before.
+pub fn timers_settle_as_in_lanes()
+    ensures { SettlesAsALane }
+{}
+
+/// A law: as long as no timer runs out a timeout is a second or more.
+pub fn timeouts_stay_long()
+    ensures { StaysLong }
+{}
+
+/// A law: the flight of an end is less than what isn't acknowledged, and a payload.
+pub fn flights_are_small()
+    ensures { FlightsAreSmall }
 {}

@@ -8,4 +8,7 @@ mod bound;
 mod laws;
 
 pub use bound::rounds_enough;
-pub use laws::{clean_lanes_finish, examples_of_bounds};
+pub use laws::{
+    clean_lanes_finish, examples_of_bounds, flights_are_small, timeouts_stay_long,
+    timers_settle_as_in_lanes,
+};
