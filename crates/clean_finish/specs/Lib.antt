@@ -1,3 +1,4 @@
+pub mod Applications
 pub mod Bound
 pub mod Laws
 pub mod Machine

@@ -1,0 +1,146 @@
+-- An application that writes and closes is moves of its lane.
+use Rattle.std.proofs.Common.{◌≡◌, refl, sym, subst, ap, ◌∙◌, ℕ, zero, suc, ◌+◌, ◌-◌, ◌^◌, ◌<◌, ◌≤◌, min, Bool, true, false, not, ◌&&◌, ◌||◌, if◌then◌else◌, ◌⊎◌, inl, inr, ⊎_elim, List, [], ◌∷◌, ◌++◌, length, take, drop, replicate, fold, cond, le_refl, length-append, length-take, length-drop, arith}
+use Rattle.std.proofs.lemmas.Bool.{both_ways, cases_lt}
+use Rattle.send_book.specs.declared.call.SendReply.TheVariants.{Taken, Closed}
+use Rattle.send_book.specs.State.{Sending, acked_len}
+use Rattle.send_book.specs.declared.mark.ByteMark.{ByteMark}
+use Rattle.send_book.specs.declared.mark.ByteMark.TheVariants.{Free}
+use Rattle.send_book.specs.Marks.{is_acked}
+use Rattle.send_book.specs.Tried.{no_paths}
+use Rattle.send_book.specs.Steps.{taken, unacked_len, write_reply, after_write, close_reply, after_close}
+use Rattle.actor_desk.specs.declared.ask.Reply.{Reply}
+use Rattle.actor_desk.specs.declared.ask.Reply.TheVariants as replies
+use Rattle.stream_apps.specs.declared.duty.AppDuty.{AppDuty}
+use Rattle.stream_apps.specs.declared.duty.AppDuty.TheVariants.{Write, Close, Read, End}
+use Rattle.stream_apps.specs.Apps.{AppState}
+use Rattle.stream_apps.specs.AppSteps.{offered, app_takes, app_settled}
+use Rattle.pace.specs.Lane.{Setting, Lane, Writer, Stage}
+use Rattle.pace.specs.Going.{Going}
+use Rattle.pace.specs.Moves.{Move, MayEndWriting, MayWrite, MayClose}
+use Rattle.pace.specs.Rounds.{Moves}
+use Rattle.pace.specs.Moves.Move.{writes, closes, ends_writing}
+use Rattle.clean_finish.specs.Applications.{count_of, is_writing, WriterIs, WriterShows, WriterGoes}
+
+-- more marks count no fewer acknowledged bytes
+marks_more : (n : ℕ) (xs ys : List ByteMark) → fold (λ m x. m + cond (is_acked x) 1 0) n xs ≤ fold (λ m x. m + cond (is_acked x) 1 0) n (xs ++ ys)
+marks_more n (x ∷ xs) ys = marks_more (n + cond (is_acked x) 1 0) xs ys
+marks_more n [] [] = le_refl n
+marks_more n [] (y ∷ ys) = let more = marks_more (n + cond (is_acked y) 1 0) [] ys in omega (arith, more)
+
+module _ (k : Setting) (s : Lane) (t : ℕ) (p : Stage) (w : Lane) where
+  abbrev with_writer : ℕ → ℕ → Lane
+  with_writer n c = record w { writer = record w.writer { written = n; closed = c } }
+
+  -- the turn isn't over
+  goes_on : (n c count : ℕ) (a : AppState) (b : Sending) → WriterIs k n c w.acked a b → is_writing a.agenda ≡ true → w.writer_over ≡ false
+      → Moves k s count p w p (with_writer n c) → WriterGoes k s p w a b
+  goes_on n c count a b numbers writing turn moves = record {
+    writer = record w.writer { written = n; closed = c };
+    count = count;
+    moves = moves;
+    shows = record { numbers = numbers; over = turn ∙ sym (ap not writing) };
+  }
+
+  -- the turn is over
+  ends : (n c count : ℕ) (a : AppState) (b : Sending) → WriterIs k n c w.acked a b → is_writing a.agenda ≡ false
+      → MayEndWriting k s (with_writer n c) → Moves k s count p w p (with_writer n c) → WriterGoes k s p w a b
+  ends n c count a b numbers writing may moves = record {
+    writer = record w.writer { written = n; closed = c; writer_over = true };
+    count = suc count;
+    moves = (p, with_writer n c, moves, ends_writing may);
+    shows = record { numbers = numbers; over = sym (ap not writing) };
+  }
+
+  -- the stream is closed once the file is written
+  closing : (told : Bool) (a : AppState) (b : Sending) → Going k s t p w → WriterIs k w.written w.closed w.acked (record a { rest = [] }) b
+      → WriterGoes k s p w (app_takes (replies.Send Closed) (record a { rest = []; told = told; agenda = Close ∷ Read ∷ End ∷ [] }))
+        (record b { closed = true })
+  closing told a b h is = by told
+    where
+      all : w.written ≡ k.total
+      all = omega (arith, is.bytes, is.file)
+
+      moves : Moves k s 1 p w p (with_writer w.written 1)
+      moves = (p, w, (refl, refl), closes 1 (record { more = h.numbers.closed; whole = omega (arith, all) }))
+
+      may : MayEndWriting k s (with_writer w.written 1)
+      may = record { wrote = omega (arith, all); closed = omega (arith, all) }
+
+      now : (ds : List AppDuty) (b' : Bool) → WriterIs k w.written 1 w.acked (record a { rest = []; closed = true; told = b'; agenda = ds }) (record b { closed = true })
+      now ds b' = record {
+        file = is.file;
+        bytes = is.bytes;
+        shut = refl;
+        told = refl;
+        whole = λ _. refl;
+        heard = is.heard;
+        offers = is.offers;
+        buffer = is.buffer;
+        unaborted = is.unaborted;
+      }
+
+      by : (b' : Bool) → WriterGoes k s p w (app_takes (replies.Send Closed) (record a { rest = []; told = b'; agenda = Close ∷ Read ∷ End ∷ [] }))
+        (record b { closed = true })
+      by false = ends w.written 1 1 _ _ (now (Read ∷ End ∷ []) false) refl may moves
+      by true = ends w.written 1 1 _ _ (now (End ∷ []) true) refl may moves
+
+  -- the next part of the file is written, as far as the book has room
+  writing : (a : AppState) (b : Sending) → Going k s t p w → WriterIs k w.written w.closed w.acked (record a { closed = false }) (record b { closed = false })
+      → w.writer_over ≡ false → 1 ≤ length a.rest → k.total ≤ 16777216 → (n : ℕ) → n ≡ taken (offered a) b → (told : Bool) (rest : List ℕ) → rest ≡ drop n a.rest
+      → WriterGoes k s p w (app_settled (Close ∷ Read ∷ End ∷ []) (record a { rest = rest; closed = false; told = told; agenda = Close ∷ Read ∷ End ∷ [] }))
+        (record b { closed = false; written = b.written ++ take n (offered a); marks = b.marks ++ replicate n (Free no_paths) })
+  writing a b h is turn some small n count told rest left = by rest left told
+    where
+      len : length (b.written ++ take n (offered a)) ≡ length b.written + n
+      len = let one = length-append b.written (take n (offered a)) in let two = length-take n (offered a) in omega (arith, one, two, count)
+
+      least : length (drop n a.rest) ≡ length a.rest - n
+      least = length-drop n a.rest
+
+      offer : length (offered a) ≡ min a.buffer (length a.rest)
+      offer = length-take a.buffer a.rest
+
+      heard : w.acked ≤ acked_len b.marks
+      heard = omega (arith, is.heard, is.bytes, is.file, some, h.numbers)
+
+      more_marks : acked_len b.marks ≤ acked_len (b.marks ++ replicate n (Free no_paths))
+      more_marks = marks_more 0 b.marks (replicate n (Free no_paths))
+
+      some_left : (r : List ℕ) → r ≡ drop n a.rest → length b.written + n + length r ≡ k.total
+      some_left r e = let size : length r ≡ length (drop n a.rest) = ap length e in omega (arith, size, least, is.file, count, offer)
+
+      now : (r : List ℕ) → r ≡ drop n a.rest → (b' : Bool) (ds : List AppDuty)
+          → WriterIs k (length b.written + n) w.closed w.acked (record a { rest = r; closed = false; told = b'; agenda = ds })
+            (record b { closed = false; written = b.written ++ take n (offered a); marks = b.marks ++ replicate n (Free no_paths) })
+      now r e b' ds = record {
+        file = let left = some_left r e in omega (arith, left, len);
+        bytes = sym len;
+        shut = is.shut;
+        told = refl;
+        whole = λ c. absurd (both_ways _ refl c);
+        heard = omega (arith, heard, more_marks);
+        offers = is.offers;
+        buffer = is.buffer;
+        unaborted = is.unaborted;
+      }
+
+      moves : (r : List ℕ) → r ≡ drop n a.rest → Moves k s 1 p w p (with_writer (length b.written + n) w.closed)
+      moves r e = let left = some_left r e in
+          (p, w, (refl, refl), writes (length b.written + n) (record { turn = turn; more = omega (arith, is.bytes); within = omega (arith, left) }))
+
+      -- more of the file is left, so the book is full
+      may : (x : ℕ) (r : List ℕ) → x ∷ r ≡ drop n a.rest → MayEndWriting k s (with_writer (length b.written + n) w.closed)
+      may x r e =
+          let left = some_left (x ∷ r) e in
+          let since = h.since.acked in
+          record {
+            wrote = omega (arith, left, count, offer, is.file, is.offers, is.buffer, heard, since, small);
+            closed = omega (arith, left);
+          }
+
+      by : (r : List ℕ) → r ≡ drop n a.rest → (b' : Bool)
+          → WriterGoes k s p w (app_settled (Close ∷ Read ∷ End ∷ []) (record a { rest = r; closed = false; told = b'; agenda = Close ∷ Read ∷ End ∷ [] }))
+            (record b { closed = false; written = b.written ++ take n (offered a); marks = b.marks ++ replicate n (Free no_paths) })
+      by [] e b' = goes_on (length b.written + n) w.closed 1 _ _ (now [] e b' (Close ∷ Read ∷ End ∷ [])) refl turn (moves [] e)
+      by (x ∷ r) e false = ends (length b.written + n) w.closed 1 _ _ (now (x ∷ r) e false (Read ∷ End ∷ [])) refl (may x r e) (moves (x ∷ r) e)
+      by (x ∷ r) e true = ends (length b.written + n) w.closed 1 _ _ (now (x ∷ r) e true (End ∷ [])) refl (may x r e) (moves (x ∷ r) e)
