@@ -13,7 +13,7 @@ use Rattle.actor_desk.specs.declared.ask.Reply.TheVariants as replies
 use Rattle.stream_apps.specs.declared.duty.AppDuty.{AppDuty}
 use Rattle.stream_apps.specs.declared.duty.AppDuty.TheVariants.{Write, Close, Read, End}
 use Rattle.stream_apps.specs.Apps.{AppState}
-use Rattle.stream_apps.specs.AppSteps.{offered, app_takes, app_settled}
+use Rattle.stream_apps.specs.AppSteps.{offered, app_takes, app_settled, app_next_round}
 use Rattle.pace.specs.Lane.{Setting, Lane, Writer, Stage}
 use Rattle.pace.specs.Going.{Going}
 use Rattle.pace.specs.Moves.{Move, MayEndWriting, MayWrite, MayClose}
@@ -144,3 +144,94 @@ module _ (k : Setting) (s : Lane) (t : ℕ) (p : Stage) (w : Lane) where
       by [] e b' = goes_on (length b.written + n) w.closed 1 _ _ (now [] e b' (Close ∷ Read ∷ End ∷ [])) refl turn (moves [] e)
       by (x ∷ r) e false = ends (length b.written + n) w.closed 1 _ _ (now (x ∷ r) e false (Read ∷ End ∷ [])) refl (may x r e) (moves (x ∷ r) e)
       by (x ∷ r) e true = ends (length b.written + n) w.closed 1 _ _ (now (x ∷ r) e true (End ∷ [])) refl (may x r e) (moves (x ∷ r) e)
+
+  pub close_step : (a : AppState) (b : Sending) → Going k s t p w → WriterShows k w a b → a.agenda ≡ Close ∷ Read ∷ End ∷ [] → a.rest ≡ []
+      → WriterGoes k s p w (app_takes (replies.Send (close_reply b)) a) (after_close b)
+  close_step a b h shows at none =
+      subst (λ (ds : List AppDuty). Goes ds a.rest b.aborted) (sym at)
+        (subst (λ (r : List ℕ). Goes (Close ∷ Read ∷ End ∷ []) r b.aborted) (sym none)
+          (subst (λ (ab : Bool). Goes (Close ∷ Read ∷ End ∷ []) [] ab) (sym shows.numbers.unaborted)
+            (closing a.told a (record b { aborted = false }) h now)))
+    where
+      Goes : List AppDuty → List ℕ → Bool → Type 0
+      Goes ds r ab = WriterGoes k s p w (app_takes (replies.Send (close_reply (record b { aborted = ab }))) (record a { rest = r; agenda = ds }))
+          (after_close (record b { aborted = ab }))
+
+      now : WriterIs k w.written w.closed w.acked (record a { rest = [] }) (record b { aborted = false })
+      now = subst (λ (r : List ℕ). WriterIs k w.written w.closed w.acked (record a { rest = r }) (record b { aborted = false })) none
+          (subst (λ (ab : Bool). WriterIs k w.written w.closed w.acked a (record b { aborted = ab })) shows.numbers.unaborted shows.numbers)
+
+  pub write_step : (a : AppState) (b : Sending) → Going k s t p w → WriterShows k w a b → a.agenda ≡ Write ∷ Close ∷ Read ∷ End ∷ []
+      → 1 ≤ length a.rest → k.total ≤ 16777216
+      → WriterGoes k s p w (app_takes (replies.Send (write_reply (offered a) b)) a) (after_write (offered a) b)
+  write_step a b h shows at some small =
+      subst (λ (ds : List AppDuty). Goes ds a.closed b.closed b.aborted) (sym at)
+        (subst (λ (c : Bool). Goes duties c b.closed b.aborted) (sym (shows.numbers.told ∙ unclosed))
+          (subst (λ (c : Bool). Goes duties false c b.aborted) (sym unclosed)
+            (subst (λ (ab : Bool). Goes duties false false ab) (sym shows.numbers.unaborted)
+              (writing a b' h now turn some small (taken (offered a) b') refl a.told (drop (taken (offered a) b') a.rest) refl))))
+    where
+      duties : List AppDuty
+      duties = Write ∷ Close ∷ Read ∷ End ∷ []
+
+      b' : Sending
+      b' = record b { closed = false; aborted = false }
+
+      Goes : List AppDuty → Bool → Bool → Bool → Type 0
+      Goes ds c1 c2 ab = WriterGoes k s p w
+          (app_takes (replies.Send (write_reply (offered a) (record b { closed = c2; aborted = ab }))) (record a { closed = c1; agenda = ds }))
+          (after_write (offered a) (record b { closed = c2; aborted = ab }))
+
+      unclosed : b.closed ≡ false
+      unclosed = by b.closed shows.numbers.whole
+        where
+          by : (c : Bool) → (c ≡ true → a.rest ≡ []) → c ≡ false
+          by false whole = refl
+          by true whole = absurd (subst (λ (r : List ℕ). 1 ≤ length r → ⊥) (sym (whole refl)) (λ e. omega (arith, e)) some)
+
+      turn : w.writer_over ≡ false
+      turn = shows.over ∙ ap (λ (ds : List AppDuty). not (is_writing ds)) at
+
+      now : WriterIs k w.written w.closed w.acked (record a { closed = false }) (record b' { closed = false })
+      now = subst (λ (c : Bool). WriterIs k w.written w.closed w.acked (record a { closed = c }) (record b' { closed = false })) (shows.numbers.told ∙ unclosed)
+          (subst (λ (c : Bool). WriterIs k w.written w.closed w.acked a (record b { closed = c; aborted = false })) unclosed
+            (subst (λ (ab : Bool). WriterIs k w.written w.closed w.acked a (record b { aborted = ab })) shows.numbers.unaborted shows.numbers))
+
+  -- a turn begins
+  pub turn_begins : (a : AppState) (b : Sending) → Going k s t p w → WriterIs k w.written w.closed w.acked a b → w.writer_over ≡ false
+      → WriterGoes k s p w (app_next_round a) b
+  turn_begins a b h is turn = by a.rest a.closed a.told is
+    where
+      still : Moves k s 0 p w p (with_writer w.written w.closed)
+      still = (refl, refl)
+
+      -- the count and the duties don't matter
+      same : {a' : AppState} {n : ℕ} {ds : List AppDuty} → WriterIs k w.written w.closed w.acked a' b
+          → WriterIs k w.written w.closed w.acked (record a' { count = n; agenda = ds }) b
+      same {a'} {n} {ds} now = record {
+        file = now.file;
+        bytes = now.bytes;
+        shut = now.shut;
+        told = now.told;
+        whole = now.whole;
+        heard = now.heard;
+        offers = now.offers;
+        buffer = now.buffer;
+        unaborted = now.unaborted;
+      }
+
+      may : {b' : Bool} → WriterIs k w.written w.closed w.acked (record a { rest = []; closed = true; told = b' }) b
+          → MayEndWriting k s (with_writer w.written w.closed)
+      may now =
+          let shut : w.closed ≡ 1 = now.shut ∙ ap count_of (sym now.told) in
+          record { wrote = omega (arith, now.file, now.bytes); closed = omega (arith, now.file, now.bytes, shut) }
+
+      stays : (a' : AppState) → WriterIs k w.written w.closed w.acked a' b → is_writing a'.agenda ≡ true → WriterGoes k s p w a' b
+      stays a' now writing = goes_on w.written w.closed 0 a' b now writing turn still
+
+      by : (r : List ℕ) (c b' : Bool) → WriterIs k w.written w.closed w.acked (record a { rest = r; closed = c; told = b' }) b
+          → WriterGoes k s p w (app_next_round (record a { rest = r; closed = c; told = b' })) b
+      by (x ∷ r) c b' now = stays _ (same now) refl
+      by [] false b' now = stays _ (same now) refl
+      by [] true false now = ends w.written w.closed 0 _ b (same now) refl (may now) still
+      by [] true true now = ends w.written w.closed 0 _ b (same now) refl (may now) still

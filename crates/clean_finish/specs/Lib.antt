@@ -2,3 +2,4 @@ pub mod Applications
 pub mod Bound
 pub mod Laws
 pub mod Machine
+pub mod Reading
