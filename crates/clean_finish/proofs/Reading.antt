@@ -52,14 +52,93 @@ module _ (k : Setting) (s : Lane) (t : ℕ) (p : Stage) (w : Lane) where
   }
 
   -- what is read, at most `max` octets at once
-  module _ (a : AppState) (b : Arriving) (max : ℕ) (h : Going k s t p w) (is : ReaderIs k w.read w.data_fin_came w.got w.told_end (record a { told = false }) b)
-      (came : w.received ≡ received b) (turn : w.reader_over ≡ false) where
-    n : ℕ
+  module _ (a : AppState) (b : Arriving) (max : ℕ) (some : 1 ≤ max) (h : Going k s t p w)
+      (is : ReaderIs k w.read w.data_fin_came w.got w.told_end (record a { told = false }) b) (came : w.received ≡ received b)
+      (turn : w.reader_over ≡ false) where
+    abbrev n : ℕ
     n = min max (length (filled b.places))
 
     within : w.read + n ≤ w.received
-    within = ?
+    within = omega (arith, came, is.bytes)
 
-    by_bytes : (xs : List ℕ) → xs ≡ take max (filled b.places) → (e : Bool) → e ≡ is_end b.known_end b.read
+    left : w.received ≡ received (after_reading max b)
+    left = let rest = filled_left n b.places (omega arith) in omega (arith, rest, came)
+
+    -- the book knows the end there
+    at_end : is_end b.known_end b.read ≡ true → b.read ≡ k.total
+    at_end = subst (λ (o : Option ℕ). is_end o b.read ≡ true → b.read ≡ k.total) (sym is.known) (by w.data_fin_came)
+      where
+        by : (c : ℕ) → is_end (end_known c k.total) b.read ≡ true → b.read ≡ k.total
+        by zero e = absurd (both_ways _ refl e)
+        by (suc c) e = sym (eqb-true _ _ e)
+
+    -- or no end is there
+    no_end : is_end b.known_end b.read ≡ false → (w.data_fin_came ≤ 0) ⊎ (b.read ≡ k.total → ⊥)
+    no_end = subst (λ (o : Option ℕ). is_end o b.read ≡ false → (w.data_fin_came ≤ 0) ⊎ (b.read ≡ k.total → ⊥)) (sym is.known) (by w.data_fin_came)
+      where
+        by : (c : ℕ) → is_end (end_known c k.total) b.read ≡ false → (c ≤ 0) ⊎ (b.read ≡ k.total → ⊥)
+        by zero e = inl (le_refl _)
+        by (suc c) e = inr (λ same. eqb-false _ _ e (sym same))
+
+    numbers : (m told : ℕ) (t' : Bool) (ds : List AppDuty) → m ≡ n → told ≡ count_of t' → (t' ≡ true → b.read + n ≡ k.total)
+        → ReaderIs k (w.read + n) w.data_fin_came (w.got + n) told (record a { told = t'; count = a.count + m; agenda = ds }) (after_reading max b)
+    numbers m told t' ds size end whole = record {
+      bytes = omega (arith, is.bytes);
+      count = omega (arith, is.count, size);
+      known = is.known;
+      end = end;
+      whole = whole;
+      buffer = is.buffer;
+      unaborted = is.unaborted;
+    }
+
+    none_told : w.told_end ≡ 0
+    none_told = is.end
+
+    -- nothing is there to be read
+    nothing : 0 ≡ n → (e : Bool) → e ≡ is_end b.known_end b.read
+        → ReaderGoes k s p w (app_takes (replies.Reassembly (if e then TheEnd else NoneYet)) (record a { told = false; agenda = Read ∷ End ∷ [] }))
+          (after_reading max b)
+    nothing zero' true e = reads_last n 1 _ _ (numbers 0 1 true (End ∷ []) zero' refl (λ _. omega (arith, at_end (sym e), zero'))) left refl within
+        (record {
+          more = omega (arith, none_told);
+          read = omega (arith, came, is.bytes, zero', some, h.since.received);
+          told = omega (arith, h.since.data_fin_came, h.numbers);
+        })
+    nothing zero' false e = reads_last n 0 _ _ (numbers 0 0 false (End ∷ []) zero' refl (λ c. absurd (both_ways _ refl c))) left refl within
+        (record {
+          more = omega (arith, none_told);
+          read = omega (arith, came, is.bytes, zero', some, h.since.received);
+          told = ⊎_elim
+              (λ none. omega (arith, none, h.since.data_fin_came))
+              (λ apart. ⊎_elim
+                (λ below. omega (arith, below, is.bytes, h.since.read))
+                (λ all. absurd (apart (omega (arith, all, is.bytes, h.numbers))))
+                (cases_lt b.read k.total))
+              (no_end (sym e));
+        })
+
+    -- bytes came: it reads on as long as it got less than a buffer
+    bytes : (y : ℕ) (ys : List ℕ) → length (y ∷ ys) ≡ n → (less : Bool) → nat_lt (a.count + length (y ∷ ys)) a.buffer ≡ less
+        → ReaderGoes k s p w (app_settled (if less then Read ∷ End ∷ [] else End ∷ [])
+            (record a { told = false; count = a.count + length (y ∷ ys); agenda = (if less then Read ∷ End ∷ [] else End ∷ []) }))
+          (after_reading max b)
+    bytes y ys size true e =
+        reads_on n _ _ (numbers _ w.told_end false (Read ∷ End ∷ []) size none_told (λ c. absurd (both_ways _ refl c))) left refl turn within
+    bytes y ys size false e =
+        let full = ltb-false _ _ e in
+        reads_last n 0 _ _ (numbers _ 0 false (End ∷ []) size refl (λ c. absurd (both_ways _ refl c))) left refl within
+        (record {
+          more = omega (arith, none_told);
+          read = omega (arith, full, size, is.count, is.buffer, h.round.got);
+          told = omega (arith, size, within, h.since.read, h.numbers);
+        })
+
+    taken : (xs : List ℕ) → length xs ≡ n
         → ReaderGoes k s p w (app_takes (replies.Reassembly (bytes_reply xs b)) (record a { told = false; agenda = Read ∷ End ∷ [] })) (after_reading max b)
-    by_bytes xs same e is_e = ?
+    taken [] size = nothing size (is_end b.known_end b.read) refl
+    taken (y ∷ ys) size = bytes y ys size (nat_lt (a.count + length (y ∷ ys)) a.buffer) refl
+
+    all_taken : ReaderGoes k s p w (app_takes (replies.Reassembly (bytes_reply (take max (filled b.places)) b)) (record a { told = false; agenda = Read ∷ End ∷ [] }))
+        (after_reading max b)
+    all_taken = taken (take max (filled b.places)) (length-take max (filled b.places))
