@@ -11,14 +11,14 @@ use Rattle.actor_desk.specs.declared.ask.Reply.TheVariants as replies
 use Rattle.stream_apps.specs.declared.duty.AppDuty.{AppDuty}
 use Rattle.stream_apps.specs.declared.duty.AppDuty.TheVariants.{Write, Close, Read, End}
 use Rattle.stream_apps.specs.Apps.{AppState}
-use Rattle.stream_apps.specs.AppSteps.{app_takes, app_settled}
+use Rattle.stream_apps.specs.AppSteps.{app_takes, app_settled, app_next_round}
 use Rattle.pace.specs.Lane.{Setting, Lane, Reader, Stage}
 use Rattle.pace.specs.Rules.{has_read}
 use Rattle.pace.specs.Going.{Going}
 use Rattle.pace.specs.Moves.{Move, MayEndReading}
 use Rattle.pace.specs.Rounds.{Moves}
 use Rattle.pace.specs.Moves.Move.{reads, ends_reading}
-use Rattle.clean_finish.specs.Applications.{count_of}
+use Rattle.clean_finish.specs.Writing.{count_of}
 use Rattle.clean_finish.specs.Reading.{is_reading, end_known, ReaderIs, ReaderShows, ReaderGoes}
 
 filled_left : (n : ℕ) (places : List (Option ℕ)) → n ≤ length (filled places) → n + length (filled (drop n places)) ≡ length (filled places)
@@ -142,3 +142,70 @@ module _ (k : Setting) (s : Lane) (t : ℕ) (p : Stage) (w : Lane) where
     all_taken : ReaderGoes k s p w (app_takes (replies.Reassembly (bytes_reply (take max (filled b.places)) b)) (record a { told = false; agenda = Read ∷ End ∷ [] }))
         (after_reading max b)
     all_taken = taken (take max (filled b.places)) (length-take max (filled b.places))
+
+  pub read_step : (a : AppState) (b : Arriving) → Going k s t p w → ReaderShows k w a b → a.agenda ≡ Read ∷ End ∷ [] → a.told ≡ false
+      → (most : ℕ) → 1 ≤ most → ReaderGoes k s p w (app_takes (replies.Reassembly (read_reply most b)) a) (after_read most b)
+  read_step a b h shows at untold most some =
+      subst (λ (ds : List AppDuty). Goes ds a.told b.aborted) (sym at)
+        (subst (λ (t' : Bool). Goes (Read ∷ End ∷ []) t' b.aborted) (sym untold)
+          (subst (λ (ab : Option Bool). Goes (Read ∷ End ∷ []) false ab) (sym shows.numbers.unaborted)
+            (all_taken a (record b { aborted = None }) most some h now shows.received turn)))
+    where
+      Goes : List AppDuty → Bool → Option Bool → Type 0
+      Goes ds t' ab = ReaderGoes k s p w (app_takes (replies.Reassembly (read_reply most (record b { aborted = ab }))) (record a { told = t'; agenda = ds }))
+          (after_read most (record b { aborted = ab }))
+
+      turn : w.reader_over ≡ false
+      turn = shows.over ∙ ap (λ (ds : List AppDuty). not (is_reading ds)) at
+
+      now : ReaderIs k w.read w.data_fin_came w.got w.told_end (record a { told = false }) (record b { aborted = None })
+      now = subst (λ (t' : Bool). ReaderIs k w.read w.data_fin_came w.got w.told_end (record a { told = t' }) (record b { aborted = None })) untold
+          (subst (λ (ab : Option Bool). ReaderIs k w.read w.data_fin_came w.got w.told_end a (record b { aborted = ab })) shows.numbers.unaborted shows.numbers)
+
+  pub follows : (a : AppState) (b : Arriving) → Going k s t p w → ReaderIs k w.read w.data_fin_came w.got w.told_end a b → w.received ≡ received b
+      → (is_reading a.agenda ≡ false → a.told ≡ true) → w.reader_over ≡ false → ReaderGoes k s p w a b
+  follows a b h is came only turn = by (is_reading a.agenda) refl
+    where
+      by : (reading : Bool) → is_reading a.agenda ≡ reading → ReaderGoes k s p w a b
+      by true e = record {
+        reader = w.reader;
+        count = 0;
+        moves = (refl, refl);
+        shows = record { numbers = is; received = came; over = turn ∙ sym (ap not e) };
+      }
+      by false e =
+          let all = is.whole (only e) in
+          let one : w.told_end ≡ 1 = is.end ∙ ap count_of (only e) in
+          record {
+            reader = record w.reader { reader_over = true };
+            count = 1;
+            moves = (p, w, (refl, refl), ends_reading w.told_end (record {
+              more = le_refl _;
+              read = omega (arith, all, is.bytes, h.since.received, h.numbers);
+              told = omega (arith, one, h.since.data_fin_came, h.numbers);
+            }));
+            shows = record { numbers = is; received = came; over = sym (ap not e) };
+          }
+
+  pub reading_begins : (a : AppState) (b : Arriving) → Going k s t p w → ReaderIs k w.read w.data_fin_came w.got w.told_end (record a { count = 0 }) b
+      → w.received ≡ received b → w.reader_over ≡ false → ReaderGoes k s p w (app_next_round a) b
+  reading_begins a b h is came turn = by a.rest a.closed a.told is
+    where
+      same : {a' : AppState} {ds : List AppDuty} → ReaderIs k w.read w.data_fin_came w.got w.told_end a' b
+          → ReaderIs k w.read w.data_fin_came w.got w.told_end (record a' { agenda = ds }) b
+      same {a'} {ds} now = record {
+        bytes = now.bytes;
+        count = now.count;
+        known = now.known;
+        end = now.end;
+        whole = now.whole;
+        buffer = now.buffer;
+        unaborted = now.unaborted;
+      }
+
+      by : (r : List ℕ) (c t' : Bool) → ReaderIs k w.read w.data_fin_came w.got w.told_end (record a { rest = r; closed = c; told = t'; count = 0 }) b
+          → ReaderGoes k s p w (app_next_round (record a { rest = r; closed = c; told = t' })) b
+      by (x ∷ r) c t' now = follows _ b h (same now) came (λ e. absurd (both_ways _ e refl)) turn
+      by [] false t' now = follows _ b h (same now) came (λ e. absurd (both_ways _ e refl)) turn
+      by [] true false now = follows _ b h (same now) came (λ e. absurd (both_ways _ e refl)) turn
+      by [] true true now = follows _ b h (same now) came (λ e. refl) turn

@@ -19,7 +19,7 @@ use Rattle.pace.specs.Going.{Going}
 use Rattle.pace.specs.Moves.{Move, MayEndWriting, MayWrite, MayClose}
 use Rattle.pace.specs.Rounds.{Moves}
 use Rattle.pace.specs.Moves.Move.{writes, closes, ends_writing}
-use Rattle.clean_finish.specs.Applications.{count_of, is_writing, WriterIs, WriterShows, WriterGoes}
+use Rattle.clean_finish.specs.Writing.{count_of, is_writing, WriterIs, WriterShows, WriterGoes}
 
 -- more marks count no fewer acknowledged bytes
 marks_more : (n : ℕ) (xs ys : List ByteMark) → fold (λ m x. m + cond (is_acked x) 1 0) n xs ≤ fold (λ m x. m + cond (is_acked x) 1 0) n (xs ++ ys)

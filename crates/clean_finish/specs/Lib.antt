@@ -3,3 +3,4 @@ pub mod Bound
 pub mod Laws
 pub mod Machine
 pub mod Reading
+pub mod Writing

@@ -1,9 +1,11 @@
 -- What a lane knows of the machine: facts about single parts of it.
-use Rattle.std.specs.Prelude.{ℕ, ◌≡◌, ◌+◌, ◌<◌, ◌≤◌, Bool, cond, ◌||◌, if◌then◌else◌, Option, Some, None, List, length, map, All}
+use Rattle.std.specs.Prelude.{ℕ, ◌≡◌, ◌+◌, ◌<◌, ◌≤◌, Bool, cond, ◌||◌, if◌then◌else◌, Option, Some, None, List, length, map, All, false, [], ◌∷◌}
 use Rattle.outside_kit.specs.declared.side.Side.{Side}
+use Rattle.link_script.specs.Places.{same_side}
 use Rattle.link_model.specs.declared.flight.Flight.{Flight}
 use Rattle.link_model.specs.State.{LinkState}
-use Rattle.link_model.specs.Steps.{peer, due_of, arriving, after_delivery, next_number}
+use Rattle.link_model.specs.Laws.{going_to}
+use Rattle.link_model.specs.Steps.{peer, due_of, arriving, after_delivery, with_flight, next_number, after_send}
 use Rattle.loss_recovery.specs.declared.timers.Timing.{Timing}
 use Rattle.loss_recovery.specs.Timers.{opening, heard, measured, timer_settled, settled, stopped}
 use Rattle.subflow_send.specs.Records.{Record, SendState, occupied, span_of, Tile}
@@ -44,14 +46,26 @@ abbrev pub FlightsAreSmall : Type 0
 FlightsAreSmall = (payload : ℕ) (v : SendState) → Tile v.una v.nxt (map span_of v.records) → All (IsPiece payload) v.records
     → flight v + v.una < v.nxt + payload + 1
 
--- ---- a link on which nothing happens
+-- ---- a link on which nothing happens: the laws are of octets, their lemmas of all that can be carried
 
-module _ {C : Type 0} where
-  -- the first copy is the one that arrives, and the others stay
-  pub record HeadArrives (f : Flight C) (rest : List (Flight C)) (link : LinkState C) : Type 0 where
-    pub found : arriving (due_of f) link ≡ Some f
-    pub gone : after_delivery (due_of f) link ≡ record link { under_way = rest }
+-- the first copy is the one that arrives, and the others stay
+pub record HeadArrives {C : Type 0} (f : Flight C) (rest : List (Flight C)) (link : LinkState C) : Type 0 where
+  pub found : arriving (due_of f) link ≡ Some f
+  pub gone : after_delivery (due_of f) link ≡ record link { under_way = rest }
 
-  -- the copy of a segment that is sent now
-  abbrev pub copy_of : Side → C → ℕ → LinkState C → Flight C
-  copy_of from carried now link = record { tick = now + link.delay; to = peer from; number = next_number from link; carried = carried }
+-- the copy of a segment that is sent now
+abbrev pub copy_of : {C : Type 0} → Side → C → ℕ → LinkState C → Flight C
+copy_of from carried now link = record { tick = now + link.delay; to = peer from; number = next_number from link; carried = carried }
+
+abbrev pub HeadsArrive : Type 0
+HeadsArrive = (f : Flight (List ℕ)) (rest : List (Flight (List ℕ))) (link : LinkState (List ℕ)) → HeadArrives f rest (record link { under_way = f ∷ rest })
+
+-- a segment goes as it is, a delay later, where no line says anything
+abbrev pub SegmentsGoPlainly : Type 0
+SegmentsGoPlainly = (strip alter : Side → List ℕ → List ℕ) (from : Side) (octets : List ℕ) (now : ℕ) (link : LinkState (List ℕ)) → link.lines ≡ []
+    → (after_send strip alter from octets now link).under_way ≡ with_flight (copy_of from octets now link) link.under_way
+
+-- a copy more that goes to one side leaves those that go to the other
+abbrev pub OthersStay : Type 0
+OthersStay = (s : Side) (f : Flight (List ℕ)) (flights : List (Flight (List ℕ))) → same_side f.to s ≡ false
+    → going_to s (with_flight f flights) ≡ going_to s flights

@@ -6,7 +6,7 @@ use Rattle.stream_apps.specs.declared.duty.AppDuty.TheVariants.{Write, Close, Re
 use Rattle.stream_apps.specs.Apps.{AppState}
 use Rattle.pace.specs.Lane.{Setting, Lane, Reader, Stage}
 use Rattle.pace.specs.Rounds.{Moves}
-use Rattle.clean_finish.specs.Applications.{count_of}
+use Rattle.clean_finish.specs.Writing.{count_of}
 
 -- the application has still to write, to close or to read
 abbrev pub is_reading : List AppDuty → Bool

@@ -9,6 +9,7 @@ mod laws;
 
 pub use bound::rounds_enough;
 pub use laws::{
-    clean_lanes_finish, examples_of_bounds, flights_are_small, timeouts_stay_long,
+    applications_read_as_lanes_do, applications_write_as_lanes_do, clean_lanes_finish,
+    clean_links_are_lists, examples_of_bounds, flights_are_small, timeouts_stay_long,
     timers_settle_as_in_lanes,
 };
