@@ -12,7 +12,8 @@ use Rattle.clean_finish.specs.Machine.{seen_timer, SettlesAsALane, IsLong, Stays
 pub settles_as_a_lane : SettlesAsALane
 settles_as_a_lane reason restart now t = by reason (t.news || restart) t.timer
   where
-    by : (runs news : Bool) (o : Option ℕ) → (if runs then (if is_none o || news then Some (now + t.rtt.rto) else o) else None)
+    by : (runs news : Bool) (o : Option ℕ)
+        → (if runs then (if is_none o || news then Some (now + t.rtt.rto) else o) else None)
         ≡ cond runs (Some (tick_or (now + t.rtt.rto) (seen_timer news o))) None
     by false news o = refl
     by true true None = refl

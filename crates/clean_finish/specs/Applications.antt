@@ -1,5 +1,6 @@
--- What the steps of an application are to the two lanes of its side: the one that it writes to, and the one that it reads from.
-use Rattle.std.specs.Prelude.{ℕ, ◌≡◌, ◌≤◌, true, false, List, [], ◌∷◌, length}
+-- What the steps of an application are to the two lanes of its side: the one that it writes to, and the one
+-- that it reads from.
+use Rattle.std.specs.Prelude.{ℕ, ◌≡◌, ◌≤◌, true, false, [], ◌∷◌, length}
 use Rattle.reassembly_book.specs.State.{Arriving, received}
 use Rattle.reassembly_book.specs.Steps.{read_reply, after_read}
 use Rattle.send_book.specs.State.{Sending}
@@ -14,8 +15,10 @@ use Rattle.clean_finish.specs.Writing.{WriterIs, WriterShows, WriterGoes}
 use Rattle.clean_finish.specs.Reading.{is_reading, ReaderIs, ReaderShows, ReaderGoes}
 
 -- P holds of each lane in a round, with an application and a book
-abbrev pub WithBook : {B : Type 0} → ((k : Setting) (s : Lane) (p : Stage) (w : Lane) (a : AppState) (b : B) → Type 0) → Type 0
-WithBook {B} P = (k : Setting) (s : Lane) (t : ℕ) (p : Stage) (w : Lane) (a : AppState) (b : B) → Going k s t p w → P k s p w a b
+abbrev pub WithBook : {B : Type 0}
+    → ((k : Setting) (s : Lane) (p : Stage) (w : Lane) (a : AppState) (b : B) → Type 0) → Type 0
+WithBook {B} P = (k : Setting) (s : Lane) (t : ℕ) (p : Stage) (w : Lane) (a : AppState) (b : B) → Going k s t p w
+    → P k s p w a b
 
 -- it writes, as far as its book has room; files are of 16 MiB at most
 abbrev pub WritesAsALane : Type 0
@@ -25,12 +28,14 @@ WritesAsALane = WithBook {B = Sending} (λ k s p w a b. WriterShows k w a b → 
 
 -- it closes its stream
 abbrev pub ClosesAsALane : Type 0
-ClosesAsALane = WithBook {B = Sending} (λ k s p w a b. WriterShows k w a b → a.agenda ≡ Close ∷ Read ∷ End ∷ [] → a.rest ≡ []
+ClosesAsALane =
+    WithBook {B = Sending} (λ k s p w a b. WriterShows k w a b → a.agenda ≡ Close ∷ Read ∷ End ∷ [] → a.rest ≡ []
     → WriterGoes k s p w (app_takes (replies.Send (close_reply b)) a) (after_close b))
 
 -- its next turn begins
 abbrev pub BeginsToWriteAsALane : Type 0
-BeginsToWriteAsALane = WithBook {B = Sending} (λ k s p w a b. WriterIs k w.written w.closed w.acked a b → w.writer_over ≡ false
+BeginsToWriteAsALane =
+    WithBook {B = Sending} (λ k s p w a b. WriterIs k w.written w.closed w.acked a b → w.writer_over ≡ false
     → WriterGoes k s p w (app_next_round a) b)
 
 -- it reads at most so many octets at once
@@ -41,12 +46,16 @@ ReadsAsALane = WithBook {B = Arriving} (λ k s p w a b. ReaderShows k w a b → 
 
 -- what it does else leaves what it reads, and its turn may be over only where it was told the end
 abbrev pub FollowsAsALane : Type 0
-FollowsAsALane = WithBook {B = Arriving} (λ k s p w a b. ReaderIs k w.read w.data_fin_came w.got w.told_end a b → w.received ≡ received b
+FollowsAsALane =
+    WithBook {B = Arriving}
+    (λ k s p w a b. ReaderIs k w.read w.data_fin_came w.got w.told_end a b → w.received ≡ received b
     → (is_reading a.agenda ≡ false → a.told ≡ true) → w.reader_over ≡ false
     → ReaderGoes k s p w a b)
 
 -- its next turn begins
 abbrev pub BeginsToReadAsALane : Type 0
-BeginsToReadAsALane = WithBook {B = Arriving} (λ k s p w a b. ReaderIs k w.read w.data_fin_came w.got w.told_end (record a { count = 0 }) b
+BeginsToReadAsALane =
+    WithBook {B = Arriving} (λ k s p w a b. ReaderIs k w.read w.data_fin_came w.got w.told_end
+    (record a { count = 0 }) b
     → w.received ≡ received b → w.reader_over ≡ false
     → ReaderGoes k s p w (app_next_round a) b)

@@ -21,7 +21,8 @@ seen_timer news timer = if news then None else timer
 -- settling is the lane's rule
 abbrev pub SettlesAsALane : Type 0
 SettlesAsALane = (reason restart : Bool) (now : ℕ) (t : Timing)
-    → timer_settled reason restart now t ≡ cond reason (Some (tick_or (now + t.rtt.rto) (seen_timer (t.news || restart) t.timer))) None
+    → timer_settled reason restart now t ≡ cond reason (Some
+    (tick_or (now + t.rtt.rto) (seen_timer (t.news || restart) t.timer))) None
 
 -- a timeout of a second or more
 abbrev pub IsLong : Timing → Type 0
@@ -41,7 +42,8 @@ pub record StaysLong : Type 0 where
 abbrev pub IsPiece : ℕ → Record → Type 0
 IsPiece payload r = (length r.piece ≤ payload) × (length r.piece ≤ occupied r.kind r.piece)
 
--- The flight is less than what isn't acknowledged and one payload, of which the first record may be acknowledged in part.
+-- The flight is less than what isn't acknowledged and one payload, of which the first record may be
+-- acknowledged in part.
 abbrev pub FlightsAreSmall : Type 0
 FlightsAreSmall = (payload : ℕ) (v : SendState) → Tile v.una v.nxt (map span_of v.records) → All (IsPiece payload) v.records
     → flight v + v.una < v.nxt + payload + 1
@@ -55,14 +57,18 @@ pub record HeadArrives {C : Type 0} (f : Flight C) (rest : List (Flight C)) (lin
 
 -- the copy of a segment that is sent now
 abbrev pub copy_of : {C : Type 0} → Side → C → ℕ → LinkState C → Flight C
-copy_of from carried now link = record { tick = now + link.delay; to = peer from; number = next_number from link; carried = carried }
+copy_of from carried now link =
+    record { tick = now + link.delay; to = peer from; number = next_number from link; carried = carried }
 
 abbrev pub HeadsArrive : Type 0
-HeadsArrive = (f : Flight (List ℕ)) (rest : List (Flight (List ℕ))) (link : LinkState (List ℕ)) → HeadArrives f rest (record link { under_way = f ∷ rest })
+HeadsArrive = (f : Flight (List ℕ)) (rest : List (Flight (List ℕ))) (link : LinkState (List ℕ))
+    → HeadArrives f rest (record link { under_way = f ∷ rest })
 
 -- a segment goes as it is, a delay later, where no line says anything
 abbrev pub SegmentsGoPlainly : Type 0
-SegmentsGoPlainly = (strip alter : Side → List ℕ → List ℕ) (from : Side) (octets : List ℕ) (now : ℕ) (link : LinkState (List ℕ)) → link.lines ≡ []
+SegmentsGoPlainly =
+    (strip alter : Side → List ℕ → List ℕ) (from : Side) (octets : List ℕ) (now : ℕ) (link : LinkState (List ℕ))
+    → link.lines ≡ []
     → (after_send strip alter from octets now link).under_way ≡ with_flight (copy_of from octets now link) link.under_way
 
 -- a copy more that goes to one side leaves those that go to the other

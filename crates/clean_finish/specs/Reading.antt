@@ -1,8 +1,8 @@
 -- How the reader of a lane shows in an application and its reassembly book.
-use Rattle.std.specs.Prelude.{ℕ, zero, suc, ◌≡◌, ◌≤◌, Bool, true, false, not, Option, None, Some, List, [], ◌∷◌}
+use Rattle.std.specs.Prelude.{ℕ, zero, suc, ◌≡◌, Bool, true, false, not, Option, None, Some, List, ◌∷◌}
 use Rattle.reassembly_book.specs.State.{Arriving, received}
 use Rattle.stream_apps.specs.declared.duty.AppDuty.{AppDuty}
-use Rattle.stream_apps.specs.declared.duty.AppDuty.TheVariants.{Write, Close, Read, End}
+use Rattle.stream_apps.specs.declared.duty.AppDuty.TheVariants.{Write, Close, Read}
 use Rattle.stream_apps.specs.Apps.{AppState}
 use Rattle.pace.specs.Lane.{Setting, Lane, Reader, Stage}
 use Rattle.pace.specs.Rounds.{Moves}

@@ -2,7 +2,7 @@
 use Rattle.std.specs.Prelude.{ℕ, ◌≡◌, ◌+◌, ◌≤◌, min, Bool, true, false, not, if◌then◌else◌, List, [], ◌∷◌, length}
 use Rattle.send_book.specs.State.{Sending, acked_len}
 use Rattle.stream_apps.specs.declared.duty.AppDuty.{AppDuty}
-use Rattle.stream_apps.specs.declared.duty.AppDuty.TheVariants.{Write, Close, Read, End}
+use Rattle.stream_apps.specs.declared.duty.AppDuty.TheVariants.{Write, Close}
 use Rattle.stream_apps.specs.Apps.{AppState}
 use Rattle.pace.specs.Lane.{Setting, Lane, Writer, Stage}
 use Rattle.pace.specs.Rounds.{Moves}
