@@ -14,7 +14,7 @@ use Rattle.pace.specs.Going.{Going}
 use Rattle.clean_finish.specs.Writing.{WriterIs, WriterShows, WriterGoes}
 use Rattle.clean_finish.specs.Reading.{is_reading, ReaderIs, ReaderShows, ReaderGoes}
 
--- P holds of each lane in a round, with an application and a book
+-- P holds of each lane at every moment of a round, with an application and a book
 abbrev pub WithBook : {B : Type 0}
     → ((k : Setting) (s : Lane) (p : Stage) (w : Lane) (a : AppState) (b : B) → Type 0) → Type 0
 WithBook {B} P = (k : Setting) (s : Lane) (t : ℕ) (p : Stage) (w : Lane) (a : AppState) (b : B) → Going k s t p w
@@ -22,7 +22,8 @@ WithBook {B} P = (k : Setting) (s : Lane) (t : ℕ) (p : Stage) (w : Lane) (a : 
 
 -- it writes, as far as its book has room; files are of 16 MiB at most
 abbrev pub WritesAsALane : Type 0
-WritesAsALane = WithBook {B = Sending} (λ k s p w a b. WriterShows k w a b → a.agenda ≡ Write ∷ Close ∷ Read ∷ End ∷ []
+WritesAsALane =
+    WithBook {B = Sending} (λ k s p w a b. WriterShows k w a b → a.agenda ≡ Write ∷ Close ∷ Read ∷ End ∷ []
     → 1 ≤ length a.rest → k.total ≤ 16777216
     → WriterGoes k s p w (app_takes (replies.Send (write_reply (offered a) b)) a) (after_write (offered a) b))
 
@@ -40,7 +41,8 @@ BeginsToWriteAsALane =
 
 -- it reads at most so many octets at once
 abbrev pub ReadsAsALane : Type 0
-ReadsAsALane = WithBook {B = Arriving} (λ k s p w a b. ReaderShows k w a b → a.agenda ≡ Read ∷ End ∷ [] → a.told ≡ false
+ReadsAsALane =
+    WithBook {B = Arriving} (λ k s p w a b. ReaderShows k w a b → a.agenda ≡ Read ∷ End ∷ [] → a.told ≡ false
     → (most : ℕ) → 1 ≤ most
     → ReaderGoes k s p w (app_takes (replies.Reassembly (read_reply most b)) a) (after_read most b))
 
@@ -55,7 +57,7 @@ FollowsAsALane =
 -- its next turn begins
 abbrev pub BeginsToReadAsALane : Type 0
 BeginsToReadAsALane =
-    WithBook {B = Arriving} (λ k s p w a b. ReaderIs k w.read w.data_fin_came w.got w.told_end
-    (record a { count = 0 }) b
+    WithBook {B = Arriving}
+    (λ k s p w a b. ReaderIs k w.read w.data_fin_came w.got w.told_end (record a { count = 0 }) b
     → w.received ≡ received b → w.reader_over ≡ false
     → ReaderGoes k s p w (app_next_round a) b)

@@ -21,8 +21,8 @@ seen_timer news timer = if news then None else timer
 -- settling is the lane's rule
 abbrev pub SettlesAsALane : Type 0
 SettlesAsALane = (reason restart : Bool) (now : ℕ) (t : Timing)
-    → timer_settled reason restart now t ≡ cond reason (Some
-    (tick_or (now + t.rtt.rto) (seen_timer (t.news || restart) t.timer))) None
+    → timer_settled reason restart now t
+    ≡ cond reason (Some (tick_or (now + t.rtt.rto) (seen_timer (t.news || restart) t.timer))) None
 
 -- a timeout of a second or more
 abbrev pub IsLong : Timing → Type 0

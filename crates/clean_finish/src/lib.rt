@@ -1,7 +1,9 @@
 //! After how many rounds the run of a clean script has finished: one path, on which nothing happens.
 //!
 //! The bound, and what it rests on: `pace` says after how many rounds both ends of a connection are told where its two
-//! directions go on as `pace` lets them, and a clean script's numbers meet what `pace` assumes. Nothing here takes memory.
+//! directions go on as lanes, and a clean script's numbers meet what `pace` assumes. Of the machine the applications,
+//! the timer of an end, its flight and the link are shown to go on so; paths and their books aren't yet. Nothing here
+//! takes memory.
 #![tactic(auto)]
 
 mod bound;
