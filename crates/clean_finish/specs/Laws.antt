@@ -9,8 +9,8 @@ use Rattle.pace.specs.Lane.{Setting, Lane}
 use Rattle.pace.specs.Rounds.{Course}
 use Rattle.clean_finish.specs.Bound.{enough}
 
--- The numbers of a lane: a window update is due once the window has grown by half the buffer or by two segments
--- (RFC 9293, section 3.8.6.2.2), and a timeout is a second at least (RFC 6298, section 2.4).
+-- The numbers of a lane: a window update is due once the window has grown by half the buffer or by two
+-- segments (RFC 9293, section 3.8.6.2.2), and a timeout is a second at least (RFC 6298, section 2.4).
 abbrev pub setting_of : PathLine → ℕ → ℕ → Setting
 setting_of path buffer length = record {
   delay = path.delay;
@@ -22,9 +22,9 @@ setting_of path buffer length = record {
   rto = 1000;
 }
 
--- Where both directions of a connection by the script go on as lanes, both readers are told the end within the
--- rounds that are enough, the first among them. Both congestion windows begin with two segments more than the
--- payload that the lane leaves out of its window.
+-- Where both directions of a connection by the script go on as lanes, both readers are told the end within
+-- the rounds that are enough, the first among them. Both congestion windows begin with two segments more than
+-- the payload that the lane leaves out of its window.
 abbrev pub CleanLanesFinish : Type 0
 CleanLanesFinish = (script : Script) (path : PathLine) (length_a length_b rounds : ℕ)
     → HasRanges script → script.paths ≡ path ∷ [] → enough script length_a length_b ≡ Some rounds

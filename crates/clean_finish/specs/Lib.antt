@@ -1,2 +1,6 @@
+pub mod Applications
 pub mod Bound
 pub mod Laws
+pub mod Machine
+pub mod Reading
+pub mod Writing

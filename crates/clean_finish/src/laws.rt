@@ -1,6 +1,8 @@
 //! What the bound rests on, as clauses of functions that do nothing.
 ghost use Rattle.std.specs.Prelude.{◌≡◌, Some, None};
 ghost use Rattle.clean_finish.specs.Bound.{enough};
+ghost use Rattle.clean_finish.specs.Applications.{WritesAsALane, ClosesAsALane, BeginsToWriteAsALane, ReadsAsALane, FollowsAsALane, BeginsToReadAsALane};
+ghost use Rattle.clean_finish.specs.Machine.{SettlesAsALane, StaysLong, FlightsAreSmall, HeadsArrive, SegmentsGoPlainly, OthersStay};
 ghost use Rattle.clean_finish.specs.Laws.{CleanLanesFinish, one_path, two_paths, one_drop};
 
 /// A law: where both directions of a connection go on as lanes of `pace`, by the numbers of a clean script, both readers
@@ -16,4 +18,43 @@ pub fn examples_of_bounds()
     ensures long { enough one_path 100000 0 ≡ Some 1248 }
     ensures paths { enough two_paths 100000 0 ≡ None }
     ensures drops { enough one_drop 5 0 ≡ None }
+{}
+
+/// A law: the timer of an end is settled as that of a lane is, where what is new has stopped it before.
+pub fn timers_settle_as_in_lanes()
+    ensures { SettlesAsALane }
+{}
+
+/// A law: as long as no timer runs out a timeout is a second or more.
+pub fn timeouts_stay_long()
+    ensures { StaysLong }
+{}
+
+/// A law: the flight of an end is less than what isn't acknowledged, and a payload.
+pub fn flights_are_small()
+    ensures { FlightsAreSmall }
+{}
+
+/// A law: what an application writes is moves of the lane that it writes to (`writes`, `closes`), also as its turn begins
+/// (`begins`).
+pub fn applications_write_as_lanes_do()
+    ensures writes { WritesAsALane }
+    ensures closes { ClosesAsALane }
+    ensures begins { BeginsToWriteAsALane }
+{}
+
+/// A law: what an application reads is moves of the lane that it reads from (`reads`), also as its turn begins (`begins`);
+/// what it does else leaves that as it is, or ends its reading after the end (`follows`).
+pub fn applications_read_as_lanes_do()
+    ensures reads { ReadsAsALane }
+    ensures follows { FollowsAsALane }
+    ensures begins { BeginsToReadAsALane }
+{}
+
+/// A law: on a link of which no line speaks a segment goes as it is, a delay later (`plainly`), and leaves the copies of the
+/// other direction (`others`); the copy that arrives next is the first of the list (`first`).
+pub fn clean_links_are_lists()
+    ensures first { HeadsArrive }
+    ensures plainly { SegmentsGoPlainly }
+    ensures others { OthersStay }
 {}

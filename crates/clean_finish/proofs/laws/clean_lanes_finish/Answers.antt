@@ -13,8 +13,10 @@ returns c script path length_a length_b rounds ranges one told a b wide wide_bac
     let line : IsPath path = All-head IsPath path [] (subst (λ (ps : List PathLine). All IsPath ps) one ranges.paths) in
     let bound = bound_is script.paths script.lines path length_a length_b rounds one told in
     let n = max (segments path.mss length_a) (segments path.mss length_b) in
-    let there = in_more (segments path.mss length_a) n _ length_a (in_segments path.mss length_a line.mss.least) (omega arith) in
-    let back = in_more (segments path.mss length_b) n _ length_b (in_segments path.mss length_b line.mss.least) (omega arith) in
+    let there = in_more (segments path.mss length_a) n _ length_a (in_segments path.mss length_a line.mss.least)
+    (omega arith) in
+    let back = in_more (segments path.mss length_b) n _ length_b (in_segments path.mss length_b line.mss.least)
+    (omega arith) in
     courses_told (setting_of path script.buffer length_a) (setting_of path script.buffer length_b)
     (in_ranges path script.buffer length_a line ranges.buffer) (in_ranges path script.buffer length_b line ranges.buffer)
     a b (omega (arith, wide)) (omega (arith, wide_back)) n more there back (omega (arith, bound, long)) u x course

@@ -1,0 +1,64 @@
+-- A link on which nothing happens.
+use Rattle.std.proofs.Common.{◌≡◌, refl, sym, ap, subst, ℕ, Bool, true, false, if◌then◌else◌, Option, Some, List, [], ◌∷◌, filter, find, position, eq-eqb, lt-ltb, length, suc, arith}
+use Rattle.outside_kit.specs.declared.side.Side.{Side}
+use Rattle.outside_kit.specs.declared.side.Side.TheVariants.{A, B}
+use Rattle.link_script.specs.declared.script.ScriptLine.{ScriptLine}
+use Rattle.link_script.specs.Places.{same_side}
+use Rattle.link_model.specs.declared.flight.Flight.{Flight}
+use Rattle.link_model.specs.State.{LinkState}
+use Rattle.link_model.specs.Steps.{without, is_due, due_of, with_flight, comes_before, after_send}
+use Rattle.link_model.specs.Laws.{going_to}
+use Rattle.clean_finish.specs.Machine.{HeadArrives, copy_of}
+
+find_head : {X : Type 0} (p : X → Bool) (x : X) (xs : List X) → p x ≡ true → find p (x ∷ xs) ≡ Some x
+find_head p x xs e = rw e refl
+
+position_head : {X : Type 0} (p : X → Bool) (x : X) (xs : List X) → p x ≡ true → position p (x ∷ xs) ≡ Some 0
+position_head p x xs e = rw e (rw (lt-ltb 0 (suc (length xs)) (omega arith)) refl)
+
+side_itself : (s : Side) → same_side s s ≡ true
+side_itself A = refl
+side_itself B = refl
+
+module _ {C : Type 0} where
+  due_itself : (f : Flight C) → is_due (due_of f) f ≡ true
+  due_itself f = rw (eq-eqb f.tick f.tick refl, side_itself f.to, eq-eqb f.number f.number refl) refl
+
+  pub head_arrives : (f : Flight C) (rest : List (Flight C)) (link : LinkState C)
+      → HeadArrives f rest (record link { under_way = f ∷ rest })
+  head_arrives f rest link = record {
+    found = find_head (is_due (due_of f)) f rest (due_itself f);
+    gone = ap (λ (place : Option ℕ). record link { under_way = without place (f ∷ rest) })
+        (position_head (is_due (due_of f)) f rest (due_itself f));
+  }
+
+  -- a sending leaves the other direction
+  pub going_with : (s : Side) (f : Flight C) (fs : List (Flight C)) → same_side f.to s ≡ false
+      → going_to s (with_flight f fs) ≡ going_to s fs
+  going_with s f [] other = rw other refl
+  going_with s f (g ∷ fs) other = by (comes_before f g) (same_side g.to s) (going_with s f fs other)
+    where
+      by : (first to : Bool) → going_to s (with_flight f fs) ≡ going_to s fs
+          → filter (λ h. same_side h.to s) (if first then f ∷ g ∷ fs else g ∷ with_flight f fs) ≡ filter
+          (λ h. same_side h.to s) (g ∷ fs)
+      by true to rest = rw other refl
+      by false to rest = ap (λ (hs : List (Flight C)). if same_side g.to s then g ∷ hs else hs) rest
+
+  -- a sending where no line says anything
+  pub sends_plainly : (strip alter : Side → C → C) (from : Side) (carried : C) (now : ℕ) (link : LinkState C)
+      → link.lines ≡ []
+      → (after_send strip alter from carried now link).under_way ≡ with_flight
+      (copy_of from carried now link) link.under_way
+  sends_plainly strip alter from carried now link none = by from link.lines none
+    where
+      by : (s : Side) (lines : List ScriptLine) → lines ≡ []
+          → (after_send strip alter s carried now (record link { lines = lines })).under_way ≡ with_flight
+          (copy_of s carried now link) link.under_way
+      by s lines e =
+          subst (λ (ls : List ScriptLine). (after_send strip alter s carried now (record link { lines = ls })).under_way
+          ≡ with_flight (copy_of s carried now link) link.under_way) (sym e) (plain s)
+        where
+          plain : (side : Side) → (after_send strip alter side carried now (record link { lines = [] })).under_way
+              ≡ with_flight (copy_of side carried now link) link.under_way
+          plain A = refl
+          plain B = refl

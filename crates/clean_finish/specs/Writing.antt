@@ -1,0 +1,41 @@
+-- How the writer of a lane shows in an application and its send book.
+use Rattle.std.specs.Prelude.{ℕ, ◌≡◌, ◌+◌, ◌≤◌, min, Bool, true, false, not, if◌then◌else◌, List, [], ◌∷◌, length}
+use Rattle.send_book.specs.State.{Sending, acked_len}
+use Rattle.stream_apps.specs.declared.duty.AppDuty.{AppDuty}
+use Rattle.stream_apps.specs.declared.duty.AppDuty.TheVariants.{Write, Close}
+use Rattle.stream_apps.specs.Apps.{AppState}
+use Rattle.pace.specs.Lane.{Setting, Lane, Writer, Stage}
+use Rattle.pace.specs.Rounds.{Moves}
+
+abbrev pub count_of : Bool → ℕ
+count_of b = if b then 1 else 0
+
+-- the application has still to write or to close
+abbrev pub is_writing : List AppDuty → Bool
+is_writing (Write ∷ ds) = true
+is_writing (Close ∷ ds) = true
+is_writing _ = false
+
+-- So much is written, closed (0 or 1) and heard to be acknowledged.
+pub record WriterIs (k : Setting) (written closed acked : ℕ) (a : AppState) (b : Sending) : Type 0 where
+  pub file : length b.written + length a.rest ≡ k.total
+  pub bytes : written ≡ length b.written
+  pub shut : closed ≡ count_of b.closed
+  pub told : a.closed ≡ b.closed
+  pub whole : b.closed ≡ true → a.rest ≡ []
+  -- the book knows all that was heard
+  pub heard : min acked (length b.written) ≤ acked_len b.marks
+  pub offers : a.buffer ≡ k.buffer
+  pub buffer : b.buffer ≡ k.buffer
+  pub unaborted : b.aborted ≡ false
+
+pub record WriterShows (k : Setting) (w : Lane) (a : AppState) (b : Sending) : Type 0 where
+  pub numbers : WriterIs k w.written w.closed w.acked a b
+  pub over : w.writer_over ≡ not (is_writing a.agenda)
+
+-- The writer of the lane goes on by moves, and shows in this application and book.
+pub record WriterGoes (k : Setting) (s : Lane) (p : Stage) (w : Lane) (a : AppState) (b : Sending) : Type 0 where
+  pub writer : Writer
+  pub count : ℕ
+  pub moves : Moves k s count p w p (record w { writer = writer })
+  pub shows : WriterShows k (record w { writer = writer }) a b
