@@ -1,4 +1,5 @@
 pub mod Applications
+pub mod Books
 pub mod Bound
 pub mod Laws
 pub mod Machine

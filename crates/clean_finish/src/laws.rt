@@ -2,6 +2,7 @@
 ghost use Rattle.std.specs.Prelude.{◌≡◌, Some, None};
 ghost use Rattle.clean_finish.specs.Bound.{enough};
 ghost use Rattle.clean_finish.specs.Applications.{WritesAsALane, ClosesAsALane, BeginsToWriteAsALane, ReadsAsALane, FollowsAsALane, BeginsToReadAsALane};
+ghost use Rattle.clean_finish.specs.Books.{AckOutAsksAsLanes, AckInHearsAsLanes};
 ghost use Rattle.clean_finish.specs.Machine.{SettlesAsALane, StaysLong, FlightsAreSmall, HeadsArrive, SegmentsGoPlainly, OthersStay};
 ghost use Rattle.clean_finish.specs.Laws.{CleanLanesFinish, one_path, two_paths, one_drop};
 
@@ -57,4 +58,11 @@ pub fn clean_links_are_lists()
     ensures first { HeadsArrive }
     ensures plainly { SegmentsGoPlainly }
     ensures others { OthersStay }
+{}
+
+/// A law: what a reassembly book answers to AckOut is what its lane may tell (`asks`), and a send book that is told a Data
+/// ACK knows what its lane heard (`hears`).
+pub fn books_answer_as_lanes_do()
+    ensures asks { AckOutAsksAsLanes }
+    ensures hears { AckInHearsAsLanes }
 {}

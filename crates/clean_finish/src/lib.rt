@@ -2,8 +2,8 @@
 //!
 //! The bound, and what it rests on: `pace` says after how many rounds both ends of a connection are told where its two
 //! directions go on as lanes, and a clean script's numbers meet what `pace` assumes. Of the machine the applications,
-//! the timer of an end, its flight and the link are shown to go on so; paths and their books aren't yet. Nothing here
-//! takes memory.
+//! the timer of an end, its flight, the link, and what books answer to AckOut and AckIn are shown to go on so; paths aren't
+//! yet. Nothing here takes memory.
 #![tactic(auto)]
 
 mod bound;
@@ -11,7 +11,7 @@ mod laws;
 
 pub use bound::rounds_enough;
 pub use laws::{
-    applications_read_as_lanes_do, applications_write_as_lanes_do, clean_lanes_finish,
-    clean_links_are_lists, examples_of_bounds, flights_are_small, timeouts_stay_long,
-    timers_settle_as_in_lanes,
+    applications_read_as_lanes_do, applications_write_as_lanes_do, books_answer_as_lanes_do,
+    clean_lanes_finish, clean_links_are_lists, examples_of_bounds, flights_are_small,
+    timeouts_stay_long, timers_settle_as_in_lanes,
 };
