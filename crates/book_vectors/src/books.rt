@@ -11,50 +11,97 @@ mod words;
 use case_fields::CaseFault;
 use control::open_control;
 use control_book::ControlBook;
-use reassembly::{Reading, open_reassembly};
-use send::{Writing, open_send};
-use std::alloc::Global;
+use outside_kit::Side;
+use reassembly::{Reading, empty_reassembly, open_reassembly};
+use send::{Writing, empty_send, open_send};
+use std::alloc::{AllocError, Global};
 
-/// The book that is asked.
-#[derive(Drop)]
-pub enum Open {
+/// Which book is asked.
+#[derive(Clone, Copy)]
+enum Which {
     Nothing,
-    Send(Writing),
-    Reassembly(Reading),
-    Control(ControlBook),
+    Send,
+    Reassembly,
+    Control,
 }
 
-/// The book that a line opens, if it is one that does.
-fn opened(alloc: Global, name: &str, fields: &[&str]) -> Result<Option<Open>, CaseFault> {
-    match name {
-        "send" => Ok(Some(Open::Send(open_send(alloc, fields)?))),
-        "reassembly" => Ok(Some(Open::Reassembly(open_reassembly(alloc, fields)?))),
-        "control" => Ok(Some(Open::Control(open_control(alloc, fields)?))),
-        _ => Ok(None),
+/// The books that were opened last, and which of them is asked.
+#[derive(Drop)]
+pub struct Books {
+    which: Which,
+    send: Writing,
+    reassembly: Reading,
+    control: ControlBook,
+}
+
+impl Books {
+    /// Books of which none is asked.
+    pub fn new(alloc: Global) -> Result<Self, AllocError> {
+        Ok(Books {
+            which: Which::Nothing,
+            send: empty_send(alloc),
+            reassembly: empty_reassembly(alloc)?,
+            control: ControlBook::new(alloc, Side::A, 0)?,
+        })
     }
-}
 
-/// The words of the open book's reply.
-fn asked(alloc: Global, open: &mut Open, name: &str, fields: &[&str]) -> Result<String, CaseFault> {
-    match open {
-        Open::Nothing => Err(CaseFault::Form),
-        Open::Send(book) => send::asked(alloc, book, name, fields),
-        Open::Reassembly(book) => reassembly::asked(alloc, book, name, fields),
-        Open::Control(book) => control::asked(alloc, book, name, fields),
+    fn open_send(&mut self, alloc: Global, fields: &[&str]) -> Result<(), CaseFault> {
+        self.send = open_send(alloc, fields)?;
+        self.which = Which::Send;
+        Ok(())
+    }
+
+    fn open_reassembly(&mut self, alloc: Global, fields: &[&str]) -> Result<(), CaseFault> {
+        self.reassembly = open_reassembly(alloc, fields)?;
+        self.which = Which::Reassembly;
+        Ok(())
+    }
+
+    fn open_control(&mut self, alloc: Global, fields: &[&str]) -> Result<(), CaseFault> {
+        self.control = open_control(alloc, fields)?;
+        self.which = Which::Control;
+        Ok(())
+    }
+
+    /// The words of the open book's reply.
+    fn asked(&mut self, alloc: Global, name: &str, fields: &[&str]) -> Result<String, CaseFault> {
+        match self.which {
+            Which::Nothing => Err(CaseFault::Form),
+            Which::Send => send::asked(alloc, &mut self.send, name, fields),
+            Which::Reassembly => reassembly::asked(alloc, &mut self.reassembly, name, fields),
+            Which::Control => control::asked(alloc, &mut self.control, name, fields),
+        }
+    }
+
+    /// Opens the book that these words tell.
+    fn open(&mut self, alloc: Global, name: &str, fields: &[&str]) -> Result<(), CaseFault> {
+        match name {
+            "send" => self.open_send(alloc, fields),
+            "reassembly" => self.open_reassembly(alloc, fields),
+            _ => self.open_control(alloc, fields),
+        }
+    }
+
+    /// The answer to the words of a case.
+    fn answer_to(
+        &mut self,
+        alloc: Global,
+        name: &str,
+        fields: &[&str],
+    ) -> Result<String, CaseFault> {
+        if matches!(name, "send" | "reassembly" | "control") {
+            self.open(alloc, name, fields)?;
+            return Ok(String::from_str(alloc, "open")?);
+        }
+        self.asked(alloc, name, fields)
     }
 }
 
 /// The answer to a case.
-pub fn answer(alloc: Global, open: &mut Open, case: &str) -> Result<String, CaseFault> {
+pub fn answer(alloc: Global, books: &mut Books, case: &str) -> Result<String, CaseFault> {
     let words: Vec<&str> = case.split(' ').collect(alloc)?;
-    let Some((name, fields)) = words.as_slice().split_first() else {
-        return Err(CaseFault::Form);
-    };
-    match opened(alloc, name, fields)? {
-        Some(book) => {
-            *open = book;
-            Ok(String::from_str(alloc, "open")?)
-        }
-        None => asked(alloc, open, name, fields),
+    match words.as_slice() {
+        [name, fields @ ..] => books.answer_to(alloc, name, fields),
+        [] => Err(CaseFault::Form),
     }
 }

@@ -41,10 +41,20 @@ fn show(alloc: Global, end: &Subflow) -> Result<String, CaseFault> {
 /// The answer to a case.
 pub fn answer(alloc: Global, end: &mut Subflow, line: &str) -> Result<String, CaseFault> {
     let words: Vec<&str> = line.split(' ').collect(alloc)?;
-    let Some((name, fields)) = words.as_slice().split_first() else {
-        return Err(CaseFault::Form);
-    };
-    match *name {
+    match words.as_slice() {
+        [name, fields @ ..] => step(alloc, end, name, fields),
+        [] => Err(CaseFault::Form),
+    }
+}
+
+/// What a step answers.
+fn step(
+    alloc: Global,
+    end: &mut Subflow,
+    name: &str,
+    fields: &[&str],
+) -> Result<String, CaseFault> {
+    match name {
         "open" => begin(alloc, end, fields, true),
         "listen" => begin(alloc, end, fields, false),
         "arrive" => came::arrive(alloc, end, fields),

@@ -1,12 +1,11 @@
 //! `log CASE`: what `run_log` answers.
 //!
 //! - `note STAMP ACTOR OBJECT ASK` and, at a book, ` => REPLY`: the line of that note. ASK and REPLY are the names of
-//!   variants with their numbers, as the head of each file says.
+//!   variants with their numbers, as the heads of `note.rt` and `reply.rt` say.
 //! - `opening WIDTH A B`, `round N`, `outcome NAME`: these lines.
 //! - `text ACTORS WIDTH TEXT`, where `;` stands for LF, and `octets ACTORS WIDTH HEX`: `ok` and the turns that the text tells,
 //!   an actor by its number and the end of a round as `/`, or the first line that is refused.
 
-mod call;
 mod note;
 mod reply;
 

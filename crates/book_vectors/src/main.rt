@@ -7,20 +7,21 @@
 #![tactic(auto)]
 
 mod books;
+mod calls;
 mod ends;
 mod logs;
 mod pairs;
 
-use books::Open;
+use books::Books;
 use case_fields::CaseFault;
 use std::alloc::{AllocError, Global};
 use std::io::{self, BufWriter, Write};
 use subflow_tcp::Subflow;
 
-/// What the cases go on with: the book and the end that were opened last.
+/// What the cases go on with: the books and the end that were opened last.
 #[derive(Drop)]
 struct Opened {
-    book: Open,
+    books: Books,
     end: Subflow,
 }
 
@@ -29,14 +30,26 @@ fn answer(alloc: Global, opened: &mut Opened, line: &str) -> Result<String, Case
     let Some((part, case)) = line.split_once(" ") else {
         return Err(CaseFault::Form);
     };
-    let answer = match part {
-        "book" => books::answer(alloc, &mut opened.book, case)?,
-        "end" => ends::answer(alloc, &mut opened.end, case)?,
-        "pair" => pairs::answer(alloc, case)?,
-        "log" => return logs::answer(alloc, case),
-        _ => return Err(CaseFault::Form),
-    };
+    if part == "log" {
+        return logs::answer(alloc, case);
+    }
+    let answer = part_answer(alloc, opened, part, case)?;
     Ok(format!(in alloc; "{line} = {answer}")?)
+}
+
+/// What a part answers.
+fn part_answer(
+    alloc: Global,
+    opened: &mut Opened,
+    part: &str,
+    case: &str,
+) -> Result<String, CaseFault> {
+    match part {
+        "book" => books::answer(alloc, &mut opened.books, case),
+        "end" => ends::answer(alloc, &mut opened.end, case),
+        "pair" => pairs::answer(alloc, case),
+        _ => Err(CaseFault::Form),
+    }
 }
 
 /// What is printed for a line of input.
@@ -47,19 +60,24 @@ fn respond(alloc: Global, opened: &mut Opened, line: &str) -> Result<String, Cas
     answer(alloc, opened, line)
 }
 
-fn main(rt: HostRuntime) -> io::Result<()> {
-    let mut out = BufWriter::new(rt.alloc(), io::writer(&rt))?;
-    let mut opened = Opened {
-        book: Open::Nothing,
-        end: Subflow::open(rt.alloc(), 0, 0, 1_400),
-    };
+/// What is printed for each line of input.
+fn respond_all(rt: &HostRuntime, opened: &mut Opened) -> io::Result<()> {
+    let mut out = BufWriter::new(rt.alloc(), io::writer(rt))?;
     for line in rt.lines(rt.alloc()) {
         let line = line?;
-        match respond(rt.alloc(), &mut opened, line.as_str()) {
+        match respond(rt.alloc(), opened, line.as_str()) {
             Ok(text) => writeln!(out, "{text}")?,
             Err(CaseFault::Form) => writeln!(out, "not a case: {line}")?,
             Err(CaseFault::Memory) => return Err(AllocError.into()),
         }
     }
     out.flush()
+}
+
+fn main(rt: HostRuntime) -> io::Result<()> {
+    let mut opened = Opened {
+        books: Books::new(rt.alloc())?,
+        end: Subflow::open(rt.alloc(), 0, 0, 1_400),
+    };
+    respond_all(&rt, &mut opened)
 }

@@ -34,6 +34,15 @@ fn segments(alloc: Global, run: &Run) -> Result<String, AllocError> {
     format!(in alloc; "A {a}, B {b}")
 }
 
+/// What a case asks of a run.
+fn shown(alloc: Global, name: &str, run: &Run) -> Result<String, CaseFault> {
+    match name {
+        "ends" => Ok(ends(alloc, run)?),
+        "segments" => Ok(segments(alloc, run)?),
+        _ => Err(CaseFault::Form),
+    }
+}
+
 /// The answer to a case.
 pub fn answer(alloc: Global, line: &str) -> Result<String, CaseFault> {
     let Some((name, rest)) = line.split_once(" ") else {
@@ -43,9 +52,5 @@ pub fn answer(alloc: Global, line: &str) -> Result<String, CaseFault> {
         return links::link(alloc, rest);
     }
     let run = Run::of_case(alloc, Case::read(alloc, rest)?)?;
-    match name {
-        "ends" => Ok(ends(alloc, &run)?),
-        "segments" => Ok(segments(alloc, &run)?),
-        _ => Err(CaseFault::Form),
-    }
+    shown(alloc, name, &run)
 }

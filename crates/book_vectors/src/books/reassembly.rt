@@ -2,12 +2,15 @@
 //! lent of the bytes that can be read. `reversed AT N SIZE` places N made octets in pieces of SIZE, the last piece first,
 //! and tells how many were placed; `reads MAX` reads until nothing is left.
 
-ghost use Rattle.std.specs.Prelude.{IfOk, ◌≤◌, ◌^◌};
+ghost use Rattle.std.specs.Prelude.{IfOk, IsTrue, ◌≤◌, ◌^◌};
 ghost use Rattle.reassembly_book.specs.Steps.{CanAsk};
 
 use crate::books::octets::{made, octets_at, shown};
-use crate::books::words::bit;
-use case_fields::{CaseFault, parsed_at, truth_at};
+use crate::books::words::reply_words;
+use crate::calls::reassembly_call;
+use actor_desk::{Ask, Reply};
+use case_fields::{CaseFault, parsed_at};
+use outside_kit::Side;
 use pipe_model::Text;
 use reassembly_book::{ReassemblyBook, ReassemblyCall, ReassemblyReply};
 use stamped_book::Book;
@@ -21,6 +24,14 @@ const MOST: u64 = 1 << 32;
 pub struct Reading {
     book: ReassemblyBook,
     read: u64,
+}
+
+/// An empty book of a capacity of one byte.
+pub fn empty_reassembly(alloc: Global) -> Result<Reading, AllocError> {
+    Ok(Reading {
+        book: ReassemblyBook::new(alloc, 1)?,
+        read: 0,
+    })
 }
 
 /// An empty book of a capacity of 1 to 1,048,576 bytes.
@@ -58,52 +69,45 @@ fn placing(at: u64, bytes: Text) -> Result<ReassemblyCall, CaseFault>
     }
 }
 
-fn read_call(max: u32) -> Result<ReassemblyCall, CaseFault>
-    ensures { IfOk result (λ call. CanAsk call) }
+/// Whether the book may be asked this.
+fn may_ask(call: &ReassemblyCall) -> bool
+    ensures { IsTrue result → CanAsk call.now }
 {
-    if max < 1 {
-        return Err(CaseFault::Form);
+    match *call {
+        ReassemblyCall::Place { at, ref bytes } => at <= MOST && bytes.len() as u64 <= MOST,
+        ReassemblyCall::Fin { at } => at <= MOST,
+        ReassemblyCall::Read { max } => max >= 1,
+        _ => true,
     }
-    Ok(ReassemblyCall::Read { max })
 }
 
 /// The call of this name and these fields.
-fn call_of(alloc: Global, name: &str, fields: &[&str]) -> Result<ReassemblyCall, CaseFault>
-    ensures { IfOk result (λ call. CanAsk call) }
-{
-    match name {
-        "place" => {
-            let at = place_at(fields, 0)?;
-            placing(at, octets_at(alloc, fields, 1, at)?)
-        }
-        "fin" => Ok(ReassemblyCall::Fin {
-            at: place_at(fields, 0)?,
-        }),
-        "read" => read_call(parsed_at(fields, 0)?),
-        "ackout" => Ok(ReassemblyCall::AckOut),
-        "abort" => Ok(ReassemblyCall::Abort {
-            by_peer: truth_at(fields, 0)?,
-        }),
-        _ => Err(CaseFault::Form),
+fn call_of(alloc: Global, name: &str, fields: &[&str]) -> Result<ReassemblyCall, CaseFault> {
+    if name == "place" {
+        let at = place_at(fields, 0)?;
+        return placing(at, octets_at(alloc, fields, 1, at)?);
     }
+    reassembly_call(name, fields)
 }
 
-/// The words of a reply to a reader that has read so many bytes before.
-fn words_of(alloc: Global, read: u64, reply: &ReassemblyReply) -> Result<String, AllocError> {
+/// The words of a reply to a reader that has read so many bytes before: those of a log, but the octets as they are.
+fn words_of(alloc: Global, read: u64, reply: ReassemblyReply) -> Result<String, AllocError> {
+    if let ReassemblyReply::Bytes(bytes) = &reply {
+        let bytes = shown(alloc, read, bytes.as_bytes())?;
+        return format!(in alloc; "bytes {bytes}");
+    }
+    reply_words(
+        alloc,
+        Ask::Reassembly(Side::A, ReassemblyCall::AckOut),
+        Reply::Reassembly(reply),
+    )
+}
+
+/// How many bytes were read.
+fn count_of(reply: &ReassemblyReply) -> u64 {
     match reply {
-        ReassemblyReply::Placed(count) => format!(in alloc; "placed {count}"),
-        ReassemblyReply::Beyond { edge } => format!(in alloc; "beyond {edge}"),
-        ReassemblyReply::FinSet => format!(in alloc; "set"),
-        ReassemblyReply::FinClash { fin, at } => format!(in alloc; "clash {fin} {at}"),
-        ReassemblyReply::Bytes(bytes) => {
-            let bytes = shown(alloc, read, bytes.as_bytes())?;
-            format!(in alloc; "bytes {bytes}")
-        }
-        ReassemblyReply::End => format!(in alloc; "end"),
-        ReassemblyReply::NoneYet => format!(in alloc; "none"),
-        ReassemblyReply::Aborted { by_peer } => format!(in alloc; "aborted {}", bit(*by_peer)),
-        ReassemblyReply::Ack { next, window } => format!(in alloc; "ack {next} {window}"),
-        ReassemblyReply::Noted => format!(in alloc; "noted"),
+        ReassemblyReply::Bytes(bytes) => bytes.len() as u64,
+        _ => 0,
     }
 }
 
@@ -113,10 +117,8 @@ fn told(alloc: Global, reading: &mut Reading, call: &ReassemblyCall) -> Result<S
 {
     let before = reading.read;
     let reply = reading.book.apply(call)?;
-    if let ReassemblyReply::Bytes(bytes) = &reply {
-        reading.read = before.saturating_add(bytes.len() as u64);
-    }
-    words_of(alloc, before, &reply)
+    reading.read = before.saturating_add(count_of(&reply));
+    words_of(alloc, before, reply)
 }
 
 /// What is lent of the bytes that can be read.
@@ -154,24 +156,68 @@ fn reversed(alloc: Global, reading: &mut Reading, fields: &[&str]) -> Result<Str
     Ok(format!(in alloc; "{all}")?)
 }
 
-/// Reads until no bytes are left: how many were read and whether they are made ones, and the last reply.
-fn reads(alloc: Global, reading: &mut Reading, fields: &[&str]) -> Result<String, CaseFault> {
-    let max = parsed_at(fields, 0)?;
-    let mut all = Text::new(alloc);
-    let start = reading.read;
+/// Reads once, and keeps the bytes; the reply, where it is another one.
+fn read_more(
+    book: &mut ReassemblyBook,
+    call: &ReassemblyCall,
+    all: &mut Text,
+) -> Result<Option<ReassemblyReply>, AllocError>
+    requires { CanAsk call.now }
+{
+    match book.apply(call)? {
+        ReassemblyReply::Bytes(bytes) => {
+            all.append(bytes.as_bytes())?;
+            Ok(None)
+        }
+        reply => Ok(Some(reply)),
+    }
+}
+
+/// Reads until no bytes are left: the last reply.
+fn read_all(
+    book: &mut ReassemblyBook,
+    call: &ReassemblyCall,
+    all: &mut Text,
+) -> Result<ReassemblyReply, CaseFault>
+    requires { CanAsk call.now }
+{
     for _ in 0..10_000 {
-        let call = read_call(max)?;
-        match reading.book.apply(&call)? {
-            ReassemblyReply::Bytes(bytes) => all.append(bytes.as_bytes())?,
-            reply => {
-                reading.read = start.saturating_add(all.len() as u64);
-                let all = shown(alloc, start, all.as_bytes())?;
-                let last = words_of(alloc, start, &reply)?;
-                return Ok(format!(in alloc; "{all} {last}")?);
-            }
+        if let Some(reply) = read_more(book, call, all)? {
+            return Ok(reply);
         }
     }
     Err(CaseFault::Form)
+}
+
+/// Reads until no bytes are left: how many were read and whether they are made ones, and the last reply.
+fn reads(alloc: Global, reading: &mut Reading, fields: &[&str]) -> Result<String, CaseFault> {
+    let call = ReassemblyCall::Read {
+        max: parsed_at(fields, 0)?,
+    };
+    if !may_ask(&call) {
+        return Err(CaseFault::Form);
+    }
+    let mut all = Text::new(alloc);
+    let last = read_all(&mut reading.book, &call, &mut all)?;
+    let start = reading.read;
+    reading.read = start.saturating_add(all.len() as u64);
+    let all = shown(alloc, start, all.as_bytes())?;
+    let last = words_of(alloc, start, last)?;
+    Ok(format!(in alloc; "{all} {last}")?)
+}
+
+/// The words of the book's reply to a call that can be made.
+fn asked_once(
+    alloc: Global,
+    reading: &mut Reading,
+    name: &str,
+    fields: &[&str],
+) -> Result<String, CaseFault> {
+    let call = call_of(alloc, name, fields)?;
+    if !may_ask(&call) {
+        return Err(CaseFault::Form);
+    }
+    Ok(told(alloc, reading, &call)?)
 }
 
 /// The words of the book's reply to a call.
@@ -185,9 +231,6 @@ pub fn asked(
         "front" => Ok(front(alloc, reading)?),
         "reversed" => reversed(alloc, reading, fields),
         "reads" => reads(alloc, reading, fields),
-        _ => {
-            let call = call_of(alloc, name, fields)?;
-            Ok(told(alloc, reading, &call)?)
-        }
+        _ => asked_once(alloc, reading, name, fields),
     }
 }

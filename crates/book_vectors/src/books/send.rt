@@ -2,13 +2,16 @@
 //! `infinite PATH`, `abort`. `turns MAX PATH..` asks for bytes for these paths in turn until none of them is given any,
 //! and tells how many bytes they were given.
 
-ghost use Rattle.std.specs.Prelude.{IfOk, ◌<◌, ◌≤◌};
+ghost use Rattle.std.specs.Prelude.{IfOk, IsTrue, ◌<◌, ◌≤◌};
 ghost use Rattle.send_book.specs.Steps.{CanAsk};
 
 use crate::books::octets::{octets_at, shown};
-use crate::books::words::{bit, or_dash};
-use case_fields::{CaseFault, parsed_at, truth_at};
-use send_book::{SendBook, SendCall, SendReply, Why};
+use crate::books::words::reply_words;
+use crate::calls::send_call;
+use actor_desk::{Ask, Reply};
+use case_fields::{CaseFault, parsed_at};
+use outside_kit::Side;
+use send_book::{SendBook, SendCall, SendReply};
 use stamped_book::Book;
 use std::alloc::{AllocError, Global};
 
@@ -17,6 +20,14 @@ use std::alloc::{AllocError, Global};
 pub struct Writing {
     book: SendBook,
     written: u64,
+}
+
+/// A book of a buffer of one byte.
+pub fn empty_send(alloc: Global) -> Writing {
+    Writing {
+        book: SendBook::new(alloc, 1),
+        written: 0,
+    }
 }
 
 /// An open book of a buffer of 1 to 1,048,576 bytes.
@@ -43,82 +54,50 @@ fn path_at(fields: &[&str], place: usize) -> Result<u8, CaseFault>
     }
 }
 
-fn grant_at(path: u8, fields: &[&str]) -> Result<SendCall, CaseFault>
-    requires { path < 16 }
-    ensures { IfOk result (λ call. CanAsk call) }
+/// Whether the book may be asked this.
+fn may_ask(call: &SendCall) -> bool
+    ensures { IsTrue result → CanAsk call.now }
 {
-    let max = parsed_at(fields, 1)?;
-    let standby = truth_at(fields, 2)?;
-    if max < 1u32 {
-        return Err(CaseFault::Form);
+    match *call {
+        SendCall::Grant { path, max, .. } => path < 16 && max >= 1,
+        SendCall::AckIn { next, window } => next < 1 << 62 && window < 1 << 62,
+        SendCall::Return { path } => path < 16,
+        SendCall::GoInfinite { path } => path < 16,
+        _ => true,
     }
-    Ok(SendCall::Grant { path, max, standby })
-}
-
-fn ack_at(fields: &[&str]) -> Result<SendCall, CaseFault>
-    ensures { IfOk result (λ call. CanAsk call) }
-{
-    let next: u64 = parsed_at(fields, 0)?;
-    let window: u64 = parsed_at(fields, 1)?;
-    if next >= 1 << 62 || window >= 1 << 62 {
-        return Err(CaseFault::Form);
-    }
-    Ok(SendCall::AckIn { next, window })
 }
 
 /// The call of this name and these fields.
-fn call_of(alloc: Global, name: &str, fields: &[&str], written: u64) -> Result<SendCall, CaseFault>
-    ensures { IfOk result (λ call. CanAsk call) }
-{
-    match name {
-        "write" => Ok(SendCall::Write {
-            bytes: octets_at(alloc, fields, 0, written)?,
-        }),
-        "close" => Ok(SendCall::Close),
-        "grant" => grant_at(path_at(fields, 0)?, fields),
-        "ack" => ack_at(fields),
-        "return" => Ok(SendCall::Return {
-            path: path_at(fields, 0)?,
-        }),
-        "identity" => Ok(SendCall::GoIdentity),
-        "infinite" => Ok(SendCall::GoInfinite {
-            path: path_at(fields, 0)?,
-        }),
-        "abort" => Ok(SendCall::Abort),
-        _ => Err(CaseFault::Form),
+fn call_of(
+    alloc: Global,
+    name: &str,
+    fields: &[&str],
+    written: u64,
+) -> Result<SendCall, CaseFault> {
+    if name == "write" {
+        let bytes = octets_at(alloc, fields, 0, written)?;
+        return Ok(SendCall::Write { bytes });
     }
+    send_call(name, fields)
 }
 
-fn why_word(why: Why) -> &'static str {
-    match why {
-        Why::Ended => "ended",
-        Why::Backup => "backup",
-        Why::NothingFree => "free",
-        Why::WindowShut => "window",
-    }
-}
-
-/// The words of a reply.
-fn words_of(alloc: Global, reply: &SendReply) -> Result<String, AllocError> {
+/// The octets of a grant, behind a blank.
+fn piece_words(alloc: Global, reply: &SendReply) -> Result<String, AllocError> {
     match reply {
-        SendReply::Taken(count) => format!(in alloc; "taken {count}"),
-        SendReply::Closed => format!(in alloc; "closed"),
-        SendReply::Shut => format!(in alloc; "shut"),
         SendReply::Granted { span, piece } => {
             let piece = shown(alloc, span.from, piece.as_bytes())?;
-            format!(in alloc; "granted {} {} {piece}", span.from, span.to)
+            format!(in alloc; " {piece}")
         }
-        SendReply::NoGrant { why, end } => {
-            let end = or_dash(alloc, *end)?;
-            format!(in alloc; "none {} {end}", why_word(*why))
-        }
-        SendReply::Acked { bytes, fin } => format!(in alloc; "acked {bytes} {}", bit(*fin)),
-        SendReply::AckFuture { written } => format!(in alloc; "future {written}"),
-        SendReply::Returned(count) => format!(in alloc; "returned {count}"),
-        SendReply::Noted => format!(in alloc; "noted"),
-        SendReply::Infinite { from } => format!(in alloc; "infinite {from}"),
-        SendReply::Scattered => format!(in alloc; "scattered"),
+        _ => Ok(String::new(alloc)),
     }
+}
+
+/// The words of a reply: those of a log, and the octets of a grant.
+fn words_of(alloc: Global, call: SendCall, reply: SendReply) -> Result<String, AllocError> {
+    let piece = piece_words(alloc, &reply)?;
+    let mut words = reply_words(alloc, Ask::Send(Side::A, call), Reply::Send(reply))?;
+    words.push_str(&piece)?;
+    Ok(words)
 }
 
 /// How many bytes a path is given, 0 where there is none for it.
@@ -165,6 +144,14 @@ fn turns(alloc: Global, book: &mut SendBook, fields: &[&str]) -> Result<String, 
     Ok(format!(in alloc; "{all}")?)
 }
 
+/// How many bytes the reply says were written.
+fn taken(reply: &SendReply) -> u64 {
+    match reply {
+        SendReply::Taken(count) => *count,
+        _ => 0,
+    }
+}
+
 /// The words of the book's reply to a call.
 pub fn asked(
     alloc: Global,
@@ -176,9 +163,10 @@ pub fn asked(
         return turns(alloc, &mut writing.book, fields);
     }
     let call = call_of(alloc, name, fields, writing.written)?;
-    let reply = writing.book.apply(&call)?;
-    if let SendReply::Taken(count) = reply {
-        writing.written = writing.written.saturating_add(count);
+    if !may_ask(&call) {
+        return Err(CaseFault::Form);
     }
-    Ok(words_of(alloc, &reply)?)
+    let reply = writing.book.apply(&call)?;
+    writing.written = writing.written.saturating_add(taken(&reply));
+    Ok(words_of(alloc, call, reply)?)
 }

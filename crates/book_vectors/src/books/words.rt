@@ -1,16 +1,27 @@
-//! Words that more than one book says.
+//! Words of replies.
 
+use actor_desk::{Ask, Note, Reply};
+use run_log::line;
 use std::alloc::{AllocError, Global};
 
-/// 0 or 1.
-pub fn bit(truth: bool) -> u8 {
-    u8::from(truth)
+/// The words in which a log tells the reply to what was asked.
+pub fn reply_words(alloc: Global, ask: Ask, reply: Reply) -> Result<String, AllocError> {
+    let note = Note {
+        stamp: 0,
+        seen: 0,
+        actor: 0,
+        ask,
+        reply,
+    };
+    let told = line(alloc, &note)?;
+    after_reply(alloc, told.as_bytes())
 }
 
-/// A number, or `-` where there is none.
-pub fn or_dash(alloc: Global, number: Option<u64>) -> Result<String, AllocError> {
-    match number {
-        None => format!(in alloc; "-"),
-        Some(number) => format!(in alloc; "{number}"),
+/// What stands behind ` = ` in a line, without its end.
+fn after_reply(alloc: Global, line: &[u8]) -> Result<String, AllocError> {
+    let line = String::from_utf8_lossy(alloc, line)?;
+    match line.split_once(" = ") {
+        Some((_, words)) => String::from_str(alloc, words.trim_end()),
+        None => Ok(String::new(alloc)),
     }
 }

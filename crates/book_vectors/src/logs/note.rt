@@ -1,71 +1,88 @@
-//! Notes. An object is `sa`, `sb`, `ra`, `rb`, `ca`, `cb` or `me`. The actor's own steps are `Arrive SIDE N`, `Fire SIDE`,
+//! Notes, in letters of either case. An object is `sa`, `sb`, `ra`, `rb`, `ca`, `cb` or `me`. What books are asked is spelled as
+//! `calls.rt` says, but `Write N` and `Place AT N` have so many octets. The actor's own steps are `Arrive SIDE N`, `Fire SIDE`,
 //! `Line N`, `Sent SIDE N LENGTH SUM` and `End`; a side is `A` or `B`.
 
-use crate::logs::call::{control_call, reassembly_call, send_call};
-use crate::logs::reply::{control_reply, reassembly_reply, send_reply};
+use crate::calls::{control_call, reassembly_call, send_call};
+use crate::logs::reply::{control_reply, octets_at, reassembly_reply, send_reply};
 use actor_desk::{Ask, LocalStep, Note, Reply};
 use case_fields::{CaseFault, parsed_at, word_at};
 use outside_kit::Side;
+use reassembly_book::ReassemblyCall;
+use send_book::SendCall;
 use std::alloc::{AllocError, Global};
 
 fn side_at(fields: &[&str], place: usize) -> Result<Side, CaseFault> {
     match word_at(fields, place)? {
-        "A" => Ok(Side::A),
-        "B" => Ok(Side::B),
+        "a" => Ok(Side::A),
+        "b" => Ok(Side::B),
         _ => Err(CaseFault::Form),
     }
 }
 
-fn local_step(fields: &[&str]) -> Result<LocalStep, CaseFault> {
-    match word_at(fields, 0)? {
-        "Arrive" => Ok(LocalStep::Arrive {
-            to: side_at(fields, 1)?,
-            copy: parsed_at(fields, 2)?,
+/// What the actor does itself, by a name and numbers.
+fn local_step(name: &str, fields: &[&str]) -> Result<LocalStep, CaseFault> {
+    match name {
+        "arrive" => Ok(LocalStep::Arrive {
+            to: side_at(fields, 0)?,
+            copy: parsed_at(fields, 1)?,
         }),
-        "Fire" => Ok(LocalStep::Fire(side_at(fields, 1)?)),
-        "Line" => Ok(LocalStep::Line(parsed_at(fields, 1)?)),
-        "Sent" => Ok(LocalStep::Sent {
-            from: side_at(fields, 1)?,
-            copy: parsed_at(fields, 2)?,
-            length: parsed_at(fields, 3)?,
-            sum: parsed_at(fields, 4)?,
-        }),
-        "End" => Ok(LocalStep::End),
+        "fire" => Ok(LocalStep::Fire(side_at(fields, 0)?)),
+        "line" => Ok(LocalStep::Line(parsed_at(fields, 0)?)),
+        "sent" => sent_step(fields),
+        "end" => Ok(LocalStep::End),
         _ => Err(CaseFault::Form),
     }
 }
 
-/// What is asked of an object, and what it answers.
-fn asked(
-    alloc: Global,
-    object: &str,
-    ask: &[&str],
-    reply: &[&str],
-) -> Result<(Ask, Reply), CaseFault> {
-    let side = match object {
-        "sb" | "rb" | "cb" => Side::B,
-        _ => Side::A,
-    };
+fn sent_step(fields: &[&str]) -> Result<LocalStep, CaseFault> {
+    Ok(LocalStep::Sent {
+        from: side_at(fields, 0)?,
+        copy: parsed_at(fields, 1)?,
+        length: parsed_at(fields, 2)?,
+        sum: parsed_at(fields, 3)?,
+    })
+}
+
+/// What a send book is asked.
+fn send_ask(alloc: Global, name: &str, fields: &[&str]) -> Result<SendCall, CaseFault> {
+    if name == "write" {
+        let bytes = octets_at(alloc, fields, 0)?;
+        return Ok(SendCall::Write { bytes });
+    }
+    send_call(name, fields)
+}
+
+/// What a reassembly book is asked.
+fn reassembly_ask(alloc: Global, name: &str, fields: &[&str]) -> Result<ReassemblyCall, CaseFault> {
+    if name == "place" {
+        let at = parsed_at(fields, 0)?;
+        let bytes = octets_at(alloc, fields, 1)?;
+        return Ok(ReassemblyCall::Place { at, bytes });
+    }
+    reassembly_call(name, fields)
+}
+
+/// What is asked of an object by a name and numbers.
+fn ask_of(alloc: Global, object: &str, name: &str, fields: &[&str]) -> Result<Ask, CaseFault> {
     match object {
-        "sa" | "sb" => {
-            let call = send_call(alloc, ask)?;
-            Ok((
-                Ask::Send(side, call),
-                Reply::Send(send_reply(alloc, reply)?),
-            ))
-        }
-        "ra" | "rb" => {
-            let call = reassembly_call(alloc, ask)?;
-            let reply = reassembly_reply(alloc, reply)?;
-            Ok((Ask::Reassembly(side, call), Reply::Reassembly(reply)))
-        }
-        "ca" | "cb" => {
-            let call = control_call(ask)?;
-            let reply = control_reply(reply)?;
-            Ok((Ask::Control(side, call), Reply::Control(reply)))
-        }
-        "me" => Ok((Ask::Local(local_step(ask)?), Reply::Done)),
+        "sa" => Ok(Ask::Send(Side::A, send_ask(alloc, name, fields)?)),
+        "sb" => Ok(Ask::Send(Side::B, send_ask(alloc, name, fields)?)),
+        "ra" => Ok(Ask::Reassembly(Side::A, reassembly_ask(alloc, name, fields)?)),
+        "rb" => Ok(Ask::Reassembly(Side::B, reassembly_ask(alloc, name, fields)?)),
+        "ca" => Ok(Ask::Control(Side::A, control_call(name, fields)?)),
+        "cb" => Ok(Ask::Control(Side::B, control_call(name, fields)?)),
+        "me" => Ok(Ask::Local(local_step(name, fields)?)),
         _ => Err(CaseFault::Form),
+    }
+}
+
+/// What the object answers.
+fn reply_of(alloc: Global, object: &str, reply: &[&str]) -> Result<Reply, CaseFault> {
+    match object {
+        "sa" | "sb" => Ok(Reply::Send(send_reply(alloc, reply)?)),
+        "ra" | "rb" => Ok(Reply::Reassembly(reassembly_reply(alloc, reply)?)),
+        "ca" | "cb" => Ok(Reply::Control(control_reply(reply)?)),
+        _ => Ok(Reply::Done),
     }
 }
 
@@ -73,23 +90,33 @@ fn words(alloc: Global, text: &str) -> Result<Vec<&str>, AllocError> {
     text.split(' ').collect(alloc)
 }
 
-/// The note of a case. What the actor knew before is not told, and taken as 0.
-pub fn note_of(alloc: Global, case: &str) -> Result<Note, CaseFault> {
+/// The note of these words. What the actor knew before is not told, and taken as 0.
+fn note_by(alloc: Global, fields: &[&str], reply: &[&str]) -> Result<Note, CaseFault> {
+    let [stamp, actor, object, name, fields @ ..] = fields else {
+        return Err(CaseFault::Form);
+    };
+    Ok(Note {
+        stamp: parsed_at(&[*stamp], 0)?,
+        seen: 0,
+        actor: parsed_at(&[*actor], 0)?,
+        ask: ask_of(alloc, object, name, fields)?,
+        reply: reply_of(alloc, object, reply)?,
+    })
+}
+
+/// The note of a case in small letters.
+fn note_in(alloc: Global, case: &str) -> Result<Note, CaseFault> {
     let (ask, reply) = match case.split_once(" => ") {
         Some((ask, reply)) => (ask, reply),
         None => (case, ""),
     };
     let fields = words(alloc, ask)?;
     let replied = words(alloc, reply)?;
-    let [_, _, object, ask @ ..] = fields.as_slice() else {
-        return Err(CaseFault::Form);
-    };
-    let (ask, reply) = asked(alloc, object, ask, &replied)?;
-    Ok(Note {
-        stamp: parsed_at(&fields, 0)?,
-        seen: 0,
-        actor: parsed_at(&fields, 1)?,
-        ask,
-        reply,
-    })
+    note_by(alloc, &fields, &replied)
+}
+
+/// The note of a case.
+pub fn note_of(alloc: Global, case: &str) -> Result<Note, CaseFault> {
+    let case = case.to_ascii_lowercase(alloc)?;
+    note_in(alloc, case.as_str())
 }

@@ -1,8 +1,7 @@
-//! What books answer, by the names of the replies and their numbers: `Granted FROM TO` and `Bytes N` with so many octets,
-//! `NoGrant WHY END` with `-` for no end, `Standing MODE STANDBY SOLE NOTICE`, `Verdict VERDICT`, `Rows` with three numbers
+//! What books answer, by the names of the replies, in small letters, and their numbers: `Granted FROM TO` and `Bytes N` with so many
+//! octets, `NoGrant WHY END` with `-` for no end, `Standing MODE STANDBY SOLE NOTICE`, `Verdict VERDICT`, `Rows` with three numbers
 //! a row, and the others as they are declared. A truth value is 0 or 1.
 
-use crate::logs::call::octets_at;
 use case_fields::{CaseFault, parsed_at, truth_at, word_at};
 use control_book::{ControlReply, Notice};
 use fallback_state::{Mode, Verdict};
@@ -10,14 +9,34 @@ use linked_increase::{Row, Rows};
 use pipe_model::Text;
 use reassembly_book::ReassemblyReply;
 use send_book::{SendReply, Span, Why};
-use std::alloc::Global;
+use std::alloc::{AllocError, Global};
+
+/// The most octets that are made.
+const MOST_MADE: u64 = 1_048_576;
+
+fn zeros(alloc: Global, count: u64) -> Result<Text, AllocError> {
+    let mut octets = Vec::new(alloc);
+    for _ in 0..count {
+        octets.push(0)?;
+    }
+    Ok(Text::from(octets))
+}
+
+/// So many octets as a field says.
+pub fn octets_at(alloc: Global, fields: &[&str], place: usize) -> Result<Text, CaseFault> {
+    let count = parsed_at(fields, place)?;
+    if count > MOST_MADE {
+        return Err(CaseFault::Form);
+    }
+    Ok(zeros(alloc, count)?)
+}
 
 fn reason_at(fields: &[&str], place: usize) -> Result<Why, CaseFault> {
     match word_at(fields, place)? {
-        "Ended" => Ok(Why::Ended),
-        "Backup" => Ok(Why::Backup),
-        "NothingFree" => Ok(Why::NothingFree),
-        "WindowShut" => Ok(Why::WindowShut),
+        "ended" => Ok(Why::Ended),
+        "backup" => Ok(Why::Backup),
+        "nothingfree" => Ok(Why::NothingFree),
+        "windowshut" => Ok(Why::WindowShut),
         _ => Err(CaseFault::Form),
     }
 }
@@ -29,74 +48,85 @@ fn end_at(fields: &[&str], place: usize) -> Result<Option<u64>, CaseFault> {
     }
 }
 
+/// A reply that tells one number.
+fn counted_reply(name: &str, count: u64) -> Result<SendReply, CaseFault> {
+    match name {
+        "taken" => Ok(SendReply::Taken(count)),
+        "ackfuture" => Ok(SendReply::AckFuture { written: count }),
+        "returned" => Ok(SendReply::Returned(count)),
+        "infinite" => Ok(SendReply::Infinite { from: count }),
+        _ => Err(CaseFault::Form),
+    }
+}
+
+fn granted_at(alloc: Global, fields: &[&str]) -> Result<SendReply, CaseFault> {
+    let from = parsed_at(fields, 1)?;
+    let to = parsed_at(fields, 2)?;
+    let piece = Text::new(alloc);
+    let span = Span { from, to };
+    Ok(SendReply::Granted { span, piece })
+}
+
 pub fn send_reply(alloc: Global, fields: &[&str]) -> Result<SendReply, CaseFault> {
     match word_at(fields, 0)? {
-        "Taken" => Ok(SendReply::Taken(parsed_at(fields, 1)?)),
-        "Closed" => Ok(SendReply::Closed),
-        "Shut" => Ok(SendReply::Shut),
-        "Granted" => Ok(SendReply::Granted {
-            span: Span {
-                from: parsed_at(fields, 1)?,
-                to: parsed_at(fields, 2)?,
-            },
-            piece: Text::new(alloc),
-        }),
-        "NoGrant" => Ok(SendReply::NoGrant {
+        "closed" => Ok(SendReply::Closed),
+        "shut" => Ok(SendReply::Shut),
+        "granted" => granted_at(alloc, fields),
+        "nogrant" => Ok(SendReply::NoGrant {
             why: reason_at(fields, 1)?,
             end: end_at(fields, 2)?,
         }),
-        "Acked" => Ok(SendReply::Acked {
+        "acked" => Ok(SendReply::Acked {
             bytes: parsed_at(fields, 1)?,
             fin: truth_at(fields, 2)?,
         }),
-        "AckFuture" => Ok(SendReply::AckFuture {
-            written: parsed_at(fields, 1)?,
+        "noted" => Ok(SendReply::Noted),
+        "scattered" => Ok(SendReply::Scattered),
+        name => counted_reply(name, parsed_at(fields, 1)?),
+    }
+}
+
+/// A reply that tells one number or two.
+fn placing_reply(name: &str, fields: &[&str]) -> Result<ReassemblyReply, CaseFault> {
+    let first = parsed_at(fields, 1)?;
+    match name {
+        "placed" => Ok(ReassemblyReply::Placed(first)),
+        "beyond" => Ok(ReassemblyReply::Beyond { edge: first }),
+        "finclash" => Ok(ReassemblyReply::FinClash {
+            fin: first,
+            at: parsed_at(fields, 2)?,
         }),
-        "Returned" => Ok(SendReply::Returned(parsed_at(fields, 1)?)),
-        "Noted" => Ok(SendReply::Noted),
-        "Infinite" => Ok(SendReply::Infinite {
-            from: parsed_at(fields, 1)?,
+        "ack" => Ok(ReassemblyReply::Ack {
+            next: first,
+            window: parsed_at(fields, 2)?,
         }),
-        "Scattered" => Ok(SendReply::Scattered),
         _ => Err(CaseFault::Form),
     }
 }
 
 pub fn reassembly_reply(alloc: Global, fields: &[&str]) -> Result<ReassemblyReply, CaseFault> {
     match word_at(fields, 0)? {
-        "Placed" => Ok(ReassemblyReply::Placed(parsed_at(fields, 1)?)),
-        "Beyond" => Ok(ReassemblyReply::Beyond {
-            edge: parsed_at(fields, 1)?,
-        }),
-        "FinSet" => Ok(ReassemblyReply::FinSet),
-        "FinClash" => Ok(ReassemblyReply::FinClash {
-            fin: parsed_at(fields, 1)?,
-            at: parsed_at(fields, 2)?,
-        }),
-        "Bytes" => Ok(ReassemblyReply::Bytes(octets_at(alloc, fields, 1)?)),
-        "End" => Ok(ReassemblyReply::End),
-        "NoneYet" => Ok(ReassemblyReply::NoneYet),
-        "Aborted" => Ok(ReassemblyReply::Aborted {
+        "finset" => Ok(ReassemblyReply::FinSet),
+        "bytes" => Ok(ReassemblyReply::Bytes(octets_at(alloc, fields, 1)?)),
+        "end" => Ok(ReassemblyReply::End),
+        "noneyet" => Ok(ReassemblyReply::NoneYet),
+        "aborted" => Ok(ReassemblyReply::Aborted {
             by_peer: truth_at(fields, 1)?,
         }),
-        "Ack" => Ok(ReassemblyReply::Ack {
-            next: parsed_at(fields, 1)?,
-            window: parsed_at(fields, 2)?,
-        }),
-        "Noted" => Ok(ReassemblyReply::Noted),
-        _ => Err(CaseFault::Form),
+        "noted" => Ok(ReassemblyReply::Noted),
+        name => placing_reply(name, fields),
     }
 }
 
 fn mode_at(fields: &[&str], place: usize) -> Result<Mode, CaseFault> {
     match word_at(fields, place)? {
-        "Starting" => Ok(Mode::Starting),
-        "Sure" => Ok(Mode::Sure),
-        "Identity" => Ok(Mode::Identity),
-        "InfiniteSend" => Ok(Mode::InfiniteSend),
-        "InfiniteReceive" => Ok(Mode::InfiniteReceive),
-        "InfiniteBoth" => Ok(Mode::InfiniteBoth),
-        "Aborted" => Ok(Mode::Aborted),
+        "starting" => Ok(Mode::Starting),
+        "sure" => Ok(Mode::Sure),
+        "identity" => Ok(Mode::Identity),
+        "infinitesend" => Ok(Mode::InfiniteSend),
+        "infinitereceive" => Ok(Mode::InfiniteReceive),
+        "infiniteboth" => Ok(Mode::InfiniteBoth),
+        "aborted" => Ok(Mode::Aborted),
         _ => Err(CaseFault::Form),
     }
 }
@@ -104,13 +134,13 @@ fn mode_at(fields: &[&str], place: usize) -> Result<Mode, CaseFault> {
 fn notice_at(fields: &[&str], place: usize) -> Result<Notice, CaseFault> {
     let behind = place.saturating_add(1);
     match word_at(fields, place)? {
-        "Nothing" => Ok(Notice::Nothing),
-        "Announce" => Ok(Notice::Announce(parsed_at(fields, behind)?)),
-        "Withdraw" => Ok(Notice::Withdraw(parsed_at(fields, behind)?)),
-        "Carrier" => Ok(Notice::Carrier {
+        "nothing" => Ok(Notice::Nothing),
+        "announce" => Ok(Notice::Announce(parsed_at(fields, behind)?)),
+        "withdraw" => Ok(Notice::Withdraw(parsed_at(fields, behind)?)),
+        "carrier" => Ok(Notice::Carrier {
             key: parsed_at(fields, behind)?,
         }),
-        "Reset" => Ok(Notice::Reset),
+        "reset" => Ok(Notice::Reset),
         _ => Err(CaseFault::Form),
     }
 }
@@ -118,10 +148,10 @@ fn notice_at(fields: &[&str], place: usize) -> Result<Notice, CaseFault> {
 fn verdict_at(fields: &[&str], place: usize) -> Result<Verdict, CaseFault> {
     let behind = place.saturating_add(1);
     match word_at(fields, place)? {
-        "Stay" => Ok(Verdict::Stay),
-        "Went" => Ok(Verdict::Went(mode_at(fields, behind)?)),
-        "SendFail" => Ok(Verdict::SendFail),
-        "BreakPath" => Ok(Verdict::BreakPath(parsed_at(fields, behind)?)),
+        "stay" => Ok(Verdict::Stay),
+        "went" => Ok(Verdict::Went(mode_at(fields, behind)?)),
+        "sendfail" => Ok(Verdict::SendFail),
+        "breakpath" => Ok(Verdict::BreakPath(parsed_at(fields, behind)?)),
         _ => Err(CaseFault::Form),
     }
 }
@@ -145,42 +175,53 @@ fn rows(fields: &[&str]) -> Result<Rows, CaseFault> {
 /// A reply of which no number is told.
 fn plain_reply(name: &str) -> Result<ControlReply, CaseFault> {
     match name {
-        "Noted" => Ok(ControlReply::Noted),
-        "NotYet" => Ok(ControlReply::NotYet),
-        "NotConfirmed" => Ok(ControlReply::NotConfirmed),
-        "Echo" => Ok(ControlReply::Echo),
-        "BadHmac" => Ok(ControlReply::BadHmac),
-        "Known" => Ok(ControlReply::Known),
-        "Stopped" => Ok(ControlReply::Stopped),
+        "noted" => Ok(ControlReply::Noted),
+        "notyet" => Ok(ControlReply::NotYet),
+        "notconfirmed" => Ok(ControlReply::NotConfirmed),
+        "echo" => Ok(ControlReply::Echo),
+        "badhmac" => Ok(ControlReply::BadHmac),
+        "known" => Ok(ControlReply::Known),
+        "stopped" => Ok(ControlReply::Stopped),
         _ => Err(CaseFault::Form),
+    }
+}
+
+fn standing_at(fields: &[&str]) -> Result<ControlReply, CaseFault> {
+    Ok(ControlReply::Standing {
+        mode: mode_at(fields, 1)?,
+        standby: truth_at(fields, 2)?,
+        sole: truth_at(fields, 3)?,
+        notice: notice_at(fields, 4)?,
+    })
+}
+
+/// A reply that tells the side's own key or token, one with the peer's key behind it, or one of which no number is told.
+fn key_reply(name: &str, fields: &[&str]) -> Result<ControlReply, CaseFault> {
+    match name {
+        "keysdiffer" => Ok(ControlReply::KeysDiffer {
+            own: parsed_at(fields, 1)?,
+        }),
+        "begin" => Ok(ControlReply::Begin {
+            own: parsed_at(fields, 1)?,
+            peer: parsed_at(fields, 2)?,
+        }),
+        "unknowntoken" => Ok(ControlReply::UnknownToken {
+            own: parsed_at(fields, 1)?,
+        }),
+        "otherkey" => Ok(ControlReply::OtherKey {
+            own: parsed_at(fields, 1)?,
+        }),
+        _ => plain_reply(name),
     }
 }
 
 pub fn control_reply(fields: &[&str]) -> Result<ControlReply, CaseFault> {
     match word_at(fields, 0)? {
-        "Standing" => Ok(ControlReply::Standing {
-            mode: mode_at(fields, 1)?,
-            standby: truth_at(fields, 2)?,
-            sole: truth_at(fields, 3)?,
-            notice: notice_at(fields, 4)?,
-        }),
-        "KeysDiffer" => Ok(ControlReply::KeysDiffer {
-            own: parsed_at(fields, 1)?,
-        }),
-        "Verdict" => Ok(ControlReply::Verdict(verdict_at(fields, 1)?)),
-        "Begin" => Ok(ControlReply::Begin {
-            own: parsed_at(fields, 1)?,
-            peer: parsed_at(fields, 2)?,
-        }),
-        "Never" => Ok(ControlReply::Never(mode_at(fields, 1)?)),
-        "UnknownToken" => Ok(ControlReply::UnknownToken {
-            own: parsed_at(fields, 1)?,
-        }),
-        "Fallen" => Ok(ControlReply::Fallen(mode_at(fields, 1)?)),
-        "Rows" => Ok(ControlReply::Rows(rows(fields)?)),
-        "OtherKey" => Ok(ControlReply::OtherKey {
-            own: parsed_at(fields, 1)?,
-        }),
-        name => plain_reply(name),
+        "standing" => standing_at(fields),
+        "verdict" => Ok(ControlReply::Verdict(verdict_at(fields, 1)?)),
+        "never" => Ok(ControlReply::Never(mode_at(fields, 1)?)),
+        "fallen" => Ok(ControlReply::Fallen(mode_at(fields, 1)?)),
+        "rows" => Ok(ControlReply::Rows(rows(fields)?)),
+        name => key_reply(name, fields),
     }
 }

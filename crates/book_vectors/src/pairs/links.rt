@@ -16,10 +16,15 @@ pub fn link(alloc: Global, case: &str) -> Result<String, CaseFault> {
     let Some((steps, lines)) = case.split_once(": ") else {
         return Err(CaseFault::Form);
     };
-    let mut link = Path::read(alloc, lines)?.link;
+    let mut path = Path::read(alloc, lines)?;
+    answers(alloc, &mut path.link, steps)
+}
+
+/// The answers to all steps.
+fn answers(alloc: Global, link: &mut Link, steps: &str) -> Result<String, CaseFault> {
     let mut text = String::new(alloc);
     for word in steps.split(' ') {
-        let answer = step(alloc, &mut link, word)?;
+        let answer = step(alloc, link, word)?;
         if !text.is_empty() {
             text.push(' ')?;
         }
@@ -30,7 +35,10 @@ pub fn link(alloc: Global, case: &str) -> Result<String, CaseFault> {
 
 fn step(alloc: Global, link: &mut Link, word: &str) -> Result<String, CaseFault> {
     let parts: Vec<&str> = word.split(':').collect(alloc)?;
-    let fields = parts.as_slice();
+    step_by(alloc, link, &parts)
+}
+
+fn step_by(alloc: Global, link: &mut Link, fields: &[&str]) -> Result<String, CaseFault> {
     match word_at(fields, 0)? {
         "send" => send(alloc, link, fields),
         "due" => Ok(due_text(alloc, link.due())?),

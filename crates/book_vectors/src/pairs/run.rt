@@ -73,9 +73,14 @@ impl Run {
             death: case.path.death,
             link: case.path.link,
         };
-        run.a.settle(&mut run.link, 0)?;
-        run.go(until)?;
+        run.play(until)?;
         Ok(run)
+    }
+
+    /// A opens, and all goes on to the end.
+    fn play(&mut self, until: u32) -> Result<(), CaseFault> {
+        self.a.settle(&mut self.link, 0)?;
+        self.go(until)
     }
 
     /// How many segments A and B sent.
