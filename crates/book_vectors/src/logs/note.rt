@@ -104,14 +104,19 @@ fn note_by(alloc: Global, fields: &[&str], reply: &[&str]) -> Result<Note, CaseF
     })
 }
 
-/// The note of a case.
-pub fn note_of(alloc: Global, case: &str) -> Result<Note, CaseFault> {
-    let case = case.to_ascii_lowercase(alloc)?;
+/// The note of a case in small letters.
+fn note_in(alloc: Global, case: &str) -> Result<Note, CaseFault> {
     let (ask, reply) = match case.split_once(" => ") {
         Some((ask, reply)) => (ask, reply),
-        None => (case.as_str(), ""),
+        None => (case, ""),
     };
     let fields = words(alloc, ask)?;
     let replied = words(alloc, reply)?;
     note_by(alloc, &fields, &replied)
+}
+
+/// The note of a case.
+pub fn note_of(alloc: Global, case: &str) -> Result<Note, CaseFault> {
+    let case = case.to_ascii_lowercase(alloc)?;
+    note_in(alloc, case.as_str())
 }
