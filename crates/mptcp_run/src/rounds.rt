@@ -11,7 +11,6 @@ ghost use Rattle.world_core.specs.Kept.{standing};
 ghost use Rattle.world_laws.specs.Fine.{lists_of};
 ghost use Rattle.world_laws.specs.Openings.{opened_world, start_of};
 ghost use Rattle.world_laws.specs.Outcomes.{notes_at, read_by};
-ghost use Rattle.path_core.specs.Starts.{key_of};
 ghost use Rattle.mptcp_run.specs.Plan.{AddsAll, AddsCut, put_of, puts_of, round_puts};
 ghost use Rattle.mptcp_run.specs.Ports.{NeverFall, IsPortsFault};
 ghost use Rattle.mptcp_run.specs.Putting.{log_opening, opening_of, opening_at, logged_text, round_text, NotesFit};
@@ -26,9 +25,9 @@ use crate::report::Report;
 use crate::status::Status;
 use crate::weaving::{made_by, notes_from, woven};
 use actor_desk::{Note, Reply};
-use key_material::drawn;
 use link_script::Script;
 use outside_kit::{Outside, Port};
+use path_core::key_of;
 use pipe_model::Text;
 use reassembly_book::ReassemblyReply;
 use run_log::{line, opening, round_line};
@@ -57,16 +56,6 @@ pub struct Piece {
     pub read_by_a: Text,
     /// The lines of the round; no octet where no log is kept.
     pub lines: Text,
-}
-
-/// The key whose halves are two words of stream 0.
-fn key_of(seed: u64, first: u64) -> u64
-    requires { first < 2 ^ 32 }
-    ensures { result ≡ key_of seed first }
-{
-    let high = u64::from(drawn(seed, 0, first));
-    let low = u64::from(drawn(seed, 0, first + 1));
-    high * (1 << 32) + low
 }
 
 /// The lines with which the log opens.

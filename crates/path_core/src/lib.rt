@@ -59,3 +59,4 @@ pub use lines::LineLeft;
 pub use modes::Modes;
 pub use path::Path;
 pub use path_agenda::{Duty, Heard, KeyPair};
+pub use start::key_of;

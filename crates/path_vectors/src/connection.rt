@@ -7,10 +7,9 @@ use crate::case::{Case, Injected};
 use crate::journal::Journal;
 use actor_desk::Books;
 use case_fields::CaseFault;
-use key_material::drawn;
 use link_script::Script;
 use outside_kit::Side;
-use path_core::Path;
+use path_core::{Path, key_of};
 use pipe_model::Text;
 use run_log::Outcome;
 use std::alloc::{AllocError, Global};
@@ -31,13 +30,6 @@ pub struct Connection {
 pub struct Keys {
     pub a: u64,
     pub b: u64,
-}
-
-/// The key whose halves are two words of stream 0 of the seed.
-fn key_of(seed: u64, first: u32) -> u64 {
-    let high = u64::from(drawn(seed, 0, u64::from(first)));
-    let low = u64::from(drawn(seed, 0, u64::from(first) + 1));
-    (high << 32) | low
 }
 
 impl Keys {

@@ -1,6 +1,6 @@
 //! What a connection begins with.
 
-ghost use Rattle.std.specs.Prelude.{◌≡◌, ◌<◌, ◌≤◌, ◌^◌, length, IfOk};
+ghost use Rattle.std.specs.Prelude.{◌≡◌, ◌<◌, length, IfOk};
 ghost use Rattle.link_script.specs.Scripts.{HasRanges};
 ghost use Rattle.path_core.specs.Starts.{key_of, first_turn_of};
 ghost use Rattle.stream_apps.specs.Starts.{first_app_turn};
@@ -13,10 +13,9 @@ ghost use Rattle.actor_desk.specs.Desk.{opened_books};
 use crate::member::{Crew, Member};
 use crate::world::World;
 use actor_desk::{Books, Notes};
-use key_material::drawn;
 use link_script::Script;
 use outside_kit::Side;
-use path_core::Path;
+use path_core::{Path, key_of};
 use pipe_model::Text;
 use stamped_book::Pass;
 use std::alloc::{AllocError, Global};
@@ -30,16 +29,6 @@ pub struct Input {
     pub file_a: Text,
     /// What B writes.
     pub file_b: Text,
-}
-
-// The key whose halves are two words of stream 0.
-fn key_of(seed: u64, first: u64) -> u64
-    requires { first < 2 ^ 32 }
-    ensures { result ≡ key_of seed first }
-{
-    let high = u64::from(drawn(seed, 0, first));
-    let low = u64::from(drawn(seed, 0, first + 1));
-    high * (1 << 32) + low
 }
 
 // The books before the first call.
