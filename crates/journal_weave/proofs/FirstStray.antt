@@ -1,12 +1,12 @@
 -- The first pair that isn't the same, book by book.
-use Rattle.std.proofs.Common.{◌≡◌, refl, sym, ◌∙◌, ap, subst, ℕ, suc, ◌<◌, ◌≤◌, ◌⊎◌, inl, inr, Bool, true, false, if◌then◌else◌, Option, Some, None, IfSome, List, length, arith}
+use Rattle.std.proofs.Common.{◌≡◌, refl, sym, ◌∙◌, ap, subst, ℕ, zero, suc, ◌<◌, ◌≤◌, ◌⊎◌, inl, inr, Bool, true, false, if◌then◌else◌, Option, Some, None, IfSome, List, [], ◌∷◌, length, map, get_or, arith}
 use Rattle.std.proofs.lemmas.Bool.{cases_lt}
 use Rattle.std.proofs.lemmas.Option.{same_Some, slice_get_within}
 use Rattle.std.specs.List.{slice_get}
 use Rattle.actor_desk.specs.declared.ask.Note.{Note}
 use Rattle.actor_desk.specs.Journals.{comes_first}
 use Rattle.journal_weave.specs.declared.fault.Strayed.{Strayed}
-use Rattle.journal_weave.specs.Weaving.{AreAllAsked, IsFirstStrayed, StraysAt, asked_at, comes_before, first_of, shown_of}
+use Rattle.journal_weave.specs.Weaving.{StrayedFirst, StraysAt, StraysIn, asked_at, comes_before, first_of, shown_of}
 use Rattle.journal_weave.proofs.Inserting.{not_back}
 use Rattle.journal_weave.proofs.Strays.{back_of, no_stray, one_stray}
 
@@ -123,18 +123,27 @@ module _ (order : List Note) (journals : List (List Note)) where
           first = λ other entries u less at stray. old is other entries u at stray (one_of other less);
         }
 
+    pub below_next : (m : ℕ) (first next : Option Strayed) → m ≡ suc n → FirstBelow n first → StraysIn (asked_at n order) journal next → FirstBelow m (first_of first next)
+    below_next m first None is below same = subst (λ k. FirstBelow k (first_of first None)) (sym is) (below_more first None below tt (λ e. same))
+    below_next m first (Some t) is below strays = subst (λ k. FirstBelow k (first_of first (Some t))) (sym is) (below_more first (Some t) below strays (λ e. cc))
+
   -- ---- all books
 
-  pub first_ends : (first : Option Strayed) → FirstBelow (length journals) first → IfSome first (IsFirstStrayed order journals)
-  first_ends None below = tt
-  first_ends (Some s) below = record {
+  pub strayed_first : (n : ℕ) (first : Option Strayed) → length journals ≤ n → FirstBelow n first → StrayedFirst order journals first
+  strayed_first n None all below = λ book journal at. below book journal (let within = slice_get_within journals book journal at in omega (arith, within, all)) at
+  strayed_first n (Some s) all below = record {
     book = below.book;
     journal = below.journal;
     of_book = below.of_book;
     strays = below.strays;
-    first = λ other entries t at stray. below.first other entries t (slice_get_within journals other entries at) at stray;
+    first = λ other entries t at stray. below.first other entries t (let within = slice_get_within journals other entries at in omega (arith, within, all)) at stray;
   }
 
-  pub none_ends : (first : Option Strayed) → FirstBelow (length journals) first → first ≡ None → AreAllAsked order journals
-  none_ends None below is = λ book journal at. below book journal (slice_get_within journals book journal at) at
-  none_ends (Some s) below is = cc
+pub mapped_there : {X Y : Type 0} (f : X → Y) (xs : List X) (i : ℕ) (x : X) → i < length xs → x ≡ get_or xs i x → slice_get (map f xs) i ≡ Some (f x)
+mapped_there f [] i x within is = absurd (omega (arith, within))
+mapped_there f (y ∷ xs) zero x within is = ap (λ z. Some (f z)) (sym is)
+mapped_there f (y ∷ xs) (suc i) x within is = mapped_there f xs i x (omega (arith, within)) is
+
+pub map_many : {X Y : Type 0} (f : X → Y) (xs : List X) → length (map f xs) ≡ length xs
+map_many f [] = refl
+map_many f (x ∷ xs) = ap suc (map_many f xs)

@@ -1,5 +1,5 @@
 -- Lists and journals, gathered one by one.
-use Rattle.std.proofs.Common.{◌≡◌, refl, sym, ◌∙◌, ap, subst, ℕ, zero, suc, ◌<◌, ◌≤◌, ◌==◌, Bool, true, false, cond, if◌then◌else◌, Option, Some, None, List, [], ◌∷◌, ◌++◌, length, map, take, drop, filter, get_or, append_assoc, arith}
+use Rattle.std.proofs.Common.{◌≡◌, refl, sym, ◌∙◌, ap, subst, ℕ, zero, suc, ◌<◌, ◌≤◌, ◌==◌, Bool, true, false, cond, if◌then◌else◌, List, [], ◌∷◌, ◌++◌, length, drop, get_or, append_assoc, arith}
 use Rattle.std.specs.Borrow.{Bor}
 use Rattle.actor_desk.specs.declared.actor.Crew.{Crew}
 use Rattle.actor_desk.specs.declared.ask.Note.{Note}

@@ -1,12 +1,11 @@
 -- Lists and journals are paired exactly where each book's notes of the order are what its journal has.
-use Rattle.std.proofs.Common.{◌≡◌, refl, sym, ◌∙◌, ap, subst, ℕ, zero, suc, ◌+◌, ◌<◌, ◌⊎◌, inl, inr, ◌==◌, true, false, Option, Some, None, List, [], ◌∷◌, length, map, filter, arith}
-use Rattle.std.proofs.lemmas.Bool.{eqb-true, eq-eqb}
+use Rattle.std.proofs.Common.{◌≡◌, refl, sym, ◌∙◌, ap, subst, ℕ, zero, suc, ◌<◌, inl, inr, ◌==◌, false, Some, List, [], ◌∷◌, length, map, arith}
+use Rattle.std.proofs.lemmas.Bool.{eq-eqb}
 use Rattle.std.proofs.lemmas.Option.{same_Some, slice_get_within}
 use Rattle.std.specs.List.{Contains, slice_get}
 use Rattle.outside_kit.specs.declared.side.Side.TheVariants.{A, B}
 use Rattle.stamped_book.specs.declared.stamped.Entry.{Entry}
 use Rattle.stamped_book.specs.Journal.{Rise}
-use Rattle.stream_lanes.specs.Words.{Every}
 use Rattle.actor_desk.specs.Books.{StampedBooks}
 use Rattle.actor_desk.specs.declared.ask.Ask.{Ask}
 use Rattle.actor_desk.specs.declared.ask.Ask.TheVariants as asks
@@ -14,10 +13,11 @@ use Rattle.actor_desk.specs.declared.ask.Note.{Note}
 use Rattle.actor_desk.specs.Journals.{is_local, ArePaired, above, in_order, send_note, reassembly_note, control_note}
 use Rattle.world_laws.specs.Fine.{NotesRise}
 use Rattle.world_laws.specs.StampedBooks.{journals_of}
-use Rattle.world_laws.proofs.Occurring.{In, Occurs, contains_in, in_contains, occurs_from, occurs_where}
-use Rattle.world_laws.proofs.WeavingOrder.{StampsClimb, AreNumbered, rises_climb, in_filter, filter_in, in_above, above_in, in_order_of, order_has, asked_in_order}
+use Rattle.world_laws.proofs.Occurring.{In, contains_in, in_contains, occurs_from, occurs_where}
+use Rattle.world_laws.proofs.WeavingOrder.{AreNumbered, rises_climb, in_filter, filter_in, in_above, above_in, in_order_of, order_has, asked_in_order}
 use Rattle.journal_weave.specs.declared.fault.Strayed.{Strayed}
-use Rattle.journal_weave.specs.Weaving.{AreOwn, book_of, asked_at, StraysAt, IsFirstStrayed, AreAllAsked}
+use Rattle.journal_weave.specs.declared.fault.WeaveFault.TheVariants as faults
+use Rattle.journal_weave.specs.Weaving.{AreOwn, JournalsRise, IsFault, book_of, asked_at, StraysAt, IsFirstStrayed, AreAllAsked}
 use Rattle.journal_weave.proofs.Strays.{no_stray}
 
 -- ---- lists
@@ -33,14 +33,6 @@ own_numbered first (list ∷ lists) h =
     ((λ x there. let at = in_get list x there in h.0.each at.0 x at.1), rises_climb 0 list h.1, own_numbered (suc first) lists h.2)
 
 -- ---- journals
-
-pub record JournalsRise (books : StampedBooks) : Type 0 where
-  pub send_a : Rise 0 books.send_a.journal
-  pub send_b : Rise 0 books.send_b.journal
-  pub reassembly_a : Rise 0 books.reassembly_a.journal
-  pub reassembly_b : Rise 0 books.reassembly_b.journal
-  pub control_a : Rise 0 books.control_a.journal
-  pub control_b : Rise 0 books.control_b.journal
 
 module _ {C R : Type 0} (make : Entry C R → Note) where
   notes_rise : ((e : Entry C R) → (make e).stamp ≡ e.stamp) → (before : ℕ) (entries : List (Entry C R)) → Rise before entries → NotesRise before (map make entries)
@@ -158,3 +150,8 @@ module _ (after : ℕ) (lists : List (List Note)) (books : StampedBooks) where
           let entry = above_in after journal n (contains_in journal n of) later in
           let asked = in_filter (λ m. book_of m.ask == found.0) (in_order after lists) n (subst (In n) (sym same) entry) in
           occurs_where lists n (in_order_of after lists n asked.0).0
+
+  -- what a first pair tells
+  pub is_fault : AreOwn 0 lists → JournalsRise books → (s : Strayed) → IsFirstStrayed (in_order after lists) (map (above after) (journals_of books)) s
+      → IsFault after lists (journals_of books) (faults.Strayed s)
+  is_fault own rise s h = ((λ paired. never_strayed own rise paired s h), h)

@@ -2,7 +2,9 @@
 use Rattle.std.specs.Prelude.{ℕ, suc, ◌≡◌, ◌==◌, Bool, false, if◌then◌else◌, Option, Some, None, List, [], ◌∷◌, map, take, filter}
 use Rattle.std.specs.List.{slice_get}
 use Rattle.outside_kit.specs.declared.side.Side.TheVariants.{A, B}
+use Rattle.stamped_book.specs.Journal.{Rise}
 use Rattle.stream_lanes.specs.Words.{Every}
+use Rattle.actor_desk.specs.Books.{StampedBooks}
 use Rattle.actor_desk.specs.declared.actor.Crew.{Crew}
 use Rattle.actor_desk.specs.declared.ask.Ask.{Ask}
 use Rattle.actor_desk.specs.declared.ask.Ask.TheVariants as asks
@@ -24,6 +26,15 @@ AreOwn first [] = Unit {0}
 AreOwn first (list ∷ lists) = Every (λ note. note.actor ≡ first) list × NotesRise 0 list × AreOwn (suc first) lists
 
 -- ---- journals
+
+-- stamps rise in each
+pub record JournalsRise (books : StampedBooks) : Type 0 where
+  pub send_a : Rise 0 books.send_a.journal
+  pub send_b : Rise 0 books.send_b.journal
+  pub reassembly_a : Rise 0 books.reassembly_a.journal
+  pub reassembly_b : Rise 0 books.reassembly_b.journal
+  pub control_a : Rise 0 books.control_a.journal
+  pub control_b : Rise 0 books.control_b.journal
 
 -- the place of the asked book among the six journals; none of them where nobody is asked
 abbrev pub book_of : Ask → ℕ
@@ -63,11 +74,21 @@ abbrev pub AreBothAtEnd : Option Note → Option Note → Type 0
 AreBothAtEnd None None = Unit {0}
 AreBothAtEnd _ _ = ⊥
 
+-- or both are at their end
+abbrev pub DiffersIn : Option Note → Option Note → Option Strayed → Type 0
+DiffersIn o p None = AreBothAtEnd o p
+DiffersIn o p (Some s) = Differs o p s
+
 -- up to a place the actors noted what the journal has, and there they differ
 pub record StraysAt (asked journal : List Note) (s : Strayed) : Type 0 where
   pub place : ℕ
   pub same : take place asked ≡ take place journal
   pub differs : Differs (slice_get asked place) (slice_get journal place) s
+
+-- or they noted all that it has
+abbrev pub StraysIn : List Note → List Note → Option Strayed → Type 0
+StraysIn asked journal None = asked ≡ journal
+StraysIn asked journal (Some s) = StraysAt asked journal s
 
 -- the note of a pair, the actor's where it has one
 abbrev pub shown_of : Strayed → Option Note
@@ -99,6 +120,11 @@ pub record IsFirstStrayed (order : List Note) (journals : List (List Note)) (s :
 -- each book's notes of the order are its journal's
 abbrev pub AreAllAsked : List Note → List (List Note) → Type 0
 AreAllAsked order journals = (book : ℕ) (journal : List Note) → slice_get journals book ≡ Some journal → asked_at book order ≡ journal
+
+-- the first pair that isn't equal, if there is one
+abbrev pub StrayedFirst : List Note → List (List Note) → Option Strayed → Type 0
+StrayedFirst order journals None = AreAllAsked order journals
+StrayedFirst order journals (Some s) = IsFirstStrayed order journals s
 
 -- what the fault tells of lists and journals
 abbrev pub IsFault : ℕ → List (List Note) → List (List Note) → WeaveFault → Type 0

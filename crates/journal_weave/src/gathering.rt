@@ -3,6 +3,7 @@ ghost use Rattle.std.specs.Prelude.{◌≡◌, nat_lt, filter, map, IfOk};
 ghost use Rattle.stamped_book.specs.Journal.{Rise};
 ghost use Rattle.actor_desk.specs.Journals.{above, control_note, reassembly_note, send_note};
 ghost use Rattle.world_laws.specs.StampedBooks.{journals_of};
+ghost use Rattle.journal_weave.specs.Weaving.{JournalsRise};
 
 use crate::shown::{control_note, reassembly_note, send_note};
 use actor_desk::{Books, Note};
@@ -43,7 +44,8 @@ fn send_notes(
     after: u64,
 ) -> Result<Vec<Note>, AllocError>
     requires { Rise 0 entries.now }
-    ensures { IfOk result (λ notes. notes.items ≡ above after (map (send_note side) entries.now)) }
+    ensures { IfOk result (λ notes. notes.items ≡ above after
+        (map (send_note side) entries.now)) }
 {
     send_shown(alloc, side, entries_above(entries, after))
 }
@@ -69,7 +71,8 @@ fn reassembly_notes(
     after: u64,
 ) -> Result<Vec<Note>, AllocError>
     requires { Rise 0 entries.now }
-    ensures { IfOk result (λ notes. notes.items ≡ above after (map (reassembly_note side) entries.now)) }
+    ensures { IfOk result (λ notes. notes.items ≡ above after
+        (map (reassembly_note side) entries.now)) }
 {
     reassembly_shown(alloc, side, entries_above(entries, after))
 }
@@ -95,9 +98,22 @@ fn control_notes(
     after: u64,
 ) -> Result<Vec<Note>, AllocError>
     requires { Rise 0 entries.now }
-    ensures { IfOk result (λ notes. notes.items ≡ above after (map (control_note side) entries.now)) }
+    ensures { IfOk result (λ notes. notes.items ≡ above after
+        (map (control_note side) entries.now)) }
 {
     control_shown(alloc, side, entries_above(entries, after))
+}
+
+/// Stamps rise in each journal.
+pub(crate) fn journals_rise(books: &Books)
+    ensures { JournalsRise books.now }
+{
+    stamps_rise(&books.send_a);
+    stamps_rise(&books.send_b);
+    stamps_rise(&books.reassembly_a);
+    stamps_rise(&books.reassembly_b);
+    stamps_rise(&books.control_a);
+    stamps_rise(&books.control_b);
 }
 
 /// The notes of each journal above a stamp, book by book.
@@ -106,14 +122,10 @@ pub(crate) fn journals_above(
     books: &Books,
     after: u64,
 ) -> Result<Vec<Vec<Note>>, AllocError>
-    ensures { IfOk result (λ journals. map (λ notes. notes.items) journals.items ≡ map (above after) (journals_of books.now)) }
+    ensures { IfOk result (λ journals. map (λ notes. notes.items) journals.items
+        ≡ map (above after) (journals_of books.now)) }
 {
-    stamps_rise(&books.send_a);
-    stamps_rise(&books.send_b);
-    stamps_rise(&books.reassembly_a);
-    stamps_rise(&books.reassembly_b);
-    stamps_rise(&books.control_a);
-    stamps_rise(&books.control_b);
+    journals_rise(books);
     let send_a = send_notes(alloc, Side::A, books.send_a.journal(), after)?;
     let send_b = send_notes(alloc, Side::B, books.send_b.journal(), after)?;
     let reassembly_a = reassembly_notes(alloc, Side::A, books.reassembly_a.journal(), after)?;

@@ -6,6 +6,7 @@ mod fault;
 mod gathering;
 mod laws;
 mod ordering;
+mod same;
 mod shown;
 mod straying;
 mod weaving;

@@ -11,10 +11,7 @@ use stamped_book::{Book, Entry};
 use std::alloc::AllocError;
 
 /// The note of an entry of a side's send book. It takes memory only for octets that are written or granted.
-pub(crate) fn send_note(
-    side: Side,
-    entry: &Entry<SendCall, SendReply>,
-) -> Result<Note, AllocError>
+pub(crate) fn send_note(side: Side, entry: &Entry<SendCall, SendReply>) -> Result<Note, AllocError>
     ensures { IfOk result (λ note. note ≡ send_note side entry.now) }
 {
     Ok(Note {

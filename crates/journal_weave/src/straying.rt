@@ -1,11 +1,12 @@
 //! Where what the actors noted isn't what the journals have.
-ghost use Rattle.std.specs.Prelude.{◌≡◌, ◌↔◌, true, Some, None, map, take, IfOk, IfSome, MatchOption, option_map};
+ghost use Rattle.std.specs.Prelude.{◌≡◌, Some, None, map, take, IfOk, IfSome, MatchOption, option_map};
 ghost use Rattle.std.specs.List.{slice_get};
 ghost use Rattle.journal_weave.specs.Weaving.{asked_at, book_of, comes_before, first_of, shown_of, strayed_of};
-ghost use Rattle.journal_weave.specs.Weaving.{AreAllAsked, AreBothAtEnd, Differs, IsFirstStrayed, Parted, StraysAt};
+ghost use Rattle.journal_weave.specs.Weaving.{DiffersIn, Parted, StrayedFirst, StraysIn};
 
 use crate::fault::Strayed;
 use crate::ordering::comes_first;
+use crate::same::is_same;
 use actor_desk::{Ask, Note};
 use outside_kit::Side;
 use std::alloc::{AllocError, Global};
@@ -27,7 +28,8 @@ fn book_of(ask: &Ask) -> u64
 
 // The notes of calls at one book.
 fn asked_at<'a>(alloc: Global, order: &[&'a Note], book: u64) -> Result<Vec<&'a Note>, AllocError>
-    ensures { IfOk result (λ asked. map (λ note. note.now) asked.items ≡ asked_at book (map (λ note. note.now) order.now)) }
+    ensures { IfOk result (λ asked. map (λ note. note.now) asked.items
+        ≡ asked_at book (map (λ note. note.now) order.now)) }
 {
     let mut asked = Vec::new(alloc);
     for note in order {
@@ -38,16 +40,11 @@ fn asked_at<'a>(alloc: Global, order: &[&'a Note], book: u64) -> Result<Vec<&'a 
     Ok(asked)
 }
 
-fn is_same(note: &Note, entry: &Note) -> bool
-    ensures { (result ≡ true) ↔ (note.now ≡ entry.now) }
-{
-    note == entry
-}
-
 // How many notes in front are the same.
 fn agreement(asked: &[&Note], journal: &[Note]) -> usize
     ensures same { take result (map (λ note. note.now) asked.now) ≡ take result journal.now }
-    ensures parted { Parted (slice_get (map (λ note. note.now) asked.now) result) (slice_get journal.now result) }
+    ensures parted { Parted (slice_get (map (λ note. note.now) asked.now) result)
+        (slice_get journal.now result) }
 {
     let mut front = 0;
     while front < asked.len() && front < journal.len() && is_same(asked[front], &journal[front]) {
@@ -75,7 +72,8 @@ fn only_entered(entry: &Note) -> Result<Strayed, AllocError>
 }
 
 fn both(note: &Note, entry: &Note) -> Result<Strayed, AllocError>
-    ensures { IfOk result (λ s. s ≡ record { actor_entry = Some note.now; book_entry = Some entry.now }) }
+    ensures { IfOk result
+        (λ s. s ≡ record { actor_entry = Some note.now; book_entry = Some entry.now }) }
 {
     Ok(Strayed {
         actor_entry: Some(note.copy()?),
@@ -97,17 +95,22 @@ fn pair_of(note: &Note, entry: &Note) -> Result<Strayed, AllocError>
 }
 
 // What stands behind the front in which both agree.
-fn behind(note: Option<&Note>, entry: Option<&Note>) -> Result<Option<Strayed>, AllocError>
-    requires { Parted (option_map (λ note. note.now) note) (option_map (λ entry. entry.now) entry) }
-    ensures some { IfOk result (λ strayed. IfSome strayed (Differs (option_map (λ note. note.now) note.entry) (option_map (λ entry. entry.now) entry.entry))) }
-    ensures none { IfOk result (λ strayed. strayed ≡ None → AreBothAtEnd (option_map (λ note. note.now) note.entry) (option_map (λ entry. entry.now) entry.entry)) }
+fn behind(asked: &[&Note], journal: &[Note], front: usize) -> Result<Option<Strayed>, AllocError>
+    requires { Parted (slice_get (map (λ note. note.now) asked.now) front)
+        (slice_get journal.now front) }
+    ensures { IfOk result (DiffersIn (slice_get (map (λ note. note.now) asked.now) front)
+        (slice_get journal.now front)) }
 {
-    match (note, entry) {
-        (Some(note), Some(entry)) => Ok(Some(pair_of(note, entry)?)),
-        (Some(note), None) => Ok(Some(only_noted(note)?)),
-        (None, Some(entry)) => Ok(Some(only_entered(entry)?)),
-        (None, None) => Ok(None),
+    if front < asked.len() && front < journal.len() {
+        return Ok(Some(pair_of(asked[front], &journal[front])?));
     }
+    if front < asked.len() {
+        return Ok(Some(only_noted(asked[front])?));
+    }
+    if front < journal.len() {
+        return Ok(Some(only_entered(&journal[front])?));
+    }
+    Ok(None)
 }
 
 // The first pair at one book that isn't the same.
@@ -117,12 +120,12 @@ fn stray_at(
     book: u64,
     journal: &[Note],
 ) -> Result<Option<Strayed>, AllocError>
-    ensures some { IfOk result (λ strayed. IfSome strayed (StraysAt (asked_at book (map (λ note. note.now) order.now)) journal.now)) }
-    ensures none { IfOk result (λ strayed. strayed ≡ None → asked_at book (map (λ note. note.now) order.now) ≡ journal.now) }
+    ensures { IfOk result (StraysIn (asked_at book (map (λ note. note.now) order.now))
+        journal.now) }
 {
     let asked = asked_at(alloc, order, book)?;
     let front = agreement(&asked, journal);
-    behind(asked.get(front).copied(), journal.get(front))
+    behind(&asked, journal, front)
 }
 
 // Whether the note of one pair stands before that of another.
@@ -168,8 +171,8 @@ pub(crate) fn first_stray(
     order: &[&Note],
     journals: &[Vec<Note>],
 ) -> Result<Option<Strayed>, AllocError>
-    ensures some { IfOk result (λ strayed. IfSome strayed (IsFirstStrayed (map (λ note. note.now) order.now) (map (λ notes. notes.items) journals.now))) }
-    ensures none { IfOk result (λ strayed. strayed ≡ None → AreAllAsked (map (λ note. note.now) order.now) (map (λ notes. notes.items) journals.now)) }
+    ensures { IfOk result (StrayedFirst (map (λ note. note.now) order.now)
+        (map (λ notes. notes.items) journals.now)) }
 {
     let mut first = None;
     for book in 0..journals.len() {

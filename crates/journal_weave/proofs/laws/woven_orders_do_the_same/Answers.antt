@@ -1,6 +1,6 @@
 use Rattle.path_core.specs.Octets.{octets}
 use Rattle.path_core.specs.Values.{values}
-use Rattle.journal_weave.proofs.Same.{order_does}
+use Rattle.journal_weave.proofs.Driven.{order_does}
 use Rattle.journal_weave.proofs.laws.woven_orders_do_the_same.Goals as goal
 
 pub returns-clause-octets : goal.returns-clause-octets

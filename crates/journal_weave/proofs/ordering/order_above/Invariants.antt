@@ -5,12 +5,12 @@ use Rattle.journal_weave.specs.Weaving.{lists_in}
 use Rattle.journal_weave.proofs.ordering.order_above.Given as goal
 
 -- the actors from this one on
-abbrev pub invariant-loop : goal.invariant-loop
-invariant-loop g l = record {
+abbrev pub invariant-loop-left : goal.invariant-loop-left
+invariant-loop-left g l = record {
   few : l.left ≤ length l.crew;
   order : map (λ note. note.now) l.order.items ≡ in_order l.after (drop l.left (lists_in l.crew));
   sorted : AreInOrder (map (λ note. note.now) l.order.items);
 }
 
-abbrev pub decreases-loop : goal.decreases-loop
-decreases-loop g l = l.left
+abbrev pub decreases-loop-left : goal.decreases-loop-left
+decreases-loop-left g l = l.left

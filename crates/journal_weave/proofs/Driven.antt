@@ -1,8 +1,7 @@
 -- The woven order makes what was made.
-use Rattle.std.proofs.Common.{◌≡◌, sym, subst, List}
+use Rattle.std.proofs.Common.{◌≡◌, sym, subst}
 use Rattle.path_core.specs.Codec.{Codec}
-use Rattle.world_laws.specs.Fine.{lists_of}
-use Rattle.world_laws.specs.Weaving.{Worked, steps_by}
+use Rattle.world_laws.specs.Weaving.{steps_by}
 use Rattle.world_laws.specs.Worlds.{AreLawful, world_run}
 use Rattle.world_laws.proofs.WeavingRounds.{woven_does}
 use Rattle.journal_weave.specs.Laws.{WovenOrderDoes}
