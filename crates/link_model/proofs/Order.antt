@@ -1,5 +1,5 @@
 -- Copies are kept in the order of their arrival.
-use Rattle.std.proofs.Common.{◌≡◌, ◌∙◌, refl, sym, ap, ℕ, zero, suc, ◌+◌, ◌<◌, ◌≤◌, ◌⊎◌, inl, inr, Bool, true, false, cond, ltb, eqb, List, [], ◌∷◌, ◌++◌, length, take, drop, remove, Option, Some, None, arith}
+use Rattle.std.proofs.Common.{◌≡◌, ◌∙◌, refl, sym, ap, ℕ, zero, suc, ◌+◌, ◌<◌, ◌≤◌, ◌⊎◌, inl, inr, Bool, true, false, cond, ltb, eqb, List, [], ◌∷◌, ◌++◌, length, take, drop, remove, Option, Some, None, IfSome, arith}
 use Rattle.std.specs.Prelude.{nat_lt, ◌==◌, ◌&&◌, ◌||◌, position}
 use Rattle.std.specs.List.{AllByRecursion}
 use Rattle.std.proofs.lemmas.Bool.{cases_lt}
@@ -9,8 +9,8 @@ use Rattle.link_model.specs.declared.flight.Flight.{Flight}
 use Rattle.link_model.specs.declared.flight.Due.{Due}
 use Rattle.link_model.specs.Fate.{fate_of, is_stripped, is_altered}
 use Rattle.link_model.specs.State.{LinkState}
-use Rattle.link_model.specs.Steps.{rank, comes_before, with_flight, with_flights, arrivals, changed, peer, next_number, after_send, after_delivery, after_cut, without, is_due}
-use Rattle.link_model.specs.Laws.{IsFirst, AreInOrder}
+use Rattle.link_model.specs.Steps.{rank, comes_before, with_flight, with_flights, arrivals, changed, peer, next_number, after_send, after_delivery, after_cut, without, is_due, next_due}
+use Rattle.link_model.specs.Order.{IsFirst, AreInOrder}
 
 -- ---- the order by three numbers
 
@@ -62,6 +62,43 @@ before_later a b c x y z k l m first not = by _ refl
         let no : true ≡ false = sym (less_before k l m x y z (crossed a b c x y z k l m (less_is a b c x y z first) (less_is k l m a b c e))) ∙ not in
         no
 
+-- not after
+abbrev AtMost : ℕ → ℕ → ℕ → ℕ → ℕ → ℕ → Type 0
+AtMost a b c x y z = (a < x) ⊎ ((a ≡ x) × ((b < y) ⊎ ((b ≡ y) × (c ≤ z))))
+
+at_most_second : (b c y z : ℕ) → (nat_lt y b || (y == b && nat_lt z c)) ≡ false → (b < y) ⊎ (y ≤ b) → (b < y) ⊎ ((b ≡ y) × (c ≤ z))
+at_most_second b c y z h (inl low) = inl low
+at_most_second b c y z h (inr high) = inr (grind (arith, h, high), grind (arith, h, high))
+
+at_most_first : (a b c x y z : ℕ) → before x y z a b c ≡ false → (a < x) ⊎ (x ≤ a) → AtMost a b c x y z
+at_most_first a b c x y z h (inl low) = inl low
+at_most_first a b c x y z h (inr high) =
+    let same : a ≡ x = grind (arith, h, high) in
+    let rest : (nat_lt y b || (y == b && nat_lt z c)) ≡ false = grind (arith, h, high) in
+    inr (same, at_most_second b c y z rest (cases_lt b y))
+
+at_most_then : (a b c x y z k l m : ℕ) → AtMost k l m a b c → Less a b c x y z → Less k l m x y z
+at_most_then a b c x y z k l m (inl g) (inl f) = inl (omega (arith, f, g))
+at_most_then a b c x y z k l m (inr g) (inl f) = inl (omega (arith, f, g.0))
+at_most_then a b c x y z k l m (inl g) (inr f) = inl (omega (arith, f.0, g))
+at_most_then a b c x y z k l m (inr g) (inr f) = inr (omega (arith, f.0, g.0), within f.1 g.1)
+  where
+    within : (b < y) ⊎ ((b ≡ y) × (c < z)) → (l < b) ⊎ ((l ≡ b) × (m ≤ c)) → (l < y) ⊎ ((l ≡ y) × (m < z))
+    within (inl p) (inl q) = inl (omega (arith, p, q))
+    within (inl p) (inr q) = inl (omega (arith, p, q.0))
+    within (inr p) (inl q) = inl (omega (arith, p.0, q))
+    within (inr p) (inr q) = inr (omega (arith, p.0, q.0), omega (arith, p.1, q.1))
+
+-- what comes before one comes before each that doesn't come before that
+before_onward : (a b c x y z k l m : ℕ) → before a b c x y z ≡ true → before k l m x y z ≡ false → before a b c k l m ≡ true
+before_onward a b c x y z k l m first not = by _ refl
+  where
+    by : (t : Bool) → before a b c k l m ≡ t → t ≡ true
+    by true e = refl
+    by false e =
+        let no : true ≡ false = sym (less_before k l m x y z (at_most_then a b c x y z k l m (at_most_first k l m a b c e (cases_lt k a)) (less_is a b c x y z first))) ∙ not in
+        sym no
+
 pub before_once : (a b c x y z : ℕ) → before a b c x y z ≡ true → before x y z a b c ≡ false
 before_once a b c x y z first = before_later a b c x y z x y z first (itself x y z)
   where
@@ -83,6 +120,9 @@ first_before f g [] low first = tt
 first_before f g (h ∷ flights) low first =
     (before_later f.tick (rank f.to) f.number g.tick (rank g.to) g.number h.tick (rank h.to) h.number low first.0, first_before f g flights low first.1)
 
+pub before_behind : {C : Type 0} (f g h : Flight C) → comes_before f g ≡ true → comes_before h g ≡ false → comes_before f h ≡ true
+before_behind f g h first not = before_onward f.tick (rank f.to) f.number g.tick (rank g.to) g.number h.tick (rank h.to) h.number first not
+
 pub in_order_with : {C : Type 0} (f : Flight C) (flights : List (Flight C)) → AreInOrder flights → AreInOrder (with_flight f flights)
 in_order_with f [] order = (tt, tt)
 in_order_with f (g ∷ flights) order = by (comes_before f g) refl (in_order_with f flights order.1)
@@ -91,7 +131,7 @@ in_order_with f (g ∷ flights) order = by (comes_before f g) refl (in_order_wit
     by true e rest = ((before_once f.tick (rank f.to) f.number g.tick (rank g.to) g.number e, first_before f g flights e order.0), order)
     by false e rest = (first_with g f flights e order.0, rest)
 
-in_order_all : {C : Type 0} (to : Side) (number : ℕ) (carried : C) (ticks : List ℕ) (flights : List (Flight C)) → AreInOrder flights
+pub in_order_all : {C : Type 0} (to : Side) (number : ℕ) (carried : C) (ticks : List ℕ) (flights : List (Flight C)) → AreInOrder flights
     → AreInOrder (with_flights to number carried ticks flights)
 in_order_all to number carried [] flights order = order
 in_order_all to number carried (tick ∷ ticks) flights order = in_order_all to number carried ticks _ (in_order_with _ flights order)
@@ -101,13 +141,27 @@ pub in_order_sent : {C : Type 0} (strip alter : Side → C → C) (from : Side) 
 in_order_sent strip alter A carried now link order = in_order_all B _ _ (arrivals _ _) link.under_way order
 in_order_sent strip alter B carried now link order = in_order_all A _ _ (arrivals _ _) link.under_way order
 
+-- ---- the earliest
+
+not_earlier : (a b c x y z : ℕ) → before a b c x y z ≡ false → x ≤ a
+not_earlier a b c x y z not = grind (arith, not)
+
+none_earlier : {C : Type 0} (f : Flight C) (flights : List (Flight C)) → IsFirst f flights → AllByRecursion (λ g. f.tick ≤ g.tick) flights
+none_earlier f [] first = tt
+none_earlier f (g ∷ flights) first = (not_earlier g.tick (rank g.to) g.number f.tick (rank f.to) f.number first.0, none_earlier f flights first.1)
+
+-- the first of copies in order
+pub earliest : {C : Type 0} (flights : List (Flight C)) → AreInOrder flights → IfSome (next_due flights) (λ due. AllByRecursion (λ g. due.tick ≤ g.tick) flights)
+earliest [] order = tt
+earliest (f ∷ flights) order = (omega arith, none_earlier f flights order.0)
+
 first_removed : {C : Type 0} (h : Flight C) (flights : List (Flight C)) (i : ℕ) → IsFirst h flights → IsFirst h (remove flights i)
 first_removed h [] zero first = tt
 first_removed h [] (suc i) first = tt
 first_removed h (f ∷ flights) zero first = first.1
 first_removed h (f ∷ flights) (suc i) first = (first.0, first_removed h flights i first.1)
 
-in_order_removed : {C : Type 0} (flights : List (Flight C)) (i : ℕ) → AreInOrder flights → AreInOrder (remove flights i)
+pub in_order_removed : {C : Type 0} (flights : List (Flight C)) (i : ℕ) → AreInOrder flights → AreInOrder (remove flights i)
 in_order_removed [] zero order = tt
 in_order_removed [] (suc i) order = tt
 in_order_removed (f ∷ flights) zero order = order.1

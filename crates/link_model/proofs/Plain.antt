@@ -12,7 +12,8 @@ use Rattle.link_model.specs.declared.flight.Flight.{Flight}
 use Rattle.link_model.specs.Fate.{is_named, fate_told, told_if, told_or, fate_of, is_stripped, is_altered}
 use Rattle.link_model.specs.State.{LinkState}
 use Rattle.link_model.specs.Steps.{rank, comes_before, with_flight, with_flights, arrivals, changed, peer, next_number, after_send}
-use Rattle.link_model.specs.Laws.{IsFirst, AreInOrder, moves, going_to, WereSentBefore, plain_flight}
+use Rattle.link_model.specs.Order.{IsFirst, AreInOrder}
+use Rattle.link_model.specs.Laws.{moves, going_to, WereSentBefore, plain_flight}
 use Rattle.link_model.proofs.Order.{first_before, before_is, before_once}
 
 told_nothing : (b named : Bool) (f : Fate) → b ≡ false → told_if (b && named) f ≡ None

@@ -11,17 +11,6 @@ use Rattle.link_model.specs.State.{LinkState}
 use Rattle.link_model.specs.Steps.{peer, next_number, comes_before, changed}
 use Rattle.link_model.specs.Fate.{is_stripped, is_altered}
 
--- ---- the order of arrival
-
--- no copy of these arrives before this one
-abbrev pub IsFirst : {C : Type 0} → Flight C → List (Flight C) → Type 0
-IsFirst f flights = AllByRecursion (λ g. comes_before g f ≡ false) flights
-
--- copies in the order of their arrival
-abbrev pub AreInOrder : {C : Type 0} → List (Flight C) → Type 0
-AreInOrder [] = Unit {0}
-AreInOrder (f ∷ flights) = IsFirst f flights × AreInOrder flights
-
 -- ---- a direction of which no line speaks
 
 -- a line by which a segment from this side is lost, late or repeated

@@ -5,7 +5,8 @@ ghost use Rattle.link_model.specs.declared.flight.Flight.{Flight};
 ghost use Rattle.link_model.specs.declared.flight.Due.{Due};
 ghost use Rattle.link_model.specs.State.{LinkState};
 ghost use Rattle.link_model.specs.Steps.{peer, next_number, after_send, after_delivery};
-ghost use Rattle.link_model.specs.Laws.{AreInOrder, moves, going_to, WereSentBefore, plain_flight, shown};
+ghost use Rattle.link_model.specs.Order.{AreInOrder};
+ghost use Rattle.link_model.specs.Laws.{moves, going_to, WereSentBefore, plain_flight, shown};
 
 /// A copy arrives later than its segment was sent: what is true of all copies under way, and of every copy that would
 /// arrive later than a tick, is true of all after a sending at that tick.

@@ -1,3 +1,4 @@
 pub mod Sums
 pub mod Folding
 pub mod Turned
+mod Lanes

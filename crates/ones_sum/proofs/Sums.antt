@@ -1,5 +1,6 @@
 -- The plain sum of words: by parts, its bound, and after one octet is written.
-use Rattle.std.proofs.Common.{◌≡◌, ℕ, zero, suc, ◌+◌, ◌*◌, ◌%◌, ◌<◌, ◌≤◌, ◌⊎◌, inl, inr, List, [], ◌∷◌, ◌++◌, length, get_or, set, arith}
+use Rattle.std.proofs.Common.{◌≡◌, ◌∙◌, ap, ℕ, zero, suc, ◌+◌, ◌*◌, ◌%◌, ◌<◌, ◌≤◌, ◌⊎◌, inl, inr, List, [], ◌∷◌, ◌++◌, length, take, drop, get_or, set, arith}
+use Rattle.std.proofs.lemmas.Simd.{chunk-drop, length-chunk}
 use Rattle.std.proofs.lemmas.List.Sums.{sum_by-cons}
 use Rattle.ones_sum.specs.Words.{words, word_sum}
 
@@ -12,6 +13,13 @@ word_sum-append [] others even = omega arith
 word_sum-append (high ∷ []) others even = absurd (omega arith)
 word_sum-append (high ∷ low ∷ rest) others even =
     omega (arith, word_sum-cons high low (rest ++ others), word_sum-cons high low rest, word_sum-append rest others (omega arith))
+
+-- an even number of octets from a place on, and all after them
+pub word_sum-chunk : (at n : ℕ) (octets : List ℕ) → n % 2 ≡ 0 → at + n ≤ length octets
+    → word_sum (drop at octets) ≡ word_sum (take n (drop at octets)) + word_sum (drop (at + n) octets)
+word_sum-chunk at n octets even within =
+    ap word_sum (chunk-drop at n octets)
+    ∙ word_sum-append (take n (drop at octets)) (drop (at + n) octets) (rw (length-chunk at n octets within) even)
 
 pub word_sum-bound : (octets : List ℕ) → ((i : ℕ) → get_or octets i 0 < 256) → word_sum octets ≤ 65535 * length octets
 word_sum-bound [] small = omega arith

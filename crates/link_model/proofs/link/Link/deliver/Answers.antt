@@ -3,6 +3,8 @@ use Rattle.link_model.specs.declared.flight.Flight.{Flight}
 use Rattle.link_model.specs.State.{LinkState}
 use Rattle.link_model.specs.Steps.{arriving}
 use Rattle.link_model.proofs.Found.{found_nowhere, found_at, none_is_not_some, IfSome-is}
+use Rattle.link_model.specs.Order.{AreInOrder}
+use Rattle.link_model.proofs.Order.{in_order_removed}
 use Rattle.link_model.proofs.link.Link.deliver.Goals as goal
 
 pub unreachable-requires-in-None : goal.unreachable-requires-in-None
@@ -14,3 +16,11 @@ returns-clause-octets c =
     rw (sym c.self.view_is)
     (IfSome-is _ c.in-Some-remove.flight _
     (found_at _ c.self.inside.flights.items c.in-Some.place c.in-Some-remove.flight (sym c.place_of.ensures ∙ c.in-Some.is) ∙ ap (λ f. Some f) (sym c.in-Some-remove.ensures.value)) refl)
+
+pub invariant_of-self : goal.invariant_of-self
+invariant_of-self c = (
+  c.self.invariant.0,
+  c.self.invariant.1,
+  c.self.invariant.2,
+  subst AreInOrder (sym c.in-Some-remove.ensures.items) (in_order_removed c.self.inside.flights.items c.in-Some.place c.self.invariant.3),
+)

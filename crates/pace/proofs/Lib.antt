@@ -1,0 +1,11 @@
+pub mod Applying
+pub mod Beginning
+pub mod Calming
+pub mod Hearing
+pub mod Lists
+pub mod Moving
+pub mod Passing
+pub mod Saying
+pub mod Sending
+pub mod Settling
+pub mod Telling
