@@ -1,0 +1,7 @@
+pub mod Inserting
+pub mod Strays
+pub mod Paired
+pub mod Driven
+pub mod Above
+pub mod Gathered
+pub mod FirstStray

@@ -1,0 +1,3 @@
+pub mod Order
+pub mod Weaving
+pub mod Laws
