@@ -1,11 +1,12 @@
 -- The made input of each number that can be asked for is plain, and is run in rounds.
-use Rattle.std.proofs.Common.{◌≡◌, refl, ◌∙◌, ap, ℕ, zero, suc, ◌+◌, ◌*◌, ◌^◌, ◌<◌, ◌≤◌, List, [], ◌∷◌, ◌++◌, length, Option, Some, None, IfSome, arith}
+use Rattle.std.proofs.Common.{◌≡◌, refl, ◌∙◌, ap, ℕ, zero, suc, ◌+◌, ◌*◌, ◌^◌, ◌<◌, ◌≤◌, List, [], ◌∷◌, ◌++◌, length, take, ◌/◌, Option, Some, None, IfSome, arith}
 use Rattle.std.specs.Prelude.{◌%◌, option_and_then, ◌==◌, if◌then◌else◌, Bool, true, false, All}
 use Rattle.std.specs.List.{AllPairs}
 use Rattle.std.specs.Int.{w32, to_le_bytes}
-use Rattle.std.proofs.lemmas.List.{length-append}
+use Rattle.std.proofs.lemmas.List.{length-append, take_all}
 use Rattle.std.proofs.lemmas.List.Elements.{All-nil, All-cons}
 use Rattle.key_material.specs.Drawing.{cipher_key, drawn_word}
+use Rattle.rand_core.specs.Steps.{word_bytes, fill_via_u32}
 use Rattle.rand_chacha.specs.ChaCha.{ChaCha, key_of, word_at, next_word}
 use Rattle.link_script.specs.declared.limits.Limits.{Limits}
 use Rattle.link_script.specs.declared.line.Line.{Line as ScriptText}
@@ -36,12 +37,6 @@ word_drawn seed stream drawn word old new low is given =
     let small : (drawn + 1) % 2 ^ 68 ≡ drawn + 1 = omega (arith, low) in
     (ap (λ pair. pair.0) both, ap (λ pair. pair.1) both ∙ ap (λ n. record { key = key_of (cipher_key seed); stream = stream; word_pos = n }) small)
 
-pub octets_more : (seed stream drawn word : ℕ) (old new piece : List ℕ) → old ≡ drawn_octets seed stream drawn → word ≡ drawn_word seed stream drawn
-    → piece ≡ to_le_bytes w32 word → new ≡ old ++ piece → new ≡ drawn_octets seed stream (suc drawn)
-unfolding drawn_octets
-octets_more seed stream drawn word old new piece old_is word_is piece_is new_is =
-    new_is ∙ ap (λ xs. xs ++ piece) old_is ∙ ap (λ xs. drawn_octets seed stream drawn ++ xs) (piece_is ∙ ap (to_le_bytes w32) word_is)
-
 -- four octets a word
 octets_many : (seed stream words : ℕ) → length (drawn_octets seed stream words) ≡ 4 * words
 unfolding drawn_octets
@@ -49,6 +44,41 @@ octets_many seed stream zero = refl
 octets_many seed stream (suc words) =
     length-append (drawn_octets seed stream words) (to_le_bytes w32 (drawn_word seed stream words))
     ∙ ap (λ n. n + 4) (octets_many seed stream words) ∙ omega arith
+
+-- so many words, written one after the other
+words_drawn : (seed stream words : ℕ) → words ≤ 2 ^ 32
+    → word_bytes (to_le_bytes w32) (next_word 10) words (words_at seed stream 0) ≡ (drawn_octets seed stream words, words_at seed stream words)
+unfolding word_bytes drawn_octets
+words_drawn seed stream zero few = refl
+words_drawn seed stream (suc words) few =
+    let at = words_at seed stream words in
+    let drawn = word_drawn seed stream words (next_word 10 at).0 at (next_word 10 at).1 (omega (arith, few)) refl refl in
+    let next : words + 1 ≡ suc words = omega arith in
+    ap (λ before. (before.0 ++ to_le_bytes w32 (next_word 10 before.1).0, (next_word 10 before.1).1)) (words_drawn seed stream words (omega (arith, few)))
+    ∙ ap (λ word. (drawn_octets seed stream words ++ to_le_bytes w32 word, (next_word 10 at).1)) drawn.0
+    ∙ ap (λ after. (drawn_octets seed stream (suc words), after)) (drawn.1 ∙ ap (words_at seed stream) next)
+
+octets_filled : (seed stream words n : ℕ) (octets : List ℕ) (new : ChaCha) → words ≤ 2 ^ 32 → n ≡ 4 * words
+    → (octets, new) ≡ fill_via_u32 (next_word 10) n (words_at seed stream 0) → octets ≡ drawn_octets seed stream words
+octets_filled seed stream words n octets new few size filled =
+    let whole : (n + 3) / 4 ≡ words = omega (arith, size) in
+    ap (λ pair. pair.0) filled
+    ∙ ap (λ k. take n (word_bytes (to_le_bytes w32) (next_word 10) k (words_at seed stream 0)).0) whole
+    ∙ ap (λ pair. take n pair.0) (words_drawn seed stream words few)
+    ∙ take_all n (drawn_octets seed stream words) (omega (arith, size, octets_many seed stream words))
+
+take_front : (n : ℕ) (xs ys : List ℕ) → length xs ≡ n → take n (xs ++ ys) ≡ xs
+take_front zero [] ys size = refl
+take_front (suc n) [] ys size = absurd (omega (arith, size))
+take_front zero (x ∷ xs) ys size = absurd (omega (arith, size))
+take_front (suc n) (x ∷ xs) ys size = ap (λ rest. x ∷ rest) (take_front n xs ys (omega (arith, size)))
+
+-- octets that are filled to their end
+pub octets_drawn : (seed stream words n len : ℕ) (octets rest : List ℕ) (old new : ChaCha) → words ≤ 2 ^ 32 → n ≡ 4 * words → len ≡ 4 * words → old ≡ words_at seed stream 0
+    → (octets, new) ≡ fill_via_u32 (next_word 10) n old → take len (octets ++ rest) ≡ drawn_octets seed stream words
+octets_drawn seed stream words n len octets rest old new few size whole start filled =
+    ap (λ xs. take len (xs ++ rest)) (octets_filled seed stream words n octets new few size (filled ∙ ap (fill_via_u32 (next_word 10) n) start))
+    ∙ take_front len (drawn_octets seed stream words) rest (omega (arith, whole, octets_many seed stream words))
 
 pairs_nil : {X : Type 0} (R : X → X → Type 0) → AllPairs R []
 pairs_nil R i j d less within = absurd (omega (arith, within))

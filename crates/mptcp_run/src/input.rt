@@ -7,6 +7,7 @@ ghost use Rattle.run_words.specs.Lines.{replay, shown};
 ghost use Rattle.world_laws.specs.PlainScripts.{alters_payload};
 ghost use Rattle.mptcp_run.specs.Calling.{Loads};
 ghost use Rattle.mptcp_run.specs.declared.status.Named.TheVariants as named;
+ghost use Rattle.mptcp_run.specs.declared.status.Status.TheVariants.{Memory};
 ghost use Rattle.mptcp_run.specs.Causes.{IsLoadFault, IsScriptFault};
 ghost use Rattle.mptcp_run.specs.Inputs.{IsWithinLimit, IsLoadsFault, AreFirstWithinLimits, IsInputFault, IsReplayInputFault};
 ghost use Rattle.outside_kit.specs.Calls as call;
@@ -107,7 +108,18 @@ pub fn load_order<O: Outside>(
     load(alloc, outside, Named::Order, order)
 }
 
-/// What the contents say: the script is read.
+/// A file as a text whose parts share its octets. Copies none.
+fn shared(file: Vec<u8>) -> Result<Text, Status>
+    ensures file { IfOk result (λ text. text ≡ file.items) }
+    ensures fault { IfErr result (λ status. status ≡ Memory) }
+{
+    match Text::from(file).share() {
+        Ok(text) => Ok(text),
+        Err(_) => Err(Status::Memory),
+    }
+}
+
+/// What the contents say: the script is read, and the files are shared.
 pub fn input_of(alloc: Global, contents: Contents) -> Result<Input, Status>
     requires { vec_len contents.script ≤ 65536 }
     ensures script { IfOk result (λ input. script_meaning contents.script.items ≡ Ok input.script) }
@@ -121,8 +133,8 @@ pub fn input_of(alloc: Global, contents: Contents) -> Result<Input, Status>
     match read_script(alloc, &contents.script) {
         Ok(script) => Ok(Input {
             script,
-            file_a: Text::from(contents.file_a),
-            file_b: Text::from(contents.file_b),
+            file_a: shared(contents.file_a)?,
+            file_b: shared(contents.file_b)?,
         }),
         Err(ScriptFault::Line { line, kind }) => Err(Status::Script { line, kind }),
         Err(ScriptFault::Memory) => Err(Status::Memory),

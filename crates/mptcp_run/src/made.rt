@@ -1,6 +1,6 @@
 //! The made input of `bench`.
 
-ghost use Rattle.std.specs.Prelude.{◌≡◌, ◌≤◌, ◌++◌, IfOk};
+ghost use Rattle.std.specs.Prelude.{◌≡◌, ◌≤◌, ◌^◌, IfOk};
 ghost use Rattle.link_script.specs.Scripts.{HasRanges};
 ghost use Rattle.mptcp_run.specs.Made.{words_at, drawn_octets, path_line, made_paths, made_lines, made_script, made_file};
 
@@ -9,7 +9,7 @@ use outside_kit::Side;
 use pipe_model::Text;
 use rand_chacha::ChaCha20Rng;
 use rand_core::SeedableRng;
-use rand_core::utils::NextWord;
+use rand_core::utils::fill_bytes_via_u32;
 use std::alloc::{AllocError, Global};
 use world_core::Input;
 
@@ -25,15 +25,13 @@ fn words_of(seed: u64, stream: u64) -> ChaCha20Rng
 }
 
 /// The octets of the first words of a stream, each word least octet first.
-#[tactic(auto, unfolding(crate::specs::Made::drawn_octets))]
-fn drawn_octets(alloc: Global, seed: u64, stream: u64, count: u64) -> Result<Vec<u8>, AllocError>
+fn drawn_octets(alloc: Global, seed: u64, stream: u64, count: usize) -> Result<Vec<u8>, AllocError>
+    requires { count ≤ 2 ^ 32 }
     ensures { IfOk result (λ octets. octets.items ≡ drawn_octets seed stream count) }
 {
     let mut words = words_of(seed, stream);
-    let mut octets = Vec::new(alloc);
-    for _word in 0..count {
-        octets.extend_from_slice(&words.next_word().to_le_bytes())?;
-    }
+    let mut octets = vec![in alloc; 0; 4 * count]?;
+    fill_bytes_via_u32(&mut words, octets.as_mut_slice());
     Ok(octets)
 }
 
@@ -41,8 +39,8 @@ fn drawn_octets(alloc: Global, seed: u64, stream: u64, count: u64) -> Result<Vec
 fn made_file(alloc: Global, number: u16, stream: u64) -> Result<Text, AllocError>
     ensures { IfOk result (λ file. file ≡ made_file number stream) }
 {
-    let number = u64::from(number);
-    let octets = drawn_octets(alloc, number, stream, 16_384 * number)?;
+    let count = 16_384 * usize::from(number);
+    let octets = drawn_octets(alloc, u64::from(number), stream, count)?;
     Text::from(octets).share()
 }
 
