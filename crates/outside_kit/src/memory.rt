@@ -93,7 +93,8 @@ impl MemoryPort {
 
     /// A put fails with these octets put all the same, or is refused for want of memory.
     fn fail(&mut self, kept: &[u8]) -> PutFault
-        ensures failed { result ≡ PutFault.Failed → self.new ≡ after_fault (grown kept.now self.old) }
+        ensures failed { result ≡ PutFault.Failed →
+            self.new ≡ after_fault (grown kept.now self.old) }
         ensures risen { result ≡ PutFault.Failed → HasRisen self.old.faults self.new.faults }
         ensures memory { result ≡ PutFault.Memory → self.new ≡ self.old }
     {
@@ -137,7 +138,8 @@ impl MemoryOutside {
     /// An outside with these files, whose calls of these numbers fail. Its ports are empty, and it has counted no
     /// fault. It tells that no call was made. It takes no memory.
     pub fn new(alloc: Global, files: Vec<NamedFile>, failing: Vec<FailAt>) -> Self
-        ensures { result ≡ record { memory = new_memory (map stored files.items) failing.items; made = Some [] } }
+        ensures { result ≡
+            record { memory = new_memory (map stored files.items) failing.items; made = Some [] } }
     {
         MemoryOutside {
             files,
@@ -218,7 +220,8 @@ fn bind_port(port: &mut MemoryPort, fails: bool) -> Result<(), PutFault>
 fn put_port(port: &mut MemoryPort, kept: Option<u64>, piece: &[u8]) -> Result<(), PutFault>
     ensures ok { OnOk result (port.new ≡ grown piece.now port.old) }
     ensures allowed { OnOk result (kept ≡ None) }
-    ensures cause { result ≡ Err PutFault.Failed → IsSomeAnd kept (λ count. port.new ≡ after_fault (grown (take count piece.now) port.old)) }
+    ensures cause { result ≡ Err PutFault.Failed →
+        IsSomeAnd kept (λ count. port.new ≡ after_fault (grown (take count piece.now) port.old)) }
     ensures memory { result ≡ Err PutFault.Memory → port.new ≡ port.old }
     ensures counted { port.old.faults ≤ port.new.faults }
     ensures failed { result ≡ Err PutFault.Failed → HasRisen port.old.faults port.new.faults }
@@ -239,7 +242,8 @@ fn put_noted(
 ) -> Result<(), PutFault>
     ensures ok { OnOk result (port.new ≡ grown piece.now port.old) }
     ensures allowed { OnOk result (kept ≡ None) }
-    ensures cause { result ≡ Err PutFault.Failed → IsSomeAnd kept (λ count. port.new ≡ after_fault (grown (take count piece.now) port.old)) }
+    ensures cause { result ≡ Err PutFault.Failed →
+        IsSomeAnd kept (λ count. port.new ≡ after_fault (grown (take count piece.now) port.old)) }
     ensures memory { result ≡ Err PutFault.Memory → port.new ≡ port.old }
     ensures counted { port.old.faults ≤ port.new.faults }
     ensures failed { result ≡ Err PutFault.Failed → HasRisen port.old.faults port.new.faults }
@@ -285,18 +289,24 @@ impl Outside for MemoryOutside {
 
     /// As [`Outside::load`] says. It fails where this call is to fail, and for a name that no file has.
     fn load(&mut self, alloc: Global, name: &str, limit: u64) -> Result<Vec<u8>, LoadFault>
-        ensures whole { IfOk result (λ bytes. content_named self.old.memory.files name.now ≡ Some bytes.items) }
+        ensures whole { IfOk result
+            (λ bytes. content_named self.old.memory.files name.now ≡ Some bytes.items) }
         ensures within { IfOk result (λ bytes. vec_len bytes ≤ limit) }
         ensures too_long { result ≡ Err LoadFault.TooLong →
             IfSome (content_named self.old.memory.files name.now) (λ told. limit < length told) }
         ensures fits { result ≡ Err LoadFault.Memory →
             IfSome (content_named self.old.memory.files name.now) (λ told. length told ≤ limit) }
         ensures fails { result ≡ Err LoadFault.Failed ↔
-            (IsSome (kept_next self.old.memory) ⊎ IsNone (content_named self.old.memory.files name.now)) }
-        ensures failed { result ≡ Err LoadFault.Failed → HasRisen self.old.memory.load_faults self.new.memory.load_faults }
-        ensures after_failed { result ≡ Err LoadFault.Failed → self.new.memory ≡ after_failed_load self.old.memory }
-        ensures after { result ≢ Err LoadFault.Failed → self.new.memory ≡ after_call self.old.memory }
-        ensures recorded { AreCallsAfter (Load name.now) (is_ok result) self.old.made self.new.made }
+            (IsSome (kept_next self.old.memory)
+            ⊎ IsNone (content_named self.old.memory.files name.now)) }
+        ensures failed { result ≡ Err LoadFault.Failed →
+            HasRisen self.old.memory.load_faults self.new.memory.load_faults }
+        ensures after_failed { result ≡ Err LoadFault.Failed →
+            self.new.memory ≡ after_failed_load self.old.memory }
+        ensures after { result ≢ Err LoadFault.Failed →
+            self.new.memory ≡ after_call self.old.memory }
+        ensures recorded { AreCallsAfter (Load name.now) (is_ok result) self.old.made
+            self.new.made }
         ensures told { OnOk result (IsSome self.old.made → IsSome self.new.made) }
     {
         let fails = self.start_call().is_some();
@@ -314,16 +324,21 @@ impl Outside for MemoryOutside {
 
     /// As [`Outside::bind`] says. It fails exactly where this call is to fail, unless it can't be noted: then nothing changes.
     fn bind(&mut self, port: Port, name: &str) -> Result<(), PutFault>
-        ensures ok { OnOk result (self.new.memory ≡ with_port port (emptied (port_of port self.old.memory)) (after_call self.old.memory)) }
+        ensures ok { OnOk result (self.new.memory ≡ with_port port
+            (emptied (port_of port self.old.memory)) (after_call self.old.memory)) }
         ensures allowed { OnOk result (kept_next self.old.memory ≡ None) }
         ensures fails { result ≡ Err PutFault.Failed → IsSome (kept_next self.old.memory) }
         ensures after_failed { result ≡ Err PutFault.Failed →
-            self.new.memory ≡ with_port port (after_fault (port_of port self.old.memory)) (after_call self.old.memory) }
-        ensures memory { result ≡ Err PutFault.Memory → self.new.memory ≡ after_call self.old.memory }
-        ensures counted { (port_of port self.old.memory).faults ≤ (port_of port self.new.memory).faults }
+            self.new.memory ≡ with_port port (after_fault (port_of port self.old.memory))
+            (after_call self.old.memory) }
+        ensures memory { result ≡ Err PutFault.Memory →
+            self.new.memory ≡ after_call self.old.memory }
+        ensures counted { (port_of port self.old.memory).faults ≤
+            (port_of port self.new.memory).faults }
         ensures failed { result ≡ Err PutFault.Failed →
             HasRisen (port_of port self.old.memory).faults (port_of port self.new.memory).faults }
-        ensures recorded { AreCallsAfter (Bind port name.now) (is_ok result) self.old.made self.new.made }
+        ensures recorded { AreCallsAfter (Bind port name.now) (is_ok result) self.old.made
+            self.new.made }
         ensures told { result ≢ Err PutFault.Memory → IsSome self.old.made → IsSome self.new.made }
     {
         let fails = self.start_call().is_some();
@@ -340,15 +355,21 @@ impl Outside for MemoryOutside {
     /// As [`Outside::put`] says. It fails where this call is to fail, and then keeps as much of the piece as that
     /// call is to keep; where it can't be noted it keeps nothing.
     fn put(&mut self, port: Port, piece: &[u8]) -> Result<(), PutFault>
-        ensures ok { OnOk result (self.new.memory ≡ with_port port (grown piece.now (port_of port self.old.memory)) (after_call self.old.memory)) }
+        ensures ok { OnOk result (self.new.memory ≡ with_port port
+            (grown piece.now (port_of port self.old.memory)) (after_call self.old.memory)) }
         ensures allowed { OnOk result (kept_next self.old.memory ≡ None) }
-        ensures kept { result ≡ Err PutFault.Failed → IsSomeAnd (kept_next self.old.memory) (λ count.
-            self.new.memory ≡ with_port port (after_fault (grown (take count piece.now) (port_of port self.old.memory))) (after_call self.old.memory)) }
-        ensures memory { result ≡ Err PutFault.Memory → self.new.memory ≡ after_call self.old.memory }
-        ensures counted { (port_of port self.old.memory).faults ≤ (port_of port self.new.memory).faults }
+        ensures kept { result ≡ Err PutFault.Failed →
+            IsSomeAnd (kept_next self.old.memory) (λ count. self.new.memory ≡ with_port port
+            (after_fault (grown (take count piece.now) (port_of port self.old.memory)))
+            (after_call self.old.memory)) }
+        ensures memory { result ≡ Err PutFault.Memory →
+            self.new.memory ≡ after_call self.old.memory }
+        ensures counted { (port_of port self.old.memory).faults ≤
+            (port_of port self.new.memory).faults }
         ensures failed { result ≡ Err PutFault.Failed →
             HasRisen (port_of port self.old.memory).faults (port_of port self.new.memory).faults }
-        ensures recorded { AreCallsAfter (Put port piece.now) (is_ok result) self.old.made self.new.made }
+        ensures recorded { AreCallsAfter (Put port piece.now) (is_ok result) self.old.made
+            self.new.made }
         ensures told { result ≢ Err PutFault.Memory → IsSome self.old.made → IsSome self.new.made }
     {
         let kept = self.start_call();

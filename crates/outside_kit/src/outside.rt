@@ -102,55 +102,71 @@ pub trait Outside {
         requires { limit < 2 ^ 32 }
 
         // The content is whole and within the limit. Unless the device fails, it is called too long exactly where it is.
-        ensures whole { IfOk result (λ bytes. IfSome (content self.old name.now) (λ told. bytes.items ≡ told)) }
+        ensures whole { IfOk result
+            (λ bytes. IfSome (content self.old name.now) (λ told. bytes.items ≡ told)) }
         ensures within { IfOk result (λ bytes. vec_len bytes ≤ limit) }
         ensures too_long { result ≡ Err LoadFault.TooLong →
             IfSome (content self.old name.now) (λ told. limit < length told) }
-        ensures source_within { OnOk result (IfSome (source self.old name.now) (λ told. length told ≤ limit)) }
+        ensures source_within { OnOk result
+            (IfSome (source self.old name.now) (λ told. length told ≤ limit)) }
         ensures fits { result ≡ Err LoadFault.Memory →
             IfSome (source self.old name.now) (λ told. length told ≤ limit) }
 
         // The count of loads never falls, and a fault of the device has raised it.
         ensures counted { load_faults self.old ≤ load_faults self.new }
-        ensures failed { result ≡ Err LoadFault.Failed → HasRisen (load_faults self.old) (load_faults self.new) }
+        ensures failed { result ≡ Err LoadFault.Failed →
+            HasRisen (load_faults self.old) (load_faults self.new) }
 
         // All else is as it was.
         ensures same_contents { (other : List ℕ) → content self.new other ≡ content self.old other }
         ensures same_ports { (port : Port) → holds self.new port ≡ holds self.old port }
-        ensures same_counts { (port : Port) → port_faults self.new port ≡ port_faults self.old port }
+        ensures same_counts { (port : Port) →
+            port_faults self.new port ≡ port_faults self.old port }
 
         // Where the calls are still told, this one is the last.
-        ensures recorded { AreCallsAfter (Load name.now) (is_ok result) (calls self.old) (calls self.new) };
+        ensures recorded { AreCallsAfter (Load name.now) (is_ok result) (calls self.old)
+            (calls self.new) };
 
     /// Keeps under `name` what is put to the port from now on, and leaves the port empty.
     fn bind(&mut self, port: Port, name: &str) -> Result<(), PutFault>
-        ensures empty { OnOk result (HoldsAfter (holds self.old port) (holds self.new port) (λ _. [])) }
+        ensures empty { OnOk result
+            (HoldsAfter (holds self.old port) (holds self.new port) (λ _. [])) }
         ensures err { OnErr result (holds self.new port ≡ holds self.old port) }
 
         ensures counted { port_faults self.old port ≤ port_faults self.new port }
         ensures failed { result ≡ Err PutFault.Failed →
             HasRisen (port_faults self.old port) (port_faults self.new port) }
 
-        ensures told { (other : List ℕ) → IsSome (content self.old other) → IsSome (content self.new other) }
-        ensures other_ports { (other : Port) → other ≢ port → holds self.new other ≡ holds self.old other }
-        ensures other_counts { (other : Port) → other ≢ port → port_faults self.new other ≡ port_faults self.old other }
+        ensures told { (other : List ℕ) → IsSome (content self.old other) →
+            IsSome (content self.new other) }
+        ensures other_ports { (other : Port) → other ≢ port →
+            holds self.new other ≡ holds self.old other }
+        ensures other_counts { (other : Port) → other ≢ port →
+            port_faults self.new other ≡ port_faults self.old other }
         ensures load_counts { load_faults self.new ≡ load_faults self.old }
 
-        ensures recorded { AreCallsAfter (Bind port name.now) (is_ok result) (calls self.old) (calls self.new) };
+        ensures recorded { AreCallsAfter (Bind port name.now) (is_ok result) (calls self.old)
+            (calls self.new) };
 
     /// Puts the piece at the end of what the port holds. Where it can't, the port has a prefix of the piece.
     fn put(&mut self, port: Port, piece: &[u8]) -> Result<(), PutFault>
-        ensures ok { OnOk result (HoldsAfter (holds self.old port) (holds self.new port) (λ held. held ++ piece.now)) }
-        ensures err { OnErr result (HoldsPrefix (holds self.old port) (holds self.new port) piece.now) }
+        ensures ok { OnOk result
+            (HoldsAfter (holds self.old port) (holds self.new port) (λ held. held ++ piece.now)) }
+        ensures err { OnErr result
+            (HoldsPrefix (holds self.old port) (holds self.new port) piece.now) }
 
         ensures counted { port_faults self.old port ≤ port_faults self.new port }
         ensures failed { result ≡ Err PutFault.Failed →
             HasRisen (port_faults self.old port) (port_faults self.new port) }
 
-        ensures told { (other : List ℕ) → IsSome (content self.old other) → IsSome (content self.new other) }
-        ensures other_ports { (other : Port) → other ≢ port → holds self.new other ≡ holds self.old other }
-        ensures other_counts { (other : Port) → other ≢ port → port_faults self.new other ≡ port_faults self.old other }
+        ensures told { (other : List ℕ) → IsSome (content self.old other) →
+            IsSome (content self.new other) }
+        ensures other_ports { (other : Port) → other ≢ port →
+            holds self.new other ≡ holds self.old other }
+        ensures other_counts { (other : Port) → other ≢ port →
+            port_faults self.new other ≡ port_faults self.old other }
         ensures load_counts { load_faults self.new ≡ load_faults self.old }
 
-        ensures recorded { AreCallsAfter (Put port piece.now) (is_ok result) (calls self.old) (calls self.new) };
+        ensures recorded { AreCallsAfter (Put port piece.now) (is_ok result) (calls self.old)
+            (calls self.new) };
 }
