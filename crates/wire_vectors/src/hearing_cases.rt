@@ -4,6 +4,7 @@
 //! `joined KEY_A KEY_B NONCE_A NONCE_B OCTETS`: the same of a join, whose keys and nonces these are.
 
 use case_fields::{CaseFault, octets_at, parsed_at, truth_at};
+use join_handshake::JoinFault;
 use mptcp_options::{MpOption, Read, read};
 use std::alloc::{AllocError, Global};
 
@@ -64,16 +65,30 @@ pub fn joined(alloc: Global, fields: &[&str]) -> Result<String, CaseFault> {
     let octets = octets_at(alloc, fields, 4)?;
     let option = heard(octets.as_slice());
     let at_syn = at_join_syn(alloc, option.as_ref())?;
-    let at_syn_ack = match join_handshake::client_answer(key_a, key_b, nonce_a, option.as_ref()) {
-        Ok(answer) => format!(in alloc; "{answer:?}")?,
-        Err(fault) => format!(in alloc; "{fault}")?,
-    };
+    let at_syn_ack = at_join_answer(alloc, key_a, key_b, nonce_a, option.as_ref())?;
     let third = join_handshake::server_third(key_a, key_b, nonce_a, nonce_b, option.as_ref());
-    let at_ack = match third {
-        Ok(()) => format!(in alloc; "right")?,
-        Err(fault) => format!(in alloc; "{fault}")?,
-    };
+    let at_ack = third_text(alloc, third)?;
     Ok(format!(in alloc; "{at_syn}; {at_syn_ack}; {at_ack}")?)
+}
+
+fn at_join_answer(
+    alloc: Global,
+    key_a: u64,
+    key_b: u64,
+    nonce_a: u32,
+    option: Option<&MpOption<'_>>,
+) -> Result<String, AllocError> {
+    match join_handshake::client_answer(key_a, key_b, nonce_a, option) {
+        Ok(answer) => format!(in alloc; "{answer:?}"),
+        Err(fault) => format!(in alloc; "{fault}"),
+    }
+}
+
+fn third_text(alloc: Global, third: Result<(), JoinFault>) -> Result<String, AllocError> {
+    match third {
+        Ok(()) => format!(in alloc; "right"),
+        Err(fault) => format!(in alloc; "{fault}"),
+    }
 }
 
 fn at_join_syn(alloc: Global, option: Option<&MpOption<'_>>) -> Result<String, AllocError> {

@@ -23,6 +23,7 @@ mod script_cases;
 mod segment_cases;
 mod spelling_cases;
 mod steps;
+mod sum_cases;
 mod timer_cases;
 mod window_cases;
 mod words_cases;
@@ -37,7 +38,8 @@ fn wire_answer(alloc: Global, name: &str, fields: &[&str]) -> Result<String, Cas
         "option" => option_cases::option(alloc, fields),
         "segment" => segment_cases::segment(alloc, fields),
         "written" => segment_cases::written(alloc, fields),
-        "sum" => segment_cases::sum(alloc, fields),
+        "sum" => sum_cases::sum(alloc, fields),
+        "sums" => sum_cases::sums(alloc, fields),
         "key" => key_cases::key(alloc, fields),
         "hmac" => key_cases::hmac(alloc, fields),
         "join" => key_cases::join(alloc, fields),

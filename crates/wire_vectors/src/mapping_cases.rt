@@ -45,7 +45,10 @@ pub fn mappings(alloc: Global, fields: &[&str]) -> Result<String, CaseFault> {
 
 fn step(alloc: Global, mappings: &mut Mappings, word: &str) -> Result<String, CaseFault> {
     let parts = parts_of(alloc, word)?;
-    let fields = parts.as_slice();
+    step_by(alloc, mappings, &parts)
+}
+
+fn step_by(alloc: Global, mappings: &mut Mappings, fields: &[&str]) -> Result<String, CaseFault> {
     match word_at(fields, 0)? {
         "learn" => learn(alloc, mappings, fields),
         "infinite" => infinite(alloc, mappings, fields),

@@ -23,7 +23,14 @@ pub fn marks(alloc: Global, fields: &[&str]) -> Result<String, CaseFault> {
 
 fn step(alloc: Global, marks: &mut RangeMarks<u8>, word: &str) -> Result<String, CaseFault> {
     let parts = parts_of(alloc, word)?;
-    let fields = parts.as_slice();
+    step_by(alloc, marks, &parts)
+}
+
+fn step_by(
+    alloc: Global,
+    marks: &mut RangeMarks<u8>,
+    fields: &[&str],
+) -> Result<String, CaseFault> {
     match word_at(fields, 0)? {
         "extend" => extend(marks, fields)?,
         "mark" => mark(marks, fields)?,

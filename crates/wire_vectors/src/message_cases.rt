@@ -3,6 +3,7 @@
 //!
 //! `frames OCTETS ..`: the frames of these messages, one behind the other.
 
+use crate::steps::parts_of;
 use case_fields::{CaseFault, digits, octets_at, word_at};
 use message_pipe::{Messages, frame};
 use pipe_model::Text;
@@ -20,17 +21,26 @@ pub fn message(alloc: Global, fields: &[&str]) -> Result<String, CaseFault> {
 }
 
 fn step(alloc: Global, messages: &mut Messages, word: &str) -> Result<String, CaseFault> {
-    let parts: Vec<&str> = word.split(':').collect(alloc)?;
-    let fields = parts.as_slice();
+    let parts = parts_of(alloc, word)?;
+    step_by(alloc, messages, &parts)
+}
+
+fn feed(alloc: Global, messages: &mut Messages, fields: &[&str]) -> Result<String, CaseFault> {
+    messages.feed(&octets_at(alloc, fields, 1)?)?;
+    Ok(String::from_str(alloc, "fed")?)
+}
+
+fn next(alloc: Global, messages: &mut Messages) -> Result<String, CaseFault> {
+    match messages.next()? {
+        Some(message) => Ok(digits(alloc, message.as_bytes())?),
+        None => Ok(String::from_str(alloc, "none")?),
+    }
+}
+
+fn step_by(alloc: Global, messages: &mut Messages, fields: &[&str]) -> Result<String, CaseFault> {
     match word_at(fields, 0)? {
-        "feed" => {
-            messages.feed(&octets_at(alloc, fields, 1)?)?;
-            Ok(String::from_str(alloc, "fed")?)
-        }
-        "next" => match messages.next()? {
-            Some(message) => Ok(digits(alloc, message.as_bytes())?),
-            None => Ok(String::from_str(alloc, "none")?),
-        },
+        "feed" => feed(alloc, messages, fields),
+        "next" => next(alloc, messages),
         "rest" => Ok(digits(alloc, messages.rest())?),
         _ => Err(CaseFault::Form),
     }

@@ -1,6 +1,7 @@
 //! `pipe STEP ..`: what each step of a stream that opens empty is answered, in words with one blank between them. A step is
 //! `write:OCTETS`, `close`, `read:COUNT`, `ack:TO:RECEIVED` or `end`.
 
+use crate::steps::parts_of;
 use case_fields::{CaseFault, octets_at, parsed_at, word_at};
 use pipe_model::{Pipe, PipeFault, PipeStep, Text, pipe_step};
 use std::alloc::Global;
@@ -18,8 +19,11 @@ pub fn pipe(alloc: Global, fields: &[&str]) -> Result<String, CaseFault> {
 }
 
 fn step_of(alloc: Global, word: &str) -> Result<PipeStep, CaseFault> {
-    let parts: Vec<&str> = word.split(':').collect(alloc)?;
-    let fields = parts.as_slice();
+    let parts = parts_of(alloc, word)?;
+    step_by(alloc, &parts)
+}
+
+fn step_by(alloc: Global, fields: &[&str]) -> Result<PipeStep, CaseFault> {
     match word_at(fields, 0)? {
         "write" => Ok(PipeStep::Write {
             bytes: Text::from(octets_at(alloc, fields, 1)?),

@@ -79,7 +79,10 @@ pub fn receive(alloc: Global, fields: &[&str]) -> Result<String, CaseFault> {
 
 fn receive_step(alloc: Global, side: &mut SubflowRecv, word: &str) -> Result<String, CaseFault> {
     let parts = parts_of(alloc, word)?;
-    let fields = parts.as_slice();
+    receive_by(alloc, side, &parts)
+}
+
+fn receive_by(alloc: Global, side: &mut SubflowRecv, fields: &[&str]) -> Result<String, CaseFault> {
     match word_at(fields, 0)? {
         "accept" => return accept(alloc, side, Piece::read(alloc, fields)?),
         "hold" => hold(side, Piece::read(alloc, fields)?)?,
@@ -147,7 +150,10 @@ pub fn pieces(alloc: Global, fields: &[&str]) -> Result<String, CaseFault> {
 
 fn piece_step(alloc: Global, kept: &mut BytePieces, word: &str) -> Result<String, CaseFault> {
     let parts = parts_of(alloc, word)?;
-    let fields = parts.as_slice();
+    piece_by(alloc, kept, &parts)
+}
+
+fn piece_by(alloc: Global, kept: &mut BytePieces, fields: &[&str]) -> Result<String, CaseFault> {
     match word_at(fields, 0)? {
         "put" => return put(alloc, kept, Piece::read(alloc, fields)?),
         "count" => return count(alloc, kept, Piece::read(alloc, fields)?),

@@ -23,7 +23,10 @@ pub fn records(alloc: Global, fields: &[&str]) -> Result<String, CaseFault> {
 
 fn step(alloc: Global, side: &mut SubflowSend, word: &str) -> Result<String, CaseFault> {
     let parts = parts_of(alloc, word)?;
-    let fields = parts.as_slice();
+    step_by(alloc, side, &parts)
+}
+
+fn step_by(alloc: Global, side: &mut SubflowSend, fields: &[&str]) -> Result<String, CaseFault> {
     match word_at(fields, 0)? {
         "push" => push(alloc, side, fields)?,
         "finish" => finish(side)?,

@@ -3,7 +3,7 @@
 //! before them. The case is printed again behind the answer, which is `ok`, or the first refused line and the kind of its fault.
 //! The script that an accepted text says is written by `text`, and printed on a line of its own.
 
-use link_script::{ScriptFault, parse, text};
+use link_script::{Script, ScriptFault, parse, text};
 use std::alloc::{AllocError, Global};
 
 /// What a case asks.
@@ -65,13 +65,16 @@ fn long_script(alloc: Global, count: u16, last: &str) -> Result<String, AllocErr
     Ok(script)
 }
 
+/// What `text` answers to a script that was read.
+fn read_text(alloc: Global, line: &str, read: &Script) -> Result<String, AllocError> {
+    let written = without_line_ends(alloc, &text(alloc, read)?)?;
+    format!(in alloc; "ok: {line}\n    {written}")
+}
+
 /// What `parse` answers to a script, and `text` to what it says.
 fn answer(alloc: Global, line: &str, script: &str) -> Result<String, AllocError> {
     match parse(alloc, script.as_bytes()) {
-        Ok(read) => {
-            let written = without_line_ends(alloc, &text(alloc, &read)?)?;
-            format!(in alloc; "ok: {line}\n    {written}")
-        }
+        Ok(read) => read_text(alloc, line, &read),
         Err(ScriptFault::Line { line: number, kind }) => {
             format!(in alloc; "{number} {kind}: {line}")
         }

@@ -3,8 +3,6 @@
 //!
 //! `written SOURCE DESTINATION PORT PORT SEQ ACK BITS WINDOW OPTIONS PAYLOAD`: the octets that `segment_wire::write`
 //! makes, and the checksum field that `segment_wire::checksum_field` tells; `BITS` are letters of `FSRA`, or `-`.
-//!
-//! `sum OCTETS`: the plain sum of `ones_sum::sum`, and `ones_sum::fold` of it.
 
 ghost use Rattle.std.specs.Prelude.{◌≤◌};
 
@@ -88,14 +86,4 @@ pub fn written(alloc: Global, fields: &[&str]) -> Result<String, CaseFault> {
     let text = digits(alloc, octets.as_slice())?;
     let field = checksum_field(&head, &addresses, options.as_slice(), payload.as_slice());
     Ok(format!(in alloc; "{text} {field}")?)
-}
-
-pub fn sum(alloc: Global, fields: &[&str]) -> Result<String, CaseFault> {
-    let octets = octets_at(alloc, fields, 0)?;
-    if octets.len() > 1 << 32 {
-        return Err(CaseFault::Form);
-    }
-    let total = ones_sum::sum(octets.as_slice());
-    let folded = ones_sum::fold(total);
-    Ok(format!(in alloc; "{total} {folded}")?)
 }

@@ -64,10 +64,20 @@ fn size_at(fields: &[&str], place: usize) -> Result<Option<u16>, CaseFault> {
 }
 
 pub fn spelled(alloc: Global, fields: &[&str]) -> Result<String, CaseFault> {
-    let (spelling, from) = (spelling_at(fields)?, side_at(fields)?);
-    let bits = word_at(fields, 10)?;
     let payload = octets_at(alloc, fields, 13)?;
     let options = options_at(alloc, fields)?;
+    spelled_with(alloc, fields, &options, &payload)
+}
+
+/// The octets of a segment with these options and this payload.
+fn spelled_with(
+    alloc: Global,
+    fields: &[&str],
+    options: &[Said],
+    payload: &[u8],
+) -> Result<String, CaseFault> {
+    let (spelling, from) = (spelling_at(fields)?, side_at(fields)?);
+    let bits = word_at(fields, 10)?;
     let segment = PathSegment {
         position: parsed_at(fields, 8)?,
         acknowledged: position_at(fields, 9)?,
@@ -76,8 +86,8 @@ pub fn spelled(alloc: Global, fields: &[&str]) -> Result<String, CaseFault> {
         rst: bits.contains('R'),
         window: parsed_at(fields, 11)?,
         mss: size_at(fields, 12)?,
-        options: options.as_slice(),
-        payload: payload.as_slice(),
+        options,
+        payload,
     };
     if !can_say(&spelling, from, &segment) {
         return Ok(format!(in alloc; "unsayable")?);
@@ -173,21 +183,30 @@ fn third_of(octets: &[u8]) -> Result<JoinForm, CaseFault> {
 }
 
 pub fn heard(alloc: Global, fields: &[&str]) -> Result<String, CaseFault> {
-    let (spelling, from) = (spelling_at(fields)?, side_at(fields)?);
-    let expected = Expected {
+    let octets = octets_at(alloc, fields, 12)?;
+    heard_in(alloc, fields, &octets)
+}
+
+fn expected_at(fields: &[&str]) -> Result<Expected, CaseFault> {
+    Ok(Expected {
         edge: parsed_at(fields, 8)?,
         unacknowledged: parsed_at(fields, 9)?,
         told: parsed_at(fields, 10)?,
         place: parsed_at(fields, 11)?,
-    };
+    })
+}
+
+/// What these octets say.
+fn heard_in(alloc: Global, fields: &[&str], octets: &[u8]) -> Result<String, CaseFault> {
+    let (spelling, from) = (spelling_at(fields)?, side_at(fields)?);
+    let expected = expected_at(fields)?;
     if expected.edge >= POSITION_LIMIT || expected.unacknowledged >= POSITION_LIMIT {
         return Err(CaseFault::Form);
     }
     if expected.told >= POSITION_LIMIT || expected.place >= POSITION_LIMIT {
         return Err(CaseFault::Form);
     }
-    let octets = octets_at(alloc, fields, 12)?;
-    match hear(&spelling, from, &expected, octets.as_slice()) {
+    match hear(&spelling, from, &expected, octets) {
         Some(segment) => Ok(heard_text(alloc, &segment)?),
         None => Ok(format!(in alloc; "no segment")?),
     }

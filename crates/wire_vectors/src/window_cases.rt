@@ -32,7 +32,10 @@ fn state(alloc: Global, reno: &Reno) -> Result<String, AllocError> {
 
 fn step(alloc: Global, reno: &mut Reno, mss: u16, word: &str) -> Result<String, CaseFault> {
     let parts = parts_of(alloc, word)?;
-    let fields = parts.as_slice();
+    step_by(alloc, reno, mss, &parts)
+}
+
+fn step_by(alloc: Global, reno: &mut Reno, mss: u16, fields: &[&str]) -> Result<String, CaseFault> {
     match word_at(fields, 0)? {
         "acked" => acknowledge(reno, fields)?,
         "steady" => acknowledge_often(reno, mss, parsed_at(fields, 1)?),

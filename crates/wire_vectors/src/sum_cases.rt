@@ -1,0 +1,70 @@
+//! `sum OCTETS`: the plain sum of `ones_sum::sum`, and `ones_sum::fold` of it.
+//!
+//! `sums LENGTHS PLACES`: of octets that begin at each of the first `PLACES` places, and of each length below `LENGTHS`, how
+//! many have the sum that is made octet by octet.
+
+ghost use Rattle.std.specs.Prelude.{◌≤◌, ◌^◌, length};
+
+use case_fields::{CaseFault, octets_at, parsed_at};
+use std::alloc::{AllocError, Global};
+
+pub fn sum(alloc: Global, fields: &[&str]) -> Result<String, CaseFault> {
+    let octets = octets_at(alloc, fields, 0)?;
+    if octets.len() > 1 << 32 {
+        return Err(CaseFault::Form);
+    }
+    let total = ones_sum::sum(octets.as_slice());
+    let folded = ones_sum::fold(total);
+    Ok(format!(in alloc; "{total} {folded}")?)
+}
+
+/// So many octets of any value.
+fn made(alloc: Global, count: u16) -> Result<Vec<u8>, AllocError> {
+    let mut octets = Vec::new(alloc);
+    for place in 0..u32::from(count) {
+        octets.push((place * 167 % 256) as u8)?;
+    }
+    Ok(octets)
+}
+
+/// The sum of words, octet by octet: those at even places are the high halves (RFC 1071, section 2).
+fn plain_sum(octets: &[u8]) -> u64 {
+    let mut total: u64 = 0;
+    for (place, octet) in octets.iter().enumerate() {
+        let weight = if place % 2 == 0 { 256 } else { 1 };
+        total = total.wrapping_add(u64::from(*octet) * weight);
+    }
+    total
+}
+
+/// Whether these octets have that sum.
+fn is_summed(octets: &[u8]) -> bool
+    requires { length octets.now ≤ 2 ^ 32 }
+{
+    ones_sum::sum(octets) == plain_sum(octets)
+}
+
+/// How many of the first octets, of each length below `lengths`, have that sum.
+fn summed_from(octets: &[u8], lengths: u16) -> u64 {
+    let mut count: u64 = 0;
+    for length in 0..usize::from(lengths) {
+        match octets.get(..length) {
+            Some(part) if is_summed(part) => count = count.wrapping_add(1),
+            _ => {}
+        }
+    }
+    count
+}
+
+pub fn sums(alloc: Global, fields: &[&str]) -> Result<String, CaseFault> {
+    let lengths: u16 = parsed_at(fields, 0)?;
+    let places: u8 = parsed_at(fields, 1)?;
+    let octets = made(alloc, lengths.saturating_add(u16::from(places)))?;
+    let mut count: u64 = 0;
+    for place in 0..usize::from(places) {
+        if let Some(rest) = octets.get(place..) {
+            count = count.wrapping_add(summed_from(rest, lengths));
+        }
+    }
+    Ok(format!(in alloc; "{count}")?)
+}
