@@ -52,3 +52,8 @@ two_paths = record one_path { paths = a_path ∷ a_path ∷ [] }
 
 abbrev pub one_drop : Script
 one_drop = record one_path { lines = Drop 0 A 3 ∷ [] }
+
+-- Both directions of a connection of empty files by this path go on as lanes, for one round and any number more.
+abbrev pub EmptyFilesRun : Type 0
+EmptyFilesRun = (more : ℕ) → (u : Lane) × (x : Lane)
+    × Course (setting_of a_path 65536 0) (setting_of a_path 65536 0) 2828 2828 more u x

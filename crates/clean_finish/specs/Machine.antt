@@ -42,8 +42,8 @@ pub record StaysLong : Type 0 where
 abbrev pub IsPiece : ℕ → Record → Type 0
 IsPiece payload r = (length r.piece ≤ payload) × (length r.piece ≤ occupied r.kind r.piece)
 
--- The flight is less than what isn't acknowledged and one payload, of which the first record may be
--- acknowledged in part.
+-- The flight is at most what isn't acknowledged and one payload: of the first record a part may be
+-- acknowledged.
 abbrev pub FlightsAreSmall : Type 0
 FlightsAreSmall = (payload : ℕ) (v : SendState) → Tile v.una v.nxt (map span_of v.records) → All (IsPiece payload) v.records
     → flight v + v.una < v.nxt + payload + 1

@@ -4,12 +4,18 @@ ghost use Rattle.clean_finish.specs.Bound.{enough};
 ghost use Rattle.clean_finish.specs.Applications.{WritesAsALane, ClosesAsALane, BeginsToWriteAsALane, ReadsAsALane, FollowsAsALane, BeginsToReadAsALane};
 ghost use Rattle.clean_finish.specs.Books.{AckOutAsksAsLanes, AckInHearsAsLanes};
 ghost use Rattle.clean_finish.specs.Machine.{SettlesAsALane, StaysLong, FlightsAreSmall, HeadsArrive, SegmentsGoPlainly, OthersStay};
-ghost use Rattle.clean_finish.specs.Laws.{CleanLanesFinish, one_path, two_paths, one_drop};
+ghost use Rattle.clean_finish.specs.Laws.{CleanLanesFinish, EmptyFilesRun, one_path, two_paths, one_drop};
 
-/// A law: where both directions of a connection go on as lanes of `pace`, by the numbers of a clean script, both readers
-/// are told the end within the rounds that are enough for its files.
+/// A law: where both directions of a connection go on as lanes of `pace`, by the numbers of a clean script, and both
+/// congestion windows begin with two segments and a payload or more, both readers are told the end within the rounds that
+/// are enough for its files.
 pub fn clean_lanes_finish()
     ensures { CleanLanesFinish }
+{}
+
+/// Example: empty files over a path of 10 ticks go on as lanes, so that what `clean_lanes_finish` rests on is met.
+pub fn empty_files_go_on_as_lanes()
+    ensures { EmptyFilesRun }
 {}
 
 /// Examples: 5 octets go in one segment, and 100,000 in 73 segments of 1,372 octets of payload; a script with two paths or
@@ -31,7 +37,7 @@ pub fn timeouts_stay_long()
     ensures { StaysLong }
 {}
 
-/// A law: the flight of an end is less than what isn't acknowledged, and a payload.
+/// A law: the flight of an end is at most what isn't acknowledged and one payload.
 pub fn flights_are_small()
     ensures { FlightsAreSmall }
 {}

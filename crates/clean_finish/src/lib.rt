@@ -12,6 +12,6 @@ mod laws;
 pub use bound::rounds_enough;
 pub use laws::{
     applications_read_as_lanes_do, applications_write_as_lanes_do, books_answer_as_lanes_do,
-    clean_lanes_finish, clean_links_are_lists, examples_of_bounds, flights_are_small,
-    timeouts_stay_long, timers_settle_as_in_lanes,
+    clean_lanes_finish, clean_links_are_lists, empty_files_go_on_as_lanes, examples_of_bounds,
+    flights_are_small, timeouts_stay_long, timers_settle_as_in_lanes,
 };

@@ -1,8 +1,8 @@
 //! What is promised of lanes, as clauses of functions that do nothing.
 ghost use Rattle.pace.specs.Laws.{LanesBegin, MovesKeepIt, CalmRoundsBegin, NoTimerRunsOut, NoThirdDuplicate, FirstRoundsEndCalm, LaterRoundsEndCalm, SevenRoundsBringAPayload, EightRoundsBringNews, SixRoundsTellTheEnd, BothEndsAreTold};
 
-/// A law: all that `Going` says holds of a lane as the first round begins; each move keeps it; and it holds as a round
-/// begins where the one before left the lane calm.
+/// A law: all that `Going` says holds of a lane as the first round begins, where the congestion window takes three payloads
+/// or more; each move keeps it; and it holds as a round begins where the one before left the lane calm.
 pub fn what_holds_stays()
     ensures first { LanesBegin }
     ensures moves { MovesKeepIt }
@@ -15,7 +15,8 @@ pub fn no_timer_runs_out()
 {}
 
 /// A law: where that holds, no more than two duplicate acknowledgements come in a row, one for the DATA_FIN of each
-/// direction. The third, which never comes, would be taken for a loss (RFC 5681, section 3.2).
+/// direction, where the receiving end sends one DATA_FIN at most. The third, which never comes, would be taken for a loss
+/// (RFC 5681, section 3.2).
 pub fn no_third_duplicate_comes()
     ensures { NoThirdDuplicate }
 {}
@@ -27,8 +28,9 @@ pub fn rounds_stay_calm()
     ensures later { LaterRoundsEndCalm }
 {}
 
-/// A law: within seven rounds the reader reads one payload more; within eight something that a timer waits for is
-/// acknowledged; and within six the reader that has all bytes is told the end.
+/// A law: once bytes may be sent the reader reads one payload more within seven rounds, or all that is left; where a timer has
+/// a reason to run something more is acknowledged within eight; and once a DSS may be sent the reader that has all bytes is
+/// told the end within six.
 pub fn rounds_bring_news()
     ensures payload { SevenRoundsBringAPayload }
     ensures news { EightRoundsBringNews }
@@ -36,7 +38,7 @@ pub fn rounds_bring_news()
 {}
 
 /// A law: both readers are told the end after 15 rounds and 7 more for each payload of the longer file, whatever the order
-/// of moves in each round.
+/// of moves in each round, where both congestion windows take three payloads or more as the first round begins.
 pub fn both_ends_are_told()
     ensures { BothEndsAreTold }
 {}

@@ -1,0 +1,16 @@
+-- Moves of a lane, one list of them after another.
+use Rattle.std.proofs.Common.{subst, ℕ, zero, suc}
+use Rattle.pace.specs.Lane.{Setting, Lane, Stage}
+use Rattle.pace.specs.Rounds.{Moves}
+
+-- so many more: a sum that computes by the first number
+abbrev pub more_than : ℕ → ℕ → ℕ
+more_than zero m = m
+more_than (suc n) m = suc (more_than n m)
+
+pub moves_then : (k : Setting) (s : Lane) (m n : ℕ) (p : Stage) (w : Lane) (q : Stage) (v : Lane) (r : Stage) (u : Lane)
+    → Moves k s m p w q v → Moves k s n q v r u → Moves k s (more_than n m) p w r u
+moves_then k s m zero p w q v r u first more =
+    subst (λ (x : Stage). Moves k s m p w x u) more.0 (subst (λ (x : Lane). Moves k s m p w q x) more.1 first)
+moves_then k s m (suc n) p w q v r u first more =
+    (more.0, more.1, moves_then k s m n p w q v more.0 more.1 first more.2, more.3)
