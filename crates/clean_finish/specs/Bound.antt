@@ -14,6 +14,8 @@ payload_of mss = max (mss - 28) 1
 abbrev pub segments : ℕ → ℕ → ℕ
 segments mss length = div_ceil length (payload_of mss)
 
+-- Lanes need 15 rounds, and 7 for each segment of the longer file; 80 and 16 for each segment of either file are
+-- promised.
 abbrev pub bound_of : ℕ → ℕ → ℕ → ℕ
 bound_of mss length_a length_b = 80 + 16 * (segments mss length_a + segments mss length_b)
 
@@ -22,5 +24,6 @@ abbrev pub enough_on : List PathLine → List ScriptLine → ℕ → ℕ → Opt
 enough_on (path ∷ []) [] length_a length_b = Some (bound_of path.mss length_a length_b)
 enough_on _ _ length_a length_b = None
 
+-- the rounds that are enough for a clean script and files of these lengths
 abbrev pub enough : Script → ℕ → ℕ → Option ℕ
 enough script length_a length_b = enough_on script.paths script.lines length_a length_b

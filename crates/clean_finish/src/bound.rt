@@ -2,7 +2,7 @@
 
 ghost use Rattle.std.specs.Prelude.{◌≡◌, ◌≤◌, max};
 ghost use Rattle.std.specs.Int.{div_ceil};
-ghost use Rattle.clean_finish.specs.Bound.{payload_of, segments, bound_of, enough};
+ghost use Rattle.clean_finish.specs.Bound.{segments, bound_of, enough};
 
 use link_script::{PathLine, Script};
 
