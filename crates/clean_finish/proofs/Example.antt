@@ -230,7 +230,7 @@ there_1 =
     let h = then h _ _ (ends_writing (record { wrote = le refl; closed = le refl })) in
     let h = then h _ _ (sends_none syn refl (may_send refl refl refl refl refl refl refl)) in
     let h = then h _ _ (moves 10 (may_move refl refl refl refl refl)) in
-    then h _ _ (hears syn [] (record { first = refl; turn = refl; news = inr (inr (inl (lt refl))) }))
+    then h _ _ (hears true syn [] (record { first = refl; turn = refl; news = inr (inr (inl (lt refl))); asked = λ e. no e }))
 
 abbrev there_stage_2 : Stage
 there_stage_2 = record { ask = true; tell = false; window = true; update = true; emit = true; finish = true; wait = true }
@@ -269,7 +269,7 @@ abbrev there_3 : Here first there_stage_2 there_lane_2
 there_3 =
     let h = begun first there_stage_2 there_lane_2 in
     let h = then h _ _ (moves 30 (may_move refl refl refl refl refl)) in
-    let h = then h _ _ (hears third [] (record { first = refl; turn = refl; news = inr (inr (inr (lt refl))) })) in
+    let h = then h _ _ (hears true third [] (record { first = refl; turn = refl; news = inr (inr (inr (lt refl))); asked = λ e. no e })) in
     let h = then h _ _ (asks 65536 (record { least = le refl; most = le refl })) in
     let h = then h _ _ (says false true end_b (may_say refl refl refl refl refl refl refl refl refl refl)) in
     then h _ _ (moves 40 (may_move refl refl refl refl refl))
@@ -292,7 +292,7 @@ there_4 =
     let h = then h _ _ (is_refused false 1 (may_refuse refl refl refl refl refl)) in
     let h = then h _ _ (sends_none end_a refl (may_send refl refl refl refl refl refl refl)) in
     let h = then h _ _ (moves 50 (may_move refl refl refl refl refl)) in
-    then h _ _ (hears end_a [] (record { first = refl; turn = refl; news = inr (inl (lt refl)) }))
+    then h _ _ (hears true end_a [] (record { first = refl; turn = refl; news = inr (inl (lt refl)); asked = λ e. no e }))
 
 abbrev there_stage_5 : Stage
 there_stage_5 = record { ask = false; tell = false; window = false; update = true; emit = true; finish = true; wait = true }
@@ -371,7 +371,7 @@ back_2 =
     let h = begun first back_stage_1 back_lane_1 in
     let h = then h _ _ (sends_none syn_ack refl (may_send refl refl refl refl refl refl refl)) in
     let h = then h _ _ (moves 20 (may_move refl refl refl refl refl)) in
-    let h = then h _ _ (hears syn_ack [] (record { first = refl; turn = refl; news = inr (inr (inl (lt refl))) })) in
+    let h = then h _ _ (hears true syn_ack [] (record { first = refl; turn = refl; news = inr (inr (inl (lt refl))); asked = λ e. no e })) in
     let h = then h _ _ (says false true third (may_say refl refl refl refl refl refl refl refl refl refl)) in
     then h _ _ (moves 30 (may_move refl refl refl refl refl))
 
@@ -412,7 +412,7 @@ back_lane_4 = record first {
 abbrev back_4 : Here first back_stage_3 back_lane_3
 back_4 =
     let h = begun first back_stage_3 back_lane_3 in
-    let h = then h _ _ (hears end_b [] (record { first = refl; turn = refl; news = inr (inl (lt refl)) })) in
+    let h = then h _ _ (hears true end_b [] (record { first = refl; turn = refl; news = inr (inl (lt refl)); asked = λ e. no e })) in
     let h = then h _ _ (asks 65537 (record { least = le refl; most = le refl })) in
     let h = then h _ _ (says false true end_a (may_say refl refl refl refl refl refl refl refl refl refl)) in
     let h = then h _ _ (ends_reading 1 (record { more = le refl; read = le refl; told = le refl })) in

@@ -34,9 +34,9 @@ abbrev with_acks : List Copy → Lane → Lane
 with_acks cs w = record w { way = record w.way { acks = cs } }
 
 module _ (k : Setting) (s : Lane) (t : ℕ) (p : Stage) where
-  takes_data : (c : Copy) (cs : List Copy) (w : Lane) → MayHearData p c cs w → Going k s t p (with_datas (c ∷ cs) w)
-      → Going k s t (record p { ask = true; tell = true }) (hears_data c cs w)
-  takes_data c cs w may h = record {
+  takes_data : (ask : Bool) (c : Copy) (cs : List Copy) (w : Lane) → MayHearData p ask c cs w
+      → Going k s t p (with_datas (c ∷ cs) w) → Going k s t (record p { ask = ask; tell = true }) (hears_data c cs w)
+  takes_data ask c cs w may h = record {
     numbers = omega (arith, up, chain_le _ _ _ chain.2, are, h.numbers);
     since = omega (arith, up, h.since);
     round = omega (arith, h.round);
@@ -63,7 +63,10 @@ module _ (k : Setting) (s : Lane) (t : ℕ) (p : Stage) where
     shut = h.shut;
     turns = h.turns;
     repeats = record { last = h.repeats.last; few = few };
-    asked = record { next = λ e. absurd (both_ways _ e refl); limit = h.asked.limit };
+    asked = record {
+      next = λ e. let old = may.asked e in let next = h.asked.next old.0 in omega (arith, old.1, next, chain.0, up);
+      limit = h.asked.limit;
+    };
     answered = record { all = λ e. absurd (both_ways _ e refl); window = h.answered.window };
     emitted = h.emitted;
     none_due = λ over. absurd (both_ways _ over may.turn);
@@ -90,14 +93,14 @@ module _ (k : Setting) (s : Lane) (t : ℕ) (p : Stage) where
 
       -- what is new is something to tell, so that the answer is no duplicate; or it is the DATA_FIN, which
       -- pays for one
-      few : w.row + repeated w.heard w.acks + pending k (record p { ask = true; tell = true }) (hears_data c cs w)
+      few : w.row + repeated w.heard w.acks + pending k (record p { ask = ask; tell = true }) (hears_data c cs w)
           ≤ w.said + max w.data_fin_came c.data_fin
       few = let old = before p.tell h.repeats.few in omega (arith, old, once, may.news, chain.0, up, h.numbers.told)
 
-  pub heard_going : (c : Copy) (cs : List Copy) (w : Lane) → MayHearData p c cs w → Going k s t p w
-      → Going k s t (record p { ask = true; tell = true }) (hears_data c cs w)
-  heard_going c cs w may h =
-      takes_data c cs w may (subst (λ (ds : List Copy). Going k s t p (with_datas ds w)) may.first h)
+  pub heard_going : (ask : Bool) (c : Copy) (cs : List Copy) (w : Lane) → MayHearData p ask c cs w → Going k s t p w
+      → Going k s t (record p { ask = ask; tell = true }) (hears_data c cs w)
+  heard_going ask c cs w may h =
+      takes_data ask c cs w may (subst (λ (ds : List Copy). Going k s t p (with_datas ds w)) may.first h)
 
   passes_data : (c : Copy) (cs : List Copy) (w : Lane) → MaySkip p c cs w → Going k s t p (with_datas (c ∷ cs) w)
       → Going k s t p (skipped cs w)

@@ -32,7 +32,7 @@ module _ (k : Setting) (s : Lane) (t : ℕ) (p : Stage) (w : Lane) where
   moves_going q u (flags ready clear may) = flagged_going k s t p ready clear w may
   moves_going q u (grows n emit more) = grown_going k s t p n w emit more
   moves_going q u (moves tick may) = moved_going k s t p tick w may
-  moves_going q u (hears c rest may) = heard_going k s t p c rest w may
+  moves_going q u (hears ask c rest may) = heard_going k s t p ask c rest w may
   moves_going q u (skips c rest may) = skipped_going k s t p c rest w may
   moves_going q u (is_acknowledged c rest may) = acknowledged_going k s t p c rest w may
   moves_going q u (goes_back r may) = back_going k s t p r w may

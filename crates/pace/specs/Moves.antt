@@ -87,11 +87,12 @@ pub record MayMove (p : Stage) (tick : ℕ) (w : Lane) : Type 0 where
   pub acks : tick ≤ first_at w.until w.acks
 
 -- The receiving end takes the segment that is first on its way: it brings bytes, a DATA_FIN, SYN or FIN, or
--- the keys.
-pub record MayHearData (p : Stage) (c : Copy) (rest : List Copy) (w : Lane) : Type 0 where
+-- the keys. The book has to be asked again what is acknowledged, unless it brings neither bytes nor a DATA_FIN.
+pub record MayHearData (p : Stage) (ask : Bool) (c : Copy) (rest : List Copy) (w : Lane) : Type 0 where
   pub first : w.datas ≡ c ∷ rest
   pub turn : p.wait ≡ true
   pub news : (c.low < c.high) ⊎ ((0 < c.data_fin) ⊎ ((w.control_came < c.control) ⊎ (w.keys_came < c.keys)))
+  pub asked : ask ≡ false → (p.ask ≡ false) × (c.high ≤ c.low) × (c.data_fin ≤ 0)
 
 -- it brings nothing new, and only acknowledges
 pub record MaySkip (p : Stage) (c : Copy) (rest : List Copy) (w : Lane) : Type 0 where
@@ -150,8 +151,8 @@ pub data Move (k : Setting) (s : Lane) (p : Stage) (w : Lane) : Stage → Lane �
   flags : (ready clear : ℕ) → MayFlag k s p ready clear w → Move k s p w p (flagged ready clear w)
   grows : (n : ℕ) → p.emit ≡ true → w.window ≤ n → Move k s p w p (grown n w)
   moves : (tick : ℕ) → MayMove p tick w → Move k s p w p (moved_to tick w)
-  hears : (c : Copy) (rest : List Copy) → MayHearData p c rest w
-      → Move k s p w (record p { ask = true; tell = true }) (hears_data c rest w)
+  hears : (ask : Bool) (c : Copy) (rest : List Copy) → MayHearData p ask c rest w
+      → Move k s p w (record p { ask = ask; tell = true }) (hears_data c rest w)
   skips : (c : Copy) (rest : List Copy) → MaySkip p c rest w → Move k s p w p (skipped rest w)
   is_acknowledged : (c : Copy) (rest : List Copy) → MayHearAck p c rest w → Move k s p w p (hears_ack c rest w)
   -- the turn goes back to an earlier stage
