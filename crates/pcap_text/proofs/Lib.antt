@@ -1,0 +1,4 @@
+mod HeaderSum
+mod Joined
+mod Lengths
+mod ReadAgain

@@ -1,0 +1,3 @@
+pub mod Blocks
+pub mod Ipv4
+pub mod Reading
