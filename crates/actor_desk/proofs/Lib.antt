@@ -2,3 +2,4 @@ pub mod Falling
 pub mod InKind
 pub mod Small
 pub mod Entered
+pub mod Inserting

@@ -6,3 +6,4 @@ pub mod Journals
 pub mod Books
 pub mod Noted
 pub mod Keeping
+pub mod Order

@@ -50,7 +50,8 @@ impl Note {
     }
 }
 
-fn copy_send(reply: &SendReply) -> Result<SendReply, AllocError>
+/// An equal reply of a send book. It takes memory only for bytes that are granted.
+pub fn copy_send(reply: &SendReply) -> Result<SendReply, AllocError>
     ensures { IfOk result (λ copy. copy ≡ reply.now) }
 {
     Ok(match reply {
@@ -77,7 +78,8 @@ fn copy_send(reply: &SendReply) -> Result<SendReply, AllocError>
     })
 }
 
-fn copy_reassembly(reply: &ReassemblyReply) -> Result<ReassemblyReply, AllocError>
+/// An equal reply of a reassembly book. It takes memory only for bytes that are read.
+pub fn copy_reassembly(reply: &ReassemblyReply) -> Result<ReassemblyReply, AllocError>
     ensures { IfOk result (λ copy. copy ≡ reply.now) }
 {
     Ok(match reply {

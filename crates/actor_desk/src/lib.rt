@@ -12,11 +12,14 @@ mod desk;
 mod kept;
 mod laws;
 mod notes;
+mod ordering;
 
 pub use actor::{Actor, Crew};
 pub use ask::{Ask, LocalStep, Note, Reply};
 pub use books::Books;
+pub use copies::{copy_reassembly, copy_send};
 pub use desk::Desk;
 pub use kept::Kept;
 pub use laws::{books_answer_in_kind, books_answer_within_bounds};
 pub use notes::Notes;
+pub use ordering::{comes_first, put_notes};

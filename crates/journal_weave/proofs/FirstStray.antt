@@ -7,7 +7,7 @@ use Rattle.actor_desk.specs.declared.ask.Note.{Note}
 use Rattle.actor_desk.specs.Journals.{comes_first}
 use Rattle.journal_weave.specs.declared.fault.Strayed.{Strayed}
 use Rattle.journal_weave.specs.Weaving.{StrayedFirst, StraysAt, StraysIn, asked_at, comes_before, first_of, shown_of}
-use Rattle.journal_weave.proofs.Inserting.{not_back}
+use Rattle.actor_desk.proofs.Inserting.{not_back}
 use Rattle.journal_weave.proofs.Strays.{back_of, no_stray, one_stray}
 
 never_before : (o : Option Note) → comes_before o o ≡ false

@@ -6,7 +6,7 @@ use Rattle.actor_desk.specs.declared.ask.Note.{Note}
 use Rattle.actor_desk.specs.Journals.{above, in_order, with_notes}
 use Rattle.world_laws.specs.Fine.{NotesRise}
 use Rattle.journal_weave.specs.Weaving.{AreOwn, asked_at, book_of, lists_in}
-use Rattle.journal_weave.proofs.Inserting.{lent}
+use Rattle.actor_desk.proofs.Inserting.{lent}
 
 -- ---- the order
 

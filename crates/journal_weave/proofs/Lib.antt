@@ -1,4 +1,3 @@
-pub mod Inserting
 pub mod Strays
 pub mod Paired
 pub mod Driven

@@ -7,7 +7,7 @@ use Rattle.std.specs.List.{slice_get}
 use Rattle.actor_desk.specs.declared.ask.Note.{Note}
 use Rattle.journal_weave.specs.declared.fault.Strayed.{Strayed}
 use Rattle.journal_weave.specs.Weaving.{Differs, DiffersIn, AreBothAtEnd, Parted, StraysAt, StraysIn, comes_before, strayed_of}
-use Rattle.journal_weave.proofs.Inserting.{none_back, lent}
+use Rattle.actor_desk.proofs.Inserting.{none_back, lent}
 
 -- ---- fronts that are the same
 

@@ -2,7 +2,7 @@
 ghost use Rattle.std.specs.Prelude.{◌≡◌, IfOk};
 ghost use Rattle.actor_desk.specs.Journals.{control_note, reassembly_note, send_note};
 
-use actor_desk::{Ask, Note, Reply};
+use actor_desk::{Ask, Note, Reply, copy_reassembly, copy_send};
 use control_book::{ControlCall, ControlReply};
 use outside_kit::Side;
 use reassembly_book::{ReassemblyBook, ReassemblyCall, ReassemblyReply};
@@ -50,51 +50,4 @@ pub(crate) fn control_note(side: Side, entry: &Entry<ControlCall, ControlReply>)
         ask: Ask::Control(side, entry.call),
         reply: Reply::Control(entry.reply),
     }
-}
-
-fn copy_send(reply: &SendReply) -> Result<SendReply, AllocError>
-    ensures { IfOk result (λ copy. copy ≡ reply.now) }
-{
-    Ok(match reply {
-        SendReply::Taken(count) => SendReply::Taken(*count),
-        SendReply::Closed => SendReply::Closed,
-        SendReply::Shut => SendReply::Shut,
-        SendReply::Granted { span, piece } => SendReply::Granted {
-            span: *span,
-            piece: piece.copy()?,
-        },
-        SendReply::NoGrant { why, end } => SendReply::NoGrant {
-            why: *why,
-            end: *end,
-        },
-        SendReply::Acked { bytes, fin } => SendReply::Acked {
-            bytes: *bytes,
-            fin: *fin,
-        },
-        SendReply::AckFuture { written } => SendReply::AckFuture { written: *written },
-        SendReply::Returned(count) => SendReply::Returned(*count),
-        SendReply::Noted => SendReply::Noted,
-        SendReply::Infinite { from } => SendReply::Infinite { from: *from },
-        SendReply::Scattered => SendReply::Scattered,
-    })
-}
-
-fn copy_reassembly(reply: &ReassemblyReply) -> Result<ReassemblyReply, AllocError>
-    ensures { IfOk result (λ copy. copy ≡ reply.now) }
-{
-    Ok(match reply {
-        ReassemblyReply::Placed(count) => ReassemblyReply::Placed(*count),
-        ReassemblyReply::Beyond { edge } => ReassemblyReply::Beyond { edge: *edge },
-        ReassemblyReply::FinSet => ReassemblyReply::FinSet,
-        ReassemblyReply::FinClash { fin, at } => ReassemblyReply::FinClash { fin: *fin, at: *at },
-        ReassemblyReply::Bytes(bytes) => ReassemblyReply::Bytes(bytes.copy()?),
-        ReassemblyReply::End => ReassemblyReply::End,
-        ReassemblyReply::NoneYet => ReassemblyReply::NoneYet,
-        ReassemblyReply::Aborted { by_peer } => ReassemblyReply::Aborted { by_peer: *by_peer },
-        ReassemblyReply::Ack { next, window } => ReassemblyReply::Ack {
-            next: *next,
-            window: *window,
-        },
-        ReassemblyReply::Noted => ReassemblyReply::Noted,
-    })
 }

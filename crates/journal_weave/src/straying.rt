@@ -5,9 +5,8 @@ ghost use Rattle.journal_weave.specs.Weaving.{asked_at, book_of, comes_before, f
 ghost use Rattle.journal_weave.specs.Weaving.{DiffersIn, Parted, StrayedFirst, StraysIn};
 
 use crate::fault::Strayed;
-use crate::ordering::comes_first;
 use crate::same::is_same;
-use actor_desk::{Ask, Note};
+use actor_desk::{Ask, Note, comes_first};
 use outside_kit::Side;
 use std::alloc::{AllocError, Global};
 

@@ -17,7 +17,7 @@ use Rattle.world_laws.specs.Outcomes.{notes_at}
 use Rattle.mptcp_run.specs.Putting.{opening_at, logged_text}
 use Rattle.world_core.specs.Weaving.{since}
 use Rattle.world_core.proofs.Gathering.{made_more}
-use Rattle.world_core.proofs.Inserting.{lent}
+use Rattle.actor_desk.proofs.Inserting.{lent}
 use Rattle.world_core.proofs.SinceRound.{notes_at-is}
 
 same_lines : (steps : List (Bor Note)) → map (λ note. step_text note.now) steps ≡ map step_text (lent steps)

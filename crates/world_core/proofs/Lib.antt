@@ -6,7 +6,6 @@ mod Ending
 mod Opening
 pub mod RoundsMade
 pub mod Gathering
-pub mod Inserting
 mod ScriptLemmas
 pub mod SinceRound
 pub mod Unaltering

@@ -1,24 +1,10 @@
 -- The steps of a round, put in order list by list.
-use Rattle.std.specs.Prelude.{ℕ, ◌+◌, ◌≡◌, ◌<◌, ◌≤◌, false, if◌then◌else◌, List, [], ◌∷◌, ◌++◌, drop, map, length, get_or}
+use Rattle.std.specs.Prelude.{ℕ, ◌≡◌, ◌<◌, ◌≤◌, List, [], ◌∷◌, ◌++◌, drop, map, length, get_or}
 use Rattle.actor_desk.specs.declared.ask.Note.{Note}
 use Rattle.stream_lanes.specs.Words.{Every}
 use Rattle.world_laws.specs.Fine.{lists_of}
 use Rattle.world_laws.specs.Worlds.{WorldState, greatest}
-use Rattle.actor_desk.specs.Journals.{comes_first, with_notes}
-
--- behind a note stands none that comes before it
-abbrev pub NoneComesFirst : Note → List Note → Type 0
-NoneComesFirst x [] = Unit {0}
-NoneComesFirst x (y ∷ notes) = (comes_first y x ≡ false) × NoneComesFirst x notes
-
-abbrev pub AreInOrder : List Note → Type 0
-AreInOrder [] = Unit {0}
-AreInOrder (x ∷ notes) = NoneComesFirst x notes × AreInOrder notes
-
--- how many notes stand before the first one that comes after this one
-abbrev pub place_of : Note → List Note → ℕ
-place_of x [] = 0
-place_of x (y ∷ notes) = if comes_first x y then 0 else place_of x notes + 1
+use Rattle.actor_desk.specs.Journals.{with_notes}
 
 -- the notes that each list has besides so many, in order
 abbrev pub since : List ℕ → List (List Note) → List Note

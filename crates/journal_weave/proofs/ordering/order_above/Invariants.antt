@@ -1,6 +1,6 @@
 use Rattle.std.proofs.Common.{◌≡◌, ◌≤◌, drop, length, map}
 use Rattle.actor_desk.specs.Journals.{in_order}
-use Rattle.journal_weave.specs.Order.{AreInOrder}
+use Rattle.actor_desk.specs.Order.{AreInOrder}
 use Rattle.journal_weave.specs.Weaving.{lists_in}
 use Rattle.journal_weave.proofs.ordering.order_above.Given as goal
 

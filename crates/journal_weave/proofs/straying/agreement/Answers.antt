@@ -1,5 +1,5 @@
 use Rattle.std.proofs.Common.{◌+◌, arith}
-use Rattle.journal_weave.proofs.Inserting.{lent}
+use Rattle.actor_desk.proofs.Inserting.{lent}
 use Rattle.journal_weave.proofs.Strays.{take_one_more, there_at, lent_at, lent_many, parted_past, parted_behind, parted_there}
 use Rattle.journal_weave.proofs.straying.agreement.Goals as goal
 

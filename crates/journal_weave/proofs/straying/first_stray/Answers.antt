@@ -1,6 +1,6 @@
 use Rattle.std.proofs.Common.{◌+◌, sym, subst, map, arith}
 use Rattle.journal_weave.specs.Weaving.{StraysIn, asked_at}
-use Rattle.journal_weave.proofs.Inserting.{lent}
+use Rattle.actor_desk.proofs.Inserting.{lent}
 use Rattle.journal_weave.proofs.FirstStray.{FirstBelow, below_next, strayed_first, mapped_there, map_many}
 use Rattle.journal_weave.proofs.straying.first_stray.Goals as goal
 

@@ -4,7 +4,7 @@ use Rattle.actor_desk.specs.declared.ask.Note.{Note}
 use Rattle.actor_desk.specs.Journals.{above}
 use Rattle.world_laws.specs.StampedBooks.{journals_of}
 use Rattle.journal_weave.specs.Weaving.{StrayedFirst, lists_in}
-use Rattle.journal_weave.proofs.Inserting.{lent, actors_lent}
+use Rattle.actor_desk.proofs.Inserting.{lent, actors_lent}
 use Rattle.journal_weave.proofs.Paired.{all_paired, is_fault}
 use Rattle.journal_weave.proofs.weaving.weave.Goals as goal
 

@@ -1,6 +1,7 @@
 use Rattle.std.proofs.Common.{◌≡◌, ◌≤◌, drop, map, length}
 use Rattle.world_laws.specs.Fine.{lists_of}
-use Rattle.world_core.specs.Weaving.{AreInOrder, since}
+use Rattle.actor_desk.specs.Order.{AreInOrder}
+use Rattle.world_core.specs.Weaving.{since}
 use Rattle.world_core.proofs.weaving.woven.Given as goal
 
 abbrev pub invariant-loop-actor : goal.invariant-loop-actor
