@@ -3,16 +3,16 @@ use Rattle.std.proofs.Common.{◌≡◌, refl, sym, ap, subst, ℕ, ◌≤◌, i
 use Rattle.std.specs.Prelude.{option_and_then}
 use Rattle.outside_kit.specs.declared.port.Port.{Port}
 use Rattle.run_words.specs.Lines.{Line, bench, line_of}
-use Rattle.mptcp_run.specs.declared.status.Status.{Status}
-use Rattle.mptcp_run.specs.declared.status.Status.TheVariants.{Delivered, Usage, Memory}
+use Rattle.run_outside.specs.declared.status.Status.{Status}
+use Rattle.run_outside.specs.declared.status.Status.TheVariants.{Delivered, Usage, Memory}
 use Rattle.mptcp_run.specs.Answers.{IsAnswer, IsMadeAnswer, NothingWasRun}
 use Rattle.mptcp_run.specs.Asked.{asked_in, if_run}
 use Rattle.mptcp_run.specs.Made.{Bench, made_task, bench_by, bench_of, bench_in}
-use Rattle.mptcp_run.specs.Plan.{loads_of}
+use Rattle.run_outside.specs.Plan.{loads_of}
 use Rattle.mptcp_run.specs.Promised.{ReadersHaveFiles}
 use Rattle.mptcp_run.specs.Task.{opened}
 use Rattle.mptcp_run.proofs.Answering.{made_cut_answer}
-use Rattle.mptcp_run.proofs.Calls.{Told, adds_none, cut_none}
+use Rattle.run_outside.proofs.Calls.{Told, adds_none, cut_none}
 use Rattle.mptcp_run.proofs.MadeTasks.{made_is_plain, of_words}
 use Rattle.mptcp_run.proofs.Courses.{no_round}
 use Rattle.mptcp_run.proofs.Performing.{nothing_made}

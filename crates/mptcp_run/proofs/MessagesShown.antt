@@ -17,15 +17,15 @@ use Rattle.message_pipe.specs.Showing.{Counted, ShowsPrefix, PortStands}
 use Rattle.message_pipe.specs.Lined.{lined_content, lined_holds, PortsStand}
 use Rattle.message_pipe.proofs.LinesAgain.{whole_ports_show_all_lines, ports_show_first_lines, refused_ports_show_prefixes}
 use Rattle.run_words.specs.Lines.{Line, line_of}
-use Rattle.mptcp_run.specs.declared.status.Named.TheVariants as input
-use Rattle.mptcp_run.specs.declared.status.Status.{Status}
-use Rattle.mptcp_run.specs.declared.status.Status.TheVariants.{Delivered, Rounds, NoPath, Aborted, Usage, Script, Load, Put, TooLong, Memory, Log}
+use Rattle.run_outside.specs.declared.status.Named.TheVariants as input
+use Rattle.run_outside.specs.declared.status.Status.{Status}
+use Rattle.run_outside.specs.declared.status.Status.TheVariants.{Delivered, Rounds, NoPath, Aborted, Usage, Script, Load, Put, TooLong, Memory, Log}
 use Rattle.mptcp_run.specs.Answers.{IsAnswer}
 use Rattle.mptcp_run.specs.Asked.{asked_in, is_run}
 use Rattle.mptcp_run.specs.Messages.{ReadersShowLines, ReadersShowFirstLines, ReadersShowPrefixes, ReadersShowNothing, ReadersShow, refused_or, with_refusals, IsRunOverFrames, IsMessagesAnswer, takes_messages, if_messages, messages_in}
-use Rattle.mptcp_run.specs.Ports.{IsUntouched}
+use Rattle.run_outside.specs.Ports.{IsUntouched}
 use Rattle.mptcp_run.specs.Promised.{HoldsPrefixOf, HoldsPrefixIfBound, ReadersHaveFiles, ReadersHavePrefixes, ReadersHavePrefixesIfBound}
-use Rattle.mptcp_run.specs.Task.{AreWithinLimits}
+use Rattle.run_outside.specs.Inputs.{AreWithinLimits}
 use Rattle.mptcp_run.proofs.Asking.{asked_is}
 
 abbrev Ports : Type 0

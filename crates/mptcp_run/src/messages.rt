@@ -5,13 +5,13 @@ ghost use Rattle.outside_kit.specs.declared.port.Port.{Port};
 ghost use Rattle.run_words.specs.Lines.{shown, shown_work};
 ghost use Rattle.mptcp_run.specs.Answers.{NothingWasRun};
 ghost use Rattle.mptcp_run.specs.Asked.{asked_in, is_run};
-ghost use Rattle.mptcp_run.specs.Inputs.{order_of};
+ghost use Rattle.run_outside.specs.Inputs.{order_of};
 ghost use Rattle.mptcp_run.specs.Messages.{IsMessagesAnswer, IsRunOverFrames, ReadersShow, is_apart, is_order, messages_in, refused_or, status_for, takes_messages, with_refusals};
 
-use crate::status::Status;
 use crate::top_call::run;
 use message_pipe::{LineOutside, Naming};
 use outside_kit::{Gate, Outside, Port, PutFault};
+use run_outside::Status;
 use run_words::{CommandLine, Mode, WordsFault, read};
 use std::alloc::{AllocError, Global};
 use std::marker::Brand;

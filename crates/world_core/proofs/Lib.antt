@@ -7,6 +7,5 @@ mod Opening
 pub mod RoundsMade
 pub mod Gathering
 pub mod Inserting
-mod ScriptLemmas
 pub mod SinceRound
 pub mod Unaltering

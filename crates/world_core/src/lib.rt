@@ -11,17 +11,14 @@ mod input;
 mod member;
 mod reading;
 mod round_end;
-mod script;
 mod stepped;
 mod stepping;
 mod weaving;
 mod whole_turns;
 mod world;
 
-pub use input::Input;
 pub use member::{Crew, Member};
 pub use reading::read_since;
-pub use script::{read_script, split_at_first};
 pub use stepped::Stepped;
 pub use weaving::{made_by, woven};
 pub use whole_turns::{round, serial, turn};

@@ -1,6 +1,6 @@
 use Rattle.std.proofs.Common.{sym, subst, map, string_bytes, IfSome, IsNone, Option, ap, Err}
 use Rattle.run_words.specs.Lines.{Line, shown}
-use Rattle.mptcp_run.specs.declared.status.Status.TheVariants.{Usage}
+use Rattle.run_outside.specs.declared.status.Status.TheVariants.{Usage}
 use Rattle.mptcp_run.specs.Answers.{IsAnswer, IsMadeAnswer}
 use Rattle.mptcp_run.specs.Asked.{asked_in}
 use Rattle.mptcp_run.specs.Made.{Bench}
