@@ -1,16 +1,23 @@
 -- Why a run ends as it does: the cause of each status.
-use Rattle.std.specs.Prelude.{◌≡◌, ℕ, ◌<◌, List, length, Err, Option, IfSome}
+use Rattle.std.specs.Prelude.{◌≡◌, ℕ, ◌<◌, List, length, Err, Option, None, IfSome}
 use Rattle.link_script.specs.declared.fault.ScriptFault.TheVariants as script_fault
 use Rattle.link_script.specs.declared.script.Script as link
 use Rattle.run_log.specs.declared.fault.LogFault.TheVariants as log_fault
 use Rattle.outside_kit.specs.declared.port.Port.{Port}
 use Rattle.outside_kit.specs.Outside.{HasRisen}
+use Rattle.run_words.specs.Lines.{line_of}
 use Rattle.run_outside.specs.declared.status.Named.{Named}
 use Rattle.run_outside.specs.declared.status.Named.TheVariants as input
 use Rattle.run_outside.specs.declared.status.Status.{Status}
 use Rattle.run_outside.specs.Script.{script_meaning}
 use Rattle.run_outside.specs.Reading.{log_reading}
-use Rattle.run_outside.specs.declared.status.Status.TheVariants.{Script, Load, Put, TooLong, Memory, Log}
+use Rattle.run_outside.specs.declared.status.Status.TheVariants.{Usage, Script, Load, Put, TooLong, Memory, Log}
+
+-- the words behind the program's name end a run with this status: they break the form of the command line
+abbrev pub IsWordsFault : List (List ℕ) → Status → Type 0
+IsWordsFault words Usage = line_of words ≡ None
+IsWordsFault words Memory = Unit {0}
+IsWordsFault words _ = ⊥
 
 -- how many octets an input may have
 abbrev pub limit_of : Named → ℕ

@@ -13,6 +13,7 @@ mod pieces;
 mod readers;
 mod script;
 mod status;
+mod words;
 
 pub use device::put;
 pub use input::{Input, Replay, load_input, load_replay};
@@ -24,3 +25,4 @@ pub use pieces::Piece;
 pub use readers::bind_readers;
 pub use script::read_script;
 pub use status::{Named, Status, fault_text};
+pub use words::read_words;

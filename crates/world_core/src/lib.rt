@@ -21,6 +21,6 @@ pub use member::{Crew, Member};
 pub use reading::read_since;
 pub use stepped::Stepped;
 pub use weaving::{made_by, woven};
-pub use whole_turns::{round, serial, turn};
+pub use whole_turns::{round, turn};
 pub use world::World;
 pub use world_laws::Outcome;
