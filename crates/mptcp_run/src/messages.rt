@@ -11,8 +11,8 @@ ghost use Rattle.mptcp_run.specs.Messages.{IsMessagesAnswer, IsRunOverFrames, Re
 use crate::top_call::run;
 use message_pipe::{LineOutside, Naming};
 use outside_kit::{Gate, Outside, Port, PutFault};
-use run_outside::Status;
-use run_words::{CommandLine, Mode, WordsFault, read};
+use run_outside::{Status, read_words};
+use run_words::{CommandLine, Mode};
 use std::alloc::{AllocError, Global};
 use std::marker::Brand;
 
@@ -34,9 +34,7 @@ fn is_order(mode: Mode<'_>, name: &str) -> bool
 {
     match mode {
         Mode::Replay { order } => name == order,
-        Mode::Serial { .. } => false,
-        Mode::Bench { .. } => false,
-        Mode::Run { .. } => false,
+        _ => false,
     }
 }
 
@@ -182,10 +180,9 @@ pub fn run_messages<O: Outside, G: Gate + Sync>(
         (O.holds outside) (O.holds result.1)
         (O.calls outside) (O.calls result.1) result.0 }
 {
-    match read(alloc, words) {
+    match read_words(alloc, words) {
         Ok(line) if takes_messages(&line) => run_line(alloc, words, &line, outside, gate),
         Ok(_) => (Status::Usage, outside),
-        Err(WordsFault::Usage) => (Status::Usage, outside),
-        Err(WordsFault::Memory) => (Status::Memory, outside),
+        Err(status) => (status, outside),
     }
 }

@@ -27,8 +27,10 @@ use crate::report::Report;
 use crate::rounds::Run;
 use crate::serial::make_rounds;
 use outside_kit::{Gate, Outside, Port};
-use run_outside::{Input, Replay, Status, bind_readers, load_input, load_replay, made_input};
-use run_words::{CommandLine, Mode, WordsFault, read};
+use run_outside::{
+    Input, Replay, Status, bind_readers, load_input, load_replay, made_input, read_words,
+};
+use run_words::{CommandLine, Mode};
 use std::alloc::Global;
 
 /// Opens the connection, and binds the readers' ports.
@@ -292,9 +294,8 @@ pub fn run<O: Outside, G: Gate + Sync>(
         (O.holds outside.old) (O.holds outside.new)
         (O.calls outside.old) (O.calls outside.new) result }
 {
-    match read(alloc, words) {
+    match read_words(alloc, words) {
         Ok(line) => run_line(alloc, outside, &line),
-        Err(WordsFault::Usage) => Status::Usage,
-        Err(WordsFault::Memory) => Status::Memory,
+        Err(status) => status,
     }
 }
