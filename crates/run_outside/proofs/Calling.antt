@@ -1,5 +1,5 @@
 -- Parts of a run that load, or bind and put, one after the other.
-use Rattle.std.proofs.Common.{◌≡◌, refl, ◌∙◌, subst, ℕ, ◌≤◌, List, [], ◌∷◌, ◌++◌, Option, Result, Ok, Err, OnOk, arith}
+use Rattle.std.proofs.Common.{◌≡◌, refl, ◌∙◌, subst, ℕ, List, [], ◌∷◌, ◌++◌, Option, Result, Ok, Err, OnOk, arith}
 use Rattle.outside_kit.specs.declared.port.Port.{Port}
 use Rattle.outside_kit.specs.Calls.{Call}
 use Rattle.run_outside.specs.declared.status.Status.{Status}

@@ -1,5 +1,5 @@
 -- The text that the rounds of a run put to its log.
-use Rattle.std.specs.Prelude.{ℕ, zero, suc, ◌+◌, List, [], ◌∷◌, ◌++◌, flat_map, Option, Some, None}
+use Rattle.std.specs.Prelude.{ℕ, zero, suc, List, [], ◌∷◌, ◌++◌, flat_map, Option, Some, None}
 use Rattle.actor_desk.specs.declared.ask.Note.{Note}
 use Rattle.std.specs.List.{AllByRecursion}
 use Rattle.run_log.specs.Fitting.{IsLong, NoteFits}

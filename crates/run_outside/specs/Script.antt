@@ -3,7 +3,6 @@ use Rattle.std.specs.Prelude.{ℕ, Bool, ◌+◌, ◌||◌, not, ◌==◌, List,
 use Rattle.std.specs.List.{before_first, after_first, slice_split}
 use Rattle.std.specs.Result.{result_ok}
 use Rattle.std.specs.Str.{bytes_eq}
-use Rattle.std.specs.Borrow.{Bor}
 use Rattle.link_script.specs.declared.fault.ScriptFault.{ScriptFault}
 use Rattle.link_script.specs.declared.fault.ScriptFault.TheVariants as fault
 use Rattle.link_script.specs.declared.fault.ScriptKind.TheVariants as kind
@@ -15,10 +14,6 @@ use Rattle.link_script.specs.Words.{is_passed_over}
 -- what stands before the first such octet, and what stands after it
 abbrev pub parted_at : ℕ → List ℕ → List ℕ × List ℕ
 parted_at separator text = (before_first (λ octet. octet == separator) text, after_first (λ octet. octet == separator) text)
-
--- two lent parts by what they hold
-abbrev pub parts_of : Bor (List ℕ) × Bor (List ℕ) → List ℕ × List ℕ
-parts_of parts = (parts.0.now, parts.1.now)
 
 -- a line that begins with one of these words tells of the whole script or sets up a path, and is run
 abbrev pub is_setting : List ℕ → Bool

@@ -5,7 +5,7 @@ ghost use Rattle.std.specs.List.{slice_split};
 ghost use Rattle.link_script.specs.Words.{is_passed_over};
 ghost use Rattle.link_script.specs.Reading.{Gives};
 ghost use Rattle.link_script.specs.Scripts.{HasRanges};
-ghost use Rattle.run_outside.specs.Script.{parted_at, parts_of, is_setting, is_event, is_held_back, script_meaning};
+ghost use Rattle.run_outside.specs.Script.{parted_at, is_setting, is_event, is_held_back, script_meaning};
 
 use link_script::{Script, ScriptFault, ScriptKind, parse};
 use std::alloc::Global;
@@ -82,7 +82,8 @@ fn is_event(word: &[u8]) -> bool
 
 /// What stands before the first such octet, and what stands after it.
 pub fn split_at_first(text: &[u8], separator: u8) -> (&[u8], &[u8])
-    ensures { parts_of result ≡ parted_at separator text.now }
+    ensures before { result.0.now ≡ (parted_at separator text.now).0 }
+    ensures after { result.1.now ≡ (parted_at separator text.now).1 }
 {
     match first_place(text, separator) {
         Some(at) => (&text[..at], &text[at + 1..]),
