@@ -10,29 +10,30 @@ use Rattle.link_script.specs.declared.script.Script.{Script}
 use Rattle.run_words.specs.Lines.{Line, serial, replay, ◌>>=◌}
 use Rattle.run_log.specs.declared.turn.Turn as log_turn
 use Rattle.run_log.specs.declared.fault.LogFault.TheVariants as log_fault
-use Rattle.world_core.specs.declared.input.Input.{Input}
+use Rattle.run_outside.specs.declared.input.Input.{Input}
 use Rattle.world_laws.specs.Worlds.{Turn}
 use Rattle.mptcp_run.specs.declared.report.Report.TheVariants as report
-use Rattle.mptcp_run.specs.declared.status.Named.TheVariants as input
-use Rattle.mptcp_run.specs.declared.status.Status.{Status}
-use Rattle.mptcp_run.specs.declared.status.Status.TheVariants.{Delivered, Rounds, NoPath, Aborted, Usage, Script as ScriptStatus, Load, Put, TooLong, Memory, Log}
-use Rattle.mptcp_run.specs.Adding.{InputAdds}
+use Rattle.run_outside.specs.declared.status.Named.TheVariants as input
+use Rattle.run_outside.specs.declared.status.Status.{Status}
+use Rattle.run_outside.specs.declared.status.Status.TheVariants.{Delivered, Rounds, NoPath, Aborted, Usage, Script as ScriptStatus, Load, Put, TooLong, Memory, Log}
+use Rattle.run_outside.specs.Loading.{InputAdds}
 use Rattle.mptcp_run.specs.Answers.{WasRead, TurnRow, CutRow, EndRow, IsAnswer, MadeEndRow, MadeCutRow, MadeRow, IsMadeAnswer}
-use Rattle.mptcp_run.specs.Causes.{limit_of}
+use Rattle.run_outside.specs.Causes.{limit_of}
 use Rattle.mptcp_run.specs.Ends.{HoldsSomeRounds, HoldsToLine, CameToEnd, IsCut, IsHalted, ReplayEnds}
-use Rattle.mptcp_run.specs.Inputs.{order_of, content_of, AreFirstWithinLimits, IsInputFault, IsReplayInputFault}
+use Rattle.run_outside.specs.Inputs.{order_of, content_of, AreFirstWithinLimits, IsInputFault, IsReplayInputFault, opening_count, AreWithinLimits, HasValidScript, HasValidOrder}
 use Rattle.mptcp_run.specs.Logged.{HasRounds, LogTellsTheRun}
 use Rattle.mptcp_run.specs.Made.{Bench}
-use Rattle.mptcp_run.specs.Plan.{AddsAll, AddsCut, puts_so_far, last_put, plan_of, loads_of, ArePuts, ArePutsBefore}
-use Rattle.mptcp_run.specs.Ports.{IsUntouched, IsPortsFault, HoldsMore, HoldsWithin}
+use Rattle.run_outside.specs.Plan.{AddsAll, AddsCut, plan_of, loads_of}
+use Rattle.mptcp_run.specs.Plan.{puts_so_far, last_put, ArePuts, ArePutsBefore}
+use Rattle.run_outside.specs.Ports.{IsUntouched, IsPortsFault, HoldsMore, HoldsWithin}
 use Rattle.mptcp_run.specs.Promised.{IsPlainTask, EndsWithRound, IsAlwaysKept, HoldsPrefixOf, HoldsPrefixIfBound, ReadersHaveFiles, ReadersHavePrefixes, ReadersHavePrefixesIfBound}
 use Rattle.mptcp_run.specs.Putting.{IsWhole, IsStopped}
 use Rattle.mptcp_run.specs.Replaying.{IsReplayFault}
-use Rattle.world_core.specs.Script.{script_meaning, script_in}
-use Rattle.mptcp_run.specs.Script.{script_of, log_reading}
-use Rattle.mptcp_run.specs.Task.{Task, Course, rounds, told, task_from, turn_of, turns_in, course_of, task_of, opening_count, AreWithinLimits, HasValidScript, HasValidOrder}
+use Rattle.run_outside.specs.Script.{script_meaning, script_in}
+use Rattle.run_outside.specs.Reading.{script_of, log_reading}
+use Rattle.mptcp_run.specs.Task.{Task, Course, rounds, told, task_from, turn_of, turns_in, course_of, task_of}
 use Rattle.mptcp_run.specs.Rounds.{all_turns}
-use Rattle.mptcp_run.proofs.Calls.{Told, all_then, cut_then, short_then, short_cut}
+use Rattle.run_outside.proofs.Calls.{Told, all_then, cut_then, short_then, short_cut}
 use Rattle.mptcp_run.proofs.Logged.{whole_runs_are_told}
 use Rattle.mptcp_run.proofs.Promised.{plain_tasks_are_kept, whole_runs_give_prefixes, delivered_runs_give_files, stopped_runs_give_prefixes, cut_runs_give_prefixes, lines_cut_give_prefixes}
 

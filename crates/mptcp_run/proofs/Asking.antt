@@ -3,16 +3,17 @@ use Rattle.std.proofs.Common.{◌≡◌, refl, sym, ap, subst, ℕ, ◌≤◌, i
 use Rattle.std.specs.Prelude.{option_and_then}
 use Rattle.outside_kit.specs.declared.port.Port.{Port}
 use Rattle.run_words.specs.Lines.{Line, bench, line_of}
-use Rattle.mptcp_run.specs.declared.status.Status.{Status}
-use Rattle.mptcp_run.specs.declared.status.Status.TheVariants.{Delivered, Usage, Memory}
+use Rattle.run_outside.specs.declared.status.Status.{Status}
+use Rattle.run_outside.specs.declared.status.Status.TheVariants.{Delivered, Rounds, NoPath, Aborted, Usage, Script, Load, Put, TooLong, Memory, Log}
 use Rattle.mptcp_run.specs.Answers.{IsAnswer, IsMadeAnswer, NothingWasRun}
 use Rattle.mptcp_run.specs.Asked.{asked_in, if_run}
 use Rattle.mptcp_run.specs.Made.{Bench, made_task, bench_by, bench_of, bench_in}
-use Rattle.mptcp_run.specs.Plan.{loads_of}
+use Rattle.run_outside.specs.Causes.{IsWordsFault}
+use Rattle.run_outside.specs.Plan.{loads_of}
 use Rattle.mptcp_run.specs.Promised.{ReadersHaveFiles}
 use Rattle.mptcp_run.specs.Task.{opened}
 use Rattle.mptcp_run.proofs.Answering.{made_cut_answer}
-use Rattle.mptcp_run.proofs.Calls.{Told, adds_none, cut_none}
+use Rattle.run_outside.proofs.Calls.{Told, adds_none, cut_none}
 use Rattle.mptcp_run.proofs.MadeTasks.{made_is_plain, of_words}
 use Rattle.mptcp_run.proofs.Courses.{no_round}
 use Rattle.mptcp_run.proofs.Performing.{nothing_made}
@@ -69,6 +70,50 @@ module _ (loads : ℕ) (faults : Port → ℕ) (holds : Ports) (ta : Told) where
 
   pub words_memory : (words : List (List ℕ)) → IfSome (bench_in words) (λ made. IsMadeAnswer made loads loads faults faults holds holds ta ta Memory)
   words_memory words = of_words (λ made. IsMadeAnswer made loads loads faults faults holds holds ta ta Memory) made_memory words
+
+  -- words that weren't read
+  pub unread_answer : (content : List ℕ → Option (List ℕ)) (words : List (List ℕ)) (status : Status) → IsWordsFault words status
+      → IfSome (asked_in words) (λ line. IsAnswer content line loads loads faults faults holds holds ta ta status)
+  unread_answer content words Usage is = subst
+      (λ (o : Option Line). IfSome o (λ line. IsAnswer content line loads loads faults faults holds holds ta ta Usage)) (sym (asks_nothing words is)) tt
+  unread_answer content words Memory is = asked_memory content (asked_in words)
+  unread_answer content words Delivered is = absurd is
+  unread_answer content words Rounds is = absurd is
+  unread_answer content words NoPath is = absurd is
+  unread_answer content words (Aborted reader) is = absurd is
+  unread_answer content words (Script at kind) is = absurd is
+  unread_answer content words (Load named) is = absurd is
+  unread_answer content words (Put port) is = absurd is
+  unread_answer content words (TooLong named) is = absurd is
+  unread_answer content words (Log at) is = absurd is
+
+  pub unread_bench : (words : List (List ℕ)) (status : Status) → IsWordsFault words status
+      → IfSome (bench_in words) (λ made. IsMadeAnswer made loads loads faults faults holds holds ta ta status)
+  unread_bench words Usage is = subst
+      (λ (o : Option Bench). IfSome o (λ made. IsMadeAnswer made loads loads faults faults holds holds ta ta Usage)) (sym (bench_nothing words is)) tt
+  unread_bench words Memory is = words_memory words
+  unread_bench words Delivered is = absurd is
+  unread_bench words Rounds is = absurd is
+  unread_bench words NoPath is = absurd is
+  unread_bench words (Aborted reader) is = absurd is
+  unread_bench words (Script at kind) is = absurd is
+  unread_bench words (Load named) is = absurd is
+  unread_bench words (Put port) is = absurd is
+  unread_bench words (TooLong named) is = absurd is
+  unread_bench words (Log at) is = absurd is
+
+  pub unread : (words : List (List ℕ)) (status : Status) → IsWordsFault words status → NothingWasRun loads loads faults faults holds holds ta ta status
+  unread words Usage is = nothing_asked
+  unread words Memory is = nothing_read
+  unread words Delivered is = absurd is
+  unread words Rounds is = absurd is
+  unread words NoPath is = absurd is
+  unread words (Aborted reader) is = absurd is
+  unread words (Script at kind) is = absurd is
+  unread words (Load named) is = absurd is
+  unread words (Put port) is = absurd is
+  unread words (TooLong named) is = absurd is
+  unread words (Log at) is = absurd is
 
 -- what a line that asks for `bench` is to do
 pub made_by_work : (line : Line) (most number : ℕ) (P : Bench → Type 0) → line.work ≡ bench most number → P (record { line = line; task = made_task number most })

@@ -4,16 +4,15 @@ use Rattle.std.specs.Prelude.{option_and_then, IsOk, IsSomeAnd}
 use Rattle.link_script.specs.declared.fault.ScriptKind.{ScriptKind}
 use Rattle.link_script.specs.declared.fault.ScriptFault.TheVariants as script_fault
 use Rattle.run_words.specs.Lines.{Line}
-use Rattle.mptcp_run.specs.declared.status.Named.{Named}
-use Rattle.mptcp_run.specs.declared.status.Named.TheVariants as input
-use Rattle.mptcp_run.specs.declared.status.Status.{Status}
-use Rattle.mptcp_run.specs.declared.status.Status.TheVariants.{Delivered, Rounds, NoPath, Aborted, Usage, Script, Load, Put, TooLong, Memory, Log}
+use Rattle.run_outside.specs.declared.status.Named.{Named}
+use Rattle.run_outside.specs.declared.status.Named.TheVariants as input
+use Rattle.run_outside.specs.declared.status.Status.{Status}
+use Rattle.run_outside.specs.declared.status.Status.TheVariants.{Delivered, Rounds, NoPath, Aborted, Usage, Script, Load, Put, TooLong, Memory, Log}
 use Rattle.mptcp_run.specs.Answers.{IsAnswer, FormRow, TurnRow, ValidInputsAreRun}
-use Rattle.mptcp_run.specs.Causes.{limit_of}
+use Rattle.run_outside.specs.Causes.{limit_of}
 use Rattle.mptcp_run.specs.Ends.{HasEnded}
-use Rattle.mptcp_run.specs.Inputs.{name_of, order_of, content_of}
-use Rattle.world_core.specs.Script.{script_meaning}
-use Rattle.mptcp_run.specs.Task.{IsValid}
+use Rattle.run_outside.specs.Inputs.{name_of, order_of, content_of, IsValid}
+use Rattle.run_outside.specs.Script.{script_meaning}
 
 not_ok : {X E : Type 0} (r : Result X E) (e : E) → r ≡ Err e → IsOk r → ⊥
 not_ok (Ok x) e is ok = cc (is)

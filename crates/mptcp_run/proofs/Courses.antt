@@ -7,16 +7,17 @@ use Rattle.world_laws.specs.Serial.{round_and, steps_and, spelled, after_steps, 
 use Rattle.world_laws.specs.Worlds.{Turn, world_step, end_round, world_run, after_turn, AreLawful, IsLawfulTurn}
 use Rattle.world_core.specs.Rounds.{after_rounds}
 use Rattle.world_laws.proofs.Serially.{serial_is_one}
-use Rattle.mptcp_run.specs.declared.status.Status.{Status}
-use Rattle.mptcp_run.specs.declared.status.Status.TheVariants.{Delivered, Rounds, NoPath, Aborted, Usage, Script, Load, Put, TooLong, Memory, Log}
+use Rattle.run_outside.specs.declared.status.Status.{Status}
+use Rattle.run_outside.specs.declared.status.Status.TheVariants.{Delivered, Rounds, NoPath, Aborted, Usage, Script, Load, Put, TooLong, Memory, Log}
 use Rattle.mptcp_run.specs.Courses.{CourseMade, CourseCut, LogStops}
-use Rattle.mptcp_run.specs.Plan.{AddsAll, AddsCut, puts_by_round}
+use Rattle.run_outside.specs.Plan.{AddsAll, AddsCut}
+use Rattle.mptcp_run.specs.Plan.{puts_by_round}
 use Rattle.world_core.specs.RoundEnds.{round_ends}
 use Rattle.mptcp_run.specs.Putting.{AreFirstOf}
 use Rattle.mptcp_run.specs.Rounds.{HoldsEnds, HoldsPart}
 use Rattle.mptcp_run.specs.Task.{Connection}
 use Rattle.mptcp_run.specs.Task as course
-use Rattle.mptcp_run.proofs.Calls.{Told}
+use Rattle.run_outside.proofs.Calls.{Told}
 use Rattle.mptcp_run.proofs.Folding.{ends_by, RoundsPut, RoundsCut, RoundsAdd, RoundsAddCut, TurnsPut, TurnsCut, TurnsFault, TurnsAddCut, TurnsEnd}
 
 abbrev Ports : Type 0

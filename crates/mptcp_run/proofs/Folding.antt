@@ -6,9 +6,10 @@ use Rattle.path_core.specs.Octets.{octets}
 use Rattle.world_core.specs.Rounds.{after_rounds}
 use Rattle.world_laws.specs.Serial.{AreRounds, after_round}
 use Rattle.world_laws.specs.Worlds.{Turn, world_run, AreLawful, IsLawfulTurn}
-use Rattle.mptcp_run.specs.declared.status.Status.{Status}
-use Rattle.mptcp_run.specs.declared.status.Status.TheVariants.{Put, Memory, Log}
-use Rattle.mptcp_run.specs.Plan.{AddsAll, AddsCut, puts_by_round}
+use Rattle.run_outside.specs.declared.status.Status.{Status}
+use Rattle.run_outside.specs.declared.status.Status.TheVariants.{Put, Memory, Log}
+use Rattle.run_outside.specs.Plan.{AddsAll, AddsCut}
+use Rattle.mptcp_run.specs.Plan.{puts_by_round}
 use Rattle.world_core.specs.RoundEnds.{round_ends}
 use Rattle.mptcp_run.specs.Rounds.{HoldsEnds, HoldsPart}
 use Rattle.mptcp_run.specs.Task.{Connection}

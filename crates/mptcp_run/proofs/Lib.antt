@@ -1,4 +1,3 @@
-mod PortsLemmas
 mod UnderWay
 mod AllTurns
 mod RoundSteps
@@ -10,7 +9,6 @@ mod Complete
 mod Gathering
 mod Turning
 mod Promised
-mod LogEnds
 mod PlainTasks
 mod Asking
 mod Starting
@@ -20,9 +18,6 @@ mod LogAgain
 mod Logged
 mod AskedRounds
 mod MadeTasks
-mod Calling
-mod Calls
-mod Loading
 mod Folding
 mod Courses
 mod PutsMade

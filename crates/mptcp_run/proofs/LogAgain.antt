@@ -23,9 +23,9 @@ use Rattle.world_laws.proofs.Pairing.{stays_fine}
 use Rattle.world_laws.proofs.WeavingOrder.{in_order_of}
 use Rattle.world_laws.proofs.WeavingRounds.{run_append}
 use Rattle.world_core.specs.RoundEnds.{round_ends, round_steps, steps_by_round}
-use Rattle.mptcp_run.specs.Putting.{log_text, RoundsFit}
+use Rattle.run_outside.specs.LogText.{log_text, RoundsFit}
 use Rattle.link_script.specs.declared.script.Script.{Script}
-use Rattle.mptcp_run.specs.Script.{actors_of, width_of}
+use Rattle.run_outside.specs.Reading.{actors_of, width_of}
 use Rattle.mptcp_run.specs.Task.{Connection, turn_of, turns_in}
 use Rattle.mptcp_run.proofs.AllTurns.{step_length}
 use Rattle.mptcp_run.proofs.LogWoven.{told_turns}

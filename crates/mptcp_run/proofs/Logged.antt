@@ -15,17 +15,18 @@ use Rattle.world_laws.specs.Serial.{spelled, after_round, AreRounds}
 use Rattle.world_laws.specs.Worlds.{Turn, world_step, end_round}
 use Rattle.world_laws.proofs.Serially.{serial_is_one}
 use Rattle.mptcp_run.specs.declared.report.Report.TheVariants as report
-use Rattle.mptcp_run.specs.declared.status.Status.{Status}
+use Rattle.run_outside.specs.declared.status.Status.{Status}
 use Rattle.mptcp_run.specs.Logged.{HasRounds, replayed, TellsTheRun, LogTellsTheRun, WholeRunsAreTold, WholeRunsAgree}
 use Rattle.mptcp_run.specs.Promised.{EndsWithRound}
 use Rattle.world_core.specs.RoundEnds.{round_ends, last_end, steps_by_round}
-use Rattle.mptcp_run.specs.Putting.{log_opening, opening_in, log_text, status_of, told_outcome, last_line_of, last_line, RoundsFit, steps_so_far, read_so_far, log_so_far, world_after, IsWhole}
-use Rattle.mptcp_run.specs.Script.{actors_of, width_of}
+use Rattle.run_outside.specs.LogText.{log_text, RoundsFit}
+use Rattle.mptcp_run.specs.Putting.{log_opening, opening_in, status_of, told_outcome, last_line_of, last_line, steps_so_far, read_so_far, log_so_far, world_after, IsWhole}
+use Rattle.run_outside.specs.Reading.{actors_of, width_of}
 use Rattle.mptcp_run.specs.Task.{Connection, Task, Course, rounds, told, opened, turns_in, AreTurnsOf}
 use Rattle.mptcp_run.proofs.LogAgain.{log_read, rounds_logged}
 use Rattle.mptcp_run.proofs.LogWoven.{told_turns, AreWoven, turns_woven, told_to_the_end, course_lawful}
 use Rattle.mptcp_run.proofs.Courses.{counts_ends}
-use Rattle.mptcp_run.proofs.PortsLemmas.{whole_more, more_weaker}
+use Rattle.run_outside.proofs.PortsLemmas.{whole_more, more_weaker}
 use Rattle.mptcp_run.proofs.Promised.{last_end_of_course}
 use Rattle.mptcp_run.proofs.UnderWay.{opened_begins}
 

@@ -17,15 +17,16 @@ use Rattle.message_pipe.specs.Showing.{Counted, ShowsPrefix, PortStands}
 use Rattle.message_pipe.specs.Lined.{lined_content, lined_holds, PortsStand}
 use Rattle.message_pipe.proofs.LinesAgain.{whole_ports_show_all_lines, ports_show_first_lines, refused_ports_show_prefixes}
 use Rattle.run_words.specs.Lines.{Line, line_of}
-use Rattle.mptcp_run.specs.declared.status.Named.TheVariants as input
-use Rattle.mptcp_run.specs.declared.status.Status.{Status}
-use Rattle.mptcp_run.specs.declared.status.Status.TheVariants.{Delivered, Rounds, NoPath, Aborted, Usage, Script, Load, Put, TooLong, Memory, Log}
+use Rattle.run_outside.specs.declared.status.Named.TheVariants as input
+use Rattle.run_outside.specs.declared.status.Status.{Status}
+use Rattle.run_outside.specs.declared.status.Status.TheVariants.{Delivered, Rounds, NoPath, Aborted, Usage, Script, Load, Put, TooLong, Memory, Log}
 use Rattle.mptcp_run.specs.Answers.{IsAnswer}
 use Rattle.mptcp_run.specs.Asked.{asked_in, is_run}
 use Rattle.mptcp_run.specs.Messages.{ReadersShowLines, ReadersShowFirstLines, ReadersShowPrefixes, ReadersShowNothing, ReadersShow, refused_or, with_refusals, IsRunOverFrames, IsMessagesAnswer, takes_messages, if_messages, messages_in}
-use Rattle.mptcp_run.specs.Ports.{IsUntouched}
+use Rattle.run_outside.specs.Causes.{IsWordsFault}
+use Rattle.run_outside.specs.Ports.{IsUntouched}
 use Rattle.mptcp_run.specs.Promised.{HoldsPrefixOf, HoldsPrefixIfBound, ReadersHaveFiles, ReadersHavePrefixes, ReadersHavePrefixesIfBound}
-use Rattle.mptcp_run.specs.Task.{AreWithinLimits}
+use Rattle.run_outside.specs.Inputs.{AreWithinLimits}
 use Rattle.mptcp_run.proofs.Asking.{asked_is}
 
 abbrev Ports : Type 0
@@ -204,7 +205,7 @@ some_always : (o : Option (List ℕ)) (P : List ℕ → Type 0) → ((text : Lis
 some_always None P p = tt
 some_always (Some text) P p = p text
 
-pub nothing_is_cut : (file_a file_b : Option (List ℕ)) (held holds : Ports) → ReadersShowNothing file_a file_b held holds → ReadersShowPrefixes file_a file_b held holds
+nothing_is_cut : (file_a file_b : Option (List ℕ)) (held holds : Ports) → ReadersShowNothing file_a file_b held holds → ReadersShowPrefixes file_a file_b held holds
 nothing_is_cut file_a file_b held holds none = record {
   read_by_b = some_always file_a _ (λ text. nothing_is_prefix (held ReadByB) (holds ReadByB) (shown (lines text)) none.read_by_b);
   read_by_a = some_always file_b _ (λ text. nothing_is_prefix (held ReadByA) (holds ReadByA) (shown (lines text)) none.read_by_a);
@@ -215,7 +216,7 @@ still_empty : (first held : Option (List ℕ)) → IfSome first (λ text. text �
 still_empty None held empty same = tt
 still_empty (Some text) held empty same = same ∙ ap (λ t. Some t) empty
 
-pub empty_still : (file_a file_b : Option (List ℕ)) (held holds : Ports) → IfSome (held ReadByA) (λ text. text ≡ []) → IfSome (held ReadByB) (λ text. text ≡ [])
+empty_still : (file_a file_b : Option (List ℕ)) (held holds : Ports) → IfSome (held ReadByA) (λ text. text ≡ []) → IfSome (held ReadByB) (λ text. text ≡ [])
     → ((port : Port) → holds port ≡ held port) → ReadersShowNothing file_a file_b held holds
 empty_still file_a file_b held holds empty_a empty_b same = record {
   read_by_b = still_empty (held ReadByB) (holds ReadByB) empty_b (same ReadByB);
@@ -400,7 +401,7 @@ pub messages_are : (words : List (List ℕ)) (line : Line) → line_of words ≡
 unfolding messages_in
 messages_are words line is = ap (option_and_then if_messages) is
 
-pub no_messages : (words : List (List ℕ)) → line_of words ≡ None → messages_in words ≡ None
+no_messages : (words : List (List ℕ)) → line_of words ≡ None → messages_in words ≡ None
 unfolding messages_in
 no_messages words is = ap (option_and_then if_messages) is
 
@@ -428,9 +429,42 @@ module _ (asked : Option Line) where
   pub not_nothing : (line : Line) → asked ≡ Some line → IsNone asked → ⊥
   not_nothing line is none = let no : IsNone (Some line) = subst (λ o. IsNone o) is none in absurd cc
 
-  pub nothing_asked_for : (P : Line → Type 0) → ((line : Line) → P line) → IfSome asked P
+  nothing_asked_for : (P : Line → Type 0) → ((line : Line) → P line) → IfSome asked P
   nothing_asked_for P p = some_line asked
     where
       some_line : (o : Option Line) → IfSome o P
       some_line None = tt
       some_line (Some line) = p line
+
+-- words that weren't read
+pub unread_messages : (content : List ℕ → Option (List ℕ)) (loads : ℕ) (faults : Port → ℕ) (holds : Ports) (words : List (List ℕ)) (status : Status) → IsWordsFault words status
+    → IfSome (messages_in words) (λ line. IsMessagesAnswer content line loads loads faults faults holds holds status)
+unread_messages content loads faults holds words Usage is = of_nothing (messages_in words) (λ line. IsMessagesAnswer content line loads loads faults faults holds holds Usage) (no_messages words is)
+unread_messages content loads faults holds words Memory is = nothing_asked_for (messages_in words) (λ line. IsMessagesAnswer content line loads loads faults faults holds holds Memory)
+    (λ line. inl (record { status_is = refl; untouched = λ port. (refl, refl); unloaded = refl }))
+unread_messages content loads faults holds words Delivered is = absurd is
+unread_messages content loads faults holds words Rounds is = absurd is
+unread_messages content loads faults holds words NoPath is = absurd is
+unread_messages content loads faults holds words (Aborted reader) is = absurd is
+unread_messages content loads faults holds words (Script at kind) is = absurd is
+unread_messages content loads faults holds words (Load named) is = absurd is
+unread_messages content loads faults holds words (Put port) is = absurd is
+unread_messages content loads faults holds words (TooLong named) is = absurd is
+unread_messages content loads faults holds words (Log at) is = absurd is
+
+pub unread_lines : (content : List ℕ → Option (List ℕ)) (holds : Ports) → IfSome (holds ReadByA) (λ text. text ≡ []) → IfSome (holds ReadByB) (λ text. text ≡ [])
+    → (words : List (List ℕ)) (status : Status) → IsWordsFault words status
+    → IfSome (messages_in words) (λ line. ReadersShow (content line.names.file_a) (content line.names.file_b) holds holds status)
+unread_lines content holds empty_a empty_b words Usage is = of_nothing (messages_in words) (λ line. ReadersShow (content line.names.file_a) (content line.names.file_b) holds holds Usage) (no_messages words is)
+unread_lines content holds empty_a empty_b words Memory is = nothing_asked_for (messages_in words) (λ line. ReadersShow (content line.names.file_a) (content line.names.file_b) holds holds Memory)
+    (λ line. nothing_is_cut (content line.names.file_a) (content line.names.file_b) holds holds
+    (empty_still (content line.names.file_a) (content line.names.file_b) holds holds empty_a empty_b (λ port. refl)))
+unread_lines content holds empty_a empty_b words Delivered is = absurd is
+unread_lines content holds empty_a empty_b words Rounds is = absurd is
+unread_lines content holds empty_a empty_b words NoPath is = absurd is
+unread_lines content holds empty_a empty_b words (Aborted reader) is = absurd is
+unread_lines content holds empty_a empty_b words (Script at kind) is = absurd is
+unread_lines content holds empty_a empty_b words (Load named) is = absurd is
+unread_lines content holds empty_a empty_b words (Put port) is = absurd is
+unread_lines content holds empty_a empty_b words (TooLong named) is = absurd is
+unread_lines content holds empty_a empty_b words (Log at) is = absurd is

@@ -12,17 +12,18 @@ use Rattle.world_laws.specs.declared.outcome.Outcome.{Outcome}
 use Rattle.world_laws.specs.declared.outcome.Outcome.TheVariants as outcome
 use Rattle.world_laws.specs.Outcomes.{outcome_of}
 use Rattle.world_laws.specs.Worlds.{Turn}
-use Rattle.mptcp_run.specs.declared.status.Status.{Status}
-use Rattle.mptcp_run.specs.declared.status.Status.TheVariants.{Memory}
+use Rattle.run_outside.specs.declared.status.Status.{Status}
+use Rattle.run_outside.specs.declared.status.Status.TheVariants.{Memory}
 use Rattle.mptcp_run.specs.Courses.{CourseMade, CourseCut}
 use Rattle.mptcp_run.specs.Ends.{HasEnded, HoldsCut, HoldsToLine, CameToEnd, IsCut}
-use Rattle.mptcp_run.specs.Plan.{AddsAll, AddsCut, AddsShort, binds_of, puts_so_far, last_put}
-use Rattle.mptcp_run.specs.Ports.{HoldsMore, HoldsWithin, IsBetween}
+use Rattle.run_outside.specs.Plan.{AddsAll, AddsCut, AddsShort, binds_of}
+use Rattle.mptcp_run.specs.Plan.{puts_so_far, last_put}
+use Rattle.run_outside.specs.Ports.{HoldsMore, HoldsWithin, IsBetween}
 use Rattle.mptcp_run.specs.Putting.{opening_in, status_of, last_line, ends_of, read_so_far, log_so_far, HoldsRounds, HoldsRun, AreFirstOf}
 use Rattle.mptcp_run.specs.Rounds.{HoldsEnds, HoldsPart}
 use Rattle.mptcp_run.specs.Task.{Connection, Task, opened}
-use Rattle.mptcp_run.proofs.Calls.{Told, adds_none, all_then, cut_then, cut_longer, cut_none, short_then}
-use Rattle.mptcp_run.proofs.PortsLemmas.{IsPrefix-refl, IsPrefix-append, nothing_more, all_held, part_held, all_behind, taken_part}
+use Rattle.run_outside.proofs.Calls.{Told, adds_none, all_then, cut_then, cut_longer, cut_none, short_then}
+use Rattle.run_outside.proofs.PortsLemmas.{IsPrefix-refl, IsPrefix-append, nothing_more, all_held, part_held, all_behind, taken_part}
 
 abbrev Ports : Type 0
 Ports = Port → Option (List ℕ)

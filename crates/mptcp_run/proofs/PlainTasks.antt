@@ -1,5 +1,5 @@
 -- The task of a command line is plain, and its last turn is the end of a round.
-use Rattle.std.proofs.Common.{◌≡◌, refl, ℕ, ◌≤◌, List, length, map, Option, Some, None, Result, Ok, Err, IfSome, arith}
+use Rattle.std.proofs.Common.{◌≡◌, refl, ◌∙◌, ap, ℕ, ◌≤◌, List, [], ◌∷◌, ◌++◌, length, map, Option, Some, None, Result, Ok, Err, IfSome, arith}
 use Rattle.std.specs.Prelude.{option_and_then, option_map}
 use Rattle.std.specs.Result.{result_ok}
 use Rattle.link_script.specs.declared.fault.ScriptFault.{ScriptFault}
@@ -8,18 +8,30 @@ use Rattle.link_script.proofs.ReadRanges.{read_has_ranges}
 use Rattle.run_words.specs.Lines.{Work, run, serial, replay, bench, ◌>>=◌}
 use Rattle.run_log.specs.declared.fault.LogFault.{LogFault}
 use Rattle.run_log.specs.declared.turn.Turn as logged_turn
+use Rattle.run_log.specs.declared.turn.Turn.TheVariants as logged
+use Rattle.world_laws.specs.Worlds.{Turn}
+use Rattle.run_outside.specs.declared.input.Input.{Input}
+use Rattle.run_outside.specs.Loaded.{IsLoaded}
 use Rattle.mptcp_run.specs.declared.report.Report.TheVariants as report
-use Rattle.mptcp_run.specs.declared.status.Named.TheVariants as input
-use Rattle.mptcp_run.specs.Promised.{EndsWithRound, IsPromisedTask, LoadedTasksArePlain}
-use Rattle.world_core.specs.Script.{script_meaning, script_in}
-use Rattle.mptcp_run.specs.Script.{actors_of, width_of, log_reading}
+use Rattle.run_outside.specs.declared.status.Named.TheVariants as input
+use Rattle.mptcp_run.specs.Promised.{IsPlainInput, EndsWithRound, IsPromisedTask, LoadedTasksArePlain}
+use Rattle.run_outside.specs.Script.{script_meaning, script_in}
+use Rattle.run_outside.specs.Reading.{actors_of, width_of, log_reading, EndsInRound}
 use Rattle.mptcp_run.specs.Task.{Course, told, turn_of, turns_in, course_of}
-use Rattle.mptcp_run.proofs.LogEnds.{turns_end}
+use Rattle.run_outside.proofs.LogEnds.{log_ends}
 use Rattle.world_core.proofs.Unaltering.{run_script_is}
+
+map_push : (before : List logged_turn.Turn) → map turn_of (before ++ logged.Round ∷ []) ≡ map turn_of before ++ Turn.Round ∷ []
+map_push [] = refl
+map_push (turn ∷ before) = ap (λ ts. turn_of turn ∷ ts) (map_push before)
+
+-- as turns of a connection
+pub as_turns : (turns : List logged_turn.Turn) → EndsInRound turns → EndsWithRound (told (map turn_of turns))
+as_turns turns ends = (map turn_of ends.0, ap (map turn_of) ends.1 ∙ map_push ends.0)
 
 turns_of_log : (script : Script) (text : List ℕ) (r : Result (List logged_turn.Turn) LogFault) → log_reading script text ≡ r
     → IfSome (option_map told (option_map (map turn_of) (result_ok r))) EndsWithRound
-turns_of_log script text (Ok turns) e = turns_end (actors_of script) (width_of script) text turns e
+turns_of_log script text (Ok turns) e = as_turns turns (log_ends (actors_of script) (width_of script) text turns e)
 turns_of_log script text (Err f) e = tt
 
 turns_of_content : (script : Script) (o : Option (List ℕ)) → IfSome (option_map told (option_and_then (turns_in script) o)) EndsWithRound
@@ -59,6 +71,15 @@ task_is (Some text) a b c few_a few_b ends = by (script_meaning text) refl
         → IfSome (result_ok r >>= λ script. a >>= λ file_a. b >>= λ file_b. c script >>= λ x. Some (record { script = script; file_a = file_a; file_b = file_b; course = x; report = report.Log })) IsPromisedTask
     by (Err f) e = tt
     by (Ok script) e = with script e a b (c script) few_a few_b (ends script)
+
+-- what was loaded: no line of a script that is run alters a payload
+pub plain_input : (input : Input) → IsLoaded input → IsPlainInput input
+plain_input input read = record {
+  ranges = read.ranges;
+  unaltered = (run_script_is read.text input.script read.script).1;
+  short_a = let few = read.few_a in omega (arith, few);
+  short_b = let few = read.few_b in omega (arith, few);
+}
 
 pub loaded_tasks_are_plain : LoadedTasksArePlain
 loaded_tasks_are_plain content line within =

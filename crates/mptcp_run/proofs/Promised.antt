@@ -13,8 +13,8 @@ use Rattle.world_laws.specs.Worlds.{Turn, world_step, end_round, world_run}
 use Rattle.world_laws.proofs.PromisesOfScripts.{plain_scripts_keep_all_promises, plain_scripts_are_shown_of_values}
 use Rattle.world_laws.proofs.RoundsDone.{rounds_end_on_time, rounds_are_done}
 use Rattle.world_laws.proofs.CastLifting.{writes_the_files}
-use Rattle.mptcp_run.specs.declared.status.Status.TheVariants.{Delivered}
-use Rattle.mptcp_run.specs.Ports.{HoldsWithin}
+use Rattle.run_outside.specs.declared.status.Status.TheVariants.{Delivered}
+use Rattle.run_outside.specs.Ports.{HoldsWithin}
 use Rattle.world_core.specs.RoundEnds.{round_ends, last_end}
 use Rattle.mptcp_run.specs.Putting.{status_of, read_so_far, world_after}
 use Rattle.mptcp_run.specs.Promised.{IsPlainTask, EndsWithRound, HoldsPrefixOf, HoldsPrefixIfBound, PlainTasksAreKept, WholeRunsGivePrefixes, DeliveredRunsGiveFiles, StoppedRunsGivePrefixes, CutRunsGivePrefixes, LinesCutGivePrefixes}

@@ -10,19 +10,20 @@ use Rattle.world_laws.specs.Fine.{lists_of}
 use Rattle.world_laws.specs.Outcomes.{notes_at, outcome_of, read_by}
 use Rattle.world_laws.specs.Serial.{goes_on, after_round}
 use Rattle.world_laws.specs.Worlds.{Turn, end_round, after_turn, IsLawfulTurn}
-use Rattle.mptcp_run.specs.declared.status.Status.{Status}
-use Rattle.mptcp_run.specs.declared.status.Status.TheVariants.{Delivered, Rounds, NoPath, Aborted, Usage, Script, Load, Put, TooLong, Memory, Log}
+use Rattle.run_outside.specs.declared.status.Status.{Status}
+use Rattle.run_outside.specs.declared.status.Status.TheVariants.{Delivered, Rounds, NoPath, Aborted, Usage, Script, Load, Put, TooLong, Memory, Log}
 use Rattle.mptcp_run.specs.Adding.{RoundAddsCut, turn_puts, TurnAddsCut, TurnEnds}
-use Rattle.mptcp_run.specs.Plan.{AddsAll, AddsCut, puts_of, read_in, round_puts, puts_by_round}
-use Rattle.mptcp_run.specs.Ports.{IsPortsFault}
+use Rattle.run_outside.specs.Plan.{AddsAll, AddsCut, puts_of}
+use Rattle.mptcp_run.specs.Plan.{read_in, round_puts, puts_by_round}
+use Rattle.run_outside.specs.Ports.{IsPortsFault}
 use Rattle.world_core.specs.RoundEnds.{round_ends}
-use Rattle.mptcp_run.specs.Putting.{round_text}
+use Rattle.run_outside.specs.LogText.{round_text}
 use Rattle.mptcp_run.specs.Replaying.{last_after, rounds_after, round_turn, StepFault}
 use Rattle.run_log.specs.declared.turn.Turn as log_turn
 use Rattle.run_log.specs.declared.turn.Turn.TheVariants as logged
 use Rattle.mptcp_run.specs.Task.{Connection, turn_of}
 use Rattle.world_core.specs.Weaving.{IsSince, made_at, since}
-use Rattle.mptcp_run.proofs.Calls.{Told, adds_none, all_then, cut_then, cut_longer, cut_none}
+use Rattle.run_outside.proofs.Calls.{Told, adds_none, all_then, cut_then, cut_longer, cut_none}
 use Rattle.world_core.proofs.SinceRound.{read_grew, steps_since}
 use Rattle.mptcp_run.proofs.RoundsMade.{one_true, one_false, one_both}
 use Rattle.mptcp_run.proofs.Folding.{RoundsAdd, RoundsAddCut, TurnsAddCut, TurnsEnd, ends_by}

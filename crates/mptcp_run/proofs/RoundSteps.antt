@@ -18,13 +18,13 @@ use Rattle.world_laws.specs.Fine.{lists_of}
 use Rattle.world_laws.specs.Outcomes.{bytes_noted, read_by, notes_at, output_of}
 use Rattle.world_laws.specs.Worlds.{greatest}
 use Rattle.world_core.proofs.SinceRound.{steps_since, read_grew}
-use Rattle.mptcp_run.specs.Ports.{IsBetween}
+use Rattle.run_outside.specs.Ports.{IsBetween}
 use Rattle.world_core.specs.RoundEnds.{round_steps, steps_by_round, last_end}
-use Rattle.mptcp_run.specs.Putting.{NotesFit, round_text, log_text}
+use Rattle.run_outside.specs.LogText.{NotesFit, round_text, log_text}
 use Rattle.mptcp_run.specs.Rounds.{HoldsRound, HoldsEnds, HoldsPart}
 use Rattle.mptcp_run.specs.Task.{Connection}
 use Rattle.world_core.specs.Weaving.{GrewAbove, AllGrewAbove, IsSince, made_at, since}
-use Rattle.mptcp_run.proofs.PortsLemmas.{IsPrefix-refl, IsPrefix-behind, whole_more, part_more, nothing_more, more_then, more_behind}
+use Rattle.run_outside.proofs.PortsLemmas.{IsPrefix-refl, IsPrefix-behind, whole_more, part_more, nothing_more, more_then, more_behind}
 
 module _ (made : List ℕ) (last w : Connection) (opening : Option (List ℕ)) (number : ℕ) (old new : Port → Option (List ℕ)) (read_by_b read_by_a lines : List ℕ)
     (b_is : read_by_b ≡ read_by (drop (made_at 1 made) (notes_at 1 w.crew))) (a_is : read_by_a ≡ read_by (drop (made_at 0 made) (notes_at 0 w.crew)))

@@ -8,7 +8,7 @@ use Rattle.world_laws.specs.Serial.{goes_on, OneOf, AreRounds, after_round}
 use Rattle.world_core.specs.Rounds.{RoundTo}
 use Rattle.mptcp_run.specs.Rounds.{HoldsRound, HoldsPart, RoundCut}
 use Rattle.mptcp_run.specs.Task.{Connection}
-use Rattle.mptcp_run.proofs.PortsLemmas.{IsPrefix-refl}
+use Rattle.run_outside.proofs.PortsLemmas.{IsPrefix-refl}
 use Rattle.mptcp_run.proofs.RoundSteps.{nothing_part, nothing_ends, ends_more, part_behind}
 use Rattle.mptcp_run.proofs.Folding.{ends_by, RoundsPut, RoundsCut}
 

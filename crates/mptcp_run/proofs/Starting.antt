@@ -2,7 +2,7 @@
 use Rattle.std.proofs.Common.{◌≡◌, refl, sym, ◌∙◌, ap, subst, ℕ, ◌+◌, List, [], Option, length}
 use Rattle.outside_kit.specs.declared.port.Port.{Port}
 use Rattle.run_words.specs.Lines.{Line}
-use Rattle.world_core.specs.declared.input.Input.{Input}
+use Rattle.run_outside.specs.declared.input.Input.{Input}
 use Rattle.world_core.specs.Kept.{Kept}
 use Rattle.world_laws.specs.Openings.{start_of, opened_world}
 use Rattle.world_laws.specs.Outcomes.{outcome_of}
@@ -10,21 +10,22 @@ use Rattle.world_laws.specs.Worlds.{Turn}
 use Rattle.mptcp_run.specs.declared.report.Report.{Report}
 use Rattle.mptcp_run.specs.declared.report.Report.TheVariants as report
 use Rattle.mptcp_run.specs.declared.rounds.Run.{Run}
-use Rattle.mptcp_run.specs.declared.status.Status.{Status}
-use Rattle.mptcp_run.specs.declared.status.Status.TheVariants.{Delivered, Rounds, NoPath, Aborted, Usage, Script, Load, Put, TooLong, Memory, Log}
+use Rattle.run_outside.specs.declared.status.Status.{Status}
+use Rattle.run_outside.specs.declared.status.Status.TheVariants.{Delivered, Rounds, NoPath, Aborted, Usage, Script, Load, Put, TooLong, Memory, Log}
 use Rattle.mptcp_run.specs.Courses.{CourseMade, CourseCut, LogStops}
 use Rattle.mptcp_run.specs.Ends.{CameToEnd, IsCut, ReplayEnds}
-use Rattle.mptcp_run.specs.Plan.{AddsAll, AddsShort, binds_of, puts_so_far}
-use Rattle.mptcp_run.specs.Ports.{NeverFall, IsPortsFault}
+use Rattle.run_outside.specs.Plan.{AddsAll, AddsShort, binds_of}
+use Rattle.mptcp_run.specs.Plan.{puts_so_far}
+use Rattle.run_outside.specs.Ports.{NeverFall, IsPortsFault}
 use Rattle.world_core.specs.RoundEnds.{round_ends}
 use Rattle.mptcp_run.specs.Putting.{opening_of, opening_in, status_of, ends_of, world_after, last_line, last_line_of}
 use Rattle.mptcp_run.specs.Replaying.{IsReplayFault}
 use Rattle.mptcp_run.specs.Rounds.{Begins, AtRound, IsOpened}
 use Rattle.mptcp_run.specs.Task.{Connection, Task, task_with, task_from, opened}
 use Rattle.mptcp_run.specs.Task as course
-use Rattle.mptcp_run.proofs.Calls.{Told, all_then}
+use Rattle.run_outside.proofs.Calls.{Told, all_then}
 use Rattle.mptcp_run.proofs.Performing.{AreBound, LogGrew, LogGrewPart, rounds_held, line_put, line_done, line_short, rounds_short}
-use Rattle.mptcp_run.proofs.PortsLemmas.{risen_later}
+use Rattle.run_outside.proofs.PortsLemmas.{risen_later}
 use Rattle.mptcp_run.proofs.UnderWay.{opened_begins}
 
 abbrev Ports : Type 0

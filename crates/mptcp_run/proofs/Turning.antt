@@ -8,9 +8,9 @@ use Rattle.world_laws.specs.Actors.{ActorCrew}
 use Rattle.world_laws.specs.Fine.{lists_of}
 use Rattle.world_laws.specs.Worlds.{world_step, all_over, end_round, greatest}
 use Rattle.mptcp_run.specs.declared.rounds.Run.{Run}
-use Rattle.mptcp_run.specs.declared.status.Status.{Status}
-use Rattle.mptcp_run.specs.declared.status.Status.TheVariants.{Delivered, Rounds, NoPath, Aborted, Usage, Script, Load, Put, TooLong, Memory, Log}
-use Rattle.mptcp_run.specs.Ports.{IsPortsFault}
+use Rattle.run_outside.specs.declared.status.Status.{Status}
+use Rattle.run_outside.specs.declared.status.Status.TheVariants.{Delivered, Rounds, NoPath, Aborted, Usage, Script, Load, Put, TooLong, Memory, Log}
+use Rattle.run_outside.specs.Ports.{IsPortsFault}
 use Rattle.mptcp_run.specs.Replaying.{GoesOn, UnderWay, TurnFault, round_turn}
 use Rattle.mptcp_run.specs.Rounds.{AtRound, HoldsPart}
 use Rattle.mptcp_run.specs.Task.{Connection}

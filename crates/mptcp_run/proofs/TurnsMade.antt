@@ -7,15 +7,15 @@ use Rattle.path_core.specs.Octets.{octets}
 use Rattle.world_laws.specs.Outcomes.{output_of}
 use Rattle.world_core.specs.Kept.{Kept, standing}
 use Rattle.world_laws.specs.Worlds.{Turn, end_round, after_turn, IsLawfulTurn}
-use Rattle.mptcp_run.specs.declared.status.Status.{Status}
-use Rattle.mptcp_run.specs.declared.status.Status.TheVariants.{Delivered, Rounds, NoPath, Aborted, Usage, Script, Load, Put, TooLong, Memory, Log}
-use Rattle.mptcp_run.specs.Ports.{HoldsMore, IsBetween}
+use Rattle.run_outside.specs.declared.status.Status.{Status}
+use Rattle.run_outside.specs.declared.status.Status.TheVariants.{Delivered, Rounds, NoPath, Aborted, Usage, Script, Load, Put, TooLong, Memory, Log}
+use Rattle.run_outside.specs.Ports.{HoldsMore, IsBetween}
 use Rattle.world_core.specs.RoundEnds.{round_ends, last_end, steps_by_round}
-use Rattle.mptcp_run.specs.Putting.{log_text}
+use Rattle.run_outside.specs.LogText.{log_text}
 use Rattle.mptcp_run.specs.Replaying.{last_after, rounds_after, TurnHolds, TurnCut, TurnFault}
 use Rattle.mptcp_run.specs.Rounds.{HoldsEnds, HoldsPart}
 use Rattle.mptcp_run.specs.Task.{Connection}
-use Rattle.mptcp_run.proofs.PortsLemmas.{IsPrefix-refl}
+use Rattle.run_outside.proofs.PortsLemmas.{IsPrefix-refl}
 use Rattle.mptcp_run.proofs.RoundSteps.{nothing_part, nothing_ends, ends_more, part_behind}
 use Rattle.mptcp_run.proofs.Folding.{TurnsPut, TurnRefused, TurnsCut, TurnsFault}
 

@@ -1,29 +1,14 @@
 -- Which calls the parts of a run make.
 use Rattle.std.specs.Prelude.{◌≡◌, ℕ, ◌⊎◌, List, [], Option}
 use Rattle.outside_kit.specs.Calls.{Call, Made}
-use Rattle.run_words.specs.Lines.{Line}
 use Rattle.path_core.specs.Octets.{octets}
 use Rattle.world_core.specs.Rounds.{RoundTo}
 use Rattle.world_laws.specs.Worlds.{Turn, end_round, IsLawfulTurn}
-use Rattle.mptcp_run.specs.declared.status.Status.{Status}
-use Rattle.mptcp_run.specs.declared.status.Status.TheVariants.{Script, Load, Put, TooLong, Memory, Log}
-use Rattle.mptcp_run.specs.Plan.{AddsAll, AddsCut, AddsLoadsTo, round_puts}
+use Rattle.run_outside.specs.declared.status.Status.{Status}
+use Rattle.run_outside.specs.declared.status.Status.TheVariants.{Put, Memory, Log}
+use Rattle.run_outside.specs.Plan.{AddsAll, AddsCut}
+use Rattle.mptcp_run.specs.Plan.{round_puts}
 use Rattle.mptcp_run.specs.Task.{Connection}
-
--- ---- loads
-
--- the loads of this plan end a run with this status
-abbrev pub LoadsAdd : Line → List Call → Option (List Made) → Option (List Made) → Status → Type 0
-LoadsAdd line plan old new (Load named) = AddsLoadsTo named line old new
-LoadsAdd line plan old new (TooLong named) = AddsLoadsTo named line old new
-LoadsAdd line plan old new Memory = AddsCut plan Memory old new
-LoadsAdd line plan old new status = ⊥
-
--- or what they gave does, when all were made
-abbrev pub InputAdds : Line → List Call → Option (List Made) → Option (List Made) → Status → Type 0
-InputAdds line plan old new (Script at kind) = AddsAll plan old new
-InputAdds line plan old new (Log at) = AddsAll plan old new
-InputAdds line plan old new status = LoadsAdd line plan old new status
 
 -- ---- rounds
 

@@ -7,21 +7,22 @@ use Rattle.link_script.specs.declared.fault.ScriptKind.{ScriptKind}
 use Rattle.link_script.specs.declared.fault.ScriptFault.TheVariants as script_fault
 use Rattle.run_log.specs.declared.fault.LogFault.TheVariants as log_fault
 use Rattle.run_words.specs.Lines.{Line}
-use Rattle.mptcp_run.specs.declared.status.Named.{Named}
-use Rattle.mptcp_run.specs.declared.status.Named.TheVariants as input
-use Rattle.mptcp_run.specs.declared.status.Status.{Status}
-use Rattle.mptcp_run.specs.declared.status.Status.TheVariants.{Delivered, Rounds, NoPath, Aborted, Usage, Script, Load, Put, TooLong, Memory, Log}
+use Rattle.run_outside.specs.declared.status.Named.{Named}
+use Rattle.run_outside.specs.declared.status.Named.TheVariants as input
+use Rattle.run_outside.specs.declared.status.Status.{Status}
+use Rattle.run_outside.specs.declared.status.Status.TheVariants.{Delivered, Rounds, NoPath, Aborted, Usage, Script, Load, Put, TooLong, Memory, Log}
 use Rattle.mptcp_run.specs.Ends.{HasEnded, AddsWork, IsCut}
-use Rattle.mptcp_run.specs.Inputs.{order_of, content_of, IsLoadsFault}
+use Rattle.run_outside.specs.Inputs.{order_of, content_of, IsLoadsFault, opening_count, AreWithinLimits, HasValidScript, HasValidOrder, IsValid}
 use Rattle.mptcp_run.specs.Logged.{LogTellsTheRun}
 use Rattle.mptcp_run.specs.Made.{Bench}
-use Rattle.mptcp_run.specs.Plan.{AddsAll, AddsCut, AddsLoadsTo, ArePuts, ArePutsBefore, loads_of, plan_of}
-use Rattle.mptcp_run.specs.Ports.{IsUntouched}
+use Rattle.run_outside.specs.Plan.{AddsAll, AddsCut, AddsLoadsTo, loads_of, plan_of}
+use Rattle.mptcp_run.specs.Plan.{ArePuts, ArePutsBefore}
+use Rattle.run_outside.specs.Ports.{IsUntouched}
 use Rattle.mptcp_run.specs.Promised.{IsAlwaysKept, ReadersHaveFiles, ReadersHavePrefixes, ReadersHavePrefixesIfBound}
 use Rattle.mptcp_run.specs.Putting.{IsWhole, IsStopped}
-use Rattle.world_core.specs.Script.{script_meaning}
-use Rattle.mptcp_run.specs.Script.{script_of, log_reading}
-use Rattle.mptcp_run.specs.Task.{Task, task_of, opening_count, AreWithinLimits, HasValidScript, HasValidOrder, IsValid}
+use Rattle.run_outside.specs.Script.{script_meaning}
+use Rattle.run_outside.specs.Reading.{script_of, log_reading}
+use Rattle.mptcp_run.specs.Task.{Task, task_of}
 
 abbrev Ports : Type 0
 Ports = Port → Option (List ℕ)

@@ -4,9 +4,10 @@ use Rattle.outside_kit.specs.declared.port.Port.{Port}
 use Rattle.outside_kit.specs.Calls.{Made}
 use Rattle.path_core.specs.Octets.{octets}
 use Rattle.world_laws.specs.Worlds.{Turn, world_run, AreLawful, IsLawfulTurn}
-use Rattle.mptcp_run.specs.declared.status.Status.{Status}
-use Rattle.mptcp_run.specs.declared.status.Status.TheVariants.{Put, Memory, Log}
-use Rattle.mptcp_run.specs.Plan.{AddsAll, AddsCut, puts_by_round}
+use Rattle.run_outside.specs.declared.status.Status.{Status}
+use Rattle.run_outside.specs.declared.status.Status.TheVariants.{Put, Memory, Log}
+use Rattle.run_outside.specs.Plan.{AddsAll, AddsCut}
+use Rattle.mptcp_run.specs.Plan.{puts_by_round}
 use Rattle.world_core.specs.RoundEnds.{round_ends}
 use Rattle.mptcp_run.specs.Putting.{AreFirstOf}
 use Rattle.mptcp_run.specs.Rounds.{HoldsEnds, HoldsPart}

@@ -7,11 +7,12 @@ use Rattle.outside_kit.specs.Calls.{Call, Made}
 use Rattle.outside_kit.specs.Outside.{HoldsAfter}
 use Rattle.run_words.specs.Lines.{Line}
 use Rattle.world_laws.specs.Worlds.{Turn}
-use Rattle.mptcp_run.specs.declared.status.Status.{Status}
-use Rattle.mptcp_run.specs.declared.status.Status.TheVariants.{Delivered, Rounds, NoPath, Aborted, Put, Memory}
-use Rattle.mptcp_run.specs.declared.status.Status.TheVariants as status_is
-use Rattle.mptcp_run.specs.Plan.{AddsAll, AddsCut, AddsShort, puts_so_far, last_put, ArePuts, ArePutsBefore, plan_of}
-use Rattle.mptcp_run.specs.Ports.{HoldsMore, HoldsWithin, IsBetween}
+use Rattle.run_outside.specs.declared.status.Status.{Status}
+use Rattle.run_outside.specs.declared.status.Status.TheVariants.{Delivered, Rounds, NoPath, Aborted, Put, Memory}
+use Rattle.run_outside.specs.declared.status.Status.TheVariants as status_is
+use Rattle.run_outside.specs.Plan.{AddsAll, AddsCut, AddsShort, plan_of}
+use Rattle.mptcp_run.specs.Plan.{puts_so_far, last_put, ArePuts, ArePutsBefore}
+use Rattle.run_outside.specs.Ports.{HoldsMore, HoldsWithin, IsBetween}
 use Rattle.world_core.specs.RoundEnds.{round_ends}
 use Rattle.mptcp_run.specs.Putting.{last_line, read_so_far, log_so_far, world_after, IsWhole, IsStopped, AreFirstOf}
 use Rattle.mptcp_run.specs.Task.{Task, opened, AreTurnsOf}

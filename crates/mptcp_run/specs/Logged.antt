@@ -5,8 +5,8 @@ use Rattle.outside_kit.specs.declared.port.Port.TheVariants.{ReadByA, ReadByB, L
 use Rattle.outside_kit.specs.Outside.{HoldsAfter}
 use Rattle.world_laws.specs.Worlds.{Turn}
 use Rattle.mptcp_run.specs.declared.report.Report.TheVariants as report
-use Rattle.mptcp_run.specs.declared.status.Status.{Status}
-use Rattle.mptcp_run.specs.Ports.{HoldsMore}
+use Rattle.run_outside.specs.declared.status.Status.{Status}
+use Rattle.run_outside.specs.Ports.{HoldsMore}
 use Rattle.mptcp_run.specs.Putting.{world_after, IsWhole}
 use Rattle.mptcp_run.specs.Task.{Task, Course, rounds, told, opened, turns_in, AreTurnsOf}
 

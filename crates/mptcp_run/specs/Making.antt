@@ -5,11 +5,12 @@ use Rattle.outside_kit.specs.declared.port.Port.{Port}
 use Rattle.outside_kit.specs.Calls.{Made}
 use Rattle.world_laws.specs.Worlds.{Turn}
 use Rattle.mptcp_run.specs.declared.rounds.Run.{Run}
-use Rattle.mptcp_run.specs.declared.status.Status.{Status}
+use Rattle.run_outside.specs.declared.status.Status.{Status}
 use Rattle.mptcp_run.specs.Adding.{RoundAddsCut, turn_puts, TurnEnds}
-use Rattle.mptcp_run.specs.Calling.{OnlyPuts, Puts}
-use Rattle.mptcp_run.specs.Plan.{AddsAll, round_puts}
-use Rattle.mptcp_run.specs.Ports.{IsPortsFault}
+use Rattle.run_outside.specs.Calling.{OnlyPuts, Puts}
+use Rattle.run_outside.specs.Plan.{AddsAll}
+use Rattle.mptcp_run.specs.Plan.{round_puts}
+use Rattle.run_outside.specs.Ports.{IsPortsFault}
 use Rattle.mptcp_run.specs.Replaying.{UnderWay, TurnHolds, TurnFault, last_after, IsReplayFault}
 use Rattle.mptcp_run.specs.Rounds.{HoldsRound, HoldsPart, RoundCut}
 use Rattle.mptcp_run.specs.Task.{Connection}

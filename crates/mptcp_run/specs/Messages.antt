@@ -11,12 +11,12 @@ use Rattle.message_pipe.specs.LinesShown.{ShowsFirstLines}
 use Rattle.message_pipe.specs.Showing.{Counted}
 use Rattle.message_pipe.specs.Lined.{lined_content, lined_holds, PortsStand}
 use Rattle.run_words.specs.Lines.{Line, line_of}
-use Rattle.mptcp_run.specs.declared.status.Status.{Status}
-use Rattle.mptcp_run.specs.declared.status.Status.TheVariants.{Delivered, Rounds, NoPath, Aborted, Usage, Script, Load, Put, TooLong, Memory, Log}
+use Rattle.run_outside.specs.declared.status.Status.{Status}
+use Rattle.run_outside.specs.declared.status.Status.TheVariants.{Delivered, Rounds, NoPath, Aborted, Usage, Script, Load, Put, TooLong, Memory, Log}
 use Rattle.mptcp_run.specs.Answers.{IsAnswer}
 use Rattle.mptcp_run.specs.Asked.{is_run}
-use Rattle.mptcp_run.specs.Inputs.{order_of}
-use Rattle.mptcp_run.specs.Ports.{IsUntouched}
+use Rattle.run_outside.specs.Inputs.{order_of}
+use Rattle.run_outside.specs.Ports.{IsUntouched}
 use Rattle.mptcp_run.specs.Promised.{HoldsPrefixOf}
 
 abbrev Ports : Type 0

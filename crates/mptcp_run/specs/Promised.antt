@@ -12,12 +12,13 @@ use Rattle.world_laws.specs.PlainScripts.{IsPlainScript, KeepsAllPromises, IsSho
 use Rattle.world_laws.specs.RoundDone.{EndsOnTime, RoundIsDone, round_of}
 use Rattle.world_laws.specs.Worlds.{Turn, all_over}
 use Rattle.path_core.specs.Octets.{octets}
-use Rattle.mptcp_run.specs.declared.status.Status.{Status}
-use Rattle.mptcp_run.specs.declared.status.Status.TheVariants.{Delivered}
+use Rattle.run_outside.specs.declared.status.Status.{Status}
+use Rattle.run_outside.specs.declared.status.Status.TheVariants.{Delivered}
 use Rattle.mptcp_run.specs.Ends.{HoldsSomeRounds, HoldsToLine}
 use Rattle.mptcp_run.specs.Putting.{world_after, IsWhole, IsStopped}
-use Rattle.world_core.specs.declared.input.Input.{Input}
-use Rattle.mptcp_run.specs.Task.{Task, Course, rounds, told, task_of, AreWithinLimits}
+use Rattle.run_outside.specs.declared.input.Input.{Input}
+use Rattle.run_outside.specs.Inputs.{AreWithinLimits}
+use Rattle.mptcp_run.specs.Task.{Task, Course, rounds, told, task_of}
 
 -- no line of the script alters a payload, and both files are shorter than 2^31 - 2 octets
 abbrev pub IsPlainTask : Task → Type 0

@@ -1,5 +1,5 @@
 -- What a run puts: what the readers read, and its log, of the rounds that have ended.
-use Rattle.std.specs.Prelude.{◌≡◌, ℕ, zero, suc, ◌+◌, ◌≤◌, ◌⊎◌, List, [], ◌∷◌, ◌++◌, flat_map, map, length, codes, Option, Some, None}
+use Rattle.std.specs.Prelude.{◌≡◌, ℕ, suc, ◌+◌, ◌≤◌, ◌⊎◌, List, [], ◌∷◌, ◌++◌, flat_map, map, length, codes, Option, Some, None}
 use Rattle.outside_kit.specs.declared.side.Side.{Side}
 use Rattle.outside_kit.specs.declared.side.Side.TheVariants.{A, B}
 use Rattle.outside_kit.specs.declared.port.Port.{Port}
@@ -7,29 +7,28 @@ use Rattle.outside_kit.specs.declared.port.Port.TheVariants.{ReadByA, ReadByB, L
 use Rattle.outside_kit.specs.Outside.{HoldsAfter}
 use Rattle.link_script.specs.declared.script.Script.{Script}
 use Rattle.actor_desk.specs.declared.ask.Note.{Note}
-use Rattle.actor_desk.specs.Journals.{in_order}
 use Rattle.run_log.specs.declared.outcome.Outcome as log_outcome
 use Rattle.run_log.specs.declared.outcome.Outcome.TheVariants as told
 use Rattle.std.specs.Fmt.{decimal}
-use Rattle.std.specs.List.{AllByRecursion, sum}
-use Rattle.run_log.specs.Fitting.{IsLong, NoteFits}
-use Rattle.run_log.specs.Lines.{ended, opening_lines, round_lines, outcome_text, outcome_word}
+use Rattle.std.specs.List.{sum}
+use Rattle.run_log.specs.Lines.{ended, opening_lines, outcome_text, outcome_word}
 use Rattle.path_core.specs.Octets.{octets}
 use Rattle.path_core.specs.Starts.{drawn_of}
 use Rattle.world_laws.specs.declared.outcome.Outcome.{Outcome}
 use Rattle.world_laws.specs.declared.outcome.Outcome.TheVariants as outcome
 use Rattle.world_laws.specs.Fine.{lists_of}
-use Rattle.world_laws.specs.Outcomes.{outcome_of, output_of}
+use Rattle.world_laws.specs.Outcomes.{outcome_of}
 use Rattle.world_laws.specs.Serial.{IsSerial}
-use Rattle.world_laws.specs.Worlds.{Turn, world_step, end_round, world_run, greatest, AreLawful, IsLawfulTurn}
-use Rattle.world_core.specs.RoundEnds.{round_ends, last_end, round_steps, steps_by_round, read_to_end}
+use Rattle.world_laws.specs.Worlds.{Turn, world_run, AreLawful, IsLawfulTurn}
+use Rattle.world_core.specs.RoundEnds.{round_ends, steps_by_round, read_to_end}
 use Rattle.mptcp_run.specs.declared.report.Report.{Report}
 use Rattle.mptcp_run.specs.declared.report.Report.TheVariants as report
-use Rattle.mptcp_run.specs.declared.status.Status.{Status}
-use Rattle.mptcp_run.specs.declared.status.Status.TheVariants.{Delivered, Rounds, NoPath, Aborted}
-use Rattle.mptcp_run.specs.Script.{width_of}
+use Rattle.run_outside.specs.declared.status.Status.{Status}
+use Rattle.run_outside.specs.declared.status.Status.TheVariants.{Delivered, Rounds, NoPath, Aborted}
+use Rattle.run_outside.specs.Reading.{width_of}
 use Rattle.mptcp_run.specs.Task.{Connection, Task, Course, opened, AreTurnsOf}
 use Rattle.mptcp_run.specs.Task as way
+use Rattle.run_outside.specs.LogText.{log_text, RoundsFit}
 
 -- ---- the log
 
@@ -41,41 +40,6 @@ log_opening script = flat_map ended (opening_lines (width_of script) (drawn_of s
 abbrev pub opening_of : Report → Script → Option (List ℕ)
 opening_of report.Log script = Some (log_opening script)
 opening_of (report.Summary number) script = None
-
--- what the first round puts before its lines
-abbrev pub opening_at : List ℕ → ℕ → List ℕ
-opening_at opening zero = opening
-opening_at opening (suc number) = []
-
--- what the end of a round puts to a log
-abbrev pub logged_text : List ℕ → ℕ → List Note → List ℕ
-logged_text opening number steps = opening_at opening number ++ flat_map ended (round_lines number steps)
-
--- nothing, where none is kept
-abbrev pub round_text : Option (List ℕ) → ℕ → List Note → List ℕ
-round_text None number steps = []
-round_text (Some opening) number steps = logged_text opening number steps
-
--- the log of rounds, of which the first has this number
-abbrev pub log_text : Option (List ℕ) → ℕ → List (List Note) → List ℕ
-log_text opening number [] = []
-log_text opening number (steps ∷ more) = round_text opening number steps ++ log_text opening (suc number) more
-
--- ---- numbers
-
--- the numbers of logged notes are numbers of their types
-abbrev pub NotesFit : Option (List ℕ) → List Note → Type 0
-NotesFit None steps = Unit {0}
-NotesFit (Some opening) steps = AllByRecursion NoteFits steps
-
--- the number of a round is one, and so are those of its logged notes
-abbrev pub RoundFits : Option (List ℕ) → ℕ → List Note → Type 0
-RoundFits opening number steps = IsLong number × NotesFit opening steps
-
--- those of rounds, of which the first has this number
-abbrev pub RoundsFit : Option (List ℕ) → ℕ → List (List Note) → Type 0
-RoundsFit opening number [] = Unit {0}
-RoundsFit opening number (steps ∷ more) = RoundFits opening number steps × RoundsFit opening (suc number) more
 
 -- ---- how a run ends
 

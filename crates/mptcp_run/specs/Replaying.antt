@@ -6,8 +6,8 @@ use Rattle.stream_lanes.specs.Words.{Every}
 use Rattle.world_laws.specs.Fine.{IsFine, lists_of}
 use Rattle.world_laws.specs.Worlds.{Turn, is_going, end_round, greatest, IsLawfulTurn}
 use Rattle.mptcp_run.specs.declared.rounds.Run.{Run}
-use Rattle.mptcp_run.specs.declared.status.Status.{Status}
-use Rattle.mptcp_run.specs.declared.status.Status.TheVariants.{Put, Memory, Log}
+use Rattle.run_outside.specs.declared.status.Status.{Status}
+use Rattle.run_outside.specs.declared.status.Status.TheVariants.{Put, Memory, Log}
 use Rattle.world_core.specs.RoundEnds.{round_ends}
 use Rattle.mptcp_run.specs.Rounds.{Begins, HoldsRound, HoldsPart}
 use Rattle.mptcp_run.specs.Task.{Connection}

@@ -9,15 +9,16 @@ use Rattle.path_core.specs.Octets.{octets}
 use Rattle.world_laws.specs.Fine.{IsFine, lists_of}
 use Rattle.world_laws.specs.Openings.{start_of, opened_world}
 use Rattle.world_laws.specs.Outcomes.{output_of}
-use Rattle.world_core.specs.declared.input.Input.{Input}
+use Rattle.run_outside.specs.declared.input.Input.{Input}
 use Rattle.world_core.specs.Kept.{standing}
 use Rattle.world_laws.specs.Worlds.{Turn, greatest}
 use Rattle.world_core.specs.Rounds.{RoundTo}
 use Rattle.mptcp_run.specs.declared.report.Report.{Report}
 use Rattle.mptcp_run.specs.declared.rounds.Run.{Run}
-use Rattle.mptcp_run.specs.Ports.{HoldsMore, IsBetween}
+use Rattle.run_outside.specs.Ports.{HoldsMore, IsBetween}
 use Rattle.world_core.specs.RoundEnds.{round_steps, steps_by_round, last_end}
-use Rattle.mptcp_run.specs.Putting.{opening_of, round_text, log_text, RoundFits, RoundsFit}
+use Rattle.run_outside.specs.LogText.{round_text, log_text, RoundFits, RoundsFit}
+use Rattle.mptcp_run.specs.Putting.{opening_of}
 use Rattle.mptcp_run.specs.Task.{Connection, turn_of}
 
 -- a round begins: each actor knows the greatest stamp so far

@@ -1,24 +1,20 @@
 -- What a run is to do: a connection with its files, and which turns its actors take.
-use Rattle.std.specs.Prelude.{◌≡◌, ℕ, List, map, Option, Some, None, option_map, option_and_then, IfSome, IsSome, IsSomeAnd, IsOk, if◌then◌else◌, codes}
-use Rattle.std.specs.Str.{bytes_eq}
+use Rattle.std.specs.Prelude.{◌≡◌, ℕ, List, map, Option, Some, None, option_map, option_and_then}
 use Rattle.std.specs.Result.{result_ok}
 use Rattle.link_script.specs.declared.script.Script.{Script}
-use Rattle.run_words.specs.Lines.{Line, Work, run, serial, replay, bench, ◌>>=◌}
+use Rattle.run_words.specs.Lines.{Line, Work, run, serial, replay, bench}
 use Rattle.run_log.specs.declared.turn.Turn as logged_turn
 use Rattle.run_log.specs.declared.turn.Turn.TheVariants as logged
 use Rattle.path_core.specs.Octets.{octets}
-use Rattle.world_core.specs.declared.input.Input.{Input}
+use Rattle.run_outside.specs.declared.input.Input.{Input}
 use Rattle.world_laws.specs.Openings.{start_of, opened_world}
 use Rattle.world_laws.specs.Serial.{IsSerial}
 use Rattle.world_laws.specs.Worlds.{WorldState, Turn, AreLawful}
 use Rattle.mptcp_run.specs.Asked.{asked_in}
-use Rattle.world_core.specs.Script.{parted_at, script_meaning}
-use Rattle.mptcp_run.specs.Script.{script_of, log_reading}
+use Rattle.run_outside.specs.Reading.{script_of, log_reading}
 use Rattle.mptcp_run.specs.declared.report.Report.{Report}
 use Rattle.mptcp_run.specs.declared.report.Report.TheVariants.{Log}
-use Rattle.mptcp_run.specs.declared.status.Named.{Named}
-use Rattle.mptcp_run.specs.declared.status.Named.TheVariants as input
-use Rattle.mptcp_run.specs.Inputs.{order_of, content_of, IsWithinLimit}
+use Rattle.run_outside.specs.declared.status.Named.TheVariants as input
 
 -- a connection whose links carry octets
 abbrev pub Connection : Type 0
@@ -65,10 +61,6 @@ turn_of logged.Round = Turn.Round
 abbrev pub turns_in : Script → List ℕ → Option (List Turn)
 turns_in script log = option_map (map turn_of) (result_ok (log_reading script log))
 
--- how many lines of a log stand before its first turn: one less where the first line names the format without a width
-abbrev pub opening_count : List ℕ → ℕ
-opening_count log = if bytes_eq (parted_at 10 log).0 (codes "mptcp-log 1") then 2 else 3
-
 abbrev pub course_of : (List ℕ → Option (List ℕ)) → Script → Work → Option Course
 course_of content script (serial most) = Some (rounds most)
 course_of content script (replay log) = option_map told (option_and_then (turns_in script) (content log))
@@ -87,25 +79,3 @@ task_of content line = do
 -- the task of the words, where they ask for one
 abbrev pub task_in : (List ℕ → Option (List ℕ)) → List (List ℕ) → Option Task
 task_in content words = option_and_then (task_of content) (asked_in words)
-
--- ---- what of the contents is told, and within its limit
-
--- each input is within its limit
-abbrev pub AreWithinLimits : (List ℕ → Option (List ℕ)) → Line → Type 0
-AreWithinLimits content line = (named : Named) → IsWithinLimit content line named
-
--- the script is valid
-abbrev pub HasValidScript : (List ℕ → Option (List ℕ)) → Line → Type 0
-HasValidScript content line = IfSome (content line.names.script) (λ told. IsOk (script_meaning told))
-
--- a log of `replay` has its form
-abbrev pub HasValidOrder : (List ℕ → Option (List ℕ)) → Line → Type 0
-HasValidOrder content line = IfSome (script_of content line) (λ script. IfSome (content_of content line input.Order) (λ told. IsOk (log_reading script told)))
-
--- all contents are told, within their limits, and valid
-pub record IsValid (content : List ℕ → Option (List ℕ)) (line : Line) : Type 0 where
-  pub script : IsSomeAnd (content line.names.script) (λ told. IsOk (script_meaning told))
-  pub file_a : IsSome (content line.names.file_a)
-  pub file_b : IsSome (content line.names.file_b)
-  pub order : IfSome (order_of line.work) (λ log. IsSomeAnd (content log) (λ told. IfSome (script_of content line) (λ script. IsOk (log_reading script told))))
-  pub within : AreWithinLimits content line

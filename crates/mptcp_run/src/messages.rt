@@ -5,14 +5,14 @@ ghost use Rattle.outside_kit.specs.declared.port.Port.{Port};
 ghost use Rattle.run_words.specs.Lines.{shown, shown_work};
 ghost use Rattle.mptcp_run.specs.Answers.{NothingWasRun};
 ghost use Rattle.mptcp_run.specs.Asked.{asked_in, is_run};
-ghost use Rattle.mptcp_run.specs.Inputs.{order_of};
+ghost use Rattle.run_outside.specs.Inputs.{order_of};
 ghost use Rattle.mptcp_run.specs.Messages.{IsMessagesAnswer, IsRunOverFrames, ReadersShow, is_apart, is_order, messages_in, refused_or, status_for, takes_messages, with_refusals};
 
-use crate::status::Status;
 use crate::top_call::run;
 use message_pipe::{LineOutside, Naming};
 use outside_kit::{Gate, Outside, Port, PutFault};
-use run_words::{CommandLine, Mode, WordsFault, read};
+use run_outside::{Status, read_words};
+use run_words::{CommandLine, Mode};
 use std::alloc::{AllocError, Global};
 use std::marker::Brand;
 
@@ -34,9 +34,7 @@ fn is_order(mode: Mode<'_>, name: &str) -> bool
 {
     match mode {
         Mode::Replay { order } => name == order,
-        Mode::Serial { .. } => false,
-        Mode::Bench { .. } => false,
-        Mode::Run { .. } => false,
+        _ => false,
     }
 }
 
@@ -182,10 +180,9 @@ pub fn run_messages<O: Outside, G: Gate + Sync>(
         (O.holds outside) (O.holds result.1)
         (O.calls outside) (O.calls result.1) result.0 }
 {
-    match read(alloc, words) {
+    match read_words(alloc, words) {
         Ok(line) if takes_messages(&line) => run_line(alloc, words, &line, outside, gate),
         Ok(_) => (Status::Usage, outside),
-        Err(WordsFault::Usage) => (Status::Usage, outside),
-        Err(WordsFault::Memory) => (Status::Memory, outside),
+        Err(status) => (status, outside),
     }
 }

@@ -4,15 +4,14 @@ ghost use Rattle.std.specs.Prelude.{◌≡◌, ◌≢◌, ◌++◌, [], ◌∷�
 ghost use Rattle.outside_kit.specs.declared.port.Port.{Port};
 ghost use Rattle.outside_kit.specs.Outside.{HoldsAfter, HoldsPrefix};
 ghost use Rattle.outside_kit.specs.Calls as call;
-ghost use Rattle.mptcp_run.specs.Calling.{Puts};
-ghost use Rattle.mptcp_run.specs.Plan.{AddsShort};
+ghost use Rattle.run_outside.specs.Calling.{Puts};
+ghost use Rattle.run_outside.specs.Plan.{AddsShort};
 ghost use Rattle.mptcp_run.specs.Putting.{status_of, last_line_of};
 
-use crate::device::put;
 use crate::report::{Report, last_line};
 use crate::rounds::Run;
-use crate::status::Status;
 use outside_kit::{Outside, Port};
+use run_outside::{Status, put};
 use std::alloc::Global;
 use world_core::Outcome;
 

@@ -4,7 +4,7 @@ ghost use Rattle.std.specs.Prelude.{◌≡◌, ◌+◌, ◌-◌, ◌^◌, ◌≤
 ghost use Rattle.path_core.specs.Octets.{octets};
 ghost use Rattle.world_core.specs.Kept.{standing};
 ghost use Rattle.world_laws.specs.Worlds.{is_going, world_step, IsLawfulTurn, after_turn};
-ghost use Rattle.mptcp_run.specs.Calling.{OnlyPuts};
+ghost use Rattle.run_outside.specs.Calling.{OnlyPuts};
 ghost use Rattle.mptcp_run.specs.Making.{TurnMade};
 ghost use Rattle.mptcp_run.specs.Courses.{CourseMade, LogStops};
 ghost use Rattle.mptcp_run.specs.Rounds.{AtRound, all_turns};
@@ -13,9 +13,9 @@ ghost use Rattle.mptcp_run.specs.Task.{Connection, turn_of};
 ghost use Rattle.mptcp_run.specs.Task as course;
 
 use crate::rounds::Run;
-use crate::status::Status;
 use outside_kit::Outside;
 use run_log::Turn;
+use run_outside::Status;
 use std::alloc::Global;
 use world_core::{Stepped, World};
 

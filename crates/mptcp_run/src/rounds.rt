@@ -1,35 +1,26 @@
 //! A run under way: its connection, and how far it was put.
 
-ghost use Rattle.std.specs.Prelude.{◌≡◌, ◌+◌, ◌-◌, ◌^◌, ◌<◌, ◌≢◌, ◌++◌, length, map, drop, flat_map, All, IfOk, OnOk, OnErr};
-ghost use Rattle.std.specs.List.{AllByRecursion};
-ghost use Rattle.outside_kit.specs.declared.port.Port.{Port};
-ghost use Rattle.outside_kit.specs.Outside.{HoldsAfter, HoldsPrefix};
+ghost use Rattle.std.specs.Prelude.{◌≡◌, ◌+◌, ◌-◌, ◌^◌, ◌<◌, length, map, drop, IfOk, OnOk};
 ghost use Rattle.link_script.specs.Scripts.{HasRanges};
-ghost use Rattle.run_log.specs.Fitting.{NoteFits};
-ghost use Rattle.run_log.specs.Lines.{ended, step_text};
 ghost use Rattle.world_core.specs.Kept.{standing};
 ghost use Rattle.world_laws.specs.Fine.{lists_of};
 ghost use Rattle.world_laws.specs.Openings.{opened_world, start_of};
 ghost use Rattle.world_laws.specs.Outcomes.{notes_at, read_by};
-ghost use Rattle.mptcp_run.specs.Calling.{Puts};
 ghost use Rattle.mptcp_run.specs.Making.{RoundPut};
-ghost use Rattle.mptcp_run.specs.Plan.{put_of, puts_of};
-ghost use Rattle.mptcp_run.specs.Putting.{log_opening, opening_of, opening_at, logged_text, round_text, NotesFit};
+ghost use Rattle.run_outside.specs.LogText.{round_text, NotesFit};
+ghost use Rattle.mptcp_run.specs.Putting.{log_opening, opening_of};
 ghost use Rattle.world_core.specs.Weaving.{since, made_at, IsSince};
 ghost use Rattle.mptcp_run.specs.Task.{Connection};
 
-use crate::device::put;
-use crate::order::width_of;
 use crate::report::Report;
-use crate::status::Status;
-use actor_desk::Note;
 use link_script::Script;
-use outside_kit::{Outside, Port};
+use outside_kit::Outside;
 use path_core::key_of;
 use pipe_model::Text;
-use run_log::{line, opening, round_line};
+use run_log::opening;
+use run_outside::{Input, Piece, Status, logged_text, width_of};
 use std::alloc::{AllocError, Global};
-use world_core::{Input, World, made_by, read_since, woven};
+use world_core::{World, made_by, read_since, woven};
 
 /// A run under way.
 #[derive(Drop)]
@@ -42,17 +33,6 @@ pub struct Run {
     pub made: Vec<usize>,
     /// How many rounds were put.
     pub rounds: u64,
-}
-
-/// What the end of a round puts.
-#[derive(Drop)]
-pub struct Piece {
-    /// What B's reader has read in the round.
-    pub read_by_b: Text,
-    /// What A's reader has read in the round.
-    pub read_by_a: Text,
-    /// The lines of the round; no octet where no log is kept.
-    pub lines: Text,
 }
 
 /// The lines with which the log opens.
@@ -75,46 +55,6 @@ fn opening_of(alloc: Global, script: &Script, report: Report) -> Result<Option<T
         Report::Log => Ok(Some(log_opening(alloc, script)?)),
         Report::Summary { .. } => Ok(None),
     }
-}
-
-/// Puts the lines of steps, in this order, at the end of a text.
-fn put_lines(alloc: Global, text: &mut Text, notes: &[&Note]) -> Result<(), AllocError>
-    ensures text { OnOk result
-        (text.new ≡ text.old ++ flat_map ended (map (λ note. step_text note.now) notes.now)) }
-    // Their numbers are numbers of their types.
-    ensures fits { OnOk result (All (λ note. NoteFits note.now) notes.now) }
-{
-    for note in notes {
-        text.append(line(alloc, *note)?.as_bytes())?;
-    }
-    Ok(())
-}
-
-/// The lines that the round of this number begins with: those with which the log opens, if it is the first.
-fn opening_at(alloc: Global, opening: &Text, number: u64) -> Result<Text, AllocError>
-    ensures { IfOk result (λ text. text ≡ opening_at opening.now number) }
-{
-    match number {
-        0 => opening.copy(),
-        _ => Ok(Text::new(alloc)),
-    }
-}
-
-/// The text that the end of a round puts to a log.
-fn logged_text(
-    alloc: Global,
-    opening: &Text,
-    number: u64,
-    steps: &[&Note],
-) -> Result<Text, AllocError>
-    ensures text { IfOk result
-        (λ text. text ≡ logged_text opening.now number (map (λ note. note.now) steps.now)) }
-    ensures fits { OnOk result (AllByRecursion NoteFits (map (λ note. note.now) steps.now)) }
-{
-    let mut text = opening_at(alloc, opening, number)?;
-    put_lines(alloc, &mut text, steps)?;
-    text.append(round_line(alloc, number)?.as_bytes())?;
-    Ok(text)
 }
 
 impl Run {
@@ -198,50 +138,5 @@ impl Run {
         self.made = made;
         self.rounds += 1;
         Ok(())
-    }
-}
-
-/// Puts a text, if it has any octet.
-fn put_text<O: Outside>(outside: &mut O, port: Port, text: &Text) -> Result<(), Status>
-    ensures ok { OnOk result (HoldsAfter (O.holds outside.old port) (O.holds outside.new port)
-        (λ held. held ++ text.now)) }
-    ensures err { OnErr result
-        (HoldsPrefix (O.holds outside.old port) (O.holds outside.new port) text.now) }
-    ensures other_ports { (other : Port) → other ≢ port →
-        O.holds outside.new other ≡ O.holds outside.old other }
-    ensures puts { Puts (put_of port text.now)
-        (O.load_faults outside.old) (O.load_faults outside.new)
-        (O.port_faults outside.old) (O.port_faults outside.new)
-        (O.calls outside.old) (O.calls outside.new) result }
-{
-    if text.is_empty() {
-        return Ok(());
-    }
-    put(outside, port, text.as_bytes())
-}
-
-impl Piece {
-    /// Puts what the readers have read, B's first, and then the lines.
-    fn put<O: Outside>(&self, outside: &mut O) -> Result<(), Status>
-        ensures read_by_b { OnOk result (HoldsAfter (O.holds outside.old Port.ReadByB)
-            (O.holds outside.new Port.ReadByB) (λ held. held ++ self.now.read_by_b)) }
-        ensures read_by_a { OnOk result (HoldsAfter (O.holds outside.old Port.ReadByA)
-            (O.holds outside.new Port.ReadByA) (λ held. held ++ self.now.read_by_a)) }
-        ensures log { OnOk result (HoldsAfter (O.holds outside.old Port.Log)
-            (O.holds outside.new Port.Log) (λ held. held ++ self.now.lines)) }
-        ensures read_by_b_err { OnErr result (HoldsPrefix (O.holds outside.old Port.ReadByB)
-            (O.holds outside.new Port.ReadByB) self.now.read_by_b) }
-        ensures read_by_a_err { OnErr result (HoldsPrefix (O.holds outside.old Port.ReadByA)
-            (O.holds outside.new Port.ReadByA) self.now.read_by_a) }
-        ensures log_err { OnErr result (HoldsPrefix (O.holds outside.old Port.Log)
-            (O.holds outside.new Port.Log) self.now.lines) }
-        ensures puts { Puts (puts_of self.now.read_by_b self.now.read_by_a self.now.lines)
-            (O.load_faults outside.old) (O.load_faults outside.new)
-            (O.port_faults outside.old) (O.port_faults outside.new)
-            (O.calls outside.old) (O.calls outside.new) result }
-    {
-        put_text(outside, Port::ReadByB, &self.read_by_b)?;
-        put_text(outside, Port::ReadByA, &self.read_by_a)?;
-        put_text(outside, Port::Log, &self.lines)
     }
 }

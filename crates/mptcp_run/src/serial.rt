@@ -3,17 +3,17 @@
 ghost use Rattle.std.specs.Prelude.{◌≡◌, ◌+◌, ◌-◌, ◌^◌, ◌<◌, length, IfErr, OnOk};
 ghost use Rattle.path_core.specs.Octets.{octets};
 ghost use Rattle.world_core.specs.Rounds.{RoundTo};
-ghost use Rattle.mptcp_run.specs.Calling.{OnlyPuts};
+ghost use Rattle.run_outside.specs.Calling.{OnlyPuts};
 ghost use Rattle.mptcp_run.specs.Making.{RoundMade};
 ghost use Rattle.mptcp_run.specs.Courses.{CourseMade, CourseCut};
-ghost use Rattle.mptcp_run.specs.Ports.{IsPortsFault};
+ghost use Rattle.run_outside.specs.Ports.{IsPortsFault};
 ghost use Rattle.world_core.specs.RoundEnds.{round_ends};
 ghost use Rattle.mptcp_run.specs.Rounds.{AtRound};
 ghost use Rattle.mptcp_run.specs.Task as course;
 
 use crate::rounds::Run;
-use crate::status::Status;
 use outside_kit::Outside;
+use run_outside::Status;
 use std::alloc::Global;
 use world_core::round;
 

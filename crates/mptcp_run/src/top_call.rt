@@ -7,13 +7,13 @@ ghost use Rattle.outside_kit.specs.Outside.{HoldsAfter, HoldsPrefix};
 ghost use Rattle.link_script.specs.Scripts.{HasRanges};
 ghost use Rattle.run_words.specs.Lines.{serial, replay, bench, shown};
 ghost use Rattle.world_laws.specs.Outcomes.{outcome_of};
-ghost use Rattle.mptcp_run.specs.Calling.{Puts};
+ghost use Rattle.run_outside.specs.Calling.{Puts};
 ghost use Rattle.mptcp_run.specs.Answers.{IsAnswer, IsMadeAnswer, NothingWasRun};
 ghost use Rattle.mptcp_run.specs.Asked.{AsksInRange, asked_in, if_run};
 ghost use Rattle.mptcp_run.specs.Ends.{CameToEnd, IsCut, ReplayEnds};
 ghost use Rattle.mptcp_run.specs.Made.{Bench, bench_of, bench_in};
-ghost use Rattle.mptcp_run.specs.Plan.{AddsShort, binds_of};
-ghost use Rattle.mptcp_run.specs.Ports.{IsPortsFault, HoldsWithin};
+ghost use Rattle.run_outside.specs.Plan.{AddsShort, binds_of};
+ghost use Rattle.run_outside.specs.Ports.{IsPortsFault, HoldsWithin};
 ghost use Rattle.mptcp_run.specs.Promised.{ReadersHaveFiles};
 ghost use Rattle.mptcp_run.specs.Putting.{last_line_of, status_of};
 ghost use Rattle.mptcp_run.specs.Replaying.{IsReplayFault};
@@ -21,19 +21,17 @@ ghost use Rattle.mptcp_run.specs.Rounds.{IsOpened, all_turns};
 ghost use Rattle.mptcp_run.specs.Task.{task_from, task_with};
 ghost use Rattle.mptcp_run.specs.Task as course;
 
-use crate::input::{Replay, load_input, load_replay};
-use crate::made::made_input;
 use crate::outcome::{put_last, status_of};
-use crate::readers::bind_readers;
 use crate::replay::make_turns;
 use crate::report::Report;
 use crate::rounds::Run;
 use crate::serial::make_rounds;
-use crate::status::Status;
 use outside_kit::{Gate, Outside, Port};
-use run_words::{CommandLine, Mode, WordsFault, read};
+use run_outside::{
+    Input, Replay, Status, bind_readers, load_input, load_replay, made_input, read_words,
+};
+use run_words::{CommandLine, Mode};
 use std::alloc::Global;
-use world_core::Input;
 
 /// Opens the connection, and binds the readers' ports.
 fn begin<O: Outside>(
@@ -296,9 +294,8 @@ pub fn run<O: Outside, G: Gate + Sync>(
         (O.holds outside.old) (O.holds outside.new)
         (O.calls outside.old) (O.calls outside.new) result }
 {
-    match read(alloc, words) {
+    match read_words(alloc, words) {
         Ok(line) => run_line(alloc, outside, &line),
-        Err(WordsFault::Usage) => Status::Usage,
-        Err(WordsFault::Memory) => Status::Memory,
+        Err(status) => status,
     }
 }

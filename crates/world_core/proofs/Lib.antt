@@ -6,6 +6,5 @@ mod Ending
 mod Opening
 pub mod RoundsMade
 pub mod Gathering
-mod ScriptLemmas
 pub mod SinceRound
 pub mod Unaltering

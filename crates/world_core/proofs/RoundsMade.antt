@@ -1,11 +1,10 @@
--- Turns, rounds and runs of rounds, one after the other.
-use Rattle.std.proofs.Common.{◌≡◌, refl, sym, ◌∙◌, ap, subst, ℕ, zero, suc, ◌+◌, ◌<◌, ◌≤◌, Bool, true, false, List, [], ◌∷◌, length, drop, get_or}
+-- Turns, rounds and steps in a given order, one after the other.
+use Rattle.std.proofs.Common.{◌≡◌, refl, sym, ◌∙◌, ap, subst, ℕ, suc, ◌+◌, ◌<◌, ◌≤◌, true, false, List, [], ◌∷◌, length, drop, get_or}
 use Rattle.std.proofs.lemmas.List.{drop_more, at_drop_all}
 use Rattle.path_core.specs.Codec.{Codec}
-use Rattle.world_laws.specs.Outcomes.{outcome_of}
-use Rattle.world_laws.specs.Serial.{goes_on, OneOf, steps_and, round_and, spelled, after_steps, TurnTo, AreTurns, after_turns, after_round, AreRounds, SerialTo}
-use Rattle.world_laws.specs.Worlds.{WorldState, Turn, is_going, world_step, end_round, world_run, RunTo}
-use Rattle.world_core.specs.Rounds.{TurnsFrom, TurnsTo, RoundTo, after_rounds, RoundsTo}
+use Rattle.world_laws.specs.Serial.{TurnTo, AreTurns, after_turns}
+use Rattle.world_laws.specs.Worlds.{WorldState, is_going, world_step, end_round, RunTo}
+use Rattle.world_core.specs.Rounds.{TurnsFrom, TurnsTo, RoundTo}
 
 module _ {C : Type 0} (k : Codec C) where
   -- ---- a turn
@@ -36,50 +35,6 @@ module _ {C : Type 0} (k : Codec C) where
 
   pub turns_round : (w v : WorldState C) → TurnsTo k w v → RoundTo k w (end_round v)
   turns_round w v h = (h.0, h.1, ap end_round h.2)
-
-  -- ---- rounds
-
-  one_true : (b : Bool) (this that : Type 0) → b ≡ true → this → OneOf b this that
-  one_true b this that is x = subst (λ c. OneOf c this that) (sym is) x
-
-  one_false : (b : Bool) (this that : Type 0) → b ≡ false → that → OneOf b this that
-  one_false b this that is x = subst (λ c. OneOf c this that) (sym is) x
-
-  -- a round in front, whose outcome is Going
-  pub rounds_more : (most left : ℕ) (w v x : WorldState C) → most ≡ suc left → RoundTo k w v → goes_on (outcome_of v.crew) ≡ true → RoundsTo k left v x
-      → RoundsTo k most w x
-  rounds_more most left w v x e r going h = subst (λ m. RoundsTo k m w x) (sym e) (
-    r.0 ∷ h.0,
-    (r.1, one_true _ _ _ (ap (λ z. goes_on (outcome_of z.crew)) (sym r.2) ∙ going) (subst (AreRounds k left h.0) r.2 h.1)),
-    h.2 ∙ ap (after_rounds k h.0) r.2,
-  )
-
-  -- the last one
-  pub rounds_last : (most left : ℕ) (w v : WorldState C) → most ≡ suc left → RoundTo k w v → goes_on (outcome_of v.crew) ≡ false → RoundsTo k most w v
-  rounds_last most left w v e r over = subst (λ m. RoundsTo k m w v) (sym e)
-      (r.0 ∷ [], (r.1, one_false _ _ _ (ap (λ z. goes_on (outcome_of z.crew)) (sym r.2) ∙ over) refl), r.2)
-
-  pub rounds_over : (most : ℕ) (w : WorldState C) → most ≡ 0 → RoundsTo k most w w
-  rounds_over most w none = ([], subst (λ m. AreRounds k m [] w) (sym none) refl, refl)
-
-  -- ---- their turns
-
-  run_steps : (actor n : ℕ) (rest : List Turn) (w : WorldState C) → world_run k (steps_and actor n rest) w ≡ world_run k rest (after_steps k actor n w)
-  run_steps actor zero rest w = refl
-  run_steps actor (suc n) rest w = run_steps actor n rest (world_step k actor w)
-
-  run_round : (actor : ℕ) (counts : List ℕ) (rest : List Turn) (w : WorldState C)
-      → world_run k (round_and actor counts rest) w ≡ world_run k rest (end_round (after_turns k actor counts w))
-  run_round actor [] rest w = refl
-  run_round actor (n ∷ counts) rest w =
-      run_steps actor n (round_and (suc actor) counts rest) w ∙ run_round (suc actor) counts rest (after_steps k actor n w)
-
-  run_rounds : (rounds : List (List ℕ)) (w : WorldState C) → world_run k (spelled rounds) w ≡ after_rounds k rounds w
-  run_rounds [] w = refl
-  run_rounds (counts ∷ rounds) w = run_round 0 counts (spelled rounds) w ∙ run_rounds rounds (after_round k counts w)
-
-  pub serial_from : (most : ℕ) (w v : WorldState C) → RoundsTo k most w v → SerialTo k most w v
-  serial_from most w v h = (spelled h.0, (h.0, h.1, refl), h.2 ∙ sym (run_rounds h.0 w))
 
   -- ---- steps in a given order
 

@@ -25,7 +25,7 @@ use Rattle.link_script.specs.Reading.{in_place, later_line, next_line, at_line, 
 use Rattle.link_script.specs.Steps.{◌>>=◌}
 use Rattle.link_script.specs.Words.{text_lines, words_of, is_passed_over, keyword_word, keywords, keyword, fixed, side, direction, switch}
 use Rattle.world_laws.specs.PlainScripts.{alters_payload}
-use Rattle.world_core.specs.Script.{is_setting, is_event, parted_at, is_held_back, unless_held_back, script_meaning}
+use Rattle.run_outside.specs.Script.{is_setting, is_event, parted_at, is_held_back, unless_held_back, script_meaning}
 
 abbrev alters : Line → Bool
 alters (Event event) = alters_payload event

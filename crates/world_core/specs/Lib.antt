@@ -5,5 +5,4 @@ pub mod Hearing
 pub mod Rounds
 pub mod AsValues
 pub mod RoundEnds
-pub mod Script
 pub mod Weaving

@@ -1,7 +1,7 @@
 -- A round: each actor's turn in order of number, and its end.
 use Rattle.std.specs.Prelude.{ℕ, ◌≡◌, List, [], ◌∷◌, length}
 use Rattle.path_core.specs.Codec.{Codec}
-use Rattle.world_laws.specs.Serial.{AreTurns, AreRounds, after_turns, after_round}
+use Rattle.world_laws.specs.Serial.{AreTurns, after_turns, after_round}
 use Rattle.world_laws.specs.Worlds.{WorldState}
 
 module _ {C : Type 0} (k : Codec C) where
@@ -21,7 +21,3 @@ module _ {C : Type 0} (k : Codec C) where
   abbrev pub after_rounds : List (List ℕ) → WorldState C → WorldState C
   after_rounds [] w = w
   after_rounds (counts ∷ rounds) w = after_rounds rounds (after_round k counts w)
-
-  -- after at most so many rounds, of which the last one is that whose outcome isn't Going
-  abbrev pub RoundsTo : ℕ → WorldState C → WorldState C → Type 0
-  RoundsTo most w v = (rounds : List (List ℕ)) × AreRounds k most rounds w × (v ≡ after_rounds rounds w)

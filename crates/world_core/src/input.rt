@@ -17,19 +17,10 @@ use link_script::Script;
 use outside_kit::Side;
 use path_core::{Path, key_of};
 use pipe_model::Text;
+use run_outside::Input;
 use stamped_book::Pass;
 use std::alloc::{AllocError, Global};
 use stream_apps::App;
-
-/// What a connection begins with: how it is to run, and what each side writes.
-#[derive(Drop)]
-pub struct Input {
-    pub script: Script,
-    /// What A writes.
-    pub file_a: Text,
-    /// What B writes.
-    pub file_b: Text,
-}
 
 // The books before the first call.
 fn opened_books(alloc: Global, script: &Script) -> Result<Books, AllocError>

@@ -1,9 +1,9 @@
-//! Whole turns in order of number, round by round.
+//! Whole turns in order of number, and rounds of them.
 
 ghost use Rattle.std.specs.Prelude.{◌≡◌, false, true, OnOk, OnErr};
 ghost use Rattle.path_core.specs.Octets.{octets};
 ghost use Rattle.world_core.specs.Rounds.{RoundTo, TurnsTo};
-ghost use Rattle.world_laws.specs.Serial.{TurnTo, SerialTo};
+ghost use Rattle.world_laws.specs.Serial.{TurnTo};
 
 use crate::world::World;
 use std::alloc::AllocError;
@@ -50,25 +50,5 @@ pub fn round(world: &mut World) -> Result<(), AllocError>
 {
     turns(world)?;
     world.end_round();
-    Ok(())
-}
-
-/// So many rounds, or fewer where the outcome of one isn't `Going`: that is the last one.
-///
-/// # Errors
-///
-/// Where there is no memory. The world has failed then.
-pub fn serial(world: &mut World, most: u64) -> Result<(), AllocError>
-    requires { world.old.failed ≡ false }
-    ensures ok { OnOk result (SerialTo octets most world.old.state world.new.state) }
-    ensures stands { OnOk result (world.new.failed ≡ false) }
-    ensures err { OnErr result (world.new.failed ≡ true) }
-{
-    for _round in 0..most {
-        round(world)?;
-        if !world.goes_on() {
-            return Ok(());
-        }
-    }
     Ok(())
 }

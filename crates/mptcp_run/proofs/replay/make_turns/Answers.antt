@@ -1,14 +1,15 @@
 use Rattle.std.proofs.Common.{refl, sym, subst, ap, arith, map, drop, ◌+◌}
 use Rattle.std.proofs.lemmas.List.{drop_more, at_drop_all}
 use Rattle.std.proofs.lemmas.Result.{err_from_is_err_and}
-use Rattle.mptcp_run.specs.Plan.{AddsAll, puts_by_round}
+use Rattle.run_outside.specs.Plan.{AddsAll}
+use Rattle.mptcp_run.specs.Plan.{puts_by_round}
 use Rattle.world_core.specs.RoundEnds.{round_ends}
 use Rattle.mptcp_run.specs.Task.{turn_of}
 use Rattle.mptcp_run.specs.Rounds.{all_turns}
 use Rattle.mptcp_run.proofs.Turning.{under_length, under_begins}
 use Rattle.mptcp_run.proofs.TurnsMade.{put_turn, turns_over, fault_later, fault_now, rounds_few}
-use Rattle.mptcp_run.proofs.Calling.{only_none, only_then}
-use Rattle.mptcp_run.proofs.Calls.{adds_none}
+use Rattle.run_outside.proofs.Calling.{only_none, only_then}
+use Rattle.run_outside.proofs.Calls.{adds_none}
 use Rattle.mptcp_run.proofs.Courses.{turns_made, turns_stop}
 use Rattle.mptcp_run.proofs.Starting.{cause_after}
 use Rattle.mptcp_run.proofs.PutsMade.{add_turn, end_later, end_now}

@@ -1,7 +1,8 @@
 use Rattle.std.proofs.Common.{◌≡◌, ◌≤◌, ◌+◌, drop, length}
-use Rattle.mptcp_run.specs.Plan.{AddsAll, puts_by_round}
+use Rattle.run_outside.specs.Plan.{AddsAll}
+use Rattle.mptcp_run.specs.Plan.{puts_by_round}
 use Rattle.world_core.specs.RoundEnds.{round_ends}
-use Rattle.mptcp_run.specs.Calling.{OnlyPuts}
+use Rattle.run_outside.specs.Calling.{OnlyPuts}
 use Rattle.mptcp_run.specs.Replaying.{UnderWay}
 use Rattle.mptcp_run.specs.Rounds.{all_turns}
 use Rattle.mptcp_run.specs.Task.{Connection}

@@ -2,12 +2,13 @@ use Rattle.std.proofs.Common.{◌∙◌, refl, sym, ap, subst, map, length, inl,
 use Rattle.std.proofs.lemmas.Result.{on_ok_weaker, on_err_weaker}
 use Rattle.world_laws.specs.Fine.{lists_of}
 use Rattle.world_core.specs.Kept.{Kept}
-use Rattle.mptcp_run.specs.Plan.{AddsAll, round_puts}
+use Rattle.run_outside.specs.Plan.{AddsAll}
+use Rattle.mptcp_run.specs.Plan.{round_puts}
 use Rattle.mptcp_run.specs.Rounds.{Begins, HoldsRound}
 use Rattle.mptcp_run.proofs.AllTurns.{round_begins, round_since, since_length}
-use Rattle.mptcp_run.proofs.Calling.{only_none}
-use Rattle.mptcp_run.proofs.Calls.{adds_none}
-use Rattle.mptcp_run.proofs.PortsLemmas.{IfErr-map}
+use Rattle.run_outside.proofs.Calling.{only_none}
+use Rattle.run_outside.proofs.Calls.{adds_none}
+use Rattle.run_outside.proofs.PortsLemmas.{IfErr-map}
 use Rattle.mptcp_run.proofs.serial.make_round.Goals as goal
 
 pub put_round-requires-clause-made : goal.put_round-requires-clause-made

@@ -1,7 +1,7 @@
 use Rattle.std.proofs.Common.{◌∙◌, sym, ap, ◌+◌, ◌-◌, arith}
 use Rattle.std.proofs.lemmas.Result.{err_from_is_err_and}
-use Rattle.mptcp_run.proofs.Calling.{only_then}
-use Rattle.mptcp_run.proofs.PortsLemmas.{fault_after}
+use Rattle.run_outside.proofs.Calling.{only_then}
+use Rattle.run_outside.proofs.PortsLemmas.{fault_after}
 use Rattle.mptcp_run.proofs.Courses.{rounds_made, rounds_cut}
 use Rattle.mptcp_run.proofs.RoundsMade.{put_more, put_last, cut_later, cut_now, rounds_over}
 use Rattle.mptcp_run.proofs.PutsMade.{add_more, add_last, add_cut_later, add_cut_now, adds_over}

@@ -1,5 +1,5 @@
 use Rattle.std.proofs.Common.{◌≡◌, ◌≤◌, ◌-◌}
-use Rattle.mptcp_run.specs.Calling.{OnlyPuts}
+use Rattle.run_outside.specs.Calling.{OnlyPuts}
 use Rattle.mptcp_run.specs.Rounds.{AtRound}
 use Rattle.mptcp_run.proofs.serial.make_rounds.Given as goal
 use Rattle.mptcp_run.proofs.Folding.{RoundsAdd, RoundsAddCut, RoundsPut, RoundsCut}

@@ -10,7 +10,7 @@ use Rattle.mptcp_run.specs.Task.{Task, task_from, opened}
 use Rattle.mptcp_run.specs.Task as course
 use Rattle.mptcp_run.proofs.Courses.{no_turn}
 use Rattle.mptcp_run.proofs.Performing.{binds_short}
-use Rattle.mptcp_run.proofs.PortsLemmas.{IfOk-and, IfErr-map, IfErr-three, fault_after, b_isnt_log, a_isnt_log}
+use Rattle.run_outside.proofs.PortsLemmas.{IfOk-and, IfErr-map, IfErr-three, fault_after, b_isnt_log, a_isnt_log}
 use Rattle.mptcp_run.proofs.Starting.{opened_at, replay_done, replay_stops, replay_line_short, replay_is_cut, replay_cause, cause_after}
 use Rattle.mptcp_run.proofs.top_call.perform_replay.Goals as goal
 

@@ -6,7 +6,7 @@ use Rattle.mptcp_run.specs.Task.{Task, task_with, opened}
 use Rattle.mptcp_run.specs.Task as course
 use Rattle.mptcp_run.proofs.Courses.{no_round}
 use Rattle.mptcp_run.proofs.Performing.{binds_short}
-use Rattle.mptcp_run.proofs.PortsLemmas.{IfOk-and, IfErr-both, IfErr-map, fault_after, b_isnt_log, a_isnt_log}
+use Rattle.run_outside.proofs.PortsLemmas.{IfOk-and, IfErr-both, IfErr-map, fault_after, b_isnt_log, a_isnt_log}
 use Rattle.mptcp_run.proofs.Starting.{opened_at, serial_done, serial_short, serial_line_short}
 use Rattle.mptcp_run.proofs.top_call.perform_serial.Goals as goal
 

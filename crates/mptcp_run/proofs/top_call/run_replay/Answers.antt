@@ -4,11 +4,12 @@ use Rattle.mptcp_run.specs.Rounds.{all_turns}
 use Rattle.mptcp_run.specs.Task.{Task, task_from}
 use Rattle.mptcp_run.specs.Task as course
 use Rattle.mptcp_run.proofs.Answering.{replay_task, script_valid, replay_order, end_from, replay_from, replay_input_answer, end_answer, replay_answer}
+use Rattle.mptcp_run.proofs.PlainTasks.{as_turns, plain_input}
 use Rattle.mptcp_run.proofs.Starting.{cause_after}
 use Rattle.mptcp_run.proofs.top_call.run_replay.Goals as goal
 
 pub perform_replay-requires-clause-ranges : goal.perform_replay-requires-clause-ranges
-perform_replay-requires-clause-ranges g c = c.in-Ok.ensures.plain.ranges
+perform_replay-requires-clause-ranges g c = c.in-Ok.ensures.loaded.ranges
 
 pub returns-in-Err : goal.returns-in-Err
 returns-in-Err g c =
@@ -25,9 +26,9 @@ returns-in-Ok-perform_replay g c =
     end_answer content line (g.O.Outside.load_faults c.args.outside.now) (g.O.Outside.load_faults c.perform_replay.new.outside)
     (g.O.Outside.port_faults c.args.outside.now) (g.O.Outside.port_faults c.perform_replay.new.outside) (g.O.Outside.holds c.args.outside.now) (g.O.Outside.holds c.perform_replay.new.outside)
     (g.O.Outside.calls c.args.outside.now) (g.O.Outside.calls c.perform_replay.new.outside) task
-    (replay_task content line c.args.order.now replay.turns.items replay.input c.requires read.script read.file_a read.file_b read.turns) read.plain read.file_a read.file_b
+    (replay_task content line c.args.order.now replay.turns.items replay.input c.requires read.script read.file_a read.file_b read.turns) (plain_input _ read.loaded) read.file_a read.file_b
     read.within (script_valid content line replay.input.script read.script) (replay_order content line c.args.order.now replay.turns.items replay.input.script c.requires read.script read.turns)
-    refl read.ends read.ends c.in-Ok-perform_replay.status
+    refl (as_turns _ read.ends) (as_turns _ read.ends) c.in-Ok-perform_replay.status
     (end_from (g.O.Outside.holds c.args.outside.now) (g.O.Outside.holds c.load_replay.new.outside) (g.O.Outside.holds c.perform_replay.new.outside) (λ p. (read.loads.untouched p).0) line task
     (g.O.Outside.calls c.args.outside.now) (g.O.Outside.calls c.load_replay.new.outside) (g.O.Outside.calls c.perform_replay.new.outside) read.loads.made
     c.in-Ok-perform_replay.status c.in-Ok-perform_replay.ensures.ended)
@@ -39,7 +40,7 @@ returns g c =
     replay_answer content line (g.O.Outside.load_faults c.args.outside.now) (g.O.Outside.load_faults c.perform_replay.new.outside)
     (g.O.Outside.port_faults c.args.outside.now) (g.O.Outside.port_faults c.perform_replay.new.outside) (g.O.Outside.holds c.args.outside.now) (g.O.Outside.holds c.perform_replay.new.outside)
     (g.O.Outside.calls c.args.outside.now) (g.O.Outside.calls c.perform_replay.new.outside) task
-    (replay_task content line c.args.order.now replay.turns.items replay.input c.requires read.script read.file_a read.file_b read.turns) read.plain read.file_a read.file_b
+    (replay_task content line c.args.order.now replay.turns.items replay.input c.requires read.script read.file_a read.file_b read.turns) (plain_input _ read.loaded) read.file_a read.file_b
     read.within (script_valid content line replay.input.script read.script) (replay_order content line c.args.order.now replay.turns.items replay.input.script c.requires read.script read.turns)
     c.args.order.now replay.lines c.requires read.lines c.in-Err-perform_replay.status
     (cause_after (g.O.Outside.port_faults c.args.outside.now) (g.O.Outside.port_faults c.load_replay.new.outside) (g.O.Outside.port_faults c.perform_replay.new.outside)

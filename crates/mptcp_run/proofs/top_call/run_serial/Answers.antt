@@ -1,16 +1,17 @@
 use Rattle.std.proofs.Common.{refl, subst, arith}
 use Rattle.run_words.specs.Lines.{Work, shown}
 use Rattle.mptcp_run.specs.Asked.{AsksInRange}
-use Rattle.mptcp_run.specs.Plan.{AddsAll, first_loads}
+use Rattle.run_outside.specs.Plan.{AddsAll, first_loads}
 use Rattle.mptcp_run.specs.Task.{Task, task_from}
 use Rattle.mptcp_run.specs.Task as course
+use Rattle.mptcp_run.proofs.PlainTasks.{plain_input}
 use Rattle.mptcp_run.proofs.Answering.{serial_task, serial_within, script_valid, serial_order, end_from, cut_from, input_answer, end_answer, cut_answer}
-use Rattle.mptcp_run.proofs.Loading.{serial_loads}
-use Rattle.mptcp_run.proofs.PortsLemmas.{fault_after}
+use Rattle.run_outside.proofs.Loading.{serial_loads}
+use Rattle.run_outside.proofs.PortsLemmas.{fault_after}
 use Rattle.mptcp_run.proofs.top_call.run_serial.Goals as goal
 
 pub perform_serial-requires : goal.perform_serial-requires
-perform_serial-requires g c = c.in-Ok.ensures.plain.ranges
+perform_serial-requires g c = c.in-Ok.ensures.loaded.ranges
 
 pub returns-in-Err : goal.returns-in-Err
 returns-in-Err g c =
@@ -27,7 +28,7 @@ returns-in-Ok-perform_serial g c =
     end_answer content line (g.O.Outside.load_faults c.args.outside.now) (g.O.Outside.load_faults c.perform_serial.new.outside)
     (g.O.Outside.port_faults c.args.outside.now) (g.O.Outside.port_faults c.perform_serial.new.outside) (g.O.Outside.holds c.args.outside.now) (g.O.Outside.holds c.perform_serial.new.outside)
     (g.O.Outside.calls c.args.outside.now) (g.O.Outside.calls c.perform_serial.new.outside) task
-    (serial_task content line c.args.rounds c.in-Ok.input c.requires.asked read.script read.file_a read.file_b) read.plain read.file_a read.file_b
+    (serial_task content line c.args.rounds c.in-Ok.input c.requires.asked read.script read.file_a read.file_b) (plain_input _ read.loaded) read.file_a read.file_b
     (serial_within content line c.args.rounds c.requires.asked read.within) (script_valid content line c.in-Ok.input.script read.script) (serial_order content line c.args.rounds c.requires.asked)
     refl (subst (λ (w : Work). AsksInRange w) c.requires.asked c.requires.in_range) tt c.in-Ok-perform_serial.status
     (end_from (g.O.Outside.holds c.args.outside.now) (g.O.Outside.holds c.load_input.new.outside) (g.O.Outside.holds c.perform_serial.new.outside) (λ p. (read.loads.untouched p).0) line task
@@ -42,7 +43,7 @@ returns g c =
     cut_answer content line (g.O.Outside.load_faults c.args.outside.now) (g.O.Outside.load_faults c.perform_serial.new.outside)
     (g.O.Outside.port_faults c.args.outside.now) (g.O.Outside.port_faults c.perform_serial.new.outside) (g.O.Outside.holds c.args.outside.now) (g.O.Outside.holds c.perform_serial.new.outside)
     (g.O.Outside.calls c.args.outside.now) (g.O.Outside.calls c.perform_serial.new.outside) task
-    (serial_task content line c.args.rounds c.in-Ok.input c.requires.asked read.script read.file_a read.file_b) read.plain read.file_a read.file_b
+    (serial_task content line c.args.rounds c.in-Ok.input c.requires.asked read.script read.file_a read.file_b) (plain_input _ read.loaded) read.file_a read.file_b
     (serial_within content line c.args.rounds c.requires.asked read.within) (script_valid content line c.in-Ok.input.script read.script) (serial_order content line c.args.rounds c.requires.asked)
     c.in-Err-perform_serial.status
     (fault_after (g.O.Outside.port_faults c.args.outside.now) (g.O.Outside.port_faults c.load_input.new.outside) (g.O.Outside.port_faults c.perform_serial.new.outside)

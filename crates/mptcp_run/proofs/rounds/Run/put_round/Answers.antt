@@ -2,7 +2,7 @@ use Rattle.std.proofs.Common.{refl, arith}
 use Rattle.std.proofs.lemmas.Result.{err_from_is_err_and}
 use Rattle.mptcp_run.specs.Plan.{round_puts}
 use Rattle.mptcp_run.proofs.RoundSteps.{round_held, round_part, round_untouched}
-use Rattle.mptcp_run.proofs.Calling.{puts_none, puts_by, puts_made, puts_ended}
+use Rattle.run_outside.proofs.Calling.{puts_none, puts_by, puts_made, puts_ended}
 use Rattle.mptcp_run.proofs.PutsMade.{puts_are}
 use Rattle.mptcp_run.proofs.rounds.Run.put_round.Goals as goal
 

@@ -1,0 +1,8 @@
+pub mod PortsLemmas
+pub mod Calls
+pub mod Calling
+pub mod Loading
+mod ScriptLemmas
+pub mod LogEnds
+pub mod Drawing
+mod GatheredLines

@@ -1,0 +1,12 @@
+pub mod Calling
+pub mod Causes
+pub mod Inputs
+pub mod Loaded
+pub mod Loading
+pub mod LogText
+pub mod MadeInput
+pub mod Plan
+pub mod Ports
+pub mod Reading
+pub mod Script
+pub mod Status

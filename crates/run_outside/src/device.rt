@@ -1,0 +1,98 @@
+//! The calls of an outside, each fault of which is the status that names it.
+
+ghost use Rattle.std.specs.Prelude.{◌≡◌, ◌≢◌, ◌≤◌, ◌<◌, ◌++◌, ℕ, List, [], ◌∷◌, IfOk, IfErr, IfSome, OnOk, OnErr, vec_len};
+ghost use Rattle.outside_kit.specs.Outside.{HoldsAfter, HoldsPrefix};
+ghost use Rattle.outside_kit.specs.declared.port.Port.{Port};
+ghost use Rattle.outside_kit.specs.Calls as call;
+ghost use Rattle.run_outside.specs.Calling.{Loads, Puts};
+ghost use Rattle.run_outside.specs.Causes.{limit_of, IsLoadFault};
+ghost use Rattle.run_outside.specs.Plan.{failed, Adds, AddsShort};
+
+use crate::status::{Named, Status};
+use outside_kit::{LoadFault, Outside, Port, PutFault};
+use std::alloc::Global;
+
+impl Named {
+    /// How many octets the input may have.
+    fn limit(self) -> u64
+        ensures { result ≡ limit_of self }
+    {
+        match self {
+            Named::Script => 65_536,
+            Named::FileA => 16_777_216,
+            Named::FileB => 16_777_216,
+            Named::Order => 268_435_456,
+        }
+    }
+}
+
+/// Loads an input of this name.
+pub fn load<O: Outside>(
+    alloc: Global,
+    outside: &mut O,
+    input: Named,
+    name: &str,
+) -> Result<Vec<u8>, Status>
+    ensures whole { IfOk result
+        (λ bytes. IfSome (O.content outside.old name.now) (λ told. bytes.items ≡ told)) }
+    ensures within { IfOk result (λ bytes. vec_len bytes ≤ limit_of input) }
+    ensures fault { IfErr result (IsLoadFault input (O.content outside.old name.now)
+        (O.load_faults outside.old) (O.load_faults outside.new)) }
+    ensures same_contents { (other : List ℕ) →
+        O.content outside.new other ≡ O.content outside.old other }
+    ensures calls_cut { OnErr result
+        (Adds (failed (call.Load name.now) ∷ []) (O.calls outside.old) (O.calls outside.new)) }
+    ensures loads { Loads (call.Load name.now ∷ [])
+        (O.load_faults outside.old) (O.load_faults outside.new)
+        (O.port_faults outside.old) (O.port_faults outside.new)
+        (O.holds outside.old) (O.holds outside.new)
+        (O.calls outside.old) (O.calls outside.new) result }
+{
+    match outside.load(alloc, name, input.limit()) {
+        Ok(bytes) => Ok(bytes),
+        Err(LoadFault::Failed) => Err(Status::Load { input }),
+        Err(LoadFault::TooLong) => Err(Status::TooLong { input }),
+        Err(LoadFault::Memory) => Err(Status::Memory),
+    }
+}
+
+/// Keeps what is put to the port under this name, from nothing on.
+pub fn bind<O: Outside>(outside: &mut O, port: Port, name: &str) -> Result<(), Status>
+    ensures empty { OnOk result
+        (HoldsAfter (O.holds outside.old port) (O.holds outside.new port) (λ _. [])) }
+    ensures err { OnErr result (O.holds outside.new port ≡ O.holds outside.old port) }
+    ensures other_ports { (other : Port) → other ≢ port →
+        O.holds outside.new other ≡ O.holds outside.old other }
+    ensures puts { Puts (call.Bind port name.now ∷ [])
+        (O.load_faults outside.old) (O.load_faults outside.new)
+        (O.port_faults outside.old) (O.port_faults outside.new)
+        (O.calls outside.old) (O.calls outside.new) result }
+{
+    match outside.bind(port, name) {
+        Ok(()) => Ok(()),
+        Err(PutFault::Failed) => Err(Status::Put { port }),
+        Err(PutFault::Memory) => Err(Status::Memory),
+    }
+}
+
+/// Puts a piece to the port.
+pub fn put<O: Outside>(outside: &mut O, port: Port, piece: &[u8]) -> Result<(), Status>
+    ensures ok { OnOk result (HoldsAfter (O.holds outside.old port) (O.holds outside.new port)
+        (λ held. held ++ piece.now)) }
+    ensures err { OnErr result
+        (HoldsPrefix (O.holds outside.old port) (O.holds outside.new port) piece.now) }
+    ensures other_ports { (other : Port) → other ≢ port →
+        O.holds outside.new other ≡ O.holds outside.old other }
+    ensures short { IfErr result (λ status. AddsShort (call.Put port piece.now ∷ []) status
+        (O.calls outside.old) (O.calls outside.new)) }
+    ensures puts { Puts (call.Put port piece.now ∷ [])
+        (O.load_faults outside.old) (O.load_faults outside.new)
+        (O.port_faults outside.old) (O.port_faults outside.new)
+        (O.calls outside.old) (O.calls outside.new) result }
+{
+    match outside.put(port, piece) {
+        Ok(()) => Ok(()),
+        Err(PutFault::Failed) => Err(Status::Put { port }),
+        Err(PutFault::Memory) => Err(Status::Memory),
+    }
+}

@@ -1,0 +1,227 @@
+//! What a run reads before it begins.
+
+ghost use Rattle.std.specs.Prelude.{◌≡◌, ◌≤◌, ℕ, length, List, [], ◌∷◌, Ok, IfOk, IfErr, IfSome, OnOk, OnErr, vec_len};
+ghost use Rattle.link_script.specs.Scripts.{HasRanges};
+ghost use Rattle.run_words.specs.Lines.{replay, shown};
+ghost use Rattle.run_outside.specs.Calling.{Loads};
+ghost use Rattle.run_outside.specs.declared.status.Named.TheVariants as named;
+ghost use Rattle.run_outside.specs.declared.status.Status.TheVariants.{Memory};
+ghost use Rattle.run_outside.specs.Causes.{IsLoadFault, IsScriptFault};
+ghost use Rattle.run_outside.specs.Inputs.{IsWithinLimit, IsLoadsFault, AreFirstWithinLimits, IsInputFault, IsReplayInputFault, AreWithinLimits, opening_count};
+ghost use Rattle.outside_kit.specs.Calls as call;
+ghost use Rattle.run_outside.specs.Plan.{failed, Adds, first_loads, loads_of};
+ghost use Rattle.run_outside.specs.Loading.{LoadsAdd, InputAdds};
+ghost use Rattle.run_outside.specs.Loaded.{IsLoaded};
+ghost use Rattle.run_outside.specs.Script.{script_meaning};
+ghost use Rattle.run_outside.specs.Reading.{log_reading, EndsInRound};
+
+use crate::device::load;
+use crate::order::{opening_count, read_order};
+use crate::script::read_script;
+use crate::status::{Named, Status};
+use link_script::{Script, ScriptFault};
+use outside_kit::Outside;
+use pipe_model::Text;
+use run_log::Turn;
+use run_words::CommandLine;
+use std::alloc::Global;
+
+/// What a connection begins with: how it is to run, and what each side writes.
+#[derive(Drop)]
+pub struct Input {
+    pub script: Script,
+    /// What A writes.
+    pub file_a: Text,
+    /// What B writes.
+    pub file_b: Text,
+}
+
+/// The contents that every run loads, each within its limit.
+#[derive(Debug, Drop)]
+pub struct Contents {
+    /// The text of the script: at most 65,536 octets.
+    pub script: Vec<u8>,
+    /// What A sends: at most 16,777,216 octets.
+    pub file_a: Vec<u8>,
+    /// What B sends: at most 16,777,216 octets.
+    pub file_b: Vec<u8>,
+}
+
+/// Loads the script, FILE_A and FILE_B, in this order.
+pub fn load_contents<O: Outside>(
+    alloc: Global,
+    outside: &mut O,
+    line: &CommandLine<'_>,
+) -> Result<Contents, Status>
+    ensures script { IfOk result (λ contents. IfSome (O.content outside.old line.now.script.now)
+        (λ told. contents.script.items ≡ told)) }
+    ensures file_a { IfOk result (λ contents. IfSome (O.content outside.old line.now.file_a.now)
+        (λ told. contents.file_a.items ≡ told)) }
+    ensures file_b { IfOk result (λ contents. IfSome (O.content outside.old line.now.file_b.now)
+        (λ told. contents.file_b.items ≡ told)) }
+    ensures script_within { IfOk result (λ contents. vec_len contents.script ≤ 65536) }
+    ensures file_a_within { IfOk result (λ contents. length contents.file_a.items ≤ 16777216) }
+    ensures file_b_within { IfOk result (λ contents. length contents.file_b.items ≤ 16777216) }
+    ensures within { OnOk result (AreFirstWithinLimits (O.content outside.old) (shown line.now)) }
+    ensures fault { IfErr result (IsLoadsFault (O.content outside.old) (shown line.now)
+        (O.load_faults outside.old) (O.load_faults outside.new)) }
+    ensures same_contents { (other : List ℕ) →
+        O.content outside.new other ≡ O.content outside.old other }
+    ensures calls_cut { IfErr result (LoadsAdd (shown line.now) (first_loads (shown line.now))
+        (O.calls outside.old) (O.calls outside.new)) }
+    ensures loads { Loads (first_loads (shown line.now))
+        (O.load_faults outside.old) (O.load_faults outside.new)
+        (O.port_faults outside.old) (O.port_faults outside.new)
+        (O.holds outside.old) (O.holds outside.new)
+        (O.calls outside.old) (O.calls outside.new) result }
+{
+    let script = load(alloc, outside, Named::Script, line.script)?;
+    let file_a = load(alloc, outside, Named::FileA, line.file_a)?;
+    let file_b = load(alloc, outside, Named::FileB, line.file_b)?;
+    Ok(Contents {
+        script,
+        file_a,
+        file_b,
+    })
+}
+
+/// Loads the log whose steps are made again, once the other contents are loaded.
+pub fn load_order<O: Outside>(
+    alloc: Global,
+    outside: &mut O,
+    line: &CommandLine<'_>,
+    order: &str,
+) -> Result<Vec<u8>, Status>
+    requires named { (shown line.now).work ≡ replay order.now }
+    requires before { AreFirstWithinLimits (O.content outside.old) (shown line.now) }
+    ensures whole { IfOk result
+        (λ log. IfSome (O.content outside.old order.now) (λ told. log.items ≡ told)) }
+    ensures within { OnOk result
+        (IsWithinLimit (O.content outside.old) (shown line.now) named.Order) }
+    ensures fault { IfErr result (IsLoadsFault (O.content outside.old) (shown line.now)
+        (O.load_faults outside.old) (O.load_faults outside.new)) }
+    ensures named { IfErr result (IsLoadFault named.Order (O.content outside.old order.now)
+        (O.load_faults outside.old) (O.load_faults outside.new)) }
+    ensures calls_cut { OnErr result
+        (Adds (failed (call.Load order.now) ∷ []) (O.calls outside.old) (O.calls outside.new)) }
+    ensures loads { Loads (call.Load order.now ∷ [])
+        (O.load_faults outside.old) (O.load_faults outside.new)
+        (O.port_faults outside.old) (O.port_faults outside.new)
+        (O.holds outside.old) (O.holds outside.new)
+        (O.calls outside.old) (O.calls outside.new) result }
+{
+    load(alloc, outside, Named::Order, order)
+}
+
+/// A file as a text whose parts share its octets. Copies none.
+fn shared(file: Vec<u8>) -> Result<Text, Status>
+    ensures file { IfOk result (λ text. text ≡ file.items) }
+    ensures fault { IfErr result (λ status. status ≡ Memory) }
+{
+    match Text::from(file).share() {
+        Ok(text) => Ok(text),
+        Err(_) => Err(Status::Memory),
+    }
+}
+
+/// What the contents say: the script is read, and the files are shared.
+pub fn input_of(alloc: Global, contents: Contents) -> Result<Input, Status>
+    requires { vec_len contents.script ≤ 65536 }
+    ensures script { IfOk result (λ input. script_meaning contents.script.items ≡ Ok input.script) }
+    ensures file_a { IfOk result (λ input. input.file_a ≡ contents.file_a.items) }
+    ensures file_b { IfOk result (λ input. input.file_b ≡ contents.file_b.items) }
+    ensures ranges { IfOk result (λ input. HasRanges input.script) }
+    ensures fault { IfErr result (IsScriptFault contents.script.items) }
+{
+    match read_script(alloc, &contents.script) {
+        Ok(script) => Ok(Input {
+            script,
+            file_a: shared(contents.file_a)?,
+            file_b: shared(contents.file_b)?,
+        }),
+        Err(ScriptFault::Line { line, kind }) => Err(Status::Script { line, kind }),
+        Err(ScriptFault::Memory) => Err(Status::Memory),
+    }
+}
+
+/// What a run of whole turns reads: the script and both files.
+pub fn load_input<O: Outside>(
+    alloc: Global,
+    outside: &mut O,
+    line: &CommandLine<'_>,
+) -> Result<Input, Status>
+    ensures script { IfOk result (λ input. IfSome (O.content outside.old line.now.script.now)
+        (λ told. script_meaning told ≡ Ok input.script)) }
+    ensures file_a { IfOk result (λ input. IfSome (O.content outside.old line.now.file_a.now)
+        (λ told. input.file_a ≡ told)) }
+    ensures file_b { IfOk result (λ input. IfSome (O.content outside.old line.now.file_b.now)
+        (λ told. input.file_b ≡ told)) }
+    ensures loaded { IfOk result IsLoaded }
+    ensures within { OnOk result (AreFirstWithinLimits (O.content outside.old) (shown line.now)) }
+    ensures fault { IfErr result (IsInputFault (O.content outside.old) (shown line.now)
+        (O.load_faults outside.old) (O.load_faults outside.new)) }
+    ensures calls_cut { IfErr result (InputAdds (shown line.now) (first_loads (shown line.now))
+        (O.calls outside.old) (O.calls outside.new)) }
+    ensures loads { Loads (first_loads (shown line.now))
+        (O.load_faults outside.old) (O.load_faults outside.new)
+        (O.port_faults outside.old) (O.port_faults outside.new)
+        (O.holds outside.old) (O.holds outside.new)
+        (O.calls outside.old) (O.calls outside.new) result }
+{
+    let contents = load_contents(alloc, outside, line)?;
+    input_of(alloc, contents)
+}
+
+/// What a run of the steps of a log reads.
+#[derive(Drop)]
+pub struct Replay {
+    pub input: Input,
+    /// The turns of the log.
+    pub turns: Vec<Turn>,
+    /// How many lines of the log stand before its first turn.
+    pub lines: u64,
+}
+
+/// What a run of the steps of a log reads: the script, both files and the log.
+pub fn load_replay<O: Outside>(
+    alloc: Global,
+    outside: &mut O,
+    line: &CommandLine<'_>,
+    order: &str,
+) -> Result<Replay, Status>
+    requires named { (shown line.now).work ≡ replay order.now }
+    ensures script { IfOk result (λ replay. IfSome (O.content outside.old line.now.script.now)
+        (λ told. script_meaning told ≡ Ok replay.input.script)) }
+    ensures file_a { IfOk result (λ replay. IfSome (O.content outside.old line.now.file_a.now)
+        (λ told. replay.input.file_a ≡ told)) }
+    ensures file_b { IfOk result (λ replay. IfSome (O.content outside.old line.now.file_b.now)
+        (λ told. replay.input.file_b ≡ told)) }
+    ensures turns { IfOk result (λ replay. IfSome (O.content outside.old order.now)
+        (λ told. log_reading replay.input.script told ≡ Ok replay.turns.items)) }
+    ensures lines { IfOk result (λ replay. IfSome (O.content outside.old order.now)
+        (λ told. replay.lines ≡ opening_count told)) }
+    ensures few { IfOk result (λ replay. replay.lines ≤ 3) }
+    // The last turn of a log is the end of a round.
+    ensures ends { IfOk result (λ replay. EndsInRound replay.turns.items) }
+    ensures loaded { IfOk result (λ replay. IsLoaded replay.input) }
+    ensures within { OnOk result (AreWithinLimits (O.content outside.old) (shown line.now)) }
+    ensures fault { IfErr result (IsReplayInputFault (O.content outside.old) (shown line.now)
+        (O.load_faults outside.old) (O.load_faults outside.new)) }
+    ensures calls_cut { IfErr result (InputAdds (shown line.now) (loads_of (shown line.now))
+        (O.calls outside.old) (O.calls outside.new)) }
+    ensures loads { Loads (loads_of (shown line.now))
+        (O.load_faults outside.old) (O.load_faults outside.new)
+        (O.port_faults outside.old) (O.port_faults outside.new)
+        (O.holds outside.old) (O.holds outside.new)
+        (O.calls outside.old) (O.calls outside.new) result }
+{
+    let contents = load_contents(alloc, outside, line)?;
+    let log = load_order(alloc, outside, line, order)?;
+    let input = input_of(alloc, contents)?;
+    let turns = read_order(alloc, &input.script, &log)?;
+    Ok(Replay {
+        input,
+        turns,
+        lines: opening_count(&log),
+    })
+}
