@@ -6,15 +6,11 @@ use Rattle.std.proofs.lemmas.Grind.{flat_map-append}
 use Rattle.std.proofs.lemmas.List.{append-nil, append_assoc}
 use Rattle.std.specs.Borrow.{Bor}
 use Rattle.actor_desk.specs.declared.ask.Note.{Note}
+use Rattle.actor_desk.proofs.Inserting.{lent}
 use Rattle.run_log.specs.Fitting.{NoteFits}
 use Rattle.run_log.specs.Lines.{ended, step_text}
 use Rattle.run_log.specs.Lines as lines
 use Rattle.run_outside.specs.LogText.{opening_at, logged_text}
-
--- ---- steps that are lent
-
-abbrev pub lent : List (Bor Note) → List Note
-lent notes = map (λ note. note.now) notes
 
 same_lines : (steps : List (Bor Note)) → map (λ note. step_text note.now) steps ≡ map step_text (lent steps)
 same_lines [] = refl
