@@ -1,5 +1,5 @@
 -- The options of a path are those of the handshakes and of the ends.
-use Rattle.std.proofs.Common.{◌≡◌, ◌≢◌, refl, ℕ, Bool, true, false, Some, None, [], ◌∷◌, if◌then◌else◌, is_some, ◌||◌}
+use Rattle.std.proofs.Common.{◌≡◌, ◌≢◌, refl, sym, ap, subst, ℕ, ◌×◌, Option, Bool, true, false, Some, None, [], ◌∷◌, if◌then◌else◌, is_some, ◌||◌, ◌==◌, arith}
 use Rattle.control_book.specs.Control.{Control}
 use Rattle.control_book.specs.Replies.{reply_to}
 use Rattle.control_book.specs.declared.call.ControlCall.TheVariants as control_calls
@@ -40,24 +40,34 @@ checksums c = record { syn = same c.spelling.checksums; syn_ack = λ own_key. sa
     same true = refl
     same false = refl
 
+same_is : (a b : ℕ) → a ≡ b → (a == b) ≡ true
+same_is a b e = grind (arith, e)
+
+other_is : (a b : ℕ) → a ≢ b → (a == b) ≡ false
+other_is a b differs = grind (arith, differs)
+
 -- the book that has this own key notes both keys, and no others
 noted : (own peer : ℕ) (book : Control) → own ≡ book.keys.own → Some (reply_to book (control_calls.Keys own peer)) ≡ Some control_replies.Noted
-noted own peer book e = rw (e, eq_refl book.keys.own) refl
+noted own peer book e = rw (same_is own book.keys.own e) refl
 
 refused : (own peer : ℕ) (book : Control) → own ≢ book.keys.own
     → Some (reply_to book (control_calls.Keys own peer)) ≡ Some (control_replies.KeysDiffer book.keys.own)
-refused own peer book differs = rw (eq_false own book.keys.own differs) refl
+refused own peer book differs = rw (other_is own book.keys.own differs) refl
+
+second_of : Option (ℕ × ℕ) → ℕ
+second_of None = 0
+second_of (Some pair) = pair.1
 
 confirmed : (keys : CapableKeys) (book : Control) → KeysAreConfirmed keys book
 confirmed NoKey book = record { right = λ flag_a flag_c peer e. cc; other = λ flag_a flag_c peer own e differs. cc }
 confirmed (Sender sender) book = record { right = λ flag_a flag_c peer e. cc; other = λ flag_a flag_c peer own e differs. cc }
 confirmed (Both sender receiver) book = record {
-  right = λ flag_a flag_c peer e. noted receiver sender book (cc);
-  other = λ flag_a flag_c peer own e differs. let is : receiver ≡ own = cc in refused receiver sender book (rw is differs);
+  right = λ flag_a flag_c peer e. noted receiver sender book (ap second_of e);
+  other = λ flag_a flag_c peer own e differs. refused receiver sender book (subst (λ (n : ℕ). n ≢ book.keys.own) (sym (ap second_of e)) differs);
 }
 confirmed (WithData sender receiver len checksum) book = record {
-  right = λ flag_a flag_c peer e. noted receiver sender book (cc);
-  other = λ flag_a flag_c peer own e differs. let is : receiver ≡ own = cc in refused receiver sender book (rw is differs);
+  right = λ flag_a flag_c peer e. noted receiver sender book (ap second_of e);
+  other = λ flag_a flag_c peer own e differs. refused receiver sender book (subst (λ (n : ℕ). n ≢ book.keys.own) (sym (ap second_of e)) differs);
 }
 
 pub capable_is_the_handshake : CapableIsTheHandshake

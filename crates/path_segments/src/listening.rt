@@ -19,7 +19,6 @@ use segment_wire::{SegmentRef, parse};
 /// What these octets of a side say to the other one, which expects these positions and places next, or none where they
 /// are no segment. Answers for all octets, copies nothing and takes no memory. Ports are not looked at: the path has
 /// brought the octets. The payload has at most 65,515 octets, and the position is below 2^63.
-#[tactic(auto, using(crate::proofs::Short::payload_is_short))]
 pub fn hear<'a>(
     spelling: &Spelling,
     from: Side,
