@@ -174,9 +174,14 @@ in_order_delivered due link order = by (position (is_due due) link.under_way)
     by None = order
     by (Some i) = in_order_removed link.under_way i order
 
-pub before_is : (a b c x y z : ℕ) → a ≤ x → b ≡ y → c < z → before a b c x y z ≡ true
-before_is a b c x y z tick rank number = by (cases_lt a x)
+pub behind_is : (a b c x y z : ℕ) → a ≤ x → b ≡ y → c ≤ z → before x y z a b c ≡ false
+behind_is a b c x y z tick rank number = by _ refl
   where
-    by : (a < x) ⊎ (x ≤ a) → before a b c x y z ≡ true
-    by (inl low) = less_before a b c x y z (inl low)
-    by (inr high) = less_before a b c x y z (inr (omega (arith, tick, high), inr (rank, number)))
+    never : Less x y z a b c → true ≡ false
+    never (inl low) = absurd (omega (arith, tick, low))
+    never (inr (same, inl low)) = absurd (omega (arith, rank, low))
+    never (inr (same, inr (equal, low))) = absurd (omega (arith, number, low))
+
+    by : (t : Bool) → before x y z a b c ≡ t → t ≡ false
+    by false e = refl
+    by true e = never (less_is x y z a b c e)

@@ -1,6 +1,7 @@
 -- A direction of which no line speaks: its copies are in order of sending, each due a delay after it was sent.
 use Rattle.std.proofs.Common.{◌≡◌, ◌∙◌, refl, sym, ap, ℕ, zero, suc, ◌+◌, ◌<◌, ◌≤◌, Bool, true, false, ◌&&◌, cond, List, [], ◌∷◌, ◌++◌, filter, Option, Some, None, subst, arith}
 use Rattle.std.specs.List.{AllByRecursion}
+use Rattle.outside_kit.specs.Memory.{one_more as counted}
 use Rattle.outside_kit.specs.declared.side.Side.{Side}
 use Rattle.outside_kit.specs.declared.side.Side.TheVariants.{A, B}
 use Rattle.link_script.specs.declared.script.ScriptLine.{ScriptLine}
@@ -14,7 +15,7 @@ use Rattle.link_model.specs.State.{LinkState}
 use Rattle.link_model.specs.Steps.{rank, comes_before, with_flight, with_flights, arrivals, changed, peer, next_number, after_send}
 use Rattle.link_model.specs.Order.{IsFirst, AreInOrder}
 use Rattle.link_model.specs.Laws.{moves, going_to, WereSentBefore, plain_flight}
-use Rattle.link_model.proofs.Order.{first_before, before_is, before_once}
+use Rattle.link_model.proofs.Order.{before_behind, behind_is}
 
 told_nothing : (b named : Bool) (f : Fate) → b ≡ false → told_if (b && named) f ≡ None
 told_nothing b named f e = ap (λ (t : Bool). told_if (t && named) f) e
@@ -40,18 +41,26 @@ same_as_itself : (a : Side) → same_side a a ≡ true
 same_as_itself A = refl
 same_as_itself B = refl
 
--- a copy with these numbers arrives before that one
-sent_before : {C : Type 0} (k f : Flight C) → k.to ≡ f.to → k.tick ≤ f.tick → k.number < f.number → comes_before k f ≡ true
-sent_before k f to tick number = before_is k.tick (rank k.to) k.number f.tick (rank f.to) f.number tick (ap rank to) number
+-- a copy that goes where those went which were sent before arrives before none of them
+sent_behind : {C : Type 0} (k f : Flight C) → k.to ≡ f.to → k.tick ≤ f.tick → k.number ≤ f.number → comes_before f k ≡ false
+sent_behind k f to tick number = behind_is k.tick (rank k.to) k.number f.tick (rank f.to) f.number tick (ap rank to) number
 
-none_going : {C : Type 0} (f : Flight C) (flights : List (Flight C)) → IsFirst f flights → WereSentBefore f.number f.tick (going_to f.to flights) → going_to f.to flights ≡ []
+-- a copy arrives before each of these
+abbrev IsBefore : {C : Type 0} → Flight C → List (Flight C) → Type 0
+IsBefore f flights = AllByRecursion (λ k. comes_before f k ≡ true) flights
+
+before_all : {C : Type 0} (f g : Flight C) (flights : List (Flight C)) → comes_before f g ≡ true → IsFirst g flights → IsBefore f flights
+before_all f g [] low first = tt
+before_all f g (k ∷ flights) low first = (before_behind f g k low first.0, before_all f g flights low first.1)
+
+none_going : {C : Type 0} (f : Flight C) (flights : List (Flight C)) → IsBefore f flights → WereSentBefore f.number f.tick (going_to f.to flights) → going_to f.to flights ≡ []
 none_going f [] first sent = refl
 none_going f (k ∷ flights) first sent = by (same_side k.to f.to) refl sent (none_going f flights first.1)
   where
     by : (b : Bool) → same_side k.to f.to ≡ b → WereSentBefore f.number f.tick (cond b (k ∷ going_to f.to flights) (going_to f.to flights))
         → (WereSentBefore f.number f.tick (going_to f.to flights) → going_to f.to flights ≡ []) → cond b (k ∷ going_to f.to flights) (going_to f.to flights) ≡ []
     by true e sent rest =
-        let earlier : true ≡ false = sym (sent_before k f (side_is k.to f.to e) sent.0.0 sent.0.1) ∙ first.0 in
+        let earlier : true ≡ false = sym first.0 ∙ sent_behind k f (side_is k.to f.to e) sent.0.0 sent.0.1 in
         absurd cc
     by false e sent rest = rest sent
 
@@ -73,7 +82,7 @@ goes_last f (g ∷ flights) order sent = by (comes_before f g) refl (same_side g
         → (WereSentBefore f.number f.tick (going_to f.to flights) → going_to f.to (with_flight f flights) ≡ going_to f.to flights ++ f ∷ [])
         → going_to f.to (cond b (f ∷ g ∷ flights) (g ∷ with_flight f flights)) ≡ going_to f.to (g ∷ flights) ++ f ∷ []
     by true e t s rest =
-        let none : going_to f.to (g ∷ flights) ≡ [] = none_going f (g ∷ flights) (before_once f.tick (rank f.to) f.number g.tick (rank g.to) g.number e, first_before f g flights e order.0) sent in
+        let none : going_to f.to (g ∷ flights) ≡ [] = none_going f (g ∷ flights) (e, before_all f g flights e order.0) sent in
         ap (λ (b : Bool). cond b (f ∷ going_to f.to (g ∷ flights)) (going_to f.to (g ∷ flights))) (same_as_itself f.to)
         ∙ ap (λ gs. f ∷ gs) none ∙ ap (λ gs. gs ++ f ∷ []) (sym none)
     by false e t s rest = more (same_side g.to f.to) (rest (rest_sent (same_side g.to f.to) sent))
@@ -98,14 +107,18 @@ still_before number more tick later [] n t sent = tt
 still_before number more tick later (f ∷ flights) n t sent =
     ((omega (arith, sent.0.0, t), omega (arith, sent.0.1, n)), still_before number more tick later flights n t sent.1)
 
+-- the number after that isn't less
+counts_on : (n : ℕ) → counted n ≤ counted (counted n)
+counts_on n = omega arith
+
 -- and so it goes on
 pub sent_before_next : {C : Type 0} (strip alter : Side → C → C) (from : Side) (carried : C) (now later : ℕ) (link : LinkState C)
     → AllByRecursion (λ line. moves from line ≡ false) link.lines → AreInOrder link.under_way → now ≤ later
     → WereSentBefore (next_number from link) (now + link.delay) (going_to (peer from) link.under_way)
     → WereSentBefore (next_number from (after_send strip alter from carried now link)) (later + link.delay) (going_to (peer from) (after_send strip alter from carried now link).under_way)
 sent_before_next strip alter A carried now later link plain order low sent =
-    subst (WereSentBefore (next_number A link + 1) (later + link.delay)) (sym (sent_last strip alter A carried now link plain order sent))
-    (all_push _ _ (plain_flight strip alter A carried now link) (still_before (next_number A link) (next_number A link + 1) (now + link.delay) (later + link.delay) _ (omega arith) (omega (arith, low)) sent) (omega (arith, low), omega arith))
+    subst (WereSentBefore (counted (next_number A link)) (later + link.delay)) (sym (sent_last strip alter A carried now link plain order sent))
+    (all_push _ _ (plain_flight strip alter A carried now link) (still_before (next_number A link) (counted (next_number A link)) (now + link.delay) (later + link.delay) _ (counts_on link.from_a) (omega (arith, low)) sent) (omega (arith, low), counts_on link.from_a))
 sent_before_next strip alter B carried now later link plain order low sent =
-    subst (WereSentBefore (next_number B link + 1) (later + link.delay)) (sym (sent_last strip alter B carried now link plain order sent))
-    (all_push _ _ (plain_flight strip alter B carried now link) (still_before (next_number B link) (next_number B link + 1) (now + link.delay) (later + link.delay) _ (omega arith) (omega (arith, low)) sent) (omega (arith, low), omega arith))
+    subst (WereSentBefore (counted (next_number B link)) (later + link.delay)) (sym (sent_last strip alter B carried now link plain order sent))
+    (all_push _ _ (plain_flight strip alter B carried now link) (still_before (next_number B link) (counted (next_number B link)) (now + link.delay) (later + link.delay) _ (counts_on link.from_b) (omega (arith, low)) sent) (omega (arith, low), counts_on link.from_b))

@@ -1,6 +1,6 @@
 -- What holds of every link, whatever its segments carry and whatever is changed of that on its way. The clauses speak of
 -- octets, as the link carries them; the lemmas hold for everything that can be carried.
-use Rattle.std.specs.Prelude.{◌≡◌, ℕ, ◌+◌, ◌<◌, ◌≤◌, Bool, true, false, List, [], ◌∷◌, ◌++◌, map, filter}
+use Rattle.std.specs.Prelude.{◌≡◌, ℕ, ◌+◌, ◌≤◌, Bool, true, false, List, [], ◌∷◌, ◌++◌, map, filter}
 use Rattle.std.specs.List.{AllByRecursion}
 use Rattle.outside_kit.specs.declared.side.Side.{Side}
 use Rattle.link_script.specs.declared.script.ScriptLine.{ScriptLine}
@@ -24,9 +24,9 @@ moves from line = false
 abbrev pub going_to : {C : Type 0} → Side → List (Flight C) → List (Flight C)
 going_to to flights = filter (λ f. same_side f.to to) flights
 
--- each of these copies was sent before the segment of this number, which would arrive at this tick
+-- none of these copies has a greater number than the segment of this one, which would arrive at this tick, or arrives later
 abbrev pub WereSentBefore : {C : Type 0} → ℕ → ℕ → List (Flight C) → Type 0
-WereSentBefore number tick flights = AllByRecursion (λ f. (f.tick ≤ tick) × (f.number < number)) flights
+WereSentBefore number tick flights = AllByRecursion (λ f. (f.tick ≤ tick) × (f.number ≤ number)) flights
 
 -- the one copy of the next segment from a side, which is due a delay after it is sent at this tick
 abbrev pub plain_flight : {C : Type 0} → (Side → C → C) → (Side → C → C) → Side → C → ℕ → LinkState C → Flight C

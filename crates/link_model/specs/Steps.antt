@@ -1,6 +1,7 @@
 -- What each call makes of a link. `strip` takes a segment's Multipath TCP options away, and `alter` turns the lowest bit
 -- of its first payload octet, where it comes from this side.
 use Rattle.std.specs.Prelude.{ℕ, zero, suc, ◌+◌, Bool, true, false, ◌&&◌, ◌||◌, ◌==◌, nat_lt, if◌then◌else◌, List, [], ◌∷◌, Option, Some, None, filter, remove, find, position}
+use Rattle.outside_kit.specs.Memory.{one_more as counted}
 use Rattle.outside_kit.specs.declared.side.Side.{Side}
 use Rattle.outside_kit.specs.declared.side.Side.TheVariants.{A, B}
 use Rattle.link_script.specs.declared.script.PathLine.{PathLine}
@@ -46,13 +47,14 @@ abbrev pub taken : {C : Type 0} → Side → LinkState C → ℕ
 taken A link = link.from_a
 taken B link = link.from_b
 
+-- counts stand still at 2 ^ 64 - 1
 abbrev pub one_more : {C : Type 0} → Side → LinkState C → LinkState C
-one_more A link = record link { from_a = link.from_a + 1 }
-one_more B link = record link { from_b = link.from_b + 1 }
+one_more A link = record link { from_a = counted link.from_a }
+one_more B link = record link { from_b = counted link.from_b }
 
--- the number of the next segment from a side
+-- the number of the next segment from a side, which is what the count comes to
 abbrev pub next_number : {C : Type 0} → Side → LinkState C → ℕ
-next_number from link = taken from link + 1
+next_number from link = counted (taken from link)
 
 -- the ticks at which a segment arrives, which would be this one if nothing happened to it
 abbrev pub arrivals : Fate → ℕ → List ℕ

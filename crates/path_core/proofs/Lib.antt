@@ -1,3 +1,4 @@
+mod AcksTaken
 pub mod Ranking
 pub mod Resting
 pub mod Joined

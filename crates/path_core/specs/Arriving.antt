@@ -167,12 +167,6 @@ held_in c s _ = []
 abbrev pub held_of : Profile → Side → HeardSegment → List KeptMapping
 held_of c s h = flat_map (held_in c s) h.options
 
--- it has at most 65,535 octets, its position is below 2^63, and the position that it acknowledges is at most 2^62
-pub record IsShortCopy (c : Copy) : Type 0 where
-  pub small : length c.payload ≤ 65535
-  pub low : unwrap_or c.position 0 < 2 ^ 63
-  pub near : unwrap_or c.acknowledged 0 ≤ 2 ^ 62
-
 -- ---- a dead end's answer
 
 -- the position below 2^32 at which a side's subflow has a number

@@ -1,29 +1,20 @@
 //! The reset that answers a copy at a dead end (RFC 9293, section 3.10.7.1).
 
-ghost use Rattle.std.specs.Prelude.{◌≡◌, ◌+◌, ◌<◌, ◌≤◌, ◌^◌, unwrap_or, length, IfSome, IsSome, IsTrue};
+ghost use Rattle.std.specs.Prelude.{◌≡◌, ◌<◌, ◌≤◌, ◌^◌};
 ghost use Rattle.subflow_tcp.specs.Segments as subflow;
-ghost use Rattle.path_segments.specs.HeardSegments.{heard_value};
-ghost use Rattle.path_core.specs.Arriving.{copy_of, position_in, position_numbered, position_meant, reset_for, IsShortCopy};
+ghost use Rattle.path_segments.specs.HeardLent.{IsLow};
+ghost use Rattle.path_segments.specs.HeardSegments.{heard_value, IsHeardShort};
+ghost use Rattle.path_core.specs.Arriving.{copy_of, position_numbered, position_meant, reset_for};
 
-use crate::arriving::arriving_of;
 use crate::profile::{Profile, peer};
 use outside_kit::Side;
 use path_segments::{HeardPosition, HeardSegment};
 use seq_units::Pos;
-use subflow_tcp::{Arriving, Outgoing};
-
-/// It has at most 65,535 octets, its position is below 2^63, and the position that it acknowledges is at most 2^62.
-fn is_short(copy: &Arriving<'_>) -> bool
-    ensures { IsTrue result → IsShortCopy (subflow.copy_of copy.now) }
-{
-    copy.payload.len() <= 65_535
-        && copy.position.unwrap_or(0) < 1 << 63
-        && copy.acknowledged.unwrap_or(0) <= 1 << 62
-}
+use subflow_tcp::Outgoing;
 
 /// How many positions it occupies.
 fn occupied(heard: &HeardSegment<'_>) -> u64
-    requires { IsShortCopy (copy_of (heard_value heard.now)) }
+    requires { IsHeardShort (heard_value heard.now) }
     ensures value { result ≡ subflow.occupied (copy_of (heard_value heard.now)) }
     ensures few { result ≤ 65537 }
 {
@@ -46,7 +37,7 @@ impl Profile {
     /// A position with the number that was heard, whether that names one or not.
     fn position_meant(&self, side: Side, heard: HeardPosition) -> Pos
         ensures value { result ≡ position_meant self.now side heard }
-        ensures low { unwrap_or (position_in heard) 0 < 2 ^ 63 → result < 2 ^ 63 }
+        ensures low { IsLow heard → result < 2 ^ 63 }
     {
         match heard {
             HeardPosition::At(position) => position,
@@ -56,8 +47,8 @@ impl Profile {
 
     /// The reset that answers a copy at a dead end: at the number that the copy acknowledges, or else at number 0 with an
     /// acknowledgement of all that it occupies (RFC 9293, section 3.10.7.1). Its positions are below 2^63.
-    fn reset_for(&self, side: Side, heard: &HeardSegment<'_>) -> Outgoing
-        requires { IsShortCopy (copy_of (heard_value heard.now)) }
+    pub fn reset_for(&self, side: Side, heard: &HeardSegment<'_>) -> Outgoing
+        requires { IsHeardShort (heard_value heard.now) }
         ensures { result ≡ reset_for self.now side (heard_value heard.now) }
     {
         let (position, acknowledged) = match heard.acknowledged {
@@ -77,21 +68,6 @@ impl Profile {
             fin: false,
             rst: true,
             length: 0,
-        }
-    }
-
-    /// The same for a segment that is heard; none where that has more octets, or stands at or acknowledges another position, than
-    /// it could.
-    pub fn answer_to(&self, side: Side, heard: &HeardSegment<'_>) -> Option<Outgoing>
-        ensures value { IfSome result (λ answer. answer ≡ reset_for self.now side (heard_value heard.now)) }
-        ensures small { IsSome result → length heard.now.payload.now ≤ 65535 }
-        ensures near { IsSome result → unwrap_or (copy_of (heard_value heard.now)).acknowledged 0 ≤ 2 ^ 62 }
-    {
-        let copy = arriving_of(heard);
-        if is_short(&copy) {
-            Some(self.reset_for(side, heard))
-        } else {
-            None
         }
     }
 }

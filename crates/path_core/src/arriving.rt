@@ -4,7 +4,7 @@ ghost use Rattle.std.specs.Prelude.{◌≡◌, ◌≤◌, ◌^◌, false, length
 ghost use Rattle.dss_mapping.specs.Learning.{IsWithin};
 ghost use Rattle.link_model.specs.Steps.{peer};
 ghost use Rattle.path_segments.specs.HeardLent.{IsExpected};
-ghost use Rattle.path_segments.specs.HeardSegments.{heard_value};
+ghost use Rattle.path_segments.specs.HeardSegments.{heard_value, IsHeardShort};
 ghost use Rattle.subflow_tcp.specs.Judging.{IsBelow};
 ghost use Rattle.subflow_tcp.specs.Taking.{after_arrival, arrival_of, unkept};
 ghost use Rattle.path_agenda.specs.Items.{IsFair};
@@ -35,21 +35,8 @@ use subflow_tcp::{Arrival, Arriving, Meaning, Outgoing, Subflow};
 /// A copy that joins the path by a wrong HMAC breaks it with this reason: an unspecific one (RFC 8684, section 3.6).
 const FORGED: u8 = 1;
 
-/// Positions and places that are expected lie below this one.
-const LIMIT: u64 = 1 << 62;
-
-/// What is expected lies within the range of positions and places.
-fn is_expected(expected: &Expected) -> bool
-    ensures { IsTrue result → IsExpected expected.now }
-{
-    expected.edge < LIMIT
-        && expected.unacknowledged < LIMIT
-        && expected.told < LIMIT
-        && expected.place < LIMIT
-}
-
 /// The header and the payload of a segment that is heard.
-pub(crate) fn arriving_of<'a>(heard: &HeardSegment<'a>) -> Arriving<'a>
+fn arriving_of<'a>(heard: &HeardSegment<'a>) -> Arriving<'a>
     ensures { subflow.copy_of result ≡ copy_of (heard_value heard.now) }
 {
     Arriving {
@@ -111,13 +98,6 @@ fn template_judged(joined: bool, side: Side, count: usize, judged: Judged) -> Ag
     }
 }
 
-/// Whether a copy of this meaning is taken.
-fn is_taken(meaning: Meaning) -> bool
-    ensures { result ≡ is_taken meaning }
-{
-    matches!(meaning, Meaning::Taken { .. })
-}
-
 /// The payload of a copy is held where it is taken. At an error all is as it was.
 fn hold_payload(tcp: &mut Subflow, meaning: Meaning, payload: &[u8]) -> Result<(), AllocError>
     requires below { IsBelow meaning }
@@ -168,8 +148,10 @@ fn take_as(
 impl PathEnd {
     /// What the end counts from.
     fn expected(&self) -> Expected
-        ensures { result ≡ expected_by self.now }
+        ensures value { result ≡ expected_by self.now }
+        ensures within { IsExpected result }
     {
+        let _sent = self.tcp.nxt();
         Expected {
             edge: self.tcp.edge(),
             unacknowledged: self.tcp.una(),
@@ -197,6 +179,20 @@ impl PathEnd {
         Ok(())
     }
 
+    /// The position that a copy of this meaning acknowledges, where it is taken: no later one than was sent. Else 0.
+    #[tactic(auto, using(crate::proofs::AcksTaken::acknowledges_so, crate::proofs::AcksTaken::acknowledges_sent))]
+    fn acknowledged_by(&self, meaning: Meaning, heard: &HeardSegment<'_>) -> Pos
+        requires { IsTakenAs meaning (copy_of (heard_value heard.now)) self.now.tcp }
+        ensures value { result ≡ (if is_taken meaning then unwrap_or (copy_of (heard_value heard.now)).acknowledged 0 else 0) }
+        ensures bound { result ≤ 2 ^ 62 }
+    {
+        let _sent = self.tcp.nxt();
+        match meaning {
+            Meaning::Taken { acknowledged, .. } => acknowledged,
+            _ => 0,
+        }
+    }
+
     /// The subflow takes a copy of this meaning, which says these things; they are still to be treated.
     fn hear_copy(
         &mut self,
@@ -207,10 +203,10 @@ impl PathEnd {
         answer: Outgoing,
     )
         requires fair { All IsFair items.items }
-        requires near { unwrap_or (copy_of (heard_value heard.now)).acknowledged 0 ≤ 2 ^ 62 }
         requires meaning { IsTakenAs meaning (copy_of (heard_value heard.now)) self.old.tcp }
         ensures { self.new ≡ after_copy items.items answer now (heard_value heard.now) meaning self.old }
     {
+        let acknowledged = self.acknowledged_by(meaning, heard);
         let opened = opens_by(meaning, self.tcp.state());
         let held_edge = edge_held(meaning, heard.payload, self.tcp.edge());
         let place = place_in_first(items.as_slice());
@@ -220,11 +216,6 @@ impl PathEnd {
         }
         self.treated = Treated::of(items, opened, has_option(heard), answer, heard.window);
         self.treated.note_plain_ack(is_plain_ack(arrival, heard));
-        let acknowledged = if is_taken(meaning) {
-            acknowledged_in(heard.acknowledged).unwrap_or(0)
-        } else {
-            0
-        };
         self.treated.note_positions(acknowledged, held_edge);
         if meaning == Meaning::Opens {
             self.modes.capable_asked = asks_capable(heard);
@@ -244,7 +235,6 @@ impl PathEnd {
         answer: Outgoing,
     ) -> Result<(), AllocError>
         requires small { length heard.now.payload.now ≤ 65535 }
-        requires near { unwrap_or (copy_of (heard_value heard.now)).acknowledged 0 ≤ 2 ^ 62 }
         requires within { All IsWithin told.items }
         requires meaning { IsTakenAs meaning (copy_of (heard_value heard.now)) self.old.tcp }
         requires below { IsBelow meaning }
@@ -280,7 +270,6 @@ impl PathEnd {
         answer: Outgoing,
     ) -> Result<Agenda, AllocError>
         requires small { length heard.now.payload.now ≤ 65535 }
-        requires near { unwrap_or (copy_of (heard_value heard.now)).acknowledged 0 ≤ 2 ^ 62 }
         requires within { All IsWithin told.items }
         ensures agenda { IfOk result (λ agenda. agenda ≡ template_of joined side (items_of joined side (heard_value heard.now)) (judged_in joined side (heard_value heard.now) self.old)) }
         ensures ok { OnOk result (self.new ≡ segment_heard joined told.items answer side now (heard_value heard.now) self.old) }
@@ -302,12 +291,11 @@ impl Machine {
         now: u64,
         heard: &HeardSegment<'_>,
     ) -> Result<(), AllocError>
+        requires { IsHeardShort (heard_value heard.now) }
         ensures ok { OnOk result (self.new ≡ told_at now side (heard_value heard.now) self.old) }
         ensures err { OnErr result (self.new ≡ self.old) }
     {
-        let Some(answer) = self.profile.answer_to(side, heard) else {
-            return Err(AllocError);
-        };
+        let answer = self.profile.reset_for(side, heard);
         let told = self.profile.held_of(self.alloc, side, heard)?;
         let joined = self.profile.is_joined();
         let agenda = self
@@ -324,6 +312,7 @@ impl Machine {
         now: u64,
         heard: &HeardSegment<'_>,
     ) -> Result<(), AllocError>
+        requires { IsHeardShort (heard_value heard.now) }
         ensures ok { OnOk result (self.new ≡ heard_at now side (Some (heard_value heard.now)) self.old) }
         ensures err { OnErr result (self.new ≡ self.old) }
     {
@@ -337,9 +326,6 @@ impl Machine {
         ensures err { OnErr result (self.new ≡ self.old) }
     {
         let expected = self.end(side).expected();
-        if !is_expected(&expected) {
-            return Err(AllocError);
-        }
         let spelling = *self.profile.spelling();
         match hear(&spelling, spelled_by(peer(side)), &expected, octets) {
             Some(heard) => self.hear_told(side, now, &heard),

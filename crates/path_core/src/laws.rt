@@ -38,8 +38,9 @@ pub fn octets_do_as_values()
     ensures rounds { BeginsTheSame }
 {}
 
-/// A law: what a path says and hears by MP_CAPABLE is what `capable_handshake` says and hears (RFC 8684, section 3.1), and its
-/// DATA_FIN alone and the reason of its resets are said as by `data_close` (sections 3.3.3 and 3.6).
+/// A law: what a path says and hears by MP_CAPABLE is what `capable_handshake` says and hears, checksums are used as it says, and
+/// keys are noted where it takes them (RFC 8684, section 3.1). The path's DATA_FIN alone, the reason of its resets and a fast close
+/// are said as by `data_close` (sections 3.3.3, 3.5 and 3.6).
 pub fn options_are_those_of_the_handshakes()
     ensures capable { CapableIsTheHandshake }
     ensures ends { EndsAreThose }

@@ -144,8 +144,7 @@ impl Path {
     ///
     /// # Errors
     ///
-    /// Only where there is no memory for the copies, or the link took 2^63 segments from that side; the path is then as it
-    /// was.
+    /// Only where there is no memory for the copies; the path is then as it was.
     pub fn inject(&mut self, from: Side, octets: &[u8]) -> Result<(), AllocError>
         ensures ok { OnOk result (self.new ≡ settles_down (record self.old { link = after_octets from octets.now self.old.clock self.old.link })) }
         ensures err { OnErr result (self.new ≡ self.old) }

@@ -1,6 +1,6 @@
 //! What an end keeps of its side's own stream (RFC 8684, sections 3.3.2 and 3.3.3).
 
-ghost use Rattle.std.specs.Prelude.{◌≡◌, ◌&&◌, ◌||◌, ◌++◌, ◌∷◌, [], false, true, not, is_some, List, OnOk, OnErr};
+ghost use Rattle.std.specs.Prelude.{◌≡◌, ◌<◌, ◌^◌, ◌&&◌, ◌||◌, ◌++◌, ◌∷◌, [], false, true, not, is_some, List, OnOk, OnErr};
 ghost use Rattle.send_book.specs.declared.call.Span.{Span};
 ghost use Rattle.data_close.specs.Closing as closing;
 ghost use Rattle.actor_desk.specs.Words.{is_nil};
@@ -22,7 +22,7 @@ pub(crate) struct Sending {
     close: CloseState,
     /// The last grant was refused as the peer's window is shut.
     shut: bool,
-    /// How many bytes of the stream, the DATA_FIN among them, the peer acknowledged to this end.
+    /// How many bytes of the stream, the DATA_FIN among them, the peer acknowledged to this end: fewer than 2^62.
     heard: u64,
     /// The places that were granted to this end and aren't below all that it heard.
     granted: GrantedSpans,
@@ -44,6 +44,10 @@ impl Model for Sending {
       granted = v.granted;
       news = v.news;
     } };
+
+    ghost use Rattle.std.specs.Prelude.{◌<◌, ◌^◌};
+
+    ghost invariant = { λ v. v.heard < 2 ^ 62 };
 }
 
 impl Sending {
@@ -74,7 +78,8 @@ impl Sending {
 
     /// How many bytes of the stream, the DATA_FIN among them, the peer acknowledged to this end.
     pub fn heard(&self) -> u64
-        ensures { result ≡ self.now.heard }
+        ensures value { result ≡ self.now.heard }
+        ensures bound { result < 2 ^ 62 }
     {
         self.heard
     }
@@ -191,8 +196,9 @@ impl Sending {
         self.granted.pop();
     }
 
-    /// So many bytes of the stream are acknowledged, the DATA_FIN among them or not. Takes no memory.
+    /// So many bytes of the stream are acknowledged, fewer than 2^62, the DATA_FIN among them or not. Takes no memory.
     pub fn acknowledge(&mut self, next: u64, fin: bool)
+        requires { next < 2 ^ 62 }
         ensures { self.new ≡ after_acked next fin self.old }
     {
         self.news |= self.is_news(next, fin);

@@ -23,9 +23,6 @@ use seq_units::Pos;
 use std::alloc::AllocError;
 use subflow_tcp::Occasion;
 
-/// A link takes fewer segments than this from a side.
-const MOST_SEGMENTS: u64 = 1 << 63;
-
 /// The position behind a segment of data or FIN.
 fn end_of(said: &Said<'_>) -> Pos
     ensures { result ≡ end_of (plain_said said.now) }
@@ -122,7 +119,7 @@ impl Machine {
         let said = self.said(side, kind);
         Ask::Local(LocalStep::Sent {
             from: side,
-            copy: self.link.taken(side) + 1,
+            copy: self.link.next_number(side),
             length: said.payload.len() as u32,
             sum: said.sum(self.profile.spelling(), side),
         })
@@ -148,9 +145,6 @@ impl Machine {
         ensures ok { OnOk result (self.new ≡ record self.old { link = handed octets side (said_by kind self.old.profile side (end_at side self.old)) self.old }) }
         ensures err { OnErr result (self.new ≡ self.old) }
     {
-        if self.link.taken(side) >= MOST_SEGMENTS {
-            return Err(AllocError);
-        }
         let said = self.said(side, kind);
         let octets = said.octets(self.alloc, self.profile.spelling(), side)?;
         self.link.send(side, octets.as_slice(), self.clock.now())?;
@@ -175,9 +169,6 @@ impl Machine {
         ensures ok { OnOk result (self.new ≡ record self.old { link = after_octets from octets.now self.old.clock self.old.link }) }
         ensures err { OnErr result (self.new ≡ self.old) }
     {
-        if self.link.taken(from) >= MOST_SEGMENTS {
-            return Err(AllocError);
-        }
         self.link.send(from, octets, self.clock.now())?;
         Ok(())
     }

@@ -1,6 +1,6 @@
 //! What the options of a copy make of an end, one thing after the other (RFC 8684, section 3.3).
 
-ghost use Rattle.std.specs.Prelude.{◌≡◌, ◌≤◌, ◌^◌, ◌&&◌, not, is_some, if◌then◌else◌, nat_lt, Some, IfSome, OnOk, OnErr};
+ghost use Rattle.std.specs.Prelude.{◌≡◌, ◌<◌, ◌≤◌, ◌^◌, ◌&&◌, not, is_some, if◌then◌else◌, nat_lt, Some, IfSome, OnOk, OnErr};
 ghost use Rattle.actor_desk.specs.Kinds.{CanBeAsked};
 ghost use Rattle.fallback_state.specs.declared.fall.Event.TheVariants as events;
 ghost use Rattle.fallback_state.specs.Modes.{reads_mappings};
@@ -38,6 +38,7 @@ fn is_acked(reply: &Reply) -> bool
 impl Sending {
     /// So many bytes of the stream are acknowledged, where the Data ACK was taken.
     pub fn hear_ack(&mut self, next: u64, reply: &Reply)
+        requires { next < 2 ^ 62 }
         ensures { self.new ≡ acked_in next reply.now self.old }
     {
         if let Reply::Send(SendReply::Acked { fin, .. }) = *reply {
@@ -136,6 +137,7 @@ impl PathEnd {
 
     /// So many bytes of the stream are acknowledged, where the Data ACK was taken.
     fn hear_ack(&mut self, next: u64, reply: &Reply)
+        requires { next < 2 ^ 62 }
         ensures { self.new ≡ with_acked next reply.now self.old }
     {
         self.sending.hear_ack(next, reply);
@@ -261,6 +263,7 @@ impl Machine {
 
     /// A Data ACK that was taken and covers something is told next.
     fn answer_ack(&mut self, side: Side, next: u64, reply: &Reply)
+        requires { next < 2 ^ 62 }
         ensures { self.new ≡ answered_ack side next reply.now self.old }
     {
         self.end_mut(side).hear_ack(next, reply);

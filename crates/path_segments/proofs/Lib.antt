@@ -6,3 +6,4 @@ mod NumbersAgain
 mod OptionsAgain
 mod SaidOptions
 pub mod SegmentsAgain
+mod Short

@@ -1,5 +1,5 @@
 -- Numbers of positions and places, heard again.
-use Rattle.std.proofs.Common.{◌≡◌, refl, sym, ◌∙◌, ap, ℕ, ◌+◌, ◌%◌, ◌<◌, ◌^◌, Bool, true, false, Option, Some, if◌then◌else◌, option_and_then, zero-add, arith}
+use Rattle.std.proofs.Common.{◌≡◌, refl, sym, ◌∙◌, ap, ℕ, ◌+◌, ◌%◌, ◌<◌, ◌≤◌, ◌^◌, Bool, true, false, Option, Some, if◌then◌else◌, option_and_then, zero-add, arith}
 use Rattle.std.specs.Prelude.{pos, ◌-ℤ◌}
 use Rattle.std.proofs.lemmas.Int.{ints}
 use Rattle.seq_units.specs.Number.{number_of, below, IsNear, HasNumber, position_near}
@@ -23,7 +23,7 @@ relative_again expected position fresh =
     ap (position_near (2 ^ 32) 0 expected) (ap (λ (n : ℕ). n % 2 ^ 32) (sym (zero-add position)))
     ∙ position_near-number_of_32 0 expected position fresh
 
-near_64 : (expected place : ℕ) → expected < 2 ^ 62 → place + 1 < 2 ^ 62 → IsNear (2 ^ 64) (pos (place + 1) -ℤ pos (expected + 1))
+near_64 : (expected place : ℕ) → expected ≤ 2 ^ 62 + 2 ^ 20 → place + 1 < 2 ^ 62 → IsNear (2 ^ 64) (pos (place + 1) -ℤ pos (expected + 1))
 near_64 expected place low below = record { behind = omega (arith, ints); ahead = omega (arith, ints) }
 
 near_32 : (expected place : ℕ) → IsNear (2 ^ 32) (pos place -ℤ pos expected) → IsNear (2 ^ 32) (pos (place + 1) -ℤ pos (expected + 1))
@@ -39,7 +39,7 @@ place_before position = option_and_then place_behind (below (2 ^ 62) position)
 place_before-next : (place : ℕ) → place + 1 < 2 ^ 62 → place_before (Some (place + 1)) ≡ Some place
 place_before-next place low = grind arith
 
-module _ (spelling : Spelling) (side : Side) (expected place : ℕ) (low : expected < 2 ^ 62) where
+module _ (spelling : Spelling) (side : Side) (expected place : ℕ) (low : expected ≤ 2 ^ 62 + 2 ^ 20) where
   pub whole_again : place + 1 < 2 ^ 62 → place_heard spelling side expected (Whole (whole_number spelling side place)) ≡ Some place
   unfolding place_heard
   whole_again below =

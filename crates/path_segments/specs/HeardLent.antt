@@ -1,16 +1,23 @@
 -- What is heard and lent, by its value.
-use Rattle.std.specs.Prelude.{ℕ, ◌^◌, ◌<◌, Option, List}
+use Rattle.std.specs.Prelude.{ℕ, ◌+◌, ◌^◌, ◌<◌, ◌≤◌, Option, List}
 use Rattle.std.specs.Borrow.{Bor}
 use Rattle.path_segments.specs.declared.expected.Expected.{Expected}
+use Rattle.path_segments.specs.declared.position.HeardPosition.{HeardPosition}
+use Rattle.path_segments.specs.declared.position.HeardPosition.TheVariants.{At, Nowhere}
 use Rattle.path_segments.specs.declared.segment.PathOption.{PathOption}
 use Rattle.path_segments.specs.declared.segment.PathOption.TheVariants.{Capable, Join, Dss, AddAddr, Remove, Prio, Fail, FastClose, Reset}
 
--- what is expected is within the range of positions and places
+-- what is expected is at most a position or a place, with room for a buffer past the last one
 pub record IsExpected (expected : Expected) : Type 0 where
-  pub edge : expected.edge < 2 ^ 62
-  pub unacknowledged : expected.unacknowledged < 2 ^ 62
-  pub told : expected.told < 2 ^ 62
-  pub place : expected.place < 2 ^ 62
+  pub edge : expected.edge ≤ 2 ^ 62 + 2 ^ 20
+  pub unacknowledged : expected.unacknowledged ≤ 2 ^ 62 + 2 ^ 20
+  pub told : expected.told ≤ 2 ^ 62 + 2 ^ 20
+  pub place : expected.place ≤ 2 ^ 62 + 2 ^ 20
+
+-- a position beside one of these is below 2^63
+abbrev pub IsLow : HeardPosition → Type 0
+IsLow (At position) = position < 2 ^ 63
+IsLow (Nowhere number) = Unit {0}
 
 -- the ids of a REMOVE_ADDR as a list
 abbrev pub heard_plain : PathOption (Option ℕ) (Bor (List ℕ)) → PathOption (Option ℕ) (List ℕ)

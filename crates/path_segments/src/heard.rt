@@ -1,6 +1,6 @@
 //! A segment as it is heard: nothing is copied, and its options are read one by one.
 
-ghost use Rattle.std.specs.Prelude.{◌≡◌, ◌^◌, ◌<◌};
+ghost use Rattle.std.specs.Prelude.{◌≡◌, ◌+◌, ◌^◌, ◌≤◌};
 ghost use Rattle.std.specs.Iterator.{YieldsFirstBy, item_count};
 ghost use Rattle.segment_wire.specs.OptionFront.{octets_alone, options_left};
 ghost use Rattle.mptcp_options.specs.Value.{value_of};
@@ -22,10 +22,10 @@ pub struct HeardOptions<'a> {
     spelling: Spelling,
     from: Side,
     expected: Expected,
-    ghost edge: { expected.edge < 2 ^ 62 },
-    ghost unacknowledged: { expected.unacknowledged < 2 ^ 62 },
-    ghost told: { expected.told < 2 ^ 62 },
-    ghost place: { expected.place < 2 ^ 62 },
+    ghost edge: { expected.edge ≤ 2 ^ 62 + 2 ^ 20 },
+    ghost unacknowledged: { expected.unacknowledged ≤ 2 ^ 62 + 2 ^ 20 },
+    ghost told: { expected.told ≤ 2 ^ 62 + 2 ^ 20 },
+    ghost place: { expected.place ≤ 2 ^ 62 + 2 ^ 20 },
 }
 
 /// A segment that is heard.

@@ -1,9 +1,9 @@
 //! What octets say, by positions and places.
 
-ghost use Rattle.std.specs.Prelude.{◌≡◌, ◌<◌, ◌^◌, option_map};
+ghost use Rattle.std.specs.Prelude.{◌≡◌, ◌<◌, ◌≤◌, ◌+◌, ◌^◌, option_map, IfSome};
 ghost use Rattle.mptcp_options.specs.Value.{value_of};
 ghost use Rattle.path_segments.specs.Heard.{position_heard, number_means, number_heard, place_behind, place_heard, heard_mapping, heard_option};
-ghost use Rattle.path_segments.specs.HeardLent.{heard_plain, IsExpected};
+ghost use Rattle.path_segments.specs.HeardLent.{heard_plain, IsExpected, IsLow};
 ghost use Rattle.path_segments.specs.Spelling.{peer_of};
 
 use crate::expected::Expected;
@@ -22,16 +22,18 @@ pub type HeardOption<'a> = PathOption<Option<u64>, &'a [u8]>;
 impl Spelling {
     /// The position of a side's subflow that a number means beside the expected one.
     fn position_heard(&self, side: Side, expected: Pos, number: u32) -> Option<Pos>
-        requires { expected < 2 ^ 62 }
-        ensures { result ≡ position_heard self.now side expected number }
+        requires { expected ≤ 2 ^ 62 + 2 ^ 20 }
+        ensures value { result ≡ position_heard self.now side expected number }
+        ensures bound { IfSome result (λ position. position < 2 ^ 63) }
     {
         near32(self.numbers(side).initial, expected, Seq32(number))
     }
 
     /// What a number of a header means beside the expected position.
     pub(crate) fn number_means(&self, side: Side, expected: Pos, number: u32) -> HeardPosition
-        requires { expected < 2 ^ 62 }
-        ensures { result ≡ number_means self.now side expected number }
+        requires { expected ≤ 2 ^ 62 + 2 ^ 20 }
+        ensures value { result ≡ number_means self.now side expected number }
+        ensures low { IsLow result }
     {
         match self.position_heard(side, expected, number) {
             Some(position) => HeardPosition::At(position),
@@ -42,7 +44,7 @@ impl Spelling {
     /// The place of a side's stream that a data number means beside the expected one.
     #[tactic(auto, unfolding(crate::specs::Heard::place_heard))]
     fn place_heard(&self, side: Side, expected: u64, number: DataNumber) -> Option<u64>
-        requires { expected < 2 ^ 62 }
+        requires { expected ≤ 2 ^ 62 + 2 ^ 20 }
         ensures { result ≡ place_heard self.now side expected number }
     {
         let base = self.numbers(side).idsn;
@@ -55,7 +57,7 @@ impl Spelling {
 
     /// All 64 bits of a data number.
     fn number_heard(&self, side: Side, expected: u64, number: DataNumber) -> u64
-        requires { expected < 2 ^ 62 }
+        requires { expected ≤ 2 ^ 62 + 2 ^ 20 }
         ensures { result ≡ number_heard self.now side expected number }
     {
         match number {
@@ -68,8 +70,8 @@ impl Spelling {
 
     #[tactic(auto, unfolding(crate::specs::Heard::heard_mapping))]
     fn heard_mapping(&self, from: Side, expected: &Expected, map: DssMap, fin: bool) -> HeardMapping
-        requires place { expected.now.place < 2 ^ 62 }
-        requires edge { expected.now.edge < 2 ^ 62 }
+        requires place { expected.now.place ≤ 2 ^ 62 + 2 ^ 20 }
+        requires edge { expected.now.edge ≤ 2 ^ 62 + 2 ^ 20 }
         ensures { result ≡ heard_mapping self.now from expected.now map fin }
     {
         let place = self.place_heard(from, expected.place, map.number);
@@ -98,7 +100,7 @@ impl Spelling {
         expected: &Expected,
         ack: Option<DataNumber>,
     ) -> Option<Option<u64>>
-        requires { expected.now.told < 2 ^ 62 }
+        requires { expected.now.told ≤ 2 ^ 62 + 2 ^ 20 }
         ensures { result ≡ option_map (place_heard self.now (peer_of from) expected.now.told) ack }
     {
         match ack {
@@ -114,8 +116,8 @@ impl Spelling {
         mapping: Option<DssMap>,
         fin: bool,
     ) -> Option<HeardMapping>
-        requires place { expected.now.place < 2 ^ 62 }
-        requires edge { expected.now.edge < 2 ^ 62 }
+        requires place { expected.now.place ≤ 2 ^ 62 + 2 ^ 20 }
+        requires edge { expected.now.edge ≤ 2 ^ 62 + 2 ^ 20 }
         ensures { result ≡ option_map (λ map. heard_mapping self.now from expected.now map fin) mapping }
     {
         match mapping {

@@ -1,11 +1,11 @@
 //! Hearing a segment.
 
-ghost use Rattle.std.specs.Prelude.{◌≡◌, Some, None, if◌then◌else◌, option_map};
+ghost use Rattle.std.specs.Prelude.{◌≡◌, ◌≤◌, Some, None, if◌then◌else◌, length, option_map, IfSome};
 ghost use Rattle.segment_wire.specs.Options.{option_octets};
 ghost use Rattle.segment_wire.specs.Reading.{segment_of};
 ghost use Rattle.path_segments.specs.Heard.{number_means, first_mss, window_heard, heard_segment, heard_in};
 ghost use Rattle.path_segments.specs.HeardLent.{IsExpected};
-ghost use Rattle.path_segments.specs.HeardSegments.{heard_value};
+ghost use Rattle.path_segments.specs.HeardSegments.{heard_value, IsHeardShort};
 ghost use Rattle.path_segments.specs.Spelling.{peer_of};
 
 use crate::expected::Expected;
@@ -18,7 +18,7 @@ use segment_wire::{SegmentRef, parse};
 
 /// What these octets of a side say to the other one, which expects these positions and places next, or none where they
 /// are no segment. Answers for all octets, copies nothing and takes no memory. Ports are not looked at: the path has
-/// brought the octets.
+/// brought the octets. The payload has at most 65,515 octets, and the position is below 2^63.
 pub fn hear<'a>(
     spelling: &Spelling,
     from: Side,
@@ -26,7 +26,8 @@ pub fn hear<'a>(
     octets: &'a [u8],
 ) -> Option<HeardSegment<'a>>
     requires { IsExpected expected.now }
-    ensures { option_map heard_value result ≡ heard_in spelling.now from expected.now octets.now }
+    ensures value { option_map heard_value result ≡ heard_in spelling.now from expected.now octets.now }
+    ensures short { IfSome result (λ heard. IsHeardShort (heard_value heard)) }
 {
     match parse(octets, &spelling.addresses(from)) {
         Ok(segment) => Some(heard_segment(spelling, from, expected, &segment)),
@@ -40,8 +41,10 @@ fn heard_segment<'a>(
     expected: &Expected,
     segment: &SegmentRef<'a>,
 ) -> HeardSegment<'a>
-    requires { IsExpected expected.now }
-    ensures { heard_value result ≡ heard_segment spelling.now from expected.now (segment_of segment.now) }
+    requires expected { IsExpected expected.now }
+    requires payload { length (segment_of segment.now).payload ≤ 65515 }
+    ensures value { heard_value result ≡ heard_segment spelling.now from expected.now (segment_of segment.now) }
+    ensures short { IsHeardShort (heard_value result) }
 {
     let head = segment.head;
     PathSegment {

@@ -8,10 +8,10 @@ pub const POSITION_LIMIT: Pos = 1 << 62;
 
 /// The position that a number of 32 bits means beside the one that is expected: the one position with that number
 /// at a distance d from it, -2^31 <= d < 2^31. `None` where that position would be below 0. The expected position
-/// is the next one to receive, or the least one that is not acknowledged.
+/// is the next one to receive, or the least one that is not acknowledged; it is below 2^63.
 #[tactic(auto, unfolding(crate::specs::Number::position_near))]
 pub fn near32(base: Seq32, expected: Pos, raw: Seq32) -> Option<Pos>
-    requires { expected < 2 ^ 62 }
+    requires { expected < 2 ^ 63 }
     ensures meant { IfSome result (λ p. IsMeant (2 ^ 32) base.0 expected raw.0 (pos p)) }
     ensures none { (p : ℤ) → IsMeant (2 ^ 32) base.0 expected raw.0 p
         → (IsNone result ↔ (p <ℤ pos 0)) }

@@ -160,9 +160,6 @@ fn octets_of(
 
 /// Hands octets to the link.
 fn hand(link: &mut Link, side: Side, octets: &[u8], now: u32) -> Result<(), CaseFault> {
-    if link.taken(side) >= 1 << 63 {
-        return Err(CaseFault::Form);
-    }
     link.send(side, octets, u64::from(now))?;
     Ok(())
 }

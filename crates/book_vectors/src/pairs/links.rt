@@ -9,9 +9,6 @@ use link_model::{Due, Link};
 use outside_kit::Side;
 use std::alloc::{AllocError, Global};
 
-/// More segments than any case has.
-const MOST: u64 = 100;
-
 pub fn link(alloc: Global, case: &str) -> Result<String, CaseFault> {
     let Some((steps, lines)) = case.split_once(": ") else {
         return Err(CaseFault::Form);
@@ -59,9 +56,6 @@ fn send(alloc: Global, link: &mut Link, fields: &[&str]) -> Result<String, CaseF
     };
     let now: u32 = parsed_at(fields, 2)?;
     let octets = octets_at(alloc, fields, 3)?;
-    if link.taken(from) > MOST {
-        return Err(CaseFault::Form);
-    }
     let number = link.send(from, octets.as_slice(), u64::from(now))?;
     Ok(format!(in alloc; "{number}")?)
 }

@@ -20,7 +20,5 @@ returns-clause-octets c =
 pub invariant_of-self : goal.invariant_of-self
 invariant_of-self c = (
   c.self.invariant.0,
-  c.self.invariant.1,
-  c.self.invariant.2,
-  subst AreInOrder (sym c.in-Some-remove.ensures.items) (in_order_removed c.self.inside.flights.items c.in-Some.place c.self.invariant.3),
+  subst AreInOrder (sym c.in-Some-remove.ensures.items) (in_order_removed c.self.inside.flights.items c.in-Some.place c.self.invariant.1),
 )

@@ -7,4 +7,4 @@ pub returns-clause-under_way : goal.returns-clause-under_way
 returns-clause-under_way c = rw (c.first_due.ensures, ← c.self.view_is) (next_is_under_way c.self.inside.flights.items)
 
 pub returns-clause-none_before : goal.returns-clause-none_before
-returns-clause-none_before c = rw (c.first_due.ensures, ← c.self.view_is) (earliest c.self.inside.flights.items c.self.invariant.3)
+returns-clause-none_before c = rw (c.first_due.ensures, ← c.self.view_is) (earliest c.self.inside.flights.items c.self.invariant.1)

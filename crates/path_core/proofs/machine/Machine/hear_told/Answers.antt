@@ -1,6 +1,6 @@
-use Rattle.std.proofs.Common.{◌≡◌, ◌∙◌, ap, subst}
+use Rattle.std.proofs.Common.{◌≡◌, ◌∙◌, sym, ap, subst}
 use Rattle.std.specs.Result.{OnOk}
-use Rattle.path_segments.specs.HeardSegments.{heard_value}
+use Rattle.path_segments.specs.HeardSegments.{heard_value, IsHeardShort}
 use Rattle.path_core.specs.Arriving.{options_heard}
 use Rattle.path_core.specs.Codec.{HeardSegment}
 use Rattle.path_core.specs.Ends.{PathEnd}
@@ -12,3 +12,7 @@ returns-clause-ok c =
     let said = heard_value c.args.heard.now in
     subst (λ (h : HeardSegment). OnOk c.hear_segment.result (c.hear_segment.new.self ≡ told_at c.args.now c.args.side h c.args.self.now))
     (c.options_heard-heard.ensures ∙ ap (λ (e : PathEnd). options_heard e said) (c.behind-self.view_is ∙ c.end.ensures)) c.hear_segment.ensures.ok
+
+pub hear_segment-requires : goal.hear_segment-requires
+hear_segment-requires c =
+    subst (λ (h : HeardSegment). IsHeardShort h) (sym c.options_heard-heard.ensures) (record { payload = c.requires.payload; position = c.requires.position })
