@@ -10,7 +10,7 @@ ghost use Rattle.subflow_tcp.specs.Taking.{after_arrival, arrival_of, unkept};
 ghost use Rattle.path_agenda.specs.Items.{IsFair};
 ghost use Rattle.subflow_tcp.specs.Segments as subflow;
 ghost use Rattle.path_core.specs.declared.event.Event.TheVariants as event;
-ghost use Rattle.path_core.specs.Arriving.{expected_by, position_in, acknowledged_in, copy_of, items_of, with_payload, with_held, after_copy, is_ignored, is_taken, taken_as, judged_in, copy_judged, segment_heard, template_by, template_judged, template_of, IsTakenAs};
+ghost use Rattle.path_core.specs.Arriving.{expected_by, position_in, acknowledged_in, copy_of, items_of, with_payload, with_held, after_copy, is_ignored, is_taken, taken_as, judged_in, copy_judged, segment_heard, template_by, template_judged, template_of, IsTakenAs, SaysFew};
 ghost use Rattle.path_core.specs.Events.{told_at, heard_at, copy_taken, CanHappen};
 ghost use Rattle.path_core.specs.Octets.{octets, read};
 ghost use Rattle.path_core.specs.State.{end_at};
@@ -80,9 +80,9 @@ fn acknowledged_in(heard: Option<HeardPosition>) -> Option<Pos>
     Some(position_in(heard?).unwrap_or(0))
 }
 
-/// What is to be done after a copy of this meaning that says so many things, ten at most.
+/// What is to be done after a copy of this meaning that says so many things, 37 at most.
 fn template_by(joined: bool, side: Side, count: usize, meaning: Meaning) -> Agenda
-    requires { count ≤ 10 }
+    requires { count ≤ 37 }
     ensures { result ≡ template_by joined side count meaning }
 {
     match meaning {
@@ -98,9 +98,9 @@ fn template_by(joined: bool, side: Side, count: usize, meaning: Meaning) -> Agen
     }
 }
 
-/// What is to be done after a copy that is this to the end and says so many things, ten at most.
+/// What is to be done after a copy that is this to the end and says so many things, 37 at most.
 fn template_judged(joined: bool, side: Side, count: usize, judged: Judged) -> Agenda
-    requires { count ≤ 10 }
+    requires { count ≤ 37 }
     ensures { result ≡ template_judged joined side count judged }
 {
     match judged {
@@ -246,6 +246,7 @@ impl PathEnd {
         requires small { length heard.now.payload.now ≤ 65535 }
         requires near { unwrap_or (copy_of (heard_value heard.now)).acknowledged 0 ≤ 2 ^ 62 }
         requires within { All IsWithin told.items }
+        requires few { SaysFew (heard_value heard.now).options }
         requires meaning { IsTakenAs meaning (copy_of (heard_value heard.now)) self.old.tcp }
         requires below { IsBelow meaning }
         ensures ok { OnOk result (self.new ≡ copy_judged joined told.items answer side now (heard_value heard.now) meaning self.old) }
@@ -260,6 +261,7 @@ impl PathEnd {
 
     /// What a copy is to the end.
     fn judge(&self, joined: bool, side: Side, heard: &HeardSegment<'_>) -> Judged
+        requires few { SaysFew (heard_value heard.now).options }
         ensures value { result ≡ judged_in joined side (heard_value heard.now) self.now }
         ensures taken { IsTakenAs (taken_as result) (copy_of (heard_value heard.now)) self.now.tcp }
         ensures below { IsBelow (taken_as result) }
@@ -282,6 +284,7 @@ impl PathEnd {
         requires small { length heard.now.payload.now ≤ 65535 }
         requires near { unwrap_or (copy_of (heard_value heard.now)).acknowledged 0 ≤ 2 ^ 62 }
         requires within { All IsWithin told.items }
+        requires few { SaysFew (heard_value heard.now).options }
         ensures agenda { IfOk result (λ agenda. agenda ≡ template_of joined side (items_of joined side (heard_value heard.now)) (judged_in joined side (heard_value heard.now) self.old)) }
         ensures ok { OnOk result (self.new ≡ segment_heard joined told.items answer side now (heard_value heard.now) self.old) }
         ensures err { OnErr result (self.new ≡ self.old) }
@@ -302,6 +305,7 @@ impl Machine {
         now: u64,
         heard: &HeardSegment<'_>,
     ) -> Result<(), AllocError>
+        requires few { SaysFew (heard_value heard.now).options }
         ensures ok { OnOk result (self.new ≡ told_at now side (heard_value heard.now) self.old) }
         ensures err { OnErr result (self.new ≡ self.old) }
     {
@@ -324,6 +328,7 @@ impl Machine {
         now: u64,
         heard: &HeardSegment<'_>,
     ) -> Result<(), AllocError>
+        requires few { SaysFew (heard_value heard.now).options }
         ensures ok { OnOk result (self.new ≡ heard_at now side (Some (heard_value heard.now)) self.old) }
         ensures err { OnErr result (self.new ≡ self.old) }
     {

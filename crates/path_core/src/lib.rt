@@ -61,5 +61,5 @@ pub use laws::{
 pub use lines::LineLeft;
 pub use modes::Modes;
 pub use path::Path;
-pub use path_agenda::{Duty, Heard, KeyPair};
+pub use path_agenda::{Duty, Heard, KeyPair, PeerNotice};
 pub use start::key_of;
