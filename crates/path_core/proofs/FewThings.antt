@@ -1,6 +1,6 @@
 -- Forty octets of options say 37 things at most: those of one REMOVE_ADDR with 37 ids.
 use Rattle.std.proofs.Common.{◌≡◌, ◌⊎◌, inl, inr, refl, sym, ap, subst, ◌∙◌, ℕ, zero, suc, ◌+◌, ◌-◌, ◌*◌, ◌/◌, ◌<◌, ◌≤◌, ◌&&◌, ◌||◌, ◌==◌, nat_le, nat_lt, Bool, true, false, not, if◌then◌else◌, Option, Some, None, List, [], ◌∷◌, ◌++◌, length, map, take, drop, length-append, length-take, length-drop, arith}
-use Rattle.std.specs.Prelude.{Result, Ok, Err, option_map, All}
+use Rattle.std.specs.Prelude.{Result, Ok, Err, option_map, All, filter}
 use Rattle.std.specs.Result.{result_ok}
 use Rattle.std.specs.List.{flat_map, slice_index}
 use Rattle.std.proofs.lemmas.Bool.{leb-true, ltb-false}
@@ -37,6 +37,7 @@ use Rattle.dss_mapping.specs.Mappings.{octets_in as mapped_octets}
 use Rattle.path_agenda.specs.declared.heard.Heard.{Heard}
 use Rattle.path_core.specs.Arriving.{HeardOption, ack_items, mapping_items, end_items, infinite_items, map_items, key_items, join_items, address_items, item_removed, items_in, SaysFew}
 use Rattle.path_core.specs.Codec.{HeardSegment}
+use Rattle.path_core.specs.FewThings.{is_priority, CopiesSayFew, CopiesHaveFewPriorities}
 
 -- ---- octets
 
@@ -225,6 +226,33 @@ module _ (joined : Bool) (s : Side) (window : ℕ) (spelling : Spelling) (from :
   few_at_most n octets short (inl few) = omega (arith, short, few)
   few_at_most n octets short (inr few) = omega (arith, short, few)
 
+  -- ---- priorities
+
+  value_priorities : (v : wire.OptionValue) (others : List HeardOption)
+      → 3 * length (filter is_priority (heard_option spelling from expected v ∷ others)) ≤ length (option_text v) + 3 * length (filter is_priority others)
+  unfolding option_text
+  value_priorities (wire.Capable flag_a flag_c keys) others = omega arith
+  value_priorities (wire.Join form) others = omega arith
+  value_priorities (wire.Dss ack mapping fin) others = omega arith
+  value_priorities (wire.AddAddr echo id address port hmac) others = omega arith
+  value_priorities (wire.RemoveAddr ids) others = omega arith
+  value_priorities (wire.Prio backup) others = omega arith
+  value_priorities (wire.Fail number) others = omega arith
+  value_priorities (wire.FastClose key) others = omega arith
+  value_priorities (wire.Reset transient reason) others = omega arith
+
+  priorities_in : (options : List (List ℕ)) → EachOctets options → 3 * length (filter is_priority (heard_options spelling from expected options)) ≤ total options
+  priorities_in [] are = omega arith
+  priorities_in (octets ∷ others) are = by (option_meaning octets spelling.checksums) refl (priorities_in others are.1)
+    where
+      by : (m : wire.Meaning) → option_meaning octets spelling.checksums ≡ m
+          → 3 * length (filter is_priority (heard_options spelling from expected others)) ≤ total others
+          → 3 * length (filter is_priority (map (heard_option spelling from expected) (known_or m (known_in spelling.checksums others)))) ≤ length octets + total others
+      by wire.Unknown is few = omega (arith, few)
+      by wire.Malformed is few = omega (arith, few)
+      by (wire.Known v) is few =
+          omega (arith, few, value_priorities v (heard_options spelling from expected others), known_length octets spelling.checksums v are.0 is)
+
 -- ---- a segment
 
 meant_if : (short offset option checksum : Bool) (x y : Segment)
@@ -253,9 +281,15 @@ segment_few spelling from expected octets are joined s window =
     (few_in joined s window spelling from expected (option_octets (options_in octets))
         (after_octets 0 0 (options_in octets) (AreOctets-take (header_len octets - 20) (drop 20 octets) (AreOctets-drop 20 octets are))))
 
+segment_priorities : (spelling : Spelling) (from : SpelledSide) (expected : Expected) (octets : List ℕ) → AreOctets octets
+    → length (filter is_priority (heard_options spelling from expected (option_octets (options_in octets)))) ≤ 13
+segment_priorities spelling from expected octets are =
+    omega (arith, after_total 0 0 (options_in octets), options_short octets are,
+        priorities_in true A 0 spelling from expected (option_octets (options_in octets))
+            (after_octets 0 0 (options_in octets) (AreOctets-take (header_len octets - 20) (drop 20 octets) (AreOctets-drop 20 octets are))))
+
 -- what octets say that are a segment
-pub heard_few : (spelling : Spelling) (from : SpelledSide) (expected : Expected) (octets : List ℕ) → AreOctets octets
-    → (heard : HeardSegment) → heard_in spelling from expected octets ≡ Some heard → SaysFew heard.options
+pub heard_few : CopiesSayFew
 heard_few spelling from expected octets are heard is = by (segment_meaning (addresses_from spelling.path from) octets) refl is
   where
     by : (m : Result Segment SegmentFault) → segment_meaning (addresses_from spelling.path from) octets ≡ m
@@ -265,6 +299,18 @@ heard_few spelling from expected octets are heard is = by (segment_meaning (addr
         let told : heard_segment spelling from expected segment ≡ heard = cc in
         subst (λ (h : HeardSegment). SaysFew h.options) (ap (heard_segment spelling from expected) (sym same) ∙ told)
         (segment_few spelling from expected octets are)
+    by (Err fault) means so = cc
+
+pub few_priorities : CopiesHaveFewPriorities
+few_priorities spelling from expected octets are heard is = by (segment_meaning (addresses_from spelling.path from) octets) refl is
+  where
+    by : (m : Result Segment SegmentFault) → segment_meaning (addresses_from spelling.path from) octets ≡ m
+        → option_map (heard_segment spelling from expected) (result_ok m) ≡ Some heard → length (filter is_priority heard.options) ≤ 13
+    by (Ok segment) means so =
+        let same : segment ≡ segment_in octets = meant_so (addresses_from spelling.path from) octets segment means in
+        let told : heard_segment spelling from expected segment ≡ heard = cc in
+        subst (λ (h : HeardSegment). length (filter is_priority h.options) ≤ 13) (ap (heard_segment spelling from expected) (sym same) ∙ told)
+        (segment_priorities spelling from expected octets are)
     by (Err fault) means so = cc
 
 -- after a fallback nothing is heard

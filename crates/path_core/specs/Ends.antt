@@ -1,12 +1,12 @@
 -- What one end of a path keeps, by concern. The subflow is `subflow_tcp`'s own.
 use Rattle.std.specs.Prelude.{ℕ, Bool, false, Option, None, List, []}
-use Rattle.send_book.specs.declared.call.Span.{Span}
 use Rattle.data_close.specs.declared.close_state.CloseState.{CloseState}
 use Rattle.dss_mapping.specs.Mappings.{Mappings, no_mappings}
 use Rattle.fallback_state.specs.declared.fall.Mode.TheVariants.{Starting}
 use Rattle.subflow_tcp.specs.declared.segments.Outgoing.{Outgoing}
 use Rattle.subflow_tcp.specs.State.{EndState}
 use Rattle.path_agenda.specs.declared.heard.Heard.{Heard}
+use Rattle.path_core.specs.declared.granted_piece.GrantedPiece.{GrantedPiece}
 use Rattle.path_core.specs.declared.mapped_fin.MappedFin.{MappedFin}
 use Rattle.path_core.specs.declared.modes.Modes.{Modes}
 
@@ -22,8 +22,8 @@ pub record Sending : Type 0 where
   pub shut : Bool
   -- how many bytes of the stream, the DATA_FIN among them, the peer acknowledged to this end
   pub heard : ℕ
-  -- the places that were granted to this end and aren't below all that it heard
-  pub granted : List Span
+  -- the pieces that were granted to this end and aren't below all that it heard, by position and places
+  pub granted : List GrantedPiece
   -- one of them, or the DATA_FIN, was acknowledged since the timer was settled last
   pub news : Bool
 

@@ -9,6 +9,7 @@ pub mod Closing
 pub mod Rising
 pub mod Placing
 pub mod Arriving
+pub mod FewThings
 pub mod Handshakes
 pub mod Events
 pub mod Standing
