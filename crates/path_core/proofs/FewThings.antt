@@ -1,15 +1,16 @@
 -- Forty octets of options say 37 things at most: those of one REMOVE_ADDR with 37 ids.
-use Rattle.std.proofs.Common.{◌≡◌, ◌⊎◌, inl, inr, refl, sym, ap, subst, ◌∙◌, ℕ, zero, suc, ◌+◌, ◌-◌, ◌*◌, ◌/◌, ◌<◌, ◌≤◌, ◌&&◌, ◌||◌, ◌==◌, nat_le, nat_lt, Bool, true, false, not, if◌then◌else◌, Option, Some, None, List, [], ◌∷◌, ◌++◌, length, map, take, drop, length-append, length-take, length-drop, arith}
-use Rattle.std.specs.Prelude.{Result, Ok, Err, option_map, All, filter}
+use Rattle.std.proofs.Common.{◌≡◌, ◌⊎◌, inl, inr, refl, sym, ap, subst, ◌∙◌, ℕ, zero, suc, ◌+◌, ◌-◌, ◌*◌, ◌/◌, ◌<◌, ◌≤◌, ◌&&◌, ◌||◌, ◌==◌, nat_le, nat_lt, Bool, true, false, not, if◌then◌else◌, Option, Some, None, List, [], ◌∷◌, ◌++◌, length, map, take, drop, length-append, arith}
+use Rattle.std.specs.Prelude.{Result, Ok, Err, option_map, All, IfSome, filter}
+use Rattle.std.specs.Borrow.{Bor}
 use Rattle.std.specs.Result.{result_ok}
 use Rattle.std.specs.List.{flat_map, slice_index}
 use Rattle.std.proofs.lemmas.Bool.{leb-true, ltb-false}
-use Rattle.std.proofs.lemmas.List.Elements.{All-head, All-tail}
+use Rattle.std.proofs.lemmas.List.{length-take, length-drop}
 use Rattle.outside_kit.specs.declared.side.Side.{Side}
 use Rattle.outside_kit.specs.declared.side.Side.TheVariants.{A, B}
 use Rattle.key_material.specs.declared.address.Address.{Address}
 use Rattle.key_material.specs.Octets.{AreOctets}
-use Rattle.key_material.proofs.Octets.{AreOctets-none, AreOctets-cons, AreOctets-take, AreOctets-drop, each_octet}
+use Rattle.key_material.proofs.Octets.{AreOctets-take, AreOctets-drop, each_octet}
 use Rattle.segment_wire.specs.declared.head.Addresses.{Addresses}
 use Rattle.segment_wire.specs.declared.reading.SegmentFault.{SegmentFault}
 use Rattle.segment_wire.specs.declared.reading.SegmentFault.TheVariants.{Short, DataOffset, OptionLength, Checksum}
@@ -18,6 +19,7 @@ use Rattle.segment_wire.specs.Reading.{segment_meaning, segment_in, options_in, 
 use Rattle.segment_wire.specs.Segment.{Segment}
 use Rattle.mptcp_options.specs.declared.capable.CapableKeys.{CapableKeys}
 use Rattle.mptcp_options.specs.declared.capable.CapableKeys.TheVariants.{NoKey, Sender, Both, WithData}
+use Rattle.mptcp_options.specs.declared.dss.DssMap.{DssMap}
 use Rattle.mptcp_options.specs.declared.join.JoinForm.{JoinForm}
 use Rattle.mptcp_options.specs.declared.join.JoinForm.TheVariants.{Syn, Answer, Third}
 use Rattle.mptcp_options.specs.Ignored.{cleared, masked, fourth_mask}
@@ -26,13 +28,17 @@ use Rattle.mptcp_options.specs.Text.{option_text}
 use Rattle.mptcp_options.specs.Value as wire
 use Rattle.mptcp_options.proofs.OptionLaws.{text_again}
 use Rattle.path_segments.specs.declared.expected.Expected.{Expected}
+use Rattle.path_segments.specs.declared.heard.HeardOptions.{HeardOptions}
+use Rattle.path_segments.specs.declared.position.HeardPosition.{HeardPosition}
+use Rattle.path_segments.specs.declared.segment.PathSegment.{PathSegment}
+use Rattle.path_segments.specs.HeardSegments.{heard_value}
 use Rattle.path_segments.specs.declared.segment.PathMapping.{PathMapping}
 use Rattle.path_segments.specs.declared.segment.PathMapping.TheVariants.{Bytes, End, Infinite}
 use Rattle.path_segments.specs.declared.segment.PathOption.TheVariants.{Capable, Join, Dss, AddAddr, Remove, Prio, Fail, FastClose, Reset}
 use Rattle.path_segments.specs.declared.spelling.Side.{Side as SpelledSide}
 use Rattle.path_segments.specs.declared.spelling.Spelling.{Spelling}
-use Rattle.path_segments.specs.Heard.{heard_option, heard_options, heard_in, heard_segment, known_or, known_in}
-use Rattle.path_segments.specs.Spelling.{addresses_from}
+use Rattle.path_segments.specs.Heard.{place_heard, heard_mapping, heard_option, heard_options, heard_in, heard_segment, known_or, known_in}
+use Rattle.path_segments.specs.Spelling.{addresses_from, peer_of}
 use Rattle.dss_mapping.specs.Mappings.{octets_in as mapped_octets}
 use Rattle.path_agenda.specs.declared.heard.Heard.{Heard}
 use Rattle.path_core.specs.Arriving.{HeardOption, ack_items, mapping_items, end_items, infinite_items, map_items, key_items, join_items, address_items, item_removed, items_in, SaysFew}
@@ -42,7 +48,7 @@ use Rattle.path_core.specs.FewThings.{is_priority, CopiesSayFew, CopiesHaveFewPr
 -- ---- octets
 
 -- so many octets in all
-total : List (List ℕ) → ℕ
+abbrev total : List (List ℕ) → ℕ
 total [] = 0
 total (octets ∷ others) = length octets + total others
 
@@ -60,18 +66,15 @@ after_total place zero (suc (suc kind) ∷ len ∷ rest) =
     by : (long fits : Bool) → nat_le (len - 2) (length rest) ≡ fits
         → total (map (λ (o : ℕ × List ℕ). o.1) (options_after (place + 2) (len - 2) rest)) ≤ length rest - (len - 2)
         → total (map (λ (o : ℕ × List ℕ). o.1) (if long && fits
-            then (place, suc (suc kind) ∷ len ∷ take (len - 2) rest) ∷ options_after (place + 2) (len - 2) rest else [])) ≤ length rest + 2 - 0
+            then (place, suc (suc kind) ∷ len ∷ take (len - 2) rest) ∷ options_after (place + 2) (len - 2) rest else [])) ≤ length (suc (suc kind) ∷ len ∷ rest) - zero
     by false fits is few = omega arith
     by true false is few = omega arith
     by true true is few = omega (arith, few, length-take (len - 2) rest, leb-true _ _ is)
 
 -- each of them is of octets
-EachOctets : List (List ℕ) → Type 0
+abbrev EachOctets : List (List ℕ) → Type 0
 EachOctets [] = Unit {0}
 EachOctets (octets ∷ others) = AreOctets octets × EachOctets others
-
-IsOctet : ℕ → Type 0
-IsOctet x = x < 256
 
 after_octets : (place left : ℕ) (octets : List ℕ) → AreOctets octets → EachOctets (map (λ (o : ℕ × List ℕ). o.1) (options_after place left octets))
 after_octets place zero [] are = tt
@@ -112,12 +115,18 @@ known_length octets checksum v are known =
     let same : length (cleared octets) ≡ length (option_text v) = ap length (text_again octets checksum v are known) in
     omega (arith, same, known_long octets checksum v known, length-masked (fourth_mask octets) (drop 3 octets), length-drop 3 octets)
 
+join_long : (form : JoinForm) → 4 ≤ length (option_text (wire.Join form))
+unfolding option_text
+join_long (Syn backup id token nonce) = omega arith
+join_long (Answer backup id hmac nonce) = omega arith
+join_long (Third hmac) = omega arith
+
 -- so many things out of so many octets
-FewOf : ℕ → ℕ → Type 0
+abbrev FewOf : ℕ → ℕ → Type 0
 FewOf things octets = (4 * things ≤ 3 * octets) ⊎ (things + 3 ≤ octets)
 
 module _ (joined : Bool) (s : Side) (window : ℕ) (spelling : Spelling) (from : SpelledSide) (expected : Expected) where
-  things : HeardOption → ℕ
+  abbrev things : HeardOption → ℕ
   things option = length (items_in joined s window option)
 
   one_if : (b : Bool) (item : Heard) → length (if b then item ∷ [] else []) ≤ 1
@@ -177,12 +186,9 @@ module _ (joined : Bool) (s : Side) (window : ℕ) (spelling : Spelling) (from :
   unfolding option_text
   value_few (wire.Capable flag_a flag_c keys) = inl (omega (arith, capable_few joined flag_a flag_c keys))
   value_few (wire.Join form) = inl (omega (arith, join_few s form, join_long form))
-    where
-      join_long : (f : JoinForm) → 4 ≤ length (option_text (wire.Join f))
-      join_long (Syn backup id token nonce) = omega arith
-      join_long (Answer backup id hmac nonce) = omega arith
-      join_long (Third hmac) = omega arith
-  value_few (wire.Dss ack mapping fin) = inl (omega (arith, dss_few _ _))
+  value_few (wire.Dss ack mapping fin) =
+      inl (omega (arith, dss_few (option_map (place_heard spelling (peer_of from) expected.told) ack)
+          (option_map (λ (map : DssMap). heard_mapping spelling from expected map fin) mapping)))
   value_few (wire.AddAddr echo id address port hmac) = inl (omega (arith, address_few echo id address port hmac))
   value_few (wire.RemoveAddr ids) = inr (omega (arith, removed_few ids))
   value_few (wire.Prio backup) = inl (omega arith)
@@ -202,17 +208,16 @@ module _ (joined : Bool) (s : Side) (window : ℕ) (spelling : Spelling) (from :
   few_behind others octets rest (inl less) = inl (omega (arith, less))
   few_behind others octets rest (inr less) = inr (omega (arith, less))
 
-  all_things : List (List ℕ) → ℕ
+  abbrev all_things : List (List ℕ) → ℕ
   all_things options = length (flat_map (items_in joined s window) (heard_options spelling from expected options))
 
   few_in : (options : List (List ℕ)) → EachOctets options → FewOf (all_things options) (total options)
   few_in [] are = inl (omega arith)
   few_in (octets ∷ others) are = by (option_meaning octets spelling.checksums) refl (few_in others are.1)
     where
-      Told : wire.Meaning → ℕ
-      Told m = length (flat_map (items_in joined s window) (map (heard_option spelling from expected) (known_or m (known_in spelling.checksums others))))
       by : (m : wire.Meaning) → option_meaning octets spelling.checksums ≡ m → FewOf (all_things others) (total others)
-          → FewOf (Told m) (length octets + total others)
+          → FewOf (length (flat_map (items_in joined s window) (map (heard_option spelling from expected) (known_or m (known_in spelling.checksums others)))))
+              (length octets + total others)
       by wire.Unknown is few = few_behind _ (length octets) _ few
       by wire.Malformed is few = few_behind _ (length octets) _ few
       by (wire.Known v) is few =
@@ -275,11 +280,11 @@ options_short octets are =
 
 segment_few : (spelling : Spelling) (from : SpelledSide) (expected : Expected) (octets : List ℕ) → AreOctets octets
     → SaysFew (heard_options spelling from expected (option_octets (options_in octets)))
-segment_few spelling from expected octets are joined s window =
+segment_few spelling from expected octets are = record { few = λ joined s window.
     few_at_most joined s window spelling from expected _ (total (option_octets (options_in octets)))
     (omega (arith, after_total 0 0 (options_in octets), options_short octets are))
     (few_in joined s window spelling from expected (option_octets (options_in octets))
-        (after_octets 0 0 (options_in octets) (AreOctets-take (header_len octets - 20) (drop 20 octets) (AreOctets-drop 20 octets are))))
+        (after_octets 0 0 (options_in octets) (AreOctets-take (header_len octets - 20) (drop 20 octets) (AreOctets-drop 20 octets are)))) }
 
 segment_priorities : (spelling : Spelling) (from : SpelledSide) (expected : Expected) (octets : List ℕ) → AreOctets octets
     → length (filter is_priority (heard_options spelling from expected (option_octets (options_in octets)))) ≤ 13
@@ -315,5 +320,19 @@ few_priorities spelling from expected octets are heard is = by (segment_meaning 
 
 -- after a fallback nothing is heard
 pub unheard_few : (identity : Bool) (options : List HeardOption) → SaysFew options → SaysFew (if identity then [] else options)
-unheard_few true options few joined s window = omega arith
+unheard_few true options few = record { few = λ joined s window. omega arith }
 unheard_few false options few = few
+
+-- what is still to be put has room
+pub room_left : (says : HeardOption → List Heard) (items : List Heard) (left : List HeardOption) (option : HeardOption) (rest : List HeardOption)
+    (all : List Heard) → items ++ flat_map says left ≡ all → left ≡ option ∷ rest → length all ≤ 37 → length items + length (says option) ≤ 37
+room_left says items left option rest all so is few =
+    let here : items ++ (says option ++ flat_map says rest) ≡ all = ap (λ (options : List HeardOption). items ++ flat_map says options) (sym is) ∙ so in
+    omega (arith, few, ap length here, length-append items (says option ++ flat_map says rest), length-append (says option) (flat_map says rest))
+
+-- what is heard of octets, and lent
+pub lent_few : (spelling : Spelling) (from : SpelledSide) (expected : Expected) (octets : List ℕ) → AreOctets octets
+    → (o : Option (PathSegment HeardPosition HeardOptions (Bor (List ℕ)))) → option_map heard_value o ≡ heard_in spelling from expected octets
+    → IfSome o (λ heard. SaysFew (heard_value heard).options)
+lent_few spelling from expected octets are None same = tt
+lent_few spelling from expected octets are (Some heard) same = heard_few spelling from expected octets are (heard_value heard) (sym same)

@@ -16,7 +16,9 @@ use Rattle.mptcp_options.specs.declared.dss.DataNumber.{DataNumber}
 use Rattle.mptcp_options.specs.declared.dss.DataNumber.TheVariants.{Whole, Low}
 use Rattle.mptcp_options.specs.Text.{option_text}
 use Rattle.mptcp_options.specs.Value as wire
+use Rattle.std.specs.Int.{w16, w64}
 use Rattle.key_material.specs.Address.{octets_of}
+use Rattle.mptcp_options.specs.Octets.{optional}
 use Rattle.path_segments.specs.declared.segment.PathOption.TheVariants.{Capable, Dss, Fail, FastClose, Reset}
 use Rattle.path_segments.specs.declared.segment.PathMapping.TheVariants.{Infinite}
 use Rattle.path_segments.specs.declared.spelling.Spelling.{Spelling}
@@ -35,7 +37,7 @@ use Rattle.path_agenda.specs.declared.notice.OwnNotice.TheVariants as notes
 use Rattle.path_core.specs.Ends.{PathEnd}
 use Rattle.path_core.specs.Joins.{is_joined, peer_key_of, join_options, third_options}
 use Rattle.path_core.specs.declared.modes.Modes.{Modes}
-use Rattle.path_core.specs.Segments.{spelled_by, checksum_told, capable_options, syn_options, key_options, opening_options, end_mapping, ack_options, is_first_piece, first_piece_options, piece_options, owes_mapping, plain_options, fin_options, record_options, reset_options, segment_of, piece_mapping, ack_said, record_or_ack, syn_ack_said, announcement, notice_option, dss_and, fail_reset_said, HasAddresses}
+use Rattle.path_core.specs.Segments.{spelled_by, checksum_told, capable_options, syn_options, key_options, opening_options, end_mapping, ack_options, is_first_piece, first_piece_options, piece_options, owes_mapping, plain_options, fin_options, record_options, reset_options, segment_of, piece_mapping, ack_said, record_or_ack, syn_ack_said, announcement, notice_option, dss_and, fail_reset_said, HasAddress, HasAddresses}
 use Rattle.path_core.specs.declared.segment_kind.SegmentKind.{SegmentKind}
 use Rattle.path_core.specs.declared.segment_kind.SegmentKind.TheVariants as to_say
 use Rattle.subflow_tcp.specs.Emitting.{ack_at, record_segment, syn_ack_segment, fin_position, fin_segment, reset_segment}
@@ -99,12 +101,14 @@ unfolding option_text
 third_length key_a key_b nonce_a nonce_b = omega (arith, length-join_a160_of key_a key_b nonce_a nonce_b)
 
 -- a notice behind a DSS has room
-notice_length : (notice : OwnNotice) (m : Modes) → HasAddresses (to_say.Notice notice)
+notice_length : (notice : OwnNotice) (m : Modes) → HasAddress notice
     → (spelling : Spelling) (from : SpelledSide) → length (option_text (said_option spelling from (notice_option notice m))) ≤ 28
 unfolding option_text
 notice_length (notes.AddAddr id) m has spelling from = omega arith
-notice_length (notes.AddEcho id address None) m has spelling from = omega (arith, has)
-notice_length (notes.AddEcho id address (Some port)) m has spelling from = omega (arith, has)
+notice_length (notes.AddEcho id address None) m has spelling from =
+    omega (arith, has, length-append (octets_of address) (optional w16 None ++ optional w64 None), length-append (octets_of address ++ optional w16 None) (optional w64 None), length-append (octets_of address) (optional w16 None))
+notice_length (notes.AddEcho id address (Some port)) m has spelling from =
+    omega (arith, has, length-append (octets_of address) (optional w16 (Some port) ++ optional w64 None), length-append (octets_of address ++ optional w16 (Some port)) (optional w64 None), length-append (octets_of address) (optional w16 (Some port)))
 notice_length (notes.Removes id) m has spelling from = omega arith
 notice_length (notes.Prio backup) m has spelling from = omega arith
 

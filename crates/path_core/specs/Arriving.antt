@@ -158,9 +158,9 @@ items_in joined s window (Reset transient reason) = []
 abbrev pub items_of : Bool → Side → HeardSegment → List Heard
 items_of joined s h = flat_map (items_in joined s h.window) h.options
 
--- it says 37 things at most
-abbrev pub SaysFew : List HeardOption → Type 0
-SaysFew options = (joined : Bool) (s : Side) (window : ℕ) → length (flat_map (items_in joined s window) options) ≤ 37
+-- they say 37 things at most
+pub record SaysFew (options : List HeardOption) : Type 0 where
+  pub few : (joined : Bool) (s : Side) (window : ℕ) → length (flat_map (items_in joined s window) options) ≤ 37
 
 -- after a fallback no option is heard (RFC 8684, section 3.7)
 abbrev pub options_heard : PathEnd → HeardSegment → HeardSegment

@@ -12,6 +12,7 @@ pub mod Arriving
 pub mod FewThings
 pub mod Handshakes
 pub mod Events
+pub mod Noticing
 pub mod Standing
 pub mod Emission
 pub mod Falling

@@ -159,9 +159,13 @@ notice_option (notes.AddEcho id address port) m = AddAddr true id address port N
 notice_option (notes.Removes id) m = Remove (id ∷ [])
 notice_option (notes.Prio backup) m = Prio backup
 
--- an address that a segment carries has 16 octets at most
+-- an address that is echoed has 16 octets at most
+abbrev pub HasAddress : OwnNotice → Type 0
+HasAddress (notes.AddEcho id address port) = length (octets_of address) ≤ 16
+HasAddress _ = Unit {0}
+
 abbrev pub HasAddresses : SegmentKind → Type 0
-HasAddresses (to_say.Notice (notes.AddEcho id address port)) = length (octets_of address) ≤ 16
+HasAddresses (to_say.Notice notice) = HasAddress notice
 HasAddresses _ = Unit {0}
 
 -- ---- segments

@@ -1,9 +1,10 @@
 //! A copy that arrives, and what it makes of the end at once. The rest is treated duty by duty.
 
-ghost use Rattle.std.specs.Prelude.{◌≡◌, ◌≤◌, ◌^◌, false, length, unwrap_or, All, Some, IfOk, IsTrue, OnOk, OnErr};
+ghost use Rattle.std.specs.Prelude.{◌≡◌, ◌≤◌, ◌^◌, false, length, unwrap_or, option_map, All, Some, IfOk, IfSome, IsTrue, OnOk, OnErr};
 ghost use Rattle.dss_mapping.specs.Learning.{IsWithin};
 ghost use Rattle.link_model.specs.Steps.{peer};
 ghost use Rattle.path_segments.specs.HeardLent.{IsExpected};
+ghost use Rattle.path_segments.specs.Heard.{heard_in};
 ghost use Rattle.path_segments.specs.HeardSegments.{heard_value};
 ghost use Rattle.subflow_tcp.specs.Judging.{IsBelow};
 ghost use Rattle.subflow_tcp.specs.Taking.{after_arrival, arrival_of, unkept};
@@ -27,7 +28,7 @@ use dss_mapping::KeptMapping;
 use link_model::Due;
 use outside_kit::Side;
 use path_agenda::{Agenda, Items, place_in_first};
-use path_segments::{Expected, HeardPosition, HeardSegment, hear};
+use path_segments::{Expected, HeardPosition, HeardSegment, Spelling, hear};
 use seq_units::Pos;
 use std::alloc::AllocError;
 use subflow_tcp::{Arrival, Arriving, Meaning, Outgoing, Subflow};
@@ -46,6 +47,20 @@ fn is_expected(expected: &Expected) -> bool
         && expected.unacknowledged < LIMIT
         && expected.told < LIMIT
         && expected.place < LIMIT
+}
+
+/// What octets say, where they are a segment: 37 things at most.
+fn heard_of<'a>(
+    spelling: &Spelling,
+    from: path_segments::Side,
+    expected: &Expected,
+    octets: &'a [u8],
+) -> Option<HeardSegment<'a>>
+    requires { IsExpected expected.now }
+    ensures value { option_map heard_value result ≡ heard_in spelling.now from expected.now octets.now }
+    ensures few { IfSome result (λ heard. SaysFew (heard_value heard).options) }
+{
+    hear(spelling, from, expected, octets)
 }
 
 /// The header and the payload of a segment that is heard.
@@ -322,6 +337,7 @@ impl Machine {
     }
 
     /// A segment is heard at a side at this tick; after a fallback its options aren't. At an error all is as it was.
+    #[tactic(auto, using(crate::proofs::FewThings::unheard_few))]
     fn hear_told(
         &mut self,
         side: Side,
@@ -346,7 +362,7 @@ impl Machine {
             return Err(AllocError);
         }
         let spelling = *self.profile.spelling();
-        match hear(&spelling, spelled_by(peer(side)), &expected, octets) {
+        match heard_of(&spelling, spelled_by(peer(side)), &expected, octets) {
             Some(heard) => self.hear_told(side, now, &heard),
             None => {
                 self.sets_about(Agenda::emission(side));

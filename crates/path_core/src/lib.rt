@@ -33,6 +33,7 @@ mod lines;
 mod machine;
 mod mapped_fin;
 mod modes;
+mod notices;
 mod opening;
 mod passing;
 mod path;

@@ -165,7 +165,7 @@ fn lent(option: &Saying) -> PathOption<u64, &[u8]>
             port: *port,
             hmac: *hmac,
         },
-        PathOption::Remove { ids } => PathOption::Remove { ids },
+        PathOption::Remove { ids } => PathOption::Remove { ids: &ids[..] },
         PathOption::Prio { backup } => PathOption::Prio { backup: *backup },
         PathOption::Fail { place } => PathOption::Fail { place: *place },
         PathOption::FastClose { key } => PathOption::FastClose { key: *key },

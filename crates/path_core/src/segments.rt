@@ -6,7 +6,7 @@ ghost use Rattle.outside_kit.specs.declared.side.Side.TheVariants.{A};
 ghost use Rattle.path_segments.specs.declared.segment.PathOption.TheVariants.{Capable};
 ghost use Rattle.subflow_send.specs.Records.{record_of};
 ghost use Rattle.path_core.specs.declared.segment_kind.SegmentKind.TheVariants.{DeadAnswer, Refusal};
-ghost use Rattle.path_core.specs.Segments.{owes_mapping, bare_mapping, checksum_in, mapping_of, place_numbered, checksum_told, plain_options, capable_options, syn_options, key_options, opening_options, end_mapping, ack_options, piece_mapping, first_piece_options, piece_options, fin_options, record_options, reset_options, announcement, notice_option, dss_and, HasAddresses, segment_of, ack_said, fail_reset_said, record_said, record_or_ack, syn_ack_said, fin_said, reset_said};
+ghost use Rattle.path_core.specs.Segments.{owes_mapping, bare_mapping, checksum_in, mapping_of, place_numbered, checksum_told, plain_options, capable_options, syn_options, key_options, opening_options, end_mapping, ack_options, piece_mapping, first_piece_options, piece_options, fin_options, record_options, reset_options, announcement, notice_option, dss_and, HasAddress, HasAddresses, segment_of, ack_said, fail_reset_said, record_said, record_or_ack, syn_ack_said, fin_said, reset_said};
 ghost use Rattle.path_core.specs.Passing.{answer_said, ack_resent, resend_said};
 ghost use Rattle.path_core.specs.Said.{options_by, said_options, plain_said, said_by, CanBeSaid};
 
@@ -157,13 +157,26 @@ impl Modes {
     }
 }
 
+/// The address of an echo has 16 octets at most.
+fn has_address(notice: OwnNotice)
+    ensures { HasAddress notice }
+{
+    match notice {
+        OwnNotice::AddEcho { address, .. } => {
+            let _octets = address.octets();
+        }
+        OwnNotice::AddAddr { .. } | OwnNotice::Removes { .. } | OwnNotice::Prio { .. } => {}
+    }
+}
+
 impl SegmentKind {
     /// An address that it carries has 16 octets at most.
     fn has_addresses(self)
         ensures { HasAddresses self }
     {
-        if let SegmentKind::Notice { notice: OwnNotice::AddEcho { address, .. } } = self {
-            let _octets = address.octets();
+        match self {
+            SegmentKind::Notice { notice } => has_address(notice),
+            _ => {}
         }
     }
 }
