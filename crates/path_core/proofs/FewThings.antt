@@ -66,7 +66,7 @@ after_total place zero (suc (suc kind) ∷ len ∷ rest) =
     by : (long fits : Bool) → nat_le (len - 2) (length rest) ≡ fits
         → total (map (λ (o : ℕ × List ℕ). o.1) (options_after (place + 2) (len - 2) rest)) ≤ length rest - (len - 2)
         → total (map (λ (o : ℕ × List ℕ). o.1) (if long && fits
-            then (place, suc (suc kind) ∷ len ∷ take (len - 2) rest) ∷ options_after (place + 2) (len - 2) rest else [])) ≤ length (suc (suc kind) ∷ len ∷ rest) - zero
+        then (place, suc (suc kind) ∷ len ∷ take (len - 2) rest) ∷ options_after (place + 2) (len - 2) rest else [])) ≤ length (suc (suc kind) ∷ len ∷ rest) - zero
     by false fits is few = omega arith
     by true false is few = omega arith
     by true true is few = omega (arith, few, length-take (len - 2) rest, leb-true _ _ is)
@@ -88,7 +88,7 @@ after_octets place zero (suc (suc kind) ∷ len ∷ rest) are =
   where
     by : (whole : Bool) → EachOctets (map (λ (o : ℕ × List ℕ). o.1) (options_after (place + 2) (len - 2) rest))
         → EachOctets (map (λ (o : ℕ × List ℕ). o.1) (if whole
-            then (place, suc (suc kind) ∷ len ∷ take (len - 2) rest) ∷ options_after (place + 2) (len - 2) rest else []))
+        then (place, suc (suc kind) ∷ len ∷ take (len - 2) rest) ∷ options_after (place + 2) (len - 2) rest else []))
     by false others = tt
     by true others = (AreOctets-take (suc (suc (len - 2))) (suc (suc kind) ∷ len ∷ rest) are, others)
 
@@ -187,8 +187,11 @@ module _ (joined : Bool) (s : Side) (window : ℕ) (spelling : Spelling) (from :
   value_few (wire.Capable flag_a flag_c keys) = inl (omega (arith, capable_few joined flag_a flag_c keys))
   value_few (wire.Join form) = inl (omega (arith, join_few s form, join_long form))
   value_few (wire.Dss ack mapping fin) =
-      inl (omega (arith, dss_few (option_map (place_heard spelling (peer_of from) expected.told) ack)
-          (option_map (λ (map : DssMap). heard_mapping spelling from expected map fin) mapping)))
+      inl (omega (
+        arith,
+        dss_few (option_map (place_heard spelling (peer_of from) expected.told) ack)
+            (option_map (λ (map : DssMap). heard_mapping spelling from expected map fin) mapping),
+      ))
   value_few (wire.AddAddr echo id address port hmac) = inl (omega (arith, address_few echo id address port hmac))
   value_few (wire.RemoveAddr ids) = inr (omega (arith, removed_few ids))
   value_few (wire.Prio backup) = inl (omega arith)
@@ -217,15 +220,15 @@ module _ (joined : Bool) (s : Side) (window : ℕ) (spelling : Spelling) (from :
     where
       by : (m : wire.Meaning) → option_meaning octets spelling.checksums ≡ m → FewOf (all_things others) (total others)
           → FewOf (length (flat_map (items_in joined s window) (map (heard_option spelling from expected) (known_or m (known_in spelling.checksums others)))))
-              (length octets + total others)
+          (length octets + total others)
       by wire.Unknown is few = few_behind _ (length octets) _ few
       by wire.Malformed is few = few_behind _ (length octets) _ few
       by (wire.Known v) is few =
           subst (λ (n : ℕ). FewOf n (length octets + total others))
-              (sym (length-append (items_in joined s window (heard_option spelling from expected v))
-                  (flat_map (items_in joined s window) (heard_options spelling from expected others))))
+          (sym (length-append (items_in joined s window (heard_option spelling from expected v))
+          (flat_map (items_in joined s window) (heard_options spelling from expected others))))
           (few_more _ _ (length octets) (total others)
-              (subst (FewOf (things (heard_option spelling from expected v))) (known_length octets spelling.checksums v are.0 is) (value_few v)) few)
+          (subst (FewOf (things (heard_option spelling from expected v))) (known_length octets spelling.checksums v are.0 is) (value_few v)) few)
 
   few_at_most : (n octets : ℕ) → octets ≤ 40 → FewOf n octets → n ≤ 37
   few_at_most n octets short (inl few) = omega (arith, short, few)
@@ -280,18 +283,24 @@ options_short octets are =
 
 segment_few : (spelling : Spelling) (from : SpelledSide) (expected : Expected) (octets : List ℕ) → AreOctets octets
     → SaysFew (heard_options spelling from expected (option_octets (options_in octets)))
-segment_few spelling from expected octets are = record { few = λ joined s window.
-    few_at_most joined s window spelling from expected _ (total (option_octets (options_in octets)))
-    (omega (arith, after_total 0 0 (options_in octets), options_short octets are))
-    (few_in joined s window spelling from expected (option_octets (options_in octets))
-        (after_octets 0 0 (options_in octets) (AreOctets-take (header_len octets - 20) (drop 20 octets) (AreOctets-drop 20 octets are)))) }
+segment_few spelling from expected octets are = record {
+  few = λ joined s window.
+      few_at_most joined s window spelling from expected _ (total (option_octets (options_in octets)))
+      (omega (arith, after_total 0 0 (options_in octets), options_short octets are))
+      (few_in joined s window spelling from expected (option_octets (options_in octets))
+      (after_octets 0 0 (options_in octets) (AreOctets-take (header_len octets - 20) (drop 20 octets) (AreOctets-drop 20 octets are))));
+}
 
 segment_priorities : (spelling : Spelling) (from : SpelledSide) (expected : Expected) (octets : List ℕ) → AreOctets octets
     → length (filter is_priority (heard_options spelling from expected (option_octets (options_in octets)))) ≤ 13
 segment_priorities spelling from expected octets are =
-    omega (arith, after_total 0 0 (options_in octets), options_short octets are,
-        priorities_in true A 0 spelling from expected (option_octets (options_in octets))
-            (after_octets 0 0 (options_in octets) (AreOctets-take (header_len octets - 20) (drop 20 octets) (AreOctets-drop 20 octets are))))
+    omega (
+      arith,
+      after_total 0 0 (options_in octets),
+      options_short octets are,
+      priorities_in true A 0 spelling from expected (option_octets (options_in octets))
+          (after_octets 0 0 (options_in octets) (AreOctets-take (header_len octets - 20) (drop 20 octets) (AreOctets-drop 20 octets are))),
+    )
 
 -- what octets say that are a segment
 pub heard_few : CopiesSayFew

@@ -296,8 +296,8 @@ module _ (c : Profile) (s : Side) (e : PathEnd) (path : c.spelling.path ≤ 15) 
     path = path;
     window = window;
     options =
-      All-cons (CanSayOption c.spelling (spelled_by s)) first (second ∷ []) can_first
-      (All-cons (CanSayOption c.spelling (spelled_by s)) second [] can_second (All-nil (CanSayOption c.spelling (spelled_by s))));
+        All-cons (CanSayOption c.spelling (spelled_by s)) first (second ∷ []) can_first
+        (All-cons (CanSayOption c.spelling (spelled_by s)) second [] can_second (All-nil (CanSayOption c.spelling (spelled_by s))));
     room = rw plain room;
     fits = omega arith;
   }

@@ -140,7 +140,9 @@ fn first_is_newly_heard(pieces: &VecDeque<GrantedPiece>, heard: u64, next: u64) 
 fn one_is_newly_heard(pieces: &VecDeque<GrantedPiece>, heard: u64, next: u64) -> bool
     ensures { result ≡ list_any (is_newly_heard heard next) pieces.now.items }
 {
-    pieces.iter().any(|piece| is_newly_heard(heard, next, piece))
+    pieces
+        .iter()
+        .any(|piece| is_newly_heard(heard, next, piece))
 }
 
 /// A place of the piece wasn't acknowledged before, and is now.

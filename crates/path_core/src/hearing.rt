@@ -214,12 +214,7 @@ fn put_removed(items: &mut Items, ids: &[u8])
 }
 
 /// What a DSS says.
-fn put_dss(
-    items: &mut Items,
-    next: Option<Option<u64>>,
-    window: u32,
-    mapping: Option<HeardMapping>,
-)
+fn put_dss(items: &mut Items, next: Option<Option<u64>>, window: u32, mapping: Option<HeardMapping>)
     requires { length items.old.items + (1 + (length (ack_items next window) + length (map_items mapping))) ≤ 37 }
     ensures { items.new.items ≡ items.old.items ++ says.Dss ∷ (ack_items next window ++ map_items mapping) }
 {

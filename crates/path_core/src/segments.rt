@@ -11,8 +11,8 @@ ghost use Rattle.path_core.specs.Passing.{answer_said, ack_resent, resend_said};
 ghost use Rattle.path_core.specs.Said.{options_by, said_options, plain_said, said_by, CanBeSaid};
 
 use crate::end::PathEnd;
-use crate::profile::{Profile, spelled_by};
 use crate::modes::Modes;
+use crate::profile::{Profile, spelled_by};
 use crate::said::{Said, SaidOptions, Saying};
 use crate::segment_kind::SegmentKind;
 use dss_checksum::DssSum;
