@@ -131,10 +131,13 @@ module _ {C : Type 0} (k : Codec C) (p : PathState C) (low : path_of p < 16) whe
   item_fair s (Some (says.DataAck next window)) = tt
   item_fair s (Some (says.Mapping fin)) = mapping_fair s
   item_fair s (Some (says.DataFin place)) = low
-  item_fair s (Some says.InfiniteMapping) = low
+  item_fair s (Some (says.InfiniteMapping place position)) = low
   item_fair s (Some (says.PeerKey key)) = tt
   item_fair s (Some (says.Keys own peer)) = tt
   item_fair s (Some (says.Join form)) = tt
+  item_fair s (Some (says.Notice notice)) = tt
+  item_fair s (Some says.Fail) = tt
+  item_fair s (Some (says.FastClose key)) = tt
 
   piece_fair : (s : Side) (o : Option Piece) → IsFair (piece_ask s o)
   piece_fair s None = tt

@@ -43,10 +43,6 @@ abbrev pub heard_and : Side → ℕ → ℕ → List Duty → List Duty
 heard_and s from zero ds = ds
 heard_and s from (suc count) ds = duties.Heard s from ∷ heard_and s (from + 1) count ds
 
--- ten of them, the most that a copy can say
-abbrev pub things_heard : Side → List Duty
-things_heard s = heard_and s 0 10 []
-
 -- its acknowledgement, its payload, and what follows from them
 abbrev pub payload_came : Side → List Duty
 payload_came s =

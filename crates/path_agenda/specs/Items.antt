@@ -1,4 +1,4 @@
--- The things that a copy says, one after the other: the first ten count.
+-- The things that a copy says, one after the other.
 use Rattle.std.specs.Prelude.{ℕ, ◌^◌, ◌<◌, ◌≤◌, nat_lt, if◌then◌else◌, Bool, true, false, Option, Some, None, List, [], ◌∷◌, ◌++◌, length}
 use Rattle.std.specs.Option.{option_or}
 use Rattle.mptcp_options.specs.declared.join.JoinForm.{JoinForm}
@@ -8,13 +8,6 @@ use Rattle.path_agenda.specs.declared.heard.Heard.TheVariants as says
 use Rattle.path_agenda.specs.declared.heard.JoinStep.{JoinStep}
 use Rattle.path_agenda.specs.declared.heard.JoinStep.TheVariants as step
 use Rattle.path_agenda.specs.declared.keys.KeyPair.{KeyPair}
-
-abbrev pub with_item : List Heard → Heard → List Heard
-with_item items item = if nat_lt (length items) 10 then items ++ item ∷ [] else items
-
-abbrev pub with_items : List Heard → List Heard → List Heard
-with_items items [] = items
-with_items items (item ∷ others) = with_items (with_item items item) others
 
 abbrev pub is_dss : Heard → Bool
 is_dss says.Dss = true

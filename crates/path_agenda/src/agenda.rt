@@ -7,10 +7,10 @@ use crate::duty::Duty;
 use arrayvec::ArrayVec;
 use std::marker::Model;
 
-/// The duties of a turn, the first of which comes to something. There are at most 64, those that are done among them.
+/// The duties of a turn, the first of which comes to something. There are at most 72, those that are done among them.
 #[derive(Debug, Drop)]
 pub struct Agenda {
-    duties: ArrayVec<Duty, 64>,
+    duties: ArrayVec<Duty, 72>,
     /// So many of them, from the first on, are done.
     done: usize,
 }
@@ -27,9 +27,9 @@ impl Model for Agenda {
 }
 
 impl Agenda {
-    /// These duties, in this order: at most 64. Takes no memory.
+    /// These duties, in this order: at most 72. Takes no memory.
     pub fn of(duties: &[Duty]) -> Self
-        requires { length duties.now ≤ 64 }
+        requires { length duties.now ≤ 72 }
         ensures { result ≡ duties.now }
     {
         let mut listed = ArrayVec::new();
@@ -40,9 +40,9 @@ impl Agenda {
         }
     }
 
-    /// These duties in three parts, one behind the other: at most 64 in all. Takes no memory.
+    /// These duties in three parts, one behind the other: at most 72 in all. Takes no memory.
     pub(crate) fn of_parts(first: &[Duty], second: &[Duty], third: &[Duty]) -> Self
-        requires { length first.now + length second.now + length third.now ≤ 64 }
+        requires { length first.now + length second.now + length third.now ≤ 72 }
         ensures { result ≡ first.now ++ (second.now ++ third.now) }
     {
         let mut listed = ArrayVec::new();

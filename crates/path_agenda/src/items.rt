@@ -10,8 +10,8 @@ use crate::keys::KeyPair;
 use arrayvec::ArrayVec;
 use mptcp_options::JoinForm;
 
-/// The things that a copy says. There are at most ten in forty octets of options.
-pub type Items = ArrayVec<Heard, 10>;
+/// The things that a copy says. There are at most 37 in forty octets of options: those of one REMOVE_ADDR, each id being one.
+pub type Items = ArrayVec<Heard, 37>;
 
 /// It says that a DSS came.
 fn is_dss(item: Heard) -> bool

@@ -11,6 +11,7 @@ mod heard;
 mod items;
 mod keys;
 mod laws;
+mod notice;
 mod templates;
 
 pub use agenda::Agenda;
@@ -20,3 +21,4 @@ pub use heard::{Heard, JoinStep};
 pub use items::{Items, join_heard, key_heard, keys_heard, one_wants_ack, place_in_first};
 pub use keys::KeyPair;
 pub use laws::{every_chain_ends, every_template_ends};
+pub use notice::{OwnNotice, PeerNotice};

@@ -1,10 +1,11 @@
 //! What is to be done in a turn, and after each kind of event. A rule that is added to one of them has to be a duty.
 
-ghost use Rattle.std.specs.Prelude.{◌≡◌, ◌≤◌, ◌∷◌};
-ghost use Rattle.path_agenda.specs.Agenda.{things_heard, rest_of_turn, emission, start_of_turn, syn_came, syn_ack_came, join_came, refuses, join_answered, payload_came, copy_came, syn_again, answers, answers_dead, expired, expired_for_ever, leaves, breaks, resets};
+ghost use Rattle.std.specs.Prelude.{◌≡◌, ◌≤◌, ◌∷◌, []};
+ghost use Rattle.path_agenda.specs.Agenda.{heard_and, rest_of_turn, emission, start_of_turn, syn_came, syn_ack_came, join_came, refuses, join_answered, payload_came, copy_came, syn_again, answers, answers_dead, expired, expired_for_ever, leaves, breaks, resets};
 
 use crate::agenda::Agenda;
 use crate::duty::Duty;
+use arrayvec::ArrayVec;
 use outside_kit::Side;
 
 impl Agenda {
@@ -149,15 +150,15 @@ impl Agenda {
         ])
     }
 
-    /// A copy is taken, which says so many things, ten at most.
+    /// A copy is taken, which says so many things, 37 at most.
     #[tactic(auto, using(crate::proofs::Things::heard_first))]
     pub fn copy_came(side: Side, count: usize) -> Self
-        requires { count ≤ 10 }
+        requires { count ≤ 37 }
         ensures { result ≡ copy_came side count }
     {
         Agenda::of_parts(
             &[Duty::Opened(side), Duty::Live(side)],
-            &things_heard(side)[..count],
+            things_heard(side, count).as_slice(),
             &payload_came(side),
         )
     }
@@ -229,22 +230,19 @@ impl Agenda {
     }
 }
 
-/// The things that a copy may say, in their order.
-fn things_heard(side: Side) -> [Duty; 10]
-    ensures { result ≡ things_heard side }
+/// So many things that a copy says, in their order.
+fn things_heard(side: Side, count: usize) -> ArrayVec<Duty, 37>
+    requires { count ≤ 37 }
+    ensures { result.items ≡ heard_and side 0 count [] }
 {
-    [
-        Duty::Heard { side, index: 0 },
-        Duty::Heard { side, index: 1 },
-        Duty::Heard { side, index: 2 },
-        Duty::Heard { side, index: 3 },
-        Duty::Heard { side, index: 4 },
-        Duty::Heard { side, index: 5 },
-        Duty::Heard { side, index: 6 },
-        Duty::Heard { side, index: 7 },
-        Duty::Heard { side, index: 8 },
-        Duty::Heard { side, index: 9 },
-    ]
+    let mut things = ArrayVec::new();
+    for index in 0..count {
+        things.push(Duty::Heard {
+            side,
+            index: index as u64,
+        });
+    }
+    things
 }
 
 /// What follows what a copy says: its acknowledgement, its payload, and the answers.

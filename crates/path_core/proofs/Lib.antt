@@ -9,6 +9,7 @@ pub mod Judgements
 pub mod Parts
 pub mod Mapped
 pub mod Filling
+pub mod FewThings
 pub mod Sendings
 pub mod Handshakes
 pub mod Happening

@@ -314,12 +314,15 @@ module _ {C : Type 0} where
   heard_lowers k s (Some (says.DataFin place)) r p t next heavy =
       let f : PathEnd = with_fin place (after_fell events.MappingHeard r (end_at s p)) in
       fell_less s f r p t (same_rests p.clock (end_at s p) f refl) heavy
-  heard_lowers k s (Some says.InfiniteMapping) r p t next heavy = verdict_lowers s events.InfiniteHeard r p t heavy
+  heard_lowers k s (Some (says.InfiniteMapping place position)) r p t next heavy = verdict_lowers s events.InfiniteHeard r p t heavy
   heard_lowers k s (Some (says.PeerKey key)) r p t next heavy = agenda_less (left p) p t heavy.done
   heard_lowers k s (Some (says.Keys own peer)) r p t next heavy =
       goes_less s (after_keys r (Some (record { own = own; peer = peer })) (end_at s p)) (left p) p t
       (same_rests p.clock (end_at s p) (after_keys r (Some (record { own = own; peer = peer })) (end_at s p)) refl) heavy.done
   heard_lowers k s (Some (says.Join form)) r p t next heavy = agenda_less (left p) p t heavy.done
+  heard_lowers k s (Some (says.Notice notice)) r p t next heavy = agenda_less (left p) p t heavy.done
+  heard_lowers k s (Some says.Fail) r p t next heavy = agenda_less (left p) p t heavy.done
+  heard_lowers k s (Some (says.FastClose key)) r p t next heavy = agenda_less (left p) p t heavy.done
 
   -- ---- joins
 

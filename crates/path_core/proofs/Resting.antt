@@ -162,10 +162,13 @@ item_same s (Some says.Dss) e = refl
 item_same s (Some (says.DataAck next window)) e = refl
 item_same s (Some (says.Mapping fin)) e = mapping_same (counts e) e
 item_same s (Some (says.DataFin place)) e = either_same (counts e) (with_fin place e) e refl
-item_same s (Some says.InfiniteMapping) e = refl
+item_same s (Some (says.InfiniteMapping place position)) e = refl
 item_same s (Some (says.PeerKey key)) e = refl
 item_same s (Some (says.Keys own peer)) e = refl
 item_same s (Some (says.Join form)) e = refl
+item_same s (Some (says.Notice notice)) e = refl
+item_same s (Some says.Fail) e = refl
+item_same s (Some (says.FastClose key)) e = refl
 
 pub keep_same : (s : Side) (e : PathEnd) → (after_keep s e).tcp.timing ≡ e.tcp.timing
 keep_same s e = by (is_dropped s e)

@@ -1,5 +1,5 @@
 -- Every segment that an end sends can be said.
-use Rattle.std.proofs.Common.{◌≡◌, refl, subst, ap, ℕ, ◌-◌, ◌^◌, ◌≤◌, Bool, true, false, not, ◌&&◌, if◌then◌else◌, Option, Some, None, is_some, List, [], ◌∷◌, ◌++◌, length, arith}
+use Rattle.std.proofs.Common.{◌≡◌, refl, subst, ap, ℕ, ◌-◌, ◌^◌, ◌≤◌, Bool, true, false, not, ◌&&◌, if◌then◌else◌, Option, Some, None, is_some, List, [], ◌∷◌, ◌++◌, length, length-append, arith}
 use Rattle.std.proofs.lemmas.List.{append-nil}
 use Rattle.std.proofs.lemmas.List.Elements.{All-nil, All-cons}
 use Rattle.std.specs.Prelude.{All, IfSome}
@@ -16,7 +16,10 @@ use Rattle.mptcp_options.specs.declared.dss.DataNumber.{DataNumber}
 use Rattle.mptcp_options.specs.declared.dss.DataNumber.TheVariants.{Whole, Low}
 use Rattle.mptcp_options.specs.Text.{option_text}
 use Rattle.mptcp_options.specs.Value as wire
-use Rattle.path_segments.specs.declared.segment.PathOption.TheVariants.{Capable, Dss}
+use Rattle.std.specs.Int.{w16, w64}
+use Rattle.key_material.specs.Address.{octets_of}
+use Rattle.mptcp_options.specs.Octets.{optional}
+use Rattle.path_segments.specs.declared.segment.PathOption.TheVariants.{Capable, Dss, Fail, FastClose, Reset}
 use Rattle.path_segments.specs.declared.segment.PathMapping.TheVariants.{Infinite}
 use Rattle.path_segments.specs.declared.spelling.Spelling.{Spelling}
 use Rattle.path_segments.specs.declared.spelling.Side.{Side as SpelledSide}
@@ -29,10 +32,12 @@ use Rattle.subflow_send.specs.Records.{Record, record_of}
 use Rattle.subflow_send.specs.declared.record.RecordRef.{RecordRef}
 use Rattle.std.specs.Option.{option_map}
 use Rattle.subflow_tcp.specs.declared.segments.Outgoing.{Outgoing}
+use Rattle.path_agenda.specs.declared.notice.OwnNotice.{OwnNotice}
+use Rattle.path_agenda.specs.declared.notice.OwnNotice.TheVariants as notes
 use Rattle.path_core.specs.Ends.{PathEnd}
 use Rattle.path_core.specs.Joins.{is_joined, peer_key_of, join_options, third_options}
 use Rattle.path_core.specs.declared.modes.Modes.{Modes}
-use Rattle.path_core.specs.Segments.{spelled_by, checksum_told, capable_options, syn_options, key_options, opening_options, end_mapping, ack_options, is_first_piece, first_piece_options, piece_options, owes_mapping, plain_options, fin_options, record_options, reset_options, segment_of, piece_mapping, ack_said, record_or_ack, syn_ack_said}
+use Rattle.path_core.specs.Segments.{spelled_by, checksum_told, capable_options, syn_options, key_options, opening_options, end_mapping, ack_options, is_first_piece, first_piece_options, piece_options, owes_mapping, plain_options, fin_options, record_options, reset_options, segment_of, piece_mapping, ack_said, record_or_ack, syn_ack_said, announcement, notice_option, dss_and, fail_reset_said, HasAddress, HasAddresses}
 use Rattle.path_core.specs.declared.segment_kind.SegmentKind.{SegmentKind}
 use Rattle.path_core.specs.declared.segment_kind.SegmentKind.TheVariants as to_say
 use Rattle.subflow_tcp.specs.Emitting.{ack_at, record_segment, syn_ack_segment, fin_position, fin_segment, reset_segment}
@@ -94,6 +99,31 @@ join_answer_length backup id hmac nonce = omega arith
 third_length : (key_a key_b nonce_a nonce_b : ℕ) → length (option_text (wire.Join (Third (join_a160_of key_a key_b nonce_a nonce_b)))) ≤ 28
 unfolding option_text
 third_length key_a key_b nonce_a nonce_b = omega (arith, length-join_a160_of key_a key_b nonce_a nonce_b)
+
+-- a notice behind a DSS has room
+notice_length : (notice : OwnNotice) (m : Modes) → HasAddress notice
+    → (spelling : Spelling) (from : SpelledSide) → length (option_text (said_option spelling from (notice_option notice m))) ≤ 28
+unfolding option_text
+notice_length (notes.AddAddr id) m has spelling from = omega arith
+notice_length (notes.AddEcho id address None) m has spelling from =
+    omega (arith, has, length-append (octets_of address) (optional w16 None ++ optional w64 None), length-append (octets_of address ++ optional w16 None) (optional w64 None), length-append (octets_of address) (optional w16 None))
+notice_length (notes.AddEcho id address (Some port)) m has spelling from =
+    omega (arith, has, length-append (octets_of address) (optional w16 (Some port) ++ optional w64 None), length-append (octets_of address ++ optional w16 (Some port)) (optional w64 None), length-append (octets_of address) (optional w16 (Some port)))
+notice_length (notes.Removes id) m has spelling from = omega arith
+notice_length (notes.Prio backup) m has spelling from = omega arith
+
+short_ack : (ack : DataNumber) → length (option_text (wire.Dss (Some ack) None false)) ≤ 12
+unfolding option_text
+short_ack (Whole ack) = omega arith
+short_ack (Low ack) = omega arith
+
+close_length : (key : ℕ) → length (option_text (wire.FastClose key)) ≤ 28
+unfolding option_text
+close_length key = omega arith
+
+fail_length : (number : ℕ) → length (option_text (wire.Fail number)) ≤ 12
+unfolding option_text
+fail_length number = omega arith
 
 -- a checksum stands exactly where checksums are used
 told_form : (used : Bool) (checksum : ℕ) → is_some (if used then Some checksum else None) ≡ used
@@ -228,6 +258,12 @@ own_reset_short : (c : Profile) (s : Side) (reason : Option ℕ) (identity : Boo
 own_reset_short c s reason true = tt
 own_reset_short c s reason false = reset_short c s reason
 
+-- two options, of 12 and of 28 octets at most, have room where there is no SYN
+two_room : (spelling : Spelling) (from : SpelledSide) (first second : PlainOption) → length (option_text (said_option spelling from first)) ≤ 12
+    → length (option_text (said_option spelling from second)) ≤ 28 → length (options_text spelling from (first ∷ second ∷ [])) ≤ 40
+two_room spelling from first second few less =
+    omega (arith, few, less, ap length (append-nil (option_text (said_option spelling from second))), length-append (option_text (said_option spelling from first)) (option_text (said_option spelling from second) ++ []))
+
 -- ---- segments
 
 fits_of : (lent : Option RecordRef) (r : Option Record) → option_map record_of lent ≡ r → IfSome lent (λ r. length r.piece.now ≤ 65475)
@@ -253,6 +289,31 @@ module _ (c : Profile) (s : Side) (e : PathEnd) (path : c.spelling.path ≤ 15) 
   record_can None few = ack_can e.tcp.send.nxt None
   record_can (Some r) few = says (record_segment e.tcp r) (record_options r.kind c s r e) r.piece (record_short r.kind c s r e) few
 
+  says_two : (o : Outgoing) (first second : PlainOption) → o.syn ≡ false → CanSayOption c.spelling (spelled_by s) first
+      → CanSayOption c.spelling (spelled_by s) second → length (options_text c.spelling (spelled_by s) (first ∷ second ∷ [])) ≤ 40
+      → CanBeSaid c.spelling s (segment_of c o (first ∷ second ∷ []) [] e)
+  says_two o first second plain can_first can_second room = record {
+    path = path;
+    window = window;
+    options =
+        All-cons (CanSayOption c.spelling (spelled_by s)) first (second ∷ []) can_first
+        (All-cons (CanSayOption c.spelling (spelled_by s)) second [] can_second (All-nil (CanSayOption c.spelling (spelled_by s))));
+    room = rw plain room;
+    fits = omega arith;
+  }
+
+  dss_and_can : (option : PlainOption) → CanSayOption c.spelling (spelled_by s) option
+      → length (option_text (said_option c.spelling (spelled_by s) option)) ≤ 28 → CanBeSaid c.spelling s (dss_and c option e)
+  dss_and_can option can short =
+      says_two (ack_at e.tcp.send.nxt e.tcp) (Dss (Some e.receiving.next) None) option refl (record { form = (tt, refl) }) can
+      (two_room c.spelling (spelled_by s) (Dss (Some e.receiving.next) None) option (short_ack (data_number c.spelling (peer_of (spelled_by s)) e.receiving.next)) short)
+
+  notice_form : (notice : OwnNotice) → CanSayOption c.spelling (spelled_by s) (notice_option notice e.modes)
+  notice_form (notes.AddAddr id) = record { form = refl }
+  notice_form (notes.AddEcho id address port) = record { form = refl }
+  notice_form (notes.Removes id) = record { form = (omega arith, omega arith) }
+  notice_form (notes.Prio backup) = record { form = tt }
+
   pub syn_ack_can : CanBeSaid c.spelling s (syn_ack_said c s e)
   syn_ack_can = says (syn_ack_segment e.tcp) (syn_options c s e) [] (syn_short c s e) (omega arith)
 
@@ -271,25 +332,31 @@ module _ (c : Profile) (s : Side) (e : PathEnd) (path : c.spelling.path ≤ 15) 
   resend_can true few = record_can (first_record e) few
   resend_can false few = resent_can e.modes.owes_third (is_end_owed e)
 
-  said_can : (kind : SegmentKind) → IfSome (first_unsent e) (λ r. length r.piece ≤ 65475)
+  said_can : (kind : SegmentKind) → HasAddresses kind → IfSome (first_unsent e) (λ r. length r.piece ≤ 65475)
       → IfSome (first_record e) (λ r. length r.piece ≤ 65475) → CanBeSaid c.spelling s (said_by kind c s e)
-  said_can to_say.Ack unsent first = ack_can e.tcp.send.nxt None
-  said_can to_say.DataFin unsent first = ack_can e.tcp.send.nxt e.sending.known_end
-  said_can to_say.Fin unsent first = says (fin_segment e.tcp) (fin_options (fin_position e.tcp.send) e) [] (fin_short c s (fin_position e.tcp.send) e) (omega arith)
-  said_can to_say.Unsent unsent first = record_can (first_unsent e) unsent
-  said_can to_say.First unsent first = record_can (first_record e) first
-  said_can to_say.SynAck unsent first = syn_ack_can
-  said_can to_say.Answer unsent first = answer_can e.tcp.due.syn_ack
-  said_can to_say.DeadAnswer unsent first = says (outgoing_or e.treated.answer (reset_segment e.tcp)) [] [] tt (omega arith)
-  said_can to_say.Resend unsent first = resend_can (has_records e.tcp) first
-  said_can to_say.Refusal unsent first =
+  said_can (to_say.FailReset place) has unsent first =
+      says_two (reset_segment e.tcp) (Fail place) (Reset false 6) refl (record { form = tt }) (record { form = tt })
+      (two_room c.spelling (spelled_by s) (Fail place) (Reset false 6) (fail_length _) (reset_length false 6))
+  said_can (to_say.Notice notice) has unsent first =
+      dss_and_can (notice_option notice e.modes) (notice_form notice) (notice_length notice e.modes has c.spelling (spelled_by s))
+  said_can (to_say.FastClose key) has unsent first = dss_and_can (FastClose key) (record { form = tt }) (close_length key)
+  said_can to_say.Ack has unsent first = ack_can e.tcp.send.nxt None
+  said_can to_say.DataFin has unsent first = ack_can e.tcp.send.nxt e.sending.known_end
+  said_can to_say.Fin has unsent first = says (fin_segment e.tcp) (fin_options (fin_position e.tcp.send) e) [] (fin_short c s (fin_position e.tcp.send) e) (omega arith)
+  said_can to_say.Unsent has unsent first = record_can (first_unsent e) unsent
+  said_can to_say.First has unsent first = record_can (first_record e) first
+  said_can to_say.SynAck has unsent first = syn_ack_can
+  said_can to_say.Answer has unsent first = answer_can e.tcp.due.syn_ack
+  said_can to_say.DeadAnswer has unsent first = says (outgoing_or e.treated.answer (reset_segment e.tcp)) [] [] tt (omega arith)
+  said_can to_say.Resend has unsent first = resend_can (has_records e.tcp) first
+  said_can to_say.Refusal has unsent first =
       says (outgoing_or e.treated.answer (reset_segment e.tcp)) (reset_options (Some 1)) [] (reset_short c s (Some 1)) (omega arith)
-  said_can (to_say.Reset reason) unsent first =
+  said_can (to_say.Reset reason) has unsent first =
       says (reset_segment e.tcp) (if e.modes.identity then [] else reset_options reason) [] (own_reset_short c s reason e.modes.identity) (omega arith)
 
   -- records that are lent fit in a segment
-  pub can_be_said : (kind : SegmentKind) (unsent first : Option RecordRef) → option_map record_of unsent ≡ first_unsent e
+  pub can_be_said : (kind : SegmentKind) (unsent first : Option RecordRef) → HasAddresses kind → option_map record_of unsent ≡ first_unsent e
       → IfSome unsent (λ r. length r.piece.now ≤ 65475) → option_map record_of first ≡ first_record e
       → IfSome first (λ r. length r.piece.now ≤ 65475) → CanBeSaid c.spelling s (said_by kind c s e)
-  can_be_said kind unsent first is_unsent few_unsent is_first few_first =
-      said_can kind (fits_of unsent (first_unsent e) is_unsent few_unsent) (fits_of first (first_record e) is_first few_first)
+  can_be_said kind unsent first has is_unsent few_unsent is_first few_first =
+      said_can kind has (fits_of unsent (first_unsent e) is_unsent few_unsent) (fits_of first (first_record e) is_first few_first)

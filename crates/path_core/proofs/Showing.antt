@@ -164,10 +164,13 @@ same_item s (Some says.Dss) p = refl
 same_item s (Some (says.DataAck next window)) p = refl
 same_item s (Some (says.Mapping fin)) p = same_break_or s (is_clash (end_at s p)) 1 events.MappingHeard p
 same_item s (Some (says.DataFin place)) p = refl
-same_item s (Some says.InfiniteMapping) p = refl
+same_item s (Some (says.InfiniteMapping place position)) p = refl
 same_item s (Some (says.PeerKey key)) p = refl
 same_item s (Some (says.Keys own peer)) p = refl
 same_item s (Some (says.Join form)) p = refl
+same_item s (Some (says.Notice notice)) p = refl
+same_item s (Some says.Fail) p = refl
+same_item s (Some (says.FastClose key)) p = refl
 
 same_join : (s : Side) (asked : Option JoinSyn) (p : PathState Carried) → join_heard_ask s asked (shown_path p) ≡ join_heard_ask s asked p
 same_join s None p = refl
@@ -385,10 +388,13 @@ same_heard s (Some (says.DataAck next window)) r p nothing =
 same_heard s (Some (says.Mapping fin)) r p nothing =
     same_broken_or s (is_clash (end_at s p)) 1 r (with_learned (after_fell events.MappingHeard r (end_at s p))) p nothing
 same_heard s (Some (says.DataFin place)) r p nothing = same_fallen s r (with_fin place (after_fell events.MappingHeard r (end_at s p))) p
-same_heard s (Some says.InfiniteMapping) r p nothing = same_fell s events.InfiniteHeard r p
+same_heard s (Some (says.InfiniteMapping place position)) r p nothing = same_fell s events.InfiniteHeard r p
 same_heard s (Some (says.PeerKey key)) r p nothing = refl
 same_heard s (Some (says.Keys own peer)) r p nothing = refl
 same_heard s (Some (says.Join form)) r p nothing = refl
+same_heard s (Some (says.Notice notice)) r p nothing = refl
+same_heard s (Some says.Fail) r p nothing = refl
+same_heard s (Some (says.FastClose key)) r p nothing = refl
 
 same_grant : (s : Side) (o : Option Grant) (r : Reply) (p : PathState Carried) → answered_grant s o r (shown_path p) ≡ shown_path (answered_grant s o r p)
 same_grant s None r p = refl

@@ -1,6 +1,7 @@
 -- A copy that arrives: what it says, and what it makes of the end at once. The rest is treated duty by duty.
-use Rattle.std.specs.Prelude.{ℕ, ◌≡◌, ◌⊎◌, ◌+◌, ◌-◌, ◌%◌, ◌^◌, ◌<◌, ◌≤◌, ◌&&◌, ◌||◌, not, Bool, true, false, nat_lt, nat_le, if◌then◌else◌, unwrap_or, is_some, is_none, option_map, Option, Some, None, List, [], ◌∷◌, ◌++◌, length, take}
+use Rattle.std.specs.Prelude.{ℕ, ◌≡◌, ◌⊎◌, ◌+◌, ◌-◌, ◌%◌, ◌^◌, ◌<◌, ◌≤◌, ◌&&◌, ◌||◌, not, Bool, true, false, nat_lt, nat_le, if◌then◌else◌, unwrap_or, is_some, is_none, option_map, Option, Some, None, List, [], ◌∷◌, ◌++◌, length, map}
 use Rattle.std.specs.List.{flat_map, list_any}
+use Rattle.key_material.specs.declared.address.Address.{Address}
 use Rattle.link_model.specs.Steps.{peer}
 use Rattle.outside_kit.specs.declared.side.Side.{Side}
 use Rattle.outside_kit.specs.declared.side.Side.TheVariants.{A, B}
@@ -16,7 +17,7 @@ use Rattle.path_segments.specs.declared.expected.Expected.{Expected}
 use Rattle.path_segments.specs.declared.position.HeardPosition.{HeardPosition}
 use Rattle.path_segments.specs.declared.position.HeardPosition.TheVariants.{At, Nowhere}
 use Rattle.path_segments.specs.declared.segment.PathOption.{PathOption}
-use Rattle.path_segments.specs.declared.segment.PathOption.TheVariants.{Capable, Dss, Join}
+use Rattle.path_segments.specs.declared.segment.PathOption.TheVariants.{Capable, Dss, Join, AddAddr, Remove, Prio, Fail, FastClose, Reset}
 use Rattle.path_segments.specs.declared.segment.PathMapping.{PathMapping}
 use Rattle.path_segments.specs.declared.segment.PathMapping.TheVariants.{Bytes, End, Infinite}
 use Rattle.path_segments.specs.Spelling.{numbers_of}
@@ -38,6 +39,7 @@ use Rattle.subflow_tcp.specs.Closing.{after_owing}
 use Rattle.path_agenda.specs.declared.duty.Duty.{Duty}
 use Rattle.path_agenda.specs.declared.heard.Heard.{Heard}
 use Rattle.path_agenda.specs.declared.heard.Heard.TheVariants as says
+use Rattle.path_agenda.specs.declared.notice.PeerNotice.TheVariants as notes
 use Rattle.path_agenda.specs.Items.{place_in_first, wants_ack}
 use Rattle.path_agenda.specs.Agenda.{emission, syn_came, syn_ack_came, join_came, refuses, join_answered, copy_came, syn_again, answers, answers_dead, leaves, resets}
 use Rattle.path_core.specs.Codec.{HeardSegment}
@@ -106,14 +108,14 @@ abbrev pub end_items : ℕ → List Heard
 end_items place = if nat_le place (2 ^ 62) then says.DataFin place ∷ [] else []
 
 -- an infinite mapping, which begins at a place below 2^62
-abbrev pub infinite_items : ℕ → List Heard
-infinite_items place = if nat_lt place (2 ^ 62) then says.InfiniteMapping ∷ [] else []
+abbrev pub infinite_items : ℕ → Option ℕ → List Heard
+infinite_items place position = if nat_lt place (2 ^ 62) then says.InfiniteMapping place position ∷ [] else []
 
 -- a mapping that names a place, the last number of which may be the DATA_FIN's; a DATA_FIN alone; an infinite mapping
 abbrev pub map_items : Option (PathMapping (Option ℕ)) → List Heard
 map_items (Some (Bytes (Some place) (Some position) len fin checksum)) = mapping_items place position (octets_in len fin) fin
 map_items (Some (End (Some place) checksum)) = end_items place
-map_items (Some (Infinite (Some place) position)) = infinite_items place
+map_items (Some (Infinite (Some place) position)) = infinite_items place position
 map_items _ = []
 
 -- MP_CAPABLE by the keys that it shows; B hears both, and the mapping of place 0 at position 1 with the first piece
@@ -130,16 +132,35 @@ join_items B (Syn backup id token nonce) = says.Join (Syn backup id token nonce)
 join_items B (Third hmac) = says.Join (Third hmac) ∷ []
 join_items _ _ = []
 
+-- an address that is announced, or the echo of an announcement (RFC 8684, section 3.4.1)
+abbrev pub address_items : Bool → ℕ → Address → Option ℕ → Option ℕ → List Heard
+address_items true id address port hmac = says.Notice (notes.AddEcho id) ∷ []
+address_items false id address port (Some hmac) = says.Notice (notes.AddAddr id address port hmac) ∷ []
+address_items false id address port None = []
+
+-- an address that is taken back, one for each id
+abbrev pub item_removed : ℕ → Heard
+item_removed id = says.Notice (notes.Removed id)
+
 -- MP_CAPABLE says nothing on a path that joins
 abbrev pub items_in : Bool → Side → ℕ → HeardOption → List Heard
 items_in joined s window (Capable flag_a flag_c keys) = if joined then [] else key_items s keys
 items_in joined s window (Dss next mapping) = says.Dss ∷ (ack_items next window ++ map_items mapping)
 items_in joined s window (Join form) = join_items s form
-items_in joined s window _ = []
+items_in joined s window (AddAddr echo id address port hmac) = address_items echo id address port hmac
+items_in joined s window (Remove ids) = map item_removed ids
+items_in joined s window (Prio backup) = says.Notice (notes.Prio backup) ∷ []
+items_in joined s window (Fail place) = says.Fail ∷ []
+items_in joined s window (FastClose key) = says.FastClose key ∷ []
+items_in joined s window (Reset transient reason) = []
 
--- all that a copy says to the end of this side, in the order of its options; forty octets of options say ten things at most
+-- all that a copy says to the end of this side, in the order of its options
 abbrev pub items_of : Bool → Side → HeardSegment → List Heard
-items_of joined s h = take 10 (flat_map (items_in joined s h.window) h.options)
+items_of joined s h = flat_map (items_in joined s h.window) h.options
+
+-- they say 37 things at most
+pub record SaysFew (options : List HeardOption) : Type 0 where
+  pub few : (joined : Bool) (s : Side) (window : ℕ) → length (flat_map (items_in joined s window) options) ≤ 37
 
 -- after a fallback no option is heard (RFC 8684, section 3.7)
 abbrev pub options_heard : PathEnd → HeardSegment → HeardSegment

@@ -1,20 +1,20 @@
 -- Data ACKs, and when DATA_FIN and FIN go out (RFC 8684, sections 3.3.2 and 3.3.3).
 use Rattle.std.specs.Prelude.{ℕ, max, min, Bool, true, false, not, ◌&&◌, ◌||◌, ◌==◌, nat_lt, is_some, if◌then◌else◌, Option, Some, None, List, ◌++◌, [], ◌∷◌, filter}
 use Rattle.std.specs.List.{list_any}
-use Rattle.send_book.specs.declared.call.Span.{Span}
 use Rattle.send_book.specs.declared.call.Why.{Why}
 use Rattle.send_book.specs.declared.call.Why.TheVariants.{Ended, Backup, NothingFree, WindowShut}
 use Rattle.data_close.specs.Closing as closing
 use Rattle.subflow_tcp.specs.States.{may_finish}
+use Rattle.path_core.specs.declared.granted_piece.GrantedPiece.{GrantedPiece}
 use Rattle.path_core.specs.Ends.{Sending, PathEnd}
 use Rattle.actor_desk.specs.Words.{is_nil}
 use Rattle.path_core.specs.Words.{told_last}
 
 -- ---- what the peer acknowledged
 
--- a place of the span wasn't acknowledged before, and is now
-abbrev pub is_newly_heard : ℕ → ℕ → Span → Bool
-is_newly_heard before next span = nat_lt (max span.from before) next
+-- a place of the piece wasn't acknowledged before, and is now
+abbrev pub is_newly_heard : ℕ → ℕ → GrantedPiece → Bool
+is_newly_heard before next piece = nat_lt (max piece.from before) next
 
 -- the own DATA_FIN that was sent is acknowledged for the first time
 abbrev pub is_end_news : Bool → Sending → Bool
@@ -23,9 +23,9 @@ is_end_news fin v = fin && (v.fin_sent && not v.close.own_acked)
 abbrev pub is_news : ℕ → Bool → Sending → Bool
 is_news next fin v = list_any (is_newly_heard v.heard next) v.granted || is_end_news fin v
 
--- a span that isn't acknowledged whole
-abbrev pub is_open : ℕ → Span → Bool
-is_open heard span = nat_lt heard span.to
+-- a piece that isn't acknowledged whole
+abbrev pub is_open : ℕ → GrantedPiece → Bool
+is_open heard piece = nat_lt heard piece.to
 
 -- so many bytes of the stream are acknowledged, the DATA_FIN among them or not
 abbrev pub after_acked : ℕ → Bool → Sending → Sending
@@ -42,8 +42,8 @@ after_peer_end v = record v { close = record v.close { peer_came = true } }
 
 -- ---- grants
 
-abbrev pub after_granted : Span → Sending → Sending
-after_granted span v = record v { shut = false; granted = v.granted ++ span ∷ [] }
+abbrev pub after_granted : GrantedPiece → Sending → Sending
+after_granted piece v = record v { shut = false; granted = v.granted ++ piece ∷ [] }
 
 abbrev pub is_shut : Why → Bool
 is_shut WindowShut = true
@@ -71,9 +71,9 @@ is_end_due e =
     && (is_some e.sending.known_end && (not e.sending.fin_sent && not e.sending.close.own_acked))))
 
 -- the place behind the last byte that was granted and isn't acknowledged
-abbrev pub granted_to : List Span → ℕ
+abbrev pub granted_to : List GrantedPiece → ℕ
 granted_to [] = 0
-granted_to (span ∷ spans) = max span.to (granted_to spans)
+granted_to (piece ∷ pieces) = max piece.to (granted_to pieces)
 
 -- the end is known, and no byte before it waits for its grant
 abbrev pub is_all_granted : Option ℕ → Sending → Bool

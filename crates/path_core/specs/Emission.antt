@@ -19,6 +19,7 @@ use Rattle.actor_desk.specs.declared.ask.Ask.{Ask}
 use Rattle.actor_desk.specs.declared.ask.Ask.TheVariants as asks
 use Rattle.actor_desk.specs.declared.ask.Reply.{Reply}
 use Rattle.actor_desk.specs.declared.ask.Reply.TheVariants as replies
+use Rattle.path_core.specs.declared.granted_piece.GrantedPiece.{GrantedPiece}
 use Rattle.path_core.specs.Closing.{after_granted, after_refusal, with_end_sent, is_waiting, without_news}
 use Rattle.path_core.specs.Codec.{Codec}
 use Rattle.path_core.specs.Ends.{PathEnd, Sending}
@@ -74,11 +75,15 @@ abbrev pub data_ask : {C : Type 0} → Codec C → Side → Option Record → Pa
 data_ask k s (Some r) p = sends k s (unsent_segment s p) p
 data_ask k s None p = grant_ask s p
 
+-- what was granted, from this position on
+abbrev pub granted_at : ℕ → Span → GrantedPiece
+granted_at position span = record { position = position; from = span.from; to = span.to }
+
 -- the piece is to be sent with this mapping
 abbrev pub with_piece : Span → List ℕ → Mapping → PathEnd → PathEnd
 with_piece span piece mapping e = record e {
   tcp = record e.tcp { send = after_push piece mapping e.tcp.send };
-  sending = after_granted span e.sending;
+  sending = after_granted (granted_at e.tcp.send.nxt span) e.sending;
 }
 
 -- the granted piece is to be sent, with one mapping for ever

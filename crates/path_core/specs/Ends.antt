@@ -1,12 +1,13 @@
 -- What one end of a path keeps, by concern. The subflow is `subflow_tcp`'s own.
 use Rattle.std.specs.Prelude.{ℕ, Bool, false, Option, None, List, []}
-use Rattle.send_book.specs.declared.call.Span.{Span}
 use Rattle.data_close.specs.declared.close_state.CloseState.{CloseState}
 use Rattle.dss_mapping.specs.Mappings.{Mappings, no_mappings}
 use Rattle.fallback_state.specs.declared.fall.Mode.TheVariants.{Starting}
 use Rattle.subflow_tcp.specs.declared.segments.Outgoing.{Outgoing}
 use Rattle.subflow_tcp.specs.State.{EndState}
 use Rattle.path_agenda.specs.declared.heard.Heard.{Heard}
+use Rattle.path_agenda.specs.declared.notice.OwnNotice.{OwnNotice}
+use Rattle.path_core.specs.declared.granted_piece.GrantedPiece.{GrantedPiece}
 use Rattle.path_core.specs.declared.mapped_fin.MappedFin.{MappedFin}
 use Rattle.path_core.specs.declared.modes.Modes.{Modes}
 
@@ -22,8 +23,8 @@ pub record Sending : Type 0 where
   pub shut : Bool
   -- how many bytes of the stream, the DATA_FIN among them, the peer acknowledged to this end
   pub heard : ℕ
-  -- the places that were granted to this end and aren't below all that it heard
-  pub granted : List Span
+  -- the pieces that were granted to this end and aren't below all that it heard, by position and places
+  pub granted : List GrantedPiece
   -- one of them, or the DATA_FIN, was acknowledged since the timer was settled last
   pub news : Bool
 
@@ -77,6 +78,17 @@ pub record Treated : Type 0 where
   -- the receive edge at its arrival, where its payload has the octet there and isn't dropped
   pub held_edge : Option ℕ
 
+-- what the end has to tell its peer beside its streams, or to do
+pub record Notices : Type 0 where
+  -- what is to be noted to the peer, in its order
+  pub queue : List OwnNotice
+  -- the peer's key, where this end carries the fast close
+  pub carrier : Option ℕ
+  -- MP_FASTCLOSE was sent
+  pub fast_closed : Bool
+  -- the end is to be reset
+  pub reset : Bool
+
 -- one end
 pub record PathEnd : Type 0 where
   pub tcp : EndState
@@ -84,6 +96,7 @@ pub record PathEnd : Type 0 where
   pub receiving : Receiving
   pub modes : Modes
   pub treated : Treated
+  pub notices : Notices
 
 abbrev pub no_sending : Sending
 no_sending = record {
@@ -117,6 +130,9 @@ nothing_treated = record {
   held_edge = None;
 }
 
+abbrev pub no_notices : Notices
+no_notices = record { queue = []; carrier = None; fast_closed = false; reset = false }
+
 abbrev pub first_modes : ℕ → ℕ → Modes
 first_modes own_key own_nonce = record {
   mode = Starting;
@@ -145,4 +161,5 @@ opening_end tcp own_key own_nonce = record {
   receiving = no_receiving;
   modes = first_modes own_key own_nonce;
   treated = nothing_treated;
+  notices = no_notices;
 }

@@ -25,7 +25,7 @@ use Rattle.path_agenda.specs.Agenda.{rest_of_turn, emission, expired, expired_fo
 use Rattle.path_agenda.specs.Words.{replaced}
 use Rattle.path_core.specs.Arriving.{expected_by, items_of, options_heard, judged_in, after_judged, template_of}
 use Rattle.path_core.specs.Codec.{Codec, HeardSegment}
-use Rattle.path_core.specs.Ends.{PathEnd, nothing_treated}
+use Rattle.path_core.specs.Ends.{PathEnd, nothing_treated, no_notices}
 use Rattle.path_core.specs.Joining.{join_begin_ask, keys_begun, is_never, with_mode_refused, opened_by}
 use Rattle.path_core.specs.Joins.{is_joined}
 use Rattle.path_core.specs.State.{PathState, end_at, with_agenda, goes_on, left}
@@ -104,7 +104,7 @@ at_tick tick p = record p { clock = max p.clock tick }
 
 -- nothing is sent, kept or awaited any more
 abbrev pub died : PathEnd → PathEnd
-died e = record e { tcp = after_death false e.tcp; treated = nothing_treated }
+died e = record e { tcp = after_death false e.tcp; treated = nothing_treated; notices = no_notices }
 
 abbrev pub died_unless_dead : PathEnd → PathEnd
 died_unless_dead e = if is_dead e.tcp.state then e else died e

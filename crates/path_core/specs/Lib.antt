@@ -9,8 +9,10 @@ pub mod Closing
 pub mod Rising
 pub mod Placing
 pub mod Arriving
+pub mod FewThings
 pub mod Handshakes
 pub mod Events
+pub mod Noticing
 pub mod Standing
 pub mod Emission
 pub mod Falling

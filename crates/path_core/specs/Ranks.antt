@@ -1,11 +1,11 @@
 -- The numbers that show that a turn ends, each of which falls where those before it stay: ticks until the round's end, events
 -- that are due by now, the weight of what is to be done, octets in order that aren't passed, and what may still be sent.
-use Rattle.std.specs.Prelude.{ℕ, ◌+◌, ◌-◌, ◌*◌, nat_le, if◌then◌else◌, Option, Some, None, List, [], ◌∷◌, length}
+use Rattle.std.specs.Prelude.{ℕ, ◌+◌, ◌-◌, ◌*◌, nat_le, not, ◌&&◌, Bool, is_some, if◌then◌else◌, Option, Some, None, List, [], ◌∷◌, length}
 use Rattle.link_model.specs.declared.flight.Flight.{Flight}
 use Rattle.subflow_recv.specs.Receiving.{filled}
 use Rattle.subflow_send.specs.Records.{Record}
 use Rattle.subflow_send.specs.Rules.{is_unsent}
-use Rattle.path_core.specs.Ends.{PathEnd}
+use Rattle.path_core.specs.Ends.{PathEnd, Notices}
 use Rattle.path_core.specs.State.{PathState}
 use Rattle.path_core.specs.declared.lines.LineLeft.{LineLeft}
 
@@ -54,9 +54,17 @@ abbrev pub unsent_count : List Record → ℕ
 unsent_count [] = 0
 unsent_count (r ∷ rs) = (if is_unsent r then 1 else 0) + unsent_count rs
 
--- each octet of room may become a piece, which is sent once
+-- what is to be noted to the peer, and the fast close
+abbrev pub is_carried : Notices → Bool
+is_carried n = is_some n.carrier && not n.fast_closed
+
+abbrev pub notes_left : Notices → ℕ
+notes_left n = length n.queue + (if is_carried n then 1 else 0)
+
+-- each octet of room may become a piece, which is sent once; so is what is to be noted
 abbrev pub work : PathEnd → ℕ
-work e = 2 * (e.tcp.congestion.reno.window - outstanding e.tcp.send.records) + unsent_count e.tcp.send.records
+work e =
+    2 * (e.tcp.congestion.reno.window - outstanding e.tcp.send.records) + unsent_count e.tcp.send.records + notes_left e.notices
 
 abbrev pub sendings_left : {C : Type 0} → PathState C → ℕ
 sendings_left p = work p.a + work p.b

@@ -11,6 +11,7 @@ use Rattle.path_core.specs.declared.event.Event.{Event}
 use Rattle.path_core.specs.declared.event.Event.TheVariants as happenings
 use Rattle.path_core.specs.Emission.{Grant, first_unsent, grant_in}
 use Rattle.path_core.specs.Events.{next_event}
+use Rattle.path_core.specs.Standing.{queues_in}
 use Rattle.path_core.specs.State.{PathState, end_at}
 
 -- what is to be acknowledged is a place, and how much more is taken a window
@@ -115,10 +116,11 @@ asks_segment (duties.BreakReset s reason) = true
 asks_segment (duties.Reset s) = true
 asks_segment duties.End = true
 
--- duties whose reply may take memory: they send, or store what came
+-- duties whose reply may take memory: they send, or store what came or what is to be noted
 abbrev pub takes_memory : Duty → Bool
 takes_memory (duties.Data s) = true
 takes_memory duties.Events = true
+takes_memory (duties.Look s) = true
 takes_memory (duties.Heard s index) = true
 takes_memory (duties.Update s) = true
 takes_memory (duties.Acknowledge s) = true
@@ -145,10 +147,12 @@ is_arrival (Some (happenings.Takes line)) = false
 is_arrival (Some (happenings.Arrives due)) = true
 is_arrival (Some (happenings.Fires s tick)) = false
 
--- the reply to a duty needs memory where a segment is sent or may be, bytes were granted, or a copy arrives
+-- the reply to a duty needs memory where a segment is sent or may be, bytes were granted, a copy arrives, or something is to be
+-- noted to the peer
 abbrev pub needs_memory : {C : Type 0} → Duty → Reply → PathState C → Bool
 needs_memory (duties.Data s) r p = is_some (first_unsent (end_at s p)) || is_some (grant_in r)
 needs_memory duties.Events r p = is_arrival (next_event p)
+needs_memory (duties.Look s) r p = queues_in r (end_at s p)
 needs_memory d r p = takes_memory d
 
 abbrev pub needs_memory_first : {C : Type 0} → List Duty → Reply → PathState C → Bool

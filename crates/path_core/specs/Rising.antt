@@ -1,13 +1,13 @@
--- Spans of which none lies before one that stands before it.
+-- Pieces of which none lies before one that stands before it.
 use Rattle.std.specs.Prelude.{◌≤◌, List, [], ◌∷◌}
 use Rattle.std.specs.List.{AllByRecursion}
-use Rattle.send_book.specs.declared.call.Span.{Span}
+use Rattle.path_core.specs.declared.granted_piece.GrantedPiece.{GrantedPiece}
 
--- none of these spans begins or ends before this one
-abbrev pub IsLowest : Span → List Span → Type 0
-IsLowest span spans = AllByRecursion (λ other. (span.from ≤ other.from) × (span.to ≤ other.to)) spans
+-- none of these pieces begins or ends before this one
+abbrev pub IsLowest : GrantedPiece → List GrantedPiece → Type 0
+IsLowest piece pieces = AllByRecursion (λ other. (piece.from ≤ other.from) × (piece.to ≤ other.to)) pieces
 
--- none of these spans begins or ends before one that stands before it
-abbrev pub Rise : List Span → Type 0
+-- none of these pieces begins or ends before one that stands before it
+abbrev pub Rise : List GrantedPiece → Type 0
 Rise [] = Unit {0}
-Rise (span ∷ spans) = IsLowest span spans × Rise spans
+Rise (piece ∷ pieces) = IsLowest piece pieces × Rise pieces

@@ -1,28 +1,34 @@
 -- A segment that an end is to send, and which are to be sent.
 use Rattle.std.specs.Prelude.{ℕ, Option, Some, None, List, [], ◌∷◌}
-use Rattle.std.specs.Borrow.{Bor}
 use Rattle.outside_kit.specs.declared.side.Side.{Side}
-use Rattle.path_segments.specs.declared.segment.PathOption.{PathOption}
 use Rattle.path_segments.specs.declared.spelling.Spelling.{Spelling}
-use Rattle.path_segments.specs.Options.{PlainOption, plain_option}
+use Rattle.path_segments.specs.Options.{PlainOption}
 use Rattle.path_segments.specs.Spelled.{PlainSegment, CanSay}
 use Rattle.subflow_tcp.specs.declared.segments.Occasion.{Occasion}
 use Rattle.subflow_tcp.specs.Emitting.{reset_segment}
 use Rattle.path_core.specs.declared.said.Said.{Said}
+use Rattle.path_core.specs.declared.said.SaidOptions.{SaidOptions}
+use Rattle.path_core.specs.declared.said.SaidOptions.TheVariants.{Nothing, One, Two}
 use Rattle.path_core.specs.declared.segment_kind.SegmentKind.{SegmentKind}
 use Rattle.path_core.specs.declared.segment_kind.SegmentKind.TheVariants as to_say
 use Rattle.path_core.specs.Emission.{first_unsent}
 use Rattle.path_core.specs.Ends.{PathEnd}
 use Rattle.path_core.specs.Passing.{outgoing_or, first_record, answer_said, resend_said}
-use Rattle.path_core.specs.Segments.{spelled_by, reset_options, segment_of, ack_said, fin_said, syn_ack_said, reset_said, record_or_ack}
+use Rattle.path_core.specs.Segments.{spelled_by, reset_options, segment_of, ack_said, notice_said, fast_close_said, fin_said, syn_ack_said, reset_said, fail_reset_said, record_or_ack}
 use Rattle.path_core.specs.Octets.{octets}
 use Rattle.path_core.specs.Sends.{having_sent, sent_on}
 use Rattle.path_core.specs.State.{PathState, Profile, end_at}
 
--- an option that may be there, by its value
-abbrev pub options_by : Option (PathOption ℕ (Bor (List ℕ))) → List PlainOption
+-- an option that may be there
+abbrev pub options_by : Option PlainOption → List PlainOption
 options_by None = []
-options_by (Some option) = plain_option option ∷ []
+options_by (Some option) = option ∷ []
+
+-- the options of the code in a list
+abbrev pub said_options : SaidOptions → List PlainOption
+said_options Nothing = []
+said_options (One option) = option ∷ []
+said_options (Two first second) = first ∷ second ∷ []
 
 -- the segment of the code by its value
 abbrev pub plain_said : Said → PlainSegment
@@ -34,7 +40,7 @@ plain_said s = record {
   rst = s.outgoing.rst;
   window = s.window;
   mss = s.mss;
-  options = options_by s.option;
+  options = said_options s.options;
   payload = s.payload.now;
 }
 
@@ -55,6 +61,9 @@ said_by to_say.DeadAnswer c s e = segment_of c (outgoing_or e.treated.answer (re
 said_by to_say.Resend c s e = resend_said c s e
 said_by to_say.Refusal c s e = segment_of c (outgoing_or e.treated.answer (reset_segment e.tcp)) (reset_options (Some 1)) [] e
 said_by (to_say.Reset reason) c s e = reset_said c reason e
+said_by (to_say.FailReset place) c s e = fail_reset_said c place e
+said_by (to_say.Notice notice) c s e = notice_said c notice e
+said_by (to_say.FastClose key) c s e = fast_close_said c key e
 
 -- the segment of a kind is sent on an occasion
 abbrev pub sent_kind : Occasion → SegmentKind → Side → PathState (List ℕ) → PathState (List ℕ)

@@ -1,13 +1,16 @@
 -- The segments that an end sends: their options, their windows, and the mapping of a piece (RFC 8684, section 3).
-use Rattle.std.specs.Prelude.{ℕ, ◌+◌, ◌-◌, ◌%◌, ◌^◌, ◌==◌, ◌&&◌, not, nat_le, Bool, false, if◌then◌else◌, Option, Some, None, List, [], ◌∷◌, length}
+use Rattle.std.specs.Prelude.{ℕ, ◌+◌, ◌-◌, ◌%◌, ◌^◌, ◌≤◌, ◌==◌, ◌&&◌, not, nat_le, Bool, true, false, if◌then◌else◌, Option, Some, None, List, [], ◌∷◌, length}
 use Rattle.outside_kit.specs.declared.side.Side.{Side}
 use Rattle.outside_kit.specs.declared.side.Side.TheVariants.{A, B}
 use Rattle.seq_units.specs.declared.mapping.Mapping.{Mapping}
+use Rattle.key_material.specs.declared.address.Address.TheVariants.{V4}
+use Rattle.key_material.specs.Address.{octets_of}
+use Rattle.key_material.specs.AddressHmac.{add_addr64_of}
 use Rattle.mptcp_options.specs.declared.capable.CapableKeys.TheVariants.{NoKey, Sender, Both, WithData}
 use Rattle.dss_checksum.specs.Checksum.{dss_checksum}
 use Rattle.path_segments.specs.declared.spelling.Side.TheVariants as spelled_side
 use Rattle.path_segments.specs.declared.spelling.Side.{Side as SpelledSide}
-use Rattle.path_segments.specs.declared.segment.PathOption.TheVariants.{Capable, Dss, Reset}
+use Rattle.path_segments.specs.declared.segment.PathOption.TheVariants.{Capable, Dss, AddAddr, Remove, Prio, Fail, FastClose, Reset}
 use Rattle.path_segments.specs.declared.segment.PathMapping.{PathMapping}
 use Rattle.path_segments.specs.declared.segment.PathMapping.TheVariants.{Bytes, End, Infinite}
 use Rattle.path_segments.specs.Spelling.{whole_number}
@@ -18,8 +21,13 @@ use Rattle.subflow_send.specs.declared.record.RecordKind.TheVariants.{Syn, Data,
 use Rattle.subflow_send.specs.Records.{Record}
 use Rattle.subflow_tcp.specs.declared.segments.Outgoing.{Outgoing}
 use Rattle.subflow_tcp.specs.Emitting.{ack_at, syn_ack_segment, reset_segment, fin_position, fin_segment, record_segment}
+use Rattle.path_agenda.specs.declared.notice.OwnNotice.{OwnNotice}
+use Rattle.path_agenda.specs.declared.notice.OwnNotice.TheVariants as notes
+use Rattle.path_core.specs.declared.modes.Modes.{Modes}
+use Rattle.path_core.specs.declared.segment_kind.SegmentKind.{SegmentKind}
+use Rattle.path_core.specs.declared.segment_kind.SegmentKind.TheVariants as to_say
 use Rattle.path_core.specs.Ends.{PathEnd}
-use Rattle.path_core.specs.Joins.{is_joined, join_options, third_options}
+use Rattle.path_core.specs.Joins.{is_joined, peer_key_of, join_options, third_options}
 use Rattle.path_core.specs.State.{Profile}
 use Rattle.path_core.specs.Words.{is_side_a}
 
@@ -138,6 +146,28 @@ abbrev pub reset_options : Option ℕ → List PlainOption
 reset_options None = []
 reset_options (Some reason) = Reset false reason ∷ []
 
+-- The own address of an id is 10.0.id.2, without a port. An announcement shows the HMAC of both keys (RFC 8684, section 3.4.1).
+abbrev pub announcement : ℕ → Modes → PlainOption
+announcement id m =
+    let address = V4 (10 ∷ 0 ∷ id ∷ 2 ∷ []) in
+    AddAddr false id address None (Some (add_addr64_of m.own_key (peer_key_of m) id address 0))
+
+-- a notice; an echo has no HMAC
+abbrev pub notice_option : OwnNotice → Modes → PlainOption
+notice_option (notes.AddAddr id) m = announcement id m
+notice_option (notes.AddEcho id address port) m = AddAddr true id address port None
+notice_option (notes.Removes id) m = Remove (id ∷ [])
+notice_option (notes.Prio backup) m = Prio backup
+
+-- an address that is echoed has 16 octets at most
+abbrev pub HasAddress : OwnNotice → Type 0
+HasAddress (notes.AddEcho id address port) = length (octets_of address) ≤ 16
+HasAddress _ = Unit {0}
+
+abbrev pub HasAddresses : SegmentKind → Type 0
+HasAddresses (to_say.Notice notice) = HasAddress notice
+HasAddresses _ = Unit {0}
+
 -- ---- segments
 
 -- a segment has the window that the book told last, and a SYN the maximum segment size
@@ -171,6 +201,21 @@ fin_said c e = segment_of c (fin_segment e.tcp) (fin_options (fin_position e.tcp
 
 abbrev pub reset_said : Profile → Option ℕ → PathEnd → PlainSegment
 reset_said c reason e = segment_of c (reset_segment e.tcp) (if e.modes.identity then [] else reset_options reason) [] e
+
+-- the check of the mapping at this place of the peer's stream failed: MP_FAIL stands before the reason (RFC 8684, sections 3.6, 3.7)
+abbrev pub fail_reset_said : Profile → ℕ → PathEnd → PlainSegment
+fail_reset_said c place e = segment_of c (reset_segment e.tcp) (Fail place ∷ Reset false 6 ∷ []) [] e
+
+-- an acknowledgement with a DSS, and this option behind it
+abbrev pub dss_and : Profile → PlainOption → PathEnd → PlainSegment
+dss_and c option e = segment_of c (ack_at e.tcp.send.nxt e.tcp) (Dss (Some e.receiving.next) None ∷ option ∷ []) [] e
+
+abbrev pub notice_said : Profile → OwnNotice → PathEnd → PlainSegment
+notice_said c notice e = dss_and c (notice_option notice e.modes) e
+
+-- with the peer's key (RFC 8684, section 3.5)
+abbrev pub fast_close_said : Profile → ℕ → PathEnd → PlainSegment
+fast_close_said c key e = dss_and c (FastClose key) e
 
 -- a record that may be there
 abbrev pub record_or_ack : Profile → Side → Option Record → PathEnd → PlainSegment

@@ -1,5 +1,5 @@
 -- The start of a turn: how the side stands, and what is to be acknowledged.
-use Rattle.std.specs.Prelude.{ℕ, ◌+◌, ◌-◌, ◌*◌, min, Bool, true, false, ◌&&◌, nat_le, None, List}
+use Rattle.std.specs.Prelude.{ℕ, ◌+◌, ◌-◌, ◌*◌, min, Bool, true, false, not, ◌&&◌, nat_le, if◌then◌else◌, None, List}
 use Rattle.outside_kit.specs.declared.side.Side.{Side}
 use Rattle.path_segments.specs.Laws.{window_told}
 use Rattle.path_segments.specs.Spelled.{PlainSegment}
@@ -10,6 +10,7 @@ use Rattle.control_book.specs.declared.call.ControlReply.TheVariants as control_
 use Rattle.subflow_tcp.specs.declared.handshake.State.{State as EndPhase}
 use Rattle.subflow_tcp.specs.declared.handshake.State.TheVariants as phase
 use Rattle.subflow_tcp.specs.declared.segments.Occasion.TheVariants as to_send
+use Rattle.subflow_tcp.specs.States.{is_dead}
 use Rattle.actor_desk.specs.declared.ask.Ask.{Ask}
 use Rattle.actor_desk.specs.declared.ask.Ask.TheVariants as asks
 use Rattle.actor_desk.specs.declared.ask.Reply.{Reply}
@@ -17,24 +18,49 @@ use Rattle.actor_desk.specs.declared.ask.Reply.TheVariants as replies
 use Rattle.path_agenda.specs.declared.duty.Duty.{Duty}
 use Rattle.path_core.specs.Codec.{Codec}
 use Rattle.path_core.specs.declared.modes.Modes.{Modes}
-use Rattle.path_core.specs.Ends.{PathEnd, Receiving}
+use Rattle.path_core.specs.Ends.{PathEnd, Receiving, Notices}
+use Rattle.path_core.specs.Noticing.{after_notice, queues}
 use Rattle.path_core.specs.Segments.{ack_said}
 use Rattle.path_core.specs.Sends.{having_sent, sent_on}
 use Rattle.path_core.specs.State.{PathState, Profile, end_at, goes_on, left, path_of}
 
 -- ---- Look
 
+-- both SYNs are acknowledged, and the end isn't dead
+abbrev pub is_connected : EndPhase → Bool
+is_connected phase.Waiting = false
+is_connected phase.Listen = false
+is_connected phase.SynSent = false
+is_connected phase.SynReceived = false
+is_connected phase.Dead = false
+is_connected _ = true
+
 abbrev pub look_ask : {C : Type 0} → Side → PathState C → Ask
 look_ask s p = asks.Control s (control_calls.Look (path_of p))
 
--- the mode, and how the path stands among the others; notices lead to nothing yet
+-- the mode, and how the path stands among the others
 abbrev pub modes_told : Reply → Modes → Modes
 modes_told (replies.Control (control_replies.Standing mode standby sole notice)) m =
     record m { mode = mode; standby = standby; sole = sole }
 modes_told _ m = m
 
+-- the end can note something to the peer: both SYNs are acknowledged, and it may send a DSS
+abbrev pub may_note : PathEnd → Bool
+may_note e = is_connected e.tcp.state && (e.modes.clear && not e.modes.identity)
+
+-- a dead end does nothing with a notice
+abbrev pub notices_told : Reply → PathEnd → Notices
+notices_told (replies.Control (control_replies.Standing mode standby sole notice)) e =
+    if is_dead e.tcp.state then e.notices else after_notice notice (may_note e) e.notices
+notices_told _ e = e.notices
+
+-- something is to be noted to the peer
+abbrev pub queues_in : Reply → PathEnd → Bool
+queues_in (replies.Control (control_replies.Standing mode standby sole notice)) e = not (is_dead e.tcp.state) && queues notice (may_note e)
+queues_in _ e = false
+
 abbrev pub after_look : Reply → PathEnd → PathEnd
-after_look r e = record e { modes = modes_told r e.modes }
+after_look r e = record e { modes = modes_told r e.modes; notices = notices_told r e }
 
 abbrev pub answered_look : {C : Type 0} → Side → Reply → PathState C → PathState C
 answered_look s r p = goes_on s (after_look r (end_at s p)) (left p) p
@@ -56,15 +82,6 @@ abbrev pub answered_ack_out : {C : Type 0} → Side → Reply → List Duty → 
 answered_ack_out s r ds p = goes_on s (after_ack_out r (end_at s p)) ds p
 
 -- ---- the window update
-
--- both SYNs are acknowledged, and the end isn't dead
-abbrev pub is_connected : EndPhase → Bool
-is_connected phase.Waiting = false
-is_connected phase.Listen = false
-is_connected phase.SynSent = false
-is_connected phase.SynReceived = false
-is_connected phase.Dead = false
-is_connected _ = true
 
 -- the edge of the window that a segment could tell, in steps of 32 octets
 abbrev pub tellable_edge : PathEnd → ℕ

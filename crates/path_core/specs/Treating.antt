@@ -51,10 +51,13 @@ heard_stands says.Dss e = false
 heard_stands (says.DataAck next window) e = true
 heard_stands (says.Mapping fin) e = mapping_stands e
 heard_stands (says.DataFin place) e = counts e && is_starting e.modes.mode
-heard_stands says.InfiniteMapping e = counts e && reads_mappings e.modes.mode
+heard_stands (says.InfiniteMapping place position) e = counts e && reads_mappings e.modes.mode
 heard_stands (says.PeerKey key) e = false
 heard_stands (says.Keys own peer) e = not e.treated.keys_told
 heard_stands (says.Join form) e = false
+heard_stands (says.Notice notice) e = false
+heard_stands says.Fail e = false
+heard_stands (says.FastClose key) e = false
 
 abbrev pub mapping_ask : {C : Type 0} → Codec C → Side → PathState C → Ask
 mapping_ask k s p = if is_clash (end_at s p) then break_ask k s 1 p else fell_ask s events.MappingHeard p
@@ -63,7 +66,7 @@ abbrev pub heard_ask : {C : Type 0} → Codec C → Side → Heard → PathState
 heard_ask k s (says.DataAck next window) p = asks.Send s (send_calls.AckIn next window)
 heard_ask k s (says.Mapping fin) p = mapping_ask k s p
 heard_ask k s (says.DataFin place) p = fell_ask s events.MappingHeard p
-heard_ask k s says.InfiniteMapping p = fell_ask s events.InfiniteHeard p
+heard_ask k s (says.InfiniteMapping place position) p = fell_ask s events.InfiniteHeard p
 heard_ask k s (says.Keys own peer) p = keys_ask s (Some (record { own = own; peer = peer }))
 heard_ask k s _ p = asks.Local steps.End
 
@@ -108,7 +111,7 @@ answered_heard k s (says.DataAck next window) r p = answered_ack s next r p
 answered_heard k s (says.Mapping fin) r p = answered_mapping k s r p
 answered_heard k s (says.DataFin place) r p =
     goes_on s (with_fin place (after_fell events.MappingHeard r (end_at s p))) (fell_duties s r p) p
-answered_heard k s says.InfiniteMapping r p = answered_fell s events.InfiniteHeard r p
+answered_heard k s (says.InfiniteMapping place position) r p = answered_fell s events.InfiniteHeard r p
 answered_heard k s (says.Keys own peer) r p =
     goes_on s (after_keys r (Some (record { own = own; peer = peer })) (end_at s p)) (left p) p
 answered_heard k s _ r p = with_agenda (left p) p

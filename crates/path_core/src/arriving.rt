@@ -1,16 +1,17 @@
 //! A copy that arrives, and what it makes of the end at once. The rest is treated duty by duty.
 
-ghost use Rattle.std.specs.Prelude.{◌≡◌, ◌≤◌, ◌^◌, false, length, unwrap_or, All, Some, IfOk, IsTrue, OnOk, OnErr};
+ghost use Rattle.std.specs.Prelude.{◌≡◌, ◌≤◌, ◌^◌, false, length, unwrap_or, option_map, All, Some, IfOk, IfSome, IsTrue, OnOk, OnErr};
 ghost use Rattle.dss_mapping.specs.Learning.{IsWithin};
 ghost use Rattle.link_model.specs.Steps.{peer};
 ghost use Rattle.path_segments.specs.HeardLent.{IsExpected};
+ghost use Rattle.path_segments.specs.Heard.{heard_in};
 ghost use Rattle.path_segments.specs.HeardSegments.{heard_value, IsHeardShort};
 ghost use Rattle.subflow_tcp.specs.Judging.{IsBelow};
 ghost use Rattle.subflow_tcp.specs.Taking.{after_arrival, arrival_of, unkept};
 ghost use Rattle.path_agenda.specs.Items.{IsFair};
 ghost use Rattle.subflow_tcp.specs.Segments as subflow;
 ghost use Rattle.path_core.specs.declared.event.Event.TheVariants as event;
-ghost use Rattle.path_core.specs.Arriving.{expected_by, position_in, acknowledged_in, copy_of, items_of, with_payload, with_held, after_copy, is_ignored, is_taken, taken_as, judged_in, copy_judged, segment_heard, template_by, template_judged, template_of, IsTakenAs};
+ghost use Rattle.path_core.specs.Arriving.{expected_by, position_in, acknowledged_in, copy_of, items_of, with_payload, with_held, after_copy, is_ignored, is_taken, taken_as, judged_in, copy_judged, segment_heard, template_by, template_judged, template_of, IsTakenAs, SaysFew};
 ghost use Rattle.path_core.specs.Events.{told_at, heard_at, copy_taken, CanHappen};
 ghost use Rattle.path_core.specs.Octets.{octets, read};
 ghost use Rattle.path_core.specs.State.{end_at};
@@ -27,13 +28,28 @@ use dss_mapping::KeptMapping;
 use link_model::Due;
 use outside_kit::Side;
 use path_agenda::{Agenda, Items, place_in_first};
-use path_segments::{Expected, HeardPosition, HeardSegment, hear};
+use path_segments::{Expected, HeardPosition, HeardSegment, Spelling, hear};
 use seq_units::Pos;
 use std::alloc::AllocError;
 use subflow_tcp::{Arrival, Arriving, Meaning, Outgoing, Subflow};
 
 /// A copy that joins the path by a wrong HMAC breaks it with this reason: an unspecific one (RFC 8684, section 3.6).
 const FORGED: u8 = 1;
+
+/// What octets say, where they are a segment: 37 things at most.
+fn heard_of<'a>(
+    spelling: &Spelling,
+    from: path_segments::Side,
+    expected: &Expected,
+    octets: &'a [u8],
+) -> Option<HeardSegment<'a>>
+    requires { IsExpected expected.now }
+    ensures value { option_map heard_value result ≡ heard_in spelling.now from expected.now octets.now }
+    ensures short { IfSome result (λ heard. IsHeardShort (heard_value heard)) }
+    ensures few { IfSome result (λ heard. SaysFew (heard_value heard).options) }
+{
+    hear(spelling, from, expected, octets)
+}
 
 /// The header and the payload of a segment that is heard.
 fn arriving_of<'a>(heard: &HeardSegment<'a>) -> Arriving<'a>
@@ -67,9 +83,9 @@ fn acknowledged_in(heard: Option<HeardPosition>) -> Option<Pos>
     Some(position_in(heard?).unwrap_or(0))
 }
 
-/// What is to be done after a copy of this meaning that says so many things, ten at most.
+/// What is to be done after a copy of this meaning that says so many things, 37 at most.
 fn template_by(joined: bool, side: Side, count: usize, meaning: Meaning) -> Agenda
-    requires { count ≤ 10 }
+    requires { count ≤ 37 }
     ensures { result ≡ template_by joined side count meaning }
 {
     match meaning {
@@ -85,9 +101,9 @@ fn template_by(joined: bool, side: Side, count: usize, meaning: Meaning) -> Agen
     }
 }
 
-/// What is to be done after a copy that is this to the end and says so many things, ten at most.
+/// What is to be done after a copy that is this to the end and says so many things, 37 at most.
 fn template_judged(joined: bool, side: Side, count: usize, judged: Judged) -> Agenda
-    requires { count ≤ 10 }
+    requires { count ≤ 37 }
     ensures { result ≡ template_judged joined side count judged }
 {
     match judged {
@@ -236,6 +252,7 @@ impl PathEnd {
     ) -> Result<(), AllocError>
         requires small { length heard.now.payload.now ≤ 65535 }
         requires within { All IsWithin told.items }
+        requires few { SaysFew (heard_value heard.now).options }
         requires meaning { IsTakenAs meaning (copy_of (heard_value heard.now)) self.old.tcp }
         requires below { IsBelow meaning }
         ensures ok { OnOk result (self.new ≡ copy_judged joined told.items answer side now (heard_value heard.now) meaning self.old) }
@@ -250,6 +267,7 @@ impl PathEnd {
 
     /// What a copy is to the end.
     fn judge(&self, joined: bool, side: Side, heard: &HeardSegment<'_>) -> Judged
+        requires few { SaysFew (heard_value heard.now).options }
         ensures value { result ≡ judged_in joined side (heard_value heard.now) self.now }
         ensures taken { IsTakenAs (taken_as result) (copy_of (heard_value heard.now)) self.now.tcp }
         ensures below { IsBelow (taken_as result) }
@@ -271,6 +289,7 @@ impl PathEnd {
     ) -> Result<Agenda, AllocError>
         requires small { length heard.now.payload.now ≤ 65535 }
         requires within { All IsWithin told.items }
+        requires few { SaysFew (heard_value heard.now).options }
         ensures agenda { IfOk result (λ agenda. agenda ≡ template_of joined side (items_of joined side (heard_value heard.now)) (judged_in joined side (heard_value heard.now) self.old)) }
         ensures ok { OnOk result (self.new ≡ segment_heard joined told.items answer side now (heard_value heard.now) self.old) }
         ensures err { OnErr result (self.new ≡ self.old) }
@@ -291,7 +310,8 @@ impl Machine {
         now: u64,
         heard: &HeardSegment<'_>,
     ) -> Result<(), AllocError>
-        requires { IsHeardShort (heard_value heard.now) }
+        requires short { IsHeardShort (heard_value heard.now) }
+        requires few { SaysFew (heard_value heard.now).options }
         ensures ok { OnOk result (self.new ≡ told_at now side (heard_value heard.now) self.old) }
         ensures err { OnErr result (self.new ≡ self.old) }
     {
@@ -306,13 +326,15 @@ impl Machine {
     }
 
     /// A segment is heard at a side at this tick; after a fallback its options aren't. At an error all is as it was.
+    #[tactic(auto, using(crate::proofs::FewThings::unheard_few))]
     fn hear_told(
         &mut self,
         side: Side,
         now: u64,
         heard: &HeardSegment<'_>,
     ) -> Result<(), AllocError>
-        requires { IsHeardShort (heard_value heard.now) }
+        requires short { IsHeardShort (heard_value heard.now) }
+        requires few { SaysFew (heard_value heard.now).options }
         ensures ok { OnOk result (self.new ≡ heard_at now side (Some (heard_value heard.now)) self.old) }
         ensures err { OnErr result (self.new ≡ self.old) }
     {
@@ -327,7 +349,7 @@ impl Machine {
     {
         let expected = self.end(side).expected();
         let spelling = *self.profile.spelling();
-        match hear(&spelling, spelled_by(peer(side)), &expected, octets) {
+        match heard_of(&spelling, spelled_by(peer(side)), &expected, octets) {
             Some(heard) => self.hear_told(side, now, &heard),
             None => {
                 self.sets_about(Agenda::emission(side));

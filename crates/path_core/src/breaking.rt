@@ -24,12 +24,13 @@ use send_book::SendCall;
 use std::alloc::AllocError;
 
 impl PathEnd {
-    /// Nothing is sent, kept or awaited any more.
+    /// Nothing is sent, kept, noted or awaited any more.
     pub fn die(&mut self)
         ensures { self.new ≡ died self.old }
     {
         self.tcp.kill(false);
         self.treated = Treated::nothing();
+        self.notices.let_go();
     }
 }
 

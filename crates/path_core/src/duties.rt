@@ -222,6 +222,7 @@ impl Machine {
         match duty {
             Duty::Data(side) => self.answer_data(side, reply),
             Duty::Events => self.answer_event(reply),
+            Duty::Look(side) => self.look(side, reply),
             Duty::Heard { side, index } => self.answer_item(side, index, reply),
             Duty::Update(side) => self.acknowledge(side),
             Duty::Acknowledge(side) => self.acknowledge(side),
@@ -254,7 +255,6 @@ impl Machine {
     {
         match duty {
             Duty::JoinAgain => self.answer_join_again(reply),
-            Duty::Look(side) => self.look(side, reply),
             Duty::Window(side) | Duty::AckOut(side) => self.ack_out(side, reply),
             Duty::PlainHandshake(side) => self.answer_fell(side, Event::PlainHandshake, reply),
             Duty::PeerKey(side) => self.answer_peer_key(side, reply),

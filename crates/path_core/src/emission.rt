@@ -15,6 +15,7 @@ ghost use Rattle.path_core.specs.Replies.{IsSendable, IsGrantSendable, IsGrantFi
 ghost use Rattle.path_core.specs.State.{end_at, with_end, goes_on, left};
 
 use crate::end::PathEnd;
+use crate::granted_piece::GrantedPiece;
 use crate::machine::Machine;
 use crate::modes::Modes;
 use crate::profile::Profile;
@@ -78,9 +79,14 @@ impl PathEnd {
         ensures err { OnErr result (self.new ≡ self.old) }
     {
         let _finished = self.tcp.is_finished();
-        self.sending.push_span(span)?;
+        let granted = GrantedPiece {
+            position: self.tcp.nxt(),
+            from: span.from,
+            to: span.to,
+        };
+        self.sending.push_granted(granted)?;
         if let Err(error) = self.tcp.push(piece, mapping) {
-            self.sending.pop_span();
+            self.sending.pop_granted();
             return Err(error);
         }
         self.sending.open_window();

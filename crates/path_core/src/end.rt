@@ -3,6 +3,7 @@
 ghost use Rattle.std.specs.Prelude.{◌≡◌};
 
 use crate::modes::Modes;
+use crate::notices::Notices;
 use crate::receiving::Receiving;
 use crate::sending::Sending;
 use crate::treated::Treated;
@@ -10,7 +11,7 @@ use std::alloc::Global;
 use std::marker::Model;
 use subflow_tcp::Subflow;
 
-/// One end of a path: its subflow, its own stream, the peer's, the mode, and the copy that it treats.
+/// One end of a path: its subflow, its own stream, the peer's, the mode, the copy that it treats, and what it has to note.
 #[derive(Debug, Drop)]
 pub(crate) struct PathEnd {
     pub tcp: Subflow,
@@ -18,6 +19,7 @@ pub(crate) struct PathEnd {
     pub receiving: Receiving,
     pub modes: Modes,
     pub treated: Treated,
+    pub notices: Notices,
 }
 
 impl Model for PathEnd {
@@ -35,6 +37,7 @@ impl Model for PathEnd {
       receiving = e.receiving.receiving;
       modes = e.modes;
       treated = e.treated;
+      notices = e.notices;
     } };
 }
 
@@ -51,6 +54,7 @@ impl PathEnd {
             receiving: Receiving::new(alloc),
             modes: Modes::new(own_key, own_nonce),
             treated: Treated::nothing(),
+            notices: Notices::new(alloc),
         }
     }
 }

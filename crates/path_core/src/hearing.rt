@@ -1,18 +1,19 @@
 //! What the options of a copy say (RFC 8684, section 3).
 
-ghost use Rattle.std.specs.Prelude.{◌≡◌, ◌∷◌, [], not, if◌then◌else◌, All};
+ghost use Rattle.std.specs.Prelude.{◌≡◌, ◌≤◌, ◌<◌, ◌+◌, ◌++◌, ◌∷◌, [], not, if◌then◌else◌, length, map, All};
 ghost use Rattle.std.specs.List.{list_any};
 ghost use Rattle.actor_desk.specs.Words.{is_nil};
 ghost use Rattle.dss_mapping.specs.Mappings.{octets_in};
 ghost use Rattle.path_segments.specs.HeardLent.{heard_plain};
 ghost use Rattle.path_segments.specs.HeardSegments.{heard_value};
 ghost use Rattle.path_agenda.specs.declared.heard.Heard.TheVariants as says;
-ghost use Rattle.path_agenda.specs.Items.{with_item, with_items, IsFair};
-ghost use Rattle.path_core.specs.Arriving.{ack_items, is_mapping, mapping_items, infinite_items, map_items, end_items, key_items, join_items, items_in, items_of, owes_by, opens_by, asks_capable, edge_held, has_data_ack, octets_acked, is_plain_ack};
+ghost use Rattle.path_agenda.specs.Items.{IsFair};
+ghost use Rattle.path_core.specs.Arriving.{ack_items, is_mapping, mapping_items, infinite_items, map_items, end_items, key_items, join_items, address_items, item_removed, items_in, items_of, SaysFew, owes_by, opens_by, asks_capable, edge_held, has_data_ack, octets_acked, is_plain_ack};
 
+use key_material::Address;
 use mptcp_options::{CapableKeys, JoinForm};
 use outside_kit::Side;
-use path_agenda::{Heard, Items, one_wants_ack};
+use path_agenda::{Heard, Items, PeerNotice, one_wants_ack};
 use path_segments::{HeardMapping, HeardOption, HeardSegment, PathMapping, PathOption};
 use seq_units::Pos;
 use subflow_tcp::{AckKind, Arrival, Meaning, State};
@@ -20,13 +21,12 @@ use subflow_tcp::{AckKind, Arrival, Meaning, State};
 /// Places end at this one.
 const LIMIT: u64 = 1 << 62;
 
-/// One thing more, the first ten of which count.
+/// One thing more.
 fn put(items: &mut Items, item: Heard)
-    ensures { items.new.items ≡ with_item items.old.items item }
+    requires { length items.old.items < 37 }
+    ensures { items.new.items ≡ items.old.items ++ item ∷ [] }
 {
-    if items.len() < 10 {
-        items.push(item);
-    }
+    items.push(item);
 }
 
 /// How many octets a mapping of this length has: its last number may be the DATA_FIN's (RFC 8684, section 3.3.3).
@@ -49,7 +49,8 @@ pub(crate) fn is_mapping(place: u64, position: Pos, count: u16) -> bool
 
 /// What MP_CAPABLE says by its keys.
 fn put_keys(items: &mut Items, side: Side, keys: CapableKeys)
-    ensures { items.new.items ≡ with_items items.old.items (key_items side keys) }
+    requires { length items.old.items + length (key_items side keys) ≤ 37 }
+    ensures { items.new.items ≡ items.old.items ++ key_items side keys }
 {
     match (side, keys) {
         (Side::A, CapableKeys::Sender { sender }) => put(items, Heard::PeerKey { key: sender }),
@@ -74,14 +75,16 @@ fn put_keys(items: &mut Items, side: Side, keys: CapableKeys)
 
 /// Both keys.
 fn put_both(items: &mut Items, own: u64, peer: u64)
-    ensures { items.new.items ≡ with_items items.old.items (says.Keys own peer ∷ []) }
+    requires { length items.old.items < 37 }
+    ensures { items.new.items ≡ items.old.items ++ says.Keys own peer ∷ [] }
 {
     put(items, Heard::Keys { own, peer });
 }
 
 /// A mapping of so many bytes, where it counts.
 fn put_mapping(items: &mut Items, place: u64, position: Pos, count: u16, fin: bool)
-    ensures { items.new.items ≡ with_items items.old.items (mapping_items place position count fin) }
+    requires { length items.old.items + length (mapping_items place position count fin) ≤ 37 }
+    ensures { items.new.items ≡ items.old.items ++ mapping_items place position count fin }
 {
     if is_mapping(place, position, count) {
         put(items, Heard::Mapping { fin });
@@ -90,7 +93,8 @@ fn put_mapping(items: &mut Items, place: u64, position: Pos, count: u16, fin: bo
 
 /// A Data ACK that names a place.
 fn put_ack(items: &mut Items, next: Option<Option<u64>>, window: u32)
-    ensures { items.new.items ≡ with_items items.old.items (ack_items next window) }
+    requires { length items.old.items + length (ack_items next window) ≤ 37 }
+    ensures { items.new.items ≡ items.old.items ++ ack_items next window }
 {
     match next {
         Some(Some(next)) if next < LIMIT => put(items, Heard::DataAck { next, window }),
@@ -100,7 +104,8 @@ fn put_ack(items: &mut Items, next: Option<Option<u64>>, window: u32)
 
 /// The end of the stream, at a place of at most 2^62.
 fn put_end(items: &mut Items, place: u64)
-    ensures { items.new.items ≡ with_items items.old.items (end_items place) }
+    requires { length items.old.items + length (end_items place) ≤ 37 }
+    ensures { items.new.items ≡ items.old.items ++ end_items place }
 {
     if place <= LIMIT {
         put(items, Heard::DataFin { place });
@@ -108,17 +113,19 @@ fn put_end(items: &mut Items, place: u64)
 }
 
 /// An infinite mapping, which begins at a place below 2^62.
-fn put_infinite(items: &mut Items, place: u64)
-    ensures { items.new.items ≡ with_items items.old.items (infinite_items place) }
+fn put_infinite(items: &mut Items, place: u64, position: Option<Pos>)
+    requires { length items.old.items + length (infinite_items place position) ≤ 37 }
+    ensures { items.new.items ≡ items.old.items ++ infinite_items place position }
 {
     if place < LIMIT {
-        put(items, Heard::InfiniteMapping);
+        put(items, Heard::InfiniteMapping { place, position });
     }
 }
 
 /// A mapping or a DATA_FIN that names a place.
 fn put_map(items: &mut Items, mapping: Option<HeardMapping>)
-    ensures { items.new.items ≡ with_items items.old.items (map_items mapping) }
+    requires { length items.old.items + length (map_items mapping) ≤ 37 }
+    ensures { items.new.items ≡ items.old.items ++ map_items mapping }
 {
     match mapping {
         Some(
@@ -139,16 +146,17 @@ fn put_map(items: &mut Items, mapping: Option<HeardMapping>)
         Some(
             PathMapping::Infinite {
                 place: Some(place),
-                ..
+                position,
             },
-        ) => put_infinite(items, place),
+        ) => put_infinite(items, place, position),
         _ => {}
     }
 }
 
 /// What MP_JOIN says: A hears the answer to its SYN, and B the SYN and the third segment.
 fn put_join(items: &mut Items, side: Side, form: JoinForm)
-    ensures { items.new.items ≡ with_items items.old.items (join_items side form) }
+    requires { length items.old.items + length (join_items side form) ≤ 37 }
+    ensures { items.new.items ≡ items.old.items ++ join_items side form }
 {
     match (side, form) {
         (Side::A, JoinForm::Answer { .. }) => put(items, Heard::Join { form }),
@@ -160,9 +168,65 @@ fn put_join(items: &mut Items, side: Side, form: JoinForm)
     }
 }
 
+/// What the peer notes.
+fn put_notice(items: &mut Items, notice: PeerNotice)
+    requires { length items.old.items < 37 }
+    ensures { items.new.items ≡ items.old.items ++ says.Notice notice ∷ [] }
+{
+    put(items, Heard::Notice { notice });
+}
+
+/// An address that is announced, or the echo of an announcement.
+fn put_address(
+    items: &mut Items,
+    echo: bool,
+    id: u8,
+    address: Address,
+    port: Option<u16>,
+    hmac: Option<u64>,
+)
+    requires { length items.old.items + length (address_items echo id address port hmac) ≤ 37 }
+    ensures { items.new.items ≡ items.old.items ++ address_items echo id address port hmac }
+{
+    match (echo, hmac) {
+        (true, _) => put_notice(items, PeerNotice::AddEcho { id }),
+        (false, Some(hmac)) => put_notice(
+            items,
+            PeerNotice::AddAddr {
+                id,
+                address,
+                port,
+                hmac,
+            },
+        ),
+        (false, None) => {}
+    }
+}
+
+/// Addresses that are taken back, one for each id.
+fn put_removed(items: &mut Items, ids: &[u8])
+    requires { length items.old.items + length ids.now ≤ 37 }
+    ensures { items.new.items ≡ items.old.items ++ map item_removed ids.now }
+{
+    for id in ids {
+        put_notice(items, PeerNotice::Removed { id: *id });
+    }
+}
+
+/// What a DSS says.
+fn put_dss(items: &mut Items, next: Option<Option<u64>>, window: u32, mapping: Option<HeardMapping>)
+    requires { length items.old.items + (1 + (length (ack_items next window) + length (map_items mapping))) ≤ 37 }
+    ensures { items.new.items ≡ items.old.items ++ says.Dss ∷ (ack_items next window ++ map_items mapping) }
+{
+    put(items, Heard::Dss);
+    put_ack(items, next, window);
+    put_map(items, mapping);
+}
+
 /// What one option says; MP_CAPABLE says nothing on a path that joins.
 fn put_option(items: &mut Items, joined: bool, side: Side, window: u32, option: &HeardOption<'_>)
-    ensures { items.new.items ≡ with_items items.old.items (items_in joined side window (heard_plain option.now)) }
+    requires { length items.old.items + length (items_in joined side window (heard_plain option.now)) ≤ 37 }
+    ensures { items.new.items ≡ items.old.items ++ items_in joined side window (heard_plain option.now) }
 {
     match *option {
         PathOption::Capable { keys, .. } => {
@@ -171,17 +235,25 @@ fn put_option(items: &mut Items, joined: bool, side: Side, window: u32, option: 
             }
         }
         PathOption::Join { form } => put_join(items, side, form),
-        PathOption::Dss { next, mapping } => {
-            put(items, Heard::Dss);
-            put_ack(items, next, window);
-            put_map(items, mapping);
-        }
-        _ => {}
+        PathOption::Dss { next, mapping } => put_dss(items, next, window, mapping),
+        PathOption::AddAddr {
+            echo,
+            id,
+            address,
+            port,
+            hmac,
+        } => put_address(items, echo, id, address, port, hmac),
+        PathOption::Remove { ids } => put_removed(items, ids),
+        PathOption::Prio { backup } => put_notice(items, PeerNotice::Prio { backup }),
+        PathOption::Fail { .. } => put(items, Heard::Fail),
+        PathOption::FastClose { key } => put(items, Heard::FastClose { key }),
+        PathOption::Reset { .. } => {}
     }
 }
 
 /// All that a copy says to the end of this side, in the order of its options.
 pub(crate) fn items_of(joined: bool, side: Side, heard: &HeardSegment<'_>) -> Items
+    requires few { SaysFew (heard_value heard.now).options }
     ensures value { result.items ≡ items_of joined side (heard_value heard.now) }
     ensures fair { All IsFair result.items }
 {

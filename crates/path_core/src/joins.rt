@@ -8,7 +8,7 @@ ghost use Rattle.path_core.specs.Said.{options_by};
 
 use crate::modes::Modes;
 use crate::profile::Profile;
-use crate::segments::Saying;
+use crate::said::Saying;
 use join_handshake::{
     JoinAnswer, JoinSyn, answer_option, client_answer, server_syn, syn_option, third_option,
 };
@@ -68,7 +68,7 @@ impl Profile {
 
 impl Modes {
     /// The peer's key, which a path that joins has from its control book; 0 before.
-    fn peer_key_of(&self) -> u64
+    pub(crate) fn peer_key_of(&self) -> u64
         ensures { result ≡ peer_key_of self.now }
     {
         self.peer_key.unwrap_or(0)

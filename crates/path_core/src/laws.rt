@@ -2,6 +2,7 @@
 ghost use Rattle.std.specs.Prelude.{◌≡◌, take};
 ghost use Rattle.path_core.specs.Example.{path_at_first, steps_made};
 ghost use Rattle.path_core.specs.FirstRound.{turn_of_path};
+ghost use Rattle.path_core.specs.FewThings.{CopiesSayFew, CopiesHaveFewPriorities};
 ghost use Rattle.path_core.specs.Handshakes.{CapableIsTheHandshake, EndsAreThose};
 ghost use Rattle.path_core.specs.Octets.{octets};
 ghost use Rattle.path_core.specs.Shown.{AsksTheSame, TakesTheSame, BeginsTheSame};
@@ -44,6 +45,13 @@ pub fn octets_do_as_values()
 pub fn options_are_those_of_the_handshakes()
     ensures capable { CapableIsTheHandshake }
     ensures ends { EndsAreThose }
+{}
+
+/// A law: octets that are a segment say 37 things at most, and 13 of its options are MP_PRIO at most, since its options have forty
+/// octets at most (RFC 9293, section 3.1; RFC 8684, section 3). Each id of a REMOVE_ADDR is a thing of its own.
+pub fn copies_say_few_things()
+    ensures few { CopiesSayFew }
+    ensures priorities { CopiesHaveFewPriorities }
 {}
 
 /// An example: the first 24 steps of path 0 of a connection that carries five octets, after the applications' first turns:

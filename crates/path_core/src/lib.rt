@@ -21,6 +21,7 @@ mod event;
 mod events;
 mod falling;
 mod granted;
+mod granted_piece;
 mod hearing;
 mod held;
 mod in_order;
@@ -32,6 +33,7 @@ mod lines;
 mod machine;
 mod mapped_fin;
 mod modes;
+mod notices;
 mod opening;
 mod passing;
 mod path;
@@ -55,11 +57,11 @@ pub use drawn::Drawn;
 pub use event::Event;
 pub use judged::Judged;
 pub use laws::{
-    a_first_round, every_turn_ends, octets_do_as_values, options_are_those_of_the_handshakes,
-    settled_turns_end,
+    a_first_round, copies_say_few_things, every_turn_ends, octets_do_as_values,
+    options_are_those_of_the_handshakes, settled_turns_end,
 };
 pub use lines::LineLeft;
 pub use modes::Modes;
 pub use path::Path;
-pub use path_agenda::{Duty, Heard, KeyPair};
+pub use path_agenda::{Duty, Heard, KeyPair, PeerNotice};
 pub use start::key_of;

@@ -1,6 +1,8 @@
 //! A segment that an end is to send, with what it lends of the end.
 
 ghost use Rattle.std.specs.Prelude.{◌≡◌, IfOk};
+ghost use Rattle.path_segments.specs.Options.{plain_option};
+ghost use Rattle.path_core.specs.Said.{options_by, said_options};
 
 use crate::profile::spelled_by;
 use outside_kit::Side;
@@ -8,7 +10,30 @@ use path_segments::{PathOption, SaidSegment, Spelling, sum, write};
 use std::alloc::{AllocError, Global};
 use subflow_tcp::Outgoing;
 
-/// A segment that an end is to send. It has one option of Multipath TCP at most.
+/// An option that an end says. It takes one address back at most.
+pub(crate) type Saying = PathOption<u64, [u8; 1]>;
+
+/// The options of Multipath TCP that a segment says, in their order: two at most, which have room in forty octets.
+#[derive(Clone, Copy, Debug)]
+pub(crate) enum SaidOptions {
+    Nothing,
+    One(Saying),
+    Two(Saying, Saying),
+}
+
+impl SaidOptions {
+    /// This one, if any.
+    pub fn of(option: Option<Saying>) -> Self
+        ensures { said_options result ≡ options_by option }
+    {
+        match option {
+            Some(option) => SaidOptions::One(option),
+            None => SaidOptions::Nothing,
+        }
+    }
+}
+
+/// A segment that an end is to send.
 #[derive(Clone, Copy, Debug)]
 pub(crate) struct Said<'a> {
     /// Its position, what it acknowledges, and its flags.
@@ -17,15 +42,17 @@ pub(crate) struct Said<'a> {
     pub window: u32,
     /// The maximum segment size, which a SYN has.
     pub mss: Option<u16>,
-    pub option: Option<PathOption<u64, &'static [u8]>>,
+    pub options: SaidOptions,
     pub payload: &'a [u8],
 }
 
 impl<'a> Said<'a> {
     ghost use Rattle.path_core.specs.Octets.{made, sum_of};
     ghost use Rattle.path_core.specs.Said.{plain_said, CanBeSaid};
+    ghost use Rattle.path_segments.specs.Spelled.{plain};
+    ghost use Rattle.std.specs.Prelude.{map};
 
-    /// The same segment, with its options in a list, and its payload.
+    /// The same segment, with its options lent.
     fn with_options<'b>(
         &self,
         options: &'b [PathOption<u64, &'b [u8]>],
@@ -66,18 +93,21 @@ impl<'a> Said<'a> {
         requires { CanBeSaid spelling.now side (plain_said self.now) }
         ensures { IfOk result (λ octets. octets.items ≡ made spelling.now side (plain_said self.now)) }
     {
-        match self.option {
-            Some(option) => {
+        let from = spelled_by(side);
+        match &self.options {
+            SaidOptions::Nothing => {
+                write(alloc, spelling, from, &self.with_options(&[], self.payload))
+            }
+            SaidOptions::One(option) => {
                 let options = [lent(option)];
                 let segment = self.with_options(&options, self.payload);
-                write(alloc, spelling, spelled_by(side), &segment)
+                write(alloc, spelling, from, &segment)
             }
-            None => write(
-                alloc,
-                spelling,
-                spelled_by(side),
-                &self.with_options(&[], self.payload),
-            ),
+            SaidOptions::Two(first, second) => {
+                let options = [lent(first), lent(second)];
+                let segment = self.with_options(&options, self.payload);
+                write(alloc, spelling, from, &segment)
+            }
         }
     }
 
@@ -86,24 +116,62 @@ impl<'a> Said<'a> {
         requires { CanBeSaid spelling.now side (plain_said self.now) }
         ensures { result ≡ sum_of spelling.now side (plain_said self.now) }
     {
-        match self.option {
-            Some(option) => {
+        let from = spelled_by(side);
+        match &self.options {
+            SaidOptions::Nothing => sum(spelling, from, &self.with_options(&[], self.payload)),
+            SaidOptions::One(option) => {
                 let options = [lent(option)];
                 let segment = self.with_options(&options, self.payload);
-                sum(spelling, spelled_by(side), &segment)
+                sum(spelling, from, &segment)
             }
-            None => sum(
-                spelling,
-                spelled_by(side),
-                &self.with_options(&[], self.payload),
-            ),
+            SaidOptions::Two(first, second) => {
+                let options = [lent(first), lent(second)];
+                let segment = self.with_options(&options, self.payload);
+                sum(spelling, from, &segment)
+            }
         }
     }
 }
 
-/// The same option.
-fn lent(option: PathOption<u64, &'static [u8]>) -> PathOption<u64, &'static [u8]>
-    ensures { result ≡ option.entry }
+/// The same option, its id lent.
+fn lent(option: &Saying) -> PathOption<u64, &[u8]>
+    ensures { plain_option result ≡ option.now }
 {
-    option
+    match option {
+        PathOption::Capable {
+            flag_a,
+            flag_c,
+            keys,
+        } => PathOption::Capable {
+            flag_a: *flag_a,
+            flag_c: *flag_c,
+            keys: *keys,
+        },
+        PathOption::Join { form } => PathOption::Join { form: *form },
+        PathOption::Dss { next, mapping } => PathOption::Dss {
+            next: *next,
+            mapping: *mapping,
+        },
+        PathOption::AddAddr {
+            echo,
+            id,
+            address,
+            port,
+            hmac,
+        } => PathOption::AddAddr {
+            echo: *echo,
+            id: *id,
+            address: *address,
+            port: *port,
+            hmac: *hmac,
+        },
+        PathOption::Remove { ids } => PathOption::Remove { ids: &ids[..] },
+        PathOption::Prio { backup } => PathOption::Prio { backup: *backup },
+        PathOption::Fail { place } => PathOption::Fail { place: *place },
+        PathOption::FastClose { key } => PathOption::FastClose { key: *key },
+        PathOption::Reset { transient, reason } => PathOption::Reset {
+            transient: *transient,
+            reason: *reason,
+        },
+    }
 }

@@ -1,5 +1,7 @@
 //! Which segments an end sends.
 
+use path_agenda::OwnNotice;
+
 /// Which segment an end sends.
 #[derive(Clone, Copy, Debug, PartialEq, Eq)]
 pub(crate) enum SegmentKind {
@@ -25,4 +27,10 @@ pub(crate) enum SegmentKind {
     Resend,
     /// The reset of the end, perhaps with a reason (RFC 8684, section 3.6).
     Reset { reason: Option<u8> },
+    /// The reset of the end, as the check of the mapping at this place of the peer's stream failed (sections 3.6 and 3.7).
+    FailReset { place: u64 },
+    /// The acknowledgement that carries a notice (sections 3.3.8 and 3.4).
+    Notice { notice: OwnNotice },
+    /// The acknowledgement that carries MP_FASTCLOSE with this key, the peer's (section 3.5).
+    FastClose { key: u64 },
 }

@@ -6,23 +6,23 @@ ghost use Rattle.outside_kit.specs.declared.side.Side.TheVariants.{A};
 ghost use Rattle.path_segments.specs.declared.segment.PathOption.TheVariants.{Capable};
 ghost use Rattle.subflow_send.specs.Records.{record_of};
 ghost use Rattle.path_core.specs.declared.segment_kind.SegmentKind.TheVariants.{DeadAnswer, Refusal};
-ghost use Rattle.path_core.specs.Segments.{owes_mapping, bare_mapping, checksum_in, mapping_of, place_numbered, checksum_told, plain_options, capable_options, syn_options, key_options, opening_options, end_mapping, ack_options, piece_mapping, first_piece_options, piece_options, fin_options, record_options, reset_options, segment_of, ack_said, record_said, record_or_ack, syn_ack_said, fin_said, reset_said};
+ghost use Rattle.path_core.specs.Segments.{owes_mapping, bare_mapping, checksum_in, mapping_of, place_numbered, checksum_told, plain_options, capable_options, syn_options, key_options, opening_options, end_mapping, ack_options, piece_mapping, first_piece_options, piece_options, fin_options, record_options, reset_options, announcement, notice_option, dss_and, HasAddress, HasAddresses, segment_of, ack_said, fail_reset_said, record_said, record_or_ack, syn_ack_said, fin_said, reset_said};
 ghost use Rattle.path_core.specs.Passing.{answer_said, ack_resent, resend_said};
-ghost use Rattle.path_core.specs.Said.{options_by, plain_said, said_by, CanBeSaid};
+ghost use Rattle.path_core.specs.Said.{options_by, said_options, plain_said, said_by, CanBeSaid};
 
 use crate::end::PathEnd;
+use crate::modes::Modes;
 use crate::profile::{Profile, spelled_by};
-use crate::said::Said;
+use crate::said::{Said, SaidOptions, Saying};
 use crate::segment_kind::SegmentKind;
 use dss_checksum::DssSum;
+use key_material::{Address, add_addr64};
 use mptcp_options::CapableKeys;
 use outside_kit::Side;
+use path_agenda::OwnNotice;
 use path_segments::{PathMapping, PathOption, relative_number};
 use seq_units::{Mapping, Pos};
 use subflow_tcp::{Outgoing, RecordKind, RecordRef};
-
-/// An option that an end says: none of them has ids.
-pub(crate) type Saying = PathOption<u64, &'static [u8]>;
 
 impl Profile {
     /// The mapping of `length` bytes of a side's stream, before there is a checksum.
@@ -120,6 +120,65 @@ pub(crate) fn checksum_of(mapping: &Mapping, octets: &[u8]) -> u16
     let mut sum = DssSum::new(mapping);
     sum.add(octets);
     sum.make()
+}
+
+impl Modes {
+    /// A notice of the end's side; an announcement shows the HMAC of both keys (RFC 8684, section 3.4.1).
+    fn notice_option(&self, notice: OwnNotice) -> Saying
+        ensures { result ≡ notice_option notice self.now }
+    {
+        match notice {
+            OwnNotice::AddAddr { id } => self.announcement(id),
+            OwnNotice::AddEcho { id, address, port } => PathOption::AddAddr {
+                echo: true,
+                id,
+                address,
+                port,
+                hmac: None,
+            },
+            OwnNotice::Removes { id } => PathOption::Remove { ids: [id] },
+            OwnNotice::Prio { backup } => PathOption::Prio { backup },
+        }
+    }
+
+    /// The announcement of the own address of this id.
+    fn announcement(&self, id: u8) -> Saying
+        ensures { result ≡ announcement id self.now }
+    {
+        let address = Address::V4([10, 0, id, 2]);
+        let hmac = add_addr64(self.own_key, self.peer_key_of(), id, &address, 0);
+        PathOption::AddAddr {
+            echo: false,
+            id,
+            address,
+            port: None,
+            hmac: Some(hmac),
+        }
+    }
+}
+
+/// The address of an echo has 16 octets at most.
+fn has_address(notice: OwnNotice)
+    ensures { HasAddress notice }
+{
+    match notice {
+        OwnNotice::AddEcho { address, .. } => {
+            let _octets = address.octets();
+        }
+        OwnNotice::AddAddr { .. } | OwnNotice::Removes { .. } | OwnNotice::Prio { .. } => {}
+    }
+}
+
+impl SegmentKind {
+    /// An address that it carries has 16 octets at most.
+    fn has_addresses(self)
+        ensures { HasAddresses self }
+    {
+        match self {
+            SegmentKind::Notice { notice } => has_address(notice),
+            _ => {}
+        }
+    }
 }
 
 impl PathEnd {
@@ -276,16 +335,16 @@ impl PathEnd {
         &'a self,
         profile: &Profile,
         outgoing: Outgoing,
-        option: Option<Saying>,
+        options: SaidOptions,
         payload: &'a [u8],
     ) -> Said<'a>
-        ensures { plain_said result ≡ segment_of profile.now outgoing (options_by option.entry) payload.now self.now }
+        ensures { plain_said result ≡ segment_of profile.now outgoing (said_options options) payload.now self.now }
     {
         Said {
             outgoing,
             window: self.receiving.window(),
             mss: outgoing.syn.then_some(profile.mss()),
-            option,
+            options,
             payload,
         }
     }
@@ -294,8 +353,8 @@ impl PathEnd {
     fn ack_said(&self, profile: &Profile, side: Side, position: Pos, fin: Option<u64>) -> Said<'_>
         ensures { plain_said result ≡ ack_said profile.now side position fin self.now }
     {
-        let option = self.ack_option(profile, side, fin);
-        self.segment_of(profile, self.tcp.ack_at(position), option, &[])
+        let options = SaidOptions::of(self.ack_option(profile, side, fin));
+        self.segment_of(profile, self.tcp.ack_at(position), options, &[])
     }
 
     /// A record, for the first time or again.
@@ -303,9 +362,9 @@ impl PathEnd {
         requires { length lent.now.piece.now ≤ 65475 }
         ensures { plain_said result ≡ record_said profile.now side (record_of lent.now) self.now }
     {
-        let option = self.record_option(profile, side, lent);
+        let options = SaidOptions::of(self.record_option(profile, side, lent));
         let outgoing = self.tcp.record_segment(lent);
-        self.segment_of(profile, outgoing, option, lent.piece)
+        self.segment_of(profile, outgoing, options, lent.piece)
     }
 
     /// A record, or else an acknowledgement.
@@ -327,8 +386,8 @@ impl PathEnd {
     fn syn_ack_said(&self, profile: &Profile, side: Side) -> Said<'_>
         ensures { plain_said result ≡ syn_ack_said profile.now side self.now }
     {
-        let option = self.syn_option(profile, side);
-        self.segment_of(profile, self.tcp.syn_ack_segment(), option, &[])
+        let options = SaidOptions::of(self.syn_option(profile, side));
+        self.segment_of(profile, self.tcp.syn_ack_segment(), options, &[])
     }
 
     /// The FIN, also before there is a record of it.
@@ -336,8 +395,8 @@ impl PathEnd {
         ensures { plain_said result ≡ fin_said profile.now self.now }
     {
         let outgoing = self.tcp.fin_segment();
-        let option = self.fin_option(outgoing.position);
-        self.segment_of(profile, outgoing, option, &[])
+        let options = SaidOptions::of(self.fin_option(outgoing.position));
+        self.segment_of(profile, outgoing, options, &[])
     }
 
     /// The reset, perhaps with a reason; the fault doesn't pass (RFC 8684, section 3.6). After a fallback no option is sent.
@@ -349,7 +408,33 @@ impl PathEnd {
         } else {
             reset_option(reason)
         };
-        self.segment_of(profile, self.tcp.reset_segment(), option, &[])
+        let options = SaidOptions::of(option);
+        self.segment_of(profile, self.tcp.reset_segment(), options, &[])
+    }
+
+    /// The reset of an end that found bytes which aren't those of the mapping at this place of the peer's stream, with the reason 6
+    /// (RFC 8684, sections 3.6 and 3.7).
+    fn fail_reset_said(&self, profile: &Profile, place: u64) -> Said<'_>
+        ensures { plain_said result ≡ fail_reset_said profile.now place self.now }
+    {
+        let reset = PathOption::Reset {
+            transient: false,
+            reason: 6,
+        };
+        let options = SaidOptions::Two(PathOption::Fail { place }, reset);
+        self.segment_of(profile, self.tcp.reset_segment(), options, &[])
+    }
+
+    /// The acknowledgement that says this option behind its DSS.
+    fn dss_and(&self, profile: &Profile, option: Saying) -> Said<'_>
+        ensures { plain_said result ≡ dss_and profile.now option self.now }
+    {
+        let dss = PathOption::Dss {
+            next: Some(self.receiving.next()),
+            mapping: None,
+        };
+        let outgoing = self.tcp.ack_at(self.tcp.nxt());
+        self.segment_of(profile, outgoing, SaidOptions::Two(dss, option), &[])
     }
 
     /// The answer to a segment that is passed over.
@@ -371,7 +456,7 @@ impl PathEnd {
             Some(outgoing) => outgoing,
             None => self.tcp.reset_segment(),
         };
-        self.segment_of(profile, outgoing, None, &[])
+        self.segment_of(profile, outgoing, SaidOptions::Nothing, &[])
     }
 
     /// The reset that refuses a path which joins, with the reason 1 (RFC 8684, section 3.6).
@@ -382,7 +467,8 @@ impl PathEnd {
             Some(outgoing) => outgoing,
             None => self.tcp.reset_segment(),
         };
-        self.segment_of(profile, outgoing, reset_option(Some(1)), &[])
+        let options = SaidOptions::of(reset_option(Some(1)));
+        self.segment_of(profile, outgoing, options, &[])
     }
 
     /// What an expiry sends again where no record is left: the third MP_JOIN, or else the DATA_FIN, or else what a peer that
@@ -429,6 +515,13 @@ impl PathEnd {
             SegmentKind::Refusal => self.refusal_said(profile),
             SegmentKind::Resend => self.resend_said(profile, side),
             SegmentKind::Reset { reason } => self.reset_said(profile, reason),
+            SegmentKind::FailReset { place } => self.fail_reset_said(profile, place),
+            SegmentKind::Notice { notice } => {
+                self.dss_and(profile, self.modes.notice_option(notice))
+            }
+            SegmentKind::FastClose { key } => {
+                self.dss_and(profile, PathOption::FastClose { key })
+            }
         }
     }
 
@@ -440,6 +533,7 @@ impl PathEnd {
     {
         let _path = profile.spelling();
         let _window = self.receiving.window();
+        kind.has_addresses();
         let (_unsent, _first) = (self.tcp.first_unsent(), self.tcp.first_record());
         self.said_by(profile, side, kind)
     }

@@ -1,13 +1,14 @@
 //! What an end keeps of its side's own stream (RFC 8684, sections 3.3.2 and 3.3.3).
 
 ghost use Rattle.std.specs.Prelude.{◌≡◌, ◌<◌, ◌^◌, ◌&&◌, ◌||◌, ◌++◌, ◌∷◌, [], false, true, not, is_some, List, OnOk, OnErr};
-ghost use Rattle.send_book.specs.declared.call.Span.{Span};
+ghost use Rattle.path_core.specs.declared.granted_piece.GrantedPiece.{GrantedPiece};
 ghost use Rattle.data_close.specs.Closing as closing;
 ghost use Rattle.actor_desk.specs.Words.{is_nil};
 
-use crate::granted::GrantedSpans;
+use crate::granted::GrantedPieces;
+use crate::granted_piece::GrantedPiece;
 use data_close::CloseState;
-use send_book::{Span, Why};
+use send_book::Why;
 use std::alloc::{AllocError, Global};
 use std::marker::Model;
 
@@ -24,8 +25,8 @@ pub(crate) struct Sending {
     shut: bool,
     /// How many bytes of the stream, the DATA_FIN among them, the peer acknowledged to this end: fewer than 2^62.
     heard: u64,
-    /// The places that were granted to this end and aren't below all that it heard.
-    granted: GrantedSpans,
+    /// The pieces that were granted to this end and aren't below all that it heard.
+    granted: GrantedPieces,
     /// One of them, or the DATA_FIN, was acknowledged since the timer was settled last.
     news: bool,
 }
@@ -64,7 +65,7 @@ impl Sending {
             close: CloseState::new(),
             shut: false,
             heard: 0,
-            granted: GrantedSpans::new(alloc),
+            granted: GrantedPieces::new(alloc),
             news: false,
         }
     }
@@ -179,18 +180,18 @@ impl Sending {
         self.news |= news;
     }
 
-    /// These places are granted. At an error all is as it was.
-    pub fn push_span(&mut self, span: Span) -> Result<(), AllocError>
-        ensures ok { OnOk result (self.new ≡ record self.old { granted = self.old.granted ++ span ∷ [] }) }
+    /// This piece is granted. At an error all is as it was.
+    pub fn push_granted(&mut self, piece: GrantedPiece) -> Result<(), AllocError>
+        ensures ok { OnOk result (self.new ≡ record self.old { granted = self.old.granted ++ piece ∷ [] }) }
         ensures err { OnErr result (self.new ≡ self.old) }
     {
-        self.granted.push(span)?;
+        self.granted.push(piece)?;
         Ok(())
     }
 
-    /// The last places that were granted are granted no more.
-    pub fn pop_span(&mut self)
-        ensures { (before : List Span) (last : Span) → self.old.granted ≡ before ++ last ∷ []
+    /// The last piece that was granted is granted no more.
+    pub fn pop_granted(&mut self)
+        ensures { (before : List GrantedPiece) (last : GrantedPiece) → self.old.granted ≡ before ++ last ∷ []
             → self.new ≡ record self.old { granted = before } }
     {
         self.granted.pop();

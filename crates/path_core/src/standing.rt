@@ -1,12 +1,12 @@
 //! The start of a turn: how the side stands, and what is to be acknowledged.
 
-ghost use Rattle.std.specs.Prelude.{◌≡◌, ◌≤◌, ◌+◌, ◌^◌, OnOk, OnErr};
+ghost use Rattle.std.specs.Prelude.{◌≡◌, ◌≤◌, ◌+◌, ◌^◌, false, IsOk, OnOk, OnErr};
 ghost use Rattle.actor_desk.specs.Kinds.{CanBeAsked};
 ghost use Rattle.path_agenda.specs.Agenda.{resets};
 ghost use Rattle.path_core.specs.Octets.{octets};
 ghost use Rattle.path_core.specs.Replies.{IsAckBounded};
-ghost use Rattle.path_core.specs.Standing.{look_ask, modes_told, answered_look, ack_out_ask, after_ack_out, answered_ack_out, is_connected, tellable_edge, has_grown, is_update_due, acknowledges};
-ghost use Rattle.path_core.specs.State.{left};
+ghost use Rattle.path_core.specs.Standing.{look_ask, modes_told, may_note, notices_told, queues_in, after_look, answered_look, ack_out_ask, after_ack_out, answered_ack_out, is_connected, tellable_edge, has_grown, is_update_due, acknowledges};
+ghost use Rattle.path_core.specs.State.{left, end_at};
 
 use crate::end::PathEnd;
 use crate::machine::Machine;
@@ -62,6 +62,39 @@ impl Modes {
 }
 
 impl PathEnd {
+    /// The end can note something to the peer: both SYNs are acknowledged, and it may send a DSS.
+    fn may_note(&self) -> bool
+        ensures { result ≡ may_note self.now }
+    {
+        is_connected(self.tcp.state()) && self.modes.clear && !self.modes.identity
+    }
+
+    /// What the side has to note by this path is kept; a dead end does nothing with it. At an error all is as it was.
+    fn hear_notice(&mut self, reply: &Reply) -> Result<(), AllocError>
+        ensures ok { OnOk result (self.new ≡ record self.old { notices = notices_told reply.now self.old }) }
+        ensures err { OnErr result (self.new ≡ self.old) }
+        ensures plain { queues_in reply.now self.old ≡ false → IsOk result }
+    {
+        let (dead, may) = (self.tcp.state() == State::Dead, self.may_note());
+        match *reply {
+            Reply::Control(ControlReply::Standing { notice, .. }) if !dead => {
+                self.notices.take(notice, may)
+            }
+            _ => Ok(()),
+        }
+    }
+
+    /// The side told how it stands. At an error all is as it was.
+    fn look(&mut self, reply: &Reply) -> Result<(), AllocError>
+        ensures ok { OnOk result (self.new ≡ after_look reply.now self.old) }
+        ensures err { OnErr result (self.new ≡ self.old) }
+        ensures plain { queues_in reply.now self.old ≡ false → IsOk result }
+    {
+        self.hear_notice(reply)?;
+        self.modes.tell(reply);
+        Ok(())
+    }
+
     /// The edge of the window that a segment could tell, in steps of 32 octets.
     fn tellable_edge(&self) -> u64
         ensures value { result ≡ tellable_edge self.now }
@@ -113,12 +146,19 @@ impl Machine {
         )
     }
 
-    /// The side told how it stands.
-    pub(crate) fn look(&mut self, side: Side, reply: &Reply)
-        ensures { self.new ≡ answered_look side reply.now self.old }
+    /// The side told how it stands, and perhaps what is to be noted to the peer. At an error all is as it was.
+    ///
+    /// # Errors
+    ///
+    /// Only where there is no memory, and something is to be noted.
+    pub(crate) fn look(&mut self, side: Side, reply: &Reply) -> Result<(), AllocError>
+        ensures ok { OnOk result (self.new ≡ answered_look side reply.now self.old) }
+        ensures err { OnErr result (self.new ≡ self.old) }
+        ensures plain { queues_in reply.now (end_at side self.old) ≡ false → IsOk result }
     {
-        self.end_mut(side).modes.tell(reply);
+        self.end_mut(side).look(reply)?;
         self.done();
+        Ok(())
     }
 
     /// It was told what is to be acknowledged, and the first duty is done.

@@ -68,11 +68,16 @@ impl PathEnd {
     {
         let starting = self.modes.mode == Mode::Starting;
         match item {
-            Heard::Dss | Heard::PeerKey { .. } | Heard::Join { .. } => false,
+            Heard::Dss
+            | Heard::PeerKey { .. }
+            | Heard::Join { .. }
+            | Heard::Notice { .. }
+            | Heard::Fail
+            | Heard::FastClose { .. } => false,
             Heard::DataAck { .. } => true,
             Heard::Mapping { .. } => self.counts() && (self.is_clash() || starting),
             Heard::DataFin { .. } => self.counts() && starting,
-            Heard::InfiniteMapping => self.counts() && self.reads_mappings(),
+            Heard::InfiniteMapping { .. } => self.counts() && self.reads_mappings(),
             Heard::Keys { .. } => !self.treated.are_keys_told(),
         }
     }
@@ -169,10 +174,13 @@ impl PathEnd {
                 }
             }
             Heard::DataAck { .. }
-            | Heard::InfiniteMapping
+            | Heard::InfiniteMapping { .. }
             | Heard::PeerKey { .. }
             | Heard::Keys { .. }
-            | Heard::Join { .. } => {}
+            | Heard::Join { .. }
+            | Heard::Notice { .. }
+            | Heard::Fail
+            | Heard::FastClose { .. } => {}
         }
     }
 
@@ -242,11 +250,14 @@ impl Machine {
             }
             Heard::Mapping { .. } => self.mapping_ask(side),
             Heard::DataFin { .. } => self.fell_ask(side, Event::MappingHeard),
-            Heard::InfiniteMapping => self.fell_ask(side, Event::InfiniteHeard),
+            Heard::InfiniteMapping { .. } => self.fell_ask(side, Event::InfiniteHeard),
             Heard::Keys { own, peer } => keys_ask(side, Some(KeyPair { own, peer })),
-            Heard::Dss | Heard::PeerKey { .. } | Heard::Join { .. } => {
-                Ask::Local(LocalStep::End)
-            }
+            Heard::Dss
+            | Heard::PeerKey { .. }
+            | Heard::Join { .. }
+            | Heard::Notice { .. }
+            | Heard::Fail
+            | Heard::FastClose { .. } => Ask::Local(LocalStep::End),
         }
     }
 
@@ -324,7 +335,7 @@ impl Machine {
                 self.answer_data_fin(side, place, reply);
                 Ok(())
             }
-            Heard::InfiniteMapping => {
+            Heard::InfiniteMapping { .. } => {
                 self.answer_fell(side, Event::InfiniteHeard, reply);
                 Ok(())
             }
@@ -332,7 +343,12 @@ impl Machine {
                 self.answer_keys(side, KeyPair { own, peer }, reply);
                 Ok(())
             }
-            Heard::Dss | Heard::PeerKey { .. } | Heard::Join { .. } => {
+            Heard::Dss
+            | Heard::PeerKey { .. }
+            | Heard::Join { .. }
+            | Heard::Notice { .. }
+            | Heard::Fail
+            | Heard::FastClose { .. } => {
                 self.done();
                 Ok(())
             }

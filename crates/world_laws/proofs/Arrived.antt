@@ -34,7 +34,7 @@ use Rattle.path_core.specs.Joins.{is_joined, join_asked, join_answer}
 use Rattle.path_core.specs.State.{Profile}
 use Rattle.path_core.proofs.Judgements.{judged_taken}
 use Rattle.path_core.specs.declared.modes.Modes.{Modes}
-use Rattle.world_laws.proofs.Arriving.{Halves, options_say, taken_say, options_hold, taken_both, syn_both, syn_ack_both}
+use Rattle.world_laws.proofs.Arriving.{Halves, options_say, options_hold, taken_both, syn_both, syn_ack_both}
 use Rattle.world_laws.proofs.Ending.{Did}
 use Rattle.world_laws.proofs.Growing.{SenderGoes, ReceiverGoes, Longer, sender_stays, receiver_stays, heard_longer, segment_longer}
 use Rattle.world_laws.proofs.Hearing.{Fits, meaning_fits, state_shows, cut_shows}
@@ -376,7 +376,7 @@ arrived_end c s now sg e out back v path holds said calm h =
             (told_after (HasNone out.acks) m (hint_of items) now copy tcp said.window
             (subst (λ congestion. HasNone out.acks congestion.told.window) (sym (same_told m sg.payload e.tcp)) h.told));
         treated = record {
-          items = taken_say out.acks q (window_told sg.syn sg.window) 10 _ (options_say out.acks q (window_told sg.syn sg.window) (is_joined c) s sg.options told.options);
+          items = options_say out.acks q (window_told sg.syn sg.window) (is_joined c) s sg.options told.options;
           fins = Every-nil _;
           answer = (refl, refl);
           window = if_some (join_asked items) said.window;

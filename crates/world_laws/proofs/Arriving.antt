@@ -27,14 +27,16 @@ use Rattle.subflow_tcp.specs.States as states
 use Rattle.subflow_tcp.specs.Taking as taking
 use Rattle.stream_lanes.specs.Lane.{AckCopy, Lane}
 use Rattle.stream_lanes.specs.Words.{Every}
-use Rattle.stream_lanes.proofs.Lists.{Every-nil, Every-append, in_take}
+use Rattle.stream_lanes.proofs.Lists.{Every-nil, Every-append}
 use Rattle.path_agenda.specs.declared.heard.Heard.{Heard}
 use Rattle.path_agenda.specs.declared.heard.Heard.TheVariants as says
+use Rattle.path_agenda.specs.declared.notice.PeerNotice.TheVariants as notes
 use Rattle.path_core.specs.Arriving.{ack_items, is_mapping, mapping_items, map_items, key_items, join_items, items_in, held_if, map_held, key_held, held_in, checksum_heard}
 use Rattle.path_core.specs.Joins.{is_joined}
 use Rattle.path_core.specs.Placing.{kept_of}
 use Rattle.path_core.specs.State.{Profile}
 use Rattle.world_laws.proofs.Hearing.{state_shows, handshake_back, fin_acked_back}
+use Rattle.world_laws.proofs.Noting.{noted, removed_noted, address_noted}
 use Rattle.world_laws.proofs.Records.{acknowledged_shows, every_cons}
 use Rattle.world_laws.proofs.Showing.{Knowledge, HasAck, HasMapping, HasFin, is_unfinished, SenderShows, ReceiverShows, HeldShows, ItemShows, MappingShows, KeysShow, OptionShows}
 
@@ -63,7 +65,7 @@ module _ (acks : List AckCopy) (p : Lane) (window : ℕ) where
   map_says (Some (Bytes place position len true checksum)) h = absurd h
   map_says (Some (Bytes place position len false checksum)) h = mapping_says place position len
   map_says (Some (End place checksum)) h = said_if (nat_le place (2 ^ 62)) (says.DataFin place) h
-  map_says (Some (Infinite place position)) h = said_if (nat_lt place (2 ^ 62)) says.InfiniteMapping tt
+  map_says (Some (Infinite place position)) h = said_if (nat_lt place (2 ^ 62)) (says.InfiniteMapping place (Some position)) tt
 
   acks_say : (o : Option ℕ) → IfSome o (λ n. HasAck acks n window) → Says (ack_items (option_map (λ n. Some n) o) window)
   acks_say None h = Every-nil _
@@ -95,19 +97,16 @@ module _ (acks : List AckCopy) (p : Lane) (window : ℕ) where
   option_says joined s (Capable flag_a flag_c keys) h = key_items_say joined s keys
   option_says joined s (Dss next mapping) h = every_cons says.Dss _ tt (Every-append (acks_say next h.0) (map_says mapping h.1))
   option_says joined s (Join form) h = join_says s form
-  option_says joined s (AddAddr echo id address port hmac) h = Every-nil _
-  option_says joined s (Remove ids) h = Every-nil _
-  option_says joined s (Prio backup) h = Every-nil _
-  option_says joined s (Fail place) h = Every-nil _
-  option_says joined s (FastClose key) h = Every-nil _
+  option_says joined s (AddAddr echo id address port hmac) h = address_noted (λ notice. tt) echo id address port hmac
+  option_says joined s (Remove ids) h = removed_noted (λ notice. tt) ids
+  option_says joined s (Prio backup) h = noted (λ notice. tt) (notes.Prio backup)
+  option_says joined s (Fail place) h = one says.Fail tt
+  option_says joined s (FastClose key) h = one (says.FastClose key) tt
   option_says joined s (Reset transient reason) h = Every-nil _
 
   pub options_say : (joined : Bool) (s : Side) (os : List PlainOption) → Every (OptionShows window acks p) os → Says (flat_map (items_in joined s window) (map meant_option os))
   options_say joined s [] h = Every-nil _
   options_say joined s (o ∷ os) h = Every-append (option_says joined s o (h.each 0 o refl)) (options_say joined s os (record { each = λ i x is. h.each (suc i) x is }))
-
-  pub taken_say : (n : ℕ) (items : List Heard) → Says items → Says (take n items)
-  taken_say n items h = record { each = λ i x is. h.each i x (in_take n items i x is).0 }
 
 -- the mappings that the end holds
 module _ (c : Profile) (window : ℕ) (acks : List AckCopy) (p : Lane) where

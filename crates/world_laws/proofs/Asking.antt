@@ -90,10 +90,13 @@ module _ {C : Type 0} (k : Codec C) (p : PathState C) where
   item_leaves s (Some (says.DataAck next window)) = tt
   item_leaves s (Some (says.Mapping fin)) = mapping_leaves s
   item_leaves s (Some (says.DataFin place)) = tt
-  item_leaves s (Some says.InfiniteMapping) = tt
+  item_leaves s (Some (says.InfiniteMapping place position)) = tt
   item_leaves s (Some (says.PeerKey key)) = tt
   item_leaves s (Some (says.Keys own peer)) = tt
   item_leaves s (Some (says.Join form)) = tt
+  item_leaves s (Some (says.Notice notice)) = tt
+  item_leaves s (Some says.Fail) = tt
+  item_leaves s (Some (says.FastClose key)) = tt
 
   ack_leaves : (s : Side) → AskLeavesFile (plain_ack_ask k s p)
   ack_leaves s = by (breaks_by_ack p.profile (end_at s p))

@@ -223,10 +223,13 @@ module _ {C : Type 0} (k : Codec C) (W : Type 0) where
       by : (b : Bool) → Goes s p (if b then with_fin place (end_at s p) else end_at s p)
       by true = same_goes s (with_fin place (end_at s p)) p refl refl refl
       by false = same_goes s (end_at s p) p refl refl refl
-  item_goes s (Some says.InfiniteMapping) p = same_goes s (end_at s p) p refl refl refl
+  item_goes s (Some (says.InfiniteMapping place position)) p = same_goes s (end_at s p) p refl refl refl
   item_goes s (Some (says.PeerKey key)) p = same_goes s (end_at s p) p refl refl refl
   item_goes s (Some (says.Keys own other)) p = same_goes s (end_at s p) p refl refl refl
   item_goes s (Some (says.Join form)) p = same_goes s (end_at s p) p refl refl refl
+  item_goes s (Some (says.Notice notice)) p = same_goes s (end_at s p) p refl refl refl
+  item_goes s (Some says.Fail) p = same_goes s (end_at s p) p refl refl refl
+  item_goes s (Some (says.FastClose key)) p = same_goes s (end_at s p) p refl refl refl
 
   edge_goes : (s : Side) (checksums : Bool) (o : Option KeptMapping) (p : PathState C) → Goes s p (forgotten_by checksums o (end_at s p))
   edge_goes s checksums None p = same_goes s (end_at s p) p refl refl refl
@@ -495,11 +498,14 @@ module _ {C : Type 0} (k : Codec C) (W : Type 0) where
       by false so = verdict_awake s (with_learned (after_fell fall.MappingHeard r (end_at s p))) r p refl refl (fell_identity fall.MappingHeard r (end_at s p).modes) said so h
   heard_answered_awake s (says.DataFin place) r p said so h =
       verdict_awake s (with_fin place (after_fell fall.MappingHeard r (end_at s p))) r p refl refl (fell_identity fall.MappingHeard r (end_at s p).modes) said so h
-  heard_answered_awake s says.InfiniteMapping r p said so h = told_awake s fall.InfiniteHeard r p said so h
+  heard_answered_awake s (says.InfiniteMapping place position) r p said so h = told_awake s fall.InfiniteHeard r p said so h
   heard_answered_awake s (says.Keys mine other) r p said so h = keys_awake s r (Some (record { own = mine; peer = other })) p h
   heard_answered_awake s says.Dss r p said so h = agenda (left p) p (tail_less p.agenda) h
   heard_answered_awake s (says.PeerKey key) r p said so h = agenda (left p) p (tail_less p.agenda) h
   heard_answered_awake s (says.Join form) r p said so h = agenda (left p) p (tail_less p.agenda) h
+  heard_answered_awake s (says.Notice notice) r p said so h = agenda (left p) p (tail_less p.agenda) h
+  heard_answered_awake s says.Fail r p said so h = agenda (left p) p (tail_less p.agenda) h
+  heard_answered_awake s (says.FastClose key) r p said so h = agenda (left p) p (tail_less p.agenda) h
 
   item_answered_awake : (s : Side) (o : Option Heard) (r : Reply) (p : PathState C) → Said s p → So (item_ask k s o p) r → Awake p → Awake (answered_item k s o r p)
   item_answered_awake s None r p said so h = agenda (left p) p (tail_less p.agenda) h

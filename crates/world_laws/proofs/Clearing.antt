@@ -235,7 +235,7 @@ module _ {C : Type 0} where
   heard_item_clear k s (says.Mapping fin) r p =
       either_clear (is_clash (end_at s p)) _ _ p (break_clear k s 1 r p) (fell_path s events.MappingHeard r _ _ p (λ h. h, λ h. h) refl refl)
   heard_item_clear k s (says.DataFin place) r p = fell_path s events.MappingHeard r _ _ p (λ h. h, λ h. h) refl refl
-  heard_item_clear k s says.InfiniteMapping r p = fell_path s events.InfiniteHeard r _ _ p (λ h. h, λ h. h) refl refl
+  heard_item_clear k s (says.InfiniteMapping place position) r p = fell_path s events.InfiniteHeard r _ _ p (λ h. h, λ h. h) refl refl
   heard_item_clear k s (says.Keys own peer) r p =
       side_clear s _ p _ (keyed_clear r (Some (record { own = own; peer = peer })) (end_at s p).modes) refl refl
   heard_item_clear k s _ r p = record { a = (λ h. h, λ h. h); b = (λ h. h, λ h. h) }

@@ -30,7 +30,7 @@ use Rattle.stream_lanes.specs.Holding.{HasPlace}
 use Rattle.actor_desk.specs.declared.ask.Reply.TheVariants as replies
 use Rattle.path_core.specs.declared.modes.Modes.{Modes}
 use Rattle.path_core.specs.Ends.{PathEnd}
-use Rattle.path_core.specs.Emission.{granted, refused}
+use Rattle.path_core.specs.Emission.{granted, granted_at, refused}
 use Rattle.path_core.specs.Standing.{after_ack_out}
 use Rattle.path_core.specs.State.{Profile}
 use Rattle.path_core.specs.Treating.{acked_in}
@@ -178,8 +178,8 @@ module _ (c : Profile) (s : Side) (out back : Lane) where
     pub whole : span.to ≡ span.from + length piece
     pub some : 1 ≤ length piece
 
-  last_of : (sent : List Cell) (span : Span) (piece : List ℕ) → IsFit span piece → IsGrantedTo (sent ++ cells_from span.from piece) span
-  last_of sent span piece fit =
+  last_of : (sent : List Cell) (position : ℕ) (span : Span) (piece : List ℕ) → IsFit span piece → IsGrantedTo (sent ++ cells_from span.from piece) (granted_at position span)
+  last_of sent position span piece fit =
       let whole = fit.whole in let some = fit.some in
       let is : suc (span.from + length piece - 1) ≡ span.from + length piece = omega (arith, some) in
       record {
@@ -218,7 +218,7 @@ module _ (c : Profile) (s : Side) (out back : Lane) where
             known_end = h.sender.known_end;
             same_end = h.sender.same_end;
             heard = h.sender.heard;
-            granted = Every-push span (Every-map (λ old g. record { last = g.last; last_is = g.last_is; has = Has-more (cells_from span.from piece) g.has }) h.sender.granted) (last_of out.sent span piece fit);
+            granted = Every-push (granted_at e.tcp.send.nxt span) (Every-map (λ old g. record { last = g.last; last_is = g.last_is; has = Has-more (cells_from span.from piece) g.has }) h.sender.granted) (last_of out.sent e.tcp.send.nxt span piece fit);
             fin_acked = h.sender.fin_acked;
           };
           receiver = h.receiver;

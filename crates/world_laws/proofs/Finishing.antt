@@ -286,10 +286,13 @@ module _ {C : Type 0} where
       item_ahead (Some (says.DataAck next window)) = told_ahead _
       item_ahead (Some (says.Mapping fin)) = mapping_ahead
       item_ahead (Some (says.DataFin place)) = fell_ahead s r p left_ahead told
-      item_ahead (Some says.InfiniteMapping) = fell_ahead s r p left_ahead told
+      item_ahead (Some (says.InfiniteMapping place position)) = fell_ahead s r p left_ahead told
       item_ahead (Some (says.Keys own peer)) = left_ahead
       item_ahead (Some (says.PeerKey key)) = left_ahead
       item_ahead (Some (says.Join form)) = left_ahead
+      item_ahead (Some (says.Notice notice)) = left_ahead
+      item_ahead (Some says.Fail) = left_ahead
+      item_ahead (Some (says.FastClose key)) = left_ahead
       item_ahead (Some says.Dss) = left_ahead
 
   join_ahead : (s : Side) (keys : Option KeyPair) (asked : Option JoinSyn) (r : Reply) (ds : List Duty) (p : PathState C) → Ahead ds → Ahead (join_taken s keys asked r (with_agenda (duties.JoinHeard s ∷ ds) p)).agenda

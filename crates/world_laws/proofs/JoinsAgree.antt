@@ -157,10 +157,13 @@ module _ (p : PathState Carried) where
   no_item (Some (says.DataAck next window)) = refl
   no_item (Some (says.Mapping fin)) = no_mapping
   no_item (Some (says.DataFin place)) = refl
-  no_item (Some says.InfiniteMapping) = refl
+  no_item (Some (says.InfiniteMapping place position)) = refl
   no_item (Some (says.PeerKey key)) = refl
   no_item (Some (says.Keys mine other)) = refl
   no_item (Some (says.Join form)) = refl
+  no_item (Some (says.Notice notice)) = refl
+  no_item (Some says.Fail) = refl
+  no_item (Some (says.FastClose key)) = refl
 
   no_piece : (s : Side) (o : Option Piece) → is_fell (piece_ask s o) ≡ false
   no_piece s None = refl

@@ -122,10 +122,13 @@ module _ (k : Secrets) (right : Bool) (w back : Side → Type 0) (p : PathState 
   item_is s (Some (says.DataAck next window)) own = tt
   item_is s (Some (says.Mapping fin)) own = mapping_is s
   item_is s (Some (says.DataFin place)) own = tt
-  item_is s (Some says.InfiniteMapping) own = tt
+  item_is s (Some (says.InfiniteMapping place position)) own = tt
   item_is s (Some (says.PeerKey key)) own = tt
   item_is s (Some (says.Keys mine other)) own = own.1
   item_is s (Some (says.Join form)) own = tt
+  item_is s (Some (says.Notice notice)) own = tt
+  item_is s (Some says.Fail) own = tt
+  item_is s (Some (says.FastClose key)) own = tt
 
   piece_is : (s : Side) (o : Option Piece) → AskIs k right w back (piece_ask s o)
   piece_is s None = tt

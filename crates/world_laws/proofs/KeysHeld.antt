@@ -596,9 +596,12 @@ module _ (k : Secrets) (right : Bool) (w back u gone : Side → Type 0) (more : 
   more_item joined s (says.Keys own other) h = h
   more_item joined s (says.PeerKey key) h = h
   more_item joined s (says.Join form) h = (h.0, (h.1.0, (more (peer s) h.1.1.0, h.1.1.1)))
+  more_item joined s (says.Notice notice) h = h
+  more_item joined s says.Fail h = h
+  more_item joined s (says.FastClose key) h = h
   more_item joined s says.Dss h = λ joins. more_b (peer s) (h joins)
   more_item joined s (says.Mapping fin) h = h
-  more_item joined s says.InfiniteMapping h = h
+  more_item joined s (says.InfiniteMapping place position) h = h
   more_item joined s (says.DataAck next window) h = h
   more_item joined s (says.DataFin place) h = h
 

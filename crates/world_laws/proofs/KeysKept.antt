@@ -126,10 +126,13 @@ module _ (k : Secrets) (right : Bool) (w back : Side → Type 0) where
       by : (b : Bool) → EndIs k right w back joined s (if b then with_fin place e else e)
       by true = record { modes = h.modes; items = h.items; woken = h.woken; past = h.past }
       by false = h
-  passed_item joined s (Some says.InfiniteMapping) e said h = h
+  passed_item joined s (Some (says.InfiniteMapping place position)) e said h = h
   passed_item joined s (Some (says.PeerKey key)) e said h = h
   passed_item joined s (Some (says.Keys own other)) e said h = h
   passed_item joined s (Some (says.Join form)) e said h = h
+  passed_item joined s (Some (says.Notice notice)) e said h = h
+  passed_item joined s (Some says.Fail) e said h = h
+  passed_item joined s (Some (says.FastClose key)) e said h = h
 
   -- it knows what it knew
   passed_stays : (t s : Side) (o : Option Heard) (e : PathEnd) → Knows k right w back t e.modes → Knows k right w back t (item_passed s o e).modes
@@ -147,10 +150,13 @@ module _ (k : Secrets) (right : Bool) (w back : Side → Type 0) where
       by : (b : Bool) → Knows k right w back t (if b then with_fin place e else e).modes
       by true = has
       by false = has
-  passed_stays t s (Some says.InfiniteMapping) e has = has
+  passed_stays t s (Some (says.InfiniteMapping place position)) e has = has
   passed_stays t s (Some (says.PeerKey key)) e has = has
   passed_stays t s (Some (says.Keys own other)) e has = has
   passed_stays t s (Some (says.Join form)) e has = has
+  passed_stays t s (Some (says.Notice notice)) e has = has
+  passed_stays t s (Some says.Fail) e has = has
+  passed_stays t s (Some (says.FastClose key)) e has = has
 
   item_waits : (s : Side) (o : Option Heard) (e : PathEnd) → is_waiting (item_passed s o e).tcp.state ≡ true → is_waiting e.tcp.state ≡ true
   item_waits s None e is = is
@@ -166,10 +172,13 @@ module _ (k : Secrets) (right : Bool) (w back : Side → Type 0) where
       by : (b : Bool) → is_waiting (if b then with_fin place e else e).tcp.state ≡ true → is_waiting e.tcp.state ≡ true
       by true is = is
       by false is = is
-  item_waits s (Some says.InfiniteMapping) e is = is
+  item_waits s (Some (says.InfiniteMapping place position)) e is = is
   item_waits s (Some (says.PeerKey key)) e is = is
   item_waits s (Some (says.Keys own other)) e is = is
   item_waits s (Some (says.Join form)) e is = is
+  item_waits s (Some (says.Notice notice)) e is = is
+  item_waits s (Some says.Fail) e is = is
+  item_waits s (Some (says.FastClose key)) e is = is
 
   -- an edge that is checked leaves what the end knows, and its state
   checked : (checksums : Bool) (o : Option KeptMapping) (e : PathEnd) → (P : PathEnd → Type 0) → P e → ((recv : _) → P (record e { tcp = record e.tcp { recv = recv } }))
@@ -483,13 +492,16 @@ module _ (k : Secrets) (right : Bool) (w back : Side → Type 0) where
           verdict_is s (with_learned (after_fell fall.MappingHeard r (end_at s p))) r p (verdict_leaves r (end_at s p).modes) refl (record { up = λ x. x; waits = λ x. x; past = λ x. x }) said is h
   heard_answered s (says.DataFin place) r p own said is h =
       verdict_is s (with_fin place (after_fell fall.MappingHeard r (end_at s p))) r p (verdict_leaves r (end_at s p).modes) refl (record { up = λ x. x; waits = λ x. x; past = λ x. x }) said is h
-  heard_answered s says.InfiniteMapping r p own said is h = told_is s fall.InfiniteHeard r p said is h
+  heard_answered s (says.InfiniteMapping place position) r p own said is h = told_is s fall.InfiniteHeard r p said is h
   heard_answered s (says.Keys mine other) r p own said is h =
       goes_is k right w back s _ _ p (keys_are k right w back (is_joined p.profile) s r (Some (record { own = mine; peer = other })) (end_at s p) own (end_is k right w back s p h)) (λ is. is) (none_left k right w back p)
       (keys_stay k right w back s r (Some (record { own = mine; peer = other })) p own) h
   heard_answered s says.Dss r p own said is h = agenda_is k right w back _ p (none_left k right w back p) h
   heard_answered s (says.PeerKey key) r p own said is h = agenda_is k right w back _ p (none_left k right w back p) h
   heard_answered s (says.Join form) r p own said is h = agenda_is k right w back _ p (none_left k right w back p) h
+  heard_answered s (says.Notice notice) r p own said is h = agenda_is k right w back _ p (none_left k right w back p) h
+  heard_answered s says.Fail r p own said is h = agenda_is k right w back _ p (none_left k right w back p) h
+  heard_answered s (says.FastClose key) r p own said is h = agenda_is k right w back _ p (none_left k right w back p) h
 
   item_answered : (s : Side) (o : Option Heard) (r : Reply) (p : PathState Carried) → IfSome o (ItemIs k right w back (is_joined p.profile) s) → Said s p → ReplyIs (item_ask values s o p) r → PathIs k right w back p → PathIs k right w back (answered_item values s o r p)
   item_answered s None r p own said is h = agenda_is k right w back _ p (none_left k right w back p) h

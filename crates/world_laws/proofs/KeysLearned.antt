@@ -212,10 +212,13 @@ module _ (T : Type 0) where
       by : (b : Bool) → Goes s p (if b then with_fin place (end_at s p) else end_at s p)
       by true = same_goes s (with_fin place (end_at s p)) p refl refl
       by false = same_goes s (end_at s p) p refl refl
-  item_goes s (Some says.InfiniteMapping) p = same_goes s (end_at s p) p refl refl
+  item_goes s (Some (says.InfiniteMapping place position)) p = same_goes s (end_at s p) p refl refl
   item_goes s (Some (says.PeerKey key)) p = same_goes s (end_at s p) p refl refl
   item_goes s (Some (says.Keys own other)) p = same_goes s (end_at s p) p refl refl
   item_goes s (Some (says.Join form)) p = same_goes s (end_at s p) p refl refl
+  item_goes s (Some (says.Notice notice)) p = same_goes s (end_at s p) p refl refl
+  item_goes s (Some says.Fail) p = same_goes s (end_at s p) p refl refl
+  item_goes s (Some (says.FastClose key)) p = same_goes s (end_at s p) p refl refl
 
   edge_goes : (s : Side) (checksums : Bool) (o : Option KeptMapping) (p : PathState Carried) → Goes s p (forgotten_by checksums o (end_at s p))
   edge_goes s checksums None p = same_goes s (end_at s p) p refl refl

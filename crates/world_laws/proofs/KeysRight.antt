@@ -27,6 +27,8 @@ use Rattle.stream_lanes.specs.Words.{Every}
 use Rattle.stream_lanes.proofs.Lists.{Every-nil, Every-append, Every-push, in_take}
 use Rattle.path_agenda.specs.declared.heard.Heard.{Heard}
 use Rattle.path_agenda.specs.declared.heard.Heard.TheVariants as says
+use Rattle.path_agenda.specs.declared.notice.PeerNotice.TheVariants as notes
+use Rattle.world_laws.proofs.Noting.{noted, removed_noted, address_noted}
 use Rattle.path_core.specs.declared.modes.Modes.{Modes}
 use Rattle.path_core.specs.Arriving.{options_heard, ack_items, is_mapping, mapping_items, end_items, infinite_items, map_items, key_items, join_items, items_in, items_of}
 use Rattle.path_core.specs.Ends.{PathEnd}
@@ -373,10 +375,10 @@ module _ (k : Secrets) (right : Bool) (w back : Side → Type 0) where
         by true = every_one _ tt
         by false = Every-nil _
 
-    infinite_items_are : (s : Side) (place : ℕ) → Every (ItemIs joined s) (infinite_items place)
-    infinite_items_are s place = by (nat_lt place (2 ^ 62))
+    infinite_items_are : (s : Side) (place : ℕ) (position : Option ℕ) → Every (ItemIs joined s) (infinite_items place position)
+    infinite_items_are s place position = by (nat_lt place (2 ^ 62))
       where
-        by : (b : Bool) → Every (ItemIs joined s) (if b then says.InfiniteMapping ∷ [] else [])
+        by : (b : Bool) → Every (ItemIs joined s) (if b then (says.InfiniteMapping place position) ∷ [] else [])
         by true = every_one _ tt
         by false = Every-nil _
 
@@ -387,7 +389,7 @@ module _ (k : Secrets) (right : Bool) (w back : Side → Type 0) where
     map_items_are s (Some (Bytes None position len fin checksum)) = Every-nil _
     map_items_are s (Some (End (Some place) checksum)) = end_items_are s place
     map_items_are s (Some (End None checksum)) = Every-nil _
-    map_items_are s (Some (Infinite (Some place) position)) = infinite_items_are s place
+    map_items_are s (Some (Infinite (Some place) position)) = infinite_items_are s place position
     map_items_are s (Some (Infinite None position)) = Every-nil _
 
     join_items_are : (s : Side) (form : JoinForm) → (joined ≡ true) × (w (peer s) × (right ≡ true → JoinIs k right (peer s) form)) → Every (ItemIs joined s) (join_items s form)
@@ -422,11 +424,11 @@ module _ (k : Secrets) (right : Bool) (w back : Side → Type 0) where
         Every-append {xs = says.Dss ∷ []} (every_one _ h)
         (Every-append (ack_items_are joined s (option_map (λ n. Some n) next) window) (map_items_are joined s (option_map meant_mapping mapping)))
     items_in_are s window (Join form) h = join_items_are joined s form h
-    items_in_are s window (AddAddr echo id address port hmac) h = Every-nil _
-    items_in_are s window (Remove ids) h = Every-nil _
-    items_in_are s window (Prio backup) h = Every-nil _
-    items_in_are s window (Fail place) h = Every-nil _
-    items_in_are s window (FastClose key) h = Every-nil _
+    items_in_are s window (AddAddr echo id address port hmac) h = address_noted (λ notice. tt) echo id address port hmac
+    items_in_are s window (Remove ids) h = removed_noted (λ notice. tt) ids
+    items_in_are s window (Prio backup) h = noted (λ notice. tt) (notes.Prio backup)
+    items_in_are s window (Fail place) h = every_one says.Fail tt
+    items_in_are s window (FastClose key) h = every_one (says.FastClose key) tt
     items_in_are s window (Reset transient reason) h = Every-nil _
 
     all_items : (s : Side) (window : ℕ) (options : List PlainOption) → Every (OptionIs joined (peer s)) options
@@ -436,9 +438,7 @@ module _ (k : Secrets) (right : Bool) (w back : Side → Type 0) where
         Every-append (items_in_are s window o (h.each 0 o refl)) (all_items s window options (record { each = λ i x at. h.each (suc i) x at }))
 
     pub items_are : (s : Side) (sg : PlainSegment) → Every (OptionIs joined (peer s)) sg.options → Every (ItemIs joined s) (items_of joined s (meant sg))
-    items_are s sg h =
-        let all = all_items s (meant sg).window sg.options h in
-        record { each = λ i x at. all.each i x (in_take 10 _ i x at).0 }
+    items_are s sg h = all_items s (meant sg).window sg.options h
 
     -- after a fallback nothing is heard
     pub heard_items_are : (s : Side) (e : PathEnd) (sg : PlainSegment) → Every (OptionIs joined (peer s)) sg.options → Every (ItemIs joined s) (items_of joined s (options_heard e (meant sg)))

@@ -161,11 +161,14 @@ module _ (T : Type 0) where
       by true gains = break_met s 1 r p h
       by false gains = verdict_met s fall.MappingHeard r (with_learned (after_fell fall.MappingHeard r (end_at s p))) p refl refl gains h
   heard_answered_met s (says.DataFin place) r p gains sign h = verdict_met s fall.MappingHeard r (with_fin place (after_fell fall.MappingHeard r (end_at s p))) p refl refl gains h
-  heard_answered_met s says.InfiniteMapping r p gains sign h = told_met s fall.InfiniteHeard r p gains h
+  heard_answered_met s (says.InfiniteMapping place position) r p gains sign h = told_met s fall.InfiniteHeard r p gains h
   heard_answered_met s (says.Keys mine other) r p gains sign h = keys_met s r (Some (record { own = mine; peer = other })) p h
   heard_answered_met s says.Dss r p gains sign h = agenda_met T (left p) p (tail_fewer p.agenda) h
   heard_answered_met s (says.PeerKey key) r p gains sign h = agenda_met T (left p) p (tail_fewer p.agenda) h
   heard_answered_met s (says.Join form) r p gains sign h = agenda_met T (left p) p (tail_fewer p.agenda) h
+  heard_answered_met s (says.Notice notice) r p gains sign h = agenda_met T (left p) p (tail_fewer p.agenda) h
+  heard_answered_met s says.Fail r p gains sign h = agenda_met T (left p) p (tail_fewer p.agenda) h
+  heard_answered_met s (says.FastClose key) r p gains sign h = agenda_met T (left p) p (tail_fewer p.agenda) h
 
   item_answered_met : (s : Side) (o : Option Heard) (r : Reply) (p : PathState Carried) → Gains T (item_ask values s o p) r → is_signed s p → CalmMet T p → CalmMet T (answered_item values s o r p)
   item_answered_met s None r p gains sign h = agenda_met T (left p) p (tail_fewer p.agenda) h

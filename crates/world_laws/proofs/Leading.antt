@@ -1,6 +1,6 @@
 -- At an end of A nothing but a DSS is told to its control book as the sign of Multipath TCP: each acknowledgement, mapping and end of
 -- the stream that a copy says comes behind a DSS, and that one clears the end. So the end is clear before it tells one.
-use Rattle.std.proofs.Common.{◌≡◌, refl, sym, ap, subst, ℕ, zero, suc, ◌+◌, ◌⊎◌, inl, inr, ⊎_elim, ◌||◌, Bool, true, false, if◌then◌else◌, Option, Some, None, List, [], ◌∷◌, ◌++◌, take, length, arith}
+use Rattle.std.proofs.Common.{◌≡◌, refl, sym, ap, subst, ℕ, zero, suc, ◌+◌, ◌⊎◌, inl, inr, ⊎_elim, ◌||◌, Bool, true, false, if◌then◌else◌, Option, Some, None, List, [], ◌∷◌, ◌++◌, map, length, arith}
 use Rattle.std.proofs.lemmas.Bool.{or_left, or_right, false≢true, both_ways}
 use Rattle.std.specs.List.{flat_map}
 use Rattle.outside_kit.specs.declared.side.Side.{Side}
@@ -29,7 +29,8 @@ use Rattle.path_agenda.specs.declared.duty.Duty.TheVariants as duties
 use Rattle.path_agenda.specs.declared.heard.Heard.{Heard}
 use Rattle.path_agenda.specs.declared.heard.Heard.TheVariants as says
 use Rattle.path_agenda.specs.declared.keys.KeyPair.{KeyPair}
-use Rattle.path_core.specs.Arriving.{HeardOption, ack_items, map_items, key_items, join_items, items_in, items_of, judged_in, template_by, template_judged, options_heard}
+use Rattle.key_material.specs.declared.address.Address.{Address}
+use Rattle.path_core.specs.Arriving.{HeardOption, ack_items, map_items, key_items, join_items, address_items, item_removed, items_in, items_of, judged_in, template_by, template_judged, options_heard}
 use Rattle.path_core.specs.Breaking.{answered_break, reset_on}
 use Rattle.path_core.specs.Codec.{Codec, HeardSegment}
 use Rattle.path_core.specs.declared.event.Event.{Event}
@@ -61,7 +62,7 @@ abbrev pub IsLed : Bool → Heard → Type 0
 IsLed seen (says.DataAck next window) = seen ≡ true
 IsLed seen (says.Mapping fin) = seen ≡ true
 IsLed seen (says.DataFin place) = seen ≡ true
-IsLed seen says.InfiniteMapping = seen ≡ true
+IsLed seen (says.InfiniteMapping place position) = seen ≡ true
 IsLed seen _ = Unit {0}
 
 abbrev pub Led : Bool → List Heard → Type 0
@@ -72,11 +73,14 @@ one_led : (seen later : Bool) (item : Heard) → (seen ≡ true → later ≡ tr
 one_led seen later (says.DataAck next window) on h = on h
 one_led seen later (says.Mapping fin) on h = on h
 one_led seen later (says.DataFin place) on h = on h
-one_led seen later says.InfiniteMapping on h = on h
+one_led seen later (says.InfiniteMapping place position) on h = on h
 one_led seen later says.Dss on h = tt
 one_led seen later (says.PeerKey key) on h = tt
 one_led seen later (says.Keys own peer) on h = tt
 one_led seen later (says.Join form) on h = tt
+one_led seen later (says.Notice notice) on h = tt
+one_led seen later says.Fail on h = tt
+one_led seen later (says.FastClose key) on h = tt
 
 either_on : (seen later dss : Bool) → (seen ≡ true → later ≡ true) → (seen || dss) ≡ true → (later || dss) ≡ true
 either_on true later dss on is = or_left later dss (on refl)
@@ -91,20 +95,18 @@ led_append : (seen : Bool) (xs ys : List Heard) → Led seen xs → Led false ys
 led_append seen [] ys x y = led_later false seen ys (λ is. absurd (false≢true is)) y
 led_append seen (item ∷ xs) ys x y = (x.0, led_append (seen || is_dss item) xs ys x.1 y)
 
-led_take : (seen : Bool) (n : ℕ) (items : List Heard) → Led seen items → Led seen (take n items)
-led_take seen zero items h = tt
-led_take seen (suc n) [] h = tt
-led_take seen (suc n) (item ∷ items) h = (h.0, led_take (seen || is_dss item) n items h.1)
-
 one_seen : (item : Heard) → IsLed true item
 one_seen (says.DataAck next window) = refl
 one_seen (says.Mapping fin) = refl
 one_seen (says.DataFin place) = refl
-one_seen says.InfiniteMapping = refl
+one_seen (says.InfiniteMapping place position) = refl
 one_seen says.Dss = tt
 one_seen (says.PeerKey key) = tt
 one_seen (says.Keys own peer) = tt
 one_seen (says.Join form) = tt
+one_seen (says.Notice notice) = tt
+one_seen says.Fail = tt
+one_seen (says.FastClose key) = tt
 
 -- behind a DSS all is led
 all_seen : (items : List Heard) → Led true items
@@ -122,6 +124,15 @@ keys_led (Sender sender) = (tt, tt)
 keys_led (Both sender receiver) = tt
 keys_led (WithData sender receiver len checksum) = tt
 
+address_led : (echo : Bool) (id : ℕ) (address : Address) (port hmac : Option ℕ) → Led false (address_items echo id address port hmac)
+address_led true id address port hmac = (tt, tt)
+address_led false id address port (Some hmac) = (tt, tt)
+address_led false id address port None = tt
+
+removed_led : (ids : List ℕ) → Led false (map item_removed ids)
+removed_led [] = tt
+removed_led (id ∷ ids) = (tt, removed_led ids)
+
 module _ (joined : Bool) (window : ℕ) where
   option_led : (o : HeardOption) → Led false (items_in joined A window o)
   option_led (Capable flag_a flag_c keys) = by joined
@@ -131,11 +142,11 @@ module _ (joined : Bool) (window : ℕ) where
       by false = keys_led keys
   option_led (Dss next mapping) = (tt, all_seen (ack_items next window ++ map_items mapping))
   option_led (Join form) = joins_led form
-  option_led (AddAddr echo id address port hmac) = tt
-  option_led (Remove ids) = tt
-  option_led (Prio backup) = tt
-  option_led (Fail place) = tt
-  option_led (FastClose key) = tt
+  option_led (AddAddr echo id address port hmac) = address_led echo id address port hmac
+  option_led (Remove ids) = removed_led ids
+  option_led (Prio backup) = (tt, tt)
+  option_led (Fail place) = (tt, tt)
+  option_led (FastClose key) = (tt, tt)
   option_led (Reset transient reason) = tt
 
   options_led : (os : List HeardOption) → Led false (flat_map (items_in joined A window) os)
@@ -143,7 +154,7 @@ module _ (joined : Bool) (window : ℕ) where
   options_led (o ∷ os) = led_append false (items_in joined A window o) (flat_map (items_in joined A window) os) (option_led o) (options_led os)
 
 items_led : (joined : Bool) (h : HeardSegment) → Led false (items_of joined A h)
-items_led joined h = led_take false 10 (flat_map (items_in joined A h.window) h.options) (options_led joined h.window h.options)
+items_led joined h = options_led joined h.window h.options
 
 -- ---- so many things without a DSS
 
@@ -259,10 +270,13 @@ same_items s (Some (says.DataFin place)) e = by (counts e)
     by : (b : Bool) → (if b then with_fin place e else e).treated.items ≡ e.treated.items
     by true = refl
     by false = refl
-same_items s (Some says.InfiniteMapping) e = refl
+same_items s (Some (says.InfiniteMapping place position)) e = refl
 same_items s (Some (says.PeerKey key)) e = refl
 same_items s (Some (says.Keys own peer)) e = refl
 same_items s (Some (says.Join form)) e = refl
+same_items s (Some (says.Notice notice)) e = refl
+same_items s (Some says.Fail) e = refl
+same_items s (Some (says.FastClose key)) e = refl
 
 checked_recalls : (checksums : Bool) (o : Option KeptMapping) (e : PathEnd) → Recalls e (forgotten_by checksums o e)
 checked_recalls checksums None e = recalls_all e e refl
@@ -336,14 +350,20 @@ module _ {C : Type 0} where
           absurd (false≢true (unled u.n p.a.treated.items (says.Mapping fin) h.led (unheard p u.n above u.none) (subst (λ n. item_at n p.a.treated.items ≡ Some (says.Mapping fin)) u.follows.0 is)))
       by (Some (says.DataFin place)) is u =
           absurd (false≢true (unled u.n p.a.treated.items (says.DataFin place) h.led (unheard p u.n above u.none) (subst (λ n. item_at n p.a.treated.items ≡ Some (says.DataFin place)) u.follows.0 is)))
-      by (Some says.InfiniteMapping) is u =
-          absurd (false≢true (unled u.n p.a.treated.items says.InfiniteMapping h.led (unheard p u.n above u.none) (subst (λ n. item_at n p.a.treated.items ≡ Some says.InfiniteMapping) u.follows.0 is)))
+      by (Some (says.InfiniteMapping place position)) is u =
+          absurd (false≢true (unled u.n p.a.treated.items (says.InfiniteMapping place position) h.led (unheard p u.n above u.none) (subst (λ n. item_at n p.a.treated.items ≡ Some (says.InfiniteMapping place position)) u.follows.0 is)))
       by (Some (says.PeerKey key)) is u =
           inr (record { n = suc u.n; none = inr (one_more u.n p.a.treated.items (says.PeerKey key) (unheard p u.n above u.none) (subst (λ n. item_at n p.a.treated.items ≡ Some (says.PeerKey key)) u.follows.0 is) refl); follows = u.follows.1 })
       by (Some (says.Keys own peer)) is u =
           inr (record { n = suc u.n; none = inr (one_more u.n p.a.treated.items (says.Keys own peer) (unheard p u.n above u.none) (subst (λ n. item_at n p.a.treated.items ≡ Some (says.Keys own peer)) u.follows.0 is) refl); follows = u.follows.1 })
       by (Some (says.Join form)) is u =
           inr (record { n = suc u.n; none = inr (one_more u.n p.a.treated.items (says.Join form) (unheard p u.n above u.none) (subst (λ n. item_at n p.a.treated.items ≡ Some (says.Join form)) u.follows.0 is) refl); follows = u.follows.1 })
+      by (Some (says.Notice notice)) is u =
+          inr (record { n = suc u.n; none = inr (one_more u.n p.a.treated.items (says.Notice notice) (unheard p u.n above u.none) (subst (λ n. item_at n p.a.treated.items ≡ Some (says.Notice notice)) u.follows.0 is) refl); follows = u.follows.1 })
+      by (Some says.Fail) is u =
+          inr (record { n = suc u.n; none = inr (one_more u.n p.a.treated.items says.Fail (unheard p u.n above u.none) (subst (λ n. item_at n p.a.treated.items ≡ Some says.Fail) u.follows.0 is) refl); follows = u.follows.1 })
+      by (Some (says.FastClose key)) is u =
+          inr (record { n = suc u.n; none = inr (one_more u.n p.a.treated.items (says.FastClose key) (unheard p u.n above u.none) (subst (λ n. item_at n p.a.treated.items ≡ Some (says.FastClose key)) u.follows.0 is) refl); follows = u.follows.1 })
 
   passed_leads : (d : Duty) (ds : List Duty) (p : PathState C) → Leads (d ∷ ds) p → stands d p ≡ false → Leads ds (passed d p)
   passed_leads (duties.Heard A index) ds p h none = by p.a.modes.identity refl
@@ -562,10 +582,13 @@ module _ {C : Type 0} where
       either_goes (is_clash p.b) (duties.Heard B index) ds m (answered_break k B 1 r m) (goes_on B (with_learned (after_fell events.MappingHeard r p.b)) (fell_duties B r m) m)
       (break_goes k (duties.Heard B index) B 1 r ds m) (record { recalls = recalls_all _ _ refl; follows = λ n f. fell_follows B (duties.Heard B index) ds r p n f })
   heard_goes k index ds r p (Some (says.DataFin place)) = record { recalls = recalls_all _ _ refl; follows = λ n f. fell_follows B (duties.Heard B index) ds r p n f }
-  heard_goes k index ds r p (Some says.InfiniteMapping) = record { recalls = recalls_all _ _ refl; follows = λ n f. fell_follows B (duties.Heard B index) ds r p n f }
+  heard_goes k index ds r p (Some (says.InfiniteMapping place position)) = record { recalls = recalls_all _ _ refl; follows = λ n f. fell_follows B (duties.Heard B index) ds r p n f }
   heard_goes k index ds r p (Some (says.PeerKey key)) = record { recalls = recalls_all _ _ refl; follows = λ n f. f }
   heard_goes k index ds r p (Some (says.Keys own peer)) = record { recalls = recalls_all _ _ refl; follows = λ n f. f }
   heard_goes k index ds r p (Some (says.Join form)) = record { recalls = recalls_all _ _ refl; follows = λ n f. f }
+  heard_goes k index ds r p (Some (says.Notice notice)) = record { recalls = recalls_all _ _ refl; follows = λ n f. f }
+  heard_goes k index ds r p (Some says.Fail) = record { recalls = recalls_all _ _ refl; follows = λ n f. f }
+  heard_goes k index ds r p (Some (says.FastClose key)) = record { recalls = recalls_all _ _ refl; follows = λ n f. f }
 
   answered_goes : (k : Codec C) (d : Duty) → IsOther d → (ds : List Duty) (r : Reply) (p : PathState C)
       → let m = with_agenda (d ∷ ds) p in let q = answered k d r m in Goes d ds m q q.agenda
@@ -631,10 +654,13 @@ module _ {C : Type 0} where
       by true false = forgets _ _ refl
       by false asked = recalls_all _ _ refl
   heard_recalls k index ds r p (Some (says.DataFin place)) = recalls_all _ _ refl
-  heard_recalls k index ds r p (Some says.InfiniteMapping) = recalls_all _ _ refl
+  heard_recalls k index ds r p (Some (says.InfiniteMapping place position)) = recalls_all _ _ refl
   heard_recalls k index ds r p (Some (says.PeerKey key)) = recalls_all _ _ refl
   heard_recalls k index ds r p (Some (says.Keys own peer)) = recalls_all _ _ refl
   heard_recalls k index ds r p (Some (says.Join form)) = recalls_all _ _ refl
+  heard_recalls k index ds r p (Some (says.Notice notice)) = recalls_all _ _ refl
+  heard_recalls k index ds r p (Some says.Fail) = recalls_all _ _ refl
+  heard_recalls k index ds r p (Some (says.FastClose key)) = recalls_all _ _ refl
 
   -- while A's end isn't clear it is none that a DSS says
   heard_unclear : (k : Codec C) (index : ℕ) (ds : List Duty) (r : Reply) (p : PathState C) → p.a.modes.identity ≡ false → (o : Option Heard) → item_at index p.a.treated.items ≡ o → item_stands o p.a ≡ true → Led false p.a.treated.items
@@ -648,14 +674,20 @@ module _ {C : Type 0} where
       absurd (false≢true (unled u.n p.a.treated.items (says.Mapping fin) led (unheard p u.n above u.none) (subst (λ n. item_at n p.a.treated.items ≡ Some (says.Mapping fin)) u.follows.0 is)))
   heard_unclear k index ds r p above (Some (says.DataFin place)) is stands_so led u =
       absurd (false≢true (unled u.n p.a.treated.items (says.DataFin place) led (unheard p u.n above u.none) (subst (λ n. item_at n p.a.treated.items ≡ Some (says.DataFin place)) u.follows.0 is)))
-  heard_unclear k index ds r p above (Some says.InfiniteMapping) is stands_so led u =
-      absurd (false≢true (unled u.n p.a.treated.items says.InfiniteMapping led (unheard p u.n above u.none) (subst (λ n. item_at n p.a.treated.items ≡ Some says.InfiniteMapping) u.follows.0 is)))
+  heard_unclear k index ds r p above (Some (says.InfiniteMapping place position)) is stands_so led u =
+      absurd (false≢true (unled u.n p.a.treated.items (says.InfiniteMapping place position) led (unheard p u.n above u.none) (subst (λ n. item_at n p.a.treated.items ≡ Some (says.InfiniteMapping place position)) u.follows.0 is)))
   heard_unclear k index ds r p above (Some (says.PeerKey key)) is stands_so led u =
       inr (record { n = suc u.n; none = inr (one_more u.n p.a.treated.items (says.PeerKey key) (unheard p u.n above u.none) (subst (λ n. item_at n p.a.treated.items ≡ Some (says.PeerKey key)) u.follows.0 is) refl); follows = u.follows.1 })
   heard_unclear k index ds r p above (Some (says.Keys own peer)) is stands_so led u =
       inr (record { n = suc u.n; none = inr (one_more u.n p.a.treated.items (says.Keys own peer) (unheard p u.n above u.none) (subst (λ n. item_at n p.a.treated.items ≡ Some (says.Keys own peer)) u.follows.0 is) refl); follows = u.follows.1 })
   heard_unclear k index ds r p above (Some (says.Join form)) is stands_so led u =
       inr (record { n = suc u.n; none = inr (one_more u.n p.a.treated.items (says.Join form) (unheard p u.n above u.none) (subst (λ n. item_at n p.a.treated.items ≡ Some (says.Join form)) u.follows.0 is) refl); follows = u.follows.1 })
+  heard_unclear k index ds r p above (Some (says.Notice notice)) is stands_so led u =
+      inr (record { n = suc u.n; none = inr (one_more u.n p.a.treated.items (says.Notice notice) (unheard p u.n above u.none) (subst (λ n. item_at n p.a.treated.items ≡ Some (says.Notice notice)) u.follows.0 is) refl); follows = u.follows.1 })
+  heard_unclear k index ds r p above (Some says.Fail) is stands_so led u =
+      inr (record { n = suc u.n; none = inr (one_more u.n p.a.treated.items says.Fail (unheard p u.n above u.none) (subst (λ n. item_at n p.a.treated.items ≡ Some says.Fail) u.follows.0 is) refl); follows = u.follows.1 })
+  heard_unclear k index ds r p above (Some (says.FastClose key)) is stands_so led u =
+      inr (record { n = suc u.n; none = inr (one_more u.n p.a.treated.items (says.FastClose key) (unheard p u.n above u.none) (subst (λ n. item_at n p.a.treated.items ≡ Some (says.FastClose key)) u.follows.0 is) refl); follows = u.follows.1 })
 
   -- any other duty
   other_leads : (k : Codec C) (d : Duty) → IsOther d → (ds : List Duty) (r : Reply) (p : PathState C) → Leads (d ∷ ds) (with_agenda (d ∷ ds) p)

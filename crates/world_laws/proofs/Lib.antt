@@ -18,6 +18,7 @@ pub mod Hearing
 pub mod Applying
 pub mod Journaling
 pub mod Rules
+pub mod Noting
 pub mod Arriving
 pub mod Asking
 pub mod Verdicts

@@ -96,10 +96,13 @@ module _ {C : Type 0} (k : Codec C) (p : PathState C) where
   item_is s (Some (says.DataAck next window)) = tt
   item_is s (Some (says.Mapping fin)) = mapping_is s
   item_is s (Some (says.DataFin place)) = tt
-  item_is s (Some says.InfiniteMapping) = tt
+  item_is s (Some (says.InfiniteMapping place position)) = tt
   item_is s (Some (says.PeerKey key)) = tt
   item_is s (Some (says.Keys own peer)) = tt
   item_is s (Some (says.Join form)) = tt
+  item_is s (Some (says.Notice notice)) = tt
+  item_is s (Some says.Fail) = tt
+  item_is s (Some (says.FastClose key)) = tt
 
   piece_is : (s : Side) (o : Option Piece) → IsPathAsk (piece_ask s o)
   piece_is s None = tt
@@ -298,10 +301,13 @@ module _ {C : Type 0} (k : Codec C) (p : PathState C) where
   heard_asks s (Some (says.DataAck next window)) = refl
   heard_asks s (Some (says.Mapping fin)) = mapping_heard s
   heard_asks s (Some (says.DataFin place)) = tt
-  heard_asks s (Some says.InfiniteMapping) = tt
+  heard_asks s (Some (says.InfiniteMapping place position)) = tt
   heard_asks s (Some (says.PeerKey key)) = tt
   heard_asks s (Some (says.Keys own peer)) = tt
   heard_asks s (Some (says.Join form)) = tt
+  heard_asks s (Some (says.Notice notice)) = tt
+  heard_asks s (Some says.Fail) = tt
+  heard_asks s (Some (says.FastClose key)) = tt
 
   -- ---- what a path asks of a send book: bytes for itself, an acknowledgement, or it gives its own bytes back
 

@@ -177,10 +177,13 @@ module _ (R : Side → ℕ → ℕ → Type 0) where
       by : (b : Bool) → EndKnows s (if b then with_fin place e else e)
       by true = h
       by false = h
-  item_knows s (Some says.InfiniteMapping) e h = h
+  item_knows s (Some (says.InfiniteMapping place position)) e h = h
   item_knows s (Some (says.PeerKey key)) e h = h
   item_knows s (Some (says.Keys own other)) e h = h
   item_knows s (Some (says.Join form)) e h = h
+  item_knows s (Some (says.Notice notice)) e h = h
+  item_knows s (Some says.Fail) e h = h
+  item_knows s (Some (says.FastClose key)) e h = h
 
   check_knows : (s : Side) (checksums : Bool) (o : Option KeptMapping) (e : PathEnd) → EndKnows s e → EndKnows s (forgotten_by checksums o e)
   check_knows s checksums None e h = h
@@ -292,11 +295,14 @@ module _ (R : Side → ℕ → ℕ → Type 0) where
       by true = break_knows s 1 r p h
       by false = goes s _ _ p (learned_held (R s) (end_at s p).receiving.mappings (end_knows s p h)) h
   heard_knows s (says.DataFin place) r p h = same_goes s _ _ p refl h
-  heard_knows s says.InfiniteMapping r p h = same_goes s _ _ p refl h
+  heard_knows s (says.InfiniteMapping place position) r p h = same_goes s _ _ p refl h
   heard_knows s (says.Keys mine other) r p h = same_goes s _ _ p refl h
   heard_knows s says.Dss r p h = agenda _ p h
   heard_knows s (says.PeerKey key) r p h = agenda _ p h
   heard_knows s (says.Join form) r p h = agenda _ p h
+  heard_knows s (says.Notice notice) r p h = agenda _ p h
+  heard_knows s says.Fail r p h = agenda _ p h
+  heard_knows s (says.FastClose key) r p h = agenda _ p h
 
   answered_item_knows : (s : Side) (o : Option Heard) (r : Reply) (p : PathState Carried) → PathKnows p → PathKnows (answered_item values s o r p)
   answered_item_knows s None r p h = agenda _ p h

@@ -186,7 +186,7 @@ module _ (six : SixBooks) (others : Others) (p : PathState Carried) (ab ba : Lan
     heard_step (says.Mapping fin) above has = mapping_step
     heard_step (says.DataFin place) above has =
         fell_step events.MappingHeard tt (with_fin place) (λ f x. fin_shows p.profile s place f out back has x) (fell_duties s (reply_of six (fell_ask s events.MappingHeard p)) p)
-    heard_step says.InfiniteMapping above has = told_fell events.InfiniteHeard tt
+    heard_step (says.InfiniteMapping place position) above has = told_fell events.InfiniteHeard tt
     heard_step (says.Keys own peer) above has =
         let keys : Option KeyPair = Some (record { own = own; peer = peer }) in
         let r : Reply = reply_of six (keys_ask s keys) in
@@ -194,6 +194,9 @@ module _ (six : SixBooks) (others : Others) (p : PathState Carried) (ab ba : Lan
     heard_step says.Dss above has = agenda_step six others p ab ba h ready (asks.Local steps.End) (left p) tt
     heard_step (says.PeerKey key) above has = agenda_step six others p ab ba h ready (asks.Local steps.End) (left p) tt
     heard_step (says.Join form) above has = agenda_step six others p ab ba h ready (asks.Local steps.End) (left p) tt
+    heard_step (says.Notice notice) above has = agenda_step six others p ab ba h ready (asks.Local steps.End) (left p) tt
+    heard_step says.Fail above has = agenda_step six others p ab ba h ready (asks.Local steps.End) (left p) tt
+    heard_step (says.FastClose key) above has = agenda_step six others p ab ba h ready (asks.Local steps.End) (left p) tt
 
     item_by : (o : Option Heard) → e.modes.identity ≡ false → IfSome o (ItemShows out.acks back) → Makes (item_ask values s o p) (answered_item values s o (reply_of six (item_ask values s o p)) p)
     item_by None above has = agenda_step six others p ab ba h ready (asks.Local steps.End) (left p) tt

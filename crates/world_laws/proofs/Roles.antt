@@ -191,10 +191,13 @@ item_goes s (Some (says.DataFin place)) p h = by (counts (end_at s p))
     by : (b : Bool) → Goes s p (if b then with_fin place (end_at s p) else end_at s p)
     by true = same_goes s (with_fin place (end_at s p)) p refl refl h
     by false = same_goes s (end_at s p) p refl refl h
-item_goes s (Some says.InfiniteMapping) p h = same_goes s (end_at s p) p refl refl h
+item_goes s (Some (says.InfiniteMapping place position)) p h = same_goes s (end_at s p) p refl refl h
 item_goes s (Some (says.PeerKey key)) p h = same_goes s (end_at s p) p refl refl h
 item_goes s (Some (says.Keys own other)) p h = same_goes s (end_at s p) p refl refl h
 item_goes s (Some (says.Join form)) p h = same_goes s (end_at s p) p refl refl h
+item_goes s (Some (says.Notice notice)) p h = same_goes s (end_at s p) p refl refl h
+item_goes s (Some says.Fail) p h = same_goes s (end_at s p) p refl refl h
+item_goes s (Some (says.FastClose key)) p h = same_goes s (end_at s p) p refl refl h
 
 edge_goes : (s : Side) (checksums : Bool) (o : Option KeptMapping) (p : PathState Carried) → HasRoles p → Goes s p (forgotten_by checksums o (end_at s p))
 edge_goes s checksums None p h = same_goes s (end_at s p) p refl refl h
@@ -364,11 +367,14 @@ heard_answered_roles s (says.Mapping fin) r p h = by (is_clash (end_at s p))
     by true = break_roles s 1 r p h
     by false = same_roles s (with_learned (after_fell fall.MappingHeard r (end_at s p))) (fell_duties s r p) p refl refl h
 heard_answered_roles s (says.DataFin place) r p h = same_roles s (with_fin place (after_fell fall.MappingHeard r (end_at s p))) (fell_duties s r p) p refl refl h
-heard_answered_roles s says.InfiniteMapping r p h = told_roles s fall.InfiniteHeard r p h
+heard_answered_roles s (says.InfiniteMapping place position) r p h = told_roles s fall.InfiniteHeard r p h
 heard_answered_roles s (says.Keys mine other) r p h = keys_roles s r (Some (record { own = mine; peer = other })) p h
 heard_answered_roles s says.Dss r p h = agenda_roles (left p) p h
 heard_answered_roles s (says.PeerKey key) r p h = agenda_roles (left p) p h
 heard_answered_roles s (says.Join form) r p h = agenda_roles (left p) p h
+heard_answered_roles s (says.Notice notice) r p h = agenda_roles (left p) p h
+heard_answered_roles s says.Fail r p h = agenda_roles (left p) p h
+heard_answered_roles s (says.FastClose key) r p h = agenda_roles (left p) p h
 
 item_answered_roles : (s : Side) (o : Option Heard) (r : Reply) (p : PathState Carried) → HasRoles p → HasRoles (answered_item values s o r p)
 item_answered_roles s None r p h = agenda_roles (left p) p h

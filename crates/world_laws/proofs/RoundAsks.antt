@@ -90,10 +90,13 @@ module _ {C : Type 0} (k : Codec C) (p : PathState C) (some : 1 ≤ payload_size
   item_some s (Some (says.DataAck next window)) = tt
   item_some s (Some (says.Mapping fin)) = mapping_some s
   item_some s (Some (says.DataFin place)) = tt
-  item_some s (Some says.InfiniteMapping) = tt
+  item_some s (Some (says.InfiniteMapping place position)) = tt
   item_some s (Some (says.PeerKey key)) = tt
   item_some s (Some (says.Keys own peer)) = tt
   item_some s (Some (says.Join form)) = tt
+  item_some s (Some (says.Notice notice)) = tt
+  item_some s (Some says.Fail) = tt
+  item_some s (Some (says.FastClose key)) = tt
 
   piece_some : (s : Side) (o : Option Piece) → AsksSome (piece_ask s o)
   piece_some s None = tt

@@ -110,10 +110,13 @@ module _ {C : Type 0} (k : Codec C) (p : PathState C) where
   item_none s (Some (says.DataAck next window)) = tt
   item_none s (Some (says.Mapping fin)) = mapping_none s
   item_none s (Some (says.DataFin place)) = tt
-  item_none s (Some says.InfiniteMapping) = tt
+  item_none s (Some (says.InfiniteMapping place position)) = tt
   item_none s (Some (says.PeerKey key)) = tt
   item_none s (Some (says.Keys own peer)) = tt
   item_none s (Some (says.Join form)) = tt
+  item_none s (Some (says.Notice notice)) = tt
+  item_none s (Some says.Fail) = tt
+  item_none s (Some (says.FastClose key)) = tt
 
   piece_none : (s : Side) (o : Option Piece) → AsksNone (piece_ask s o)
   piece_none s None = tt

@@ -604,9 +604,12 @@ module _ {C : Type 0} where
         by (Some (says.DataAck next window)) = told _ _
         by (Some (says.Mapping fin)) = mapping (is_clash (end_at s p))
         by (Some (says.DataFin place)) = fell_done s _ (duties.Heard s index) ds rest need.0 paid
-        by (Some says.InfiniteMapping) = fell_done s _ (duties.Heard s index) ds rest need.0 paid
+        by (Some (says.InfiniteMapping place position)) = fell_done s _ (duties.Heard s index) ds rest need.0 paid
         by (Some (says.PeerKey key)) = done_on ds xs rest (λ t. each t)
         by (Some (says.Join form)) = done_on ds xs rest (λ t. each t)
+        by (Some (says.Notice notice)) = done_on ds xs rest (λ t. each t)
+        by (Some says.Fail) = done_on ds xs rest (λ t. each t)
+        by (Some (says.FastClose key)) = done_on ds xs rest (λ t. each t)
         by (Some (says.Keys own other)) = touched s _ ds rest need.0 xs (inr paid)
 
     -- an end that waits asks again whether it may join

@@ -24,7 +24,7 @@ use Rattle.stream_lanes.proofs.Lists.{Every-nil, Has-map}
 use Rattle.actor_desk.specs.declared.ask.Reply.{Reply}
 use Rattle.actor_desk.specs.declared.ask.Reply.TheVariants as replies
 use Rattle.path_core.specs.Emission.{after_timer}
-use Rattle.path_core.specs.Ends.{PathEnd, Treated, nothing_treated}
+use Rattle.path_core.specs.Ends.{PathEnd, Treated, Notices, nothing_treated, no_notices}
 use Rattle.path_core.specs.Events.{died, died_unless_dead, after_firing}
 use Rattle.path_agenda.specs.declared.keys.KeyPair.{KeyPair}
 use Rattle.join_handshake.specs.declared.hearing.JoinSyn.{JoinSyn}
@@ -32,7 +32,7 @@ use Rattle.path_core.specs.Joining.{opened_by, syn_alone, is_listening, joined_b
 use Rattle.path_core.specs.Opening.{with_peer_key, after_keys, keys_in}
 use Rattle.path_core.specs.Passing.{having_asked, with_peer_end, after_rate, with_fin_told}
 use Rattle.path_core.specs.Placing.{is_wrong, forgotten_by, after_pieces}
-use Rattle.path_core.specs.Standing.{after_look, modes_told}
+use Rattle.path_core.specs.Standing.{after_look, modes_told, notices_told}
 use Rattle.path_core.specs.State.{Profile}
 use Rattle.path_core.specs.Treating.{after_dss, after_keep, is_dropped, covered_by, is_not_kept, with_plain_ack}
 use Rattle.path_core.specs.Falling.{after_fell, fell_in, mode_in}
@@ -113,8 +113,13 @@ module _ (c : Profile) (s : Side) (out back : Lane) where
   pub asked_shows : (e : PathEnd) → Shows e → Shows (having_asked e)
   asked_shows e h = with_treated e _ (record { items = h.treated.items; fins = h.treated.fins; answer = h.treated.answer; window = h.treated.window; sub = h.treated.sub; nothing = h.treated.nothing }) (λ none. absurd (false≢true (sym none))) h
 
+  -- what is to be noted is no matter of a lane
+  with_notices : (e : PathEnd) (n : Notices) → Shows e → Shows (record e { notices = n })
+  with_notices e n h = record { sender = h.sender; receiver = h.receiver; acks = h.acks; told = h.told; treated = h.treated; held = h.held }
+
   pub looked_shows : (r : Reply) (e : PathEnd) → Shows e → Shows (after_look r e)
-  looked_shows r e h = with_modes c s out back e (modes_told r e.modes) (told_identity r e.modes) h
+  looked_shows r e h =
+      with_notices (record e { modes = modes_told r e.modes }) (notices_told r e) (with_modes c s out back e (modes_told r e.modes) (told_identity r e.modes) h)
 
   pub fell_shows : (event : Event) (r : Reply) (e : PathEnd) → Shows e → Shows (after_fell event r e)
   fell_shows event r e h = with_modes c s out back e (fell_in event r e.modes) (fell_identity event r e.modes) h
@@ -243,7 +248,9 @@ module _ (c : Profile) (s : Side) (out back : Lane) where
 
   -- once it was asked what is to be acknowledged
   pub died_shows : (e : PathEnd) → e.treated.asked ≡ false → Shows e → Shows (died e)
-  died_shows e calm h = dead_tcp false e nothing_treated (nothing_shows h.treated.nothing) (λ none. calm) h
+  died_shows e calm h =
+      with_notices (record e { tcp = taking.after_death false e.tcp; treated = nothing_treated }) no_notices
+      (dead_tcp false e nothing_treated (nothing_shows h.treated.nothing) (λ none. calm) h)
 
   pub died_unless_shows : (e : PathEnd) → e.treated.asked ≡ false → Shows e → Shows (died_unless_dead e)
   died_unless_shows e calm h = by (states.is_dead e.tcp.state)

@@ -130,10 +130,13 @@ module _ (six : SixBooks) (others : Others) (c : Profile) where
           by : (b : Bool) → Did c s (if b then with_fin place e else e) out out back back
           by true = did_nothing c s out back (with_fin place e) (fin_shows c s place e out back has shows)
           by false = did_nothing c s out back e shows
-      item_did says.InfiniteMapping has = did_nothing c s out back e shows
+      item_did (says.InfiniteMapping place position) has = did_nothing c s out back e shows
       item_did (says.PeerKey key) has = did_nothing c s out back e shows
       item_did (says.Keys own peer) has = did_nothing c s out back e shows
       item_did (says.Join form) has = did_nothing c s out back e shows
+      item_did (says.Notice notice) has = did_nothing c s out back e shows
+      item_did says.Fail has = did_nothing c s out back e shows
+      item_did (says.FastClose key) has = did_nothing c s out back e shows
 
       maybe_did : (o : Option Heard) → IfSome o (ItemShows out.acks back) → Did c s (item_passed s o e) out out back back
       maybe_did None has = did_nothing c s out back e shows

@@ -347,10 +347,13 @@ module _ {C : Type 0} where
         either_goes (is_clash (end_at s m)) (answered_break k s 1 r m) (goes_on s (with_learned (after_fell events.MappingHeard r (end_at s m))) (fell_duties s r m) m) m
         (break_goes s (duties.Heard s index) 1 p) (side_goes s _ m _ (λ h. h) refl refl (fell_shape s (duties.Heard s index) p))
     item_goes s index (Some (says.DataFin place)) p = side_goes s _ (first (duties.Heard s index) p) _ (λ h. h) refl refl (fell_shape s (duties.Heard s index) p)
-    item_goes s index (Some says.InfiniteMapping) p = event_told s (duties.Heard s index) events.InfiniteHeard p
+    item_goes s index (Some (says.InfiniteMapping place position)) p = event_told s (duties.Heard s index) events.InfiniteHeard p
     item_goes s index (Some (says.PeerKey key)) p = rests (first (duties.Heard s index) p) _ refl refl shape
     item_goes s index (Some (says.Keys own peer)) p = side_goes s _ (first (duties.Heard s index) p) _ (λ h. h) refl refl shape
     item_goes s index (Some (says.Join form)) p = rests (first (duties.Heard s index) p) _ refl refl shape
+    item_goes s index (Some (says.Notice notice)) p = rests (first (duties.Heard s index) p) _ refl refl shape
+    item_goes s index (Some says.Fail) p = rests (first (duties.Heard s index) p) _ refl refl shape
+    item_goes s index (Some (says.FastClose key)) p = rests (first (duties.Heard s index) p) _ refl refl shape
 
     plain_ack_goes : (s : Side) (p : PathState C) → Goes (first (duties.PlainAck s) p) (answered_plain_ack k s r (first (duties.PlainAck s) p))
     plain_ack_goes s p =

@@ -14,7 +14,7 @@ use Rattle.path_segments.specs.declared.segment.PathOption.TheVariants.{Capable,
 use Rattle.path_segments.specs.Laws.{window_told}
 use Rattle.path_segments.specs.Options.{PlainOption}
 use Rattle.path_segments.specs.Spelled.{PlainSegment}
-use Rattle.send_book.specs.declared.call.Span.{Span}
+use Rattle.path_core.specs.declared.granted_piece.GrantedPiece.{GrantedPiece}
 use Rattle.subflow_send.specs.declared.record.RecordKind.{RecordKind}
 use Rattle.subflow_send.specs.declared.record.RecordKind.TheVariants.{Syn, Data, Fin}
 use Rattle.subflow_send.specs.Records.{Record, SendState}
@@ -116,10 +116,10 @@ is_unfinished phase.Established = true
 is_unfinished phase.CloseWait = true
 is_unfinished _ = false
 
--- the lane was granted the last place of a span
-pub record IsGrantedTo (sent : List Cell) (span : Span) : Type 0 where
+-- the lane was granted the last place of a piece
+pub record IsGrantedTo (sent : List Cell) (piece : GrantedPiece) : Type 0 where
   pub last : ℕ
-  pub last_is : suc last ≡ span.to
+  pub last_is : suc last ≡ piece.to
   pub has : HasPlace sent last
 
 -- what the end knows of the stream that it sends, and whether it is in plain TCP
@@ -127,8 +127,8 @@ pub record Knowledge : Type 0 where
   pub known_end : Option ℕ
   pub acked : Bool
   pub heard : ℕ
-  -- the places that were granted to it and aren't acknowledged
-  pub granted : List Span
+  -- the pieces that were granted to it and aren't acknowledged
+  pub granted : List GrantedPiece
   pub identity : Bool
 
 abbrev pub identity_of : PathEnd → Bool

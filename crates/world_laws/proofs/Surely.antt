@@ -284,10 +284,13 @@ module _ (p : PathState Carried) where
   item_b (Some (says.DataAck next window)) = tt
   item_b (Some (says.Mapping fin)) = mapping_b
   item_b (Some (says.DataFin place)) = tt
-  item_b (Some says.InfiniteMapping) = tt
+  item_b (Some (says.InfiniteMapping place position)) = tt
   item_b (Some (says.PeerKey key)) = tt
   item_b (Some (says.Keys own other)) = tt
   item_b (Some (says.Join form)) = tt
+  item_b (Some (says.Notice notice)) = tt
+  item_b (Some says.Fail) = tt
+  item_b (Some (says.FastClose key)) = tt
 
   -- a sign that A hears comes behind a DSS
   led_by : (index : ℕ) (ds : List Duty) (item : Heard) → Leads (duties.Heard A index ∷ ds) p → p.a.modes.clear ≡ false → p.a.modes.identity ≡ false → item_at index p.a.treated.items ≡ Some item → IsLed false item
@@ -302,10 +305,13 @@ module _ (p : PathState Carried) where
   item_a index ds above (Some (says.DataAck next window)) is h unclear = tt
   item_a index ds above (Some (says.Mapping fin)) is h unclear = absurd (false≢true (led_by index ds (says.Mapping fin) h unclear above is))
   item_a index ds above (Some (says.DataFin place)) is h unclear = absurd (false≢true (led_by index ds (says.DataFin place) h unclear above is))
-  item_a index ds above (Some says.InfiniteMapping) is h unclear = tt
+  item_a index ds above (Some (says.InfiniteMapping place position)) is h unclear = tt
   item_a index ds above (Some (says.PeerKey key)) is h unclear = tt
   item_a index ds above (Some (says.Keys own other)) is h unclear = tt
   item_a index ds above (Some (says.Join form)) is h unclear = tt
+  item_a index ds above (Some (says.Notice notice)) is h unclear = tt
+  item_a index ds above (Some says.Fail) is h unclear = tt
+  item_a index ds above (Some (says.FastClose key)) is h unclear = tt
 
   item_mild : (index : ℕ) (ds : List Duty) → Leads (duties.Heard A index ∷ ds) p → p.a.modes.clear ≡ false → IsMild (item_ask values A (item_of index p.a) p)
   item_mild index ds h unclear = by p.a.modes.identity refl

@@ -44,6 +44,8 @@ use Rattle.path_core.specs.Joins.{is_joined, join_answer}
 use Rattle.path_core.specs.Ends.{PathEnd}
 use Rattle.path_core.specs.State.{Profile}
 use Rattle.world_laws.proofs.Records.{every_cons}
+use Rattle.path_agenda.specs.declared.notice.PeerNotice.TheVariants as notes
+use Rattle.world_laws.proofs.Noting.{noted, removed_noted, address_noted}
 use Rattle.world_laws.proofs.Telling.{IsShort, MappingIsShort, OptionTells, SegmentTells, IsNonce, ItemTells, AnswerTells, SenderTells, ModesTell, EndTells}
 use Rattle.world_laws.proofs.TellingRules.{acknowledged_tells, AreKeys, answer_nonce}
 use Rattle.dss_mapping.specs.Mappings.{octets_in}
@@ -72,7 +74,7 @@ map_tells : (o : Option (PathMapping ℕ)) → IfSome o MappingIsShort → Tell 
 map_tells None h = Every-nil ItemTells
 map_tells (Some (Bytes place position len fin checksum)) h = mapping_tells place position (octets_in len fin) fin
 map_tells (Some (End place checksum)) h = tell_if (nat_le place (2 ^ 62)) (says.DataFin place) h
-map_tells (Some (Infinite place position)) h = tell_if (nat_lt place (2 ^ 62)) says.InfiniteMapping tt
+map_tells (Some (Infinite place position)) h = tell_if (nat_lt place (2 ^ 62)) (says.InfiniteMapping place (Some position)) tt
 
 keys_tell : (s : Side) (keys : CapableKeys) → KeysFit keys → Tell (key_items s keys)
 keys_tell A NoKey h = Every-nil ItemTells
@@ -101,19 +103,16 @@ module _ (c : Profile) (from : Side) (joined : Bool) (s : Side) (window : ℕ) w
       by false = keys_tell s keys h.fits
   option_tells (Dss next mapping) h = every_cons says.Dss _ tt (Every-append (acks_tell next window h.short.0) (map_tells mapping h.short.1))
   option_tells (Join form) h = joins_tell s form h.fits
-  option_tells (AddAddr echo id address port hmac) h = Every-nil ItemTells
-  option_tells (Remove ids) h = Every-nil ItemTells
-  option_tells (Prio backup) h = Every-nil ItemTells
-  option_tells (Fail place) h = Every-nil ItemTells
-  option_tells (FastClose key) h = Every-nil ItemTells
+  option_tells (AddAddr echo id address port hmac) h = address_noted (λ notice. tt) echo id address port hmac
+  option_tells (Remove ids) h = removed_noted (λ notice. tt) ids
+  option_tells (Prio backup) h = noted (λ notice. tt) (notes.Prio backup)
+  option_tells (Fail place) h = one says.Fail tt
+  option_tells (FastClose key) h = one (says.FastClose key) tt
   option_tells (Reset transient reason) h = Every-nil ItemTells
 
   options_tell : (os : List PlainOption) → All (OptionTells c from) os → Tell (flat_map (items_in joined s window) (map meant_option os))
   options_tell [] h = Every-nil ItemTells
   options_tell (o ∷ os) h = Every-append (option_tells o (All-head (OptionTells c from) o os h)) (options_tell os (All-tail (OptionTells c from) o os h))
-
-taken_tell : (n : ℕ) (items : List Heard) → Tell items → Tell (take n items)
-taken_tell n items h = record { each = λ i x is. h.each i x (in_take n items i x is).0 }
 
 -- ---- the answer of a dead end
 
@@ -273,7 +272,7 @@ pub arrived_tells : (c : Profile) (s : Side) (now : ℕ) (sg : PlainSegment) (e 
 arrived_tells c s now sg e tells h =
     let m : Meaning = taken_as (judged_in (is_joined c) s (meant sg) e) in
     let items : List Heard = items_of (is_joined c) s (meant sg) in
-    let said : Tell items = taken_tell 10 _ (options_tell c (peer s) (is_joined c) s _ sg.options tells.options) in
+    let said : Tell items = options_tell c (peer s) (is_joined c) s _ sg.options tells.options in
     let held = held_flows c s m sg.payload e.tcp (record { sender = h.sender; edge = h.edge }) in
     let tcp : EndState = with_payload m sg.payload e.tcp in
     let arrived = arrived_flows c s m (hint_of items) now (copy_of (meant sg)) tcp refl held in

@@ -202,10 +202,13 @@ module _ (c : Profile) (p : PathState Carried) (h : PathTells c p) where
   item_tells s (Some (says.DataAck next window)) said = tt
   item_tells s (Some (says.Mapping fin)) said = mapping_tells s
   item_tells s (Some (says.DataFin place)) said = tt
-  item_tells s (Some says.InfiniteMapping) said = tt
+  item_tells s (Some (says.InfiniteMapping place position)) said = tt
   item_tells s (Some (says.PeerKey key)) said = tt
   item_tells s (Some (says.Keys own other)) said = said.1
   item_tells s (Some (says.Join form)) said = tt
+  item_tells s (Some (says.Notice notice)) said = tt
+  item_tells s (Some says.Fail) said = tt
+  item_tells s (Some (says.FastClose key)) said = tt
 
   piece_tells : (s : Side) (o : Option Piece) → AskTells (piece_ask s o)
   piece_tells s None = tt

@@ -395,12 +395,15 @@ module _ (six : SixBooks) (others : Others) (p : PathState Carried) (ab ba : Lan
         let r : Reply = reply_of six (fell_ask s events.MappingHeard p) in
         let f : PathEnd = after_fell events.MappingHeard r e in
         on (with_fin place f) (fell_duties s r p) (rules.fin_tells p.profile s f (rules.fell_tells p.profile s e tells events.MappingHeard r) place) (fell_fair events.MappingHeard)
-    heard_told says.InfiniteMapping x = fell_told events.InfiniteHeard
+    heard_told (says.InfiniteMapping place position) x = fell_told events.InfiniteHeard
     heard_told (says.Keys own peer) x =
         let keys : Option KeyPair = Some (record { own = own; peer = peer }) in keyed (reply_of six (keys_ask s keys)) keys x.1
     heard_told says.Dss x = done_tells
     heard_told (says.PeerKey key) x = done_tells
     heard_told (says.Join form) x = done_tells
+    heard_told (says.Notice notice) x = done_tells
+    heard_told says.Fail x = done_tells
+    heard_told (says.FastClose key) x = done_tells
 
     -- ---- the SYN of a join
 

@@ -214,7 +214,9 @@ module _ (c : Profile) (s : Side) (e : PathEnd) (h : EndTells c s e) where
   join_refused_tells r = with_modes (with_mode_refused r e).modes (record { own_key = h.modes.own_key; peer_key = h.modes.peer_key; own_nonce = h.modes.own_nonce; peer_nonce = h.modes.peer_nonce })
 
   pub look_tells : (r : Reply) → EndTells c s (after_look r e)
-  look_tells r = with_modes (modes_told r e.modes) (told_modes r e.modes h.modes)
+  look_tells r =
+      let told = with_modes (modes_told r e.modes) (told_modes r e.modes h.modes) in
+      record { sender = told.sender; edge = told.edge; stream = told.stream; window = told.window; modes = told.modes; treated = told.treated }
 
   pub fell_tells : (event : Event) (r : Reply) → EndTells c s (after_fell event r e)
   fell_tells event r = with_modes (fell_in event r e.modes) (fell_modes event r e.modes h.modes)
@@ -427,7 +429,9 @@ module _ (c : Profile) (s : Side) (e : PathEnd) (h : EndTells c s e) where
   dead_tells reset t treated = record { sender = acknowledged_tells c s e.tcp.send h.sender e.tcp.send.nxt; edge = h.edge; stream = h.stream; window = h.window; modes = h.modes; treated = treated }
 
   pub died_tells : EndTells c s (died e)
-  died_tells = dead_tells false nothing_treated (record { items = Every-nil _; answer = tt; acknowledged = omega arith })
+  died_tells =
+      let told = dead_tells false nothing_treated (record { items = Every-nil _; answer = tt; acknowledged = omega arith }) in
+      record { sender = told.sender; edge = told.edge; stream = told.stream; window = told.window; modes = told.modes; treated = told.treated }
 
   pub died_unless_tells : EndTells c s (died_unless_dead e)
   died_unless_tells = by (states.is_dead e.tcp.state)

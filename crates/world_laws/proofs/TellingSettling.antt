@@ -54,7 +54,10 @@ item_told c s e h (says.DataFin place) = by (counts e)
 item_told c s e h (says.PeerKey key) = h
 item_told c s e h (says.Keys own peer) = h
 item_told c s e h (says.Join form) = h
-item_told c s e h says.InfiniteMapping = h
+item_told c s e h (says.Notice notice) = h
+item_told c s e h says.Fail = h
+item_told c s e h (says.FastClose key) = h
+item_told c s e h (says.InfiniteMapping place position) = h
 
 maybe_told : (c : Profile) (s : Side) (e : PathEnd) → EndTells c s e → (o : Option Heard) → EndTells c s (item_passed s o e)
 maybe_told c s e h None = h

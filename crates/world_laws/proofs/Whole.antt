@@ -7,7 +7,7 @@ use Rattle.std.specs.Option.{IfSome}
 use Rattle.outside_kit.specs.declared.side.Side.{Side}
 use Rattle.outside_kit.specs.declared.side.Side.TheVariants.{A, B}
 use Rattle.link_model.specs.Steps.{peer}
-use Rattle.send_book.specs.declared.call.Span.{Span}
+use Rattle.path_core.specs.declared.granted_piece.GrantedPiece.{GrantedPiece}
 use Rattle.send_book.specs.State.{Sending}
 use Rattle.stream_lanes.specs.Holding.{Holds, LaneHolds}
 use Rattle.stream_lanes.specs.Lane.{Cell, Lane}
@@ -35,7 +35,7 @@ after_all first (c ∷ sent) h =
     ap (λ n. place_after (suc n) sent) here ∙ rest ∙ one_more
 
 -- so no span that was granted reaches past it
-spans_within : (sent : List Cell) → From (λ pos c. c.place ≡ pos) 0 sent → (spans : List Span) → Every (IsGrantedTo sent) spans → granted_to spans ≤ length sent
+spans_within : (sent : List Cell) → From (λ pos c. c.place ≡ pos) 0 sent → (spans : List GrantedPiece) → Every (IsGrantedTo sent) spans → granted_to spans ≤ length sent
 spans_within sent identity [] h = omega arith
 spans_within sent identity (span ∷ spans) h =
     let g : IsGrantedTo sent span = every_first span spans h in

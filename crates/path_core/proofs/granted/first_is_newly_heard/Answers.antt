@@ -6,4 +6,4 @@ use Rattle.path_core.proofs.granted.first_is_newly_heard.Goals as goal
 pub returns-in-Some : goal.returns-in-Some
 returns-in-Some c =
     c.is_newly_heard.ensures ∙ ap (is_newly_heard c.args.heard c.args.next) c.in-Some.ensures.lookup
-    ∙ first_tells c.args.heard c.args.next c.args.spans.now.items c.in-Some.first.now (omega (arith, c.front.ensures.variant.0 (ap is_some c.in-Some.is))) c.requires
+    ∙ first_tells c.args.heard c.args.next c.args.pieces.now.items c.in-Some.first.now (omega (arith, c.front.ensures.variant.0 (ap is_some c.in-Some.is))) c.requires

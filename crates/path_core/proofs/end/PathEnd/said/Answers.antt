@@ -9,5 +9,5 @@ returns-clause-can c =
     (can_be_said c.args.profile.now c.args.side c.args.self.now
     (subst (λ spelling. spelling.path ≤ 15) c.spelling-path.ensures.value c.spelling-path.ensures.path)
     (rw (← c.self.view_is) (subst (λ window. window ≤ 2 ^ 20) c.window-window.ensures.value c.window-window.ensures.bound))
-    c.args.kind _ _ (rw (← c.self.view_is) c.first_unsent-unsent.ensures.value) c.first_unsent-unsent.ensures.bound
+    c.args.kind _ _ c.has_addresses.ensures (rw (← c.self.view_is) c.first_unsent-unsent.ensures.value) c.first_unsent-unsent.ensures.bound
     (rw (← c.self.view_is) c.first_record-first.ensures.value) c.first_record-first.ensures.bound)

@@ -1,0 +1,31 @@
+-- What the control book tells an end to note to its peer, or to do.
+use Rattle.std.specs.Prelude.{ℕ, Bool, true, false, not, ◌&&◌, if◌then◌else◌, Some, [], ◌∷◌, ◌++◌}
+use Rattle.control_book.specs.declared.call.Notice.{Notice}
+use Rattle.control_book.specs.declared.call.Notice.TheVariants as told
+use Rattle.control_book.specs.declared.call.ControlReply.TheVariants as control_replies
+use Rattle.subflow_tcp.specs.States.{is_dead}
+use Rattle.actor_desk.specs.declared.ask.Reply.{Reply}
+use Rattle.actor_desk.specs.declared.ask.Reply.TheVariants as replies
+use Rattle.path_agenda.specs.declared.notice.OwnNotice.{OwnNotice}
+use Rattle.path_agenda.specs.declared.notice.OwnNotice.TheVariants as notes
+use Rattle.path_core.specs.Ends.{PathEnd, Notices}
+
+-- behind all others
+abbrev pub queued : OwnNotice → Notices → Notices
+queued notice n = record n { queue = n.queue ++ notice ∷ [] }
+
+-- An announcement that the end can't send now is told again in the next round. The key is kept until MP_FASTCLOSE is sent.
+abbrev pub after_notice : Notice → Bool → Notices → Notices
+after_notice told.Nothing may n = n
+after_notice (told.Announce id) may n = if may then queued (notes.AddAddr id) n else n
+after_notice (told.Withdraw id) may n = queued (notes.Removes id) n
+after_notice (told.Carrier key) may n = record n { carrier = (if n.fast_closed then n.carrier else Some key) }
+after_notice told.Reset may n = record n { reset = true }
+
+-- something is to be noted to the peer
+abbrev pub queues : Notice → Bool → Bool
+queues told.Nothing may = false
+queues (told.Announce id) may = may
+queues (told.Withdraw id) may = true
+queues (told.Carrier key) may = false
+queues told.Reset may = false

@@ -1,0 +1,23 @@
+-- What a copy notes of addresses and paths, where nothing is known of it.
+use Rattle.std.proofs.Common.{◌≡◌, ℕ, suc, Bool, true, false, Option, Some, None, List, [], ◌∷◌, map}
+use Rattle.stream_lanes.specs.Words.{Every}
+use Rattle.stream_lanes.proofs.Lists.{Every-nil, Every-push, Every-append}
+use Rattle.key_material.specs.declared.address.Address.{Address}
+use Rattle.path_agenda.specs.declared.heard.Heard.{Heard}
+use Rattle.path_agenda.specs.declared.heard.Heard.TheVariants as says
+use Rattle.path_agenda.specs.declared.notice.PeerNotice.{PeerNotice}
+use Rattle.path_agenda.specs.declared.notice.PeerNotice.TheVariants as notes
+use Rattle.path_core.specs.Arriving.{address_items, item_removed}
+
+module _ {P : Heard → Type 0} (each : (notice : PeerNotice) → P (says.Notice notice)) where
+  pub noted : (notice : PeerNotice) → Every P (says.Notice notice ∷ [])
+  noted notice = Every-push {xs = []} (says.Notice notice) (Every-nil P) (each notice)
+
+  pub removed_noted : (ids : List ℕ) → Every P (map item_removed ids)
+  removed_noted [] = Every-nil P
+  removed_noted (id ∷ ids) = Every-append (noted (notes.Removed id)) (removed_noted ids)
+
+  pub address_noted : (echo : Bool) (id : ℕ) (address : Address) (port hmac : Option ℕ) → Every P (address_items echo id address port hmac)
+  address_noted true id address port hmac = noted (notes.AddEcho id)
+  address_noted false id address port (Some hmac) = noted (notes.AddAddr id address port hmac)
+  address_noted false id address port None = Every-nil P
