@@ -20,7 +20,7 @@ use Rattle.stream_apps.specs.Apps.{AppState}
 use Rattle.stream_apps.specs.AppSteps.{app_stands, app_settled, taken_in, bytes_in, ends_in}
 use Rattle.stream_apps.specs.Turns.{IsAppSettled}
 use Rattle.actor_desk.specs.Words.{is_nil}
-use Rattle.world_laws.specs.Outcomes.{note_tells, was_told, tells_end, bytes_noted, read_by}
+use Rattle.world_laws.specs.Outcomes.{note_tells, was_told, tells_end, tells_stop, bytes_noted, read_by}
 
 -- ---- lists that grow
 
@@ -44,16 +44,11 @@ or_false : (b : Bool) → (b || false) ≡ b
 or_false true = refl
 or_false false = refl
 
-or_true : (b : Bool) → (b || true) ≡ true
+pub or_true : (b : Bool) → (b || true) ≡ true
 or_true true = refl
 or_true false = refl
 
 -- ---- an application
-
--- an abort was told, by whichever side
-abbrev pub tells_stop : Reply → Bool
-tells_stop (replies.Reassembly (reassembly_replies.Aborted by_peer)) = true
-tells_stop _ = false
 
 -- what the steps of the application are, and the book that it writes into
 pub record Writes (file : List ℕ) (rest : List ℕ) (send : Sending) : Type 0 where
@@ -70,6 +65,9 @@ pub record Reads (told : Bool) (notes : List Note) (r : Reader) : Type 0 where
 -- ---- the agenda
 
 same_stands : (d : AppDuty) (ds : List AppDuty) (a : AppState) → app_stands d a ≡ true → app_stands d (record a { agenda = d ∷ ds }) ≡ true
+same_stands duties.FastClose ds a is = is
+same_stands duties.AbortSend ds a is = is
+same_stands duties.AbortReceive ds a is = is
 same_stands duties.Write ds a is = is
 same_stands duties.Close ds a is = is
 same_stands duties.Read ds a is = is
