@@ -392,8 +392,8 @@ module _ {C : Type 0} where
 
   pub first_fare : (start : Start) → Fare start (first_cast start)
   first_fare start = record {
-    a = opened_fares A start.buffer start.file_a _ _ refl refl;
-    b = opened_fares B start.buffer start.file_b _ _ refl refl;
+    a = opened_fares A start.buffer start.file_a (fast_close_of A start.lines) _ refl refl;
+    b = opened_fares B start.buffer start.file_b (fast_close_of B start.lines) _ refl refl;
     paths = record {
       each = λ i x there.
           let found = walker_there start 0 i i start.paths x (omega arith) there in

@@ -367,11 +367,11 @@ same_joined c control_calls.FastClose none = fallen_joined c.fall _ (call_falls 
 same_joined c (control_calls.FastHeard key) none = fallen_joined c.fall _ (call_falls c (control_calls.FastHeard key))
 
 fallen_unjoined : (f g : Fall) → Fallen f g → IsUnjoined f → IsUnjoined g
-fallen_unjoined f g (inl same) h = same.unjoined h
+fallen_unjoined f g (inl same) h is = same.unjoined h is
 fallen_unjoined f g (inr fell) h is = fell.joined ∙ fell.was
 
 begun_unjoined : (f g : Fall) → SameFall f g ⊎ HasJoined f g → IsUnjoined f → IsUnjoined g
-begun_unjoined f g (inl same) h = same.unjoined h
+begun_unjoined f g (inl same) h is = same.unjoined h is
 begun_unjoined f g (inr begun) h is = absurd (both_ways _ begun.unjoined is)
 
 pub unjoined_stays : (c : Control) (call : ControlCall) → IsUnjoined c.fall → IsUnjoined (controlling.after c call).fall

@@ -600,10 +600,15 @@ module _ (key_a key_b : ℕ) where
   knowing : (w : WorldState Carried) → WorldMet w → true ≡ true → control.is_sure (books_in w.books).control_a.fall.mode ≡ true → (books_in w.books).control_a.keys.peer ≡ Some key_b
   knowing w h right is = peer_key_is (books_in w.books).control_a.keys.peer (h.fine.sure is) h.keys.books.a.peer_is
 
+  -- a fast close is no sign
+  no_stop_fell : (s : Side) → is_fell (asks.Control s control_calls.FastClose) ≡ false
+  no_stop_fell A = refl
+  no_stop_fell B = refl
+
   -- a member that tells a sign has the key, or its side is past being sure
   app_signs : (T : Type 0) (ds : List AppDuty) (a : AppState) (x : Ask) → app_asks_first ds a ≡ Some x → is_fell x ≡ true → T
   app_signs T [] a x is fell = cc
-  app_signs T (app_duties.FastClose ∷ ds) a x is fell = absurd (false≢true (ap is_fell (same_Some _ x is) ∙ fell))
+  app_signs T (app_duties.FastClose ∷ ds) a x is fell = absurd (false≢true (sym (no_stop_fell a.side) ∙ ap is_fell (same_Some _ x is) ∙ fell))
   app_signs T (app_duties.AbortSend ∷ ds) a x is fell = absurd (false≢true (ap is_fell (same_Some _ x is) ∙ fell))
   app_signs T (app_duties.AbortReceive ∷ ds) a x is fell = absurd (false≢true (ap is_fell (same_Some _ x is) ∙ fell))
   app_signs T (app_duties.Write ∷ ds) a x is fell = absurd (false≢true (ap is_fell (same_Some _ x is) ∙ fell))

@@ -301,7 +301,8 @@ module _ (path written edge : ℕ) (s : Side) (steps : List Note) (refused freed
   freeing_call asker t send_calls.GoIdentity apart is low =
       record { ones = ones_after path written b h.ones send_calls.GoIdentity tt; all = λ on alone. all_after path written b h.ones s steps send_calls.GoIdentity tt (h.all on (freed_before freed _ alone)) }
   freeing_call asker t (send_calls.GoInfinite who) apart is low = absurd is
-  freeing_call asker t send_calls.Abort apart is low = absurd is
+  freeing_call asker t send_calls.Abort apart is low =
+      record { ones = ones_after path written b h.ones send_calls.Abort tt; all = λ on alone. all_after path written b h.ones s steps send_calls.Abort tt (h.all on (freed_before freed _ alone)) }
 
   other_call : (asker : ℕ) (call : SendCall) → (asker ≡ path → ⊥) → IsCallOf asker (asks.Send s call) → edge ≤ b.edge
       → SideAsks path written s steps refused (freed || frees_bytes s edge (asks.Send s call) (replies.Send (reply_to b call))) (after_call b call)

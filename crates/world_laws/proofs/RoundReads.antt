@@ -1,5 +1,5 @@
 -- A reader ends its turn only where it was told the end, has read enough, or was answered that there is nothing.
-use Rattle.std.proofs.Common.{◌≡◌, refl, sym, ◌∙◌, ap, subst, ℕ, ◌+◌, ◌≤◌, ◌||◌, not, nat_lt, ⊎_elim, Bool, true, false, if◌then◌else◌, Some, List, [], ◌∷◌, ◌++◌, length, arith}
+use Rattle.std.proofs.Common.{◌≡◌, refl, sym, ◌∙◌, ap, subst, ℕ, ◌+◌, ◌≤◌, ◌||◌, not, nat_lt, ⊎_elim, Bool, true, false, if◌then◌else◌, Some, Option, List, [], ◌∷◌, ◌++◌, length, arith}
 use Rattle.std.proofs.lemmas.Bool.{and_cases, ltb-false, not-false}
 use Rattle.std.proofs.lemmas.List.{append_assoc}
 use Rattle.std.proofs.lemmas.Option.{same_Some}
@@ -232,4 +232,4 @@ module _ {C : Type 0} where
           (λ books c x asks h. member_ready k books c.member c.list (note_of books c.pass x) x refl asks h)
           (λ stamp c over h. next_ready c.member c.list)
           turns (opened_world start)
-          (opened_lifted IsReadyCrew start (first_ready A start.buffer start.file_a _) (first_ready B start.buffer start.file_b _) (λ number plan there. tt))
+          (opened_lifted IsReadyCrew start (first_ready A start.buffer start.file_a (fast_close_of A start.lines)) (first_ready B start.buffer start.file_b (fast_close_of B start.lines)) (λ number plan there. tt))

@@ -3,7 +3,7 @@ use Rattle.std.proofs.Common.{refl, ℕ, List, Option, arith}
 use Rattle.outside_kit.specs.declared.side.Side.{Side}
 use Rattle.outside_kit.specs.declared.side.Side.TheVariants.{A, B}
 use Rattle.stream_apps.specs.AppSteps.{start_of_app}
-use Rattle.stream_apps.specs.Starts.{untouched, first_app_turn}
+use Rattle.stream_apps.specs.Starts.{fast_close_of, untouched, first_app_turn}
 use Rattle.stream_apps.specs.Turns.{IsAppSettled}
 use Rattle.path_core.specs.Codec.{Codec}
 use Rattle.path_core.specs.Starts.{waiting_path}
@@ -23,7 +23,7 @@ module _ {C : Type 0} where
   opened_steady : (start : Start) → CanRun start → IsSteadyWorld {C = C} (opened_world start)
   opened_steady start can = record {
     crew = record {
-      each = opened_actors (λ actor c. IsSteady c.member) start (first_settled A start.buffer start.file_a _) (first_settled B start.buffer start.file_b _) (λ number plan there. path number plan (can.paths.each number plan there));
+      each = opened_actors (λ actor c. IsSteady c.member) start (first_settled A start.buffer start.file_a (fast_close_of A start.lines)) (first_settled B start.buffer start.file_b (fast_close_of B start.lines)) (λ number plan there. path number plan (can.paths.each number plan there));
     };
     books = record { a = record { whole = refl }; b = record { whole = refl } };
   }

@@ -1,7 +1,7 @@
 -- Once the reassembly book of a side is aborted, its reader is told that alone.
 use Rattle.std.proofs.Common.{◌≡◌, refl, sym, ◌∙◌, ap, subst, ℕ, ◌||◌, Bool, true, false, is_some, if◌then◌else◌, Option, Some, None, List, [], ◌∷◌, ◌++◌, All}
 use Rattle.std.proofs.lemmas.List.{append-nil, append_assoc}
-use Rattle.std.proofs.lemmas.List.Elements.{All-append}
+use Rattle.std.proofs.lemmas.List.Elements.{All-nil, All-head, All-tail, All-push}
 use Rattle.std.specs.List.{slice_get}
 use Rattle.outside_kit.specs.declared.side.Side.{Side}
 use Rattle.outside_kit.specs.declared.side.Side.TheVariants.{A, B}
@@ -128,7 +128,9 @@ nothing_came by_peer replies.Done told = refl
 
 nothing_read : (by_peer : Bool) (steps : List Note) → All (λ n. TellsAbortAlone by_peer n.reply) steps → read_by steps ≡ []
 nothing_read by_peer [] told = refl
-nothing_read by_peer (n ∷ steps) told = ap (λ xs. xs ++ read_by steps) (nothing_came by_peer n.reply told.0) ∙ nothing_read by_peer steps told.1
+nothing_read by_peer (n ∷ steps) told =
+    ap (λ xs. xs ++ read_by steps) (nothing_came by_peer n.reply (All-head (λ m. TellsAbortAlone by_peer m.reply) n steps told))
+    ∙ nothing_read by_peer steps (All-tail (λ m. TellsAbortAlone by_peer m.reply) n steps told)
 
 read_before : (before steps : List Note) → read_by steps ≡ [] → read_by (before ++ steps) ≡ read_by before
 read_before [] steps none = none
@@ -155,7 +157,7 @@ module _ {C : Type 0} (k : Codec C) (start : Start) (by_peer : Bool) (before : L
     steps = h.steps ++ note_of t.books seat.pass ask ∷ [];
     list_is = ap (λ x. x.list) now ∙ ap (λ xs. xs ++ note_of t.books seat.pass ask ∷ []) (ap (λ x. x.list) (sym was) ∙ h.list_is)
         ∙ append_assoc before h.steps (note_of t.books seat.pass ask ∷ []);
-    told = All-append (λ n. TellsAbortAlone by_peer n.reply) h.steps (note_of t.books seat.pass ask ∷ []) h.told (tells, tt);
+    told = All-push (λ n. TellsAbortAlone by_peer n.reply) h.steps (note_of t.books seat.pass ask) h.told tells;
   }
 
   -- a step of another actor
@@ -203,7 +205,7 @@ abort_is_last {C} k start turns s by_peer aborted more =
         aborted = subst (λ (v : WorldState C). (arrived_at s v).aborted ≡ Some by_peer) now.is aborted;
         steps = [];
         list_is = sym (append-nil before ∙ ap (λ (v : WorldState C). notes_of s v.crew) now.is ∙ notes_at_seat s now.cast);
-        told = tt;
+        told = All-nil (λ n. TellsAbortAlone by_peer n.reply);
       };
     } in
     let later = turns_have k start (Hears s by_peer before) (stepwise k start by_peer before s) (begins_on k start by_peer before s) more w begun in
