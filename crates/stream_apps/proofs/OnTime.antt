@@ -1,8 +1,6 @@
 -- An application stops the connection in the round of its tick.
-use Rattle.std.proofs.Common.{◌≡◌, refl, sym, ◌∙◌, ap, subst, ℕ, zero, suc, ◌-◌, ◌/◌, ◌≤◌, ◌==◌, ◌↔◌, not, ◌&&◌, Bool, true, false, if◌then◌else◌, Option, Some, None, option_map, List, [], ◌∷◌, length, arith}
+use Rattle.std.proofs.Common.{◌≡◌, refl, sym, ◌∙◌, ap, subst, ℕ, zero, suc, ◌-◌, ◌/◌, ◌≤◌, ◌==◌, ◌↔◌, not, ◌&&◌, Bool, true, false, if◌then◌else◌, Option, Some, None, List, [], ◌∷◌, length, arith}
 use Rattle.std.proofs.lemmas.Bool.{eqb-true, false≢true}
-use Rattle.control_book.specs.declared.call.ControlCall.TheVariants as control_calls
-use Rattle.actor_desk.specs.declared.ask.Ask.TheVariants as asks
 use Rattle.actor_desk.specs.declared.ask.Reply.{Reply}
 use Rattle.actor_desk.specs.Words.{is_nil}
 use Rattle.stream_apps.specs.declared.duty.AppDuty.{AppDuty}
@@ -131,9 +129,10 @@ stops_on_time = record { due = due; never = never }
         let left : (after_rounds rounds a).stops_in ≡ less (length rounds) (Some (tick / 100)) =
         rounds_left rounds a ∙ ap (less (length rounds)) (settled_keeps start_of_app (untouched s buffer file (Some tick))) in
         let asks = asks_where (after_rounds rounds a) (begun_after rounds a (untouched s buffer file (Some tick), refl)) in
-        let count = due_after (length rounds) (tick / 100) in
-        (λ now. let same = count.0 (sym (ap is_due left) ∙ asks.0 now) in (omega (arith, same), omega (arith, same)),
-        λ holds. let first = holds.0 in let last = holds.1 in asks.1 (ap is_due left ∙ count.1 (omega (arith, first, last))))
+        let count = due_after (length rounds) (tick / 100) in (
+          λ now. let same = count.0 (sym (ap is_due left) ∙ asks.0 now) in (omega (arith, same), omega (arith, same)),
+          λ holds. let first = holds.0 in let last = holds.1 in asks.1 (ap is_due left ∙ count.1 (omega (arith, first, last))),
+        )
 
     never : (s : _) (buffer : ℕ) (file : List ℕ) (rounds : List (List Reply))
         → AsksFastClose (after_rounds rounds (first_app_turn s buffer file None)) → ⊥

@@ -39,10 +39,7 @@ fn fast_close_of(side: Side, lines: &[ScriptLine]) -> Option<u64>
 fn fast_close_line(side: Side, lines: &[ScriptLine]) -> Option<ScriptLine>
     ensures { result ≡ find (is_fast_close side) lines.now }
 {
-    lines
-        .iter()
-        .copied()
-        .find(|line| is_fast_close(side, line))
+    lines.iter().copied().find(|line| is_fast_close(side, line))
 }
 
 /// Whether the side stops the connection by this line.

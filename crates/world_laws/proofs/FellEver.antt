@@ -1,5 +1,5 @@
 -- A side that was in plain TCP once is so at every later moment.
-use Rattle.std.proofs.Common.{◌≡◌, refl, sym, ◌∙◌, subst, ⊎_elim, ◌⊎◌, inl, inr, ◌||◌, Bool, true, false, if◌then◌else◌, Option, Some, None, List, [], ◌∷◌, ◌++◌, map}
+use Rattle.std.proofs.Common.{◌≡◌, refl, sym, subst, ⊎_elim, ◌⊎◌, inl, inr, ◌||◌, Bool, true, false, if◌then◌else◌, Option, Some, None, List, [], ◌∷◌, ◌++◌, map}
 use Rattle.std.proofs.lemmas.Bool.{false≢true, or_cases}
 use Rattle.std.specs.List.{slice_get}
 use Rattle.outside_kit.specs.declared.side.Side.{Side}
@@ -96,10 +96,13 @@ record StaysFallen (w : WorldState Carried) : Type 0 where
 
 step_ever : (x : Ask) (pass : Pass) (books : StampedBooks) → ((s : Side) → Fell books s → FellBack (books_in books) s) → ((s : Side) → IsUnjoined (control_of s (books_in books)).fall)
     → ((s : Side) → Fell (after_entry x pass books) s → FellBack (books_in (after_entry x pass books)) s) × ((s : Side) → IsUnjoined (control_of s (books_in (after_entry x pass books))).fall)
-step_ever x pass books fell right = (λ s is. ⊎_elim
-    (λ before. subst (λ (y : SixBooks). FellBack y s) (sym (books_after x pass books)) (fell_stays (books_in books) x s (fell s before)))
-    (λ now. fell_so (books_in (after_entry x pass books)) s (later s) now)
-    (fell_more x pass books s is), later)
+step_ever x pass books fell right = (
+  λ s is. ⊎_elim
+      (λ before. subst (λ (y : SixBooks). FellBack y s) (sym (books_after x pass books)) (fell_stays (books_in books) x s (fell s before)))
+      (λ now. fell_so (books_in (after_entry x pass books)) s (later s) now)
+      (fell_more x pass books s is),
+  later,
+)
   where
     later : (s : Side) → IsUnjoined (control_of s (books_in (after_entry x pass books))).fall
     later s = subst (λ (y : SixBooks). IsUnjoined (control_of s y).fall) (sym (books_after x pass books)) (ask_right (books_in books) x s (right s))

@@ -17,7 +17,6 @@ use Rattle.control_book.specs.Control.{Control, peer_or_zero}
 use Rattle.control_book.specs.Registry.{sole as sole_path, stands as stands_path, with_phase}
 use Rattle.control_book.specs.declared.registry.Phase.TheVariants.{Opening}
 use Rattle.key_material.specs.KeyDigest.{token_of}
-use Rattle.fallback_state.specs.declared.fall.Event.{Event as FallEvent}
 use Rattle.join_handshake.specs.declared.hearing.JoinSyn.{JoinSyn as Asked}
 use Rattle.control_book.specs.Replies as control
 use Rattle.control_book.specs.Steps as controlling
@@ -72,7 +71,7 @@ use Rattle.world_laws.proofs.Journaling.{books_after}
 use Rattle.world_laws.proofs.Falls.{is_plain, plain_stays, row_falls}
 use Rattle.world_laws.proofs.KeysRight.{Secrets, is_past, drawn_key, ItemIs}
 use Rattle.world_laws.proofs.KeysWoken.{is_up}
-use Rattle.world_laws.proofs.KeysHeld.{PathIs, IsSign, BeginIs, PairIs, AskedIs, end_is, key_found, pair_found, asked_is, more_is}
+use Rattle.world_laws.proofs.KeysHeld.{PathIs, BeginIs, PairIs, AskedIs, end_is, key_found, pair_found, asked_is, more_is}
 use Rattle.world_laws.proofs.KeysKept.{CallIs, CallReplyIs, AskIs, ReplyIs, item_found, takes_is, begins_is}
 use Rattle.world_laws.proofs.Settled.{settled_settled}
 use Rattle.world_laws.proofs.Opened.{opened_actors}

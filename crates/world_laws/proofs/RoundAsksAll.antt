@@ -1,5 +1,5 @@
 -- Where the turn of a path is over, an end that may ask for bytes was refused over all that was written as the round began.
-use Rattle.std.proofs.Common.{◌≡◌, refl, sym, ◌∙◌, ap, subst, ℕ, ◌+◌, ◌<◌, ◌≤◌, not, nat_lt, ◌||◌, inl, Bool, true, false, if◌then◌else◌, Option, Some, None, List, [], ◌∷◌, ◌++◌, arith}
+use Rattle.std.proofs.Common.{◌≡◌, refl, sym, ◌∙◌, ap, subst, ℕ, ◌+◌, ◌≤◌, not, nat_lt, ◌||◌, inl, Bool, true, false, if◌then◌else◌, Option, Some, None, List, [], ◌∷◌, ◌++◌, arith}
 use Rattle.std.proofs.lemmas.Bool.{and_parts, false≢true, ltb-false}
 use Rattle.std.specs.List.{count_by}
 use Rattle.outside_kit.specs.declared.side.Side.{Side}

@@ -1,8 +1,7 @@
 -- Once the reassembly book of a side is aborted, its reader is told that alone.
-use Rattle.std.proofs.Common.{◌≡◌, refl, sym, ◌∙◌, ap, subst, ℕ, ◌||◌, Bool, true, false, is_some, if◌then◌else◌, Option, Some, None, List, [], ◌∷◌, ◌++◌, All}
+use Rattle.std.proofs.Common.{◌≡◌, refl, sym, ◌∙◌, ap, subst, Bool, true, false, is_some, if◌then◌else◌, Option, Some, List, [], ◌∷◌, ◌++◌, All}
 use Rattle.std.proofs.lemmas.List.{append-nil, append_assoc}
 use Rattle.std.proofs.lemmas.List.Elements.{All-nil, All-head, All-tail, All-push}
-use Rattle.std.specs.List.{slice_get}
 use Rattle.outside_kit.specs.declared.side.Side.{Side}
 use Rattle.outside_kit.specs.declared.side.Side.TheVariants.{A, B}
 use Rattle.reassembly_book.specs.declared.call.ReassemblyCall.{ReassemblyCall}
@@ -26,10 +25,10 @@ use Rattle.path_core.specs.Codec.{Codec}
 use Rattle.path_core.specs.Duties.{ask_for}
 use Rattle.world_laws.specs.Laws.{Always}
 use Rattle.world_laws.specs.Openings.{Start, opened_world}
-use Rattle.world_laws.specs.Outcomes.{bytes_noted, notes_of, output_of, read_by}
+use Rattle.world_laws.specs.Outcomes.{bytes_noted, notes_of, read_by}
 use Rattle.world_laws.specs.Promises.{arrived_at}
-use Rattle.world_laws.specs.Stopping.{TellsAbortAlone, HearsAbortAlone, AbortIsLast}
-use Rattle.world_laws.specs.Worlds.{WorldState, Turn, note_of, world_run}
+use Rattle.world_laws.specs.Stopping.{TellsAbortAlone, AbortIsLast}
+use Rattle.world_laws.specs.Worlds.{WorldState, note_of, world_run}
 use Rattle.world_laws.proofs.CastLifting.{Has, Stepwise, always_cast, turns_have}
 use Rattle.world_laws.proofs.Casts.{Cast, Fare, Seat, world_of, seat_after, next_cast}
 use Rattle.world_laws.proofs.Journaling.{books_after}
