@@ -95,6 +95,7 @@ module _ (k : Setting) (s : Lane) (t : ℕ) (p : Stage) (w : Lane) where
       whole = whole;
       buffer = is.buffer;
       unaborted = is.unaborted;
+      stays = is.stays;
     }
 
     none_told : w.told_end ≡ 0
@@ -218,7 +219,7 @@ module _ (k : Setting) (s : Lane) (t : ℕ) (p : Stage) (w : Lane) where
   pub reading_begins : (a : AppState) (b : Arriving) → Going k s t p w
       → ReaderIs k w.read w.data_fin_came w.got w.told_end (record a { count = 0 }) b
       → w.received ≡ received b → w.reader_over ≡ false → ReaderGoes k s p w (app_next_round a) b
-  reading_begins a b h is came turn = by a.rest a.closed a.told is
+  reading_begins a b h is came turn = by a.stops_in is.stays a.rest a.closed a.told is
     where
       same : {a' : AppState} {ds : List AppDuty} → ReaderIs k w.read w.data_fin_came w.got w.told_end a' b
           → ReaderIs k w.read w.data_fin_came w.got w.told_end (record a' { agenda = ds }) b
@@ -230,13 +231,15 @@ module _ (k : Setting) (s : Lane) (t : ℕ) (p : Stage) (w : Lane) where
         whole = now.whole;
         buffer = now.buffer;
         unaborted = now.unaborted;
+        stays = now.stays;
       }
 
-      by : (r : List ℕ) (c t' : Bool)
+      by : (o : Option ℕ) → o ≡ None → (r : List ℕ) (c t' : Bool)
           → ReaderIs k w.read w.data_fin_came w.got w.told_end
-          (record a { rest = r; closed = c; told = t'; count = 0 }) b
-          → ReaderGoes k s p w (app_next_round (record a { rest = r; closed = c; told = t' })) b
-      by (x ∷ r) c t' now = follows _ b h (same now) came (λ e. absurd (both_ways _ e refl)) turn
-      by [] false t' now = follows _ b h (same now) came (λ e. absurd (both_ways _ e refl)) turn
-      by [] true false now = follows _ b h (same now) came (λ e. absurd (both_ways _ e refl)) turn
-      by [] true true now = follows _ b h (same now) came (λ e. refl) turn
+          (record a { stops_in = o; rest = r; closed = c; told = t'; count = 0 }) b
+          → ReaderGoes k s p w (app_next_round (record a { stops_in = o; rest = r; closed = c; told = t' })) b
+      by (Some n) none r c t' now = cc
+      by None none (x ∷ r) c t' now = follows _ b h (same now) came (λ e. absurd (both_ways _ e refl)) turn
+      by None none [] false t' now = follows _ b h (same now) came (λ e. absurd (both_ways _ e refl)) turn
+      by None none [] true false now = follows _ b h (same now) came (λ e. absurd (both_ways _ e refl)) turn
+      by None none [] true true now = follows _ b h (same now) came (λ e. refl) turn

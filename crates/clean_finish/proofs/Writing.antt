@@ -1,5 +1,5 @@
 -- An application that writes and closes is moves of its lane.
-use Rattle.std.proofs.Common.{◌≡◌, refl, sym, subst, ap, ◌∙◌, ℕ, suc, ◌+◌, ◌-◌, ◌≤◌, min, Bool, true, false, not, List, [], ◌∷◌, ◌++◌, length, take, drop, replicate, fold, cond, le_refl, length-append, length-take, length-drop, arith}
+use Rattle.std.proofs.Common.{◌≡◌, refl, sym, subst, ap, ◌∙◌, ℕ, suc, ◌+◌, ◌-◌, ◌≤◌, min, Bool, true, false, not, Option, None, Some, List, [], ◌∷◌, ◌++◌, length, take, drop, replicate, fold, cond, le_refl, length-append, length-take, length-drop, arith}
 use Rattle.std.proofs.lemmas.Bool.{both_ways}
 use Rattle.send_book.specs.declared.call.SendReply.TheVariants.{Closed}
 use Rattle.send_book.specs.State.{Sending, acked_len}
@@ -82,6 +82,7 @@ module _ (k : Setting) (s : Lane) (t : ℕ) (p : Stage) (w : Lane) where
         offers = is.offers;
         buffer = is.buffer;
         unaborted = is.unaborted;
+        stays = is.stays;
       }
 
       by : (b' : Bool)
@@ -140,6 +141,7 @@ module _ (k : Setting) (s : Lane) (t : ℕ) (p : Stage) (w : Lane) where
         offers = is.offers;
         buffer = is.buffer;
         unaborted = is.unaborted;
+        stays = is.stays;
       }
 
       moves : (r : List ℕ) → r ≡ drop n a.rest → Moves k s 1 p w p (with_writer (length b.written + n) w.closed)
@@ -243,7 +245,7 @@ module _ (k : Setting) (s : Lane) (t : ℕ) (p : Stage) (w : Lane) where
   pub turn_begins : (a : AppState) (b : Sending) → Going k s t p w → WriterIs k w.written w.closed w.acked a b
       → w.writer_over ≡ false
       → WriterGoes k s p w (app_next_round a) b
-  turn_begins a b h is turn = by a.rest a.closed a.told is
+  turn_begins a b h is turn = by a.stops_in is.stays a.rest a.closed a.told is
     where
       still : Moves k s 0 p w p (with_writer w.written w.closed)
       still = (refl, refl)
@@ -261,9 +263,11 @@ module _ (k : Setting) (s : Lane) (t : ℕ) (p : Stage) (w : Lane) where
         offers = now.offers;
         buffer = now.buffer;
         unaborted = now.unaborted;
+        stays = now.stays;
       }
 
-      may : {b' : Bool} → WriterIs k w.written w.closed w.acked (record a { rest = []; closed = true; told = b' }) b
+      may : {o : Option ℕ} {b' : Bool}
+          → WriterIs k w.written w.closed w.acked (record a { stops_in = o; rest = []; closed = true; told = b' }) b
           → MayEndWriting k s (with_writer w.written w.closed)
       may now =
           let shut : w.closed ≡ 1 = now.shut ∙ ap count_of (sym now.told) in
@@ -273,10 +277,11 @@ module _ (k : Setting) (s : Lane) (t : ℕ) (p : Stage) (w : Lane) where
           → WriterGoes k s p w a' b
       stays a' now writing = goes_on w.written w.closed 0 a' b now writing turn still
 
-      by : (r : List ℕ) (c b' : Bool)
-          → WriterIs k w.written w.closed w.acked (record a { rest = r; closed = c; told = b' }) b
-          → WriterGoes k s p w (app_next_round (record a { rest = r; closed = c; told = b' })) b
-      by (x ∷ r) c b' now = stays _ (same now) refl
-      by [] false b' now = stays _ (same now) refl
-      by [] true false now = ends w.written w.closed 0 _ b (same now) refl (may now) still
-      by [] true true now = ends w.written w.closed 0 _ b (same now) refl (may now) still
+      by : (o : Option ℕ) → o ≡ None → (r : List ℕ) (c b' : Bool)
+          → WriterIs k w.written w.closed w.acked (record a { stops_in = o; rest = r; closed = c; told = b' }) b
+          → WriterGoes k s p w (app_next_round (record a { stops_in = o; rest = r; closed = c; told = b' })) b
+      by (Some n) none r c b' now = cc
+      by None none (x ∷ r) c b' now = stays _ (same now) refl
+      by None none [] false b' now = stays _ (same now) refl
+      by None none [] true false now = ends w.written w.closed 0 _ b (same now) refl (may now) still
+      by None none [] true true now = ends w.written w.closed 0 _ b (same now) refl (may now) still

@@ -29,6 +29,8 @@ pub record ReaderIs (k : Setting) (read came got told : ℕ) (a : AppState) (b :
   pub whole : a.told ≡ true → b.read ≡ k.total
   pub buffer : a.buffer ≡ k.buffer
   pub unaborted : b.aborted ≡ None
+  -- it never stops the connection
+  pub stays : a.stops_in ≡ None
 
 pub record ReaderShows (k : Setting) (w : Lane) (a : AppState) (b : Arriving) : Type 0 where
   pub numbers : ReaderIs k w.read w.data_fin_came w.got w.told_end a b

@@ -1,5 +1,5 @@
 -- How the writer of a lane shows in an application and its send book.
-use Rattle.std.specs.Prelude.{ℕ, ◌≡◌, ◌+◌, ◌≤◌, min, Bool, true, false, not, if◌then◌else◌, List, [], ◌∷◌, length}
+use Rattle.std.specs.Prelude.{ℕ, ◌≡◌, ◌+◌, ◌≤◌, min, Bool, true, false, not, if◌then◌else◌, None, List, [], ◌∷◌, length}
 use Rattle.send_book.specs.State.{Sending, acked_len}
 use Rattle.stream_apps.specs.declared.duty.AppDuty.{AppDuty}
 use Rattle.stream_apps.specs.declared.duty.AppDuty.TheVariants.{Write, Close}
@@ -28,6 +28,8 @@ pub record WriterIs (k : Setting) (written closed acked : ℕ) (a : AppState) (b
   pub offers : a.buffer ≡ k.buffer
   pub buffer : b.buffer ≡ k.buffer
   pub unaborted : b.aborted ≡ false
+  -- it never stops the connection
+  pub stays : a.stops_in ≡ None
 
 pub record WriterShows (k : Setting) (w : Lane) (a : AppState) (b : Sending) : Type 0 where
   pub numbers : WriterIs k w.written w.closed w.acked a b

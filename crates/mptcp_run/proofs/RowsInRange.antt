@@ -75,6 +75,9 @@ IsFair (asks.Control s call) = can_ask call
 IsFair _ = Unit {0}
 
 app_asks_fair : (d : AppDuty) (a : AppState) → IsFair (app_ask d a)
+app_asks_fair app_duties.FastClose a = tt
+app_asks_fair app_duties.AbortSend a = tt
+app_asks_fair app_duties.AbortReceive a = tt
 app_asks_fair app_duties.Write a = tt
 app_asks_fair app_duties.Close a = tt
 app_asks_fair app_duties.Read a = tt

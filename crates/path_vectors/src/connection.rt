@@ -1,5 +1,4 @@
 //! The actors of a connection and its books.
-ghost use Rattle.std.specs.Prelude.{◌≤◌};
 ghost use Rattle.link_script.specs.Scripts.{HasRanges};
 
 use crate::actor::{Actor, Member};
@@ -47,14 +46,13 @@ fn push_app(
     actors: &mut Vec<Actor>,
     number: u8,
     side: Side,
-    buffer: u64,
+    script: &Script,
     file: Option<Vec<u8>>,
 ) -> Result<(), AllocError>
-    requires some { 1 ≤ buffer }
-    requires most { buffer ≤ 1048576 }
+    requires { HasRanges script.now }
 {
     if let Some(file) = file {
-        let app = App::new(side, buffer, Text::from(file));
+        let app = App::new(script, side, Text::from(file));
         actors.push(Actor::new(number, Member::App(app)))?;
     }
     Ok(())
@@ -82,8 +80,8 @@ fn actors_of(
     requires { HasRanges script.now }
 {
     let mut actors = Vec::new(alloc);
-    push_app(&mut actors, 0, Side::A, script.buffer, file_a)?;
-    push_app(&mut actors, 1, Side::B, script.buffer, file_b)?;
+    push_app(&mut actors, 0, Side::A, script, file_a)?;
+    push_app(&mut actors, 1, Side::B, script, file_b)?;
     push_paths(alloc, &mut actors, script)?;
     Ok(actors)
 }

@@ -3,7 +3,7 @@ use Rattle.std.proofs.Common.{◌≡◌, refl, sym, ap, subst, ℕ, ◌+◌, ◌
 use Rattle.std.proofs.lemmas.Bool.{ltb-true}
 use Rattle.actor_desk.specs.declared.ask.Reply.{Reply}
 use Rattle.stream_apps.specs.declared.duty.AppDuty.{AppDuty}
-use Rattle.stream_apps.specs.declared.duty.AppDuty.TheVariants.{Write, Close, Read, End}
+use Rattle.stream_apps.specs.declared.duty.AppDuty.TheVariants.{FastClose, AbortSend, AbortReceive, Write, Close, Read, End}
 use Rattle.stream_apps.specs.Apps.{AppState}
 use Rattle.stream_apps.specs.AppSteps.{app_stands, app_ask, app_left, app_answered, app_answers, app_settled, app_settles_down, app_asks_first, app_reads_on, bytes_in}
 use Rattle.stream_apps.specs.Turns.{AppEnds, FirstAppStands, IsAppSettled, EveryAppTurnEnds}
@@ -39,6 +39,9 @@ and_both true y both = (refl, both)
 and_both false y both = cc
 
 answered_lower : (d : AppDuty) (ds : List AppDuty) (r : Reply) (a : AppState) → a.agenda ≡ d ∷ ds → Lower (app_answered d r a) a
+answered_lower FastClose ds r a is = Then.Falls (rw is (omega arith))
+answered_lower AbortSend ds r a is = Then.Falls (rw is (omega arith))
+answered_lower AbortReceive ds r a is = Then.Falls (rw is (omega arith))
 answered_lower Write ds r a is = Then.Falls (rw is (omega arith))
 answered_lower Close ds r a is = Then.Falls (rw is (omega arith))
 answered_lower Read ds r a is =
@@ -71,6 +74,9 @@ settles_lower m a lower = by (settled_lower m.agenda m) lower
     by same (Then.Stays most less) = Then.Stays (omega (arith, same.0, most)) (omega (arith, same.1.0, same.1.1, less))
 
 same_stands : (d : AppDuty) (ds : List AppDuty) (a : AppState) → app_stands d a ≡ true → app_stands d (record a { agenda = d ∷ ds }) ≡ true
+same_stands FastClose ds a is = is
+same_stands AbortSend ds a is = is
+same_stands AbortReceive ds a is = is
 same_stands Write ds a is = is
 same_stands Close ds a is = is
 same_stands Read ds a is = is

@@ -3,13 +3,16 @@ use Rattle.std.proofs.Common.{◌≡◌, sym, subst, List, [], ◌∷◌, Option
 use Rattle.actor_desk.specs.Kinds.{CanBeAsked}
 use Rattle.actor_desk.specs.declared.ask.Ask.{Ask}
 use Rattle.stream_apps.specs.declared.duty.AppDuty.{AppDuty}
-use Rattle.stream_apps.specs.declared.duty.AppDuty.TheVariants.{Write, Close, Read, End}
+use Rattle.stream_apps.specs.declared.duty.AppDuty.TheVariants.{FastClose, AbortSend, AbortReceive, Write, Close, Read, End}
 use Rattle.stream_apps.specs.AppSteps.{app_asks_first, app_asks_of}
 use Rattle.stream_apps.specs.Apps.{AppState}
 use Rattle.stream_apps.specs.Turns.{EveryAppAskCanBeAsked}
 
 first_can : (ds : List AppDuty) (a : AppState) → IfSome (app_asks_first ds a) CanBeAsked
 first_can [] a = tt
+first_can (FastClose ∷ ds) a = tt
+first_can (AbortSend ∷ ds) a = tt
+first_can (AbortReceive ∷ ds) a = tt
 first_can (Write ∷ ds) a = tt
 first_can (Close ∷ ds) a = tt
 first_can (Read ∷ ds) a = omega arith

@@ -1,3 +1,4 @@
 pub mod AppEnds
 pub mod Asking
 pub mod Written
+pub mod OnTime

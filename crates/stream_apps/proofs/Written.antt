@@ -1,5 +1,5 @@
 -- How much of a file is written.
-use Rattle.std.proofs.Common.{◌≡◌, refl, ◌∙◌, subst, ℕ, zero, suc, ◌≤◌, min, nat_eq, List, [], ◌∷◌, length, take, drop, Some, arith}
+use Rattle.std.proofs.Common.{◌≡◌, refl, ◌∙◌, subst, ℕ, zero, suc, ◌≤◌, nat_eq, List, [], ◌∷◌, length, drop, arith}
 use Rattle.std.proofs.lemmas.List.{length-take}
 use Rattle.std.proofs.Math.Dec.{eqb-zero-suc, eqb-suc-suc}
 use Rattle.send_book.specs.declared.call.SendReply.TheVariants as send_replies
@@ -8,8 +8,8 @@ use Rattle.actor_desk.specs.declared.ask.Reply.TheVariants as replies
 use Rattle.actor_desk.specs.Kinds.{AnswersTo}
 use Rattle.actor_desk.specs.Words.{is_nil}
 use Rattle.stream_apps.specs.declared.duty.AppDuty.{AppDuty}
-use Rattle.stream_apps.specs.declared.duty.AppDuty.TheVariants.{Write, Close, Read, End}
-use Rattle.stream_apps.specs.AppSteps.{app_asks_first, app_asks_of, offered, taken_in}
+use Rattle.stream_apps.specs.declared.duty.AppDuty.TheVariants.{Write}
+use Rattle.stream_apps.specs.AppSteps.{app_asks_first, app_asks_of, taken_in}
 use Rattle.stream_apps.specs.Apps.{AppState}
 
 -- it is written where as many octets are as it has

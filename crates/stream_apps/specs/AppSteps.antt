@@ -1,24 +1,39 @@
 -- The steps of an application: it writes its file, says that it writes no more, and reads what has come.
-use Rattle.std.specs.Prelude.{ℕ, ◌+◌, Bool, true, false, not, ◌&&◌, ◌||◌, nat_lt, if◌then◌else◌, Option, Some, None, List, [], ◌∷◌, length, take, drop}
+use Rattle.std.specs.Prelude.{ℕ, ◌+◌, ◌-◌, ◌==◌, Bool, true, false, not, ◌&&◌, ◌||◌, nat_lt, if◌then◌else◌, Option, Some, None, List, [], ◌∷◌, length, take, drop}
 use Rattle.send_book.specs.declared.call.SendCall.TheVariants as send_calls
 use Rattle.send_book.specs.declared.call.SendReply.TheVariants as send_replies
 use Rattle.reassembly_book.specs.declared.call.ReassemblyCall.TheVariants as reassembly_calls
 use Rattle.reassembly_book.specs.declared.call.ReassemblyReply.TheVariants as reassembly_replies
+use Rattle.control_book.specs.declared.call.ControlCall.TheVariants as control_calls
 use Rattle.actor_desk.specs.declared.ask.Ask.{Ask}
 use Rattle.actor_desk.specs.declared.ask.Ask.TheVariants as asks
 use Rattle.actor_desk.specs.declared.ask.LocalStep.TheVariants as steps
 use Rattle.actor_desk.specs.declared.ask.Reply.{Reply}
 use Rattle.actor_desk.specs.declared.ask.Reply.TheVariants as replies
 use Rattle.stream_apps.specs.declared.duty.AppDuty.{AppDuty}
-use Rattle.stream_apps.specs.declared.duty.AppDuty.TheVariants.{Write, Close, Read, End}
+use Rattle.stream_apps.specs.declared.duty.AppDuty.TheVariants.{FastClose, AbortSend, AbortReceive, Write, Close, Read, End}
 use Rattle.stream_apps.specs.Apps.{AppState}
 use Rattle.actor_desk.specs.Words.{is_nil, tail_of}
 
 abbrev pub start_of_app : List AppDuty
-start_of_app = Write ∷ Close ∷ Read ∷ End ∷ []
+start_of_app = FastClose ∷ AbortSend ∷ AbortReceive ∷ Write ∷ Close ∷ Read ∷ End ∷ []
 
--- it writes as long as its file has some left, then closes once, and reads until it was told the end
+-- it stops the connection in this round
+abbrev pub is_due : Option ℕ → Bool
+is_due (Some rounds) = rounds == 0
+is_due None = false
+
+-- so it is one round later
+abbrev pub a_round_less : Option ℕ → Option ℕ
+a_round_less (Some rounds) = if rounds == 0 then None else Some (rounds - 1)
+a_round_less None = None
+
+-- in the round in which it stops the connection it does so first; it writes as long as its file has some left, then closes once,
+-- and reads until it was told the end
 abbrev pub app_stands : AppDuty → AppState → Bool
+app_stands FastClose a = is_due a.stops_in
+app_stands AbortSend a = is_due a.stops_in
+app_stands AbortReceive a = is_due a.stops_in
 app_stands Write a = not (is_nil a.rest)
 app_stands Close a = is_nil a.rest && not a.closed
 app_stands Read a = not a.told
@@ -29,6 +44,9 @@ abbrev pub offered : AppState → List ℕ
 offered a = take a.buffer a.rest
 
 abbrev pub app_ask : AppDuty → AppState → Ask
+app_ask FastClose a = asks.Control a.side control_calls.FastClose
+app_ask AbortSend a = asks.Send a.side send_calls.Abort
+app_ask AbortReceive a = asks.Reassembly a.side (reassembly_calls.Abort false)
 app_ask Write a = asks.Send a.side (send_calls.Write (offered a))
 app_ask Close a = asks.Send a.side send_calls.Close
 app_ask Read a = asks.Reassembly a.side (reassembly_calls.Read 65536)
@@ -70,6 +88,9 @@ app_read r a = record a {
 }
 
 abbrev pub app_answered : AppDuty → Reply → AppState → AppState
+app_answered FastClose r a = app_done a
+app_answered AbortSend r a = app_done a
+app_answered AbortReceive r a = app_done a
 app_answered Write r a = app_wrote r a
 app_answered Close r a = record (app_done a) { closed = true }
 app_answered Read r a = app_read r a
@@ -101,5 +122,9 @@ app_settles_down a = app_settled a.agenda a
 abbrev pub app_takes : Reply → AppState → AppState
 app_takes r a = app_settles_down (app_answers a.agenda r a)
 
+-- before the first duty of its next turn
+abbrev pub fresh_turn : AppState → AppState
+fresh_turn a = record a { count = 0; stops_in = a_round_less a.stops_in; agenda = start_of_app }
+
 abbrev pub app_next_round : AppState → AppState
-app_next_round a = app_settles_down (record a { count = 0; agenda = start_of_app })
+app_next_round a = app_settles_down (fresh_turn a)

@@ -1,5 +1,5 @@
 -- An application by what it means.
-use Rattle.std.specs.Prelude.{ℕ, Bool, List}
+use Rattle.std.specs.Prelude.{ℕ, Bool, Option, List}
 use Rattle.outside_kit.specs.declared.side.Side.{Side}
 use Rattle.stream_apps.specs.declared.duty.AppDuty.{AppDuty}
 
@@ -15,5 +15,7 @@ pub record AppState : Type 0 where
   pub told : Bool
   -- octets that it read in this turn
   pub count : ℕ
+  -- rounds that end before the one in which it stops the connection; none where it never does, or did
+  pub stops_in : Option ℕ
   -- what is still to be done in the turn
   pub agenda : List AppDuty

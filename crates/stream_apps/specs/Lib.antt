@@ -3,4 +3,5 @@ pub mod AppSteps
 pub mod Kept
 pub mod Starts
 pub mod Turns
+pub mod OnTime
 pub mod Example

@@ -1,10 +1,13 @@
 //! An application of a connection, and its turns.
 ghost use Rattle.std.specs.Prelude.{◌≡◌, ◌≤◌, true, false, Some, [], ◌∷◌, length, IfOk, IsOk};
 ghost use Rattle.stream_apps.specs.declared.duty.AppDuty.TheVariants as duty;
-ghost use Rattle.stream_apps.specs.AppSteps.{taken_in, bytes_in, ends_in};
+ghost use Rattle.stream_apps.specs.AppSteps.{a_round_less, taken_in, bytes_in, ends_in};
 
 use crate::duty::AppDuty;
+use crate::starting::rounds_before_stop;
 use actor_desk::{Ask, LocalStep, Reply};
+use control_book::ControlCall;
+use link_script::Script;
 use outside_kit::Side;
 use pipe_model::Text;
 use reassembly_book::{ReassemblyCall, ReassemblyReply};
@@ -16,7 +19,8 @@ use std::marker::Model;
 const READ_MAX: u32 = 65_536;
 
 /// The application of one side. In a turn it offers the next bytes of its file once, says once that it writes no more, and
-/// reads until nothing is there, the stream ended or was aborted, or it has read as many bytes as a side buffers.
+/// reads until nothing is there, the stream ended or was aborted, or it has read as many bytes as a side buffers. In the round
+/// that holds the tick of its fast close, where it has one, it stops the connection first (RFC 8684, section 3.5).
 #[derive(Debug, Drop)]
 pub struct App {
     side: Side,
@@ -32,6 +36,8 @@ pub struct App {
     told: bool,
     /// How many octets it read in this turn.
     count: u64,
+    /// How many rounds end before the one in which it stops the connection; none where it never does, or did.
+    stops_in: Option<u64>,
     /// What it does next; nothing where its turn ended.
     due: Option<AppDuty>,
 }
@@ -42,26 +48,36 @@ impl Model for App {
 
     ghost Value = { AppState };
 
-    ghost view = { λ a. shown a.side a.buffer a.file a.written a.closed a.told a.count a.due };
+    ghost view = { λ a. shown a.side a.buffer a.file a.written a.closed a.told a.count a.stops_in a.due };
 
     ghost invariant = { λ a. IsKept a.buffer a.file a.written a.count a.due };
 }
 
 impl App {
     ghost use Rattle.actor_desk.specs.Kinds.{AnswersTo};
-    ghost use Rattle.stream_apps.specs.AppSteps.{app_answered, app_asks_of, app_done, app_next_round, app_settled, app_settles_down, app_takes, asks_bytes, offered};
+    ghost use Rattle.stream_apps.specs.AppSteps.{a_round_less, app_answered, app_asks_of, app_done, app_next_round, app_settled, app_settles_down, app_takes, asks_bytes, is_due, offered, start_of_app};
     ghost use Rattle.stream_apps.specs.Kept.{agenda_from};
-    ghost use Rattle.stream_apps.specs.Starts.{first_app_turn};
+    ghost use Rattle.link_script.specs.Scripts.{HasRanges};
+    ghost use Rattle.stream_apps.specs.Starts.{fast_close_of, first_app_turn, rounds_before};
     ghost use Rattle.actor_desk.specs.Words.{is_nil};
 
-    /// The application of a side at the start of its first turn. A side buffers `buffer` octets, 1 to 1,048,576. It takes no
-    /// memory.
-    pub fn new(side: Side, buffer: u64, file: Text) -> Self
+    /// The application of a side at the start of its first turn, by the script of the connection, with the file that it
+    /// writes. It takes no memory.
+    pub fn new(script: &Script, side: Side, file: Text) -> Self
+        requires { HasRanges script.now }
+        ensures { result ≡ first_app_turn side script.now.buffer file (fast_close_of side script.now.lines) }
+    {
+        let stops_in = rounds_before_stop(side, script.lines.as_slice());
+        App::untouched(side, script.buffer, file, stops_in).begun()
+    }
+
+    // The application of a side before its first turn.
+    fn untouched(side: Side, buffer: u64, file: Text, stops_in: Option<u64>) -> Self
         requires some { 1 ≤ buffer }
         requires most { buffer ≤ 1048576 }
-        ensures { result ≡ first_app_turn side buffer file }
+        ensures { result ≡ record { side = side; buffer = buffer; rest = file; closed = false; told = false; count = 0; stops_in = stops_in; agenda = [] } }
     {
-        let mut app = App {
+        App {
             side,
             buffer,
             file,
@@ -69,10 +85,17 @@ impl App {
             closed: false,
             told: false,
             count: 0,
+            stops_in,
             due: None,
-        };
-        app.next_round();
-        app
+        }
+    }
+
+    // At the start of a turn.
+    fn begun(mut self) -> Self
+        ensures { result ≡ app_settles_down (record self { count = 0; agenda = start_of_app }) }
+    {
+        self.begin();
+        self
     }
 
     /// Whose application it is.
@@ -103,6 +126,14 @@ impl App {
         ensures plain { asks_bytes self.now.agenda ≡ false → IsOk result }
     {
         match self.due {
+            Some(AppDuty::FastClose) => {
+                Ok(Some(Ask::Control(self.side, ControlCall::FastClose)))
+            }
+            Some(AppDuty::AbortSend) => Ok(Some(Ask::Send(self.side, SendCall::Abort))),
+            Some(AppDuty::AbortReceive) => {
+                let call = ReassemblyCall::Abort { by_peer: false };
+                Ok(Some(Ask::Reassembly(self.side, call)))
+            }
             Some(AppDuty::Write) => {
                 let bytes = self.offered()?;
                 Ok(Some(Ask::Send(self.side, SendCall::Write { bytes })))
@@ -123,6 +154,9 @@ impl App {
         ensures { self.new ≡ app_takes reply.now self.old }
     {
         match self.due {
+            Some(AppDuty::FastClose) => self.due = Some(self.from_abort_send()),
+            Some(AppDuty::AbortSend) => self.due = Some(self.from_abort_receive()),
+            Some(AppDuty::AbortReceive) => self.due = Some(self.from_write()),
             Some(AppDuty::Write) => self.wrote(reply),
             Some(AppDuty::Close) => self.close(),
             Some(AppDuty::Read) => self.read(reply),
@@ -134,8 +168,56 @@ impl App {
     pub fn next_round(&mut self)
         ensures { self.new ≡ app_next_round self.old }
     {
+        self.stops_in = a_round_less(self.stops_in);
+        self.begin();
+    }
+
+    // The turn begins.
+    fn begin(&mut self)
+        ensures { self.new ≡ app_settles_down (record self.old { count = 0; agenda = start_of_app }) }
+    {
         self.count = 0;
-        self.due = Some(self.from_write());
+        self.due = Some(self.from_fast_close());
+    }
+
+    // Whether it stops the connection in this round.
+    fn is_due(&self) -> bool
+        ensures { result ≡ is_due self.now.stops_in }
+    {
+        self.stops_in == Some(0)
+    }
+
+    // What it does from the start of a turn on.
+    fn from_fast_close(&self) -> AppDuty
+        ensures { agenda_from (Some result) ≡ (app_settled start_of_app self.now).agenda }
+    {
+        if self.is_due() {
+            AppDuty::FastClose
+        } else {
+            self.from_abort_send()
+        }
+    }
+
+    // What it does from the abort of its send book on.
+    fn from_abort_send(&self) -> AppDuty
+        ensures { agenda_from (Some result) ≡ (app_settled (agenda_from (Some duty.AbortSend)) self.now).agenda }
+    {
+        if self.is_due() {
+            AppDuty::AbortSend
+        } else {
+            self.from_abort_receive()
+        }
+    }
+
+    // What it does from the abort of its reassembly book on.
+    fn from_abort_receive(&self) -> AppDuty
+        ensures { agenda_from (Some result) ≡ (app_settled (agenda_from (Some duty.AbortReceive)) self.now).agenda }
+    {
+        if self.is_due() {
+            AppDuty::AbortReceive
+        } else {
+            self.from_write()
+        }
     }
 
     // The next bytes of the file, as many as a side buffers at most.
@@ -229,6 +311,16 @@ impl App {
         } else {
             AppDuty::End
         });
+    }
+}
+
+// One round later.
+fn a_round_less(stops_in: Option<u64>) -> Option<u64>
+    ensures { result ≡ a_round_less stops_in }
+{
+    match stops_in {
+        Some(rounds) if rounds > 0 => Some(rounds - 1),
+        _ => None,
     }
 }
 

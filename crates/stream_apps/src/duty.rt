@@ -3,6 +3,12 @@
 /// A duty of an application.
 #[derive(Clone, Copy, Debug, Default, PartialEq, Eq)]
 pub enum AppDuty {
+    /// Ends the connection at once: its control book takes a fast close (RFC 8684, section 3.5).
+    FastClose,
+    /// Then its send book is aborted.
+    AbortSend,
+    /// Then its reassembly book is.
+    AbortReceive,
     /// Writes the next bytes of its file.
     Write,
     /// Writes no more, once its file is written.

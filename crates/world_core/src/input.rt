@@ -3,7 +3,7 @@
 ghost use Rattle.std.specs.Prelude.{◌≡◌, ◌<◌, length, IfOk};
 ghost use Rattle.link_script.specs.Scripts.{HasRanges};
 ghost use Rattle.path_core.specs.Starts.{key_of, first_turn_of};
-ghost use Rattle.stream_apps.specs.Starts.{first_app_turn};
+ghost use Rattle.stream_apps.specs.Starts.{fast_close_of, first_app_turn};
 ghost use Rattle.world_core.specs.Kept.{standing};
 ghost use Rattle.world_laws.specs.declared.member.Member.TheVariants as members;
 ghost use Rattle.world_laws.specs.Openings.{new_crew, opened_world, start_of};
@@ -34,10 +34,10 @@ fn opened_books(alloc: Global, script: &Script) -> Result<Books, AllocError>
 // The application of a side, which has made no step.
 fn new_app(script: &Script, side: Side, file: &Text) -> Result<Member, AllocError>
     requires { HasRanges script.now }
-    ensures { IfOk result (λ member. member ≡ members.App (first_app_turn side script.now.buffer file.now)) }
+    ensures { IfOk result (λ member. member ≡ members.App (first_app_turn side script.now.buffer file.now (fast_close_of side script.now.lines))) }
 {
     let file = file.copy()?;
-    Ok(Member::App(App::new(side, script.buffer, file)))
+    Ok(Member::App(App::new(script, side, file)))
 }
 
 // A path that has made no step.

@@ -12,7 +12,6 @@ use Rattle.reassembly_book.specs.declared.call.ReassemblyReply.{ReassemblyReply}
 use Rattle.reassembly_book.specs.declared.call.ReassemblyReply.TheVariants as reassembly_replies
 use Rattle.stream_lanes.specs.Streams.{Reader, takes_read, is_done}
 use Rattle.actor_desk.specs.declared.ask.Note.{Note}
-use Rattle.actor_desk.specs.declared.ask.Reply.{Reply}
 use Rattle.actor_desk.specs.declared.ask.Reply.TheVariants as replies
 use Rattle.stream_apps.specs.declared.duty.AppDuty.{AppDuty}
 use Rattle.stream_apps.specs.declared.duty.AppDuty.TheVariants as duties
@@ -20,7 +19,7 @@ use Rattle.stream_apps.specs.Apps.{AppState}
 use Rattle.stream_apps.specs.AppSteps.{app_stands, app_settled, taken_in, bytes_in, ends_in}
 use Rattle.stream_apps.specs.Turns.{IsAppSettled}
 use Rattle.actor_desk.specs.Words.{is_nil}
-use Rattle.world_laws.specs.Outcomes.{note_tells, was_told, tells_end, bytes_noted, read_by}
+use Rattle.world_laws.specs.Outcomes.{note_tells, was_told, tells_end, tells_stop, bytes_noted, read_by}
 
 -- ---- lists that grow
 
@@ -44,16 +43,11 @@ or_false : (b : Bool) → (b || false) ≡ b
 or_false true = refl
 or_false false = refl
 
-or_true : (b : Bool) → (b || true) ≡ true
+pub or_true : (b : Bool) → (b || true) ≡ true
 or_true true = refl
 or_true false = refl
 
 -- ---- an application
-
--- an abort was told, by whichever side
-abbrev pub tells_stop : Reply → Bool
-tells_stop (replies.Reassembly (reassembly_replies.Aborted by_peer)) = true
-tells_stop _ = false
 
 -- what the steps of the application are, and the book that it writes into
 pub record Writes (file : List ℕ) (rest : List ℕ) (send : Sending) : Type 0 where
@@ -70,6 +64,9 @@ pub record Reads (told : Bool) (notes : List Note) (r : Reader) : Type 0 where
 -- ---- the agenda
 
 same_stands : (d : AppDuty) (ds : List AppDuty) (a : AppState) → app_stands d a ≡ true → app_stands d (record a { agenda = d ∷ ds }) ≡ true
+same_stands duties.FastClose ds a is = is
+same_stands duties.AbortSend ds a is = is
+same_stands duties.AbortReceive ds a is = is
 same_stands duties.Write ds a is = is
 same_stands duties.Close ds a is = is
 same_stands duties.Read ds a is = is

@@ -1,6 +1,6 @@
 -- What a refused grant says of a send book in numbers, and what the calls of applications and paths make of it.
 use Rattle.std.proofs.Common.{◌≡◌, refl, sym, ◌∙◌, ap, subst, ℕ, zero, suc, ◌+◌, ◌-◌, ◌≤◌, ◌&&◌, ◌||◌, ◌==◌, not, min, max, nat_lt, nat_le, inl, inr, ◌⊎◌, ⊎_elim, Bool, true, false, cond, if◌then◌else◌, Option, Some, None, Result, Ok, Err, List, [], ◌∷◌, ◌++◌, length, take, drop, map, replicate, arith}
-use Rattle.std.proofs.lemmas.Bool.{and_parts, eqb-true, leb-true, ltb-false, false≢true}
+use Rattle.std.proofs.lemmas.Bool.{and_parts, or_cases, eqb-true, leb-true, ltb-false, false≢true}
 use Rattle.std.proofs.lemmas.List.{drop-drop, drop_min, length-append, length-take, length-drop, length-map, length-replicate}
 use Rattle.std.proofs.lemmas.List.Sums.{count_by-le-length, sum_by-cons}
 use Rattle.std.specs.List.{count_by, list_any, position}
@@ -25,7 +25,7 @@ use Rattle.actor_desk.specs.declared.ask.Reply.TheVariants as replies
 use Rattle.path_core.specs.Emission.{grant_in}
 use Rattle.world_laws.specs.RoundEnd.{asks_grant}
 use Rattle.world_laws.specs.RoundNumbers.{taken_len, is_standby, standby_after, last_on_standby, last_asked, AskedForAll}
-use Rattle.world_laws.specs.RoundNumbers.AskedForAll.{Taken, Standby, Barred}
+use Rattle.world_laws.specs.RoundNumbers.AskedForAll.{Taken, Standby, Barred, Stopped}
 
 -- ---- marks
 
@@ -200,7 +200,6 @@ asked_last s stamp (m ∷ steps) n = asked_last s (if asks_grant s m.ask then m.
 -- ---- a book and a path, of which so much was written as the round began
 
 pub record IsOnes (path written : ℕ) (b : Sending) : Type 0 where
-  pub aborted : b.aborted ≡ false
   pub owner : (b.owner ≡ None) ⊎ (b.owner ≡ Some 0)
   pub tried : Every (IsTried path) b.marks
   pub whole : length b.marks ≡ length b.written
@@ -214,6 +213,7 @@ IsOrdinary path (Grant asker max standby) = asker ≡ path
 IsOrdinary path (AckIn next window) = Unit {0}
 IsOrdinary path (Return asker) = Unit {0}
 IsOrdinary path GoIdentity = Unit {0}
+IsOrdinary path Abort = Unit {0}
 IsOrdinary path _ = ⊥
 
 -- neither a grant nor an acknowledgement, and no return of another path
@@ -222,6 +222,7 @@ IsQuiet path (Write bytes) = Unit {0}
 IsQuiet path Close = Unit {0}
 IsQuiet path (Return asker) = asker ≡ path
 IsQuiet path GoIdentity = Unit {0}
+IsQuiet path Abort = Unit {0}
 IsQuiet path _ = ⊥
 
 module _ (path written : ℕ) (b : Sending) (h : IsOnes path written b) where
@@ -231,7 +232,6 @@ module _ (path written : ℕ) (b : Sending) (h : IsOnes path written b) where
   })
   ones_written bytes true = h
   ones_written bytes false = record {
-    aborted = h.aborted;
     owner = h.owner;
     tried = Every-append h.tried (every_same (taken bytes b) (Free no_paths) tt);
     whole = (
@@ -243,7 +243,7 @@ module _ (path written : ℕ) (b : Sending) (h : IsOnes path written b) where
 
   ones_closed : (aborted : Bool) → IsOnes path written (if aborted then b else record b { closed = true })
   ones_closed true = h
-  ones_closed false = record { aborted = h.aborted; owner = h.owner; tried = h.tried; whole = h.whole; grown = h.grown }
+  ones_closed false = record { owner = h.owner; tried = h.tried; whole = h.whole; grown = h.grown }
 
   ones_granted : (asker max : ℕ) (standby : Bool) (o : Result Span Why) → ((m : ByteMark) → IsTried path m → IsTried path (given asker m)) → decision asker max standby b ≡ o → IsOnes path written (given_by asker o b)
   ones_granted asker max standby (Err why) given_so is = h
@@ -251,7 +251,6 @@ module _ (path written : ℕ) (b : Sending) (h : IsOnes path written b) where
       let m : MayTake asker max b span = decision-MayTake asker max standby b span is in
       let part : List ByteMark = take (span.to - span.from) (drop span.from b.marks) in
       record {
-        aborted = h.aborted;
         owner = h.owner;
         tried = Every-append (every_taken span.from b.marks h.tried)
             (Every-append (every_mapped (given asker) given_so part (every_taken (span.to - span.from) (drop span.from b.marks) (every_dropped span.from b.marks h.tried)))
@@ -273,7 +272,6 @@ module _ (path written : ℕ) (b : Sending) (h : IsOnes path written b) where
   })
   ones_acked next window true = h
   ones_acked next window false = record {
-    aborted = h.aborted;
     owner = h.owner;
     tried = Every-append (every_same (min next (length b.marks)) Acked tt) (every_dropped next b.marks h.tried);
     whole = (
@@ -290,15 +288,14 @@ module _ (path written : ℕ) (b : Sending) (h : IsOnes path written b) where
       subst (λ n. IsOnes path written (given_by n (decision n max standby b) b)) (sym is) (ones_granted path max standby (decision path max standby b) (given_tried path) refl)
   ones_after (AckIn next window) is = ones_acked next window (is_future next b)
   ones_after (Return asker) is = record {
-    aborted = h.aborted;
     owner = h.owner;
     tried = every_mapped (returned asker) (returned_tried path asker) b.marks h.tried;
     whole = length-map b.marks (returned asker) ∙ h.whole;
     grown = h.grown;
   }
-  ones_after GoIdentity is = record { aborted = h.aborted; owner = inr refl; tried = h.tried; whole = h.whole; grown = h.grown }
+  ones_after GoIdentity is = record { owner = inr refl; tried = h.tried; whole = h.whole; grown = h.grown }
   ones_after (GoInfinite asker) is = absurd is
-  ones_after Abort is = absurd is
+  ones_after Abort is = record { owner = h.owner; tried = h.tried; whole = h.whole; grown = h.grown }
 
   -- ---- all is taken as long as nothing is granted or acknowledged
 
@@ -326,7 +323,7 @@ module _ (path written : ℕ) (b : Sending) (h : IsOnes path written b) where
   taken_after (AckIn next window) is all = absurd is
   taken_after GoIdentity is all = all
   taken_after (GoInfinite asker) is all = absurd is
-  taken_after Abort is all = absurd is
+  taken_after Abort is all = all
 
   -- where another path alone is given bytes, it is for ever
   barred_fell : is_for path b.owner ≡ false → is_for path (Some 0) ≡ false
@@ -351,7 +348,29 @@ module _ (path written : ℕ) (b : Sending) (h : IsOnes path written b) where
   barred_after (Grant asker max standby) is barred = absurd is
   barred_after (AckIn next window) is barred = absurd is
   barred_after (GoInfinite asker) is barred = absurd is
-  barred_after Abort is barred = absurd is
+  barred_after Abort is barred = barred
+
+  -- a stopped book stays so
+  stopped_after : (call : SendCall) → IsQuiet path call → b.aborted ≡ true → (after_call b call).aborted ≡ true
+  stopped_after (Write bytes) is stopped = by (b.closed || b.aborted)
+    where
+      by : (shut : Bool) → (if shut then b else record b {
+        written = b.written ++ take (taken bytes b) bytes;
+        marks = b.marks ++ replicate (taken bytes b) (Free no_paths);
+      }).aborted ≡ true
+      by true = stopped
+      by false = stopped
+  stopped_after Close is stopped = by b.aborted
+    where
+      by : (aborted : Bool) → (if aborted then b else record b { closed = true }).aborted ≡ true
+      by true = stopped
+      by false = stopped
+  stopped_after (Return asker) is stopped = stopped
+  stopped_after GoIdentity is stopped = stopped
+  stopped_after Abort is stopped = refl
+  stopped_after (Grant asker max standby) is stopped = absurd is
+  stopped_after (AckIn next window) is stopped = absurd is
+  stopped_after (GoInfinite asker) is stopped = absurd is
 
   -- an acknowledgement by which the window reaches no further
   pub all_acknowledged : (s : Side) (steps : List Note) (next window : ℕ) → next + window ≤ b.edge → AskedForAll path s steps written b
@@ -367,6 +386,7 @@ module _ (path written : ℕ) (b : Sending) (h : IsOnes path written b) where
       by false (Taken all) = let more = taken_covered path next b.marks in Taken (omega (arith, all, more, below))
       by false (Standby told) = Standby told
       by false (Barred barred) = Barred barred
+      by false (Stopped stopped) = Stopped stopped
 
   -- a return of nothing
   pub all_returned : (s : Side) (steps : List Note) (who : ℕ) → count_by (is_held_by who) b.marks ≡ 0 → AskedForAll path s steps written b
@@ -377,6 +397,7 @@ module _ (path written : ℕ) (b : Sending) (h : IsOnes path written b) where
   all_after s steps call is (Taken all) = Taken (taken_after call is all)
   all_after s steps call is (Standby told) = Standby told
   all_after s steps call is (Barred barred) = Barred (barred_after call is barred)
+  all_after s steps call is (Stopped stopped) = Stopped (stopped_after call is stopped)
 
   -- ---- a grant to another path
 
@@ -405,6 +426,11 @@ module _ (path written : ℕ) (b : Sending) (h : IsOnes path written b) where
         by : (o : Result Span Why) → is_for path (given_by asker o b).owner ≡ false
         by (Err why) = barred
         by (Ok span) = barred
+    all_other s steps (Stopped stopped) = Stopped (by (decision asker max standby b))
+      where
+        by : (o : Result Span Why) → (given_by asker o b).aborted ≡ true
+        by (Err why) = stopped
+        by (Ok span) = stopped
 
   -- ---- a refusal
 
@@ -431,26 +457,28 @@ module _ (path written : ℕ) (b : Sending) (h : IsOnes path written b) where
       by true edge none = shut_at from is (leb-true b.edge from edge)
       by false edge none = cc
 
-  -- all is taken, or the path is on standby, or another one alone is given bytes
+  -- all is taken, or the path is on standby, or another one alone is given bytes, or none
   abbrev pub Refused : Bool → Type 0
-  Refused standby = AllTaken b ⊎ ((standby ≡ true) ⊎ (is_for path b.owner ≡ false))
+  Refused standby = AllTaken b ⊎ ((standby ≡ true) ⊎ ((is_for path b.owner ≡ false) ⊎ (b.aborted ≡ true)))
 
-  refused_by : (max : ℕ) (standby done own : Bool) → is_for path b.owner ≡ own → (done ≡ true → AllTaken b)
+  refused_by : (max : ℕ) (standby done own : Bool) → is_for path b.owner ≡ own → (done ≡ true → AllTaken b ⊎ (b.aborted ≡ true))
       → grant_in (replies.Send (reply_by (if done then Err Ended else (if standby then Err Backup else span_at path max b (if own then position (is_free_for path) b.marks else None))) b)) ≡ None
       → Refused standby
-  refused_by max standby true own is all none = inl (all refl)
+  refused_by max standby true own is all none = ⊎_elim (λ taken. inl taken) (λ stopped. inr (inr (inr stopped))) (all refl)
   refused_by max true false own is all none = inr (inl refl)
-  refused_by max false false false is all none = inr (inr is)
+  refused_by max false false false is all none = inr (inr (inl is))
   refused_by max false false true is all none = inl (at_place max (position (is_free_for path) b.marks) refl none)
 
   refused_all : (max : ℕ) (standby : Bool) → grant_in (replies.Send (reply_by (decision path max standby b) b)) ≡ None → Refused standby
   refused_all max standby none = refused_by max standby (b.aborted || (b.closed && (acked_len b.marks == length b.written))) (is_for path b.owner) refl all none
     where
-      all : (b.aborted || (b.closed && (acked_len b.marks == length b.written))) ≡ true → AllTaken b
-      all done =
-          let closed : (b.closed && (acked_len b.marks == length b.written)) ≡ true = ap (λ a. a || (b.closed && (acked_len b.marks == length b.written))) (sym h.aborted) ∙ done in
+      whole : (b.closed && (acked_len b.marks == length b.written)) ≡ true → AllTaken b
+      whole closed =
           let count : acked_len b.marks ≡ length b.written = eqb-true (acked_len b.marks) (length b.written) (and_parts b.closed (acked_len b.marks == length b.written) closed).1 in
           let most = all_acked path b.marks (omega (arith, count, h.whole)) in omega (arith, most, h.whole, h.grown)
+
+      all : (b.aborted || (b.closed && (acked_len b.marks == length b.written))) ≡ true → AllTaken b ⊎ (b.aborted ≡ true)
+      all done = ⊎_elim (λ stopped. inr stopped) (λ closed. inl (whole closed)) (or_cases b.aborted (b.closed && (acked_len b.marks == length b.written)) done)
 
   -- after a refusal the book is the same
   same_given : (o : Result Span Why) → grant_in (replies.Send (reply_by o b)) ≡ None → given_by path o b ≡ b
@@ -461,7 +489,8 @@ module _ (path written : ℕ) (b : Sending) (h : IsOnes path written b) where
       → grant_in (replies.Send (reply_by (decision path max standby b) b)) ≡ None → AskedForAll path s (steps ++ n ∷ []) written (after_call b (Grant path max standby))
   grant_refused s steps n max standby told none =
       subst (AskedForAll path s (steps ++ n ∷ []) written) (sym (same_given (decision path max standby b) none))
-      (⊎_elim (λ all. Taken all) (λ other. ⊎_elim (λ is. Standby (last_more s false steps n ∙ told (last_on_standby s false steps) ∙ is)) (λ barred. Barred barred) other) (refused_all max standby none))
+      (⊎_elim (λ all. Taken all) (λ other. ⊎_elim (λ is. Standby (last_more s false steps n ∙ told (last_on_standby s false steps) ∙ is))
+      (λ last. ⊎_elim (λ barred. Barred barred) (λ stopped. Stopped stopped) last) other) (refused_all max standby none))
 
 -- with a step more that asks for no bytes
 pub asked_more : (path : ℕ) (s : Side) (steps : List Note) (n : Note) (written : ℕ) (b : Sending) → asks_grant s n.ask ≡ false → AskedForAll path s steps written b
@@ -470,3 +499,4 @@ asked_more path s steps n written b isn't (Taken all) = Taken all
 asked_more path s steps n written b isn't (Standby told) =
     Standby (last_more s false steps n ∙ ap (λ (c : Bool). if c then is_standby n.ask else last_on_standby s false steps) isn't ∙ told)
 asked_more path s steps n written b isn't (Barred barred) = Barred barred
+asked_more path s steps n written b isn't (Stopped stopped) = Stopped stopped

@@ -307,7 +307,7 @@ module _ {C : Type 0} (k : Codec C) (start : Start) where
 
   begun_side : (path written : ℕ) (s : Side) (b : Sending) → IsOnes path written b → SideAsks path (length b.written) s [] false false b
   begun_side path written s b h = record {
-    ones = record { aborted = h.aborted; owner = h.owner; tried = h.tried; whole = h.whole; grown = omega arith };
+    ones = record { owner = h.owner; tried = h.tried; whole = h.whole; grown = omega arith };
     all = λ never alone. cc;
   }
 
@@ -354,7 +354,7 @@ module _ {C : Type 0} (k : Codec C) (start : Start) where
           g.both.a.ones g.both.b.ones (ap (λ z. z.at.list) found.2 ∙ list_there (next_cast t) number x there))
 
   opened_ones : (path buffer : ℕ) → IsOnes path 0 (opened buffer)
-  opened_ones path buffer = record { aborted = refl; owner = inl refl; tried = Every-nil _; whole = refl; grown = omega arith }
+  opened_ones path buffer = record { owner = inl refl; tried = Every-nil _; whole = refl; grown = omega arith }
 
   opened_begun : (number : ℕ) → Begun number (first_cast start)
   opened_begun number = record { going = going_anew (first_cast start) numbered; asking = asking }

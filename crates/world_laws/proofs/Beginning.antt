@@ -20,7 +20,7 @@ use Rattle.stream_lanes.proofs.Lists.{Every-nil, set_same, set_other}
 use Rattle.actor_desk.specs.Desk.{SixBooks, opened_books}
 use Rattle.stream_apps.specs.Apps.{AppState}
 use Rattle.stream_apps.specs.AppSteps.{start_of_app}
-use Rattle.stream_apps.specs.Starts.{first_app_turn}
+use Rattle.stream_apps.specs.Starts.{fast_close_of, untouched, first_app_turn}
 use Rattle.path_agenda.specs.Agenda.{start_of_turn}
 use Rattle.path_core.specs.Ends.{opening_end}
 use Rattle.path_core.specs.Starts.{first_state, waiting_path, first_turn}
@@ -318,10 +318,10 @@ module _ (start : Start) (can : IsPlain start) where
       (λ i n n_is within. fresh_there (length start.paths) n (omega (arith, n_is, within)))
       fresh_holds
 
-  nothing_read : (s : Side) (file : List ℕ) → Reads (first_app_turn s start.buffer file).told [] no_reader
-  nothing_read s file =
-      let m : AppState = record { side = s; buffer = start.buffer; rest = file; closed = false; told = false; count = 0; agenda = start_of_app } in
-      let same : (first_app_turn s start.buffer file).told ≡ false = ap (λ x. x.told) (settled_app start_of_app m).is in
+  nothing_read : (s : Side) (file : List ℕ) (tick : Option ℕ) → Reads (first_app_turn s start.buffer file tick).told [] no_reader
+  nothing_read s file tick =
+      let m : AppState = untouched s start.buffer file tick in
+      let same : (first_app_turn s start.buffer file tick).told ≡ false = ap (λ x. x.told) (settled_app start_of_app m).is in
       record { out_is = refl; told_is = refl; stopped_is = refl; done_is = same }
 
   pub opened_shows : OpenedShows start
@@ -341,8 +341,8 @@ module _ (start : Start) (can : IsPlain start) where
         reader_a = no_reader;
         reader_b = no_reader;
         duo_is = refl;
-        reads_a = nothing_read A start.file_a;
-        reads_b = nothing_read B start.file_b;
+        reads_a = nothing_read A start.file_a (fast_close_of A start.lines);
+        reads_b = nothing_read B start.file_b (fast_close_of B start.lines);
         paths = record {
           each = λ i n x n_is there. let found = walker_there start 0 i n start.paths x n_is there in
               subst (λ y. PathThere start all.ab_after all.ba_after n y.path) (sym found.2) (all.paths i n found.0 n_is found.1);

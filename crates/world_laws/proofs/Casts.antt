@@ -26,8 +26,8 @@ use Rattle.actor_desk.specs.Words.{is_nil}
 use Rattle.stream_apps.specs.declared.duty.AppDuty.{AppDuty}
 use Rattle.stream_apps.specs.declared.duty.AppDuty.TheVariants as app_duties
 use Rattle.stream_apps.specs.Apps.{AppState}
-use Rattle.stream_apps.specs.AppSteps.{app_stands, app_ask, app_answered, app_answers, app_settled, app_settles_down, app_takes, app_next_round, start_of_app}
-use Rattle.stream_apps.specs.Starts.{first_app_turn}
+use Rattle.stream_apps.specs.AppSteps.{app_stands, app_ask, app_answered, app_answers, app_settled, app_settles_down, app_takes, app_next_round, fresh_turn, start_of_app}
+use Rattle.stream_apps.specs.Starts.{fast_close_of, untouched, first_app_turn}
 use Rattle.stream_apps.specs.Turns.{FirstAppStands, IsAppSettled}
 use Rattle.path_agenda.specs.declared.duty.Duty.{Duty}
 use Rattle.path_core.specs.Codec.{Codec}
@@ -79,6 +79,18 @@ settles_fares s file m b send st side writes = record {
 
 answered_fares : (file : List ℕ) (six : SixBooks) (a : AppState) (d : AppDuty) → app_stands d a ≡ true → Writes file a.rest (send_of a.side six)
     → Writes file (app_answered d (reply_of six (app_ask d a)) a).rest (send_of a.side (after_ask (app_ask d a) six))
+answered_fares file six a app_duties.FastClose stands h = same_send a.side h
+  where
+    same_send : (s : Side) → Writes file a.rest (send_of s six) → Writes file a.rest (send_of s (after_ask (app_ask app_duties.FastClose a) six))
+    same_send A h = h
+    same_send B h = h
+answered_fares file six a app_duties.AbortSend stands h =
+    subst (Writes file a.rest) (sym (own_after a.side send_calls.Abort six)) (record { front = h.front; whole = h.whole })
+answered_fares file six a app_duties.AbortReceive stands h = same_send a.side h
+  where
+    same_send : (s : Side) → Writes file a.rest (send_of s six) → Writes file a.rest (send_of s (after_ask (app_ask app_duties.AbortReceive a) six))
+    same_send A h = h
+    same_send B h = h
 answered_fares file six a app_duties.Write stands h =
     subst (Writes file _) (sym (own_after a.side (send_calls.Write (take a.buffer a.rest)) six)) (writes_more file a.rest a.buffer (send_of a.side six) stands h)
 answered_fares file six a app_duties.Close stands h =
@@ -93,6 +105,9 @@ answered_fares file six a app_duties.Read stands h = same_send a.side h
 answered_fares file six a app_duties.End stands h = h
 
 answered_side : (d : AppDuty) (r : Reply) (a : AppState) → (app_answered d r a).side ≡ a.side
+answered_side app_duties.FastClose r a = refl
+answered_side app_duties.AbortSend r a = refl
+answered_side app_duties.AbortReceive r a = refl
 answered_side app_duties.Write r a = refl
 answered_side app_duties.Close r a = refl
 answered_side app_duties.Read r a = refl
@@ -113,16 +128,22 @@ app_fares s file six a d ds is h =
 
 pub next_fares : (s : Side) (file : List ℕ) (a : AppState) (send : Sending) → Fares s file a send → Fares s file (app_next_round a) send
 next_fares s file a send h =
-    settles_fares s file (record a { count = 0; agenda = start_of_app }) (app_next_round a) send (settled_app start_of_app (record a { count = 0; agenda = start_of_app })) h.side_is h.writes
+    settles_fares s file (fresh_turn a) (app_next_round a) send (settled_app start_of_app (fresh_turn a)) h.side_is h.writes
 
 -- what an ask of the other side's application, or of a path, leaves
 app_leaves_b : (d : AppDuty) (a : AppState) (six : SixBooks) → a.side ≡ A → (after_ask (app_ask d a) six).send_b ≡ six.send_b
+app_leaves_b app_duties.FastClose a six is = refl
+app_leaves_b app_duties.AbortSend a six is = other_after_a a.side send_calls.Abort six is
+app_leaves_b app_duties.AbortReceive a six is = refl
 app_leaves_b app_duties.Write a six is = other_after_a a.side (send_calls.Write (take a.buffer a.rest)) six is
 app_leaves_b app_duties.Close a six is = other_after_a a.side send_calls.Close six is
 app_leaves_b app_duties.Read a six is = refl
 app_leaves_b app_duties.End a six is = refl
 
 app_leaves_a : (d : AppDuty) (a : AppState) (six : SixBooks) → a.side ≡ B → (after_ask (app_ask d a) six).send_a ≡ six.send_a
+app_leaves_a app_duties.FastClose a six is = refl
+app_leaves_a app_duties.AbortSend a six is = other_after_b a.side send_calls.Abort six is
+app_leaves_a app_duties.AbortReceive a six is = refl
 app_leaves_a app_duties.Write a six is = other_after_b a.side (send_calls.Write (take a.buffer a.rest)) six is
 app_leaves_a app_duties.Close a six is = other_after_b a.side send_calls.Close six is
 app_leaves_a app_duties.Read a six is = refl
@@ -182,10 +203,10 @@ raised_to stamp seat = record seat { pass = raised seat.pass stamp }
 abbrev pub new_seat : ℕ → Seat
 new_seat number = record { pass = record { actor = number; stamp = 0 }; list = []; refused = None }
 
-opened_fares : (s : Side) (buffer : ℕ) (file : List ℕ) (send : Sending) → send.written ≡ [] → send.closed ≡ false → Fares s file (first_app_turn s buffer file) send
-opened_fares s buffer file send none unclosed =
-    let m : AppState = record { side = s; buffer = buffer; rest = file; closed = false; told = false; count = 0; agenda = start_of_app } in
-    settles_fares s file m (first_app_turn s buffer file) send (settled_app start_of_app m) refl
+opened_fares : (s : Side) (buffer : ℕ) (file : List ℕ) (tick : Option ℕ) (send : Sending) → send.written ≡ [] → send.closed ≡ false → Fares s file (first_app_turn s buffer file tick) send
+opened_fares s buffer file tick send none unclosed =
+    let m : AppState = untouched s buffer file tick in
+    settles_fares s file m (first_app_turn s buffer file tick) send (settled_app start_of_app m) refl
     (record { front = ap (λ xs. xs ++ file) (sym none); whole = λ is. absurd (both_ways send.closed unclosed is) })
 
 pub written_from : (file rest : List ℕ) (send : Sending) → Writes file rest send → WritesTheFile file send
@@ -342,8 +363,8 @@ module _ {C : Type 0} where
 
   abbrev pub first_cast : Start → Cast C
   first_cast start = record {
-    a = first_app_turn A start.buffer start.file_a;
-    b = first_app_turn B start.buffer start.file_b;
+    a = first_app_turn A start.buffer start.file_a (fast_close_of A start.lines);
+    b = first_app_turn B start.buffer start.file_b (fast_close_of B start.lines);
     at_a = new_seat 0;
     at_b = new_seat 1;
     paths = walkers_from start 0 start.paths;
@@ -357,7 +378,7 @@ module _ {C : Type 0} where
   pub opened_is : (start : Start) → opened_world start ≡ world_of (first_cast start)
   opened_is start =
       ap (λ crew. record {
-        crew = new_crew 0 (App (first_app_turn A start.buffer start.file_a)) ∷ new_crew 1 (App (first_app_turn B start.buffer start.file_b)) ∷ crew;
+        crew = new_crew 0 (App (first_app_turn A start.buffer start.file_a (fast_close_of A start.lines))) ∷ new_crew 1 (App (first_app_turn B start.buffer start.file_b (fast_close_of B start.lines))) ∷ crew;
         books = unasked (opened_books start.buffer start.key_a start.key_b);
       }) (walkers_are start 0 start.paths)
 
@@ -371,8 +392,8 @@ module _ {C : Type 0} where
 
   pub first_fare : (start : Start) → Fare start (first_cast start)
   first_fare start = record {
-    a = opened_fares A start.buffer start.file_a _ refl refl;
-    b = opened_fares B start.buffer start.file_b _ refl refl;
+    a = opened_fares A start.buffer start.file_a (fast_close_of A start.lines) _ refl refl;
+    b = opened_fares B start.buffer start.file_b (fast_close_of B start.lines) _ refl refl;
     paths = record {
       each = λ i x there.
           let found = walker_there start 0 i i start.paths x (omega arith) there in

@@ -1,5 +1,5 @@
 -- An application ends its turn only where it has read all that had arrived as the round began: the book of its side at each step.
-use Rattle.std.proofs.Common.{◌≡◌, refl, sym, ◌∙◌, ap, subst, ℕ, ◌+◌, ◌≤◌, ◌||◌, not, nat_lt, min, ⊎_elim, Bool, true, false, is_some, if◌then◌else◌, Option, Some, None, List, [], ◌∷◌, ◌++◌, length, take, drop, arith}
+use Rattle.std.proofs.Common.{◌≡◌, refl, sym, ◌∙◌, ap, subst, ℕ, ◌+◌, ◌≤◌, ◌||◌, not, nat_lt, min, ⊎_elim, ◌⊎◌, inl, inr, Bool, true, false, is_some, if◌then◌else◌, Option, Some, None, List, [], ◌∷◌, ◌++◌, length, take, drop, arith}
 use Rattle.std.proofs.lemmas.Bool.{and_cases, ltb-false, not-false, eqb-true}
 use Rattle.std.proofs.lemmas.List.{append-nil, length-append, length-take}
 use Rattle.std.specs.Option.{IfSome}
@@ -16,25 +16,24 @@ use Rattle.actor_desk.specs.declared.ask.Note.{Note}
 use Rattle.actor_desk.specs.declared.ask.Reply.TheVariants as replies
 use Rattle.actor_desk.specs.Words.{is_nil}
 use Rattle.stream_apps.specs.declared.duty.AppDuty.{AppDuty}
-use Rattle.stream_apps.specs.declared.duty.AppDuty.TheVariants.{Write, Close, Read, End}
+use Rattle.stream_apps.specs.declared.duty.AppDuty.TheVariants.{FastClose, AbortSend, AbortReceive, Write, Close, Read, End}
 use Rattle.stream_apps.specs.Apps.{AppState}
 use Rattle.stream_apps.specs.AppSteps.{app_stands, bytes_in, ends_in, app_reads_on, app_settled}
-use Rattle.world_laws.specs.Outcomes.{bytes_noted, read_by}
-use Rattle.world_laws.proofs.Applying.{Settles, settled_app}
+use Rattle.world_laws.specs.Outcomes.{note_tells, was_told, tells_stop, bytes_noted, read_by}
+use Rattle.world_laws.proofs.Applying.{Settles, any_more, or_true, settled_app}
 use Rattle.world_laws.proofs.PathAsks.{IsArrival}
 
 -- ---- a read
 
--- what a read that wasn't refused makes of the book, by its reply
+-- what a read makes of the book, by its reply
 pub record IsRead (b c : Arriving) (r : ReassemblyReply) : Type 0 where
   pub read : c.read ≡ b.read + length (bytes_in (replies.Reassembly r))
   pub came : received c ≡ received b
   pub most : length (bytes_in (replies.Reassembly r)) ≤ length (filled b.places)
-  pub empty : bytes_in (replies.Reassembly r) ≡ [] → received b ≤ b.read
-  pub ended : ends_in (replies.Reassembly r) ≡ true → b.known_end ≡ Some b.read
+  pub empty : bytes_in (replies.Reassembly r) ≡ [] → (received b ≤ b.read) ⊎ (tells_stop (replies.Reassembly r) ≡ true)
+  pub ended : ends_in (replies.Reassembly r) ≡ true → (b.known_end ≡ Some b.read) ⊎ (tells_stop (replies.Reassembly r) ≡ true)
   pub known : c.known_end ≡ b.known_end
   pub capacity : c.capacity ≡ b.capacity
-  pub unaborted : c.aborted ≡ b.aborted
 
 end_known : (o : Option ℕ) (read : ℕ) → is_end o read ≡ true → o ≡ Some read
 end_known None read is = cc
@@ -49,21 +48,19 @@ module _ (b : Arriving) where
     read = omega (arith, none);
     came = omega (arith, left);
     most = omega arith;
-    empty = λ nil. omega (arith, none);
-    ended = λ ends. end_known b.known_end b.read is;
+    empty = λ nil. inl (omega (arith, none));
+    ended = λ ends. inl (end_known b.known_end b.read is);
     known = refl;
     capacity = refl;
-    unaborted = refl;
   }
   no_bytes none false is = record {
     read = omega (arith, none);
     came = omega (arith, left);
     most = omega arith;
-    empty = λ nil. omega (arith, none);
+    empty = λ nil. inl (omega (arith, none));
     ended = λ never. cc;
     known = refl;
     capacity = refl;
-    unaborted = refl;
   }
 
   bytes_read : (bytes : List ℕ) → take 65536 (filled b.places) ≡ bytes → IsRead b (after_reading 65536 b) (bytes_reply bytes b)
@@ -82,12 +79,22 @@ module _ (b : Arriving) where
         ended = λ never. cc;
         known = refl;
         capacity = refl;
-        unaborted = refl;
       }
 
-pub is_read : (b : Arriving) → b.aborted ≡ None → IsRead b (after_call b (calls.Read 65536)) (reply_to b (calls.Read 65536))
-is_read b none =
-    subst (λ (o : Option Bool). IsRead b (if is_some o then b else after_reading 65536 b) (reading o 65536 b)) (sym none) (bytes_read b (take 65536 (filled b.places)) refl)
+pub is_read : (b : Arriving) → IsRead b (after_call b (calls.Read 65536)) (reply_to b (calls.Read 65536))
+is_read b = by b.aborted
+  where
+    by : (o : Option Bool) → IsRead b (if is_some o then b else after_reading 65536 b) (reading o 65536 b)
+    by None = bytes_read b (take 65536 (filled b.places)) refl
+    by (Some by_peer) = record {
+      read = omega arith;
+      came = refl;
+      most = omega arith;
+      empty = λ nil. inr refl;
+      ended = λ ends. inr refl;
+      known = refl;
+      capacity = refl;
+    }
 
 -- ---- what arrives
 
@@ -97,10 +104,9 @@ pub record IsGrown (b c : Arriving) : Type 0 where
   pub grows : received b ≤ received c
   pub known : (e : ℕ) → b.known_end ≡ Some e → c.known_end ≡ Some e
   pub capacity : c.capacity ≡ b.capacity
-  pub unaborted : c.aborted ≡ b.aborted
 
 pub stays_grown : (b : Arriving) → IsGrown b b
-stays_grown b = record { read = refl; grows = omega arith; known = λ e is. is; capacity = refl; unaborted = refl }
+stays_grown b = record { read = refl; grows = omega arith; known = λ e is. is; capacity = refl }
 
 merged_more : (xs ys : List (Option ℕ)) → length (filled xs) ≤ length (filled (merged xs ys))
 merged_more [] ys = omega arith
@@ -117,7 +123,6 @@ arrives b (calls.Place at bytes) is = by (is_taken at bytes b)
       grows = (let more = merged_more b.places (drop b.read (by_place at bytes)) in omega (arith, more));
       known = λ e is. is;
       capacity = refl;
-      unaborted = refl;
     }
     by false = stays_grown b
 arrives b (calls.Fin at) is = record {
@@ -125,7 +130,6 @@ arrives b (calls.Fin at) is = record {
   grows = (let same = same_received (is_some (fin_clash b.known_end at b)) in omega (arith, same));
   known = λ e known. known_end_stays (calls.Fin at ∷ []) b e known;
   capacity = capacity (is_some (fin_clash b.known_end at b));
-  unaborted = unaborted (is_some (fin_clash b.known_end at b));
 }
   where
     read : (c : Bool) → (if c then b else record b { known_end = Some at }).read ≡ b.read
@@ -139,23 +143,32 @@ arrives b (calls.Fin at) is = record {
     capacity : (c : Bool) → (if c then b else record b { known_end = Some at }).capacity ≡ b.capacity
     capacity true = refl
     capacity false = refl
-
-    unaborted : (c : Bool) → (if c then b else record b { known_end = Some at }).aborted ≡ b.aborted
-    unaborted true = refl
-    unaborted false = refl
 arrives b calls.AckOut is = stays_grown b
 arrives b (calls.Read max) is = absurd is
 arrives b (calls.Abort by_peer) is = absurd is
 
+-- nor where it is aborted
+pub aborts : (by_peer : Bool) (b : Arriving) → IsGrown b (after_call b (calls.Abort by_peer))
+aborts by_peer b = record { read = refl; grows = omega arith; known = λ e is. is; capacity = refl }
+
 -- ---- a reader with its book
+
+-- it was told that the connection was aborted
+abbrev pub WasStopped : List Note → Type 0
+WasStopped notes = was_told tells_stop notes ≡ true
+
+stopped_more : (notes : List Note) (n : Note) → WasStopped notes → WasStopped (notes ++ n ∷ [])
+stopped_more notes n is = any_more (note_tells tells_stop) notes n ∙ ap (λ b. b || tells_stop n.reply) is
+
+stopped_now : (notes : List Note) (n : Note) → tells_stop n.reply ≡ true → WasStopped (notes ++ n ∷ [])
+stopped_now notes n is = any_more (note_tells tells_stop) notes n ∙ ap (λ b. was_told tells_stop notes || b) is ∙ or_true (was_told tells_stop notes)
 
 -- the book is sound, and it gave what the steps of the application read; a reader that was told the end is there
 pub record Reading (a : AppState) (notes : List Note) (b : Arriving) : Type 0 where
   pub sound : IsSound b
   pub capacity : b.capacity ≡ a.buffer
-  pub unaborted : b.aborted ≡ None
   pub whole : length (read_by notes) ≡ b.read
-  pub told : a.told ≡ true → b.known_end ≡ Some b.read
+  pub told : a.told ≡ true → (b.known_end ≡ Some b.read) ⊎ WasStopped notes
 
 -- where the round began with so many bytes that had arrived, and so many that were read
 pub record InRound (arrived read : ℕ) (a : AppState) (b : Arriving) : Type 0 where
@@ -163,54 +176,72 @@ pub record InRound (arrived read : ℕ) (a : AppState) (b : Arriving) : Type 0 w
   pub count : b.read ≡ read + a.count
   pub within : arrived ≤ received b
 
--- what is ahead in the turn
-abbrev pub Ahead : ℕ → ℕ → List AppDuty → Type 0
-Ahead arrived now [] = arrived ≤ now
-Ahead arrived now (End ∷ ds) = (ds ≡ []) × (arrived ≤ now)
-Ahead arrived now (Read ∷ ds) = ds ≡ End ∷ []
-Ahead arrived now (Close ∷ ds) = ds ≡ Read ∷ End ∷ []
-Ahead arrived now (Write ∷ ds) = ds ≡ Close ∷ Read ∷ End ∷ []
+-- all that had arrived is read, or the reader was told that the connection was aborted
+abbrev pub IsThrough : ℕ → ℕ → List Note → Type 0
+IsThrough arrived now notes = (arrived ≤ now) ⊎ WasStopped notes
+
+pub through_more : (arrived now : ℕ) (notes : List Note) (n : Note) → IsThrough arrived now notes → IsThrough arrived now (notes ++ n ∷ [])
+through_more arrived now notes n (inl all) = inl all
+through_more arrived now notes n (inr stopped) = inr (stopped_more notes n stopped)
+
+-- what is ahead in the turn, at whose end this is so
+abbrev pub Ahead : Type 0 → List AppDuty → Type 0
+Ahead done [] = done
+Ahead done (End ∷ ds) = (ds ≡ []) × done
+Ahead done (Read ∷ ds) = ds ≡ End ∷ []
+Ahead done (Close ∷ ds) = ds ≡ Read ∷ End ∷ []
+Ahead done (Write ∷ ds) = ds ≡ Close ∷ Read ∷ End ∷ []
+Ahead done (AbortReceive ∷ ds) = ds ≡ Write ∷ Close ∷ Read ∷ End ∷ []
+Ahead done (AbortSend ∷ ds) = ds ≡ AbortReceive ∷ Write ∷ Close ∷ Read ∷ End ∷ []
+Ahead done (FastClose ∷ ds) = ds ≡ AbortSend ∷ AbortReceive ∷ Write ∷ Close ∷ Read ∷ End ∷ []
 
 -- all that had arrived is read where the end was told
-end_reached : (arrived : ℕ) (a : AppState) (notes : List Note) (b : Arriving) → Reading a notes b → arrived ≤ received b → a.told ≡ true → arrived ≤ b.read
-end_reached arrived a notes b h within told =
-    let ends : b.read + length b.places ≤ b.read = subst (λ o. IfSome o (λ e. b.read + length b.places ≤ e)) (h.told told) h.sound.ends in
-    let l = filled-le b.places in omega (arith, ends, l, within)
-
-passed_ahead : (arrived now : ℕ) (d : AppDuty) (ds : List AppDuty) (a : AppState) → app_stands d a ≡ false → (a.told ≡ true → arrived ≤ now) → Ahead arrived now (d ∷ ds) → Ahead arrived now ds
-passed_ahead arrived now Write ds a none done h = subst (Ahead arrived now) (sym h) refl
-passed_ahead arrived now Close ds a none done h = subst (Ahead arrived now) (sym h) refl
-passed_ahead arrived now Read ds a none done h = subst (Ahead arrived now) (sym h) (refl, done (not-false a.told none))
-passed_ahead arrived now End ds a none done h = cc
-
-settled_ahead : (arrived now : ℕ) (ds : List AppDuty) (a : AppState) → (a.told ≡ true → arrived ≤ now) → Ahead arrived now ds → Ahead arrived now (app_settled ds a).agenda
-settled_ahead arrived now [] a done h = h
-settled_ahead arrived now (d ∷ ds) a done h = by (app_stands d a) refl (λ none. settled_ahead arrived now ds a done (passed_ahead arrived now d ds a none done h))
+end_reached : (arrived : ℕ) (a : AppState) (notes : List Note) (b : Arriving) → Reading a notes b → arrived ≤ received b → a.told ≡ true → IsThrough arrived b.read notes
+end_reached arrived a notes b h within told = by (h.told told)
   where
-    by : (b : Bool) → app_stands d a ≡ b → (app_stands d a ≡ false → Ahead arrived now (app_settled ds a).agenda) → Ahead arrived now (if b then record a { agenda = d ∷ ds } else app_settled ds a).agenda
+    by : (b.known_end ≡ Some b.read) ⊎ WasStopped notes → IsThrough arrived b.read notes
+    by (inr stopped) = inr stopped
+    by (inl known) =
+        let ends : b.read + length b.places ≤ b.read = subst (λ o. IfSome o (λ e. b.read + length b.places ≤ e)) known h.sound.ends in
+        let l = filled-le b.places in inl (omega (arith, ends, l, within))
+
+passed_ahead : (done : Type 0) (d : AppDuty) (ds : List AppDuty) (a : AppState) → app_stands d a ≡ false → (a.told ≡ true → done) → Ahead done (d ∷ ds) → Ahead done ds
+passed_ahead done FastClose ds a none told h = subst (Ahead done) (sym h) refl
+passed_ahead done AbortSend ds a none told h = subst (Ahead done) (sym h) refl
+passed_ahead done AbortReceive ds a none told h = subst (Ahead done) (sym h) refl
+passed_ahead done Write ds a none told h = subst (Ahead done) (sym h) refl
+passed_ahead done Close ds a none told h = subst (Ahead done) (sym h) refl
+passed_ahead done Read ds a none told h = subst (Ahead done) (sym h) (refl, told (not-false a.told none))
+passed_ahead done End ds a none told h = cc
+
+settled_ahead : (done : Type 0) (ds : List AppDuty) (a : AppState) → (a.told ≡ true → done) → Ahead done ds → Ahead done (app_settled ds a).agenda
+settled_ahead done [] a told h = h
+settled_ahead done (d ∷ ds) a told h = by (app_stands d a) refl (λ none. settled_ahead done ds a told (passed_ahead done d ds a none told h))
+  where
+    by : (b : Bool) → app_stands d a ≡ b → (app_stands d a ≡ false → Ahead done (app_settled ds a).agenda) → Ahead done (if b then record a { agenda = d ∷ ds } else app_settled ds a).agenda
     by true is rest = h
     by false is rest = rest is
 
 pub record Caught (arrived read : ℕ) (a : AppState) (notes : List Note) (b : Arriving) : Type 0 where
   pub reading : Reading a notes b
   pub numbers : InRound arrived read a b
-  pub ahead : Ahead arrived b.read a.agenda
+  pub ahead : Ahead (IsThrough arrived b.read notes) a.agenda
 
 same_reading : (ds : List AppDuty) (a : AppState) (notes : List Note) (b : Arriving) → Reading a notes b → Reading (record a { agenda = ds }) notes b
-same_reading ds a notes b h = record { sound = h.sound; capacity = h.capacity; unaborted = h.unaborted; whole = h.whole; told = h.told }
+same_reading ds a notes b h = record { sound = h.sound; capacity = h.capacity; whole = h.whole; told = h.told }
 
 same_numbers : (arrived read : ℕ) (ds : List AppDuty) (a : AppState) (b : Arriving) → InRound arrived read a b → InRound arrived read (record a { agenda = ds }) b
 same_numbers arrived read ds a b h = record { from = h.from; count = h.count; within = h.within }
 
 -- settling changes the agenda alone
-pub settled_caught : (arrived read : ℕ) (ds : List AppDuty) (a : AppState) (notes : List Note) (b : Arriving) → Reading a notes b → InRound arrived read a b → Ahead arrived b.read ds
+pub settled_caught : (arrived read : ℕ) (ds : List AppDuty) (a : AppState) (notes : List Note) (b : Arriving) → Reading a notes b → InRound arrived read a b → Ahead (IsThrough arrived b.read notes) ds
     → Caught arrived read (app_settled ds a) notes b
 settled_caught arrived read ds a notes b h n ahead =
     let st : Settles a (app_settled ds a) = settled_app ds a in
     record {
       reading = subst (λ m. Reading m notes b) (sym st.is) (same_reading st.agenda a notes b h);
       numbers = subst (λ m. InRound arrived read m b) (sym st.is) (same_numbers arrived read st.agenda a b n);
-      ahead = settled_ahead arrived b.read ds a (λ told. end_reached arrived a notes b h n.within told) ahead;
+      ahead = settled_ahead (IsThrough arrived b.read notes) ds a (λ told. end_reached arrived a notes b h n.within told) ahead;
     }
 
 -- ---- the book goes on without the reader
@@ -219,16 +250,15 @@ pub grown_reading : (a : AppState) (notes : List Note) (b c : Arriving) → IsSo
 grown_reading a notes b c sound g h = record {
   sound = sound;
   capacity = g.capacity ∙ h.capacity;
-  unaborted = g.unaborted ∙ h.unaborted;
   whole = h.whole ∙ sym g.read;
-  told = λ is. g.known b.read (h.told is) ∙ ap (λ n. Some n) (sym g.read);
+  told = λ is. ⊎_elim (λ known. inl (g.known b.read known ∙ ap (λ n. Some n) (sym g.read))) (λ stopped. inr stopped) (h.told is);
 }
 
 pub grown_caught : (arrived read : ℕ) (a : AppState) (notes : List Note) (b c : Arriving) → IsSound c → IsGrown b c → Caught arrived read a notes b → Caught arrived read a notes c
 grown_caught arrived read a notes b c sound g h = record {
   reading = grown_reading a notes b c sound g h.reading;
   numbers = record { from = h.numbers.from; count = g.read ∙ h.numbers.count; within = omega (arith, h.numbers.within, g.grows) };
-  ahead = subst (λ now. Ahead arrived now a.agenda) (sym g.read) h.ahead;
+  ahead = subst (λ now. Ahead (IsThrough arrived now notes) a.agenda) (sym g.read) h.ahead;
 }
 
 -- ---- steps of the reader
@@ -244,7 +274,12 @@ noted_more (m ∷ notes) n =
 pub noted_reading : (a : AppState) (notes : List Note) (n : Note) (b : Arriving) → bytes_noted n ≡ [] → Reading a notes b → Reading a (notes ++ n ∷ []) b
 noted_reading a notes n b none h =
     let more = noted_more notes n in let zero_is : length (bytes_noted n) ≡ 0 = ap (λ (xs : List ℕ). length xs) none in
-    record { sound = h.sound; capacity = h.capacity; unaborted = h.unaborted; whole = omega (arith, more, zero_is, h.whole); told = h.told }
+    record {
+      sound = h.sound;
+      capacity = h.capacity;
+      whole = omega (arith, more, zero_is, h.whole);
+      told = λ is. ⊎_elim (λ known. inl known) (λ stopped. inr (stopped_more notes n stopped)) (h.told is);
+    }
 
 module _ (arrived read : ℕ) (a : AppState) (notes : List Note) (n : Note) where
   -- a read
@@ -252,19 +287,21 @@ module _ (arrived read : ℕ) (a : AppState) (notes : List Note) (n : Note) wher
     abbrev later : List AppDuty → AppState
     later ds = record a { count = a.count + length (bytes_in (replies.Reassembly x)); told = a.told || ends_in (replies.Reassembly x); agenda = ds }
 
-    told_at : (t e : Bool) → a.told ≡ t → ends_in (replies.Reassembly x) ≡ e → (t || e) ≡ true → c.known_end ≡ Some c.read
-    told_at true e told ends either =
-        let known : b.known_end ≡ Some b.read = h.told told in
+    -- the step tells of an abort
+    stops_now : tells_stop (replies.Reassembly x) ≡ true → WasStopped (notes ++ n ∷ [])
+    stops_now is = stopped_now notes n (ap tells_stop noted ∙ is)
+
+    -- the end is where it was
+    end_kept : b.known_end ≡ Some b.read → c.known_end ≡ Some c.read
+    end_kept known =
         let ends : b.read + length b.places ≤ b.read = subst (λ o. IfSome o (λ e. b.read + length b.places ≤ e)) known h.sound.ends in
         let l = filled-le b.places in
         let same : b.read ≡ c.read = omega (arith, is.read, is.most, l, ends) in
         is.known ∙ known ∙ ap (λ m. Some m) same
-    told_at false true told ends either =
-        let known : b.known_end ≡ Some b.read = is.ended ends in
-        let ends : b.read + length b.places ≤ b.read = subst (λ o. IfSome o (λ e. b.read + length b.places ≤ e)) known h.sound.ends in
-        let l = filled-le b.places in
-        let same : b.read ≡ c.read = omega (arith, is.read, is.most, l, ends) in
-        is.known ∙ known ∙ ap (λ m. Some m) same
+
+    told_at : (t e : Bool) → a.told ≡ t → ends_in (replies.Reassembly x) ≡ e → (t || e) ≡ true → (c.known_end ≡ Some c.read) ⊎ WasStopped (notes ++ n ∷ [])
+    told_at true e told ends either = ⊎_elim (λ known. inl (end_kept known)) (λ stopped. inr (stopped_more notes n stopped)) (h.told told)
+    told_at false true told ends either = ⊎_elim (λ known. inl (end_kept known)) (λ stopped. inr (stops_now stopped)) (is.ended ends)
     told_at false false told ends either = cc
 
     pub read_reading : (ds : List AppDuty) → Reading (later ds) (notes ++ n ∷ []) c
@@ -274,7 +311,6 @@ module _ (arrived read : ℕ) (a : AppState) (notes : List Note) (n : Note) wher
         record {
           sound = sound;
           capacity = is.capacity ∙ h.capacity;
-          unaborted = is.unaborted ∙ h.unaborted;
           whole = omega (arith, more, same, h.whole, is.read);
           told = λ told. told_at a.told (ends_in (replies.Reassembly x)) refl refl told;
         }
@@ -283,10 +319,10 @@ module _ (arrived read : ℕ) (a : AppState) (notes : List Note) (n : Note) wher
     read_numbers m ds = record { from = m.from; count = omega (arith, is.read, m.count); within = omega (arith, is.came, m.within) }
 
     -- where it reads no more it has read all that had arrived
-    stops : InRound arrived read a b → app_reads_on (bytes_in (replies.Reassembly x)) a ≡ false → arrived ≤ c.read
+    stops : InRound arrived read a b → app_reads_on (bytes_in (replies.Reassembly x)) a ≡ false → IsThrough arrived c.read (notes ++ n ∷ [])
     stops m off = ⊎_elim
-        (λ nil. let none = is.empty (nothing (bytes_in (replies.Reassembly x)) nil) in omega (arith, none, m.within, is.read))
-        (λ full. let enough = ltb-false (a.count + length (bytes_in (replies.Reassembly x))) a.buffer full in omega (arith, enough, m.from, m.count, is.read))
+        (λ nil. ⊎_elim (λ none. inl (omega (arith, none, m.within, is.read))) (λ stopped. inr (stops_now stopped)) (is.empty (nothing (bytes_in (replies.Reassembly x)) nil)))
+        (λ full. let enough = ltb-false (a.count + length (bytes_in (replies.Reassembly x))) a.buffer full in inl (omega (arith, enough, m.from, m.count, is.read)))
         (and_cases (not (is_nil (bytes_in (replies.Reassembly x)))) (nat_lt (a.count + length (bytes_in (replies.Reassembly x))) a.buffer) off)
       where
         nothing : (bytes : List ℕ) → not (is_nil bytes) ≡ false → bytes ≡ []
@@ -294,9 +330,9 @@ module _ (arrived read : ℕ) (a : AppState) (notes : List Note) (n : Note) wher
         nothing (byte ∷ bytes) nil = cc
 
     pub read_ahead : InRound arrived read a b → (ds : List AppDuty) → ds ≡ End ∷ [] → (on : Bool) → app_reads_on (bytes_in (replies.Reassembly x)) a ≡ on
-        → Ahead arrived c.read (if on then Read ∷ ds else ds)
+        → Ahead (IsThrough arrived c.read (notes ++ n ∷ [])) (if on then Read ∷ ds else ds)
     read_ahead m ds then_end true is_on = then_end
-    read_ahead m ds then_end false off = subst (Ahead arrived c.read) (sym then_end) (refl, stops m off)
+    read_ahead m ds then_end false off = subst (Ahead (IsThrough arrived c.read (notes ++ n ∷ []))) (sym then_end) (refl, stops m off)
 
     pub read_caught : InRound arrived read a b → (ds : List AppDuty) → ds ≡ End ∷ [] → (on : Bool) → app_reads_on (bytes_in (replies.Reassembly x)) a ≡ on
         → Caught arrived read (app_settled (if on then Read ∷ ds else ds) (later (if on then Read ∷ ds else ds))) (notes ++ n ∷ []) c

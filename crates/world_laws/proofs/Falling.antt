@@ -3,9 +3,7 @@ use Rattle.std.proofs.Common.{◌≡◌, refl, sym, ◌∙◌, ap, ⊎_elim, inl
 use Rattle.std.proofs.lemmas.Bool.{false≢true}
 use Rattle.outside_kit.specs.declared.side.Side.{Side}
 use Rattle.outside_kit.specs.declared.side.Side.TheVariants.{A, B}
-use Rattle.fallback_state.specs.declared.fall.Event.TheVariants as events
 use Rattle.fallback_state.specs.declared.fall.Fall.{Fall}
-use Rattle.fallback_state.specs.Modes.{is_identity}
 use Rattle.control_book.specs.declared.call.ControlCall.{ControlCall}
 use Rattle.control_book.specs.declared.call.ControlCall.TheVariants as control_calls
 use Rattle.actor_desk.specs.declared.ask.Ask.TheVariants as asks
@@ -14,7 +12,7 @@ use Rattle.stream_lanes.specs.Lane.{Lane}
 use Rattle.stream_lanes.specs.Streams.{Reader}
 use Rattle.stream_lanes.specs.Duo.{Modes, Duo, falls_a, falls_b, begins_join, sends_join, hears_join}
 use Rattle.stream_lanes.specs.Duo.Event.{FallA, FallB, BeginJoin, SendJoin, HearJoin}
-use Rattle.world_laws.proofs.Falls.{SameFall, FellBack, HasJoined, Fallen, call_falls}
+use Rattle.world_laws.proofs.Falls.{is_plain, SameFall, FellBack, HasJoined, Fallen, call_falls}
 use Rattle.world_laws.proofs.Lanes.{MayCall, Moved, duo_of, modes_by}
 
 -- ---- what becomes of the modes
@@ -56,7 +54,7 @@ joins_at_b plain_a true false joined_b is plain = refl
 
 -- the modes of two falls
 abbrev pub modes_in : Fall → Fall → Modes
-modes_in f g = modes_with (is_identity f.mode) f.joined (is_identity g.mode) g.joined
+modes_in f g = modes_with (is_plain f) f.joined (is_plain g) g.joined
 
 module _ (f g h : Fall) where
   pub a_stays : SameFall f h → Modulated (modes_in f g) (modes_in h g)
@@ -71,7 +69,7 @@ module _ (f g h : Fall) where
       events = FallA ∷ [];
       silent = refl;
       to = ap (λ m. record d { modes = m }) (modes_same _ _ _ _ _ _ _ _ x.mode x.joined refl refl
-          ∙ sym (ap falls_a is ∙ falls_at_a (is_identity f.mode) f.joined (is_identity g.mode) g.joined x.was));
+          ∙ sym (ap falls_a is ∙ falls_at_a (is_plain f) f.joined (is_plain g) g.joined x.was));
     };
   }
 
@@ -81,7 +79,7 @@ module _ (f g h : Fall) where
       events = FallB ∷ [];
       silent = refl;
       to = ap (λ m. record d { modes = m }) (modes_same _ _ _ _ _ _ _ _ refl refl x.mode x.joined
-          ∙ sym (ap falls_b is ∙ falls_at_b (is_identity f.mode) f.joined (is_identity g.mode) g.joined x.was));
+          ∙ sym (ap falls_b is ∙ falls_at_b (is_plain f) f.joined (is_plain g) g.joined x.was));
     };
   }
 
@@ -91,7 +89,7 @@ module _ (f g h : Fall) where
       events = BeginJoin ∷ (SendJoin ∷ []);
       silent = refl;
       to = ap (λ m. record d { modes = m }) (modes_same _ _ _ _ _ _ _ _ x.mode x.joined refl refl
-          ∙ sym (ap (λ m. sends_join (begins_join m)) is ∙ joins_at_a (is_identity f.mode) f.joined (is_identity g.mode) g.joined x.was));
+          ∙ sym (ap (λ m. sends_join (begins_join m)) is ∙ joins_at_a (is_plain f) f.joined (is_plain g) g.joined x.was));
     };
   }
 
@@ -101,7 +99,7 @@ module _ (f g h : Fall) where
       events = HearJoin ∷ [];
       silent = refl;
       to = ap (λ m. record d { modes = m }) (modes_same _ _ _ _ _ _ _ _ refl refl x.mode x.joined
-          ∙ sym (ap hears_join is ∙ joins_at_b (is_identity f.mode) f.joined (is_identity g.mode) g.joined begun x.was));
+          ∙ sym (ap hears_join is ∙ joins_at_b (is_plain f) f.joined (is_plain g) g.joined begun x.was));
     };
   }
 
@@ -115,58 +113,40 @@ b_goes f g h (inr fell) = b_falls f g h fell
 
 -- after what may be called
 modulated : (s : Side) (call : ControlCall) (six : SixBooks) → MayCall s call six → Modulated (modes_by six) (modes_by (after_ask (asks.Control s call) six))
-modulated A (control_calls.Look path) six may = a_goes six.control_a.fall six.control_b.fall _ (call_falls six.control_a (control_calls.Look path) tt)
-modulated A (control_calls.PeerKey key) six may = a_goes six.control_a.fall six.control_b.fall _ (call_falls six.control_a (control_calls.PeerKey key) tt)
-modulated A (control_calls.Keys own other) six may = a_goes six.control_a.fall six.control_b.fall _ (call_falls six.control_a (control_calls.Keys own other) tt)
-modulated A (control_calls.Fell path events.MappingHeard) six may = a_goes six.control_a.fall six.control_b.fall _ (call_falls six.control_a (control_calls.Fell path events.MappingHeard) tt)
-modulated A (control_calls.Fell path events.AckHeard) six may = a_goes six.control_a.fall six.control_b.fall _ (call_falls six.control_a (control_calls.Fell path events.AckHeard) tt)
-modulated A (control_calls.Fell path events.PlainHandshake) six may = a_goes six.control_a.fall six.control_b.fall _ (call_falls six.control_a (control_calls.Fell path events.PlainHandshake) tt)
-modulated A (control_calls.Fell path events.PlainData) six may = a_goes six.control_a.fall six.control_b.fall _ (call_falls six.control_a (control_calls.Fell path events.PlainData) tt)
-modulated A (control_calls.Fell path events.PlainAck) six may = a_goes six.control_a.fall six.control_b.fall _ (call_falls six.control_a (control_calls.Fell path events.PlainAck) tt)
-modulated A (control_calls.Fell path events.InfiniteHeard) six may = a_goes six.control_a.fall six.control_b.fall _ (call_falls six.control_a (control_calls.Fell path events.InfiniteHeard) tt)
-modulated A (control_calls.Fell path events.KeysHeard) six may = a_goes six.control_a.fall six.control_b.fall _ (call_falls six.control_a (control_calls.Fell path events.KeysHeard) tt)
-modulated A (control_calls.Fell path events.CheckFailed) six may = a_goes six.control_a.fall six.control_b.fall _ (call_falls six.control_a (control_calls.Fell path events.CheckFailed) tt)
-modulated A (control_calls.Fell path (events.FailHeard contiguous)) six may = a_goes six.control_a.fall six.control_b.fall _ (call_falls six.control_a (control_calls.Fell path (events.FailHeard contiguous)) tt)
-modulated A (control_calls.Fell path events.Stop) six may = absurd may
-modulated A (control_calls.JoinBegin path) six may = ⊎_elim (a_stays six.control_a.fall six.control_b.fall _) (a_joins six.control_a.fall six.control_b.fall _) (call_falls six.control_a (control_calls.JoinBegin path) tt)
-modulated A (control_calls.JoinHeard path token) six may = ⊎_elim (a_stays six.control_a.fall six.control_b.fall _) (a_joins six.control_a.fall six.control_b.fall _) (call_falls six.control_a (control_calls.JoinHeard path token) tt)
-modulated A (control_calls.Live path backup) six may = a_goes six.control_a.fall six.control_b.fall _ (call_falls six.control_a (control_calls.Live path backup) tt)
-modulated A (control_calls.Dead path) six may = a_goes six.control_a.fall six.control_b.fall _ (call_falls six.control_a (control_calls.Dead path) tt)
-modulated A (control_calls.Rate path window rtt) six may = a_goes six.control_a.fall six.control_b.fall _ (call_falls six.control_a (control_calls.Rate path window rtt) tt)
-modulated A (control_calls.Backup path on) six may = a_goes six.control_a.fall six.control_b.fall _ (call_falls six.control_a (control_calls.Backup path on) tt)
-modulated A (control_calls.Announce id) six may = a_goes six.control_a.fall six.control_b.fall _ (call_falls six.control_a (control_calls.Announce id) tt)
-modulated A (control_calls.Withdraw id) six may = a_goes six.control_a.fall six.control_b.fall _ (call_falls six.control_a (control_calls.Withdraw id) tt)
-modulated A (control_calls.Heard id address port hmac) six may = a_goes six.control_a.fall six.control_b.fall _ (call_falls six.control_a (control_calls.Heard id address port hmac) tt)
-modulated A (control_calls.Echoed id) six may = a_goes six.control_a.fall six.control_b.fall _ (call_falls six.control_a (control_calls.Echoed id) tt)
-modulated A (control_calls.Removed id) six may = a_goes six.control_a.fall six.control_b.fall _ (call_falls six.control_a (control_calls.Removed id) tt)
-modulated A control_calls.FastClose six may = absurd may
-modulated A (control_calls.FastHeard key) six may = absurd may
-modulated B (control_calls.Look path) six may = b_goes six.control_a.fall six.control_b.fall _ (call_falls six.control_b (control_calls.Look path) tt)
-modulated B (control_calls.PeerKey key) six may = b_goes six.control_a.fall six.control_b.fall _ (call_falls six.control_b (control_calls.PeerKey key) tt)
-modulated B (control_calls.Keys own other) six may = b_goes six.control_a.fall six.control_b.fall _ (call_falls six.control_b (control_calls.Keys own other) tt)
-modulated B (control_calls.Fell path events.MappingHeard) six may = b_goes six.control_a.fall six.control_b.fall _ (call_falls six.control_b (control_calls.Fell path events.MappingHeard) tt)
-modulated B (control_calls.Fell path events.AckHeard) six may = b_goes six.control_a.fall six.control_b.fall _ (call_falls six.control_b (control_calls.Fell path events.AckHeard) tt)
-modulated B (control_calls.Fell path events.PlainHandshake) six may = b_goes six.control_a.fall six.control_b.fall _ (call_falls six.control_b (control_calls.Fell path events.PlainHandshake) tt)
-modulated B (control_calls.Fell path events.PlainData) six may = b_goes six.control_a.fall six.control_b.fall _ (call_falls six.control_b (control_calls.Fell path events.PlainData) tt)
-modulated B (control_calls.Fell path events.PlainAck) six may = b_goes six.control_a.fall six.control_b.fall _ (call_falls six.control_b (control_calls.Fell path events.PlainAck) tt)
-modulated B (control_calls.Fell path events.InfiniteHeard) six may = b_goes six.control_a.fall six.control_b.fall _ (call_falls six.control_b (control_calls.Fell path events.InfiniteHeard) tt)
-modulated B (control_calls.Fell path events.KeysHeard) six may = b_goes six.control_a.fall six.control_b.fall _ (call_falls six.control_b (control_calls.Fell path events.KeysHeard) tt)
-modulated B (control_calls.Fell path events.CheckFailed) six may = b_goes six.control_a.fall six.control_b.fall _ (call_falls six.control_b (control_calls.Fell path events.CheckFailed) tt)
-modulated B (control_calls.Fell path (events.FailHeard contiguous)) six may = b_goes six.control_a.fall six.control_b.fall _ (call_falls six.control_b (control_calls.Fell path (events.FailHeard contiguous)) tt)
-modulated B (control_calls.Fell path events.Stop) six may = absurd may
+modulated A (control_calls.Look path) six may = a_goes six.control_a.fall six.control_b.fall _ (call_falls six.control_a (control_calls.Look path))
+modulated A (control_calls.PeerKey key) six may = a_goes six.control_a.fall six.control_b.fall _ (call_falls six.control_a (control_calls.PeerKey key))
+modulated A (control_calls.Keys own other) six may = a_goes six.control_a.fall six.control_b.fall _ (call_falls six.control_a (control_calls.Keys own other))
+modulated A (control_calls.Fell path event) six may = a_goes six.control_a.fall six.control_b.fall _ (call_falls six.control_a (control_calls.Fell path event))
+modulated A (control_calls.JoinBegin path) six may = ⊎_elim (a_stays six.control_a.fall six.control_b.fall _) (a_joins six.control_a.fall six.control_b.fall _) (call_falls six.control_a (control_calls.JoinBegin path))
+modulated A (control_calls.JoinHeard path token) six may = ⊎_elim (a_stays six.control_a.fall six.control_b.fall _) (a_joins six.control_a.fall six.control_b.fall _) (call_falls six.control_a (control_calls.JoinHeard path token))
+modulated A (control_calls.Live path backup) six may = a_goes six.control_a.fall six.control_b.fall _ (call_falls six.control_a (control_calls.Live path backup))
+modulated A (control_calls.Dead path) six may = a_goes six.control_a.fall six.control_b.fall _ (call_falls six.control_a (control_calls.Dead path))
+modulated A (control_calls.Rate path window rtt) six may = a_goes six.control_a.fall six.control_b.fall _ (call_falls six.control_a (control_calls.Rate path window rtt))
+modulated A (control_calls.Backup path on) six may = a_goes six.control_a.fall six.control_b.fall _ (call_falls six.control_a (control_calls.Backup path on))
+modulated A (control_calls.Announce id) six may = a_goes six.control_a.fall six.control_b.fall _ (call_falls six.control_a (control_calls.Announce id))
+modulated A (control_calls.Withdraw id) six may = a_goes six.control_a.fall six.control_b.fall _ (call_falls six.control_a (control_calls.Withdraw id))
+modulated A (control_calls.Heard id address port hmac) six may = a_goes six.control_a.fall six.control_b.fall _ (call_falls six.control_a (control_calls.Heard id address port hmac))
+modulated A (control_calls.Echoed id) six may = a_goes six.control_a.fall six.control_b.fall _ (call_falls six.control_a (control_calls.Echoed id))
+modulated A (control_calls.Removed id) six may = a_goes six.control_a.fall six.control_b.fall _ (call_falls six.control_a (control_calls.Removed id))
+modulated A control_calls.FastClose six may = a_goes six.control_a.fall six.control_b.fall _ (call_falls six.control_a control_calls.FastClose)
+modulated A (control_calls.FastHeard key) six may = a_goes six.control_a.fall six.control_b.fall _ (call_falls six.control_a (control_calls.FastHeard key))
+modulated B (control_calls.Look path) six may = b_goes six.control_a.fall six.control_b.fall _ (call_falls six.control_b (control_calls.Look path))
+modulated B (control_calls.PeerKey key) six may = b_goes six.control_a.fall six.control_b.fall _ (call_falls six.control_b (control_calls.PeerKey key))
+modulated B (control_calls.Keys own other) six may = b_goes six.control_a.fall six.control_b.fall _ (call_falls six.control_b (control_calls.Keys own other))
+modulated B (control_calls.Fell path event) six may = b_goes six.control_a.fall six.control_b.fall _ (call_falls six.control_b (control_calls.Fell path event))
 modulated B (control_calls.JoinBegin path) six may = absurd may
-modulated B (control_calls.JoinHeard path token) six may = ⊎_elim (b_stays six.control_a.fall six.control_b.fall _) (b_joins six.control_a.fall six.control_b.fall _ may) (call_falls six.control_b (control_calls.JoinHeard path token) tt)
-modulated B (control_calls.Live path backup) six may = b_goes six.control_a.fall six.control_b.fall _ (call_falls six.control_b (control_calls.Live path backup) tt)
-modulated B (control_calls.Dead path) six may = b_goes six.control_a.fall six.control_b.fall _ (call_falls six.control_b (control_calls.Dead path) tt)
-modulated B (control_calls.Rate path window rtt) six may = b_goes six.control_a.fall six.control_b.fall _ (call_falls six.control_b (control_calls.Rate path window rtt) tt)
-modulated B (control_calls.Backup path on) six may = b_goes six.control_a.fall six.control_b.fall _ (call_falls six.control_b (control_calls.Backup path on) tt)
-modulated B (control_calls.Announce id) six may = b_goes six.control_a.fall six.control_b.fall _ (call_falls six.control_b (control_calls.Announce id) tt)
-modulated B (control_calls.Withdraw id) six may = b_goes six.control_a.fall six.control_b.fall _ (call_falls six.control_b (control_calls.Withdraw id) tt)
-modulated B (control_calls.Heard id address port hmac) six may = b_goes six.control_a.fall six.control_b.fall _ (call_falls six.control_b (control_calls.Heard id address port hmac) tt)
-modulated B (control_calls.Echoed id) six may = b_goes six.control_a.fall six.control_b.fall _ (call_falls six.control_b (control_calls.Echoed id) tt)
-modulated B (control_calls.Removed id) six may = b_goes six.control_a.fall six.control_b.fall _ (call_falls six.control_b (control_calls.Removed id) tt)
-modulated B control_calls.FastClose six may = absurd may
-modulated B (control_calls.FastHeard key) six may = absurd may
+modulated B (control_calls.JoinHeard path token) six may = ⊎_elim (b_stays six.control_a.fall six.control_b.fall _) (b_joins six.control_a.fall six.control_b.fall _ may) (call_falls six.control_b (control_calls.JoinHeard path token))
+modulated B (control_calls.Live path backup) six may = b_goes six.control_a.fall six.control_b.fall _ (call_falls six.control_b (control_calls.Live path backup))
+modulated B (control_calls.Dead path) six may = b_goes six.control_a.fall six.control_b.fall _ (call_falls six.control_b (control_calls.Dead path))
+modulated B (control_calls.Rate path window rtt) six may = b_goes six.control_a.fall six.control_b.fall _ (call_falls six.control_b (control_calls.Rate path window rtt))
+modulated B (control_calls.Backup path on) six may = b_goes six.control_a.fall six.control_b.fall _ (call_falls six.control_b (control_calls.Backup path on))
+modulated B (control_calls.Announce id) six may = b_goes six.control_a.fall six.control_b.fall _ (call_falls six.control_b (control_calls.Announce id))
+modulated B (control_calls.Withdraw id) six may = b_goes six.control_a.fall six.control_b.fall _ (call_falls six.control_b (control_calls.Withdraw id))
+modulated B (control_calls.Heard id address port hmac) six may = b_goes six.control_a.fall six.control_b.fall _ (call_falls six.control_b (control_calls.Heard id address port hmac))
+modulated B (control_calls.Echoed id) six may = b_goes six.control_a.fall six.control_b.fall _ (call_falls six.control_b (control_calls.Echoed id))
+modulated B (control_calls.Removed id) six may = b_goes six.control_a.fall six.control_b.fall _ (call_falls six.control_b (control_calls.Removed id))
+modulated B control_calls.FastClose six may = b_goes six.control_a.fall six.control_b.fall _ (call_falls six.control_b control_calls.FastClose)
+modulated B (control_calls.FastHeard key) six may = b_goes six.control_a.fall six.control_b.fall _ (call_falls six.control_b (control_calls.FastHeard key))
 
 -- Each call of a control book that may be made is moves.
 pub control_moves : (s : Side) (call : ControlCall) (six : SixBooks) → MayCall s call six → (lanes_ab lanes_ba : List Lane) (reader_a reader_b : Reader)

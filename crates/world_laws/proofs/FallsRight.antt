@@ -7,6 +7,7 @@ use Rattle.std.specs.Option.{IfSome}
 use Rattle.outside_kit.specs.declared.side.Side.{Side}
 use Rattle.outside_kit.specs.declared.side.Side.TheVariants.{A, B}
 use Rattle.dss_mapping.specs.declared.kept.KeptMapping.{KeptMapping}
+use Rattle.control_book.specs.Replies.{is_aborted}
 use Rattle.fallback_state.specs.Modes.{is_identity}
 use Rattle.send_book.specs.declared.call.SendCall.TheVariants as send_calls
 use Rattle.subflow_send.specs.declared.record.RecordKind.{RecordKind}
@@ -39,7 +40,7 @@ use Rattle.path_core.specs.Turns.{FirstStands}
 use Rattle.path_core.specs.Values.{Carried, values}
 use Rattle.world_laws.specs.declared.member.Member.TheVariants.{App, Path}
 use Rattle.world_laws.specs.Actors.{Actor, ActorCrew, member_asks}
-use Rattle.world_laws.specs.FallsRight.{asks_bytes, has_fallen, is_fallen, IsAtPlace, EndIsPlain, FallsAreRight, FallsLast, PathIsPlain, PositionsArePlaces}
+use Rattle.world_laws.specs.FallsRight.{asks_bytes, has_fallen, is_fallen, is_stopped, IsAtPlace, EndIsPlain, FallsAreRight, FallsLast, PathIsPlain, PositionsArePlaces}
 use Rattle.world_laws.specs.Fresh.{shown_crew, shown_member, shown_world}
 use Rattle.world_laws.specs.Laws.{Always}
 use Rattle.world_laws.specs.Openings.{Start, opened_world}
@@ -49,11 +50,11 @@ use Rattle.world_laws.specs.Worlds.{WorldState, Turn, note_of, crew_after, asked
 use Rattle.world_laws.proofs.Applying.{any_more}
 use Rattle.world_laws.proofs.Beginning.{each_run_shows}
 use Rattle.world_laws.proofs.Casts.{Walker, walking, world_of}
-use Rattle.world_laws.proofs.Falls.{IsUnjoined, unjoined_stays}
+use Rattle.world_laws.proofs.Falls.{fell_or_stopped, fell_unjoined}
 use Rattle.world_laws.proofs.FellEver.{ever_fallen}
 use Rattle.world_laws.proofs.JoinedSo.{always_joined}
 use Rattle.world_laws.proofs.Journaling.{books_after}
-use Rattle.world_laws.proofs.KeysAgree.{Joined, FellBack, KeysAsk, MemberIs, WorldIs, fell_stays, joined_stays, lasting_call, member_asks_are, turn_keys, opened_keys}
+use Rattle.world_laws.proofs.KeysAgree.{Joined, FellBack, MemberIs, WorldIs, fell_stays, joined_stays, turn_keys, opened_keys}
 use Rattle.world_laws.proofs.Lanes.{duo_of, first_duo, MemberIsSteady, IsSteady, WorldShows}
 use Rattle.world_laws.proofs.Opened.{opened_actors}
 use Rattle.world_laws.proofs.PromisesMade.{run_fresh}
@@ -75,7 +76,14 @@ closed_none : (s : Side) → asks_some (asks.Send s send_calls.Close) ≡ false
 closed_none A = refl
 closed_none B = refl
 
+aborted_none : (s : Side) → asks_some (asks.Send s send_calls.Abort) ≡ false
+aborted_none A = refl
+aborted_none B = refl
+
 app_asks_none : (d : AppDuty) (a : AppState) → asks_some (app_ask d a) ≡ false
+app_asks_none app_duties.FastClose a = refl
+app_asks_none app_duties.AbortSend a = aborted_none a.side
+app_asks_none app_duties.AbortReceive a = refl
 app_asks_none app_duties.Write a = written_none a.side _
 app_asks_none app_duties.Close a = closed_none a.side
 app_asks_none app_duties.Read a = refl
@@ -140,21 +148,6 @@ module _ (p : PathState Carried) where
   asking_finishes duties.End is asks = nothing_asked duties.End tt asks
 
 module _ (key_a key_b : ℕ) where
-  ask_right : (six : SixBooks) (x : Ask) → KeysAsk key_a key_b false six x → (s : Side) → IsUnjoined (control_of s six).fall → IsUnjoined (control_of s (after_ask x six)).fall
-  ask_right six (asks.Control A call) is A h = unjoined_stays six.control_a call (lasting_call key_a key_b false six A call is) h
-  ask_right six (asks.Control A call) is B h = h
-  ask_right six (asks.Control B call) is A h = h
-  ask_right six (asks.Control B call) is B h = unjoined_stays six.control_b call (lasting_call key_a key_b false six B call is) h
-  ask_right six (asks.Send A call) is A h = h
-  ask_right six (asks.Send A call) is B h = h
-  ask_right six (asks.Send B call) is A h = h
-  ask_right six (asks.Send B call) is B h = h
-  ask_right six (asks.Reassembly A call) is A h = h
-  ask_right six (asks.Reassembly A call) is B h = h
-  ask_right six (asks.Reassembly B call) is A h = h
-  ask_right six (asks.Reassembly B call) is B h = h
-  ask_right six (asks.Local step) is s h = h
-
   -- on a path that joins bytes are asked for once B answered
   member_joined : (number : ℕ) (six : SixBooks) (m : Actor Carried) (x : Ask) → member_asks values m ≡ Some x → MemberIs key_a key_b false six m → MemberIsSteady six (suc number) m → asks_some x ≡ true → Joined six B
   member_joined number six (App a) x is h steady asks = by a.agenda is
@@ -174,7 +167,6 @@ module _ (key_a key_b : ℕ) where
 
 record Rightly (start : Start) (w : WorldState Carried) : Type 0 where
   known : WorldIs start.key_a start.key_b false w
-  right : (s : Side) → IsUnjoined (control_of s (books_in w.books)).fall
   asked_after : (number : ℕ) (c : ActorCrew Carried) → slice_get w.crew (suc (suc (suc number))) ≡ Some c → list_any asks_bytes c.list ≡ true → Joined (books_in w.books) B
 
 turn_right : (start : Start) (turn : Turn) (w : WorldState Carried) → IsSteady w → Rightly start w → Rightly start (after_turn values turn w)
@@ -186,10 +178,8 @@ turn_right start (Turn.Step actor) w steady h = by (slice_get w.crew actor) refl
     asking c there (Some x) is known =
         let six = books_in w.books in
         let now : books_in (asked values actor (Some x) c w).books ≡ after_ask x six = books_after x c.pass w.books in
-        let allowed = member_asks_are start.key_a start.key_b false six c.member x (h.known.crew.each actor c there) is in
         record {
           known = known;
-          right = λ s. subst (λ (y : SixBooks). IsUnjoined (control_of s y).fall) (sym now) (ask_right start.key_a start.key_b six x allowed s (h.right s));
           asked_after = λ i d at some. subst (λ (y : SixBooks). Joined y B) (sym now) (joined_stays start.key_a start.key_b false six x B (⊎_elim
               (λ here. own i (subst (λ n. slice_get w.crew n ≡ Some c) (sym here.0) there) (subst (λ (y : ActorCrew Carried). list_any asks_bytes y.list ≡ true) (sym here.1) some))
               (λ other. h.asked_after i d other.1 some)
@@ -211,7 +201,6 @@ turn_right start Turn.Round w steady h = by (all_over w.crew) (turn_keys start.k
         → Rightly start (if b then record w { crew = map (begins (greatest 0 w.crew)) w.crew } else w)
     by true known = record {
       known = known;
-      right = h.right;
       asked_after = λ i d at some. let found = in_map (begins (greatest 0 w.crew)) w.crew (suc (suc (suc i))) d at in
           h.asked_after i found.0 found.1 (subst (λ (y : ActorCrew Carried). list_any asks_bytes y.list ≡ true) (sym found.2) some);
     }
@@ -224,42 +213,34 @@ run_right start (turn ∷ turns) w steady h = run_right start turns (after_turn 
 opened_right : (start : Start) → Rightly start (opened_world start)
 opened_right start = record {
   known = opened_keys false start;
-  right = right;
   asked_after = λ i c at. opened_actors (λ actor c. list_any asks_bytes c.list ≡ true → Joined (books_in (opened_world {C = Carried} start).books) B) start (λ some. absurd (false≢true some)) (λ some. absurd (false≢true some))
       (λ number plan there some. absurd (false≢true some)) (suc (suc (suc i))) c at;
 }
-  where
-    right : (s : Side) → IsUnjoined (control_of s (books_in (opened_world {C = Carried} start).books)).fall
-    right A is = absurd (false≢true is)
-    right B is = absurd (false≢true is)
 
-at_fell : (six : SixBooks) (s : Side) → FellBack six s → is_identity (control_of s six).fall.mode ≡ true
-at_fell six A is = is
-at_fell six B is = is
+fell_unjoined_at : (six : SixBooks) (s : Side) → FellBack six s → (control_of s six).fall.joined ≡ false
+fell_unjoined_at six A is = fell_unjoined six.control_a.fall is
+fell_unjoined_at six B is = fell_unjoined six.control_b.fall is
 
 -- ---- falls are right
 
 pub falls_are_right : Always values (λ start w. FallsAreRight w)
 falls_are_right start turns = record {
-  joins = λ s fell. h.right s (now s fell);
-  answered = λ s fell. unanswered s (now s fell);
-  only = λ s fell. record { each = λ number c there. none number c there (unanswered s (now s fell)) (list_any asks_bytes c.list) refl };
+  joins = λ s fell. fell_unjoined_at (books_in (world_run values turns (opened_world start)).books) s (ever_fallen start turns s fell);
+  answered = λ s fell. unanswered s (ever_fallen start turns s fell);
+  only = λ s fell. record { each = λ number c there. none number c there (unanswered s (ever_fallen start turns s fell)) (list_any asks_bytes c.list) refl };
 }
   where
-    now : (s : Side) → has_fallen s (world_run values turns (opened_world start)) ≡ true → is_identity (control_of s (books_in (world_run values turns (opened_world start)).books)).fall.mode ≡ true
-    now s fell = at_fell (books_in (world_run values turns (opened_world start)).books) s (ever_fallen start turns s fell)
-
     h : Rightly start (world_run values turns (opened_world start))
     h = run_right start turns (opened_world start) (always_steady start) (opened_right start)
 
-    unanswered : (s : Side) → is_identity (control_of s (books_in (world_run values turns (opened_world start)).books)).fall.mode ≡ true
+    unanswered : (s : Side) → FellBack (books_in (world_run values turns (opened_world start)).books) s
         → (books_in (world_run values turns (opened_world start)).books).control_b.fall.joined ≡ false
-    unanswered B fell = h.right B fell
+    unanswered B fell = fell_unjoined_at (books_in (world_run values turns (opened_world start)).books) B fell
     unanswered A fell = by (books_in (world_run values turns (opened_world start)).books).control_b.fall.joined refl
       where
         by : (b : Bool) → (books_in (world_run values turns (opened_world start)).books).control_b.fall.joined ≡ b → b ≡ false
         by false is = refl
-        by true is = absurd (both_ways _ (h.right A fell) ((always_joined start turns).order is))
+        by true is = absurd (both_ways _ (fell_unjoined_at (books_in (world_run values turns (opened_world start)).books) A fell) ((always_joined start turns).order is))
 
     none : (number : ℕ) (c : ActorCrew Carried) → slice_get (world_run values turns (opened_world start)).crew (suc (suc (suc number))) ≡ Some c
         → (books_in (world_run values turns (opened_world start)).books).control_b.fall.joined ≡ false → (b : Bool) → list_any asks_bytes c.list ≡ b → b ≡ false
@@ -268,34 +249,34 @@ falls_are_right start turns = record {
 
 -- ---- and last
 
-turn_fell : (start : Start) (turn : Turn) (w : WorldState Carried) → WorldIs start.key_a start.key_b false w → (s : Side) → FellBack (books_in w.books) s → FellBack (books_in (after_turn values turn w).books) s
-turn_fell start (Turn.Step actor) w known s fell = by (slice_get w.crew actor) refl
+turn_fell : (turn : Turn) (w : WorldState Carried) (s : Side) → FellBack (books_in w.books) s → FellBack (books_in (after_turn values turn w).books) s
+turn_fell (Turn.Step actor) w s fell = by (slice_get w.crew actor)
   where
-    asking : (c : ActorCrew Carried) → slice_get w.crew actor ≡ Some c → (o : Option Ask) → member_asks values c.member ≡ o → FellBack (books_in (asked values actor o c w).books) s
-    asking c there None is = fell
-    asking c there (Some x) is =
-        subst (λ (y : SixBooks). FellBack y s) (sym (books_after x c.pass w.books))
-        (fell_stays start.key_a start.key_b false (books_in w.books) x (member_asks_are start.key_a start.key_b false (books_in w.books) c.member x (known.crew.each actor c there) is) s fell)
+    asking : (c : ActorCrew Carried) (o : Option Ask) → FellBack (books_in (asked values actor o c w).books) s
+    asking c None = fell
+    asking c (Some x) = subst (λ (y : SixBooks). FellBack y s) (sym (books_after x c.pass w.books)) (fell_stays (books_in w.books) x s fell)
 
-    by : (o : Option (ActorCrew Carried)) → slice_get w.crew actor ≡ o → FellBack (books_in (stepped values actor o w).books) s
-    by None there = fell
-    by (Some c) there = asking c there (member_asks values c.member) refl
-turn_fell start Turn.Round w known s fell = by (all_over w.crew)
+    by : (o : Option (ActorCrew Carried)) → FellBack (books_in (stepped values actor o w).books) s
+    by None = fell
+    by (Some c) = asking c (member_asks values c.member)
+turn_fell Turn.Round w s fell = by (all_over w.crew)
   where
     by : (b : Bool) → FellBack (books_in (if b then record w { crew = map (begins (greatest 0 w.crew)) w.crew } else w).books) s
     by true = fell
     by false = fell
 
-run_fell : (start : Start) (turns : List Turn) (w : WorldState Carried) → WorldIs start.key_a start.key_b false w → (s : Side) → FellBack (books_in w.books) s → FellBack (books_in (world_run values turns w).books) s
-run_fell start [] w known s fell = fell
-run_fell start (turn ∷ turns) w known s fell =
-    run_fell start turns (after_turn values turn w) (turn_keys start.key_a start.key_b false turn w (λ right. absurd (false≢true right)) known) s (turn_fell start turn w known s fell)
+run_fell : (turns : List Turn) (w : WorldState Carried) (s : Side) → FellBack (books_in w.books) s → FellBack (books_in (world_run values turns w).books) s
+run_fell [] w s fell = fell
+run_fell (turn ∷ turns) w s fell = run_fell turns (after_turn values turn w) s (turn_fell turn w s fell)
+
+lasting_at : (six : SixBooks) (s : Side) → FellBack six s → (is_identity (control_of s six).fall.mode || is_aborted (control_of s six).fall.mode) ≡ true
+lasting_at six A is = fell_or_stopped six.control_a.fall is
+lasting_at six B is = fell_or_stopped six.control_b.fall is
 
 pub falls_last : Always values (λ start w. FallsLast values w)
 falls_last start turns s more fell =
     let w = world_run values turns (opened_world start) in
-    let h : Rightly start w = run_right start turns (opened_world start) (always_steady start) (opened_right start) in
-    at_fell (books_in (world_run values more w).books) s (run_fell start more w h.known s (ever_fallen start turns s fell))
+    lasting_at (books_in (world_run values more w).books) s (run_fell more w s (ever_fallen start turns s fell))
 
 -- ---- positions are places
 
@@ -389,7 +370,7 @@ places_shown w h = record {
 pub falls_in_octets : IsPromisedOfOctets FallsAreRight
 falls_in_octets start turns plain fit = subst FallsAreRight (sym (run_fresh start turns plain fit)) (falls_shown (world_run values turns (opened_world start)) (falls_are_right start turns))
 
-same_fallen : (s : Side) (w : WorldState Carried) → is_fallen s (shown_world w) ≡ is_fallen s w
+same_fallen : (s : Side) (w : WorldState Carried) → (is_fallen s (shown_world w) || is_stopped s (shown_world w)) ≡ (is_fallen s w || is_stopped s w)
 same_fallen A w = refl
 same_fallen B w = refl
 
@@ -402,7 +383,7 @@ falls_last_in_octets start turns plain fit s more fell =
     let w : WorldState Carried = world_run values turns (opened_world start) in
     let shown = run_fresh start turns plain fit in
     let later = run_fresh start (turns ++ more) plain fit in
-    ap (is_fallen s) (sym (run_append octets turns more (opened_world start)) ∙ later ∙ ap shown_world (run_append values turns more (opened_world start))) ∙ same_fallen s (world_run values more w)
+    ap (λ (v : WorldState (List ℕ)). is_fallen s v || is_stopped s v) (sym (run_append octets turns more (opened_world start)) ∙ later ∙ ap shown_world (run_append values turns more (opened_world start))) ∙ same_fallen s (world_run values more w)
     ∙ falls_last start turns s more (sym (same_has_fallen s w) ∙ ap (has_fallen s) (sym shown) ∙ fell)
 
 pub places_in_octets : IsPromisedOfOctets PositionsArePlaces

@@ -36,7 +36,7 @@ use Rattle.world_laws.proofs.Falls.{IsNoJoin, same_joined}
 use Rattle.world_laws.proofs.KeysRight.{is_past}
 use Rattle.world_laws.proofs.KeysWoken.{speaks, itself, first_speaks}
 use Rattle.world_laws.proofs.KeysHeld.{AskedIs, end_is, asked_is}
-use Rattle.world_laws.proofs.KeysAgree.{Joined, FellBack, KeysAsk, PathKeys, WorldIs, MemberIs, with_nonces, lasting_call, joined_stays, member_asks_are, turn_keys, opened_keys}
+use Rattle.world_laws.proofs.KeysAgree.{Joined, FellBack, KeysAsk, PathKeys, WorldIs, MemberIs, with_nonces, joined_stays, member_asks_are, turn_keys, opened_keys}
 use Rattle.world_laws.proofs.Opened.{opened_actors}
 use Rattle.world_laws.proofs.RoundFrame.{takes_keeps, first_keeps}
 
@@ -67,7 +67,7 @@ pub record JoinedSo (w : WorldState Carried) : Type 0 where
 module _ (key_a key_b : ℕ) where
   same_at_b : (six : SixBooks) (call : ControlCall) → KeysAsk key_a key_b false six (asks.Control B call) → IsNoJoin call
       → (Joined six B → Joined six A) → Joined (after_ask (asks.Control B call) six) B → Joined (after_ask (asks.Control B call) six) A
-  same_at_b six call ask none order is = order (sym (same_joined six.control_b call (lasting_call key_a key_b false six B call ask) none) ∙ is)
+  same_at_b six call ask none order is = order (sym (same_joined six.control_b call none) ∙ is)
 
   at_b : (six : SixBooks) (call : ControlCall) → KeysAsk key_a key_b false six (asks.Control B call)
       → (Joined six B → Joined six A) → Joined (after_ask (asks.Control B call) six) B → Joined (after_ask (asks.Control B call) six) A

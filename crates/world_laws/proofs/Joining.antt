@@ -1,5 +1,5 @@
 -- Every turn of the world is a turn of the two directions, and so is every list of turns from the opening on.
-use Rattle.std.proofs.Common.{◌≡◌, refl, sym, ◌∙◌, ap, subst, ℕ, zero, suc, ◌+◌, ◌-◌, ◌^◌, ◌<◌, ◌≤◌, nat_lt, Bool, true, false, if◌then◌else◌, Option, Some, None, List, [], ◌∷◌, ◌++◌, length, map, set, arith, ◌||◌, ◌==◌}
+use Rattle.std.proofs.Common.{◌≡◌, refl, sym, ◌∙◌, ap, subst, ℕ, zero, suc, ◌+◌, ◌^◌, ◌<◌, ◌≤◌, nat_lt, Bool, true, false, if◌then◌else◌, Option, Some, None, List, [], ◌∷◌, length, map, set, arith, ◌||◌, ◌==◌}
 use Rattle.std.proofs.lemmas.Bool.{lt-ltb, false≢true}
 use Rattle.std.proofs.lemmas.Option.{same_Some, slice_get_within}
 use Rattle.std.specs.List.{slice_get}
@@ -19,7 +19,7 @@ use Rattle.actor_desk.specs.Desk.{SixBooks, send_of, reply_of, after_ask}
 use Rattle.actor_desk.specs.Words.{pick}
 use Rattle.stream_apps.specs.declared.duty.AppDuty.{AppDuty}
 use Rattle.stream_apps.specs.Apps.{AppState}
-use Rattle.stream_apps.specs.AppSteps.{app_ask, app_asks_first, app_next_round, start_of_app}
+use Rattle.stream_apps.specs.AppSteps.{app_ask, app_asks_first, app_next_round, fresh_turn, start_of_app}
 use Rattle.stream_apps.specs.Turns.{FirstAppStands}
 use Rattle.path_agenda.specs.declared.duty.Duty.{Duty}
 use Rattle.path_agenda.specs.Agenda.{start_of_turn}
@@ -517,7 +517,7 @@ module _ (start : Start) (can : IsPlain start) where
     -- ---- the end of a round
 
     begun_told : (a : AppState) → (app_next_round a).told ≡ a.told
-    begun_told a = ap (λ x. x.told) (settled_app start_of_app (record a { count = 0; agenda = start_of_app })).is
+    begun_told a = ap (λ x. x.told) (settled_app start_of_app (fresh_turn a)).is
 
     begun : Stepped None here (end_round_of (world_of t) true)
     begun =

@@ -72,7 +72,7 @@ use Rattle.world_laws.specs.Laws.{Always}
 use Rattle.world_laws.specs.Promises.{JoinsAreRight, tells_wrong_join}
 use Rattle.world_laws.specs.Worlds.{WorldState, Turn, crew_after, asked, stepped, world_step, all_over, greatest, begins, end_round, after_turn, world_run}
 use Rattle.world_laws.proofs.Journaling.{books_after}
-use Rattle.world_laws.proofs.Falls.{IsNoStop, Fallen, event_falls}
+use Rattle.world_laws.proofs.Falls.{Fallen, event_falls}
 use Rattle.world_laws.proofs.KeysMet.{is_sign_duty, signs}
 use Rattle.world_laws.proofs.KeysLearned.{mode_told, ModeGains, FellGains, CallGains, Gains, PathMet, more_met}
 use Rattle.world_laws.proofs.KeysTaken.{takes_met, begun_turn}
@@ -415,6 +415,17 @@ keys_mode f = by (is_identity f.mode)
     by true = refl
     by false = refl
 
+-- a stop leaves the keys, and lets the side be past being sure
+stop_keeps : (c d : Control) → d.keys ≡ c.keys → d.fall.mode ≡ modes.Aborted → d.fall.joined ≡ c.fall.joined → Keeps c d
+stop_keeps c d keys mode joined = record {
+  key = λ has. ap (λ k. is_some k.peer) keys ∙ has;
+  gone = λ was. ap is_gone mode;
+  fine = λ fine. record {
+    sure = λ is. absurd (false≢true (sym (ap control.is_sure mode) ∙ is));
+    joined = λ is. ap (λ k. is_some k.peer) keys ∙ fine.joined (sym joined ∙ is);
+  };
+}
+
 module _ (key_a key_b : ℕ) where
   -- where a sign is told the book has the key already, or its side is past being sure
   fell_keeps : (c : Control) (path : ℕ) (event : FallEvent) → IsSign event → (is_sign event ≡ true → Knew c) → Keeps c (controlling.after_fell path event c)
@@ -430,20 +441,8 @@ module _ (key_a key_b : ℕ) where
       starts (inl has) starting = has
       starts (inr gone) starting = absurd (both_ways _ (gone_stays_out c.fall.mode gone).0 starting)
 
-      no_stop : (event : FallEvent) → IsSign event → IsNoStop event
-      no_stop events.Stop is = absurd is
-      no_stop events.MappingHeard is = tt
-      no_stop events.AckHeard is = tt
-      no_stop events.PlainHandshake is = tt
-      no_stop events.PlainData is = tt
-      no_stop events.PlainAck is = tt
-      no_stop events.InfiniteHeard is = tt
-      no_stop events.KeysHeard is = tt
-      no_stop events.CheckFailed is = tt
-      no_stop (events.FailHeard contiguous) is = tt
-
       joined : (e : FallEvent) → IsSign e → (fall_step c.fall path (sole_path c.paths path) e).0.joined ≡ c.fall.joined
-      joined e is = at (event_falls path (sole_path c.paths path) e c.fall (no_stop e is))
+      joined e is = at (event_falls path (sole_path c.paths path) e c.fall)
         where
           at : Fallen c.fall (fall_step c.fall path (sole_path c.paths path) e).0 → (fall_step c.fall path (sole_path c.paths path) e).0.joined ≡ c.fall.joined
           at (inl same) = same.joined
@@ -469,8 +468,9 @@ module _ (key_a key_b : ℕ) where
   call_keeps six c (control_calls.Heard id address port hmac) is sign fine = absurd is
   call_keeps six c (control_calls.Echoed id) is sign fine = absurd is
   call_keeps six c (control_calls.Removed id) is sign fine = absurd is
-  call_keeps six c control_calls.FastClose is sign fine = absurd is
-  call_keeps six c (control_calls.FastHeard key) is sign fine = absurd is
+  call_keeps six c control_calls.FastClose is sign fine = stop_keeps c _ refl refl refl
+  call_keeps six c (control_calls.FastHeard key) is sign fine =
+      if_keeps (key == c.keys.own) c (controlling.after_event 0 false events.Stop c) c (λ own. stop_keeps c _ refl refl refl) (same_keeps c c refl refl)
 
   ask_keeps : (six : SixBooks) (x : Ask) → KeysAsk key_a key_b true six x → (is_fell x ≡ true → Knew six.control_a) → Fine six.control_a → Keeps six.control_a (after_ask x six).control_a
   ask_keeps six (asks.Control A call) is sign fine = call_keeps six six.control_a call is sign fine
@@ -524,6 +524,13 @@ module _ (key_a key_b : ℕ) where
       by true = tt
       by false = tt
 
+  stop_told : (T : Type 0) (key : ℕ) (c : Control) → ModeGains T (replies.Control (control.fast_heard_reply key c))
+  stop_told T key c = by (key == c.keys.own)
+    where
+      by : (b : Bool) → ModeGains T (replies.Control (if b then control_replies.Stopped else control_replies.OtherKey c.keys.own))
+      by true = tt
+      by false = tt
+
   gains : (six : SixBooks) (x : Ask) → KeysAsk key_a key_b true six x → Keeps six.control_a (after_ask x six).control_a → Fine six.control_a → Gains (Knew (after_ask x six).control_a) x (reply_of six x)
   gains six (asks.Control A call) is keeps fine = by call is keeps
     where
@@ -552,8 +559,8 @@ module _ (key_a key_b : ℕ) where
       by (control_calls.Heard id address port hmac) is keeps = absurd is
       by (control_calls.Echoed id) is keeps = absurd is
       by (control_calls.Removed id) is keeps = absurd is
-      by control_calls.FastClose is keeps = absurd is
-      by (control_calls.FastHeard key) is keeps = absurd is
+      by control_calls.FastClose is keeps = (tt, tt)
+      by (control_calls.FastHeard key) is keeps = (stop_told (Knew (controlling.after c (control_calls.FastHeard key))) key c, tt)
   gains six (asks.Control B call) is keeps fine = tt
   gains six (asks.Send s call) is keeps fine = tt
   gains six (asks.Reassembly s call) is keeps fine = tt
@@ -596,9 +603,17 @@ module _ (key_a key_b : ℕ) where
   knowing : (w : WorldState Carried) → WorldMet w → true ≡ true → control.is_sure (books_in w.books).control_a.fall.mode ≡ true → (books_in w.books).control_a.keys.peer ≡ Some key_b
   knowing w h right is = peer_key_is (books_in w.books).control_a.keys.peer (h.fine.sure is) h.keys.books.a.peer_is
 
+  -- a fast close is no sign
+  no_stop_fell : (s : Side) → is_fell (asks.Control s control_calls.FastClose) ≡ false
+  no_stop_fell A = refl
+  no_stop_fell B = refl
+
   -- a member that tells a sign has the key, or its side is past being sure
   app_signs : (T : Type 0) (ds : List AppDuty) (a : AppState) (x : Ask) → app_asks_first ds a ≡ Some x → is_fell x ≡ true → T
   app_signs T [] a x is fell = cc
+  app_signs T (app_duties.FastClose ∷ ds) a x is fell = absurd (false≢true (sym (no_stop_fell a.side) ∙ ap is_fell (same_Some _ x is) ∙ fell))
+  app_signs T (app_duties.AbortSend ∷ ds) a x is fell = absurd (false≢true (ap is_fell (same_Some _ x is) ∙ fell))
+  app_signs T (app_duties.AbortReceive ∷ ds) a x is fell = absurd (false≢true (ap is_fell (same_Some _ x is) ∙ fell))
   app_signs T (app_duties.Write ∷ ds) a x is fell = absurd (false≢true (ap is_fell (same_Some _ x is) ∙ fell))
   app_signs T (app_duties.Close ∷ ds) a x is fell = absurd (false≢true (ap is_fell (same_Some _ x is) ∙ fell))
   app_signs T (app_duties.Read ∷ ds) a x is fell = absurd (false≢true (ap is_fell (same_Some _ x is) ∙ fell))

@@ -17,8 +17,6 @@ use Rattle.control_book.specs.Control.{Control, peer_or_zero}
 use Rattle.control_book.specs.Registry.{sole as sole_path, stands as stands_path, with_phase}
 use Rattle.control_book.specs.declared.registry.Phase.TheVariants.{Opening}
 use Rattle.key_material.specs.KeyDigest.{token_of}
-use Rattle.fallback_state.specs.declared.fall.Event.{Event as FallEvent}
-use Rattle.fallback_state.specs.Modes.{is_identity}
 use Rattle.join_handshake.specs.declared.hearing.JoinSyn.{JoinSyn as Asked}
 use Rattle.control_book.specs.Replies as control
 use Rattle.control_book.specs.Steps as controlling
@@ -70,10 +68,10 @@ use Rattle.world_laws.specs.Openings.{PathPlan, Start, path_begins, new_path, op
 use Rattle.world_laws.specs.Promises.{tells_other_key, tells_wrong_join, KeysNeverDiffer}
 use Rattle.world_laws.specs.Worlds.{WorldState, Turn, crew_after, asked, stepped, world_step, all_over, greatest, begins, end_round, after_turn, world_run}
 use Rattle.world_laws.proofs.Journaling.{books_after}
-use Rattle.world_laws.proofs.Falls.{IsNoStop, IsLasting, identity_stays, row_falls}
+use Rattle.world_laws.proofs.Falls.{is_plain, plain_stays, row_falls}
 use Rattle.world_laws.proofs.KeysRight.{Secrets, is_past, drawn_key, ItemIs}
 use Rattle.world_laws.proofs.KeysWoken.{is_up}
-use Rattle.world_laws.proofs.KeysHeld.{PathIs, IsSign, BeginIs, PairIs, AskedIs, end_is, key_found, pair_found, asked_is, more_is}
+use Rattle.world_laws.proofs.KeysHeld.{PathIs, BeginIs, PairIs, AskedIs, end_is, key_found, pair_found, asked_is, more_is}
 use Rattle.world_laws.proofs.KeysKept.{CallIs, CallReplyIs, AskIs, ReplyIs, item_found, takes_is, begins_is}
 use Rattle.world_laws.proofs.Settled.{settled_settled}
 use Rattle.world_laws.proofs.Opened.{opened_actors}
@@ -210,10 +208,26 @@ abbrev pub Joined : SixBooks → Side → Type 0
 Joined six A = six.control_a.fall.joined ≡ true
 Joined six B = six.control_b.fall.joined ≡ true
 
--- and a side fell back to plain TCP
+-- and a side fell back to plain TCP, or may have done so before it was stopped
 abbrev pub FellBack : SixBooks → Side → Type 0
-FellBack six A = is_identity six.control_a.fall.mode ≡ true
-FellBack six B = is_identity six.control_b.fall.mode ≡ true
+FellBack six A = is_plain six.control_a.fall ≡ true
+FellBack six B = is_plain six.control_b.fall ≡ true
+
+-- so one that fell back stays so
+pub fell_stays : (six : SixBooks) (x : Ask) (s : Side) → FellBack six s → FellBack (after_ask x six) s
+fell_stays six (asks.Control A call) A is = plain_stays six.control_a call is
+fell_stays six (asks.Control A call) B is = is
+fell_stays six (asks.Control B call) A is = is
+fell_stays six (asks.Control B call) B is = plain_stays six.control_b call is
+fell_stays six (asks.Send A call) A is = is
+fell_stays six (asks.Send A call) B is = is
+fell_stays six (asks.Send B call) A is = is
+fell_stays six (asks.Send B call) B is = is
+fell_stays six (asks.Reassembly A call) A is = is
+fell_stays six (asks.Reassembly A call) B is = is
+fell_stays six (asks.Reassembly B call) A is = is
+fell_stays six (asks.Reassembly B call) B is = is
+fell_stays six (asks.Local step) s is = is
 
 module _ (key_a key_b : ℕ) (right : Bool) where
   pub record BooksAre (six : SixBooks) : Type 0 where
@@ -347,54 +361,6 @@ module _ (key_a key_b : ℕ) (right : Bool) where
   joined_stays six (asks.Reassembly B call) B is = is
   joined_stays six (asks.Local step) s is = is
 
-  -- a path stops no side
-  pub lasting_call : (six : SixBooks) (s : Side) (call : ControlCall) → KeysAsk six (asks.Control s call) → IsLasting call
-  lasting_call six s (control_calls.Look path) is = tt
-  lasting_call six s (control_calls.PeerKey key) is = tt
-  lasting_call six s (control_calls.Keys own other) is = tt
-  lasting_call six s (control_calls.Fell path event) is = lasting_event event is
-    where
-      lasting_event : (event : FallEvent) → IsSign event → IsNoStop event
-      lasting_event events.MappingHeard is = tt
-      lasting_event events.AckHeard is = tt
-      lasting_event events.PlainHandshake is = tt
-      lasting_event events.PlainData is = tt
-      lasting_event events.PlainAck is = tt
-      lasting_event events.InfiniteHeard is = tt
-      lasting_event events.KeysHeard is = tt
-      lasting_event events.CheckFailed is = tt
-      lasting_event (events.FailHeard contiguous) is = tt
-      lasting_event events.Stop is = absurd is
-  lasting_call six s (control_calls.JoinBegin path) is = tt
-  lasting_call six s (control_calls.JoinHeard path token) is = tt
-  lasting_call six s (control_calls.Live path backup) is = tt
-  lasting_call six s (control_calls.Dead path) is = tt
-  lasting_call six s (control_calls.Rate path window rtt) is = tt
-  lasting_call six s (control_calls.Backup path on) is = tt
-  lasting_call six s (control_calls.Announce id) is = tt
-  lasting_call six s (control_calls.Withdraw id) is = tt
-  lasting_call six s (control_calls.Heard id address port hmac) is = tt
-  lasting_call six s (control_calls.Echoed id) is = tt
-  lasting_call six s (control_calls.Removed id) is = tt
-  lasting_call six s control_calls.FastClose is = absurd is
-  lasting_call six s (control_calls.FastHeard key) is = absurd is
-
-  -- so one that fell back stays so
-  pub fell_stays : (six : SixBooks) (x : Ask) → KeysAsk six x → (s : Side) → FellBack six s → FellBack (after_ask x six) s
-  fell_stays six (asks.Control A call) asks A is = identity_stays six.control_a call (lasting_call six A call asks) is
-  fell_stays six (asks.Control A call) asks B is = is
-  fell_stays six (asks.Control B call) asks A is = is
-  fell_stays six (asks.Control B call) asks B is = identity_stays six.control_b call (lasting_call six B call asks) is
-  fell_stays six (asks.Send A call) asks A is = is
-  fell_stays six (asks.Send A call) asks B is = is
-  fell_stays six (asks.Send B call) asks A is = is
-  fell_stays six (asks.Send B call) asks B is = is
-  fell_stays six (asks.Reassembly A call) asks A is = is
-  fell_stays six (asks.Reassembly A call) asks B is = is
-  fell_stays six (asks.Reassembly B call) asks A is = is
-  fell_stays six (asks.Reassembly B call) asks B is = is
-  fell_stays six (asks.Local step) asks s is = is
-
   -- ---- actors
 
   pub record PathKeys (six : SixBooks) (p : PathState Carried) : Type 0 where
@@ -413,7 +379,7 @@ module _ (key_a key_b : ℕ) (right : Bool) where
     nonce_a = h.nonce_a;
     nonce_b = h.nonce_b;
     settled = h.settled;
-    is = more_is (with_nonces h.nonce_a h.nonce_b) right (Joined six) (FellBack six) (Joined (after_ask x six)) (FellBack (after_ask x six)) (joined_stays six x) (fell_stays six x asks) p h.is;
+    is = more_is (with_nonces h.nonce_a h.nonce_b) right (Joined six) (FellBack six) (Joined (after_ask x six)) (FellBack (after_ask x six)) (joined_stays six x) (fell_stays six x) p h.is;
   }
 
   next_keys : (six : SixBooks) (m : Actor Carried) → MemberIs six m → MemberIs six (member_next m)
@@ -427,6 +393,9 @@ module _ (key_a key_b : ℕ) (right : Bool) where
 
   app_asks : (six : SixBooks) (ds : List AppDuty) (a : AppState) (x : Ask) → app_asks_first ds a ≡ Some x → KeysAsk six x
   app_asks six [] a x is = cc
+  app_asks six (app_duties.FastClose ∷ ds) a x is = subst (KeysAsk six) (same_Some _ x is) tt
+  app_asks six (app_duties.AbortSend ∷ ds) a x is = subst (KeysAsk six) (same_Some _ x is) tt
+  app_asks six (app_duties.AbortReceive ∷ ds) a x is = subst (KeysAsk six) (same_Some _ x is) tt
   app_asks six (app_duties.Write ∷ ds) a x is = subst (KeysAsk six) (same_Some _ x is) tt
   app_asks six (app_duties.Close ∷ ds) a x is = subst (KeysAsk six) (same_Some _ x is) tt
   app_asks six (app_duties.Read ∷ ds) a x is = subst (KeysAsk six) (same_Some _ x is) tt
@@ -456,8 +425,8 @@ module _ (key_a key_b : ℕ) (right : Bool) where
         by s (control_calls.Heard id address port hmac) h = absurd h
         by s (control_calls.Echoed id) h = absurd h
         by s (control_calls.Removed id) h = absurd h
-        by s control_calls.FastClose h = absurd h
-        by s (control_calls.FastHeard key) h = absurd h
+        by s control_calls.FastClose h = tt
+        by s (control_calls.FastHeard key) h = tt
     ask_alone (asks.Send s call) h = tt
     ask_alone (asks.Reassembly s call) h = tt
     ask_alone (asks.Local step) h = tt
@@ -526,7 +495,7 @@ module _ (key_a key_b : ℕ) (right : Bool) where
     settled = takes_settled (reply_of six x) p;
     is = takes_is (with_nonces h.nonce_a h.nonce_b) right u gone (reply_of six x) p h.settled
         (λ y is. reply_alone u gone h.nonce_a h.nonce_b y (reply_of six x) (subst (λ z. ReplyIs (with_nonces 0 0) right u gone z (reply_of six x)) (same_Some x y (sym asks ∙ is)) (reply_so six x knows books)))
-        (more_is (with_nonces h.nonce_a h.nonce_b) right (Joined six) (FellBack six) u gone (joined_stays six x) (fell_stays six x (member_asks_are six (Path p) x h asks)) p h.is);
+        (more_is (with_nonces h.nonce_a h.nonce_b) right (Joined six) (FellBack six) u gone (joined_stays six x) (fell_stays six x) p h.is);
   }
     where
       u : Side → Type 0

@@ -122,8 +122,10 @@ call_is k right w back s c (control_calls.Withdraw id) is h = absurd is
 call_is k right w back s c (control_calls.Heard id address port hmac) is h = absurd is
 call_is k right w back s c (control_calls.Echoed id) is h = absurd is
 call_is k right w back s c (control_calls.Removed id) is h = absurd is
-call_is k right w back s c control_calls.FastClose is h = absurd is
-call_is k right w back s c (control_calls.FastHeard key) is h = absurd is
+call_is k right w back s c control_calls.FastClose is h = same_book _ _ c _ refl refl h
+call_is k right w back s c (control_calls.FastHeard key) is h =
+    let d : Control = controlling.after_event 0 false events.Stop c in
+    if_book (drawn_key k right s) (drawn_key k right (peer s)) (key == c.keys.own) d c (same_book _ _ c d refl refl h) h
 
 -- a book that joined stays so
 either_joined : (b : Bool) (c d : Control) → c.fall.joined ≡ true → d.fall.joined ≡ true → (if b then c else d).fall.joined ≡ true
@@ -205,6 +207,15 @@ heard_untold test true c begins unconfirmed fallen unknown = by c.fall.confirmed
     by true true = begins c.keys.own (peer_or_zero c.keys.peer)
     by true false = fallen c.fall.mode
 
+-- a fast close that is heard is the side's own, or another one's
+fast_untold : (test : Reply → Bool) → test (replies.Control control_replies.Stopped) ≡ false → ((own : ℕ) → test (replies.Control (control_replies.OtherKey own)) ≡ false)
+    → (key : ℕ) (c : Control) → test (replies.Control (control.fast_heard_reply key c)) ≡ false
+fast_untold test stopped other key c = by (key == c.keys.own)
+  where
+    by : (b : Bool) → test (replies.Control (if b then control_replies.Stopped else control_replies.OtherKey c.keys.own)) ≡ false
+    by true = stopped
+    by false = other c.keys.own
+
 module _ (k : Secrets) (right : Bool) (w back : Side → Type 0) (s : Side) (c : Control) (h : BookIs (drawn_key k right s) (drawn_key k right (peer s)) c) where
   pub key_untold : (call : ControlCall) → AskIs k right w back (asks.Control s call) → tells_other_key (replies.Control (control.reply_to c call)) ≡ false
   key_untold (control_calls.Look path) is = refl
@@ -222,8 +233,8 @@ module _ (k : Secrets) (right : Bool) (w back : Side → Type 0) (s : Side) (c :
   key_untold (control_calls.Heard id address port hmac) is = absurd is
   key_untold (control_calls.Echoed id) is = absurd is
   key_untold (control_calls.Removed id) is = absurd is
-  key_untold control_calls.FastClose is = absurd is
-  key_untold (control_calls.FastHeard key) is = absurd is
+  key_untold control_calls.FastClose is = refl
+  key_untold (control_calls.FastHeard key) is = fast_untold tells_other_key refl (λ own. refl) key c
 
   pub join_untold : right ≡ true → (call : ControlCall) → AskIs k right w back (asks.Control s call) → tells_wrong_join (replies.Control (control.reply_to c call)) ≡ false
   join_untold sure (control_calls.Look path) is = refl
@@ -243,5 +254,5 @@ module _ (k : Secrets) (right : Bool) (w back : Side → Type 0) (s : Side) (c :
   join_untold sure (control_calls.Heard id address port hmac) is = absurd is
   join_untold sure (control_calls.Echoed id) is = absurd is
   join_untold sure (control_calls.Removed id) is = absurd is
-  join_untold sure control_calls.FastClose is = absurd is
-  join_untold sure (control_calls.FastHeard key) is = absurd is
+  join_untold sure control_calls.FastClose is = refl
+  join_untold sure (control_calls.FastHeard key) is = fast_untold tells_wrong_join refl (λ own. refl) key c

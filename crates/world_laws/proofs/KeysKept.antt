@@ -288,6 +288,8 @@ module _ (k : Secrets) (right : Bool) (w back : Side → Type 0) where
   CallIs s (control_calls.Live path backup) = Unit {0}
   CallIs s (control_calls.Dead path) = Unit {0}
   CallIs s (control_calls.Rate path window rtt) = Unit {0}
+  CallIs s control_calls.FastClose = Unit {0}
+  CallIs s (control_calls.FastHeard key) = Unit {0}
   CallIs s _ = ⊥
 
   abbrev pub AskIs : Ask → Type 0

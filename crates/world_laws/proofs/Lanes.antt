@@ -7,8 +7,6 @@ use Rattle.outside_kit.specs.declared.side.Side.TheVariants.{A, B}
 use Rattle.outside_kit.specs.declared.side.Side.{Side}
 use Rattle.send_book.specs.declared.call.SendCall.{SendCall}
 use Rattle.send_book.specs.declared.call.SendCall.TheVariants as send_calls
-use Rattle.fallback_state.specs.declared.fall.Event.TheVariants as events
-use Rattle.fallback_state.specs.Modes.{is_identity}
 use Rattle.reassembly_book.specs.declared.call.ReassemblyCall.{ReassemblyCall}
 use Rattle.reassembly_book.specs.declared.call.ReassemblyCall.TheVariants as reassembly_calls
 use Rattle.subflow_tcp.specs.States.{may_finish}
@@ -16,7 +14,7 @@ use Rattle.stream_lanes.specs.Lane.{Ask as LaneAsk, Lane}
 use Rattle.stream_lanes.specs.Lane.Ask.{AskGrant, AskAckIn, AskPlace, AskFin, AskAckOut}
 use Rattle.stream_lanes.specs.Moves.{Flags, Move}
 use Rattle.stream_lanes.specs.Streams.{Reader, Direction, StreamEvent, is_done}
-use Rattle.stream_lanes.specs.Streams.StreamEvent.{Write, Close, Return, GoIdentity, Read, Moves, Asks}
+use Rattle.stream_lanes.specs.Streams.StreamEvent.{Write, Close, Return, GoIdentity, AbortSend, Read, AbortRead, Moves, Asks}
 use Rattle.stream_lanes.specs.Duo.{Modes, Duo, Event, flags_ab, flags_ba, after_event, after_events, opening}
 use Rattle.stream_lanes.specs.Duo.Event.{ToB, ToA, FallA, FallB, BeginJoin, SendJoin, HearJoin}
 use Rattle.stream_lanes.specs.Holding.{Holds}
@@ -40,6 +38,7 @@ use Rattle.world_laws.specs.Promises.{IsPlain}
 use Rattle.world_laws.specs.Worlds.{WorldState, Turn, after_turn, world_run}
 use Rattle.world_laws.proofs.Applying.{Reads}
 use Rattle.world_laws.proofs.Casts.{Walker, Cast, world_of, Fare}
+use Rattle.world_laws.proofs.Falls.{is_plain}
 use Rattle.world_laws.proofs.PlacesSent.{KnowsThose}
 use Rattle.world_laws.proofs.Roads.{direction}
 use Rattle.world_laws.proofs.Showing.{PathShows}
@@ -47,11 +46,11 @@ use Rattle.world_laws.proofs.Shielding.{is_shield}
 
 -- ---- what is shown
 
--- by the control books: which side fell back, whether A began a join, and whether B answered one
+-- by the control books: which side fell back, or may have done so before it was stopped, whether A began a join, and whether B answered one
 abbrev pub modes_by : SixBooks → Modes
 modes_by six = record {
-  plain_a = is_identity six.control_a.fall.mode;
-  plain_b = is_identity six.control_b.fall.mode;
+  plain_a = is_plain six.control_a.fall;
+  plain_b = is_plain six.control_b.fall;
   begun = six.control_a.fall.joined;
   join_sent = six.control_a.fall.joined;
   answered = six.control_b.fall.joined;
@@ -154,14 +153,14 @@ SendCallIs (send_calls.AckIn next window) d event = LaneAsks (AskAckIn next wind
 SendCallIs (send_calls.Return path) d event = event ≡ Return path
 SendCallIs send_calls.GoIdentity d event = event ≡ GoIdentity
 SendCallIs (send_calls.GoInfinite path) d event = ⊥
-SendCallIs send_calls.Abort d event = ⊥
+SendCallIs send_calls.Abort d event = event ≡ AbortSend
 
 abbrev pub ReassemblyCallIs : ReassemblyCall → Direction → StreamEvent → Type 0
 ReassemblyCallIs (reassembly_calls.Place at bytes) d event = LaneAsks (AskPlace at bytes) d event
 ReassemblyCallIs (reassembly_calls.Fin at) d event = LaneAsks (AskFin at) d event
 ReassemblyCallIs (reassembly_calls.Read most) d event = (event ≡ Read most) × (is_done d.reader ≡ false)
 ReassemblyCallIs reassembly_calls.AckOut d event = LaneAsks AskAckOut d event
-ReassemblyCallIs (reassembly_calls.Abort by_peer) d event = ⊥
+ReassemblyCallIs (reassembly_calls.Abort by_peer) d event = event ≡ AbortRead by_peer
 
 -- what is asked is this event; a control book and a local step are none
 abbrev pub CallIs : Option Ask → Duo → Option Event → Type 0
@@ -234,11 +233,8 @@ abbrev pub MayAnswer : Side → SixBooks → Type 0
 MayAnswer A six = Unit {0}
 MayAnswer B six = six.control_a.fall.joined ≡ true
 
--- a call of a control book after which the modes of the connection go on by moves: no fast close is among them
+-- a call of a control book after which the modes of the connection go on by moves
 abbrev pub MayCall : Side → ControlCall → SixBooks → Type 0
-MayCall s (control_calls.Fell path events.Stop) six = ⊥
-MayCall s control_calls.FastClose six = ⊥
-MayCall s (control_calls.FastHeard key) six = ⊥
 MayCall s (control_calls.JoinBegin path) six = MayBegin s
 MayCall s (control_calls.JoinHeard path token) six = MayAnswer s six
 MayCall s _ six = Unit {0}
@@ -246,7 +242,7 @@ MayCall s _ six = Unit {0}
 -- a duty whose step may be made: B hears only of joins that were begun, and an end falls back with its side
 abbrev pub MayDo : SixBooks → Duty → Type 0
 MayDo six (duties.JoinHeard s) = MayAnswer s six
-MayDo six (duties.GoIdentity s) = is_identity (control_of s six).fall.mode ≡ true
+MayDo six (duties.GoIdentity s) = is_plain (control_of s six).fall ≡ true
 MayDo six _ = Unit {0}
 
 -- A's side is sure of Multipath TCP only where A may send a DSS on path 0.

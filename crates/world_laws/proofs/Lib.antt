@@ -118,3 +118,4 @@ pub mod AskingForAll
 pub mod FellEver
 pub mod WrittenShort
 pub mod RoundsDone
+pub mod Stopping

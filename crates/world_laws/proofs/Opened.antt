@@ -3,7 +3,7 @@ use Rattle.std.proofs.Common.{◌≡◌, refl, sym, ◌∙◌, ap, subst, ℕ, z
 use Rattle.std.proofs.lemmas.Option.{same_Some}
 use Rattle.std.specs.List.{slice_get}
 use Rattle.outside_kit.specs.declared.side.Side.TheVariants.{A, B}
-use Rattle.stream_apps.specs.Starts.{first_app_turn}
+use Rattle.stream_apps.specs.Starts.{fast_close_of, first_app_turn}
 use Rattle.world_laws.specs.declared.member.Member.TheVariants.{App}
 use Rattle.world_laws.specs.Actors.{ActorCrew}
 use Rattle.world_laws.specs.Openings.{PathPlan, Start, new_crew, new_path, paths_from, opened_world}
@@ -17,8 +17,8 @@ path_there start first zero number (plan ∷ plans) c is there =
 path_there start first (suc i) number (plan ∷ plans) c is there = path_there start (suc first) i number plans c (omega (arith, is)) there
 
 -- what both applications and each path have, each actor has
-pub opened_actors : {C : Type 0} (P : ℕ → ActorCrew C → Type 0) (start : Start) → P 0 (new_crew 0 (App (first_app_turn A start.buffer start.file_a)))
-    → P 1 (new_crew 1 (App (first_app_turn B start.buffer start.file_b))) → ((number : ℕ) (plan : PathPlan) → slice_get start.paths number ≡ Some plan → P (suc (suc number)) (new_path start number plan))
+pub opened_actors : {C : Type 0} (P : ℕ → ActorCrew C → Type 0) (start : Start) → P 0 (new_crew 0 (App (first_app_turn A start.buffer start.file_a (fast_close_of A start.lines))))
+    → P 1 (new_crew 1 (App (first_app_turn B start.buffer start.file_b (fast_close_of B start.lines)))) → ((number : ℕ) (plan : PathPlan) → slice_get start.paths number ≡ Some plan → P (suc (suc number)) (new_path start number plan))
     → (actor : ℕ) (c : ActorCrew C) → slice_get (opened_world {C = C} start).crew actor ≡ Some c → P actor c
 opened_actors P start a b paths zero c there = subst (P 0) (same_Some _ c there) a
 opened_actors P start a b paths (suc zero) c there = subst (P 1) (same_Some _ c there) b

@@ -182,6 +182,7 @@ IsCallOf path (asks.Send s (send_calls.Grant asker max standby)) = asker ≡ pat
 IsCallOf path (asks.Send s (send_calls.AckIn next window)) = Unit {0}
 IsCallOf path (asks.Send s (send_calls.Return asker)) = asker ≡ path
 IsCallOf path (asks.Send s send_calls.GoIdentity) = Unit {0}
+IsCallOf path (asks.Send s send_calls.Abort) = Unit {0}
 IsCallOf path (asks.Send s call) = ⊥
 IsCallOf path _ = Unit {0}
 
@@ -323,7 +324,7 @@ module _ {C : Type 0} (k : Codec C) (p : PathState C) where
   quiet_call (asks.Send s (send_calls.Return asker)) quiet leaves = quiet
   quiet_call (asks.Send s send_calls.GoIdentity) quiet leaves = tt
   quiet_call (asks.Send s (send_calls.GoInfinite asker)) quiet leaves = absurd quiet
-  quiet_call (asks.Send s send_calls.Abort) quiet leaves = absurd quiet
+  quiet_call (asks.Send s send_calls.Abort) quiet leaves = tt
   quiet_call (asks.Reassembly s call) quiet leaves = tt
   quiet_call (asks.Control s call) quiet leaves = tt
   quiet_call (asks.Local step) quiet leaves = tt

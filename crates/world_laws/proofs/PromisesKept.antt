@@ -272,7 +272,7 @@ send_untold (send_calls.AckIn next window) d event none is = ack_untold (sending
 send_untold (send_calls.Return path) d event none is = refl
 send_untold send_calls.GoIdentity d event none is = refl
 send_untold (send_calls.GoInfinite path) d event none is = absurd is
-send_untold send_calls.Abort d event none is = absurd is
+send_untold send_calls.Abort d event none is = refl
 
 arrival_untold : (call : ReassemblyCall) (d : Direction) (event : StreamEvent) → NothingIsRefused d → ReassemblyCallIs call d event
     → tells_refusal (replies.Reassembly (arriving.reply_to d.arrived call)) ≡ false
@@ -281,7 +281,7 @@ arrival_untold (reassembly_calls.Place at bytes) d event none is =
 arrival_untold (reassembly_calls.Fin at) d event none is = place_untold (arriving.reply_to d.arrived (reassembly_calls.Fin at)) (lane_untold is.path (AskFin at) d none is.asking)
 arrival_untold (reassembly_calls.Read max) d event none is = read_untold max d.arrived
 arrival_untold reassembly_calls.AckOut d event none is = refl
-arrival_untold (reassembly_calls.Abort by_peer) d event none is = absurd is
+arrival_untold (reassembly_calls.Abort by_peer) d event none is = refl
 
 -- the books of a world are those of its directions
 pub ask_untold : (ask : Ask) (six : SixBooks) (d : Duo) (call : Option Event) → six.send_a ≡ d.ab.send → six.send_b ≡ d.ba.send → six.reassembly_b ≡ d.ab.arrived → six.reassembly_a ≡ d.ba.arrived

@@ -5,7 +5,7 @@ use Rattle.outside_kit.specs.declared.side.Side.TheVariants.{A, B}
 use Rattle.reassembly_book.specs.State.{received}
 use Rattle.stream_lanes.specs.Laws.{StepsOrStays}
 use Rattle.actor_desk.specs.Words.{pick}
-use Rattle.stream_apps.specs.Starts.{first_app_turn}
+use Rattle.stream_apps.specs.Starts.{fast_close_of, first_app_turn}
 use Rattle.path_agenda.specs.Agenda.{start_of_turn}
 use Rattle.path_core.specs.Octets.{octets}
 use Rattle.path_core.specs.Starts.{waiting_path}
@@ -82,7 +82,7 @@ paths_same start first (plan ∷ plans) =
 opened_same : (start : Start) → shown_world (opened_world start) ≡ opened_world start
 opened_same start =
     ap (λ crew. record (opened_world {C = List ℕ} start) {
-      crew = shown_crew (new_crew 0 (App (first_app_turn A start.buffer start.file_a))) ∷ shown_crew (new_crew 1 (App (first_app_turn B start.buffer start.file_b))) ∷ crew;
+      crew = shown_crew (new_crew 0 (App (first_app_turn A start.buffer start.file_a (fast_close_of A start.lines)))) ∷ shown_crew (new_crew 1 (App (first_app_turn B start.buffer start.file_b (fast_close_of B start.lines)))) ∷ crew;
     })
     (paths_same start 0 start.paths)
 

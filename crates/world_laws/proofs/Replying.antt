@@ -33,7 +33,6 @@ use Rattle.actor_desk.specs.Desk.{SixBooks, send_of, reply_of, control_of}
 use Rattle.actor_desk.specs.Words.{pick}
 use Rattle.fallback_state.specs.declared.fall.Event.TheVariants as events
 use Rattle.fallback_state.specs.declared.fall.Event.{Event}
-use Rattle.fallback_state.specs.Modes.{is_identity}
 use Rattle.path_agenda.specs.declared.heard.Heard.{Heard}
 use Rattle.path_agenda.specs.declared.heard.Heard.TheVariants as says
 use Rattle.path_agenda.specs.Agenda.{breaks}
@@ -50,6 +49,7 @@ use Rattle.path_core.specs.Treating.{fell_ask, is_clash, mapping_ask, answered_m
 use Rattle.path_core.specs.Values.{Carried, values}
 use Rattle.path_core.specs.Words.{item_at}
 use Rattle.path_core.specs.Falling.{identity_ask, answered_identity, answered_fell}
+use Rattle.world_laws.proofs.Falls.{is_plain}
 use Rattle.world_laws.proofs.Answering.{IsReady, Steps, shows_at, agenda_step, agenda_side, end_step, did_step, did_then, break_step, rate_quiet}
 use Rattle.world_laws.proofs.Doing.{granted_lane, refused_lane, wants_grant, hears_ack, wants_fin, hears_none, hears_sub, wants_plain_fin}
 use Rattle.world_laws.proofs.Ending.{granted_end, refused_end, idle_end, IsFit, heard_end, unheard_end}
@@ -357,7 +357,7 @@ module _ (six : SixBooks) (others : Others) (p : PathState Carried) (ab ba : Lan
   -- ---- the fall
 
   -- the ends look at what their sides know before the send book is told
-  pub identity_step : (s : Side) → is_identity (control_of s six).fall.mode ≡ true → Makes (identity_ask s) (answered_identity s p)
+  pub identity_step : (s : Side) → is_plain (control_of s six).fall ≡ true → Makes (identity_ask s) (answered_identity s p)
   identity_step A plain = record {
     ab_before = looked_out ab;
     ba_before = looked_back ba;

@@ -34,6 +34,9 @@ use Rattle.path_core.specs.Treating.{is_clash, fell_ask, mapping_ask, item_ask, 
 use Rattle.world_laws.proofs.RoundReplies.{AsksSome}
 
 pub app_asks_some : (d : AppDuty) (a : AppState) → AsksSome (app_ask d a)
+app_asks_some app_duties.FastClose a = tt
+app_asks_some app_duties.AbortSend a = tt
+app_asks_some app_duties.AbortReceive a = tt
 app_asks_some app_duties.Write a = tt
 app_asks_some app_duties.Close a = tt
 app_asks_some app_duties.Read a = tt

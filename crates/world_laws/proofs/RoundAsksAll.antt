@@ -1,5 +1,5 @@
 -- Where the turn of a path is over, an end that may ask for bytes was refused over all that was written as the round began.
-use Rattle.std.proofs.Common.{◌≡◌, refl, sym, ◌∙◌, ap, subst, ℕ, ◌+◌, ◌<◌, ◌≤◌, not, nat_lt, ◌||◌, inl, Bool, true, false, if◌then◌else◌, Option, Some, None, List, [], ◌∷◌, ◌++◌, arith}
+use Rattle.std.proofs.Common.{◌≡◌, refl, sym, ◌∙◌, ap, subst, ℕ, ◌+◌, ◌≤◌, not, nat_lt, ◌||◌, inl, Bool, true, false, if◌then◌else◌, Option, Some, None, List, [], ◌∷◌, ◌++◌, arith}
 use Rattle.std.proofs.lemmas.Bool.{and_parts, false≢true, ltb-false}
 use Rattle.std.specs.List.{count_by}
 use Rattle.outside_kit.specs.declared.side.Side.{Side}
@@ -63,7 +63,8 @@ module _ (path written : ℕ) (s : Side) where
   quiet_side steps refused freed b send_calls.GoIdentity is h =
       record { ones = ones_after path written b h.ones send_calls.GoIdentity tt; all = λ on alone. all_after path written b h.ones s steps send_calls.GoIdentity tt (h.all on alone) }
   quiet_side steps refused freed b (send_calls.GoInfinite asker) is h = absurd is
-  quiet_side steps refused freed b send_calls.Abort is h = absurd is
+  quiet_side steps refused freed b send_calls.Abort is h =
+      record { ones = ones_after path written b h.ones send_calls.Abort tt; all = λ on alone. all_after path written b h.ones s steps send_calls.Abort tt (h.all on alone) }
 
   noted_side : (steps : List Note) (n : Note) (refused freed : Bool) (b : Sending) → asks_grant s n.ask ≡ false → SideAsks path written s steps refused freed b
       → SideAsks path written s (steps ++ n ∷ []) refused freed b
@@ -73,6 +74,10 @@ module _ (path written : ℕ) (s : Side) where
 
 module _ (path written : ℕ) (steps : List Note) (refused freed : Bool) (a : AppState) (six : SixBooks) where
   pub own_a : (d : AppDuty) → a.side ≡ A → SideAsks path written A steps refused freed six.send_a → SideAsks path written A steps refused freed (after_ask (app_ask d a) six).send_a
+  own_a app_duties.FastClose is h = h
+  own_a app_duties.AbortSend is h =
+      subst (λ s. SideAsks path written A steps refused freed (after_send_call s send_calls.Abort six).send_a) (sym is) (quiet_side path written A steps refused freed six.send_a send_calls.Abort tt h)
+  own_a app_duties.AbortReceive is h = h
   own_a app_duties.Write is h =
       subst (λ s. SideAsks path written A steps refused freed (after_send_call s (send_calls.Write (offered a)) six).send_a) (sym is) (quiet_side path written A steps refused freed six.send_a (send_calls.Write (offered a)) tt h)
   own_a app_duties.Close is h =
@@ -81,6 +86,10 @@ module _ (path written : ℕ) (steps : List Note) (refused freed : Bool) (a : Ap
   own_a app_duties.End is h = h
 
   pub own_b : (d : AppDuty) → a.side ≡ B → SideAsks path written B steps refused freed six.send_b → SideAsks path written B steps refused freed (after_ask (app_ask d a) six).send_b
+  own_b app_duties.FastClose is h = h
+  own_b app_duties.AbortSend is h =
+      subst (λ s. SideAsks path written B steps refused freed (after_send_call s send_calls.Abort six).send_b) (sym is) (quiet_side path written B steps refused freed six.send_b send_calls.Abort tt h)
+  own_b app_duties.AbortReceive is h = h
   own_b app_duties.Write is h =
       subst (λ s. SideAsks path written B steps refused freed (after_send_call s (send_calls.Write (offered a)) six).send_b) (sym is) (quiet_side path written B steps refused freed six.send_b (send_calls.Write (offered a)) tt h)
   own_b app_duties.Close is h =
@@ -89,12 +98,18 @@ module _ (path written : ℕ) (steps : List Note) (refused freed : Bool) (a : Ap
   own_b app_duties.End is h = h
 
   pub other_a : (d : AppDuty) → a.side ≡ B → SideAsks path written A steps refused freed six.send_a → SideAsks path written A steps refused freed (after_ask (app_ask d a) six).send_a
+  other_a app_duties.FastClose is h = h
+  other_a app_duties.AbortSend is h = subst (λ s. SideAsks path written A steps refused freed (after_send_call s send_calls.Abort six).send_a) (sym is) h
+  other_a app_duties.AbortReceive is h = h
   other_a app_duties.Write is h = subst (λ s. SideAsks path written A steps refused freed (after_send_call s (send_calls.Write (offered a)) six).send_a) (sym is) h
   other_a app_duties.Close is h = subst (λ s. SideAsks path written A steps refused freed (after_send_call s send_calls.Close six).send_a) (sym is) h
   other_a app_duties.Read is h = h
   other_a app_duties.End is h = h
 
   pub other_b : (d : AppDuty) → a.side ≡ A → SideAsks path written B steps refused freed six.send_b → SideAsks path written B steps refused freed (after_ask (app_ask d a) six).send_b
+  other_b app_duties.FastClose is h = h
+  other_b app_duties.AbortSend is h = subst (λ s. SideAsks path written B steps refused freed (after_send_call s send_calls.Abort six).send_b) (sym is) h
+  other_b app_duties.AbortReceive is h = h
   other_b app_duties.Write is h = subst (λ s. SideAsks path written B steps refused freed (after_send_call s (send_calls.Write (offered a)) six).send_b) (sym is) h
   other_b app_duties.Close is h = subst (λ s. SideAsks path written B steps refused freed (after_send_call s send_calls.Close six).send_b) (sym is) h
   other_b app_duties.Read is h = h
@@ -286,7 +301,8 @@ module _ (path written edge : ℕ) (s : Side) (steps : List Note) (refused freed
   freeing_call asker t send_calls.GoIdentity apart is low =
       record { ones = ones_after path written b h.ones send_calls.GoIdentity tt; all = λ on alone. all_after path written b h.ones s steps send_calls.GoIdentity tt (h.all on (freed_before freed _ alone)) }
   freeing_call asker t (send_calls.GoInfinite who) apart is low = absurd is
-  freeing_call asker t send_calls.Abort apart is low = absurd is
+  freeing_call asker t send_calls.Abort apart is low =
+      record { ones = ones_after path written b h.ones send_calls.Abort tt; all = λ on alone. all_after path written b h.ones s steps send_calls.Abort tt (h.all on (freed_before freed _ alone)) }
 
   other_call : (asker : ℕ) (call : SendCall) → (asker ≡ path → ⊥) → IsCallOf asker (asks.Send s call) → edge ≤ b.edge
       → SideAsks path written s steps refused (freed || frees_bytes s edge (asks.Send s call) (replies.Send (reply_to b call))) (after_call b call)

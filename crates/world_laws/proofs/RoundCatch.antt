@@ -1,5 +1,5 @@
--- Where the turn of an application is over, it has read all that had arrived without a gap as the round began.
-use Rattle.std.proofs.Common.{◌≡◌, refl, sym, ◌∙◌, ap, subst, ℕ, ◌+◌, ◌≤◌, not, Bool, true, false, if◌then◌else◌, Some, List, [], ◌∷◌, ◌++◌, length, map, arith}
+-- Where the turn of an application is over, it has read all that had arrived without a gap as the round began, or was told of an abort.
+use Rattle.std.proofs.Common.{◌≡◌, refl, sym, ◌∙◌, ap, subst, ℕ, ◌+◌, ◌≤◌, not, ⊎_elim, ◌⊎◌, inl, inr, Bool, true, false, if◌then◌else◌, Option, Some, List, [], ◌∷◌, ◌++◌, length, map, arith}
 use Rattle.std.specs.List.{slice_get}
 use Rattle.outside_kit.specs.declared.side.Side.{Side}
 use Rattle.outside_kit.specs.declared.side.Side.TheVariants.{A, B}
@@ -18,17 +18,18 @@ use Rattle.actor_desk.specs.Books.{books_in}
 use Rattle.actor_desk.specs.Desk.{SixBooks, reassembly_of, reply_of, after_ask, after_reassembly_call}
 use Rattle.actor_desk.specs.Words.{is_nil, pick}
 use Rattle.stream_apps.specs.declared.duty.AppDuty.{AppDuty}
-use Rattle.stream_apps.specs.declared.duty.AppDuty.TheVariants.{Write, Close, Read, End}
+use Rattle.stream_apps.specs.declared.duty.AppDuty.TheVariants.{FastClose, AbortSend, AbortReceive, Write, Close, Read, End}
 use Rattle.stream_apps.specs.Apps.{AppState}
-use Rattle.stream_apps.specs.AppSteps.{start_of_app, app_ask, app_reads_on, app_settled, app_takes, bytes_in}
+use Rattle.stream_apps.specs.AppSteps.{fresh_turn, start_of_app, app_ask, app_reads_on, app_settled, app_takes, bytes_in}
+use Rattle.stream_apps.specs.Starts.{fast_close_of, untouched, first_app_turn}
 use Rattle.path_agenda.specs.declared.duty.Duty.{Duty}
 use Rattle.path_core.specs.Codec.{Codec}
 use Rattle.path_core.specs.Duties.{ask_for}
 use Rattle.world_laws.specs.Openings.{Start, opened_world}
-use Rattle.world_laws.specs.Outcomes.{output_of, read_by}
+use Rattle.world_laws.specs.Outcomes.{notes_of, output_of, read_by}
 use Rattle.world_laws.specs.RoundNumbers.{after_steps, BeginsRound, InEachRound, ReadersCaughtUp}
 use Rattle.world_laws.specs.Worlds.{WorldState, Turn, note_of, is_going, all_over, greatest, begins, end_round, world_run}
-use Rattle.world_laws.proofs.CatchingUp.{is_read, arrives, Reading, Ahead, Caught, settled_caught, grown_caught, noted_reading, read_caught}
+use Rattle.world_laws.proofs.CatchingUp.{is_read, arrives, aborts, Reading, Ahead, IsThrough, WasStopped, through_more, Caught, settled_caught, grown_caught, noted_reading, read_caught}
 use Rattle.world_laws.proofs.Journaling.{books_after}
 use Rattle.world_laws.proofs.PathAsks.{IsPathAsk, path_asks}
 use Rattle.world_laws.proofs.CastLifting.{Has, Stepwise, steps_have, turns_have, ended_has}
@@ -46,7 +47,7 @@ module _ (arrived read : ℕ) (six : SixBooks) (notes : List Note) (n : Note) wh
 
   -- a step that reads nothing
   quiet : (ds : List AppDuty) (a m : AppState) (r : Reply) → n.reply ≡ r → bytes_in r ≡ [] → m.buffer ≡ a.buffer → m.told ≡ a.told → m.count ≡ a.count
-      → Ahead arrived (reassembly_of a.side six).read ds → Caught arrived read a notes (reassembly_of a.side six)
+      → Ahead (IsThrough arrived (reassembly_of a.side six).read (notes ++ n ∷ [])) ds → Caught arrived read a notes (reassembly_of a.side six)
       → Caught arrived read (app_settled ds m) (notes ++ n ∷ []) (reassembly_of a.side six)
   quiet ds a m r is none buffer told count ahead h =
       let b : Arriving = reassembly_of a.side six in
@@ -54,7 +55,6 @@ module _ (arrived read : ℕ) (six : SixBooks) (notes : List Note) (n : Note) wh
       settled_caught arrived read ds m (notes ++ n ∷ []) b (record {
         sound = noted.sound;
         capacity = noted.capacity ∙ sym buffer;
-        unaborted = noted.unaborted;
         whole = noted.whole;
         told = λ t. noted.told (sym told ∙ t);
       }) (record {
@@ -63,19 +63,34 @@ module _ (arrived read : ℕ) (six : SixBooks) (notes : List Note) (n : Note) wh
         within = h.numbers.within;
       }) ahead
 
+  -- at the end of the turn
+  abbrev Done : AppState → Type 0
+  Done a = IsThrough arrived (reassembly_of a.side six).read (notes ++ n ∷ [])
+
   duty_caught : (d : AppDuty) (ds : List AppDuty) (a : AppState) → n.reply ≡ reply_of six (app_ask d a) → Caught arrived read (record a { agenda = d ∷ ds }) notes (reassembly_of a.side six)
       → Caught arrived read (app_takes (reply_of six (app_ask d a)) (record a { agenda = d ∷ ds })) (notes ++ n ∷ []) (book_after d a)
+  duty_caught FastClose ds a is h =
+      quiet ds (record a { agenda = FastClose ∷ ds }) _ _ is refl refl refl refl (subst (Ahead (Done a)) (sym h.ahead) refl) h
+  duty_caught AbortSend ds a is h =
+      quiet ds (record a { agenda = AbortSend ∷ ds }) _ _ is refl refl refl refl (subst (Ahead (Done a)) (sym h.ahead) refl) h
   duty_caught Write ds a is h =
-      quiet ds (record a { agenda = Write ∷ ds }) _ _ is refl refl refl refl (subst (Ahead arrived (reassembly_of a.side six).read) (sym h.ahead) refl) h
+      quiet ds (record a { agenda = Write ∷ ds }) _ _ is refl refl refl refl (subst (Ahead (Done a)) (sym h.ahead) refl) h
   duty_caught Close ds a is h =
-      quiet ds (record a { agenda = Close ∷ ds }) _ _ is refl refl refl refl (subst (Ahead arrived (reassembly_of a.side six).read) (sym h.ahead) refl) h
-  duty_caught End ds a is h = quiet [] (record a { agenda = End ∷ ds }) (record a { agenda = [] }) _ is refl refl refl refl h.ahead.1 h
+      quiet ds (record a { agenda = Close ∷ ds }) _ _ is refl refl refl refl (subst (Ahead (Done a)) (sym h.ahead) refl) h
+  duty_caught AbortReceive ds a is h =
+      let b : Arriving = reassembly_of a.side six in
+      let call : ReassemblyCall = calls.Abort false in
+      let m : AppState = record a { agenda = AbortReceive ∷ ds } in
+      let later = quiet ds m (record m { agenda = ds }) _ is refl refl refl refl (subst (Ahead (Done a)) (sym h.ahead) refl) h in
+      subst (Caught arrived read (app_takes (reply_of six (app_ask AbortReceive a)) m) (notes ++ n ∷ [])) (sym (own_after a.side call six))
+      (grown_caught arrived read _ (notes ++ n ∷ []) b (after_call b call) (sound-after_call call b h.reading.sound) (aborts false b) later)
+  duty_caught End ds a is h = quiet [] (record a { agenda = End ∷ ds }) (record a { agenda = [] }) _ is refl refl refl refl (through_more arrived _ notes n h.ahead.1) h
   duty_caught Read ds a is h =
       let b : Arriving = reassembly_of a.side six in
       let m : AppState = record a { agenda = Read ∷ ds } in
       let call : ReassemblyCall = calls.Read 65536 in
       subst (Caught arrived read (app_takes (reply_of six (app_ask Read a)) m) (notes ++ n ∷ [])) (sym (own_after a.side call six))
-      (read_caught arrived read m notes n b (after_call b call) (reply_to b call) (sound-after_call call b h.reading.sound) (is_read b h.reading.unaborted) is h.reading
+      (read_caught arrived read m notes n b (after_call b call) (reply_to b call) (sound-after_call call b h.reading.sound) (is_read b) is h.reading
       h.numbers ds h.ahead (app_reads_on (bytes_in (replies.Reassembly (reply_to b call))) m) refl)
 
   pub step_caught : (d : AppDuty) (ds : List AppDuty) (a : AppState) → a.agenda ≡ d ∷ ds → n.reply ≡ reply_of six (app_ask d a) → Caught arrived read a notes (reassembly_of a.side six)
@@ -89,12 +104,18 @@ module _ (arrived read : ℕ) (six : SixBooks) (notes : List Note) (n : Note) wh
 
 -- the other application leaves the book
 other_a : (d : AppDuty) (a : AppState) (six : SixBooks) → a.side ≡ B → (after_ask (app_ask d a) six).reassembly_a ≡ six.reassembly_a
+other_a FastClose a six is = refl
+other_a AbortSend a six is = refl
+other_a AbortReceive a six is = ap (λ s. (after_reassembly_call s (calls.Abort false) six).reassembly_a) is
 other_a Write a six is = refl
 other_a Close a six is = refl
 other_a End a six is = refl
 other_a Read a six is = ap (λ s. (after_reassembly_call s (calls.Read 65536) six).reassembly_a) is
 
 other_b : (d : AppDuty) (a : AppState) (six : SixBooks) → a.side ≡ A → (after_ask (app_ask d a) six).reassembly_b ≡ six.reassembly_b
+other_b FastClose a six is = refl
+other_b AbortSend a six is = refl
+other_b AbortReceive a six is = ap (λ s. (after_reassembly_call s (calls.Abort false) six).reassembly_b) is
 other_b Write a six is = refl
 other_b Close a six is = refl
 other_b End a six is = refl
@@ -191,16 +212,21 @@ module _ {C : Type 0} (k : Codec C) (start : Start) where
     };
   }
 
--- as a round begins
-begun_caught : (a : AppState) (notes : List Note) (b : Arriving) → Reading a notes b → Caught (received b) b.read (app_settled start_of_app (record a { count = 0; agenda = start_of_app })) notes b
-begun_caught a notes b h =
+-- as a turn begins
+starts_caught : (m : AppState) (notes : List Note) (b : Arriving) → m.count ≡ 0 → Reading m notes b → Caught (received b) b.read (app_settled start_of_app m) notes b
+starts_caught m notes b none h =
     let l = filled-le b.places in let fits = h.sound.fits in let capacity = h.capacity in
-    settled_caught (received b) b.read start_of_app (record a { count = 0; agenda = start_of_app }) notes b
-    (record { sound = h.sound; capacity = h.capacity; unaborted = h.unaborted; whole = h.whole; told = h.told })
-    (record { from = omega (arith, l, fits, capacity); count = omega arith; within = omega arith }) refl
+    settled_caught (received b) b.read start_of_app m notes b h (record { from = omega (arith, l, fits, capacity); count = omega (arith, none); within = omega arith }) refl
 
-opened_reading : (s : Side) (buffer : ℕ) (file : List ℕ) → Reading (record { side = s; buffer = buffer; rest = file; closed = false; told = false; count = 0; agenda = start_of_app }) [] (opened buffer)
-opened_reading s buffer file = record { sound = sound-opened buffer; capacity = refl; unaborted = refl; whole = refl; told = λ never. cc }
+begun_caught : (a : AppState) (notes : List Note) (b : Arriving) → Reading a notes b → Caught (received b) b.read (app_settled start_of_app (fresh_turn a)) notes b
+begun_caught a notes b h = starts_caught (fresh_turn a) notes b refl (record { sound = h.sound; capacity = h.capacity; whole = h.whole; told = h.told })
+
+opened_reading : (s : Side) (buffer : ℕ) (file : List ℕ) (tick : Option ℕ) → Reading (untouched s buffer file tick) [] (opened buffer)
+opened_reading s buffer file tick = record { sound = sound-opened buffer; capacity = refl; whole = refl; told = λ never. cc }
+
+opened_caught : (s : Side) (buffer : ℕ) (file : List ℕ) (tick : Option ℕ)
+    → Caught (received (opened buffer)) (opened buffer).read (first_app_turn s buffer file tick) [] (opened buffer)
+opened_caught s buffer file tick = starts_caught (untouched s buffer file tick) [] (opened buffer) refl (opened_reading s buffer file tick)
 
 module _ {C : Type 0} (k : Codec C) (start : Start) where
   -- in a round that began with these books
@@ -214,8 +240,8 @@ module _ {C : Type 0} (k : Codec C) (start : Start) where
     is = opened_is start;
     fare = first_fare start;
     holds = record {
-      a = begun_caught _ [] (opened start.buffer) (opened_reading A start.buffer start.file_a);
-      b = begun_caught _ [] (opened start.buffer) (opened_reading B start.buffer start.file_b);
+      a = opened_caught A start.buffer start.file_a (fast_close_of A start.lines);
+      b = opened_caught B start.buffer start.file_b (fast_close_of B start.lines);
     };
   }
 
@@ -260,17 +286,21 @@ module _ {C : Type 0} (k : Codec C) (start : Start) where
   over_nil [] over = refl
   over_nil (d ∷ ds) over = cc
 
-  all_read : (arrived read : ℕ) (a : AppState) (notes : List Note) (b : Arriving) → not (is_nil a.agenda) ≡ false → Caught arrived read a notes b → arrived ≤ length (read_by notes)
+  all_read : (arrived read : ℕ) (a : AppState) (notes : List Note) (b : Arriving) → not (is_nil a.agenda) ≡ false → Caught arrived read a notes b → (arrived ≤ length (read_by notes)) ⊎ WasStopped notes
   all_read arrived read a notes b over h =
-      let done : arrived ≤ b.read = subst (Ahead arrived b.read) (over_nil a.agenda over) h.ahead in
-      let whole = h.reading.whole in omega (arith, done, whole)
+      let done : IsThrough arrived b.read notes = subst (Ahead (IsThrough arrived b.read notes)) (over_nil a.agenda over) h.ahead in
+      let whole = h.reading.whole in ⊎_elim (λ all. inl (omega (arith, all, whole))) (λ stopped. inr stopped) done
 
-  cast_read : (six : SixBooks) (t : Cast C) → CaughtSince six t → (s : Side) → is_going (pick s 0 1) (world_of t) ≡ false → received (reassembly_of s six) ≤ length (output_of s (world_of t))
+  -- a reader of a side has caught up
+  abbrev ReadAll : SixBooks → Side → WorldState C → Type 0
+  ReadAll six s w = (received (reassembly_of s six) ≤ length (output_of s w)) ⊎ WasStopped (notes_of s w.crew)
+
+  cast_read : (six : SixBooks) (t : Cast C) → CaughtSince six t → (s : Side) → is_going (pick s 0 1) (world_of t) ≡ false → ReadAll six s (world_of t)
   cast_read six t h A over = all_read _ _ t.a t.at_a.list (books_in t.books).reassembly_a over h.a
   cast_read six t h B over = all_read _ _ t.b t.at_b.list (books_in t.books).reassembly_b over h.b
 
-  has_read : (six : SixBooks) (w : WorldState C) → Has start (CaughtSince six) w → (s : Side) → is_going (pick s 0 1) w ≡ false → received (reassembly_of s six) ≤ length (output_of s w)
-  has_read six w h = subst (λ v. (s : Side) → is_going (pick s 0 1) v ≡ false → received (reassembly_of s six) ≤ length (output_of s v)) (sym h.is) (cast_read six h.cast h.holds)
+  has_read : (six : SixBooks) (w : WorldState C) → Has start (CaughtSince six) w → (s : Side) → is_going (pick s 0 1) w ≡ false → ReadAll six s w
+  has_read six w h = subst (λ v. (s : Side) → is_going (pick s 0 1) v ≡ false → ReadAll six s v) (sym h.is) (cast_read six h.cast h.holds)
 
 pub readers_caught_up : {C : Type 0} (k : Codec C) → InEachRound k ReadersCaughtUp
 readers_caught_up k start begun order begins =

@@ -11,7 +11,7 @@ use Rattle.actor_desk.specs.Kinds.{IsOfKind}
 use Rattle.actor_desk.specs.Words.{is_nil}
 use Rattle.stream_apps.specs.declared.duty.AppDuty.{AppDuty}
 use Rattle.stream_apps.specs.Apps.{AppState}
-use Rattle.stream_apps.specs.AppSteps.{app_ask, app_asks_first, app_answers, app_takes, app_next_round, start_of_app}
+use Rattle.stream_apps.specs.AppSteps.{app_ask, app_asks_first, app_answers, app_takes, app_next_round, fresh_turn, start_of_app}
 use Rattle.stream_apps.specs.Turns.{AppEnds, IsAppSettled}
 use Rattle.stream_apps.proofs.AppEnds.{app_turn_ends}
 use Rattle.path_agenda.specs.declared.duty.Duty.{Duty}
@@ -46,7 +46,7 @@ takes_settled : (r : Reply) (a : AppState) → IsAppSettled (app_takes r a)
 takes_settled r a = (settled_app (app_answers a.agenda r a).agenda (app_answers a.agenda r a)).settled
 
 begun_settled : (a : AppState) → IsAppSettled (app_next_round a)
-begun_settled a = (settled_app start_of_app (record a { count = 0; agenda = start_of_app })).settled
+begun_settled a = (settled_app start_of_app (fresh_turn a)).settled
 
 app_asks : (ds : List AppDuty) (a : AppState) (x : Ask) → app_asks_first ds a ≡ Some x → AsksSome x
 app_asks [] a x is = cc

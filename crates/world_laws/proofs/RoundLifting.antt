@@ -8,7 +8,7 @@ use Rattle.stream_lanes.specs.Words.{Every}
 use Rattle.stream_lanes.proofs.Lists.{in_set, in_map}
 use Rattle.actor_desk.specs.declared.ask.Ask.{Ask}
 use Rattle.actor_desk.specs.Books.{StampedBooks}
-use Rattle.stream_apps.specs.Starts.{first_app_turn}
+use Rattle.stream_apps.specs.Starts.{fast_close_of, first_app_turn}
 use Rattle.path_core.specs.Codec.{Codec}
 use Rattle.world_laws.specs.declared.member.Member.TheVariants.{App}
 use Rattle.world_laws.specs.Actors.{ActorCrew, member_asks, is_over}
@@ -64,6 +64,6 @@ module _ {C : Type 0} (k : Codec C) (P : ActorCrew C → Type 0)
 
 module _ {C : Type 0} (P : ActorCrew C → Type 0) where
   -- what the applications and the paths have at the opening
-  pub opened_lifted : (start : Start) → P (new_crew 0 (App (first_app_turn A start.buffer start.file_a))) → P (new_crew 1 (App (first_app_turn B start.buffer start.file_b)))
+  pub opened_lifted : (start : Start) → P (new_crew 0 (App (first_app_turn A start.buffer start.file_a (fast_close_of A start.lines)))) → P (new_crew 1 (App (first_app_turn B start.buffer start.file_b (fast_close_of B start.lines))))
       → ((number : ℕ) (plan : PathPlan) → slice_get start.paths number ≡ Some plan → P (new_path start number plan)) → Every P (opened_world {C = C} start).crew
   opened_lifted start a b paths = record { each = opened_actors (λ actor c. P c) start a b paths }

@@ -1,5 +1,5 @@
 -- A reader ends its turn only where it was told the end, has read enough, or was answered that there is nothing.
-use Rattle.std.proofs.Common.{◌≡◌, refl, sym, ◌∙◌, ap, subst, ℕ, ◌+◌, ◌≤◌, ◌||◌, not, nat_lt, ⊎_elim, Bool, true, false, if◌then◌else◌, Some, List, [], ◌∷◌, ◌++◌, length, arith}
+use Rattle.std.proofs.Common.{◌≡◌, refl, sym, ◌∙◌, ap, subst, ℕ, ◌+◌, ◌≤◌, ◌||◌, not, nat_lt, ⊎_elim, Bool, true, false, if◌then◌else◌, Some, Option, List, [], ◌∷◌, ◌++◌, length, arith}
 use Rattle.std.proofs.lemmas.Bool.{and_cases, ltb-false, not-false}
 use Rattle.std.proofs.lemmas.List.{append_assoc}
 use Rattle.std.proofs.lemmas.Option.{same_Some}
@@ -18,10 +18,10 @@ use Rattle.actor_desk.specs.Books.{StampedBooks, books_in}
 use Rattle.actor_desk.specs.Kinds.{IsReassemblyKind}
 use Rattle.actor_desk.specs.Words.{is_nil}
 use Rattle.stream_apps.specs.declared.duty.AppDuty.{AppDuty}
-use Rattle.stream_apps.specs.declared.duty.AppDuty.TheVariants.{Write, Close, Read, End}
+use Rattle.stream_apps.specs.declared.duty.AppDuty.TheVariants.{FastClose, AbortSend, AbortReceive, Write, Close, Read, End}
 use Rattle.stream_apps.specs.Apps.{AppState}
-use Rattle.stream_apps.specs.AppSteps.{start_of_app, app_stands, app_ask, app_asks_first, bytes_in, ends_in, app_reads_on, app_answered, app_answers, app_settled, app_settles_down}
-use Rattle.stream_apps.specs.Starts.{first_app_turn}
+use Rattle.stream_apps.specs.AppSteps.{fresh_turn, start_of_app, app_stands, app_ask, app_asks_first, bytes_in, ends_in, app_reads_on, app_answered, app_answers, app_settled, app_settles_down}
+use Rattle.stream_apps.specs.Starts.{fast_close_of, untouched, first_app_turn}
 use Rattle.path_core.specs.Codec.{Codec}
 use Rattle.world_laws.specs.declared.member.Member.TheVariants.{App, Path}
 use Rattle.world_laws.specs.Actors.{Actor, ActorCrew, member_asks, member_takes, member_next}
@@ -54,6 +54,9 @@ Ready (End ∷ ds) a notes = (ds ≡ []) × HasRead a notes
 Ready (Read ∷ ds) a notes = ds ≡ End ∷ []
 Ready (Close ∷ ds) a notes = ds ≡ Read ∷ End ∷ []
 Ready (Write ∷ ds) a notes = ds ≡ Close ∷ Read ∷ End ∷ []
+Ready (AbortReceive ∷ ds) a notes = ds ≡ Write ∷ Close ∷ Read ∷ End ∷ []
+Ready (AbortSend ∷ ds) a notes = ds ≡ AbortReceive ∷ Write ∷ Close ∷ Read ∷ End ∷ []
+Ready (FastClose ∷ ds) a notes = ds ≡ AbortSend ∷ AbortReceive ∷ Write ∷ Close ∷ Read ∷ End ∷ []
 
 -- the agenda is of no account
 same_read : (ds : List AppDuty) (a : AppState) (notes : List Note) → HasRead a notes → HasRead (record a { agenda = ds }) notes
@@ -67,6 +70,9 @@ same_done ds a notes (IsReaderDone.Enough most) = IsReaderDone.Enough most
 same_done ds a notes (IsReaderDone.Nothing last) = IsReaderDone.Nothing last
 
 same_ready : (d : AppDuty) (ds es : List AppDuty) (a : AppState) (notes : List Note) → Ready (d ∷ ds) a notes → Ready (d ∷ ds) (record a { agenda = es }) notes
+same_ready FastClose ds es a notes h = h
+same_ready AbortSend ds es a notes h = h
+same_ready AbortReceive ds es a notes h = h
 same_ready Write ds es a notes h = h
 same_ready Close ds es a notes h = h
 same_ready Read ds es a notes h = h
@@ -75,6 +81,9 @@ same_ready End ds es a notes h = (h.0, same_read es a notes h.1)
 -- ---- settling
 
 passed_ready : (d : AppDuty) (ds : List AppDuty) (a : AppState) (notes : List Note) → app_stands d a ≡ false → Ready (d ∷ ds) a notes → Ready ds a notes
+passed_ready FastClose ds a notes none h = subst (λ xs. Ready xs a notes) (sym h) refl
+passed_ready AbortSend ds a notes none h = subst (λ xs. Ready xs a notes) (sym h) refl
+passed_ready AbortReceive ds a notes none h = subst (λ xs. Ready xs a notes) (sym h) refl
 passed_ready Write ds a notes none h = subst (λ xs. Ready xs a notes) (sym h) refl
 passed_ready Close ds a notes none h = subst (λ xs. Ready xs a notes) (sym h) refl
 passed_ready Read ds a notes none h = subst (λ xs. Ready xs a notes) (sym h) (refl, HasRead.Told (not-false a.told none))
@@ -147,6 +156,9 @@ read_ready ds a notes n x is kind then_end false on =
 
 answered_ready : (d : AppDuty) (ds : List AppDuty) (a : AppState) (notes : List Note) (n : Note) (r : Reply) → n.reply ≡ r → IsAnswered d r → Ready (d ∷ ds) (record a { agenda = d ∷ ds }) notes
     → Ready (app_answered d r (record a { agenda = d ∷ ds })).agenda (app_answered d r (record a { agenda = d ∷ ds })) (notes ++ n ∷ [])
+answered_ready FastClose ds a notes n r is answer h = subst (λ xs. Ready xs (app_answered FastClose r (record a { agenda = FastClose ∷ ds })) (notes ++ n ∷ [])) (sym h) refl
+answered_ready AbortSend ds a notes n r is answer h = subst (λ xs. Ready xs (app_answered AbortSend r (record a { agenda = AbortSend ∷ ds })) (notes ++ n ∷ [])) (sym h) refl
+answered_ready AbortReceive ds a notes n r is answer h = subst (λ xs. Ready xs (app_answered AbortReceive r (record a { agenda = AbortReceive ∷ ds })) (notes ++ n ∷ [])) (sym h) refl
 answered_ready Write ds a notes n r is answer h = subst (λ xs. Ready xs (app_answered Write r (record a { agenda = Write ∷ ds })) (notes ++ n ∷ [])) (sym h) refl
 answered_ready Close ds a notes n r is answer h = subst (λ xs. Ready xs (app_answered Close r (record a { agenda = Close ∷ ds })) (notes ++ n ∷ [])) (sym h) refl
 answered_ready Read ds a notes n r is answer h =
@@ -169,14 +181,17 @@ read_answered books A = (_, refl, reassembly_kind (books_in books).reassembly_a 
 read_answered books B = (_, refl, reassembly_kind (books_in books).reassembly_b (reassembly_calls.Read 65536))
 
 duty_answered : (books : StampedBooks) (a : AppState) (d : AppDuty) → IsAnswered d (answer_to books (app_ask d a))
+duty_answered books a FastClose = tt
+duty_answered books a AbortSend = tt
+duty_answered books a AbortReceive = tt
 duty_answered books a Write = tt
 duty_answered books a Close = tt
 duty_answered books a Read = read_answered books a.side
 duty_answered books a End = tt
 
-first_ready : (s : Side) (buffer : ℕ) (file : List ℕ) → Ready (first_app_turn s buffer file).agenda (first_app_turn s buffer file) []
-first_ready s buffer file =
-    settled_ready start_of_app (record { side = s; buffer = buffer; rest = file; closed = false; told = false; count = 0; agenda = start_of_app }) [] refl
+first_ready : (s : Side) (buffer : ℕ) (file : List ℕ) (tick : Option ℕ) → Ready (first_app_turn s buffer file tick).agenda (first_app_turn s buffer file tick) []
+first_ready s buffer file tick =
+    settled_ready start_of_app (untouched s buffer file tick) [] refl
 
 module _ {C : Type 0} where
   abbrev pub IsReady : Actor C → List Note → Type 0
@@ -200,7 +215,7 @@ module _ {C : Type 0} where
 
   next_ready : (m : Actor C) (notes : List Note) → IsReady (member_next m) notes
   next_ready (Path p) notes = tt
-  next_ready (App a) notes = settled_ready start_of_app (record a { count = 0; agenda = start_of_app }) notes refl
+  next_ready (App a) notes = settled_ready start_of_app (fresh_turn a) notes refl
 
   abbrev IsReadyCrew : ActorCrew C → Type 0
   IsReadyCrew c = IsReady c.member c.list
@@ -217,4 +232,4 @@ module _ {C : Type 0} where
           (λ books c x asks h. member_ready k books c.member c.list (note_of books c.pass x) x refl asks h)
           (λ stamp c over h. next_ready c.member c.list)
           turns (opened_world start)
-          (opened_lifted IsReadyCrew start (first_ready A start.buffer start.file_a) (first_ready B start.buffer start.file_b) (λ number plan there. tt))
+          (opened_lifted IsReadyCrew start (first_ready A start.buffer start.file_a (fast_close_of A start.lines)) (first_ready B start.buffer start.file_b (fast_close_of B start.lines)) (λ number plan there. tt))

@@ -1,9 +1,9 @@
 -- From the opening on each turn ends, so that serial turns exist at every moment.
-use Rattle.std.proofs.Common.{refl, ℕ, false, List, arith}
+use Rattle.std.proofs.Common.{refl, ℕ, List, Option, arith}
 use Rattle.outside_kit.specs.declared.side.Side.{Side}
 use Rattle.outside_kit.specs.declared.side.Side.TheVariants.{A, B}
 use Rattle.stream_apps.specs.AppSteps.{start_of_app}
-use Rattle.stream_apps.specs.Starts.{first_app_turn}
+use Rattle.stream_apps.specs.Starts.{fast_close_of, untouched, first_app_turn}
 use Rattle.stream_apps.specs.Turns.{IsAppSettled}
 use Rattle.path_core.specs.Codec.{Codec}
 use Rattle.path_core.specs.Starts.{waiting_path}
@@ -16,15 +16,14 @@ use Rattle.world_laws.proofs.Applying.{settled_app}
 use Rattle.world_laws.proofs.RoundEnds.{IsSteady, IsSteadyWorld, begun_steady, run_steady, rounds_at}
 use Rattle.world_laws.proofs.RoundTurns.{rounds_lawful}
 
-first_settled : (s : Side) (buffer : ℕ) (file : List ℕ) → IsAppSettled (first_app_turn s buffer file)
-first_settled s buffer file =
-    (settled_app start_of_app (record { side = s; buffer = buffer; rest = file; closed = false; told = false; count = 0; agenda = start_of_app })).settled
+first_settled : (s : Side) (buffer : ℕ) (file : List ℕ) (tick : Option ℕ) → IsAppSettled (first_app_turn s buffer file tick)
+first_settled s buffer file tick = (settled_app start_of_app (untouched s buffer file tick)).settled
 
 module _ {C : Type 0} where
   opened_steady : (start : Start) → CanRun start → IsSteadyWorld {C = C} (opened_world start)
   opened_steady start can = record {
     crew = record {
-      each = opened_actors (λ actor c. IsSteady c.member) start (first_settled A start.buffer start.file_a) (first_settled B start.buffer start.file_b) (λ number plan there. path number plan (can.paths.each number plan there));
+      each = opened_actors (λ actor c. IsSteady c.member) start (first_settled A start.buffer start.file_a (fast_close_of A start.lines)) (first_settled B start.buffer start.file_b (fast_close_of B start.lines)) (λ number plan there. path number plan (can.paths.each number plan there));
     };
     books = record { a = record { whole = refl }; b = record { whole = refl } };
   }

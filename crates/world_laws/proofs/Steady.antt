@@ -28,7 +28,7 @@ use Rattle.world_laws.proofs.Clearing.{takes_clear, next_clear}
 use Rattle.world_laws.proofs.Falls.{IsNoJoin, same_joined}
 use Rattle.world_laws.proofs.JoinedSo.{DutyJoined, MemberJoined, always_joined}
 use Rattle.world_laws.proofs.Journaling.{books_after}
-use Rattle.world_laws.proofs.KeysAgree.{Joined, KeysAsk, WorldIs, lasting_call, member_asks_are, turn_keys, opened_keys}
+use Rattle.world_laws.proofs.KeysAgree.{Joined, KeysAsk, WorldIs, member_asks_are, turn_keys, opened_keys}
 use Rattle.world_laws.proofs.Lanes.{IsClearAt, SureIsClear, MayDo, MemberIsSteady, IsSteady}
 use Rattle.world_laws.proofs.Sheltered.{MemberShielded, shielded_calm, always_shielded}
 use Rattle.world_laws.proofs.Surely.{sure_is_clear}
@@ -45,7 +45,7 @@ module _ (start : Start) where
   Asks six x = KeysAsk start.key_a start.key_b false six x
 
   same_at_a : (six : SixBooks) (call : ControlCall) → Asks six (asks.Control A call) → IsNoJoin call → Joins six.control_a call
-  same_at_a six call ask none is = inl (sym (same_joined six.control_a call (lasting_call start.key_a start.key_b false six A call ask) none) ∙ is)
+  same_at_a six call ask none is = inl (sym (same_joined six.control_a call none) ∙ is)
 
   begins_at_a : (six : SixBooks) (path : ℕ) → Joins six.control_a (calls.JoinBegin path)
   begins_at_a six path is = by (is_sure six.control_a.fall.mode) _ refl is

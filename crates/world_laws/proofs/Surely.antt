@@ -86,11 +86,8 @@ IsMildEvent events.MappingHeard s = IsOfB s
 IsMildEvent events.AckHeard s = IsOfB s
 IsMildEvent _ s = Unit {0}
 
--- and no fast close of A
 abbrev IsMildCall : ControlCall → Side → Type 0
 IsMildCall (calls.Fell path event) s = IsMildEvent event s
-IsMildCall calls.FastClose s = IsOfB s
-IsMildCall (calls.FastHeard key) s = IsOfB s
 IsMildCall _ s = Unit {0}
 
 abbrev IsMild : Ask → Type 0
@@ -164,6 +161,8 @@ event_sure path sole events.Stop f mild = λ is. absurd (false≢true is)
 
 abbrev IsNoEvent : ControlCall → Type 0
 IsNoEvent (calls.Fell path event) = ⊥
+IsNoEvent calls.FastClose = ⊥
+IsNoEvent (calls.FastHeard key) = ⊥
 IsNoEvent _ = Unit {0}
 
 call_mode : (c : Control) (call : ControlCall) → IsNoEvent call → IsMildCall call A → (controlling.after c call).fall.mode ≡ c.fall.mode
@@ -182,8 +181,8 @@ call_mode c (calls.Withdraw id) none mild = either_mode c.fall.mode _ _ _ refl r
 call_mode c (calls.Heard id address port hmac) none mild = refl
 call_mode c (calls.Echoed id) none mild = either_mode c.fall.mode _ _ _ refl refl
 call_mode c (calls.Removed id) none mild = either_mode c.fall.mode _ _ _ refl refl
-call_mode c calls.FastClose none mild = absurd mild
-call_mode c (calls.FastHeard key) none mild = absurd mild
+call_mode c calls.FastClose none mild = absurd none
+call_mode c (calls.FastHeard key) none mild = absurd none
 
 call_sure : (c : Control) (call : ControlCall) → IsMildCall call A → WasSure c.fall (controlling.after c call).fall
 call_sure c (calls.Look path) mild = λ is. ap is_sure (sym (call_mode c (calls.Look path) tt mild)) ∙ is
@@ -201,8 +200,12 @@ call_sure c (calls.Withdraw id) mild = λ is. ap is_sure (sym (call_mode c (call
 call_sure c (calls.Heard id address port hmac) mild = λ is. ap is_sure (sym (call_mode c (calls.Heard id address port hmac) tt mild)) ∙ is
 call_sure c (calls.Echoed id) mild = λ is. ap is_sure (sym (call_mode c (calls.Echoed id) tt mild)) ∙ is
 call_sure c (calls.Removed id) mild = λ is. ap is_sure (sym (call_mode c (calls.Removed id) tt mild)) ∙ is
-call_sure c calls.FastClose mild = λ is. ap is_sure (sym (call_mode c calls.FastClose tt mild)) ∙ is
-call_sure c (calls.FastHeard key) mild = λ is. ap is_sure (sym (call_mode c (calls.FastHeard key) tt mild)) ∙ is
+call_sure c calls.FastClose mild = λ is. absurd (false≢true is)
+call_sure c (calls.FastHeard key) mild = by (key == c.keys.own)
+  where
+    by : (b : Bool) → WasSure c.fall (if b then controlling.after_event 0 false events.Stop c else c).fall
+    by true = λ is. absurd (false≢true is)
+    by false = λ is. is
 
 mild_sure : (six : SixBooks) (x : Ask) → IsMild x → WasSure six.control_a.fall (after_ask x six).control_a.fall
 mild_sure six (asks.Control A call) mild = call_sure six.control_a call mild
@@ -214,6 +217,9 @@ mild_sure six (asks.Reassembly B call) mild = λ is. is
 mild_sure six (asks.Local step) mild = λ is. is
 
 app_mild : (d : AppDuty) (a : AppState) → IsMild (app_ask d a)
+app_mild app_duties.FastClose a = tt
+app_mild app_duties.AbortSend a = tt
+app_mild app_duties.AbortReceive a = tt
 app_mild app_duties.Write a = tt
 app_mild app_duties.Close a = tt
 app_mild app_duties.Read a = tt

@@ -169,6 +169,9 @@ from_cast start t tells rooms keys = record { members = each_actor (λ actor c. 
 
 -- an application tells no key
 app_tells : (d : AppDuty) (a : AppState) → AskTells (app_ask d a)
+app_tells app_duties.FastClose a = tt
+app_tells app_duties.AbortSend a = tt
+app_tells app_duties.AbortReceive a = tt
 app_tells app_duties.Write a = tt
 app_tells app_duties.Close a = tt
 app_tells app_duties.Read a = tt

@@ -1,17 +1,21 @@
 -- A turn of the path and of the applications, in the two directions.
 use Rattle.std.proofs.Common.{◌≡◌, refl, sym, ◌∙◌, ap, subst, ℕ, not, Bool, true, false, if◌then◌else◌, Option, Some, None, List, [], ◌∷◌, ◌++◌}
 use Rattle.std.proofs.lemmas.Bool.{not-true}
+use Rattle.outside_kit.specs.declared.side.Side.{Side}
 use Rattle.outside_kit.specs.declared.side.Side.TheVariants.{A, B}
 use Rattle.reassembly_book.specs.declared.call.ReassemblyCall.TheVariants as reassembly_calls
 use Rattle.reassembly_book.specs.declared.call.ReassemblyReply.{ReassemblyReply}
 use Rattle.reassembly_book.specs.Steps as arriving
+use Rattle.control_book.specs.declared.call.ControlCall.{ControlCall}
+use Rattle.control_book.specs.declared.call.ControlCall.TheVariants as control_calls
 use Rattle.stream_lanes.specs.Holding.{Holds}
 use Rattle.stream_lanes.specs.Lane.{Lane}
 use Rattle.stream_lanes.specs.Streams.{Reader, Direction, is_done, reads, takes_read}
-use Rattle.stream_lanes.specs.Streams.StreamEvent.{Write, Close, Read}
+use Rattle.stream_lanes.specs.Streams.StreamEvent.{Write, Close, AbortSend, Read, AbortRead}
 use Rattle.stream_lanes.specs.Duo.{Duo, Event, after_events}
 use Rattle.stream_lanes.specs.Duo.Event.{ToB, ToA}
 use Rattle.actor_desk.specs.declared.ask.Ask.{Ask}
+use Rattle.actor_desk.specs.declared.ask.Ask.TheVariants as asks
 use Rattle.actor_desk.specs.declared.ask.Note.{Note}
 use Rattle.actor_desk.specs.declared.ask.Reply.{Reply}
 use Rattle.actor_desk.specs.Desk.{SixBooks, reply_of, after_ask}
@@ -24,6 +28,7 @@ use Rattle.path_core.specs.State.{PathState, Profile}
 use Rattle.path_core.specs.Steps.{settled}
 use Rattle.path_core.specs.Values.{Carried}
 use Rattle.world_laws.proofs.Applying.{Reads, settled_app, reads_more, reads_on}
+use Rattle.world_laws.proofs.Falling.{control_moves}
 use Rattle.world_laws.proofs.Lanes.{duo_of, Others, duo_at, CallIs, silent_append, call_events, TurnShows, events_append, Moved, then_moved}
 use Rattle.world_laws.proofs.Settling.{then_strolled, settles}
 use Rattle.world_laws.proofs.Showing.{PathShows}
@@ -97,6 +102,10 @@ module _ (c : Profile) (six : SixBooks) (others : Others) (ask : Ask) (q : PathS
 pub call_turn : (ask : Ask) (call : Option Event) (d e : Duo) → CallIs (Some ask) d call → e ≡ after_events (call_events call) d → TurnShows (Some ask) d e
 call_turn ask call d e calls to = record { before = []; before_silent = refl; call = call; after = []; after_silent = refl; calls = calls; to = to }
 
+-- a call of a control book is moves
+control_turn : (s : Side) (call : ControlCall) (d e : Duo) → Moved d e → TurnShows (Some (asks.Control s call)) d e
+control_turn s call d e m = record { before = m.events; before_silent = m.silent; call = None; after = []; after_silent = refl; calls = refl; to = m.to }
+
 -- whether it was told that the stream ended
 pub taken_told : (d : AppDuty) (ds : List AppDuty) (r : Reply) (a : AppState) → a.agenda ≡ d ∷ ds → (app_takes r a).told ≡ (app_answered d r a).told
 taken_told d ds r a is =
@@ -122,6 +131,21 @@ module _ (six : SixBooks) (lanes_ab lanes_ba : List Lane) (reader_a reader_b : R
   a_at = record x { side = A }
 
   as_a : (d : AppDuty) → app_stands d a_at ≡ true → n.reply ≡ reply_of six (app_ask d a_at) → Reads x.told notes reader_a → TurnOfA a_at d
+  as_a app_duties.FastClose stands is h = record {
+    reader = reader_a;
+    turn = control_turn A control_calls.FastClose _ _ (control_moves A control_calls.FastClose six tt lanes_ab lanes_ba reader_a reader_b);
+    reads = reads_on x.told notes reader_a n (rw is refl) (rw is refl) (rw is refl) h;
+  }
+  as_a app_duties.AbortSend stands is h = record {
+    reader = reader_a;
+    turn = call_turn _ (Some (ToB AbortSend)) _ _ (AbortSend, refl, refl) refl;
+    reads = reads_on x.told notes reader_a n (rw is refl) (rw is refl) (rw is refl) h;
+  }
+  as_a app_duties.AbortReceive stands is h = record {
+    reader = reader_a;
+    turn = call_turn _ (Some (ToA (AbortRead false))) _ _ (AbortRead false, refl, refl) refl;
+    reads = reads_on x.told notes reader_a n (rw is refl) (rw is refl) (rw is refl) h;
+  }
   as_a app_duties.Write stands is h = record {
     reader = reader_a;
     turn = call_turn _ (Some (ToB (Write (offered a_at)))) _ _ (Write (offered a_at), refl, refl) refl;
@@ -157,6 +181,21 @@ module _ (six : SixBooks) (lanes_ab lanes_ba : List Lane) (reader_a reader_b : R
   b_at = record x { side = B }
 
   as_b : (d : AppDuty) → app_stands d b_at ≡ true → n.reply ≡ reply_of six (app_ask d b_at) → Reads x.told notes reader_b → TurnOfB b_at d
+  as_b app_duties.FastClose stands is h = record {
+    reader = reader_b;
+    turn = control_turn B control_calls.FastClose _ _ (control_moves B control_calls.FastClose six tt lanes_ab lanes_ba reader_a reader_b);
+    reads = reads_on x.told notes reader_b n (rw is refl) (rw is refl) (rw is refl) h;
+  }
+  as_b app_duties.AbortSend stands is h = record {
+    reader = reader_b;
+    turn = call_turn _ (Some (ToA AbortSend)) _ _ (AbortSend, refl, refl) refl;
+    reads = reads_on x.told notes reader_b n (rw is refl) (rw is refl) (rw is refl) h;
+  }
+  as_b app_duties.AbortReceive stands is h = record {
+    reader = reader_b;
+    turn = call_turn _ (Some (ToB (AbortRead false))) _ _ (AbortRead false, refl, refl) refl;
+    reads = reads_on x.told notes reader_b n (rw is refl) (rw is refl) (rw is refl) h;
+  }
   as_b app_duties.Write stands is h = record {
     reader = reader_b;
     turn = call_turn _ (Some (ToA (Write (offered b_at)))) _ _ (Write (offered b_at), refl, refl) refl;

@@ -14,7 +14,7 @@ use Rattle.stream_lanes.specs.Lane.{Cell, Ask as LaneAsk, Lane}
 use Rattle.stream_lanes.specs.Lane.Ask.{AskAckIn, AskPlace, AskFin, AskAckOut}
 use Rattle.stream_lanes.specs.Moves.{Flags, Move}
 use Rattle.stream_lanes.specs.Streams.{Direction, StreamEvent, moves, reads, asks, asks_at, after, is_done}
-use Rattle.stream_lanes.specs.Streams.StreamEvent.{Write, Close, Return, Read, Moves, GoIdentity}
+use Rattle.stream_lanes.specs.Streams.StreamEvent.{Write, Close, Return, AbortSend, Read, AbortRead, Moves, GoIdentity}
 use Rattle.stream_lanes.specs.Duo.{Duo, Event, flags_ab, after_event, after_events}
 use Rattle.stream_lanes.specs.Duo.Event.{ToB, ToA, BeginJoin, SendJoin, HearJoin, FallA, FallB}
 use Rattle.stream_lanes.proofs.Directions.{moved_sent, acked_sent, placed_sent, fin_sent}
@@ -88,14 +88,14 @@ module _ (f : Flags) (number : ℕ) (sent : List Cell) (d : Direction) (h : Gran
   send_so (send_calls.Return path) event none is = event_is event (Return path) is (stays_so _ refl)
   send_so send_calls.GoIdentity event none is = event_is event GoIdentity is (stays_so _ refl)
   send_so (send_calls.GoInfinite path) event none is = absurd is
-  send_so send_calls.Abort event none is = absurd is
+  send_so send_calls.Abort event none is = event_is event AbortSend is (stays_so _ refl)
 
   reassembly_so : (c : ReassemblyCall) (event : StreamEvent) → ReassemblyCallIs c d event → Granted number sent (after f event d)
   reassembly_so (reassembly_calls.Place at bytes) event is = asked_so (AskPlace at bytes) (λ path q there. place_so path at bytes q there) event is
   reassembly_so (reassembly_calls.Fin at) event is = asked_so (AskFin at) (λ path q there. fin_so path at q there) event is
   reassembly_so (reassembly_calls.Read most) event is = event_is event (Read most) is.0 (reads_so most (is_done d.reader))
   reassembly_so reassembly_calls.AckOut event is = asked_so AskAckOut ack_out_so event is
-  reassembly_so (reassembly_calls.Abort by_peer) event is = absurd is
+  reassembly_so (reassembly_calls.Abort by_peer) event is = event_is event (AbortRead by_peer) is (stays_so _ refl)
 
 -- ---- both directions
 

@@ -5,7 +5,6 @@ use Rattle.std.specs.List.{slice_get}
 use Rattle.outside_kit.specs.declared.side.Side.{Side}
 use Rattle.outside_kit.specs.declared.side.Side.TheVariants.{A, B}
 use Rattle.path_segments.specs.Spelled.{PlainSegment}
-use Rattle.fallback_state.specs.Modes.{is_identity}
 use Rattle.stream_lanes.specs.Lane.{AckCopy, Lane}
 use Rattle.stream_lanes.specs.Moves.Move.{Open, LookAtSender, LookAtReceiver}
 use Rattle.stream_lanes.specs.Streams.{Reader, after, moves}
@@ -23,6 +22,7 @@ use Rattle.path_core.specs.Values.{Carried}
 use Rattle.path_core.specs.Falling.{in_identity}
 use Rattle.send_book.specs.State.{Sending}
 use Rattle.reassembly_book.specs.State.{Arriving}
+use Rattle.world_laws.proofs.Falls.{is_plain}
 use Rattle.world_laws.proofs.Growing.{Longer, same_edge, treated_longer, segment_longer}
 use Rattle.world_laws.proofs.Lanes.{flags_of, Others, duo_at, Moved}
 use Rattle.world_laws.proofs.Roads.{direction, put_there}
@@ -218,7 +218,7 @@ module _ (f : Flags) (lanes : List Lane) (send : Sending) (arrived : Arriving) (
       ∙ ap (λ xs. direction send arrived xs reader) (set-set lanes number p (record p { receiver_plain = f.receiver }))
       ∙ ap (λ (b : Bool). direction send arrived (set lanes number (record p { receiver_plain = b })) reader) plain
 
-pub look_moves : (s : Side) (six : SixBooks) (others : Others) (ab ba : Lane) → is_identity (control_of s six).fall.mode ≡ true
+pub look_moves : (s : Side) (six : SixBooks) (others : Others) (ab ba : Lane) → is_plain (control_of s six).fall ≡ true
     → Moved (duo_at six ab ba others) (duo_at six (pick s (looked_out ab) (looked_back ab)) (pick s (looked_back ba) (looked_out ba)) others)
 look_moves A six others ab ba plain = record {
   events = ToB (Moves others.number LookAtSender) ∷ ToA (Moves others.number LookAtReceiver) ∷ [];

@@ -12,6 +12,7 @@ use Rattle.subflow_send.specs.Records.{Record}
 use Rattle.control_book.specs.declared.call.ControlCall.{ControlCall}
 use Rattle.control_book.specs.declared.call.ControlReply.{ControlReply}
 use Rattle.control_book.specs.Control.{Control}
+use Rattle.control_book.specs.Replies.{is_aborted}
 use Rattle.control_book.specs.Steps as control
 use Rattle.stream_lanes.specs.Words.{Every}
 use Rattle.actor_desk.specs.declared.ask.Note.{Note}
@@ -60,6 +61,10 @@ module _ {C : Type 0} where
   abbrev pub has_fallen : Side → WorldState C → Bool
   has_fallen s w = fell_in (pick s w.books.control_a w.books.control_b)
 
+  -- the connection was stopped there, by the side itself or its peer
+  abbrev pub is_stopped : Side → WorldState C → Bool
+  is_stopped s w = is_aborted (control_of s (books_in w.books)).fall.mode
+
   -- it began a join, or answered one
   abbrev pub has_joined : Side → WorldState C → Bool
   has_joined s w = (control_of s (books_in w.books)).fall.joined
@@ -75,10 +80,10 @@ module _ {C : Type 0} where
     pub answered : (s : Side) → has_fallen s w ≡ true → has_joined B w ≡ false
     pub only : (s : Side) → has_fallen s w ≡ true → OnlyFirstAsked w
 
-  -- and it stays in plain TCP
+  -- and it stays in plain TCP until the connection is stopped
   abbrev pub FallsLast : Codec C → WorldState C → Type 0
   FallsLast k w =
-      (s : Side) (more : List Turn) → has_fallen s w ≡ true → is_fallen s (world_run k more w) ≡ true
+      (s : Side) (more : List Turn) → has_fallen s w ≡ true → (is_fallen s (world_run k more w) || is_stopped s (world_run k more w)) ≡ true
 
   -- on path 0 positions are places
   abbrev pub PathIsPlain : Actor C → Type 0

@@ -20,3 +20,4 @@ pub mod Granted
 pub mod Agreement
 pub mod Laws
 pub mod RoundDone
+pub mod Stopping

@@ -8,7 +8,7 @@ use Rattle.key_material.specs.Drawing.{drawn_word}
 use Rattle.key_material.specs.KeyDigest.{idsn_of}
 use Rattle.actor_desk.specs.Books.{unasked}
 use Rattle.actor_desk.specs.Desk.{opened_books}
-use Rattle.stream_apps.specs.Starts.{first_app_turn}
+use Rattle.stream_apps.specs.Starts.{fast_close_of, first_app_turn}
 use Rattle.path_core.specs.Starts.{PathStart, key_of, first_turn}
 use Rattle.world_laws.specs.declared.member.Member.TheVariants.{App, Path}
 use Rattle.world_laws.specs.Actors.{Actor, ActorCrew}
@@ -137,7 +137,7 @@ module _ {C : Type 0} where
   -- the two applications, and the paths
   abbrev pub opened_world : Start → WorldState C
   opened_world start = record {
-    crew = new_crew 0 (App (first_app_turn A start.buffer start.file_a))
-        ∷ new_crew 1 (App (first_app_turn B start.buffer start.file_b)) ∷ paths_from start 0 start.paths;
+    crew = new_crew 0 (App (first_app_turn A start.buffer start.file_a (fast_close_of A start.lines)))
+        ∷ new_crew 1 (App (first_app_turn B start.buffer start.file_b (fast_close_of B start.lines))) ∷ paths_from start 0 start.paths;
     books = unasked (opened_books start.buffer start.key_a start.key_b);
   }

@@ -27,6 +27,11 @@ abbrev pub tells_end : Reply → Bool
 tells_end (replies.Reassembly reassembly_replies.End) = true
 tells_end _ = false
 
+-- that it was aborted, by either side
+abbrev pub tells_stop : Reply → Bool
+tells_stop (replies.Reassembly (reassembly_replies.Aborted by_peer)) = true
+tells_stop _ = false
+
 -- that the peer aborted it
 abbrev pub tells_abort : Reply → Bool
 tells_abort (replies.Reassembly (reassembly_replies.Aborted by_peer)) = by_peer

@@ -22,7 +22,7 @@ use Rattle.path_core.specs.State.{end_at, path_of}
 use Rattle.world_laws.specs.declared.member.Member.TheVariants.{App, Path}
 use Rattle.world_laws.specs.Actors.{Actor, ActorCrew}
 use Rattle.world_laws.specs.Openings.{Start, opened_world}
-use Rattle.world_laws.specs.Outcomes.{notes_at, output_of}
+use Rattle.world_laws.specs.Outcomes.{was_told, tells_stop, notes_at, notes_of, output_of}
 use Rattle.world_laws.specs.Promises.{arrived_at, written_by}
 use Rattle.world_laws.specs.RoundEnd.{asks_grant}
 use Rattle.world_laws.specs.Worlds.{WorldState, Turn, all_over, is_going, end_round, world_run}
@@ -54,11 +54,13 @@ last_asked s stamp (note ∷ notes) =
     last_asked s (if asks_grant s note.ask then note.stamp else stamp) notes
 
 -- Of so many bytes none below the edge of the peer's window is left that the path may take; or when it asked for bytes last, in
--- these steps, it was on standby; or the book gives bytes to another path alone, as after a fallback.
+-- these steps, it was on standby; or the book gives bytes to another path alone, as after a fallback, or to none, as the connection
+-- was stopped there.
 pub data AskedForAll (path : ℕ) (s : Side) (steps : List Note) (written : ℕ) (book : Sending) : Type 0 where
   Taken : min written book.edge ≤ taken_len path book.marks → AskedForAll path s steps written book
   Standby : last_on_standby s false steps ≡ true → AskedForAll path s steps written book
   Barred : is_for path book.owner ≡ false → AskedForAll path s steps written book
+  Stopped : book.aborted ≡ true → AskedForAll path s steps written book
 
 -- bytes were given back
 abbrev pub gives_back : Reply → Bool
@@ -95,9 +97,12 @@ module _ {C : Type 0} where
     abbrev pub InEachRound : (WorldState C → WorldState C → Type 0) → Type 0
     InEachRound P = (start : Start) (begun : WorldState C) (order : List ℕ) → BeginsRound start begun → P begun (after_steps order begun)
 
-  -- where the turn of an application is over, it has read all that had arrived without a gap as the round began
+  -- where the turn of an application is over, it has read all that had arrived without a gap as the round began, or it was told that
+  -- the connection was aborted
   abbrev pub ReadersCaughtUp : WorldState C → WorldState C → Type 0
-  ReadersCaughtUp begun w = (s : Side) → is_going (pick s 0 1) w ≡ false → received (arrived_at s begun) ≤ length (output_of s w)
+  ReadersCaughtUp begun w =
+      (s : Side) → is_going (pick s 0 1) w ≡ false
+      → (received (arrived_at s begun) ≤ length (output_of s w)) ⊎ (was_told tells_stop (notes_of s w.crew) ≡ true)
 
   -- ---- bytes that are asked for
 

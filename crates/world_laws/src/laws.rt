@@ -10,6 +10,7 @@ ghost use Rattle.world_laws.specs.RoundDone.{LawfulRoundsAreDone, RoundsAreDone,
 ghost use Rattle.world_laws.specs.RoundEnd.{GrantsAreDone, ReadersAreDone};
 ghost use Rattle.world_laws.specs.RoundNumbers.{InEachRound, PathsAskForAll, ReadersCaughtUp};
 ghost use Rattle.world_laws.specs.ShortNumbers.{ShortNumbersGoShort};
+ghost use Rattle.world_laws.specs.Stopping.{AbortIsLast};
 ghost use Rattle.world_laws.specs.Timely.{EachRoundHasAStep};
 ghost use Rattle.world_laws.specs.Welcome.{EachCopyIsWelcome};
 ghost use Rattle.world_laws.specs.Weaving.{RoundsWeave, StepsWeave, WovenDoes};
@@ -69,7 +70,7 @@ pub fn readers_are_done()
 {}
 
 /// A law: in each round, in whatever order the actors go, where the turn of an application is over, it has read all octets that had
-/// arrived without a gap as the round began.
+/// arrived without a gap as the round began, or it was told that the connection was aborted.
 pub fn readers_catch_up()
     ensures octets { InEachRound octets ReadersCaughtUp }
     ensures values { InEachRound values ReadersCaughtUp }
@@ -85,8 +86,8 @@ pub fn grants_are_done()
 /// A law: in each round, in whatever order the actors go, where the turn of a path is over, an end that has no record to send and
 /// may ask for bytes, with room in its window for a full segment, asked for all: of the octets that were written as the round began
 /// none below the edge of the peer's window is left that the path may take. Else it was on standby when it asked last in this round;
-/// or after a fallback path 0 alone is given octets; or after the path asked last another one gave back some octets, or took an
-/// acknowledgement with a window past the edge as the round began.
+/// or after a fallback path 0 alone is given octets, and none is once the connection was aborted there; or after the path asked last
+/// another one gave back some octets, or took an acknowledgement with a window past the edge as the round began.
 pub fn paths_ask_for_all()
     ensures octets { InEachRound octets PathsAskForAll }
     ensures values { InEachRound values PathsAskForAll }
@@ -182,6 +183,14 @@ pub fn nothing_follows_the_end()
     ensures octets { IsPromisedOfOctets (NothingFollows octets) }
 {}
 
+/// A law: once the reassembly book of a side was aborted (RFC 8684, section 3.5), its reader gets no octet more, and whatever it still
+/// reads is answered by the abort, by whatever turns follow; so it is told no end. Whether the side itself or its peer aborted it
+/// stays so.
+pub fn aborted_readers_hear_that_alone()
+    ensures octets { Always octets (λ start w. AbortIsLast octets w) }
+    ensures values { Always values (λ start w. AbortIsLast values w) }
+{}
+
 /// A law: each turn is on each of the two pipes one step that the pipe allows, or none.
 pub fn each_turn_is_one_pipe_step_or_none()
     ensures values { IsPromised (EachTurnIsOneStep values) }
@@ -220,8 +229,8 @@ pub fn mappings_agree()
 {}
 
 /// A law: a side that is in plain TCP, or was by its control book's journal, has begun and answered no join. Where either side fell
-/// B answered none, and no path but path 0 ever asked for bytes; and the side stays in plain TCP (RFC 8684, section 3.7). Over segments
-/// as values this holds whatever the script strips or alters.
+/// B answered none, and no path but path 0 ever asked for bytes; and the side stays in plain TCP until the connection is aborted there
+/// (RFC 8684, sections 3.5 and 3.7). Over segments as values this holds whatever the script strips or alters.
 ///
 /// And on path 0 positions are places then: each record of data, and each mapping that an end learned, has the place before its
 /// position. Premises as for `both_sides_keep_their_word`.

@@ -1,4 +1,3 @@
-use Rattle.std.proofs.Common.{◌∙◌, ap, sym}
 use Rattle.stream_apps.proofs.Written.{all-written}
 use Rattle.stream_apps.proofs.app.App.is_written.Goals as goal
 

@@ -1,0 +1,10 @@
+use Rattle.path_core.specs.Octets.{octets}
+use Rattle.path_core.specs.Values.{values}
+use Rattle.world_laws.proofs.Stopping.{abort_is_last}
+use Rattle.world_laws.proofs.laws.aborted_readers_hear_that_alone.Goals as goal
+
+pub returns-clause-octets : goal.returns-clause-octets
+returns-clause-octets c = abort_is_last octets
+
+pub returns-clause-values : goal.returns-clause-values
+returns-clause-values c = abort_is_last values
