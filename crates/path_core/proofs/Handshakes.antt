@@ -1,5 +1,5 @@
 -- The options of a path are those of the handshakes and of the ends.
-use Rattle.std.proofs.Common.{◌≡◌, ◌≢◌, refl, sym, ap, subst, ℕ, ◌×◌, Option, Bool, true, false, Some, None, [], ◌∷◌, if◌then◌else◌, is_some, ◌||◌, ◌==◌, arith}
+use Rattle.std.proofs.Common.{◌≡◌, ◌≢◌, refl, sym, ap, subst, ℕ, Option, Bool, true, false, Some, None, [], ◌∷◌, if◌then◌else◌, is_some, ◌||◌, ◌==◌, arith}
 use Rattle.control_book.specs.Control.{Control}
 use Rattle.control_book.specs.Replies.{reply_to}
 use Rattle.control_book.specs.declared.call.ControlCall.TheVariants as control_calls
@@ -54,7 +54,7 @@ refused : (own peer : ℕ) (book : Control) → own ≢ book.keys.own
     → Some (reply_to book (control_calls.Keys own peer)) ≡ Some (control_replies.KeysDiffer book.keys.own)
 refused own peer book differs = rw (other_is own book.keys.own differs) refl
 
-second_of : Option (ℕ × ℕ) → ℕ
+abbrev second_of : Option (ℕ × ℕ) → ℕ
 second_of None = 0
 second_of (Some pair) = pair.1
 

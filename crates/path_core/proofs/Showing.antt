@@ -10,6 +10,7 @@ use Rattle.link_model.specs.declared.flight.Flight.{Flight}
 use Rattle.link_model.specs.Fate.{fate_of, is_stripped, is_altered}
 use Rattle.link_model.specs.Laws.{shown, shown_flight}
 use Rattle.link_model.specs.State.{LinkState}
+use Rattle.outside_kit.specs.Memory.{one_more as counted}
 use Rattle.link_model.specs.Steps.{taken, next_number, peer, is_due, next_due, arriving, after_delivery, without, after_send, changed, arrivals, with_flights, one_more}
 use Rattle.link_model.proofs.Shown.{sent_shown}
 use Rattle.path_segments.specs.declared.position.HeardPosition.TheVariants.{At}
@@ -319,7 +320,7 @@ same_handed : (s : Side) (segment : PlainSegment) (p : PathState Carried) → Al
     → handed octets s segment (shown_path p) ≡ shown (octets_of p.profile.spelling) (handed values s segment p)
 same_handed s segment p nothing =
     let spelling = p.profile.spelling in let show : Carried → List ℕ = octets_of spelling in
-    let strips : ℕ → Bool = λ taken. is_stripped s (taken + 1) p.clock p.link.lines in
+    let strips : ℕ → Bool = λ taken. is_stripped s (counted taken) p.clock p.link.lines in
     let left : Carried = (if strips (taken s p.link) then values.strips spelling s (values.makes spelling s segment) else values.makes spelling s segment) in
     plain_send (octets.strips spelling) (octets.alters spelling) s (octets.makes spelling s segment) p.clock (shown show p.link) (record { alters = nothing.alters })
     ∙ ap (λ (n : ℕ). after_send (λ side c. c) (λ side c. c) s

@@ -1,6 +1,6 @@
 //! A copy that arrives, and what it makes of the end at once. The rest is treated duty by duty.
 
-ghost use Rattle.std.specs.Prelude.{◌≡◌, ◌≤◌, ◌^◌, false, length, unwrap_or, option_map, All, Some, IfOk, IfSome, IsTrue, OnOk, OnErr};
+ghost use Rattle.std.specs.Prelude.{◌≡◌, ◌≤◌, ◌^◌, false, not, if◌then◌else◌, length, unwrap_or, option_map, All, Some, IfOk, IfSome, OnOk, OnErr};
 ghost use Rattle.dss_mapping.specs.Learning.{IsWithin};
 ghost use Rattle.link_model.specs.Steps.{peer};
 ghost use Rattle.path_segments.specs.HeardLent.{IsExpected};
@@ -11,8 +11,10 @@ ghost use Rattle.subflow_tcp.specs.Taking.{after_arrival, arrival_of, unkept};
 ghost use Rattle.path_agenda.specs.Items.{IsFair};
 ghost use Rattle.subflow_tcp.specs.Segments as subflow;
 ghost use Rattle.path_core.specs.declared.event.Event.TheVariants as event;
-ghost use Rattle.path_core.specs.Arriving.{expected_by, position_in, acknowledged_in, copy_of, items_of, with_payload, with_held, after_copy, is_ignored, is_taken, taken_as, judged_in, copy_judged, segment_heard, template_by, template_judged, template_of, IsTakenAs, SaysFew};
+ghost use Rattle.path_core.specs.Arriving.{expected_by, position_in, acknowledged_in, copy_of, items_of, with_payload, with_held, owing_if, owes_by, is_plain_ack, asked_in, after_copy, is_ignored, is_taken, taken_as, judged_in, copy_judged, segment_heard, template_by, template_judged, template_of, IsTakenAs, SaysFew};
 ghost use Rattle.path_core.specs.Events.{told_at, heard_at, copy_taken, CanHappen};
+ghost use Rattle.actor_desk.specs.Words.{is_nil};
+ghost use Rattle.path_core.specs.Ends.{nothing_treated};
 ghost use Rattle.path_core.specs.Octets.{octets, read};
 ghost use Rattle.path_core.specs.State.{end_at};
 
@@ -22,12 +24,13 @@ use crate::hearing::{
 };
 use crate::judged::Judged;
 use crate::machine::Machine;
+use crate::modes::Modes;
 use crate::profile::{peer, spelled_by};
 use crate::treated::Treated;
 use dss_mapping::KeptMapping;
 use link_model::Due;
 use outside_kit::Side;
-use path_agenda::{Agenda, Items, place_in_first};
+use path_agenda::{Agenda, Heard, Items, place_in_first};
 use path_segments::{Expected, HeardPosition, HeardSegment, Spelling, hear};
 use seq_units::Pos;
 use std::alloc::AllocError;
@@ -161,6 +164,51 @@ fn take_as(
     }
 }
 
+/// A copy that is taken may want an acknowledgement by what it says.
+fn owe_by(tcp: &mut Subflow, meaning: Meaning, items: &[Heard])
+    ensures { tcp.new ≡ owing_if (owes_by meaning items.now) tcp.old }
+{
+    if owes_by(meaning, items) {
+        tcp.ack_due(false);
+    }
+}
+
+/// What is still to be treated of a copy that was taken so, but for its positions.
+fn treated_with(
+    items: Items,
+    opened: bool,
+    heard: &HeardSegment<'_>,
+    answer: Outgoing,
+    arrival: Arrival,
+) -> Treated
+    requires { All IsFair items.items }
+    ensures { result ≡ record nothing_treated {
+      items = items.items;
+      opened = opened;
+      has_option = not (is_nil (heard_value heard.now).options);
+      answer = Some answer;
+      window = (heard_value heard.now).window;
+      plain_ack = is_plain_ack arrival (heard_value heard.now);
+    } }
+{
+    let mut treated = Treated::of(items, opened, has_option(heard), answer, heard.window);
+    treated.note_plain_ack(is_plain_ack(arrival, heard));
+    treated
+}
+
+/// What B's end knows of a SYN that opens it: whether that asks for Multipath TCP.
+fn asked_in(meaning: Meaning, heard: &HeardSegment<'_>, modes: Modes) -> Modes
+    ensures { result ≡ asked_in meaning (heard_value heard.now).options modes }
+{
+    match meaning {
+        Meaning::Opens => Modes {
+            capable_asked: asks_capable(heard),
+            ..modes
+        },
+        _ => modes,
+    }
+}
+
 impl PathEnd {
     /// What the end counts from.
     fn expected(&self) -> Expected
@@ -196,7 +244,6 @@ impl PathEnd {
     }
 
     /// The position that a copy of this meaning acknowledges, where it is taken: no later one than was sent. Else 0.
-    #[tactic(auto, using(crate::proofs::AcksTaken::acknowledges_so, crate::proofs::AcksTaken::acknowledges_sent))]
     fn acknowledged_by(&self, meaning: Meaning, heard: &HeardSegment<'_>) -> Pos
         requires { IsTakenAs meaning (copy_of (heard_value heard.now)) self.now.tcp }
         ensures value { result ≡ (if is_taken meaning then unwrap_or (copy_of (heard_value heard.now)).acknowledged 0 else 0) }
@@ -209,33 +256,31 @@ impl PathEnd {
         }
     }
 
-    /// The subflow takes a copy of this meaning, which says these things; they are still to be treated.
+    /// The subflow takes a copy of this meaning, which says these things and acknowledges this position where it is taken; they are
+    /// still to be treated.
     fn hear_copy(
         &mut self,
         items: Items,
         now: u64,
         heard: &HeardSegment<'_>,
         meaning: Meaning,
+        acknowledged: Pos,
         answer: Outgoing,
     )
         requires fair { All IsFair items.items }
+        requires acknowledged { acknowledged ≡ (if is_taken meaning then unwrap_or (copy_of (heard_value heard.now)).acknowledged 0 else 0) }
+        requires near { acknowledged ≤ 2 ^ 62 }
         requires meaning { IsTakenAs meaning (copy_of (heard_value heard.now)) self.old.tcp }
         ensures { self.new ≡ after_copy items.items answer now (heard_value heard.now) meaning self.old }
     {
-        let acknowledged = self.acknowledged_by(meaning, heard);
         let opened = opens_by(meaning, self.tcp.state());
         let held_edge = edge_held(meaning, heard.payload, self.tcp.edge());
         let place = place_in_first(items.as_slice());
         let arrival = take_as(&mut self.tcp, meaning, &arriving_of(heard), place, now);
-        if owes_by(meaning, items.as_slice()) {
-            self.tcp.ack_due(false);
-        }
-        self.treated = Treated::of(items, opened, has_option(heard), answer, heard.window);
-        self.treated.note_plain_ack(is_plain_ack(arrival, heard));
+        owe_by(&mut self.tcp, meaning, items.as_slice());
+        self.treated = treated_with(items, opened, heard, answer, arrival);
         self.treated.note_positions(acknowledged, held_edge);
-        if meaning == Meaning::Opens {
-            self.modes.capable_asked = asks_capable(heard);
-        }
+        self.modes = asked_in(meaning, heard, self.modes);
     }
 
     /// A copy that is this to the end, and says these mappings, is taken, and is answered so at a dead end. At an error all is
@@ -259,9 +304,10 @@ impl PathEnd {
         ensures err { OnErr result (self.new ≡ self.old) }
     {
         let items = items_of(joined, side, heard);
+        let acknowledged = self.acknowledged_by(meaning, heard);
         self.hold(meaning, heard, told)?;
         self.join_by(joined, items.as_slice(), meaning);
-        self.hear_copy(items, now, heard, meaning, answer);
+        self.hear_copy(items, now, heard, meaning, acknowledged, answer);
         Ok(())
     }
 
