@@ -13,6 +13,7 @@ returns-clause-ok c =
     subst (λ (h : HeardSegment). OnOk c.hear_segment.result (c.hear_segment.new.self ≡ told_at c.args.now c.args.side h c.args.self.now))
     (c.options_heard-heard.ensures ∙ ap (λ (e : PathEnd). options_heard e said) (c.behind-self.view_is ∙ c.end.ensures)) c.hear_segment.ensures.ok
 
-pub hear_segment-requires : goal.hear_segment-requires
-hear_segment-requires c =
-    subst (λ (h : HeardSegment). IsHeardShort h) (sym c.options_heard-heard.ensures) (record { payload = c.requires.payload; position = c.requires.position })
+pub hear_segment-requires-clause-short : goal.hear_segment-requires-clause-short
+hear_segment-requires-clause-short c =
+    subst (λ (h : HeardSegment). IsHeardShort h) (sym c.options_heard-heard.ensures)
+    (record { payload = c.requires.short.payload; position = c.requires.short.position })
