@@ -94,6 +94,7 @@ hears_as_lanes k written closed acked next window a b now whole is =
       offers = is.offers;
       buffer = is.buffer;
       unaborted = is.unaborted;
+      stays = is.stays;
     })
   where
     heard_by : Sending
