@@ -2,7 +2,7 @@
 use Rattle.std.specs.Prelude.{◌≡◌, ℕ, List, map, Option, Some, None, option_map, option_and_then}
 use Rattle.std.specs.Result.{result_ok}
 use Rattle.link_script.specs.declared.script.Script.{Script}
-use Rattle.run_words.specs.Lines.{Line, Work, run, serial, replay, bench}
+use Rattle.run_words.specs.Lines.{Line, Work, run, serial, replay, bench, ◌>>=◌}
 use Rattle.run_log.specs.declared.turn.Turn as logged_turn
 use Rattle.run_log.specs.declared.turn.Turn.TheVariants as logged
 use Rattle.path_core.specs.Octets.{octets}

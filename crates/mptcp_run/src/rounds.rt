@@ -2,11 +2,10 @@
 
 ghost use Rattle.std.specs.Prelude.{◌≡◌, ◌+◌, ◌-◌, ◌^◌, ◌<◌, length, map, drop, IfOk, OnOk};
 ghost use Rattle.link_script.specs.Scripts.{HasRanges};
-ghost use Rattle.world_core.specs.Kept.{standing};
 ghost use Rattle.world_laws.specs.Fine.{lists_of};
-ghost use Rattle.world_laws.specs.Openings.{opened_world, start_of};
 ghost use Rattle.world_laws.specs.Outcomes.{notes_at, read_by};
 ghost use Rattle.mptcp_run.specs.Making.{RoundPut};
+ghost use Rattle.mptcp_run.specs.Rounds.{IsOpened};
 ghost use Rattle.run_outside.specs.LogText.{round_text, NotesFit};
 ghost use Rattle.mptcp_run.specs.Putting.{log_opening, opening_of};
 ghost use Rattle.world_core.specs.Weaving.{since, made_at, IsSince};
@@ -61,16 +60,11 @@ impl Run {
     /// A run before its first step.
     pub fn open(alloc: Global, input: &Input, report: Report) -> Result<Run, AllocError>
         requires { HasRanges input.now.script }
-        ensures world { IfOk result (λ run. run.world ≡ standing
-            (opened_world (start_of input.now.script input.now.file_a input.now.file_b))) }
-        ensures opening { IfOk result (λ run. run.opening ≡ opening_of report input.now.script) }
-        ensures made { IfOk result
-            (λ run. run.made.items ≡ map length (lists_of run.world.state.crew)) }
-        ensures rounds { IfOk result (λ run. run.rounds ≡ 0) }
+        ensures { IfOk result (IsOpened input.now report) }
     {
+        let opening = opening_of(alloc, &input.script, report)?;
         let world = World::open(alloc, input)?;
         let made = made_by(alloc, &world)?;
-        let opening = opening_of(alloc, &input.script, report)?;
         Ok(Run {
             world,
             opening,

@@ -12,8 +12,8 @@ ghost use Rattle.mptcp_run.specs.Answers.{IsAnswer, IsMadeAnswer, NothingWasRun}
 ghost use Rattle.mptcp_run.specs.Asked.{AsksInRange, asked_in, if_run};
 ghost use Rattle.mptcp_run.specs.Ends.{CameToEnd, IsCut, ReplayEnds};
 ghost use Rattle.mptcp_run.specs.Made.{Bench, bench_of, bench_in};
-ghost use Rattle.run_outside.specs.Plan.{AddsShort, binds_of};
-ghost use Rattle.run_outside.specs.Ports.{IsPortsFault, HoldsWithin};
+ghost use Rattle.run_outside.specs.Plan.{AddsShort};
+ghost use Rattle.run_outside.specs.Ports.{IsPortsFault};
 ghost use Rattle.mptcp_run.specs.Promised.{ReadersHaveFiles};
 ghost use Rattle.mptcp_run.specs.Putting.{last_line_of, status_of};
 ghost use Rattle.mptcp_run.specs.Replaying.{IsReplayFault};
@@ -32,39 +32,6 @@ use run_outside::{
 };
 use run_words::{CommandLine, Mode};
 use std::alloc::Global;
-
-/// Opens the connection, and binds the readers' ports.
-fn begin<O: Outside>(
-    alloc: Global,
-    outside: &mut O,
-    line: &CommandLine<'_>,
-    input: &Input,
-    report: Report,
-) -> Result<Run, Status>
-    requires { HasRanges input.now.script }
-    ensures run { IfOk result (IsOpened input.now report) }
-    ensures read_by_b { OnOk result (HoldsAfter
-        (O.holds outside.old Port.ReadByB) (O.holds outside.new Port.ReadByB) (λ _. [])) }
-    ensures read_by_a { OnOk result (HoldsAfter
-        (O.holds outside.old Port.ReadByA) (O.holds outside.new Port.ReadByA) (λ _. [])) }
-    ensures read_by_b_err { OnErr result (HoldsWithin (Unit {0})
-        (O.holds outside.old Port.ReadByB) (O.holds outside.new Port.ReadByB) [] []) }
-    ensures read_by_a_err { OnErr result (HoldsWithin (Unit {0})
-        (O.holds outside.old Port.ReadByA) (O.holds outside.new Port.ReadByA) [] []) }
-    ensures log { O.holds outside.new Port.Log ≡ O.holds outside.old Port.Log }
-    ensures puts { Puts (binds_of (shown line.now))
-        (O.load_faults outside.old) (O.load_faults outside.new)
-        (O.port_faults outside.old) (O.port_faults outside.new)
-        (O.calls outside.old) (O.calls outside.new) result }
-{
-    match Run::open(alloc, input, report) {
-        Ok(run) => match bind_readers(outside, line) {
-            Ok(()) => Ok(run),
-            Err(status) => Err(status),
-        },
-        Err(_) => Err(Status::Memory),
-    }
-}
 
 /// Puts the last line of a run whose rounds were made, and answers how it ended.
 fn end<O: Outside>(
@@ -96,6 +63,32 @@ fn end<O: Outside>(
     Ok(status_of(run.world.outcome()))
 }
 
+/// Makes whole turns, at most so many rounds, of a run before its first step, and puts its last line.
+fn take_rounds<O: Outside>(
+    alloc: Global,
+    outside: &mut O,
+    line: &CommandLine<'_>,
+    input: &Input,
+    rounds: u32,
+    report: Report,
+    run: &mut Run,
+) -> Result<Status, Status>
+    requires { IsOpened input.now report run.old }
+    ensures ended { IfOk result (CameToEnd [] (shown line.now)
+        (task_with input.now (course.rounds rounds) report)
+        (O.holds outside.old) (O.holds outside.new) (O.calls outside.old) (O.calls outside.new)) }
+    ensures cut { IfErr result (IsCut [] (shown line.now)
+        (task_with input.now (course.rounds rounds) report)
+        (O.holds outside.old) (O.holds outside.new) (O.calls outside.old) (O.calls outside.new)) }
+    ensures fault { IfErr result
+        (IsPortsFault (O.port_faults outside.old) (O.port_faults outside.new)) }
+    ensures load_counts { O.load_faults outside.new ≡ O.load_faults outside.old }
+{
+    bind_readers(outside, line)?;
+    make_rounds(alloc, outside, run, rounds)?;
+    end(alloc, outside, run, report)
+}
+
 /// Makes whole turns, at most so many rounds.
 fn perform_serial<O: Outside>(
     alloc: Global,
@@ -116,9 +109,35 @@ fn perform_serial<O: Outside>(
         (IsPortsFault (O.port_faults outside.old) (O.port_faults outside.new)) }
     ensures load_counts { O.load_faults outside.new ≡ O.load_faults outside.old }
 {
-    let mut run = begin(alloc, outside, line, input, report)?;
-    make_rounds(alloc, outside, &mut run, rounds)?;
-    end(alloc, outside, &run, report)
+    let Ok(mut run) = Run::open(alloc, input, report) else {
+        return Err(Status::Memory);
+    };
+    take_rounds(alloc, outside, line, input, rounds, report, &mut run)
+}
+
+/// Makes the turns of a log in a run before its first step, and puts its last line.
+fn take_turns<O: Outside>(
+    alloc: Global,
+    outside: &mut O,
+    line: &CommandLine<'_>,
+    replay: &Replay,
+    run: &mut Run,
+) -> Result<Status, Status>
+    requires opened { IsOpened replay.now.input Report.Log run.old }
+    requires few { replay.now.lines ≤ 3 }
+    ensures ended { IfOk result (CameToEnd [] (shown line.now)
+        (task_from replay.now.input (course.told (all_turns replay.now.turns.items)))
+        (O.holds outside.old) (O.holds outside.new) (O.calls outside.old) (O.calls outside.new)) }
+    ensures err { IfErr result (ReplayEnds [] (shown line.now)
+        (task_from replay.now.input (course.told (all_turns replay.now.turns.items)))
+        (O.holds outside.old) (O.holds outside.new) (O.calls outside.old) (O.calls outside.new)
+        replay.now.lines) }
+    ensures fault { IfErr result
+        (IsReplayFault (O.port_faults outside.old) (O.port_faults outside.new)) }
+{
+    bind_readers(outside, line)?;
+    make_turns(alloc, outside, run, &replay.turns, replay.lines)?;
+    end(alloc, outside, run, Report::Log)
 }
 
 /// Makes the turns of a log.
@@ -140,9 +159,10 @@ fn perform_replay<O: Outside>(
     ensures fault { IfErr result
         (IsReplayFault (O.port_faults outside.old) (O.port_faults outside.new)) }
 {
-    let mut run = begin(alloc, outside, line, &replay.input, Report::Log)?;
-    make_turns(alloc, outside, &mut run, &replay.turns, replay.lines)?;
-    end(alloc, outside, &run, Report::Log)
+    let Ok(mut run) = Run::open(alloc, &replay.input, Report::Log) else {
+        return Err(Status::Memory);
+    };
+    take_turns(alloc, outside, line, replay, &mut run)
 }
 
 /// A run of whole turns, at most so many rounds.
