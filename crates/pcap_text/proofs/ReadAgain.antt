@@ -83,7 +83,7 @@ interface_found name fits rest =
     let last : List ℕ = to_be_bytes w32 (length body + 12) in
     let others : List ℕ = option_text 9 (3 ∷ []) ++ end_of_options in
     let stands : drop 16 octets ≡ option_text 2 name ++ (others ++ (last ++ rest)) =
-        append_assoc (option_text 2 name ++ others) last rest ∙ append_assoc (option_text 2 name) others (last ++ rest) in
+    append_assoc (option_text 2 name ++ others) last rest ∙ append_assoc (option_text 2 name) others (last ++ rest) in
     (record { first = ap (λ (n : List ℕ). Some (Interface n)) (value_is octets 16 2 name (others ++ (last ++ rest)) stands fits); again = again 1 body rest small }, goes_on 1 body rest small)
 
 -- what flags tell
@@ -161,16 +161,17 @@ module _ (seen : Seen) (packet comment rest : List ℕ) (can : CanRecord (Packet
   packet_is : packet_in octets_of ≡ Packet seen packet comment
   packet_is =
       same_packet _ _ _ _ _ _
-        (from_be_bytes-to_be_bytes_4 seen.interface can.0)
-        (from_be_bytes-to_be_bytes_8 seen.millisecond can.1)
-        (ap direction_of flags_there ∙ direction_is seen.direction)
-        data_is
-        comment_is
+      (from_be_bytes-to_be_bytes_4 seen.interface can.0)
+      (from_be_bytes-to_be_bytes_8 seen.millisecond can.1)
+      (ap direction_of flags_there ∙ direction_is seen.direction)
+      data_is
+      comment_is
 
   packet_found : BeginsWith octets_of (Packet seen packet comment) × (drop (first_len octets_of) octets_of ≡ rest)
-  packet_found =
-      (record { first = ap (λ (p : Block). Some p) packet_is; again = again 6 (packet_body seen packet comment) rest small }
-      , goes_on 6 (packet_body seen packet comment) rest small)
+  packet_found = (
+    record { first = ap (λ (p : Block). Some p) packet_is; again = again 6 (packet_body seen packet comment) rest small },
+    goes_on 6 (packet_body seen packet comment) rest small,
+  )
 
 found : (block : Block) → CanRecord block → IsFound block
 found Section can = section_found
