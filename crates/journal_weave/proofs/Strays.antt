@@ -9,7 +9,7 @@ use Rattle.journal_weave.specs.declared.fault.Strayed.{Strayed}
 use Rattle.journal_weave.specs.Weaving.{Differs, DiffersIn, AreBothAtEnd, Parted, StraysAt, StraysIn, comes_before, strayed_of}
 use Rattle.actor_desk.proofs.Inserting.{none_back, lent}
 
--- ---- fronts that are the same
+-- ---- common prefixes
 
 same_get : (n i : ℕ) (xs ys : List Note) → take n xs ≡ take n ys → i < n → slice_get xs i ≡ slice_get ys i
 same_get zero i xs ys same less = absurd (omega (arith, less))
@@ -118,7 +118,7 @@ one_stray xs ys s t a b = by (cases_order a.place b.place)
     by (inr (inl less)) = absurd (not_within xs ys a.place b.place s b.same less a.differs)
     by (inr (inr more)) = absurd (not_within xs ys b.place a.place t a.same more b.differs)
 
--- what stands behind a front that is the same
+-- what stands behind a common prefix
 pub differs_both : (xs ys : List Note) (i : ℕ) (x y : Note) → slice_get xs i ≡ Some x → slice_get ys i ≡ Some y → Parted (slice_get xs i) (slice_get ys i)
     → DiffersIn (slice_get xs i) (slice_get ys i) (Some (strayed_of x y))
 differs_both xs ys i x y at of parted =

@@ -39,17 +39,20 @@ fn asked_at<'a>(alloc: Global, order: &[&'a Note], book: u64) -> Result<Vec<&'a 
     Ok(asked)
 }
 
-// How many notes in front are the same.
+// How many notes the common prefix of both has.
 fn agreement(asked: &[&Note], journal: &[Note]) -> usize
     ensures same { take result (map (λ note. note.now) asked.now) ≡ take result journal.now }
     ensures parted { Parted (slice_get (map (λ note. note.now) asked.now) result)
         (slice_get journal.now result) }
 {
-    let mut front = 0;
-    while front < asked.len() && front < journal.len() && is_same(asked[front], &journal[front]) {
-        front += 1;
+    let mut common = 0;
+    while common < asked.len()
+        && common < journal.len()
+        && is_same(asked[common], &journal[common])
+    {
+        common += 1;
     }
-    front
+    common
 }
 
 fn only_noted(note: &Note) -> Result<Strayed, AllocError>
@@ -93,21 +96,21 @@ fn pair_of(note: &Note, entry: &Note) -> Result<Strayed, AllocError>
     }
 }
 
-// What stands behind the front in which both agree.
-fn behind(asked: &[&Note], journal: &[Note], front: usize) -> Result<Option<Strayed>, AllocError>
-    requires { Parted (slice_get (map (λ note. note.now) asked.now) front)
-        (slice_get journal.now front) }
-    ensures { IfOk result (DiffersIn (slice_get (map (λ note. note.now) asked.now) front)
-        (slice_get journal.now front)) }
+// What stands behind the common prefix.
+fn behind(asked: &[&Note], journal: &[Note], common: usize) -> Result<Option<Strayed>, AllocError>
+    requires { Parted (slice_get (map (λ note. note.now) asked.now) common)
+        (slice_get journal.now common) }
+    ensures { IfOk result (DiffersIn (slice_get (map (λ note. note.now) asked.now) common)
+        (slice_get journal.now common)) }
 {
-    if front < asked.len() && front < journal.len() {
-        return Ok(Some(pair_of(asked[front], &journal[front])?));
+    if common < asked.len() && common < journal.len() {
+        return Ok(Some(pair_of(asked[common], &journal[common])?));
     }
-    if front < asked.len() {
-        return Ok(Some(only_noted(asked[front])?));
+    if common < asked.len() {
+        return Ok(Some(only_noted(asked[common])?));
     }
-    if front < journal.len() {
-        return Ok(Some(only_entered(&journal[front])?));
+    if common < journal.len() {
+        return Ok(Some(only_entered(&journal[common])?));
     }
     Ok(None)
 }
@@ -123,8 +126,8 @@ fn stray_at(
         journal.now) }
 {
     let asked = asked_at(alloc, order, book)?;
-    let front = agreement(&asked, journal);
-    behind(&asked, journal, front)
+    let common = agreement(&asked, journal);
+    behind(&asked, journal, common)
 }
 
 // Whether the note of one pair stands before that of another.

@@ -110,11 +110,11 @@ module _ (task : Task) (plain : IsPlainTask task) where
   -- after turns
   b_reads_a_prefix : (turns : List Turn) → IsPrefix (output_of B (world_after task turns)) task.file_a
   b_reads_a_prefix turns =
-      let kept = plain_tasks_are_kept task turns plain in prefix_of_prefix _ _ task.file_a kept.promises.word.ab.prefix kept.files.a.front
+      let kept = plain_tasks_are_kept task turns plain in prefix_of_prefix _ _ task.file_a kept.promises.word.ab.prefix kept.files.a.prefix
 
   a_reads_a_prefix : (turns : List Turn) → IsPrefix (output_of A (world_after task turns)) task.file_b
   a_reads_a_prefix turns =
-      let kept = plain_tasks_are_kept task turns plain in prefix_of_prefix _ _ task.file_b kept.promises.word.ba.prefix kept.files.b.front
+      let kept = plain_tasks_are_kept task turns plain in prefix_of_prefix _ _ task.file_b kept.promises.word.ba.prefix kept.files.b.prefix
 
   -- at the last round's end
   module _ (P : Connection → Type 0) (always : (turns : List Turn) → P (world_after task turns)) where

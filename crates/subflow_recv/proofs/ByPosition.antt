@@ -7,7 +7,7 @@ use Rattle.byte_pieces.specs.Places.{gap_before}
 use Rattle.byte_pieces.proofs.Ordered.{le_true, le_false, lt_true, lt_false}
 use Rattle.byte_pieces.proofs.Filling.{drop-by_place}
 use Rattle.subflow_recv.specs.Receiving.{Receiving, by_place, merged, filled, cut, window_end, after_accept, after_forget_from, place_at, octet_at}
-use Rattle.subflow_recv.specs.Laws.{Event, Comes, Advances, Forgets, after_event, after_events, IsFront, after_payloads, payload_octet, first_of}
+use Rattle.subflow_recv.specs.Laws.{Event, Comes, Advances, Forgets, after_event, after_events, IsHeldPrefix, after_payloads, payload_octet, first_of}
 
 -- ---- an octet that is kept stays
 place_at-merged : (k octet : ℕ) (places others : List (Option ℕ)) → place_at k places ≡ Some octet → place_at k (merged places others) ≡ Some octet
@@ -242,8 +242,8 @@ agrees-part : (from : ℕ) (part octets : List ℕ) → Agrees (map Some part) (
 agrees-part from [] octets h = tt
 agrees-part from (octet ∷ part) octets h = agrees-later from (map Some (octet ∷ part)) octets h
 
-agrees-front : (m count : ℕ) (octets : List ℕ) → Agrees (map Some (take m (take count octets))) octets
-agrees-front m count octets =
+agrees-prefix : (m count : ℕ) (octets : List ℕ) → Agrees (map Some (take m (take count octets))) octets
+agrees-prefix m count octets =
     subst (λ places. Agrees places octets)
     (ap (take m) (take-map Some count octets) ∙ take-map Some m (take count octets))
     (agrees-take m (take count (map Some octets)) octets (agrees-take count (map Some octets) octets (agrees-whole octets)))
@@ -269,7 +269,7 @@ holds-event start octets (Comes from count) v h = record {
   order = h.order;
   agrees = agrees-merged v.places _ (drop (v.edge - start) octets) h.agrees
       (from_edge start v.edge from (take (window_end v - (start + from)) (take count (drop from octets))) octets h.order
-      (agrees-front (window_end v - (start + from)) count (drop from octets)));
+      (agrees-prefix (window_end v - (start + from)) count (drop from octets)));
 }
 holds-event start octets (Advances count) v h = record {
   order = omega (arith, h.order);
@@ -289,8 +289,8 @@ holds-events : (start : ℕ) (octets : List ℕ) (events : List Event) (v : Rece
 holds-events start octets [] v h = h
 holds-events start octets (event ∷ events) v h = holds-events start octets events (after_event start octets event v) (holds-event start octets event v h)
 
-pub held_is_a_front_lem : (start : ℕ) (octets : List ℕ) (events : List Event) (v : Receiving) → v.places ≡ [] → start ≤ v.edge → IsFront start octets (after_events start octets events v)
-held_is_a_front_lem start octets events v none le =
+pub held_is_a_prefix_lem : (start : ℕ) (octets : List ℕ) (events : List Event) (v : Receiving) → v.places ≡ [] → start ≤ v.edge → IsHeldPrefix start octets (after_events start octets events v)
+held_is_a_prefix_lem start octets events v none le =
     let w = after_events start octets events v in
     agrees-filled w.places (drop (w.edge - start) octets)
     (holds-events start octets events v (record { order = le; agrees = rw none tt })).agrees

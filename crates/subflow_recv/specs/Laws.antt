@@ -23,13 +23,13 @@ after_events start octets [] v = v
 after_events start octets (event ∷ events) v = after_events start octets events (after_event start octets event v)
 
 -- these octets are the first of those of the list from the edge on
-abbrev pub IsFront : ℕ → List ℕ → Receiving → Type 0
-IsFront start octets v = filled v.places ≡ take (length (filled v.places)) (drop (v.edge - start) octets)
+abbrev pub IsHeldPrefix : ℕ → List ℕ → Receiving → Type 0
+IsHeldPrefix start octets v = filled v.places ≡ take (length (filled v.places)) (drop (v.edge - start) octets)
 
--- whatever parts of one list come, and in any order, what is held is a front of the list from the edge on
-abbrev pub HeldIsAFront : Type 0
-HeldIsAFront = (start : ℕ) (octets : List ℕ) (events : List Event) (v : Receiving) → v.places ≡ [] → start ≤ v.edge
-    → IsFront start octets (after_events start octets events v)
+-- whatever parts of one list come, and in any order, what is held is a prefix of the list from the edge on
+abbrev pub HeldIsAPrefix : Type 0
+HeldIsAPrefix = (start : ℕ) (octets : List ℕ) (events : List Event) (v : Receiving) → v.places ≡ [] → start ≤ v.edge
+    → IsHeldPrefix start octets (after_events start octets events v)
 
 -- the side after these payloads, each at its position, the first one first
 abbrev pub after_payloads : List (ℕ × List ℕ) → Receiving → Receiving

@@ -1,9 +1,9 @@
-ghost use Rattle.subflow_recv.specs.Laws.{HeldIsAFront, WhatComesFirstIsKept, KeptOctetsStay, ForgottenOctetsAreGone, OutsideIsNoOctetInTheWindow, HeldPayloadsAreKept};
+ghost use Rattle.subflow_recv.specs.Laws.{HeldIsAPrefix, WhatComesFirstIsKept, KeptOctetsStay, ForgottenOctetsAreGone, OutsideIsNoOctetInTheWindow, HeldPayloadsAreKept};
 
 /// A law: whatever parts of one list of octets come, in any order and however the edge moves and octets are forgotten
-/// in between, what is held is a front of that list from the edge on.
-pub fn held_is_a_front()
-    ensures { HeldIsAFront }
+/// in between, what is held is a prefix of that list from the edge on.
+pub fn held_is_a_prefix()
+    ensures { HeldIsAPrefix }
 {}
 
 /// A law: after a payload each position in the window has the octet that it had, or else that of the payload, and every

@@ -10,7 +10,7 @@ mod receive;
 pub use acceptance::Acceptance;
 pub use byte_pieces::Parts;
 pub use laws::{
-    forgotten_octets_are_gone, held_is_a_front, held_payloads_are_kept, kept_octets_stay,
+    forgotten_octets_are_gone, held_is_a_prefix, held_payloads_are_kept, kept_octets_stay,
     outside_is_no_octet_in_the_window, what_comes_first_is_kept,
 };
 pub use receive::SubflowRecv;

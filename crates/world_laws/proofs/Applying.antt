@@ -111,7 +111,7 @@ writes_more file rest buffer b some h = by (b.closed || b.aborted) refl
         })
     by true is = h
     by false is = record {
-      front = h.front ∙ ap (λ xs. b.written ++ xs) (sym (taken_front (send.taken (take buffer rest) b) buffer rest (omega arith)))
+      prefix = h.prefix ∙ ap (λ xs. b.written ++ xs) (sym (taken_front (send.taken (take buffer rest) b) buffer rest (omega arith)))
           ∙ sym (append_assoc b.written (take (send.taken (take buffer rest) b) (take buffer rest)) (drop (send.taken (take buffer rest) b) rest));
       whole = λ closed. absurd (both_ways b.closed (or_parts b.closed b.aborted is).0 closed);
     }
@@ -121,7 +121,7 @@ closes file b h = by b.aborted
   where
     by : (shut : Bool) → Writes file [] (if shut then b else record b { closed = true })
     by true = h
-    by false = record { front = h.front; whole = λ closed. refl }
+    by false = record { prefix = h.prefix; whole = λ closed. refl }
 
 -- ---- reading
 

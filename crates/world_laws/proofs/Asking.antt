@@ -167,13 +167,13 @@ module _ {C : Type 0} (k : Codec C) (p : PathState C) where
 -- such a call leaves what was written, and whether it is closed
 module _ (file rest : List ℕ) (b : Sending) (h : Writes file rest b) where
   grant_keeps : (path : ℕ) (r : Result Span Why) → Writes file rest (given_by path r b)
-  grant_keeps path (Ok span) = record { front = h.front; whole = h.whole }
+  grant_keeps path (Ok span) = record { prefix = h.prefix; whole = h.whole }
   grant_keeps path (Err why) = h
 
   ack_keeps : (c : Bool) (c_after : Sending) → c_after.written ≡ b.written → c_after.closed ≡ b.closed → Writes file rest (if c then b else c_after)
   ack_keeps true c_after written closed = h
   ack_keeps false c_after written closed = record {
-    front = h.front ∙ ap (λ xs. xs ++ rest) (sym written);
+    prefix = h.prefix ∙ ap (λ xs. xs ++ rest) (sym written);
     whole = λ is. h.whole (sym closed ∙ is);
   }
 
@@ -182,11 +182,11 @@ module _ (file rest : List ℕ) (b : Sending) (h : Writes file rest b) where
   call_keeps calls.Close leaves = absurd leaves
   call_keeps (calls.Grant path max standby) leaves = grant_keeps path (decision path max standby b)
   call_keeps (calls.AckIn next window) leaves = ack_keeps (is_future next b) _ refl refl
-  call_keeps (calls.Return path) leaves = record { front = h.front; whole = h.whole }
-  call_keeps calls.GoIdentity leaves = record { front = h.front; whole = h.whole }
+  call_keeps (calls.Return path) leaves = record { prefix = h.prefix; whole = h.whole }
+  call_keeps calls.GoIdentity leaves = record { prefix = h.prefix; whole = h.whole }
   call_keeps (calls.GoInfinite path) leaves = infinite (is_gathered path b)
     where
       infinite : (c : Bool) → Writes file rest (if c then record b { owner = Some path } else b)
-      infinite true = record { front = h.front; whole = h.whole }
+      infinite true = record { prefix = h.prefix; whole = h.whole }
       infinite false = h
-  call_keeps calls.Abort leaves = record { front = h.front; whole = h.whole }
+  call_keeps calls.Abort leaves = record { prefix = h.prefix; whole = h.whole }

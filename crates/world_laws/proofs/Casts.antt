@@ -211,8 +211,8 @@ opened_fares s buffer file tick send none unclosed =
 
 pub written_from : (file rest : List ℕ) (send : Sending) → Writes file rest send → WritesTheFile file send
 written_from file rest send h = record {
-  front = record { rest = rest; whole_is = h.front };
-  whole = λ is. sym (h.front ∙ ap (λ xs. send.written ++ xs) (h.whole is) ∙ append-nil send.written);
+  prefix = record { rest = rest; whole_is = h.prefix };
+  whole = λ is. sym (h.prefix ∙ ap (λ xs. send.written ++ xs) (h.whole is) ∙ append-nil send.written);
 }
 
 pub map_there : {X Y : Type 0} (f : X → Y) (xs : List X) (i : ℕ) → slice_get (map f xs) i ≡ option_map f (slice_get xs i)

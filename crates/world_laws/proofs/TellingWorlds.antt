@@ -106,7 +106,7 @@ ask_rooms n (asks.Local step) books h = h
 
 file_short : (file rest : List ℕ) (b : Sending) → length file < 2 ^ 31 - 2 → Writes file rest b → length b.written + 3 ≤ 2 ^ 31
 file_short file rest b short w =
-    let l : length file ≡ length (b.written ++ rest) = ap (λ (xs : List ℕ). length xs) w.front in
+    let l : length file ≡ length (b.written ++ rest) = ap (λ (xs : List ℕ). length xs) w.prefix in
     let more = length-append b.written rest in
     omega (arith, short, l, more)
 

@@ -16,9 +16,9 @@ use Rattle.world_laws.specs.Openings.{PathPlan, Start, opened_world}
 use Rattle.world_laws.specs.Serial.{IsSerial}
 use Rattle.world_laws.specs.Worlds.{WorldState, Turn, after_turn, world_run, AreLawful}
 
--- what a book has as written is the front of a file, and all of it where the book is closed
+-- what a book has as written is a prefix of a file, and all of it where the book is closed
 pub record WritesTheFile (file : List ℕ) (send : Sending) : Type 0 where
-  pub front : IsPrefix send.written file
+  pub prefix : IsPrefix send.written file
   pub whole : send.closed ≡ true → send.written ≡ file
 
 pub record WritesTheFiles {C : Type 0} (start : Start) (w : WorldState C) : Type 0 where

@@ -130,7 +130,7 @@ pub fn turns_are_fresh()
     ensures same { OctetsAreValuesShown }
 {}
 
-/// A law: at every moment, whatever the order of the steps, what a send book has as written is the front of its side's file,
+/// A law: at every moment, whatever the order of the steps, what a send book has as written is a prefix of its side's file,
 /// and it is closed only where that is the whole file.
 pub fn files_are_written()
     ensures octets { Always octets WritesTheFiles }

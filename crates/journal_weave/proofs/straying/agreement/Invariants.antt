@@ -1,12 +1,12 @@
 use Rattle.std.proofs.Common.{◌≡◌, ◌≤◌, ◌-◌, length, map, take}
 use Rattle.journal_weave.proofs.straying.agreement.Given as goal
 
-abbrev pub invariant-loop-front : goal.invariant-loop-front
-invariant-loop-front l = record {
-  within : l.front ≤ length l.asked;
-  inside : l.front ≤ length l.journal;
-  same : take l.front (map (λ note. note.now) l.asked) ≡ take l.front l.journal;
+abbrev pub invariant-loop-common : goal.invariant-loop-common
+invariant-loop-common l = record {
+  within : l.common ≤ length l.asked;
+  inside : l.common ≤ length l.journal;
+  same : take l.common (map (λ note. note.now) l.asked) ≡ take l.common l.journal;
 }
 
-abbrev pub decreases-loop-front : goal.decreases-loop-front
-decreases-loop-front l = length l.asked - l.front
+abbrev pub decreases-loop-common : goal.decreases-loop-common
+decreases-loop-common l = length l.asked - l.common

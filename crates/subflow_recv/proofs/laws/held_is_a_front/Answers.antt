@@ -1,5 +1,0 @@
-use Rattle.subflow_recv.proofs.ByPosition.{held_is_a_front_lem}
-use Rattle.subflow_recv.proofs.laws.held_is_a_front.Goals as goal
-
-pub returns : goal.returns
-returns c = held_is_a_front_lem
