@@ -51,7 +51,7 @@ or_true false = refl
 
 -- what the steps of the application are, and the book that it writes into
 pub record Writes (file : List ℕ) (rest : List ℕ) (send : Sending) : Type 0 where
-  pub front : file ≡ send.written ++ rest
+  pub prefix : file ≡ send.written ++ rest
   pub whole : send.closed ≡ true → rest ≡ []
 
 -- the reader is what the steps say

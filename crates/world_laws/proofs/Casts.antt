@@ -85,7 +85,7 @@ answered_fares file six a app_duties.FastClose stands h = same_send a.side h
     same_send A h = h
     same_send B h = h
 answered_fares file six a app_duties.AbortSend stands h =
-    subst (Writes file a.rest) (sym (own_after a.side send_calls.Abort six)) (record { front = h.front; whole = h.whole })
+    subst (Writes file a.rest) (sym (own_after a.side send_calls.Abort six)) (record { prefix = h.prefix; whole = h.whole })
 answered_fares file six a app_duties.AbortReceive stands h = same_send a.side h
   where
     same_send : (s : Side) → Writes file a.rest (send_of s six) → Writes file a.rest (send_of s (after_ask (app_ask app_duties.AbortReceive a) six))
@@ -207,7 +207,7 @@ opened_fares : (s : Side) (buffer : ℕ) (file : List ℕ) (tick : Option ℕ) (
 opened_fares s buffer file tick send none unclosed =
     let m : AppState = untouched s buffer file tick in
     settles_fares s file m (first_app_turn s buffer file tick) send (settled_app start_of_app m) refl
-    (record { front = ap (λ xs. xs ++ file) (sym none); whole = λ is. absurd (both_ways send.closed unclosed is) })
+    (record { prefix = ap (λ xs. xs ++ file) (sym none); whole = λ is. absurd (both_ways send.closed unclosed is) })
 
 pub written_from : (file rest : List ℕ) (send : Sending) → Writes file rest send → WritesTheFile file send
 written_from file rest send h = record {
