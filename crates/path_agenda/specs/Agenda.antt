@@ -10,11 +10,13 @@ use Rattle.path_agenda.specs.declared.duty.SilentDuty.TheVariants as silent_duti
 use Rattle.path_agenda.specs.declared.duty.StepDuty.TheVariants as step_duties
 
 abbrev pub rest_of_turn : List Duty
-rest_of_turn = (duties.Step step_duties.Events) ∷ duties.End ∷ []
+rest_of_turn = duties.Step step_duties.Events ∷ duties.End ∷ []
 
 -- what an end sends, and then these
 abbrev pub emission_and : Side → List Duty → List Duty
-emission_and s ds = duties.Send (send_duties.Syn s) ∷ duties.Step (step_duties.Data s) ∷ duties.Send (send_duties.DataFin s) ∷ duties.Send (send_duties.Fin s) ∷ duties.Silent (silent_duties.Timer s) ∷ ds
+emission_and s ds =
+    duties.Send (send_duties.Syn s) ∷ duties.Step (step_duties.Data s) ∷ duties.Send (send_duties.DataFin s)
+    ∷ duties.Send (send_duties.Fin s) ∷ duties.Silent (silent_duties.Timer s) ∷ ds
 
 -- what follows every event at an end
 abbrev pub emission : Side → List Duty
@@ -22,15 +24,20 @@ emission s = emission_and s rest_of_turn
 
 abbrev pub start_of_turn : List Duty
 start_of_turn =
-    (duties.Ask ask_duties.JoinAgain) ∷ duties.Step (step_duties.Look A) ∷ duties.Step (step_duties.Look B) ∷ duties.Ask (ask_duties.Window A) ∷ duties.Send (send_duties.Update A) ∷ duties.Ask (ask_duties.Window B) ∷ duties.Send (send_duties.Update B)
+    duties.Ask ask_duties.JoinAgain ∷ duties.Step (step_duties.Look A) ∷ duties.Step (step_duties.Look B)
+    ∷ duties.Ask (ask_duties.Window A) ∷ duties.Send (send_duties.Update A)
+    ∷ duties.Ask (ask_duties.Window B) ∷ duties.Send (send_duties.Update B)
     ∷ emission_and A (emission B)
 
 -- the SYN of the peer; the SYN/ACK
 abbrev pub syn_came : Side → List Duty
-syn_came s = duties.Ask (ask_duties.SynHeard s) ∷ duties.Ask (ask_duties.PlainHandshake s) ∷ duties.Send (send_duties.SynAck s) ∷ emission s
+syn_came s =
+    duties.Ask (ask_duties.SynHeard s) ∷ duties.Ask (ask_duties.PlainHandshake s) ∷ duties.Send (send_duties.SynAck s) ∷ emission s
 
 abbrev pub syn_ack_came : Side → List Duty
-syn_ack_came s = duties.Ask (ask_duties.SynAnswered s) ∷ duties.Ask (ask_duties.PeerKey s) ∷ duties.Ask (ask_duties.Live s) ∷ duties.Send (send_duties.Acknowledge s) ∷ emission s
+syn_ack_came s =
+    duties.Ask (ask_duties.SynAnswered s) ∷ duties.Ask (ask_duties.PeerKey s) ∷ duties.Ask (ask_duties.Live s)
+    ∷ duties.Send (send_duties.Acknowledge s) ∷ emission s
 
 -- the SYN of a path that joins, with an MP_JOIN and without one; the SYN/ACK
 abbrev pub join_came : Side → List Duty
@@ -50,8 +57,11 @@ heard_and s from (suc count) ds = duties.Step (step_duties.Heard s from) ∷ hea
 -- its acknowledgement, its payload, and what follows from them
 abbrev pub payload_came : Side → List Duty
 payload_came s =
-    duties.Step (step_duties.PlainAck s) ∷ duties.Ask (ask_duties.SubflowAck s) ∷ duties.Ask (ask_duties.PlainData s) ∷ duties.Silent (silent_duties.Keep s) ∷ duties.Ask (ask_duties.Edge s) ∷ duties.Step (step_duties.Unmapped s) ∷ duties.Ask (ask_duties.HeardFin s 0)
-    ∷ duties.Ask (ask_duties.HeardFin s 1) ∷ duties.Ask (ask_duties.HeardFin s 2) ∷ duties.Silent (silent_duties.PassFin s) ∷ duties.Ask (ask_duties.SubflowFin s) ∷ duties.Ask (ask_duties.AckOut s) ∷ duties.Ask (ask_duties.Rate s) ∷ duties.Send (send_duties.Acknowledge s) ∷ duties.Send (send_duties.Again s)
+    duties.Step (step_duties.PlainAck s) ∷ duties.Ask (ask_duties.SubflowAck s) ∷ duties.Ask (ask_duties.PlainData s)
+    ∷ duties.Silent (silent_duties.Keep s) ∷ duties.Ask (ask_duties.Edge s) ∷ duties.Step (step_duties.Unmapped s)
+    ∷ duties.Ask (ask_duties.HeardFin s 0) ∷ duties.Ask (ask_duties.HeardFin s 1) ∷ duties.Ask (ask_duties.HeardFin s 2)
+    ∷ duties.Silent (silent_duties.PassFin s) ∷ duties.Ask (ask_duties.SubflowFin s) ∷ duties.Ask (ask_duties.AckOut s)
+    ∷ duties.Ask (ask_duties.Rate s) ∷ duties.Send (send_duties.Acknowledge s) ∷ duties.Send (send_duties.Again s)
     ∷ emission s
 
 -- a copy that is taken, which says so many things

@@ -157,7 +157,10 @@ impl Agenda {
         ensures { result ≡ copy_came side count }
     {
         Agenda::of_parts(
-            &[Duty::Ask(AskDuty::Opened(side)), Duty::Ask(AskDuty::Live(side))],
+            &[
+                Duty::Ask(AskDuty::Opened(side)),
+                Duty::Ask(AskDuty::Live(side)),
+            ],
             things_heard(side, count).as_slice(),
             &payload_came(side),
         )

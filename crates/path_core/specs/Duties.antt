@@ -1,5 +1,5 @@
--- The four definitions by cases on the duty, part by part: whether it comes to something, to what, what its reply makes of the path, and
--- what a duty that comes to nothing changes in silence.
+-- The four definitions by cases on the duty, part by part: whether it comes to something, to what, what its reply makes of the
+-- path, and what a duty that comes to nothing changes in silence.
 use Rattle.std.specs.Prelude.{Bool, true, false, not, ◌&&◌, ◌||◌, is_some, Some, None, []}
 use Rattle.subflow_tcp.specs.State.{has_records}
 use Rattle.fallback_state.specs.declared.fall.Event.TheVariants as events

@@ -86,7 +86,10 @@ fn is_death(line: &ScriptLine) -> bool
 fn all_leave(a_is_dead: bool, b_is_dead: bool) -> Agenda
     ensures { result ≡ (if a_is_dead then [] else duties.Ask (ask_duties.Leave A) ∷ []) ++ ((if b_is_dead then [] else duties.Ask (ask_duties.Leave B) ∷ []) ++ rest_of_turn) }
 {
-    let (a, b) = (Duty::Ask(AskDuty::Leave(Side::A)), Duty::Ask(AskDuty::Leave(Side::B)));
+    let (a, b) = (
+        Duty::Ask(AskDuty::Leave(Side::A)),
+        Duty::Ask(AskDuty::Leave(Side::B)),
+    );
     match (a_is_dead, b_is_dead) {
         (false, false) => Agenda::of(&[a, b, Duty::Step(StepDuty::Events), Duty::End]),
         (false, true) => Agenda::of(&[a, Duty::Step(StepDuty::Events), Duty::End]),

@@ -66,7 +66,5 @@ pub use laws::{
 pub use lines::LineLeft;
 pub use modes::Modes;
 pub use path::Path;
-pub use path_agenda::{
-    AskDuty, Duty, Heard, KeyPair, PeerNotice, SendDuty, SilentDuty, StepDuty,
-};
+pub use path_agenda::{AskDuty, Duty, Heard, KeyPair, PeerNotice, SendDuty, SilentDuty, StepDuty};
 pub use start::key_of;
