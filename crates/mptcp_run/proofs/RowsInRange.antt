@@ -34,6 +34,10 @@ use Rattle.stream_apps.specs.Apps.{AppState}
 use Rattle.stream_apps.specs.AppSteps.{app_ask, app_asks_first}
 use Rattle.path_agenda.specs.declared.duty.Duty.{Duty}
 use Rattle.path_agenda.specs.declared.duty.Duty.TheVariants as duties
+use Rattle.path_agenda.specs.declared.duty.AskDuty.TheVariants as ask_duties
+use Rattle.path_agenda.specs.declared.duty.SendDuty.TheVariants as send_duties
+use Rattle.path_agenda.specs.declared.duty.SilentDuty.TheVariants as silent_duties
+use Rattle.path_agenda.specs.declared.duty.StepDuty.TheVariants as step_duties
 use Rattle.path_core.specs.declared.event.Event.{Event}
 use Rattle.path_core.specs.declared.event.Event.TheVariants as happening
 use Rattle.path_agenda.specs.declared.heard.Heard.{Heard}
@@ -155,50 +159,50 @@ module _ {C : Type 0} (k : Codec C) (p : PathState C) (low : path_of p < 16) whe
   rate_fair s (Some pending) = (low, omega arith, omega arith, omega arith, omega arith)
 
   path_asks_fair : (d : Duty) → IsFair (ask_for k d p)
-  path_asks_fair duties.JoinAgain = low
-  path_asks_fair (duties.JoinHeard s) = join_heard_fair s (asked_at s p)
-  path_asks_fair (duties.Refuse s) = tt
-  path_asks_fair (duties.PlainAck s) = plain_ack_fair s
-  path_asks_fair (duties.Look s) = low
-  path_asks_fair (duties.Window s) = tt
-  path_asks_fair (duties.Update s) = tt
-  path_asks_fair (duties.Syn s) = tt
-  path_asks_fair (duties.Data s) = data_fair s (first_unsent (end_at s p))
-  path_asks_fair (duties.DataFin s) = tt
-  path_asks_fair (duties.Fin s) = tt
-  path_asks_fair (duties.Timer s) = tt
-  path_asks_fair duties.Events = event_fair (next_event p)
-  path_asks_fair (duties.SynHeard s) = tt
-  path_asks_fair (duties.PlainHandshake s) = low
-  path_asks_fair (duties.SynAnswered s) = tt
-  path_asks_fair (duties.PeerKey s) = key_fair s (key_heard (end_at s p).treated.items)
-  path_asks_fair (duties.SynAck s) = tt
-  path_asks_fair (duties.Opened s) = opens_fair s (keys_heard (end_at s p).treated.items)
-  path_asks_fair (duties.Live s) = low
-  path_asks_fair (duties.Heard s index) = item_fair s (item_of index (end_at s p))
-  path_asks_fair (duties.AckHeard s) = low
-  path_asks_fair (duties.SubflowAck s) = tt
-  path_asks_fair (duties.PlainData s) = low
-  path_asks_fair (duties.GoIdentity s) = tt
-  path_asks_fair (duties.Keep s) = tt
-  path_asks_fair (duties.Edge s) = piece_fair s (piece_of s p)
-  path_asks_fair (duties.Unmapped s) = break_fair s 6
-  path_asks_fair (duties.HeardFin s index) = fin_fair s (fin_of index (end_at s p))
-  path_asks_fair (duties.PassFin s) = tt
-  path_asks_fair (duties.SubflowFin s) = fin_fair s (plain_fin (end_at s p))
-  path_asks_fair (duties.AckOut s) = tt
-  path_asks_fair (duties.Rate s) = rate_fair s (end_at s p).tcp.congestion.pending
-  path_asks_fair (duties.Acknowledge s) = tt
-  path_asks_fair (duties.Again s) = tt
-  path_asks_fair (duties.Answer s) = tt
-  path_asks_fair (duties.ResetAnswer s) = tt
-  path_asks_fair (duties.Return s) = tt
-  path_asks_fair (duties.Resend s) = tt
-  path_asks_fair (duties.BreakAck s reason) = tt
-  path_asks_fair (duties.BreakReset s reason) = tt
-  path_asks_fair (duties.Reset s) = tt
-  path_asks_fair (duties.Leave s) = tt
-  path_asks_fair (duties.Dead s) = low
+  path_asks_fair (duties.Ask ask_duties.JoinAgain) = low
+  path_asks_fair (duties.Ask (ask_duties.JoinHeard s)) = join_heard_fair s (asked_at s p)
+  path_asks_fair (duties.Send (send_duties.Refuse s)) = tt
+  path_asks_fair (duties.Step (step_duties.PlainAck s)) = plain_ack_fair s
+  path_asks_fair (duties.Step (step_duties.Look s)) = low
+  path_asks_fair (duties.Ask (ask_duties.Window s)) = tt
+  path_asks_fair (duties.Send (send_duties.Update s)) = tt
+  path_asks_fair (duties.Send (send_duties.Syn s)) = tt
+  path_asks_fair (duties.Step (step_duties.Data s)) = data_fair s (first_unsent (end_at s p))
+  path_asks_fair (duties.Send (send_duties.DataFin s)) = tt
+  path_asks_fair (duties.Send (send_duties.Fin s)) = tt
+  path_asks_fair (duties.Silent (silent_duties.Timer s)) = tt
+  path_asks_fair (duties.Step step_duties.Events) = event_fair (next_event p)
+  path_asks_fair (duties.Ask (ask_duties.SynHeard s)) = tt
+  path_asks_fair (duties.Ask (ask_duties.PlainHandshake s)) = low
+  path_asks_fair (duties.Ask (ask_duties.SynAnswered s)) = tt
+  path_asks_fair (duties.Ask (ask_duties.PeerKey s)) = key_fair s (key_heard (end_at s p).treated.items)
+  path_asks_fair (duties.Send (send_duties.SynAck s)) = tt
+  path_asks_fair (duties.Ask (ask_duties.Opened s)) = opens_fair s (keys_heard (end_at s p).treated.items)
+  path_asks_fair (duties.Ask (ask_duties.Live s)) = low
+  path_asks_fair (duties.Step (step_duties.Heard s index)) = item_fair s (item_of index (end_at s p))
+  path_asks_fair (duties.Ask (ask_duties.AckHeard s)) = low
+  path_asks_fair (duties.Ask (ask_duties.SubflowAck s)) = tt
+  path_asks_fair (duties.Ask (ask_duties.PlainData s)) = low
+  path_asks_fair (duties.Ask (ask_duties.GoIdentity s)) = tt
+  path_asks_fair (duties.Silent (silent_duties.Keep s)) = tt
+  path_asks_fair (duties.Ask (ask_duties.Edge s)) = piece_fair s (piece_of s p)
+  path_asks_fair (duties.Step (step_duties.Unmapped s)) = break_fair s 6
+  path_asks_fair (duties.Ask (ask_duties.HeardFin s index)) = fin_fair s (fin_of index (end_at s p))
+  path_asks_fair (duties.Silent (silent_duties.PassFin s)) = tt
+  path_asks_fair (duties.Ask (ask_duties.SubflowFin s)) = fin_fair s (plain_fin (end_at s p))
+  path_asks_fair (duties.Ask (ask_duties.AckOut s)) = tt
+  path_asks_fair (duties.Ask (ask_duties.Rate s)) = rate_fair s (end_at s p).tcp.congestion.pending
+  path_asks_fair (duties.Send (send_duties.Acknowledge s)) = tt
+  path_asks_fair (duties.Send (send_duties.Again s)) = tt
+  path_asks_fair (duties.Send (send_duties.Answer s)) = tt
+  path_asks_fair (duties.Send (send_duties.ResetAnswer s)) = tt
+  path_asks_fair (duties.Ask (ask_duties.Return s)) = tt
+  path_asks_fair (duties.Send (send_duties.Resend s)) = tt
+  path_asks_fair (duties.Ask (ask_duties.BreakAck s reason)) = tt
+  path_asks_fair (duties.Send (send_duties.BreakReset s reason)) = tt
+  path_asks_fair (duties.Send (send_duties.Reset s)) = tt
+  path_asks_fair (duties.Ask (ask_duties.Leave s)) = tt
+  path_asks_fair (duties.Ask (ask_duties.Dead s)) = low
   path_asks_fair duties.End = tt
 
 -- ---- what is answered

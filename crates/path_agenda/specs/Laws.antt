@@ -4,6 +4,9 @@ use Rattle.std.specs.List.{list_all}
 use Rattle.outside_kit.specs.declared.side.Side.{Side}
 use Rattle.path_agenda.specs.declared.duty.Duty.{Duty}
 use Rattle.path_agenda.specs.declared.duty.Duty.TheVariants as duties
+use Rattle.path_agenda.specs.declared.duty.AskDuty.TheVariants as ask_duties
+use Rattle.path_agenda.specs.declared.duty.SendDuty.TheVariants as send_duties
+use Rattle.path_agenda.specs.declared.duty.StepDuty.TheVariants as step_duties
 use Rattle.path_agenda.specs.Agenda.{rest_of_turn, emission, start_of_turn, syn_came, syn_ack_came, join_came, refuses, join_answered, copy_came, syn_again, answers, answers_dead, expired, expired_for_ever, leaves, breaks, resets}
 use Rattle.path_agenda.specs.Weights.{weights}
 
@@ -30,37 +33,37 @@ EveryTemplateEnds = (s : Side) (count reason : ℕ) → list_all ends_once (temp
 -- it is less than the duty was
 pub record ChainsEnd (s : Side) (index reason : ℕ) : Type 0 where
   -- a break in the place of what a copy said, or of bytes, or of the end of the stream
-  pub heard : weights (breaks s reason) < weights (duties.Heard s index ∷ [])
-  pub edge : weights (breaks s reason) < weights (duties.Edge s ∷ [])
-  pub unmapped : weights (breaks s reason) < weights (duties.Unmapped s ∷ [])
-  pub heard_fin : weights (breaks s reason) < weights (duties.HeardFin s index ∷ [])
-  pub subflow_fin : weights (breaks s reason) < weights (duties.SubflowFin s ∷ [])
+  pub heard : weights (breaks s reason) < weights (duties.Step (step_duties.Heard s index) ∷ [])
+  pub edge : weights (breaks s reason) < weights (duties.Ask (ask_duties.Edge s) ∷ [])
+  pub unmapped : weights (breaks s reason) < weights (duties.Step (step_duties.Unmapped s) ∷ [])
+  pub heard_fin : weights (breaks s reason) < weights (duties.Ask (ask_duties.HeardFin s index) ∷ [])
+  pub subflow_fin : weights (breaks s reason) < weights (duties.Ask (ask_duties.SubflowFin s) ∷ [])
   -- in the place of what told that Multipath TCP is there, or isn't
-  pub ack_told : weights (breaks s reason) < weights (duties.AckHeard s ∷ [])
-  pub plain_handshake : weights (breaks s reason) < weights (duties.PlainHandshake s ∷ [])
-  pub peer_key : weights (breaks s reason) < weights (duties.PeerKey s ∷ [])
-  pub opened : weights (breaks s reason) < weights (duties.Opened s ∷ [])
-  pub plain_ack : weights (breaks s reason) < weights (duties.PlainAck s ∷ [])
-  pub plain_data : weights (breaks s reason) < weights (duties.PlainData s ∷ [])
+  pub ack_told : weights (breaks s reason) < weights (duties.Ask (ask_duties.AckHeard s) ∷ [])
+  pub plain_handshake : weights (breaks s reason) < weights (duties.Ask (ask_duties.PlainHandshake s) ∷ [])
+  pub peer_key : weights (breaks s reason) < weights (duties.Ask (ask_duties.PeerKey s) ∷ [])
+  pub opened : weights (breaks s reason) < weights (duties.Ask (ask_duties.Opened s) ∷ [])
+  pub plain_ack : weights (breaks s reason) < weights (duties.Step (step_duties.PlainAck s) ∷ [])
+  pub plain_data : weights (breaks s reason) < weights (duties.Ask (ask_duties.PlainData s) ∷ [])
   -- a fall in the same places
-  pub heard_falls : weights (duties.GoIdentity s ∷ []) < weights (duties.Heard s index ∷ [])
-  pub ack_falls : weights (duties.GoIdentity s ∷ []) < weights (duties.AckHeard s ∷ [])
-  pub handshake_falls : weights (duties.GoIdentity s ∷ []) < weights (duties.PlainHandshake s ∷ [])
-  pub key_falls : weights (duties.GoIdentity s ∷ []) < weights (duties.PeerKey s ∷ [])
-  pub opened_falls : weights (duties.GoIdentity s ∷ []) < weights (duties.Opened s ∷ [])
-  pub plain_ack_falls : weights (duties.GoIdentity s ∷ []) < weights (duties.PlainAck s ∷ [])
-  pub plain_data_falls : weights (duties.GoIdentity s ∷ []) < weights (duties.PlainData s ∷ [])
+  pub heard_falls : weights (duties.Ask (ask_duties.GoIdentity s) ∷ []) < weights (duties.Step (step_duties.Heard s index) ∷ [])
+  pub ack_falls : weights (duties.Ask (ask_duties.GoIdentity s) ∷ []) < weights (duties.Ask (ask_duties.AckHeard s) ∷ [])
+  pub handshake_falls : weights (duties.Ask (ask_duties.GoIdentity s) ∷ []) < weights (duties.Ask (ask_duties.PlainHandshake s) ∷ [])
+  pub key_falls : weights (duties.Ask (ask_duties.GoIdentity s) ∷ []) < weights (duties.Ask (ask_duties.PeerKey s) ∷ [])
+  pub opened_falls : weights (duties.Ask (ask_duties.GoIdentity s) ∷ []) < weights (duties.Ask (ask_duties.Opened s) ∷ [])
+  pub plain_ack_falls : weights (duties.Ask (ask_duties.GoIdentity s) ∷ []) < weights (duties.Step (step_duties.PlainAck s) ∷ [])
+  pub plain_data_falls : weights (duties.Ask (ask_duties.GoIdentity s) ∷ []) < weights (duties.Ask (ask_duties.PlainData s) ∷ [])
   -- the answer to a SYN that joins, and the death of an end that may not join any more
-  pub join_taken : weights (duties.SynAck s ∷ []) < weights (duties.JoinHeard s ∷ [])
-  pub join_refused : weights (duties.Refuse s ∷ []) < weights (duties.JoinHeard s ∷ [])
-  pub join_ended : weights (duties.Leave s ∷ []) < weights (duties.JoinAgain ∷ [])
+  pub join_taken : weights (duties.Send (send_duties.SynAck s) ∷ []) < weights (duties.Ask (ask_duties.JoinHeard s) ∷ [])
+  pub join_refused : weights (duties.Send (send_duties.Refuse s) ∷ []) < weights (duties.Ask (ask_duties.JoinHeard s) ∷ [])
+  pub join_ended : weights (duties.Ask (ask_duties.Leave s) ∷ []) < weights ((duties.Ask ask_duties.JoinAgain) ∷ [])
   -- a Data ACK that covers something
-  pub ack_heard : weights (duties.AckHeard s ∷ []) < weights (duties.Heard s index ∷ [])
+  pub ack_heard : weights (duties.Ask (ask_duties.AckHeard s) ∷ []) < weights (duties.Step (step_duties.Heard s index) ∷ [])
   -- from a break to the reset, and from a reset to the death
-  pub break_ack : weights (resets s reason) < weights (duties.BreakAck s reason ∷ [])
-  pub break_reset : weights (leaves s) < weights (duties.BreakReset s reason ∷ [])
-  pub reset : weights (duties.Leave s ∷ []) < weights (duties.Reset s ∷ [])
-  pub leave : weights (duties.Dead s ∷ []) < weights (duties.Leave s ∷ [])
+  pub break_ack : weights (resets s reason) < weights (duties.Ask (ask_duties.BreakAck s reason) ∷ [])
+  pub break_reset : weights (leaves s) < weights (duties.Send (send_duties.BreakReset s reason) ∷ [])
+  pub reset : weights (duties.Ask (ask_duties.Leave s) ∷ []) < weights (duties.Send (send_duties.Reset s) ∷ [])
+  pub leave : weights (duties.Ask (ask_duties.Dead s) ∷ []) < weights (duties.Ask (ask_duties.Leave s) ∷ [])
 
 abbrev pub EveryChainEnds : Type 0
 EveryChainEnds = (s : Side) (index reason : ℕ) → ChainsEnd s index reason

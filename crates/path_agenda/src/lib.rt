@@ -16,7 +16,7 @@ mod templates;
 
 pub use agenda::Agenda;
 pub use clock::Clock;
-pub use duty::Duty;
+pub use duty::{AskDuty, Duty, SendDuty, SilentDuty, StepDuty};
 pub use heard::{Heard, JoinStep};
 pub use items::{Items, join_heard, key_heard, keys_heard, one_wants_ack, place_in_first};
 pub use keys::KeyPair;

@@ -4,7 +4,7 @@ ghost use Rattle.std.specs.Prelude.{◌≡◌, ◌≤◌, ◌∷◌, []};
 ghost use Rattle.path_agenda.specs.Agenda.{heard_and, rest_of_turn, emission, start_of_turn, syn_came, syn_ack_came, join_came, refuses, join_answered, payload_came, copy_came, syn_again, answers, answers_dead, expired, expired_for_ever, leaves, breaks, resets};
 
 use crate::agenda::Agenda;
-use crate::duty::Duty;
+use crate::duty::{AskDuty, Duty, SendDuty, SilentDuty, StepDuty};
 use arrayvec::ArrayVec;
 use outside_kit::Side;
 
@@ -13,7 +13,7 @@ impl Agenda {
     pub fn rest_of_turn() -> Self
         ensures { result ≡ rest_of_turn }
     {
-        Agenda::of(&[Duty::Events, Duty::End])
+        Agenda::of(&[Duty::Step(StepDuty::Events), Duty::End])
     }
 
     /// What follows every event at an end: what it sends, and then the next events.
@@ -21,12 +21,12 @@ impl Agenda {
         ensures { result ≡ emission side }
     {
         Agenda::of(&[
-            Duty::Syn(side),
-            Duty::Data(side),
-            Duty::DataFin(side),
-            Duty::Fin(side),
-            Duty::Timer(side),
-            Duty::Events,
+            Duty::Send(SendDuty::Syn(side)),
+            Duty::Step(StepDuty::Data(side)),
+            Duty::Send(SendDuty::DataFin(side)),
+            Duty::Send(SendDuty::Fin(side)),
+            Duty::Silent(SilentDuty::Timer(side)),
+            Duty::Step(StepDuty::Events),
             Duty::End,
         ])
     }
@@ -37,24 +37,24 @@ impl Agenda {
     {
         let (a, b) = (Side::A, Side::B);
         Agenda::of(&[
-            Duty::JoinAgain,
-            Duty::Look(a),
-            Duty::Look(b),
-            Duty::Window(a),
-            Duty::Update(a),
-            Duty::Window(b),
-            Duty::Update(b),
-            Duty::Syn(a),
-            Duty::Data(a),
-            Duty::DataFin(a),
-            Duty::Fin(a),
-            Duty::Timer(a),
-            Duty::Syn(b),
-            Duty::Data(b),
-            Duty::DataFin(b),
-            Duty::Fin(b),
-            Duty::Timer(b),
-            Duty::Events,
+            Duty::Ask(AskDuty::JoinAgain),
+            Duty::Step(StepDuty::Look(a)),
+            Duty::Step(StepDuty::Look(b)),
+            Duty::Ask(AskDuty::Window(a)),
+            Duty::Send(SendDuty::Update(a)),
+            Duty::Ask(AskDuty::Window(b)),
+            Duty::Send(SendDuty::Update(b)),
+            Duty::Send(SendDuty::Syn(a)),
+            Duty::Step(StepDuty::Data(a)),
+            Duty::Send(SendDuty::DataFin(a)),
+            Duty::Send(SendDuty::Fin(a)),
+            Duty::Silent(SilentDuty::Timer(a)),
+            Duty::Send(SendDuty::Syn(b)),
+            Duty::Step(StepDuty::Data(b)),
+            Duty::Send(SendDuty::DataFin(b)),
+            Duty::Send(SendDuty::Fin(b)),
+            Duty::Silent(SilentDuty::Timer(b)),
+            Duty::Step(StepDuty::Events),
             Duty::End,
         ])
     }
@@ -65,12 +65,12 @@ impl Agenda {
     {
         Agenda::of(&[
             duty,
-            Duty::Syn(side),
-            Duty::Data(side),
-            Duty::DataFin(side),
-            Duty::Fin(side),
-            Duty::Timer(side),
-            Duty::Events,
+            Duty::Send(SendDuty::Syn(side)),
+            Duty::Step(StepDuty::Data(side)),
+            Duty::Send(SendDuty::DataFin(side)),
+            Duty::Send(SendDuty::Fin(side)),
+            Duty::Silent(SilentDuty::Timer(side)),
+            Duty::Step(StepDuty::Events),
             Duty::End,
         ])
     }
@@ -79,7 +79,7 @@ impl Agenda {
     fn before_rest(duty: Duty) -> Self
         ensures { result ≡ duty ∷ rest_of_turn }
     {
-        Agenda::of(&[duty, Duty::Events, Duty::End])
+        Agenda::of(&[duty, Duty::Step(StepDuty::Events), Duty::End])
     }
 
     /// The SYN of the peer came: its window is told, and that it doesn't ask for Multipath TCP, and then the SYN/ACK goes out.
@@ -87,15 +87,15 @@ impl Agenda {
         ensures { result ≡ syn_came side }
     {
         Agenda::of(&[
-            Duty::SynHeard(side),
-            Duty::PlainHandshake(side),
-            Duty::SynAck(side),
-            Duty::Syn(side),
-            Duty::Data(side),
-            Duty::DataFin(side),
-            Duty::Fin(side),
-            Duty::Timer(side),
-            Duty::Events,
+            Duty::Ask(AskDuty::SynHeard(side)),
+            Duty::Ask(AskDuty::PlainHandshake(side)),
+            Duty::Send(SendDuty::SynAck(side)),
+            Duty::Send(SendDuty::Syn(side)),
+            Duty::Step(StepDuty::Data(side)),
+            Duty::Send(SendDuty::DataFin(side)),
+            Duty::Send(SendDuty::Fin(side)),
+            Duty::Silent(SilentDuty::Timer(side)),
+            Duty::Step(StepDuty::Events),
             Duty::End,
         ])
     }
@@ -105,16 +105,16 @@ impl Agenda {
         ensures { result ≡ syn_ack_came side }
     {
         Agenda::of(&[
-            Duty::SynAnswered(side),
-            Duty::PeerKey(side),
-            Duty::Live(side),
-            Duty::Acknowledge(side),
-            Duty::Syn(side),
-            Duty::Data(side),
-            Duty::DataFin(side),
-            Duty::Fin(side),
-            Duty::Timer(side),
-            Duty::Events,
+            Duty::Ask(AskDuty::SynAnswered(side)),
+            Duty::Ask(AskDuty::PeerKey(side)),
+            Duty::Ask(AskDuty::Live(side)),
+            Duty::Send(SendDuty::Acknowledge(side)),
+            Duty::Send(SendDuty::Syn(side)),
+            Duty::Step(StepDuty::Data(side)),
+            Duty::Send(SendDuty::DataFin(side)),
+            Duty::Send(SendDuty::Fin(side)),
+            Duty::Silent(SilentDuty::Timer(side)),
+            Duty::Step(StepDuty::Events),
             Duty::End,
         ])
     }
@@ -123,14 +123,14 @@ impl Agenda {
     pub fn join_came(side: Side) -> Self
         ensures { result ≡ join_came side }
     {
-        Agenda::before_emission(Duty::JoinHeard(side), side)
+        Agenda::before_emission(Duty::Ask(AskDuty::JoinHeard(side)), side)
     }
 
     /// The SYN of a path that joins came without an MP_JOIN: it is refused.
     pub fn refuses(side: Side) -> Self
         ensures { result ≡ refuses side }
     {
-        Agenda::before_emission(Duty::Refuse(side), side)
+        Agenda::before_emission(Duty::Send(SendDuty::Refuse(side)), side)
     }
 
     /// The SYN/ACK of a path that joins came: it is told that the path lives, and then the SYN/ACK is acknowledged.
@@ -138,14 +138,14 @@ impl Agenda {
         ensures { result ≡ join_answered side }
     {
         Agenda::of(&[
-            Duty::Live(side),
-            Duty::Acknowledge(side),
-            Duty::Syn(side),
-            Duty::Data(side),
-            Duty::DataFin(side),
-            Duty::Fin(side),
-            Duty::Timer(side),
-            Duty::Events,
+            Duty::Ask(AskDuty::Live(side)),
+            Duty::Send(SendDuty::Acknowledge(side)),
+            Duty::Send(SendDuty::Syn(side)),
+            Duty::Step(StepDuty::Data(side)),
+            Duty::Send(SendDuty::DataFin(side)),
+            Duty::Send(SendDuty::Fin(side)),
+            Duty::Silent(SilentDuty::Timer(side)),
+            Duty::Step(StepDuty::Events),
             Duty::End,
         ])
     }
@@ -157,7 +157,10 @@ impl Agenda {
         ensures { result ≡ copy_came side count }
     {
         Agenda::of_parts(
-            &[Duty::Opened(side), Duty::Live(side)],
+            &[
+                Duty::Ask(AskDuty::Opened(side)),
+                Duty::Ask(AskDuty::Live(side)),
+            ],
             things_heard(side, count).as_slice(),
             &payload_came(side),
         )
@@ -167,21 +170,21 @@ impl Agenda {
     pub fn syn_again(side: Side) -> Self
         ensures { result ≡ syn_again side }
     {
-        Agenda::before_emission(Duty::SynAck(side), side)
+        Agenda::before_emission(Duty::Send(SendDuty::SynAck(side)), side)
     }
 
     /// A copy came that is answered.
     pub fn answers(side: Side) -> Self
         ensures { result ≡ answers side }
     {
-        Agenda::before_emission(Duty::Answer(side), side)
+        Agenda::before_emission(Duty::Send(SendDuty::Answer(side)), side)
     }
 
     /// A copy came at a dead end, which answers by a reset.
     pub fn answers_dead(side: Side) -> Self
         ensures { result ≡ answers_dead side }
     {
-        Agenda::before_rest(Duty::ResetAnswer(side))
+        Agenda::before_rest(Duty::Send(SendDuty::ResetAnswer(side)))
     }
 
     /// The timer ran out: what isn't acknowledged is given back, and what was lost is sent again.
@@ -189,14 +192,14 @@ impl Agenda {
         ensures { result ≡ expired side }
     {
         Agenda::of(&[
-            Duty::Return(side),
-            Duty::Resend(side),
-            Duty::Syn(side),
-            Duty::Data(side),
-            Duty::DataFin(side),
-            Duty::Fin(side),
-            Duty::Timer(side),
-            Duty::Events,
+            Duty::Ask(AskDuty::Return(side)),
+            Duty::Send(SendDuty::Resend(side)),
+            Duty::Send(SendDuty::Syn(side)),
+            Duty::Step(StepDuty::Data(side)),
+            Duty::Send(SendDuty::DataFin(side)),
+            Duty::Send(SendDuty::Fin(side)),
+            Duty::Silent(SilentDuty::Timer(side)),
+            Duty::Step(StepDuty::Events),
             Duty::End,
         ])
     }
@@ -205,28 +208,28 @@ impl Agenda {
     pub fn expired_for_ever(side: Side) -> Self
         ensures { result ≡ expired_for_ever side }
     {
-        Agenda::before_rest(Duty::Reset(side))
+        Agenda::before_rest(Duty::Send(SendDuty::Reset(side)))
     }
 
     /// The end died: it leaves.
     pub fn leaves(side: Side) -> Self
         ensures { result ≡ leaves side }
     {
-        Agenda::before_rest(Duty::Leave(side))
+        Agenda::before_rest(Duty::Ask(AskDuty::Leave(side)))
     }
 
     /// The path breaks, with this reason (RFC 8684, section 3.6): it is asked once more what is to be acknowledged.
     pub fn breaks(side: Side, reason: u8) -> Self
         ensures { result ≡ breaks side reason }
     {
-        Agenda::before_rest(Duty::BreakAck { side, reason })
+        Agenda::before_rest(Duty::Ask(AskDuty::BreakAck { side, reason }))
     }
 
     /// The path breaks, and what is to be acknowledged was told: a reset with this reason (RFC 8684, section 3.6).
     pub fn resets(side: Side, reason: u8) -> Self
         ensures { result ≡ resets side reason }
     {
-        Agenda::before_rest(Duty::BreakReset { side, reason })
+        Agenda::before_rest(Duty::Send(SendDuty::BreakReset { side, reason }))
     }
 }
 
@@ -237,10 +240,10 @@ fn things_heard(side: Side, count: usize) -> ArrayVec<Duty, 37>
 {
     let mut things = ArrayVec::new();
     for index in 0..count {
-        things.push(Duty::Heard {
+        things.push(Duty::Step(StepDuty::Heard {
             side,
             index: index as u64,
-        });
+        }));
     }
     things
 }
@@ -250,27 +253,27 @@ fn payload_came(side: Side) -> [Duty; 22]
     ensures { result ≡ payload_came side }
 {
     [
-        Duty::PlainAck(side),
-        Duty::SubflowAck(side),
-        Duty::PlainData(side),
-        Duty::Keep(side),
-        Duty::Edge(side),
-        Duty::Unmapped(side),
-        Duty::HeardFin { side, index: 0 },
-        Duty::HeardFin { side, index: 1 },
-        Duty::HeardFin { side, index: 2 },
-        Duty::PassFin(side),
-        Duty::SubflowFin(side),
-        Duty::AckOut(side),
-        Duty::Rate(side),
-        Duty::Acknowledge(side),
-        Duty::Again(side),
-        Duty::Syn(side),
-        Duty::Data(side),
-        Duty::DataFin(side),
-        Duty::Fin(side),
-        Duty::Timer(side),
-        Duty::Events,
+        Duty::Step(StepDuty::PlainAck(side)),
+        Duty::Ask(AskDuty::SubflowAck(side)),
+        Duty::Ask(AskDuty::PlainData(side)),
+        Duty::Silent(SilentDuty::Keep(side)),
+        Duty::Ask(AskDuty::Edge(side)),
+        Duty::Step(StepDuty::Unmapped(side)),
+        Duty::Ask(AskDuty::HeardFin { side, index: 0 }),
+        Duty::Ask(AskDuty::HeardFin { side, index: 1 }),
+        Duty::Ask(AskDuty::HeardFin { side, index: 2 }),
+        Duty::Silent(SilentDuty::PassFin(side)),
+        Duty::Ask(AskDuty::SubflowFin(side)),
+        Duty::Ask(AskDuty::AckOut(side)),
+        Duty::Ask(AskDuty::Rate(side)),
+        Duty::Send(SendDuty::Acknowledge(side)),
+        Duty::Send(SendDuty::Again(side)),
+        Duty::Send(SendDuty::Syn(side)),
+        Duty::Step(StepDuty::Data(side)),
+        Duty::Send(SendDuty::DataFin(side)),
+        Duty::Send(SendDuty::Fin(side)),
+        Duty::Silent(SilentDuty::Timer(side)),
+        Duty::Step(StepDuty::Events),
         Duty::End,
     ]
 }

@@ -12,6 +12,7 @@ use Rattle.path_agenda.specs.Agenda.{breaks, resets}
 use Rattle.path_agenda.specs.Words.{replaced}
 use Rattle.path_agenda.specs.declared.duty.Duty.{Duty}
 use Rattle.path_agenda.specs.declared.duty.Duty.TheVariants as duties
+use Rattle.path_agenda.specs.declared.duty.AskDuty.TheVariants as ask_duties
 use Rattle.path_core.specs.Falling.{breaks_by, fell_duties}
 use Rattle.path_core.specs.State.{PathState, end_at, left}
 
@@ -20,7 +21,7 @@ broken_so : (P : List Duty → Type 0) (asked : Bool) (s : Side) (reason : ℕ) 
 broken_so P true s reason broken reset = broken
 broken_so P false s reason broken reset = reset
 
-module _ {C : Type 0} (P : List Duty → Type 0) (s : Side) (p : PathState C) (falls : P (replaced (duties.GoIdentity s) p.agenda))
+module _ {C : Type 0} (P : List Duty → Type 0) (s : Side) (p : PathState C) (falls : P (replaced (duties.Ask (ask_duties.GoIdentity s)) p.agenda))
     (broken : (reason : ℕ) → P (breaks s reason)) (reset : (reason : ℕ) → P (resets s reason)) (done : P (left p)) where
   by_verdict : (v : Verdict) → P (fell_duties s (replies.Control (control_replies.Verdict v)) p)
   by_verdict (verdicts.Went Identity) = falls

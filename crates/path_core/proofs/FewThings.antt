@@ -1,6 +1,6 @@
 -- Forty octets of options say 37 things at most: those of one REMOVE_ADDR with 37 ids.
-use Rattle.std.proofs.Common.{◌≡◌, ◌⊎◌, inl, inr, refl, sym, ap, subst, ◌∙◌, ℕ, zero, suc, ◌+◌, ◌-◌, ◌*◌, ◌/◌, ◌<◌, ◌≤◌, ◌&&◌, ◌||◌, ◌==◌, nat_le, nat_lt, Bool, true, false, not, if◌then◌else◌, Option, Some, None, List, [], ◌∷◌, ◌++◌, length, map, take, drop, length-append, arith}
-use Rattle.std.specs.Prelude.{Result, Ok, Err, option_map, All, IfSome, filter}
+use Rattle.std.proofs.Common.{◌≡◌, ◌⊎◌, inl, inr, refl, sym, ap, subst, ◌∙◌, ℕ, zero, suc, ◌+◌, ◌-◌, ◌*◌, ◌<◌, ◌≤◌, ◌&&◌, ◌||◌, nat_le, nat_lt, Bool, true, false, if◌then◌else◌, Option, Some, None, List, [], ◌∷◌, ◌++◌, length, map, take, drop, length-append, arith}
+use Rattle.std.specs.Prelude.{Result, Ok, Err, option_map, IfSome, filter}
 use Rattle.std.specs.Borrow.{Bor}
 use Rattle.std.specs.Result.{result_ok}
 use Rattle.std.specs.List.{flat_map, slice_index}
@@ -14,7 +14,7 @@ use Rattle.key_material.proofs.Octets.{AreOctets-take, AreOctets-drop, each_octe
 use Rattle.segment_wire.specs.declared.head.Addresses.{Addresses}
 use Rattle.segment_wire.specs.declared.reading.SegmentFault.{SegmentFault}
 use Rattle.segment_wire.specs.declared.reading.SegmentFault.TheVariants.{Short, DataOffset, OptionLength, Checksum}
-use Rattle.segment_wire.specs.Options.{options_after, option_octets, plain_options}
+use Rattle.segment_wire.specs.Options.{options_after, option_octets}
 use Rattle.segment_wire.specs.Reading.{segment_meaning, segment_in, options_in, header_len, is_short, has_wrong_offset, has_broken_option, has_wrong_checksum}
 use Rattle.segment_wire.specs.Segment.{Segment}
 use Rattle.mptcp_options.specs.declared.capable.CapableKeys.{CapableKeys}
@@ -34,14 +34,13 @@ use Rattle.path_segments.specs.declared.segment.PathSegment.{PathSegment}
 use Rattle.path_segments.specs.HeardSegments.{heard_value}
 use Rattle.path_segments.specs.declared.segment.PathMapping.{PathMapping}
 use Rattle.path_segments.specs.declared.segment.PathMapping.TheVariants.{Bytes, End, Infinite}
-use Rattle.path_segments.specs.declared.segment.PathOption.TheVariants.{Capable, Join, Dss, AddAddr, Remove, Prio, Fail, FastClose, Reset}
+use Rattle.path_segments.specs.declared.segment.PathOption.TheVariants.{Capable, Dss}
 use Rattle.path_segments.specs.declared.spelling.Side.{Side as SpelledSide}
 use Rattle.path_segments.specs.declared.spelling.Spelling.{Spelling}
 use Rattle.path_segments.specs.Heard.{place_heard, heard_mapping, heard_option, heard_options, heard_in, heard_segment, known_or, known_in}
 use Rattle.path_segments.specs.Spelling.{addresses_from, peer_of}
-use Rattle.dss_mapping.specs.Mappings.{octets_in as mapped_octets}
 use Rattle.path_agenda.specs.declared.heard.Heard.{Heard}
-use Rattle.path_core.specs.Arriving.{HeardOption, ack_items, mapping_items, end_items, infinite_items, map_items, key_items, join_items, address_items, item_removed, items_in, SaysFew}
+use Rattle.path_core.specs.Arriving.{HeardOption, ack_items, mapping_items, map_items, key_items, join_items, address_items, item_removed, items_in, SaysFew}
 use Rattle.path_core.specs.Codec.{HeardSegment}
 use Rattle.path_core.specs.FewThings.{is_priority, CopiesSayFew, CopiesHaveFewPriorities}
 

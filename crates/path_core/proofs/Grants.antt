@@ -1,5 +1,5 @@
 -- What may be sent where a duty stands, and what a grant brings.
-use Rattle.std.proofs.Common.{◌≡◌, refl, ℕ, ◌^◌, ◌<◌, ◌≤◌, Bool, true, false, ◌&&◌, ◌||◌, not, is_some, Option, Some, None, arith}
+use Rattle.std.proofs.Common.{◌≡◌, refl, ◌^◌, ◌<◌, ◌≤◌, Bool, true, false, ◌&&◌, ◌||◌, not, is_some, Option, Some, None, arith}
 use Rattle.std.specs.Prelude.{IsTrue, nat_le}
 use Rattle.std.proofs.lemmas.Bool.{leb-false}
 use Rattle.outside_kit.specs.declared.side.Side.{Side}

@@ -1,5 +1,5 @@
 -- The options of a path are those of the handshakes and of the ends.
-use Rattle.std.proofs.Common.{◌≡◌, ◌≢◌, refl, sym, ap, subst, ℕ, Option, Bool, true, false, Some, None, [], ◌∷◌, if◌then◌else◌, is_some, ◌||◌, ◌==◌, arith}
+use Rattle.std.proofs.Common.{◌≡◌, ◌≢◌, refl, sym, ap, subst, ℕ, Option, Bool, true, false, Some, None, if◌then◌else◌, is_some, ◌||◌, ◌==◌, arith}
 use Rattle.control_book.specs.Control.{Control}
 use Rattle.control_book.specs.Replies.{reply_to}
 use Rattle.control_book.specs.declared.call.ControlCall.TheVariants as control_calls

@@ -6,6 +6,8 @@ use Rattle.send_book.specs.declared.call.SendReply.TheVariants as send_replies
 use Rattle.subflow_send.specs.Records.{Record}
 use Rattle.path_agenda.specs.declared.duty.Duty.{Duty}
 use Rattle.path_agenda.specs.declared.duty.Duty.TheVariants as duties
+use Rattle.path_agenda.specs.declared.duty.AskDuty.TheVariants as ask_duties
+use Rattle.path_agenda.specs.declared.duty.StepDuty.TheVariants as step_duties
 use Rattle.path_agenda.specs.Words.{first_of}
 use Rattle.reassembly_book.specs.declared.call.ReassemblyReply.TheVariants as reassembly_replies
 use Rattle.control_book.specs.declared.call.ControlCall.TheVariants as control_calls
@@ -105,8 +107,8 @@ data_fits s None p r takes few none = granted_fits s p r takes.0 few
 data_fits s (Some unsent) p r takes few none = cc
 
 grant_fits : (d : Duty) (p : PathState (List ℕ)) (r : Reply) → TakesReply (Some (ask_for octets d p)) r → p.profile.mss ≤ 1460 → IsGrantFit d r p
-grant_fits (duties.Data s) p r takes few = data_fits s (first_unsent (end_at s p)) p r takes few
-grant_fits duties.JoinAgain p r takes few = tt
+grant_fits (duties.Step (step_duties.Data s)) p r takes few = data_fits s (first_unsent (end_at s p)) p r takes few
+grant_fits (duties.Ask ask_duties.JoinAgain) p r takes few = tt
 grant_fits _ p r takes few = tt
 
 pub grant_of_first : (ds : List Duty) (d : Duty) (p : PathState (List ℕ)) (r : Reply) → first_of ds ≡ Some d → TakesReply (asks_first octets ds p) r → p.profile.mss ≤ 1460 → IsGrantFit d r p

@@ -17,6 +17,10 @@ use Rattle.actor_desk.specs.declared.ask.Reply.{Reply}
 use Rattle.actor_desk.specs.declared.ask.Reply.TheVariants as replies
 use Rattle.path_agenda.specs.declared.duty.Duty.{Duty}
 use Rattle.path_agenda.specs.declared.duty.Duty.TheVariants as duties
+use Rattle.path_agenda.specs.declared.duty.AskDuty.TheVariants as ask_duties
+use Rattle.path_agenda.specs.declared.duty.SendDuty.TheVariants as send_duties
+use Rattle.path_agenda.specs.declared.duty.SilentDuty.TheVariants as silent_duties
+use Rattle.path_agenda.specs.declared.duty.StepDuty.TheVariants as step_duties
 use Rattle.path_agenda.specs.declared.heard.Heard.{Heard}
 use Rattle.path_agenda.specs.declared.heard.Heard.TheVariants as says
 use Rattle.path_agenda.specs.Agenda.{breaks, resets, leaves}
@@ -239,7 +243,7 @@ module _ {C : Type 0} where
   -- the duty is lighter than each agenda that may follow a verdict
   pub record Heavy (s : Side) (p : PathState C) : Type 0 where
     pub done : weights (left p) < weights p.agenda
-    pub falls : weights (replaced (duties.GoIdentity s) p.agenda) < weights p.agenda
+    pub falls : weights (replaced (duties.Ask (ask_duties.GoIdentity s)) p.agenda) < weights p.agenda
     pub breaks : 12 ≤ weights p.agenda
 
   fell_less : (s : Side) (e : PathEnd) (r : Reply) (p : PathState C) → TakesTime p → Rests p.clock (end_at s p) e → Heavy s p
@@ -298,13 +302,13 @@ module _ {C : Type 0} where
       by true = break_lowers k s 6 r p t heavy.breaks
       by false = fell_less s f r p t (same_rests p.clock (end_at s p) f refl) heavy
 
-  told_less : (s : Side) (covers : Bool) (p : PathState C) → weights (left p) < weights p.agenda → weights (replaced (duties.AckHeard s) p.agenda) < weights p.agenda
+  told_less : (s : Side) (covers : Bool) (p : PathState C) → weights (left p) < weights p.agenda → weights (replaced (duties.Ask (ask_duties.AckHeard s)) p.agenda) < weights p.agenda
       → weights (told_next s covers p) < weights p.agenda
   told_less s true p less next = next
   told_less s false p less next = less
 
   heard_lowers : (k : Codec C) (s : Side) (item : Option Heard) (r : Reply) (p : PathState C) → TakesTime p
-      → weights (replaced (duties.AckHeard s) p.agenda) < weights p.agenda → Heavy s p → Lowers p (answered_item k s item r p)
+      → weights (replaced (duties.Ask (ask_duties.AckHeard s)) p.agenda) < weights p.agenda → Heavy s p → Lowers p (answered_item k s item r p)
   heard_lowers k s None r p t next heavy = agenda_less (left p) p t heavy.done
   heard_lowers k s (Some says.Dss) r p t next heavy = agenda_less (left p) p t heavy.done
   heard_lowers k s (Some (says.DataAck place window)) r p t next heavy =
@@ -335,14 +339,14 @@ module _ {C : Type 0} where
       by false = goes_less A (opened_by (keys_begun r) p.a) living p t (opened_rests p.clock (keys_begun r) p.a) less_living
 
   taken_less : (s : Side) (keys : Option KeyPair) (asked : Option JoinSyn) (r : Reply) (p : PathState C) → TakesTime p
-      → weights (replaced (duties.SynAck s) p.agenda) < weights p.agenda → weights (replaced (duties.Refuse s) p.agenda) < weights p.agenda
+      → weights (replaced (duties.Send (send_duties.SynAck s)) p.agenda) < weights p.agenda → weights (replaced (duties.Send (send_duties.Refuse s)) p.agenda) < weights p.agenda
       → Lowers p (join_taken s keys asked r p)
   taken_less s (Some keys) (Some asked) r p t less_taken less_refused =
-      goes_less s (joined_by keys asked (end_at s p)) (replaced (duties.SynAck s) p.agenda) p t (joined_rests p.clock keys asked (end_at s p)) less_taken
-  taken_less s (Some keys) None r p t less_taken less_refused = agenda_less (replaced (duties.Refuse s) p.agenda) p t less_refused
-  taken_less s None None r p t less_taken less_refused = agenda_less (replaced (duties.Refuse s) p.agenda) p t less_refused
+      goes_less s (joined_by keys asked (end_at s p)) (replaced (duties.Send (send_duties.SynAck s)) p.agenda) p t (joined_rests p.clock keys asked (end_at s p)) less_taken
+  taken_less s (Some keys) None r p t less_taken less_refused = agenda_less (replaced (duties.Send (send_duties.Refuse s)) p.agenda) p t less_refused
+  taken_less s None None r p t less_taken less_refused = agenda_less (replaced (duties.Send (send_duties.Refuse s)) p.agenda) p t less_refused
   taken_less s None (Some asked) r p t less_taken less_refused =
-      goes_less s (with_mode_refused r (end_at s p)) (replaced (duties.Refuse s) p.agenda) p t (same_rests p.clock (end_at s p) (with_mode_refused r (end_at s p)) refl) less_refused
+      goes_less s (with_mode_refused r (end_at s p)) (replaced (duties.Send (send_duties.Refuse s)) p.agenda) p t (same_rests p.clock (end_at s p) (with_mode_refused r (end_at s p)) refl) less_refused
 
   -- ---- every duty
 
@@ -355,77 +359,77 @@ module _ {C : Type 0} where
 
   pub answered_lowers : (k : Codec C) (d : Duty) (ds : List Duty) (r : Reply) (p : PathState C) → TakesTime p → p.agenda ≡ d ∷ ds → stands d p ≡ true
       → IsOfKind (ask_for k d p) r → Lowers p (answered k d r p)
-  answered_lowers k duties.JoinAgain ds r p t is stands kind =
-      join_less r (replaced (duties.Leave A) p.agenda) (left p) p t (rw is (omega arith)) (left_less _ ds p is)
-  answered_lowers k (duties.Look s) ds r p t is stands kind =
+  answered_lowers k (duties.Ask ask_duties.JoinAgain) ds r p t is stands kind =
+      join_less r (replaced (duties.Ask (ask_duties.Leave A)) p.agenda) (left p) p t (rw is (omega arith)) (left_less _ ds p is)
+  answered_lowers k (duties.Step (step_duties.Look s)) ds r p t is stands kind =
       goes_less s (after_look r (end_at s p)) (left p) p t (same_rests p.clock (end_at s p) (after_look r (end_at s p)) refl) (left_less _ ds p is)
-  answered_lowers k (duties.Window s) ds r p t is stands kind =
+  answered_lowers k (duties.Ask (ask_duties.Window s)) ds r p t is stands kind =
       goes_less s (after_ack_out r (end_at s p)) (left p) p t (same_rests p.clock (end_at s p) (after_ack_out r (end_at s p)) refl) (left_less _ ds p is)
-  answered_lowers k (duties.Update s) ds r p t is stands kind = acked_less k s p t (left_less _ ds p is)
-  answered_lowers k (duties.Syn s) ds r p t is stands kind =
+  answered_lowers k (duties.Send (send_duties.Update s)) ds r p t is stands kind = acked_less k s p t (left_less _ ds p is)
+  answered_lowers k (duties.Send (send_duties.Syn s)) ds r p t is stands kind =
       sent_less k s (unsent_segment s p) (having_sent_unsent s p) (left p) p t (same_rests p.clock (end_at s p) (having_sent_unsent s p) refl) (left_less _ ds p is)
-  answered_lowers k (duties.Data s) ds r p t is stands kind = data_lowers k s (first_unsent (end_at s p)) r p t (left_less _ ds p is) refl stands kind
-  answered_lowers k (duties.DataFin s) ds r p t is stands kind =
+  answered_lowers k (duties.Step (step_duties.Data s)) ds r p t is stands kind = data_lowers k s (first_unsent (end_at s p)) r p t (left_less _ ds p is) refl stands kind
+  answered_lowers k (duties.Send (send_duties.DataFin s)) ds r p t is stands kind =
       sent_less k s (end_segment s p) (having_sent_end s p) (left p) p t (same_rests p.clock (end_at s p) (having_sent_end s p) refl) (left_less _ ds p is)
-  answered_lowers k (duties.Fin s) ds r p t is stands kind =
+  answered_lowers k (duties.Send (send_duties.Fin s)) ds r p t is stands kind =
       sent_less k s (fin_segment_of s p) (having_sent_fin s p) (left p) p t (same_rests p.clock (end_at s p) (having_sent_fin s p) refl) (left_less _ ds p is)
-  answered_lowers k (duties.Timer s) ds r p t is stands kind = agenda_less (left p) p t (left_less _ ds p is)
-  answered_lowers k duties.Events ds r p t is stands kind = event_lowers k r p t stands
-  answered_lowers k (duties.SynHeard s) ds r p t is stands kind = agenda_less (left p) p t (left_less _ ds p is)
-  answered_lowers k (duties.SynAnswered s) ds r p t is stands kind = agenda_less (left p) p t (left_less _ ds p is)
-  answered_lowers k (duties.PlainHandshake s) ds r p t is stands kind =
+  answered_lowers k (duties.Silent (silent_duties.Timer s)) ds r p t is stands kind = agenda_less (left p) p t (left_less _ ds p is)
+  answered_lowers k (duties.Step step_duties.Events) ds r p t is stands kind = event_lowers k r p t stands
+  answered_lowers k (duties.Ask (ask_duties.SynHeard s)) ds r p t is stands kind = agenda_less (left p) p t (left_less _ ds p is)
+  answered_lowers k (duties.Ask (ask_duties.SynAnswered s)) ds r p t is stands kind = agenda_less (left p) p t (left_less _ ds p is)
+  answered_lowers k (duties.Ask (ask_duties.PlainHandshake s)) ds r p t is stands kind =
       verdict_lowers s events.PlainHandshake r p t (heavy_by _ ds s p is (omega arith))
-  answered_lowers k (duties.PeerKey s) ds r p t is stands kind =
+  answered_lowers k (duties.Ask (ask_duties.PeerKey s)) ds r p t is stands kind =
       peer_key_lowers s (key_heard (end_at s p).treated.items) r p t (heavy_by _ ds s p is (omega arith))
-  answered_lowers k (duties.SynAck s) ds r p t is stands kind =
+  answered_lowers k (duties.Send (send_duties.SynAck s)) ds r p t is stands kind =
       let e = end_at s p in let f : PathEnd = having_sent to_send.SynAck p.clock (syn_ack_of s p) e in
       sent_less k s (syn_ack_of s p) f (left p) p t (same_rests p.clock e f refl) (left_less _ ds p is)
-  answered_lowers k (duties.JoinHeard s) ds r p t is stands kind =
+  answered_lowers k (duties.Ask (ask_duties.JoinHeard s)) ds r p t is stands kind =
       taken_less s (keys_begun r) (asked_at s p) r p t (rw is (omega arith)) (rw is (omega arith))
-  answered_lowers k (duties.Refuse s) ds r p t is stands kind =
+  answered_lowers k (duties.Send (send_duties.Refuse s)) ds r p t is stands kind =
       sent_less k s (refusal_of s p) (end_at s p) (left p) p t (same_rests p.clock (end_at s p) (end_at s p) refl) (left_less _ ds p is)
-  answered_lowers k (duties.Opened s) ds r p t is stands kind =
+  answered_lowers k (duties.Ask (ask_duties.Opened s)) ds r p t is stands kind =
       opened_lowers s (keys_heard (end_at s p).treated.items) r p t (heavy_by _ ds s p is (omega arith))
-  answered_lowers k (duties.Live s) ds r p t is stands kind = agenda_less (left p) p t (left_less _ ds p is)
-  answered_lowers k (duties.Heard s index) ds r p t is stands kind =
+  answered_lowers k (duties.Ask (ask_duties.Live s)) ds r p t is stands kind = agenda_less (left p) p t (left_less _ ds p is)
+  answered_lowers k (duties.Step (step_duties.Heard s index)) ds r p t is stands kind =
       heard_lowers k s (item_of index (end_at s p)) r p t (rw is (omega arith)) (heavy_by _ ds s p is (omega arith))
-  answered_lowers k (duties.AckHeard s) ds r p t is stands kind = verdict_lowers s events.AckHeard r p t (heavy_by _ ds s p is (omega arith))
-  answered_lowers k (duties.PlainAck s) ds r p t is stands kind = plain_ack_lowers k s r p t (heavy_by _ ds s p is (omega arith))
-  answered_lowers k (duties.SubflowAck s) ds r p t is stands kind =
+  answered_lowers k (duties.Ask (ask_duties.AckHeard s)) ds r p t is stands kind = verdict_lowers s events.AckHeard r p t (heavy_by _ ds s p is (omega arith))
+  answered_lowers k (duties.Step (step_duties.PlainAck s)) ds r p t is stands kind = plain_ack_lowers k s r p t (heavy_by _ ds s p is (omega arith))
+  answered_lowers k (duties.Ask (ask_duties.SubflowAck s)) ds r p t is stands kind =
       let e = end_at s p in let f : PathEnd = with_plain_acked r e in goes_less s f (left p) p t (same_rests p.clock e f refl) (left_less _ ds p is)
-  answered_lowers k (duties.PlainData s) ds r p t is stands kind = verdict_lowers s events.PlainData r p t (heavy_by _ ds s p is (omega arith))
-  answered_lowers k (duties.GoIdentity s) ds r p t is stands kind =
+  answered_lowers k (duties.Ask (ask_duties.PlainData s)) ds r p t is stands kind = verdict_lowers s events.PlainData r p t (heavy_by _ ds s p is (omega arith))
+  answered_lowers k (duties.Ask (ask_duties.GoIdentity s)) ds r p t is stands kind =
       let e = end_at s p in let f : PathEnd = in_identity e in goes_less s f (left p) p t (same_rests p.clock e f refl) (left_less _ ds p is)
-  answered_lowers k (duties.Keep s) ds r p t is stands kind = agenda_less (left p) p t (left_less _ ds p is)
-  answered_lowers k (duties.Edge s) ds r p t is stands kind = piece_lowers s (piece_of s p) (is_placed r) p t (rw is (omega arith)) refl
-  answered_lowers k (duties.Unmapped s) ds r p t is stands kind = break_lowers k s 6 r p t (rw is (omega arith))
-  answered_lowers k (duties.HeardFin s index) ds r p t is stands kind =
+  answered_lowers k (duties.Silent (silent_duties.Keep s)) ds r p t is stands kind = agenda_less (left p) p t (left_less _ ds p is)
+  answered_lowers k (duties.Ask (ask_duties.Edge s)) ds r p t is stands kind = piece_lowers s (piece_of s p) (is_placed r) p t (rw is (omega arith)) refl
+  answered_lowers k (duties.Step (step_duties.Unmapped s)) ds r p t is stands kind = break_lowers k s 6 r p t (rw is (omega arith))
+  answered_lowers k (duties.Ask (ask_duties.HeardFin s index)) ds r p t is stands kind =
       fin_lowers s (is_fin_set r) p t (left_less _ ds p is) (rw is (omega arith))
-  answered_lowers k (duties.PassFin s) ds r p t is stands kind = agenda_less (left p) p t (left_less _ ds p is)
-  answered_lowers k (duties.SubflowFin s) ds r p t is stands kind =
+  answered_lowers k (duties.Silent (silent_duties.PassFin s)) ds r p t is stands kind = agenda_less (left p) p t (left_less _ ds p is)
+  answered_lowers k (duties.Ask (ask_duties.SubflowFin s)) ds r p t is stands kind =
       plain_fin_lowers s (is_fin_set r) p t (left_less _ ds p is) (rw is (omega arith))
-  answered_lowers k (duties.AckOut s) ds r p t is stands kind =
+  answered_lowers k (duties.Ask (ask_duties.AckOut s)) ds r p t is stands kind =
       goes_less s (after_ack_out r (end_at s p)) (left p) p t (same_rests p.clock (end_at s p) (after_ack_out r (end_at s p)) refl) (left_less _ ds p is)
-  answered_lowers k (duties.Rate s) ds r p t is stands kind =
+  answered_lowers k (duties.Ask (ask_duties.Rate s)) ds r p t is stands kind =
       let e = end_at s p in let f : PathEnd = after_rate (path_of p) p.profile.mss r e in
       goes_less s f (left p) p t (same_rests p.clock e f refl) (left_less _ ds p is)
-  answered_lowers k (duties.Acknowledge s) ds r p t is stands kind = acked_less k s p t (left_less _ ds p is)
-  answered_lowers k (duties.Again s) ds r p t is stands kind =
+  answered_lowers k (duties.Send (send_duties.Acknowledge s)) ds r p t is stands kind = acked_less k s p t (left_less _ ds p is)
+  answered_lowers k (duties.Send (send_duties.Again s)) ds r p t is stands kind =
       let e = end_at s p in let f : PathEnd = having_sent to_send.First p.clock (first_segment s p) e in
       sent_less k s (first_segment s p) f (left p) p t (same_rests p.clock e f refl) (left_less _ ds p is)
-  answered_lowers k (duties.Answer s) ds r p t is stands kind =
+  answered_lowers k (duties.Send (send_duties.Answer s)) ds r p t is stands kind =
       let e = end_at s p in let f : PathEnd = having_sent (answer_occasion e) p.clock (answer_of s p) e in
       sent_less k s (answer_of s p) f (left p) p t (same_rests p.clock e f (sent_same (answer_occasion e) p.clock e.tcp)) (left_less _ ds p is)
-  answered_lowers k (duties.ResetAnswer s) ds r p t is stands kind =
+  answered_lowers k (duties.Send (send_duties.ResetAnswer s)) ds r p t is stands kind =
       sent_less k s (dead_answer s p) (end_at s p) (left p) p t (same_rests p.clock (end_at s p) (end_at s p) refl) (left_less _ ds p is)
-  answered_lowers k (duties.Return s) ds r p t is stands kind = agenda_less (left p) p t (left_less _ ds p is)
-  answered_lowers k (duties.Resend s) ds r p t is stands kind =
+  answered_lowers k (duties.Ask (ask_duties.Return s)) ds r p t is stands kind = agenda_less (left p) p t (left_less _ ds p is)
+  answered_lowers k (duties.Send (send_duties.Resend s)) ds r p t is stands kind =
       let e = end_at s p in let f : PathEnd = having_sent (resend_occasion e) p.clock (resend_of s p) e in
       sent_less k s (resend_of s p) f (left p) p t (same_rests p.clock e f (sent_same (resend_occasion e) p.clock e.tcp)) (left_less _ ds p is)
-  answered_lowers k (duties.BreakAck s reason) ds r p t is stands kind =
+  answered_lowers k (duties.Ask (ask_duties.BreakAck s reason)) ds r p t is stands kind =
       goes_less s (after_ack_out r (end_at s p)) (resets s reason) p t (same_rests p.clock (end_at s p) (after_ack_out r (end_at s p)) refl) (rw is (omega arith))
-  answered_lowers k (duties.BreakReset s reason) ds r p t is stands kind = reset_less k s (Some reason) (leaves s) p t (rw is (omega arith))
-  answered_lowers k (duties.Reset s) ds r p t is stands kind = reset_less k s None (replaced (duties.Leave s) p.agenda) p t (rw is (omega arith))
-  answered_lowers k (duties.Leave s) ds r p t is stands kind = agenda_less (replaced (duties.Dead s) p.agenda) p t (rw is (omega arith))
-  answered_lowers k (duties.Dead s) ds r p t is stands kind = agenda_less (left p) p t (left_less _ ds p is)
+  answered_lowers k (duties.Send (send_duties.BreakReset s reason)) ds r p t is stands kind = reset_less k s (Some reason) (leaves s) p t (rw is (omega arith))
+  answered_lowers k (duties.Send (send_duties.Reset s)) ds r p t is stands kind = reset_less k s None (replaced (duties.Ask (ask_duties.Leave s)) p.agenda) p t (rw is (omega arith))
+  answered_lowers k (duties.Ask (ask_duties.Leave s)) ds r p t is stands kind = agenda_less (replaced (duties.Ask (ask_duties.Dead s)) p.agenda) p t (rw is (omega arith))
+  answered_lowers k (duties.Ask (ask_duties.Dead s)) ds r p t is stands kind = agenda_less (left p) p t (left_less _ ds p is)
   answered_lowers k duties.End ds r p t is stands kind = agenda_less [] p t (rw is (omega arith))

@@ -6,6 +6,10 @@ use Rattle.subflow_tcp.specs.Closing.{is_fin_next}
 use Rattle.subflow_tcp.specs.Expiring.{is_timed}
 use Rattle.path_agenda.specs.declared.duty.Duty.{Duty}
 use Rattle.path_agenda.specs.declared.duty.Duty.TheVariants as duties
+use Rattle.path_agenda.specs.declared.duty.AskDuty.TheVariants as ask_duties
+use Rattle.path_agenda.specs.declared.duty.SendDuty.TheVariants as send_duties
+use Rattle.path_agenda.specs.declared.duty.SilentDuty.TheVariants as silent_duties
+use Rattle.path_agenda.specs.declared.duty.StepDuty.TheVariants as step_duties
 use Rattle.path_core.specs.Closing.{is_waiting}
 use Rattle.path_core.specs.Duties.{stands, passed}
 use Rattle.path_core.specs.Emission.{after_timer}
@@ -44,65 +48,65 @@ module _ {C : Type 0} where
   then_calm p q r x y = record { ticks = omega (arith, x.ticks, y.ticks); due = omega (arith, x.due, y.due); time = y.time }
 
   passed_calm : (d : Duty) (p : PathState C) → TakesTime p → Calm p (passed d p)
-  passed_calm (duties.Timer s) p t =
+  passed_calm (duties.Silent (silent_duties.Timer s)) p t =
       let e = end_at s p in
       end_calm s (after_timer p.clock e) p t
       (to_rests p.clock e (after_timer p.clock e)
       (settled_settles p.clock (is_timed (is_waiting e || e.modes.owes_third) e.tcp) e.sending.news e.tcp.timing (timeout_at s p t)))
-  passed_calm (duties.Heard s index) p t =
+  passed_calm (duties.Step (step_duties.Heard s index)) p t =
       let e = end_at s p in
       let f : PathEnd = item_passed s (item_of index e) e in
       end_calm s f p t (same_rests p.clock e f (ap (λ tcp. tcp.timing) (item_same s (item_of index e) e)))
-  passed_calm (duties.PlainAck s) p t =
+  passed_calm (duties.Step (step_duties.PlainAck s)) p t =
       let e = end_at s p in end_calm s (with_plain_ack e) p t (same_rests p.clock e (with_plain_ack e) refl)
-  passed_calm (duties.Unmapped s) p t =
+  passed_calm (duties.Step (step_duties.Unmapped s)) p t =
       let e = end_at s p in end_calm s (after_pieces e) p t (same_rests p.clock e (after_pieces e) refl)
-  passed_calm (duties.Keep s) p t =
+  passed_calm (duties.Silent (silent_duties.Keep s)) p t =
       let e = end_at s p in end_calm s (after_keep s e) p t (same_rests p.clock e (after_keep s e) (keep_same s e))
-  passed_calm (duties.Edge s) p t =
+  passed_calm (duties.Ask (ask_duties.Edge s)) p t =
       let e = end_at s p in
       end_calm s (after_check p.profile e) p t
       (same_rests p.clock e (after_check p.profile e) (check_same p.profile.spelling.checksums (mapping_here e) e))
-  passed_calm (duties.PassFin s) p t =
+  passed_calm (duties.Silent (silent_duties.PassFin s)) p t =
       let e = end_at s p in
       end_calm s (after_pass_fin e) p t (same_rests p.clock e (after_pass_fin e) (pass_fin_same (is_fin_next e.tcp) e.tcp))
-  passed_calm duties.JoinAgain p t = unchanged p t
-  passed_calm (duties.Look s) p t = unchanged p t
-  passed_calm (duties.Window s) p t = unchanged p t
-  passed_calm (duties.Update s) p t = unchanged p t
-  passed_calm (duties.Syn s) p t = unchanged p t
-  passed_calm (duties.Data s) p t = unchanged p t
-  passed_calm (duties.DataFin s) p t = unchanged p t
-  passed_calm (duties.Fin s) p t = unchanged p t
-  passed_calm duties.Events p t = unchanged p t
-  passed_calm (duties.SynHeard s) p t = unchanged p t
-  passed_calm (duties.SynAnswered s) p t = unchanged p t
-  passed_calm (duties.PlainHandshake s) p t = unchanged p t
-  passed_calm (duties.PeerKey s) p t = unchanged p t
-  passed_calm (duties.SynAck s) p t = unchanged p t
-  passed_calm (duties.JoinHeard s) p t = unchanged p t
-  passed_calm (duties.Refuse s) p t = unchanged p t
-  passed_calm (duties.Opened s) p t = unchanged p t
-  passed_calm (duties.Live s) p t = unchanged p t
-  passed_calm (duties.AckHeard s) p t = unchanged p t
-  passed_calm (duties.SubflowAck s) p t = unchanged p t
-  passed_calm (duties.PlainData s) p t = unchanged p t
-  passed_calm (duties.GoIdentity s) p t = unchanged p t
-  passed_calm (duties.HeardFin s index) p t = unchanged p t
-  passed_calm (duties.SubflowFin s) p t = unchanged p t
-  passed_calm (duties.AckOut s) p t = unchanged p t
-  passed_calm (duties.Rate s) p t = unchanged p t
-  passed_calm (duties.Acknowledge s) p t = unchanged p t
-  passed_calm (duties.Again s) p t = unchanged p t
-  passed_calm (duties.Answer s) p t = unchanged p t
-  passed_calm (duties.ResetAnswer s) p t = unchanged p t
-  passed_calm (duties.Return s) p t = unchanged p t
-  passed_calm (duties.Resend s) p t = unchanged p t
-  passed_calm (duties.BreakAck s reason) p t = unchanged p t
-  passed_calm (duties.BreakReset s reason) p t = unchanged p t
-  passed_calm (duties.Reset s) p t = unchanged p t
-  passed_calm (duties.Leave s) p t = unchanged p t
-  passed_calm (duties.Dead s) p t = unchanged p t
+  passed_calm (duties.Ask ask_duties.JoinAgain) p t = unchanged p t
+  passed_calm (duties.Step (step_duties.Look s)) p t = unchanged p t
+  passed_calm (duties.Ask (ask_duties.Window s)) p t = unchanged p t
+  passed_calm (duties.Send (send_duties.Update s)) p t = unchanged p t
+  passed_calm (duties.Send (send_duties.Syn s)) p t = unchanged p t
+  passed_calm (duties.Step (step_duties.Data s)) p t = unchanged p t
+  passed_calm (duties.Send (send_duties.DataFin s)) p t = unchanged p t
+  passed_calm (duties.Send (send_duties.Fin s)) p t = unchanged p t
+  passed_calm (duties.Step step_duties.Events) p t = unchanged p t
+  passed_calm (duties.Ask (ask_duties.SynHeard s)) p t = unchanged p t
+  passed_calm (duties.Ask (ask_duties.SynAnswered s)) p t = unchanged p t
+  passed_calm (duties.Ask (ask_duties.PlainHandshake s)) p t = unchanged p t
+  passed_calm (duties.Ask (ask_duties.PeerKey s)) p t = unchanged p t
+  passed_calm (duties.Send (send_duties.SynAck s)) p t = unchanged p t
+  passed_calm (duties.Ask (ask_duties.JoinHeard s)) p t = unchanged p t
+  passed_calm (duties.Send (send_duties.Refuse s)) p t = unchanged p t
+  passed_calm (duties.Ask (ask_duties.Opened s)) p t = unchanged p t
+  passed_calm (duties.Ask (ask_duties.Live s)) p t = unchanged p t
+  passed_calm (duties.Ask (ask_duties.AckHeard s)) p t = unchanged p t
+  passed_calm (duties.Ask (ask_duties.SubflowAck s)) p t = unchanged p t
+  passed_calm (duties.Ask (ask_duties.PlainData s)) p t = unchanged p t
+  passed_calm (duties.Ask (ask_duties.GoIdentity s)) p t = unchanged p t
+  passed_calm (duties.Ask (ask_duties.HeardFin s index)) p t = unchanged p t
+  passed_calm (duties.Ask (ask_duties.SubflowFin s)) p t = unchanged p t
+  passed_calm (duties.Ask (ask_duties.AckOut s)) p t = unchanged p t
+  passed_calm (duties.Ask (ask_duties.Rate s)) p t = unchanged p t
+  passed_calm (duties.Send (send_duties.Acknowledge s)) p t = unchanged p t
+  passed_calm (duties.Send (send_duties.Again s)) p t = unchanged p t
+  passed_calm (duties.Send (send_duties.Answer s)) p t = unchanged p t
+  passed_calm (duties.Send (send_duties.ResetAnswer s)) p t = unchanged p t
+  passed_calm (duties.Ask (ask_duties.Return s)) p t = unchanged p t
+  passed_calm (duties.Send (send_duties.Resend s)) p t = unchanged p t
+  passed_calm (duties.Ask (ask_duties.BreakAck s reason)) p t = unchanged p t
+  passed_calm (duties.Send (send_duties.BreakReset s reason)) p t = unchanged p t
+  passed_calm (duties.Send (send_duties.Reset s)) p t = unchanged p t
+  passed_calm (duties.Ask (ask_duties.Leave s)) p t = unchanged p t
+  passed_calm (duties.Ask (ask_duties.Dead s)) p t = unchanged p t
   passed_calm duties.End p t = unchanged p t
 
   -- ---- settling

@@ -5,7 +5,7 @@ use Rattle.path_core.specs.Duties.{stands}
 use Rattle.path_core.specs.Octets.{octets}
 use Rattle.path_core.specs.State.{PathState}
 use Rattle.path_core.specs.Steps.{passable, passable_of, next_round}
-use Rattle.path_core.specs.Turns.{Ends, FirstStands, IsSettled, TakesTime}
+use Rattle.path_core.specs.Turns.{Ends, FirstStands, TakesTime}
 use Rattle.path_core.proofs.TurnEnds.{turn_ends, begun_ends}
 
 first_stands : {C : Type 0} (ds : List Duty) (p : PathState C) → is_none (passable_of ds p) ≡ true → FirstStands ds p

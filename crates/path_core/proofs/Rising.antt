@@ -1,5 +1,5 @@
 -- Pieces that rise: what the first one and the last one tell of all.
-use Rattle.std.proofs.Common.{◌≡◌, ◌∙◌, refl, sym, ap, ℕ, zero, suc, ◌-◌, ◌<◌, ◌≤◌, Bool, true, false, not, cond, List, [], ◌∷◌, ◌++◌, length, get_or, drop, arith}
+use Rattle.std.proofs.Common.{◌≡◌, refl, sym, ap, ℕ, zero, suc, ◌-◌, ◌<◌, ◌≤◌, Bool, true, false, not, List, [], ◌∷◌, ◌++◌, length, get_or, drop, arith}
 use Rattle.std.specs.Prelude.{nat_lt, max, filter}
 use Rattle.std.specs.List.{list_any}
 use Rattle.path_core.specs.declared.granted_piece.GrantedPiece.{GrantedPiece}

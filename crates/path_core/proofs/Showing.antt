@@ -21,6 +21,10 @@ use Rattle.actor_desk.specs.declared.ask.Reply.{Reply}
 use Rattle.actor_desk.specs.declared.ask.Reply.TheVariants as replies
 use Rattle.path_agenda.specs.declared.duty.Duty.{Duty}
 use Rattle.path_agenda.specs.declared.duty.Duty.TheVariants as duties
+use Rattle.path_agenda.specs.declared.duty.AskDuty.TheVariants as ask_duties
+use Rattle.path_agenda.specs.declared.duty.SendDuty.TheVariants as send_duties
+use Rattle.path_agenda.specs.declared.duty.SilentDuty.TheVariants as silent_duties
+use Rattle.path_agenda.specs.declared.duty.StepDuty.TheVariants as step_duties
 use Rattle.path_core.specs.Duties.{stands, ask_for, passed, answered}
 use Rattle.path_segments.specs.declared.expected.Expected.{Expected}
 use Rattle.path_segments.specs.Laws.{IsFresh, meant}
@@ -78,50 +82,50 @@ same_event p = rw (same_due p p.link.under_way) refl
 -- ---- what stands, and what is passed
 
 same_stands : (d : Duty) (p : PathState Carried) → stands d (shown_path p) ≡ stands d p
-same_stands duties.JoinAgain p = refl
-same_stands (duties.Look s) p = refl
-same_stands (duties.Window s) p = refl
-same_stands (duties.Update s) p = refl
-same_stands (duties.Syn s) p = refl
-same_stands (duties.Data s) p = refl
-same_stands (duties.DataFin s) p = refl
-same_stands (duties.Fin s) p = refl
-same_stands (duties.Timer s) p = refl
-same_stands duties.Events p = ap is_some (same_event p)
-same_stands (duties.SynHeard s) p = refl
-same_stands (duties.SynAnswered s) p = refl
-same_stands (duties.PlainHandshake s) p = refl
-same_stands (duties.PeerKey s) p = refl
-same_stands (duties.SynAck s) p = refl
-same_stands (duties.JoinHeard s) p = refl
-same_stands (duties.Refuse s) p = refl
-same_stands (duties.Opened s) p = refl
-same_stands (duties.Live s) p = refl
-same_stands (duties.Heard s index) p = refl
-same_stands (duties.AckHeard s) p = refl
-same_stands (duties.PlainAck s) p = refl
-same_stands (duties.SubflowAck s) p = refl
-same_stands (duties.PlainData s) p = refl
-same_stands (duties.GoIdentity s) p = refl
-same_stands (duties.Keep s) p = refl
-same_stands (duties.Edge s) p = refl
-same_stands (duties.Unmapped s) p = refl
-same_stands (duties.HeardFin s index) p = refl
-same_stands (duties.PassFin s) p = refl
-same_stands (duties.SubflowFin s) p = refl
-same_stands (duties.AckOut s) p = refl
-same_stands (duties.Rate s) p = refl
-same_stands (duties.Acknowledge s) p = refl
-same_stands (duties.Again s) p = refl
-same_stands (duties.Answer s) p = refl
-same_stands (duties.ResetAnswer s) p = refl
-same_stands (duties.Return s) p = refl
-same_stands (duties.Resend s) p = refl
-same_stands (duties.BreakAck s reason) p = refl
-same_stands (duties.BreakReset s reason) p = refl
-same_stands (duties.Reset s) p = refl
-same_stands (duties.Leave s) p = refl
-same_stands (duties.Dead s) p = refl
+same_stands (duties.Ask ask_duties.JoinAgain) p = refl
+same_stands (duties.Step (step_duties.Look s)) p = refl
+same_stands (duties.Ask (ask_duties.Window s)) p = refl
+same_stands (duties.Send (send_duties.Update s)) p = refl
+same_stands (duties.Send (send_duties.Syn s)) p = refl
+same_stands (duties.Step (step_duties.Data s)) p = refl
+same_stands (duties.Send (send_duties.DataFin s)) p = refl
+same_stands (duties.Send (send_duties.Fin s)) p = refl
+same_stands (duties.Silent (silent_duties.Timer s)) p = refl
+same_stands (duties.Step step_duties.Events) p = ap is_some (same_event p)
+same_stands (duties.Ask (ask_duties.SynHeard s)) p = refl
+same_stands (duties.Ask (ask_duties.SynAnswered s)) p = refl
+same_stands (duties.Ask (ask_duties.PlainHandshake s)) p = refl
+same_stands (duties.Ask (ask_duties.PeerKey s)) p = refl
+same_stands (duties.Send (send_duties.SynAck s)) p = refl
+same_stands (duties.Ask (ask_duties.JoinHeard s)) p = refl
+same_stands (duties.Send (send_duties.Refuse s)) p = refl
+same_stands (duties.Ask (ask_duties.Opened s)) p = refl
+same_stands (duties.Ask (ask_duties.Live s)) p = refl
+same_stands (duties.Step (step_duties.Heard s index)) p = refl
+same_stands (duties.Ask (ask_duties.AckHeard s)) p = refl
+same_stands (duties.Step (step_duties.PlainAck s)) p = refl
+same_stands (duties.Ask (ask_duties.SubflowAck s)) p = refl
+same_stands (duties.Ask (ask_duties.PlainData s)) p = refl
+same_stands (duties.Ask (ask_duties.GoIdentity s)) p = refl
+same_stands (duties.Silent (silent_duties.Keep s)) p = refl
+same_stands (duties.Ask (ask_duties.Edge s)) p = refl
+same_stands (duties.Step (step_duties.Unmapped s)) p = refl
+same_stands (duties.Ask (ask_duties.HeardFin s index)) p = refl
+same_stands (duties.Silent (silent_duties.PassFin s)) p = refl
+same_stands (duties.Ask (ask_duties.SubflowFin s)) p = refl
+same_stands (duties.Ask (ask_duties.AckOut s)) p = refl
+same_stands (duties.Ask (ask_duties.Rate s)) p = refl
+same_stands (duties.Send (send_duties.Acknowledge s)) p = refl
+same_stands (duties.Send (send_duties.Again s)) p = refl
+same_stands (duties.Send (send_duties.Answer s)) p = refl
+same_stands (duties.Send (send_duties.ResetAnswer s)) p = refl
+same_stands (duties.Ask (ask_duties.Return s)) p = refl
+same_stands (duties.Send (send_duties.Resend s)) p = refl
+same_stands (duties.Ask (ask_duties.BreakAck s reason)) p = refl
+same_stands (duties.Send (send_duties.BreakReset s reason)) p = refl
+same_stands (duties.Send (send_duties.Reset s)) p = refl
+same_stands (duties.Ask (ask_duties.Leave s)) p = refl
+same_stands (duties.Ask (ask_duties.Dead s)) p = refl
 same_stands duties.End p = refl
 
 same_taken : (s : Side) (spelling : Spelling) (link : LinkState Carried) → taken s (shown (octets_of spelling) link) ≡ taken s link
@@ -178,97 +182,97 @@ same_join s None p = refl
 same_join s (Some asked) p = refl
 
 same_asks : (d : Duty) (p : PathState Carried) → ask_for octets d (shown_path p) ≡ ask_for values d p
-same_asks duties.JoinAgain p = refl
-same_asks (duties.Look s) p = refl
-same_asks (duties.Window s) p = refl
-same_asks (duties.Update s) p = same_sends s (ack_segment s p) p
-same_asks (duties.Syn s) p = same_sends s (unsent_segment s p) p
-same_asks (duties.Data s) p = same_data s (first_unsent (end_at s p)) p
-same_asks (duties.DataFin s) p = same_sends s (end_segment s p) p
-same_asks (duties.Fin s) p = same_sends s (fin_segment_of s p) p
-same_asks (duties.Timer s) p = refl
-same_asks duties.Events p = ap (step_for (path_of p)) (same_event p)
-same_asks (duties.SynHeard s) p = refl
-same_asks (duties.SynAnswered s) p = refl
-same_asks (duties.PlainHandshake s) p = refl
-same_asks (duties.PeerKey s) p = same_peer_key s (key_heard (end_at s p).treated.items) p
-same_asks (duties.SynAck s) p = same_sends s (syn_ack_of s p) p
-same_asks (duties.JoinHeard s) p = same_join s (asked_at s p) p
-same_asks (duties.Refuse s) p = same_sends s (refusal_of s p) p
-same_asks (duties.Opened s) p = same_opened s (keys_heard (end_at s p).treated.items) p
-same_asks (duties.Live s) p = refl
-same_asks (duties.Heard s index) p = same_item s (item_of index (end_at s p)) p
-same_asks (duties.AckHeard s) p = refl
-same_asks (duties.PlainAck s) p = same_break_or s (breaks_by_ack p.profile (end_at s p)) 6 events.PlainAck p
-same_asks (duties.SubflowAck s) p = refl
-same_asks (duties.PlainData s) p = refl
-same_asks (duties.GoIdentity s) p = refl
-same_asks (duties.Keep s) p = refl
-same_asks (duties.Edge s) p = refl
-same_asks (duties.Unmapped s) p = same_break s (end_at s p).treated.asked 6 p
-same_asks (duties.HeardFin s index) p = refl
-same_asks (duties.PassFin s) p = refl
-same_asks (duties.SubflowFin s) p = refl
-same_asks (duties.AckOut s) p = refl
-same_asks (duties.Rate s) p = same_rate s (end_at s p).tcp.congestion.pending p
-same_asks (duties.Acknowledge s) p = same_sends s (ack_segment s p) p
-same_asks (duties.Again s) p = same_sends s (first_segment s p) p
-same_asks (duties.Answer s) p = same_sends s (answer_of s p) p
-same_asks (duties.ResetAnswer s) p = same_sends s (dead_answer s p) p
-same_asks (duties.Return s) p = refl
-same_asks (duties.Resend s) p = same_sends s (resend_of s p) p
-same_asks (duties.BreakAck s reason) p = refl
-same_asks (duties.BreakReset s reason) p = same_sends s (reset_of s (Some reason) p) p
-same_asks (duties.Reset s) p = same_sends s (reset_of s None p) p
-same_asks (duties.Leave s) p = refl
-same_asks (duties.Dead s) p = refl
+same_asks (duties.Ask ask_duties.JoinAgain) p = refl
+same_asks (duties.Step (step_duties.Look s)) p = refl
+same_asks (duties.Ask (ask_duties.Window s)) p = refl
+same_asks (duties.Send (send_duties.Update s)) p = same_sends s (ack_segment s p) p
+same_asks (duties.Send (send_duties.Syn s)) p = same_sends s (unsent_segment s p) p
+same_asks (duties.Step (step_duties.Data s)) p = same_data s (first_unsent (end_at s p)) p
+same_asks (duties.Send (send_duties.DataFin s)) p = same_sends s (end_segment s p) p
+same_asks (duties.Send (send_duties.Fin s)) p = same_sends s (fin_segment_of s p) p
+same_asks (duties.Silent (silent_duties.Timer s)) p = refl
+same_asks (duties.Step step_duties.Events) p = ap (step_for (path_of p)) (same_event p)
+same_asks (duties.Ask (ask_duties.SynHeard s)) p = refl
+same_asks (duties.Ask (ask_duties.SynAnswered s)) p = refl
+same_asks (duties.Ask (ask_duties.PlainHandshake s)) p = refl
+same_asks (duties.Ask (ask_duties.PeerKey s)) p = same_peer_key s (key_heard (end_at s p).treated.items) p
+same_asks (duties.Send (send_duties.SynAck s)) p = same_sends s (syn_ack_of s p) p
+same_asks (duties.Ask (ask_duties.JoinHeard s)) p = same_join s (asked_at s p) p
+same_asks (duties.Send (send_duties.Refuse s)) p = same_sends s (refusal_of s p) p
+same_asks (duties.Ask (ask_duties.Opened s)) p = same_opened s (keys_heard (end_at s p).treated.items) p
+same_asks (duties.Ask (ask_duties.Live s)) p = refl
+same_asks (duties.Step (step_duties.Heard s index)) p = same_item s (item_of index (end_at s p)) p
+same_asks (duties.Ask (ask_duties.AckHeard s)) p = refl
+same_asks (duties.Step (step_duties.PlainAck s)) p = same_break_or s (breaks_by_ack p.profile (end_at s p)) 6 events.PlainAck p
+same_asks (duties.Ask (ask_duties.SubflowAck s)) p = refl
+same_asks (duties.Ask (ask_duties.PlainData s)) p = refl
+same_asks (duties.Ask (ask_duties.GoIdentity s)) p = refl
+same_asks (duties.Silent (silent_duties.Keep s)) p = refl
+same_asks (duties.Ask (ask_duties.Edge s)) p = refl
+same_asks (duties.Step (step_duties.Unmapped s)) p = same_break s (end_at s p).treated.asked 6 p
+same_asks (duties.Ask (ask_duties.HeardFin s index)) p = refl
+same_asks (duties.Silent (silent_duties.PassFin s)) p = refl
+same_asks (duties.Ask (ask_duties.SubflowFin s)) p = refl
+same_asks (duties.Ask (ask_duties.AckOut s)) p = refl
+same_asks (duties.Ask (ask_duties.Rate s)) p = same_rate s (end_at s p).tcp.congestion.pending p
+same_asks (duties.Send (send_duties.Acknowledge s)) p = same_sends s (ack_segment s p) p
+same_asks (duties.Send (send_duties.Again s)) p = same_sends s (first_segment s p) p
+same_asks (duties.Send (send_duties.Answer s)) p = same_sends s (answer_of s p) p
+same_asks (duties.Send (send_duties.ResetAnswer s)) p = same_sends s (dead_answer s p) p
+same_asks (duties.Ask (ask_duties.Return s)) p = refl
+same_asks (duties.Send (send_duties.Resend s)) p = same_sends s (resend_of s p) p
+same_asks (duties.Ask (ask_duties.BreakAck s reason)) p = refl
+same_asks (duties.Send (send_duties.BreakReset s reason)) p = same_sends s (reset_of s (Some reason) p) p
+same_asks (duties.Send (send_duties.Reset s)) p = same_sends s (reset_of s None p) p
+same_asks (duties.Ask (ask_duties.Leave s)) p = refl
+same_asks (duties.Ask (ask_duties.Dead s)) p = refl
 same_asks duties.End p = refl
 
 same_passed : (d : Duty) (p : PathState Carried) → passed d (shown_path p) ≡ shown_path (passed d p)
-same_passed duties.JoinAgain p = refl
-same_passed (duties.Look s) p = refl
-same_passed (duties.Window s) p = refl
-same_passed (duties.Update s) p = refl
-same_passed (duties.Syn s) p = refl
-same_passed (duties.Data s) p = refl
-same_passed (duties.DataFin s) p = refl
-same_passed (duties.Fin s) p = refl
-same_passed (duties.Timer s) p = refl
-same_passed duties.Events p = refl
-same_passed (duties.SynHeard s) p = refl
-same_passed (duties.SynAnswered s) p = refl
-same_passed (duties.PlainHandshake s) p = refl
-same_passed (duties.PeerKey s) p = refl
-same_passed (duties.SynAck s) p = refl
-same_passed (duties.JoinHeard s) p = refl
-same_passed (duties.Refuse s) p = refl
-same_passed (duties.Opened s) p = refl
-same_passed (duties.Live s) p = refl
-same_passed (duties.Heard s index) p = refl
-same_passed (duties.AckHeard s) p = refl
-same_passed (duties.PlainAck s) p = refl
-same_passed (duties.SubflowAck s) p = refl
-same_passed (duties.PlainData s) p = refl
-same_passed (duties.GoIdentity s) p = refl
-same_passed (duties.Keep s) p = refl
-same_passed (duties.Edge s) p = refl
-same_passed (duties.Unmapped s) p = refl
-same_passed (duties.HeardFin s index) p = refl
-same_passed (duties.PassFin s) p = refl
-same_passed (duties.SubflowFin s) p = refl
-same_passed (duties.AckOut s) p = refl
-same_passed (duties.Rate s) p = refl
-same_passed (duties.Acknowledge s) p = refl
-same_passed (duties.Again s) p = refl
-same_passed (duties.Answer s) p = refl
-same_passed (duties.ResetAnswer s) p = refl
-same_passed (duties.Return s) p = refl
-same_passed (duties.Resend s) p = refl
-same_passed (duties.BreakAck s reason) p = refl
-same_passed (duties.BreakReset s reason) p = refl
-same_passed (duties.Reset s) p = refl
-same_passed (duties.Leave s) p = refl
-same_passed (duties.Dead s) p = refl
+same_passed (duties.Ask ask_duties.JoinAgain) p = refl
+same_passed (duties.Step (step_duties.Look s)) p = refl
+same_passed (duties.Ask (ask_duties.Window s)) p = refl
+same_passed (duties.Send (send_duties.Update s)) p = refl
+same_passed (duties.Send (send_duties.Syn s)) p = refl
+same_passed (duties.Step (step_duties.Data s)) p = refl
+same_passed (duties.Send (send_duties.DataFin s)) p = refl
+same_passed (duties.Send (send_duties.Fin s)) p = refl
+same_passed (duties.Silent (silent_duties.Timer s)) p = refl
+same_passed (duties.Step step_duties.Events) p = refl
+same_passed (duties.Ask (ask_duties.SynHeard s)) p = refl
+same_passed (duties.Ask (ask_duties.SynAnswered s)) p = refl
+same_passed (duties.Ask (ask_duties.PlainHandshake s)) p = refl
+same_passed (duties.Ask (ask_duties.PeerKey s)) p = refl
+same_passed (duties.Send (send_duties.SynAck s)) p = refl
+same_passed (duties.Ask (ask_duties.JoinHeard s)) p = refl
+same_passed (duties.Send (send_duties.Refuse s)) p = refl
+same_passed (duties.Ask (ask_duties.Opened s)) p = refl
+same_passed (duties.Ask (ask_duties.Live s)) p = refl
+same_passed (duties.Step (step_duties.Heard s index)) p = refl
+same_passed (duties.Ask (ask_duties.AckHeard s)) p = refl
+same_passed (duties.Step (step_duties.PlainAck s)) p = refl
+same_passed (duties.Ask (ask_duties.SubflowAck s)) p = refl
+same_passed (duties.Ask (ask_duties.PlainData s)) p = refl
+same_passed (duties.Ask (ask_duties.GoIdentity s)) p = refl
+same_passed (duties.Silent (silent_duties.Keep s)) p = refl
+same_passed (duties.Ask (ask_duties.Edge s)) p = refl
+same_passed (duties.Step (step_duties.Unmapped s)) p = refl
+same_passed (duties.Ask (ask_duties.HeardFin s index)) p = refl
+same_passed (duties.Silent (silent_duties.PassFin s)) p = refl
+same_passed (duties.Ask (ask_duties.SubflowFin s)) p = refl
+same_passed (duties.Ask (ask_duties.AckOut s)) p = refl
+same_passed (duties.Ask (ask_duties.Rate s)) p = refl
+same_passed (duties.Send (send_duties.Acknowledge s)) p = refl
+same_passed (duties.Send (send_duties.Again s)) p = refl
+same_passed (duties.Send (send_duties.Answer s)) p = refl
+same_passed (duties.Send (send_duties.ResetAnswer s)) p = refl
+same_passed (duties.Ask (ask_duties.Return s)) p = refl
+same_passed (duties.Send (send_duties.Resend s)) p = refl
+same_passed (duties.Ask (ask_duties.BreakAck s reason)) p = refl
+same_passed (duties.Send (send_duties.BreakReset s reason)) p = refl
+same_passed (duties.Send (send_duties.Reset s)) p = refl
+same_passed (duties.Ask (ask_duties.Leave s)) p = refl
+same_passed (duties.Ask (ask_duties.Dead s)) p = refl
 same_passed duties.End p = refl
 
 pub same_settled : (ds : List Duty) (p : PathState Carried) → settled ds (shown_path p) ≡ shown_path (settled ds p)
@@ -428,11 +432,11 @@ same_begun true r dead living p = refl
 same_begun false r dead living p = refl
 
 same_join_again : (never : Bool) (r : Reply) (p : PathState Carried)
-    → (if never then goes_on A (never_joined r (end_at A p)) (replaced (duties.Leave A) p.agenda) (shown_path p)
+    → (if never then goes_on A (never_joined r (end_at A p)) (replaced (duties.Ask (ask_duties.Leave A)) p.agenda) (shown_path p)
     else goes_on A (opened_by (keys_begun r) (end_at A p)) (left p) (shown_path p))
-    ≡ shown_path (if never then goes_on A (never_joined r (end_at A p)) (replaced (duties.Leave A) p.agenda) p
+    ≡ shown_path (if never then goes_on A (never_joined r (end_at A p)) (replaced (duties.Ask (ask_duties.Leave A)) p.agenda) p
     else goes_on A (opened_by (keys_begun r) (end_at A p)) (left p) p)
-same_join_again never r p = same_begun never r (replaced (duties.Leave A) p.agenda) (left p) p
+same_join_again never r p = same_begun never r (replaced (duties.Ask (ask_duties.Leave A)) p.agenda) (left p) p
 
 same_join_taken : (s : Side) (keys : Option KeyPair) (asked : Option JoinSyn) (r : Reply) (p : PathState Carried)
     → join_taken s keys asked r (shown_path p) ≡ shown_path (join_taken s keys asked r p)
@@ -534,52 +538,52 @@ same_happening (Some (happenings.Fires s tick)) r p fresh = refl
 
 same_answered : (d : Duty) (r : Reply) (p : PathState Carried) → AltersNothing p.link.lines → NextIsFresh p
     → answered octets d r (shown_path p) ≡ shown_path (answered values d r p)
-same_answered duties.JoinAgain r p nothing fresh = same_join_again (is_never r) r p
-same_answered (duties.Look s) r p nothing fresh = refl
-same_answered (duties.Window s) r p nothing fresh = refl
-same_answered (duties.Update s) r p nothing fresh = same_sent s (ack_segment s p) (having_sent to_send.Ack p.clock (ack_segment s p) (end_at s p)) (left p) p nothing
-same_answered (duties.Syn s) r p nothing fresh = same_sent s (unsent_segment s p) (having_sent_unsent s p) (left p) p nothing
-same_answered (duties.Data s) r p nothing fresh = same_data_answered s (first_unsent (end_at s p)) r p nothing
-same_answered (duties.DataFin s) r p nothing fresh = same_sent s (end_segment s p) (having_sent_end s p) (left p) p nothing
-same_answered (duties.Fin s) r p nothing fresh = same_sent s (fin_segment_of s p) (having_sent_fin s p) (left p) p nothing
-same_answered (duties.Timer s) r p nothing fresh = refl
-same_answered duties.Events r p nothing fresh =
+same_answered (duties.Ask ask_duties.JoinAgain) r p nothing fresh = same_join_again (is_never r) r p
+same_answered (duties.Step (step_duties.Look s)) r p nothing fresh = refl
+same_answered (duties.Ask (ask_duties.Window s)) r p nothing fresh = refl
+same_answered (duties.Send (send_duties.Update s)) r p nothing fresh = same_sent s (ack_segment s p) (having_sent to_send.Ack p.clock (ack_segment s p) (end_at s p)) (left p) p nothing
+same_answered (duties.Send (send_duties.Syn s)) r p nothing fresh = same_sent s (unsent_segment s p) (having_sent_unsent s p) (left p) p nothing
+same_answered (duties.Step (step_duties.Data s)) r p nothing fresh = same_data_answered s (first_unsent (end_at s p)) r p nothing
+same_answered (duties.Send (send_duties.DataFin s)) r p nothing fresh = same_sent s (end_segment s p) (having_sent_end s p) (left p) p nothing
+same_answered (duties.Send (send_duties.Fin s)) r p nothing fresh = same_sent s (fin_segment_of s p) (having_sent_fin s p) (left p) p nothing
+same_answered (duties.Silent (silent_duties.Timer s)) r p nothing fresh = refl
+same_answered (duties.Step step_duties.Events) r p nothing fresh =
     ap (λ o. happens_if octets o r (shown_path p)) (same_event p) ∙ same_happening (next_event p) r p fresh
-same_answered (duties.SynHeard s) r p nothing fresh = refl
-same_answered (duties.SynAnswered s) r p nothing fresh = refl
-same_answered (duties.PlainHandshake s) r p nothing fresh = same_fell s events.PlainHandshake r p
-same_answered (duties.PeerKey s) r p nothing fresh = same_peer_key_answered s (key_heard (end_at s p).treated.items) r p
-same_answered (duties.SynAck s) r p nothing fresh = same_sent s (syn_ack_of s p) (having_sent to_send.SynAck p.clock (syn_ack_of s p) (end_at s p)) (left p) p nothing
-same_answered (duties.JoinHeard s) r p nothing fresh = same_join_taken s (keys_begun r) (asked_at s p) r p
-same_answered (duties.Refuse s) r p nothing fresh = same_sent s (refusal_of s p) (end_at s p) (left p) p nothing
-same_answered (duties.Opened s) r p nothing fresh = same_opened_answered s (keys_heard (end_at s p).treated.items) r p
-same_answered (duties.Live s) r p nothing fresh = refl
-same_answered (duties.Heard s index) r p nothing fresh = same_heard s (item_of index (end_at s p)) r p nothing
-same_answered (duties.AckHeard s) r p nothing fresh = same_fell s events.AckHeard r p
-same_answered (duties.PlainAck s) r p nothing fresh =
+same_answered (duties.Ask (ask_duties.SynHeard s)) r p nothing fresh = refl
+same_answered (duties.Ask (ask_duties.SynAnswered s)) r p nothing fresh = refl
+same_answered (duties.Ask (ask_duties.PlainHandshake s)) r p nothing fresh = same_fell s events.PlainHandshake r p
+same_answered (duties.Ask (ask_duties.PeerKey s)) r p nothing fresh = same_peer_key_answered s (key_heard (end_at s p).treated.items) r p
+same_answered (duties.Send (send_duties.SynAck s)) r p nothing fresh = same_sent s (syn_ack_of s p) (having_sent to_send.SynAck p.clock (syn_ack_of s p) (end_at s p)) (left p) p nothing
+same_answered (duties.Ask (ask_duties.JoinHeard s)) r p nothing fresh = same_join_taken s (keys_begun r) (asked_at s p) r p
+same_answered (duties.Send (send_duties.Refuse s)) r p nothing fresh = same_sent s (refusal_of s p) (end_at s p) (left p) p nothing
+same_answered (duties.Ask (ask_duties.Opened s)) r p nothing fresh = same_opened_answered s (keys_heard (end_at s p).treated.items) r p
+same_answered (duties.Ask (ask_duties.Live s)) r p nothing fresh = refl
+same_answered (duties.Step (step_duties.Heard s index)) r p nothing fresh = same_heard s (item_of index (end_at s p)) r p nothing
+same_answered (duties.Ask (ask_duties.AckHeard s)) r p nothing fresh = same_fell s events.AckHeard r p
+same_answered (duties.Step (step_duties.PlainAck s)) r p nothing fresh =
     same_broken_or s (breaks_by_ack p.profile (end_at s p)) 6 r (with_plain_ack (after_fell events.PlainAck r (end_at s p))) p nothing
-same_answered (duties.SubflowAck s) r p nothing fresh = refl
-same_answered (duties.PlainData s) r p nothing fresh = same_fell s events.PlainData r p
-same_answered (duties.GoIdentity s) r p nothing fresh = refl
-same_answered (duties.Keep s) r p nothing fresh = refl
-same_answered (duties.Edge s) r p nothing fresh = same_piece s (piece_of s p) (is_placed r) p
-same_answered (duties.Unmapped s) r p nothing fresh = same_broken s (end_at s p).treated.asked 6 r p nothing
-same_answered (duties.HeardFin s index) r p nothing fresh = same_fin s (is_fin_set r) p
-same_answered (duties.PassFin s) r p nothing fresh = refl
-same_answered (duties.SubflowFin s) r p nothing fresh = same_plain_fin s (is_fin_set r) p
-same_answered (duties.AckOut s) r p nothing fresh = refl
-same_answered (duties.Rate s) r p nothing fresh = refl
-same_answered (duties.Acknowledge s) r p nothing fresh = same_sent s (ack_segment s p) (having_sent to_send.Ack p.clock (ack_segment s p) (end_at s p)) (left p) p nothing
-same_answered (duties.Again s) r p nothing fresh = same_sent s (first_segment s p) (having_sent to_send.First p.clock (first_segment s p) (end_at s p)) (left p) p nothing
-same_answered (duties.Answer s) r p nothing fresh = same_sent s (answer_of s p) (having_sent (answer_occasion (end_at s p)) p.clock (answer_of s p) (end_at s p)) (left p) p nothing
-same_answered (duties.ResetAnswer s) r p nothing fresh = same_sent s (dead_answer s p) (end_at s p) (left p) p nothing
-same_answered (duties.Return s) r p nothing fresh = refl
-same_answered (duties.Resend s) r p nothing fresh = same_sent s (resend_of s p) (having_sent (resend_occasion (end_at s p)) p.clock (resend_of s p) (end_at s p)) (left p) p nothing
-same_answered (duties.BreakAck s reason) r p nothing fresh = refl
-same_answered (duties.BreakReset s reason) r p nothing fresh = same_reset s (Some reason) (leaves s) p nothing
-same_answered (duties.Reset s) r p nothing fresh = same_reset s None (replaced (duties.Leave s) p.agenda) p nothing
-same_answered (duties.Leave s) r p nothing fresh = refl
-same_answered (duties.Dead s) r p nothing fresh = refl
+same_answered (duties.Ask (ask_duties.SubflowAck s)) r p nothing fresh = refl
+same_answered (duties.Ask (ask_duties.PlainData s)) r p nothing fresh = same_fell s events.PlainData r p
+same_answered (duties.Ask (ask_duties.GoIdentity s)) r p nothing fresh = refl
+same_answered (duties.Silent (silent_duties.Keep s)) r p nothing fresh = refl
+same_answered (duties.Ask (ask_duties.Edge s)) r p nothing fresh = same_piece s (piece_of s p) (is_placed r) p
+same_answered (duties.Step (step_duties.Unmapped s)) r p nothing fresh = same_broken s (end_at s p).treated.asked 6 r p nothing
+same_answered (duties.Ask (ask_duties.HeardFin s index)) r p nothing fresh = same_fin s (is_fin_set r) p
+same_answered (duties.Silent (silent_duties.PassFin s)) r p nothing fresh = refl
+same_answered (duties.Ask (ask_duties.SubflowFin s)) r p nothing fresh = same_plain_fin s (is_fin_set r) p
+same_answered (duties.Ask (ask_duties.AckOut s)) r p nothing fresh = refl
+same_answered (duties.Ask (ask_duties.Rate s)) r p nothing fresh = refl
+same_answered (duties.Send (send_duties.Acknowledge s)) r p nothing fresh = same_sent s (ack_segment s p) (having_sent to_send.Ack p.clock (ack_segment s p) (end_at s p)) (left p) p nothing
+same_answered (duties.Send (send_duties.Again s)) r p nothing fresh = same_sent s (first_segment s p) (having_sent to_send.First p.clock (first_segment s p) (end_at s p)) (left p) p nothing
+same_answered (duties.Send (send_duties.Answer s)) r p nothing fresh = same_sent s (answer_of s p) (having_sent (answer_occasion (end_at s p)) p.clock (answer_of s p) (end_at s p)) (left p) p nothing
+same_answered (duties.Send (send_duties.ResetAnswer s)) r p nothing fresh = same_sent s (dead_answer s p) (end_at s p) (left p) p nothing
+same_answered (duties.Ask (ask_duties.Return s)) r p nothing fresh = refl
+same_answered (duties.Send (send_duties.Resend s)) r p nothing fresh = same_sent s (resend_of s p) (having_sent (resend_occasion (end_at s p)) p.clock (resend_of s p) (end_at s p)) (left p) p nothing
+same_answered (duties.Ask (ask_duties.BreakAck s reason)) r p nothing fresh = refl
+same_answered (duties.Send (send_duties.BreakReset s reason)) r p nothing fresh = same_reset s (Some reason) (leaves s) p nothing
+same_answered (duties.Send (send_duties.Reset s)) r p nothing fresh = same_reset s None (replaced (duties.Ask (ask_duties.Leave s)) p.agenda) p nothing
+same_answered (duties.Ask (ask_duties.Leave s)) r p nothing fresh = refl
+same_answered (duties.Ask (ask_duties.Dead s)) r p nothing fresh = refl
 same_answered duties.End r p nothing fresh = refl
 
 same_answers : (ds : List Duty) (r : Reply) (p : PathState Carried) → AltersNothing p.link.lines → NextIsFresh p

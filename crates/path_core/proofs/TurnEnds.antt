@@ -3,6 +3,10 @@ use Rattle.std.proofs.Common.{◌≡◌, refl, sym, ap, subst, ◌<◌, ◌⊎�
 use Rattle.actor_desk.specs.declared.ask.Reply.{Reply}
 use Rattle.path_agenda.specs.declared.duty.Duty.{Duty}
 use Rattle.path_agenda.specs.declared.duty.Duty.TheVariants as duties
+use Rattle.path_agenda.specs.declared.duty.AskDuty.TheVariants as ask_duties
+use Rattle.path_agenda.specs.declared.duty.SendDuty.TheVariants as send_duties
+use Rattle.path_agenda.specs.declared.duty.SilentDuty.TheVariants as silent_duties
+use Rattle.path_agenda.specs.declared.duty.StepDuty.TheVariants as step_duties
 use Rattle.path_core.specs.Codec.{Codec}
 use Rattle.path_core.specs.Duties.{stands, ask_for, passed, answered}
 use Rattle.actor_desk.specs.Kinds.{IsOfKind}
@@ -48,50 +52,50 @@ module _ {C : Type 0} where
 
   -- the agenda is of no account
   same_stands : (d : Duty) (ds : List Duty) (p : PathState C) → stands d p ≡ true → stands d (with_agenda (d ∷ ds) p) ≡ true
-  same_stands duties.JoinAgain ds p is = is
-  same_stands (duties.Look s) ds p is = is
-  same_stands (duties.Window s) ds p is = is
-  same_stands (duties.Update s) ds p is = is
-  same_stands (duties.Syn s) ds p is = is
-  same_stands (duties.Data s) ds p is = is
-  same_stands (duties.DataFin s) ds p is = is
-  same_stands (duties.Fin s) ds p is = is
-  same_stands (duties.Timer s) ds p is = is
-  same_stands duties.Events ds p is = is
-  same_stands (duties.SynHeard s) ds p is = is
-  same_stands (duties.SynAnswered s) ds p is = is
-  same_stands (duties.PlainHandshake s) ds p is = is
-  same_stands (duties.PeerKey s) ds p is = is
-  same_stands (duties.SynAck s) ds p is = is
-  same_stands (duties.JoinHeard s) ds p is = is
-  same_stands (duties.Refuse s) ds p is = is
-  same_stands (duties.Opened s) ds p is = is
-  same_stands (duties.Live s) ds p is = is
-  same_stands (duties.Heard s index) ds p is = is
-  same_stands (duties.AckHeard s) ds p is = is
-  same_stands (duties.PlainAck s) ds p is = is
-  same_stands (duties.SubflowAck s) ds p is = is
-  same_stands (duties.PlainData s) ds p is = is
-  same_stands (duties.GoIdentity s) ds p is = is
-  same_stands (duties.Keep s) ds p is = is
-  same_stands (duties.Edge s) ds p is = is
-  same_stands (duties.Unmapped s) ds p is = is
-  same_stands (duties.HeardFin s index) ds p is = is
-  same_stands (duties.PassFin s) ds p is = is
-  same_stands (duties.SubflowFin s) ds p is = is
-  same_stands (duties.AckOut s) ds p is = is
-  same_stands (duties.Rate s) ds p is = is
-  same_stands (duties.Acknowledge s) ds p is = is
-  same_stands (duties.Again s) ds p is = is
-  same_stands (duties.Answer s) ds p is = is
-  same_stands (duties.ResetAnswer s) ds p is = is
-  same_stands (duties.Return s) ds p is = is
-  same_stands (duties.Resend s) ds p is = is
-  same_stands (duties.BreakAck s reason) ds p is = is
-  same_stands (duties.BreakReset s reason) ds p is = is
-  same_stands (duties.Reset s) ds p is = is
-  same_stands (duties.Leave s) ds p is = is
-  same_stands (duties.Dead s) ds p is = is
+  same_stands (duties.Ask ask_duties.JoinAgain) ds p is = is
+  same_stands (duties.Step (step_duties.Look s)) ds p is = is
+  same_stands (duties.Ask (ask_duties.Window s)) ds p is = is
+  same_stands (duties.Send (send_duties.Update s)) ds p is = is
+  same_stands (duties.Send (send_duties.Syn s)) ds p is = is
+  same_stands (duties.Step (step_duties.Data s)) ds p is = is
+  same_stands (duties.Send (send_duties.DataFin s)) ds p is = is
+  same_stands (duties.Send (send_duties.Fin s)) ds p is = is
+  same_stands (duties.Silent (silent_duties.Timer s)) ds p is = is
+  same_stands (duties.Step step_duties.Events) ds p is = is
+  same_stands (duties.Ask (ask_duties.SynHeard s)) ds p is = is
+  same_stands (duties.Ask (ask_duties.SynAnswered s)) ds p is = is
+  same_stands (duties.Ask (ask_duties.PlainHandshake s)) ds p is = is
+  same_stands (duties.Ask (ask_duties.PeerKey s)) ds p is = is
+  same_stands (duties.Send (send_duties.SynAck s)) ds p is = is
+  same_stands (duties.Ask (ask_duties.JoinHeard s)) ds p is = is
+  same_stands (duties.Send (send_duties.Refuse s)) ds p is = is
+  same_stands (duties.Ask (ask_duties.Opened s)) ds p is = is
+  same_stands (duties.Ask (ask_duties.Live s)) ds p is = is
+  same_stands (duties.Step (step_duties.Heard s index)) ds p is = is
+  same_stands (duties.Ask (ask_duties.AckHeard s)) ds p is = is
+  same_stands (duties.Step (step_duties.PlainAck s)) ds p is = is
+  same_stands (duties.Ask (ask_duties.SubflowAck s)) ds p is = is
+  same_stands (duties.Ask (ask_duties.PlainData s)) ds p is = is
+  same_stands (duties.Ask (ask_duties.GoIdentity s)) ds p is = is
+  same_stands (duties.Silent (silent_duties.Keep s)) ds p is = is
+  same_stands (duties.Ask (ask_duties.Edge s)) ds p is = is
+  same_stands (duties.Step (step_duties.Unmapped s)) ds p is = is
+  same_stands (duties.Ask (ask_duties.HeardFin s index)) ds p is = is
+  same_stands (duties.Silent (silent_duties.PassFin s)) ds p is = is
+  same_stands (duties.Ask (ask_duties.SubflowFin s)) ds p is = is
+  same_stands (duties.Ask (ask_duties.AckOut s)) ds p is = is
+  same_stands (duties.Ask (ask_duties.Rate s)) ds p is = is
+  same_stands (duties.Send (send_duties.Acknowledge s)) ds p is = is
+  same_stands (duties.Send (send_duties.Again s)) ds p is = is
+  same_stands (duties.Send (send_duties.Answer s)) ds p is = is
+  same_stands (duties.Send (send_duties.ResetAnswer s)) ds p is = is
+  same_stands (duties.Ask (ask_duties.Return s)) ds p is = is
+  same_stands (duties.Send (send_duties.Resend s)) ds p is = is
+  same_stands (duties.Ask (ask_duties.BreakAck s reason)) ds p is = is
+  same_stands (duties.Send (send_duties.BreakReset s reason)) ds p is = is
+  same_stands (duties.Send (send_duties.Reset s)) ds p is = is
+  same_stands (duties.Ask (ask_duties.Leave s)) ds p is = is
+  same_stands (duties.Ask (ask_duties.Dead s)) ds p is = is
   same_stands duties.End ds p is = is
 
   settled_settled : (ds : List Duty) (p : PathState C) → IsSettled (settled ds p)

@@ -20,6 +20,7 @@ use Rattle.path_agenda.specs.declared.duty.Duty.{Duty}
 use Rattle.path_core.specs.declared.event.Event.{Event}
 use Rattle.path_core.specs.declared.event.Event.TheVariants as happenings
 use Rattle.path_agenda.specs.declared.duty.Duty.TheVariants as duties
+use Rattle.path_agenda.specs.declared.duty.AskDuty.TheVariants as ask_duties
 use Rattle.actor_desk.specs.declared.ask.Reply.{Reply}
 use Rattle.path_agenda.specs.Agenda.{rest_of_turn, emission, expired, expired_for_ever, leaves}
 use Rattle.path_agenda.specs.Words.{replaced}
@@ -119,7 +120,7 @@ join_begun r dead living p =
     if is_never r then goes_on A (never_joined r (end_at A p)) dead p else goes_on A (opened_by (keys_begun r) (end_at A p)) living p
 
 abbrev pub answered_join_again : {C : Type 0} → Reply → PathState C → PathState C
-answered_join_again r p = join_begun r (replaced (duties.Leave A) p.agenda) (left p) p
+answered_join_again r p = join_begun r (replaced (duties.Ask (ask_duties.Leave A)) p.agenda) (left p) p
 
 -- at the path's tick
 abbrev pub joins_at_tick : {C : Type 0} → Reply → PathState C → PathState C
@@ -127,7 +128,7 @@ joins_at_tick r p = join_begun r (leaves A) (emission A) (record p { joined_at =
 
 -- an end that dies gives back its bytes and tells it
 abbrev pub leaves_unless_dead : Side → PathEnd → List Duty
-leaves_unless_dead s e = if is_dead e.tcp.state then [] else duties.Leave s ∷ []
+leaves_unless_dead s e = if is_dead e.tcp.state then [] else duties.Ask (ask_duties.Leave s) ∷ []
 
 -- the path dies: what is under way is lost, and both ends die, A's first
 abbrev pub path_died : {C : Type 0} → PathState C → PathState C

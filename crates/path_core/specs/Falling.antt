@@ -17,6 +17,7 @@ use Rattle.path_agenda.specs.Agenda.{breaks, resets}
 use Rattle.path_agenda.specs.Words.{replaced}
 use Rattle.path_agenda.specs.declared.duty.Duty.{Duty}
 use Rattle.path_agenda.specs.declared.duty.Duty.TheVariants as duties
+use Rattle.path_agenda.specs.declared.duty.AskDuty.TheVariants as ask_duties
 use Rattle.path_core.specs.declared.modes.Modes.{Modes}
 use Rattle.path_core.specs.Ends.{PathEnd}
 use Rattle.path_core.specs.State.{PathState, end_at, goes_on, left, path_of}
@@ -56,7 +57,8 @@ breaks_by asked s reason = if asked then breaks s reason else resets s reason
 
 -- after a fall the send book is told, a path may be broken, and else the duty is done
 abbrev pub fell_duties : {C : Type 0} → Side → Reply → PathState C → List Duty
-fell_duties s (replies.Control (control_replies.Verdict (verdicts.Went Identity))) p = replaced (duties.GoIdentity s) p.agenda
+fell_duties s (replies.Control (control_replies.Verdict (verdicts.Went Identity))) p =
+    replaced (duties.Ask (ask_duties.GoIdentity s)) p.agenda
 fell_duties s (replies.Control (control_replies.Verdict (verdicts.BreakPath reason))) p = breaks_by (end_at s p).treated.asked s reason
 fell_duties s _ p = left p
 

@@ -22,6 +22,7 @@ use Rattle.actor_desk.specs.declared.ask.Reply.{Reply}
 use Rattle.actor_desk.specs.declared.ask.Reply.TheVariants as replies
 use Rattle.path_agenda.specs.Words.{replaced}
 use Rattle.path_agenda.specs.declared.duty.Duty.TheVariants as duties
+use Rattle.path_agenda.specs.declared.duty.SendDuty.TheVariants as send_duties
 use Rattle.path_agenda.specs.declared.keys.KeyPair.{KeyPair}
 use Rattle.path_core.specs.Codec.{Codec}
 use Rattle.path_core.specs.Ends.{PathEnd}
@@ -97,9 +98,11 @@ joined_by keys asked e = record e {
 
 -- the SYN/ACK goes out, or the reset that refuses the path
 abbrev pub join_taken : {C : Type 0} → Side → Option KeyPair → Option JoinSyn → Reply → PathState C → PathState C
-join_taken s (Some keys) (Some asked) r p = goes_on s (joined_by keys asked (end_at s p)) (replaced (duties.SynAck s) p.agenda) p
-join_taken s None (Some asked) r p = goes_on s (with_mode_refused r (end_at s p)) (replaced (duties.Refuse s) p.agenda) p
-join_taken s keys None r p = with_agenda (replaced (duties.Refuse s) p.agenda) p
+join_taken s (Some keys) (Some asked) r p =
+    goes_on s (joined_by keys asked (end_at s p)) (replaced (duties.Send (send_duties.SynAck s)) p.agenda) p
+join_taken s None (Some asked) r p =
+    goes_on s (with_mode_refused r (end_at s p)) (replaced (duties.Send (send_duties.Refuse s)) p.agenda) p
+join_taken s keys None r p = with_agenda (replaced (duties.Send (send_duties.Refuse s)) p.agenda) p
 
 abbrev pub asked_at : {C : Type 0} → Side → PathState C → Option JoinSyn
 asked_at s p = join_asked (end_at s p).treated.items

@@ -1,14 +1,10 @@
 -- What the control book tells an end to note to its peer, or to do.
-use Rattle.std.specs.Prelude.{ℕ, Bool, true, false, not, ◌&&◌, if◌then◌else◌, Some, [], ◌∷◌, ◌++◌}
+use Rattle.std.specs.Prelude.{Bool, true, false, if◌then◌else◌, Some, [], ◌∷◌, ◌++◌}
 use Rattle.control_book.specs.declared.call.Notice.{Notice}
 use Rattle.control_book.specs.declared.call.Notice.TheVariants as told
-use Rattle.control_book.specs.declared.call.ControlReply.TheVariants as control_replies
-use Rattle.subflow_tcp.specs.States.{is_dead}
-use Rattle.actor_desk.specs.declared.ask.Reply.{Reply}
-use Rattle.actor_desk.specs.declared.ask.Reply.TheVariants as replies
 use Rattle.path_agenda.specs.declared.notice.OwnNotice.{OwnNotice}
 use Rattle.path_agenda.specs.declared.notice.OwnNotice.TheVariants as notes
-use Rattle.path_core.specs.Ends.{PathEnd, Notices}
+use Rattle.path_core.specs.Ends.{Notices}
 
 -- behind all others
 abbrev pub queued : OwnNotice → Notices → Notices

@@ -1,5 +1,5 @@
 -- What the options of a copy make of an end, one thing after the other (RFC 8684, section 3.3).
-use Rattle.std.specs.Prelude.{ℕ, ◌-◌, Bool, true, false, not, ◌&&◌, ◌||◌, nat_lt, nat_le, if◌then◌else◌, is_some, Option, Some, None, List, [], ◌∷◌, ◌++◌}
+use Rattle.std.specs.Prelude.{ℕ, ◌-◌, Bool, true, false, not, ◌&&◌, ◌||◌, nat_lt, nat_le, if◌then◌else◌, is_some, Option, Some, None, List}
 use Rattle.outside_kit.specs.declared.side.Side.{Side}
 use Rattle.send_book.specs.declared.call.SendCall.TheVariants as send_calls
 use Rattle.send_book.specs.declared.call.SendReply.TheVariants as send_replies
@@ -16,6 +16,7 @@ use Rattle.actor_desk.specs.declared.ask.Reply.{Reply}
 use Rattle.actor_desk.specs.declared.ask.Reply.TheVariants as replies
 use Rattle.path_agenda.specs.declared.duty.Duty.{Duty}
 use Rattle.path_agenda.specs.declared.duty.Duty.TheVariants as duties
+use Rattle.path_agenda.specs.declared.duty.AskDuty.TheVariants as ask_duties
 use Rattle.path_agenda.specs.declared.heard.Heard.{Heard}
 use Rattle.path_agenda.specs.declared.heard.Heard.TheVariants as says
 use Rattle.path_core.specs.Breaking.{answered_break, break_ask}
@@ -76,7 +77,7 @@ is_acked (replies.Send (send_replies.Acked bytes fin)) = true
 is_acked _ = false
 
 abbrev pub told_next : {C : Type 0} → Side → Bool → PathState C → List Duty
-told_next s covers p = if covers then replaced (duties.AckHeard s) p.agenda else left p
+told_next s covers p = if covers then replaced (duties.Ask (ask_duties.AckHeard s)) p.agenda else left p
 
 abbrev pub acked_in : ℕ → Reply → Sending → Sending
 acked_in next (replies.Send (send_replies.Acked bytes fin)) v = after_acked next fin v

@@ -6,6 +6,7 @@ ghost use Rattle.path_core.specs.declared.segment_kind.SegmentKind.TheVariants a
 ghost use Rattle.path_agenda.specs.Agenda.{leaves};
 ghost use Rattle.path_agenda.specs.Words.{replaced};
 ghost use Rattle.path_agenda.specs.declared.duty.Duty.TheVariants as duties;
+ghost use Rattle.path_agenda.specs.declared.duty.AskDuty.TheVariants as ask_duties;
 ghost use Rattle.path_core.specs.Breaking.{reset_of, reset_on, break_ask, answered_break, return_ask, dead_ask};
 ghost use Rattle.path_core.specs.Events.{died};
 ghost use Rattle.path_core.specs.Octets.{octets};
@@ -19,7 +20,7 @@ use crate::treated::Treated;
 use actor_desk::{Ask, Reply};
 use control_book::ControlCall;
 use outside_kit::Side;
-use path_agenda::{Agenda, Duty};
+use path_agenda::{Agenda, AskDuty, Duty};
 use send_book::SendCall;
 use std::alloc::AllocError;
 
@@ -75,12 +76,12 @@ impl Machine {
     /// The reset of an end that gives up is sent, and the end is dead: it leaves in the place of that duty, and what follows stays to
     /// be done. At an error all is as it was.
     pub(crate) fn give_up(&mut self, side: Side) -> Result<(), AllocError>
-        ensures ok { OnOk result (self.new ≡ reset_on octets side None (replaced (duties.Leave side) self.old.agenda) self.old) }
+        ensures ok { OnOk result (self.new ≡ reset_on octets side None (replaced (duties.Ask (ask_duties.Leave side)) self.old.agenda) self.old) }
         ensures err { OnErr result (self.new ≡ self.old) }
     {
         self.hand(side, SegmentKind::Reset { reason: None })?;
         self.end_mut(side).die();
-        self.turns_to(Duty::Leave(side));
+        self.turns_to(Duty::Ask(AskDuty::Leave(side)));
         Ok(())
     }
 

@@ -10,6 +10,8 @@ ghost use Rattle.subflow_tcp.specs.Emitting.{after_sending};
 ghost use Rattle.path_core.specs.Octets.{octets};
 ghost use Rattle.path_core.specs.Emission.{first_unsent, is_syn_due, fits, may_send_data, may_ask, data_stands, grant_ask, data_ask, grant_in, with_piece, granted, refused, answered_grant, answered_data, answered_syn, answered_end, answered_fin, after_timer};
 ghost use Rattle.path_agenda.specs.declared.duty.Duty.TheVariants as duties;
+ghost use Rattle.path_agenda.specs.declared.duty.SendDuty.TheVariants as send_duties;
+ghost use Rattle.path_agenda.specs.declared.duty.StepDuty.TheVariants as step_duties;
 ghost use Rattle.path_core.specs.Duties.{stands};
 ghost use Rattle.path_core.specs.Replies.{IsSendable, IsGrantSendable, IsGrantFit};
 ghost use Rattle.path_core.specs.State.{end_at, with_end, goes_on, left};
@@ -217,8 +219,8 @@ impl Machine {
     /// are asked for.
     #[tactic(auto, using(crate::proofs::Grants::may_of_stands))]
     pub(crate) fn answer_data(&mut self, side: Side, reply: &Reply) -> Result<(), AllocError>
-        requires first { stands (duties.Data side) self.old ≡ true }
-        requires grant { IsGrantFit (duties.Data side) reply.now self.old }
+        requires first { stands (duties.Step (step_duties.Data side)) self.old ≡ true }
+        requires grant { IsGrantFit (duties.Step (step_duties.Data side)) reply.now self.old }
         ensures ok { OnOk result (self.new ≡ answered_data octets side (first_unsent (end_at side self.old)) reply.now self.old) }
         ensures err { OnErr result (self.new ≡ self.old) }
         ensures plain { (is_some (first_unsent (end_at side self.old)) || is_some (grant_in reply.now)) ≡ false → IsOk result }
@@ -243,7 +245,7 @@ impl Machine {
     /// The FIN is pushed and sent.
     #[tactic(auto, using(crate::proofs::Grants::fin_state))]
     pub(crate) fn send_fin(&mut self, side: Side) -> Result<(), AllocError>
-        requires { stands (duties.Fin side) self.old ≡ true }
+        requires { stands (duties.Send (send_duties.Fin side)) self.old ≡ true }
         ensures ok { OnOk result (self.new ≡ answered_fin octets side self.old) }
         ensures err { OnErr result (self.new ≡ self.old) }
     {

@@ -7,6 +7,7 @@ ghost use Rattle.outside_kit.specs.declared.side.Side.TheVariants.{A, B};
 ghost use Rattle.subflow_tcp.specs.Expiring.{is_sixth};
 ghost use Rattle.subflow_tcp.specs.States.{is_dead};
 ghost use Rattle.path_agenda.specs.declared.duty.Duty.TheVariants as duties;
+ghost use Rattle.path_agenda.specs.declared.duty.AskDuty.TheVariants as ask_duties;
 ghost use Rattle.path_core.specs.declared.event.Event.TheVariants as event;
 ghost use Rattle.path_agenda.specs.Agenda.{rest_of_turn};
 ghost use Rattle.path_core.specs.Replies.{is_arrival};
@@ -22,7 +23,7 @@ use crate::machine::Machine;
 use actor_desk::{Ask, LocalStep, Reply};
 use link_script::ScriptLine;
 use outside_kit::Side;
-use path_agenda::{Agenda, Duty};
+use path_agenda::{Agenda, AskDuty, Duty, StepDuty};
 use std::alloc::AllocError;
 use subflow_tcp::{Fired, State};
 
@@ -83,13 +84,16 @@ fn is_death(line: &ScriptLine) -> bool
 
 /// Each end that wasn't dead leaves.
 fn all_leave(a_is_dead: bool, b_is_dead: bool) -> Agenda
-    ensures { result ≡ (if a_is_dead then [] else duties.Leave A ∷ []) ++ ((if b_is_dead then [] else duties.Leave B ∷ []) ++ rest_of_turn) }
+    ensures { result ≡ (if a_is_dead then [] else duties.Ask (ask_duties.Leave A) ∷ []) ++ ((if b_is_dead then [] else duties.Ask (ask_duties.Leave B) ∷ []) ++ rest_of_turn) }
 {
-    let (a, b) = (Duty::Leave(Side::A), Duty::Leave(Side::B));
+    let (a, b) = (
+        Duty::Ask(AskDuty::Leave(Side::A)),
+        Duty::Ask(AskDuty::Leave(Side::B)),
+    );
     match (a_is_dead, b_is_dead) {
-        (false, false) => Agenda::of(&[a, b, Duty::Events, Duty::End]),
-        (false, true) => Agenda::of(&[a, Duty::Events, Duty::End]),
-        (true, false) => Agenda::of(&[b, Duty::Events, Duty::End]),
+        (false, false) => Agenda::of(&[a, b, Duty::Step(StepDuty::Events), Duty::End]),
+        (false, true) => Agenda::of(&[a, Duty::Step(StepDuty::Events), Duty::End]),
+        (true, false) => Agenda::of(&[b, Duty::Step(StepDuty::Events), Duty::End]),
         (true, true) => Agenda::rest_of_turn(),
     }
 }

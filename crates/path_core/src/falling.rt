@@ -14,7 +14,7 @@ use actor_desk::{Ask, Reply};
 use control_book::{ControlCall, ControlReply};
 use fallback_state::{Event, Mode, Verdict};
 use outside_kit::Side;
-use path_agenda::{Agenda, Duty};
+use path_agenda::{Agenda, AskDuty, Duty};
 use send_book::SendCall;
 
 /// The side fell back to plain TCP.
@@ -115,7 +115,7 @@ impl Machine {
     {
         match *reply {
             Reply::Control(ControlReply::Verdict(Verdict::Went(Mode::Identity))) => {
-                self.turns_to(Duty::GoIdentity(side));
+                self.turns_to(Duty::Ask(AskDuty::GoIdentity(side)));
             }
             Reply::Control(ControlReply::Verdict(Verdict::BreakPath(reason))) => {
                 self.break_by_verdict(side, reason);

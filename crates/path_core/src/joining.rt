@@ -18,7 +18,7 @@ use control_book::{ControlCall, ControlReply};
 use fallback_state::Mode;
 use join_handshake::JoinSyn;
 use outside_kit::Side;
-use path_agenda::{Agenda, Duty, KeyPair};
+use path_agenda::{Agenda, AskDuty, Duty, KeyPair, SendDuty};
 use std::alloc::AllocError;
 use subflow_tcp::{Arriving, Meaning, State, Subflow};
 
@@ -155,7 +155,7 @@ impl Machine {
     {
         self.begin_join(reply);
         if is_never(reply) {
-            self.turns_to(Duty::Leave(Side::A));
+            self.turns_to(Duty::Ask(AskDuty::Leave(Side::A)));
         } else {
             self.done();
         }
@@ -206,13 +206,13 @@ impl Machine {
             (Some(keys), Some(asked)) => {
                 let now = self.clock.now();
                 self.end_mut(side).join(keys, asked, now);
-                self.turns_to(Duty::SynAck(side));
+                self.turns_to(Duty::Send(SendDuty::SynAck(side)));
             }
             (None, Some(_)) => {
                 self.end_mut(side).hear_refusal(reply);
-                self.turns_to(Duty::Refuse(side));
+                self.turns_to(Duty::Send(SendDuty::Refuse(side)));
             }
-            (_, None) => self.turns_to(Duty::Refuse(side)),
+            (_, None) => self.turns_to(Duty::Send(SendDuty::Refuse(side))),
         }
     }
 

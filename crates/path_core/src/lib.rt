@@ -10,6 +10,7 @@
 mod acting;
 mod answering;
 mod arriving;
+mod asking;
 mod breaking;
 mod closing;
 mod counts;
@@ -47,8 +48,10 @@ mod sending;
 mod sends;
 mod standing;
 mod start;
+mod stepping;
 mod steps;
 mod stripped;
+mod transmit;
 mod treated;
 mod treating;
 
@@ -63,5 +66,5 @@ pub use laws::{
 pub use lines::LineLeft;
 pub use modes::Modes;
 pub use path::Path;
-pub use path_agenda::{Duty, Heard, KeyPair, PeerNotice};
+pub use path_agenda::{AskDuty, Duty, Heard, KeyPair, PeerNotice, SendDuty, SilentDuty, StepDuty};
 pub use start::key_of;

@@ -20,7 +20,7 @@ use crate::sending::Sending;
 use actor_desk::{Ask, LocalStep, Reply};
 use fallback_state::{Event, Mode};
 use outside_kit::Side;
-use path_agenda::{Duty, Heard, KeyPair};
+use path_agenda::{AskDuty, Duty, Heard, KeyPair};
 use send_book::{SendCall, SendReply};
 use std::alloc::AllocError;
 
@@ -279,7 +279,7 @@ impl Machine {
     {
         self.end_mut(side).hear_ack(next, reply);
         if is_acked(reply) && 0 < next {
-            self.turns_to(Duty::AckHeard(side));
+            self.turns_to(Duty::Ask(AskDuty::AckHeard(side)));
         } else {
             self.done();
         }

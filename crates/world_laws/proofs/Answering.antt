@@ -25,6 +25,7 @@ use Rattle.actor_desk.specs.Words.{pick}
 use Rattle.join_handshake.specs.declared.hearing.JoinSyn.{JoinSyn}
 use Rattle.path_agenda.specs.declared.duty.Duty.{Duty}
 use Rattle.path_agenda.specs.declared.duty.Duty.TheVariants as duties
+use Rattle.path_agenda.specs.declared.duty.SendDuty.TheVariants as send_duties
 use Rattle.path_agenda.specs.Words.{replaced}
 use Rattle.path_agenda.specs.declared.keys.KeyPair.{KeyPair}
 use Rattle.path_core.specs.Breaking.{reset_of, reset_on, break_ask, answered_break}
@@ -251,10 +252,10 @@ module _ (six : SixBooks) (others : Others) (p : PathState Carried) (ab ba : Lan
 
     join_by : (keys : Option KeyPair) (o : Option JoinSyn) (r : Reply) (ask : Ask) → IsQuiet six ask → IfSome o (λ asked. HasNone out.acks e.treated.window) → Steps ask (join_taken s keys o r p)
     join_by (Some keys) (Some asked) r ask is has =
-        end_step s ask (joined_by keys asked e) (replaced (duties.SynAck s) p.agenda) is (joined_shows p.profile s out back keys asked e has shows)
-    join_by (Some keys) None r ask is has = agenda_step ask (replaced (duties.Refuse s) p.agenda) is
-    join_by None (Some asked) r ask is has = end_step s ask (with_mode_refused r e) (replaced (duties.Refuse s) p.agenda) is (refused_shows p.profile s out back r e shows)
-    join_by None None r ask is has = agenda_step ask (replaced (duties.Refuse s) p.agenda) is
+        end_step s ask (joined_by keys asked e) (replaced (duties.Send (send_duties.SynAck s)) p.agenda) is (joined_shows p.profile s out back keys asked e has shows)
+    join_by (Some keys) None r ask is has = agenda_step ask (replaced (duties.Send (send_duties.Refuse s)) p.agenda) is
+    join_by None (Some asked) r ask is has = end_step s ask (with_mode_refused r e) (replaced (duties.Send (send_duties.Refuse s)) p.agenda) is (refused_shows p.profile s out back r e shows)
+    join_by None None r ask is has = agenda_step ask (replaced (duties.Send (send_duties.Refuse s)) p.agenda) is
 
     -- the reply to JoinHeard
     pub join_heard_step : (r : Reply) → MayAnswer s six → Steps (join_heard_ask s (asked_at s p) p) (answered_join_heard s r p)

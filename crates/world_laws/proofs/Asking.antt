@@ -13,6 +13,10 @@ use Rattle.actor_desk.specs.declared.ask.Ask.TheVariants as asks
 use Rattle.outside_kit.specs.declared.side.Side.{Side}
 use Rattle.path_agenda.specs.declared.duty.Duty.{Duty}
 use Rattle.path_agenda.specs.declared.duty.Duty.TheVariants as duties
+use Rattle.path_agenda.specs.declared.duty.AskDuty.TheVariants as ask_duties
+use Rattle.path_agenda.specs.declared.duty.SendDuty.TheVariants as send_duties
+use Rattle.path_agenda.specs.declared.duty.SilentDuty.TheVariants as silent_duties
+use Rattle.path_agenda.specs.declared.duty.StepDuty.TheVariants as step_duties
 use Rattle.path_core.specs.declared.event.Event.{Event}
 use Rattle.path_core.specs.declared.event.Event.TheVariants as happening
 use Rattle.path_agenda.specs.declared.heard.Heard.{Heard}
@@ -118,50 +122,50 @@ module _ {C : Type 0} (k : Codec C) (p : PathState C) where
   rate_leaves s (Some pending) = tt
 
   pub asks_leave : (d : Duty) → AskLeavesFile (ask_for k d p)
-  asks_leave duties.JoinAgain = tt
-  asks_leave (duties.Look s) = tt
-  asks_leave (duties.Window s) = tt
-  asks_leave (duties.Update s) = tt
-  asks_leave (duties.Syn s) = tt
-  asks_leave (duties.Data s) = data_leaves s (first_unsent (end_at s p))
-  asks_leave (duties.DataFin s) = tt
-  asks_leave (duties.Fin s) = tt
-  asks_leave (duties.Timer s) = tt
-  asks_leave duties.Events = step_leaves (next_event p)
-  asks_leave (duties.SynHeard s) = tt
-  asks_leave (duties.SynAnswered s) = tt
-  asks_leave (duties.PeerKey s) = key_leaves s (key_heard (end_at s p).treated.items)
-  asks_leave (duties.SynAck s) = tt
-  asks_leave (duties.JoinHeard s) = join_leaves s (asked_at s p)
-  asks_leave (duties.Refuse s) = tt
-  asks_leave (duties.Opened s) = keys_leave s (keys_heard (end_at s p).treated.items)
-  asks_leave (duties.Live s) = tt
-  asks_leave (duties.Heard s index) = item_leaves s (item_of index (end_at s p))
-  asks_leave (duties.AckHeard s) = tt
-  asks_leave (duties.PlainHandshake s) = tt
-  asks_leave (duties.PlainAck s) = ack_leaves s
-  asks_leave (duties.SubflowAck s) = tt
-  asks_leave (duties.PlainData s) = tt
-  asks_leave (duties.GoIdentity s) = tt
-  asks_leave (duties.Unmapped s) = break_leaves s 6
-  asks_leave (duties.SubflowFin s) = fin_leaves s (plain_fin (end_at s p))
-  asks_leave (duties.Keep s) = tt
-  asks_leave (duties.Edge s) = piece_leaves s (piece_of s p)
-  asks_leave (duties.HeardFin s index) = fin_leaves s (fin_of index (end_at s p))
-  asks_leave (duties.PassFin s) = tt
-  asks_leave (duties.AckOut s) = tt
-  asks_leave (duties.Rate s) = rate_leaves s (end_at s p).tcp.congestion.pending
-  asks_leave (duties.Acknowledge s) = tt
-  asks_leave (duties.Again s) = tt
-  asks_leave (duties.Answer s) = tt
-  asks_leave (duties.ResetAnswer s) = tt
-  asks_leave (duties.Return s) = tt
-  asks_leave (duties.Resend s) = tt
-  asks_leave (duties.BreakAck s reason) = tt
-  asks_leave (duties.BreakReset s reason) = tt
-  asks_leave (duties.Reset s) = tt
-  asks_leave (duties.Leave s) = tt
-  asks_leave (duties.Dead s) = tt
+  asks_leave (duties.Ask ask_duties.JoinAgain) = tt
+  asks_leave (duties.Step (step_duties.Look s)) = tt
+  asks_leave (duties.Ask (ask_duties.Window s)) = tt
+  asks_leave (duties.Send (send_duties.Update s)) = tt
+  asks_leave (duties.Send (send_duties.Syn s)) = tt
+  asks_leave (duties.Step (step_duties.Data s)) = data_leaves s (first_unsent (end_at s p))
+  asks_leave (duties.Send (send_duties.DataFin s)) = tt
+  asks_leave (duties.Send (send_duties.Fin s)) = tt
+  asks_leave (duties.Silent (silent_duties.Timer s)) = tt
+  asks_leave (duties.Step step_duties.Events) = step_leaves (next_event p)
+  asks_leave (duties.Ask (ask_duties.SynHeard s)) = tt
+  asks_leave (duties.Ask (ask_duties.SynAnswered s)) = tt
+  asks_leave (duties.Ask (ask_duties.PeerKey s)) = key_leaves s (key_heard (end_at s p).treated.items)
+  asks_leave (duties.Send (send_duties.SynAck s)) = tt
+  asks_leave (duties.Ask (ask_duties.JoinHeard s)) = join_leaves s (asked_at s p)
+  asks_leave (duties.Send (send_duties.Refuse s)) = tt
+  asks_leave (duties.Ask (ask_duties.Opened s)) = keys_leave s (keys_heard (end_at s p).treated.items)
+  asks_leave (duties.Ask (ask_duties.Live s)) = tt
+  asks_leave (duties.Step (step_duties.Heard s index)) = item_leaves s (item_of index (end_at s p))
+  asks_leave (duties.Ask (ask_duties.AckHeard s)) = tt
+  asks_leave (duties.Ask (ask_duties.PlainHandshake s)) = tt
+  asks_leave (duties.Step (step_duties.PlainAck s)) = ack_leaves s
+  asks_leave (duties.Ask (ask_duties.SubflowAck s)) = tt
+  asks_leave (duties.Ask (ask_duties.PlainData s)) = tt
+  asks_leave (duties.Ask (ask_duties.GoIdentity s)) = tt
+  asks_leave (duties.Step (step_duties.Unmapped s)) = break_leaves s 6
+  asks_leave (duties.Ask (ask_duties.SubflowFin s)) = fin_leaves s (plain_fin (end_at s p))
+  asks_leave (duties.Silent (silent_duties.Keep s)) = tt
+  asks_leave (duties.Ask (ask_duties.Edge s)) = piece_leaves s (piece_of s p)
+  asks_leave (duties.Ask (ask_duties.HeardFin s index)) = fin_leaves s (fin_of index (end_at s p))
+  asks_leave (duties.Silent (silent_duties.PassFin s)) = tt
+  asks_leave (duties.Ask (ask_duties.AckOut s)) = tt
+  asks_leave (duties.Ask (ask_duties.Rate s)) = rate_leaves s (end_at s p).tcp.congestion.pending
+  asks_leave (duties.Send (send_duties.Acknowledge s)) = tt
+  asks_leave (duties.Send (send_duties.Again s)) = tt
+  asks_leave (duties.Send (send_duties.Answer s)) = tt
+  asks_leave (duties.Send (send_duties.ResetAnswer s)) = tt
+  asks_leave (duties.Ask (ask_duties.Return s)) = tt
+  asks_leave (duties.Send (send_duties.Resend s)) = tt
+  asks_leave (duties.Ask (ask_duties.BreakAck s reason)) = tt
+  asks_leave (duties.Send (send_duties.BreakReset s reason)) = tt
+  asks_leave (duties.Send (send_duties.Reset s)) = tt
+  asks_leave (duties.Ask (ask_duties.Leave s)) = tt
+  asks_leave (duties.Ask (ask_duties.Dead s)) = tt
   asks_leave duties.End = tt
 
 -- such a call leaves what was written, and whether it is closed

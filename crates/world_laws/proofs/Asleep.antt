@@ -26,6 +26,10 @@ use Rattle.actor_desk.specs.Desk.{SixBooks, reply_of}
 use Rattle.actor_desk.specs.Words.{tail_of}
 use Rattle.path_agenda.specs.declared.duty.Duty.{Duty}
 use Rattle.path_agenda.specs.declared.duty.Duty.TheVariants as duties
+use Rattle.path_agenda.specs.declared.duty.AskDuty.TheVariants as ask_duties
+use Rattle.path_agenda.specs.declared.duty.SendDuty.TheVariants as send_duties
+use Rattle.path_agenda.specs.declared.duty.SilentDuty.TheVariants as silent_duties
+use Rattle.path_agenda.specs.declared.duty.StepDuty.TheVariants as step_duties
 use Rattle.path_core.specs.declared.event.Event.{Event}
 use Rattle.path_core.specs.declared.event.Event.TheVariants as happenings
 use Rattle.path_agenda.specs.Agenda.{rest_of_turn, emission, leaves, start_of_turn}
@@ -103,18 +107,18 @@ timed_shut now e h = record {
 
 -- it comes to nothing at such an end, or tells the books nothing but how it stands
 abbrev pub is_idle : Duty → Bool
-is_idle duties.JoinAgain = true
-is_idle (duties.Look s) = true
-is_idle (duties.Window s) = true
-is_idle (duties.Update s) = true
-is_idle (duties.Syn s) = true
-is_idle (duties.Data s) = true
-is_idle (duties.DataFin s) = true
-is_idle (duties.Fin s) = true
-is_idle (duties.Timer s) = true
-is_idle duties.Events = true
-is_idle (duties.Leave s) = true
-is_idle (duties.Dead s) = true
+is_idle (duties.Ask ask_duties.JoinAgain) = true
+is_idle (duties.Step (step_duties.Look s)) = true
+is_idle (duties.Ask (ask_duties.Window s)) = true
+is_idle (duties.Send (send_duties.Update s)) = true
+is_idle (duties.Send (send_duties.Syn s)) = true
+is_idle (duties.Step (step_duties.Data s)) = true
+is_idle (duties.Send (send_duties.DataFin s)) = true
+is_idle (duties.Send (send_duties.Fin s)) = true
+is_idle (duties.Silent (silent_duties.Timer s)) = true
+is_idle (duties.Step step_duties.Events) = true
+is_idle (duties.Ask (ask_duties.Leave s)) = true
+is_idle (duties.Ask (ask_duties.Dead s)) = true
 is_idle duties.End = true
 is_idle _ = false
 
@@ -129,7 +133,7 @@ replaced_idle : (d : Duty) (ds : List Duty) → is_idle d ≡ true → AreIdle d
 replaced_idle d [] idle h = refl
 replaced_idle d (e ∷ ds) idle h = and_from (is_idle d) (list_all is_idle ds) idle (and_parts (is_idle e) (list_all is_idle ds) h).1
 
-left_over : (s : Side) (b : Bool) (ds : List Duty) → AreIdle ds → AreIdle ((if b then [] else duties.Leave s ∷ []) ++ ds)
+left_over : (s : Side) (b : Bool) (ds : List Duty) → AreIdle ds → AreIdle ((if b then [] else duties.Ask (ask_duties.Leave s) ∷ []) ++ ds)
 left_over s true ds h = h
 left_over s false ds h = h
 
@@ -270,29 +274,29 @@ module _ {C : Type 0} where
   -- ---- its duties
 
   answered_asleep : (k : Codec C) (d : Duty) (r : Reply) (p : PathState C) → keys_begun r ≡ None → IsAsleep p → is_idle d ≡ true → stands d p ≡ true → IsAsleep (answered k d r p)
-  answered_asleep k duties.JoinAgain r p none h idle is = join_asleep r (replaced (duties.Leave A) p.agenda) (left p) p none (replaced_idle (duties.Leave A) p.agenda refl h.idle) (left_idle p h) h
-  answered_asleep k (duties.Look s) r p none h idle is = let shut = shut_at s p h in goes_asleep s (after_look r (end_at s p)) (left p) p (record { closed = shut.closed; timer = shut.timer }) (left_idle p h) h
-  answered_asleep k (duties.Window s) r p none h idle is = let shut = shut_at s p h in goes_asleep s (after_ack_out r (end_at s p)) (left p) p (record { closed = shut.closed; timer = shut.timer }) (left_idle p h) h
-  answered_asleep k (duties.Update s) r p none h idle is = absurd (no _ _ (never_connected (end_at s p) (shut_at s p h)) is)
-  answered_asleep k (duties.Syn s) r p none h idle is = absurd (no _ _ (never_opens (end_at s p) (shut_at s p h)) is)
-  answered_asleep k (duties.Data s) r p none h idle is = absurd (no_data p.profile s (end_at s p) (first_unsent (end_at s p)) (shut_at s p h) is)
-  answered_asleep k (duties.DataFin s) r p none h idle is = absurd (no _ _ (never_finishes (end_at s p) (shut_at s p h)) is)
-  answered_asleep k (duties.Fin s) r p none h idle is = absurd (no _ _ (never_finishes (end_at s p) (shut_at s p h)) is)
-  answered_asleep k (duties.Timer s) r p none h idle is = absurd (false≢true is)
-  answered_asleep k duties.Events r p none h idle is = events_asleep k r p none h
-  answered_asleep k (duties.Leave s) r p none h idle is = agenda_asleep (replaced (duties.Dead s) p.agenda) p (replaced_idle (duties.Dead s) p.agenda refl h.idle) h
-  answered_asleep k (duties.Dead s) r p none h idle is = agenda_asleep (left p) p (left_idle p h) h
+  answered_asleep k (duties.Ask ask_duties.JoinAgain) r p none h idle is = join_asleep r (replaced (duties.Ask (ask_duties.Leave A)) p.agenda) (left p) p none (replaced_idle (duties.Ask (ask_duties.Leave A)) p.agenda refl h.idle) (left_idle p h) h
+  answered_asleep k (duties.Step (step_duties.Look s)) r p none h idle is = let shut = shut_at s p h in goes_asleep s (after_look r (end_at s p)) (left p) p (record { closed = shut.closed; timer = shut.timer }) (left_idle p h) h
+  answered_asleep k (duties.Ask (ask_duties.Window s)) r p none h idle is = let shut = shut_at s p h in goes_asleep s (after_ack_out r (end_at s p)) (left p) p (record { closed = shut.closed; timer = shut.timer }) (left_idle p h) h
+  answered_asleep k (duties.Send (send_duties.Update s)) r p none h idle is = absurd (no _ _ (never_connected (end_at s p) (shut_at s p h)) is)
+  answered_asleep k (duties.Send (send_duties.Syn s)) r p none h idle is = absurd (no _ _ (never_opens (end_at s p) (shut_at s p h)) is)
+  answered_asleep k (duties.Step (step_duties.Data s)) r p none h idle is = absurd (no_data p.profile s (end_at s p) (first_unsent (end_at s p)) (shut_at s p h) is)
+  answered_asleep k (duties.Send (send_duties.DataFin s)) r p none h idle is = absurd (no _ _ (never_finishes (end_at s p) (shut_at s p h)) is)
+  answered_asleep k (duties.Send (send_duties.Fin s)) r p none h idle is = absurd (no _ _ (never_finishes (end_at s p) (shut_at s p h)) is)
+  answered_asleep k (duties.Silent (silent_duties.Timer s)) r p none h idle is = absurd (false≢true is)
+  answered_asleep k (duties.Step step_duties.Events) r p none h idle is = events_asleep k r p none h
+  answered_asleep k (duties.Ask (ask_duties.Leave s)) r p none h idle is = agenda_asleep (replaced (duties.Ask (ask_duties.Dead s)) p.agenda) p (replaced_idle (duties.Ask (ask_duties.Dead s)) p.agenda refl h.idle) h
+  answered_asleep k (duties.Ask (ask_duties.Dead s)) r p none h idle is = agenda_asleep (left p) p (left_idle p h) h
   answered_asleep k duties.End r p none h idle is = agenda_asleep [] p refl h
   answered_asleep k _ r p none h idle is = absurd (false≢true idle)
 
   passed_asleep : (d : Duty) (p : PathState C) → IsAsleep p → is_idle d ≡ true → IsAsleep (passed d p)
-  passed_asleep (duties.Timer s) p h idle = with_asleep s (after_timer p.clock (end_at s p)) p (timed_shut p.clock (end_at s p) (shut_at s p h)) h
-  passed_asleep (duties.Heard s index) p h idle = absurd (false≢true idle)
-  passed_asleep (duties.Keep s) p h idle = absurd (false≢true idle)
-  passed_asleep (duties.Edge s) p h idle = absurd (false≢true idle)
-  passed_asleep (duties.PassFin s) p h idle = absurd (false≢true idle)
-  passed_asleep (duties.PlainAck s) p h idle = absurd (false≢true idle)
-  passed_asleep (duties.Unmapped s) p h idle = absurd (false≢true idle)
+  passed_asleep (duties.Silent (silent_duties.Timer s)) p h idle = with_asleep s (after_timer p.clock (end_at s p)) p (timed_shut p.clock (end_at s p) (shut_at s p h)) h
+  passed_asleep (duties.Step (step_duties.Heard s index)) p h idle = absurd (false≢true idle)
+  passed_asleep (duties.Silent (silent_duties.Keep s)) p h idle = absurd (false≢true idle)
+  passed_asleep (duties.Ask (ask_duties.Edge s)) p h idle = absurd (false≢true idle)
+  passed_asleep (duties.Silent (silent_duties.PassFin s)) p h idle = absurd (false≢true idle)
+  passed_asleep (duties.Step (step_duties.PlainAck s)) p h idle = absurd (false≢true idle)
+  passed_asleep (duties.Step (step_duties.Unmapped s)) p h idle = absurd (false≢true idle)
   passed_asleep _ p h idle = h
 
   settled_asleep : (ds : List Duty) (p : PathState C) → AreIdle ds → IsAsleep p → IsAsleep (settled ds p)
@@ -338,18 +342,18 @@ module _ {C : Type 0} where
   unsure_data k six s (Some r) p = refl
 
   unsure_duty : (k : Codec C) (six : SixBooks) (d : Duty) (p : PathState C) → is_sure six.control_a.fall.mode ≡ false → is_idle d ≡ true → IsAsleep p → keys_begun (reply_of six (ask_for k d p)) ≡ None
-  unsure_duty k six duties.JoinAgain p unsure idle h = unsure_begin six.control_a unsure
-  unsure_duty k six (duties.Look s) p unsure idle h = refl
-  unsure_duty k six (duties.Window s) p unsure idle h = refl
-  unsure_duty k six (duties.Update s) p unsure idle h = refl
-  unsure_duty k six (duties.Syn s) p unsure idle h = refl
-  unsure_duty k six (duties.Data s) p unsure idle h = unsure_data k six s (first_unsent (end_at s p)) p
-  unsure_duty k six (duties.DataFin s) p unsure idle h = refl
-  unsure_duty k six (duties.Fin s) p unsure idle h = refl
-  unsure_duty k six (duties.Timer s) p unsure idle h = refl
-  unsure_duty k six duties.Events p unsure idle h = unsure_step six (path_of p) (next_event p) unsure (next_own p h)
-  unsure_duty k six (duties.Leave s) p unsure idle h = refl
-  unsure_duty k six (duties.Dead s) p unsure idle h = refl
+  unsure_duty k six (duties.Ask ask_duties.JoinAgain) p unsure idle h = unsure_begin six.control_a unsure
+  unsure_duty k six (duties.Step (step_duties.Look s)) p unsure idle h = refl
+  unsure_duty k six (duties.Ask (ask_duties.Window s)) p unsure idle h = refl
+  unsure_duty k six (duties.Send (send_duties.Update s)) p unsure idle h = refl
+  unsure_duty k six (duties.Send (send_duties.Syn s)) p unsure idle h = refl
+  unsure_duty k six (duties.Step (step_duties.Data s)) p unsure idle h = unsure_data k six s (first_unsent (end_at s p)) p
+  unsure_duty k six (duties.Send (send_duties.DataFin s)) p unsure idle h = refl
+  unsure_duty k six (duties.Send (send_duties.Fin s)) p unsure idle h = refl
+  unsure_duty k six (duties.Silent (silent_duties.Timer s)) p unsure idle h = refl
+  unsure_duty k six (duties.Step step_duties.Events) p unsure idle h = unsure_step six (path_of p) (next_event p) unsure (next_own p h)
+  unsure_duty k six (duties.Ask (ask_duties.Leave s)) p unsure idle h = refl
+  unsure_duty k six (duties.Ask (ask_duties.Dead s)) p unsure idle h = refl
   unsure_duty k six duties.End p unsure idle h = refl
   unsure_duty k six _ p unsure idle h = absurd (false≢true idle)
 

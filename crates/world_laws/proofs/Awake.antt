@@ -35,6 +35,10 @@ use Rattle.path_agenda.specs.Items.{key_heard, keys_heard}
 use Rattle.path_agenda.specs.Words.{replaced}
 use Rattle.path_agenda.specs.declared.duty.Duty.{Duty}
 use Rattle.path_agenda.specs.declared.duty.Duty.TheVariants as duties
+use Rattle.path_agenda.specs.declared.duty.AskDuty.TheVariants as ask_duties
+use Rattle.path_agenda.specs.declared.duty.SendDuty.TheVariants as send_duties
+use Rattle.path_agenda.specs.declared.duty.SilentDuty.TheVariants as silent_duties
+use Rattle.path_agenda.specs.declared.duty.StepDuty.TheVariants as step_duties
 use Rattle.path_agenda.specs.declared.heard.Heard.{Heard}
 use Rattle.path_agenda.specs.declared.heard.Heard.TheVariants as says
 use Rattle.path_agenda.specs.declared.keys.KeyPair.{KeyPair}
@@ -252,24 +256,24 @@ module _ {C : Type 0} (k : Codec C) (W : Type 0) where
   put B e p g h = record { woken = h.woken; known = h.known; calm = h.calm; plain = h.plain }
 
   passed_awake : (d : Duty) (p : PathState C) → Awake p → Awake (passed d p)
-  passed_awake (duties.Timer s) p h = put s (after_timer p.clock (end_at s p)) p (up_goes s (after_timer p.clock (end_at s p)) p (timer_up p.clock (end_at s p)) refl) h
-  passed_awake (duties.Heard s index) p h = put s (item_passed s (item_of index (end_at s p)) (end_at s p)) p (item_goes s (item_of index (end_at s p)) p) h
-  passed_awake (duties.Keep s) p h = put s (after_keep s (end_at s p)) p (keep_goes s (is_dropped s (end_at s p)) _ p) h
-  passed_awake (duties.PlainAck s) p h = put s (with_plain_ack (end_at s p)) p (same_goes s (with_plain_ack (end_at s p)) p refl refl refl) h
-  passed_awake (duties.Unmapped s) p h = put s (after_pieces (end_at s p)) p (same_goes s (after_pieces (end_at s p)) p refl refl refl) h
-  passed_awake (duties.Edge s) p h = put s (after_check p.profile (end_at s p)) p (edge_goes s p.profile.spelling.checksums (mapping_here (end_at s p)) p) h
-  passed_awake (duties.PassFin s) p h = put s (after_pass_fin (end_at s p)) p (up_goes s (after_pass_fin (end_at s p)) p (passing_up (end_at s p).tcp) refl) h
-  passed_awake duties.JoinAgain p h = h
+  passed_awake (duties.Silent (silent_duties.Timer s)) p h = put s (after_timer p.clock (end_at s p)) p (up_goes s (after_timer p.clock (end_at s p)) p (timer_up p.clock (end_at s p)) refl) h
+  passed_awake (duties.Step (step_duties.Heard s index)) p h = put s (item_passed s (item_of index (end_at s p)) (end_at s p)) p (item_goes s (item_of index (end_at s p)) p) h
+  passed_awake (duties.Silent (silent_duties.Keep s)) p h = put s (after_keep s (end_at s p)) p (keep_goes s (is_dropped s (end_at s p)) _ p) h
+  passed_awake (duties.Step (step_duties.PlainAck s)) p h = put s (with_plain_ack (end_at s p)) p (same_goes s (with_plain_ack (end_at s p)) p refl refl refl) h
+  passed_awake (duties.Step (step_duties.Unmapped s)) p h = put s (after_pieces (end_at s p)) p (same_goes s (after_pieces (end_at s p)) p refl refl refl) h
+  passed_awake (duties.Ask (ask_duties.Edge s)) p h = put s (after_check p.profile (end_at s p)) p (edge_goes s p.profile.spelling.checksums (mapping_here (end_at s p)) p) h
+  passed_awake (duties.Silent (silent_duties.PassFin s)) p h = put s (after_pass_fin (end_at s p)) p (up_goes s (after_pass_fin (end_at s p)) p (passing_up (end_at s p).tcp) refl) h
+  passed_awake (duties.Ask ask_duties.JoinAgain) p h = h
   passed_awake _ p h = h
 
   passed_profile : (d : Duty) (p : PathState C) → (passed d p).profile ≡ p.profile
-  passed_profile (duties.Timer s) p = refl
-  passed_profile (duties.Heard s index) p = refl
-  passed_profile (duties.Keep s) p = refl
-  passed_profile (duties.PlainAck s) p = refl
-  passed_profile (duties.Unmapped s) p = refl
-  passed_profile (duties.Edge s) p = refl
-  passed_profile (duties.PassFin s) p = refl
+  passed_profile (duties.Silent (silent_duties.Timer s)) p = refl
+  passed_profile (duties.Step (step_duties.Heard s index)) p = refl
+  passed_profile (duties.Silent (silent_duties.Keep s)) p = refl
+  passed_profile (duties.Step (step_duties.PlainAck s)) p = refl
+  passed_profile (duties.Step (step_duties.Unmapped s)) p = refl
+  passed_profile (duties.Ask (ask_duties.Edge s)) p = refl
+  passed_profile (duties.Silent (silent_duties.PassFin s)) p = refl
   passed_profile _ p = refl
 
   -- of a list of duties in place of the path's own
@@ -302,7 +306,7 @@ module _ {C : Type 0} (k : Codec C) (W : Type 0) where
     plain = λ joins. fell joins (is_dead p.a.tcp.state);
   }
     where
-      silent : (x : Voice) (b c : Bool) → speaks x ((if b then [] else duties.Leave A ∷ []) ++ ((if c then [] else duties.Leave B ∷ []) ++ rest_of_turn)) ≡ false
+      silent : (x : Voice) (b c : Bool) → speaks x ((if b then [] else duties.Ask (ask_duties.Leave A) ∷ []) ++ ((if c then [] else duties.Ask (ask_duties.Leave B) ∷ []) ++ rest_of_turn)) ≡ false
       silent x true true = refl
       silent x true false = refl
       silent x false true = refl
@@ -455,9 +459,9 @@ module _ {C : Type 0} (k : Codec C) (W : Type 0) where
   fell_less s r p said so joins =
       fell_cases (λ ds. Less p.agenda ds) s p r (falls s said so) (λ reason. new_less p.agenda _ refl refl) (λ reason. new_less p.agenda _ refl refl) (tail_less p.agenda)
     where
-      falls : (s : Side) → Said s p → FallSo s r → is_fall r ≡ true → Less p.agenda (replaced (duties.GoIdentity s) p.agenda)
+      falls : (s : Side) → Said s p → FallSo s r → is_fall r ≡ true → Less p.agenda (replaced (duties.Ask (ask_duties.GoIdentity s)) p.agenda)
       falls A said so fell = absurd (so fell (said joins))
-      falls B said so fell = replaced_less (duties.GoIdentity B) p.agenda refl refl
+      falls B said so fell = replaced_less (duties.Ask (ask_duties.GoIdentity B)) p.agenda refl refl
 
   verdict_awake : (s : Side) (e : PathEnd) (r : Reply) (p : PathState C) → e.tcp.state ≡ (end_at s p).tcp.state → e.tcp.timing.timer ≡ (end_at s p).tcp.timing.timer
       → e.modes.identity ≡ (end_at s p).modes.identity → Said s p → FallSo s r → Awake p → Awake (goes_on s e (fell_duties s r p) p)
@@ -481,14 +485,14 @@ module _ {C : Type 0} (k : Codec C) (W : Type 0) where
   heard_answered_awake : (s : Side) (item : Heard) (r : Reply) (p : PathState C) → Said s p → So (heard_ask k s item p) r → Awake p → Awake (answered_heard k s item r p)
   heard_answered_awake s (says.DataAck next window) r p said so h = by (is_acked r && nat_lt 0 next)
     where
-      told : (s : Side) → Said s p → is_joined p.profile ≡ true → speaks (inl A) (replaced (duties.AckHeard s) p.agenda) ≡ true → W
+      told : (s : Side) → Said s p → is_joined p.profile ≡ true → speaks (inl A) (replaced (duties.Ask (ask_duties.AckHeard s)) p.agenda) ≡ true → W
       told A said joins is = said joins
-      told B said joins is = h.known joins (replaced_speaks (inl A) (duties.AckHeard B) p.agenda refl is)
+      told B said joins is = h.known joins (replaced_speaks (inl A) (duties.Ask (ask_duties.AckHeard B)) p.agenda refl is)
 
-      by : (b : Bool) → Awake (goes_on s (with_acked next r (end_at s p)) (if b then replaced (duties.AckHeard s) p.agenda else left p) p)
+      by : (b : Bool) → Awake (goes_on s (with_acked next r (end_at s p)) (if b then replaced (duties.Ask (ask_duties.AckHeard s)) p.agenda else left p) p)
       by true =
-          goes_by s (with_acked next r (end_at s p)) (replaced (duties.AckHeard s) p.agenda) p (same_goes s (with_acked next r (end_at s p)) p refl refl refl) (told s said)
-          (λ joins is. h.calm joins (replaced_speaks (inr A) (duties.AckHeard s) p.agenda refl is)) h
+          goes_by s (with_acked next r (end_at s p)) (replaced (duties.Ask (ask_duties.AckHeard s)) p.agenda) p (same_goes s (with_acked next r (end_at s p)) p refl refl refl) (told s said)
+          (λ joins is. h.calm joins (replaced_speaks (inr A) (duties.Ask (ask_duties.AckHeard s)) p.agenda refl is)) h
       by false = same s (with_acked next r (end_at s p)) (left p) p refl refl refl (tail_less p.agenda) h
   heard_answered_awake s (says.Mapping fin) r p said so h = by (is_clash (end_at s p)) so
     where
@@ -541,17 +545,17 @@ module _ {C : Type 0} (k : Codec C) (W : Type 0) where
   plain_fin_awake s false p h = same s _ (breaks s 1) p refl refl refl (new_less p.agenda _ refl refl) h
 
   joined_awake : (s : Side) (o : Option KeyPair) (asked : Option JoinSyn) (r : Reply) (p : PathState C) → keys_begun r ≡ o → So (join_heard_ask s asked p) r → Awake p → Awake (join_taken s o asked r p)
-  joined_awake s None (Some asked) r p is so h = same s (with_mode_refused r (end_at s p)) (replaced (duties.Refuse s) p.agenda) p refl refl refl (replaced_less (duties.Refuse s) p.agenda refl refl) h
-  joined_awake s None None r p is so h = agenda _ p (replaced_less (duties.Refuse s) p.agenda refl refl) h
-  joined_awake s (Some keys) None r p is so h = agenda _ p (replaced_less (duties.Refuse s) p.agenda refl refl) h
+  joined_awake s None (Some asked) r p is so h = same s (with_mode_refused r (end_at s p)) (replaced (duties.Send (send_duties.Refuse s)) p.agenda) p refl refl refl (replaced_less (duties.Send (send_duties.Refuse s)) p.agenda refl refl) h
+  joined_awake s None None r p is so h = agenda _ p (replaced_less (duties.Send (send_duties.Refuse s)) p.agenda refl refl) h
+  joined_awake s (Some keys) None r p is so h = agenda _ p (replaced_less (duties.Send (send_duties.Refuse s)) p.agenda refl refl) h
   joined_awake A (Some keys) (Some asked) r p is so h =
       let now : W = so (ap (λ o. is_some o) is) in
-      record { woken = λ joins up. now; known = λ joins spoken. now; calm = λ joins spoken. h.calm joins (replaced_speaks (inr A) (duties.SynAck A) p.agenda refl spoken); plain = h.plain }
+      record { woken = λ joins up. now; known = λ joins spoken. now; calm = λ joins spoken. h.calm joins (replaced_speaks (inr A) (duties.Send (send_duties.SynAck A)) p.agenda refl spoken); plain = h.plain }
   joined_awake B (Some keys) (Some asked) r p is so h =
       record {
         woken = h.woken;
-        known = λ joins spoken. h.known joins (replaced_speaks (inl A) (duties.SynAck B) p.agenda refl spoken);
-        calm = λ joins spoken. h.calm joins (replaced_speaks (inr A) (duties.SynAck B) p.agenda refl spoken);
+        known = λ joins spoken. h.known joins (replaced_speaks (inl A) (duties.Send (send_duties.SynAck B)) p.agenda refl spoken);
+        calm = λ joins spoken. h.calm joins (replaced_speaks (inr A) (duties.Send (send_duties.SynAck B)) p.agenda refl spoken);
         plain = h.plain;
       }
 
@@ -562,53 +566,53 @@ module _ {C : Type 0} (k : Codec C) (W : Type 0) where
 
   answered_awake : (d : Duty) (r : Reply) (p : PathState C) → (is_joined p.profile ≡ true → is_said_by (inl A) d ≡ true → W) → (is_joined p.profile ≡ true → is_said_by (inr A) d ≡ true → ⊥)
       → So (ask_for k d p) r → Awake p → Awake (answered k d r p)
-  answered_awake duties.JoinAgain r p said falls so h =
-      begun_awake r (replaced (duties.Leave A) p.agenda) (left p) p so (replaced_less (duties.Leave A) p.agenda refl refl) (tail_less p.agenda) h
-  answered_awake (duties.Look s) r p said falls so h = same s (after_look r (end_at s p)) (left p) p refl refl (look_identity r (end_at s p).modes) (tail_less p.agenda) h
-  answered_awake (duties.Window s) r p said falls so h = same s (after_ack_out r (end_at s p)) (left p) p refl refl refl (tail_less p.agenda) h
-  answered_awake (duties.Update s) r p said falls so h = sent s _ _ (left p) p (same_goes s _ p refl refl refl) (tail_less p.agenda) h
-  answered_awake (duties.Syn s) r p said falls so h = same_sent s _ _ (left p) p (sending_up to_send.Unsent p.clock (end_at s p).tcp) refl (tail_less p.agenda) h
-  answered_awake (duties.Data s) r p said falls so h = data_awake s (first_unsent (end_at s p)) r p h
-  answered_awake (duties.DataFin s) r p said falls so h = sent s _ _ (left p) p (same_goes s _ p refl refl refl) (tail_less p.agenda) h
-  answered_awake (duties.Fin s) r p said falls so h =
+  answered_awake (duties.Ask ask_duties.JoinAgain) r p said falls so h =
+      begun_awake r (replaced (duties.Ask (ask_duties.Leave A)) p.agenda) (left p) p so (replaced_less (duties.Ask (ask_duties.Leave A)) p.agenda refl refl) (tail_less p.agenda) h
+  answered_awake (duties.Step (step_duties.Look s)) r p said falls so h = same s (after_look r (end_at s p)) (left p) p refl refl (look_identity r (end_at s p).modes) (tail_less p.agenda) h
+  answered_awake (duties.Ask (ask_duties.Window s)) r p said falls so h = same s (after_ack_out r (end_at s p)) (left p) p refl refl refl (tail_less p.agenda) h
+  answered_awake (duties.Send (send_duties.Update s)) r p said falls so h = sent s _ _ (left p) p (same_goes s _ p refl refl refl) (tail_less p.agenda) h
+  answered_awake (duties.Send (send_duties.Syn s)) r p said falls so h = same_sent s _ _ (left p) p (sending_up to_send.Unsent p.clock (end_at s p).tcp) refl (tail_less p.agenda) h
+  answered_awake (duties.Step (step_duties.Data s)) r p said falls so h = data_awake s (first_unsent (end_at s p)) r p h
+  answered_awake (duties.Send (send_duties.DataFin s)) r p said falls so h = sent s _ _ (left p) p (same_goes s _ p refl refl refl) (tail_less p.agenda) h
+  answered_awake (duties.Send (send_duties.Fin s)) r p said falls so h =
       sent s (fin_segment_of s p) (having_sent_fin s p) (left p) p (up_goes s (having_sent_fin s p) p (fin_up s) refl) (tail_less p.agenda) h
     where
       fin_up : (s : Side) → NoWaking (end_at s p).tcp (having_sent_fin s p).tcp
       fin_up s = let up = finishing_up (end_at s p).tcp in record { up = up.up; waits = up.waits; past = up.past }
-  answered_awake duties.Events r p said falls so h = event_awake (next_event p) r p refl so h
-  answered_awake (duties.PlainHandshake s) r p said falls so h = told_awake s fall.PlainHandshake r p (by_duty s (duties.PlainHandshake s) p (λ joins. said joins) (λ t. refl)) so h
-  answered_awake (duties.PeerKey s) r p said falls so h = key_awake s (key_heard (end_at s p).treated.items) r p (by_duty s (duties.PeerKey s) p (λ joins. said joins) (λ t. refl)) so h
-  answered_awake (duties.SynAck s) r p said falls so h = same_sent s _ _ (left p) p (sending_up to_send.SynAck p.clock (end_at s p).tcp) refl (tail_less p.agenda) h
-  answered_awake (duties.JoinHeard s) r p said falls so h = joined_awake s (keys_begun r) (asked_at s p) r p refl so h
-  answered_awake (duties.Refuse s) r p said falls so h = sent s (refusal_of s p) (end_at s p) (left p) p (same_goes s (end_at s p) p refl refl refl) (tail_less p.agenda) h
-  answered_awake (duties.Opened s) r p said falls so h = opened_awake s (keys_heard (end_at s p).treated.items) r p (by_duty s (duties.Opened s) p (λ joins. said joins) (λ t. refl)) so h
-  answered_awake (duties.Heard s index) r p said falls so h = item_answered_awake s (item_of index (end_at s p)) r p (by_duty s (duties.Heard s index) p (λ joins. said joins) (λ t. refl)) so h
-  answered_awake (duties.AckHeard s) r p said falls so h = told_awake s fall.AckHeard r p (by_duty s (duties.AckHeard s) p (λ joins. said joins) (λ t. refl)) so h
-  answered_awake (duties.PlainAck s) r p said falls so h = plain_ack_awake s r p (by_duty s (duties.PlainAck s) p (λ joins. said joins) (λ t. refl)) so h
-  answered_awake (duties.SubflowAck s) r p said falls so h = same s _ (left p) p refl refl refl (tail_less p.agenda) h
-  answered_awake (duties.PlainData s) r p said falls so h = told_awake s fall.PlainData r p (by_duty s (duties.PlainData s) p (λ joins. said joins) (λ t. refl)) so h
-  answered_awake (duties.GoIdentity A) r p said falls so h = record {
+  answered_awake (duties.Step step_duties.Events) r p said falls so h = event_awake (next_event p) r p refl so h
+  answered_awake (duties.Ask (ask_duties.PlainHandshake s)) r p said falls so h = told_awake s fall.PlainHandshake r p (by_duty s (duties.Ask (ask_duties.PlainHandshake s)) p (λ joins. said joins) (λ t. refl)) so h
+  answered_awake (duties.Ask (ask_duties.PeerKey s)) r p said falls so h = key_awake s (key_heard (end_at s p).treated.items) r p (by_duty s (duties.Ask (ask_duties.PeerKey s)) p (λ joins. said joins) (λ t. refl)) so h
+  answered_awake (duties.Send (send_duties.SynAck s)) r p said falls so h = same_sent s _ _ (left p) p (sending_up to_send.SynAck p.clock (end_at s p).tcp) refl (tail_less p.agenda) h
+  answered_awake (duties.Ask (ask_duties.JoinHeard s)) r p said falls so h = joined_awake s (keys_begun r) (asked_at s p) r p refl so h
+  answered_awake (duties.Send (send_duties.Refuse s)) r p said falls so h = sent s (refusal_of s p) (end_at s p) (left p) p (same_goes s (end_at s p) p refl refl refl) (tail_less p.agenda) h
+  answered_awake (duties.Ask (ask_duties.Opened s)) r p said falls so h = opened_awake s (keys_heard (end_at s p).treated.items) r p (by_duty s (duties.Ask (ask_duties.Opened s)) p (λ joins. said joins) (λ t. refl)) so h
+  answered_awake (duties.Step (step_duties.Heard s index)) r p said falls so h = item_answered_awake s (item_of index (end_at s p)) r p (by_duty s (duties.Step (step_duties.Heard s index)) p (λ joins. said joins) (λ t. refl)) so h
+  answered_awake (duties.Ask (ask_duties.AckHeard s)) r p said falls so h = told_awake s fall.AckHeard r p (by_duty s (duties.Ask (ask_duties.AckHeard s)) p (λ joins. said joins) (λ t. refl)) so h
+  answered_awake (duties.Step (step_duties.PlainAck s)) r p said falls so h = plain_ack_awake s r p (by_duty s (duties.Step (step_duties.PlainAck s)) p (λ joins. said joins) (λ t. refl)) so h
+  answered_awake (duties.Ask (ask_duties.SubflowAck s)) r p said falls so h = same s _ (left p) p refl refl refl (tail_less p.agenda) h
+  answered_awake (duties.Ask (ask_duties.PlainData s)) r p said falls so h = told_awake s fall.PlainData r p (by_duty s (duties.Ask (ask_duties.PlainData s)) p (λ joins. said joins) (λ t. refl)) so h
+  answered_awake (duties.Ask (ask_duties.GoIdentity A)) r p said falls so h = record {
     woken = h.woken;
     known = λ joins spoken. h.known joins (tail_speaks (inl A) p.agenda spoken);
     calm = λ joins spoken. h.calm joins (tail_speaks (inr A) p.agenda spoken);
     plain = λ joins. absurd (falls joins refl);
   }
-  answered_awake (duties.GoIdentity B) r p said falls so h = goes B (in_identity p.b) (left p) p tt (tail_less p.agenda) h
-  answered_awake (duties.Unmapped s) r p said falls so h = break_awake s 6 r p h
-  answered_awake (duties.SubflowFin s) r p said falls so h = plain_fin_awake s (is_fin_set r) p h
-  answered_awake (duties.Edge s) r p said falls so h = piece_awake s (piece_of s p) (is_placed r) p h
-  answered_awake (duties.HeardFin s index) r p said falls so h = fin_awake s (is_fin_set r) p h
-  answered_awake (duties.AckOut s) r p said falls so h = same s (after_ack_out r (end_at s p)) (left p) p refl refl refl (tail_less p.agenda) h
-  answered_awake (duties.Rate s) r p said falls so h = same s _ (left p) p refl refl refl (tail_less p.agenda) h
-  answered_awake (duties.Acknowledge s) r p said falls so h = sent s _ _ (left p) p (same_goes s _ p refl refl refl) (tail_less p.agenda) h
-  answered_awake (duties.Again s) r p said falls so h = same_sent s _ _ (left p) p (sending_up to_send.First p.clock (end_at s p).tcp) refl (tail_less p.agenda) h
-  answered_awake (duties.Answer s) r p said falls so h = same_sent s (answer_of s p) _ (left p) p (sending_up (answer_occasion (end_at s p)) p.clock (end_at s p).tcp) refl (tail_less p.agenda) h
-  answered_awake (duties.ResetAnswer s) r p said falls so h = sent s (dead_answer s p) (end_at s p) (left p) p (same_goes s (end_at s p) p refl refl refl) (tail_less p.agenda) h
-  answered_awake (duties.Resend s) r p said falls so h = same_sent s (resend_of s p) _ (left p) p (sending_up (resend_occasion (end_at s p)) p.clock (end_at s p).tcp) refl (tail_less p.agenda) h
-  answered_awake (duties.BreakAck s reason) r p said falls so h = same s (after_ack_out r (end_at s p)) (resets s reason) p refl refl refl (new_less p.agenda _ refl refl) h
-  answered_awake (duties.BreakReset s reason) r p said falls so h = reset_awake s (Some reason) (leaves s) p (new_less p.agenda _ refl refl) h
-  answered_awake (duties.Reset s) r p said falls so h = reset_awake s None (replaced (duties.Leave s) p.agenda) p (replaced_less (duties.Leave s) p.agenda refl refl) h
-  answered_awake (duties.Leave s) r p said falls so h = agenda (replaced (duties.Dead s) p.agenda) p (replaced_less (duties.Dead s) p.agenda refl refl) h
+  answered_awake (duties.Ask (ask_duties.GoIdentity B)) r p said falls so h = goes B (in_identity p.b) (left p) p tt (tail_less p.agenda) h
+  answered_awake (duties.Step (step_duties.Unmapped s)) r p said falls so h = break_awake s 6 r p h
+  answered_awake (duties.Ask (ask_duties.SubflowFin s)) r p said falls so h = plain_fin_awake s (is_fin_set r) p h
+  answered_awake (duties.Ask (ask_duties.Edge s)) r p said falls so h = piece_awake s (piece_of s p) (is_placed r) p h
+  answered_awake (duties.Ask (ask_duties.HeardFin s index)) r p said falls so h = fin_awake s (is_fin_set r) p h
+  answered_awake (duties.Ask (ask_duties.AckOut s)) r p said falls so h = same s (after_ack_out r (end_at s p)) (left p) p refl refl refl (tail_less p.agenda) h
+  answered_awake (duties.Ask (ask_duties.Rate s)) r p said falls so h = same s _ (left p) p refl refl refl (tail_less p.agenda) h
+  answered_awake (duties.Send (send_duties.Acknowledge s)) r p said falls so h = sent s _ _ (left p) p (same_goes s _ p refl refl refl) (tail_less p.agenda) h
+  answered_awake (duties.Send (send_duties.Again s)) r p said falls so h = same_sent s _ _ (left p) p (sending_up to_send.First p.clock (end_at s p).tcp) refl (tail_less p.agenda) h
+  answered_awake (duties.Send (send_duties.Answer s)) r p said falls so h = same_sent s (answer_of s p) _ (left p) p (sending_up (answer_occasion (end_at s p)) p.clock (end_at s p).tcp) refl (tail_less p.agenda) h
+  answered_awake (duties.Send (send_duties.ResetAnswer s)) r p said falls so h = sent s (dead_answer s p) (end_at s p) (left p) p (same_goes s (end_at s p) p refl refl refl) (tail_less p.agenda) h
+  answered_awake (duties.Send (send_duties.Resend s)) r p said falls so h = same_sent s (resend_of s p) _ (left p) p (sending_up (resend_occasion (end_at s p)) p.clock (end_at s p).tcp) refl (tail_less p.agenda) h
+  answered_awake (duties.Ask (ask_duties.BreakAck s reason)) r p said falls so h = same s (after_ack_out r (end_at s p)) (resets s reason) p refl refl refl (new_less p.agenda _ refl refl) h
+  answered_awake (duties.Send (send_duties.BreakReset s reason)) r p said falls so h = reset_awake s (Some reason) (leaves s) p (new_less p.agenda _ refl refl) h
+  answered_awake (duties.Send (send_duties.Reset s)) r p said falls so h = reset_awake s None (replaced (duties.Ask (ask_duties.Leave s)) p.agenda) p (replaced_less (duties.Ask (ask_duties.Leave s)) p.agenda refl refl) h
+  answered_awake (duties.Ask (ask_duties.Leave s)) r p said falls so h = agenda (replaced (duties.Ask (ask_duties.Dead s)) p.agenda) p (replaced_less (duties.Ask (ask_duties.Dead s)) p.agenda refl refl) h
   answered_awake duties.End r p said falls so h = agenda [] p (new_less p.agenda [] refl refl) h
   answered_awake _ r p said falls so h = agenda (left p) p (tail_less p.agenda) h
 

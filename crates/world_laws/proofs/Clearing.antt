@@ -24,6 +24,10 @@ use Rattle.path_agenda.specs.Items.{keys_heard, key_heard}
 use Rattle.path_agenda.specs.Words.{replaced}
 use Rattle.path_agenda.specs.declared.duty.Duty.{Duty}
 use Rattle.path_agenda.specs.declared.duty.Duty.TheVariants as duties
+use Rattle.path_agenda.specs.declared.duty.AskDuty.TheVariants as ask_duties
+use Rattle.path_agenda.specs.declared.duty.SendDuty.TheVariants as send_duties
+use Rattle.path_agenda.specs.declared.duty.SilentDuty.TheVariants as silent_duties
+use Rattle.path_agenda.specs.declared.duty.StepDuty.TheVariants as step_duties
 use Rattle.path_agenda.specs.declared.heard.Heard.{Heard}
 use Rattle.path_agenda.specs.declared.heard.Heard.TheVariants as says
 use Rattle.path_agenda.specs.declared.keys.KeyPair.{KeyPair}
@@ -150,13 +154,13 @@ module _ {C : Type 0} where
   side_clear B e p q x same_a same_b = record { a = (λ h. rw same_a h, λ h. rw same_a h); b = (λ h. rw same_b (x.0 h), λ h. rw same_b (x.1 h)) }
 
   pub passed_clear : (d : Duty) (p : PathState C) → Clears p (passed d p)
-  passed_clear (duties.Timer s) p = side_clear s _ p _ (λ h. h, λ h. h) refl refl
-  passed_clear (duties.Heard s index) p = side_clear s _ p _ (maybe_end s (item_of index (end_at s p)) (end_at s p)) refl refl
-  passed_clear (duties.Keep s) p = side_clear s _ p _ (λ h. h, λ h. h) refl refl
-  passed_clear (duties.Edge s) p = side_clear s _ p _ (checked_end p.profile.spelling.checksums (mapping_here (end_at s p)) (end_at s p)) refl refl
-  passed_clear (duties.PlainAck s) p = side_clear s _ p _ (λ h. h, λ h. h) refl refl
-  passed_clear (duties.Unmapped s) p = side_clear s _ p _ (λ h. h, λ h. h) refl refl
-  passed_clear (duties.PassFin s) p = side_clear s _ p _ (λ h. h, λ h. h) refl refl
+  passed_clear (duties.Silent (silent_duties.Timer s)) p = side_clear s _ p _ (λ h. h, λ h. h) refl refl
+  passed_clear (duties.Step (step_duties.Heard s index)) p = side_clear s _ p _ (maybe_end s (item_of index (end_at s p)) (end_at s p)) refl refl
+  passed_clear (duties.Silent (silent_duties.Keep s)) p = side_clear s _ p _ (λ h. h, λ h. h) refl refl
+  passed_clear (duties.Ask (ask_duties.Edge s)) p = side_clear s _ p _ (checked_end p.profile.spelling.checksums (mapping_here (end_at s p)) (end_at s p)) refl refl
+  passed_clear (duties.Step (step_duties.PlainAck s)) p = side_clear s _ p _ (λ h. h, λ h. h) refl refl
+  passed_clear (duties.Step (step_duties.Unmapped s)) p = side_clear s _ p _ (λ h. h, λ h. h) refl refl
+  passed_clear (duties.Silent (silent_duties.PassFin s)) p = side_clear s _ p _ (λ h. h, λ h. h) refl refl
   passed_clear _ p = stays_clear p
 
   settled_clear : (ds : List Duty) (p : PathState C) → Clears p (settled ds p)
@@ -255,43 +259,43 @@ module _ {C : Type 0} where
   joined_clear s None None r p = record { a = (λ h. h, λ h. h); b = (λ h. h, λ h. h) }
 
   pub answered_clear : (k : Codec C) (d : Duty) (r : Reply) (p : PathState C) → Clears p (answered k d r p)
-  answered_clear k duties.JoinAgain r p = begun_clear r (replaced (duties.Leave A) p.agenda) (left p) p
-  answered_clear k (duties.Look s) r p = side_clear s _ p _ (told_clear r (end_at s p).modes) refl refl
-  answered_clear k (duties.Window s) r p = side_clear s _ p _ (λ h. h, λ h. h) refl refl
-  answered_clear k (duties.Update s) r p = side_clear s _ p _ (λ h. h, λ h. h) refl refl
-  answered_clear k (duties.Syn s) r p = side_clear s _ p _ (λ h. h, λ h. h) refl refl
-  answered_clear k (duties.Data s) r p = data_clear k s (first_unsent (end_at s p)) r p
-  answered_clear k (duties.DataFin s) r p = side_clear s _ p _ (λ h. h, λ h. h) refl refl
-  answered_clear k (duties.Fin s) r p = side_clear s _ p _ (λ h. h, λ h. h) refl refl
-  answered_clear k duties.Events r p = happens_clear k (next_event p) r p
-  answered_clear k (duties.PeerKey s) r p = key_clear s (key_heard (end_at s p).treated.items) r p
-  answered_clear k (duties.SynAck s) r p = side_clear s _ p _ (λ h. h, λ h. h) refl refl
-  answered_clear k (duties.JoinHeard s) r p = joined_clear s (keys_begun r) (asked_at s p) r p
-  answered_clear k (duties.Refuse s) r p = side_clear s _ p _ (λ h. h, λ h. h) refl refl
-  answered_clear k (duties.Opened s) r p = opened_clear s (keys_heard (end_at s p).treated.items) r p
-  answered_clear k (duties.Heard s index) r p = item_clear k s (item_of index (end_at s p)) r p
-  answered_clear k (duties.AckHeard s) r p = fell_path s events.AckHeard r _ _ p (λ h. h, λ h. h) refl refl
-  answered_clear k (duties.PlainAck s) r p =
+  answered_clear k (duties.Ask ask_duties.JoinAgain) r p = begun_clear r (replaced (duties.Ask (ask_duties.Leave A)) p.agenda) (left p) p
+  answered_clear k (duties.Step (step_duties.Look s)) r p = side_clear s _ p _ (told_clear r (end_at s p).modes) refl refl
+  answered_clear k (duties.Ask (ask_duties.Window s)) r p = side_clear s _ p _ (λ h. h, λ h. h) refl refl
+  answered_clear k (duties.Send (send_duties.Update s)) r p = side_clear s _ p _ (λ h. h, λ h. h) refl refl
+  answered_clear k (duties.Send (send_duties.Syn s)) r p = side_clear s _ p _ (λ h. h, λ h. h) refl refl
+  answered_clear k (duties.Step (step_duties.Data s)) r p = data_clear k s (first_unsent (end_at s p)) r p
+  answered_clear k (duties.Send (send_duties.DataFin s)) r p = side_clear s _ p _ (λ h. h, λ h. h) refl refl
+  answered_clear k (duties.Send (send_duties.Fin s)) r p = side_clear s _ p _ (λ h. h, λ h. h) refl refl
+  answered_clear k (duties.Step step_duties.Events) r p = happens_clear k (next_event p) r p
+  answered_clear k (duties.Ask (ask_duties.PeerKey s)) r p = key_clear s (key_heard (end_at s p).treated.items) r p
+  answered_clear k (duties.Send (send_duties.SynAck s)) r p = side_clear s _ p _ (λ h. h, λ h. h) refl refl
+  answered_clear k (duties.Ask (ask_duties.JoinHeard s)) r p = joined_clear s (keys_begun r) (asked_at s p) r p
+  answered_clear k (duties.Send (send_duties.Refuse s)) r p = side_clear s _ p _ (λ h. h, λ h. h) refl refl
+  answered_clear k (duties.Ask (ask_duties.Opened s)) r p = opened_clear s (keys_heard (end_at s p).treated.items) r p
+  answered_clear k (duties.Step (step_duties.Heard s index)) r p = item_clear k s (item_of index (end_at s p)) r p
+  answered_clear k (duties.Ask (ask_duties.AckHeard s)) r p = fell_path s events.AckHeard r _ _ p (λ h. h, λ h. h) refl refl
+  answered_clear k (duties.Step (step_duties.PlainAck s)) r p =
       either_clear (breaks_by_ack p.profile (end_at s p)) _ _ p (break_clear k s 6 r p) (fell_path s events.PlainAck r _ _ p (λ h. h, λ h. h) refl refl)
-  answered_clear k (duties.PlainHandshake s) r p = fell_path s events.PlainHandshake r _ _ p (λ h. h, λ h. h) refl refl
-  answered_clear k (duties.PlainData s) r p = fell_path s events.PlainData r _ _ p (λ h. h, λ h. h) refl refl
-  answered_clear k (duties.SubflowAck s) r p = side_clear s _ p _ (λ h. h, λ h. h) refl refl
-  answered_clear k (duties.GoIdentity s) r p = side_clear s _ p _ (λ h. h, λ h. refl) refl refl
-  answered_clear k (duties.Unmapped s) r p = break_clear k s 6 r p
-  answered_clear k (duties.SubflowFin s) r p = either_clear (is_fin_set r) _ _ p (side_clear s _ p _ (λ h. h, λ h. h) refl refl) (side_clear s _ p _ (λ h. h, λ h. h) refl refl)
-  answered_clear k (duties.Edge s) r p = piece_clear s (piece_of s p) (is_placed r) p
-  answered_clear k (duties.HeardFin s index) r p = either_clear (is_fin_set r) _ _ p (side_clear s _ p _ (λ h. h, λ h. h) refl refl) (side_clear s _ p _ (λ h. h, λ h. h) refl refl)
-  answered_clear k (duties.AckOut s) r p = side_clear s _ p _ (λ h. h, λ h. h) refl refl
-  answered_clear k (duties.Rate s) r p = side_clear s _ p _ (λ h. h, λ h. h) refl refl
-  answered_clear k (duties.Acknowledge s) r p = side_clear s _ p _ (λ h. h, λ h. h) refl refl
-  answered_clear k (duties.Again s) r p = side_clear s _ p _ (λ h. h, λ h. h) refl refl
-  answered_clear k (duties.Answer s) r p = side_clear s _ p _ (λ h. h, λ h. h) refl refl
-  answered_clear k (duties.ResetAnswer s) r p = side_clear s _ p _ (λ h. h, λ h. h) refl refl
-  answered_clear k (duties.Resend s) r p = side_clear s _ p _ (λ h. h, λ h. h) refl refl
-  answered_clear k (duties.BreakAck s reason) r p = side_clear s _ p _ (λ h. h, λ h. h) refl refl
-  answered_clear k (duties.BreakReset s reason) r p = side_clear s _ p _ (λ h. h, λ h. h) refl refl
-  answered_clear k (duties.Reset s) r p = side_clear s _ p _ (λ h. h, λ h. h) refl refl
-  answered_clear k (duties.Leave s) r p = record { a = (λ h. h, λ h. h); b = (λ h. h, λ h. h) }
+  answered_clear k (duties.Ask (ask_duties.PlainHandshake s)) r p = fell_path s events.PlainHandshake r _ _ p (λ h. h, λ h. h) refl refl
+  answered_clear k (duties.Ask (ask_duties.PlainData s)) r p = fell_path s events.PlainData r _ _ p (λ h. h, λ h. h) refl refl
+  answered_clear k (duties.Ask (ask_duties.SubflowAck s)) r p = side_clear s _ p _ (λ h. h, λ h. h) refl refl
+  answered_clear k (duties.Ask (ask_duties.GoIdentity s)) r p = side_clear s _ p _ (λ h. h, λ h. refl) refl refl
+  answered_clear k (duties.Step (step_duties.Unmapped s)) r p = break_clear k s 6 r p
+  answered_clear k (duties.Ask (ask_duties.SubflowFin s)) r p = either_clear (is_fin_set r) _ _ p (side_clear s _ p _ (λ h. h, λ h. h) refl refl) (side_clear s _ p _ (λ h. h, λ h. h) refl refl)
+  answered_clear k (duties.Ask (ask_duties.Edge s)) r p = piece_clear s (piece_of s p) (is_placed r) p
+  answered_clear k (duties.Ask (ask_duties.HeardFin s index)) r p = either_clear (is_fin_set r) _ _ p (side_clear s _ p _ (λ h. h, λ h. h) refl refl) (side_clear s _ p _ (λ h. h, λ h. h) refl refl)
+  answered_clear k (duties.Ask (ask_duties.AckOut s)) r p = side_clear s _ p _ (λ h. h, λ h. h) refl refl
+  answered_clear k (duties.Ask (ask_duties.Rate s)) r p = side_clear s _ p _ (λ h. h, λ h. h) refl refl
+  answered_clear k (duties.Send (send_duties.Acknowledge s)) r p = side_clear s _ p _ (λ h. h, λ h. h) refl refl
+  answered_clear k (duties.Send (send_duties.Again s)) r p = side_clear s _ p _ (λ h. h, λ h. h) refl refl
+  answered_clear k (duties.Send (send_duties.Answer s)) r p = side_clear s _ p _ (λ h. h, λ h. h) refl refl
+  answered_clear k (duties.Send (send_duties.ResetAnswer s)) r p = side_clear s _ p _ (λ h. h, λ h. h) refl refl
+  answered_clear k (duties.Send (send_duties.Resend s)) r p = side_clear s _ p _ (λ h. h, λ h. h) refl refl
+  answered_clear k (duties.Ask (ask_duties.BreakAck s reason)) r p = side_clear s _ p _ (λ h. h, λ h. h) refl refl
+  answered_clear k (duties.Send (send_duties.BreakReset s reason)) r p = side_clear s _ p _ (λ h. h, λ h. h) refl refl
+  answered_clear k (duties.Send (send_duties.Reset s)) r p = side_clear s _ p _ (λ h. h, λ h. h) refl refl
+  answered_clear k (duties.Ask (ask_duties.Leave s)) r p = record { a = (λ h. h, λ h. h); b = (λ h. h, λ h. h) }
   answered_clear k duties.End r p = record { a = (λ h. h, λ h. h); b = (λ h. h, λ h. h) }
   answered_clear k _ r p = record { a = (λ h. h, λ h. h); b = (λ h. h, λ h. h) }
 

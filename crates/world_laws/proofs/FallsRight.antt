@@ -30,6 +30,10 @@ use Rattle.stream_apps.specs.Apps.{AppState}
 use Rattle.stream_apps.specs.AppSteps.{app_ask, app_asks_first}
 use Rattle.path_agenda.specs.declared.duty.Duty.{Duty}
 use Rattle.path_agenda.specs.declared.duty.Duty.TheVariants as duties
+use Rattle.path_agenda.specs.declared.duty.AskDuty.TheVariants as ask_duties
+use Rattle.path_agenda.specs.declared.duty.SendDuty.TheVariants as send_duties
+use Rattle.path_agenda.specs.declared.duty.SilentDuty.TheVariants as silent_duties
+use Rattle.path_agenda.specs.declared.duty.StepDuty.TheVariants as step_duties
 use Rattle.path_core.specs.Duties.{stands, ask_for}
 use Rattle.path_core.specs.Emission.{first_unsent, data_stands, data_ask}
 use Rattle.path_core.specs.Octets.{octets}
@@ -101,50 +105,50 @@ module _ (p : PathState Carried) where
 
   -- an end asks for bytes only where it may finish
   asking_finishes : (d : Duty) → stands d p ≡ true → asks_some (ask_for values d p) ≡ true → (t : Side) × (may_finish (end_at t p).tcp.state ≡ true)
-  asking_finishes (duties.Data s) is asks = data_finishes s (first_unsent (end_at s p)) is asks
-  asking_finishes duties.JoinAgain is asks = nothing_asked duties.JoinAgain tt asks
-  asking_finishes (duties.Look s) is asks = nothing_asked (duties.Look s) tt asks
-  asking_finishes (duties.Window s) is asks = nothing_asked (duties.Window s) tt asks
-  asking_finishes (duties.Update s) is asks = nothing_asked (duties.Update s) tt asks
-  asking_finishes (duties.Syn s) is asks = nothing_asked (duties.Syn s) tt asks
-  asking_finishes (duties.DataFin s) is asks = nothing_asked (duties.DataFin s) tt asks
-  asking_finishes (duties.Fin s) is asks = nothing_asked (duties.Fin s) tt asks
-  asking_finishes (duties.Timer s) is asks = nothing_asked (duties.Timer s) tt asks
-  asking_finishes duties.Events is asks = nothing_asked duties.Events tt asks
-  asking_finishes (duties.SynHeard s) is asks = nothing_asked (duties.SynHeard s) tt asks
-  asking_finishes (duties.SynAnswered s) is asks = nothing_asked (duties.SynAnswered s) tt asks
-  asking_finishes (duties.PlainHandshake s) is asks = nothing_asked (duties.PlainHandshake s) tt asks
-  asking_finishes (duties.PeerKey s) is asks = nothing_asked (duties.PeerKey s) tt asks
-  asking_finishes (duties.SynAck s) is asks = nothing_asked (duties.SynAck s) tt asks
-  asking_finishes (duties.JoinHeard s) is asks = nothing_asked (duties.JoinHeard s) tt asks
-  asking_finishes (duties.Refuse s) is asks = nothing_asked (duties.Refuse s) tt asks
-  asking_finishes (duties.Opened s) is asks = nothing_asked (duties.Opened s) tt asks
-  asking_finishes (duties.Live s) is asks = nothing_asked (duties.Live s) tt asks
-  asking_finishes (duties.Heard s index) is asks = nothing_asked (duties.Heard s index) tt asks
-  asking_finishes (duties.AckHeard s) is asks = nothing_asked (duties.AckHeard s) tt asks
-  asking_finishes (duties.PlainAck s) is asks = nothing_asked (duties.PlainAck s) tt asks
-  asking_finishes (duties.SubflowAck s) is asks = nothing_asked (duties.SubflowAck s) tt asks
-  asking_finishes (duties.PlainData s) is asks = nothing_asked (duties.PlainData s) tt asks
-  asking_finishes (duties.GoIdentity s) is asks = nothing_asked (duties.GoIdentity s) tt asks
-  asking_finishes (duties.Keep s) is asks = nothing_asked (duties.Keep s) tt asks
-  asking_finishes (duties.Edge s) is asks = nothing_asked (duties.Edge s) tt asks
-  asking_finishes (duties.Unmapped s) is asks = nothing_asked (duties.Unmapped s) tt asks
-  asking_finishes (duties.HeardFin s index) is asks = nothing_asked (duties.HeardFin s index) tt asks
-  asking_finishes (duties.PassFin s) is asks = nothing_asked (duties.PassFin s) tt asks
-  asking_finishes (duties.SubflowFin s) is asks = nothing_asked (duties.SubflowFin s) tt asks
-  asking_finishes (duties.AckOut s) is asks = nothing_asked (duties.AckOut s) tt asks
-  asking_finishes (duties.Rate s) is asks = nothing_asked (duties.Rate s) tt asks
-  asking_finishes (duties.Acknowledge s) is asks = nothing_asked (duties.Acknowledge s) tt asks
-  asking_finishes (duties.Again s) is asks = nothing_asked (duties.Again s) tt asks
-  asking_finishes (duties.Answer s) is asks = nothing_asked (duties.Answer s) tt asks
-  asking_finishes (duties.ResetAnswer s) is asks = nothing_asked (duties.ResetAnswer s) tt asks
-  asking_finishes (duties.Return s) is asks = nothing_asked (duties.Return s) tt asks
-  asking_finishes (duties.Resend s) is asks = nothing_asked (duties.Resend s) tt asks
-  asking_finishes (duties.BreakAck s reason) is asks = nothing_asked (duties.BreakAck s reason) tt asks
-  asking_finishes (duties.BreakReset s reason) is asks = nothing_asked (duties.BreakReset s reason) tt asks
-  asking_finishes (duties.Reset s) is asks = nothing_asked (duties.Reset s) tt asks
-  asking_finishes (duties.Leave s) is asks = nothing_asked (duties.Leave s) tt asks
-  asking_finishes (duties.Dead s) is asks = nothing_asked (duties.Dead s) tt asks
+  asking_finishes (duties.Step (step_duties.Data s)) is asks = data_finishes s (first_unsent (end_at s p)) is asks
+  asking_finishes (duties.Ask ask_duties.JoinAgain) is asks = nothing_asked (duties.Ask ask_duties.JoinAgain) tt asks
+  asking_finishes (duties.Step (step_duties.Look s)) is asks = nothing_asked (duties.Step (step_duties.Look s)) tt asks
+  asking_finishes (duties.Ask (ask_duties.Window s)) is asks = nothing_asked (duties.Ask (ask_duties.Window s)) tt asks
+  asking_finishes (duties.Send (send_duties.Update s)) is asks = nothing_asked (duties.Send (send_duties.Update s)) tt asks
+  asking_finishes (duties.Send (send_duties.Syn s)) is asks = nothing_asked (duties.Send (send_duties.Syn s)) tt asks
+  asking_finishes (duties.Send (send_duties.DataFin s)) is asks = nothing_asked (duties.Send (send_duties.DataFin s)) tt asks
+  asking_finishes (duties.Send (send_duties.Fin s)) is asks = nothing_asked (duties.Send (send_duties.Fin s)) tt asks
+  asking_finishes (duties.Silent (silent_duties.Timer s)) is asks = nothing_asked (duties.Silent (silent_duties.Timer s)) tt asks
+  asking_finishes (duties.Step step_duties.Events) is asks = nothing_asked (duties.Step step_duties.Events) tt asks
+  asking_finishes (duties.Ask (ask_duties.SynHeard s)) is asks = nothing_asked (duties.Ask (ask_duties.SynHeard s)) tt asks
+  asking_finishes (duties.Ask (ask_duties.SynAnswered s)) is asks = nothing_asked (duties.Ask (ask_duties.SynAnswered s)) tt asks
+  asking_finishes (duties.Ask (ask_duties.PlainHandshake s)) is asks = nothing_asked (duties.Ask (ask_duties.PlainHandshake s)) tt asks
+  asking_finishes (duties.Ask (ask_duties.PeerKey s)) is asks = nothing_asked (duties.Ask (ask_duties.PeerKey s)) tt asks
+  asking_finishes (duties.Send (send_duties.SynAck s)) is asks = nothing_asked (duties.Send (send_duties.SynAck s)) tt asks
+  asking_finishes (duties.Ask (ask_duties.JoinHeard s)) is asks = nothing_asked (duties.Ask (ask_duties.JoinHeard s)) tt asks
+  asking_finishes (duties.Send (send_duties.Refuse s)) is asks = nothing_asked (duties.Send (send_duties.Refuse s)) tt asks
+  asking_finishes (duties.Ask (ask_duties.Opened s)) is asks = nothing_asked (duties.Ask (ask_duties.Opened s)) tt asks
+  asking_finishes (duties.Ask (ask_duties.Live s)) is asks = nothing_asked (duties.Ask (ask_duties.Live s)) tt asks
+  asking_finishes (duties.Step (step_duties.Heard s index)) is asks = nothing_asked (duties.Step (step_duties.Heard s index)) tt asks
+  asking_finishes (duties.Ask (ask_duties.AckHeard s)) is asks = nothing_asked (duties.Ask (ask_duties.AckHeard s)) tt asks
+  asking_finishes (duties.Step (step_duties.PlainAck s)) is asks = nothing_asked (duties.Step (step_duties.PlainAck s)) tt asks
+  asking_finishes (duties.Ask (ask_duties.SubflowAck s)) is asks = nothing_asked (duties.Ask (ask_duties.SubflowAck s)) tt asks
+  asking_finishes (duties.Ask (ask_duties.PlainData s)) is asks = nothing_asked (duties.Ask (ask_duties.PlainData s)) tt asks
+  asking_finishes (duties.Ask (ask_duties.GoIdentity s)) is asks = nothing_asked (duties.Ask (ask_duties.GoIdentity s)) tt asks
+  asking_finishes (duties.Silent (silent_duties.Keep s)) is asks = nothing_asked (duties.Silent (silent_duties.Keep s)) tt asks
+  asking_finishes (duties.Ask (ask_duties.Edge s)) is asks = nothing_asked (duties.Ask (ask_duties.Edge s)) tt asks
+  asking_finishes (duties.Step (step_duties.Unmapped s)) is asks = nothing_asked (duties.Step (step_duties.Unmapped s)) tt asks
+  asking_finishes (duties.Ask (ask_duties.HeardFin s index)) is asks = nothing_asked (duties.Ask (ask_duties.HeardFin s index)) tt asks
+  asking_finishes (duties.Silent (silent_duties.PassFin s)) is asks = nothing_asked (duties.Silent (silent_duties.PassFin s)) tt asks
+  asking_finishes (duties.Ask (ask_duties.SubflowFin s)) is asks = nothing_asked (duties.Ask (ask_duties.SubflowFin s)) tt asks
+  asking_finishes (duties.Ask (ask_duties.AckOut s)) is asks = nothing_asked (duties.Ask (ask_duties.AckOut s)) tt asks
+  asking_finishes (duties.Ask (ask_duties.Rate s)) is asks = nothing_asked (duties.Ask (ask_duties.Rate s)) tt asks
+  asking_finishes (duties.Send (send_duties.Acknowledge s)) is asks = nothing_asked (duties.Send (send_duties.Acknowledge s)) tt asks
+  asking_finishes (duties.Send (send_duties.Again s)) is asks = nothing_asked (duties.Send (send_duties.Again s)) tt asks
+  asking_finishes (duties.Send (send_duties.Answer s)) is asks = nothing_asked (duties.Send (send_duties.Answer s)) tt asks
+  asking_finishes (duties.Send (send_duties.ResetAnswer s)) is asks = nothing_asked (duties.Send (send_duties.ResetAnswer s)) tt asks
+  asking_finishes (duties.Ask (ask_duties.Return s)) is asks = nothing_asked (duties.Ask (ask_duties.Return s)) tt asks
+  asking_finishes (duties.Send (send_duties.Resend s)) is asks = nothing_asked (duties.Send (send_duties.Resend s)) tt asks
+  asking_finishes (duties.Ask (ask_duties.BreakAck s reason)) is asks = nothing_asked (duties.Ask (ask_duties.BreakAck s reason)) tt asks
+  asking_finishes (duties.Send (send_duties.BreakReset s reason)) is asks = nothing_asked (duties.Send (send_duties.BreakReset s reason)) tt asks
+  asking_finishes (duties.Send (send_duties.Reset s)) is asks = nothing_asked (duties.Send (send_duties.Reset s)) tt asks
+  asking_finishes (duties.Ask (ask_duties.Leave s)) is asks = nothing_asked (duties.Ask (ask_duties.Leave s)) tt asks
+  asking_finishes (duties.Ask (ask_duties.Dead s)) is asks = nothing_asked (duties.Ask (ask_duties.Dead s)) tt asks
   asking_finishes duties.End is asks = nothing_asked duties.End tt asks
 
 module _ (key_a key_b : ℕ) where

@@ -18,6 +18,10 @@ use Rattle.actor_desk.specs.declared.ask.Reply.{Reply}
 use Rattle.actor_desk.specs.declared.ask.Reply.TheVariants as replies
 use Rattle.path_agenda.specs.declared.duty.Duty.{Duty}
 use Rattle.path_agenda.specs.declared.duty.Duty.TheVariants as duties
+use Rattle.path_agenda.specs.declared.duty.AskDuty.TheVariants as ask_duties
+use Rattle.path_agenda.specs.declared.duty.SendDuty.TheVariants as send_duties
+use Rattle.path_agenda.specs.declared.duty.SilentDuty.TheVariants as silent_duties
+use Rattle.path_agenda.specs.declared.duty.StepDuty.TheVariants as step_duties
 use Rattle.path_core.specs.declared.event.Event.{Event}
 use Rattle.path_core.specs.declared.event.Event.TheVariants as happening
 use Rattle.path_agenda.specs.declared.heard.Heard.{Heard}
@@ -49,7 +53,7 @@ use Rattle.path_core.specs.Falling.{after_fell, fell_duties}
 -- the events of the turn, and its end, are ahead
 abbrev pub Ahead : List Duty → Type 0
 Ahead [] = ⊥
-Ahead (duties.Events ∷ ds) = ds ≡ duties.End ∷ []
+Ahead ((duties.Step step_duties.Events) ∷ ds) = ds ≡ duties.End ∷ []
 Ahead (duties.End ∷ ds) = ⊥
 Ahead (d ∷ ds) = Ahead ds
 
@@ -81,7 +85,7 @@ judged_ahead joined s count judged.Asks = refl
 judged_ahead joined s count judged.Lacks = refl
 judged_ahead joined s count judged.Forged = refl
 
-died_ahead : (dead_a dead_b : Bool) → Ahead ((if dead_a then [] else duties.Leave A ∷ []) ++ ((if dead_b then [] else duties.Leave B ∷ []) ++ rest_of_turn))
+died_ahead : (dead_a dead_b : Bool) → Ahead ((if dead_a then [] else duties.Ask (ask_duties.Leave A) ∷ []) ++ ((if dead_b then [] else duties.Ask (ask_duties.Leave B) ∷ []) ++ rest_of_turn))
 died_ahead true true = refl
 died_ahead true false = refl
 died_ahead false true = refl
@@ -115,57 +119,57 @@ module _ {C : Type 0} where
   past_events ds p none is = subst (λ xs. Shaped xs p) (sym is) (inr (refl, none))
 
   next_shaped : (d : Duty) (ds : List Duty) (p : PathState C) → Shaped (d ∷ ds) p → stands d p ≡ false → Shaped ds (passed d p)
-  next_shaped duties.Events ds p (inl is) no_more = past_events ds p (nothing_next (next_event p) no_more) is
-  next_shaped duties.Events ds p (inr never) no_more = absurd never
+  next_shaped (duties.Step step_duties.Events) ds p (inl is) no_more = past_events ds p (nothing_next (next_event p) no_more) is
+  next_shaped (duties.Step step_duties.Events) ds p (inr never) no_more = absurd never
   next_shaped duties.End ds p h no_more = absurd (true≢false no_more)
-  next_shaped duties.JoinAgain ds p h no_more = onward ds _ h
-  next_shaped (duties.Look s) ds p h no_more = onward ds _ h
-  next_shaped (duties.Window s) ds p h no_more = onward ds _ h
-  next_shaped (duties.Update s) ds p h no_more = onward ds _ h
-  next_shaped (duties.Syn s) ds p h no_more = onward ds _ h
-  next_shaped (duties.Data s) ds p h no_more = onward ds _ h
-  next_shaped (duties.DataFin s) ds p h no_more = onward ds _ h
-  next_shaped (duties.Fin s) ds p h no_more = onward ds _ h
-  next_shaped (duties.Timer s) ds p h no_more = onward ds _ h
-  next_shaped (duties.SynHeard s) ds p h no_more = onward ds _ h
-  next_shaped (duties.SynAnswered s) ds p h no_more = onward ds _ h
-  next_shaped (duties.PeerKey s) ds p h no_more = onward ds _ h
-  next_shaped (duties.SynAck s) ds p h no_more = onward ds _ h
-  next_shaped (duties.JoinHeard s) ds p h no_more = onward ds _ h
-  next_shaped (duties.Refuse s) ds p h no_more = onward ds _ h
-  next_shaped (duties.Opened s) ds p h no_more = onward ds _ h
-  next_shaped (duties.Live s) ds p h no_more = onward ds _ h
-  next_shaped (duties.Heard s index) ds p h no_more = onward ds _ h
-  next_shaped (duties.AckHeard s) ds p h no_more = onward ds _ h
-  next_shaped (duties.PlainAck s) ds p h no_more = onward ds _ h
-  next_shaped (duties.PlainHandshake s) ds p h no_more = onward ds _ h
-  next_shaped (duties.SubflowAck s) ds p h no_more = onward ds _ h
-  next_shaped (duties.PlainData s) ds p h no_more = onward ds _ h
-  next_shaped (duties.GoIdentity s) ds p h no_more = onward ds _ h
-  next_shaped (duties.Unmapped s) ds p h no_more = onward ds _ h
-  next_shaped (duties.SubflowFin s) ds p h no_more = onward ds _ h
-  next_shaped (duties.Keep s) ds p h no_more = onward ds _ h
-  next_shaped (duties.Edge s) ds p h no_more = onward ds _ h
-  next_shaped (duties.HeardFin s index) ds p h no_more = onward ds _ h
-  next_shaped (duties.PassFin s) ds p h no_more = onward ds _ h
-  next_shaped (duties.AckOut s) ds p h no_more = onward ds _ h
-  next_shaped (duties.Rate s) ds p h no_more = onward ds _ h
-  next_shaped (duties.Acknowledge s) ds p h no_more = onward ds _ h
-  next_shaped (duties.Again s) ds p h no_more = onward ds _ h
-  next_shaped (duties.Answer s) ds p h no_more = onward ds _ h
-  next_shaped (duties.ResetAnswer s) ds p h no_more = onward ds _ h
-  next_shaped (duties.Return s) ds p h no_more = onward ds _ h
-  next_shaped (duties.Resend s) ds p h no_more = onward ds _ h
-  next_shaped (duties.BreakAck s reason) ds p h no_more = onward ds _ h
-  next_shaped (duties.BreakReset s reason) ds p h no_more = onward ds _ h
-  next_shaped (duties.Reset s) ds p h no_more = onward ds _ h
-  next_shaped (duties.Leave s) ds p h no_more = onward ds _ h
-  next_shaped (duties.Dead s) ds p h no_more = onward ds _ h
+  next_shaped (duties.Ask ask_duties.JoinAgain) ds p h no_more = onward ds _ h
+  next_shaped (duties.Step (step_duties.Look s)) ds p h no_more = onward ds _ h
+  next_shaped (duties.Ask (ask_duties.Window s)) ds p h no_more = onward ds _ h
+  next_shaped (duties.Send (send_duties.Update s)) ds p h no_more = onward ds _ h
+  next_shaped (duties.Send (send_duties.Syn s)) ds p h no_more = onward ds _ h
+  next_shaped (duties.Step (step_duties.Data s)) ds p h no_more = onward ds _ h
+  next_shaped (duties.Send (send_duties.DataFin s)) ds p h no_more = onward ds _ h
+  next_shaped (duties.Send (send_duties.Fin s)) ds p h no_more = onward ds _ h
+  next_shaped (duties.Silent (silent_duties.Timer s)) ds p h no_more = onward ds _ h
+  next_shaped (duties.Ask (ask_duties.SynHeard s)) ds p h no_more = onward ds _ h
+  next_shaped (duties.Ask (ask_duties.SynAnswered s)) ds p h no_more = onward ds _ h
+  next_shaped (duties.Ask (ask_duties.PeerKey s)) ds p h no_more = onward ds _ h
+  next_shaped (duties.Send (send_duties.SynAck s)) ds p h no_more = onward ds _ h
+  next_shaped (duties.Ask (ask_duties.JoinHeard s)) ds p h no_more = onward ds _ h
+  next_shaped (duties.Send (send_duties.Refuse s)) ds p h no_more = onward ds _ h
+  next_shaped (duties.Ask (ask_duties.Opened s)) ds p h no_more = onward ds _ h
+  next_shaped (duties.Ask (ask_duties.Live s)) ds p h no_more = onward ds _ h
+  next_shaped (duties.Step (step_duties.Heard s index)) ds p h no_more = onward ds _ h
+  next_shaped (duties.Ask (ask_duties.AckHeard s)) ds p h no_more = onward ds _ h
+  next_shaped (duties.Step (step_duties.PlainAck s)) ds p h no_more = onward ds _ h
+  next_shaped (duties.Ask (ask_duties.PlainHandshake s)) ds p h no_more = onward ds _ h
+  next_shaped (duties.Ask (ask_duties.SubflowAck s)) ds p h no_more = onward ds _ h
+  next_shaped (duties.Ask (ask_duties.PlainData s)) ds p h no_more = onward ds _ h
+  next_shaped (duties.Ask (ask_duties.GoIdentity s)) ds p h no_more = onward ds _ h
+  next_shaped (duties.Step (step_duties.Unmapped s)) ds p h no_more = onward ds _ h
+  next_shaped (duties.Ask (ask_duties.SubflowFin s)) ds p h no_more = onward ds _ h
+  next_shaped (duties.Silent (silent_duties.Keep s)) ds p h no_more = onward ds _ h
+  next_shaped (duties.Ask (ask_duties.Edge s)) ds p h no_more = onward ds _ h
+  next_shaped (duties.Ask (ask_duties.HeardFin s index)) ds p h no_more = onward ds _ h
+  next_shaped (duties.Silent (silent_duties.PassFin s)) ds p h no_more = onward ds _ h
+  next_shaped (duties.Ask (ask_duties.AckOut s)) ds p h no_more = onward ds _ h
+  next_shaped (duties.Ask (ask_duties.Rate s)) ds p h no_more = onward ds _ h
+  next_shaped (duties.Send (send_duties.Acknowledge s)) ds p h no_more = onward ds _ h
+  next_shaped (duties.Send (send_duties.Again s)) ds p h no_more = onward ds _ h
+  next_shaped (duties.Send (send_duties.Answer s)) ds p h no_more = onward ds _ h
+  next_shaped (duties.Send (send_duties.ResetAnswer s)) ds p h no_more = onward ds _ h
+  next_shaped (duties.Ask (ask_duties.Return s)) ds p h no_more = onward ds _ h
+  next_shaped (duties.Send (send_duties.Resend s)) ds p h no_more = onward ds _ h
+  next_shaped (duties.Ask (ask_duties.BreakAck s reason)) ds p h no_more = onward ds _ h
+  next_shaped (duties.Send (send_duties.BreakReset s reason)) ds p h no_more = onward ds _ h
+  next_shaped (duties.Send (send_duties.Reset s)) ds p h no_more = onward ds _ h
+  next_shaped (duties.Ask (ask_duties.Leave s)) ds p h no_more = onward ds _ h
+  next_shaped (duties.Ask (ask_duties.Dead s)) ds p h no_more = onward ds _ h
 
   same_last : (ds : List Duty) (p : PathState C) → IsLast ds p → IsLast ds (with_agenda ds p)
   same_last [] p h = h
   same_last (duties.End ∷ ds) p h = h
-  same_last (duties.Look s ∷ ds) p h = absurd h
+  same_last (duties.Step (step_duties.Look s) ∷ ds) p h = absurd h
   same_last (d ∷ ds) p h = last_or d h
     where
       last_or : (d : Duty) → IsLast (d ∷ ds) p → IsLast (d ∷ ds) (with_agenda (d ∷ ds) p)
@@ -223,7 +227,7 @@ module _ {C : Type 0} where
       by false = refl
 
   -- after a fall the send book is told, and a path may be broken
-  fell_ahead : (s : Side) (r : Reply) (p : PathState C) → Ahead (left p) → Ahead (replaced (duties.GoIdentity s) p.agenda) → Ahead (fell_duties s r p)
+  fell_ahead : (s : Side) (r : Reply) (p : PathState C) → Ahead (left p) → Ahead (replaced (duties.Ask (ask_duties.GoIdentity s)) p.agenda) → Ahead (fell_duties s r p)
   fell_ahead s (replies.Control (control_replies.Verdict (verdicts.Went modes.Identity))) p left_ahead told = told
   fell_ahead s (replies.Control (control_replies.Verdict (verdicts.BreakPath reason))) p left_ahead told = by (end_at s p).treated.asked
     where
@@ -232,7 +236,7 @@ module _ {C : Type 0} where
       by false = refl
   fell_ahead s _ p left_ahead told = left_ahead
 
-  module _ (k : Codec C) (s : Side) (r : Reply) (p : PathState C) (same : Ahead p.agenda) (left_ahead : Ahead (left p)) (told : Ahead (replaced (duties.GoIdentity s) p.agenda)) where
+  module _ (k : Codec C) (s : Side) (r : Reply) (p : PathState C) (same : Ahead p.agenda) (left_ahead : Ahead (left p)) (told : Ahead (replaced (duties.Ask (ask_duties.GoIdentity s)) p.agenda)) where
     data_ahead : (o : Option Record) → Ahead (answered_data k s o r p).agenda
     data_ahead (Some record_unsent) = same
     data_ahead None = by (grant_in r)
@@ -269,7 +273,7 @@ module _ {C : Type 0} where
     fin_ahead true = left_ahead
     fin_ahead false = refl
 
-    module _ (index : ℕ) (acked_ahead : Ahead (replaced (duties.AckHeard s) p.agenda)) where
+    module _ (index : ℕ) (acked_ahead : Ahead (replaced (duties.Ask (ask_duties.AckHeard s)) p.agenda)) where
       told_ahead : (b : Bool) → Ahead (told_next s b p)
       told_ahead true = acked_ahead
       told_ahead false = left_ahead
@@ -295,7 +299,7 @@ module _ {C : Type 0} where
       item_ahead (Some (says.FastClose key)) = left_ahead
       item_ahead (Some says.Dss) = left_ahead
 
-  join_ahead : (s : Side) (keys : Option KeyPair) (asked : Option JoinSyn) (r : Reply) (ds : List Duty) (p : PathState C) → Ahead ds → Ahead (join_taken s keys asked r (with_agenda (duties.JoinHeard s ∷ ds) p)).agenda
+  join_ahead : (s : Side) (keys : Option KeyPair) (asked : Option JoinSyn) (r : Reply) (ds : List Duty) (p : PathState C) → Ahead ds → Ahead (join_taken s keys asked r (with_agenda (duties.Ask (ask_duties.JoinHeard s) ∷ ds) p)).agenda
   join_ahead s None (Some asked) r ds p a = a
   join_ahead s None None r ds p a = a
   join_ahead s (Some keys) None r ds p a = a
@@ -306,52 +310,52 @@ module _ {C : Type 0} where
 
   answered_shaped : (k : Codec C) (d : Duty) (ds : List Duty) (r : Reply) (p : PathState C) → Shaped (d ∷ ds) (with_agenda (d ∷ ds) p)
       → Shaped (answered k d r (with_agenda (d ∷ ds) p)).agenda (answered k d r (with_agenda (d ∷ ds) p))
-  answered_shaped k duties.Events ds r p h = inl (event_ahead k (next_event p) r (with_agenda (duties.Events ∷ ds) p))
+  answered_shaped k (duties.Step step_duties.Events) ds r p h = inl (event_ahead k (next_event p) r (with_agenda ((duties.Step step_duties.Events) ∷ ds) p))
   answered_shaped k duties.End ds r p (inl never) = absurd never
   answered_shaped k duties.End ds r p (inr last) = inr last.1
-  answered_shaped k duties.JoinAgain ds r p h = with_ahead ds h (λ a. inl (begun_ahead r (duties.Leave A ∷ ds) ds (with_agenda (duties.JoinAgain ∷ ds) p) a a))
-  answered_shaped k (duties.Look s) ds r p h = from_left ds _ h
-  answered_shaped k (duties.Window s) ds r p h = from_left ds _ h
-  answered_shaped k (duties.Update s) ds r p h = from_left ds _ h
-  answered_shaped k (duties.Syn s) ds r p h = from_left ds _ h
-  answered_shaped k (duties.Data s) ds r p h = with_ahead ds h (λ a. inl (data_ahead k s r (with_agenda (duties.Data s ∷ ds) p) a a a (first_unsent (end_at s p))))
-  answered_shaped k (duties.DataFin s) ds r p h = from_left ds _ h
-  answered_shaped k (duties.Fin s) ds r p h = from_left ds _ h
-  answered_shaped k (duties.Timer s) ds r p h = from_left ds _ h
-  answered_shaped k (duties.SynHeard s) ds r p h = from_left ds _ h
-  answered_shaped k (duties.SynAnswered s) ds r p h = from_left ds _ h
-  answered_shaped k (duties.PlainHandshake s) ds r p h = with_ahead ds h (λ a. inl (fell_ahead s r (with_agenda (duties.PlainHandshake s ∷ ds) p) a a))
-  answered_shaped k (duties.PeerKey s) ds r p h = with_ahead ds h (λ a. inl (key_ahead k s r (with_agenda (duties.PeerKey s ∷ ds) p) a a a (key_heard (end_at s p).treated.items)))
-  answered_shaped k (duties.SynAck s) ds r p h = from_left ds _ h
-  answered_shaped k (duties.JoinHeard s) ds r p h = with_ahead ds h (λ a. inl (join_ahead s (keys_begun r) (asked_at s p) r ds p a))
-  answered_shaped k (duties.Refuse s) ds r p h = from_left ds _ h
-  answered_shaped k (duties.Opened s) ds r p h = with_ahead ds h (λ a. inl (keys_ahead k s r (with_agenda (duties.Opened s ∷ ds) p) a a a (keys_heard (end_at s p).treated.items)))
-  answered_shaped k (duties.Live s) ds r p h = from_left ds _ h
-  answered_shaped k (duties.Heard s index) ds r p h = with_ahead ds h (λ a. inl (item_ahead k s r (with_agenda (duties.Heard s index ∷ ds) p) a a a index a (item_of index (end_at s p))))
-  answered_shaped k (duties.AckHeard s) ds r p h = with_ahead ds h (λ a. inl (fell_ahead s r (with_agenda (duties.AckHeard s ∷ ds) p) a a))
-  answered_shaped k (duties.PlainAck s) ds r p h = with_ahead ds h (λ a. inl (plain_ack_ahead k s r (with_agenda (duties.PlainAck s ∷ ds) p) a a a))
-  answered_shaped k (duties.SubflowAck s) ds r p h = from_left ds _ h
-  answered_shaped k (duties.PlainData s) ds r p h = with_ahead ds h (λ a. inl (fell_ahead s r (with_agenda (duties.PlainData s ∷ ds) p) a a))
-  answered_shaped k (duties.GoIdentity s) ds r p h = from_left ds _ h
-  answered_shaped k (duties.Unmapped s) ds r p h = inl (break_ahead k s 6 r (with_agenda (duties.Unmapped s ∷ ds) p))
-  answered_shaped k (duties.SubflowFin s) ds r p h = with_ahead ds h (λ a. inl (plain_fin_ahead k s r (with_agenda (duties.SubflowFin s ∷ ds) p) a a a (is_fin_set r)))
-  answered_shaped k (duties.Keep s) ds r p h = from_left ds _ h
-  answered_shaped k (duties.Edge s) ds r p h = with_ahead ds h (λ a. inl (piece_ahead k s r (with_agenda (duties.Edge s ∷ ds) p) a a a (piece_of s p) (is_placed r)))
-  answered_shaped k (duties.HeardFin s index) ds r p h = with_ahead ds h (λ a. inl (fin_ahead k s r (with_agenda (duties.HeardFin s index ∷ ds) p) a a a (is_fin_set r)))
-  answered_shaped k (duties.PassFin s) ds r p h = from_left ds _ h
-  answered_shaped k (duties.AckOut s) ds r p h = from_left ds _ h
-  answered_shaped k (duties.Rate s) ds r p h = from_left ds _ h
-  answered_shaped k (duties.Acknowledge s) ds r p h = from_left ds _ h
-  answered_shaped k (duties.Again s) ds r p h = from_left ds _ h
-  answered_shaped k (duties.Answer s) ds r p h = from_left ds _ h
-  answered_shaped k (duties.ResetAnswer s) ds r p h = from_left ds _ h
-  answered_shaped k (duties.Return s) ds r p h = from_left ds _ h
-  answered_shaped k (duties.Resend s) ds r p h = from_left ds _ h
-  answered_shaped k (duties.BreakAck s reason) ds r p h = inl refl
-  answered_shaped k (duties.BreakReset s reason) ds r p h = inl refl
-  answered_shaped k (duties.Reset s) ds r p h = with_ahead ds h (λ a. inl a)
-  answered_shaped k (duties.Leave s) ds r p h = with_ahead ds h (λ a. inl a)
-  answered_shaped k (duties.Dead s) ds r p h = from_left ds _ h
+  answered_shaped k (duties.Ask ask_duties.JoinAgain) ds r p h = with_ahead ds h (λ a. inl (begun_ahead r (duties.Ask (ask_duties.Leave A) ∷ ds) ds (with_agenda ((duties.Ask ask_duties.JoinAgain) ∷ ds) p) a a))
+  answered_shaped k (duties.Step (step_duties.Look s)) ds r p h = from_left ds _ h
+  answered_shaped k (duties.Ask (ask_duties.Window s)) ds r p h = from_left ds _ h
+  answered_shaped k (duties.Send (send_duties.Update s)) ds r p h = from_left ds _ h
+  answered_shaped k (duties.Send (send_duties.Syn s)) ds r p h = from_left ds _ h
+  answered_shaped k (duties.Step (step_duties.Data s)) ds r p h = with_ahead ds h (λ a. inl (data_ahead k s r (with_agenda (duties.Step (step_duties.Data s) ∷ ds) p) a a a (first_unsent (end_at s p))))
+  answered_shaped k (duties.Send (send_duties.DataFin s)) ds r p h = from_left ds _ h
+  answered_shaped k (duties.Send (send_duties.Fin s)) ds r p h = from_left ds _ h
+  answered_shaped k (duties.Silent (silent_duties.Timer s)) ds r p h = from_left ds _ h
+  answered_shaped k (duties.Ask (ask_duties.SynHeard s)) ds r p h = from_left ds _ h
+  answered_shaped k (duties.Ask (ask_duties.SynAnswered s)) ds r p h = from_left ds _ h
+  answered_shaped k (duties.Ask (ask_duties.PlainHandshake s)) ds r p h = with_ahead ds h (λ a. inl (fell_ahead s r (with_agenda (duties.Ask (ask_duties.PlainHandshake s) ∷ ds) p) a a))
+  answered_shaped k (duties.Ask (ask_duties.PeerKey s)) ds r p h = with_ahead ds h (λ a. inl (key_ahead k s r (with_agenda (duties.Ask (ask_duties.PeerKey s) ∷ ds) p) a a a (key_heard (end_at s p).treated.items)))
+  answered_shaped k (duties.Send (send_duties.SynAck s)) ds r p h = from_left ds _ h
+  answered_shaped k (duties.Ask (ask_duties.JoinHeard s)) ds r p h = with_ahead ds h (λ a. inl (join_ahead s (keys_begun r) (asked_at s p) r ds p a))
+  answered_shaped k (duties.Send (send_duties.Refuse s)) ds r p h = from_left ds _ h
+  answered_shaped k (duties.Ask (ask_duties.Opened s)) ds r p h = with_ahead ds h (λ a. inl (keys_ahead k s r (with_agenda (duties.Ask (ask_duties.Opened s) ∷ ds) p) a a a (keys_heard (end_at s p).treated.items)))
+  answered_shaped k (duties.Ask (ask_duties.Live s)) ds r p h = from_left ds _ h
+  answered_shaped k (duties.Step (step_duties.Heard s index)) ds r p h = with_ahead ds h (λ a. inl (item_ahead k s r (with_agenda (duties.Step (step_duties.Heard s index) ∷ ds) p) a a a index a (item_of index (end_at s p))))
+  answered_shaped k (duties.Ask (ask_duties.AckHeard s)) ds r p h = with_ahead ds h (λ a. inl (fell_ahead s r (with_agenda (duties.Ask (ask_duties.AckHeard s) ∷ ds) p) a a))
+  answered_shaped k (duties.Step (step_duties.PlainAck s)) ds r p h = with_ahead ds h (λ a. inl (plain_ack_ahead k s r (with_agenda (duties.Step (step_duties.PlainAck s) ∷ ds) p) a a a))
+  answered_shaped k (duties.Ask (ask_duties.SubflowAck s)) ds r p h = from_left ds _ h
+  answered_shaped k (duties.Ask (ask_duties.PlainData s)) ds r p h = with_ahead ds h (λ a. inl (fell_ahead s r (with_agenda (duties.Ask (ask_duties.PlainData s) ∷ ds) p) a a))
+  answered_shaped k (duties.Ask (ask_duties.GoIdentity s)) ds r p h = from_left ds _ h
+  answered_shaped k (duties.Step (step_duties.Unmapped s)) ds r p h = inl (break_ahead k s 6 r (with_agenda (duties.Step (step_duties.Unmapped s) ∷ ds) p))
+  answered_shaped k (duties.Ask (ask_duties.SubflowFin s)) ds r p h = with_ahead ds h (λ a. inl (plain_fin_ahead k s r (with_agenda (duties.Ask (ask_duties.SubflowFin s) ∷ ds) p) a a a (is_fin_set r)))
+  answered_shaped k (duties.Silent (silent_duties.Keep s)) ds r p h = from_left ds _ h
+  answered_shaped k (duties.Ask (ask_duties.Edge s)) ds r p h = with_ahead ds h (λ a. inl (piece_ahead k s r (with_agenda (duties.Ask (ask_duties.Edge s) ∷ ds) p) a a a (piece_of s p) (is_placed r)))
+  answered_shaped k (duties.Ask (ask_duties.HeardFin s index)) ds r p h = with_ahead ds h (λ a. inl (fin_ahead k s r (with_agenda (duties.Ask (ask_duties.HeardFin s index) ∷ ds) p) a a a (is_fin_set r)))
+  answered_shaped k (duties.Silent (silent_duties.PassFin s)) ds r p h = from_left ds _ h
+  answered_shaped k (duties.Ask (ask_duties.AckOut s)) ds r p h = from_left ds _ h
+  answered_shaped k (duties.Ask (ask_duties.Rate s)) ds r p h = from_left ds _ h
+  answered_shaped k (duties.Send (send_duties.Acknowledge s)) ds r p h = from_left ds _ h
+  answered_shaped k (duties.Send (send_duties.Again s)) ds r p h = from_left ds _ h
+  answered_shaped k (duties.Send (send_duties.Answer s)) ds r p h = from_left ds _ h
+  answered_shaped k (duties.Send (send_duties.ResetAnswer s)) ds r p h = from_left ds _ h
+  answered_shaped k (duties.Ask (ask_duties.Return s)) ds r p h = from_left ds _ h
+  answered_shaped k (duties.Send (send_duties.Resend s)) ds r p h = from_left ds _ h
+  answered_shaped k (duties.Ask (ask_duties.BreakAck s reason)) ds r p h = inl refl
+  answered_shaped k (duties.Send (send_duties.BreakReset s reason)) ds r p h = inl refl
+  answered_shaped k (duties.Send (send_duties.Reset s)) ds r p h = with_ahead ds h (λ a. inl a)
+  answered_shaped k (duties.Ask (ask_duties.Leave s)) ds r p h = with_ahead ds h (λ a. inl a)
+  answered_shaped k (duties.Ask (ask_duties.Dead s)) ds r p h = from_left ds _ h
 
   pub takes_shaped : (k : Codec C) (r : Reply) (p : PathState C) → Shaped p.agenda p → Shaped (takes k r p).agenda (takes k r p)
   takes_shaped k r p h = by p.agenda h

@@ -17,6 +17,8 @@ use Rattle.actor_desk.specs.Books.{books_in}
 use Rattle.actor_desk.specs.Desk.{SixBooks, reply_of, after_ask}
 use Rattle.path_agenda.specs.declared.duty.Duty.{Duty}
 use Rattle.path_agenda.specs.declared.duty.Duty.TheVariants as duties
+use Rattle.path_agenda.specs.declared.duty.AskDuty.TheVariants as ask_duties
+use Rattle.path_agenda.specs.declared.duty.StepDuty.TheVariants as step_duties
 use Rattle.path_core.specs.Joining.{asked_at}
 use Rattle.path_core.specs.Joins.{is_joined}
 use Rattle.path_core.specs.State.{PathState, end_at}
@@ -44,8 +46,8 @@ use Rattle.world_laws.proofs.RoundFrame.{takes_keeps, first_keeps}
 
 -- what its first duty needs: B hears of a join that A began, and a side falls that is to
 abbrev pub DutyJoined : SixBooks → Duty → Type 0
-DutyJoined six (duties.JoinHeard B) = six.control_a.fall.joined ≡ true
-DutyJoined six (duties.GoIdentity s) = FellBack six s
+DutyJoined six (duties.Ask (ask_duties.JoinHeard B)) = six.control_a.fall.joined ≡ true
+DutyJoined six (duties.Ask (ask_duties.GoIdentity s)) = FellBack six s
 DutyJoined six _ = Unit {0}
 
 pub record PathJoined (six : SixBooks) (number : ℕ) (p : PathState Carried) : Type 0 where
@@ -190,12 +192,12 @@ module _ (key_a key_b number : ℕ) (six : SixBooks) (p : PathState Carried) (nu
   asks_join (Some asked) some is = is.1.1.0
 
   duty_joined : (d : Duty) (ds : List Duty) → p.agenda ≡ d ∷ ds → FirstStands (d ∷ ds) p → DutyJoined six d
-  duty_joined (duties.JoinHeard B) ds is first =
+  duty_joined (duties.Ask (ask_duties.JoinHeard B)) ds is first =
       asks_join (asked_at B p) first (asked_is (with_nonces key_a key_b false h.nonce_a h.nonce_b) false (Joined six) (FellBack six) (is_joined p.profile) B p.b.treated.items h.is.b.items)
-  duty_joined (duties.JoinHeard A) ds is first = tt
-  duty_joined (duties.GoIdentity s) ds is first =
-      (h.is.known (inr s) (subst (λ xs. speaks (inr s) xs ≡ true) (sym is) (first_speaks (inr s) (duties.GoIdentity s) ds (itself s)))).1
-  duty_joined duties.Events ds is first = tt
+  duty_joined (duties.Ask (ask_duties.JoinHeard A)) ds is first = tt
+  duty_joined (duties.Ask (ask_duties.GoIdentity s)) ds is first =
+      (h.is.known (inr s) (subst (λ xs. speaks (inr s) xs ≡ true) (sym is) (first_speaks (inr s) (duties.Ask (ask_duties.GoIdentity s)) ds (itself s)))).1
+  duty_joined (duties.Step step_duties.Events) ds is first = tt
   duty_joined _ ds is first = tt
 
   path_joined : PathJoined six number p

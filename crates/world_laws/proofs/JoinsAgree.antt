@@ -35,6 +35,10 @@ use Rattle.stream_apps.specs.AppSteps.{app_asks_first}
 use Rattle.path_agenda.specs.Items.{key_heard, keys_heard}
 use Rattle.path_agenda.specs.declared.duty.Duty.{Duty}
 use Rattle.path_agenda.specs.declared.duty.Duty.TheVariants as duties
+use Rattle.path_agenda.specs.declared.duty.AskDuty.TheVariants as ask_duties
+use Rattle.path_agenda.specs.declared.duty.SendDuty.TheVariants as send_duties
+use Rattle.path_agenda.specs.declared.duty.SilentDuty.TheVariants as silent_duties
+use Rattle.path_agenda.specs.declared.duty.StepDuty.TheVariants as step_duties
 use Rattle.path_agenda.specs.declared.heard.Heard.{Heard}
 use Rattle.path_agenda.specs.declared.heard.Heard.TheVariants as says
 use Rattle.path_agenda.specs.declared.keys.KeyPair.{KeyPair}
@@ -181,55 +185,55 @@ module _ (p : PathState Carried) where
 
   -- what isn't a sign's duty tells none
   fell_signs : (d : Duty) → is_sign_duty d ≡ false → is_fell (ask_for values d p) ≡ false
-  fell_signs duties.JoinAgain none = refl
-  fell_signs (duties.Look A) none = refl
-  fell_signs (duties.Look B) none = refl
-  fell_signs (duties.Window s) none = refl
-  fell_signs (duties.Update s) none = refl
-  fell_signs (duties.Syn s) none = refl
-  fell_signs (duties.Data s) none = no_data s (first_unsent (end_at s p))
-  fell_signs (duties.DataFin s) none = refl
-  fell_signs (duties.Fin s) none = refl
-  fell_signs (duties.Timer s) none = refl
-  fell_signs duties.Events none = no_step (next_event p)
-  fell_signs (duties.SynHeard s) none = refl
-  fell_signs (duties.SynAnswered s) none = refl
-  fell_signs (duties.PlainHandshake s) none = no_fell s events.PlainHandshake refl
-  fell_signs (duties.PeerKey s) none = no_key s (key_heard (end_at s p).treated.items)
-  fell_signs (duties.SynAck s) none = refl
-  fell_signs (duties.JoinHeard s) none = no_join s (asked_at s p)
-  fell_signs (duties.Refuse s) none = refl
-  fell_signs (duties.Opened s) none = no_keys s (keys_heard (end_at s p).treated.items)
-  fell_signs (duties.Live A) none = refl
-  fell_signs (duties.Live B) none = refl
-  fell_signs (duties.Heard A index) none = absurd (false≢true (sym none))
-  fell_signs (duties.Heard B index) none = no_item (item_of index (end_at B p))
-  fell_signs (duties.AckHeard A) none = absurd (false≢true (sym none))
-  fell_signs (duties.AckHeard B) none = refl
-  fell_signs (duties.PlainAck s) none = no_plain_ack s
-  fell_signs (duties.SubflowAck s) none = refl
-  fell_signs (duties.PlainData s) none = no_fell s events.PlainData refl
-  fell_signs (duties.GoIdentity s) none = refl
-  fell_signs (duties.Unmapped s) none = no_break s 6
-  fell_signs (duties.SubflowFin s) none = no_fin s (plain_fin (end_at s p))
-  fell_signs (duties.Keep s) none = refl
-  fell_signs (duties.Edge s) none = no_piece s (piece_of s p)
-  fell_signs (duties.HeardFin s index) none = no_fin s (fin_of index (end_at s p))
-  fell_signs (duties.PassFin s) none = refl
-  fell_signs (duties.AckOut s) none = refl
-  fell_signs (duties.Rate s) none = no_rate s (end_at s p).tcp.congestion.pending
-  fell_signs (duties.Acknowledge s) none = refl
-  fell_signs (duties.Again s) none = refl
-  fell_signs (duties.Answer s) none = refl
-  fell_signs (duties.ResetAnswer s) none = refl
-  fell_signs (duties.Return s) none = refl
-  fell_signs (duties.Resend s) none = refl
-  fell_signs (duties.BreakAck s reason) none = refl
-  fell_signs (duties.BreakReset s reason) none = refl
-  fell_signs (duties.Reset s) none = refl
-  fell_signs (duties.Leave s) none = refl
-  fell_signs (duties.Dead A) none = refl
-  fell_signs (duties.Dead B) none = refl
+  fell_signs (duties.Ask ask_duties.JoinAgain) none = refl
+  fell_signs (duties.Step (step_duties.Look A)) none = refl
+  fell_signs (duties.Step (step_duties.Look B)) none = refl
+  fell_signs (duties.Ask (ask_duties.Window s)) none = refl
+  fell_signs (duties.Send (send_duties.Update s)) none = refl
+  fell_signs (duties.Send (send_duties.Syn s)) none = refl
+  fell_signs (duties.Step (step_duties.Data s)) none = no_data s (first_unsent (end_at s p))
+  fell_signs (duties.Send (send_duties.DataFin s)) none = refl
+  fell_signs (duties.Send (send_duties.Fin s)) none = refl
+  fell_signs (duties.Silent (silent_duties.Timer s)) none = refl
+  fell_signs (duties.Step step_duties.Events) none = no_step (next_event p)
+  fell_signs (duties.Ask (ask_duties.SynHeard s)) none = refl
+  fell_signs (duties.Ask (ask_duties.SynAnswered s)) none = refl
+  fell_signs (duties.Ask (ask_duties.PlainHandshake s)) none = no_fell s events.PlainHandshake refl
+  fell_signs (duties.Ask (ask_duties.PeerKey s)) none = no_key s (key_heard (end_at s p).treated.items)
+  fell_signs (duties.Send (send_duties.SynAck s)) none = refl
+  fell_signs (duties.Ask (ask_duties.JoinHeard s)) none = no_join s (asked_at s p)
+  fell_signs (duties.Send (send_duties.Refuse s)) none = refl
+  fell_signs (duties.Ask (ask_duties.Opened s)) none = no_keys s (keys_heard (end_at s p).treated.items)
+  fell_signs (duties.Ask (ask_duties.Live A)) none = refl
+  fell_signs (duties.Ask (ask_duties.Live B)) none = refl
+  fell_signs (duties.Step (step_duties.Heard A index)) none = absurd (false≢true (sym none))
+  fell_signs (duties.Step (step_duties.Heard B index)) none = no_item (item_of index (end_at B p))
+  fell_signs (duties.Ask (ask_duties.AckHeard A)) none = absurd (false≢true (sym none))
+  fell_signs (duties.Ask (ask_duties.AckHeard B)) none = refl
+  fell_signs (duties.Step (step_duties.PlainAck s)) none = no_plain_ack s
+  fell_signs (duties.Ask (ask_duties.SubflowAck s)) none = refl
+  fell_signs (duties.Ask (ask_duties.PlainData s)) none = no_fell s events.PlainData refl
+  fell_signs (duties.Ask (ask_duties.GoIdentity s)) none = refl
+  fell_signs (duties.Step (step_duties.Unmapped s)) none = no_break s 6
+  fell_signs (duties.Ask (ask_duties.SubflowFin s)) none = no_fin s (plain_fin (end_at s p))
+  fell_signs (duties.Silent (silent_duties.Keep s)) none = refl
+  fell_signs (duties.Ask (ask_duties.Edge s)) none = no_piece s (piece_of s p)
+  fell_signs (duties.Ask (ask_duties.HeardFin s index)) none = no_fin s (fin_of index (end_at s p))
+  fell_signs (duties.Silent (silent_duties.PassFin s)) none = refl
+  fell_signs (duties.Ask (ask_duties.AckOut s)) none = refl
+  fell_signs (duties.Ask (ask_duties.Rate s)) none = no_rate s (end_at s p).tcp.congestion.pending
+  fell_signs (duties.Send (send_duties.Acknowledge s)) none = refl
+  fell_signs (duties.Send (send_duties.Again s)) none = refl
+  fell_signs (duties.Send (send_duties.Answer s)) none = refl
+  fell_signs (duties.Send (send_duties.ResetAnswer s)) none = refl
+  fell_signs (duties.Ask (ask_duties.Return s)) none = refl
+  fell_signs (duties.Send (send_duties.Resend s)) none = refl
+  fell_signs (duties.Ask (ask_duties.BreakAck s reason)) none = refl
+  fell_signs (duties.Send (send_duties.BreakReset s reason)) none = refl
+  fell_signs (duties.Send (send_duties.Reset s)) none = refl
+  fell_signs (duties.Ask (ask_duties.Leave s)) none = refl
+  fell_signs (duties.Ask (ask_duties.Dead A)) none = refl
+  fell_signs (duties.Ask (ask_duties.Dead B)) none = refl
   fell_signs duties.End none = refl
 
   -- so the path has a sign's duty where it tells one
@@ -249,8 +253,8 @@ module _ (p : PathState Carried) where
   asked_first T x is fell (inl h) = asked_sign T x is fell h.signed
   asked_first T x is fell (inr h) = by h.begins (sym (ap (λ ds. asks_first values ds p) h.agenda_is) ∙ is)
     where
-      by : (begins : Bool) → asks_first values (if begins then duties.SynAnswered A ∷ duties.PeerKey A ∷ h.rest else duties.PeerKey A ∷ h.rest) p ≡ Some x → T
-      by true is = absurd (both_ways (is_fell (ask_for values (duties.SynAnswered A) p)) refl (ap is_fell (same_Some _ x is) ∙ fell))
+      by : (begins : Bool) → asks_first values (if begins then duties.Ask (ask_duties.SynAnswered A) ∷ duties.Ask (ask_duties.PeerKey A) ∷ h.rest else duties.Ask (ask_duties.PeerKey A) ∷ h.rest) p ≡ Some x → T
+      by true is = absurd (both_ways (is_fell (ask_for values (duties.Ask (ask_duties.SynAnswered A)) p)) refl (ap is_fell (same_Some _ x is) ∙ fell))
       by false is = absurd (both_ways _ (no_key A (key_heard (end_at A p).treated.items)) (ap is_fell (same_Some _ x is) ∙ fell))
 
   -- a sign is told by a side that joined, on a path that joins
@@ -259,11 +263,11 @@ module _ (p : PathState Carried) where
   sign_speaks (d ∷ ds) is = by (is_sign_duty d) refl is (sign_speaks ds)
     where
       said : (d : Duty) → is_sign_duty d ≡ true → is_said_by (inl A) d ≡ true
-      said (duties.Heard A index) is = refl
-      said (duties.AckHeard A) is = refl
-      said (duties.Heard B index) is = absurd (false≢true is)
-      said (duties.AckHeard B) is = absurd (false≢true is)
-      said duties.Events is = absurd (false≢true is)
+      said (duties.Step (step_duties.Heard A index)) is = refl
+      said (duties.Ask (ask_duties.AckHeard A)) is = refl
+      said (duties.Step (step_duties.Heard B index)) is = absurd (false≢true is)
+      said (duties.Ask (ask_duties.AckHeard B)) is = absurd (false≢true is)
+      said (duties.Step step_duties.Events) is = absurd (false≢true is)
       said _ is = absurd (false≢true is)
 
       by : (b : Bool) → is_sign_duty d ≡ b → b || signs ds ≡ true → (signs ds ≡ true → speaks (inl A) ds ≡ true) → is_said_by (inl A) d || speaks (inl A) ds ≡ true
@@ -585,7 +589,7 @@ module _ (key_a key_b : ℕ) where
       inr (inl (begun_turn T (record p { clock = p.until; until = p.until + 100 }) (record { first = h.first; calm = refl; met = h.met; signed = λ is. absurd (false≢true is); mode = h.mode })))
   next_member T (Path p) (inr (inr h)) over = absurd (still h.begins (ap is_nil (sym h.agenda_is) ∙ over))
     where
-      still : (begins : Bool) → is_nil (if begins then duties.SynAnswered A ∷ duties.PeerKey A ∷ h.rest else duties.PeerKey A ∷ h.rest) ≡ true → ⊥
+      still : (begins : Bool) → is_nil (if begins then duties.Ask (ask_duties.SynAnswered A) ∷ duties.Ask (ask_duties.PeerKey A) ∷ h.rest else duties.Ask (ask_duties.PeerKey A) ∷ h.rest) ≡ true → ⊥
       still true is = false≢true is
       still false is = false≢true is
 

@@ -35,6 +35,10 @@ use Rattle.stream_apps.specs.Apps.{AppState}
 use Rattle.stream_apps.specs.AppSteps.{app_asks_first}
 use Rattle.path_agenda.specs.declared.duty.Duty.{Duty}
 use Rattle.path_agenda.specs.declared.duty.Duty.TheVariants as duties
+use Rattle.path_agenda.specs.declared.duty.AskDuty.TheVariants as ask_duties
+use Rattle.path_agenda.specs.declared.duty.SendDuty.TheVariants as send_duties
+use Rattle.path_agenda.specs.declared.duty.SilentDuty.TheVariants as silent_duties
+use Rattle.path_agenda.specs.declared.duty.StepDuty.TheVariants as step_duties
 use Rattle.path_core.specs.declared.event.Event.{Event}
 use Rattle.path_core.specs.declared.event.Event.TheVariants as happening
 use Rattle.path_agenda.specs.declared.heard.Heard.{Heard}
@@ -152,53 +156,53 @@ module _ (k : Secrets) (right : Bool) (w back : Side → Type 0) (p : PathState 
       by false = tt
 
   pub asks_are : (d : Duty) → AskIs k right w back (ask_for values d p)
-  asks_are duties.JoinAgain = refl
-  asks_are (duties.Look s) = tt
-  asks_are (duties.Window s) = tt
-  asks_are (duties.Update s) = tt
-  asks_are (duties.Syn s) = tt
-  asks_are (duties.Data s) = data_is s (first_unsent (end_at s p))
-  asks_are (duties.DataFin s) = tt
-  asks_are (duties.Fin s) = tt
-  asks_are (duties.Timer s) = tt
-  asks_are duties.Events = step_is (next_event p)
-  asks_are (duties.SynHeard s) = tt
-  asks_are (duties.SynAnswered s) = tt
-  asks_are (duties.PlainHandshake s) = tt
-  asks_are (duties.PeerKey s) =
+  asks_are (duties.Ask ask_duties.JoinAgain) = refl
+  asks_are (duties.Step (step_duties.Look s)) = tt
+  asks_are (duties.Ask (ask_duties.Window s)) = tt
+  asks_are (duties.Send (send_duties.Update s)) = tt
+  asks_are (duties.Send (send_duties.Syn s)) = tt
+  asks_are (duties.Step (step_duties.Data s)) = data_is s (first_unsent (end_at s p))
+  asks_are (duties.Send (send_duties.DataFin s)) = tt
+  asks_are (duties.Send (send_duties.Fin s)) = tt
+  asks_are (duties.Silent (silent_duties.Timer s)) = tt
+  asks_are (duties.Step step_duties.Events) = step_is (next_event p)
+  asks_are (duties.Ask (ask_duties.SynHeard s)) = tt
+  asks_are (duties.Ask (ask_duties.SynAnswered s)) = tt
+  asks_are (duties.Ask (ask_duties.PlainHandshake s)) = tt
+  asks_are (duties.Ask (ask_duties.PeerKey s)) =
       key_is s (key_heard (end_at s p).treated.items) (key_found k right w back (is_joined p.profile) s (end_at s p).treated.items (end_is k right w back s p h).items)
-  asks_are (duties.SynAck s) = tt
-  asks_are (duties.JoinHeard s) = join_asks s (asked_at s p) (asked_is k right w back (is_joined p.profile) s (end_at s p).treated.items (end_is k right w back s p h).items)
-  asks_are (duties.Refuse s) = tt
-  asks_are (duties.Opened s) =
+  asks_are (duties.Send (send_duties.SynAck s)) = tt
+  asks_are (duties.Ask (ask_duties.JoinHeard s)) = join_asks s (asked_at s p) (asked_is k right w back (is_joined p.profile) s (end_at s p).treated.items (end_is k right w back s p h).items)
+  asks_are (duties.Send (send_duties.Refuse s)) = tt
+  asks_are (duties.Ask (ask_duties.Opened s)) =
       keys_are s (keys_heard (end_at s p).treated.items) (pair_found k right w back (is_joined p.profile) s (end_at s p).treated.items (end_is k right w back s p h).items)
-  asks_are (duties.Live s) = tt
-  asks_are (duties.Heard s index) =
+  asks_are (duties.Ask (ask_duties.Live s)) = tt
+  asks_are (duties.Step (step_duties.Heard s index)) =
       item_is s (item_of index (end_at s p)) (item_found k right w back (is_joined p.profile) s index (end_at s p) (end_is k right w back s p h).items)
-  asks_are (duties.AckHeard s) = tt
-  asks_are (duties.PlainAck s) = plain_ack_is s
-  asks_are (duties.SubflowAck s) = tt
-  asks_are (duties.PlainData s) = tt
-  asks_are (duties.GoIdentity s) = tt
-  asks_are (duties.Unmapped s) = break_is s 6
-  asks_are (duties.SubflowFin s) = fin_is s (plain_fin (end_at s p))
-  asks_are (duties.Keep s) = tt
-  asks_are (duties.Edge s) = piece_is s (piece_of s p)
-  asks_are (duties.HeardFin s index) = fin_is s (fin_of index (end_at s p))
-  asks_are (duties.PassFin s) = tt
-  asks_are (duties.AckOut s) = tt
-  asks_are (duties.Rate s) = rate_is s (end_at s p).tcp.congestion.pending
-  asks_are (duties.Acknowledge s) = tt
-  asks_are (duties.Again s) = tt
-  asks_are (duties.Answer s) = tt
-  asks_are (duties.ResetAnswer s) = tt
-  asks_are (duties.Return s) = tt
-  asks_are (duties.Resend s) = tt
-  asks_are (duties.BreakAck s reason) = tt
-  asks_are (duties.BreakReset s reason) = tt
-  asks_are (duties.Reset s) = tt
-  asks_are (duties.Leave s) = tt
-  asks_are (duties.Dead s) = tt
+  asks_are (duties.Ask (ask_duties.AckHeard s)) = tt
+  asks_are (duties.Step (step_duties.PlainAck s)) = plain_ack_is s
+  asks_are (duties.Ask (ask_duties.SubflowAck s)) = tt
+  asks_are (duties.Ask (ask_duties.PlainData s)) = tt
+  asks_are (duties.Ask (ask_duties.GoIdentity s)) = tt
+  asks_are (duties.Step (step_duties.Unmapped s)) = break_is s 6
+  asks_are (duties.Ask (ask_duties.SubflowFin s)) = fin_is s (plain_fin (end_at s p))
+  asks_are (duties.Silent (silent_duties.Keep s)) = tt
+  asks_are (duties.Ask (ask_duties.Edge s)) = piece_is s (piece_of s p)
+  asks_are (duties.Ask (ask_duties.HeardFin s index)) = fin_is s (fin_of index (end_at s p))
+  asks_are (duties.Silent (silent_duties.PassFin s)) = tt
+  asks_are (duties.Ask (ask_duties.AckOut s)) = tt
+  asks_are (duties.Ask (ask_duties.Rate s)) = rate_is s (end_at s p).tcp.congestion.pending
+  asks_are (duties.Send (send_duties.Acknowledge s)) = tt
+  asks_are (duties.Send (send_duties.Again s)) = tt
+  asks_are (duties.Send (send_duties.Answer s)) = tt
+  asks_are (duties.Send (send_duties.ResetAnswer s)) = tt
+  asks_are (duties.Ask (ask_duties.Return s)) = tt
+  asks_are (duties.Send (send_duties.Resend s)) = tt
+  asks_are (duties.Ask (ask_duties.BreakAck s reason)) = tt
+  asks_are (duties.Send (send_duties.BreakReset s reason)) = tt
+  asks_are (duties.Send (send_duties.Reset s)) = tt
+  asks_are (duties.Ask (ask_duties.Leave s)) = tt
+  asks_are (duties.Ask (ask_duties.Dead s)) = tt
   asks_are duties.End = tt
 
 -- ---- all books

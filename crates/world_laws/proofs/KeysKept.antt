@@ -28,6 +28,10 @@ use Rattle.actor_desk.specs.declared.ask.Reply.{Reply}
 use Rattle.actor_desk.specs.Words.{tail_of}
 use Rattle.path_agenda.specs.declared.duty.Duty.{Duty}
 use Rattle.path_agenda.specs.declared.duty.Duty.TheVariants as duties
+use Rattle.path_agenda.specs.declared.duty.AskDuty.TheVariants as ask_duties
+use Rattle.path_agenda.specs.declared.duty.SendDuty.TheVariants as send_duties
+use Rattle.path_agenda.specs.declared.duty.SilentDuty.TheVariants as silent_duties
+use Rattle.path_agenda.specs.declared.duty.StepDuty.TheVariants as step_duties
 use Rattle.path_core.specs.declared.event.Event.{Event}
 use Rattle.path_core.specs.declared.event.Event.TheVariants as happenings
 use Rattle.path_agenda.specs.declared.heard.Heard.{Heard}
@@ -191,13 +195,13 @@ module _ (k : Secrets) (right : Bool) (w back : Side → Type 0) where
       by false = same
 
   passed_is : (d : Duty) (p : PathState Carried) → PathIs k right w back p → PathIs k right w back (passed d p)
-  passed_is (duties.Timer s) p h =
+  passed_is (duties.Silent (silent_duties.Timer s)) p h =
       with_is k right w back s (after_timer p.clock (end_at s p)) p (kept_end k right w back (is_joined p.profile) s (end_at s p) (after_timer p.clock (end_at s p)) refl refl (timer_up p.clock (end_at s p)) (end_is k right w back s p h)) (λ is. is) (λ is has. has) h
-  passed_is (duties.Heard s index) p h =
+  passed_is (duties.Step (step_duties.Heard s index)) p h =
       with_is k right w back s _ p
       (passed_item (is_joined p.profile) s (item_of index (end_at s p)) (end_at s p) (item_found (is_joined p.profile) s index (end_at s p) (end_is k right w back s p h).items) (end_is k right w back s p h))
       (item_waits s (item_of index (end_at s p)) (end_at s p)) (λ is has. passed_stays s s (item_of index (end_at s p)) (end_at s p) has) h
-  passed_is (duties.Keep s) p h = by (is_dropped s (end_at s p)) _
+  passed_is (duties.Silent (silent_duties.Keep s)) p h = by (is_dropped s (end_at s p)) _
     where
       e : PathEnd
       e = end_at s p
@@ -209,22 +213,22 @@ module _ (k : Secrets) (right : Bool) (w back : Side → Type 0) where
       by false held =
           let f : PathEnd = record e { tcp = after_keeping_held e.tcp; treated = record e.treated { held_edge = held } } in
           with_is k right w back s f p (kept_end k right w back (is_joined p.profile) s e f refl refl (record { up = λ x. x; waits = λ x. x; past = λ x. x }) (end_is k right w back s p h)) (λ is. is) (λ is has. has) h
-  passed_is (duties.Edge s) p h =
+  passed_is (duties.Ask (ask_duties.Edge s)) p h =
       let e = end_at s p in
       checked p.profile.spelling.checksums (mapping_here e) e (λ f. PathIs k right w back (with_end s f p))
       (with_is k right w back s e p (end_is k right w back s p h) (λ is. is) (λ is has. has) h)
       (λ recv. with_is k right w back s (record e { tcp = record e.tcp { recv = recv } }) p (kept_end k right w back (is_joined p.profile) s e (record e { tcp = record e.tcp { recv = recv } }) refl refl (record { up = λ x. x; waits = λ x. x; past = λ x. x }) (end_is k right w back s p h)) (λ is. is) (λ is has. has) h)
-  passed_is (duties.PassFin s) p h =
+  passed_is (duties.Silent (silent_duties.PassFin s)) p h =
       let up = passing_up (end_at s p).tcp in
       with_is k right w back s (after_pass_fin (end_at s p)) p (kept_end k right w back (is_joined p.profile) s (end_at s p) (after_pass_fin (end_at s p)) refl refl up (end_is k right w back s p h)) up.waits (λ is has. has) h
-  passed_is (duties.PlainAck s) p h =
+  passed_is (duties.Step (step_duties.PlainAck s)) p h =
       with_is k right w back s (with_plain_ack (end_at s p)) p
       (kept_end k right w back (is_joined p.profile) s (end_at s p) (with_plain_ack (end_at s p)) refl refl (record { up = λ x. x; waits = λ x. x; past = λ x. x }) (end_is k right w back s p h)) (λ is. is) (λ is has. (has.0, λ sure. by s (has.1 sure))) h
     where
       by : (t : Side) → Needs k right t (end_at s p).modes → Needs k right t (with_plain_ack (end_at s p)).modes
       by A has = has
       by B has = has
-  passed_is (duties.Unmapped s) p h =
+  passed_is (duties.Step (step_duties.Unmapped s)) p h =
       with_is k right w back s (after_pieces (end_at s p)) p
       (kept_end k right w back (is_joined p.profile) s (end_at s p) (after_pieces (end_at s p)) refl refl (record { up = λ x. x; waits = λ x. x; past = λ x. x }) (end_is k right w back s p h)) (λ is. is) (λ is has. has) h
   passed_is _ p h = h
@@ -241,17 +245,17 @@ module _ (k : Secrets) (right : Bool) (w back : Side → Type 0) where
       kept_known s false held = with_known s (record (end_at s p) { tcp = after_keeping_held (end_at s p).tcp; treated = record (end_at s p).treated { held_edge = held } }) (λ is has. has)
 
       by : (d : Duty) → AreKnown k right w back (passed d p) ds
-      by (duties.Timer s) = with_known s (after_timer p.clock (end_at s p)) (λ is has. has)
-      by (duties.Heard s index) = with_known s (item_passed s (item_of index (end_at s p)) (end_at s p)) (λ is has. passed_stays s s (item_of index (end_at s p)) (end_at s p) has)
-      by (duties.Keep s) = kept_known s (is_dropped s (end_at s p)) _
-      by (duties.PlainAck s) = with_known s (with_plain_ack (end_at s p)) (λ is has. same_knows k right w back s (end_at s p).modes (with_plain_ack (end_at s p)).modes refl has)
-      by (duties.Unmapped s) = with_known s (after_pieces (end_at s p)) (λ is has. has)
-      by (duties.Edge s) =
+      by (duties.Silent (silent_duties.Timer s)) = with_known s (after_timer p.clock (end_at s p)) (λ is has. has)
+      by (duties.Step (step_duties.Heard s index)) = with_known s (item_passed s (item_of index (end_at s p)) (end_at s p)) (λ is has. passed_stays s s (item_of index (end_at s p)) (end_at s p) has)
+      by (duties.Silent (silent_duties.Keep s)) = kept_known s (is_dropped s (end_at s p)) _
+      by (duties.Step (step_duties.PlainAck s)) = with_known s (with_plain_ack (end_at s p)) (λ is has. same_knows k right w back s (end_at s p).modes (with_plain_ack (end_at s p)).modes refl has)
+      by (duties.Step (step_duties.Unmapped s)) = with_known s (after_pieces (end_at s p)) (λ is has. has)
+      by (duties.Ask (ask_duties.Edge s)) =
           let e = end_at s p in
           checked p.profile.spelling.checksums (mapping_here e) e (λ f. AreKnown k right w back (with_end s f p) ds)
           (with_known s e (λ is has. has)) (λ recv. with_known s (record e { tcp = record e.tcp { recv = recv } }) (λ is has. has))
-      by (duties.PassFin s) = with_known s (after_pass_fin (end_at s p)) (λ is has. has)
-      by duties.JoinAgain = known
+      by (duties.Silent (silent_duties.PassFin s)) = with_known s (after_pass_fin (end_at s p)) (λ is has. has)
+      by (duties.Ask ask_duties.JoinAgain) = known
       by _ = known
 
   -- an agenda in place of the path's own
@@ -330,7 +334,7 @@ module _ (k : Secrets) (right : Bool) (w back : Side → Type 0) where
     waits = λ waiting. h.waits (still (is_dead p.a.tcp.state) waiting);
   }
     where
-      calm : (t : Voice) (x y : Bool) → speaks t ((if x then [] else duties.Leave A ∷ []) ++ ((if y then [] else duties.Leave B ∷ []) ++ rest_of_turn)) ≡ false
+      calm : (t : Voice) (x y : Bool) → speaks t ((if x then [] else duties.Ask (ask_duties.Leave A) ∷ []) ++ ((if y then [] else duties.Ask (ask_duties.Leave B) ∷ []) ++ rest_of_turn)) ≡ false
       calm t true true = refl
       calm t true false = refl
       calm t false true = refl
@@ -428,7 +432,7 @@ module _ (k : Secrets) (right : Bool) (w back : Side → Type 0) where
       → AreKnown k right w back (with_end s e p) (fell_duties s r p)
   fell_known s e r p said is stays h =
       fell_cases (λ ds. AreKnown k right w back (with_end s e p) ds) s p r
-      (λ fell. replaced_known k right w back s (duties.GoIdentity s) e p
+      (λ fell. replaced_known k right w back s (duties.Ask (ask_duties.GoIdentity s)) e p
       (λ x falling. subst (VoiceIs k right w back (with_end s e p)) (sym (falls_same x s falling)) (with_voice k right w back s e p stays (inr s) (not_joined s r p said is fell))) stays h)
       (λ reason x spoken. absurd (false≢true spoken)) (λ reason x spoken. absurd (false≢true spoken))
       (fewer_known k right w back s e (left p) p (none_left k right w back p) stays h)
@@ -476,13 +480,13 @@ module _ (k : Secrets) (right : Bool) (w back : Side → Type 0) where
   heard_answered : (s : Side) (item : Heard) (r : Reply) (p : PathState Carried) → ItemIs k right w back (is_joined p.profile) s item → Said s p → ReplyIs (heard_ask values s item p) r → PathIs k right w back p → PathIs k right w back (answered_heard values s item r p)
   heard_answered s (says.DataAck next window) r p own said is h = by (is_acked r && nat_lt 0 next)
     where
-      by : (b : Bool) → PathIs k right w back (goes_on s (with_acked next r (end_at s p)) (if b then replaced (duties.AckHeard s) p.agenda else left p) p)
+      by : (b : Bool) → PathIs k right w back (goes_on s (with_acked next r (end_at s p)) (if b then replaced (duties.Ask (ask_duties.AckHeard s)) p.agenda else left p) p)
       by true =
           let e : PathEnd = with_acked next r (end_at s p) in
           let stays = stays_same k right w back s e p refl in
-          goes_by k right w back s e (replaced (duties.AckHeard s) p.agenda) p
+          goes_by k right w back s e (replaced (duties.Ask (ask_duties.AckHeard s)) p.agenda) p
           (kept_end k right w back (is_joined p.profile) s (end_at s p) e refl refl (record { up = λ x. x; waits = λ x. x; past = λ x. x }) (end_is k right w back s p h)) (λ waiting. waiting)
-          (replaced_known k right w back s (duties.AckHeard s) e p
+          (replaced_known k right w back s (duties.Ask (ask_duties.AckHeard s)) e p
           (λ x telling. subst (VoiceIs k right w back (with_end s e p)) (sym (tells_same x s telling)) (with_voice k right w back s e p stays (inl s) said)) stays h) h
       by false = same_goes k right w back s (with_acked next r (end_at s p)) (left p) p refl refl (record { up = λ x. x; waits = λ x. x; past = λ x. x }) (none_left k right w back p) h
   heard_answered s (says.Mapping fin) r p own said is h = by (is_clash (end_at s p)) is
@@ -586,19 +590,19 @@ module _ (k : Secrets) (right : Bool) (w back : Side → Type 0) where
   -- the join that B heard of
   heard_join : (s : Side) (o : Option KeyPair) (asked : Option Asked) (r : Reply) (p : PathState Carried) → (IfSome asked (λ x. IfSome o (BeginIs k right w back s))) → IfSome asked (AskedIs k right w back (is_joined p.profile) s) → PathIs k right w back p → PathIs k right w back (join_taken s o asked r p)
   heard_join s None (Some asked) r p begins heard h =
-      same_goes k right w back s (with_mode_refused r (end_at s p)) (replaced (duties.Refuse s) p.agenda) p refl refl (record { up = λ x. x; waits = λ x. x; past = λ x. x })
-      (λ t spoken. replaced_speaks t (duties.Refuse s) p.agenda refl spoken) h
-  heard_join s None None r p begins heard h = agenda_is k right w back _ p (λ t spoken. replaced_speaks t (duties.Refuse s) p.agenda refl spoken) h
-  heard_join s (Some keys) None r p begins heard h = agenda_is k right w back _ p (λ t spoken. replaced_speaks t (duties.Refuse s) p.agenda refl spoken) h
+      same_goes k right w back s (with_mode_refused r (end_at s p)) (replaced (duties.Send (send_duties.Refuse s)) p.agenda) p refl refl (record { up = λ x. x; waits = λ x. x; past = λ x. x })
+      (λ t spoken. replaced_speaks t (duties.Send (send_duties.Refuse s)) p.agenda refl spoken) h
+  heard_join s None None r p begins heard h = agenda_is k right w back _ p (λ t spoken. replaced_speaks t (duties.Send (send_duties.Refuse s)) p.agenda refl spoken) h
+  heard_join s (Some keys) None r p begins heard h = agenda_is k right w back _ p (λ t spoken. replaced_speaks t (duties.Send (send_duties.Refuse s)) p.agenda refl spoken) h
   heard_join s (Some keys) (Some asked) r p begins heard h =
       let joins = heard.0 in
       let now : EndIs k right w back true s (end_at s p) = subst (λ j. EndIs k right w back j s (end_at s p)) joins (end_is k right w back s p h) in
       let told : AskedIs k right w back true s asked = subst (λ j. AskedIs k right w back j s asked) joins heard in
       let met : Knows k right w back s (joined_by keys asked (end_at s p)).modes = joined_knows k right w back s keys asked (end_at s p) begins told in
-      goes_by k right w back s (joined_by keys asked (end_at s p)) (replaced (duties.SynAck s) p.agenda) p
+      goes_by k right w back s (joined_by keys asked (end_at s p)) (replaced (duties.Send (send_duties.SynAck s)) p.agenda) p
       (subst (λ j. EndIs k right w back j s (joined_by keys asked (end_at s p))) (sym joins) (joined_end k right w back s keys asked (end_at s p) begins told now))
       (joined_waits k right w back keys asked (end_at s p))
-      (replaced_known k right w back s (duties.SynAck s) (joined_by keys asked (end_at s p)) p
+      (replaced_known k right w back s (duties.Send (send_duties.SynAck s)) (joined_by keys asked (end_at s p)) p
       (λ x telling. subst (VoiceIs k right w back (with_end s (joined_by keys asked (end_at s p)) p)) (sym (tells_same x s telling)) (λ is. own_knows k right w back s s (joined_by keys asked (end_at s p)) p refl met))
       (λ is has. met) h) h
 
@@ -608,51 +612,51 @@ module _ (k : Secrets) (right : Bool) (w back : Side → Type 0) where
 
   answered_is : (d : Duty) (r : Reply) (p : PathState Carried) → stands d p ≡ true → ((x : Voice) → is_said_by x d ≡ true → VoiceIs k right w back p x)
       → ReplyIs (ask_for values d p) r → PathIs k right w back p → PathIs k right w back (answered values d r p)
-  answered_is duties.JoinAgain r p stands said is h =
-      begun_is r (replaced (duties.Leave A) p.agenda) (left p) p (h.waits (and_parts (is_waiting p.a.tcp.state) (is_none p.joined_at) stands).0) is
-      (λ t spoken. replaced_speaks t (duties.Leave A) p.agenda refl spoken) (none_left k right w back p) h
-  answered_is (duties.Look s) r p stands said is h = same_goes k right w back s _ _ p (look_leaves r (end_at s p).modes) refl (record { up = λ x. x; waits = λ x. x; past = λ x. x }) (none_left k right w back p) h
-  answered_is (duties.Window s) r p stands said is h = same_goes k right w back s _ _ p refl refl (record { up = λ x. x; waits = λ x. x; past = λ x. x }) (none_left k right w back p) h
-  answered_is (duties.Update s) r p stands said is h =
+  answered_is (duties.Ask ask_duties.JoinAgain) r p stands said is h =
+      begun_is r (replaced (duties.Ask (ask_duties.Leave A)) p.agenda) (left p) p (h.waits (and_parts (is_waiting p.a.tcp.state) (is_none p.joined_at) stands).0) is
+      (λ t spoken. replaced_speaks t (duties.Ask (ask_duties.Leave A)) p.agenda refl spoken) (none_left k right w back p) h
+  answered_is (duties.Step (step_duties.Look s)) r p stands said is h = same_goes k right w back s _ _ p (look_leaves r (end_at s p).modes) refl (record { up = λ x. x; waits = λ x. x; past = λ x. x }) (none_left k right w back p) h
+  answered_is (duties.Ask (ask_duties.Window s)) r p stands said is h = same_goes k right w back s _ _ p refl refl (record { up = λ x. x; waits = λ x. x; past = λ x. x }) (none_left k right w back p) h
+  answered_is (duties.Send (send_duties.Update s)) r p stands said is h =
       same_sent k right w back s _ _ _ p (ack_said_is s (end_at s p).tcp.send.nxt None p h) refl refl (record { up = λ x. x; waits = λ x. x; past = λ x. x }) (none_left k right w back p) h
-  answered_is (duties.Syn s) r p stands said is h =
+  answered_is (duties.Send (send_duties.Syn s)) r p stands said is h =
       let e = end_at s p in
       let opens = opening_open e.tcp.state (and_parts (is_opening e.tcp.state) (is_some (first_unsent e)) stands).0 in
       same_sent k right w back s _ _ _ p (record_or_ack_is k right w back p.profile s e (end_is k right w back s p h) (up_knows s p (open_is_up e.tcp opens) h) (first_unsent e)) refl refl
       (sending_up to_send.Unsent p.clock e.tcp) (none_left k right w back p) h
-  answered_is (duties.Data s) r p stands said is h = data_is s (first_unsent (end_at s p)) r p refl stands h
-  answered_is (duties.DataFin s) r p stands said is h =
+  answered_is (duties.Step (step_duties.Data s)) r p stands said is h = data_is s (first_unsent (end_at s p)) r p refl stands h
+  answered_is (duties.Send (send_duties.DataFin s)) r p stands said is h =
       same_sent k right w back s _ _ _ p (ack_said_is s (end_at s p).tcp.send.nxt (end_at s p).sending.known_end p h) refl refl (record { up = λ x. x; waits = λ x. x; past = λ x. x }) (none_left k right w back p) h
-  answered_is (duties.Fin s) r p stands said is h = same_sent k right w back s _ _ _ p (fin_segment_is s p (up_knows s p (may_finish_up s (and_parts (may_finish (end_at s p).tcp.state) _ stands).0) h) h) refl refl (fin_up s p) (none_left k right w back p) h
+  answered_is (duties.Send (send_duties.Fin s)) r p stands said is h = same_sent k right w back s _ _ _ p (fin_segment_is s p (up_knows s p (may_finish_up s (and_parts (may_finish (end_at s p).tcp.state) _ stands).0) h) h) refl refl (fin_up s p) (none_left k right w back p) h
     where
       fin_up : (s : Side) (p : PathState Carried) → NoWaking (end_at s p).tcp (having_sent_fin s p).tcp
       fin_up s p = let up = finishing_up (end_at s p).tcp in record { up = up.up; waits = up.waits; past = up.past }
 
       may_finish_up : (s : Side) → may_finish (end_at s p).tcp.state ≡ true → is_up (end_at s p).tcp ≡ true
       may_finish_up s may = open_is_up (end_at s p).tcp (finish_open (end_at s p).tcp.state may)
-  answered_is duties.Events r p stands said is h = event_is (next_event p) r p refl is h
-  answered_is (duties.PlainHandshake s) r p stands said is h = told_is s fall.PlainHandshake r p (said (inl s) (itself s)) is h
-  answered_is (duties.PeerKey s) r p stands said is h =
+  answered_is (duties.Step step_duties.Events) r p stands said is h = event_is (next_event p) r p refl is h
+  answered_is (duties.Ask (ask_duties.PlainHandshake s)) r p stands said is h = told_is s fall.PlainHandshake r p (said (inl s) (itself s)) is h
+  answered_is (duties.Ask (ask_duties.PeerKey s)) r p stands said is h =
       key_kept s (key_heard (end_at s p).treated.items) r p (key_found k right w back (is_joined p.profile) s (end_at s p).treated.items (end_is k right w back s p h).items) (said (inl s) (itself s)) is h
-  answered_is (duties.SynAck s) r p stands said is h =
+  answered_is (duties.Send (send_duties.SynAck s)) r p stands said is h =
       same_sent k right w back s _ _ _ p (syn_ack_is k right w back p.profile s (end_at s p) (end_is k right w back s p h) (said (inl s) (itself s))) refl refl
       (sending_up to_send.SynAck p.clock (end_at s p).tcp) (none_left k right w back p) h
-  answered_is (duties.JoinHeard s) r p stands said is h =
+  answered_is (duties.Ask (ask_duties.JoinHeard s)) r p stands said is h =
       heard_join s (keys_begun r) (asked_at s p) r p (by (asked_at s p) is) (asked_is k right w back (is_joined p.profile) s (end_at s p).treated.items (end_is k right w back s p h).items) h
     where
       by : (o : Option Asked) → ReplyIs (join_heard_ask s o p) r → IfSome o (λ x. IfSome (keys_begun r) (BeginIs k right w back s))
       by None is = tt
       by (Some asked) is = is
-  answered_is (duties.Refuse s) r p stands said is h = same_sent k right w back s _ _ _ p (refusal_is s p h) refl refl (record { up = λ x. x; waits = λ x. x; past = λ x. x }) (none_left k right w back p) h
-  answered_is (duties.Opened s) r p stands said is h =
+  answered_is (duties.Send (send_duties.Refuse s)) r p stands said is h = same_sent k right w back s _ _ _ p (refusal_is s p h) refl refl (record { up = λ x. x; waits = λ x. x; past = λ x. x }) (none_left k right w back p) h
+  answered_is (duties.Ask (ask_duties.Opened s)) r p stands said is h =
       keys_kept s (keys_heard (end_at s p).treated.items) r p (pair_found k right w back (is_joined p.profile) s (end_at s p).treated.items (end_is k right w back s p h).items) (said (inl s) (itself s)) is h
-  answered_is (duties.Heard s index) r p stands said is h =
+  answered_is (duties.Step (step_duties.Heard s index)) r p stands said is h =
       item_answered s (item_of index (end_at s p)) r p (item_found (is_joined p.profile) s index (end_at s p) (end_is k right w back s p h).items) (said (inl s) (itself s)) is h
-  answered_is (duties.AckHeard s) r p stands said is h = told_is s fall.AckHeard r p (said (inl s) (itself s)) is h
-  answered_is (duties.PlainAck s) r p stands said is h = plain_ack_is s r p (said (inl s) (itself s)) is h
-  answered_is (duties.SubflowAck s) r p stands said is h = same_goes k right w back s _ _ p refl refl (record { up = λ x. x; waits = λ x. x; past = λ x. x }) (none_left k right w back p) h
-  answered_is (duties.PlainData s) r p stands said is h = told_is s fall.PlainData r p (said (inl s) (itself s)) is h
-  answered_is (duties.GoIdentity s) r p stands said is h =
+  answered_is (duties.Ask (ask_duties.AckHeard s)) r p stands said is h = told_is s fall.AckHeard r p (said (inl s) (itself s)) is h
+  answered_is (duties.Step (step_duties.PlainAck s)) r p stands said is h = plain_ack_is s r p (said (inl s) (itself s)) is h
+  answered_is (duties.Ask (ask_duties.SubflowAck s)) r p stands said is h = same_goes k right w back s _ _ p refl refl (record { up = λ x. x; waits = λ x. x; past = λ x. x }) (none_left k right w back p) h
+  answered_is (duties.Ask (ask_duties.PlainData s)) r p stands said is h = told_is s fall.PlainData r p (said (inl s) (itself s)) is h
+  answered_is (duties.Ask (ask_duties.GoIdentity s)) r p stands said is h =
       let own = end_is k right w back s p h in let m = own.modes in
       goes_is k right w back s (in_identity (end_at s p)) (left p) p
       (record {
@@ -662,26 +666,26 @@ module _ (k : Secrets) (right : Bool) (w back : Side → Type 0) where
         past = own.past;
       })
       (λ waiting. waiting) (none_left k right w back p) (λ joined has. identity_knows s (end_at s p) has) h
-  answered_is (duties.Unmapped s) r p stands said is h = break_is s 6 r p h
-  answered_is (duties.SubflowFin s) r p stands said is h = plain_fin_is s (is_fin_set r) p h
-  answered_is (duties.Edge s) r p stands said is h = piece_is s (piece_of s p) (is_placed r) p h
-  answered_is (duties.HeardFin s index) r p stands said is h = fin_is s (is_fin_set r) p h
-  answered_is (duties.AckOut s) r p stands said is h = same_goes k right w back s _ _ p refl refl (record { up = λ x. x; waits = λ x. x; past = λ x. x }) (none_left k right w back p) h
-  answered_is (duties.Rate s) r p stands said is h = same_goes k right w back s _ _ p refl refl (record { up = λ x. x; waits = λ x. x; past = λ x. x }) (none_left k right w back p) h
-  answered_is (duties.Acknowledge s) r p stands said is h =
+  answered_is (duties.Step (step_duties.Unmapped s)) r p stands said is h = break_is s 6 r p h
+  answered_is (duties.Ask (ask_duties.SubflowFin s)) r p stands said is h = plain_fin_is s (is_fin_set r) p h
+  answered_is (duties.Ask (ask_duties.Edge s)) r p stands said is h = piece_is s (piece_of s p) (is_placed r) p h
+  answered_is (duties.Ask (ask_duties.HeardFin s index)) r p stands said is h = fin_is s (is_fin_set r) p h
+  answered_is (duties.Ask (ask_duties.AckOut s)) r p stands said is h = same_goes k right w back s _ _ p refl refl (record { up = λ x. x; waits = λ x. x; past = λ x. x }) (none_left k right w back p) h
+  answered_is (duties.Ask (ask_duties.Rate s)) r p stands said is h = same_goes k right w back s _ _ p refl refl (record { up = λ x. x; waits = λ x. x; past = λ x. x }) (none_left k right w back p) h
+  answered_is (duties.Send (send_duties.Acknowledge s)) r p stands said is h =
       same_sent k right w back s _ _ _ p (ack_said_is s (end_at s p).tcp.send.nxt None p h) refl refl (record { up = λ x. x; waits = λ x. x; past = λ x. x }) (none_left k right w back p) h
-  answered_is (duties.Again s) r p stands said is h =
+  answered_is (duties.Send (send_duties.Again s)) r p stands said is h =
       same_sent k right w back s _ _ _ p (record_or_ack_is k right w back p.profile s (end_at s p) (end_is k right w back s p h) (said (inl s) (itself s)) (first_record (end_at s p))) refl refl
       (sending_up to_send.First p.clock (end_at s p).tcp) (none_left k right w back p) h
-  answered_is (duties.Answer s) r p stands said is h =
+  answered_is (duties.Send (send_duties.Answer s)) r p stands said is h =
       same_sent k right w back s _ _ _ p (answer_is s p (said (inl s) (itself s)) h) refl refl (sending_up (answer_occasion (end_at s p)) p.clock (end_at s p).tcp) (none_left k right w back p) h
-  answered_is (duties.ResetAnswer s) r p stands said is h = same_sent k right w back s _ _ _ p (Every-nil _) refl refl (record { up = λ x. x; waits = λ x. x; past = λ x. x }) (none_left k right w back p) h
-  answered_is (duties.Resend s) r p stands said is h =
+  answered_is (duties.Send (send_duties.ResetAnswer s)) r p stands said is h = same_sent k right w back s _ _ _ p (Every-nil _) refl refl (record { up = λ x. x; waits = λ x. x; past = λ x. x }) (none_left k right w back p) h
+  answered_is (duties.Send (send_duties.Resend s)) r p stands said is h =
       same_sent k right w back s _ _ _ p (resend_is s p (said (inl s) (itself s)) h) refl refl (sending_up (resend_occasion (end_at s p)) p.clock (end_at s p).tcp) (none_left k right w back p) h
-  answered_is (duties.BreakAck s reason) r p stands said is h = same_goes k right w back s _ _ p refl refl (record { up = λ x. x; waits = λ x. x; past = λ x. x }) (λ t spoken. absurd (false≢true spoken)) h
-  answered_is (duties.BreakReset s reason) r p stands said is h = reset_is s (Some reason) (leaves s) p (λ t spoken. absurd (false≢true spoken)) h
-  answered_is (duties.Reset s) r p stands said is h = reset_is s None (replaced (duties.Leave s) p.agenda) p (λ t spoken. replaced_speaks t (duties.Leave s) p.agenda refl spoken) h
-  answered_is (duties.Leave s) r p stands said is h = agenda_is k right w back _ p (λ t spoken. replaced_speaks t (duties.Dead s) p.agenda refl spoken) h
+  answered_is (duties.Ask (ask_duties.BreakAck s reason)) r p stands said is h = same_goes k right w back s _ _ p refl refl (record { up = λ x. x; waits = λ x. x; past = λ x. x }) (λ t spoken. absurd (false≢true spoken)) h
+  answered_is (duties.Send (send_duties.BreakReset s reason)) r p stands said is h = reset_is s (Some reason) (leaves s) p (λ t spoken. absurd (false≢true spoken)) h
+  answered_is (duties.Send (send_duties.Reset s)) r p stands said is h = reset_is s None (replaced (duties.Ask (ask_duties.Leave s)) p.agenda) p (λ t spoken. replaced_speaks t (duties.Ask (ask_duties.Leave s)) p.agenda refl spoken) h
+  answered_is (duties.Ask (ask_duties.Leave s)) r p stands said is h = agenda_is k right w back _ p (λ t spoken. replaced_speaks t (duties.Ask (ask_duties.Dead s)) p.agenda refl spoken) h
   answered_is duties.End r p stands said is h = agenda_is k right w back _ p (λ t spoken. absurd (false≢true spoken)) h
   answered_is _ r p stands said is h = agenda_is k right w back _ p (none_left k right w back p) h
 

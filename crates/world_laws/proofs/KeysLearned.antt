@@ -35,6 +35,10 @@ use Rattle.path_agenda.specs.Agenda.{emission, leaves, rest_of_turn}
 use Rattle.path_agenda.specs.Items.{key_heard}
 use Rattle.path_agenda.specs.declared.duty.Duty.{Duty}
 use Rattle.path_agenda.specs.declared.duty.Duty.TheVariants as duties
+use Rattle.path_agenda.specs.declared.duty.AskDuty.TheVariants as ask_duties
+use Rattle.path_agenda.specs.declared.duty.SendDuty.TheVariants as send_duties
+use Rattle.path_agenda.specs.declared.duty.SilentDuty.TheVariants as silent_duties
+use Rattle.path_agenda.specs.declared.duty.StepDuty.TheVariants as step_duties
 use Rattle.path_agenda.specs.declared.heard.Heard.{Heard}
 use Rattle.path_agenda.specs.declared.heard.Heard.TheVariants as says
 use Rattle.path_agenda.specs.declared.keys.KeyPair.{KeyPair}
@@ -148,7 +152,7 @@ module _ (T : Type 0) where
     pub first : is_joined p.profile ≡ false
     pub begins : Bool
     pub rest : List Duty
-    pub agenda_is : p.agenda ≡ (if begins then duties.SynAnswered A ∷ duties.PeerKey A ∷ rest else duties.PeerKey A ∷ rest)
+    pub agenda_is : p.agenda ≡ (if begins then duties.Ask (ask_duties.SynAnswered A) ∷ duties.Ask (ask_duties.PeerKey A) ∷ rest else duties.Ask (ask_duties.PeerKey A) ∷ rest)
     pub calm : is_calm rest ≡ true
     pub mode : is_starting p.a.modes.mode ≡ false → T
 
@@ -246,14 +250,14 @@ module _ (T : Type 0) where
   put_met B e ds p g h = record { first = h.first; calm = h.calm; met = h.met; signed = h.signed; mode = h.mode }
 
   passed_met : (d : Duty) (ds : List Duty) (p : PathState Carried) → CalmMet (with_agenda ds p) → CalmMet (with_agenda ds (passed d p))
-  passed_met (duties.Timer s) ds p h = put_met s (after_timer p.clock (end_at s p)) ds p (same_goes s (after_timer p.clock (end_at s p)) p refl refl) h
-  passed_met (duties.Heard s index) ds p h = put_met s (item_passed s (item_of index (end_at s p)) (end_at s p)) ds p (item_goes s (item_of index (end_at s p)) p) h
-  passed_met (duties.Keep s) ds p h = put_met s (after_keep s (end_at s p)) ds p (keep_goes s (is_dropped s (end_at s p)) _ p) h
-  passed_met (duties.PlainAck s) ds p h = put_met s (with_plain_ack (end_at s p)) ds p (same_goes s (with_plain_ack (end_at s p)) p refl refl) h
-  passed_met (duties.Unmapped s) ds p h = put_met s (after_pieces (end_at s p)) ds p (same_goes s (after_pieces (end_at s p)) p refl refl) h
-  passed_met (duties.Edge s) ds p h = put_met s (after_check p.profile (end_at s p)) ds p (edge_goes s p.profile.spelling.checksums (mapping_here (end_at s p)) p) h
-  passed_met (duties.PassFin s) ds p h = put_met s (after_pass_fin (end_at s p)) ds p (fin_goes s (is_fin_next (end_at s p).tcp) p) h
-  passed_met duties.JoinAgain ds p h = h
+  passed_met (duties.Silent (silent_duties.Timer s)) ds p h = put_met s (after_timer p.clock (end_at s p)) ds p (same_goes s (after_timer p.clock (end_at s p)) p refl refl) h
+  passed_met (duties.Step (step_duties.Heard s index)) ds p h = put_met s (item_passed s (item_of index (end_at s p)) (end_at s p)) ds p (item_goes s (item_of index (end_at s p)) p) h
+  passed_met (duties.Silent (silent_duties.Keep s)) ds p h = put_met s (after_keep s (end_at s p)) ds p (keep_goes s (is_dropped s (end_at s p)) _ p) h
+  passed_met (duties.Step (step_duties.PlainAck s)) ds p h = put_met s (with_plain_ack (end_at s p)) ds p (same_goes s (with_plain_ack (end_at s p)) p refl refl) h
+  passed_met (duties.Step (step_duties.Unmapped s)) ds p h = put_met s (after_pieces (end_at s p)) ds p (same_goes s (after_pieces (end_at s p)) p refl refl) h
+  passed_met (duties.Ask (ask_duties.Edge s)) ds p h = put_met s (after_check p.profile (end_at s p)) ds p (edge_goes s p.profile.spelling.checksums (mapping_here (end_at s p)) p) h
+  passed_met (duties.Silent (silent_duties.PassFin s)) ds p h = put_met s (after_pass_fin (end_at s p)) ds p (fin_goes s (is_fin_next (end_at s p).tcp) p) h
+  passed_met (duties.Ask ask_duties.JoinAgain) ds p h = h
   passed_met _ ds p h = h
 
   -- the first duty of a list is passed
@@ -276,17 +280,17 @@ module _ (T : Type 0) where
   keying_settled : (p : PathState Carried) → Keying p → PathMet (settled p.agenda p)
   keying_settled p h = subst (λ ds. PathMet (settled ds p)) (sym h.agenda_is) (by h.begins)
     where
-      stays : (begins : Bool) (ds : List Duty) → ds ≡ (if begins then duties.SynAnswered A ∷ duties.PeerKey A ∷ h.rest else duties.PeerKey A ∷ h.rest) → Keying (with_agenda ds p)
+      stays : (begins : Bool) (ds : List Duty) → ds ≡ (if begins then duties.Ask (ask_duties.SynAnswered A) ∷ duties.Ask (ask_duties.PeerKey A) ∷ h.rest else duties.Ask (ask_duties.PeerKey A) ∷ h.rest) → Keying (with_agenda ds p)
       stays begins ds is = record { first = h.first; begins = begins; rest = h.rest; agenda_is = is; calm = h.calm; mode = h.mode }
 
       key : (b : Bool) → is_some (key_heard p.a.treated.items) || is_starting p.a.modes.mode ≡ b
-          → PathMet (if b then with_agenda (duties.PeerKey A ∷ h.rest) p else settled h.rest p)
-      key true is = inr (stays false (duties.PeerKey A ∷ h.rest) refl)
+          → PathMet (if b then with_agenda (duties.Ask (ask_duties.PeerKey A) ∷ h.rest) p else settled h.rest p)
+      key true is = inr (stays false (duties.Ask (ask_duties.PeerKey A) ∷ h.rest) refl)
       key false is =
           inl (settled_met h.rest p (known_met (with_agenda h.rest p) h.first h.calm (h.mode (or_parts (is_some (key_heard p.a.treated.items)) (is_starting p.a.modes.mode) is).1)))
 
-      by : (begins : Bool) → PathMet (settled (if begins then duties.SynAnswered A ∷ duties.PeerKey A ∷ h.rest else duties.PeerKey A ∷ h.rest) p)
-      by true = inr (stays true (duties.SynAnswered A ∷ duties.PeerKey A ∷ h.rest) refl)
+      by : (begins : Bool) → PathMet (settled (if begins then duties.Ask (ask_duties.SynAnswered A) ∷ duties.Ask (ask_duties.PeerKey A) ∷ h.rest else duties.Ask (ask_duties.PeerKey A) ∷ h.rest) p)
+      by true = inr (stays true (duties.Ask (ask_duties.SynAnswered A) ∷ duties.Ask (ask_duties.PeerKey A) ∷ h.rest) refl)
       by false = key (is_some (key_heard p.a.treated.items) || is_starting p.a.modes.mode) refl
 
   pub settles_met : (p : PathState Carried) → PathMet p → PathMet (settled p.agenda p)
@@ -316,13 +320,13 @@ module _ (T : Type 0) where
     mode = unless_dead_mode p h (is_dead p.a.tcp.state);
   }
     where
-      calm : (x y : Bool) → is_calm ((if x then [] else duties.Leave A ∷ []) ++ ((if y then [] else duties.Leave B ∷ []) ++ rest_of_turn)) ≡ true
+      calm : (x y : Bool) → is_calm ((if x then [] else duties.Ask (ask_duties.Leave A) ∷ []) ++ ((if y then [] else duties.Ask (ask_duties.Leave B) ∷ []) ++ rest_of_turn)) ≡ true
       calm true true = refl
       calm true false = refl
       calm false true = refl
       calm false false = refl
 
-      quiet : (x y : Bool) → signs ((if x then [] else duties.Leave A ∷ []) ++ ((if y then [] else duties.Leave B ∷ []) ++ rest_of_turn)) ≡ false
+      quiet : (x y : Bool) → signs ((if x then [] else duties.Ask (ask_duties.Leave A) ∷ []) ++ ((if y then [] else duties.Ask (ask_duties.Leave B) ∷ []) ++ rest_of_turn)) ≡ false
       quiet true true = refl
       quiet true false = refl
       quiet false true = refl
@@ -397,7 +401,7 @@ module _ (T : Type 0) where
         by (means.Accepts acknowledged) fit = inr (record {
           first = h.first;
           begins = true;
-          rest = duties.Live A ∷ duties.Acknowledge A ∷ emission A;
+          rest = duties.Ask (ask_duties.Live A) ∷ duties.Send (send_duties.Acknowledge A) ∷ emission A;
           agenda_is = refl;
           calm = refl;
           mode = mode (means.Accepts acknowledged);

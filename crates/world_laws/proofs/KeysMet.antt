@@ -35,6 +35,8 @@ use Rattle.path_agenda.specs.Items.{join_heard}
 use Rattle.path_agenda.specs.Words.{replaced}
 use Rattle.path_agenda.specs.declared.duty.Duty.{Duty}
 use Rattle.path_agenda.specs.declared.duty.Duty.TheVariants as duties
+use Rattle.path_agenda.specs.declared.duty.AskDuty.TheVariants as ask_duties
+use Rattle.path_agenda.specs.declared.duty.StepDuty.TheVariants as step_duties
 use Rattle.path_core.specs.declared.judged.Judged.{Judged}
 use Rattle.path_core.specs.declared.judged.Judged.TheVariants as judged
 use Rattle.path_core.specs.Codec.{HeardSegment}
@@ -312,8 +314,8 @@ fits phase.TimeWait c s = (λ is. refl, never_accepts c s)
 
 -- by these A learns B's key
 abbrev pub is_key_duty : Duty → Bool
-is_key_duty (duties.SynAnswered A) = true
-is_key_duty (duties.PeerKey A) = true
+is_key_duty (duties.Ask (ask_duties.SynAnswered A)) = true
+is_key_duty (duties.Ask (ask_duties.PeerKey A)) = true
 is_key_duty _ = false
 
 abbrev pub is_calm : List Duty → Bool
@@ -321,8 +323,8 @@ is_calm ds = list_all (λ d. not (is_key_duty d)) ds
 
 -- by these A may tell a sign of B
 abbrev pub is_sign_duty : Duty → Bool
-is_sign_duty (duties.Heard A index) = true
-is_sign_duty (duties.AckHeard A) = true
+is_sign_duty (duties.Step (step_duties.Heard A index)) = true
+is_sign_duty (duties.Ask (ask_duties.AckHeard A)) = true
 is_sign_duty _ = false
 
 abbrev pub signs : List Duty → Bool

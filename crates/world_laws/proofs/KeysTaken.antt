@@ -20,6 +20,9 @@ use Rattle.path_agenda.specs.Items.{key_heard, keys_heard}
 use Rattle.path_agenda.specs.Words.{replaced}
 use Rattle.path_agenda.specs.declared.duty.Duty.{Duty}
 use Rattle.path_agenda.specs.declared.duty.Duty.TheVariants as duties
+use Rattle.path_agenda.specs.declared.duty.AskDuty.TheVariants as ask_duties
+use Rattle.path_agenda.specs.declared.duty.SendDuty.TheVariants as send_duties
+use Rattle.path_agenda.specs.declared.duty.StepDuty.TheVariants as step_duties
 use Rattle.path_agenda.specs.declared.heard.Heard.{Heard}
 use Rattle.path_agenda.specs.declared.heard.Heard.TheVariants as says
 use Rattle.path_agenda.specs.declared.keys.KeyPair.{KeyPair}
@@ -78,13 +81,13 @@ module _ (T : Type 0) where
   other_fewer : (d : Duty) (ds : List Duty) → is_key_duty d ≡ false → is_sign_duty d ≡ false → Fewer ds (replaced d ds)
   other_fewer d ds key sign = replaced_fewer d ds key (λ is. absurd (both_ways _ sign is))
 
-  falls_fewer : (s : Side) (ds : List Duty) → Fewer ds (replaced (duties.GoIdentity s) ds)
-  falls_fewer A ds = other_fewer (duties.GoIdentity A) ds refl refl
-  falls_fewer B ds = other_fewer (duties.GoIdentity B) ds refl refl
+  falls_fewer : (s : Side) (ds : List Duty) → Fewer ds (replaced (duties.Ask (ask_duties.GoIdentity s)) ds)
+  falls_fewer A ds = other_fewer (duties.Ask (ask_duties.GoIdentity A)) ds refl refl
+  falls_fewer B ds = other_fewer (duties.Ask (ask_duties.GoIdentity B)) ds refl refl
 
-  leave_fewer : (s : Side) (ds : List Duty) → Fewer ds (replaced (duties.Leave s) ds)
-  leave_fewer A ds = other_fewer (duties.Leave A) ds refl refl
-  leave_fewer B ds = other_fewer (duties.Leave B) ds refl refl
+  leave_fewer : (s : Side) (ds : List Duty) → Fewer ds (replaced (duties.Ask (ask_duties.Leave s)) ds)
+  leave_fewer A ds = other_fewer (duties.Ask (ask_duties.Leave A)) ds refl refl
+  leave_fewer B ds = other_fewer (duties.Ask (ask_duties.Leave B)) ds refl refl
 
   fell_fewer : (s : Side) (r : Reply) (p : PathState Carried) → Fewer p.agenda (fell_duties s r p)
   fell_fewer s r p =
@@ -147,12 +150,12 @@ module _ (T : Type 0) where
   heard_answered_met : (s : Side) (item : Heard) (r : Reply) (p : PathState Carried) → Gains T (heard_ask values s item p) r → is_signed s p → CalmMet T p → CalmMet T (answered_heard values s item r p)
   heard_answered_met s (says.DataAck next window) r p gains sign h = by (is_acked r && nat_lt 0 next)
     where
-      told : (s : Side) → is_signed s p → Fewer p.agenda (replaced (duties.AckHeard s) p.agenda)
-      told A sign = replaced_fewer (duties.AckHeard A) p.agenda refl (λ is. sign)
-      told B sign = replaced_fewer (duties.AckHeard B) p.agenda refl (λ is. absurd (false≢true is))
+      told : (s : Side) → is_signed s p → Fewer p.agenda (replaced (duties.Ask (ask_duties.AckHeard s)) p.agenda)
+      told A sign = replaced_fewer (duties.Ask (ask_duties.AckHeard A)) p.agenda refl (λ is. sign)
+      told B sign = replaced_fewer (duties.Ask (ask_duties.AckHeard B)) p.agenda refl (λ is. absurd (false≢true is))
 
-      by : (b : Bool) → CalmMet T (goes_on s (with_acked next r (end_at s p)) (if b then replaced (duties.AckHeard s) p.agenda else left p) p)
-      by true = same_met s (with_acked next r (end_at s p)) (replaced (duties.AckHeard s) p.agenda) p refl refl (told s sign) h
+      by : (b : Bool) → CalmMet T (goes_on s (with_acked next r (end_at s p)) (if b then replaced (duties.Ask (ask_duties.AckHeard s)) p.agenda else left p) p)
+      by true = same_met s (with_acked next r (end_at s p)) (replaced (duties.Ask (ask_duties.AckHeard s)) p.agenda) p refl refl (told s sign) h
       by false = same_met s (with_acked next r (end_at s p)) (left p) p refl refl (tail_fewer p.agenda) h
   heard_answered_met s (says.Mapping fin) r p gains sign h = by (is_clash (end_at s p)) gains
     where
@@ -203,20 +206,20 @@ module _ (T : Type 0) where
   plain_fin_met s false p h = refused_met s _ p refl refl h
 
   -- a join is heard of
-  refuse_met : (s : Side) (p : PathState Carried) → CalmMet T p → CalmMet T (with_agenda (replaced (duties.Refuse s) p.agenda) p)
-  refuse_met A p h = agenda_met T (replaced (duties.Refuse A) p.agenda) p (other_fewer (duties.Refuse A) p.agenda refl refl) h
-  refuse_met B p h = agenda_met T (replaced (duties.Refuse B) p.agenda) p (other_fewer (duties.Refuse B) p.agenda refl refl) h
+  refuse_met : (s : Side) (p : PathState Carried) → CalmMet T p → CalmMet T (with_agenda (replaced (duties.Send (send_duties.Refuse s)) p.agenda) p)
+  refuse_met A p h = agenda_met T (replaced (duties.Send (send_duties.Refuse A)) p.agenda) p (other_fewer (duties.Send (send_duties.Refuse A)) p.agenda refl refl) h
+  refuse_met B p h = agenda_met T (replaced (duties.Send (send_duties.Refuse B)) p.agenda) p (other_fewer (duties.Send (send_duties.Refuse B)) p.agenda refl refl) h
 
   joined_met : (s : Side) (o : Option KeyPair) (asked : Option JoinSyn) (r : Reply) (p : PathState Carried) → Gains T (join_heard_ask s asked p) r → CalmMet T p → CalmMet T (join_taken s o asked r p)
   joined_met A None (Some asked) r p gains h =
-      goes_met T A (with_mode_refused r p.a) (replaced (duties.Refuse A) p.agenda) p (told_goes T A (with_mode_refused r p.a) p refl (λ is. refused_mode T r p.a.modes.mode gains.0 is))
-      (other_fewer (duties.Refuse A) p.agenda refl refl) h
-  joined_met B None (Some asked) r p gains h = goes_met T B (with_mode_refused r p.b) (replaced (duties.Refuse B) p.agenda) p tt (other_fewer (duties.Refuse B) p.agenda refl refl) h
+      goes_met T A (with_mode_refused r p.a) (replaced (duties.Send (send_duties.Refuse A)) p.agenda) p (told_goes T A (with_mode_refused r p.a) p refl (λ is. refused_mode T r p.a.modes.mode gains.0 is))
+      (other_fewer (duties.Send (send_duties.Refuse A)) p.agenda refl refl) h
+  joined_met B None (Some asked) r p gains h = goes_met T B (with_mode_refused r p.b) (replaced (duties.Send (send_duties.Refuse B)) p.agenda) p tt (other_fewer (duties.Send (send_duties.Refuse B)) p.agenda refl refl) h
   joined_met s None None r p gains h = refuse_met s p h
   joined_met s (Some keys) None r p gains h = refuse_met s p h
   joined_met A (Some keys) (Some asked) r p gains h =
-      goes_met T A (joined_by keys asked p.a) (replaced (duties.SynAck A) p.agenda) p (state_goes T A (joined_by keys asked p.a) p (listens (is_listening p.a.tcp.state) refl) refl)
-      (other_fewer (duties.SynAck A) p.agenda refl refl) h
+      goes_met T A (joined_by keys asked p.a) (replaced (duties.Send (send_duties.SynAck A)) p.agenda) p (state_goes T A (joined_by keys asked p.a) p (listens (is_listening p.a.tcp.state) refl) refl)
+      (other_fewer (duties.Send (send_duties.SynAck A)) p.agenda refl refl) h
     where
       listening : (state : EndPhase) → is_listening state ≡ true → is_met state ≡ true
       listening phase.Listen is = refl
@@ -227,7 +230,7 @@ module _ (T : Type 0) where
       listens true is met = listening p.a.tcp.state is
       listens false is met = met
   joined_met B (Some keys) (Some asked) r p gains h =
-      goes_met T B (joined_by keys asked p.b) (replaced (duties.SynAck B) p.agenda) p tt (other_fewer (duties.SynAck B) p.agenda refl refl) h
+      goes_met T B (joined_by keys asked p.b) (replaced (duties.Send (send_duties.SynAck B)) p.agenda) p tt (other_fewer (duties.Send (send_duties.SynAck B)) p.agenda refl refl) h
 
   occasion_goes : (s : Side) (o : Occasion) (sg : PlainSegment) (p : PathState Carried) → Goes T s p (having_sent o p.clock sg (end_at s p))
   occasion_goes s o sg p = same_goes T s (having_sent o p.clock sg (end_at s p)) p (same o) refl
@@ -252,61 +255,61 @@ module _ (T : Type 0) where
   -- a duty that isn't to learn the key
   answered_met : (d : Duty) (r : Reply) (p : PathState Carried) → is_key_duty d ≡ false → (is_sign_duty d ≡ true → signs p.agenda ≡ true) → Gains T (ask_for values d p) r
       → CalmMet T p → PathMet T (answered values d r p)
-  answered_met duties.JoinAgain r p none sign gains h =
-      inl (begun_met T r (replaced (duties.Leave A) p.agenda) (left p) p gains.0 (other_fewer (duties.Leave A) p.agenda refl refl) (tail_fewer p.agenda) h)
-  answered_met (duties.Look s) r p none sign gains h = inl (goes_met T s (after_look r (end_at s p)) (left p) p (look_goes s r p gains) (tail_fewer p.agenda) h)
-  answered_met (duties.Window s) r p none sign gains h = inl (same_met s (after_ack_out r (end_at s p)) (left p) p refl refl (tail_fewer p.agenda) h)
-  answered_met (duties.Update s) r p none sign gains h = inl (same_sent_met s _ _ (left p) p refl refl (tail_fewer p.agenda) h)
-  answered_met (duties.Syn s) r p none sign gains h = inl (same_sent_met s _ _ (left p) p refl refl (tail_fewer p.agenda) h)
-  answered_met (duties.Data s) r p none sign gains h = inl (data_met s (first_unsent (end_at s p)) r p h)
-  answered_met (duties.DataFin s) r p none sign gains h = inl (same_sent_met s _ _ (left p) p refl refl (tail_fewer p.agenda) h)
-  answered_met (duties.Fin s) r p none sign gains h =
+  answered_met (duties.Ask ask_duties.JoinAgain) r p none sign gains h =
+      inl (begun_met T r (replaced (duties.Ask (ask_duties.Leave A)) p.agenda) (left p) p gains.0 (other_fewer (duties.Ask (ask_duties.Leave A)) p.agenda refl refl) (tail_fewer p.agenda) h)
+  answered_met (duties.Step (step_duties.Look s)) r p none sign gains h = inl (goes_met T s (after_look r (end_at s p)) (left p) p (look_goes s r p gains) (tail_fewer p.agenda) h)
+  answered_met (duties.Ask (ask_duties.Window s)) r p none sign gains h = inl (same_met s (after_ack_out r (end_at s p)) (left p) p refl refl (tail_fewer p.agenda) h)
+  answered_met (duties.Send (send_duties.Update s)) r p none sign gains h = inl (same_sent_met s _ _ (left p) p refl refl (tail_fewer p.agenda) h)
+  answered_met (duties.Send (send_duties.Syn s)) r p none sign gains h = inl (same_sent_met s _ _ (left p) p refl refl (tail_fewer p.agenda) h)
+  answered_met (duties.Step (step_duties.Data s)) r p none sign gains h = inl (data_met s (first_unsent (end_at s p)) r p h)
+  answered_met (duties.Send (send_duties.DataFin s)) r p none sign gains h = inl (same_sent_met s _ _ (left p) p refl refl (tail_fewer p.agenda) h)
+  answered_met (duties.Send (send_duties.Fin s)) r p none sign gains h =
       inl (sent_met T s (fin_segment_of s p) (having_sent_fin s p) (left p) p (state_goes T s (having_sent_fin s p) p (λ met. sym (finish_met (end_at s p).tcp.state) ∙ met) refl) (tail_fewer p.agenda) h)
-  answered_met duties.Events r p none sign gains h = event_met T (next_event p) r p gains h
-  answered_met (duties.PlainHandshake s) r p none sign gains h = inl (told_met s fall.PlainHandshake r p gains h)
-  answered_met (duties.PeerKey A) r p none sign gains h = absurd (false≢true (sym none))
-  answered_met (duties.PeerKey B) r p none sign gains h = inl (b_key (key_heard p.b.treated.items))
+  answered_met (duties.Step step_duties.Events) r p none sign gains h = event_met T (next_event p) r p gains h
+  answered_met (duties.Ask (ask_duties.PlainHandshake s)) r p none sign gains h = inl (told_met s fall.PlainHandshake r p gains h)
+  answered_met (duties.Ask (ask_duties.PeerKey A)) r p none sign gains h = absurd (false≢true (sym none))
+  answered_met (duties.Ask (ask_duties.PeerKey B)) r p none sign gains h = inl (b_key (key_heard p.b.treated.items))
     where
       b_key : (o : Option ℕ) → CalmMet T (answered_peer_key B o r p)
       b_key None = goes_met T B (after_fell fall.PlainHandshake r p.b) (fell_duties B r p) p tt (fell_fewer B r p) h
       b_key (Some key) = goes_met T B (with_peer_key (Some key) p.b) (left p) p tt (tail_fewer p.agenda) h
-  answered_met (duties.SynAnswered A) r p none sign gains h = absurd (false≢true (sym none))
-  answered_met (duties.SynAnswered B) r p none sign gains h = inl (agenda_met T (left p) p (tail_fewer p.agenda) h)
-  answered_met (duties.SynAck s) r p none sign gains h = inl (same_sent_met s _ _ (left p) p refl refl (tail_fewer p.agenda) h)
-  answered_met (duties.JoinHeard s) r p none sign gains h = inl (joined_met s (keys_begun r) (asked_at s p) r p gains h)
-  answered_met (duties.Refuse s) r p none sign gains h = inl (same_sent_met s (refusal_of s p) (end_at s p) (left p) p refl refl (tail_fewer p.agenda) h)
-  answered_met (duties.Opened s) r p none sign gains h = inl (opened_met s (keys_heard (end_at s p).treated.items) r p gains h)
-  answered_met (duties.Heard s index) r p none sign gains h = inl (item_answered_met s (item_of index (end_at s p)) r p gains (by s sign) h)
+  answered_met (duties.Ask (ask_duties.SynAnswered A)) r p none sign gains h = absurd (false≢true (sym none))
+  answered_met (duties.Ask (ask_duties.SynAnswered B)) r p none sign gains h = inl (agenda_met T (left p) p (tail_fewer p.agenda) h)
+  answered_met (duties.Send (send_duties.SynAck s)) r p none sign gains h = inl (same_sent_met s _ _ (left p) p refl refl (tail_fewer p.agenda) h)
+  answered_met (duties.Ask (ask_duties.JoinHeard s)) r p none sign gains h = inl (joined_met s (keys_begun r) (asked_at s p) r p gains h)
+  answered_met (duties.Send (send_duties.Refuse s)) r p none sign gains h = inl (same_sent_met s (refusal_of s p) (end_at s p) (left p) p refl refl (tail_fewer p.agenda) h)
+  answered_met (duties.Ask (ask_duties.Opened s)) r p none sign gains h = inl (opened_met s (keys_heard (end_at s p).treated.items) r p gains h)
+  answered_met (duties.Step (step_duties.Heard s index)) r p none sign gains h = inl (item_answered_met s (item_of index (end_at s p)) r p gains (by s sign) h)
     where
-      by : (s : Side) → (is_sign_duty (duties.Heard s index) ≡ true → signs p.agenda ≡ true) → is_signed s p
+      by : (s : Side) → (is_sign_duty (duties.Step (step_duties.Heard s index)) ≡ true → signs p.agenda ≡ true) → is_signed s p
       by A sign = sign refl
       by B sign = tt
-  answered_met (duties.AckHeard s) r p none sign gains h = inl (told_met s fall.AckHeard r p gains h)
-  answered_met (duties.PlainAck s) r p none sign gains h = inl (plain_ack_met s r p gains h)
-  answered_met (duties.SubflowAck s) r p none sign gains h = inl (same_met s _ (left p) p refl refl (tail_fewer p.agenda) h)
-  answered_met (duties.PlainData s) r p none sign gains h = inl (told_met s fall.PlainData r p gains h)
-  answered_met (duties.GoIdentity s) r p none sign gains h = inl (same_met s (in_identity (end_at s p)) (left p) p refl refl (tail_fewer p.agenda) h)
-  answered_met (duties.Unmapped s) r p none sign gains h = inl (break_met s 6 r p h)
-  answered_met (duties.SubflowFin s) r p none sign gains h = inl (plain_fin_met s (is_fin_set r) p h)
-  answered_met (duties.Edge s) r p none sign gains h = inl (piece_met s (piece_of s p) (is_placed r) p h)
-  answered_met (duties.HeardFin s index) r p none sign gains h = inl (fin_set_met s (is_fin_set r) p h)
-  answered_met (duties.AckOut s) r p none sign gains h = inl (same_met s (after_ack_out r (end_at s p)) (left p) p refl refl (tail_fewer p.agenda) h)
-  answered_met (duties.Rate s) r p none sign gains h = inl (same_met s _ (left p) p refl refl (tail_fewer p.agenda) h)
-  answered_met (duties.Acknowledge s) r p none sign gains h = inl (same_sent_met s _ _ (left p) p refl refl (tail_fewer p.agenda) h)
-  answered_met (duties.Again s) r p none sign gains h = inl (same_sent_met s _ _ (left p) p refl refl (tail_fewer p.agenda) h)
-  answered_met (duties.Answer s) r p none sign gains h =
+  answered_met (duties.Ask (ask_duties.AckHeard s)) r p none sign gains h = inl (told_met s fall.AckHeard r p gains h)
+  answered_met (duties.Step (step_duties.PlainAck s)) r p none sign gains h = inl (plain_ack_met s r p gains h)
+  answered_met (duties.Ask (ask_duties.SubflowAck s)) r p none sign gains h = inl (same_met s _ (left p) p refl refl (tail_fewer p.agenda) h)
+  answered_met (duties.Ask (ask_duties.PlainData s)) r p none sign gains h = inl (told_met s fall.PlainData r p gains h)
+  answered_met (duties.Ask (ask_duties.GoIdentity s)) r p none sign gains h = inl (same_met s (in_identity (end_at s p)) (left p) p refl refl (tail_fewer p.agenda) h)
+  answered_met (duties.Step (step_duties.Unmapped s)) r p none sign gains h = inl (break_met s 6 r p h)
+  answered_met (duties.Ask (ask_duties.SubflowFin s)) r p none sign gains h = inl (plain_fin_met s (is_fin_set r) p h)
+  answered_met (duties.Ask (ask_duties.Edge s)) r p none sign gains h = inl (piece_met s (piece_of s p) (is_placed r) p h)
+  answered_met (duties.Ask (ask_duties.HeardFin s index)) r p none sign gains h = inl (fin_set_met s (is_fin_set r) p h)
+  answered_met (duties.Ask (ask_duties.AckOut s)) r p none sign gains h = inl (same_met s (after_ack_out r (end_at s p)) (left p) p refl refl (tail_fewer p.agenda) h)
+  answered_met (duties.Ask (ask_duties.Rate s)) r p none sign gains h = inl (same_met s _ (left p) p refl refl (tail_fewer p.agenda) h)
+  answered_met (duties.Send (send_duties.Acknowledge s)) r p none sign gains h = inl (same_sent_met s _ _ (left p) p refl refl (tail_fewer p.agenda) h)
+  answered_met (duties.Send (send_duties.Again s)) r p none sign gains h = inl (same_sent_met s _ _ (left p) p refl refl (tail_fewer p.agenda) h)
+  answered_met (duties.Send (send_duties.Answer s)) r p none sign gains h =
       inl (sent_met T s (answer_of s p) _ (left p) p (occasion_goes s (answer_occasion (end_at s p)) (answer_of s p) p) (tail_fewer p.agenda) h)
-  answered_met (duties.ResetAnswer s) r p none sign gains h = inl (same_sent_met s (dead_answer s p) (end_at s p) (left p) p refl refl (tail_fewer p.agenda) h)
-  answered_met (duties.Resend s) r p none sign gains h =
+  answered_met (duties.Send (send_duties.ResetAnswer s)) r p none sign gains h = inl (same_sent_met s (dead_answer s p) (end_at s p) (left p) p refl refl (tail_fewer p.agenda) h)
+  answered_met (duties.Send (send_duties.Resend s)) r p none sign gains h =
       inl (sent_met T s (resend_of s p) _ (left p) p (occasion_goes s (resend_occasion (end_at s p)) (resend_of s p) p) (tail_fewer p.agenda) h)
-  answered_met (duties.BreakAck s reason) r p none sign gains h = inl (same_met s (after_ack_out r (end_at s p)) (resets s reason) p refl refl (resets_fewer s reason p.agenda) h)
-  answered_met (duties.BreakReset s reason) r p none sign gains h = inl (reset_met s (Some reason) (leaves s) p (leaves_fewer s p.agenda) h)
-  answered_met (duties.Reset s) r p none sign gains h = inl (reset_met s None (replaced (duties.Leave s) p.agenda) p (leave_fewer s p.agenda) h)
-  answered_met (duties.Leave s) r p none sign gains h = inl (agenda_met T (replaced (duties.Dead s) p.agenda) p (by s) h)
+  answered_met (duties.Ask (ask_duties.BreakAck s reason)) r p none sign gains h = inl (same_met s (after_ack_out r (end_at s p)) (resets s reason) p refl refl (resets_fewer s reason p.agenda) h)
+  answered_met (duties.Send (send_duties.BreakReset s reason)) r p none sign gains h = inl (reset_met s (Some reason) (leaves s) p (leaves_fewer s p.agenda) h)
+  answered_met (duties.Send (send_duties.Reset s)) r p none sign gains h = inl (reset_met s None (replaced (duties.Ask (ask_duties.Leave s)) p.agenda) p (leave_fewer s p.agenda) h)
+  answered_met (duties.Ask (ask_duties.Leave s)) r p none sign gains h = inl (agenda_met T (replaced (duties.Ask (ask_duties.Dead s)) p.agenda) p (by s) h)
     where
-      by : (s : Side) → Fewer p.agenda (replaced (duties.Dead s) p.agenda)
-      by A = other_fewer (duties.Dead A) p.agenda refl refl
-      by B = other_fewer (duties.Dead B) p.agenda refl refl
+      by : (s : Side) → Fewer p.agenda (replaced (duties.Ask (ask_duties.Dead s)) p.agenda)
+      by A = other_fewer (duties.Ask (ask_duties.Dead A)) p.agenda refl refl
+      by B = other_fewer (duties.Ask (ask_duties.Dead B)) p.agenda refl refl
   answered_met duties.End r p none sign gains h = inl (agenda_met T [] p (new_duties p.agenda [] refl refl) h)
   answered_met _ r p none sign gains h = inl (agenda_met T (left p) p (tail_fewer p.agenda) h)
 
@@ -314,20 +317,20 @@ module _ (T : Type 0) where
   learns_met : (r : Reply) (p : PathState Carried) → (h : Keying T p) → ((x : Ask) → asks_of values p ≡ Some x → Gains T x r) → PathMet T (takes values r p)
   learns_met r p h gains = by h.begins h.agenda_is
     where
-      calm_tail : p.agenda ≡ duties.PeerKey A ∷ h.rest → is_calm (left p) ≡ true
+      calm_tail : p.agenda ≡ duties.Ask (ask_duties.PeerKey A) ∷ h.rest → is_calm (left p) ≡ true
       calm_tail same = ap (λ ds. is_calm (tail_of ds)) same ∙ h.calm
 
-      fallen : (o : Option ℕ) → p.agenda ≡ duties.PeerKey A ∷ h.rest → T → CalmMet T (answered_peer_key A o r p)
+      fallen : (o : Option ℕ) → p.agenda ≡ duties.Ask (ask_duties.PeerKey A) ∷ h.rest → T → CalmMet T (answered_peer_key A o r p)
       fallen (Some key) same known = known_met T (goes_on A (with_peer_key (Some key) p.a) (left p) p) h.first (calm_tail same) known
       fallen None same known =
           known_met T (answered_fell A fall.PlainHandshake r p) h.first
-          (fell_cases (λ ds. is_calm ds ≡ true) A p r (λ fell. ap (λ ds. is_calm (replaced (duties.GoIdentity A) ds)) same ∙ h.calm) (λ reason. refl) (λ reason. refl) (calm_tail same)) known
+          (fell_cases (λ ds. is_calm ds ≡ true) A p r (λ fell. ap (λ ds. is_calm (replaced (duties.Ask (ask_duties.GoIdentity A)) ds)) same ∙ h.calm) (λ reason. refl) (λ reason. refl) (calm_tail same)) known
 
       told : (o : Option ℕ) → Gains T (peer_key_ask A o p) r → T
       told None gain = gain.1
       told (Some key) gain = gain.1
 
-      by : (begins : Bool) → p.agenda ≡ (if begins then duties.SynAnswered A ∷ duties.PeerKey A ∷ h.rest else duties.PeerKey A ∷ h.rest) → PathMet T (takes values r p)
+      by : (begins : Bool) → p.agenda ≡ (if begins then duties.Ask (ask_duties.SynAnswered A) ∷ duties.Ask (ask_duties.PeerKey A) ∷ h.rest else duties.Ask (ask_duties.PeerKey A) ∷ h.rest) → PathMet T (takes values r p)
       by true same =
           subst (λ ds. PathMet T (settled (answers values ds r p).agenda (answers values ds r p))) (sym same)
           (settles_met T (with_agenda (left p) p) (inr (record { first = h.first; begins = false; rest = h.rest; agenda_is = ap tail_of same; calm = h.calm; mode = h.mode })))

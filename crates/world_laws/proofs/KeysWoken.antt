@@ -30,6 +30,9 @@ use Rattle.path_agenda.specs.Agenda.{heard_and, payload_came, copy_came}
 use Rattle.path_agenda.specs.Words.{replaced}
 use Rattle.path_agenda.specs.declared.duty.Duty.{Duty}
 use Rattle.path_agenda.specs.declared.duty.Duty.TheVariants as duties
+use Rattle.path_agenda.specs.declared.duty.AskDuty.TheVariants as ask_duties
+use Rattle.path_agenda.specs.declared.duty.SendDuty.TheVariants as send_duties
+use Rattle.path_agenda.specs.declared.duty.StepDuty.TheVariants as step_duties
 use Rattle.path_agenda.specs.declared.heard.Heard.{Heard}
 use Rattle.path_core.specs.Arriving.{join_judged, judged_of, taken_as, is_passed_over, is_forged, owing_if, with_payload}
 use Rattle.path_core.specs.Emission.{after_timer}
@@ -431,18 +434,18 @@ falls (inl s) t = false
 falls (inr s) t = same_side s t
 
 abbrev pub is_said_by : Voice → Duty → Bool
-is_said_by x (duties.SynAck t) = tells x t
-is_said_by x (duties.Again t) = tells x t
-is_said_by x (duties.Answer t) = tells x t
-is_said_by x (duties.Resend t) = tells x t
-is_said_by x (duties.PlainHandshake t) = tells x t
-is_said_by x (duties.PeerKey t) = tells x t
-is_said_by x (duties.Opened t) = tells x t
-is_said_by x (duties.Heard t index) = tells x t
-is_said_by x (duties.AckHeard t) = tells x t
-is_said_by x (duties.PlainAck t) = tells x t
-is_said_by x (duties.PlainData t) = tells x t
-is_said_by x (duties.GoIdentity t) = falls x t
+is_said_by x (duties.Send (send_duties.SynAck t)) = tells x t
+is_said_by x (duties.Send (send_duties.Again t)) = tells x t
+is_said_by x (duties.Send (send_duties.Answer t)) = tells x t
+is_said_by x (duties.Send (send_duties.Resend t)) = tells x t
+is_said_by x (duties.Ask (ask_duties.PlainHandshake t)) = tells x t
+is_said_by x (duties.Ask (ask_duties.PeerKey t)) = tells x t
+is_said_by x (duties.Ask (ask_duties.Opened t)) = tells x t
+is_said_by x (duties.Step (step_duties.Heard t index)) = tells x t
+is_said_by x (duties.Ask (ask_duties.AckHeard t)) = tells x t
+is_said_by x (duties.Step (step_duties.PlainAck t)) = tells x t
+is_said_by x (duties.Ask (ask_duties.PlainData t)) = tells x t
+is_said_by x (duties.Ask (ask_duties.GoIdentity t)) = falls x t
 is_said_by x _ = false
 
 abbrev pub speaks : Voice → List Duty → Bool

@@ -25,6 +25,7 @@ use Rattle.actor_desk.specs.Books.{books_in}
 use Rattle.actor_desk.specs.Desk.{SixBooks, control_of, send_of}
 use Rattle.path_agenda.specs.declared.duty.Duty.{Duty}
 use Rattle.path_agenda.specs.declared.duty.Duty.TheVariants as duties
+use Rattle.path_agenda.specs.declared.duty.AskDuty.TheVariants as ask_duties
 use Rattle.path_core.specs.State.{PathState, end_at}
 use Rattle.path_core.specs.Turns.{IsSettled}
 use Rattle.path_core.specs.Values.{Carried, values}
@@ -241,8 +242,8 @@ MayCall s _ six = Unit {0}
 
 -- a duty whose step may be made: B hears only of joins that were begun, and an end falls back with its side
 abbrev pub MayDo : SixBooks → Duty → Type 0
-MayDo six (duties.JoinHeard s) = MayAnswer s six
-MayDo six (duties.GoIdentity s) = is_plain (control_of s six).fall ≡ true
+MayDo six (duties.Ask (ask_duties.JoinHeard s)) = MayAnswer s six
+MayDo six (duties.Ask (ask_duties.GoIdentity s)) = is_plain (control_of s six).fall ≡ true
 MayDo six _ = Unit {0}
 
 -- A's side is sure of Multipath TCP only where A may send a DSS on path 0.

@@ -26,6 +26,10 @@ use Rattle.path_agenda.specs.Agenda.{start_of_turn, rest_of_turn, heard_and, pay
 use Rattle.path_agenda.specs.Items.{is_dss, key_heard, keys_heard}
 use Rattle.path_agenda.specs.declared.duty.Duty.{Duty}
 use Rattle.path_agenda.specs.declared.duty.Duty.TheVariants as duties
+use Rattle.path_agenda.specs.declared.duty.AskDuty.TheVariants as ask_duties
+use Rattle.path_agenda.specs.declared.duty.SendDuty.TheVariants as send_duties
+use Rattle.path_agenda.specs.declared.duty.SilentDuty.TheVariants as silent_duties
+use Rattle.path_agenda.specs.declared.duty.StepDuty.TheVariants as step_duties
 use Rattle.path_agenda.specs.declared.heard.Heard.{Heard}
 use Rattle.path_agenda.specs.declared.heard.Heard.TheVariants as says
 use Rattle.path_agenda.specs.declared.keys.KeyPair.{KeyPair}
@@ -188,8 +192,8 @@ nothing_before (suc n) = tt
 -- the things that a copy said to A are treated one after the other, from this one on, and none is told yet
 abbrev pub Follows : ℕ → List Duty → Type 0
 Follows n [] = Unit {0}
-Follows n (duties.Heard A index ∷ ds) = (index ≡ n) × Follows (suc n) ds
-Follows n (duties.AckHeard A ∷ ds) = ⊥
+Follows n (duties.Step (step_duties.Heard A index) ∷ ds) = (index ≡ n) × Follows (suc n) ds
+Follows n (duties.Ask (ask_duties.AckHeard A) ∷ ds) = ⊥
 Follows n (d ∷ ds) = Follows n ds
 
 heard_follow : (from count : ℕ) → Follows from (heard_and A from count (payload_came A))
@@ -221,7 +225,7 @@ judged_follows joined s count judged.Asks = tt
 judged_follows joined s count judged.Lacks = tt
 judged_follows joined s count judged.Forged = tt
 
-died_follows : (dead_a dead_b : Bool) → Follows 0 ((if dead_a then [] else duties.Leave A ∷ []) ++ ((if dead_b then [] else duties.Leave B ∷ []) ++ rest_of_turn))
+died_follows : (dead_a dead_b : Bool) → Follows 0 ((if dead_a then [] else duties.Ask (ask_duties.Leave A) ∷ []) ++ ((if dead_b then [] else duties.Ask (ask_duties.Leave B) ∷ []) ++ rest_of_turn))
 died_follows true true = tt
 died_follows true false = tt
 died_follows false true = tt
@@ -284,8 +288,8 @@ checked_recalls checksums (Some kept) e = either_recalls (is_wrong checksums kep
 
 -- the first duty is none of these
 abbrev IsOther : Duty → Type 0
-IsOther duties.Events = ⊥
-IsOther (duties.Heard A index) = ⊥
+IsOther (duties.Step step_duties.Events) = ⊥
+IsOther (duties.Step (step_duties.Heard A index)) = ⊥
 IsOther _ = Unit {0}
 
 -- ---- a path
@@ -332,14 +336,14 @@ module _ {C : Type 0} where
   unheard p n above (inr none) = none
 
   -- a thing that was said to A is passed
-  item_leads : (index : ℕ) (ds : List Duty) (p : PathState C) → p.a.modes.identity ≡ false → (o : Option Heard) → item_at index p.a.treated.items ≡ o → Leads (duties.Heard A index ∷ ds) p
+  item_leads : (index : ℕ) (ds : List Duty) (p : PathState C) → p.a.modes.identity ≡ false → (o : Option Heard) → item_at index p.a.treated.items ≡ o → Leads (duties.Step (step_duties.Heard A index) ∷ ds) p
       → Leads ds (with_end A (item_passed A o p.a) p)
   item_leads index ds p above o is h = record {
     led = subst (Led false) (sym (same_items A o p.a)) h.led;
-    clear = ⊎_elim (λ is_clear. inl ((maybe_end A o p.a).0 is_clear)) (λ (u : IsUnclear (duties.Heard A index ∷ ds) p). by o is u) h.clear;
+    clear = ⊎_elim (λ is_clear. inl ((maybe_end A o p.a).0 is_clear)) (λ (u : IsUnclear (duties.Step (step_duties.Heard A index) ∷ ds) p). by o is u) h.clear;
   }
     where
-      by : (o : Option Heard) → item_at index p.a.treated.items ≡ o → IsUnclear (duties.Heard A index ∷ ds) p
+      by : (o : Option Heard) → item_at index p.a.treated.items ≡ o → IsUnclear (duties.Step (step_duties.Heard A index) ∷ ds) p
           → ((item_passed A o p.a).modes.clear ≡ true) ⊎ IsUnclear ds (with_end A (item_passed A o p.a) p)
       by None is u =
           inr (record { n = suc u.n; none = inr (no_more u.n p.a.treated.items (unheard p u.n above u.none) (subst (λ n. item_at n p.a.treated.items ≡ None) u.follows.0 is)); follows = u.follows.1 })
@@ -366,63 +370,63 @@ module _ {C : Type 0} where
           inr (record { n = suc u.n; none = inr (one_more u.n p.a.treated.items (says.FastClose key) (unheard p u.n above u.none) (subst (λ n. item_at n p.a.treated.items ≡ Some (says.FastClose key)) u.follows.0 is) refl); follows = u.follows.1 })
 
   passed_leads : (d : Duty) (ds : List Duty) (p : PathState C) → Leads (d ∷ ds) p → stands d p ≡ false → Leads ds (passed d p)
-  passed_leads (duties.Heard A index) ds p h none = by p.a.modes.identity refl
+  passed_leads (duties.Step (step_duties.Heard A index)) ds p h none = by p.a.modes.identity refl
     where
       by : (b : Bool) → p.a.modes.identity ≡ b → Leads ds (with_end A (item_passed A (if b then None else item_at index p.a.treated.items) p.a) p)
       by true plain = record {
         led = h.led;
-        clear = ⊎_elim (λ is_clear. inl is_clear) (λ (u : IsUnclear (duties.Heard A index ∷ ds) p). inr (record { n = suc u.n; none = inl plain; follows = u.follows.1 })) h.clear;
+        clear = ⊎_elim (λ is_clear. inl is_clear) (λ (u : IsUnclear (duties.Step (step_duties.Heard A index) ∷ ds) p). inr (record { n = suc u.n; none = inl plain; follows = u.follows.1 })) h.clear;
       }
       by false above = item_leads index ds p above (item_at index p.a.treated.items) refl h
-  passed_leads (duties.Heard B index) ds p h none = goes_led (duties.Heard B index) ds p _ ds (λ is. is, λ is. is) (record { recalls = recalls_all _ _ refl; follows = λ n f. f }) h
-  passed_leads (duties.Timer s) ds p h none = goes_led (duties.Timer s) ds p _ ds (passed_clear (duties.Timer s) p).a (record { recalls = side_recalls s _ p _ (recalls_all _ _ refl) refl; follows = λ n f. f }) h
-  passed_leads (duties.Keep s) ds p h none = goes_led (duties.Keep s) ds p _ ds (passed_clear (duties.Keep s) p).a (record { recalls = side_recalls s _ p _ (recalls_all _ _ refl) refl; follows = λ n f. f }) h
-  passed_leads (duties.PassFin s) ds p h none = goes_led (duties.PassFin s) ds p _ ds (passed_clear (duties.PassFin s) p).a (record { recalls = side_recalls s _ p _ (recalls_all _ _ refl) refl; follows = λ n f. f }) h
-  passed_leads (duties.Edge s) ds p h none =
-      goes_led (duties.Edge s) ds p _ ds (passed_clear (duties.Edge s) p).a (record {
+  passed_leads (duties.Step (step_duties.Heard B index)) ds p h none = goes_led (duties.Step (step_duties.Heard B index)) ds p _ ds (λ is. is, λ is. is) (record { recalls = recalls_all _ _ refl; follows = λ n f. f }) h
+  passed_leads (duties.Silent (silent_duties.Timer s)) ds p h none = goes_led (duties.Silent (silent_duties.Timer s)) ds p _ ds (passed_clear (duties.Silent (silent_duties.Timer s)) p).a (record { recalls = side_recalls s _ p _ (recalls_all _ _ refl) refl; follows = λ n f. f }) h
+  passed_leads (duties.Silent (silent_duties.Keep s)) ds p h none = goes_led (duties.Silent (silent_duties.Keep s)) ds p _ ds (passed_clear (duties.Silent (silent_duties.Keep s)) p).a (record { recalls = side_recalls s _ p _ (recalls_all _ _ refl) refl; follows = λ n f. f }) h
+  passed_leads (duties.Silent (silent_duties.PassFin s)) ds p h none = goes_led (duties.Silent (silent_duties.PassFin s)) ds p _ ds (passed_clear (duties.Silent (silent_duties.PassFin s)) p).a (record { recalls = side_recalls s _ p _ (recalls_all _ _ refl) refl; follows = λ n f. f }) h
+  passed_leads (duties.Ask (ask_duties.Edge s)) ds p h none =
+      goes_led (duties.Ask (ask_duties.Edge s)) ds p _ ds (passed_clear (duties.Ask (ask_duties.Edge s)) p).a (record {
         recalls = side_recalls s _ p _ (checked_recalls p.profile.spelling.checksums (mapping_here (end_at s p)) (end_at s p)) refl;
         follows = λ n f. f;
       }) h
-  passed_leads (duties.AckHeard A) ds p h none = goes_led (duties.AckHeard A) ds p p ds (λ is. is, λ is. is) (record { recalls = recalls_all _ _ refl; follows = λ n f. absurd f }) h
-  passed_leads (duties.AckHeard B) ds p h none = goes_led (duties.AckHeard B) ds p p ds (λ is. is, λ is. is) (record { recalls = recalls_all _ _ refl; follows = λ n f. f }) h
-  passed_leads duties.JoinAgain ds p h none = goes_led duties.JoinAgain ds p p ds (λ is. is, λ is. is) (record { recalls = recalls_all _ _ refl; follows = λ n f. f }) h
-  passed_leads (duties.Look s) ds p h none = goes_led (duties.Look s) ds p p ds (λ is. is, λ is. is) (record { recalls = recalls_all _ _ refl; follows = λ n f. f }) h
-  passed_leads (duties.Window s) ds p h none = goes_led (duties.Window s) ds p p ds (λ is. is, λ is. is) (record { recalls = recalls_all _ _ refl; follows = λ n f. f }) h
-  passed_leads (duties.Update s) ds p h none = goes_led (duties.Update s) ds p p ds (λ is. is, λ is. is) (record { recalls = recalls_all _ _ refl; follows = λ n f. f }) h
-  passed_leads (duties.Syn s) ds p h none = goes_led (duties.Syn s) ds p p ds (λ is. is, λ is. is) (record { recalls = recalls_all _ _ refl; follows = λ n f. f }) h
-  passed_leads (duties.Data s) ds p h none = goes_led (duties.Data s) ds p p ds (λ is. is, λ is. is) (record { recalls = recalls_all _ _ refl; follows = λ n f. f }) h
-  passed_leads (duties.DataFin s) ds p h none = goes_led (duties.DataFin s) ds p p ds (λ is. is, λ is. is) (record { recalls = recalls_all _ _ refl; follows = λ n f. f }) h
-  passed_leads (duties.Fin s) ds p h none = goes_led (duties.Fin s) ds p p ds (λ is. is, λ is. is) (record { recalls = recalls_all _ _ refl; follows = λ n f. f }) h
-  passed_leads duties.Events ds p h none = goes_led duties.Events ds p p ds (λ is. is, λ is. is) (record { recalls = recalls_all _ _ refl; follows = λ n f. f }) h
-  passed_leads (duties.SynHeard s) ds p h none = goes_led (duties.SynHeard s) ds p p ds (λ is. is, λ is. is) (record { recalls = recalls_all _ _ refl; follows = λ n f. f }) h
-  passed_leads (duties.SynAnswered s) ds p h none = goes_led (duties.SynAnswered s) ds p p ds (λ is. is, λ is. is) (record { recalls = recalls_all _ _ refl; follows = λ n f. f }) h
-  passed_leads (duties.PeerKey s) ds p h none = goes_led (duties.PeerKey s) ds p p ds (λ is. is, λ is. is) (record { recalls = recalls_all _ _ refl; follows = λ n f. f }) h
-  passed_leads (duties.SynAck s) ds p h none = goes_led (duties.SynAck s) ds p p ds (λ is. is, λ is. is) (record { recalls = recalls_all _ _ refl; follows = λ n f. f }) h
-  passed_leads (duties.JoinHeard s) ds p h none = goes_led (duties.JoinHeard s) ds p p ds (λ is. is, λ is. is) (record { recalls = recalls_all _ _ refl; follows = λ n f. f }) h
-  passed_leads (duties.Refuse s) ds p h none = goes_led (duties.Refuse s) ds p p ds (λ is. is, λ is. is) (record { recalls = recalls_all _ _ refl; follows = λ n f. f }) h
-  passed_leads (duties.Opened s) ds p h none = goes_led (duties.Opened s) ds p p ds (λ is. is, λ is. is) (record { recalls = recalls_all _ _ refl; follows = λ n f. f }) h
-  passed_leads (duties.Live s) ds p h none = goes_led (duties.Live s) ds p p ds (λ is. is, λ is. is) (record { recalls = recalls_all _ _ refl; follows = λ n f. f }) h
-  passed_leads (duties.PlainAck s) ds p h none = goes_led (duties.PlainAck s) ds p _ ds (passed_clear (duties.PlainAck s) p).a (record { recalls = side_recalls s _ p _ (recalls_all _ _ refl) refl; follows = λ n f. f }) h
-  passed_leads (duties.Unmapped s) ds p h none = goes_led (duties.Unmapped s) ds p _ ds (passed_clear (duties.Unmapped s) p).a (record { recalls = side_recalls s _ p _ (recalls_all _ _ refl) refl; follows = λ n f. f }) h
-  passed_leads (duties.PlainHandshake s) ds p h none = goes_led (duties.PlainHandshake s) ds p p ds (λ is. is, λ is. is) (record { recalls = recalls_all _ _ refl; follows = λ n f. f }) h
-  passed_leads (duties.SubflowAck s) ds p h none = goes_led (duties.SubflowAck s) ds p p ds (λ is. is, λ is. is) (record { recalls = recalls_all _ _ refl; follows = λ n f. f }) h
-  passed_leads (duties.PlainData s) ds p h none = goes_led (duties.PlainData s) ds p p ds (λ is. is, λ is. is) (record { recalls = recalls_all _ _ refl; follows = λ n f. f }) h
-  passed_leads (duties.GoIdentity s) ds p h none = goes_led (duties.GoIdentity s) ds p p ds (λ is. is, λ is. is) (record { recalls = recalls_all _ _ refl; follows = λ n f. f }) h
-  passed_leads (duties.SubflowFin s) ds p h none = goes_led (duties.SubflowFin s) ds p p ds (λ is. is, λ is. is) (record { recalls = recalls_all _ _ refl; follows = λ n f. f }) h
-  passed_leads (duties.HeardFin s index) ds p h none = goes_led (duties.HeardFin s index) ds p p ds (λ is. is, λ is. is) (record { recalls = recalls_all _ _ refl; follows = λ n f. f }) h
-  passed_leads (duties.AckOut s) ds p h none = goes_led (duties.AckOut s) ds p p ds (λ is. is, λ is. is) (record { recalls = recalls_all _ _ refl; follows = λ n f. f }) h
-  passed_leads (duties.Rate s) ds p h none = goes_led (duties.Rate s) ds p p ds (λ is. is, λ is. is) (record { recalls = recalls_all _ _ refl; follows = λ n f. f }) h
-  passed_leads (duties.Acknowledge s) ds p h none = goes_led (duties.Acknowledge s) ds p p ds (λ is. is, λ is. is) (record { recalls = recalls_all _ _ refl; follows = λ n f. f }) h
-  passed_leads (duties.Again s) ds p h none = goes_led (duties.Again s) ds p p ds (λ is. is, λ is. is) (record { recalls = recalls_all _ _ refl; follows = λ n f. f }) h
-  passed_leads (duties.Answer s) ds p h none = goes_led (duties.Answer s) ds p p ds (λ is. is, λ is. is) (record { recalls = recalls_all _ _ refl; follows = λ n f. f }) h
-  passed_leads (duties.ResetAnswer s) ds p h none = goes_led (duties.ResetAnswer s) ds p p ds (λ is. is, λ is. is) (record { recalls = recalls_all _ _ refl; follows = λ n f. f }) h
-  passed_leads (duties.Return s) ds p h none = goes_led (duties.Return s) ds p p ds (λ is. is, λ is. is) (record { recalls = recalls_all _ _ refl; follows = λ n f. f }) h
-  passed_leads (duties.Resend s) ds p h none = goes_led (duties.Resend s) ds p p ds (λ is. is, λ is. is) (record { recalls = recalls_all _ _ refl; follows = λ n f. f }) h
-  passed_leads (duties.BreakAck s reason) ds p h none = goes_led (duties.BreakAck s reason) ds p p ds (λ is. is, λ is. is) (record { recalls = recalls_all _ _ refl; follows = λ n f. f }) h
-  passed_leads (duties.BreakReset s reason) ds p h none = goes_led (duties.BreakReset s reason) ds p p ds (λ is. is, λ is. is) (record { recalls = recalls_all _ _ refl; follows = λ n f. f }) h
-  passed_leads (duties.Reset s) ds p h none = goes_led (duties.Reset s) ds p p ds (λ is. is, λ is. is) (record { recalls = recalls_all _ _ refl; follows = λ n f. f }) h
-  passed_leads (duties.Leave s) ds p h none = goes_led (duties.Leave s) ds p p ds (λ is. is, λ is. is) (record { recalls = recalls_all _ _ refl; follows = λ n f. f }) h
-  passed_leads (duties.Dead s) ds p h none = goes_led (duties.Dead s) ds p p ds (λ is. is, λ is. is) (record { recalls = recalls_all _ _ refl; follows = λ n f. f }) h
+  passed_leads (duties.Ask (ask_duties.AckHeard A)) ds p h none = goes_led (duties.Ask (ask_duties.AckHeard A)) ds p p ds (λ is. is, λ is. is) (record { recalls = recalls_all _ _ refl; follows = λ n f. absurd f }) h
+  passed_leads (duties.Ask (ask_duties.AckHeard B)) ds p h none = goes_led (duties.Ask (ask_duties.AckHeard B)) ds p p ds (λ is. is, λ is. is) (record { recalls = recalls_all _ _ refl; follows = λ n f. f }) h
+  passed_leads (duties.Ask ask_duties.JoinAgain) ds p h none = goes_led (duties.Ask ask_duties.JoinAgain) ds p p ds (λ is. is, λ is. is) (record { recalls = recalls_all _ _ refl; follows = λ n f. f }) h
+  passed_leads (duties.Step (step_duties.Look s)) ds p h none = goes_led (duties.Step (step_duties.Look s)) ds p p ds (λ is. is, λ is. is) (record { recalls = recalls_all _ _ refl; follows = λ n f. f }) h
+  passed_leads (duties.Ask (ask_duties.Window s)) ds p h none = goes_led (duties.Ask (ask_duties.Window s)) ds p p ds (λ is. is, λ is. is) (record { recalls = recalls_all _ _ refl; follows = λ n f. f }) h
+  passed_leads (duties.Send (send_duties.Update s)) ds p h none = goes_led (duties.Send (send_duties.Update s)) ds p p ds (λ is. is, λ is. is) (record { recalls = recalls_all _ _ refl; follows = λ n f. f }) h
+  passed_leads (duties.Send (send_duties.Syn s)) ds p h none = goes_led (duties.Send (send_duties.Syn s)) ds p p ds (λ is. is, λ is. is) (record { recalls = recalls_all _ _ refl; follows = λ n f. f }) h
+  passed_leads (duties.Step (step_duties.Data s)) ds p h none = goes_led (duties.Step (step_duties.Data s)) ds p p ds (λ is. is, λ is. is) (record { recalls = recalls_all _ _ refl; follows = λ n f. f }) h
+  passed_leads (duties.Send (send_duties.DataFin s)) ds p h none = goes_led (duties.Send (send_duties.DataFin s)) ds p p ds (λ is. is, λ is. is) (record { recalls = recalls_all _ _ refl; follows = λ n f. f }) h
+  passed_leads (duties.Send (send_duties.Fin s)) ds p h none = goes_led (duties.Send (send_duties.Fin s)) ds p p ds (λ is. is, λ is. is) (record { recalls = recalls_all _ _ refl; follows = λ n f. f }) h
+  passed_leads (duties.Step step_duties.Events) ds p h none = goes_led (duties.Step step_duties.Events) ds p p ds (λ is. is, λ is. is) (record { recalls = recalls_all _ _ refl; follows = λ n f. f }) h
+  passed_leads (duties.Ask (ask_duties.SynHeard s)) ds p h none = goes_led (duties.Ask (ask_duties.SynHeard s)) ds p p ds (λ is. is, λ is. is) (record { recalls = recalls_all _ _ refl; follows = λ n f. f }) h
+  passed_leads (duties.Ask (ask_duties.SynAnswered s)) ds p h none = goes_led (duties.Ask (ask_duties.SynAnswered s)) ds p p ds (λ is. is, λ is. is) (record { recalls = recalls_all _ _ refl; follows = λ n f. f }) h
+  passed_leads (duties.Ask (ask_duties.PeerKey s)) ds p h none = goes_led (duties.Ask (ask_duties.PeerKey s)) ds p p ds (λ is. is, λ is. is) (record { recalls = recalls_all _ _ refl; follows = λ n f. f }) h
+  passed_leads (duties.Send (send_duties.SynAck s)) ds p h none = goes_led (duties.Send (send_duties.SynAck s)) ds p p ds (λ is. is, λ is. is) (record { recalls = recalls_all _ _ refl; follows = λ n f. f }) h
+  passed_leads (duties.Ask (ask_duties.JoinHeard s)) ds p h none = goes_led (duties.Ask (ask_duties.JoinHeard s)) ds p p ds (λ is. is, λ is. is) (record { recalls = recalls_all _ _ refl; follows = λ n f. f }) h
+  passed_leads (duties.Send (send_duties.Refuse s)) ds p h none = goes_led (duties.Send (send_duties.Refuse s)) ds p p ds (λ is. is, λ is. is) (record { recalls = recalls_all _ _ refl; follows = λ n f. f }) h
+  passed_leads (duties.Ask (ask_duties.Opened s)) ds p h none = goes_led (duties.Ask (ask_duties.Opened s)) ds p p ds (λ is. is, λ is. is) (record { recalls = recalls_all _ _ refl; follows = λ n f. f }) h
+  passed_leads (duties.Ask (ask_duties.Live s)) ds p h none = goes_led (duties.Ask (ask_duties.Live s)) ds p p ds (λ is. is, λ is. is) (record { recalls = recalls_all _ _ refl; follows = λ n f. f }) h
+  passed_leads (duties.Step (step_duties.PlainAck s)) ds p h none = goes_led (duties.Step (step_duties.PlainAck s)) ds p _ ds (passed_clear (duties.Step (step_duties.PlainAck s)) p).a (record { recalls = side_recalls s _ p _ (recalls_all _ _ refl) refl; follows = λ n f. f }) h
+  passed_leads (duties.Step (step_duties.Unmapped s)) ds p h none = goes_led (duties.Step (step_duties.Unmapped s)) ds p _ ds (passed_clear (duties.Step (step_duties.Unmapped s)) p).a (record { recalls = side_recalls s _ p _ (recalls_all _ _ refl) refl; follows = λ n f. f }) h
+  passed_leads (duties.Ask (ask_duties.PlainHandshake s)) ds p h none = goes_led (duties.Ask (ask_duties.PlainHandshake s)) ds p p ds (λ is. is, λ is. is) (record { recalls = recalls_all _ _ refl; follows = λ n f. f }) h
+  passed_leads (duties.Ask (ask_duties.SubflowAck s)) ds p h none = goes_led (duties.Ask (ask_duties.SubflowAck s)) ds p p ds (λ is. is, λ is. is) (record { recalls = recalls_all _ _ refl; follows = λ n f. f }) h
+  passed_leads (duties.Ask (ask_duties.PlainData s)) ds p h none = goes_led (duties.Ask (ask_duties.PlainData s)) ds p p ds (λ is. is, λ is. is) (record { recalls = recalls_all _ _ refl; follows = λ n f. f }) h
+  passed_leads (duties.Ask (ask_duties.GoIdentity s)) ds p h none = goes_led (duties.Ask (ask_duties.GoIdentity s)) ds p p ds (λ is. is, λ is. is) (record { recalls = recalls_all _ _ refl; follows = λ n f. f }) h
+  passed_leads (duties.Ask (ask_duties.SubflowFin s)) ds p h none = goes_led (duties.Ask (ask_duties.SubflowFin s)) ds p p ds (λ is. is, λ is. is) (record { recalls = recalls_all _ _ refl; follows = λ n f. f }) h
+  passed_leads (duties.Ask (ask_duties.HeardFin s index)) ds p h none = goes_led (duties.Ask (ask_duties.HeardFin s index)) ds p p ds (λ is. is, λ is. is) (record { recalls = recalls_all _ _ refl; follows = λ n f. f }) h
+  passed_leads (duties.Ask (ask_duties.AckOut s)) ds p h none = goes_led (duties.Ask (ask_duties.AckOut s)) ds p p ds (λ is. is, λ is. is) (record { recalls = recalls_all _ _ refl; follows = λ n f. f }) h
+  passed_leads (duties.Ask (ask_duties.Rate s)) ds p h none = goes_led (duties.Ask (ask_duties.Rate s)) ds p p ds (λ is. is, λ is. is) (record { recalls = recalls_all _ _ refl; follows = λ n f. f }) h
+  passed_leads (duties.Send (send_duties.Acknowledge s)) ds p h none = goes_led (duties.Send (send_duties.Acknowledge s)) ds p p ds (λ is. is, λ is. is) (record { recalls = recalls_all _ _ refl; follows = λ n f. f }) h
+  passed_leads (duties.Send (send_duties.Again s)) ds p h none = goes_led (duties.Send (send_duties.Again s)) ds p p ds (λ is. is, λ is. is) (record { recalls = recalls_all _ _ refl; follows = λ n f. f }) h
+  passed_leads (duties.Send (send_duties.Answer s)) ds p h none = goes_led (duties.Send (send_duties.Answer s)) ds p p ds (λ is. is, λ is. is) (record { recalls = recalls_all _ _ refl; follows = λ n f. f }) h
+  passed_leads (duties.Send (send_duties.ResetAnswer s)) ds p h none = goes_led (duties.Send (send_duties.ResetAnswer s)) ds p p ds (λ is. is, λ is. is) (record { recalls = recalls_all _ _ refl; follows = λ n f. f }) h
+  passed_leads (duties.Ask (ask_duties.Return s)) ds p h none = goes_led (duties.Ask (ask_duties.Return s)) ds p p ds (λ is. is, λ is. is) (record { recalls = recalls_all _ _ refl; follows = λ n f. f }) h
+  passed_leads (duties.Send (send_duties.Resend s)) ds p h none = goes_led (duties.Send (send_duties.Resend s)) ds p p ds (λ is. is, λ is. is) (record { recalls = recalls_all _ _ refl; follows = λ n f. f }) h
+  passed_leads (duties.Ask (ask_duties.BreakAck s reason)) ds p h none = goes_led (duties.Ask (ask_duties.BreakAck s reason)) ds p p ds (λ is. is, λ is. is) (record { recalls = recalls_all _ _ refl; follows = λ n f. f }) h
+  passed_leads (duties.Send (send_duties.BreakReset s reason)) ds p h none = goes_led (duties.Send (send_duties.BreakReset s reason)) ds p p ds (λ is. is, λ is. is) (record { recalls = recalls_all _ _ refl; follows = λ n f. f }) h
+  passed_leads (duties.Send (send_duties.Reset s)) ds p h none = goes_led (duties.Send (send_duties.Reset s)) ds p p ds (λ is. is, λ is. is) (record { recalls = recalls_all _ _ refl; follows = λ n f. f }) h
+  passed_leads (duties.Ask (ask_duties.Leave s)) ds p h none = goes_led (duties.Ask (ask_duties.Leave s)) ds p p ds (λ is. is, λ is. is) (record { recalls = recalls_all _ _ refl; follows = λ n f. f }) h
+  passed_leads (duties.Ask (ask_duties.Dead s)) ds p h none = goes_led (duties.Ask (ask_duties.Dead s)) ds p p ds (λ is. is, λ is. is) (record { recalls = recalls_all _ _ refl; follows = λ n f. f }) h
   passed_leads duties.End ds p h none = goes_led duties.End ds p p ds (λ is. is, λ is. is) (record { recalls = recalls_all _ _ refl; follows = λ n f. f }) h
 
   agenda_leads : (ds : List Duty) (p : PathState C) → Leads ds p → Leads ds (with_agenda ds p)
@@ -496,25 +500,25 @@ module _ {C : Type 0} where
   either_goes true d ds p q r x y = x
   either_goes false d ds p q r x y = y
 
-  begun_goes : (r : Reply) (ds : List Duty) (p : PathState C) → let m = with_agenda (duties.JoinAgain ∷ ds) p in let q = join_begun r (duties.Leave A ∷ ds) ds m in Goes duties.JoinAgain ds m q q.agenda
-  begun_goes r ds p = either_goes (is_never r) duties.JoinAgain ds (with_agenda (duties.JoinAgain ∷ ds) p) _ _
+  begun_goes : (r : Reply) (ds : List Duty) (p : PathState C) → let m = with_agenda ((duties.Ask ask_duties.JoinAgain) ∷ ds) p in let q = join_begun r (duties.Ask (ask_duties.Leave A) ∷ ds) ds m in Goes (duties.Ask ask_duties.JoinAgain) ds m q q.agenda
+  begun_goes r ds p = either_goes (is_never r) (duties.Ask ask_duties.JoinAgain) ds (with_agenda ((duties.Ask ask_duties.JoinAgain) ∷ ds) p) _ _
       (record { recalls = forgets _ _ refl; follows = λ n f. f }) (record { recalls = opened_recalls (keys_begun r) p.a; follows = λ n f. f })
 
   data_goes : (k : Codec C) (s : Side) (r : Reply) (ds : List Duty) (p : PathState C) (o : Option Record)
-      → let m = with_agenda (duties.Data s ∷ ds) p in let q = answered_data k s o r m in Goes (duties.Data s) ds m q q.agenda
-  data_goes k s r ds p (Some u) = record { recalls = side_recalls s _ (with_agenda (duties.Data s ∷ ds) p) _ (recalls_all _ _ refl) refl; follows = λ n f. f }
+      → let m = with_agenda (duties.Step (step_duties.Data s) ∷ ds) p in let q = answered_data k s o r m in Goes (duties.Step (step_duties.Data s)) ds m q q.agenda
+  data_goes k s r ds p (Some u) = record { recalls = side_recalls s _ (with_agenda (duties.Step (step_duties.Data s) ∷ ds) p) _ (recalls_all _ _ refl) refl; follows = λ n f. f }
   data_goes k s r ds p None = by (grant_in r)
     where
-      by : (o : Option Grant) → let m = with_agenda (duties.Data s ∷ ds) p in let q = answered_grant s o r m in Goes (duties.Data s) ds m q q.agenda
-      by (Some grant) = record { recalls = side_recalls s _ (with_agenda (duties.Data s ∷ ds) p) _ (recalls_all _ _ refl) refl; follows = λ n f. f }
-      by None = record { recalls = side_recalls s _ (with_agenda (duties.Data s ∷ ds) p) _ (recalls_all _ _ refl) refl; follows = λ n f. f }
+      by : (o : Option Grant) → let m = with_agenda (duties.Step (step_duties.Data s) ∷ ds) p in let q = answered_grant s o r m in Goes (duties.Step (step_duties.Data s)) ds m q q.agenda
+      by (Some grant) = record { recalls = side_recalls s _ (with_agenda (duties.Step (step_duties.Data s) ∷ ds) p) _ (recalls_all _ _ refl) refl; follows = λ n f. f }
+      by None = record { recalls = side_recalls s _ (with_agenda (duties.Step (step_duties.Data s) ∷ ds) p) _ (recalls_all _ _ refl) refl; follows = λ n f. f }
 
   join_goes : (s : Side) (keys : Option KeyPair) (asked : Option JoinSyn) (r : Reply) (ds : List Duty) (p : PathState C)
-      → let m = with_agenda (duties.JoinHeard s ∷ ds) p in let q = join_taken s keys asked r m in Goes (duties.JoinHeard s) ds m q q.agenda
-  join_goes s (Some keys) (Some asked) r ds p = record { recalls = side_recalls s _ (with_agenda (duties.JoinHeard s ∷ ds) p) _ (recalls_all _ _ refl) refl; follows = λ n f. f }
+      → let m = with_agenda (duties.Ask (ask_duties.JoinHeard s) ∷ ds) p in let q = join_taken s keys asked r m in Goes (duties.Ask (ask_duties.JoinHeard s)) ds m q q.agenda
+  join_goes s (Some keys) (Some asked) r ds p = record { recalls = side_recalls s _ (with_agenda (duties.Ask (ask_duties.JoinHeard s) ∷ ds) p) _ (recalls_all _ _ refl) refl; follows = λ n f. f }
   join_goes s (Some keys) None r ds p = record { recalls = recalls_all _ _ refl; follows = λ n f. f }
   join_goes s None None r ds p = record { recalls = recalls_all _ _ refl; follows = λ n f. f }
-  join_goes s None (Some asked) r ds p = record { recalls = side_recalls s _ (with_agenda (duties.JoinHeard s ∷ ds) p) _ (recalls_all _ _ refl) refl; follows = λ n f. f }
+  join_goes s None (Some asked) r ds p = record { recalls = side_recalls s _ (with_agenda (duties.Ask (ask_duties.JoinHeard s) ∷ ds) p) _ (recalls_all _ _ refl) refl; follows = λ n f. f }
 
   -- a break is to be made, whatever was first
   break_goes : (k : Codec C) (d : Duty) (s : Side) (reason : ℕ) (r : Reply) (ds : List Duty) (m : PathState C)
@@ -523,15 +527,15 @@ module _ {C : Type 0} where
       (record { recalls = side_recalls s _ m _ (recalls_all _ _ refl) refl; follows = λ n f. tt }) (record { recalls = side_recalls s _ m _ (forgets _ _ refl) refl; follows = λ n f. tt })
 
   piece_goes : (s : Side) (ds : List Duty) (p : PathState C) (o : Option Piece) (taken : Bool)
-      → let m = with_agenda (duties.Edge s ∷ ds) p in let q = answered_piece s o taken m in Goes (duties.Edge s) ds m q q.agenda
-  piece_goes s ds p (Some piece) true = record { recalls = side_recalls s _ (with_agenda (duties.Edge s ∷ ds) p) _ (recalls_all _ _ refl) refl; follows = λ n f. f }
-  piece_goes s ds p (Some piece) false = record { recalls = side_recalls s _ (with_agenda (duties.Edge s ∷ ds) p) _ (recalls_all _ _ refl) refl; follows = λ n f. tt }
-  piece_goes s ds p None taken = record { recalls = side_recalls s _ (with_agenda (duties.Edge s ∷ ds) p) _ (recalls_all _ _ refl) refl; follows = λ n f. tt }
+      → let m = with_agenda (duties.Ask (ask_duties.Edge s) ∷ ds) p in let q = answered_piece s o taken m in Goes (duties.Ask (ask_duties.Edge s)) ds m q q.agenda
+  piece_goes s ds p (Some piece) true = record { recalls = side_recalls s _ (with_agenda (duties.Ask (ask_duties.Edge s) ∷ ds) p) _ (recalls_all _ _ refl) refl; follows = λ n f. f }
+  piece_goes s ds p (Some piece) false = record { recalls = side_recalls s _ (with_agenda (duties.Ask (ask_duties.Edge s) ∷ ds) p) _ (recalls_all _ _ refl) refl; follows = λ n f. tt }
+  piece_goes s ds p None taken = record { recalls = side_recalls s _ (with_agenda (duties.Ask (ask_duties.Edge s) ∷ ds) p) _ (recalls_all _ _ refl) refl; follows = λ n f. tt }
 
   fin_goes : (s : Side) (index : ℕ) (ds : List Duty) (p : PathState C) (set : Bool)
-      → let m = with_agenda (duties.HeardFin s index ∷ ds) p in let q = answered_fin_heard s set m in Goes (duties.HeardFin s index) ds m q q.agenda
-  fin_goes s index ds p true = record { recalls = side_recalls s _ (with_agenda (duties.HeardFin s index ∷ ds) p) _ (recalls_all _ _ refl) refl; follows = λ n f. f }
-  fin_goes s index ds p false = record { recalls = side_recalls s _ (with_agenda (duties.HeardFin s index ∷ ds) p) _ (recalls_all _ _ refl) refl; follows = λ n f. tt }
+      → let m = with_agenda (duties.Ask (ask_duties.HeardFin s index) ∷ ds) p in let q = answered_fin_heard s set m in Goes (duties.Ask (ask_duties.HeardFin s index)) ds m q q.agenda
+  fin_goes s index ds p true = record { recalls = side_recalls s _ (with_agenda (duties.Ask (ask_duties.HeardFin s index) ∷ ds) p) _ (recalls_all _ _ refl) refl; follows = λ n f. f }
+  fin_goes s index ds p false = record { recalls = side_recalls s _ (with_agenda (duties.Ask (ask_duties.HeardFin s index) ∷ ds) p) _ (recalls_all _ _ refl) refl; follows = λ n f. tt }
 
   -- what follows where something is told of the mode
   fell_follows : (s : Side) (d : Duty) (ds : List Duty) (r : Reply) (p : PathState C) (n : ℕ) → Follows n ds → Follows n (fell_duties s r (with_agenda (d ∷ ds) p))
@@ -544,45 +548,45 @@ module _ {C : Type 0} where
       record { recalls = side_recalls s _ (with_agenda (d ∷ ds) p) _ (recalls_all _ _ refl) refl; follows = λ n f. fell_follows s d ds r p n (rest n f) }
 
   key_goes : (s : Side) (key : Option ℕ) (ds : List Duty) (r : Reply) (p : PathState C)
-      → let m = with_agenda (duties.PeerKey s ∷ ds) p in let q = answered_peer_key s key r m in Goes (duties.PeerKey s) ds m q q.agenda
-  key_goes s None ds r p = event_goes s (duties.PeerKey s) events.PlainHandshake ds r p (λ n f. f)
-  key_goes s (Some key) ds r p = record { recalls = side_recalls s _ (with_agenda (duties.PeerKey s ∷ ds) p) _ (recalls_all _ _ refl) refl; follows = λ n f. f }
+      → let m = with_agenda (duties.Ask (ask_duties.PeerKey s) ∷ ds) p in let q = answered_peer_key s key r m in Goes (duties.Ask (ask_duties.PeerKey s)) ds m q q.agenda
+  key_goes s None ds r p = event_goes s (duties.Ask (ask_duties.PeerKey s)) events.PlainHandshake ds r p (λ n f. f)
+  key_goes s (Some key) ds r p = record { recalls = side_recalls s _ (with_agenda (duties.Ask (ask_duties.PeerKey s) ∷ ds) p) _ (recalls_all _ _ refl) refl; follows = λ n f. f }
 
   opened_goes : (s : Side) (keys : Option KeyPair) (ds : List Duty) (r : Reply) (p : PathState C)
-      → let m = with_agenda (duties.Opened s ∷ ds) p in let q = answered_opened s keys r m in Goes (duties.Opened s) ds m q q.agenda
-  opened_goes s None ds r p = event_goes s (duties.Opened s) events.PlainHandshake ds r p (λ n f. f)
-  opened_goes s (Some keys) ds r p = record { recalls = side_recalls s _ (with_agenda (duties.Opened s ∷ ds) p) _ (recalls_all _ _ refl) refl; follows = λ n f. f }
+      → let m = with_agenda (duties.Ask (ask_duties.Opened s) ∷ ds) p in let q = answered_opened s keys r m in Goes (duties.Ask (ask_duties.Opened s)) ds m q q.agenda
+  opened_goes s None ds r p = event_goes s (duties.Ask (ask_duties.Opened s)) events.PlainHandshake ds r p (λ n f. f)
+  opened_goes s (Some keys) ds r p = record { recalls = side_recalls s _ (with_agenda (duties.Ask (ask_duties.Opened s) ∷ ds) p) _ (recalls_all _ _ refl) refl; follows = λ n f. f }
 
   plain_ack_goes : (k : Codec C) (s : Side) (ds : List Duty) (r : Reply) (p : PathState C)
-      → let m = with_agenda (duties.PlainAck s ∷ ds) p in let q = answered_plain_ack k s r m in Goes (duties.PlainAck s) ds m q q.agenda
+      → let m = with_agenda (duties.Step (step_duties.PlainAck s) ∷ ds) p in let q = answered_plain_ack k s r m in Goes (duties.Step (step_duties.PlainAck s)) ds m q q.agenda
   plain_ack_goes k s ds r p =
-      let m = with_agenda (duties.PlainAck s ∷ ds) p in
-      either_goes (breaks_by_ack m.profile (end_at s m)) (duties.PlainAck s) ds m (answered_break k s 6 r m)
+      let m = with_agenda (duties.Step (step_duties.PlainAck s) ∷ ds) p in
+      either_goes (breaks_by_ack m.profile (end_at s m)) (duties.Step (step_duties.PlainAck s)) ds m (answered_break k s 6 r m)
       (goes_on s (with_plain_ack (after_fell events.PlainAck r (end_at s m))) (fell_duties s r m) m)
-      (break_goes k (duties.PlainAck s) s 6 r ds m)
-      (record { recalls = side_recalls s _ m _ (recalls_all _ _ refl) refl; follows = λ n f. fell_follows s (duties.PlainAck s) ds r p n f })
+      (break_goes k (duties.Step (step_duties.PlainAck s)) s 6 r ds m)
+      (record { recalls = side_recalls s _ m _ (recalls_all _ _ refl) refl; follows = λ n f. fell_follows s (duties.Step (step_duties.PlainAck s)) ds r p n f })
 
   plain_fin_goes : (s : Side) (ds : List Duty) (p : PathState C) (set : Bool)
-      → let m = with_agenda (duties.SubflowFin s ∷ ds) p in let q = answered_plain_fin s set m in Goes (duties.SubflowFin s) ds m q q.agenda
-  plain_fin_goes s ds p true = record { recalls = side_recalls s _ (with_agenda (duties.SubflowFin s ∷ ds) p) _ (recalls_all _ _ refl) refl; follows = λ n f. f }
-  plain_fin_goes s ds p false = record { recalls = side_recalls s _ (with_agenda (duties.SubflowFin s ∷ ds) p) _ (recalls_all _ _ refl) refl; follows = λ n f. tt }
+      → let m = with_agenda (duties.Ask (ask_duties.SubflowFin s) ∷ ds) p in let q = answered_plain_fin s set m in Goes (duties.Ask (ask_duties.SubflowFin s)) ds m q q.agenda
+  plain_fin_goes s ds p true = record { recalls = side_recalls s _ (with_agenda (duties.Ask (ask_duties.SubflowFin s) ∷ ds) p) _ (recalls_all _ _ refl) refl; follows = λ n f. f }
+  plain_fin_goes s ds p false = record { recalls = side_recalls s _ (with_agenda (duties.Ask (ask_duties.SubflowFin s) ∷ ds) p) _ (recalls_all _ _ refl) refl; follows = λ n f. tt }
 
   -- a thing that was said to B
-  told_follows : (n : ℕ) (b : Bool) (index : ℕ) (ds : List Duty) (p : PathState C) → Follows n ds → Follows n (told_next B b (with_agenda (duties.Heard B index ∷ ds) p))
+  told_follows : (n : ℕ) (b : Bool) (index : ℕ) (ds : List Duty) (p : PathState C) → Follows n ds → Follows n (told_next B b (with_agenda (duties.Step (step_duties.Heard B index) ∷ ds) p))
   told_follows n true index ds p f = f
   told_follows n false index ds p f = f
 
   heard_goes : (k : Codec C) (index : ℕ) (ds : List Duty) (r : Reply) (p : PathState C) (o : Option Heard)
-      → let m = with_agenda (duties.Heard B index ∷ ds) p in let q = answered_item k B o r m in Goes (duties.Heard B index) ds m q q.agenda
+      → let m = with_agenda (duties.Step (step_duties.Heard B index) ∷ ds) p in let q = answered_item k B o r m in Goes (duties.Step (step_duties.Heard B index)) ds m q q.agenda
   heard_goes k index ds r p None = record { recalls = recalls_all _ _ refl; follows = λ n f. f }
   heard_goes k index ds r p (Some says.Dss) = record { recalls = recalls_all _ _ refl; follows = λ n f. f }
   heard_goes k index ds r p (Some (says.DataAck next window)) = record { recalls = recalls_all _ _ refl; follows = λ n f. told_follows n _ index ds p f }
   heard_goes k index ds r p (Some (says.Mapping fin)) =
-      let m = with_agenda (duties.Heard B index ∷ ds) p in
-      either_goes (is_clash p.b) (duties.Heard B index) ds m (answered_break k B 1 r m) (goes_on B (with_learned (after_fell events.MappingHeard r p.b)) (fell_duties B r m) m)
-      (break_goes k (duties.Heard B index) B 1 r ds m) (record { recalls = recalls_all _ _ refl; follows = λ n f. fell_follows B (duties.Heard B index) ds r p n f })
-  heard_goes k index ds r p (Some (says.DataFin place)) = record { recalls = recalls_all _ _ refl; follows = λ n f. fell_follows B (duties.Heard B index) ds r p n f }
-  heard_goes k index ds r p (Some (says.InfiniteMapping place position)) = record { recalls = recalls_all _ _ refl; follows = λ n f. fell_follows B (duties.Heard B index) ds r p n f }
+      let m = with_agenda (duties.Step (step_duties.Heard B index) ∷ ds) p in
+      either_goes (is_clash p.b) (duties.Step (step_duties.Heard B index)) ds m (answered_break k B 1 r m) (goes_on B (with_learned (after_fell events.MappingHeard r p.b)) (fell_duties B r m) m)
+      (break_goes k (duties.Step (step_duties.Heard B index)) B 1 r ds m) (record { recalls = recalls_all _ _ refl; follows = λ n f. fell_follows B (duties.Step (step_duties.Heard B index)) ds r p n f })
+  heard_goes k index ds r p (Some (says.DataFin place)) = record { recalls = recalls_all _ _ refl; follows = λ n f. fell_follows B (duties.Step (step_duties.Heard B index)) ds r p n f }
+  heard_goes k index ds r p (Some (says.InfiniteMapping place position)) = record { recalls = recalls_all _ _ refl; follows = λ n f. fell_follows B (duties.Step (step_duties.Heard B index)) ds r p n f }
   heard_goes k index ds r p (Some (says.PeerKey key)) = record { recalls = recalls_all _ _ refl; follows = λ n f. f }
   heard_goes k index ds r p (Some (says.Keys own peer)) = record { recalls = recalls_all _ _ refl; follows = λ n f. f }
   heard_goes k index ds r p (Some (says.Join form)) = record { recalls = recalls_all _ _ refl; follows = λ n f. f }
@@ -592,63 +596,63 @@ module _ {C : Type 0} where
 
   answered_goes : (k : Codec C) (d : Duty) → IsOther d → (ds : List Duty) (r : Reply) (p : PathState C)
       → let m = with_agenda (d ∷ ds) p in let q = answered k d r m in Goes d ds m q q.agenda
-  answered_goes k (duties.Look s) other ds r p = record { recalls = side_recalls s _ (with_agenda (duties.Look s ∷ ds) p) _ (recalls_all _ _ refl) refl; follows = λ n f. f }
-  answered_goes k (duties.Window s) other ds r p = record { recalls = side_recalls s _ (with_agenda (duties.Window s ∷ ds) p) _ (recalls_all _ _ refl) refl; follows = λ n f. f }
-  answered_goes k (duties.Update s) other ds r p = record { recalls = side_recalls s _ (with_agenda (duties.Update s ∷ ds) p) _ (recalls_all _ _ refl) refl; follows = λ n f. f }
-  answered_goes k (duties.Syn s) other ds r p = record { recalls = side_recalls s _ (with_agenda (duties.Syn s ∷ ds) p) _ (recalls_all _ _ refl) refl; follows = λ n f. f }
-  answered_goes k (duties.DataFin s) other ds r p = record { recalls = side_recalls s _ (with_agenda (duties.DataFin s ∷ ds) p) _ (recalls_all _ _ refl) refl; follows = λ n f. f }
-  answered_goes k (duties.Fin s) other ds r p = record { recalls = side_recalls s _ (with_agenda (duties.Fin s ∷ ds) p) _ (recalls_all _ _ refl) refl; follows = λ n f. f }
-  answered_goes k (duties.PeerKey s) other ds r p = key_goes s (key_heard (end_at s p).treated.items) ds r p
-  answered_goes k (duties.SynAck s) other ds r p = record { recalls = side_recalls s _ (with_agenda (duties.SynAck s ∷ ds) p) _ (recalls_all _ _ refl) refl; follows = λ n f. f }
-  answered_goes k (duties.Refuse s) other ds r p = record { recalls = side_recalls s _ (with_agenda (duties.Refuse s ∷ ds) p) _ (recalls_all _ _ refl) refl; follows = λ n f. f }
-  answered_goes k (duties.Opened s) other ds r p = opened_goes s (keys_heard (end_at s p).treated.items) ds r p
-  answered_goes k (duties.AckOut s) other ds r p = record { recalls = side_recalls s _ (with_agenda (duties.AckOut s ∷ ds) p) _ (recalls_all _ _ refl) refl; follows = λ n f. f }
-  answered_goes k (duties.Rate s) other ds r p = record { recalls = side_recalls s _ (with_agenda (duties.Rate s ∷ ds) p) _ (recalls_all _ _ refl) refl; follows = λ n f. f }
-  answered_goes k (duties.Acknowledge s) other ds r p = record { recalls = side_recalls s _ (with_agenda (duties.Acknowledge s ∷ ds) p) _ (recalls_all _ _ refl) refl; follows = λ n f. f }
-  answered_goes k (duties.Again s) other ds r p = record { recalls = side_recalls s _ (with_agenda (duties.Again s ∷ ds) p) _ (recalls_all _ _ refl) refl; follows = λ n f. f }
-  answered_goes k (duties.Answer s) other ds r p = record { recalls = side_recalls s _ (with_agenda (duties.Answer s ∷ ds) p) _ (recalls_all _ _ refl) refl; follows = λ n f. f }
-  answered_goes k (duties.ResetAnswer s) other ds r p = record { recalls = side_recalls s _ (with_agenda (duties.ResetAnswer s ∷ ds) p) _ (recalls_all _ _ refl) refl; follows = λ n f. f }
-  answered_goes k (duties.Resend s) other ds r p = record { recalls = side_recalls s _ (with_agenda (duties.Resend s ∷ ds) p) _ (recalls_all _ _ refl) refl; follows = λ n f. f }
-  answered_goes k (duties.Timer s) other ds r p = record { recalls = recalls_all _ _ refl; follows = λ n f. f }
-  answered_goes k (duties.SynHeard s) other ds r p = record { recalls = recalls_all _ _ refl; follows = λ n f. f }
-  answered_goes k (duties.SynAnswered s) other ds r p = record { recalls = recalls_all _ _ refl; follows = λ n f. f }
-  answered_goes k (duties.Live s) other ds r p = record { recalls = recalls_all _ _ refl; follows = λ n f. f }
-  answered_goes k (duties.Keep s) other ds r p = record { recalls = recalls_all _ _ refl; follows = λ n f. f }
-  answered_goes k (duties.PassFin s) other ds r p = record { recalls = recalls_all _ _ refl; follows = λ n f. f }
-  answered_goes k (duties.Return s) other ds r p = record { recalls = recalls_all _ _ refl; follows = λ n f. f }
-  answered_goes k (duties.Leave s) other ds r p = record { recalls = recalls_all _ _ refl; follows = λ n f. f }
-  answered_goes k (duties.Dead s) other ds r p = record { recalls = recalls_all _ _ refl; follows = λ n f. f }
+  answered_goes k (duties.Step (step_duties.Look s)) other ds r p = record { recalls = side_recalls s _ (with_agenda (duties.Step (step_duties.Look s) ∷ ds) p) _ (recalls_all _ _ refl) refl; follows = λ n f. f }
+  answered_goes k (duties.Ask (ask_duties.Window s)) other ds r p = record { recalls = side_recalls s _ (with_agenda (duties.Ask (ask_duties.Window s) ∷ ds) p) _ (recalls_all _ _ refl) refl; follows = λ n f. f }
+  answered_goes k (duties.Send (send_duties.Update s)) other ds r p = record { recalls = side_recalls s _ (with_agenda (duties.Send (send_duties.Update s) ∷ ds) p) _ (recalls_all _ _ refl) refl; follows = λ n f. f }
+  answered_goes k (duties.Send (send_duties.Syn s)) other ds r p = record { recalls = side_recalls s _ (with_agenda (duties.Send (send_duties.Syn s) ∷ ds) p) _ (recalls_all _ _ refl) refl; follows = λ n f. f }
+  answered_goes k (duties.Send (send_duties.DataFin s)) other ds r p = record { recalls = side_recalls s _ (with_agenda (duties.Send (send_duties.DataFin s) ∷ ds) p) _ (recalls_all _ _ refl) refl; follows = λ n f. f }
+  answered_goes k (duties.Send (send_duties.Fin s)) other ds r p = record { recalls = side_recalls s _ (with_agenda (duties.Send (send_duties.Fin s) ∷ ds) p) _ (recalls_all _ _ refl) refl; follows = λ n f. f }
+  answered_goes k (duties.Ask (ask_duties.PeerKey s)) other ds r p = key_goes s (key_heard (end_at s p).treated.items) ds r p
+  answered_goes k (duties.Send (send_duties.SynAck s)) other ds r p = record { recalls = side_recalls s _ (with_agenda (duties.Send (send_duties.SynAck s) ∷ ds) p) _ (recalls_all _ _ refl) refl; follows = λ n f. f }
+  answered_goes k (duties.Send (send_duties.Refuse s)) other ds r p = record { recalls = side_recalls s _ (with_agenda (duties.Send (send_duties.Refuse s) ∷ ds) p) _ (recalls_all _ _ refl) refl; follows = λ n f. f }
+  answered_goes k (duties.Ask (ask_duties.Opened s)) other ds r p = opened_goes s (keys_heard (end_at s p).treated.items) ds r p
+  answered_goes k (duties.Ask (ask_duties.AckOut s)) other ds r p = record { recalls = side_recalls s _ (with_agenda (duties.Ask (ask_duties.AckOut s) ∷ ds) p) _ (recalls_all _ _ refl) refl; follows = λ n f. f }
+  answered_goes k (duties.Ask (ask_duties.Rate s)) other ds r p = record { recalls = side_recalls s _ (with_agenda (duties.Ask (ask_duties.Rate s) ∷ ds) p) _ (recalls_all _ _ refl) refl; follows = λ n f. f }
+  answered_goes k (duties.Send (send_duties.Acknowledge s)) other ds r p = record { recalls = side_recalls s _ (with_agenda (duties.Send (send_duties.Acknowledge s) ∷ ds) p) _ (recalls_all _ _ refl) refl; follows = λ n f. f }
+  answered_goes k (duties.Send (send_duties.Again s)) other ds r p = record { recalls = side_recalls s _ (with_agenda (duties.Send (send_duties.Again s) ∷ ds) p) _ (recalls_all _ _ refl) refl; follows = λ n f. f }
+  answered_goes k (duties.Send (send_duties.Answer s)) other ds r p = record { recalls = side_recalls s _ (with_agenda (duties.Send (send_duties.Answer s) ∷ ds) p) _ (recalls_all _ _ refl) refl; follows = λ n f. f }
+  answered_goes k (duties.Send (send_duties.ResetAnswer s)) other ds r p = record { recalls = side_recalls s _ (with_agenda (duties.Send (send_duties.ResetAnswer s) ∷ ds) p) _ (recalls_all _ _ refl) refl; follows = λ n f. f }
+  answered_goes k (duties.Send (send_duties.Resend s)) other ds r p = record { recalls = side_recalls s _ (with_agenda (duties.Send (send_duties.Resend s) ∷ ds) p) _ (recalls_all _ _ refl) refl; follows = λ n f. f }
+  answered_goes k (duties.Silent (silent_duties.Timer s)) other ds r p = record { recalls = recalls_all _ _ refl; follows = λ n f. f }
+  answered_goes k (duties.Ask (ask_duties.SynHeard s)) other ds r p = record { recalls = recalls_all _ _ refl; follows = λ n f. f }
+  answered_goes k (duties.Ask (ask_duties.SynAnswered s)) other ds r p = record { recalls = recalls_all _ _ refl; follows = λ n f. f }
+  answered_goes k (duties.Ask (ask_duties.Live s)) other ds r p = record { recalls = recalls_all _ _ refl; follows = λ n f. f }
+  answered_goes k (duties.Silent (silent_duties.Keep s)) other ds r p = record { recalls = recalls_all _ _ refl; follows = λ n f. f }
+  answered_goes k (duties.Silent (silent_duties.PassFin s)) other ds r p = record { recalls = recalls_all _ _ refl; follows = λ n f. f }
+  answered_goes k (duties.Ask (ask_duties.Return s)) other ds r p = record { recalls = recalls_all _ _ refl; follows = λ n f. f }
+  answered_goes k (duties.Ask (ask_duties.Leave s)) other ds r p = record { recalls = recalls_all _ _ refl; follows = λ n f. f }
+  answered_goes k (duties.Ask (ask_duties.Dead s)) other ds r p = record { recalls = recalls_all _ _ refl; follows = λ n f. f }
   answered_goes k duties.End other ds r p = record { recalls = recalls_all _ _ refl; follows = λ n f. tt }
-  answered_goes k (duties.BreakAck s reason) other ds r p = record { recalls = side_recalls s _ (with_agenda (duties.BreakAck s reason ∷ ds) p) _ (recalls_all _ _ refl) refl; follows = λ n f. tt }
-  answered_goes k (duties.BreakReset s reason) other ds r p = record { recalls = side_recalls s _ (with_agenda (duties.BreakReset s reason ∷ ds) p) _ (forgets _ _ refl) refl; follows = λ n f. tt }
-  answered_goes k (duties.Reset s) other ds r p = record { recalls = side_recalls s _ (with_agenda (duties.Reset s ∷ ds) p) _ (forgets _ _ refl) refl; follows = λ n f. f }
-  answered_goes k duties.Events other ds r p = absurd other
-  answered_goes k duties.JoinAgain other ds r p = begun_goes r ds p
-  answered_goes k (duties.Data s) other ds r p = data_goes k s r ds p (first_unsent (end_at s p))
-  answered_goes k (duties.JoinHeard s) other ds r p = join_goes s (keys_begun r) (asked_at s p) r ds p
-  answered_goes k (duties.PlainAck s) other ds r p = plain_ack_goes k s ds r p
-  answered_goes k (duties.PlainHandshake s) other ds r p = event_goes s (duties.PlainHandshake s) events.PlainHandshake ds r p (λ n f. f)
-  answered_goes k (duties.PlainData s) other ds r p = event_goes s (duties.PlainData s) events.PlainData ds r p (λ n f. f)
-  answered_goes k (duties.SubflowAck s) other ds r p = record { recalls = side_recalls s _ (with_agenda (duties.SubflowAck s ∷ ds) p) _ (recalls_all _ _ refl) refl; follows = λ n f. f }
-  answered_goes k (duties.GoIdentity s) other ds r p = record { recalls = side_recalls s _ (with_agenda (duties.GoIdentity s ∷ ds) p) _ (recalls_all _ _ refl) refl; follows = λ n f. f }
-  answered_goes k (duties.Unmapped s) other ds r p = break_goes k (duties.Unmapped s) s 6 r ds (with_agenda (duties.Unmapped s ∷ ds) p)
-  answered_goes k (duties.SubflowFin s) other ds r p = plain_fin_goes s ds p (is_fin_set r)
-  answered_goes k (duties.Edge s) other ds r p = piece_goes s ds p (piece_of s p) (is_placed r)
-  answered_goes k (duties.HeardFin s index) other ds r p = fin_goes s index ds p (is_fin_set r)
-  answered_goes k (duties.AckHeard A) other ds r p = event_goes A (duties.AckHeard A) events.AckHeard ds r p (λ n f. absurd f)
-  answered_goes k (duties.AckHeard B) other ds r p = event_goes B (duties.AckHeard B) events.AckHeard ds r p (λ n f. f)
-  answered_goes k (duties.Heard A index) other ds r p = absurd other
-  answered_goes k (duties.Heard B index) other ds r p = heard_goes k index ds r p (item_of index p.b)
+  answered_goes k (duties.Ask (ask_duties.BreakAck s reason)) other ds r p = record { recalls = side_recalls s _ (with_agenda (duties.Ask (ask_duties.BreakAck s reason) ∷ ds) p) _ (recalls_all _ _ refl) refl; follows = λ n f. tt }
+  answered_goes k (duties.Send (send_duties.BreakReset s reason)) other ds r p = record { recalls = side_recalls s _ (with_agenda (duties.Send (send_duties.BreakReset s reason) ∷ ds) p) _ (forgets _ _ refl) refl; follows = λ n f. tt }
+  answered_goes k (duties.Send (send_duties.Reset s)) other ds r p = record { recalls = side_recalls s _ (with_agenda (duties.Send (send_duties.Reset s) ∷ ds) p) _ (forgets _ _ refl) refl; follows = λ n f. f }
+  answered_goes k (duties.Step step_duties.Events) other ds r p = absurd other
+  answered_goes k (duties.Ask ask_duties.JoinAgain) other ds r p = begun_goes r ds p
+  answered_goes k (duties.Step (step_duties.Data s)) other ds r p = data_goes k s r ds p (first_unsent (end_at s p))
+  answered_goes k (duties.Ask (ask_duties.JoinHeard s)) other ds r p = join_goes s (keys_begun r) (asked_at s p) r ds p
+  answered_goes k (duties.Step (step_duties.PlainAck s)) other ds r p = plain_ack_goes k s ds r p
+  answered_goes k (duties.Ask (ask_duties.PlainHandshake s)) other ds r p = event_goes s (duties.Ask (ask_duties.PlainHandshake s)) events.PlainHandshake ds r p (λ n f. f)
+  answered_goes k (duties.Ask (ask_duties.PlainData s)) other ds r p = event_goes s (duties.Ask (ask_duties.PlainData s)) events.PlainData ds r p (λ n f. f)
+  answered_goes k (duties.Ask (ask_duties.SubflowAck s)) other ds r p = record { recalls = side_recalls s _ (with_agenda (duties.Ask (ask_duties.SubflowAck s) ∷ ds) p) _ (recalls_all _ _ refl) refl; follows = λ n f. f }
+  answered_goes k (duties.Ask (ask_duties.GoIdentity s)) other ds r p = record { recalls = side_recalls s _ (with_agenda (duties.Ask (ask_duties.GoIdentity s) ∷ ds) p) _ (recalls_all _ _ refl) refl; follows = λ n f. f }
+  answered_goes k (duties.Step (step_duties.Unmapped s)) other ds r p = break_goes k (duties.Step (step_duties.Unmapped s)) s 6 r ds (with_agenda (duties.Step (step_duties.Unmapped s) ∷ ds) p)
+  answered_goes k (duties.Ask (ask_duties.SubflowFin s)) other ds r p = plain_fin_goes s ds p (is_fin_set r)
+  answered_goes k (duties.Ask (ask_duties.Edge s)) other ds r p = piece_goes s ds p (piece_of s p) (is_placed r)
+  answered_goes k (duties.Ask (ask_duties.HeardFin s index)) other ds r p = fin_goes s index ds p (is_fin_set r)
+  answered_goes k (duties.Ask (ask_duties.AckHeard A)) other ds r p = event_goes A (duties.Ask (ask_duties.AckHeard A)) events.AckHeard ds r p (λ n f. absurd f)
+  answered_goes k (duties.Ask (ask_duties.AckHeard B)) other ds r p = event_goes B (duties.Ask (ask_duties.AckHeard B)) events.AckHeard ds r p (λ n f. f)
+  answered_goes k (duties.Step (step_duties.Heard A index)) other ds r p = absurd other
+  answered_goes k (duties.Step (step_duties.Heard B index)) other ds r p = heard_goes k index ds r p (item_of index p.b)
 
   -- a thing that was said to A
   heard_recalls : (k : Codec C) (index : ℕ) (ds : List Duty) (r : Reply) (p : PathState C) (o : Option Heard)
-      → let m = with_agenda (duties.Heard A index ∷ ds) p in let q = answered_item k A o r m in Recalls p.a q.a
+      → let m = with_agenda (duties.Step (step_duties.Heard A index) ∷ ds) p in let q = answered_item k A o r m in Recalls p.a q.a
   heard_recalls k index ds r p None = recalls_all _ _ refl
   heard_recalls k index ds r p (Some says.Dss) = recalls_all _ _ refl
   heard_recalls k index ds r p (Some (says.DataAck next window)) = recalls_all _ _ refl
   heard_recalls k index ds r p (Some (says.Mapping fin)) = by (is_clash p.a) p.a.treated.asked
     where
-      by : (clash asked : Bool) → let m = with_agenda (duties.Heard A index ∷ ds) p in
+      by : (clash asked : Bool) → let m = with_agenda (duties.Step (step_duties.Heard A index) ∷ ds) p in
           Recalls p.a (if clash then (if asked then answered_ack_out A r (resets A 1) m else reset_on k A (Some 1) (leaves A) m) else goes_on A (with_learned (after_fell events.MappingHeard r p.a)) (fell_duties A r m) m).a
       by true true = recalls_all _ _ refl
       by true false = forgets _ _ refl
@@ -664,7 +668,7 @@ module _ {C : Type 0} where
 
   -- while A's end isn't clear it is none that a DSS says
   heard_unclear : (k : Codec C) (index : ℕ) (ds : List Duty) (r : Reply) (p : PathState C) → p.a.modes.identity ≡ false → (o : Option Heard) → item_at index p.a.treated.items ≡ o → item_stands o p.a ≡ true → Led false p.a.treated.items
-      → IsUnclear (duties.Heard A index ∷ ds) p → let m = with_agenda (duties.Heard A index ∷ ds) p in let q = answered_item k A o r m in (q.a.modes.clear ≡ true) ⊎ IsUnclear q.agenda q
+      → IsUnclear (duties.Step (step_duties.Heard A index) ∷ ds) p → let m = with_agenda (duties.Step (step_duties.Heard A index) ∷ ds) p in let q = answered_item k A o r m in (q.a.modes.clear ≡ true) ⊎ IsUnclear q.agenda q
   heard_unclear k index ds r p above None is stands_so led u =
       inr (record { n = suc u.n; none = inr (no_more u.n p.a.treated.items (unheard p u.n above u.none) (subst (λ n. item_at n p.a.treated.items ≡ None) u.follows.0 is)); follows = u.follows.1 })
   heard_unclear k index ds r p above (Some says.Dss) is stands_so led u = absurd (false≢true stands_so)
@@ -698,66 +702,66 @@ module _ {C : Type 0} where
 
   answered_leads : (k : Codec C) (d : Duty) (ds : List Duty) (r : Reply) (p : PathState C) → stands d (with_agenda (d ∷ ds) p) ≡ true → Leads (d ∷ ds) (with_agenda (d ∷ ds) p)
       → let q = answered k d r (with_agenda (d ∷ ds) p) in Leads q.agenda q
-  answered_leads k duties.Events ds r p is h = happens_anew k (next_event p) r (with_agenda (duties.Events ∷ ds) p) h.led
-  answered_leads k (duties.Heard A index) ds r p is h =
-      let m : PathState C = with_agenda (duties.Heard A index ∷ ds) p in
+  answered_leads k (duties.Step step_duties.Events) ds r p is h = happens_anew k (next_event p) r (with_agenda ((duties.Step step_duties.Events) ∷ ds) p) h.led
+  answered_leads k (duties.Step (step_duties.Heard A index)) ds r p is h =
+      let m : PathState C = with_agenda (duties.Step (step_duties.Heard A index) ∷ ds) p in
       record {
         led = recalled_led p.a (answered_item k A (item_of index p.a) r m).a (heard_recalls k index ds r p (item_of index p.a)) h.led;
         clear = ⊎_elim
-            (λ is_clear. inl ((answered_clear k (duties.Heard A index) r m).a.0 is_clear))
-            (λ (u : IsUnclear (duties.Heard A index ∷ ds) m). by p.a.modes.identity refl is (record { n = u.n; none = u.none; follows = u.follows }))
+            (λ is_clear. inl ((answered_clear k (duties.Step (step_duties.Heard A index)) r m).a.0 is_clear))
+            (λ (u : IsUnclear (duties.Step (step_duties.Heard A index) ∷ ds) m). by p.a.modes.identity refl is (record { n = u.n; none = u.none; follows = u.follows }))
             h.clear;
       }
     where
-      by : (b : Bool) → p.a.modes.identity ≡ b → item_stands (if b then None else item_at index p.a.treated.items) p.a ≡ true → IsUnclear (duties.Heard A index ∷ ds) p
-          → let m = with_agenda (duties.Heard A index ∷ ds) p in let q = answered_item k A (if b then None else item_at index p.a.treated.items) r m in (q.a.modes.clear ≡ true) ⊎ IsUnclear q.agenda q
+      by : (b : Bool) → p.a.modes.identity ≡ b → item_stands (if b then None else item_at index p.a.treated.items) p.a ≡ true → IsUnclear (duties.Step (step_duties.Heard A index) ∷ ds) p
+          → let m = with_agenda (duties.Step (step_duties.Heard A index) ∷ ds) p in let q = answered_item k A (if b then None else item_at index p.a.treated.items) r m in (q.a.modes.clear ≡ true) ⊎ IsUnclear q.agenda q
       by true plain stands_so u = absurd (false≢true stands_so)
       by false above stands_so u = heard_unclear k index ds r p above (item_at index p.a.treated.items) refl stands_so h.led u
-  answered_leads k duties.JoinAgain ds r p is h = other_leads k duties.JoinAgain tt ds r p h
-  answered_leads k (duties.Look s) ds r p is h = other_leads k (duties.Look s) tt ds r p h
-  answered_leads k (duties.Window s) ds r p is h = other_leads k (duties.Window s) tt ds r p h
-  answered_leads k (duties.Update s) ds r p is h = other_leads k (duties.Update s) tt ds r p h
-  answered_leads k (duties.Syn s) ds r p is h = other_leads k (duties.Syn s) tt ds r p h
-  answered_leads k (duties.Data s) ds r p is h = other_leads k (duties.Data s) tt ds r p h
-  answered_leads k (duties.DataFin s) ds r p is h = other_leads k (duties.DataFin s) tt ds r p h
-  answered_leads k (duties.Fin s) ds r p is h = other_leads k (duties.Fin s) tt ds r p h
-  answered_leads k (duties.Timer s) ds r p is h = other_leads k (duties.Timer s) tt ds r p h
-  answered_leads k (duties.SynHeard s) ds r p is h = other_leads k (duties.SynHeard s) tt ds r p h
-  answered_leads k (duties.SynAnswered s) ds r p is h = other_leads k (duties.SynAnswered s) tt ds r p h
-  answered_leads k (duties.PeerKey s) ds r p is h = other_leads k (duties.PeerKey s) tt ds r p h
-  answered_leads k (duties.SynAck s) ds r p is h = other_leads k (duties.SynAck s) tt ds r p h
-  answered_leads k (duties.JoinHeard s) ds r p is h = other_leads k (duties.JoinHeard s) tt ds r p h
-  answered_leads k (duties.Refuse s) ds r p is h = other_leads k (duties.Refuse s) tt ds r p h
-  answered_leads k (duties.Opened s) ds r p is h = other_leads k (duties.Opened s) tt ds r p h
-  answered_leads k (duties.Live s) ds r p is h = other_leads k (duties.Live s) tt ds r p h
-  answered_leads k (duties.AckHeard A) ds r p is h = other_leads k (duties.AckHeard A) tt ds r p h
-  answered_leads k (duties.AckHeard B) ds r p is h = other_leads k (duties.AckHeard B) tt ds r p h
-  answered_leads k (duties.PlainAck s) ds r p is h = other_leads k (duties.PlainAck s) tt ds r p h
-  answered_leads k (duties.PlainHandshake s) ds r p is h = other_leads k (duties.PlainHandshake s) tt ds r p h
-  answered_leads k (duties.SubflowAck s) ds r p is h = other_leads k (duties.SubflowAck s) tt ds r p h
-  answered_leads k (duties.PlainData s) ds r p is h = other_leads k (duties.PlainData s) tt ds r p h
-  answered_leads k (duties.GoIdentity s) ds r p is h = other_leads k (duties.GoIdentity s) tt ds r p h
-  answered_leads k (duties.Unmapped s) ds r p is h = other_leads k (duties.Unmapped s) tt ds r p h
-  answered_leads k (duties.SubflowFin s) ds r p is h = other_leads k (duties.SubflowFin s) tt ds r p h
-  answered_leads k (duties.Keep s) ds r p is h = other_leads k (duties.Keep s) tt ds r p h
-  answered_leads k (duties.Edge s) ds r p is h = other_leads k (duties.Edge s) tt ds r p h
-  answered_leads k (duties.HeardFin s index) ds r p is h = other_leads k (duties.HeardFin s index) tt ds r p h
-  answered_leads k (duties.PassFin s) ds r p is h = other_leads k (duties.PassFin s) tt ds r p h
-  answered_leads k (duties.AckOut s) ds r p is h = other_leads k (duties.AckOut s) tt ds r p h
-  answered_leads k (duties.Rate s) ds r p is h = other_leads k (duties.Rate s) tt ds r p h
-  answered_leads k (duties.Acknowledge s) ds r p is h = other_leads k (duties.Acknowledge s) tt ds r p h
-  answered_leads k (duties.Again s) ds r p is h = other_leads k (duties.Again s) tt ds r p h
-  answered_leads k (duties.Answer s) ds r p is h = other_leads k (duties.Answer s) tt ds r p h
-  answered_leads k (duties.ResetAnswer s) ds r p is h = other_leads k (duties.ResetAnswer s) tt ds r p h
-  answered_leads k (duties.Return s) ds r p is h = other_leads k (duties.Return s) tt ds r p h
-  answered_leads k (duties.Resend s) ds r p is h = other_leads k (duties.Resend s) tt ds r p h
-  answered_leads k (duties.BreakAck s reason) ds r p is h = other_leads k (duties.BreakAck s reason) tt ds r p h
-  answered_leads k (duties.BreakReset s reason) ds r p is h = other_leads k (duties.BreakReset s reason) tt ds r p h
-  answered_leads k (duties.Reset s) ds r p is h = other_leads k (duties.Reset s) tt ds r p h
-  answered_leads k (duties.Leave s) ds r p is h = other_leads k (duties.Leave s) tt ds r p h
-  answered_leads k (duties.Dead s) ds r p is h = other_leads k (duties.Dead s) tt ds r p h
+  answered_leads k (duties.Ask ask_duties.JoinAgain) ds r p is h = other_leads k (duties.Ask ask_duties.JoinAgain) tt ds r p h
+  answered_leads k (duties.Step (step_duties.Look s)) ds r p is h = other_leads k (duties.Step (step_duties.Look s)) tt ds r p h
+  answered_leads k (duties.Ask (ask_duties.Window s)) ds r p is h = other_leads k (duties.Ask (ask_duties.Window s)) tt ds r p h
+  answered_leads k (duties.Send (send_duties.Update s)) ds r p is h = other_leads k (duties.Send (send_duties.Update s)) tt ds r p h
+  answered_leads k (duties.Send (send_duties.Syn s)) ds r p is h = other_leads k (duties.Send (send_duties.Syn s)) tt ds r p h
+  answered_leads k (duties.Step (step_duties.Data s)) ds r p is h = other_leads k (duties.Step (step_duties.Data s)) tt ds r p h
+  answered_leads k (duties.Send (send_duties.DataFin s)) ds r p is h = other_leads k (duties.Send (send_duties.DataFin s)) tt ds r p h
+  answered_leads k (duties.Send (send_duties.Fin s)) ds r p is h = other_leads k (duties.Send (send_duties.Fin s)) tt ds r p h
+  answered_leads k (duties.Silent (silent_duties.Timer s)) ds r p is h = other_leads k (duties.Silent (silent_duties.Timer s)) tt ds r p h
+  answered_leads k (duties.Ask (ask_duties.SynHeard s)) ds r p is h = other_leads k (duties.Ask (ask_duties.SynHeard s)) tt ds r p h
+  answered_leads k (duties.Ask (ask_duties.SynAnswered s)) ds r p is h = other_leads k (duties.Ask (ask_duties.SynAnswered s)) tt ds r p h
+  answered_leads k (duties.Ask (ask_duties.PeerKey s)) ds r p is h = other_leads k (duties.Ask (ask_duties.PeerKey s)) tt ds r p h
+  answered_leads k (duties.Send (send_duties.SynAck s)) ds r p is h = other_leads k (duties.Send (send_duties.SynAck s)) tt ds r p h
+  answered_leads k (duties.Ask (ask_duties.JoinHeard s)) ds r p is h = other_leads k (duties.Ask (ask_duties.JoinHeard s)) tt ds r p h
+  answered_leads k (duties.Send (send_duties.Refuse s)) ds r p is h = other_leads k (duties.Send (send_duties.Refuse s)) tt ds r p h
+  answered_leads k (duties.Ask (ask_duties.Opened s)) ds r p is h = other_leads k (duties.Ask (ask_duties.Opened s)) tt ds r p h
+  answered_leads k (duties.Ask (ask_duties.Live s)) ds r p is h = other_leads k (duties.Ask (ask_duties.Live s)) tt ds r p h
+  answered_leads k (duties.Ask (ask_duties.AckHeard A)) ds r p is h = other_leads k (duties.Ask (ask_duties.AckHeard A)) tt ds r p h
+  answered_leads k (duties.Ask (ask_duties.AckHeard B)) ds r p is h = other_leads k (duties.Ask (ask_duties.AckHeard B)) tt ds r p h
+  answered_leads k (duties.Step (step_duties.PlainAck s)) ds r p is h = other_leads k (duties.Step (step_duties.PlainAck s)) tt ds r p h
+  answered_leads k (duties.Ask (ask_duties.PlainHandshake s)) ds r p is h = other_leads k (duties.Ask (ask_duties.PlainHandshake s)) tt ds r p h
+  answered_leads k (duties.Ask (ask_duties.SubflowAck s)) ds r p is h = other_leads k (duties.Ask (ask_duties.SubflowAck s)) tt ds r p h
+  answered_leads k (duties.Ask (ask_duties.PlainData s)) ds r p is h = other_leads k (duties.Ask (ask_duties.PlainData s)) tt ds r p h
+  answered_leads k (duties.Ask (ask_duties.GoIdentity s)) ds r p is h = other_leads k (duties.Ask (ask_duties.GoIdentity s)) tt ds r p h
+  answered_leads k (duties.Step (step_duties.Unmapped s)) ds r p is h = other_leads k (duties.Step (step_duties.Unmapped s)) tt ds r p h
+  answered_leads k (duties.Ask (ask_duties.SubflowFin s)) ds r p is h = other_leads k (duties.Ask (ask_duties.SubflowFin s)) tt ds r p h
+  answered_leads k (duties.Silent (silent_duties.Keep s)) ds r p is h = other_leads k (duties.Silent (silent_duties.Keep s)) tt ds r p h
+  answered_leads k (duties.Ask (ask_duties.Edge s)) ds r p is h = other_leads k (duties.Ask (ask_duties.Edge s)) tt ds r p h
+  answered_leads k (duties.Ask (ask_duties.HeardFin s index)) ds r p is h = other_leads k (duties.Ask (ask_duties.HeardFin s index)) tt ds r p h
+  answered_leads k (duties.Silent (silent_duties.PassFin s)) ds r p is h = other_leads k (duties.Silent (silent_duties.PassFin s)) tt ds r p h
+  answered_leads k (duties.Ask (ask_duties.AckOut s)) ds r p is h = other_leads k (duties.Ask (ask_duties.AckOut s)) tt ds r p h
+  answered_leads k (duties.Ask (ask_duties.Rate s)) ds r p is h = other_leads k (duties.Ask (ask_duties.Rate s)) tt ds r p h
+  answered_leads k (duties.Send (send_duties.Acknowledge s)) ds r p is h = other_leads k (duties.Send (send_duties.Acknowledge s)) tt ds r p h
+  answered_leads k (duties.Send (send_duties.Again s)) ds r p is h = other_leads k (duties.Send (send_duties.Again s)) tt ds r p h
+  answered_leads k (duties.Send (send_duties.Answer s)) ds r p is h = other_leads k (duties.Send (send_duties.Answer s)) tt ds r p h
+  answered_leads k (duties.Send (send_duties.ResetAnswer s)) ds r p is h = other_leads k (duties.Send (send_duties.ResetAnswer s)) tt ds r p h
+  answered_leads k (duties.Ask (ask_duties.Return s)) ds r p is h = other_leads k (duties.Ask (ask_duties.Return s)) tt ds r p h
+  answered_leads k (duties.Send (send_duties.Resend s)) ds r p is h = other_leads k (duties.Send (send_duties.Resend s)) tt ds r p h
+  answered_leads k (duties.Ask (ask_duties.BreakAck s reason)) ds r p is h = other_leads k (duties.Ask (ask_duties.BreakAck s reason)) tt ds r p h
+  answered_leads k (duties.Send (send_duties.BreakReset s reason)) ds r p is h = other_leads k (duties.Send (send_duties.BreakReset s reason)) tt ds r p h
+  answered_leads k (duties.Send (send_duties.Reset s)) ds r p is h = other_leads k (duties.Send (send_duties.Reset s)) tt ds r p h
+  answered_leads k (duties.Ask (ask_duties.Leave s)) ds r p is h = other_leads k (duties.Ask (ask_duties.Leave s)) tt ds r p h
+  answered_leads k (duties.Ask (ask_duties.Dead s)) ds r p is h = other_leads k (duties.Ask (ask_duties.Dead s)) tt ds r p h
   answered_leads k duties.End ds r p is h = other_leads k duties.End tt ds r p h
-  answered_leads k (duties.Heard B index) ds r p is h = other_leads k (duties.Heard B index) tt ds r p h
+  answered_leads k (duties.Step (step_duties.Heard B index)) ds r p is h = other_leads k (duties.Step (step_duties.Heard B index)) tt ds r p h
 
   -- a path on which each sign of Multipath TCP that A hears comes behind a DSS
   abbrev pub LeadsWell : PathState C → Type 0

@@ -31,6 +31,10 @@ use Rattle.actor_desk.specs.declared.ask.Reply.TheVariants as replies
 use Rattle.actor_desk.specs.Words.{tail_of}
 use Rattle.path_agenda.specs.declared.duty.Duty.{Duty}
 use Rattle.path_agenda.specs.declared.duty.Duty.TheVariants as duties
+use Rattle.path_agenda.specs.declared.duty.AskDuty.TheVariants as ask_duties
+use Rattle.path_agenda.specs.declared.duty.SendDuty.TheVariants as send_duties
+use Rattle.path_agenda.specs.declared.duty.SilentDuty.TheVariants as silent_duties
+use Rattle.path_agenda.specs.declared.duty.StepDuty.TheVariants as step_duties
 use Rattle.path_agenda.specs.declared.heard.Heard.{Heard}
 use Rattle.path_agenda.specs.declared.heard.Heard.TheVariants as says
 use Rattle.path_agenda.specs.Agenda.{emission, leaves, resets, start_of_turn}
@@ -194,14 +198,14 @@ module _ (R : Side → ℕ → ℕ → Type 0) where
       by false = h
 
   passed_knows : (d : Duty) (p : PathState Carried) → PathKnows p → PathKnows (passed d p)
-  passed_knows (duties.Timer s) p h = with_own s _ p (end_knows s p h) h
-  passed_knows (duties.Heard s index) p h = with_own s _ p (item_knows s (item_of index (end_at s p)) (end_at s p) (end_knows s p h)) h
-  passed_knows (duties.Keep s) p h = with_own s _ p (end_knows s p h) h
-  passed_knows (duties.Edge s) p h =
+  passed_knows (duties.Silent (silent_duties.Timer s)) p h = with_own s _ p (end_knows s p h) h
+  passed_knows (duties.Step (step_duties.Heard s index)) p h = with_own s _ p (item_knows s (item_of index (end_at s p)) (end_at s p) (end_knows s p h)) h
+  passed_knows (duties.Silent (silent_duties.Keep s)) p h = with_own s _ p (end_knows s p h) h
+  passed_knows (duties.Ask (ask_duties.Edge s)) p h =
       let e = end_at s p in with_own s _ p (check_knows s p.profile.spelling.checksums (mapping_here e) e (end_knows s p h)) h
-  passed_knows (duties.PassFin s) p h = with_own s _ p (end_knows s p h) h
-  passed_knows (duties.PlainAck s) p h = with_own s _ p (end_knows s p h) h
-  passed_knows (duties.Unmapped s) p h = with_own s _ p (end_knows s p h) h
+  passed_knows (duties.Silent (silent_duties.PassFin s)) p h = with_own s _ p (end_knows s p h) h
+  passed_knows (duties.Step (step_duties.PlainAck s)) p h = with_own s _ p (end_knows s p h) h
+  passed_knows (duties.Step (step_duties.Unmapped s)) p h = with_own s _ p (end_knows s p h) h
   passed_knows _ p h = h
 
   settled_knows : (ds : List Duty) (p : PathState Carried) → PathKnows p → PathKnows (settled ds p)
@@ -337,46 +341,46 @@ module _ (R : Side → ℕ → ℕ → Type 0) where
   joined_knows s (Some keys) (Some asked) r p h = same_goes s _ _ p refl h
 
   answered_knows : (d : Duty) (r : Reply) (p : PathState Carried) → CopiesTell p → PathKnows p → PathKnows (answered values d r p)
-  answered_knows duties.JoinAgain r p tell h = begun_knows r (replaced (duties.Leave A) p.agenda) (left p) p h
-  answered_knows (duties.JoinHeard s) r p tell h = joined_knows s (keys_begun r) (asked_at s p) r p h
-  answered_knows (duties.Refuse s) r p tell h = same_sent s _ _ _ p refl h
-  answered_knows (duties.PlainHandshake s) r p tell h = same_goes s _ _ p refl h
-  answered_knows (duties.PlainAck s) r p tell h = by (breaks_by_ack p.profile (end_at s p))
+  answered_knows (duties.Ask ask_duties.JoinAgain) r p tell h = begun_knows r (replaced (duties.Ask (ask_duties.Leave A)) p.agenda) (left p) p h
+  answered_knows (duties.Ask (ask_duties.JoinHeard s)) r p tell h = joined_knows s (keys_begun r) (asked_at s p) r p h
+  answered_knows (duties.Send (send_duties.Refuse s)) r p tell h = same_sent s _ _ _ p refl h
+  answered_knows (duties.Ask (ask_duties.PlainHandshake s)) r p tell h = same_goes s _ _ p refl h
+  answered_knows (duties.Step (step_duties.PlainAck s)) r p tell h = by (breaks_by_ack p.profile (end_at s p))
     where
       by : (b : Bool) → PathKnows (if b then answered_break values s 6 r p else goes_on s (with_plain_ack (after_fell events.PlainAck r (end_at s p))) (fell_duties s r p) p)
       by true = break_knows s 6 r p h
       by false = same_goes s _ _ p refl h
-  answered_knows (duties.SubflowAck s) r p tell h = same_goes s _ _ p refl h
-  answered_knows (duties.PlainData s) r p tell h = same_goes s _ _ p refl h
-  answered_knows (duties.GoIdentity s) r p tell h = same_goes s _ _ p refl h
-  answered_knows (duties.Unmapped s) r p tell h = break_knows s 6 r p h
-  answered_knows (duties.SubflowFin s) r p tell h = plain_fin_knows s (is_fin_set r) p h
-  answered_knows (duties.Look s) r p tell h = same_goes s _ _ p refl h
-  answered_knows (duties.Window s) r p tell h = ack_out_knows s r _ p h
-  answered_knows (duties.Update s) r p tell h = same_sent s _ _ _ p refl h
-  answered_knows (duties.Syn s) r p tell h = same_sent s _ _ _ p refl h
-  answered_knows (duties.Data s) r p tell h = data_knows s (first_unsent (end_at s p)) r p h
-  answered_knows (duties.DataFin s) r p tell h = same_sent s _ _ _ p refl h
-  answered_knows (duties.Fin s) r p tell h = same_sent s _ _ _ p refl h
-  answered_knows duties.Events r p tell h = event_knows (next_event p) r p tell h
-  answered_knows (duties.PeerKey s) r p tell h = peer_key_knows s (key_heard (end_at s p).treated.items) r p h
-  answered_knows (duties.SynAck s) r p tell h = same_sent s _ _ _ p refl h
-  answered_knows (duties.Opened s) r p tell h = opened_knows s (keys_heard (end_at s p).treated.items) r p h
-  answered_knows (duties.Heard s index) r p tell h = answered_item_knows s (item_of index (end_at s p)) r p h
-  answered_knows (duties.AckHeard s) r p tell h = same_goes s _ _ p refl h
-  answered_knows (duties.Edge s) r p tell h = piece_knows s (piece_of s p) (is_placed r) p h
-  answered_knows (duties.HeardFin s index) r p tell h = fin_knows s (is_fin_set r) p h
-  answered_knows (duties.AckOut s) r p tell h = ack_out_knows s r _ p h
-  answered_knows (duties.Rate s) r p tell h = same_goes s _ _ p refl h
-  answered_knows (duties.Acknowledge s) r p tell h = same_sent s _ _ _ p refl h
-  answered_knows (duties.Again s) r p tell h = same_sent s _ _ _ p refl h
-  answered_knows (duties.Answer s) r p tell h = same_sent s _ _ _ p refl h
-  answered_knows (duties.ResetAnswer s) r p tell h = same_sent s _ _ _ p refl h
-  answered_knows (duties.Resend s) r p tell h = same_sent s _ _ _ p refl h
-  answered_knows (duties.BreakAck s reason) r p tell h = ack_out_knows s r _ p h
-  answered_knows (duties.BreakReset s reason) r p tell h = reset_knows s (Some reason) (leaves s) p h
-  answered_knows (duties.Reset s) r p tell h = reset_knows s None (replaced (duties.Leave s) p.agenda) p h
-  answered_knows (duties.Leave s) r p tell h = agenda _ p h
+  answered_knows (duties.Ask (ask_duties.SubflowAck s)) r p tell h = same_goes s _ _ p refl h
+  answered_knows (duties.Ask (ask_duties.PlainData s)) r p tell h = same_goes s _ _ p refl h
+  answered_knows (duties.Ask (ask_duties.GoIdentity s)) r p tell h = same_goes s _ _ p refl h
+  answered_knows (duties.Step (step_duties.Unmapped s)) r p tell h = break_knows s 6 r p h
+  answered_knows (duties.Ask (ask_duties.SubflowFin s)) r p tell h = plain_fin_knows s (is_fin_set r) p h
+  answered_knows (duties.Step (step_duties.Look s)) r p tell h = same_goes s _ _ p refl h
+  answered_knows (duties.Ask (ask_duties.Window s)) r p tell h = ack_out_knows s r _ p h
+  answered_knows (duties.Send (send_duties.Update s)) r p tell h = same_sent s _ _ _ p refl h
+  answered_knows (duties.Send (send_duties.Syn s)) r p tell h = same_sent s _ _ _ p refl h
+  answered_knows (duties.Step (step_duties.Data s)) r p tell h = data_knows s (first_unsent (end_at s p)) r p h
+  answered_knows (duties.Send (send_duties.DataFin s)) r p tell h = same_sent s _ _ _ p refl h
+  answered_knows (duties.Send (send_duties.Fin s)) r p tell h = same_sent s _ _ _ p refl h
+  answered_knows (duties.Step step_duties.Events) r p tell h = event_knows (next_event p) r p tell h
+  answered_knows (duties.Ask (ask_duties.PeerKey s)) r p tell h = peer_key_knows s (key_heard (end_at s p).treated.items) r p h
+  answered_knows (duties.Send (send_duties.SynAck s)) r p tell h = same_sent s _ _ _ p refl h
+  answered_knows (duties.Ask (ask_duties.Opened s)) r p tell h = opened_knows s (keys_heard (end_at s p).treated.items) r p h
+  answered_knows (duties.Step (step_duties.Heard s index)) r p tell h = answered_item_knows s (item_of index (end_at s p)) r p h
+  answered_knows (duties.Ask (ask_duties.AckHeard s)) r p tell h = same_goes s _ _ p refl h
+  answered_knows (duties.Ask (ask_duties.Edge s)) r p tell h = piece_knows s (piece_of s p) (is_placed r) p h
+  answered_knows (duties.Ask (ask_duties.HeardFin s index)) r p tell h = fin_knows s (is_fin_set r) p h
+  answered_knows (duties.Ask (ask_duties.AckOut s)) r p tell h = ack_out_knows s r _ p h
+  answered_knows (duties.Ask (ask_duties.Rate s)) r p tell h = same_goes s _ _ p refl h
+  answered_knows (duties.Send (send_duties.Acknowledge s)) r p tell h = same_sent s _ _ _ p refl h
+  answered_knows (duties.Send (send_duties.Again s)) r p tell h = same_sent s _ _ _ p refl h
+  answered_knows (duties.Send (send_duties.Answer s)) r p tell h = same_sent s _ _ _ p refl h
+  answered_knows (duties.Send (send_duties.ResetAnswer s)) r p tell h = same_sent s _ _ _ p refl h
+  answered_knows (duties.Send (send_duties.Resend s)) r p tell h = same_sent s _ _ _ p refl h
+  answered_knows (duties.Ask (ask_duties.BreakAck s reason)) r p tell h = ack_out_knows s r _ p h
+  answered_knows (duties.Send (send_duties.BreakReset s reason)) r p tell h = reset_knows s (Some reason) (leaves s) p h
+  answered_knows (duties.Send (send_duties.Reset s)) r p tell h = reset_knows s None (replaced (duties.Ask (ask_duties.Leave s)) p.agenda) p h
+  answered_knows (duties.Ask (ask_duties.Leave s)) r p tell h = agenda _ p h
   answered_knows duties.End r p tell h = agenda _ p h
   answered_knows _ r p tell h = agenda _ p h
 

@@ -35,6 +35,10 @@ use Rattle.path_agenda.specs.Items.{key_heard, keys_heard}
 use Rattle.path_agenda.specs.Words.{replaced}
 use Rattle.path_agenda.specs.declared.duty.Duty.{Duty}
 use Rattle.path_agenda.specs.declared.duty.Duty.TheVariants as duties
+use Rattle.path_agenda.specs.declared.duty.AskDuty.TheVariants as ask_duties
+use Rattle.path_agenda.specs.declared.duty.SendDuty.TheVariants as send_duties
+use Rattle.path_agenda.specs.declared.duty.SilentDuty.TheVariants as silent_duties
+use Rattle.path_agenda.specs.declared.duty.StepDuty.TheVariants as step_duties
 use Rattle.path_agenda.specs.declared.heard.Heard.{Heard}
 use Rattle.path_agenda.specs.declared.heard.Heard.TheVariants as says
 use Rattle.path_agenda.specs.declared.keys.KeyPair.{KeyPair}
@@ -220,14 +224,14 @@ fin_goes s true p h = record { role = λ joins is. sym (passed_apart s (end_at s
 fin_goes s false p h = same_goes s (end_at s p) p refl refl h
 
 passed_roles : (d : Duty) (p : PathState Carried) → HasRoles p → HasRoles (passed d p)
-passed_roles (duties.Timer s) p h = with_roles s (after_timer p.clock (end_at s p)) p (same_goes s (after_timer p.clock (end_at s p)) p refl refl h) h
-passed_roles (duties.Heard s index) p h = with_roles s (item_passed s (item_of index (end_at s p)) (end_at s p)) p (item_goes s (item_of index (end_at s p)) p h) h
-passed_roles (duties.Keep s) p h = with_roles s (after_keep s (end_at s p)) p (keep_goes s (is_dropped s (end_at s p)) _ p h) h
-passed_roles (duties.PlainAck s) p h = with_roles s (with_plain_ack (end_at s p)) p (same_goes s (with_plain_ack (end_at s p)) p refl refl h) h
-passed_roles (duties.Unmapped s) p h = with_roles s (after_pieces (end_at s p)) p (same_goes s (after_pieces (end_at s p)) p refl refl h) h
-passed_roles (duties.Edge s) p h = with_roles s (after_check p.profile (end_at s p)) p (edge_goes s p.profile.spelling.checksums (mapping_here (end_at s p)) p h) h
-passed_roles (duties.PassFin s) p h = with_roles s (after_pass_fin (end_at s p)) p (fin_goes s (is_fin_next (end_at s p).tcp) p h) h
-passed_roles duties.JoinAgain p h = h
+passed_roles (duties.Silent (silent_duties.Timer s)) p h = with_roles s (after_timer p.clock (end_at s p)) p (same_goes s (after_timer p.clock (end_at s p)) p refl refl h) h
+passed_roles (duties.Step (step_duties.Heard s index)) p h = with_roles s (item_passed s (item_of index (end_at s p)) (end_at s p)) p (item_goes s (item_of index (end_at s p)) p h) h
+passed_roles (duties.Silent (silent_duties.Keep s)) p h = with_roles s (after_keep s (end_at s p)) p (keep_goes s (is_dropped s (end_at s p)) _ p h) h
+passed_roles (duties.Step (step_duties.PlainAck s)) p h = with_roles s (with_plain_ack (end_at s p)) p (same_goes s (with_plain_ack (end_at s p)) p refl refl h) h
+passed_roles (duties.Step (step_duties.Unmapped s)) p h = with_roles s (after_pieces (end_at s p)) p (same_goes s (after_pieces (end_at s p)) p refl refl h) h
+passed_roles (duties.Ask (ask_duties.Edge s)) p h = with_roles s (after_check p.profile (end_at s p)) p (edge_goes s p.profile.spelling.checksums (mapping_here (end_at s p)) p h) h
+passed_roles (duties.Silent (silent_duties.PassFin s)) p h = with_roles s (after_pass_fin (end_at s p)) p (fin_goes s (is_fin_next (end_at s p).tcp) p h) h
+passed_roles (duties.Ask ask_duties.JoinAgain) p h = h
 passed_roles _ p h = h
 
 settled_roles : (ds : List Duty) (p : PathState Carried) → HasRoles p → HasRoles (settled ds p)
@@ -443,7 +447,7 @@ heard_apart s false e listens is = is
 
 joined_roles : (s : Side) (o : Option KeyPair) (asked : Option JoinSyn) (r : Reply) (p : PathState Carried) → HasRoles p → HasRoles (join_taken s o asked r p)
 joined_roles s None None r p h = agenda_roles _ p h
-joined_roles s None (Some asked) r p h = same_roles s (with_mode_refused r (end_at s p)) (replaced (duties.Refuse s) p.agenda) p refl refl h
+joined_roles s None (Some asked) r p h = same_roles s (with_mode_refused r (end_at s p)) (replaced (duties.Send (send_duties.Refuse s)) p.agenda) p refl refl h
 joined_roles s (Some keys) None r p h = agenda_roles _ p h
 joined_roles s (Some keys) (Some asked) r p h =
     goes_roles s (joined_by keys asked (end_at s p)) _ p
@@ -466,46 +470,46 @@ occasion_goes s o sg p h = same_goes s (having_sent o p.clock sg (end_at s p)) p
     same to_send.Fin = refl
 
 answered_roles : (d : Duty) (r : Reply) (p : PathState Carried) → HasRoles p → HasRoles (answered values d r p)
-answered_roles duties.JoinAgain r p h = begun_roles r (replaced (duties.Leave A) p.agenda) (left p) p h
-answered_roles (duties.Look s) r p h = same_roles s _ (left p) p refl refl h
-answered_roles (duties.Window s) r p h = same_roles s (after_ack_out r (end_at s p)) (left p) p refl refl h
-answered_roles (duties.Update s) r p h = same_sent s _ _ (left p) p (ack_tells s (end_at s p).tcp.send.nxt None p) refl refl h
-answered_roles (duties.Syn s) r p h = same_sent s _ _ (left p) p (record_or_ack_tells p.profile s (end_at s p) (first_unsent (end_at s p))) refl refl h
-answered_roles (duties.Data s) r p h = data_roles s (first_unsent (end_at s p)) r p h
-answered_roles (duties.DataFin s) r p h = same_sent s _ _ (left p) p (ack_tells s (end_at s p).tcp.send.nxt (end_at s p).sending.known_end p) refl refl h
-answered_roles (duties.Fin s) r p h =
+answered_roles (duties.Ask ask_duties.JoinAgain) r p h = begun_roles r (replaced (duties.Ask (ask_duties.Leave A)) p.agenda) (left p) p h
+answered_roles (duties.Step (step_duties.Look s)) r p h = same_roles s _ (left p) p refl refl h
+answered_roles (duties.Ask (ask_duties.Window s)) r p h = same_roles s (after_ack_out r (end_at s p)) (left p) p refl refl h
+answered_roles (duties.Send (send_duties.Update s)) r p h = same_sent s _ _ (left p) p (ack_tells s (end_at s p).tcp.send.nxt None p) refl refl h
+answered_roles (duties.Send (send_duties.Syn s)) r p h = same_sent s _ _ (left p) p (record_or_ack_tells p.profile s (end_at s p) (first_unsent (end_at s p))) refl refl h
+answered_roles (duties.Step (step_duties.Data s)) r p h = data_roles s (first_unsent (end_at s p)) r p h
+answered_roles (duties.Send (send_duties.DataFin s)) r p h = same_sent s _ _ (left p) p (ack_tells s (end_at s p).tcp.send.nxt (end_at s p).sending.known_end p) refl refl h
+answered_roles (duties.Send (send_duties.Fin s)) r p h =
     sent_roles s (fin_segment_of s p) (having_sent_fin s p) (left p) p (no_syn (is_joined p.profile) s (fin_segment_of s p) refl)
     (record { role = λ joins apart. sym (finish_apart s (end_at s p).tcp.state) ∙ apart; answer = answer_at s p h }) h
-answered_roles duties.Events r p h = event_roles (next_event p) r p h
-answered_roles (duties.PlainHandshake s) r p h = told_roles s fall.PlainHandshake r p h
-answered_roles (duties.PeerKey s) r p h = key_roles s (key_heard (end_at s p).treated.items) r p h
-answered_roles (duties.SynAck s) r p h = same_sent s _ _ (left p) p (syn_ack_tells p.profile s (end_at s p)) refl refl h
-answered_roles (duties.JoinHeard s) r p h = joined_roles s (keys_begun r) (asked_at s p) r p h
-answered_roles (duties.Refuse s) r p h =
+answered_roles (duties.Step step_duties.Events) r p h = event_roles (next_event p) r p h
+answered_roles (duties.Ask (ask_duties.PlainHandshake s)) r p h = told_roles s fall.PlainHandshake r p h
+answered_roles (duties.Ask (ask_duties.PeerKey s)) r p h = key_roles s (key_heard (end_at s p).treated.items) r p h
+answered_roles (duties.Send (send_duties.SynAck s)) r p h = same_sent s _ _ (left p) p (syn_ack_tells p.profile s (end_at s p)) refl refl h
+answered_roles (duties.Ask (ask_duties.JoinHeard s)) r p h = joined_roles s (keys_begun r) (asked_at s p) r p h
+answered_roles (duties.Send (send_duties.Refuse s)) r p h =
     same_sent s (refusal_of s p) (end_at s p) (left p) p (outgoing_tells p.profile s (end_at s p) (end_at s p).treated.answer (reset_options (Some 1)) (answer_at s p h)) refl refl h
-answered_roles (duties.Opened s) r p h = opened_roles s (keys_heard (end_at s p).treated.items) r p h
-answered_roles (duties.Heard s index) r p h = item_answered_roles s (item_of index (end_at s p)) r p h
-answered_roles (duties.AckHeard s) r p h = told_roles s fall.AckHeard r p h
-answered_roles (duties.PlainAck s) r p h = plain_ack_roles s r p h
-answered_roles (duties.SubflowAck s) r p h = same_roles s _ (left p) p refl refl h
-answered_roles (duties.PlainData s) r p h = told_roles s fall.PlainData r p h
-answered_roles (duties.GoIdentity s) r p h = same_roles s _ (left p) p refl refl h
-answered_roles (duties.Unmapped s) r p h = break_roles s 6 r p h
-answered_roles (duties.SubflowFin s) r p h = plain_fin_roles s (is_fin_set r) p h
-answered_roles (duties.Edge s) r p h = piece_roles s (piece_of s p) (is_placed r) p h
-answered_roles (duties.HeardFin s index) r p h = fin_set_roles s (is_fin_set r) p h
-answered_roles (duties.AckOut s) r p h = same_roles s (after_ack_out r (end_at s p)) (left p) p refl refl h
-answered_roles (duties.Rate s) r p h = same_roles s _ (left p) p refl refl h
-answered_roles (duties.Acknowledge s) r p h = same_sent s _ _ (left p) p (ack_tells s (end_at s p).tcp.send.nxt None p) refl refl h
-answered_roles (duties.Again s) r p h = same_sent s _ _ (left p) p (record_or_ack_tells p.profile s (end_at s p) (first_record (end_at s p))) refl refl h
-answered_roles (duties.Answer s) r p h = sent_roles s (answer_of s p) _ (left p) p (answer_tells s p) (occasion_goes s (answer_occasion (end_at s p)) (answer_of s p) p h) h
-answered_roles (duties.ResetAnswer s) r p h =
+answered_roles (duties.Ask (ask_duties.Opened s)) r p h = opened_roles s (keys_heard (end_at s p).treated.items) r p h
+answered_roles (duties.Step (step_duties.Heard s index)) r p h = item_answered_roles s (item_of index (end_at s p)) r p h
+answered_roles (duties.Ask (ask_duties.AckHeard s)) r p h = told_roles s fall.AckHeard r p h
+answered_roles (duties.Step (step_duties.PlainAck s)) r p h = plain_ack_roles s r p h
+answered_roles (duties.Ask (ask_duties.SubflowAck s)) r p h = same_roles s _ (left p) p refl refl h
+answered_roles (duties.Ask (ask_duties.PlainData s)) r p h = told_roles s fall.PlainData r p h
+answered_roles (duties.Ask (ask_duties.GoIdentity s)) r p h = same_roles s _ (left p) p refl refl h
+answered_roles (duties.Step (step_duties.Unmapped s)) r p h = break_roles s 6 r p h
+answered_roles (duties.Ask (ask_duties.SubflowFin s)) r p h = plain_fin_roles s (is_fin_set r) p h
+answered_roles (duties.Ask (ask_duties.Edge s)) r p h = piece_roles s (piece_of s p) (is_placed r) p h
+answered_roles (duties.Ask (ask_duties.HeardFin s index)) r p h = fin_set_roles s (is_fin_set r) p h
+answered_roles (duties.Ask (ask_duties.AckOut s)) r p h = same_roles s (after_ack_out r (end_at s p)) (left p) p refl refl h
+answered_roles (duties.Ask (ask_duties.Rate s)) r p h = same_roles s _ (left p) p refl refl h
+answered_roles (duties.Send (send_duties.Acknowledge s)) r p h = same_sent s _ _ (left p) p (ack_tells s (end_at s p).tcp.send.nxt None p) refl refl h
+answered_roles (duties.Send (send_duties.Again s)) r p h = same_sent s _ _ (left p) p (record_or_ack_tells p.profile s (end_at s p) (first_record (end_at s p))) refl refl h
+answered_roles (duties.Send (send_duties.Answer s)) r p h = sent_roles s (answer_of s p) _ (left p) p (answer_tells s p) (occasion_goes s (answer_occasion (end_at s p)) (answer_of s p) p h) h
+answered_roles (duties.Send (send_duties.ResetAnswer s)) r p h =
     same_sent s (dead_answer s p) (end_at s p) (left p) p (outgoing_tells p.profile s (end_at s p) (end_at s p).treated.answer [] (answer_at s p h)) refl refl h
-answered_roles (duties.Resend s) r p h = sent_roles s (resend_of s p) _ (left p) p (resend_tells s p) (occasion_goes s (resend_occasion (end_at s p)) (resend_of s p) p h) h
-answered_roles (duties.BreakAck s reason) r p h = same_roles s (after_ack_out r (end_at s p)) (resets s reason) p refl refl h
-answered_roles (duties.BreakReset s reason) r p h = reset_roles s (Some reason) (leaves s) p h
-answered_roles (duties.Reset s) r p h = reset_roles s None (replaced (duties.Leave s) p.agenda) p h
-answered_roles (duties.Leave s) r p h = agenda_roles _ p h
+answered_roles (duties.Send (send_duties.Resend s)) r p h = sent_roles s (resend_of s p) _ (left p) p (resend_tells s p) (occasion_goes s (resend_occasion (end_at s p)) (resend_of s p) p h) h
+answered_roles (duties.Ask (ask_duties.BreakAck s reason)) r p h = same_roles s (after_ack_out r (end_at s p)) (resets s reason) p refl refl h
+answered_roles (duties.Send (send_duties.BreakReset s reason)) r p h = reset_roles s (Some reason) (leaves s) p h
+answered_roles (duties.Send (send_duties.Reset s)) r p h = reset_roles s None (replaced (duties.Ask (ask_duties.Leave s)) p.agenda) p h
+answered_roles (duties.Ask (ask_duties.Leave s)) r p h = agenda_roles _ p h
 answered_roles duties.End r p h = agenda_roles [] p h
 answered_roles _ r p h = agenda_roles (left p) p h
 

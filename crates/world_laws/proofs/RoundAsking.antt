@@ -16,6 +16,10 @@ use Rattle.actor_desk.specs.declared.ask.Reply.TheVariants as replies
 use Rattle.actor_desk.specs.Books.{StampedBooks, books_in}
 use Rattle.path_agenda.specs.declared.duty.Duty.{Duty}
 use Rattle.path_agenda.specs.declared.duty.Duty.TheVariants as duties
+use Rattle.path_agenda.specs.declared.duty.AskDuty.TheVariants as ask_duties
+use Rattle.path_agenda.specs.declared.duty.SendDuty.TheVariants as send_duties
+use Rattle.path_agenda.specs.declared.duty.SilentDuty.TheVariants as silent_duties
+use Rattle.path_agenda.specs.declared.duty.StepDuty.TheVariants as step_duties
 use Rattle.path_agenda.specs.Agenda.{start_of_turn}
 use Rattle.path_core.specs.Codec.{Codec}
 use Rattle.path_core.specs.Duties.{ask_for, answered}
@@ -89,12 +93,12 @@ module _ {C : Type 0} where
     other_grant B B apart is = absurd (apart refl)
 
     -- a grant that was asked
-    asked_duty : (s : Side) (ds : List Duty) (r : Reply) → n.ask ≡ grant_ask s p → n.reply ≡ r → (grant_in r ≡ None → is_no_grant r ≡ true) → is_followed (duties.Data s ∷ ds) ≡ true
-        → ((t : Side) → Pays (with_agenda (duties.Data s ∷ ds) p) (duties.Data s ∷ ds) (flags_of notes) t) → (o : Option Grant) → grant_in r ≡ o
-        → Granting (answered_grant s o r (with_agenda (duties.Data s ∷ ds) p)) later
+    asked_duty : (s : Side) (ds : List Duty) (r : Reply) → n.ask ≡ grant_ask s p → n.reply ≡ r → (grant_in r ≡ None → is_no_grant r ≡ true) → is_followed (duties.Step (step_duties.Data s) ∷ ds) ≡ true
+        → ((t : Side) → Pays (with_agenda (duties.Step (step_duties.Data s) ∷ ds) p) (duties.Step (step_duties.Data s) ∷ ds) (flags_of notes) t) → (o : Option Grant) → grant_in r ≡ o
+        → Granting (answered_grant s o r (with_agenda (duties.Step (step_duties.Data s) ∷ ds) p)) later
     asked_duty s ds r asks is refusal f each (Some grant) found = granted_done k r p later s ds grant f at
       where
-        own : (s t : Side) → Pays (with_agenda (duties.Data s ∷ ds) p) (duties.Data s ∷ ds) (flags_of notes) t → n.ask ≡ grant_ask s p → Pays (with_agenda (duties.Data s ∷ ds) p) (duties.Data s ∷ ds) later t
+        own : (s t : Side) → Pays (with_agenda (duties.Step (step_duties.Data s) ∷ ds) p) (duties.Step (step_duties.Data s) ∷ ds) (flags_of notes) t → n.ask ≡ grant_ask s p → Pays (with_agenda (duties.Step (step_duties.Data s) ∷ ds) p) (duties.Step (step_duties.Data s) ∷ ds) later t
         own A A h asks = inl refl
         own B B h asks = inl refl
         own A B (inl owed) asks = inl owed
@@ -102,13 +106,13 @@ module _ {C : Type 0} where
         own B A (inl owed) asks = inl owed
         own B A (inr paid) asks = inr (record { paid = λ none may. refused_more A false notes n ∙ other_step A n (flags_of notes A) (ap (asks_grant A) asks) ∙ paid.paid none may })
 
-        at : (t : Side) → Pays (with_agenda (duties.Data s ∷ ds) p) (duties.Data s ∷ ds) later t
+        at : (t : Side) → Pays (with_agenda (duties.Step (step_duties.Data s) ∷ ds) p) (duties.Step (step_duties.Data s) ∷ ds) later t
         at t = own s t (each t) asks
     asked_duty s ds r asks is refusal f each None found =
         refused_done k r p later s ds (refused_more s false notes n ∙ grant_step s n (flags_of notes s) (own_grant s asks) ∙ ap is_no_grant is ∙ refusal found) f
         (λ t apart. other t apart (each t))
       where
-        other : (t : Side) → (t ≡ s → ⊥) → Pays (with_agenda (duties.Data s ∷ ds) p) (duties.Data s ∷ ds) (flags_of notes) t → Pays (with_agenda (duties.Data s ∷ ds) p) (duties.Data s ∷ ds) later t
+        other : (t : Side) → (t ≡ s → ⊥) → Pays (with_agenda (duties.Step (step_duties.Data s) ∷ ds) p) (duties.Step (step_duties.Data s) ∷ ds) (flags_of notes) t → Pays (with_agenda (duties.Step (step_duties.Data s) ∷ ds) p) (duties.Step (step_duties.Data s) ∷ ds) later t
         other t apart (inl owed) = inl owed
         other t apart (inr paid) =
             inr (record { paid = λ none may. refused_more t false notes n ∙ other_step t n (flags_of notes t) (other_grant s t apart asks) ∙ paid.paid none may })
@@ -117,59 +121,59 @@ module _ {C : Type 0} where
     sent_isn't s A u q is = ap (asks_grant A) is
     sent_isn't s B u q is = ap (asks_grant B) is
 
-    data_duty : (s : Side) (ds : List Duty) (r : Reply) → n.reply ≡ r → (n.ask ≡ grant_ask s p → grant_in r ≡ None → is_no_grant r ≡ true) → is_followed (duties.Data s ∷ ds) ≡ true
-        → ((t : Side) → Pays (with_agenda (duties.Data s ∷ ds) p) (duties.Data s ∷ ds) (flags_of notes) t) → (o : Option Record) → n.ask ≡ data_ask k s o (with_agenda (duties.Data s ∷ ds) p)
-        → Granting (answered_data k s o r (with_agenda (duties.Data s ∷ ds) p)) later
+    data_duty : (s : Side) (ds : List Duty) (r : Reply) → n.reply ≡ r → (n.ask ≡ grant_ask s p → grant_in r ≡ None → is_no_grant r ≡ true) → is_followed (duties.Step (step_duties.Data s) ∷ ds) ≡ true
+        → ((t : Side) → Pays (with_agenda (duties.Step (step_duties.Data s) ∷ ds) p) (duties.Step (step_duties.Data s) ∷ ds) (flags_of notes) t) → (o : Option Record) → n.ask ≡ data_ask k s o (with_agenda (duties.Step (step_duties.Data s) ∷ ds) p)
+        → Granting (answered_data k s o r (with_agenda (duties.Step (step_duties.Data s) ∷ ds) p)) later
     data_duty s ds r is refusal f each (Some u) asks =
-        data_sent k r p later s ds u f (flags_same (duties.Data s ∷ ds) (with_agenda (duties.Data s ∷ ds) p) (flags_of notes) later (unasked_flags (λ t. sent_isn't s t u (with_agenda (duties.Data s ∷ ds) p) asks)) each)
+        data_sent k r p later s ds u f (flags_same (duties.Step (step_duties.Data s) ∷ ds) (with_agenda (duties.Step (step_duties.Data s) ∷ ds) p) (flags_of notes) later (unasked_flags (λ t. sent_isn't s t u (with_agenda (duties.Step (step_duties.Data s) ∷ ds) p) asks)) each)
     data_duty s ds r is refusal f each None asks = asked_duty s ds r asks is (refusal asks) f each (grant_in r) refl
 
     duty_done : (d : Duty) (ds : List Duty) (r : Reply) → n.ask ≡ ask_for k d (with_agenda (d ∷ ds) p) → n.reply ≡ r → ((s : Side) → n.ask ≡ grant_ask s p → grant_in r ≡ None → is_no_grant r ≡ true)
         → is_followed (d ∷ ds) ≡ true → ((t : Side) → Pays (with_agenda (d ∷ ds) p) (d ∷ ds) (flags_of notes) t) → Granting (answered k d r (with_agenda (d ∷ ds) p)) later
-    duty_done (duties.Data s) ds r asks is refusal f each = data_duty s ds r is (refusal s) f each (first_unsent (end_at s p)) asks
-    duty_done duties.JoinAgain ds r asks is refusal f each = other_duty duties.JoinAgain ds r asks tt f each
-    duty_done (duties.Look s) ds r asks is refusal f each = other_duty (duties.Look s) ds r asks tt f each
-    duty_done (duties.Window s) ds r asks is refusal f each = other_duty (duties.Window s) ds r asks tt f each
-    duty_done (duties.Update s) ds r asks is refusal f each = other_duty (duties.Update s) ds r asks tt f each
-    duty_done (duties.Syn s) ds r asks is refusal f each = other_duty (duties.Syn s) ds r asks tt f each
-    duty_done (duties.DataFin s) ds r asks is refusal f each = other_duty (duties.DataFin s) ds r asks tt f each
-    duty_done (duties.Fin s) ds r asks is refusal f each = other_duty (duties.Fin s) ds r asks tt f each
-    duty_done (duties.Timer s) ds r asks is refusal f each = other_duty (duties.Timer s) ds r asks tt f each
-    duty_done duties.Events ds r asks is refusal f each = other_duty duties.Events ds r asks tt f each
-    duty_done (duties.SynHeard s) ds r asks is refusal f each = other_duty (duties.SynHeard s) ds r asks tt f each
-    duty_done (duties.SynAnswered s) ds r asks is refusal f each = other_duty (duties.SynAnswered s) ds r asks tt f each
-    duty_done (duties.PeerKey s) ds r asks is refusal f each = other_duty (duties.PeerKey s) ds r asks tt f each
-    duty_done (duties.SynAck s) ds r asks is refusal f each = other_duty (duties.SynAck s) ds r asks tt f each
-    duty_done (duties.JoinHeard s) ds r asks is refusal f each = other_duty (duties.JoinHeard s) ds r asks tt f each
-    duty_done (duties.Refuse s) ds r asks is refusal f each = other_duty (duties.Refuse s) ds r asks tt f each
-    duty_done (duties.Opened s) ds r asks is refusal f each = other_duty (duties.Opened s) ds r asks tt f each
-    duty_done (duties.Live s) ds r asks is refusal f each = other_duty (duties.Live s) ds r asks tt f each
-    duty_done (duties.Heard s index) ds r asks is refusal f each = other_duty (duties.Heard s index) ds r asks tt f each
-    duty_done (duties.AckHeard s) ds r asks is refusal f each = other_duty (duties.AckHeard s) ds r asks tt f each
-    duty_done (duties.PlainAck s) ds r asks is refusal f each = other_duty (duties.PlainAck s) ds r asks tt f each
-    duty_done (duties.PlainHandshake s) ds r asks is refusal f each = other_duty (duties.PlainHandshake s) ds r asks tt f each
-    duty_done (duties.SubflowAck s) ds r asks is refusal f each = other_duty (duties.SubflowAck s) ds r asks tt f each
-    duty_done (duties.PlainData s) ds r asks is refusal f each = other_duty (duties.PlainData s) ds r asks tt f each
-    duty_done (duties.GoIdentity s) ds r asks is refusal f each = other_duty (duties.GoIdentity s) ds r asks tt f each
-    duty_done (duties.Unmapped s) ds r asks is refusal f each = other_duty (duties.Unmapped s) ds r asks tt f each
-    duty_done (duties.SubflowFin s) ds r asks is refusal f each = other_duty (duties.SubflowFin s) ds r asks tt f each
-    duty_done (duties.Keep s) ds r asks is refusal f each = other_duty (duties.Keep s) ds r asks tt f each
-    duty_done (duties.Edge s) ds r asks is refusal f each = other_duty (duties.Edge s) ds r asks tt f each
-    duty_done (duties.HeardFin s index) ds r asks is refusal f each = other_duty (duties.HeardFin s index) ds r asks tt f each
-    duty_done (duties.PassFin s) ds r asks is refusal f each = other_duty (duties.PassFin s) ds r asks tt f each
-    duty_done (duties.AckOut s) ds r asks is refusal f each = other_duty (duties.AckOut s) ds r asks tt f each
-    duty_done (duties.Rate s) ds r asks is refusal f each = other_duty (duties.Rate s) ds r asks tt f each
-    duty_done (duties.Acknowledge s) ds r asks is refusal f each = other_duty (duties.Acknowledge s) ds r asks tt f each
-    duty_done (duties.Again s) ds r asks is refusal f each = other_duty (duties.Again s) ds r asks tt f each
-    duty_done (duties.Answer s) ds r asks is refusal f each = other_duty (duties.Answer s) ds r asks tt f each
-    duty_done (duties.ResetAnswer s) ds r asks is refusal f each = other_duty (duties.ResetAnswer s) ds r asks tt f each
-    duty_done (duties.Return s) ds r asks is refusal f each = other_duty (duties.Return s) ds r asks tt f each
-    duty_done (duties.Resend s) ds r asks is refusal f each = other_duty (duties.Resend s) ds r asks tt f each
-    duty_done (duties.BreakAck s reason) ds r asks is refusal f each = other_duty (duties.BreakAck s reason) ds r asks tt f each
-    duty_done (duties.BreakReset s reason) ds r asks is refusal f each = other_duty (duties.BreakReset s reason) ds r asks tt f each
-    duty_done (duties.Reset s) ds r asks is refusal f each = other_duty (duties.Reset s) ds r asks tt f each
-    duty_done (duties.Leave s) ds r asks is refusal f each = other_duty (duties.Leave s) ds r asks tt f each
-    duty_done (duties.Dead s) ds r asks is refusal f each = other_duty (duties.Dead s) ds r asks tt f each
+    duty_done (duties.Step (step_duties.Data s)) ds r asks is refusal f each = data_duty s ds r is (refusal s) f each (first_unsent (end_at s p)) asks
+    duty_done (duties.Ask ask_duties.JoinAgain) ds r asks is refusal f each = other_duty (duties.Ask ask_duties.JoinAgain) ds r asks tt f each
+    duty_done (duties.Step (step_duties.Look s)) ds r asks is refusal f each = other_duty (duties.Step (step_duties.Look s)) ds r asks tt f each
+    duty_done (duties.Ask (ask_duties.Window s)) ds r asks is refusal f each = other_duty (duties.Ask (ask_duties.Window s)) ds r asks tt f each
+    duty_done (duties.Send (send_duties.Update s)) ds r asks is refusal f each = other_duty (duties.Send (send_duties.Update s)) ds r asks tt f each
+    duty_done (duties.Send (send_duties.Syn s)) ds r asks is refusal f each = other_duty (duties.Send (send_duties.Syn s)) ds r asks tt f each
+    duty_done (duties.Send (send_duties.DataFin s)) ds r asks is refusal f each = other_duty (duties.Send (send_duties.DataFin s)) ds r asks tt f each
+    duty_done (duties.Send (send_duties.Fin s)) ds r asks is refusal f each = other_duty (duties.Send (send_duties.Fin s)) ds r asks tt f each
+    duty_done (duties.Silent (silent_duties.Timer s)) ds r asks is refusal f each = other_duty (duties.Silent (silent_duties.Timer s)) ds r asks tt f each
+    duty_done (duties.Step step_duties.Events) ds r asks is refusal f each = other_duty (duties.Step step_duties.Events) ds r asks tt f each
+    duty_done (duties.Ask (ask_duties.SynHeard s)) ds r asks is refusal f each = other_duty (duties.Ask (ask_duties.SynHeard s)) ds r asks tt f each
+    duty_done (duties.Ask (ask_duties.SynAnswered s)) ds r asks is refusal f each = other_duty (duties.Ask (ask_duties.SynAnswered s)) ds r asks tt f each
+    duty_done (duties.Ask (ask_duties.PeerKey s)) ds r asks is refusal f each = other_duty (duties.Ask (ask_duties.PeerKey s)) ds r asks tt f each
+    duty_done (duties.Send (send_duties.SynAck s)) ds r asks is refusal f each = other_duty (duties.Send (send_duties.SynAck s)) ds r asks tt f each
+    duty_done (duties.Ask (ask_duties.JoinHeard s)) ds r asks is refusal f each = other_duty (duties.Ask (ask_duties.JoinHeard s)) ds r asks tt f each
+    duty_done (duties.Send (send_duties.Refuse s)) ds r asks is refusal f each = other_duty (duties.Send (send_duties.Refuse s)) ds r asks tt f each
+    duty_done (duties.Ask (ask_duties.Opened s)) ds r asks is refusal f each = other_duty (duties.Ask (ask_duties.Opened s)) ds r asks tt f each
+    duty_done (duties.Ask (ask_duties.Live s)) ds r asks is refusal f each = other_duty (duties.Ask (ask_duties.Live s)) ds r asks tt f each
+    duty_done (duties.Step (step_duties.Heard s index)) ds r asks is refusal f each = other_duty (duties.Step (step_duties.Heard s index)) ds r asks tt f each
+    duty_done (duties.Ask (ask_duties.AckHeard s)) ds r asks is refusal f each = other_duty (duties.Ask (ask_duties.AckHeard s)) ds r asks tt f each
+    duty_done (duties.Step (step_duties.PlainAck s)) ds r asks is refusal f each = other_duty (duties.Step (step_duties.PlainAck s)) ds r asks tt f each
+    duty_done (duties.Ask (ask_duties.PlainHandshake s)) ds r asks is refusal f each = other_duty (duties.Ask (ask_duties.PlainHandshake s)) ds r asks tt f each
+    duty_done (duties.Ask (ask_duties.SubflowAck s)) ds r asks is refusal f each = other_duty (duties.Ask (ask_duties.SubflowAck s)) ds r asks tt f each
+    duty_done (duties.Ask (ask_duties.PlainData s)) ds r asks is refusal f each = other_duty (duties.Ask (ask_duties.PlainData s)) ds r asks tt f each
+    duty_done (duties.Ask (ask_duties.GoIdentity s)) ds r asks is refusal f each = other_duty (duties.Ask (ask_duties.GoIdentity s)) ds r asks tt f each
+    duty_done (duties.Step (step_duties.Unmapped s)) ds r asks is refusal f each = other_duty (duties.Step (step_duties.Unmapped s)) ds r asks tt f each
+    duty_done (duties.Ask (ask_duties.SubflowFin s)) ds r asks is refusal f each = other_duty (duties.Ask (ask_duties.SubflowFin s)) ds r asks tt f each
+    duty_done (duties.Silent (silent_duties.Keep s)) ds r asks is refusal f each = other_duty (duties.Silent (silent_duties.Keep s)) ds r asks tt f each
+    duty_done (duties.Ask (ask_duties.Edge s)) ds r asks is refusal f each = other_duty (duties.Ask (ask_duties.Edge s)) ds r asks tt f each
+    duty_done (duties.Ask (ask_duties.HeardFin s index)) ds r asks is refusal f each = other_duty (duties.Ask (ask_duties.HeardFin s index)) ds r asks tt f each
+    duty_done (duties.Silent (silent_duties.PassFin s)) ds r asks is refusal f each = other_duty (duties.Silent (silent_duties.PassFin s)) ds r asks tt f each
+    duty_done (duties.Ask (ask_duties.AckOut s)) ds r asks is refusal f each = other_duty (duties.Ask (ask_duties.AckOut s)) ds r asks tt f each
+    duty_done (duties.Ask (ask_duties.Rate s)) ds r asks is refusal f each = other_duty (duties.Ask (ask_duties.Rate s)) ds r asks tt f each
+    duty_done (duties.Send (send_duties.Acknowledge s)) ds r asks is refusal f each = other_duty (duties.Send (send_duties.Acknowledge s)) ds r asks tt f each
+    duty_done (duties.Send (send_duties.Again s)) ds r asks is refusal f each = other_duty (duties.Send (send_duties.Again s)) ds r asks tt f each
+    duty_done (duties.Send (send_duties.Answer s)) ds r asks is refusal f each = other_duty (duties.Send (send_duties.Answer s)) ds r asks tt f each
+    duty_done (duties.Send (send_duties.ResetAnswer s)) ds r asks is refusal f each = other_duty (duties.Send (send_duties.ResetAnswer s)) ds r asks tt f each
+    duty_done (duties.Ask (ask_duties.Return s)) ds r asks is refusal f each = other_duty (duties.Ask (ask_duties.Return s)) ds r asks tt f each
+    duty_done (duties.Send (send_duties.Resend s)) ds r asks is refusal f each = other_duty (duties.Send (send_duties.Resend s)) ds r asks tt f each
+    duty_done (duties.Ask (ask_duties.BreakAck s reason)) ds r asks is refusal f each = other_duty (duties.Ask (ask_duties.BreakAck s reason)) ds r asks tt f each
+    duty_done (duties.Send (send_duties.BreakReset s reason)) ds r asks is refusal f each = other_duty (duties.Send (send_duties.BreakReset s reason)) ds r asks tt f each
+    duty_done (duties.Send (send_duties.Reset s)) ds r asks is refusal f each = other_duty (duties.Send (send_duties.Reset s)) ds r asks tt f each
+    duty_done (duties.Ask (ask_duties.Leave s)) ds r asks is refusal f each = other_duty (duties.Ask (ask_duties.Leave s)) ds r asks tt f each
+    duty_done (duties.Ask (ask_duties.Dead s)) ds r asks is refusal f each = other_duty (duties.Ask (ask_duties.Dead s)) ds r asks tt f each
     duty_done duties.End ds r asks is refusal f each = other_duty duties.End ds r asks tt f each
 
     takes_done : (r : Reply) (ds : List Duty) → asks_first k ds (with_agenda ds p) ≡ Some n.ask → n.reply ≡ r → ((s : Side) → n.ask ≡ grant_ask s p → grant_in r ≡ None → is_no_grant r ≡ true)

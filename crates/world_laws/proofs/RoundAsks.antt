@@ -12,6 +12,10 @@ use Rattle.stream_apps.specs.Apps.{AppState}
 use Rattle.stream_apps.specs.AppSteps.{app_ask}
 use Rattle.path_agenda.specs.declared.duty.Duty.{Duty}
 use Rattle.path_agenda.specs.declared.duty.Duty.TheVariants as duties
+use Rattle.path_agenda.specs.declared.duty.AskDuty.TheVariants as ask_duties
+use Rattle.path_agenda.specs.declared.duty.SendDuty.TheVariants as send_duties
+use Rattle.path_agenda.specs.declared.duty.SilentDuty.TheVariants as silent_duties
+use Rattle.path_agenda.specs.declared.duty.StepDuty.TheVariants as step_duties
 use Rattle.path_core.specs.declared.event.Event.{Event}
 use Rattle.path_core.specs.declared.event.Event.TheVariants as happening
 use Rattle.path_agenda.specs.declared.heard.Heard.{Heard}
@@ -114,48 +118,48 @@ module _ {C : Type 0} (k : Codec C) (p : PathState C) (some : 1 ≤ payload_size
   rate_some s (Some pending) = tt
 
   pub asks_some : (d : Duty) → AsksSome (ask_for k d p)
-  asks_some duties.JoinAgain = tt
-  asks_some (duties.Look s) = tt
-  asks_some (duties.Window s) = tt
-  asks_some (duties.Update s) = tt
-  asks_some (duties.Syn s) = tt
-  asks_some (duties.Data s) = data_some s (first_unsent (end_at s p))
-  asks_some (duties.DataFin s) = tt
-  asks_some (duties.Fin s) = tt
-  asks_some (duties.Timer s) = tt
-  asks_some duties.Events = step_some (next_event p)
-  asks_some (duties.SynHeard s) = tt
-  asks_some (duties.SynAnswered s) = tt
-  asks_some (duties.PeerKey s) = key_some s (key_heard (end_at s p).treated.items)
-  asks_some (duties.SynAck s) = tt
-  asks_some (duties.JoinHeard s) = join_some s (asked_at s p)
-  asks_some (duties.Refuse s) = tt
-  asks_some (duties.Opened s) = opened_some s (keys_heard (end_at s p).treated.items)
-  asks_some (duties.Live s) = tt
-  asks_some (duties.Heard s index) = item_some s (item_of index (end_at s p))
-  asks_some (duties.AckHeard s) = tt
-  asks_some (duties.PlainAck s) = plain_ack_some s
-  asks_some (duties.PlainHandshake s) = tt
-  asks_some (duties.SubflowAck s) = tt
-  asks_some (duties.PlainData s) = tt
-  asks_some (duties.GoIdentity s) = tt
-  asks_some (duties.Unmapped s) = break_some s 6
-  asks_some (duties.SubflowFin s) = fin_some s (plain_fin (end_at s p))
-  asks_some (duties.Keep s) = tt
-  asks_some (duties.Edge s) = piece_some s (piece_of s p)
-  asks_some (duties.HeardFin s index) = fin_some s (fin_of index (end_at s p))
-  asks_some (duties.PassFin s) = tt
-  asks_some (duties.AckOut s) = tt
-  asks_some (duties.Rate s) = rate_some s (end_at s p).tcp.congestion.pending
-  asks_some (duties.Acknowledge s) = tt
-  asks_some (duties.Again s) = tt
-  asks_some (duties.Answer s) = tt
-  asks_some (duties.ResetAnswer s) = tt
-  asks_some (duties.Return s) = tt
-  asks_some (duties.Resend s) = tt
-  asks_some (duties.BreakAck s reason) = tt
-  asks_some (duties.BreakReset s reason) = tt
-  asks_some (duties.Reset s) = tt
-  asks_some (duties.Leave s) = tt
-  asks_some (duties.Dead s) = tt
+  asks_some (duties.Ask ask_duties.JoinAgain) = tt
+  asks_some (duties.Step (step_duties.Look s)) = tt
+  asks_some (duties.Ask (ask_duties.Window s)) = tt
+  asks_some (duties.Send (send_duties.Update s)) = tt
+  asks_some (duties.Send (send_duties.Syn s)) = tt
+  asks_some (duties.Step (step_duties.Data s)) = data_some s (first_unsent (end_at s p))
+  asks_some (duties.Send (send_duties.DataFin s)) = tt
+  asks_some (duties.Send (send_duties.Fin s)) = tt
+  asks_some (duties.Silent (silent_duties.Timer s)) = tt
+  asks_some (duties.Step step_duties.Events) = step_some (next_event p)
+  asks_some (duties.Ask (ask_duties.SynHeard s)) = tt
+  asks_some (duties.Ask (ask_duties.SynAnswered s)) = tt
+  asks_some (duties.Ask (ask_duties.PeerKey s)) = key_some s (key_heard (end_at s p).treated.items)
+  asks_some (duties.Send (send_duties.SynAck s)) = tt
+  asks_some (duties.Ask (ask_duties.JoinHeard s)) = join_some s (asked_at s p)
+  asks_some (duties.Send (send_duties.Refuse s)) = tt
+  asks_some (duties.Ask (ask_duties.Opened s)) = opened_some s (keys_heard (end_at s p).treated.items)
+  asks_some (duties.Ask (ask_duties.Live s)) = tt
+  asks_some (duties.Step (step_duties.Heard s index)) = item_some s (item_of index (end_at s p))
+  asks_some (duties.Ask (ask_duties.AckHeard s)) = tt
+  asks_some (duties.Step (step_duties.PlainAck s)) = plain_ack_some s
+  asks_some (duties.Ask (ask_duties.PlainHandshake s)) = tt
+  asks_some (duties.Ask (ask_duties.SubflowAck s)) = tt
+  asks_some (duties.Ask (ask_duties.PlainData s)) = tt
+  asks_some (duties.Ask (ask_duties.GoIdentity s)) = tt
+  asks_some (duties.Step (step_duties.Unmapped s)) = break_some s 6
+  asks_some (duties.Ask (ask_duties.SubflowFin s)) = fin_some s (plain_fin (end_at s p))
+  asks_some (duties.Silent (silent_duties.Keep s)) = tt
+  asks_some (duties.Ask (ask_duties.Edge s)) = piece_some s (piece_of s p)
+  asks_some (duties.Ask (ask_duties.HeardFin s index)) = fin_some s (fin_of index (end_at s p))
+  asks_some (duties.Silent (silent_duties.PassFin s)) = tt
+  asks_some (duties.Ask (ask_duties.AckOut s)) = tt
+  asks_some (duties.Ask (ask_duties.Rate s)) = rate_some s (end_at s p).tcp.congestion.pending
+  asks_some (duties.Send (send_duties.Acknowledge s)) = tt
+  asks_some (duties.Send (send_duties.Again s)) = tt
+  asks_some (duties.Send (send_duties.Answer s)) = tt
+  asks_some (duties.Send (send_duties.ResetAnswer s)) = tt
+  asks_some (duties.Ask (ask_duties.Return s)) = tt
+  asks_some (duties.Send (send_duties.Resend s)) = tt
+  asks_some (duties.Ask (ask_duties.BreakAck s reason)) = tt
+  asks_some (duties.Send (send_duties.BreakReset s reason)) = tt
+  asks_some (duties.Send (send_duties.Reset s)) = tt
+  asks_some (duties.Ask (ask_duties.Leave s)) = tt
+  asks_some (duties.Ask (ask_duties.Dead s)) = tt
   asks_some duties.End = tt

@@ -23,6 +23,10 @@ use Rattle.stream_apps.specs.Apps.{AppState}
 use Rattle.stream_apps.specs.AppSteps.{app_ask, offered}
 use Rattle.path_agenda.specs.declared.duty.Duty.{Duty}
 use Rattle.path_agenda.specs.declared.duty.Duty.TheVariants as duties
+use Rattle.path_agenda.specs.declared.duty.AskDuty.TheVariants as ask_duties
+use Rattle.path_agenda.specs.declared.duty.SendDuty.TheVariants as send_duties
+use Rattle.path_agenda.specs.declared.duty.SilentDuty.TheVariants as silent_duties
+use Rattle.path_agenda.specs.declared.duty.StepDuty.TheVariants as step_duties
 use Rattle.path_core.specs.Codec.{Codec}
 use Rattle.path_core.specs.Duties.{ask_for, answered}
 use Rattle.path_core.specs.Emission.{first_unsent, Grant, grant_in, grant_ask, answered_grant, answered_data, data_ask}
@@ -389,7 +393,7 @@ module _ {C : Type 0} (k : Codec C) (p : PathState C) (written_a written_b : ℕ
   first_needs : (d : Duty) (ds : List Duty) → is_followed (d ∷ ds) ≡ true → needs d ds ≡ true
   first_needs d ds f = (and_parts (needs d ds) (is_followed ds) f).0
 
-  own_data : (s : Side) (ds : List Duty) → is_owed s (duties.Data s ∷ ds) ≡ true
+  own_data : (s : Side) (ds : List Duty) → is_owed s (duties.Step (step_duties.Data s) ∷ ds) ≡ true
   own_data A ds = refl
   own_data B ds = refl
 
@@ -405,84 +409,84 @@ module _ {C : Type 0} (k : Codec C) (p : PathState C) (written_a written_b : ℕ
   since_grant B is A on = (on, ap (asks_grant A) is)
   since_grant B is B on = never_on on
 
-  grant_duty : (s : Side) (ds : List Duty) → n.ask ≡ grant_ask s p → is_followed (duties.Data s ∷ ds) ≡ true → ((t : Side) → Pays (Here (duties.Data s ∷ ds)) (duties.Data s ∷ ds) refused t)
-      → (o : Option Grant) → grant_in (reply_of six (grant_ask s p)) ≡ o → AskThen (answered_grant s o (reply_of six (grant_ask s p)) (Here (duties.Data s ∷ ds)))
+  grant_duty : (s : Side) (ds : List Duty) → n.ask ≡ grant_ask s p → is_followed (duties.Step (step_duties.Data s) ∷ ds) ≡ true → ((t : Side) → Pays (Here (duties.Step (step_duties.Data s) ∷ ds)) (duties.Step (step_duties.Data s) ∷ ds) refused t)
+      → (o : Option Grant) → grant_in (reply_of six (grant_ask s p)) ≡ o → AskThen (answered_grant s o (reply_of six (grant_ask s p)) (Here (duties.Step (step_duties.Data s) ∷ ds)))
   grant_duty s ds is f each (Some grant) found = record {
     flags = with_flag s false refused;
     others = with_flag s false freed;
     before = since_grant s is;
-    granting = granted_done k (reply_of six (grant_ask s p)) p (with_flag s false refused) s ds grant f (lower_each s (duties.Data s ∷ ds) false (own_data s ds) each);
+    granting = granted_done k (reply_of six (grant_ask s p)) p (with_flag s false refused) s ds grant f (lower_each s (duties.Step (step_duties.Data s) ∷ ds) false (own_data s ds) each);
     both = asked_is (grant_ask s p) (with_flag s false refused) (with_flag s false freed) is (granted_both (path_of p) written_a written_b steps n refused freed six h s _ _ is);
   }
   grant_duty s ds is f each None found = record {
     flags = with_flag s true refused;
     others = with_flag s false freed;
     before = since_grant s is;
-    granting = refused_done k (reply_of six (grant_ask s p)) p (with_flag s true refused) s ds (own_flag s true refused) f (other_each s (duties.Data s ∷ ds) true each);
+    granting = refused_done k (reply_of six (grant_ask s p)) p (with_flag s true refused) s ds (own_flag s true refused) f (other_each s (duties.Step (step_duties.Data s) ∷ ds) true each);
     both = asked_is (grant_ask s p) (with_flag s true refused) (with_flag s false freed) is (refused_both (path_of p) written_a written_b steps n refused freed six h s _ _ is found);
   }
 
-  data_duty : (s : Side) (ds : List Duty) → is_followed (duties.Data s ∷ ds) ≡ true → ((t : Side) → Pays (Here (duties.Data s ∷ ds)) (duties.Data s ∷ ds) refused t)
-      → (o : Option Record) → n.ask ≡ data_ask k s o (Here (duties.Data s ∷ ds)) → AskThen (answered_data k s o (reply_of six (data_ask k s o (Here (duties.Data s ∷ ds)))) (Here (duties.Data s ∷ ds)))
+  data_duty : (s : Side) (ds : List Duty) → is_followed (duties.Step (step_duties.Data s) ∷ ds) ≡ true → ((t : Side) → Pays (Here (duties.Step (step_duties.Data s) ∷ ds)) (duties.Step (step_duties.Data s) ∷ ds) refused t)
+      → (o : Option Record) → n.ask ≡ data_ask k s o (Here (duties.Step (step_duties.Data s) ∷ ds)) → AskThen (answered_data k s o (reply_of six (data_ask k s o (Here (duties.Step (step_duties.Data s) ∷ ds)))) (Here (duties.Step (step_duties.Data s) ∷ ds)))
   data_duty s ds f each (Some u) is = record {
     flags = refused;
     others = freed;
-    before = λ t on. (on, ap (asks_grant t) is ∙ ask_isn't t (data_ask k s (Some u) (Here (duties.Data s ∷ ds))) tt);
-    granting = data_sent k (reply_of six (data_ask k s (Some u) (Here (duties.Data s ∷ ds)))) p refused s ds u f each;
-    both = asked_is (data_ask k s (Some u) (Here (duties.Data s ∷ ds))) refused freed is
+    before = λ t on. (on, ap (asks_grant t) is ∙ ask_isn't t (data_ask k s (Some u) (Here (duties.Step (step_duties.Data s) ∷ ds))) tt);
+    granting = data_sent k (reply_of six (data_ask k s (Some u) (Here (duties.Step (step_duties.Data s) ∷ ds)))) p refused s ds u f each;
+    both = asked_is (data_ask k s (Some u) (Here (duties.Step (step_duties.Data s) ∷ ds))) refused freed is
         (quiet_both (path_of p) written_a written_b steps n refused freed six h
-        (λ t. ap (asks_grant t) is ∙ ask_isn't t (data_ask k s (Some u) (Here (duties.Data s ∷ ds))) tt) (data_ask k s (Some u) (Here (duties.Data s ∷ ds))) tt);
+        (λ t. ap (asks_grant t) is ∙ ask_isn't t (data_ask k s (Some u) (Here (duties.Step (step_duties.Data s) ∷ ds))) tt) (data_ask k s (Some u) (Here (duties.Step (step_duties.Data s) ∷ ds))) tt);
   }
   data_duty s ds f each None is = grant_duty s ds is f each (grant_in (reply_of six (grant_ask s p))) refl
 
   duty_asks : (d : Duty) (ds : List Duty) → n.ask ≡ ask_for k d (Here (d ∷ ds)) → is_followed (d ∷ ds) ≡ true → ((t : Side) → Pays (Here (d ∷ ds)) (d ∷ ds) refused t)
       → AskThen (answered k d (reply_of six (ask_for k d (Here (d ∷ ds)))) (Here (d ∷ ds)))
-  duty_asks (duties.Data s) ds is f each = data_duty s ds f each (first_unsent (end_at s p)) is
-  duty_asks (duties.Heard s index) ds is f each =
-      heard_duty (duties.Heard s index) s ds (heard_asks k (Here (duties.Heard s index ∷ ds)) s (item_of index (end_at s p))) tt
-      (and_parts (is_owed s ds) (not (is_owed (peer s) ds)) (first_needs (duties.Heard s index) ds f)).0 is f each
-  duty_asks duties.JoinAgain ds is f each = quiet_duty duties.JoinAgain ds tt tt is f each
-  duty_asks (duties.Look s) ds is f each = quiet_duty (duties.Look s) ds tt tt is f each
-  duty_asks (duties.Window s) ds is f each = quiet_duty (duties.Window s) ds tt tt is f each
-  duty_asks (duties.Update s) ds is f each = quiet_duty (duties.Update s) ds tt tt is f each
-  duty_asks (duties.Syn s) ds is f each = quiet_duty (duties.Syn s) ds tt tt is f each
-  duty_asks (duties.DataFin s) ds is f each = quiet_duty (duties.DataFin s) ds tt tt is f each
-  duty_asks (duties.Fin s) ds is f each = quiet_duty (duties.Fin s) ds tt tt is f each
-  duty_asks (duties.Timer s) ds is f each = quiet_duty (duties.Timer s) ds tt tt is f each
-  duty_asks duties.Events ds is f each = quiet_duty duties.Events ds tt tt is f each
-  duty_asks (duties.SynHeard s) ds is f each = heard_duty (duties.SynHeard s) s ds refl tt (first_needs (duties.SynHeard s) ds f) is f each
-  duty_asks (duties.SynAnswered s) ds is f each = heard_duty (duties.SynAnswered s) s ds refl tt (first_needs (duties.SynAnswered s) ds f) is f each
-  duty_asks (duties.PlainHandshake s) ds is f each = quiet_duty (duties.PlainHandshake s) ds tt tt is f each
-  duty_asks (duties.PeerKey s) ds is f each = quiet_duty (duties.PeerKey s) ds tt tt is f each
-  duty_asks (duties.SynAck s) ds is f each = quiet_duty (duties.SynAck s) ds tt tt is f each
-  duty_asks (duties.JoinHeard s) ds is f each = quiet_duty (duties.JoinHeard s) ds tt tt is f each
-  duty_asks (duties.Refuse s) ds is f each = quiet_duty (duties.Refuse s) ds tt tt is f each
-  duty_asks (duties.Opened s) ds is f each = quiet_duty (duties.Opened s) ds tt tt is f each
-  duty_asks (duties.Live s) ds is f each = quiet_duty (duties.Live s) ds tt tt is f each
-  duty_asks (duties.AckHeard s) ds is f each = quiet_duty (duties.AckHeard s) ds tt tt is f each
-  duty_asks (duties.PlainAck s) ds is f each = quiet_duty (duties.PlainAck s) ds tt tt is f each
-  duty_asks (duties.SubflowAck s) ds is f each = heard_duty (duties.SubflowAck s) s ds refl tt (first_needs (duties.SubflowAck s) ds f) is f each
-  duty_asks (duties.PlainData s) ds is f each = quiet_duty (duties.PlainData s) ds tt tt is f each
-  duty_asks (duties.GoIdentity s) ds is f each = quiet_duty (duties.GoIdentity s) ds tt tt is f each
-  duty_asks (duties.Unmapped s) ds is f each = quiet_duty (duties.Unmapped s) ds tt tt is f each
-  duty_asks (duties.SubflowFin s) ds is f each = quiet_duty (duties.SubflowFin s) ds tt tt is f each
-  duty_asks (duties.Keep s) ds is f each = quiet_duty (duties.Keep s) ds tt tt is f each
-  duty_asks (duties.Edge s) ds is f each = quiet_duty (duties.Edge s) ds tt tt is f each
-  duty_asks (duties.HeardFin s index) ds is f each = quiet_duty (duties.HeardFin s index) ds tt tt is f each
-  duty_asks (duties.PassFin s) ds is f each = quiet_duty (duties.PassFin s) ds tt tt is f each
-  duty_asks (duties.AckOut s) ds is f each = quiet_duty (duties.AckOut s) ds tt tt is f each
-  duty_asks (duties.Rate s) ds is f each = quiet_duty (duties.Rate s) ds tt tt is f each
-  duty_asks (duties.Acknowledge s) ds is f each = quiet_duty (duties.Acknowledge s) ds tt tt is f each
-  duty_asks (duties.Again s) ds is f each = quiet_duty (duties.Again s) ds tt tt is f each
-  duty_asks (duties.Answer s) ds is f each = quiet_duty (duties.Answer s) ds tt tt is f each
-  duty_asks (duties.ResetAnswer s) ds is f each = quiet_duty (duties.ResetAnswer s) ds tt tt is f each
-  duty_asks (duties.Return s) ds is f each = quiet_duty (duties.Return s) ds tt tt is f each
-  duty_asks (duties.Resend s) ds is f each = quiet_duty (duties.Resend s) ds tt tt is f each
-  duty_asks (duties.BreakAck s reason) ds is f each = quiet_duty (duties.BreakAck s reason) ds tt tt is f each
-  duty_asks (duties.BreakReset s reason) ds is f each = quiet_duty (duties.BreakReset s reason) ds tt tt is f each
-  duty_asks (duties.Reset s) ds is f each = quiet_duty (duties.Reset s) ds tt tt is f each
-  duty_asks (duties.Leave s) ds is f each = quiet_duty (duties.Leave s) ds tt tt is f each
-  duty_asks (duties.Dead s) ds is f each = quiet_duty (duties.Dead s) ds tt tt is f each
+  duty_asks (duties.Step (step_duties.Data s)) ds is f each = data_duty s ds f each (first_unsent (end_at s p)) is
+  duty_asks (duties.Step (step_duties.Heard s index)) ds is f each =
+      heard_duty (duties.Step (step_duties.Heard s index)) s ds (heard_asks k (Here (duties.Step (step_duties.Heard s index) ∷ ds)) s (item_of index (end_at s p))) tt
+      (and_parts (is_owed s ds) (not (is_owed (peer s) ds)) (first_needs (duties.Step (step_duties.Heard s index)) ds f)).0 is f each
+  duty_asks (duties.Ask ask_duties.JoinAgain) ds is f each = quiet_duty (duties.Ask ask_duties.JoinAgain) ds tt tt is f each
+  duty_asks (duties.Step (step_duties.Look s)) ds is f each = quiet_duty (duties.Step (step_duties.Look s)) ds tt tt is f each
+  duty_asks (duties.Ask (ask_duties.Window s)) ds is f each = quiet_duty (duties.Ask (ask_duties.Window s)) ds tt tt is f each
+  duty_asks (duties.Send (send_duties.Update s)) ds is f each = quiet_duty (duties.Send (send_duties.Update s)) ds tt tt is f each
+  duty_asks (duties.Send (send_duties.Syn s)) ds is f each = quiet_duty (duties.Send (send_duties.Syn s)) ds tt tt is f each
+  duty_asks (duties.Send (send_duties.DataFin s)) ds is f each = quiet_duty (duties.Send (send_duties.DataFin s)) ds tt tt is f each
+  duty_asks (duties.Send (send_duties.Fin s)) ds is f each = quiet_duty (duties.Send (send_duties.Fin s)) ds tt tt is f each
+  duty_asks (duties.Silent (silent_duties.Timer s)) ds is f each = quiet_duty (duties.Silent (silent_duties.Timer s)) ds tt tt is f each
+  duty_asks (duties.Step step_duties.Events) ds is f each = quiet_duty (duties.Step step_duties.Events) ds tt tt is f each
+  duty_asks (duties.Ask (ask_duties.SynHeard s)) ds is f each = heard_duty (duties.Ask (ask_duties.SynHeard s)) s ds refl tt (first_needs (duties.Ask (ask_duties.SynHeard s)) ds f) is f each
+  duty_asks (duties.Ask (ask_duties.SynAnswered s)) ds is f each = heard_duty (duties.Ask (ask_duties.SynAnswered s)) s ds refl tt (first_needs (duties.Ask (ask_duties.SynAnswered s)) ds f) is f each
+  duty_asks (duties.Ask (ask_duties.PlainHandshake s)) ds is f each = quiet_duty (duties.Ask (ask_duties.PlainHandshake s)) ds tt tt is f each
+  duty_asks (duties.Ask (ask_duties.PeerKey s)) ds is f each = quiet_duty (duties.Ask (ask_duties.PeerKey s)) ds tt tt is f each
+  duty_asks (duties.Send (send_duties.SynAck s)) ds is f each = quiet_duty (duties.Send (send_duties.SynAck s)) ds tt tt is f each
+  duty_asks (duties.Ask (ask_duties.JoinHeard s)) ds is f each = quiet_duty (duties.Ask (ask_duties.JoinHeard s)) ds tt tt is f each
+  duty_asks (duties.Send (send_duties.Refuse s)) ds is f each = quiet_duty (duties.Send (send_duties.Refuse s)) ds tt tt is f each
+  duty_asks (duties.Ask (ask_duties.Opened s)) ds is f each = quiet_duty (duties.Ask (ask_duties.Opened s)) ds tt tt is f each
+  duty_asks (duties.Ask (ask_duties.Live s)) ds is f each = quiet_duty (duties.Ask (ask_duties.Live s)) ds tt tt is f each
+  duty_asks (duties.Ask (ask_duties.AckHeard s)) ds is f each = quiet_duty (duties.Ask (ask_duties.AckHeard s)) ds tt tt is f each
+  duty_asks (duties.Step (step_duties.PlainAck s)) ds is f each = quiet_duty (duties.Step (step_duties.PlainAck s)) ds tt tt is f each
+  duty_asks (duties.Ask (ask_duties.SubflowAck s)) ds is f each = heard_duty (duties.Ask (ask_duties.SubflowAck s)) s ds refl tt (first_needs (duties.Ask (ask_duties.SubflowAck s)) ds f) is f each
+  duty_asks (duties.Ask (ask_duties.PlainData s)) ds is f each = quiet_duty (duties.Ask (ask_duties.PlainData s)) ds tt tt is f each
+  duty_asks (duties.Ask (ask_duties.GoIdentity s)) ds is f each = quiet_duty (duties.Ask (ask_duties.GoIdentity s)) ds tt tt is f each
+  duty_asks (duties.Step (step_duties.Unmapped s)) ds is f each = quiet_duty (duties.Step (step_duties.Unmapped s)) ds tt tt is f each
+  duty_asks (duties.Ask (ask_duties.SubflowFin s)) ds is f each = quiet_duty (duties.Ask (ask_duties.SubflowFin s)) ds tt tt is f each
+  duty_asks (duties.Silent (silent_duties.Keep s)) ds is f each = quiet_duty (duties.Silent (silent_duties.Keep s)) ds tt tt is f each
+  duty_asks (duties.Ask (ask_duties.Edge s)) ds is f each = quiet_duty (duties.Ask (ask_duties.Edge s)) ds tt tt is f each
+  duty_asks (duties.Ask (ask_duties.HeardFin s index)) ds is f each = quiet_duty (duties.Ask (ask_duties.HeardFin s index)) ds tt tt is f each
+  duty_asks (duties.Silent (silent_duties.PassFin s)) ds is f each = quiet_duty (duties.Silent (silent_duties.PassFin s)) ds tt tt is f each
+  duty_asks (duties.Ask (ask_duties.AckOut s)) ds is f each = quiet_duty (duties.Ask (ask_duties.AckOut s)) ds tt tt is f each
+  duty_asks (duties.Ask (ask_duties.Rate s)) ds is f each = quiet_duty (duties.Ask (ask_duties.Rate s)) ds tt tt is f each
+  duty_asks (duties.Send (send_duties.Acknowledge s)) ds is f each = quiet_duty (duties.Send (send_duties.Acknowledge s)) ds tt tt is f each
+  duty_asks (duties.Send (send_duties.Again s)) ds is f each = quiet_duty (duties.Send (send_duties.Again s)) ds tt tt is f each
+  duty_asks (duties.Send (send_duties.Answer s)) ds is f each = quiet_duty (duties.Send (send_duties.Answer s)) ds tt tt is f each
+  duty_asks (duties.Send (send_duties.ResetAnswer s)) ds is f each = quiet_duty (duties.Send (send_duties.ResetAnswer s)) ds tt tt is f each
+  duty_asks (duties.Ask (ask_duties.Return s)) ds is f each = quiet_duty (duties.Ask (ask_duties.Return s)) ds tt tt is f each
+  duty_asks (duties.Send (send_duties.Resend s)) ds is f each = quiet_duty (duties.Send (send_duties.Resend s)) ds tt tt is f each
+  duty_asks (duties.Ask (ask_duties.BreakAck s reason)) ds is f each = quiet_duty (duties.Ask (ask_duties.BreakAck s reason)) ds tt tt is f each
+  duty_asks (duties.Send (send_duties.BreakReset s reason)) ds is f each = quiet_duty (duties.Send (send_duties.BreakReset s reason)) ds tt tt is f each
+  duty_asks (duties.Send (send_duties.Reset s)) ds is f each = quiet_duty (duties.Send (send_duties.Reset s)) ds tt tt is f each
+  duty_asks (duties.Ask (ask_duties.Leave s)) ds is f each = quiet_duty (duties.Ask (ask_duties.Leave s)) ds tt tt is f each
+  duty_asks (duties.Ask (ask_duties.Dead s)) ds is f each = quiet_duty (duties.Ask (ask_duties.Dead s)) ds tt tt is f each
   duty_asks duties.End ds is f each = quiet_duty duties.End ds tt tt is f each
 
   here_asks : (d : Duty) (ds : List Duty) → n.ask ≡ ask_for k d (Here (d ∷ ds)) → Granting (Here (d ∷ ds)) refused → AskThen (takes k (reply_of six (ask_for k d (Here (d ∷ ds)))) (Here (d ∷ ds)))

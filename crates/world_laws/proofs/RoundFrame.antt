@@ -11,6 +11,10 @@ use Rattle.path_agenda.specs.Words.{replaced}
 use Rattle.path_agenda.specs.Agenda.{emission, leaves, start_of_turn}
 use Rattle.path_agenda.specs.declared.duty.Duty.{Duty}
 use Rattle.path_agenda.specs.declared.duty.Duty.TheVariants as duties
+use Rattle.path_agenda.specs.declared.duty.AskDuty.TheVariants as ask_duties
+use Rattle.path_agenda.specs.declared.duty.SendDuty.TheVariants as send_duties
+use Rattle.path_agenda.specs.declared.duty.SilentDuty.TheVariants as silent_duties
+use Rattle.path_agenda.specs.declared.duty.StepDuty.TheVariants as step_duties
 use Rattle.path_agenda.specs.declared.heard.Heard.{Heard}
 use Rattle.path_agenda.specs.declared.heard.Heard.TheVariants as says
 use Rattle.path_core.specs.Breaking.{answered_break}
@@ -50,11 +54,11 @@ module _ {C : Type 0} where
   either_keeps false q r p x y = y
 
   passed_keeps : (d : Duty) (p : PathState C) → Keeps p (passed d p)
-  passed_keeps (duties.Timer s) p = (refl, refl, refl)
-  passed_keeps (duties.Heard s index) p = (refl, refl, refl)
-  passed_keeps (duties.Keep s) p = (refl, refl, refl)
-  passed_keeps (duties.Edge s) p = (refl, refl, refl)
-  passed_keeps (duties.PassFin s) p = (refl, refl, refl)
+  passed_keeps (duties.Silent (silent_duties.Timer s)) p = (refl, refl, refl)
+  passed_keeps (duties.Step (step_duties.Heard s index)) p = (refl, refl, refl)
+  passed_keeps (duties.Silent (silent_duties.Keep s)) p = (refl, refl, refl)
+  passed_keeps (duties.Ask (ask_duties.Edge s)) p = (refl, refl, refl)
+  passed_keeps (duties.Silent (silent_duties.PassFin s)) p = (refl, refl, refl)
   passed_keeps _ p = (refl, refl, refl)
 
   settled_keeps : (ds : List Duty) (p : PathState C) → Keeps p (settled ds p)
@@ -122,38 +126,38 @@ module _ {C : Type 0} where
   opened_keeps s (Some keys) r p = (refl, refl, refl)
 
   answered_keeps : (k : Codec C) (d : Duty) (r : Reply) (p : PathState C) → Keeps p (answered k d r p)
-  answered_keeps k duties.JoinAgain r p = begun_keeps r (replaced (duties.Leave A) p.agenda) (left p) p
-  answered_keeps k (duties.Look s) r p = (refl, refl, refl)
-  answered_keeps k (duties.Window s) r p = (refl, refl, refl)
-  answered_keeps k (duties.Update s) r p = (refl, refl, one_more_path s _)
-  answered_keeps k (duties.Syn s) r p = (refl, refl, one_more_path s _)
-  answered_keeps k (duties.Data s) r p = data_keeps k s (first_unsent (end_at s p)) r p
-  answered_keeps k (duties.DataFin s) r p = (refl, refl, one_more_path s _)
-  answered_keeps k (duties.Fin s) r p = (refl, refl, one_more_path s _)
-  answered_keeps k duties.Events r p = happens_keeps k (next_event p) r p
-  answered_keeps k (duties.PeerKey s) r p = key_keeps s (key_heard (end_at s p).treated.items) r p
-  answered_keeps k (duties.SynAck s) r p = (refl, refl, one_more_path s _)
-  answered_keeps k (duties.JoinHeard s) r p = join_keeps s (keys_begun r) (asked_at s p) r p
-  answered_keeps k (duties.Refuse s) r p = (refl, refl, one_more_path s _)
-  answered_keeps k (duties.Opened s) r p = opened_keeps s (keys_heard (end_at s p).treated.items) r p
-  answered_keeps k (duties.Heard s index) r p = item_keeps k s (item_of index (end_at s p)) r p
-  answered_keeps k (duties.PlainAck s) r p = either_keeps (breaks_by_ack p.profile (end_at s p)) _ _ p (break_keeps k s 6 r p) (refl, refl, refl)
-  answered_keeps k (duties.Unmapped s) r p = break_keeps k s 6 r p
-  answered_keeps k (duties.SubflowFin s) r p = either_keeps (is_fin_set r) _ _ p (refl, refl, refl) (refl, refl, refl)
-  answered_keeps k (duties.AckHeard s) r p = (refl, refl, refl)
-  answered_keeps k (duties.Edge s) r p = piece_keeps s (piece_of s p) (is_placed r) p
-  answered_keeps k (duties.HeardFin s index) r p = either_keeps (is_fin_set r) _ _ p (refl, refl, refl) (refl, refl, refl)
-  answered_keeps k (duties.AckOut s) r p = (refl, refl, refl)
-  answered_keeps k (duties.Rate s) r p = (refl, refl, refl)
-  answered_keeps k (duties.Acknowledge s) r p = (refl, refl, one_more_path s _)
-  answered_keeps k (duties.Again s) r p = (refl, refl, one_more_path s _)
-  answered_keeps k (duties.Answer s) r p = (refl, refl, one_more_path s _)
-  answered_keeps k (duties.ResetAnswer s) r p = (refl, refl, one_more_path s _)
-  answered_keeps k (duties.Resend s) r p = (refl, refl, one_more_path s _)
-  answered_keeps k (duties.BreakAck s reason) r p = (refl, refl, refl)
-  answered_keeps k (duties.BreakReset s reason) r p = (refl, refl, one_more_path s _)
-  answered_keeps k (duties.Reset s) r p = (refl, refl, one_more_path s _)
-  answered_keeps k (duties.Leave s) r p = (refl, refl, refl)
+  answered_keeps k (duties.Ask ask_duties.JoinAgain) r p = begun_keeps r (replaced (duties.Ask (ask_duties.Leave A)) p.agenda) (left p) p
+  answered_keeps k (duties.Step (step_duties.Look s)) r p = (refl, refl, refl)
+  answered_keeps k (duties.Ask (ask_duties.Window s)) r p = (refl, refl, refl)
+  answered_keeps k (duties.Send (send_duties.Update s)) r p = (refl, refl, one_more_path s _)
+  answered_keeps k (duties.Send (send_duties.Syn s)) r p = (refl, refl, one_more_path s _)
+  answered_keeps k (duties.Step (step_duties.Data s)) r p = data_keeps k s (first_unsent (end_at s p)) r p
+  answered_keeps k (duties.Send (send_duties.DataFin s)) r p = (refl, refl, one_more_path s _)
+  answered_keeps k (duties.Send (send_duties.Fin s)) r p = (refl, refl, one_more_path s _)
+  answered_keeps k (duties.Step step_duties.Events) r p = happens_keeps k (next_event p) r p
+  answered_keeps k (duties.Ask (ask_duties.PeerKey s)) r p = key_keeps s (key_heard (end_at s p).treated.items) r p
+  answered_keeps k (duties.Send (send_duties.SynAck s)) r p = (refl, refl, one_more_path s _)
+  answered_keeps k (duties.Ask (ask_duties.JoinHeard s)) r p = join_keeps s (keys_begun r) (asked_at s p) r p
+  answered_keeps k (duties.Send (send_duties.Refuse s)) r p = (refl, refl, one_more_path s _)
+  answered_keeps k (duties.Ask (ask_duties.Opened s)) r p = opened_keeps s (keys_heard (end_at s p).treated.items) r p
+  answered_keeps k (duties.Step (step_duties.Heard s index)) r p = item_keeps k s (item_of index (end_at s p)) r p
+  answered_keeps k (duties.Step (step_duties.PlainAck s)) r p = either_keeps (breaks_by_ack p.profile (end_at s p)) _ _ p (break_keeps k s 6 r p) (refl, refl, refl)
+  answered_keeps k (duties.Step (step_duties.Unmapped s)) r p = break_keeps k s 6 r p
+  answered_keeps k (duties.Ask (ask_duties.SubflowFin s)) r p = either_keeps (is_fin_set r) _ _ p (refl, refl, refl) (refl, refl, refl)
+  answered_keeps k (duties.Ask (ask_duties.AckHeard s)) r p = (refl, refl, refl)
+  answered_keeps k (duties.Ask (ask_duties.Edge s)) r p = piece_keeps s (piece_of s p) (is_placed r) p
+  answered_keeps k (duties.Ask (ask_duties.HeardFin s index)) r p = either_keeps (is_fin_set r) _ _ p (refl, refl, refl) (refl, refl, refl)
+  answered_keeps k (duties.Ask (ask_duties.AckOut s)) r p = (refl, refl, refl)
+  answered_keeps k (duties.Ask (ask_duties.Rate s)) r p = (refl, refl, refl)
+  answered_keeps k (duties.Send (send_duties.Acknowledge s)) r p = (refl, refl, one_more_path s _)
+  answered_keeps k (duties.Send (send_duties.Again s)) r p = (refl, refl, one_more_path s _)
+  answered_keeps k (duties.Send (send_duties.Answer s)) r p = (refl, refl, one_more_path s _)
+  answered_keeps k (duties.Send (send_duties.ResetAnswer s)) r p = (refl, refl, one_more_path s _)
+  answered_keeps k (duties.Send (send_duties.Resend s)) r p = (refl, refl, one_more_path s _)
+  answered_keeps k (duties.Ask (ask_duties.BreakAck s reason)) r p = (refl, refl, refl)
+  answered_keeps k (duties.Send (send_duties.BreakReset s reason)) r p = (refl, refl, one_more_path s _)
+  answered_keeps k (duties.Send (send_duties.Reset s)) r p = (refl, refl, one_more_path s _)
+  answered_keeps k (duties.Ask (ask_duties.Leave s)) r p = (refl, refl, refl)
   answered_keeps k duties.End r p = (refl, refl, refl)
   answered_keeps k _ r p = (refl, refl, refl)
 
@@ -172,7 +176,7 @@ module _ {C : Type 0} where
 
   -- something is to be done when a round begins
   pub first_stands : (p : PathState C) → is_nil (begins_turn p).agenda ≡ false
-  first_stands p = by (stands duties.JoinAgain q)
+  first_stands p = by (stands (duties.Ask ask_duties.JoinAgain) q)
     where
       q : PathState C
       q = with_agenda start_of_turn p

@@ -11,6 +11,10 @@ use Rattle.actor_desk.specs.declared.ask.Ask.{Ask}
 use Rattle.actor_desk.specs.declared.ask.Ask.TheVariants as asks
 use Rattle.path_agenda.specs.declared.duty.Duty.{Duty}
 use Rattle.path_agenda.specs.declared.duty.Duty.TheVariants as duties
+use Rattle.path_agenda.specs.declared.duty.AskDuty.TheVariants as ask_duties
+use Rattle.path_agenda.specs.declared.duty.SendDuty.TheVariants as send_duties
+use Rattle.path_agenda.specs.declared.duty.SilentDuty.TheVariants as silent_duties
+use Rattle.path_agenda.specs.declared.duty.StepDuty.TheVariants as step_duties
 use Rattle.path_core.specs.declared.event.Event.{Event}
 use Rattle.path_core.specs.declared.event.Event.TheVariants as happening
 use Rattle.path_agenda.specs.declared.heard.Heard.{Heard}
@@ -60,7 +64,7 @@ ask_isn't B (asks.Local step) none = refl
 
 -- only one duty asks for bytes
 abbrev pub MayNotAsk : Duty → Type 0
-MayNotAsk (duties.Data s) = ⊥
+MayNotAsk (duties.Step (step_duties.Data s)) = ⊥
 MayNotAsk _ = Unit {0}
 
 module _ {C : Type 0} (k : Codec C) (p : PathState C) where
@@ -131,48 +135,48 @@ module _ {C : Type 0} (k : Codec C) (p : PathState C) where
   rate_none s (Some pending) = tt
 
   pub asks_none : (d : Duty) → MayNotAsk d → AsksNone (ask_for k d p)
-  asks_none duties.JoinAgain other = tt
-  asks_none (duties.Look s) other = tt
-  asks_none (duties.Window s) other = tt
-  asks_none (duties.Update s) other = tt
-  asks_none (duties.Syn s) other = tt
-  asks_none (duties.Data s) other = absurd other
-  asks_none (duties.DataFin s) other = tt
-  asks_none (duties.Fin s) other = tt
-  asks_none (duties.Timer s) other = tt
-  asks_none duties.Events other = step_none (next_event p)
-  asks_none (duties.SynHeard s) other = tt
-  asks_none (duties.SynAnswered s) other = tt
-  asks_none (duties.PeerKey s) other = key_none s (key_heard (end_at s p).treated.items)
-  asks_none (duties.SynAck s) other = tt
-  asks_none (duties.JoinHeard s) other = join_none s (asked_at s p)
-  asks_none (duties.Refuse s) other = tt
-  asks_none (duties.Opened s) other = opened_none s (keys_heard (end_at s p).treated.items)
-  asks_none (duties.Live s) other = tt
-  asks_none (duties.Heard s index) other = item_none s (item_of index (end_at s p))
-  asks_none (duties.AckHeard s) other = tt
-  asks_none (duties.PlainAck s) other = plain_ack_none s
-  asks_none (duties.PlainHandshake s) other = tt
-  asks_none (duties.SubflowAck s) other = tt
-  asks_none (duties.PlainData s) other = tt
-  asks_none (duties.GoIdentity s) other = tt
-  asks_none (duties.Unmapped s) other = break_none s 6
-  asks_none (duties.SubflowFin s) other = fin_none s (plain_fin (end_at s p))
-  asks_none (duties.Keep s) other = tt
-  asks_none (duties.Edge s) other = piece_none s (piece_of s p)
-  asks_none (duties.HeardFin s index) other = fin_none s (fin_of index (end_at s p))
-  asks_none (duties.PassFin s) other = tt
-  asks_none (duties.AckOut s) other = tt
-  asks_none (duties.Rate s) other = rate_none s (end_at s p).tcp.congestion.pending
-  asks_none (duties.Acknowledge s) other = tt
-  asks_none (duties.Again s) other = tt
-  asks_none (duties.Answer s) other = tt
-  asks_none (duties.ResetAnswer s) other = tt
-  asks_none (duties.Return s) other = tt
-  asks_none (duties.Resend s) other = tt
-  asks_none (duties.BreakAck s reason) other = tt
-  asks_none (duties.BreakReset s reason) other = tt
-  asks_none (duties.Reset s) other = tt
-  asks_none (duties.Leave s) other = tt
-  asks_none (duties.Dead s) other = tt
+  asks_none (duties.Ask ask_duties.JoinAgain) other = tt
+  asks_none (duties.Step (step_duties.Look s)) other = tt
+  asks_none (duties.Ask (ask_duties.Window s)) other = tt
+  asks_none (duties.Send (send_duties.Update s)) other = tt
+  asks_none (duties.Send (send_duties.Syn s)) other = tt
+  asks_none (duties.Step (step_duties.Data s)) other = absurd other
+  asks_none (duties.Send (send_duties.DataFin s)) other = tt
+  asks_none (duties.Send (send_duties.Fin s)) other = tt
+  asks_none (duties.Silent (silent_duties.Timer s)) other = tt
+  asks_none (duties.Step step_duties.Events) other = step_none (next_event p)
+  asks_none (duties.Ask (ask_duties.SynHeard s)) other = tt
+  asks_none (duties.Ask (ask_duties.SynAnswered s)) other = tt
+  asks_none (duties.Ask (ask_duties.PeerKey s)) other = key_none s (key_heard (end_at s p).treated.items)
+  asks_none (duties.Send (send_duties.SynAck s)) other = tt
+  asks_none (duties.Ask (ask_duties.JoinHeard s)) other = join_none s (asked_at s p)
+  asks_none (duties.Send (send_duties.Refuse s)) other = tt
+  asks_none (duties.Ask (ask_duties.Opened s)) other = opened_none s (keys_heard (end_at s p).treated.items)
+  asks_none (duties.Ask (ask_duties.Live s)) other = tt
+  asks_none (duties.Step (step_duties.Heard s index)) other = item_none s (item_of index (end_at s p))
+  asks_none (duties.Ask (ask_duties.AckHeard s)) other = tt
+  asks_none (duties.Step (step_duties.PlainAck s)) other = plain_ack_none s
+  asks_none (duties.Ask (ask_duties.PlainHandshake s)) other = tt
+  asks_none (duties.Ask (ask_duties.SubflowAck s)) other = tt
+  asks_none (duties.Ask (ask_duties.PlainData s)) other = tt
+  asks_none (duties.Ask (ask_duties.GoIdentity s)) other = tt
+  asks_none (duties.Step (step_duties.Unmapped s)) other = break_none s 6
+  asks_none (duties.Ask (ask_duties.SubflowFin s)) other = fin_none s (plain_fin (end_at s p))
+  asks_none (duties.Silent (silent_duties.Keep s)) other = tt
+  asks_none (duties.Ask (ask_duties.Edge s)) other = piece_none s (piece_of s p)
+  asks_none (duties.Ask (ask_duties.HeardFin s index)) other = fin_none s (fin_of index (end_at s p))
+  asks_none (duties.Silent (silent_duties.PassFin s)) other = tt
+  asks_none (duties.Ask (ask_duties.AckOut s)) other = tt
+  asks_none (duties.Ask (ask_duties.Rate s)) other = rate_none s (end_at s p).tcp.congestion.pending
+  asks_none (duties.Send (send_duties.Acknowledge s)) other = tt
+  asks_none (duties.Send (send_duties.Again s)) other = tt
+  asks_none (duties.Send (send_duties.Answer s)) other = tt
+  asks_none (duties.Send (send_duties.ResetAnswer s)) other = tt
+  asks_none (duties.Ask (ask_duties.Return s)) other = tt
+  asks_none (duties.Send (send_duties.Resend s)) other = tt
+  asks_none (duties.Ask (ask_duties.BreakAck s reason)) other = tt
+  asks_none (duties.Send (send_duties.BreakReset s reason)) other = tt
+  asks_none (duties.Send (send_duties.Reset s)) other = tt
+  asks_none (duties.Ask (ask_duties.Leave s)) other = tt
+  asks_none (duties.Ask (ask_duties.Dead s)) other = tt
   asks_none duties.End other = tt

@@ -20,6 +20,10 @@ use Rattle.actor_desk.specs.declared.ask.Reply.{Reply}
 use Rattle.actor_desk.specs.Words.{tail_of}
 use Rattle.path_agenda.specs.declared.duty.Duty.{Duty}
 use Rattle.path_agenda.specs.declared.duty.Duty.TheVariants as duties
+use Rattle.path_agenda.specs.declared.duty.AskDuty.TheVariants as ask_duties
+use Rattle.path_agenda.specs.declared.duty.SendDuty.TheVariants as send_duties
+use Rattle.path_agenda.specs.declared.duty.SilentDuty.TheVariants as silent_duties
+use Rattle.path_agenda.specs.declared.duty.StepDuty.TheVariants as step_duties
 use Rattle.path_core.specs.declared.event.Event.{Event}
 use Rattle.path_core.specs.declared.event.Event.TheVariants as happenings
 use Rattle.path_agenda.specs.declared.heard.Heard.{Heard}
@@ -54,10 +58,10 @@ use Rattle.world_laws.proofs.Verdicts.{fell_cases}
 
 -- the duty lets the end of this side ask, or its end die
 abbrev pub pays : Side → Duty → Bool
-pays s (duties.Data t) = same_side s t
-pays s (duties.BreakAck t reason) = same_side s t
-pays s (duties.BreakReset t reason) = same_side s t
-pays s (duties.Reset t) = same_side s t
+pays s (duties.Step (step_duties.Data t)) = same_side s t
+pays s (duties.Ask (ask_duties.BreakAck t reason)) = same_side s t
+pays s (duties.Send (send_duties.BreakReset t reason)) = same_side s t
+pays s (duties.Send (send_duties.Reset t)) = same_side s t
 pays s _ = false
 
 abbrev pub is_owed : Side → List Duty → Bool
@@ -69,38 +73,38 @@ none_owed ds = not (is_owed A ds) && not (is_owed B ds)
 
 -- what has to come after a duty
 abbrev pub needs : Duty → List Duty → Bool
-needs duties.JoinAgain ds = is_owed A ds
-needs (duties.Look s) ds = is_owed s ds
-needs (duties.Update s) ds = is_owed s ds
-needs (duties.Syn s) ds = is_owed s ds
-needs (duties.SynHeard s) ds = is_owed s ds
-needs (duties.SynAnswered s) ds = is_owed s ds
-needs (duties.PeerKey s) ds = is_owed s ds && not (is_owed (peer s) ds)
-needs (duties.SynAck s) ds = is_owed s ds
-needs (duties.JoinHeard s) ds = is_owed s ds
-needs (duties.Opened s) ds = is_owed s ds && not (is_owed (peer s) ds)
-needs (duties.Heard s index) ds = is_owed s ds && not (is_owed (peer s) ds)
-needs (duties.AckHeard s) ds = is_owed s ds && not (is_owed (peer s) ds)
-needs (duties.PlainAck s) ds = is_owed s ds && not (is_owed (peer s) ds)
-needs (duties.PlainHandshake s) ds = is_owed s ds && not (is_owed (peer s) ds)
-needs (duties.SubflowAck s) ds = is_owed s ds
-needs (duties.PlainData s) ds = is_owed s ds && not (is_owed (peer s) ds)
-needs (duties.GoIdentity s) ds = is_owed s ds
-needs (duties.Unmapped s) ds = is_owed s ds && not (is_owed (peer s) ds)
-needs (duties.SubflowFin s) ds = is_owed s ds && not (is_owed (peer s) ds)
-needs (duties.Keep s) ds = is_owed s ds
-needs (duties.Edge s) ds = is_owed s ds && not (is_owed (peer s) ds)
-needs (duties.HeardFin s index) ds = is_owed s ds && not (is_owed (peer s) ds)
-needs (duties.PassFin s) ds = is_owed s ds
-needs (duties.Rate s) ds = is_owed s ds
-needs (duties.Acknowledge s) ds = is_owed s ds
-needs (duties.Again s) ds = is_owed s ds
-needs (duties.Answer s) ds = is_owed s ds
-needs (duties.Resend s) ds = is_owed s ds
-needs (duties.BreakAck s reason) ds = none_owed ds
-needs (duties.BreakReset s reason) ds = none_owed ds
-needs (duties.Reset s) ds = none_owed ds
-needs duties.Events ds = none_owed ds
+needs (duties.Ask ask_duties.JoinAgain) ds = is_owed A ds
+needs (duties.Step (step_duties.Look s)) ds = is_owed s ds
+needs (duties.Send (send_duties.Update s)) ds = is_owed s ds
+needs (duties.Send (send_duties.Syn s)) ds = is_owed s ds
+needs (duties.Ask (ask_duties.SynHeard s)) ds = is_owed s ds
+needs (duties.Ask (ask_duties.SynAnswered s)) ds = is_owed s ds
+needs (duties.Ask (ask_duties.PeerKey s)) ds = is_owed s ds && not (is_owed (peer s) ds)
+needs (duties.Send (send_duties.SynAck s)) ds = is_owed s ds
+needs (duties.Ask (ask_duties.JoinHeard s)) ds = is_owed s ds
+needs (duties.Ask (ask_duties.Opened s)) ds = is_owed s ds && not (is_owed (peer s) ds)
+needs (duties.Step (step_duties.Heard s index)) ds = is_owed s ds && not (is_owed (peer s) ds)
+needs (duties.Ask (ask_duties.AckHeard s)) ds = is_owed s ds && not (is_owed (peer s) ds)
+needs (duties.Step (step_duties.PlainAck s)) ds = is_owed s ds && not (is_owed (peer s) ds)
+needs (duties.Ask (ask_duties.PlainHandshake s)) ds = is_owed s ds && not (is_owed (peer s) ds)
+needs (duties.Ask (ask_duties.SubflowAck s)) ds = is_owed s ds
+needs (duties.Ask (ask_duties.PlainData s)) ds = is_owed s ds && not (is_owed (peer s) ds)
+needs (duties.Ask (ask_duties.GoIdentity s)) ds = is_owed s ds
+needs (duties.Step (step_duties.Unmapped s)) ds = is_owed s ds && not (is_owed (peer s) ds)
+needs (duties.Ask (ask_duties.SubflowFin s)) ds = is_owed s ds && not (is_owed (peer s) ds)
+needs (duties.Silent (silent_duties.Keep s)) ds = is_owed s ds
+needs (duties.Ask (ask_duties.Edge s)) ds = is_owed s ds && not (is_owed (peer s) ds)
+needs (duties.Ask (ask_duties.HeardFin s index)) ds = is_owed s ds && not (is_owed (peer s) ds)
+needs (duties.Silent (silent_duties.PassFin s)) ds = is_owed s ds
+needs (duties.Ask (ask_duties.Rate s)) ds = is_owed s ds
+needs (duties.Send (send_duties.Acknowledge s)) ds = is_owed s ds
+needs (duties.Send (send_duties.Again s)) ds = is_owed s ds
+needs (duties.Send (send_duties.Answer s)) ds = is_owed s ds
+needs (duties.Send (send_duties.Resend s)) ds = is_owed s ds
+needs (duties.Ask (ask_duties.BreakAck s reason)) ds = none_owed ds
+needs (duties.Send (send_duties.BreakReset s reason)) ds = none_owed ds
+needs (duties.Send (send_duties.Reset s)) ds = none_owed ds
+needs (duties.Step step_duties.Events) ds = none_owed ds
 needs duties.End ds = none_owed ds
 needs _ ds = true
 
@@ -334,7 +338,7 @@ module _ {C : Type 0} where
     line_done false = agenda_on p refused rest_of_turn refl (λ s. inr (paid s))
     line_done true = record { followed = by (states.is_dead p.a.tcp.state) (states.is_dead p.b.tcp.state); each = at }
       where
-        by : (a b : Bool) → is_followed ((if a then [] else duties.Leave A ∷ []) ++ ((if b then [] else duties.Leave B ∷ []) ++ rest_of_turn)) ≡ true
+        by : (a b : Bool) → is_followed ((if a then [] else duties.Ask (ask_duties.Leave A) ∷ []) ++ ((if b then [] else duties.Ask (ask_duties.Leave B) ∷ []) ++ rest_of_turn)) ≡ true
         by true true = refl
         by true false = refl
         by false true = refl
@@ -445,7 +449,7 @@ module _ {C : Type 0} where
   own_passed B e ds p refused own other A = other
   own_passed B e ds p refused own other B = own
 
-  data_passed : (s : Side) (ds : List Duty) (p : PathState C) (refused : Side → Bool) → stands (duties.Data s) p ≡ false → ((t : Side) → Pays p (duties.Data s ∷ ds) refused t) → (t : Side) → Pays p ds refused t
+  data_passed : (s : Side) (ds : List Duty) (p : PathState C) (refused : Side → Bool) → stands (duties.Step (step_duties.Data s)) p ≡ false → ((t : Side) → Pays p (duties.Step (step_duties.Data s) ∷ ds) refused t) → (t : Side) → Pays p ds refused t
   data_passed A ds p refused none each A = inr (not_asking p.profile A p.a (refused A) (first_unsent p.a) refl none)
   data_passed A ds p refused none each B = each B
   data_passed B ds p refused none each A = each A
@@ -453,54 +457,54 @@ module _ {C : Type 0} where
 
   passed_pays : (d : Duty) (ds : List Duty) (p : PathState C) (refused : Side → Bool) → stands d p ≡ false → is_followed (d ∷ ds) ≡ true → ((t : Side) → Pays p (d ∷ ds) refused t)
       → (t : Side) → Pays (passed d p) ds refused t
-  passed_pays (duties.Data s) ds p refused none f each = data_passed s ds p refused none each
-  passed_pays (duties.Timer s) ds p refused none f each = own_passed s _ ds p refused (⊎_elim (λ owed. inl owed) (λ h. inr (record { paid = h.paid })) (each s)) (each (peer s))
-  passed_pays (duties.Heard s index) ds p refused none f each =
-      own_passed s _ ds p refused (inl (and_parts (is_owed s ds) (not (is_owed (peer s) ds)) (first_need (duties.Heard s index) ds f)).0) (each (peer s))
-  passed_pays (duties.Keep s) ds p refused none f each = own_passed s _ ds p refused (inl (first_need (duties.Keep s) ds f)) (each (peer s))
-  passed_pays (duties.Edge s) ds p refused none f each =
-      own_passed s _ ds p refused (inl (and_parts (is_owed s ds) (not (is_owed (peer s) ds)) (first_need (duties.Edge s) ds f)).0) (each (peer s))
-  passed_pays (duties.PassFin s) ds p refused none f each = own_passed s _ ds p refused (inl (first_need (duties.PassFin s) ds f)) (each (peer s))
-  passed_pays (duties.BreakAck s reason) ds p refused none f each = absurd (true≢false none)
-  passed_pays (duties.BreakReset s reason) ds p refused none f each = absurd (true≢false none)
-  passed_pays (duties.Reset s) ds p refused none f each = absurd (true≢false none)
-  passed_pays duties.JoinAgain ds p refused none f each = each
-  passed_pays (duties.Look s) ds p refused none f each = each
-  passed_pays (duties.Window s) ds p refused none f each = each
-  passed_pays (duties.Update s) ds p refused none f each = each
-  passed_pays (duties.Syn s) ds p refused none f each = each
-  passed_pays (duties.DataFin s) ds p refused none f each = each
-  passed_pays (duties.Fin s) ds p refused none f each = each
-  passed_pays duties.Events ds p refused none f each = each
-  passed_pays (duties.SynHeard s) ds p refused none f each = each
-  passed_pays (duties.SynAnswered s) ds p refused none f each = each
-  passed_pays (duties.PeerKey s) ds p refused none f each = each
-  passed_pays (duties.SynAck s) ds p refused none f each = each
-  passed_pays (duties.JoinHeard s) ds p refused none f each = each
-  passed_pays (duties.Opened s) ds p refused none f each = each
-  passed_pays (duties.Live s) ds p refused none f each = each
-  passed_pays (duties.AckHeard s) ds p refused none f each = each
-  passed_pays (duties.PlainAck s) ds p refused none f each =
-      own_passed s _ ds p refused (inl (and_parts (is_owed s ds) (not (is_owed (peer s) ds)) (first_need (duties.PlainAck s) ds f)).0) (each (peer s))
-  passed_pays (duties.Unmapped s) ds p refused none f each =
-      own_passed s _ ds p refused (inl (and_parts (is_owed s ds) (not (is_owed (peer s) ds)) (first_need (duties.Unmapped s) ds f)).0) (each (peer s))
-  passed_pays (duties.PlainHandshake s) ds p refused none f each = each
-  passed_pays (duties.SubflowAck s) ds p refused none f each = each
-  passed_pays (duties.PlainData s) ds p refused none f each = each
-  passed_pays (duties.GoIdentity s) ds p refused none f each = each
-  passed_pays (duties.SubflowFin s) ds p refused none f each = each
-  passed_pays (duties.Refuse s) ds p refused none f each = each
-  passed_pays (duties.HeardFin s index) ds p refused none f each = each
-  passed_pays (duties.AckOut s) ds p refused none f each = each
-  passed_pays (duties.Rate s) ds p refused none f each = each
-  passed_pays (duties.Acknowledge s) ds p refused none f each = each
-  passed_pays (duties.Again s) ds p refused none f each = each
-  passed_pays (duties.Answer s) ds p refused none f each = each
-  passed_pays (duties.ResetAnswer s) ds p refused none f each = each
-  passed_pays (duties.Return s) ds p refused none f each = each
-  passed_pays (duties.Resend s) ds p refused none f each = each
-  passed_pays (duties.Leave s) ds p refused none f each = each
-  passed_pays (duties.Dead s) ds p refused none f each = each
+  passed_pays (duties.Step (step_duties.Data s)) ds p refused none f each = data_passed s ds p refused none each
+  passed_pays (duties.Silent (silent_duties.Timer s)) ds p refused none f each = own_passed s _ ds p refused (⊎_elim (λ owed. inl owed) (λ h. inr (record { paid = h.paid })) (each s)) (each (peer s))
+  passed_pays (duties.Step (step_duties.Heard s index)) ds p refused none f each =
+      own_passed s _ ds p refused (inl (and_parts (is_owed s ds) (not (is_owed (peer s) ds)) (first_need (duties.Step (step_duties.Heard s index)) ds f)).0) (each (peer s))
+  passed_pays (duties.Silent (silent_duties.Keep s)) ds p refused none f each = own_passed s _ ds p refused (inl (first_need (duties.Silent (silent_duties.Keep s)) ds f)) (each (peer s))
+  passed_pays (duties.Ask (ask_duties.Edge s)) ds p refused none f each =
+      own_passed s _ ds p refused (inl (and_parts (is_owed s ds) (not (is_owed (peer s) ds)) (first_need (duties.Ask (ask_duties.Edge s)) ds f)).0) (each (peer s))
+  passed_pays (duties.Silent (silent_duties.PassFin s)) ds p refused none f each = own_passed s _ ds p refused (inl (first_need (duties.Silent (silent_duties.PassFin s)) ds f)) (each (peer s))
+  passed_pays (duties.Ask (ask_duties.BreakAck s reason)) ds p refused none f each = absurd (true≢false none)
+  passed_pays (duties.Send (send_duties.BreakReset s reason)) ds p refused none f each = absurd (true≢false none)
+  passed_pays (duties.Send (send_duties.Reset s)) ds p refused none f each = absurd (true≢false none)
+  passed_pays (duties.Ask ask_duties.JoinAgain) ds p refused none f each = each
+  passed_pays (duties.Step (step_duties.Look s)) ds p refused none f each = each
+  passed_pays (duties.Ask (ask_duties.Window s)) ds p refused none f each = each
+  passed_pays (duties.Send (send_duties.Update s)) ds p refused none f each = each
+  passed_pays (duties.Send (send_duties.Syn s)) ds p refused none f each = each
+  passed_pays (duties.Send (send_duties.DataFin s)) ds p refused none f each = each
+  passed_pays (duties.Send (send_duties.Fin s)) ds p refused none f each = each
+  passed_pays (duties.Step step_duties.Events) ds p refused none f each = each
+  passed_pays (duties.Ask (ask_duties.SynHeard s)) ds p refused none f each = each
+  passed_pays (duties.Ask (ask_duties.SynAnswered s)) ds p refused none f each = each
+  passed_pays (duties.Ask (ask_duties.PeerKey s)) ds p refused none f each = each
+  passed_pays (duties.Send (send_duties.SynAck s)) ds p refused none f each = each
+  passed_pays (duties.Ask (ask_duties.JoinHeard s)) ds p refused none f each = each
+  passed_pays (duties.Ask (ask_duties.Opened s)) ds p refused none f each = each
+  passed_pays (duties.Ask (ask_duties.Live s)) ds p refused none f each = each
+  passed_pays (duties.Ask (ask_duties.AckHeard s)) ds p refused none f each = each
+  passed_pays (duties.Step (step_duties.PlainAck s)) ds p refused none f each =
+      own_passed s _ ds p refused (inl (and_parts (is_owed s ds) (not (is_owed (peer s) ds)) (first_need (duties.Step (step_duties.PlainAck s)) ds f)).0) (each (peer s))
+  passed_pays (duties.Step (step_duties.Unmapped s)) ds p refused none f each =
+      own_passed s _ ds p refused (inl (and_parts (is_owed s ds) (not (is_owed (peer s) ds)) (first_need (duties.Step (step_duties.Unmapped s)) ds f)).0) (each (peer s))
+  passed_pays (duties.Ask (ask_duties.PlainHandshake s)) ds p refused none f each = each
+  passed_pays (duties.Ask (ask_duties.SubflowAck s)) ds p refused none f each = each
+  passed_pays (duties.Ask (ask_duties.PlainData s)) ds p refused none f each = each
+  passed_pays (duties.Ask (ask_duties.GoIdentity s)) ds p refused none f each = each
+  passed_pays (duties.Ask (ask_duties.SubflowFin s)) ds p refused none f each = each
+  passed_pays (duties.Send (send_duties.Refuse s)) ds p refused none f each = each
+  passed_pays (duties.Ask (ask_duties.HeardFin s index)) ds p refused none f each = each
+  passed_pays (duties.Ask (ask_duties.AckOut s)) ds p refused none f each = each
+  passed_pays (duties.Ask (ask_duties.Rate s)) ds p refused none f each = each
+  passed_pays (duties.Send (send_duties.Acknowledge s)) ds p refused none f each = each
+  passed_pays (duties.Send (send_duties.Again s)) ds p refused none f each = each
+  passed_pays (duties.Send (send_duties.Answer s)) ds p refused none f each = each
+  passed_pays (duties.Send (send_duties.ResetAnswer s)) ds p refused none f each = each
+  passed_pays (duties.Ask (ask_duties.Return s)) ds p refused none f each = each
+  passed_pays (duties.Send (send_duties.Resend s)) ds p refused none f each = each
+  passed_pays (duties.Ask (ask_duties.Leave s)) ds p refused none f each = each
+  passed_pays (duties.Ask (ask_duties.Dead s)) ds p refused none f each = each
   passed_pays duties.End ds p refused none f each = each
 
   pub settled_done : (ds : List Duty) (p : PathState C) (refused : Side → Bool) → is_followed ds ≡ true → ((t : Side) → Pays p ds refused t) → Granting (settled ds p) refused
@@ -539,7 +543,7 @@ module _ {C : Type 0} where
         → Granting (goes_on s e (fell_duties s r (at (d ∷ ds))) (at (d ∷ ds))) refused
     fell_done s e d ds f owed paid =
         fell_cases (λ es. Granting (goes_on s e es (at (d ∷ ds))) refused) s (at (d ∷ ds)) r
-        (λ falls. touched s e (duties.GoIdentity s ∷ ds) (rw (owed, f) refl) owed (d ∷ ds) (inr paid))
+        (λ falls. touched s e (duties.Ask (ask_duties.GoIdentity s) ∷ ds) (rw (owed, f) refl) owed (d ∷ ds) (inr paid))
         (λ reason. breaks_done (at (d ∷ ds)) refused s e reason paid)
         (λ reason. resets_go (at (d ∷ ds)) refused s e reason paid)
         (touched s e ds f owed (d ∷ ds) (inr paid))
@@ -574,37 +578,37 @@ module _ {C : Type 0} where
     plain_ack_done s d ds f need paid true = break_done (at (d ∷ ds)) refused k s 6 r paid
     plain_ack_done s d ds f need paid false = fell_done s _ d ds f (own_owed s ds need) paid
 
-    item_done : (s : Side) (index : ℕ) (ds : List Duty) → is_followed (duties.Heard s index ∷ ds) ≡ true → ((t : Side) → Pays (at (duties.Heard s index ∷ ds)) (duties.Heard s index ∷ ds) refused t)
-        → (o : Option Heard) → Granting (answered_item k s o r (at (duties.Heard s index ∷ ds))) refused
+    item_done : (s : Side) (index : ℕ) (ds : List Duty) → is_followed (duties.Step (step_duties.Heard s index) ∷ ds) ≡ true → ((t : Side) → Pays (at (duties.Step (step_duties.Heard s index) ∷ ds)) (duties.Step (step_duties.Heard s index) ∷ ds) refused t)
+        → (o : Option Heard) → Granting (answered_item k s o r (at (duties.Step (step_duties.Heard s index) ∷ ds))) refused
     item_done s index ds f each = by
       where
         xs : List Duty
-        xs = duties.Heard s index ∷ ds
+        xs = duties.Step (step_duties.Heard s index) ∷ ds
 
         need : (is_owed s ds ≡ true) × (not (is_owed (peer s) ds) ≡ true)
-        need = and_parts (is_owed s ds) (not (is_owed (peer s) ds)) (first_need (duties.Heard s index) ds f)
+        need = and_parts (is_owed s ds) (not (is_owed (peer s) ds)) (first_need (duties.Step (step_duties.Heard s index)) ds f)
 
         rest : is_followed ds ≡ true
-        rest = rest_followed (duties.Heard s index) ds f
+        rest = rest_followed (duties.Step (step_duties.Heard s index)) ds f
 
         paid : IsPaid p.profile (peer s) (end_at (peer s) p) (refused (peer s))
         paid = is_paid (at xs) xs refused (peer s) (not-true (is_owed (peer s) ds) need.1) (each (peer s))
 
         told : (b : Bool) (e : PathEnd) → Granting (goes_on s e (told_next s b (at xs)) (at xs)) refused
-        told true e = touched s e (duties.AckHeard s ∷ ds) (rw (need.0, need.1, rest) refl) need.0 xs (inr paid)
+        told true e = touched s e (duties.Ask (ask_duties.AckHeard s) ∷ ds) (rw (need.0, need.1, rest) refl) need.0 xs (inr paid)
         told false e = touched s e ds rest need.0 xs (inr paid)
 
         mapping : (b : Bool) → Granting (if b then answered_break k s 1 r (at xs) else goes_on s (with_learned (after_fell events.MappingHeard r (end_at s (at xs)))) (fell_duties s r (at xs)) (at xs)) refused
         mapping true = break_done (at xs) refused k s 1 r paid
-        mapping false = fell_done s _ (duties.Heard s index) ds rest need.0 paid
+        mapping false = fell_done s _ (duties.Step (step_duties.Heard s index)) ds rest need.0 paid
 
         by : (o : Option Heard) → Granting (answered_item k s o r (at xs)) refused
         by None = done_on ds xs rest (λ t. each t)
         by (Some says.Dss) = done_on ds xs rest (λ t. each t)
         by (Some (says.DataAck next window)) = told _ _
         by (Some (says.Mapping fin)) = mapping (is_clash (end_at s p))
-        by (Some (says.DataFin place)) = fell_done s _ (duties.Heard s index) ds rest need.0 paid
-        by (Some (says.InfiniteMapping place position)) = fell_done s _ (duties.Heard s index) ds rest need.0 paid
+        by (Some (says.DataFin place)) = fell_done s _ (duties.Step (step_duties.Heard s index)) ds rest need.0 paid
+        by (Some (says.InfiniteMapping place position)) = fell_done s _ (duties.Step (step_duties.Heard s index)) ds rest need.0 paid
         by (Some (says.PeerKey key)) = done_on ds xs rest (λ t. each t)
         by (Some (says.Join form)) = done_on ds xs rest (λ t. each t)
         by (Some (says.Notice notice)) = done_on ds xs rest (λ t. each t)
@@ -613,48 +617,48 @@ module _ {C : Type 0} where
         by (Some (says.Keys own other)) = touched s _ ds rest need.0 xs (inr paid)
 
     -- an end that waits asks again whether it may join
-    again_done : (ds : List Duty) → is_followed (duties.JoinAgain ∷ ds) ≡ true → ((t : Side) → Pays (at (duties.JoinAgain ∷ ds)) (duties.JoinAgain ∷ ds) refused t)
-        → Granting (join_begun r (duties.Leave A ∷ ds) ds (at (duties.JoinAgain ∷ ds))) refused
+    again_done : (ds : List Duty) → is_followed ((duties.Ask ask_duties.JoinAgain) ∷ ds) ≡ true → ((t : Side) → Pays (at ((duties.Ask ask_duties.JoinAgain) ∷ ds)) ((duties.Ask ask_duties.JoinAgain) ∷ ds) refused t)
+        → Granting (join_begun r (duties.Ask (ask_duties.Leave A) ∷ ds) ds (at ((duties.Ask ask_duties.JoinAgain) ∷ ds))) refused
     again_done ds f each = by (is_never r)
       where
         xs : List Duty
-        xs = duties.JoinAgain ∷ ds
+        xs = (duties.Ask ask_duties.JoinAgain) ∷ ds
 
         rest : is_followed ds ≡ true
-        rest = rest_followed duties.JoinAgain ds f
+        rest = rest_followed (duties.Ask ask_duties.JoinAgain) ds f
 
-        by : (b : Bool) → Granting (if b then goes_on A (never_joined r p.a) (duties.Leave A ∷ ds) (at xs) else goes_on A (opened_by (keys_begun r) p.a) ds (at xs)) refused
-        by true = touched A (never_joined r p.a) (duties.Leave A ∷ ds) rest (first_need duties.JoinAgain ds f) xs (each B)
-        by false = touched A (opened_by (keys_begun r) p.a) ds rest (first_need duties.JoinAgain ds f) xs (each B)
+        by : (b : Bool) → Granting (if b then goes_on A (never_joined r p.a) (duties.Ask (ask_duties.Leave A) ∷ ds) (at xs) else goes_on A (opened_by (keys_begun r) p.a) ds (at xs)) refused
+        by true = touched A (never_joined r p.a) (duties.Ask (ask_duties.Leave A) ∷ ds) rest (first_need (duties.Ask ask_duties.JoinAgain) ds f) xs (each B)
+        by false = touched A (opened_by (keys_begun r) p.a) ds rest (first_need (duties.Ask ask_duties.JoinAgain) ds f) xs (each B)
 
-    join_heard_done : (s : Side) (ds : List Duty) → is_followed (duties.JoinHeard s ∷ ds) ≡ true → ((t : Side) → Pays (at (duties.JoinHeard s ∷ ds)) (duties.JoinHeard s ∷ ds) refused t)
-        → (keys : Option KeyPair) (asked : Option JoinSyn) → Granting (join_taken s keys asked r (at (duties.JoinHeard s ∷ ds))) refused
+    join_heard_done : (s : Side) (ds : List Duty) → is_followed (duties.Ask (ask_duties.JoinHeard s) ∷ ds) ≡ true → ((t : Side) → Pays (at (duties.Ask (ask_duties.JoinHeard s) ∷ ds)) (duties.Ask (ask_duties.JoinHeard s) ∷ ds) refused t)
+        → (keys : Option KeyPair) (asked : Option JoinSyn) → Granting (join_taken s keys asked r (at (duties.Ask (ask_duties.JoinHeard s) ∷ ds))) refused
     join_heard_done s ds f each = by
       where
         xs : List Duty
-        xs = duties.JoinHeard s ∷ ds
+        xs = duties.Ask (ask_duties.JoinHeard s) ∷ ds
 
         need : is_owed s ds ≡ true
-        need = first_need (duties.JoinHeard s) ds f
+        need = first_need (duties.Ask (ask_duties.JoinHeard s)) ds f
 
         rest : is_followed ds ≡ true
-        rest = rest_followed (duties.JoinHeard s) ds f
+        rest = rest_followed (duties.Ask (ask_duties.JoinHeard s)) ds f
 
         by : (keys : Option KeyPair) (asked : Option JoinSyn) → Granting (join_taken s keys asked r (at xs)) refused
-        by None None = done_on (duties.Refuse s ∷ ds) xs rest (λ t. each t)
-        by None (Some asked) = touched s _ (duties.Refuse s ∷ ds) rest need xs (each (peer s))
-        by (Some keys) None = done_on (duties.Refuse s ∷ ds) xs rest (λ t. each t)
-        by (Some keys) (Some asked) = touched s _ (duties.SynAck s ∷ ds) (rw (need, rest) refl) need xs (each (peer s))
+        by None None = done_on (duties.Send (send_duties.Refuse s) ∷ ds) xs rest (λ t. each t)
+        by None (Some asked) = touched s _ (duties.Send (send_duties.Refuse s) ∷ ds) rest need xs (each (peer s))
+        by (Some keys) None = done_on (duties.Send (send_duties.Refuse s) ∷ ds) xs rest (λ t. each t)
+        by (Some keys) (Some asked) = touched s _ (duties.Send (send_duties.SynAck s) ∷ ds) (rw (need, rest) refl) need xs (each (peer s))
 
-    piece_done : (s : Side) (ds : List Duty) → is_followed (duties.Edge s ∷ ds) ≡ true → ((t : Side) → Pays (at (duties.Edge s ∷ ds)) (duties.Edge s ∷ ds) refused t)
-        → (o : Option Piece) (taken : Bool) → Granting (answered_piece s o taken (at (duties.Edge s ∷ ds))) refused
+    piece_done : (s : Side) (ds : List Duty) → is_followed (duties.Ask (ask_duties.Edge s) ∷ ds) ≡ true → ((t : Side) → Pays (at (duties.Ask (ask_duties.Edge s) ∷ ds)) (duties.Ask (ask_duties.Edge s) ∷ ds) refused t)
+        → (o : Option Piece) (taken : Bool) → Granting (answered_piece s o taken (at (duties.Ask (ask_duties.Edge s) ∷ ds))) refused
     piece_done s ds f each = by
       where
         xs : List Duty
-        xs = duties.Edge s ∷ ds
+        xs = duties.Ask (ask_duties.Edge s) ∷ ds
 
         need : (is_owed s ds ≡ true) × (not (is_owed (peer s) ds) ≡ true)
-        need = and_parts (is_owed s ds) (not (is_owed (peer s) ds)) (first_need (duties.Edge s) ds f)
+        need = and_parts (is_owed s ds) (not (is_owed (peer s) ds)) (first_need (duties.Ask (ask_duties.Edge s)) ds f)
 
         paid : IsPaid p.profile (peer s) (end_at (peer s) p) (refused (peer s))
         paid = is_paid (at xs) xs refused (peer s) (not-true (is_owed (peer s) ds) need.1) (each (peer s))
@@ -664,131 +668,131 @@ module _ {C : Type 0} where
         by (Some piece) false = breaks_done (at xs) refused s _ 1 paid
         by None taken = breaks_done (at xs) refused s _ 1 paid
 
-    fin_done : (s : Side) (index : ℕ) (ds : List Duty) → is_followed (duties.HeardFin s index ∷ ds) ≡ true
-        → ((t : Side) → Pays (at (duties.HeardFin s index ∷ ds)) (duties.HeardFin s index ∷ ds) refused t) → (set : Bool) → Granting (answered_fin_heard s set (at (duties.HeardFin s index ∷ ds))) refused
+    fin_done : (s : Side) (index : ℕ) (ds : List Duty) → is_followed (duties.Ask (ask_duties.HeardFin s index) ∷ ds) ≡ true
+        → ((t : Side) → Pays (at (duties.Ask (ask_duties.HeardFin s index) ∷ ds)) (duties.Ask (ask_duties.HeardFin s index) ∷ ds) refused t) → (set : Bool) → Granting (answered_fin_heard s set (at (duties.Ask (ask_duties.HeardFin s index) ∷ ds))) refused
     fin_done s index ds f each = by
       where
         xs : List Duty
-        xs = duties.HeardFin s index ∷ ds
+        xs = duties.Ask (ask_duties.HeardFin s index) ∷ ds
 
         need : (is_owed s ds ≡ true) × (not (is_owed (peer s) ds) ≡ true)
-        need = and_parts (is_owed s ds) (not (is_owed (peer s) ds)) (first_need (duties.HeardFin s index) ds f)
+        need = and_parts (is_owed s ds) (not (is_owed (peer s) ds)) (first_need (duties.Ask (ask_duties.HeardFin s index)) ds f)
 
         paid : IsPaid p.profile (peer s) (end_at (peer s) p) (refused (peer s))
         paid = is_paid (at xs) xs refused (peer s) (not-true (is_owed (peer s) ds) need.1) (each (peer s))
 
         by : (set : Bool) → Granting (answered_fin_heard s set (at xs)) refused
-        by true = touched s _ ds (rest_followed (duties.HeardFin s index) ds f) need.0 xs (inr paid)
+        by true = touched s _ ds (rest_followed (duties.Ask (ask_duties.HeardFin s index)) ds f) need.0 xs (inr paid)
         by false = breaks_done (at xs) refused s _ 1 paid
 
-    plain_fin_done : (s : Side) (ds : List Duty) → is_followed (duties.SubflowFin s ∷ ds) ≡ true → ((t : Side) → Pays (at (duties.SubflowFin s ∷ ds)) (duties.SubflowFin s ∷ ds) refused t) → (set : Bool)
-        → Granting (answered_plain_fin s set (at (duties.SubflowFin s ∷ ds))) refused
+    plain_fin_done : (s : Side) (ds : List Duty) → is_followed (duties.Ask (ask_duties.SubflowFin s) ∷ ds) ≡ true → ((t : Side) → Pays (at (duties.Ask (ask_duties.SubflowFin s) ∷ ds)) (duties.Ask (ask_duties.SubflowFin s) ∷ ds) refused t) → (set : Bool)
+        → Granting (answered_plain_fin s set (at (duties.Ask (ask_duties.SubflowFin s) ∷ ds))) refused
     plain_fin_done s ds f each = by
       where
         xs : List Duty
-        xs = duties.SubflowFin s ∷ ds
+        xs = duties.Ask (ask_duties.SubflowFin s) ∷ ds
 
         need : Needed s ds
-        need = first_need (duties.SubflowFin s) ds f
+        need = first_need (duties.Ask (ask_duties.SubflowFin s)) ds f
 
         paid : IsPaid p.profile (peer s) (end_at (peer s) p) (refused (peer s))
         paid = is_paid (at xs) xs refused (peer s) (none_other s ds need) (each (peer s))
 
         by : (set : Bool) → Granting (answered_plain_fin s set (at xs)) refused
-        by true = touched s _ ds (rest_followed (duties.SubflowFin s) ds f) (own_owed s ds need) xs (inr paid)
+        by true = touched s _ ds (rest_followed (duties.Ask (ask_duties.SubflowFin s)) ds f) (own_owed s ds need) xs (inr paid)
         by false = breaks_done (at xs) refused s _ 1 paid
 
     -- an end that asks for bytes, where the reply leaves the duty
-    own_data : (s : Side) (ds : List Duty) → is_owed s (duties.Data s ∷ ds) ≡ true
+    own_data : (s : Side) (ds : List Duty) → is_owed s (duties.Step (step_duties.Data s) ∷ ds) ≡ true
     own_data A ds = refl
     own_data B ds = refl
 
-    pub data_sent : (s : Side) (ds : List Duty) (u : Record) → is_followed (duties.Data s ∷ ds) ≡ true → ((t : Side) → Pays (at (duties.Data s ∷ ds)) (duties.Data s ∷ ds) refused t)
-        → Granting (answered_data k s (Some u) r (at (duties.Data s ∷ ds))) refused
-    data_sent s ds u f each = touched_sent s _ _ (duties.Data s ∷ ds) f (own_data s ds) (duties.Data s ∷ ds) (each (peer s))
+    pub data_sent : (s : Side) (ds : List Duty) (u : Record) → is_followed (duties.Step (step_duties.Data s) ∷ ds) ≡ true → ((t : Side) → Pays (at (duties.Step (step_duties.Data s) ∷ ds)) (duties.Step (step_duties.Data s) ∷ ds) refused t)
+        → Granting (answered_data k s (Some u) r (at (duties.Step (step_duties.Data s) ∷ ds))) refused
+    data_sent s ds u f each = touched_sent s _ _ (duties.Step (step_duties.Data s) ∷ ds) f (own_data s ds) (duties.Step (step_duties.Data s) ∷ ds) (each (peer s))
 
-    pub granted_done : (s : Side) (ds : List Duty) (grant : Grant) → is_followed (duties.Data s ∷ ds) ≡ true → ((t : Side) → Pays (at (duties.Data s ∷ ds)) (duties.Data s ∷ ds) refused t)
-        → Granting (answered_grant s (Some grant) r (at (duties.Data s ∷ ds))) refused
-    granted_done s ds grant f each = touched s _ (duties.Data s ∷ ds) f (own_data s ds) (duties.Data s ∷ ds) (each (peer s))
+    pub granted_done : (s : Side) (ds : List Duty) (grant : Grant) → is_followed (duties.Step (step_duties.Data s) ∷ ds) ≡ true → ((t : Side) → Pays (at (duties.Step (step_duties.Data s) ∷ ds)) (duties.Step (step_duties.Data s) ∷ ds) refused t)
+        → Granting (answered_grant s (Some grant) r (at (duties.Step (step_duties.Data s) ∷ ds))) refused
+    granted_done s ds grant f each = touched s _ (duties.Step (step_duties.Data s) ∷ ds) f (own_data s ds) (duties.Step (step_duties.Data s) ∷ ds) (each (peer s))
 
     -- a refusal ends the asking
-    pub refused_done : (s : Side) (ds : List Duty) → refused s ≡ true → is_followed (duties.Data s ∷ ds) ≡ true → ((t : Side) → (t ≡ s → ⊥) → Pays (at (duties.Data s ∷ ds)) (duties.Data s ∷ ds) refused t)
-        → Granting (answered_grant s None r (at (duties.Data s ∷ ds))) refused
+    pub refused_done : (s : Side) (ds : List Duty) → refused s ≡ true → is_followed (duties.Step (step_duties.Data s) ∷ ds) ≡ true → ((t : Side) → (t ≡ s → ⊥) → Pays (at (duties.Step (step_duties.Data s) ∷ ds)) (duties.Step (step_duties.Data s) ∷ ds) refused t)
+        → Granting (answered_grant s None r (at (duties.Step (step_duties.Data s) ∷ ds))) refused
     refused_done A ds is f each =
-        on (at (duties.Data A ∷ ds)) refused A _ ds (rest_followed (duties.Data A) ds f) (inr (record { paid = λ none may. is })) (each B (λ same. (let never : B ≡ A = same in cc)))
+        on (at (duties.Step (step_duties.Data A) ∷ ds)) refused A _ ds (rest_followed (duties.Step (step_duties.Data A)) ds f) (inr (record { paid = λ none may. is })) (each B (λ same. (let never : B ≡ A = same in cc)))
     refused_done B ds is f each =
-        on (at (duties.Data B ∷ ds)) refused B _ ds (rest_followed (duties.Data B) ds f) (inr (record { paid = λ none may. is })) (each A (λ same. (let never : A ≡ B = same in cc)))
+        on (at (duties.Step (step_duties.Data B) ∷ ds)) refused B _ ds (rest_followed (duties.Step (step_duties.Data B)) ds f) (inr (record { paid = λ none may. is })) (each A (λ same. (let never : A ≡ B = same in cc)))
 
     -- every other duty
     pub answered_done : (d : Duty) (ds : List Duty) → MayNotAsk d → is_followed (d ∷ ds) ≡ true → ((t : Side) → Pays (at (d ∷ ds)) (d ∷ ds) refused t) → Granting (answered k d r (at (d ∷ ds))) refused
-    answered_done (duties.Data s) ds other f each = absurd other
-    answered_done duties.JoinAgain ds other f each = again_done ds f each
-    answered_done (duties.Look s) ds other f each = touched s _ ds (rest_followed (duties.Look s) ds f) (first_need (duties.Look s) ds f) (duties.Look s ∷ ds) (each (peer s))
-    answered_done (duties.Window s) ds other f each =
-        on (at (duties.Window s ∷ ds)) refused s _ ds (rest_followed (duties.Window s) ds f) (⊎_elim (λ owed. inl owed) (λ h. inr (record { paid = h.paid })) (each s)) (each (peer s))
-    answered_done (duties.Update s) ds other f each = touched_sent s _ _ ds (rest_followed (duties.Update s) ds f) (first_need (duties.Update s) ds f) (duties.Update s ∷ ds) (each (peer s))
-    answered_done (duties.Syn s) ds other f each = touched_sent s _ _ ds (rest_followed (duties.Syn s) ds f) (first_need (duties.Syn s) ds f) (duties.Syn s ∷ ds) (each (peer s))
-    answered_done (duties.DataFin s) ds other f each =
-        sent (at (duties.DataFin s ∷ ds)) refused k s _ _ ds (rest_followed (duties.DataFin s) ds f) (⊎_elim (λ owed. inl owed) (λ h. inr (record { paid = h.paid })) (each s)) (each (peer s))
-    answered_done (duties.Fin s) ds other f each =
-        sent (at (duties.Fin s ∷ ds)) refused k s _ _ ds (rest_followed (duties.Fin s) ds f) (inr (closed_paid p.profile s _ (refused s) (finished (end_at s p).tcp.state))) (each (peer s))
-    answered_done (duties.Timer s) ds other f each = done_on ds (duties.Timer s ∷ ds) (rest_followed (duties.Timer s) ds f) (λ t. each t)
-    answered_done duties.Events ds other f each =
-        event_done k (next_event p) r (at (duties.Events ∷ ds)) refused
-        (λ s. is_paid (at (duties.Events ∷ ds)) (duties.Events ∷ ds) refused s (none_for s ds (first_need duties.Events ds f)) (each s))
-    answered_done (duties.SynHeard s) ds other f each = done_on ds (duties.SynHeard s ∷ ds) (rest_followed (duties.SynHeard s) ds f) (λ t. each t)
-    answered_done (duties.SynAnswered s) ds other f each = done_on ds (duties.SynAnswered s ∷ ds) (rest_followed (duties.SynAnswered s) ds f) (λ t. each t)
-    answered_done (duties.PeerKey s) ds other f each =
-        key_done s (key_heard (end_at s p).treated.items) (duties.PeerKey s) ds (rest_followed (duties.PeerKey s) ds f) (first_need (duties.PeerKey s) ds f)
-        (is_paid (at (duties.PeerKey s ∷ ds)) (duties.PeerKey s ∷ ds) refused (peer s) (none_other s ds (first_need (duties.PeerKey s) ds f)) (each (peer s)))
-    answered_done (duties.SynAck s) ds other f each = touched_sent s _ _ ds (rest_followed (duties.SynAck s) ds f) (first_need (duties.SynAck s) ds f) (duties.SynAck s ∷ ds) (each (peer s))
-    answered_done (duties.JoinHeard s) ds other f each = join_heard_done s ds f each (keys_begun r) (asked_at s p)
-    answered_done (duties.Refuse s) ds other f each =
-        sent (at (duties.Refuse s ∷ ds)) refused k s _ _ ds (rest_followed (duties.Refuse s) ds f) (each s) (each (peer s))
-    answered_done (duties.Opened s) ds other f each =
-        opened_done s (keys_heard (end_at s p).treated.items) (duties.Opened s) ds (rest_followed (duties.Opened s) ds f) (first_need (duties.Opened s) ds f)
-        (is_paid (at (duties.Opened s ∷ ds)) (duties.Opened s ∷ ds) refused (peer s) (none_other s ds (first_need (duties.Opened s) ds f)) (each (peer s)))
-    answered_done (duties.Live s) ds other f each = done_on ds (duties.Live s ∷ ds) (rest_followed (duties.Live s) ds f) (λ t. each t)
-    answered_done (duties.Heard s index) ds other f each = item_done s index ds f each (item_of index (end_at s p))
-    answered_done (duties.AckHeard s) ds other f each =
-        event_told s events.AckHeard (duties.AckHeard s) ds (rest_followed (duties.AckHeard s) ds f) (first_need (duties.AckHeard s) ds f)
-        (is_paid (at (duties.AckHeard s ∷ ds)) (duties.AckHeard s ∷ ds) refused (peer s) (none_other s ds (first_need (duties.AckHeard s) ds f)) (each (peer s)))
-    answered_done (duties.PlainAck s) ds other f each =
-        plain_ack_done s (duties.PlainAck s) ds (rest_followed (duties.PlainAck s) ds f) (first_need (duties.PlainAck s) ds f)
-        (is_paid (at (duties.PlainAck s ∷ ds)) (duties.PlainAck s ∷ ds) refused (peer s) (none_other s ds (first_need (duties.PlainAck s) ds f)) (each (peer s))) (breaks_by_ack p.profile (end_at s p))
-    answered_done (duties.PlainHandshake s) ds other f each =
-        event_told s events.PlainHandshake (duties.PlainHandshake s) ds (rest_followed (duties.PlainHandshake s) ds f) (first_need (duties.PlainHandshake s) ds f)
-        (is_paid (at (duties.PlainHandshake s ∷ ds)) (duties.PlainHandshake s ∷ ds) refused (peer s) (none_other s ds (first_need (duties.PlainHandshake s) ds f)) (each (peer s)))
-    answered_done (duties.PlainData s) ds other f each =
-        event_told s events.PlainData (duties.PlainData s) ds (rest_followed (duties.PlainData s) ds f) (first_need (duties.PlainData s) ds f)
-        (is_paid (at (duties.PlainData s ∷ ds)) (duties.PlainData s ∷ ds) refused (peer s) (none_other s ds (first_need (duties.PlainData s) ds f)) (each (peer s)))
-    answered_done (duties.SubflowAck s) ds other f each = touched s _ ds (rest_followed (duties.SubflowAck s) ds f) (first_need (duties.SubflowAck s) ds f) (duties.SubflowAck s ∷ ds) (each (peer s))
-    answered_done (duties.GoIdentity s) ds other f each = touched s _ ds (rest_followed (duties.GoIdentity s) ds f) (first_need (duties.GoIdentity s) ds f) (duties.GoIdentity s ∷ ds) (each (peer s))
-    answered_done (duties.Unmapped s) ds other f each = break_done (at (duties.Unmapped s ∷ ds)) refused k s 6 r (is_paid (at (duties.Unmapped s ∷ ds)) (duties.Unmapped s ∷ ds) refused (peer s) (none_other s ds (first_need (duties.Unmapped s) ds f)) (each (peer s)))
-    answered_done (duties.SubflowFin s) ds other f each = plain_fin_done s ds f each (is_fin_set r)
-    answered_done (duties.Keep s) ds other f each = done_on ds (duties.Keep s ∷ ds) (rest_followed (duties.Keep s) ds f) (λ t. each t)
-    answered_done (duties.Edge s) ds other f each = piece_done s ds f each (piece_of s p) (is_placed r)
-    answered_done (duties.HeardFin s index) ds other f each = fin_done s index ds f each (is_fin_set r)
-    answered_done (duties.PassFin s) ds other f each = done_on ds (duties.PassFin s ∷ ds) (rest_followed (duties.PassFin s) ds f) (λ t. each t)
-    answered_done (duties.AckOut s) ds other f each =
-        on (at (duties.AckOut s ∷ ds)) refused s _ ds (rest_followed (duties.AckOut s) ds f) (⊎_elim (λ owed. inl owed) (λ h. inr (record { paid = h.paid })) (each s)) (each (peer s))
-    answered_done (duties.Rate s) ds other f each = touched s _ ds (rest_followed (duties.Rate s) ds f) (first_need (duties.Rate s) ds f) (duties.Rate s ∷ ds) (each (peer s))
-    answered_done (duties.Acknowledge s) ds other f each = touched_sent s _ _ ds (rest_followed (duties.Acknowledge s) ds f) (first_need (duties.Acknowledge s) ds f) (duties.Acknowledge s ∷ ds) (each (peer s))
-    answered_done (duties.Again s) ds other f each = touched_sent s _ _ ds (rest_followed (duties.Again s) ds f) (first_need (duties.Again s) ds f) (duties.Again s ∷ ds) (each (peer s))
-    answered_done (duties.Answer s) ds other f each = touched_sent s _ _ ds (rest_followed (duties.Answer s) ds f) (first_need (duties.Answer s) ds f) (duties.Answer s ∷ ds) (each (peer s))
-    answered_done (duties.ResetAnswer s) ds other f each =
-        sent (at (duties.ResetAnswer s ∷ ds)) refused k s _ _ ds (rest_followed (duties.ResetAnswer s) ds f) (each s) (each (peer s))
-    answered_done (duties.Return s) ds other f each = done_on ds (duties.Return s ∷ ds) (rest_followed (duties.Return s) ds f) (λ t. each t)
-    answered_done (duties.Resend s) ds other f each = touched_sent s _ _ ds (rest_followed (duties.Resend s) ds f) (first_need (duties.Resend s) ds f) (duties.Resend s ∷ ds) (each (peer s))
-    answered_done (duties.BreakAck s reason) ds other f each =
-        resets_done (at (duties.BreakAck s reason ∷ ds)) refused s reason r
-        (other_paid (duties.BreakAck s reason) s ds (others_none s ds (first_need (duties.BreakAck s reason) ds f)) each)
-    answered_done (duties.BreakReset s reason) ds other f each =
-        reset_done (at (duties.BreakReset s reason ∷ ds)) refused k s (Some reason) (leaves s) refl
-        (other_paid (duties.BreakReset s reason) s ds (others_none s ds (first_need (duties.BreakReset s reason) ds f)) each)
-    answered_done (duties.Reset s) ds other f each =
-        reset_done (at (duties.Reset s ∷ ds)) refused k s None (duties.Leave s ∷ ds) (rest_followed (duties.Reset s) ds f) (other_paid (duties.Reset s) s ds (others_none s ds (first_need (duties.Reset s) ds f)) each)
-    answered_done (duties.Leave s) ds other f each = done_on (duties.Dead s ∷ ds) (duties.Leave s ∷ ds) (rest_followed (duties.Leave s) ds f) (λ t. each t)
-    answered_done (duties.Dead s) ds other f each = done_on ds (duties.Dead s ∷ ds) (rest_followed (duties.Dead s) ds f) (λ t. each t)
+    answered_done (duties.Step (step_duties.Data s)) ds other f each = absurd other
+    answered_done (duties.Ask ask_duties.JoinAgain) ds other f each = again_done ds f each
+    answered_done (duties.Step (step_duties.Look s)) ds other f each = touched s _ ds (rest_followed (duties.Step (step_duties.Look s)) ds f) (first_need (duties.Step (step_duties.Look s)) ds f) (duties.Step (step_duties.Look s) ∷ ds) (each (peer s))
+    answered_done (duties.Ask (ask_duties.Window s)) ds other f each =
+        on (at (duties.Ask (ask_duties.Window s) ∷ ds)) refused s _ ds (rest_followed (duties.Ask (ask_duties.Window s)) ds f) (⊎_elim (λ owed. inl owed) (λ h. inr (record { paid = h.paid })) (each s)) (each (peer s))
+    answered_done (duties.Send (send_duties.Update s)) ds other f each = touched_sent s _ _ ds (rest_followed (duties.Send (send_duties.Update s)) ds f) (first_need (duties.Send (send_duties.Update s)) ds f) (duties.Send (send_duties.Update s) ∷ ds) (each (peer s))
+    answered_done (duties.Send (send_duties.Syn s)) ds other f each = touched_sent s _ _ ds (rest_followed (duties.Send (send_duties.Syn s)) ds f) (first_need (duties.Send (send_duties.Syn s)) ds f) (duties.Send (send_duties.Syn s) ∷ ds) (each (peer s))
+    answered_done (duties.Send (send_duties.DataFin s)) ds other f each =
+        sent (at (duties.Send (send_duties.DataFin s) ∷ ds)) refused k s _ _ ds (rest_followed (duties.Send (send_duties.DataFin s)) ds f) (⊎_elim (λ owed. inl owed) (λ h. inr (record { paid = h.paid })) (each s)) (each (peer s))
+    answered_done (duties.Send (send_duties.Fin s)) ds other f each =
+        sent (at (duties.Send (send_duties.Fin s) ∷ ds)) refused k s _ _ ds (rest_followed (duties.Send (send_duties.Fin s)) ds f) (inr (closed_paid p.profile s _ (refused s) (finished (end_at s p).tcp.state))) (each (peer s))
+    answered_done (duties.Silent (silent_duties.Timer s)) ds other f each = done_on ds (duties.Silent (silent_duties.Timer s) ∷ ds) (rest_followed (duties.Silent (silent_duties.Timer s)) ds f) (λ t. each t)
+    answered_done (duties.Step step_duties.Events) ds other f each =
+        event_done k (next_event p) r (at ((duties.Step step_duties.Events) ∷ ds)) refused
+        (λ s. is_paid (at ((duties.Step step_duties.Events) ∷ ds)) ((duties.Step step_duties.Events) ∷ ds) refused s (none_for s ds (first_need (duties.Step step_duties.Events) ds f)) (each s))
+    answered_done (duties.Ask (ask_duties.SynHeard s)) ds other f each = done_on ds (duties.Ask (ask_duties.SynHeard s) ∷ ds) (rest_followed (duties.Ask (ask_duties.SynHeard s)) ds f) (λ t. each t)
+    answered_done (duties.Ask (ask_duties.SynAnswered s)) ds other f each = done_on ds (duties.Ask (ask_duties.SynAnswered s) ∷ ds) (rest_followed (duties.Ask (ask_duties.SynAnswered s)) ds f) (λ t. each t)
+    answered_done (duties.Ask (ask_duties.PeerKey s)) ds other f each =
+        key_done s (key_heard (end_at s p).treated.items) (duties.Ask (ask_duties.PeerKey s)) ds (rest_followed (duties.Ask (ask_duties.PeerKey s)) ds f) (first_need (duties.Ask (ask_duties.PeerKey s)) ds f)
+        (is_paid (at (duties.Ask (ask_duties.PeerKey s) ∷ ds)) (duties.Ask (ask_duties.PeerKey s) ∷ ds) refused (peer s) (none_other s ds (first_need (duties.Ask (ask_duties.PeerKey s)) ds f)) (each (peer s)))
+    answered_done (duties.Send (send_duties.SynAck s)) ds other f each = touched_sent s _ _ ds (rest_followed (duties.Send (send_duties.SynAck s)) ds f) (first_need (duties.Send (send_duties.SynAck s)) ds f) (duties.Send (send_duties.SynAck s) ∷ ds) (each (peer s))
+    answered_done (duties.Ask (ask_duties.JoinHeard s)) ds other f each = join_heard_done s ds f each (keys_begun r) (asked_at s p)
+    answered_done (duties.Send (send_duties.Refuse s)) ds other f each =
+        sent (at (duties.Send (send_duties.Refuse s) ∷ ds)) refused k s _ _ ds (rest_followed (duties.Send (send_duties.Refuse s)) ds f) (each s) (each (peer s))
+    answered_done (duties.Ask (ask_duties.Opened s)) ds other f each =
+        opened_done s (keys_heard (end_at s p).treated.items) (duties.Ask (ask_duties.Opened s)) ds (rest_followed (duties.Ask (ask_duties.Opened s)) ds f) (first_need (duties.Ask (ask_duties.Opened s)) ds f)
+        (is_paid (at (duties.Ask (ask_duties.Opened s) ∷ ds)) (duties.Ask (ask_duties.Opened s) ∷ ds) refused (peer s) (none_other s ds (first_need (duties.Ask (ask_duties.Opened s)) ds f)) (each (peer s)))
+    answered_done (duties.Ask (ask_duties.Live s)) ds other f each = done_on ds (duties.Ask (ask_duties.Live s) ∷ ds) (rest_followed (duties.Ask (ask_duties.Live s)) ds f) (λ t. each t)
+    answered_done (duties.Step (step_duties.Heard s index)) ds other f each = item_done s index ds f each (item_of index (end_at s p))
+    answered_done (duties.Ask (ask_duties.AckHeard s)) ds other f each =
+        event_told s events.AckHeard (duties.Ask (ask_duties.AckHeard s)) ds (rest_followed (duties.Ask (ask_duties.AckHeard s)) ds f) (first_need (duties.Ask (ask_duties.AckHeard s)) ds f)
+        (is_paid (at (duties.Ask (ask_duties.AckHeard s) ∷ ds)) (duties.Ask (ask_duties.AckHeard s) ∷ ds) refused (peer s) (none_other s ds (first_need (duties.Ask (ask_duties.AckHeard s)) ds f)) (each (peer s)))
+    answered_done (duties.Step (step_duties.PlainAck s)) ds other f each =
+        plain_ack_done s (duties.Step (step_duties.PlainAck s)) ds (rest_followed (duties.Step (step_duties.PlainAck s)) ds f) (first_need (duties.Step (step_duties.PlainAck s)) ds f)
+        (is_paid (at (duties.Step (step_duties.PlainAck s) ∷ ds)) (duties.Step (step_duties.PlainAck s) ∷ ds) refused (peer s) (none_other s ds (first_need (duties.Step (step_duties.PlainAck s)) ds f)) (each (peer s))) (breaks_by_ack p.profile (end_at s p))
+    answered_done (duties.Ask (ask_duties.PlainHandshake s)) ds other f each =
+        event_told s events.PlainHandshake (duties.Ask (ask_duties.PlainHandshake s)) ds (rest_followed (duties.Ask (ask_duties.PlainHandshake s)) ds f) (first_need (duties.Ask (ask_duties.PlainHandshake s)) ds f)
+        (is_paid (at (duties.Ask (ask_duties.PlainHandshake s) ∷ ds)) (duties.Ask (ask_duties.PlainHandshake s) ∷ ds) refused (peer s) (none_other s ds (first_need (duties.Ask (ask_duties.PlainHandshake s)) ds f)) (each (peer s)))
+    answered_done (duties.Ask (ask_duties.PlainData s)) ds other f each =
+        event_told s events.PlainData (duties.Ask (ask_duties.PlainData s)) ds (rest_followed (duties.Ask (ask_duties.PlainData s)) ds f) (first_need (duties.Ask (ask_duties.PlainData s)) ds f)
+        (is_paid (at (duties.Ask (ask_duties.PlainData s) ∷ ds)) (duties.Ask (ask_duties.PlainData s) ∷ ds) refused (peer s) (none_other s ds (first_need (duties.Ask (ask_duties.PlainData s)) ds f)) (each (peer s)))
+    answered_done (duties.Ask (ask_duties.SubflowAck s)) ds other f each = touched s _ ds (rest_followed (duties.Ask (ask_duties.SubflowAck s)) ds f) (first_need (duties.Ask (ask_duties.SubflowAck s)) ds f) (duties.Ask (ask_duties.SubflowAck s) ∷ ds) (each (peer s))
+    answered_done (duties.Ask (ask_duties.GoIdentity s)) ds other f each = touched s _ ds (rest_followed (duties.Ask (ask_duties.GoIdentity s)) ds f) (first_need (duties.Ask (ask_duties.GoIdentity s)) ds f) (duties.Ask (ask_duties.GoIdentity s) ∷ ds) (each (peer s))
+    answered_done (duties.Step (step_duties.Unmapped s)) ds other f each = break_done (at (duties.Step (step_duties.Unmapped s) ∷ ds)) refused k s 6 r (is_paid (at (duties.Step (step_duties.Unmapped s) ∷ ds)) (duties.Step (step_duties.Unmapped s) ∷ ds) refused (peer s) (none_other s ds (first_need (duties.Step (step_duties.Unmapped s)) ds f)) (each (peer s)))
+    answered_done (duties.Ask (ask_duties.SubflowFin s)) ds other f each = plain_fin_done s ds f each (is_fin_set r)
+    answered_done (duties.Silent (silent_duties.Keep s)) ds other f each = done_on ds (duties.Silent (silent_duties.Keep s) ∷ ds) (rest_followed (duties.Silent (silent_duties.Keep s)) ds f) (λ t. each t)
+    answered_done (duties.Ask (ask_duties.Edge s)) ds other f each = piece_done s ds f each (piece_of s p) (is_placed r)
+    answered_done (duties.Ask (ask_duties.HeardFin s index)) ds other f each = fin_done s index ds f each (is_fin_set r)
+    answered_done (duties.Silent (silent_duties.PassFin s)) ds other f each = done_on ds (duties.Silent (silent_duties.PassFin s) ∷ ds) (rest_followed (duties.Silent (silent_duties.PassFin s)) ds f) (λ t. each t)
+    answered_done (duties.Ask (ask_duties.AckOut s)) ds other f each =
+        on (at (duties.Ask (ask_duties.AckOut s) ∷ ds)) refused s _ ds (rest_followed (duties.Ask (ask_duties.AckOut s)) ds f) (⊎_elim (λ owed. inl owed) (λ h. inr (record { paid = h.paid })) (each s)) (each (peer s))
+    answered_done (duties.Ask (ask_duties.Rate s)) ds other f each = touched s _ ds (rest_followed (duties.Ask (ask_duties.Rate s)) ds f) (first_need (duties.Ask (ask_duties.Rate s)) ds f) (duties.Ask (ask_duties.Rate s) ∷ ds) (each (peer s))
+    answered_done (duties.Send (send_duties.Acknowledge s)) ds other f each = touched_sent s _ _ ds (rest_followed (duties.Send (send_duties.Acknowledge s)) ds f) (first_need (duties.Send (send_duties.Acknowledge s)) ds f) (duties.Send (send_duties.Acknowledge s) ∷ ds) (each (peer s))
+    answered_done (duties.Send (send_duties.Again s)) ds other f each = touched_sent s _ _ ds (rest_followed (duties.Send (send_duties.Again s)) ds f) (first_need (duties.Send (send_duties.Again s)) ds f) (duties.Send (send_duties.Again s) ∷ ds) (each (peer s))
+    answered_done (duties.Send (send_duties.Answer s)) ds other f each = touched_sent s _ _ ds (rest_followed (duties.Send (send_duties.Answer s)) ds f) (first_need (duties.Send (send_duties.Answer s)) ds f) (duties.Send (send_duties.Answer s) ∷ ds) (each (peer s))
+    answered_done (duties.Send (send_duties.ResetAnswer s)) ds other f each =
+        sent (at (duties.Send (send_duties.ResetAnswer s) ∷ ds)) refused k s _ _ ds (rest_followed (duties.Send (send_duties.ResetAnswer s)) ds f) (each s) (each (peer s))
+    answered_done (duties.Ask (ask_duties.Return s)) ds other f each = done_on ds (duties.Ask (ask_duties.Return s) ∷ ds) (rest_followed (duties.Ask (ask_duties.Return s)) ds f) (λ t. each t)
+    answered_done (duties.Send (send_duties.Resend s)) ds other f each = touched_sent s _ _ ds (rest_followed (duties.Send (send_duties.Resend s)) ds f) (first_need (duties.Send (send_duties.Resend s)) ds f) (duties.Send (send_duties.Resend s) ∷ ds) (each (peer s))
+    answered_done (duties.Ask (ask_duties.BreakAck s reason)) ds other f each =
+        resets_done (at (duties.Ask (ask_duties.BreakAck s reason) ∷ ds)) refused s reason r
+        (other_paid (duties.Ask (ask_duties.BreakAck s reason)) s ds (others_none s ds (first_need (duties.Ask (ask_duties.BreakAck s reason)) ds f)) each)
+    answered_done (duties.Send (send_duties.BreakReset s reason)) ds other f each =
+        reset_done (at (duties.Send (send_duties.BreakReset s reason) ∷ ds)) refused k s (Some reason) (leaves s) refl
+        (other_paid (duties.Send (send_duties.BreakReset s reason)) s ds (others_none s ds (first_need (duties.Send (send_duties.BreakReset s reason)) ds f)) each)
+    answered_done (duties.Send (send_duties.Reset s)) ds other f each =
+        reset_done (at (duties.Send (send_duties.Reset s) ∷ ds)) refused k s None (duties.Ask (ask_duties.Leave s) ∷ ds) (rest_followed (duties.Send (send_duties.Reset s)) ds f) (other_paid (duties.Send (send_duties.Reset s)) s ds (others_none s ds (first_need (duties.Send (send_duties.Reset s)) ds f)) each)
+    answered_done (duties.Ask (ask_duties.Leave s)) ds other f each = done_on (duties.Ask (ask_duties.Dead s) ∷ ds) (duties.Ask (ask_duties.Leave s) ∷ ds) (rest_followed (duties.Ask (ask_duties.Leave s)) ds f) (λ t. each t)
+    answered_done (duties.Ask (ask_duties.Dead s)) ds other f each = done_on ds (duties.Ask (ask_duties.Dead s) ∷ ds) (rest_followed (duties.Ask (ask_duties.Dead s)) ds f) (λ t. each t)
     answered_done duties.End ds other f each =
         done_on [] (duties.End ∷ ds) refl (λ t. inr (is_paid (at (duties.End ∷ ds)) (duties.End ∷ ds) refused t (none_for t ds (first_need duties.End ds f)) (each t)))

@@ -9,6 +9,10 @@ use Rattle.actor_desk.specs.Desk.{SixBooks}
 use Rattle.actor_desk.specs.Words.{pick}
 use Rattle.path_agenda.specs.declared.duty.Duty.{Duty}
 use Rattle.path_agenda.specs.declared.duty.Duty.TheVariants as duties
+use Rattle.path_agenda.specs.declared.duty.AskDuty.TheVariants as ask_duties
+use Rattle.path_agenda.specs.declared.duty.SendDuty.TheVariants as send_duties
+use Rattle.path_agenda.specs.declared.duty.SilentDuty.TheVariants as silent_duties
+use Rattle.path_agenda.specs.declared.duty.StepDuty.TheVariants as step_duties
 use Rattle.path_agenda.specs.declared.heard.Heard.{Heard}
 use Rattle.path_agenda.specs.declared.heard.Heard.TheVariants as says
 use Rattle.path_core.specs.Duties.{stands, passed}
@@ -33,50 +37,50 @@ use Rattle.world_laws.proofs.Strolling.{Strolled, strolls_held, agrees, back_hol
 
 -- whether a duty comes to something doesn't depend on the agenda
 pub stands_anyway : (d : Duty) (es : List Duty) (p : PathState Carried) → stands d (with_agenda es p) ≡ stands d p
-stands_anyway duties.JoinAgain es p = refl
-stands_anyway (duties.Look s) es p = refl
-stands_anyway (duties.Window s) es p = refl
-stands_anyway (duties.Update s) es p = refl
-stands_anyway (duties.Syn s) es p = refl
-stands_anyway (duties.Data s) es p = refl
-stands_anyway (duties.DataFin s) es p = refl
-stands_anyway (duties.Fin s) es p = refl
-stands_anyway (duties.Timer s) es p = refl
-stands_anyway duties.Events es p = refl
-stands_anyway (duties.SynHeard s) es p = refl
-stands_anyway (duties.SynAnswered s) es p = refl
-stands_anyway (duties.PeerKey s) es p = refl
-stands_anyway (duties.SynAck s) es p = refl
-stands_anyway (duties.JoinHeard s) es p = refl
-stands_anyway (duties.Refuse s) es p = refl
-stands_anyway (duties.Opened s) es p = refl
-stands_anyway (duties.Live s) es p = refl
-stands_anyway (duties.Heard s index) es p = refl
-stands_anyway (duties.AckHeard s) es p = refl
-stands_anyway (duties.PlainAck s) es p = refl
-stands_anyway (duties.PlainHandshake s) es p = refl
-stands_anyway (duties.SubflowAck s) es p = refl
-stands_anyway (duties.PlainData s) es p = refl
-stands_anyway (duties.GoIdentity s) es p = refl
-stands_anyway (duties.Unmapped s) es p = refl
-stands_anyway (duties.SubflowFin s) es p = refl
-stands_anyway (duties.Keep s) es p = refl
-stands_anyway (duties.Edge s) es p = refl
-stands_anyway (duties.HeardFin s index) es p = refl
-stands_anyway (duties.PassFin s) es p = refl
-stands_anyway (duties.AckOut s) es p = refl
-stands_anyway (duties.Rate s) es p = refl
-stands_anyway (duties.Acknowledge s) es p = refl
-stands_anyway (duties.Again s) es p = refl
-stands_anyway (duties.Answer s) es p = refl
-stands_anyway (duties.ResetAnswer s) es p = refl
-stands_anyway (duties.Return s) es p = refl
-stands_anyway (duties.Resend s) es p = refl
-stands_anyway (duties.BreakAck s reason) es p = refl
-stands_anyway (duties.BreakReset s reason) es p = refl
-stands_anyway (duties.Reset s) es p = refl
-stands_anyway (duties.Leave s) es p = refl
-stands_anyway (duties.Dead s) es p = refl
+stands_anyway (duties.Ask ask_duties.JoinAgain) es p = refl
+stands_anyway (duties.Step (step_duties.Look s)) es p = refl
+stands_anyway (duties.Ask (ask_duties.Window s)) es p = refl
+stands_anyway (duties.Send (send_duties.Update s)) es p = refl
+stands_anyway (duties.Send (send_duties.Syn s)) es p = refl
+stands_anyway (duties.Step (step_duties.Data s)) es p = refl
+stands_anyway (duties.Send (send_duties.DataFin s)) es p = refl
+stands_anyway (duties.Send (send_duties.Fin s)) es p = refl
+stands_anyway (duties.Silent (silent_duties.Timer s)) es p = refl
+stands_anyway (duties.Step step_duties.Events) es p = refl
+stands_anyway (duties.Ask (ask_duties.SynHeard s)) es p = refl
+stands_anyway (duties.Ask (ask_duties.SynAnswered s)) es p = refl
+stands_anyway (duties.Ask (ask_duties.PeerKey s)) es p = refl
+stands_anyway (duties.Send (send_duties.SynAck s)) es p = refl
+stands_anyway (duties.Ask (ask_duties.JoinHeard s)) es p = refl
+stands_anyway (duties.Send (send_duties.Refuse s)) es p = refl
+stands_anyway (duties.Ask (ask_duties.Opened s)) es p = refl
+stands_anyway (duties.Ask (ask_duties.Live s)) es p = refl
+stands_anyway (duties.Step (step_duties.Heard s index)) es p = refl
+stands_anyway (duties.Ask (ask_duties.AckHeard s)) es p = refl
+stands_anyway (duties.Step (step_duties.PlainAck s)) es p = refl
+stands_anyway (duties.Ask (ask_duties.PlainHandshake s)) es p = refl
+stands_anyway (duties.Ask (ask_duties.SubflowAck s)) es p = refl
+stands_anyway (duties.Ask (ask_duties.PlainData s)) es p = refl
+stands_anyway (duties.Ask (ask_duties.GoIdentity s)) es p = refl
+stands_anyway (duties.Step (step_duties.Unmapped s)) es p = refl
+stands_anyway (duties.Ask (ask_duties.SubflowFin s)) es p = refl
+stands_anyway (duties.Silent (silent_duties.Keep s)) es p = refl
+stands_anyway (duties.Ask (ask_duties.Edge s)) es p = refl
+stands_anyway (duties.Ask (ask_duties.HeardFin s index)) es p = refl
+stands_anyway (duties.Silent (silent_duties.PassFin s)) es p = refl
+stands_anyway (duties.Ask (ask_duties.AckOut s)) es p = refl
+stands_anyway (duties.Ask (ask_duties.Rate s)) es p = refl
+stands_anyway (duties.Send (send_duties.Acknowledge s)) es p = refl
+stands_anyway (duties.Send (send_duties.Again s)) es p = refl
+stands_anyway (duties.Send (send_duties.Answer s)) es p = refl
+stands_anyway (duties.Send (send_duties.ResetAnswer s)) es p = refl
+stands_anyway (duties.Ask (ask_duties.Return s)) es p = refl
+stands_anyway (duties.Send (send_duties.Resend s)) es p = refl
+stands_anyway (duties.Ask (ask_duties.BreakAck s reason)) es p = refl
+stands_anyway (duties.Send (send_duties.BreakReset s reason)) es p = refl
+stands_anyway (duties.Send (send_duties.Reset s)) es p = refl
+stands_anyway (duties.Ask (ask_duties.Leave s)) es p = refl
+stands_anyway (duties.Ask (ask_duties.Dead s)) es p = refl
 stands_anyway duties.End es p = refl
 
 -- on the same lanes
@@ -147,53 +151,53 @@ module _ (six : SixBooks) (others : Others) (c : Profile) where
     item_shows s index false = every_item index (end_at s p).treated.items (side_shows c s p ab ba h).treated.items
 
     pub passes : (d : Duty) → Strolled c (passed d p) ab ba
-    passes (duties.Timer s) = same_lanes s (after_timer p.clock (end_at s p)) (timer_shows c s (pick s ab ba) (pick s ba ab) p.clock (end_at s p) (side_shows c s p ab ba h))
-    passes (duties.Heard s index) =
+    passes (duties.Silent (silent_duties.Timer s)) = same_lanes s (after_timer p.clock (end_at s p)) (timer_shows c s (pick s ab ba) (pick s ba ab) p.clock (end_at s p) (side_shows c s p ab ba h))
+    passes (duties.Step (step_duties.Heard s index)) =
         end_strolled s (item_passed s (item_of index (end_at s p)) (end_at s p)) (maybe_did s (item_of index (end_at s p)) (item_shows s index (end_at s p).modes.identity))
-    passes (duties.Keep s) = same_lanes s (after_keep s (end_at s p)) (keep_shows c s (pick s ab ba) (pick s ba ab) (end_at s p) (side_shows c s p ab ba h))
-    passes (duties.Edge s) = same_lanes s (after_check p.profile (end_at s p))
+    passes (duties.Silent (silent_duties.Keep s)) = same_lanes s (after_keep s (end_at s p)) (keep_shows c s (pick s ab ba) (pick s ba ab) (end_at s p) (side_shows c s p ab ba h))
+    passes (duties.Ask (ask_duties.Edge s)) = same_lanes s (after_check p.profile (end_at s p))
         (check_shows c s (pick s ab ba) (pick s ba ab) p.profile p.profile.spelling.checksums (mapping_here (end_at s p)) (end_at s p) (side_shows c s p ab ba h))
-    passes (duties.PassFin s) =
+    passes (duties.Silent (silent_duties.PassFin s)) =
         end_strolled s (after_pass_fin (end_at s p)) (passed_fin c s (pick s ab ba) (pick s ba ab) _ _ (end_at s p) (back_holds six others s ab ba holds) (side_shows c s p ab ba h))
-    passes duties.JoinAgain = stays_so c p ab ba h
-    passes (duties.Look s) = stays_so c p ab ba h
-    passes (duties.Window s) = stays_so c p ab ba h
-    passes (duties.Update s) = stays_so c p ab ba h
-    passes (duties.Syn s) = stays_so c p ab ba h
-    passes (duties.Data s) = stays_so c p ab ba h
-    passes (duties.DataFin s) = stays_so c p ab ba h
-    passes (duties.Fin s) = stays_so c p ab ba h
-    passes duties.Events = stays_so c p ab ba h
-    passes (duties.SynHeard s) = stays_so c p ab ba h
-    passes (duties.SynAnswered s) = stays_so c p ab ba h
-    passes (duties.PeerKey s) = stays_so c p ab ba h
-    passes (duties.SynAck s) = stays_so c p ab ba h
-    passes (duties.JoinHeard s) = stays_so c p ab ba h
-    passes (duties.Refuse s) = stays_so c p ab ba h
-    passes (duties.Opened s) = stays_so c p ab ba h
-    passes (duties.Live s) = stays_so c p ab ba h
-    passes (duties.AckHeard s) = stays_so c p ab ba h
-    passes (duties.PlainAck s) = same_lanes s (with_plain_ack (end_at s p)) (plain_ack_shows c s (pick s ab ba) (pick s ba ab) (end_at s p) (side_shows c s p ab ba h))
-    passes (duties.Unmapped s) = same_lanes s (after_pieces (end_at s p)) (unmapped_shows c s (pick s ab ba) (pick s ba ab) (end_at s p) (side_shows c s p ab ba h))
-    passes (duties.PlainHandshake s) = stays_so c p ab ba h
-    passes (duties.SubflowAck s) = stays_so c p ab ba h
-    passes (duties.PlainData s) = stays_so c p ab ba h
-    passes (duties.GoIdentity s) = stays_so c p ab ba h
-    passes (duties.SubflowFin s) = stays_so c p ab ba h
-    passes (duties.HeardFin s index) = stays_so c p ab ba h
-    passes (duties.AckOut s) = stays_so c p ab ba h
-    passes (duties.Rate s) = stays_so c p ab ba h
-    passes (duties.Acknowledge s) = stays_so c p ab ba h
-    passes (duties.Again s) = stays_so c p ab ba h
-    passes (duties.Answer s) = stays_so c p ab ba h
-    passes (duties.ResetAnswer s) = stays_so c p ab ba h
-    passes (duties.Return s) = stays_so c p ab ba h
-    passes (duties.Resend s) = stays_so c p ab ba h
-    passes (duties.BreakAck s reason) = stays_so c p ab ba h
-    passes (duties.BreakReset s reason) = stays_so c p ab ba h
-    passes (duties.Reset s) = stays_so c p ab ba h
-    passes (duties.Leave s) = stays_so c p ab ba h
-    passes (duties.Dead s) = stays_so c p ab ba h
+    passes (duties.Ask ask_duties.JoinAgain) = stays_so c p ab ba h
+    passes (duties.Step (step_duties.Look s)) = stays_so c p ab ba h
+    passes (duties.Ask (ask_duties.Window s)) = stays_so c p ab ba h
+    passes (duties.Send (send_duties.Update s)) = stays_so c p ab ba h
+    passes (duties.Send (send_duties.Syn s)) = stays_so c p ab ba h
+    passes (duties.Step (step_duties.Data s)) = stays_so c p ab ba h
+    passes (duties.Send (send_duties.DataFin s)) = stays_so c p ab ba h
+    passes (duties.Send (send_duties.Fin s)) = stays_so c p ab ba h
+    passes (duties.Step step_duties.Events) = stays_so c p ab ba h
+    passes (duties.Ask (ask_duties.SynHeard s)) = stays_so c p ab ba h
+    passes (duties.Ask (ask_duties.SynAnswered s)) = stays_so c p ab ba h
+    passes (duties.Ask (ask_duties.PeerKey s)) = stays_so c p ab ba h
+    passes (duties.Send (send_duties.SynAck s)) = stays_so c p ab ba h
+    passes (duties.Ask (ask_duties.JoinHeard s)) = stays_so c p ab ba h
+    passes (duties.Send (send_duties.Refuse s)) = stays_so c p ab ba h
+    passes (duties.Ask (ask_duties.Opened s)) = stays_so c p ab ba h
+    passes (duties.Ask (ask_duties.Live s)) = stays_so c p ab ba h
+    passes (duties.Ask (ask_duties.AckHeard s)) = stays_so c p ab ba h
+    passes (duties.Step (step_duties.PlainAck s)) = same_lanes s (with_plain_ack (end_at s p)) (plain_ack_shows c s (pick s ab ba) (pick s ba ab) (end_at s p) (side_shows c s p ab ba h))
+    passes (duties.Step (step_duties.Unmapped s)) = same_lanes s (after_pieces (end_at s p)) (unmapped_shows c s (pick s ab ba) (pick s ba ab) (end_at s p) (side_shows c s p ab ba h))
+    passes (duties.Ask (ask_duties.PlainHandshake s)) = stays_so c p ab ba h
+    passes (duties.Ask (ask_duties.SubflowAck s)) = stays_so c p ab ba h
+    passes (duties.Ask (ask_duties.PlainData s)) = stays_so c p ab ba h
+    passes (duties.Ask (ask_duties.GoIdentity s)) = stays_so c p ab ba h
+    passes (duties.Ask (ask_duties.SubflowFin s)) = stays_so c p ab ba h
+    passes (duties.Ask (ask_duties.HeardFin s index)) = stays_so c p ab ba h
+    passes (duties.Ask (ask_duties.AckOut s)) = stays_so c p ab ba h
+    passes (duties.Ask (ask_duties.Rate s)) = stays_so c p ab ba h
+    passes (duties.Send (send_duties.Acknowledge s)) = stays_so c p ab ba h
+    passes (duties.Send (send_duties.Again s)) = stays_so c p ab ba h
+    passes (duties.Send (send_duties.Answer s)) = stays_so c p ab ba h
+    passes (duties.Send (send_duties.ResetAnswer s)) = stays_so c p ab ba h
+    passes (duties.Ask (ask_duties.Return s)) = stays_so c p ab ba h
+    passes (duties.Send (send_duties.Resend s)) = stays_so c p ab ba h
+    passes (duties.Ask (ask_duties.BreakAck s reason)) = stays_so c p ab ba h
+    passes (duties.Send (send_duties.BreakReset s reason)) = stays_so c p ab ba h
+    passes (duties.Send (send_duties.Reset s)) = stays_so c p ab ba h
+    passes (duties.Ask (ask_duties.Leave s)) = stays_so c p ab ba h
+    passes (duties.Ask (ask_duties.Dead s)) = stays_so c p ab ba h
     passes duties.End = stays_so c p ab ba h
 
   agenda_stays : (ds : List Duty) (p : PathState Carried) (ab ba : Lane) → PathShows c p ab ba → Strolled c (with_agenda ds p) ab ba

@@ -24,6 +24,10 @@ use Rattle.actor_desk.specs.declared.ask.Ask.{Ask}
 use Rattle.path_agenda.specs.Agenda.{start_of_turn, leaves, emission, heard_and, payload_came, rest_of_turn, breaks, resets}
 use Rattle.path_agenda.specs.Items.{keys_heard, key_heard}
 use Rattle.path_agenda.specs.declared.duty.Duty.TheVariants as duties
+use Rattle.path_agenda.specs.declared.duty.AskDuty.TheVariants as ask_duties
+use Rattle.path_agenda.specs.declared.duty.SendDuty.TheVariants as send_duties
+use Rattle.path_agenda.specs.declared.duty.SilentDuty.TheVariants as silent_duties
+use Rattle.path_agenda.specs.declared.duty.StepDuty.TheVariants as step_duties
 use Rattle.path_agenda.specs.declared.duty.Duty.{Duty}
 use Rattle.path_agenda.specs.declared.heard.Heard.TheVariants as says
 use Rattle.path_agenda.specs.declared.heard.Heard.{Heard}
@@ -69,22 +73,22 @@ unguarded false false rest x y = false≢true y
 
 -- a duty by which the book is asked comes to something where something was told
 asks_now : {C : Type 0} (d : Duty) (p : PathState C) (s : Side) → is_asking s d ≡ true → (end_at s p).treated.asked ≡ true → stands d p ≡ true
-asks_now (duties.AckOut A) p A is asked = asked
-asks_now (duties.AckOut B) p B is asked = asked
-asks_now (duties.AckOut A) p B is asked = absurd (false≢true is)
-asks_now (duties.AckOut B) p A is asked = absurd (false≢true is)
-asks_now (duties.BreakAck t reason) p s is asked = refl
+asks_now (duties.Ask (ask_duties.AckOut A)) p A is asked = asked
+asks_now (duties.Ask (ask_duties.AckOut B)) p B is asked = asked
+asks_now (duties.Ask (ask_duties.AckOut A)) p B is asked = absurd (false≢true is)
+asks_now (duties.Ask (ask_duties.AckOut B)) p A is asked = absurd (false≢true is)
+asks_now (duties.Ask (ask_duties.BreakAck t reason)) p s is asked = refl
 asks_now _ p s is asked = absurd (false≢true is)
 
 -- the first duty is none by which a book is told or asked
 abbrev IsOther : Duty → Type 0
-IsOther (duties.Edge s) = ⊥
-IsOther (duties.Unmapped s) = ⊥
-IsOther (duties.HeardFin s index) = ⊥
-IsOther (duties.PassFin s) = ⊥
-IsOther (duties.SubflowFin s) = ⊥
-IsOther (duties.AckOut s) = ⊥
-IsOther (duties.BreakAck s reason) = ⊥
+IsOther (duties.Ask (ask_duties.Edge s)) = ⊥
+IsOther (duties.Step (step_duties.Unmapped s)) = ⊥
+IsOther (duties.Ask (ask_duties.HeardFin s index)) = ⊥
+IsOther (duties.Silent (silent_duties.PassFin s)) = ⊥
+IsOther (duties.Ask (ask_duties.SubflowFin s)) = ⊥
+IsOther (duties.Ask (ask_duties.AckOut s)) = ⊥
+IsOther (duties.Ask (ask_duties.BreakAck s reason)) = ⊥
 IsOther _ = Unit {0}
 
 -- a duty of the other side is no shield
@@ -136,7 +140,7 @@ judged_sheltered joined s count judged.Asks = refl
 judged_sheltered joined s count judged.Lacks = refl
 judged_sheltered joined s count judged.Forged = refl
 
-died_sheltered : (dead_a dead_b : Bool) → is_sheltered ((if dead_a then [] else duties.Leave A ∷ []) ++ ((if dead_b then [] else duties.Leave B ∷ []) ++ rest_of_turn)) ≡ true
+died_sheltered : (dead_a dead_b : Bool) → is_sheltered ((if dead_a then [] else duties.Ask (ask_duties.Leave A) ∷ []) ++ ((if dead_b then [] else duties.Ask (ask_duties.Leave B) ∷ []) ++ rest_of_turn)) ≡ true
 died_sheltered true true = refl
 died_sheltered true false = refl
 died_sheltered false true = refl
@@ -150,7 +154,7 @@ breaks_guarded : (s : Side) (reason : ℕ) → guarded s (breaks s reason) ≡ t
 breaks_guarded A reason = refl
 breaks_guarded B reason = refl
 
-edge_guarded : (s : Side) (ds : List Duty) → guarded s ds ≡ true → guarded s (duties.Edge s ∷ ds) ≡ true
+edge_guarded : (s : Side) (ds : List Duty) → guarded s ds ≡ true → guarded s (duties.Ask (ask_duties.Edge s) ∷ ds) ≡ true
 edge_guarded A ds h = h
 edge_guarded B ds h = h
 
@@ -202,13 +206,13 @@ module _ {C : Type 0} where
   side_calms B e p q x same_a same_b = record { a = λ h. subst (λ (f : PathEnd). f.treated.asked ≡ true) same_a h; b = λ h. x (subst (λ (f : PathEnd). f.treated.asked ≡ true) same_b h) }
 
   passed_calms : (d : Duty) (p : PathState C) → Calms p (passed d p)
-  passed_calms (duties.Timer s) p = side_calms s (after_timer p.clock (end_at s p)) p _ (λ h. h) refl refl
-  passed_calms (duties.Heard s index) p = side_calms s (item_passed s (item_of index (end_at s p)) (end_at s p)) p _ (maybe_end s (item_of index (end_at s p)) (end_at s p)) refl refl
-  passed_calms (duties.PlainAck s) p = side_calms s (with_plain_ack (end_at s p)) p _ (λ h. h) refl refl
-  passed_calms (duties.Keep s) p = side_calms s (after_keep s (end_at s p)) p _ (λ h. h) refl refl
-  passed_calms (duties.Edge s) p = side_calms s (after_check p.profile (end_at s p)) p _ (checked_end p.profile.spelling.checksums (mapping_here (end_at s p)) (end_at s p)) refl refl
-  passed_calms (duties.Unmapped s) p = side_calms s (after_pieces (end_at s p)) p _ (λ h. h) refl refl
-  passed_calms (duties.PassFin s) p = side_calms s (after_pass_fin (end_at s p)) p _ (λ h. h) refl refl
+  passed_calms (duties.Silent (silent_duties.Timer s)) p = side_calms s (after_timer p.clock (end_at s p)) p _ (λ h. h) refl refl
+  passed_calms (duties.Step (step_duties.Heard s index)) p = side_calms s (item_passed s (item_of index (end_at s p)) (end_at s p)) p _ (maybe_end s (item_of index (end_at s p)) (end_at s p)) refl refl
+  passed_calms (duties.Step (step_duties.PlainAck s)) p = side_calms s (with_plain_ack (end_at s p)) p _ (λ h. h) refl refl
+  passed_calms (duties.Silent (silent_duties.Keep s)) p = side_calms s (after_keep s (end_at s p)) p _ (λ h. h) refl refl
+  passed_calms (duties.Ask (ask_duties.Edge s)) p = side_calms s (after_check p.profile (end_at s p)) p _ (checked_end p.profile.spelling.checksums (mapping_here (end_at s p)) (end_at s p)) refl refl
+  passed_calms (duties.Step (step_duties.Unmapped s)) p = side_calms s (after_pieces (end_at s p)) p _ (λ h. h) refl refl
+  passed_calms (duties.Silent (silent_duties.PassFin s)) p = side_calms s (after_pass_fin (end_at s p)) p _ (λ h. h) refl refl
   passed_calms _ p = record { a = λ h. h; b = λ h. h }
 
   -- what is to be done on a path where something was told
@@ -318,102 +322,102 @@ module _ {C : Type 0} where
         (side_goes s (after_ack_out r (end_at s p)) (first d p) _ (λ h. absurd (false≢true h)) refl refl refl)
         (side_goes s (died (end_at s p)) (first d p) _ (λ h. absurd (false≢true h)) refl refl refl)
 
-    grant_goes : (s : Side) (grant : Option Grant) (p : PathState C) → Goes (first (duties.Data s) p) (answered_grant s grant r (first (duties.Data s) p))
-    grant_goes s None p = side_goes s _ (first (duties.Data s) p) _ (λ h. h) refl refl shape
-    grant_goes s (Some grant) p = side_goes s _ (first (duties.Data s) p) _ (λ h. h) refl refl shape
+    grant_goes : (s : Side) (grant : Option Grant) (p : PathState C) → Goes (first (duties.Step (step_duties.Data s)) p) (answered_grant s grant r (first (duties.Step (step_duties.Data s)) p))
+    grant_goes s None p = side_goes s _ (first (duties.Step (step_duties.Data s)) p) _ (λ h. h) refl refl shape
+    grant_goes s (Some grant) p = side_goes s _ (first (duties.Step (step_duties.Data s)) p) _ (λ h. h) refl refl shape
 
-    data_goes : (s : Side) (o : Option Record) (p : PathState C) → Goes (first (duties.Data s) p) (answered_data k s o r (first (duties.Data s) p))
-    data_goes s (Some record_of) p = side_goes s _ (first (duties.Data s) p) _ (λ h. h) refl refl shape
+    data_goes : (s : Side) (o : Option Record) (p : PathState C) → Goes (first (duties.Step (step_duties.Data s)) p) (answered_data k s o r (first (duties.Step (step_duties.Data s)) p))
+    data_goes s (Some record_of) p = side_goes s _ (first (duties.Step (step_duties.Data s)) p) _ (λ h. h) refl refl shape
     data_goes s None p = grant_goes s (grant_in r) p
 
-    key_goes : (s : Side) (key : Option ℕ) (p : PathState C) → Goes (first (duties.PeerKey s) p) (answered_peer_key s key r (first (duties.PeerKey s) p))
-    key_goes s None p = event_told s (duties.PeerKey s) events.PlainHandshake p
-    key_goes s (Some key) p = side_goes s _ (first (duties.PeerKey s) p) _ (λ h. h) refl refl shape
+    key_goes : (s : Side) (key : Option ℕ) (p : PathState C) → Goes (first (duties.Ask (ask_duties.PeerKey s)) p) (answered_peer_key s key r (first (duties.Ask (ask_duties.PeerKey s)) p))
+    key_goes s None p = event_told s (duties.Ask (ask_duties.PeerKey s)) events.PlainHandshake p
+    key_goes s (Some key) p = side_goes s _ (first (duties.Ask (ask_duties.PeerKey s)) p) _ (λ h. h) refl refl shape
 
-    opened_goes : (s : Side) (keys : Option KeyPair) (p : PathState C) → Goes (first (duties.Opened s) p) (answered_opened s keys r (first (duties.Opened s) p))
-    opened_goes s None p = event_told s (duties.Opened s) events.PlainHandshake p
-    opened_goes s (Some keys) p = side_goes s _ (first (duties.Opened s) p) _ (λ h. h) refl refl shape
+    opened_goes : (s : Side) (keys : Option KeyPair) (p : PathState C) → Goes (first (duties.Ask (ask_duties.Opened s)) p) (answered_opened s keys r (first (duties.Ask (ask_duties.Opened s)) p))
+    opened_goes s None p = event_told s (duties.Ask (ask_duties.Opened s)) events.PlainHandshake p
+    opened_goes s (Some keys) p = side_goes s _ (first (duties.Ask (ask_duties.Opened s)) p) _ (λ h. h) refl refl shape
 
-    told_shape : (s : Side) (index : ℕ) (covers : Bool) (p : PathState C) → is_sheltered (told_next s covers (first (duties.Heard s index) p)) ≡ true
+    told_shape : (s : Side) (index : ℕ) (covers : Bool) (p : PathState C) → is_sheltered (told_next s covers (first (duties.Step (step_duties.Heard s index)) p)) ≡ true
     told_shape s index true p = shape
     told_shape s index false p = shape
 
-    item_goes : (s : Side) (index : ℕ) (item : Option Heard) (p : PathState C) → Goes (first (duties.Heard s index) p) (answered_item k s item r (first (duties.Heard s index) p))
-    item_goes s index None p = rests (first (duties.Heard s index) p) _ refl refl shape
-    item_goes s index (Some says.Dss) p = rests (first (duties.Heard s index) p) _ refl refl shape
-    item_goes s index (Some (says.DataAck next window)) p = side_goes s _ (first (duties.Heard s index) p) _ (λ h. h) refl refl (told_shape s index _ p)
+    item_goes : (s : Side) (index : ℕ) (item : Option Heard) (p : PathState C) → Goes (first (duties.Step (step_duties.Heard s index)) p) (answered_item k s item r (first (duties.Step (step_duties.Heard s index)) p))
+    item_goes s index None p = rests (first (duties.Step (step_duties.Heard s index)) p) _ refl refl shape
+    item_goes s index (Some says.Dss) p = rests (first (duties.Step (step_duties.Heard s index)) p) _ refl refl shape
+    item_goes s index (Some (says.DataAck next window)) p = side_goes s _ (first (duties.Step (step_duties.Heard s index)) p) _ (λ h. h) refl refl (told_shape s index _ p)
     item_goes s index (Some (says.Mapping fin)) p =
-        let m = first (duties.Heard s index) p in
+        let m = first (duties.Step (step_duties.Heard s index)) p in
         either_goes (is_clash (end_at s m)) (answered_break k s 1 r m) (goes_on s (with_learned (after_fell events.MappingHeard r (end_at s m))) (fell_duties s r m) m) m
-        (break_goes s (duties.Heard s index) 1 p) (side_goes s _ m _ (λ h. h) refl refl (fell_shape s (duties.Heard s index) p))
-    item_goes s index (Some (says.DataFin place)) p = side_goes s _ (first (duties.Heard s index) p) _ (λ h. h) refl refl (fell_shape s (duties.Heard s index) p)
-    item_goes s index (Some (says.InfiniteMapping place position)) p = event_told s (duties.Heard s index) events.InfiniteHeard p
-    item_goes s index (Some (says.PeerKey key)) p = rests (first (duties.Heard s index) p) _ refl refl shape
-    item_goes s index (Some (says.Keys own peer)) p = side_goes s _ (first (duties.Heard s index) p) _ (λ h. h) refl refl shape
-    item_goes s index (Some (says.Join form)) p = rests (first (duties.Heard s index) p) _ refl refl shape
-    item_goes s index (Some (says.Notice notice)) p = rests (first (duties.Heard s index) p) _ refl refl shape
-    item_goes s index (Some says.Fail) p = rests (first (duties.Heard s index) p) _ refl refl shape
-    item_goes s index (Some (says.FastClose key)) p = rests (first (duties.Heard s index) p) _ refl refl shape
+        (break_goes s (duties.Step (step_duties.Heard s index)) 1 p) (side_goes s _ m _ (λ h. h) refl refl (fell_shape s (duties.Step (step_duties.Heard s index)) p))
+    item_goes s index (Some (says.DataFin place)) p = side_goes s _ (first (duties.Step (step_duties.Heard s index)) p) _ (λ h. h) refl refl (fell_shape s (duties.Step (step_duties.Heard s index)) p)
+    item_goes s index (Some (says.InfiniteMapping place position)) p = event_told s (duties.Step (step_duties.Heard s index)) events.InfiniteHeard p
+    item_goes s index (Some (says.PeerKey key)) p = rests (first (duties.Step (step_duties.Heard s index)) p) _ refl refl shape
+    item_goes s index (Some (says.Keys own peer)) p = side_goes s _ (first (duties.Step (step_duties.Heard s index)) p) _ (λ h. h) refl refl shape
+    item_goes s index (Some (says.Join form)) p = rests (first (duties.Step (step_duties.Heard s index)) p) _ refl refl shape
+    item_goes s index (Some (says.Notice notice)) p = rests (first (duties.Step (step_duties.Heard s index)) p) _ refl refl shape
+    item_goes s index (Some says.Fail) p = rests (first (duties.Step (step_duties.Heard s index)) p) _ refl refl shape
+    item_goes s index (Some (says.FastClose key)) p = rests (first (duties.Step (step_duties.Heard s index)) p) _ refl refl shape
 
-    plain_ack_goes : (s : Side) (p : PathState C) → Goes (first (duties.PlainAck s) p) (answered_plain_ack k s r (first (duties.PlainAck s) p))
+    plain_ack_goes : (s : Side) (p : PathState C) → Goes (first (duties.Step (step_duties.PlainAck s)) p) (answered_plain_ack k s r (first (duties.Step (step_duties.PlainAck s)) p))
     plain_ack_goes s p =
-        let m = first (duties.PlainAck s) p in
+        let m = first (duties.Step (step_duties.PlainAck s)) p in
         either_goes (breaks_by_ack m.profile (end_at s m)) (answered_break k s 6 r m) (goes_on s (with_plain_ack (after_fell events.PlainAck r (end_at s m))) (fell_duties s r m) m) m
-        (break_goes s (duties.PlainAck s) 6 p) (side_goes s _ m _ (λ h. h) refl refl (fell_shape s (duties.PlainAck s) p))
+        (break_goes s (duties.Step (step_duties.PlainAck s)) 6 p) (side_goes s _ m _ (λ h. h) refl refl (fell_shape s (duties.Step (step_duties.PlainAck s)) p))
 
-    joined_goes : (s : Side) (keys : Option KeyPair) (asked : Option JoinSyn) (p : PathState C) → Goes (first (duties.JoinHeard s) p) (join_taken s keys asked r (first (duties.JoinHeard s) p))
-    joined_goes s (Some keys) (Some asked) p = side_goes s _ (first (duties.JoinHeard s) p) _ (λ h. h) refl refl shape
-    joined_goes s (Some keys) None p = rests (first (duties.JoinHeard s) p) _ refl refl shape
-    joined_goes s None (Some asked) p = side_goes s _ (first (duties.JoinHeard s) p) _ (λ h. h) refl refl shape
-    joined_goes s None None p = rests (first (duties.JoinHeard s) p) _ refl refl shape
+    joined_goes : (s : Side) (keys : Option KeyPair) (asked : Option JoinSyn) (p : PathState C) → Goes (first (duties.Ask (ask_duties.JoinHeard s)) p) (join_taken s keys asked r (first (duties.Ask (ask_duties.JoinHeard s)) p))
+    joined_goes s (Some keys) (Some asked) p = side_goes s _ (first (duties.Ask (ask_duties.JoinHeard s)) p) _ (λ h. h) refl refl shape
+    joined_goes s (Some keys) None p = rests (first (duties.Ask (ask_duties.JoinHeard s)) p) _ refl refl shape
+    joined_goes s None (Some asked) p = side_goes s _ (first (duties.Ask (ask_duties.JoinHeard s)) p) _ (λ h. h) refl refl shape
+    joined_goes s None None p = rests (first (duties.Ask (ask_duties.JoinHeard s)) p) _ refl refl shape
 
     -- whatever is replied to a duty by which no reassembly book is told or asked
     answered_goes : (d : Duty) → IsOther d → (p : PathState C) → Goes (first d p) (answered k d r (first d p))
-    answered_goes (duties.Look s) other p = side_goes s _ (first (duties.Look s) p) _ (λ h. h) refl refl shape
-    answered_goes (duties.Window s) other p = side_goes s _ (first (duties.Window s) p) _ (λ h. absurd (false≢true h)) refl refl shape
-    answered_goes (duties.Update s) other p = side_goes s _ (first (duties.Update s) p) _ (λ h. h) refl refl shape
-    answered_goes (duties.Syn s) other p = side_goes s _ (first (duties.Syn s) p) _ (λ h. h) refl refl shape
-    answered_goes (duties.DataFin s) other p = side_goes s _ (first (duties.DataFin s) p) _ (λ h. h) refl refl shape
-    answered_goes (duties.Fin s) other p = side_goes s _ (first (duties.Fin s) p) _ (λ h. h) refl refl shape
-    answered_goes (duties.SynAck s) other p = side_goes s _ (first (duties.SynAck s) p) _ (λ h. h) refl refl shape
-    answered_goes (duties.Refuse s) other p = side_goes s _ (first (duties.Refuse s) p) _ (λ h. h) refl refl shape
-    answered_goes (duties.SubflowAck s) other p = side_goes s _ (first (duties.SubflowAck s) p) _ (λ h. h) refl refl shape
-    answered_goes (duties.GoIdentity s) other p = side_goes s _ (first (duties.GoIdentity s) p) _ (λ h. h) refl refl shape
-    answered_goes (duties.Rate s) other p = side_goes s _ (first (duties.Rate s) p) _ (λ h. h) refl refl shape
-    answered_goes (duties.Acknowledge s) other p = side_goes s _ (first (duties.Acknowledge s) p) _ (λ h. h) refl refl shape
-    answered_goes (duties.Again s) other p = side_goes s _ (first (duties.Again s) p) _ (λ h. h) refl refl shape
-    answered_goes (duties.Answer s) other p = side_goes s _ (first (duties.Answer s) p) _ (λ h. h) refl refl shape
-    answered_goes (duties.ResetAnswer s) other p = side_goes s _ (first (duties.ResetAnswer s) p) _ (λ h. h) refl refl shape
-    answered_goes (duties.Resend s) other p = side_goes s _ (first (duties.Resend s) p) _ (λ h. h) refl refl shape
-    answered_goes (duties.Timer s) other p = rests (first (duties.Timer s) p) _ refl refl shape
-    answered_goes (duties.SynHeard s) other p = rests (first (duties.SynHeard s) p) _ refl refl shape
-    answered_goes (duties.SynAnswered s) other p = rests (first (duties.SynAnswered s) p) _ refl refl shape
-    answered_goes (duties.Live s) other p = rests (first (duties.Live s) p) _ refl refl shape
-    answered_goes (duties.Keep s) other p = rests (first (duties.Keep s) p) _ refl refl shape
-    answered_goes (duties.Return s) other p = rests (first (duties.Return s) p) _ refl refl shape
-    answered_goes (duties.Leave s) other p = rests (first (duties.Leave s) p) _ refl refl shape
-    answered_goes (duties.Dead s) other p = rests (first (duties.Dead s) p) _ refl refl shape
+    answered_goes (duties.Step (step_duties.Look s)) other p = side_goes s _ (first (duties.Step (step_duties.Look s)) p) _ (λ h. h) refl refl shape
+    answered_goes (duties.Ask (ask_duties.Window s)) other p = side_goes s _ (first (duties.Ask (ask_duties.Window s)) p) _ (λ h. absurd (false≢true h)) refl refl shape
+    answered_goes (duties.Send (send_duties.Update s)) other p = side_goes s _ (first (duties.Send (send_duties.Update s)) p) _ (λ h. h) refl refl shape
+    answered_goes (duties.Send (send_duties.Syn s)) other p = side_goes s _ (first (duties.Send (send_duties.Syn s)) p) _ (λ h. h) refl refl shape
+    answered_goes (duties.Send (send_duties.DataFin s)) other p = side_goes s _ (first (duties.Send (send_duties.DataFin s)) p) _ (λ h. h) refl refl shape
+    answered_goes (duties.Send (send_duties.Fin s)) other p = side_goes s _ (first (duties.Send (send_duties.Fin s)) p) _ (λ h. h) refl refl shape
+    answered_goes (duties.Send (send_duties.SynAck s)) other p = side_goes s _ (first (duties.Send (send_duties.SynAck s)) p) _ (λ h. h) refl refl shape
+    answered_goes (duties.Send (send_duties.Refuse s)) other p = side_goes s _ (first (duties.Send (send_duties.Refuse s)) p) _ (λ h. h) refl refl shape
+    answered_goes (duties.Ask (ask_duties.SubflowAck s)) other p = side_goes s _ (first (duties.Ask (ask_duties.SubflowAck s)) p) _ (λ h. h) refl refl shape
+    answered_goes (duties.Ask (ask_duties.GoIdentity s)) other p = side_goes s _ (first (duties.Ask (ask_duties.GoIdentity s)) p) _ (λ h. h) refl refl shape
+    answered_goes (duties.Ask (ask_duties.Rate s)) other p = side_goes s _ (first (duties.Ask (ask_duties.Rate s)) p) _ (λ h. h) refl refl shape
+    answered_goes (duties.Send (send_duties.Acknowledge s)) other p = side_goes s _ (first (duties.Send (send_duties.Acknowledge s)) p) _ (λ h. h) refl refl shape
+    answered_goes (duties.Send (send_duties.Again s)) other p = side_goes s _ (first (duties.Send (send_duties.Again s)) p) _ (λ h. h) refl refl shape
+    answered_goes (duties.Send (send_duties.Answer s)) other p = side_goes s _ (first (duties.Send (send_duties.Answer s)) p) _ (λ h. h) refl refl shape
+    answered_goes (duties.Send (send_duties.ResetAnswer s)) other p = side_goes s _ (first (duties.Send (send_duties.ResetAnswer s)) p) _ (λ h. h) refl refl shape
+    answered_goes (duties.Send (send_duties.Resend s)) other p = side_goes s _ (first (duties.Send (send_duties.Resend s)) p) _ (λ h. h) refl refl shape
+    answered_goes (duties.Silent (silent_duties.Timer s)) other p = rests (first (duties.Silent (silent_duties.Timer s)) p) _ refl refl shape
+    answered_goes (duties.Ask (ask_duties.SynHeard s)) other p = rests (first (duties.Ask (ask_duties.SynHeard s)) p) _ refl refl shape
+    answered_goes (duties.Ask (ask_duties.SynAnswered s)) other p = rests (first (duties.Ask (ask_duties.SynAnswered s)) p) _ refl refl shape
+    answered_goes (duties.Ask (ask_duties.Live s)) other p = rests (first (duties.Ask (ask_duties.Live s)) p) _ refl refl shape
+    answered_goes (duties.Silent (silent_duties.Keep s)) other p = rests (first (duties.Silent (silent_duties.Keep s)) p) _ refl refl shape
+    answered_goes (duties.Ask (ask_duties.Return s)) other p = rests (first (duties.Ask (ask_duties.Return s)) p) _ refl refl shape
+    answered_goes (duties.Ask (ask_duties.Leave s)) other p = rests (first (duties.Ask (ask_duties.Leave s)) p) _ refl refl shape
+    answered_goes (duties.Ask (ask_duties.Dead s)) other p = rests (first (duties.Ask (ask_duties.Dead s)) p) _ refl refl shape
     answered_goes duties.End other p = rests (first duties.End p) _ refl refl refl
-    answered_goes (duties.BreakReset s reason) other p = side_goes s (died (end_at s p)) (first (duties.BreakReset s reason) p) _ (λ h. absurd (false≢true h)) refl refl refl
-    answered_goes (duties.Reset s) other p = side_goes s (died (end_at s p)) (first (duties.Reset s) p) _ (λ h. absurd (false≢true h)) refl refl shape
-    answered_goes duties.JoinAgain other p = begun_goes r (duties.Leave A ∷ ds) ds (first duties.JoinAgain p) shape shape
-    answered_goes duties.Events other p = happens_goes k (next_event (first duties.Events p)) r (first duties.Events p)
-    answered_goes (duties.Data s) other p = data_goes s (first_unsent (end_at s p)) p
-    answered_goes (duties.PeerKey s) other p = key_goes s (key_heard (end_at s p).treated.items) p
-    answered_goes (duties.Opened s) other p = opened_goes s (keys_heard (end_at s p).treated.items) p
-    answered_goes (duties.JoinHeard s) other p = joined_goes s (keys_begun r) (asked_at s p) p
-    answered_goes (duties.Heard s index) other p = item_goes s index (item_of index (end_at s p)) p
-    answered_goes (duties.PlainAck s) other p = plain_ack_goes s p
-    answered_goes (duties.AckHeard s) other p = event_told s (duties.AckHeard s) events.AckHeard p
-    answered_goes (duties.PlainHandshake s) other p = event_told s (duties.PlainHandshake s) events.PlainHandshake p
-    answered_goes (duties.PlainData s) other p = event_told s (duties.PlainData s) events.PlainData p
-    answered_goes (duties.Edge s) other p = absurd other
-    answered_goes (duties.Unmapped s) other p = absurd other
-    answered_goes (duties.HeardFin s index) other p = absurd other
-    answered_goes (duties.PassFin s) other p = absurd other
-    answered_goes (duties.SubflowFin s) other p = absurd other
-    answered_goes (duties.AckOut s) other p = absurd other
-    answered_goes (duties.BreakAck s reason) other p = absurd other
+    answered_goes (duties.Send (send_duties.BreakReset s reason)) other p = side_goes s (died (end_at s p)) (first (duties.Send (send_duties.BreakReset s reason)) p) _ (λ h. absurd (false≢true h)) refl refl refl
+    answered_goes (duties.Send (send_duties.Reset s)) other p = side_goes s (died (end_at s p)) (first (duties.Send (send_duties.Reset s)) p) _ (λ h. absurd (false≢true h)) refl refl shape
+    answered_goes (duties.Ask ask_duties.JoinAgain) other p = begun_goes r (duties.Ask (ask_duties.Leave A) ∷ ds) ds (first (duties.Ask ask_duties.JoinAgain) p) shape shape
+    answered_goes (duties.Step step_duties.Events) other p = happens_goes k (next_event (first (duties.Step step_duties.Events) p)) r (first (duties.Step step_duties.Events) p)
+    answered_goes (duties.Step (step_duties.Data s)) other p = data_goes s (first_unsent (end_at s p)) p
+    answered_goes (duties.Ask (ask_duties.PeerKey s)) other p = key_goes s (key_heard (end_at s p).treated.items) p
+    answered_goes (duties.Ask (ask_duties.Opened s)) other p = opened_goes s (keys_heard (end_at s p).treated.items) p
+    answered_goes (duties.Ask (ask_duties.JoinHeard s)) other p = joined_goes s (keys_begun r) (asked_at s p) p
+    answered_goes (duties.Step (step_duties.Heard s index)) other p = item_goes s index (item_of index (end_at s p)) p
+    answered_goes (duties.Step (step_duties.PlainAck s)) other p = plain_ack_goes s p
+    answered_goes (duties.Ask (ask_duties.AckHeard s)) other p = event_told s (duties.Ask (ask_duties.AckHeard s)) events.AckHeard p
+    answered_goes (duties.Ask (ask_duties.PlainHandshake s)) other p = event_told s (duties.Ask (ask_duties.PlainHandshake s)) events.PlainHandshake p
+    answered_goes (duties.Ask (ask_duties.PlainData s)) other p = event_told s (duties.Ask (ask_duties.PlainData s)) events.PlainData p
+    answered_goes (duties.Ask (ask_duties.Edge s)) other p = absurd other
+    answered_goes (duties.Step (step_duties.Unmapped s)) other p = absurd other
+    answered_goes (duties.Ask (ask_duties.HeardFin s index)) other p = absurd other
+    answered_goes (duties.Silent (silent_duties.PassFin s)) other p = absurd other
+    answered_goes (duties.Ask (ask_duties.SubflowFin s)) other p = absurd other
+    answered_goes (duties.Ask (ask_duties.AckOut s)) other p = absurd other
+    answered_goes (duties.Ask (ask_duties.BreakAck s reason)) other p = absurd other
 
   -- ---- the duties by which a book is told, or asked
 
@@ -442,27 +446,27 @@ module _ {C : Type 0} where
   asked_shielded s r es p shape calm = told_shielded s (after_ack_out r (end_at s p)) es p shape (λ is. absurd (false≢true is)) (λ t is asked. absurd (calm t is asked))
 
   -- the edge: the duty stays where the bytes were placed
-  piece_shielded : (s : Side) (piece : Option Piece) (taken : Bool) (ds : List Duty) (p : PathState C) → is_sheltered (duties.Edge s ∷ ds) ≡ true → OthersCalm s p
-      → Shielded (answered_piece s piece taken (with_agenda (duties.Edge s ∷ ds) p))
-  piece_shielded s None taken ds p shape calm = refused_shielded s (with_agenda (duties.Edge s ∷ ds) p) calm
-  piece_shielded s (Some piece) false ds p shape calm = refused_shielded s (with_agenda (duties.Edge s ∷ ds) p) calm
+  piece_shielded : (s : Side) (piece : Option Piece) (taken : Bool) (ds : List Duty) (p : PathState C) → is_sheltered (duties.Ask (ask_duties.Edge s) ∷ ds) ≡ true → OthersCalm s p
+      → Shielded (answered_piece s piece taken (with_agenda (duties.Ask (ask_duties.Edge s) ∷ ds) p))
+  piece_shielded s None taken ds p shape calm = refused_shielded s (with_agenda (duties.Ask (ask_duties.Edge s) ∷ ds) p) calm
+  piece_shielded s (Some piece) false ds p shape calm = refused_shielded s (with_agenda (duties.Ask (ask_duties.Edge s) ∷ ds) p) calm
   piece_shielded s (Some piece) true ds p shape calm =
-      told_shielded s (having_asked (after_piece piece (end_at s p))) (duties.Edge s ∷ ds) (with_agenda (duties.Edge s ∷ ds) p) shape
+      told_shielded s (having_asked (after_piece piece (end_at s p))) (duties.Ask (ask_duties.Edge s) ∷ ds) (with_agenda (duties.Ask (ask_duties.Edge s) ∷ ds) p) shape
       (λ is. edge_guarded s ds (and_parts (guarded s ds) (is_sheltered ds) shape).0) (λ t is asked. absurd (calm t is asked))
 
-  fin_shielded : (s : Side) (index : ℕ) (set : Bool) (ds : List Duty) (p : PathState C) → is_sheltered (duties.HeardFin s index ∷ ds) ≡ true → OthersCalm s p
-      → Shielded (answered_fin_heard s set (with_agenda (duties.HeardFin s index ∷ ds) p))
-  fin_shielded s index false ds p shape calm = refused_shielded s (with_agenda (duties.HeardFin s index ∷ ds) p) calm
+  fin_shielded : (s : Side) (index : ℕ) (set : Bool) (ds : List Duty) (p : PathState C) → is_sheltered (duties.Ask (ask_duties.HeardFin s index) ∷ ds) ≡ true → OthersCalm s p
+      → Shielded (answered_fin_heard s set (with_agenda (duties.Ask (ask_duties.HeardFin s index) ∷ ds) p))
+  fin_shielded s index false ds p shape calm = refused_shielded s (with_agenda (duties.Ask (ask_duties.HeardFin s index) ∷ ds) p) calm
   fin_shielded s index true ds p shape calm =
       let parts = and_parts (guarded s ds) (is_sheltered ds) shape in
-      told_shielded s (having_asked (with_peer_end (end_at s p))) ds (with_agenda (duties.HeardFin s index ∷ ds) p) parts.1 (λ is. parts.0) (λ t is asked. absurd (calm t is asked))
+      told_shielded s (having_asked (with_peer_end (end_at s p))) ds (with_agenda (duties.Ask (ask_duties.HeardFin s index) ∷ ds) p) parts.1 (λ is. parts.0) (λ t is asked. absurd (calm t is asked))
 
-  plain_fin_shielded : (s : Side) (set : Bool) (ds : List Duty) (p : PathState C) → is_sheltered (duties.SubflowFin s ∷ ds) ≡ true → OthersCalm s p
-      → Shielded (answered_plain_fin s set (with_agenda (duties.SubflowFin s ∷ ds) p))
-  plain_fin_shielded s false ds p shape calm = refused_shielded s (with_agenda (duties.SubflowFin s ∷ ds) p) calm
+  plain_fin_shielded : (s : Side) (set : Bool) (ds : List Duty) (p : PathState C) → is_sheltered (duties.Ask (ask_duties.SubflowFin s) ∷ ds) ≡ true → OthersCalm s p
+      → Shielded (answered_plain_fin s set (with_agenda (duties.Ask (ask_duties.SubflowFin s) ∷ ds) p))
+  plain_fin_shielded s false ds p shape calm = refused_shielded s (with_agenda (duties.Ask (ask_duties.SubflowFin s) ∷ ds) p) calm
   plain_fin_shielded s true ds p shape calm =
       let parts = and_parts (guarded s ds) (is_sheltered ds) shape in
-      told_shielded s (having_asked (with_peer_end (with_fin_told (end_at s p)))) ds (with_agenda (duties.SubflowFin s ∷ ds) p) parts.1 (λ is. parts.0) (λ t is asked. absurd (calm t is asked))
+      told_shielded s (having_asked (with_peer_end (with_fin_told (end_at s p)))) ds (with_agenda (duties.Ask (ask_duties.SubflowFin s) ∷ ds) p) parts.1 (λ is. parts.0) (λ t is asked. absurd (calm t is asked))
 
   broken_shielded : (k : Codec C) (s : Side) (reason : ℕ) (r : Reply) (p : PathState C) → OthersCalm s p → Shielded (answered_break k s reason r p)
   broken_shielded k s reason r p calm = by (end_at s p).treated.asked
@@ -501,51 +505,51 @@ module _ {C : Type 0} where
         at B is = absurd (calm_by d h B none_b (g.calms.b is))
 
     pub answered_shielded : (d : Duty) → Shielded (with_agenda (d ∷ ds) p) → Shielded (answered k d r (with_agenda (d ∷ ds) p))
-    answered_shielded duties.JoinAgain h = other_shielded duties.JoinAgain tt refl refl h
-    answered_shielded duties.Events h = other_shielded duties.Events tt refl refl h
+    answered_shielded (duties.Ask ask_duties.JoinAgain) h = other_shielded (duties.Ask ask_duties.JoinAgain) tt refl refl h
+    answered_shielded (duties.Step step_duties.Events) h = other_shielded (duties.Step step_duties.Events) tt refl refl h
     answered_shielded duties.End h = other_shielded duties.End tt refl refl h
-    answered_shielded (duties.Look s) h = other_shielded (duties.Look s) tt refl refl h
-    answered_shielded (duties.Window s) h = other_shielded (duties.Window s) tt refl refl h
-    answered_shielded (duties.Update s) h = other_shielded (duties.Update s) tt refl refl h
-    answered_shielded (duties.Syn s) h = other_shielded (duties.Syn s) tt refl refl h
-    answered_shielded (duties.Data s) h = other_shielded (duties.Data s) tt refl refl h
-    answered_shielded (duties.DataFin s) h = other_shielded (duties.DataFin s) tt refl refl h
-    answered_shielded (duties.Fin s) h = other_shielded (duties.Fin s) tt refl refl h
-    answered_shielded (duties.Timer s) h = other_shielded (duties.Timer s) tt refl refl h
-    answered_shielded (duties.SynHeard s) h = other_shielded (duties.SynHeard s) tt refl refl h
-    answered_shielded (duties.SynAnswered s) h = other_shielded (duties.SynAnswered s) tt refl refl h
-    answered_shielded (duties.PlainHandshake s) h = other_shielded (duties.PlainHandshake s) tt refl refl h
-    answered_shielded (duties.PeerKey s) h = other_shielded (duties.PeerKey s) tt refl refl h
-    answered_shielded (duties.SynAck s) h = other_shielded (duties.SynAck s) tt refl refl h
-    answered_shielded (duties.JoinHeard s) h = other_shielded (duties.JoinHeard s) tt refl refl h
-    answered_shielded (duties.Refuse s) h = other_shielded (duties.Refuse s) tt refl refl h
-    answered_shielded (duties.Opened s) h = other_shielded (duties.Opened s) tt refl refl h
-    answered_shielded (duties.Live s) h = other_shielded (duties.Live s) tt refl refl h
-    answered_shielded (duties.AckHeard s) h = other_shielded (duties.AckHeard s) tt refl refl h
-    answered_shielded (duties.PlainAck s) h = other_shielded (duties.PlainAck s) tt refl refl h
-    answered_shielded (duties.SubflowAck s) h = other_shielded (duties.SubflowAck s) tt refl refl h
-    answered_shielded (duties.PlainData s) h = other_shielded (duties.PlainData s) tt refl refl h
-    answered_shielded (duties.GoIdentity s) h = other_shielded (duties.GoIdentity s) tt refl refl h
-    answered_shielded (duties.Keep s) h = other_shielded (duties.Keep s) tt refl refl h
-    answered_shielded (duties.Rate s) h = other_shielded (duties.Rate s) tt refl refl h
-    answered_shielded (duties.Acknowledge s) h = other_shielded (duties.Acknowledge s) tt refl refl h
-    answered_shielded (duties.Again s) h = other_shielded (duties.Again s) tt refl refl h
-    answered_shielded (duties.Answer s) h = other_shielded (duties.Answer s) tt refl refl h
-    answered_shielded (duties.ResetAnswer s) h = other_shielded (duties.ResetAnswer s) tt refl refl h
-    answered_shielded (duties.Return s) h = other_shielded (duties.Return s) tt refl refl h
-    answered_shielded (duties.Resend s) h = other_shielded (duties.Resend s) tt refl refl h
-    answered_shielded (duties.Reset s) h = other_shielded (duties.Reset s) tt refl refl h
-    answered_shielded (duties.Leave s) h = other_shielded (duties.Leave s) tt refl refl h
-    answered_shielded (duties.Dead s) h = other_shielded (duties.Dead s) tt refl refl h
-    answered_shielded (duties.Heard s index) h = other_shielded (duties.Heard s index) tt refl refl h
-    answered_shielded (duties.BreakReset s reason) h = other_shielded (duties.BreakReset s reason) tt refl refl h
-    answered_shielded (duties.Edge s) h = piece_shielded s (piece_of s p) (is_placed r) ds p h.shape (λ t is asked. calm_by (duties.Edge s) h t (neither t s is) asked)
-    answered_shielded (duties.Unmapped s) h = broken_shielded k s 6 r (with_agenda (duties.Unmapped s ∷ ds) p) (λ t is asked. calm_by (duties.Unmapped s) h t (neither t s is) asked)
-    answered_shielded (duties.HeardFin s index) h = fin_shielded s index (is_fin_set r) ds p h.shape (λ t is asked. calm_by (duties.HeardFin s index) h t (neither t s is) asked)
-    answered_shielded (duties.SubflowFin s) h = plain_fin_shielded s (is_fin_set r) ds p h.shape (λ t is asked. calm_by (duties.SubflowFin s) h t (neither t s is) asked)
-    answered_shielded (duties.AckOut s) h = asked_shielded s r ds (with_agenda (duties.AckOut s ∷ ds) p) h.shape (λ t is asked. calm_by (duties.AckOut s) h t (neither_asks t s is) asked)
-    answered_shielded (duties.BreakAck s reason) h = asked_shielded s r (resets s reason) (with_agenda (duties.BreakAck s reason ∷ ds) p) refl (λ t is asked. calm_by (duties.BreakAck s reason) h t (neither_asks t s is) asked)
-    answered_shielded (duties.PassFin s) h = record { shape = h.shape; asked = at }
+    answered_shielded (duties.Step (step_duties.Look s)) h = other_shielded (duties.Step (step_duties.Look s)) tt refl refl h
+    answered_shielded (duties.Ask (ask_duties.Window s)) h = other_shielded (duties.Ask (ask_duties.Window s)) tt refl refl h
+    answered_shielded (duties.Send (send_duties.Update s)) h = other_shielded (duties.Send (send_duties.Update s)) tt refl refl h
+    answered_shielded (duties.Send (send_duties.Syn s)) h = other_shielded (duties.Send (send_duties.Syn s)) tt refl refl h
+    answered_shielded (duties.Step (step_duties.Data s)) h = other_shielded (duties.Step (step_duties.Data s)) tt refl refl h
+    answered_shielded (duties.Send (send_duties.DataFin s)) h = other_shielded (duties.Send (send_duties.DataFin s)) tt refl refl h
+    answered_shielded (duties.Send (send_duties.Fin s)) h = other_shielded (duties.Send (send_duties.Fin s)) tt refl refl h
+    answered_shielded (duties.Silent (silent_duties.Timer s)) h = other_shielded (duties.Silent (silent_duties.Timer s)) tt refl refl h
+    answered_shielded (duties.Ask (ask_duties.SynHeard s)) h = other_shielded (duties.Ask (ask_duties.SynHeard s)) tt refl refl h
+    answered_shielded (duties.Ask (ask_duties.SynAnswered s)) h = other_shielded (duties.Ask (ask_duties.SynAnswered s)) tt refl refl h
+    answered_shielded (duties.Ask (ask_duties.PlainHandshake s)) h = other_shielded (duties.Ask (ask_duties.PlainHandshake s)) tt refl refl h
+    answered_shielded (duties.Ask (ask_duties.PeerKey s)) h = other_shielded (duties.Ask (ask_duties.PeerKey s)) tt refl refl h
+    answered_shielded (duties.Send (send_duties.SynAck s)) h = other_shielded (duties.Send (send_duties.SynAck s)) tt refl refl h
+    answered_shielded (duties.Ask (ask_duties.JoinHeard s)) h = other_shielded (duties.Ask (ask_duties.JoinHeard s)) tt refl refl h
+    answered_shielded (duties.Send (send_duties.Refuse s)) h = other_shielded (duties.Send (send_duties.Refuse s)) tt refl refl h
+    answered_shielded (duties.Ask (ask_duties.Opened s)) h = other_shielded (duties.Ask (ask_duties.Opened s)) tt refl refl h
+    answered_shielded (duties.Ask (ask_duties.Live s)) h = other_shielded (duties.Ask (ask_duties.Live s)) tt refl refl h
+    answered_shielded (duties.Ask (ask_duties.AckHeard s)) h = other_shielded (duties.Ask (ask_duties.AckHeard s)) tt refl refl h
+    answered_shielded (duties.Step (step_duties.PlainAck s)) h = other_shielded (duties.Step (step_duties.PlainAck s)) tt refl refl h
+    answered_shielded (duties.Ask (ask_duties.SubflowAck s)) h = other_shielded (duties.Ask (ask_duties.SubflowAck s)) tt refl refl h
+    answered_shielded (duties.Ask (ask_duties.PlainData s)) h = other_shielded (duties.Ask (ask_duties.PlainData s)) tt refl refl h
+    answered_shielded (duties.Ask (ask_duties.GoIdentity s)) h = other_shielded (duties.Ask (ask_duties.GoIdentity s)) tt refl refl h
+    answered_shielded (duties.Silent (silent_duties.Keep s)) h = other_shielded (duties.Silent (silent_duties.Keep s)) tt refl refl h
+    answered_shielded (duties.Ask (ask_duties.Rate s)) h = other_shielded (duties.Ask (ask_duties.Rate s)) tt refl refl h
+    answered_shielded (duties.Send (send_duties.Acknowledge s)) h = other_shielded (duties.Send (send_duties.Acknowledge s)) tt refl refl h
+    answered_shielded (duties.Send (send_duties.Again s)) h = other_shielded (duties.Send (send_duties.Again s)) tt refl refl h
+    answered_shielded (duties.Send (send_duties.Answer s)) h = other_shielded (duties.Send (send_duties.Answer s)) tt refl refl h
+    answered_shielded (duties.Send (send_duties.ResetAnswer s)) h = other_shielded (duties.Send (send_duties.ResetAnswer s)) tt refl refl h
+    answered_shielded (duties.Ask (ask_duties.Return s)) h = other_shielded (duties.Ask (ask_duties.Return s)) tt refl refl h
+    answered_shielded (duties.Send (send_duties.Resend s)) h = other_shielded (duties.Send (send_duties.Resend s)) tt refl refl h
+    answered_shielded (duties.Send (send_duties.Reset s)) h = other_shielded (duties.Send (send_duties.Reset s)) tt refl refl h
+    answered_shielded (duties.Ask (ask_duties.Leave s)) h = other_shielded (duties.Ask (ask_duties.Leave s)) tt refl refl h
+    answered_shielded (duties.Ask (ask_duties.Dead s)) h = other_shielded (duties.Ask (ask_duties.Dead s)) tt refl refl h
+    answered_shielded (duties.Step (step_duties.Heard s index)) h = other_shielded (duties.Step (step_duties.Heard s index)) tt refl refl h
+    answered_shielded (duties.Send (send_duties.BreakReset s reason)) h = other_shielded (duties.Send (send_duties.BreakReset s reason)) tt refl refl h
+    answered_shielded (duties.Ask (ask_duties.Edge s)) h = piece_shielded s (piece_of s p) (is_placed r) ds p h.shape (λ t is asked. calm_by (duties.Ask (ask_duties.Edge s)) h t (neither t s is) asked)
+    answered_shielded (duties.Step (step_duties.Unmapped s)) h = broken_shielded k s 6 r (with_agenda (duties.Step (step_duties.Unmapped s) ∷ ds) p) (λ t is asked. calm_by (duties.Step (step_duties.Unmapped s)) h t (neither t s is) asked)
+    answered_shielded (duties.Ask (ask_duties.HeardFin s index)) h = fin_shielded s index (is_fin_set r) ds p h.shape (λ t is asked. calm_by (duties.Ask (ask_duties.HeardFin s index)) h t (neither t s is) asked)
+    answered_shielded (duties.Ask (ask_duties.SubflowFin s)) h = plain_fin_shielded s (is_fin_set r) ds p h.shape (λ t is asked. calm_by (duties.Ask (ask_duties.SubflowFin s)) h t (neither t s is) asked)
+    answered_shielded (duties.Ask (ask_duties.AckOut s)) h = asked_shielded s r ds (with_agenda (duties.Ask (ask_duties.AckOut s) ∷ ds) p) h.shape (λ t is asked. calm_by (duties.Ask (ask_duties.AckOut s)) h t (neither_asks t s is) asked)
+    answered_shielded (duties.Ask (ask_duties.BreakAck s reason)) h = asked_shielded s r (resets s reason) (with_agenda (duties.Ask (ask_duties.BreakAck s reason) ∷ ds) p) refl (λ t is asked. calm_by (duties.Ask (ask_duties.BreakAck s reason)) h t (neither_asks t s is) asked)
+    answered_shielded (duties.Silent (silent_duties.PassFin s)) h = record { shape = h.shape; asked = at }
       where
         at : (t : Side) → (end_at t p).treated.asked ≡ true → guarded t ds ≡ true
         at t asked = passes t s ds (h.asked t asked)

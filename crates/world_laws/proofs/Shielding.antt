@@ -4,22 +4,25 @@ use Rattle.outside_kit.specs.declared.side.Side.{Side}
 use Rattle.link_script.specs.Places.{same_side}
 use Rattle.path_agenda.specs.declared.duty.Duty.{Duty}
 use Rattle.path_agenda.specs.declared.duty.Duty.TheVariants as duties
+use Rattle.path_agenda.specs.declared.duty.AskDuty.TheVariants as ask_duties
+use Rattle.path_agenda.specs.declared.duty.SilentDuty.TheVariants as silent_duties
+use Rattle.path_agenda.specs.declared.duty.StepDuty.TheVariants as step_duties
 
 -- ---- what is to be done before
 
 -- by this duty the book is asked
 abbrev pub is_asking : Side → Duty → Bool
-is_asking s (duties.AckOut t) = same_side s t
-is_asking s (duties.BreakAck t reason) = same_side s t
+is_asking s (duties.Ask (ask_duties.AckOut t)) = same_side s t
+is_asking s (duties.Ask (ask_duties.BreakAck t reason)) = same_side s t
 is_asking s _ = false
 
 -- what may come before it
 abbrev pub is_telling : Side → Duty → Bool
-is_telling s (duties.Edge t) = same_side s t
-is_telling s (duties.Unmapped t) = same_side s t
-is_telling s (duties.HeardFin t index) = same_side s t
-is_telling s (duties.PassFin t) = same_side s t
-is_telling s (duties.SubflowFin t) = same_side s t
+is_telling s (duties.Ask (ask_duties.Edge t)) = same_side s t
+is_telling s (duties.Step (step_duties.Unmapped t)) = same_side s t
+is_telling s (duties.Ask (ask_duties.HeardFin t index)) = same_side s t
+is_telling s (duties.Silent (silent_duties.PassFin t)) = same_side s t
+is_telling s (duties.Ask (ask_duties.SubflowFin t)) = same_side s t
 is_telling s _ = false
 
 abbrev pub is_shield : Side → Duty → Bool
@@ -32,9 +35,9 @@ guarded s (d ∷ ds) = is_asking s d || (is_telling s d && guarded s ds)
 
 -- what a duty by which a book is told needs behind it
 abbrev pub needs : Duty → List Duty → Bool
-needs (duties.Edge s) ds = guarded s ds
-needs (duties.HeardFin s index) ds = guarded s ds
-needs (duties.SubflowFin s) ds = guarded s ds
+needs (duties.Ask (ask_duties.Edge s)) ds = guarded s ds
+needs (duties.Ask (ask_duties.HeardFin s index)) ds = guarded s ds
+needs (duties.Ask (ask_duties.SubflowFin s)) ds = guarded s ds
 needs _ ds = true
 
 abbrev pub is_sheltered : List Duty → Bool

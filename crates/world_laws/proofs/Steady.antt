@@ -17,6 +17,7 @@ use Rattle.actor_desk.specs.Books.{books_in}
 use Rattle.actor_desk.specs.Desk.{SixBooks, after_ask}
 use Rattle.path_agenda.specs.declared.duty.Duty.{Duty}
 use Rattle.path_agenda.specs.declared.duty.Duty.TheVariants as duties
+use Rattle.path_agenda.specs.declared.duty.AskDuty.TheVariants as ask_duties
 use Rattle.path_core.specs.Values.{Carried, values}
 use Rattle.world_laws.specs.declared.member.Member.TheVariants.{App, Path}
 use Rattle.world_laws.specs.Actors.{Actor, ActorCrew, member_asks, member_takes, member_next}
@@ -158,10 +159,10 @@ module _ (start : Start) where
 -- ---- what follows
 
 may_do : (six : SixBooks) (d : Duty) → DutyJoined six d → MayDo six d
-may_do six (duties.JoinHeard A) h = tt
-may_do six (duties.JoinHeard B) h = h
-may_do six (duties.GoIdentity A) h = h
-may_do six (duties.GoIdentity B) h = h
+may_do six (duties.Ask (ask_duties.JoinHeard A)) h = tt
+may_do six (duties.Ask (ask_duties.JoinHeard B)) h = h
+may_do six (duties.Ask (ask_duties.GoIdentity A)) h = h
+may_do six (duties.Ask (ask_duties.GoIdentity B)) h = h
 may_do six _ h = tt
 
 member_steady : (six : SixBooks) (number : ℕ) (m : Actor Carried) → MemberJoined six number m → MemberShielded m → (number ≡ 0 → six.control_b.fall.joined ≡ true → IsClearAt m) → MemberIsSteady six number m

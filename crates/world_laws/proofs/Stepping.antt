@@ -17,6 +17,10 @@ use Rattle.actor_desk.specs.Desk.{SixBooks, send_of, reply_of}
 use Rattle.actor_desk.specs.Words.{pick}
 use Rattle.path_agenda.specs.declared.duty.Duty.{Duty}
 use Rattle.path_agenda.specs.declared.duty.Duty.TheVariants as duties
+use Rattle.path_agenda.specs.declared.duty.AskDuty.TheVariants as ask_duties
+use Rattle.path_agenda.specs.declared.duty.SendDuty.TheVariants as send_duties
+use Rattle.path_agenda.specs.declared.duty.SilentDuty.TheVariants as silent_duties
+use Rattle.path_agenda.specs.declared.duty.StepDuty.TheVariants as step_duties
 use Rattle.path_agenda.specs.Agenda.{leaves, resets}
 use Rattle.path_core.specs.Duties.{stands, ask_for, answered}
 use Rattle.path_core.specs.Emission.{first_unsent, data_stands, data_ask, answered_data, payload_size}
@@ -77,7 +81,7 @@ module _ (six : SixBooks) (others : Others) (p : PathState Carried) (ab ba : Lan
         replying.granted_step six others p ab ba h holds ready s (payload_size p.profile) e.modes.standby (omega (arith, size)) (short s) (tiles s)
         (and_parts (states.may_finish e.tcp.state) _ stands).0 numbered
 
-    fin_due : e.treated.asked ≡ false → stands (duties.Fin s) p ≡ true → Answers (duties.Fin s)
+    fin_due : e.treated.asked ≡ false → stands (duties.Send (send_duties.Fin s)) p ≡ true → Answers (duties.Send (send_duties.Fin s))
     fin_due calm is =
         let parts = and_parts (states.may_finish e.tcp.state) _ is in
         answering.fin_step six others p ab ba h ready s calm parts.0 (finishes e.modes.identity refl parts.1)
@@ -97,52 +101,52 @@ module _ (six : SixBooks) (others : Others) (p : PathState Carried) (ab ba : Lan
   -- A duty that comes to something, as far as it sends or ends something nothing is to be asked before; B hears only of joins that
   -- were begun.
   pub duty_step : (d : Duty) → stands d p ≡ true → ((s : Side) → is_shield s d ≡ false → (end_at s p).treated.asked ≡ false) → MayDo six d → Answers d
-  duty_step duties.JoinAgain is calm may =
+  duty_step (duties.Ask ask_duties.JoinAgain) is calm may =
       let r : Reply = reply_of six (join_begin_ask (path_of p)) in
-      join_step six others p ab ba h holds (λ s. calm s refl) (join_begin_ask (path_of p)) r (replaced (duties.Leave A) p.agenda) (left p) p tt (λ s. calm s refl) h
-  duty_step (duties.Look s) is calm may =
+      join_step six others p ab ba h holds (λ s. calm s refl) (join_begin_ask (path_of p)) r (replaced (duties.Ask (ask_duties.Leave A)) p.agenda) (left p) p tt (λ s. calm s refl) h
+  duty_step (duties.Step (step_duties.Look s)) is calm may =
       let r : Reply = reply_of six (look_ask s p) in
       answering.end_step six others p ab ba h ready s (look_ask s p) (after_look r (end_at s p)) (left p) tt (looked_shows p.profile s (pick s ab ba) (pick s ba ab) r (end_at s p) (shows s))
-  duty_step (duties.Window s) is calm may = answering.told_step six others p ab ba h ready s (left p)
-  duty_step (duties.Update s) is calm may = answering.acknowledges_step six others p ab ba h ready s (calm s refl) (left p)
-  duty_step (duties.Syn s) is calm may = answering.unsent_step six others p ab ba h ready s (calm s refl) (left p)
-  duty_step (duties.Data s) is calm may = data_by s (calm s refl) (first_unsent (end_at s p)) refl is
-  duty_step (duties.DataFin s) is calm may = answering.data_fin_step six others p ab ba h ready s (calm s refl)
-  duty_step (duties.Fin s) is calm may = fin_due s (calm s refl) is
-  duty_step (duties.Timer s) is calm may = answering.agenda_step six others p ab ba h ready _ (left p) tt
-  duty_step duties.Events is calm may = events_step six others p ab ba h holds (λ s. calm s refl) (next_event p) (reply_of six (step_for (path_of p) (next_event p)))
-  duty_step (duties.SynHeard s) is calm may = replying.syn_window_step six others p ab ba h holds ready s
-  duty_step (duties.SynAnswered s) is calm may = replying.syn_window_step six others p ab ba h holds ready s
-  duty_step (duties.PlainHandshake s) is calm may = replying.told_fell six others p ab ba h holds ready s events.PlainHandshake tt
-  duty_step (duties.PeerKey s) is calm may = replying.peer_key_step six others p ab ba h holds ready s (key_heard (end_at s p).treated.items)
-  duty_step (duties.SynAck s) is calm may = answering.syn_ack_step six others p ab ba h ready s (left p)
-  duty_step (duties.JoinHeard s) is calm may = answering.join_heard_step six others p ab ba h ready s (reply_of six (join_heard_ask s (asked_at s p) p)) may
-  duty_step (duties.Refuse s) is calm may = answering.refuse_step six others p ab ba h ready s
-  duty_step (duties.Opened s) is calm may = replying.opened_step six others p ab ba h holds ready s (keys_heard (end_at s p).treated.items)
-  duty_step (duties.Live s) is calm may = answering.agenda_step six others p ab ba h ready _ (left p) tt
-  duty_step (duties.Heard s index) is calm may = replying.item_step six others p ab ba h holds ready s index is
-  duty_step (duties.AckHeard s) is calm may = replying.told_fell six others p ab ba h holds ready s events.AckHeard tt
-  duty_step (duties.PlainAck s) is calm may = replying.plain_ack_step six others p ab ba h holds ready s
-  duty_step (duties.SubflowAck s) is calm may = replying.subflow_ack_step six others p ab ba h holds ready s is
-  duty_step (duties.PlainData s) is calm may = replying.told_fell six others p ab ba h holds ready s events.PlainData tt
-  duty_step (duties.GoIdentity s) is calm may = replying.identity_step six others p ab ba h holds ready s may
-  duty_step (duties.Unmapped s) is calm may = answering.break_step six others p ab ba h ready s 6
-  duty_step (duties.SubflowFin s) is calm may = replying.plain_fin_step six others p ab ba h holds ready s (plain_fin (end_at s p)) refl
-  duty_step (duties.Keep s) is calm may = answering.agenda_step six others p ab ba h ready _ (left p) tt
-  duty_step (duties.Edge s) is calm may = replying.piece_step six others p ab ba h holds ready s (piece_of s p) refl
-  duty_step (duties.HeardFin s index) is calm may = replying.fin_heard_step six others p ab ba h holds ready s index
-  duty_step (duties.PassFin s) is calm may = answering.agenda_step six others p ab ba h ready _ (left p) tt
-  duty_step (duties.AckOut s) is calm may = answering.told_step six others p ab ba h ready s (left p)
-  duty_step (duties.Rate s) is calm may = replying.rate_step six others p ab ba h holds ready s
-  duty_step (duties.Acknowledge s) is calm may = answering.acknowledges_step six others p ab ba h ready s (calm s refl) (left p)
-  duty_step (duties.Again s) is calm may = answering.again_step six others p ab ba h ready s (calm s refl)
-  duty_step (duties.Answer s) is calm may = answering.answer_step six others p ab ba h ready s (calm s refl)
-  duty_step (duties.ResetAnswer s) is calm may = answering.dead_step six others p ab ba h ready s
-  duty_step (duties.Return s) is calm may = returns s (left p)
-  duty_step (duties.Resend s) is calm may = answering.resend_step six others p ab ba h ready s (calm s refl)
-  duty_step (duties.BreakAck s reason) is calm may = answering.told_step six others p ab ba h ready s (resets s reason)
-  duty_step (duties.BreakReset s reason) is calm may = answering.reset_step six others p ab ba h ready s (calm s refl) (Some reason) (leaves s)
-  duty_step (duties.Reset s) is calm may = answering.reset_step six others p ab ba h ready s (calm s refl) None (replaced (duties.Leave s) p.agenda)
-  duty_step (duties.Leave s) is calm may = returns s (replaced (duties.Dead s) p.agenda)
-  duty_step (duties.Dead s) is calm may = answering.agenda_step six others p ab ba h ready _ (left p) tt
+  duty_step (duties.Ask (ask_duties.Window s)) is calm may = answering.told_step six others p ab ba h ready s (left p)
+  duty_step (duties.Send (send_duties.Update s)) is calm may = answering.acknowledges_step six others p ab ba h ready s (calm s refl) (left p)
+  duty_step (duties.Send (send_duties.Syn s)) is calm may = answering.unsent_step six others p ab ba h ready s (calm s refl) (left p)
+  duty_step (duties.Step (step_duties.Data s)) is calm may = data_by s (calm s refl) (first_unsent (end_at s p)) refl is
+  duty_step (duties.Send (send_duties.DataFin s)) is calm may = answering.data_fin_step six others p ab ba h ready s (calm s refl)
+  duty_step (duties.Send (send_duties.Fin s)) is calm may = fin_due s (calm s refl) is
+  duty_step (duties.Silent (silent_duties.Timer s)) is calm may = answering.agenda_step six others p ab ba h ready _ (left p) tt
+  duty_step (duties.Step step_duties.Events) is calm may = events_step six others p ab ba h holds (λ s. calm s refl) (next_event p) (reply_of six (step_for (path_of p) (next_event p)))
+  duty_step (duties.Ask (ask_duties.SynHeard s)) is calm may = replying.syn_window_step six others p ab ba h holds ready s
+  duty_step (duties.Ask (ask_duties.SynAnswered s)) is calm may = replying.syn_window_step six others p ab ba h holds ready s
+  duty_step (duties.Ask (ask_duties.PlainHandshake s)) is calm may = replying.told_fell six others p ab ba h holds ready s events.PlainHandshake tt
+  duty_step (duties.Ask (ask_duties.PeerKey s)) is calm may = replying.peer_key_step six others p ab ba h holds ready s (key_heard (end_at s p).treated.items)
+  duty_step (duties.Send (send_duties.SynAck s)) is calm may = answering.syn_ack_step six others p ab ba h ready s (left p)
+  duty_step (duties.Ask (ask_duties.JoinHeard s)) is calm may = answering.join_heard_step six others p ab ba h ready s (reply_of six (join_heard_ask s (asked_at s p) p)) may
+  duty_step (duties.Send (send_duties.Refuse s)) is calm may = answering.refuse_step six others p ab ba h ready s
+  duty_step (duties.Ask (ask_duties.Opened s)) is calm may = replying.opened_step six others p ab ba h holds ready s (keys_heard (end_at s p).treated.items)
+  duty_step (duties.Ask (ask_duties.Live s)) is calm may = answering.agenda_step six others p ab ba h ready _ (left p) tt
+  duty_step (duties.Step (step_duties.Heard s index)) is calm may = replying.item_step six others p ab ba h holds ready s index is
+  duty_step (duties.Ask (ask_duties.AckHeard s)) is calm may = replying.told_fell six others p ab ba h holds ready s events.AckHeard tt
+  duty_step (duties.Step (step_duties.PlainAck s)) is calm may = replying.plain_ack_step six others p ab ba h holds ready s
+  duty_step (duties.Ask (ask_duties.SubflowAck s)) is calm may = replying.subflow_ack_step six others p ab ba h holds ready s is
+  duty_step (duties.Ask (ask_duties.PlainData s)) is calm may = replying.told_fell six others p ab ba h holds ready s events.PlainData tt
+  duty_step (duties.Ask (ask_duties.GoIdentity s)) is calm may = replying.identity_step six others p ab ba h holds ready s may
+  duty_step (duties.Step (step_duties.Unmapped s)) is calm may = answering.break_step six others p ab ba h ready s 6
+  duty_step (duties.Ask (ask_duties.SubflowFin s)) is calm may = replying.plain_fin_step six others p ab ba h holds ready s (plain_fin (end_at s p)) refl
+  duty_step (duties.Silent (silent_duties.Keep s)) is calm may = answering.agenda_step six others p ab ba h ready _ (left p) tt
+  duty_step (duties.Ask (ask_duties.Edge s)) is calm may = replying.piece_step six others p ab ba h holds ready s (piece_of s p) refl
+  duty_step (duties.Ask (ask_duties.HeardFin s index)) is calm may = replying.fin_heard_step six others p ab ba h holds ready s index
+  duty_step (duties.Silent (silent_duties.PassFin s)) is calm may = answering.agenda_step six others p ab ba h ready _ (left p) tt
+  duty_step (duties.Ask (ask_duties.AckOut s)) is calm may = answering.told_step six others p ab ba h ready s (left p)
+  duty_step (duties.Ask (ask_duties.Rate s)) is calm may = replying.rate_step six others p ab ba h holds ready s
+  duty_step (duties.Send (send_duties.Acknowledge s)) is calm may = answering.acknowledges_step six others p ab ba h ready s (calm s refl) (left p)
+  duty_step (duties.Send (send_duties.Again s)) is calm may = answering.again_step six others p ab ba h ready s (calm s refl)
+  duty_step (duties.Send (send_duties.Answer s)) is calm may = answering.answer_step six others p ab ba h ready s (calm s refl)
+  duty_step (duties.Send (send_duties.ResetAnswer s)) is calm may = answering.dead_step six others p ab ba h ready s
+  duty_step (duties.Ask (ask_duties.Return s)) is calm may = returns s (left p)
+  duty_step (duties.Send (send_duties.Resend s)) is calm may = answering.resend_step six others p ab ba h ready s (calm s refl)
+  duty_step (duties.Ask (ask_duties.BreakAck s reason)) is calm may = answering.told_step six others p ab ba h ready s (resets s reason)
+  duty_step (duties.Send (send_duties.BreakReset s reason)) is calm may = answering.reset_step six others p ab ba h ready s (calm s refl) (Some reason) (leaves s)
+  duty_step (duties.Send (send_duties.Reset s)) is calm may = answering.reset_step six others p ab ba h ready s (calm s refl) None (replaced (duties.Ask (ask_duties.Leave s)) p.agenda)
+  duty_step (duties.Ask (ask_duties.Leave s)) is calm may = returns s (replaced (duties.Ask (ask_duties.Dead s)) p.agenda)
+  duty_step (duties.Ask (ask_duties.Dead s)) is calm may = answering.agenda_step six others p ab ba h ready _ (left p) tt
   duty_step duties.End is calm may = answering.agenda_step six others p ab ba h ready _ [] tt

@@ -40,6 +40,10 @@ use Rattle.path_agenda.specs.Agenda.{start_of_turn}
 use Rattle.path_agenda.specs.Items.{key_heard, keys_heard}
 use Rattle.path_agenda.specs.declared.duty.Duty.{Duty}
 use Rattle.path_agenda.specs.declared.duty.Duty.TheVariants as duties
+use Rattle.path_agenda.specs.declared.duty.AskDuty.TheVariants as ask_duties
+use Rattle.path_agenda.specs.declared.duty.SendDuty.TheVariants as send_duties
+use Rattle.path_agenda.specs.declared.duty.SilentDuty.TheVariants as silent_duties
+use Rattle.path_agenda.specs.declared.duty.StepDuty.TheVariants as step_duties
 use Rattle.path_agenda.specs.declared.heard.Heard.{Heard}
 use Rattle.path_agenda.specs.declared.heard.Heard.TheVariants as says
 use Rattle.path_agenda.specs.declared.keys.KeyPair.{KeyPair}
@@ -299,13 +303,13 @@ module _ (p : PathState Carried) where
   item_b (Some (says.FastClose key)) = tt
 
   -- a sign that A hears comes behind a DSS
-  led_by : (index : ℕ) (ds : List Duty) (item : Heard) → Leads (duties.Heard A index ∷ ds) p → p.a.modes.clear ≡ false → p.a.modes.identity ≡ false → item_at index p.a.treated.items ≡ Some item → IsLed false item
+  led_by : (index : ℕ) (ds : List Duty) (item : Heard) → Leads (duties.Step (step_duties.Heard A index) ∷ ds) p → p.a.modes.clear ≡ false → p.a.modes.identity ≡ false → item_at index p.a.treated.items ≡ Some item → IsLed false item
   led_by index ds item h unclear above is = ⊎_elim
       (λ is_clear. absurd (both_ways p.a.modes.clear unclear is_clear))
-      (λ (u : IsUnclear (duties.Heard A index ∷ ds) p). unled u.n p.a.treated.items item h.led (unheard p u.n above u.none) (subst (λ n. item_at n p.a.treated.items ≡ Some item) u.follows.0 is))
+      (λ (u : IsUnclear (duties.Step (step_duties.Heard A index) ∷ ds) p). unled u.n p.a.treated.items item h.led (unheard p u.n above u.none) (subst (λ n. item_at n p.a.treated.items ≡ Some item) u.follows.0 is))
       h.clear
 
-  item_a : (index : ℕ) (ds : List Duty) → p.a.modes.identity ≡ false → (o : Option Heard) → item_at index p.a.treated.items ≡ o → Leads (duties.Heard A index ∷ ds) p → p.a.modes.clear ≡ false → IsMild (item_ask values A o p)
+  item_a : (index : ℕ) (ds : List Duty) → p.a.modes.identity ≡ false → (o : Option Heard) → item_at index p.a.treated.items ≡ o → Leads (duties.Step (step_duties.Heard A index) ∷ ds) p → p.a.modes.clear ≡ false → IsMild (item_ask values A o p)
   item_a index ds above None is h unclear = tt
   item_a index ds above (Some says.Dss) is h unclear = tt
   item_a index ds above (Some (says.DataAck next window)) is h unclear = tt
@@ -319,7 +323,7 @@ module _ (p : PathState Carried) where
   item_a index ds above (Some says.Fail) is h unclear = tt
   item_a index ds above (Some (says.FastClose key)) is h unclear = tt
 
-  item_mild : (index : ℕ) (ds : List Duty) → Leads (duties.Heard A index ∷ ds) p → p.a.modes.clear ≡ false → IsMild (item_ask values A (item_of index p.a) p)
+  item_mild : (index : ℕ) (ds : List Duty) → Leads (duties.Step (step_duties.Heard A index) ∷ ds) p → p.a.modes.clear ≡ false → IsMild (item_ask values A (item_of index p.a) p)
   item_mild index ds h unclear = by p.a.modes.identity refl
     where
       by : (b : Bool) → p.a.modes.identity ≡ b → IsMild (item_ask values A (if b then None else item_at index p.a.treated.items) p)
@@ -327,68 +331,68 @@ module _ (p : PathState Carried) where
       by false above = item_a index ds above (item_at index p.a.treated.items) refl h unclear
 
   first_mild : (d : Duty) (ds : List Duty) → Leads (d ∷ ds) p → p.a.modes.clear ≡ false → IsMild (ask_for values d p)
-  first_mild duties.JoinAgain ds h unclear = tt
-  first_mild (duties.Look s) ds h unclear = tt
-  first_mild (duties.Window s) ds h unclear = tt
-  first_mild (duties.Update s) ds h unclear = tt
-  first_mild (duties.Syn s) ds h unclear = tt
-  first_mild (duties.Data s) ds h unclear = data_mild s (first_unsent (end_at s p))
-  first_mild (duties.DataFin s) ds h unclear = tt
-  first_mild (duties.Fin s) ds h unclear = tt
-  first_mild (duties.Timer s) ds h unclear = tt
-  first_mild duties.Events ds h unclear = step_mild (next_event p)
-  first_mild (duties.SynHeard s) ds h unclear = tt
-  first_mild (duties.SynAnswered s) ds h unclear = tt
-  first_mild (duties.PeerKey s) ds h unclear = key_mild s (key_heard (end_at s p).treated.items)
-  first_mild (duties.SynAck s) ds h unclear = tt
-  first_mild (duties.JoinHeard s) ds h unclear = join_mild s (asked_at s p)
-  first_mild (duties.Refuse s) ds h unclear = tt
-  first_mild (duties.Opened s) ds h unclear = opened_mild s (keys_heard (end_at s p).treated.items)
-  first_mild (duties.Live s) ds h unclear = tt
-  first_mild (duties.Heard A index) ds h unclear = item_mild index ds h unclear
-  first_mild (duties.Heard B index) ds h unclear = item_b (item_of index p.b)
-  first_mild (duties.AckHeard A) ds h unclear = ⊎_elim (λ is. absurd (both_ways p.a.modes.clear unclear is)) (λ (u : IsUnclear (duties.AckHeard A ∷ ds) p). absurd u.follows) h.clear
-  first_mild (duties.AckHeard B) ds h unclear = tt
-  first_mild (duties.PlainAck s) ds h unclear = plain_ack_mild s
-  first_mild (duties.PlainHandshake s) ds h unclear = tt
-  first_mild (duties.SubflowAck s) ds h unclear = tt
-  first_mild (duties.PlainData s) ds h unclear = tt
-  first_mild (duties.GoIdentity s) ds h unclear = tt
-  first_mild (duties.Unmapped s) ds h unclear = break_mild s 6
-  first_mild (duties.SubflowFin s) ds h unclear = fin_mild s (plain_fin (end_at s p))
-  first_mild (duties.Keep s) ds h unclear = tt
-  first_mild (duties.Edge s) ds h unclear = piece_mild s (piece_of s p)
-  first_mild (duties.HeardFin s index) ds h unclear = fin_mild s (fin_of index (end_at s p))
-  first_mild (duties.PassFin s) ds h unclear = tt
-  first_mild (duties.AckOut s) ds h unclear = tt
-  first_mild (duties.Rate s) ds h unclear = rate_mild s (end_at s p).tcp.congestion.pending
-  first_mild (duties.Acknowledge s) ds h unclear = tt
-  first_mild (duties.Again s) ds h unclear = tt
-  first_mild (duties.Answer s) ds h unclear = tt
-  first_mild (duties.ResetAnswer s) ds h unclear = tt
-  first_mild (duties.Return s) ds h unclear = tt
-  first_mild (duties.Resend s) ds h unclear = tt
-  first_mild (duties.BreakAck s reason) ds h unclear = tt
-  first_mild (duties.BreakReset s reason) ds h unclear = tt
-  first_mild (duties.Reset s) ds h unclear = tt
-  first_mild (duties.Leave s) ds h unclear = tt
-  first_mild (duties.Dead s) ds h unclear = tt
+  first_mild (duties.Ask ask_duties.JoinAgain) ds h unclear = tt
+  first_mild (duties.Step (step_duties.Look s)) ds h unclear = tt
+  first_mild (duties.Ask (ask_duties.Window s)) ds h unclear = tt
+  first_mild (duties.Send (send_duties.Update s)) ds h unclear = tt
+  first_mild (duties.Send (send_duties.Syn s)) ds h unclear = tt
+  first_mild (duties.Step (step_duties.Data s)) ds h unclear = data_mild s (first_unsent (end_at s p))
+  first_mild (duties.Send (send_duties.DataFin s)) ds h unclear = tt
+  first_mild (duties.Send (send_duties.Fin s)) ds h unclear = tt
+  first_mild (duties.Silent (silent_duties.Timer s)) ds h unclear = tt
+  first_mild (duties.Step step_duties.Events) ds h unclear = step_mild (next_event p)
+  first_mild (duties.Ask (ask_duties.SynHeard s)) ds h unclear = tt
+  first_mild (duties.Ask (ask_duties.SynAnswered s)) ds h unclear = tt
+  first_mild (duties.Ask (ask_duties.PeerKey s)) ds h unclear = key_mild s (key_heard (end_at s p).treated.items)
+  first_mild (duties.Send (send_duties.SynAck s)) ds h unclear = tt
+  first_mild (duties.Ask (ask_duties.JoinHeard s)) ds h unclear = join_mild s (asked_at s p)
+  first_mild (duties.Send (send_duties.Refuse s)) ds h unclear = tt
+  first_mild (duties.Ask (ask_duties.Opened s)) ds h unclear = opened_mild s (keys_heard (end_at s p).treated.items)
+  first_mild (duties.Ask (ask_duties.Live s)) ds h unclear = tt
+  first_mild (duties.Step (step_duties.Heard A index)) ds h unclear = item_mild index ds h unclear
+  first_mild (duties.Step (step_duties.Heard B index)) ds h unclear = item_b (item_of index p.b)
+  first_mild (duties.Ask (ask_duties.AckHeard A)) ds h unclear = ⊎_elim (λ is. absurd (both_ways p.a.modes.clear unclear is)) (λ (u : IsUnclear (duties.Ask (ask_duties.AckHeard A) ∷ ds) p). absurd u.follows) h.clear
+  first_mild (duties.Ask (ask_duties.AckHeard B)) ds h unclear = tt
+  first_mild (duties.Step (step_duties.PlainAck s)) ds h unclear = plain_ack_mild s
+  first_mild (duties.Ask (ask_duties.PlainHandshake s)) ds h unclear = tt
+  first_mild (duties.Ask (ask_duties.SubflowAck s)) ds h unclear = tt
+  first_mild (duties.Ask (ask_duties.PlainData s)) ds h unclear = tt
+  first_mild (duties.Ask (ask_duties.GoIdentity s)) ds h unclear = tt
+  first_mild (duties.Step (step_duties.Unmapped s)) ds h unclear = break_mild s 6
+  first_mild (duties.Ask (ask_duties.SubflowFin s)) ds h unclear = fin_mild s (plain_fin (end_at s p))
+  first_mild (duties.Silent (silent_duties.Keep s)) ds h unclear = tt
+  first_mild (duties.Ask (ask_duties.Edge s)) ds h unclear = piece_mild s (piece_of s p)
+  first_mild (duties.Ask (ask_duties.HeardFin s index)) ds h unclear = fin_mild s (fin_of index (end_at s p))
+  first_mild (duties.Silent (silent_duties.PassFin s)) ds h unclear = tt
+  first_mild (duties.Ask (ask_duties.AckOut s)) ds h unclear = tt
+  first_mild (duties.Ask (ask_duties.Rate s)) ds h unclear = rate_mild s (end_at s p).tcp.congestion.pending
+  first_mild (duties.Send (send_duties.Acknowledge s)) ds h unclear = tt
+  first_mild (duties.Send (send_duties.Again s)) ds h unclear = tt
+  first_mild (duties.Send (send_duties.Answer s)) ds h unclear = tt
+  first_mild (duties.Send (send_duties.ResetAnswer s)) ds h unclear = tt
+  first_mild (duties.Ask (ask_duties.Return s)) ds h unclear = tt
+  first_mild (duties.Send (send_duties.Resend s)) ds h unclear = tt
+  first_mild (duties.Ask (ask_duties.BreakAck s reason)) ds h unclear = tt
+  first_mild (duties.Send (send_duties.BreakReset s reason)) ds h unclear = tt
+  first_mild (duties.Send (send_duties.Reset s)) ds h unclear = tt
+  first_mild (duties.Ask (ask_duties.Leave s)) ds h unclear = tt
+  first_mild (duties.Ask (ask_duties.Dead s)) ds h unclear = tt
   first_mild duties.End ds h unclear = tt
 
   -- and one that sleeps
   idle_mild : (d : Duty) → is_idle d ≡ true → IsMild (ask_for values d p)
-  idle_mild duties.JoinAgain idle = tt
-  idle_mild (duties.Look s) idle = tt
-  idle_mild (duties.Window s) idle = tt
-  idle_mild (duties.Update s) idle = tt
-  idle_mild (duties.Syn s) idle = tt
-  idle_mild (duties.Data s) idle = data_mild s (first_unsent (end_at s p))
-  idle_mild (duties.DataFin s) idle = tt
-  idle_mild (duties.Fin s) idle = tt
-  idle_mild (duties.Timer s) idle = tt
-  idle_mild duties.Events idle = step_mild (next_event p)
-  idle_mild (duties.Leave s) idle = tt
-  idle_mild (duties.Dead s) idle = tt
+  idle_mild (duties.Ask ask_duties.JoinAgain) idle = tt
+  idle_mild (duties.Step (step_duties.Look s)) idle = tt
+  idle_mild (duties.Ask (ask_duties.Window s)) idle = tt
+  idle_mild (duties.Send (send_duties.Update s)) idle = tt
+  idle_mild (duties.Send (send_duties.Syn s)) idle = tt
+  idle_mild (duties.Step (step_duties.Data s)) idle = data_mild s (first_unsent (end_at s p))
+  idle_mild (duties.Send (send_duties.DataFin s)) idle = tt
+  idle_mild (duties.Send (send_duties.Fin s)) idle = tt
+  idle_mild (duties.Silent (silent_duties.Timer s)) idle = tt
+  idle_mild (duties.Step step_duties.Events) idle = step_mild (next_event p)
+  idle_mild (duties.Ask (ask_duties.Leave s)) idle = tt
+  idle_mild (duties.Ask (ask_duties.Dead s)) idle = tt
   idle_mild duties.End idle = tt
   idle_mild _ idle = absurd (false≢true idle)
 

@@ -25,6 +25,10 @@ use Rattle.actor_desk.specs.Desk.{SixBooks, control_of, reply_of, after_ask}
 use Rattle.join_handshake.specs.declared.hearing.JoinSyn.{JoinSyn}
 use Rattle.path_agenda.specs.declared.duty.Duty.{Duty}
 use Rattle.path_agenda.specs.declared.duty.Duty.TheVariants as duties
+use Rattle.path_agenda.specs.declared.duty.AskDuty.TheVariants as ask_duties
+use Rattle.path_agenda.specs.declared.duty.SendDuty.TheVariants as send_duties
+use Rattle.path_agenda.specs.declared.duty.SilentDuty.TheVariants as silent_duties
+use Rattle.path_agenda.specs.declared.duty.StepDuty.TheVariants as step_duties
 use Rattle.path_agenda.specs.declared.heard.Heard.{Heard}
 use Rattle.path_agenda.specs.declared.heard.Heard.TheVariants as says
 use Rattle.path_agenda.specs.declared.keys.KeyPair.{KeyPair}
@@ -226,48 +230,48 @@ module _ (c : Profile) (p : PathState Carried) (h : PathTells c p) where
   items_at s = (tells_at c p h s).treated.items
 
   pub asks_tell : (d : Duty) → AskTells (ask_for values d p)
-  asks_tell duties.JoinAgain = tt
-  asks_tell (duties.Look s) = tt
-  asks_tell (duties.Window s) = tt
-  asks_tell (duties.Update s) = tt
-  asks_tell (duties.Syn s) = tt
-  asks_tell (duties.Data s) = data_tells s (first_unsent (end_at s p))
-  asks_tell (duties.DataFin s) = tt
-  asks_tell (duties.Fin s) = tt
-  asks_tell (duties.Timer s) = tt
-  asks_tell duties.Events = step_tells (next_event p)
-  asks_tell (duties.SynHeard s) = tt
-  asks_tell (duties.SynAnswered s) = tt
-  asks_tell (duties.PlainHandshake s) = tt
-  asks_tell (duties.PeerKey s) = key_tells s (key_heard (end_at s p).treated.items) (heard_key (end_at s p).treated.items (items_at s))
-  asks_tell (duties.SynAck s) = tt
-  asks_tell (duties.JoinHeard s) = join_tells s (asked_at s p)
-  asks_tell (duties.Refuse s) = tt
-  asks_tell (duties.Opened s) = opened_tells s (keys_heard (end_at s p).treated.items) (heard_keys (end_at s p).treated.items (items_at s))
-  asks_tell (duties.Live s) = tt
-  asks_tell (duties.Heard s index) = item_tells s (item_of index (end_at s p)) (known_item (end_at s p).modes.identity _ (every_item index (end_at s p).treated.items (items_at s)))
-  asks_tell (duties.AckHeard s) = tt
-  asks_tell (duties.PlainAck s) = plain_ack_tells s
-  asks_tell (duties.SubflowAck s) = tt
-  asks_tell (duties.PlainData s) = tt
-  asks_tell (duties.GoIdentity s) = tt
-  asks_tell (duties.Unmapped s) = break_tells s 6
-  asks_tell (duties.SubflowFin s) = fin_tells s (plain_fin (end_at s p))
-  asks_tell (duties.Keep s) = tt
-  asks_tell (duties.Edge s) = piece_tells s (piece_of s p)
-  asks_tell (duties.HeardFin s index) = fin_tells s (fin_of index (end_at s p))
-  asks_tell (duties.PassFin s) = tt
-  asks_tell (duties.AckOut s) = tt
-  asks_tell (duties.Rate s) = rate_tells s (end_at s p).tcp.congestion.pending
-  asks_tell (duties.Acknowledge s) = tt
-  asks_tell (duties.Again s) = tt
-  asks_tell (duties.Answer s) = tt
-  asks_tell (duties.ResetAnswer s) = tt
-  asks_tell (duties.Return s) = tt
-  asks_tell (duties.Resend s) = tt
-  asks_tell (duties.BreakAck s reason) = tt
-  asks_tell (duties.BreakReset s reason) = tt
-  asks_tell (duties.Reset s) = tt
-  asks_tell (duties.Leave s) = tt
-  asks_tell (duties.Dead s) = tt
+  asks_tell (duties.Ask ask_duties.JoinAgain) = tt
+  asks_tell (duties.Step (step_duties.Look s)) = tt
+  asks_tell (duties.Ask (ask_duties.Window s)) = tt
+  asks_tell (duties.Send (send_duties.Update s)) = tt
+  asks_tell (duties.Send (send_duties.Syn s)) = tt
+  asks_tell (duties.Step (step_duties.Data s)) = data_tells s (first_unsent (end_at s p))
+  asks_tell (duties.Send (send_duties.DataFin s)) = tt
+  asks_tell (duties.Send (send_duties.Fin s)) = tt
+  asks_tell (duties.Silent (silent_duties.Timer s)) = tt
+  asks_tell (duties.Step step_duties.Events) = step_tells (next_event p)
+  asks_tell (duties.Ask (ask_duties.SynHeard s)) = tt
+  asks_tell (duties.Ask (ask_duties.SynAnswered s)) = tt
+  asks_tell (duties.Ask (ask_duties.PlainHandshake s)) = tt
+  asks_tell (duties.Ask (ask_duties.PeerKey s)) = key_tells s (key_heard (end_at s p).treated.items) (heard_key (end_at s p).treated.items (items_at s))
+  asks_tell (duties.Send (send_duties.SynAck s)) = tt
+  asks_tell (duties.Ask (ask_duties.JoinHeard s)) = join_tells s (asked_at s p)
+  asks_tell (duties.Send (send_duties.Refuse s)) = tt
+  asks_tell (duties.Ask (ask_duties.Opened s)) = opened_tells s (keys_heard (end_at s p).treated.items) (heard_keys (end_at s p).treated.items (items_at s))
+  asks_tell (duties.Ask (ask_duties.Live s)) = tt
+  asks_tell (duties.Step (step_duties.Heard s index)) = item_tells s (item_of index (end_at s p)) (known_item (end_at s p).modes.identity _ (every_item index (end_at s p).treated.items (items_at s)))
+  asks_tell (duties.Ask (ask_duties.AckHeard s)) = tt
+  asks_tell (duties.Step (step_duties.PlainAck s)) = plain_ack_tells s
+  asks_tell (duties.Ask (ask_duties.SubflowAck s)) = tt
+  asks_tell (duties.Ask (ask_duties.PlainData s)) = tt
+  asks_tell (duties.Ask (ask_duties.GoIdentity s)) = tt
+  asks_tell (duties.Step (step_duties.Unmapped s)) = break_tells s 6
+  asks_tell (duties.Ask (ask_duties.SubflowFin s)) = fin_tells s (plain_fin (end_at s p))
+  asks_tell (duties.Silent (silent_duties.Keep s)) = tt
+  asks_tell (duties.Ask (ask_duties.Edge s)) = piece_tells s (piece_of s p)
+  asks_tell (duties.Ask (ask_duties.HeardFin s index)) = fin_tells s (fin_of index (end_at s p))
+  asks_tell (duties.Silent (silent_duties.PassFin s)) = tt
+  asks_tell (duties.Ask (ask_duties.AckOut s)) = tt
+  asks_tell (duties.Ask (ask_duties.Rate s)) = rate_tells s (end_at s p).tcp.congestion.pending
+  asks_tell (duties.Send (send_duties.Acknowledge s)) = tt
+  asks_tell (duties.Send (send_duties.Again s)) = tt
+  asks_tell (duties.Send (send_duties.Answer s)) = tt
+  asks_tell (duties.Send (send_duties.ResetAnswer s)) = tt
+  asks_tell (duties.Ask (ask_duties.Return s)) = tt
+  asks_tell (duties.Send (send_duties.Resend s)) = tt
+  asks_tell (duties.Ask (ask_duties.BreakAck s reason)) = tt
+  asks_tell (duties.Send (send_duties.BreakReset s reason)) = tt
+  asks_tell (duties.Send (send_duties.Reset s)) = tt
+  asks_tell (duties.Ask (ask_duties.Leave s)) = tt
+  asks_tell (duties.Ask (ask_duties.Dead s)) = tt
   asks_tell duties.End = tt

@@ -48,6 +48,10 @@ use Rattle.actor_desk.specs.Desk.{SixBooks, send_of, reassembly_of, control_of, 
 use Rattle.actor_desk.specs.Words.{pick}
 use Rattle.path_agenda.specs.declared.duty.Duty.{Duty}
 use Rattle.path_agenda.specs.declared.duty.Duty.TheVariants as duties
+use Rattle.path_agenda.specs.declared.duty.AskDuty.TheVariants as ask_duties
+use Rattle.path_agenda.specs.declared.duty.SendDuty.TheVariants as send_duties
+use Rattle.path_agenda.specs.declared.duty.SilentDuty.TheVariants as silent_duties
+use Rattle.path_agenda.specs.declared.duty.StepDuty.TheVariants as step_duties
 use Rattle.path_agenda.specs.declared.heard.Heard.{Heard}
 use Rattle.path_agenda.specs.declared.heard.Heard.TheVariants as says
 use Rattle.join_handshake.specs.declared.hearing.JoinSyn.{JoinSyn}
@@ -217,7 +221,7 @@ step_low fall path sole events.Stop = tt
 
 -- what is to be done by a verdict
 verdict_fair : (s : Side) (p : PathState Carried) (v : Verdict) → IsLow v → AreFair p.agenda → AreFair (fell_duties s (replies.Control (control_replies.Verdict v)) p)
-verdict_fair s p (verdicts.Went Identity) low fair = replaced_fair (duties.GoIdentity s) p.agenda refl fair
+verdict_fair s p (verdicts.Went Identity) low fair = replaced_fair (duties.Ask (ask_duties.GoIdentity s)) p.agenda refl fair
 verdict_fair s p (verdicts.Went Starting) low fair = tail_fair p.agenda fair
 verdict_fair s p (verdicts.Went Sure) low fair = tail_fair p.agenda fair
 verdict_fair s p (verdicts.Went InfiniteSend) low fair = tail_fair p.agenda fair
@@ -372,7 +376,7 @@ module _ (six : SixBooks) (others : Others) (p : PathState Carried) (ab ba : Lan
     keyed r keys key = on (after_keys r keys e) (left p) (rules.keys_tell p.profile s e tells r keys key) left_fair
 
     acked_fair : (covers : Bool) → AreFair (told_next s covers p)
-    acked_fair true = replaced_fair (duties.AckHeard s) p.agenda refl t.agenda
+    acked_fair true = replaced_fair (duties.Ask (ask_duties.AckHeard s)) p.agenda refl t.agenda
     acked_fair false = left_fair
 
     mapping_told : Tells (answered_mapping values s (reply_of six (mapping_ask values s p)) p)
@@ -409,12 +413,12 @@ module _ (six : SixBooks) (others : Others) (p : PathState Carried) (ab ba : Lan
 
     join_by : (keys : Option KeyPair) (asked : Option JoinSyn) → IfSome keys AreKeys → IfSome asked (λ a. IsNonce a.nonce) → Tells (join_taken s keys asked (reply_of six (join_heard_ask s (asked_at s p) p)) p)
     join_by None (Some asked) pair nonce =
-        on (with_mode_refused (reply_of six (join_heard_ask s (asked_at s p) p)) e) (replaced (duties.Refuse s) p.agenda) (rules.join_refused_tells p.profile s e tells (reply_of six (join_heard_ask s (asked_at s p) p)))
-        (replaced_fair (duties.Refuse s) p.agenda refl t.agenda)
-    join_by None None pair nonce = tells_agenda p.profile p t (replaced (duties.Refuse s) p.agenda) (replaced_fair (duties.Refuse s) p.agenda refl t.agenda)
-    join_by (Some keys) None pair nonce = tells_agenda p.profile p t (replaced (duties.Refuse s) p.agenda) (replaced_fair (duties.Refuse s) p.agenda refl t.agenda)
+        on (with_mode_refused (reply_of six (join_heard_ask s (asked_at s p) p)) e) (replaced (duties.Send (send_duties.Refuse s)) p.agenda) (rules.join_refused_tells p.profile s e tells (reply_of six (join_heard_ask s (asked_at s p) p)))
+        (replaced_fair (duties.Send (send_duties.Refuse s)) p.agenda refl t.agenda)
+    join_by None None pair nonce = tells_agenda p.profile p t (replaced (duties.Send (send_duties.Refuse s)) p.agenda) (replaced_fair (duties.Send (send_duties.Refuse s)) p.agenda refl t.agenda)
+    join_by (Some keys) None pair nonce = tells_agenda p.profile p t (replaced (duties.Send (send_duties.Refuse s)) p.agenda) (replaced_fair (duties.Send (send_duties.Refuse s)) p.agenda refl t.agenda)
     join_by (Some keys) (Some asked) pair nonce =
-        on (joined_by keys asked e) (replaced (duties.SynAck s) p.agenda) (joined_tells p.profile s keys asked e pair nonce tells) (replaced_fair (duties.SynAck s) p.agenda refl t.agenda)
+        on (joined_by keys asked e) (replaced (duties.Send (send_duties.SynAck s)) p.agenda) (joined_tells p.profile s keys asked e pair nonce tells) (replaced_fair (duties.Send (send_duties.SynAck s)) p.agenda refl t.agenda)
 
     join_told : Tells (answered_join_heard s (reply_of six (join_heard_ask s (asked_at s p) p)) p)
     join_told = join_by (keys_begun (reply_of six (join_heard_ask s (asked_at s p) p))) (asked_at s p) (joined_keys six short.keys s (asked_at s p) p) (asked_nonce e.treated.items tells.treated.items)
@@ -554,7 +558,7 @@ module _ (six : SixBooks) (others : Others) (p : PathState Carried) (ab ba : Lan
     fin_at true = let next = tells.sender.next in omega (arith, next)
     fin_at false = tells.sender.next
 
-    fin_due : stands (duties.Fin s) p ≡ true → Tells (answered_fin values s p)
+    fin_due : stands (duties.Send (send_duties.Fin s)) p ≡ true → Tells (answered_fin values s p)
     fin_due is =
         let may = (and_parts (states.may_finish e.tcp.state) _ is).0 in
         let next = next_is may in let sent = out_is.sent in let written = short.written s in
@@ -569,52 +573,52 @@ module _ (six : SixBooks) (others : Others) (p : PathState Carried) (ab ba : Lan
     data_by None is stands = grant_by (and_parts (states.may_finish e.tcp.state) _ stands).0 (grant_reply (path_of p) (payload_size p.profile) e.modes.standby (send_of s six)) refl
 
   pub duty_tells : (d : Duty) → stands d p ≡ true → is_fair d ≡ true → Tells (answered values d (reply_of six (ask_for values d p)) p)
-  duty_tells duties.JoinAgain is fair =
-      join_tells p t (reply_of six (ask_for values duties.JoinAgain p)) (replaced (duties.Leave A) p.agenda) (left p) p (again_keys six short.keys p)
-      (replaced_fair (duties.Leave A) p.agenda refl t.agenda) left_fair t
-  duty_tells (duties.Look s) is fair = let r : Reply = reply_of six (look_ask s p) in on s (after_look r (end_at s p)) (left p) (rules.look_tells p.profile s (end_at s p) (tells s) r) left_fair
-  duty_tells (duties.Window s) is fair = ack_out_told s (left p) left_fair
-  duty_tells (duties.Update s) is fair = acknowledged s (left p) left_fair
-  duty_tells (duties.Syn s) is fair = unsent_told s (left p) left_fair
-  duty_tells (duties.Data s) is fair = data_by s (first_unsent (end_at s p)) refl is
-  duty_tells (duties.DataFin s) is fair = data_fin_told s
-  duty_tells (duties.Fin s) is fair = fin_due s is
-  duty_tells (duties.Timer s) is fair = done_tells
-  duty_tells duties.Events is fair = events_tell p t (next_event p) (reply_of six (step_for (path_of p) (next_event p))) (step_keys six short.keys (path_of p) (next_event p))
-  duty_tells (duties.SynHeard s) is fair = done_tells
-  duty_tells (duties.SynAnswered s) is fair = done_tells
-  duty_tells (duties.PlainHandshake s) is fair = fell_told s events.PlainHandshake
-  duty_tells (duties.PeerKey s) is fair = peer_key_told s (key_heard (end_at s p).treated.items) (heard_key (end_at s p).treated.items (tells s).treated.items)
-  duty_tells (duties.SynAck s) is fair = syn_ack_told s (left p) left_fair
-  duty_tells (duties.JoinHeard s) is fair = join_told s
-  duty_tells (duties.Refuse s) is fair = refused_told s
-  duty_tells (duties.Opened s) is fair = opened_told s (keys_heard (end_at s p).treated.items) (heard_keys (end_at s p).treated.items (tells s).treated.items)
-  duty_tells (duties.Live s) is fair = done_tells
-  duty_tells (duties.Heard s index) is fair = item_told s index
-  duty_tells (duties.AckHeard s) is fair = fell_told s events.AckHeard
-  duty_tells (duties.PlainAck s) is fair = plain_ack_told s
-  duty_tells (duties.SubflowAck s) is fair = subflow_ack_told s
-  duty_tells (duties.PlainData s) is fair = fell_told s events.PlainData
-  duty_tells (duties.GoIdentity s) is fair = on s (in_identity (end_at s p)) (left p) (rules.identity_tells p.profile s (end_at s p) (tells s)) left_fair
-  duty_tells (duties.Unmapped s) is fair = break_told s 6 refl (omega arith)
-  duty_tells (duties.SubflowFin s) is fair = plain_fin_told s (is_fin_set (reply_of six (fin_ask s (plain_fin (end_at s p)))))
-  duty_tells (duties.Keep s) is fair = done_tells
-  duty_tells (duties.Edge s) is fair = piece_by s (piece_of s p) refl (is_placed (reply_of six (piece_ask s (piece_of s p))))
-  duty_tells (duties.HeardFin s index) is fair = fin_told s (is_fin_set (reply_of six (fin_ask s (fin_of index (end_at s p)))))
-  duty_tells (duties.PassFin s) is fair = done_tells
-  duty_tells (duties.AckOut s) is fair = ack_out_told s (left p) left_fair
-  duty_tells (duties.Rate s) is fair =
+  duty_tells (duties.Ask ask_duties.JoinAgain) is fair =
+      join_tells p t (reply_of six (ask_for values (duties.Ask ask_duties.JoinAgain) p)) (replaced (duties.Ask (ask_duties.Leave A)) p.agenda) (left p) p (again_keys six short.keys p)
+      (replaced_fair (duties.Ask (ask_duties.Leave A)) p.agenda refl t.agenda) left_fair t
+  duty_tells (duties.Step (step_duties.Look s)) is fair = let r : Reply = reply_of six (look_ask s p) in on s (after_look r (end_at s p)) (left p) (rules.look_tells p.profile s (end_at s p) (tells s) r) left_fair
+  duty_tells (duties.Ask (ask_duties.Window s)) is fair = ack_out_told s (left p) left_fair
+  duty_tells (duties.Send (send_duties.Update s)) is fair = acknowledged s (left p) left_fair
+  duty_tells (duties.Send (send_duties.Syn s)) is fair = unsent_told s (left p) left_fair
+  duty_tells (duties.Step (step_duties.Data s)) is fair = data_by s (first_unsent (end_at s p)) refl is
+  duty_tells (duties.Send (send_duties.DataFin s)) is fair = data_fin_told s
+  duty_tells (duties.Send (send_duties.Fin s)) is fair = fin_due s is
+  duty_tells (duties.Silent (silent_duties.Timer s)) is fair = done_tells
+  duty_tells (duties.Step step_duties.Events) is fair = events_tell p t (next_event p) (reply_of six (step_for (path_of p) (next_event p))) (step_keys six short.keys (path_of p) (next_event p))
+  duty_tells (duties.Ask (ask_duties.SynHeard s)) is fair = done_tells
+  duty_tells (duties.Ask (ask_duties.SynAnswered s)) is fair = done_tells
+  duty_tells (duties.Ask (ask_duties.PlainHandshake s)) is fair = fell_told s events.PlainHandshake
+  duty_tells (duties.Ask (ask_duties.PeerKey s)) is fair = peer_key_told s (key_heard (end_at s p).treated.items) (heard_key (end_at s p).treated.items (tells s).treated.items)
+  duty_tells (duties.Send (send_duties.SynAck s)) is fair = syn_ack_told s (left p) left_fair
+  duty_tells (duties.Ask (ask_duties.JoinHeard s)) is fair = join_told s
+  duty_tells (duties.Send (send_duties.Refuse s)) is fair = refused_told s
+  duty_tells (duties.Ask (ask_duties.Opened s)) is fair = opened_told s (keys_heard (end_at s p).treated.items) (heard_keys (end_at s p).treated.items (tells s).treated.items)
+  duty_tells (duties.Ask (ask_duties.Live s)) is fair = done_tells
+  duty_tells (duties.Step (step_duties.Heard s index)) is fair = item_told s index
+  duty_tells (duties.Ask (ask_duties.AckHeard s)) is fair = fell_told s events.AckHeard
+  duty_tells (duties.Step (step_duties.PlainAck s)) is fair = plain_ack_told s
+  duty_tells (duties.Ask (ask_duties.SubflowAck s)) is fair = subflow_ack_told s
+  duty_tells (duties.Ask (ask_duties.PlainData s)) is fair = fell_told s events.PlainData
+  duty_tells (duties.Ask (ask_duties.GoIdentity s)) is fair = on s (in_identity (end_at s p)) (left p) (rules.identity_tells p.profile s (end_at s p) (tells s)) left_fair
+  duty_tells (duties.Step (step_duties.Unmapped s)) is fair = break_told s 6 refl (omega arith)
+  duty_tells (duties.Ask (ask_duties.SubflowFin s)) is fair = plain_fin_told s (is_fin_set (reply_of six (fin_ask s (plain_fin (end_at s p)))))
+  duty_tells (duties.Silent (silent_duties.Keep s)) is fair = done_tells
+  duty_tells (duties.Ask (ask_duties.Edge s)) is fair = piece_by s (piece_of s p) refl (is_placed (reply_of six (piece_ask s (piece_of s p))))
+  duty_tells (duties.Ask (ask_duties.HeardFin s index)) is fair = fin_told s (is_fin_set (reply_of six (fin_ask s (fin_of index (end_at s p)))))
+  duty_tells (duties.Silent (silent_duties.PassFin s)) is fair = done_tells
+  duty_tells (duties.Ask (ask_duties.AckOut s)) is fair = ack_out_told s (left p) left_fair
+  duty_tells (duties.Ask (ask_duties.Rate s)) is fair =
       let r : Reply = reply_of six (rate_ask s (end_at s p).tcp.congestion.pending p) in
       on s (after_rate (path_of p) p.profile.mss r (end_at s p)) (left p) (rules.rate_tells p.profile s (end_at s p) (tells s) (path_of p) p.profile.mss r) left_fair
-  duty_tells (duties.Acknowledge s) is fair = acknowledged s (left p) left_fair
-  duty_tells (duties.Again s) is fair = on_occasion s (first_segment s p) to_send.First (left p) (first_told s) left_fair
-  duty_tells (duties.Answer s) is fair = on_occasion s (answer_of s p) (answer_occasion (end_at s p)) (left p) (answer_told s) left_fair
-  duty_tells (duties.ResetAnswer s) is fair = dead_told s
-  duty_tells (duties.Return s) is fair = done_tells
-  duty_tells (duties.Resend s) is fair = on_occasion s (resend_of s p) (resend_occasion (end_at s p)) (left p) (resend_told s) left_fair
-  duty_tells (duties.BreakAck s reason) is fair = ack_out_told s (resets s reason) (and_from (nat_lt reason 256) true fair refl)
-  duty_tells (duties.BreakReset s reason) is fair = reset_told s (Some reason) (leaves s) (ltb-true reason 256 fair) refl
-  duty_tells (duties.Reset s) is fair = reset_told s None (replaced (duties.Leave s) p.agenda) tt (replaced_fair (duties.Leave s) p.agenda refl t.agenda)
-  duty_tells (duties.Leave s) is fair = tells_agenda p.profile p t (replaced (duties.Dead s) p.agenda) (replaced_fair (duties.Dead s) p.agenda refl t.agenda)
-  duty_tells (duties.Dead s) is fair = done_tells
+  duty_tells (duties.Send (send_duties.Acknowledge s)) is fair = acknowledged s (left p) left_fair
+  duty_tells (duties.Send (send_duties.Again s)) is fair = on_occasion s (first_segment s p) to_send.First (left p) (first_told s) left_fair
+  duty_tells (duties.Send (send_duties.Answer s)) is fair = on_occasion s (answer_of s p) (answer_occasion (end_at s p)) (left p) (answer_told s) left_fair
+  duty_tells (duties.Send (send_duties.ResetAnswer s)) is fair = dead_told s
+  duty_tells (duties.Ask (ask_duties.Return s)) is fair = done_tells
+  duty_tells (duties.Send (send_duties.Resend s)) is fair = on_occasion s (resend_of s p) (resend_occasion (end_at s p)) (left p) (resend_told s) left_fair
+  duty_tells (duties.Ask (ask_duties.BreakAck s reason)) is fair = ack_out_told s (resets s reason) (and_from (nat_lt reason 256) true fair refl)
+  duty_tells (duties.Send (send_duties.BreakReset s reason)) is fair = reset_told s (Some reason) (leaves s) (ltb-true reason 256 fair) refl
+  duty_tells (duties.Send (send_duties.Reset s)) is fair = reset_told s None (replaced (duties.Ask (ask_duties.Leave s)) p.agenda) tt (replaced_fair (duties.Ask (ask_duties.Leave s)) p.agenda refl t.agenda)
+  duty_tells (duties.Ask (ask_duties.Leave s)) is fair = tells_agenda p.profile p t (replaced (duties.Ask (ask_duties.Dead s)) p.agenda) (replaced_fair (duties.Ask (ask_duties.Dead s)) p.agenda refl t.agenda)
+  duty_tells (duties.Ask (ask_duties.Dead s)) is fair = done_tells
   duty_tells duties.End is fair = tells_agenda p.profile p t [] refl

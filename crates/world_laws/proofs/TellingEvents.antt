@@ -19,6 +19,7 @@ use Rattle.actor_desk.specs.declared.ask.Reply.{Reply}
 use Rattle.actor_desk.specs.Words.{tail_of}
 use Rattle.path_agenda.specs.declared.duty.Duty.{Duty}
 use Rattle.path_agenda.specs.declared.duty.Duty.TheVariants as duties
+use Rattle.path_agenda.specs.declared.duty.AskDuty.TheVariants as ask_duties
 use Rattle.path_agenda.specs.Agenda.{rest_of_turn, emission, leaves, heard_and, payload_came}
 use Rattle.path_core.specs.declared.event.Event.{Event}
 use Rattle.path_core.specs.declared.event.Event.TheVariants as happenings
@@ -68,7 +69,7 @@ fired_fair : (sixth : Bool) (s : Side) → AreFair (template_fired sixth s)
 fired_fair true s = refl
 fired_fair false s = refl
 
-died_fair : (a b : Bool) → AreFair ((if a then [] else duties.Leave A ∷ []) ++ ((if b then [] else duties.Leave B ∷ []) ++ rest_of_turn))
+died_fair : (a b : Bool) → AreFair ((if a then [] else duties.Ask (ask_duties.Leave A) ∷ []) ++ ((if b then [] else duties.Ask (ask_duties.Leave B) ∷ []) ++ rest_of_turn))
 died_fair true true = refl
 died_fair true false = refl
 died_fair false true = refl

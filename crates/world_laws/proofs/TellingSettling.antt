@@ -13,6 +13,10 @@ use Rattle.actor_desk.specs.Desk.{SixBooks, send_of}
 use Rattle.actor_desk.specs.Words.{pick}
 use Rattle.path_agenda.specs.declared.duty.Duty.{Duty}
 use Rattle.path_agenda.specs.declared.duty.Duty.TheVariants as duties
+use Rattle.path_agenda.specs.declared.duty.AskDuty.TheVariants as ask_duties
+use Rattle.path_agenda.specs.declared.duty.SendDuty.TheVariants as send_duties
+use Rattle.path_agenda.specs.declared.duty.SilentDuty.TheVariants as silent_duties
+use Rattle.path_agenda.specs.declared.duty.StepDuty.TheVariants as step_duties
 use Rattle.path_agenda.specs.declared.heard.Heard.{Heard}
 use Rattle.path_agenda.specs.declared.heard.Heard.TheVariants as says
 use Rattle.path_core.specs.Duties.{stands, passed}
@@ -74,57 +78,57 @@ fin_short n edge back (Some at) lane short has is =
 
 module _ (six : SixBooks) (others : Others) (c : Profile) (short : BooksAreShort six) where
   passed_tells : (p : PathState Carried) (ab ba : Lane) → PathShows c p ab ba → Holds (duo_at six ab ba others) → PathTells c p → (d : Duty) → PathTells c (passed d p)
-  passed_tells p ab ba h holds t (duties.Timer s) = end_tells c p t s (after_timer p.clock (end_at s p)) (rules.timer_tells c s (end_at s p) (tells_at c p t s) p.clock)
-  passed_tells p ab ba h holds t (duties.Heard s index) =
+  passed_tells p ab ba h holds t (duties.Silent (silent_duties.Timer s)) = end_tells c p t s (after_timer p.clock (end_at s p)) (rules.timer_tells c s (end_at s p) (tells_at c p t s) p.clock)
+  passed_tells p ab ba h holds t (duties.Step (step_duties.Heard s index)) =
       end_tells c p t s (item_passed s (item_of index (end_at s p)) (end_at s p)) (maybe_told c s (end_at s p) (tells_at c p t s) (item_of index (end_at s p)))
-  passed_tells p ab ba h holds t (duties.Keep s) = end_tells c p t s (after_keep s (end_at s p)) (rules.keep_tells c s (end_at s p) (tells_at c p t s))
-  passed_tells p ab ba h holds t (duties.Edge s) =
+  passed_tells p ab ba h holds t (duties.Silent (silent_duties.Keep s)) = end_tells c p t s (after_keep s (end_at s p)) (rules.keep_tells c s (end_at s p) (tells_at c p t s))
+  passed_tells p ab ba h holds t (duties.Ask (ask_duties.Edge s)) =
       end_tells c p t s (after_check p.profile (end_at s p))
       (rules.check_tells c s (end_at s p) (tells_at c p t s) p.profile.spelling.checksums (mapping_here (end_at s p)))
-  passed_tells p ab ba h holds t (duties.PlainAck s) = end_tells c p t s (with_plain_ack (end_at s p)) (rules.plain_ack_tells c s (end_at s p) (tells_at c p t s))
-  passed_tells p ab ba h holds t (duties.Unmapped s) = end_tells c p t s (after_pieces (end_at s p)) (rules.unmapped_tells c s (end_at s p) (tells_at c p t s))
-  passed_tells p ab ba h holds t (duties.PassFin s) =
+  passed_tells p ab ba h holds t (duties.Step (step_duties.PlainAck s)) = end_tells c p t s (with_plain_ack (end_at s p)) (rules.plain_ack_tells c s (end_at s p) (tells_at c p t s))
+  passed_tells p ab ba h holds t (duties.Step (step_duties.Unmapped s)) = end_tells c p t s (after_pieces (end_at s p)) (rules.unmapped_tells c s (end_at s p) (tells_at c p t s))
+  passed_tells p ab ba h holds t (duties.Silent (silent_duties.PassFin s)) =
       let e : PathEnd = end_at s p in
       end_tells c p t s (after_pass_fin e) (rules.pass_fin_tells c s e (tells_at c p t s)
       (λ is. fin_short (length (send_of (peer s) six).written) e.tcp.recv.edge (pick s ba ab) e.tcp.fin_at (back_short six others ab ba holds short s) (short.written (peer s))
       (side_shows c s p ab ba h).receiver.fin (and_parts (is_at e.tcp.recv.edge e.tcp.fin_at) _ is).0))
-  passed_tells p ab ba h holds t duties.JoinAgain = t
-  passed_tells p ab ba h holds t (duties.Look s) = t
-  passed_tells p ab ba h holds t (duties.Window s) = t
-  passed_tells p ab ba h holds t (duties.Update s) = t
-  passed_tells p ab ba h holds t (duties.Syn s) = t
-  passed_tells p ab ba h holds t (duties.Data s) = t
-  passed_tells p ab ba h holds t (duties.DataFin s) = t
-  passed_tells p ab ba h holds t (duties.Fin s) = t
-  passed_tells p ab ba h holds t duties.Events = t
-  passed_tells p ab ba h holds t (duties.SynHeard s) = t
-  passed_tells p ab ba h holds t (duties.SynAnswered s) = t
-  passed_tells p ab ba h holds t (duties.PeerKey s) = t
-  passed_tells p ab ba h holds t (duties.SynAck s) = t
-  passed_tells p ab ba h holds t (duties.JoinHeard s) = t
-  passed_tells p ab ba h holds t (duties.Refuse s) = t
-  passed_tells p ab ba h holds t (duties.Opened s) = t
-  passed_tells p ab ba h holds t (duties.Live s) = t
-  passed_tells p ab ba h holds t (duties.AckHeard s) = t
-  passed_tells p ab ba h holds t (duties.PlainHandshake s) = t
-  passed_tells p ab ba h holds t (duties.SubflowAck s) = t
-  passed_tells p ab ba h holds t (duties.PlainData s) = t
-  passed_tells p ab ba h holds t (duties.GoIdentity s) = t
-  passed_tells p ab ba h holds t (duties.SubflowFin s) = t
-  passed_tells p ab ba h holds t (duties.HeardFin s index) = t
-  passed_tells p ab ba h holds t (duties.AckOut s) = t
-  passed_tells p ab ba h holds t (duties.Rate s) = t
-  passed_tells p ab ba h holds t (duties.Acknowledge s) = t
-  passed_tells p ab ba h holds t (duties.Again s) = t
-  passed_tells p ab ba h holds t (duties.Answer s) = t
-  passed_tells p ab ba h holds t (duties.ResetAnswer s) = t
-  passed_tells p ab ba h holds t (duties.Return s) = t
-  passed_tells p ab ba h holds t (duties.Resend s) = t
-  passed_tells p ab ba h holds t (duties.BreakAck s reason) = t
-  passed_tells p ab ba h holds t (duties.BreakReset s reason) = t
-  passed_tells p ab ba h holds t (duties.Reset s) = t
-  passed_tells p ab ba h holds t (duties.Leave s) = t
-  passed_tells p ab ba h holds t (duties.Dead s) = t
+  passed_tells p ab ba h holds t (duties.Ask ask_duties.JoinAgain) = t
+  passed_tells p ab ba h holds t (duties.Step (step_duties.Look s)) = t
+  passed_tells p ab ba h holds t (duties.Ask (ask_duties.Window s)) = t
+  passed_tells p ab ba h holds t (duties.Send (send_duties.Update s)) = t
+  passed_tells p ab ba h holds t (duties.Send (send_duties.Syn s)) = t
+  passed_tells p ab ba h holds t (duties.Step (step_duties.Data s)) = t
+  passed_tells p ab ba h holds t (duties.Send (send_duties.DataFin s)) = t
+  passed_tells p ab ba h holds t (duties.Send (send_duties.Fin s)) = t
+  passed_tells p ab ba h holds t (duties.Step step_duties.Events) = t
+  passed_tells p ab ba h holds t (duties.Ask (ask_duties.SynHeard s)) = t
+  passed_tells p ab ba h holds t (duties.Ask (ask_duties.SynAnswered s)) = t
+  passed_tells p ab ba h holds t (duties.Ask (ask_duties.PeerKey s)) = t
+  passed_tells p ab ba h holds t (duties.Send (send_duties.SynAck s)) = t
+  passed_tells p ab ba h holds t (duties.Ask (ask_duties.JoinHeard s)) = t
+  passed_tells p ab ba h holds t (duties.Send (send_duties.Refuse s)) = t
+  passed_tells p ab ba h holds t (duties.Ask (ask_duties.Opened s)) = t
+  passed_tells p ab ba h holds t (duties.Ask (ask_duties.Live s)) = t
+  passed_tells p ab ba h holds t (duties.Ask (ask_duties.AckHeard s)) = t
+  passed_tells p ab ba h holds t (duties.Ask (ask_duties.PlainHandshake s)) = t
+  passed_tells p ab ba h holds t (duties.Ask (ask_duties.SubflowAck s)) = t
+  passed_tells p ab ba h holds t (duties.Ask (ask_duties.PlainData s)) = t
+  passed_tells p ab ba h holds t (duties.Ask (ask_duties.GoIdentity s)) = t
+  passed_tells p ab ba h holds t (duties.Ask (ask_duties.SubflowFin s)) = t
+  passed_tells p ab ba h holds t (duties.Ask (ask_duties.HeardFin s index)) = t
+  passed_tells p ab ba h holds t (duties.Ask (ask_duties.AckOut s)) = t
+  passed_tells p ab ba h holds t (duties.Ask (ask_duties.Rate s)) = t
+  passed_tells p ab ba h holds t (duties.Send (send_duties.Acknowledge s)) = t
+  passed_tells p ab ba h holds t (duties.Send (send_duties.Again s)) = t
+  passed_tells p ab ba h holds t (duties.Send (send_duties.Answer s)) = t
+  passed_tells p ab ba h holds t (duties.Send (send_duties.ResetAnswer s)) = t
+  passed_tells p ab ba h holds t (duties.Ask (ask_duties.Return s)) = t
+  passed_tells p ab ba h holds t (duties.Send (send_duties.Resend s)) = t
+  passed_tells p ab ba h holds t (duties.Ask (ask_duties.BreakAck s reason)) = t
+  passed_tells p ab ba h holds t (duties.Send (send_duties.BreakReset s reason)) = t
+  passed_tells p ab ba h holds t (duties.Send (send_duties.Reset s)) = t
+  passed_tells p ab ba h holds t (duties.Ask (ask_duties.Leave s)) = t
+  passed_tells p ab ba h holds t (duties.Ask (ask_duties.Dead s)) = t
   passed_tells p ab ba h holds t duties.End = t
 
   pub settled_tells : (ds : List Duty) (p : PathState Carried) (ab ba : Lane) → PathShows c p ab ba → Holds (duo_at six ab ba others) → PathTells c p → AreFair ds → PathTells c (settled ds p)

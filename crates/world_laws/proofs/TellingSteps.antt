@@ -21,6 +21,8 @@ use Rattle.actor_desk.specs.Desk.{SixBooks, send_of, reassembly_of, control_of}
 use Rattle.actor_desk.specs.Words.{pick, tail_of}
 use Rattle.path_agenda.specs.declared.duty.Duty.{Duty}
 use Rattle.path_agenda.specs.declared.duty.Duty.TheVariants as duties
+use Rattle.path_agenda.specs.declared.duty.AskDuty.TheVariants as ask_duties
+use Rattle.path_agenda.specs.declared.duty.SendDuty.TheVariants as send_duties
 use Rattle.path_core.specs.Ends.{PathEnd}
 use Rattle.path_core.specs.Sends.{handed, sent_on}
 use Rattle.path_core.specs.Shown.{AltersNothing}
@@ -40,8 +42,8 @@ pub record CopyTells (c : Profile) (to : Side) (carried : Carried) : Type 0 wher
 
 -- a reason is an octet
 abbrev pub is_fair : Duty → Bool
-is_fair (duties.BreakAck s reason) = nat_lt reason 256
-is_fair (duties.BreakReset s reason) = nat_lt reason 256
+is_fair (duties.Ask (ask_duties.BreakAck s reason)) = nat_lt reason 256
+is_fair (duties.Send (send_duties.BreakReset s reason)) = nat_lt reason 256
 is_fair _ = true
 
 abbrev pub AreFair : List Duty → Type 0

@@ -12,6 +12,7 @@ use Rattle.path_agenda.specs.Agenda.{breaks, resets}
 use Rattle.path_agenda.specs.Words.{replaced}
 use Rattle.path_agenda.specs.declared.duty.Duty.{Duty}
 use Rattle.path_agenda.specs.declared.duty.Duty.TheVariants as duties
+use Rattle.path_agenda.specs.declared.duty.AskDuty.TheVariants as ask_duties
 use Rattle.path_core.specs.Falling.{is_fall, breaks_by, fell_duties}
 use Rattle.path_core.specs.State.{PathState, end_at, left}
 
@@ -20,7 +21,7 @@ breaks_so P s reason true broken reset = broken
 breaks_so P s reason false broken reset = reset
 
 module _ {C : Type 0} (P : List Duty → Type 0) (s : Side) (p : PathState C) where
-  verdict_cases : (v : Verdict) → (is_fall (replies.Control (control_replies.Verdict v)) ≡ true → P (replaced (duties.GoIdentity s) p.agenda)) → ((reason : ℕ) → P (breaks s reason))
+  verdict_cases : (v : Verdict) → (is_fall (replies.Control (control_replies.Verdict v)) ≡ true → P (replaced (duties.Ask (ask_duties.GoIdentity s)) p.agenda)) → ((reason : ℕ) → P (breaks s reason))
       → ((reason : ℕ) → P (resets s reason)) → P (left p) → P (fell_duties s (replies.Control (control_replies.Verdict v)) p)
   verdict_cases (verdicts.Went Identity) falls broken reset done = falls refl
   verdict_cases (verdicts.Went Starting) falls broken reset done = done
@@ -33,14 +34,14 @@ module _ {C : Type 0} (P : List Duty → Type 0) (s : Side) (p : PathState C) wh
   verdict_cases verdicts.Stay falls broken reset done = done
   verdict_cases verdicts.SendFail falls broken reset done = done
 
-  control_cases : (reply : ControlReply) → (is_fall (replies.Control reply) ≡ true → P (replaced (duties.GoIdentity s) p.agenda)) → ((reason : ℕ) → P (breaks s reason))
+  control_cases : (reply : ControlReply) → (is_fall (replies.Control reply) ≡ true → P (replaced (duties.Ask (ask_duties.GoIdentity s)) p.agenda)) → ((reason : ℕ) → P (breaks s reason))
       → ((reason : ℕ) → P (resets s reason)) → P (left p) → P (fell_duties s (replies.Control reply) p)
   control_cases (control_replies.Verdict v) falls broken reset done = verdict_cases v falls broken reset done
   control_cases control_replies.Noted falls broken reset done = done
   control_cases _ falls broken reset done = done
 
   -- what holds of each agenda that may follow holds of that which follows
-  pub fell_cases : (r : Reply) → (is_fall r ≡ true → P (replaced (duties.GoIdentity s) p.agenda)) → ((reason : ℕ) → P (breaks s reason)) → ((reason : ℕ) → P (resets s reason)) → P (left p)
+  pub fell_cases : (r : Reply) → (is_fall r ≡ true → P (replaced (duties.Ask (ask_duties.GoIdentity s)) p.agenda)) → ((reason : ℕ) → P (breaks s reason)) → ((reason : ℕ) → P (resets s reason)) → P (left p)
       → P (fell_duties s r p)
   fell_cases (replies.Control reply) falls broken reset done = control_cases reply falls broken reset done
   fell_cases (replies.Send reply) falls broken reset done = done

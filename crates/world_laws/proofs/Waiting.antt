@@ -31,6 +31,10 @@ use Rattle.stream_lanes.proofs.Lists.{in_map}
 use Rattle.path_agenda.specs.Agenda.{start_of_turn}
 use Rattle.path_agenda.specs.declared.duty.Duty.{Duty}
 use Rattle.path_agenda.specs.declared.duty.Duty.TheVariants as duties
+use Rattle.path_agenda.specs.declared.duty.AskDuty.TheVariants as ask_duties
+use Rattle.path_agenda.specs.declared.duty.SendDuty.TheVariants as send_duties
+use Rattle.path_agenda.specs.declared.duty.SilentDuty.TheVariants as silent_duties
+use Rattle.path_agenda.specs.declared.duty.StepDuty.TheVariants as step_duties
 use Rattle.path_core.specs.Codec.{Codec}
 use Rattle.path_core.specs.Duties.{stands, ask_for}
 use Rattle.path_core.specs.Emission.{first_unsent, payload_size, may_send_data, may_ask, data_stands, data_ask}
@@ -84,55 +88,55 @@ module _ {C : Type 0} (k : Codec C) where
 
   -- where A asks for bytes it may send a DSS on a path that joins
   pub grants_clear : (p : PathState C) (d : Duty) → stands d p ≡ true → is_joined p.profile ≡ true → p.a.modes.clear ≡ false → p.a.modes.identity ≡ false → asks_grant A (ask_for k d p) ≡ false
-  grants_clear p (duties.Data A) is joins unclear plain = data_clear p (first_unsent p.a) joins unclear plain is
-  grants_clear p (duties.Data B) is joins unclear plain = by (first_unsent p.b)
+  grants_clear p (duties.Step (step_duties.Data A)) is joins unclear plain = data_clear p (first_unsent p.a) joins unclear plain is
+  grants_clear p (duties.Step (step_duties.Data B)) is joins unclear plain = by (first_unsent p.b)
     where
       by : (o : Option Record) → asks_grant A (data_ask k B o p) ≡ false
       by (Some r) = refl
       by None = refl
-  grants_clear p duties.JoinAgain is joins unclear plain = asks_nothing p duties.JoinAgain tt
-  grants_clear p (duties.Look s) is joins unclear plain = asks_nothing p (duties.Look s) tt
-  grants_clear p (duties.Window s) is joins unclear plain = asks_nothing p (duties.Window s) tt
-  grants_clear p (duties.Update s) is joins unclear plain = asks_nothing p (duties.Update s) tt
-  grants_clear p (duties.Syn s) is joins unclear plain = asks_nothing p (duties.Syn s) tt
-  grants_clear p (duties.DataFin s) is joins unclear plain = asks_nothing p (duties.DataFin s) tt
-  grants_clear p (duties.Fin s) is joins unclear plain = asks_nothing p (duties.Fin s) tt
-  grants_clear p (duties.Timer s) is joins unclear plain = asks_nothing p (duties.Timer s) tt
-  grants_clear p (duties.SynHeard s) is joins unclear plain = asks_nothing p (duties.SynHeard s) tt
-  grants_clear p (duties.SynAnswered s) is joins unclear plain = asks_nothing p (duties.SynAnswered s) tt
-  grants_clear p (duties.PeerKey s) is joins unclear plain = asks_nothing p (duties.PeerKey s) tt
-  grants_clear p (duties.SynAck s) is joins unclear plain = asks_nothing p (duties.SynAck s) tt
-  grants_clear p (duties.JoinHeard s) is joins unclear plain = asks_nothing p (duties.JoinHeard s) tt
-  grants_clear p (duties.Refuse s) is joins unclear plain = asks_nothing p (duties.Refuse s) tt
-  grants_clear p (duties.Opened s) is joins unclear plain = asks_nothing p (duties.Opened s) tt
-  grants_clear p (duties.Live s) is joins unclear plain = asks_nothing p (duties.Live s) tt
-  grants_clear p (duties.Heard s index) is joins unclear plain = asks_nothing p (duties.Heard s index) tt
-  grants_clear p (duties.AckHeard s) is joins unclear plain = asks_nothing p (duties.AckHeard s) tt
-  grants_clear p (duties.PlainAck s) is joins unclear plain = asks_nothing p (duties.PlainAck s) tt
-  grants_clear p (duties.PlainHandshake s) is joins unclear plain = asks_nothing p (duties.PlainHandshake s) tt
-  grants_clear p (duties.SubflowAck s) is joins unclear plain = asks_nothing p (duties.SubflowAck s) tt
-  grants_clear p (duties.PlainData s) is joins unclear plain = asks_nothing p (duties.PlainData s) tt
-  grants_clear p (duties.GoIdentity s) is joins unclear plain = asks_nothing p (duties.GoIdentity s) tt
-  grants_clear p (duties.Unmapped s) is joins unclear plain = asks_nothing p (duties.Unmapped s) tt
-  grants_clear p (duties.SubflowFin s) is joins unclear plain = asks_nothing p (duties.SubflowFin s) tt
-  grants_clear p (duties.Keep s) is joins unclear plain = asks_nothing p (duties.Keep s) tt
-  grants_clear p (duties.Edge s) is joins unclear plain = asks_nothing p (duties.Edge s) tt
-  grants_clear p (duties.HeardFin s index) is joins unclear plain = asks_nothing p (duties.HeardFin s index) tt
-  grants_clear p (duties.PassFin s) is joins unclear plain = asks_nothing p (duties.PassFin s) tt
-  grants_clear p (duties.AckOut s) is joins unclear plain = asks_nothing p (duties.AckOut s) tt
-  grants_clear p (duties.Rate s) is joins unclear plain = asks_nothing p (duties.Rate s) tt
-  grants_clear p (duties.Acknowledge s) is joins unclear plain = asks_nothing p (duties.Acknowledge s) tt
-  grants_clear p (duties.Again s) is joins unclear plain = asks_nothing p (duties.Again s) tt
-  grants_clear p (duties.Answer s) is joins unclear plain = asks_nothing p (duties.Answer s) tt
-  grants_clear p (duties.ResetAnswer s) is joins unclear plain = asks_nothing p (duties.ResetAnswer s) tt
-  grants_clear p (duties.Return s) is joins unclear plain = asks_nothing p (duties.Return s) tt
-  grants_clear p (duties.Resend s) is joins unclear plain = asks_nothing p (duties.Resend s) tt
-  grants_clear p (duties.BreakAck s reason) is joins unclear plain = asks_nothing p (duties.BreakAck s reason) tt
-  grants_clear p (duties.BreakReset s reason) is joins unclear plain = asks_nothing p (duties.BreakReset s reason) tt
-  grants_clear p (duties.Reset s) is joins unclear plain = asks_nothing p (duties.Reset s) tt
-  grants_clear p (duties.Leave s) is joins unclear plain = asks_nothing p (duties.Leave s) tt
-  grants_clear p (duties.Dead s) is joins unclear plain = asks_nothing p (duties.Dead s) tt
-  grants_clear p duties.Events is joins unclear plain = asks_nothing p duties.Events tt
+  grants_clear p (duties.Ask ask_duties.JoinAgain) is joins unclear plain = asks_nothing p (duties.Ask ask_duties.JoinAgain) tt
+  grants_clear p (duties.Step (step_duties.Look s)) is joins unclear plain = asks_nothing p (duties.Step (step_duties.Look s)) tt
+  grants_clear p (duties.Ask (ask_duties.Window s)) is joins unclear plain = asks_nothing p (duties.Ask (ask_duties.Window s)) tt
+  grants_clear p (duties.Send (send_duties.Update s)) is joins unclear plain = asks_nothing p (duties.Send (send_duties.Update s)) tt
+  grants_clear p (duties.Send (send_duties.Syn s)) is joins unclear plain = asks_nothing p (duties.Send (send_duties.Syn s)) tt
+  grants_clear p (duties.Send (send_duties.DataFin s)) is joins unclear plain = asks_nothing p (duties.Send (send_duties.DataFin s)) tt
+  grants_clear p (duties.Send (send_duties.Fin s)) is joins unclear plain = asks_nothing p (duties.Send (send_duties.Fin s)) tt
+  grants_clear p (duties.Silent (silent_duties.Timer s)) is joins unclear plain = asks_nothing p (duties.Silent (silent_duties.Timer s)) tt
+  grants_clear p (duties.Ask (ask_duties.SynHeard s)) is joins unclear plain = asks_nothing p (duties.Ask (ask_duties.SynHeard s)) tt
+  grants_clear p (duties.Ask (ask_duties.SynAnswered s)) is joins unclear plain = asks_nothing p (duties.Ask (ask_duties.SynAnswered s)) tt
+  grants_clear p (duties.Ask (ask_duties.PeerKey s)) is joins unclear plain = asks_nothing p (duties.Ask (ask_duties.PeerKey s)) tt
+  grants_clear p (duties.Send (send_duties.SynAck s)) is joins unclear plain = asks_nothing p (duties.Send (send_duties.SynAck s)) tt
+  grants_clear p (duties.Ask (ask_duties.JoinHeard s)) is joins unclear plain = asks_nothing p (duties.Ask (ask_duties.JoinHeard s)) tt
+  grants_clear p (duties.Send (send_duties.Refuse s)) is joins unclear plain = asks_nothing p (duties.Send (send_duties.Refuse s)) tt
+  grants_clear p (duties.Ask (ask_duties.Opened s)) is joins unclear plain = asks_nothing p (duties.Ask (ask_duties.Opened s)) tt
+  grants_clear p (duties.Ask (ask_duties.Live s)) is joins unclear plain = asks_nothing p (duties.Ask (ask_duties.Live s)) tt
+  grants_clear p (duties.Step (step_duties.Heard s index)) is joins unclear plain = asks_nothing p (duties.Step (step_duties.Heard s index)) tt
+  grants_clear p (duties.Ask (ask_duties.AckHeard s)) is joins unclear plain = asks_nothing p (duties.Ask (ask_duties.AckHeard s)) tt
+  grants_clear p (duties.Step (step_duties.PlainAck s)) is joins unclear plain = asks_nothing p (duties.Step (step_duties.PlainAck s)) tt
+  grants_clear p (duties.Ask (ask_duties.PlainHandshake s)) is joins unclear plain = asks_nothing p (duties.Ask (ask_duties.PlainHandshake s)) tt
+  grants_clear p (duties.Ask (ask_duties.SubflowAck s)) is joins unclear plain = asks_nothing p (duties.Ask (ask_duties.SubflowAck s)) tt
+  grants_clear p (duties.Ask (ask_duties.PlainData s)) is joins unclear plain = asks_nothing p (duties.Ask (ask_duties.PlainData s)) tt
+  grants_clear p (duties.Ask (ask_duties.GoIdentity s)) is joins unclear plain = asks_nothing p (duties.Ask (ask_duties.GoIdentity s)) tt
+  grants_clear p (duties.Step (step_duties.Unmapped s)) is joins unclear plain = asks_nothing p (duties.Step (step_duties.Unmapped s)) tt
+  grants_clear p (duties.Ask (ask_duties.SubflowFin s)) is joins unclear plain = asks_nothing p (duties.Ask (ask_duties.SubflowFin s)) tt
+  grants_clear p (duties.Silent (silent_duties.Keep s)) is joins unclear plain = asks_nothing p (duties.Silent (silent_duties.Keep s)) tt
+  grants_clear p (duties.Ask (ask_duties.Edge s)) is joins unclear plain = asks_nothing p (duties.Ask (ask_duties.Edge s)) tt
+  grants_clear p (duties.Ask (ask_duties.HeardFin s index)) is joins unclear plain = asks_nothing p (duties.Ask (ask_duties.HeardFin s index)) tt
+  grants_clear p (duties.Silent (silent_duties.PassFin s)) is joins unclear plain = asks_nothing p (duties.Silent (silent_duties.PassFin s)) tt
+  grants_clear p (duties.Ask (ask_duties.AckOut s)) is joins unclear plain = asks_nothing p (duties.Ask (ask_duties.AckOut s)) tt
+  grants_clear p (duties.Ask (ask_duties.Rate s)) is joins unclear plain = asks_nothing p (duties.Ask (ask_duties.Rate s)) tt
+  grants_clear p (duties.Send (send_duties.Acknowledge s)) is joins unclear plain = asks_nothing p (duties.Send (send_duties.Acknowledge s)) tt
+  grants_clear p (duties.Send (send_duties.Again s)) is joins unclear plain = asks_nothing p (duties.Send (send_duties.Again s)) tt
+  grants_clear p (duties.Send (send_duties.Answer s)) is joins unclear plain = asks_nothing p (duties.Send (send_duties.Answer s)) tt
+  grants_clear p (duties.Send (send_duties.ResetAnswer s)) is joins unclear plain = asks_nothing p (duties.Send (send_duties.ResetAnswer s)) tt
+  grants_clear p (duties.Ask (ask_duties.Return s)) is joins unclear plain = asks_nothing p (duties.Ask (ask_duties.Return s)) tt
+  grants_clear p (duties.Send (send_duties.Resend s)) is joins unclear plain = asks_nothing p (duties.Send (send_duties.Resend s)) tt
+  grants_clear p (duties.Ask (ask_duties.BreakAck s reason)) is joins unclear plain = asks_nothing p (duties.Ask (ask_duties.BreakAck s reason)) tt
+  grants_clear p (duties.Send (send_duties.BreakReset s reason)) is joins unclear plain = asks_nothing p (duties.Send (send_duties.BreakReset s reason)) tt
+  grants_clear p (duties.Send (send_duties.Reset s)) is joins unclear plain = asks_nothing p (duties.Send (send_duties.Reset s)) tt
+  grants_clear p (duties.Ask (ask_duties.Leave s)) is joins unclear plain = asks_nothing p (duties.Ask (ask_duties.Leave s)) tt
+  grants_clear p (duties.Ask (ask_duties.Dead s)) is joins unclear plain = asks_nothing p (duties.Ask (ask_duties.Dead s)) tt
+  grants_clear p (duties.Step step_duties.Events) is joins unclear plain = asks_nothing p (duties.Step step_duties.Events) tt
   grants_clear p duties.End is joins unclear plain = asks_nothing p duties.End tt
 
   -- ---- what A's book is asked

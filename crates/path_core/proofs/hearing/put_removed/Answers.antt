@@ -1,4 +1,4 @@
-use Rattle.std.proofs.Common.{ap, length, length-append, map, drop, ◌+◌, arith}
+use Rattle.std.proofs.Common.{ap, length, length-append, map, drop, arith}
 use Rattle.std.proofs.lemmas.List.{length-map, length-drop}
 use Rattle.path_core.specs.Arriving.{item_removed}
 use Rattle.path_core.proofs.hearing.put_removed.Goals as goal

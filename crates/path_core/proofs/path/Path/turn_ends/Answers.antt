@@ -1,4 +1,3 @@
-use Rattle.path_core.specs.Octets.{octets}
 use Rattle.path_core.proofs.PathTurns.{turn_is_over, round_is_over}
 use Rattle.path_core.proofs.path.Path.turn_ends.Goals as goal
 
