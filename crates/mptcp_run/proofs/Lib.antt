@@ -23,3 +23,4 @@ mod Courses
 mod PutsMade
 mod MessagesShown
 mod OneTurn
+mod Taken

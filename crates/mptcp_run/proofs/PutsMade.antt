@@ -1,8 +1,10 @@
 -- The calls of rounds and of turns, made one after the other.
-use Rattle.std.proofs.Common.{◌≡◌, refl, sym, ◌∙◌, ap, subst, ℕ, suc, true, false, inl, inr, List, [], ◌∷◌, ◌++◌, drop, length, Option, Result, Ok, Err, IfErr, arith}
+use Rattle.std.proofs.Common.{◌≡◌, refl, sym, ◌∙◌, ap, subst, ℕ, suc, true, false, inl, inr, List, [], ◌∷◌, ◌++◌, drop, length, Option, Result, Ok, Err, IfErr, OnOk, OnErr, arith}
 use Rattle.std.proofs.Math.Seq.{drop-append_seam}
 use Rattle.outside_kit.specs.declared.port.Port.{Port}
+use Rattle.outside_kit.specs.declared.port.Port.TheVariants as port
 use Rattle.outside_kit.specs.declared.side.Side.TheVariants.{A, B}
+use Rattle.outside_kit.specs.Outside.{HoldsAfter, HoldsPrefix}
 use Rattle.path_core.specs.Octets.{octets}
 use Rattle.world_core.specs.Kept.{Kept, standing}
 use Rattle.world_core.specs.Rounds.{RoundTo}
@@ -17,7 +19,10 @@ use Rattle.run_outside.specs.Plan.{AddsAll, AddsCut, puts_of}
 use Rattle.mptcp_run.specs.Plan.{read_in, round_puts, puts_by_round}
 use Rattle.run_outside.specs.Ports.{IsPortsFault}
 use Rattle.world_core.specs.RoundEnds.{round_ends}
-use Rattle.run_outside.specs.LogText.{round_text}
+use Rattle.run_outside.specs.LogText.{round_text, NotesFit}
+use Rattle.run_outside.specs.Calling.{Puts}
+use Rattle.run_log.specs.Fitting.{IsLong}
+use Rattle.mptcp_run.specs.Making.{RoundPut}
 use Rattle.mptcp_run.specs.Replaying.{last_after, rounds_after, round_turn, StepFault}
 use Rattle.run_log.specs.declared.turn.Turn as log_turn
 use Rattle.run_log.specs.declared.turn.Turn.TheVariants as logged
@@ -25,6 +30,8 @@ use Rattle.mptcp_run.specs.Task.{Connection, turn_of}
 use Rattle.world_core.specs.Weaving.{IsSince, made_at, since}
 use Rattle.run_outside.proofs.Calls.{Told, adds_none, all_then, cut_then, cut_longer, cut_none}
 use Rattle.world_core.proofs.SinceRound.{read_grew, steps_since}
+use Rattle.run_outside.proofs.Calling.{puts_by}
+use Rattle.mptcp_run.proofs.RoundSteps.{round_held, round_part}
 use Rattle.mptcp_run.proofs.RoundsMade.{one_true, one_false, one_both}
 use Rattle.mptcp_run.proofs.Folding.{RoundsAdd, RoundsAddCut, TurnsAddCut, TurnsEnd, ends_by}
 
@@ -290,3 +297,24 @@ step_ends opening number actor last w a line (Script at kind) h = absurd h
 step_ends opening number actor last w a line (Load named) h = absurd h
 step_ends opening number actor last w a line (Put p) h = absurd h
 step_ends opening number actor last w a line (TooLong named) h = absurd h
+
+-- ---- what the end of a round puts
+
+module _ {X : Type 0} (made : List ℕ) (last w : Connection) (opening : Option (List ℕ)) (number : ℕ) (old new : Port → Option (List ℕ)) (read_by_b read_by_a lines : List ℕ)
+    (b_is : read_by_b ≡ read_by (drop (made_at 1 made) (notes_at 1 w.crew))) (a_is : read_by_a ≡ read_by (drop (made_at 0 made) (notes_at 0 w.crew)))
+    (lines_are : lines ≡ round_text opening number (since made (lists_of w.crew))) (h : IsSince last made w) (few : IsLong number) (fit : NotesFit opening (since made (lists_of w.crew)))
+    (l m : ℕ) (f g : Port → ℕ) (a b : Told) where
+  pub piece_put : (r : Result X Status) → OnOk r (HoldsAfter (old port.ReadByB) (new port.ReadByB) (λ held. held ++ read_by_b))
+      → OnOk r (HoldsAfter (old port.ReadByA) (new port.ReadByA) (λ held. held ++ read_by_a)) → OnOk r (HoldsAfter (old port.Log) (new port.Log) (λ held. held ++ lines))
+      → OnErr r (HoldsPrefix (old port.ReadByB) (new port.ReadByB) read_by_b) → OnErr r (HoldsPrefix (old port.ReadByA) (new port.ReadByA) read_by_a)
+      → OnErr r (HoldsPrefix (old port.Log) (new port.Log) lines) → Puts (puts_of read_by_b read_by_a lines) l m f g a b r → RoundPut opening number last w l m f g old new a b r
+  piece_put (Ok x) by_b by_a log b_part a_part log_part puts = record {
+    whole = round_held made last w opening number old new read_by_b read_by_a lines b_is a_is lines_are h few fit by_b by_a log;
+    part = tt;
+    puts = puts_by _ _ l m f g a b (Ok x) (puts_are made last w opening number read_by_b read_by_a lines b_is a_is lines_are h) puts;
+  }
+  piece_put (Err e) by_b by_a log b_part a_part log_part puts = record {
+    whole = tt;
+    part = round_part made last w opening number old new read_by_b read_by_a lines b_is a_is lines_are h b_part a_part log_part;
+    puts = puts_by _ _ l m f g a b (Err e) (puts_are made last w opening number read_by_b read_by_a lines b_is a_is lines_are h) puts;
+  }

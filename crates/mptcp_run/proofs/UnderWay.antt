@@ -1,5 +1,5 @@
 -- A round goes on: lists grow by notes above the greatest stamp at its beginning, and the next round begins with them.
-use Rattle.std.proofs.Common.{◌≡◌, refl, sym, ◌∙◌, ap, subst, ℕ, zero, suc, ◌<◌, ◌≤◌, max, Bool, true, false, if◌then◌else◌, Option, Some, None, List, [], ◌∷◌, ◌++◌, map, set, arith, ⊎_elim}
+use Rattle.std.proofs.Common.{◌≡◌, refl, sym, ◌∙◌, ap, subst, ℕ, zero, suc, ◌+◌, ◌<◌, ◌≤◌, max, Bool, true, false, if◌then◌else◌, Option, Some, None, List, [], ◌∷◌, ◌++◌, length, map, replicate, set, arith, ⊎_elim}
 use Rattle.std.proofs.lemmas.List.{append-nil, append_assoc}
 use Rattle.std.proofs.lemmas.Option.{same_Some}
 use Rattle.std.specs.List.{slice_get}
@@ -11,7 +11,9 @@ use Rattle.actor_desk.specs.Books.{StampedBooks}
 use Rattle.path_core.specs.Octets.{octets}
 use Rattle.world_laws.specs.Actors.{ActorCrew, member_asks}
 use Rattle.world_laws.specs.Fine.{IsFine, lists_of}
-use Rattle.world_laws.specs.Openings.{Start, opened_world}
+use Rattle.link_script.specs.declared.script.PathLine.{PathLine}
+use Rattle.link_script.specs.declared.script.Script.{Script}
+use Rattle.world_laws.specs.Openings.{PathPlan, Start, paths_from, plans_from, start_of, opened_world}
 use Rattle.world_laws.specs.Serial.{after_steps, after_turns}
 use Rattle.world_laws.specs.Worlds.{note_of, crew_after, asked, stepped, world_step, all_over, greatest, begins, end_round}
 use Rattle.world_laws.proofs.Chaining.{stamp_rises, stamps_below}
@@ -20,6 +22,7 @@ use Rattle.world_laws.proofs.Pairing.{step_fine, round_fine, greatest_above, sta
 use Rattle.mptcp_run.specs.Rounds.{Begins}
 use Rattle.mptcp_run.specs.Replaying.{GoesOn}
 use Rattle.mptcp_run.specs.Task.{Connection}
+use Rattle.world_core.specs.Kept.{Kept, standing}
 use Rattle.world_core.specs.Weaving.{GrewAbove, AllGrewAbove}
 
 -- ---- lists
@@ -155,3 +158,20 @@ opened_begins start =
       fine = (stays_fine octets).always start [];
       known = record { each = λ i c there. let first = unstamped i c there in omega (arith, first, none) };
     }
+
+-- no actor of it has made a step
+unstepped : (start : Start) (number : ℕ) (plans : List PathPlan) → map length (lists_of (paths_from {C = List ℕ} start number plans)) ≡ replicate (length plans) 0
+unstepped start number [] = refl
+unstepped start number (plan ∷ plans) = ap (λ ns. 0 ∷ ns) (unstepped start (suc number) plans)
+
+as_many : (script : Script) (number : ℕ) (lines : List PathLine) → length (plans_from script number lines) ≡ length lines
+as_many script number [] = refl
+as_many script number (line ∷ lines) = ap suc (as_many script (suc number) lines)
+
+pub opened_lists : (script : Script) (file_a file_b made : List ℕ) (k : Kept) → made ≡ replicate (length script.paths + 2) 0
+    → k ≡ standing (opened_world (start_of script file_a file_b)) → made ≡ map length (lists_of k.state.crew)
+opened_lists script file_a file_b made k none opens =
+    let actors : length script.paths + 2 ≡ suc (suc (length (plans_from script 0 script.paths))) = let same = as_many script 0 script.paths in omega (arith, same) in
+    none ∙ ap (λ n. replicate n 0) actors
+    ∙ ap (λ ns. 0 ∷ 0 ∷ ns) (sym (unstepped (start_of script file_a file_b) 0 (plans_from script 0 script.paths)))
+    ∙ ap (λ (k : Kept). map length (lists_of k.state.crew)) (sym opens)

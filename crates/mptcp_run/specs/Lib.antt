@@ -12,4 +12,5 @@ pub mod Promised
 pub mod Putting
 pub mod Replaying
 pub mod Rounds
+pub mod Taken
 pub mod Task

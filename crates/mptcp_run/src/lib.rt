@@ -9,6 +9,7 @@ mod report;
 mod rounds;
 mod serial;
 mod top_call;
+mod turns;
 
 pub use laws::{
     loaded_tasks_are_plain, logs_tell_their_runs, plain_runs_keep_their_word, valid_inputs_are_run,

@@ -1,6 +1,6 @@
 //! A run under way: its connection, and how far it was put.
 
-ghost use Rattle.std.specs.Prelude.{◌≡◌, ◌+◌, ◌-◌, ◌^◌, ◌<◌, length, map, drop, IfOk, OnOk};
+ghost use Rattle.std.specs.Prelude.{◌≡◌, ◌+◌, ◌-◌, ◌^◌, ◌<◌, length, map, drop, replicate, IfOk, OnOk};
 ghost use Rattle.link_script.specs.Scripts.{HasRanges};
 ghost use Rattle.world_laws.specs.Fine.{lists_of};
 ghost use Rattle.world_laws.specs.Outcomes.{notes_at, read_by};
@@ -56,6 +56,15 @@ fn opening_of(alloc: Global, script: &Script, report: Report) -> Result<Option<T
     }
 }
 
+/// How many steps each actor has made before the first one.
+fn none_made(alloc: Global, script: &Script) -> Result<Vec<usize>, AllocError>
+    requires { HasRanges script.now }
+    ensures { IfOk result (λ made. made.items ≡ replicate (length script.now.paths + 2) 0) }
+{
+    let actors = script.paths.as_slice().len() + 2;
+    vec![in alloc; 0; actors]
+}
+
 impl Run {
     /// A run before its first step.
     pub fn open(alloc: Global, input: &Input, report: Report) -> Result<Run, AllocError>
@@ -63,8 +72,8 @@ impl Run {
         ensures { IfOk result (IsOpened input.now report) }
     {
         let opening = opening_of(alloc, &input.script, report)?;
+        let made = none_made(alloc, &input.script)?;
         let world = World::open(alloc, input)?;
-        let made = made_by(alloc, &world)?;
         Ok(Run {
             world,
             opening,
@@ -109,6 +118,23 @@ impl Run {
         })
     }
 
+    /// Puts what has been read since the last round was put, and its lines.
+    fn put_piece<O: Outside>(&self, alloc: Global, outside: &mut O) -> Result<(), Status>
+        requires made { length self.now.made.items ≡ length self.now.world.state.crew }
+        requires few { self.now.rounds < 2 ^ 64 - 1 }
+        ensures { (last : Connection) → IsSince last self.now.made.items self.now.world.state →
+            RoundPut self.now.opening self.now.rounds last self.now.world.state
+            (O.load_faults outside.old) (O.load_faults outside.new)
+            (O.port_faults outside.old) (O.port_faults outside.new)
+            (O.holds outside.old) (O.holds outside.new)
+            (O.calls outside.old) (O.calls outside.new) result }
+    {
+        match self.piece(alloc) {
+            Ok(piece) => piece.put(outside),
+            Err(_) => Err(Status::Memory),
+        }
+    }
+
     /// Puts the round that has ended.
     pub fn put_round<O: Outside>(&mut self, alloc: Global, outside: &mut O) -> Result<(), Status>
         requires made { length self.old.made.items ≡ length self.old.world.state.crew }
@@ -125,10 +151,10 @@ impl Run {
             (O.holds outside.old) (O.holds outside.new)
             (O.calls outside.old) (O.calls outside.new) result }
     {
-        let (Ok(piece), Ok(made)) = (self.piece(alloc), made_by(alloc, &self.world)) else {
+        let Ok(made) = made_by(alloc, &self.world) else {
             return Err(Status::Memory);
         };
-        piece.put(outside)?;
+        self.put_piece(alloc, outside)?;
         self.made = made;
         self.rounds += 1;
         Ok(())

@@ -20,12 +20,14 @@ ghost use Rattle.mptcp_run.specs.Replaying.{IsReplayFault};
 ghost use Rattle.mptcp_run.specs.Rounds.{IsOpened, all_turns};
 ghost use Rattle.mptcp_run.specs.Task.{task_from, task_with};
 ghost use Rattle.mptcp_run.specs.Task as course;
+ghost use Rattle.mptcp_run.specs.Taken.{report_in, task_taken, EndsEarly, HasFewLines, TurnsFault};
 
 use crate::outcome::{put_last, status_of};
 use crate::replay::make_turns;
 use crate::report::Report;
 use crate::rounds::Run;
 use crate::serial::make_rounds;
+use crate::turns::Turns;
 use outside_kit::{Gate, Outside, Port};
 use run_outside::{
     Input, Replay, Status, bind_readers, load_input, load_replay, made_input, read_words,
@@ -89,80 +91,86 @@ fn take_rounds<O: Outside>(
     end(alloc, outside, run, report)
 }
 
-/// Makes whole turns, at most so many rounds.
-fn perform_serial<O: Outside>(
-    alloc: Global,
-    outside: &mut O,
-    line: &CommandLine<'_>,
-    input: &Input,
-    rounds: u32,
-    report: Report,
-) -> Result<Status, Status>
-    requires { HasRanges input.now.script }
-    ensures ended { IfOk result (CameToEnd [] (shown line.now)
-        (task_with input.now (course.rounds rounds) report)
-        (O.holds outside.old) (O.holds outside.new) (O.calls outside.old) (O.calls outside.new)) }
-    ensures cut { IfErr result (IsCut [] (shown line.now)
-        (task_with input.now (course.rounds rounds) report)
-        (O.holds outside.old) (O.holds outside.new) (O.calls outside.old) (O.calls outside.new)) }
-    ensures fault { IfErr result
-        (IsPortsFault (O.port_faults outside.old) (O.port_faults outside.new)) }
-    ensures load_counts { O.load_faults outside.new ≡ O.load_faults outside.old }
-{
-    let Ok(mut run) = Run::open(alloc, input, report) else {
-        return Err(Status::Memory);
-    };
-    take_rounds(alloc, outside, line, input, rounds, report, &mut run)
-}
-
 /// Makes the turns of a log in a run before its first step, and puts its last line.
 fn take_turns<O: Outside>(
     alloc: Global,
     outside: &mut O,
     line: &CommandLine<'_>,
+    input: &Input,
     replay: &Replay,
     run: &mut Run,
 ) -> Result<Status, Status>
-    requires opened { IsOpened replay.now.input Report.Log run.old }
+    requires opened { IsOpened input.now Report.Log run.old }
     requires few { replay.now.lines ≤ 3 }
     ensures ended { IfOk result (CameToEnd [] (shown line.now)
-        (task_from replay.now.input (course.told (all_turns replay.now.turns.items)))
+        (task_from input.now (course.told (all_turns replay.now.turns.items)))
         (O.holds outside.old) (O.holds outside.new) (O.calls outside.old) (O.calls outside.new)) }
     ensures err { IfErr result (ReplayEnds [] (shown line.now)
-        (task_from replay.now.input (course.told (all_turns replay.now.turns.items)))
+        (task_from input.now (course.told (all_turns replay.now.turns.items)))
         (O.holds outside.old) (O.holds outside.new) (O.calls outside.old) (O.calls outside.new)
         replay.now.lines) }
     ensures fault { IfErr result
         (IsReplayFault (O.port_faults outside.old) (O.port_faults outside.new)) }
+    ensures load_counts { O.load_faults outside.new ≡ O.load_faults outside.old }
 {
     bind_readers(outside, line)?;
     make_turns(alloc, outside, run, &replay.turns, replay.lines)?;
     end(alloc, outside, run, Report::Log)
 }
 
-/// Makes the turns of a log.
-fn perform_replay<O: Outside>(
+/// Takes the turns in a run before its first step, and puts its last line.
+fn take<O: Outside>(
     alloc: Global,
     outside: &mut O,
     line: &CommandLine<'_>,
-    replay: &Replay,
+    input: &Input,
+    turns: &Turns<'_>,
+    run: &mut Run,
 ) -> Result<Status, Status>
-    requires ranges { HasRanges replay.now.input.script }
-    requires few { replay.now.lines ≤ 3 }
-    ensures ended { IfOk result (CameToEnd [] (shown line.now)
-        (task_from replay.now.input (course.told (all_turns replay.now.turns.items)))
+    requires opened { IsOpened input.now (report_in turns.now) run.old }
+    requires few { HasFewLines turns.now }
+    ensures ended { IfOk result
+        (CameToEnd [] (shown line.now) (task_taken input.now turns.now)
         (O.holds outside.old) (O.holds outside.new) (O.calls outside.old) (O.calls outside.new)) }
-    ensures err { IfErr result (ReplayEnds [] (shown line.now)
-        (task_from replay.now.input (course.told (all_turns replay.now.turns.items)))
-        (O.holds outside.old) (O.holds outside.new) (O.calls outside.old) (O.calls outside.new)
-        replay.now.lines) }
+    ensures early { IfErr result
+        (EndsEarly turns.now (shown line.now) (task_taken input.now turns.now)
+        (O.holds outside.old) (O.holds outside.new) (O.calls outside.old) (O.calls outside.new)) }
     ensures fault { IfErr result
-        (IsReplayFault (O.port_faults outside.old) (O.port_faults outside.new)) }
+        (TurnsFault turns.now (O.port_faults outside.old) (O.port_faults outside.new)) }
+    ensures load_counts { O.load_faults outside.new ≡ O.load_faults outside.old }
 {
-    let Ok(mut run) = Run::open(alloc, &replay.input, Report::Log) else {
+    match turns {
+        Turns::Whole { rounds, report } => {
+            take_rounds(alloc, outside, line, input, *rounds, *report, run)
+        }
+        Turns::Logged(replay) => take_turns(alloc, outside, line, input, replay, run),
+    }
+}
+
+/// Opens a run, takes its turns, and puts its last line.
+fn perform<O: Outside>(
+    alloc: Global,
+    outside: &mut O,
+    line: &CommandLine<'_>,
+    input: &Input,
+    turns: &Turns<'_>,
+) -> Result<Status, Status>
+    requires ranges { HasRanges input.now.script }
+    requires few { HasFewLines turns.now }
+    ensures ended { IfOk result
+        (CameToEnd [] (shown line.now) (task_taken input.now turns.now)
+        (O.holds outside.old) (O.holds outside.new) (O.calls outside.old) (O.calls outside.new)) }
+    ensures early { IfErr result
+        (EndsEarly turns.now (shown line.now) (task_taken input.now turns.now)
+        (O.holds outside.old) (O.holds outside.new) (O.calls outside.old) (O.calls outside.new)) }
+    ensures fault { IfErr result
+        (TurnsFault turns.now (O.port_faults outside.old) (O.port_faults outside.new)) }
+    ensures load_counts { O.load_faults outside.new ≡ O.load_faults outside.old }
+{
+    let Ok(mut run) = Run::open(alloc, input, turns.report()) else {
         return Err(Status::Memory);
     };
-    take_turns(alloc, outside, line, replay, &mut run)
+    take(alloc, outside, line, input, turns, &mut run)
 }
 
 /// A run of whole turns, at most so many rounds.
@@ -184,7 +192,9 @@ fn run_serial<O: Outside>(
         Ok(input) => input,
         Err(status) => return status,
     };
-    match perform_serial(alloc, outside, line, &input, rounds, Report::Log) {
+    let report = Report::Log;
+    let turns = Turns::Whole { rounds, report };
+    match perform(alloc, outside, line, &input, &turns) {
         Ok(status) => status,
         Err(status) => status,
     }
@@ -210,7 +220,8 @@ fn run_bench<O: Outside>(
         return Status::Memory;
     };
     let report = Report::Summary { number };
-    match perform_serial(alloc, outside, line, &input, rounds, report) {
+    let turns = Turns::Whole { rounds, report };
+    match perform(alloc, outside, line, &input, &turns) {
         Ok(status) => status,
         Err(status) => status,
     }
@@ -234,7 +245,8 @@ fn run_replay<O: Outside>(
         Ok(replay) => replay,
         Err(status) => return status,
     };
-    match perform_replay(alloc, outside, line, &replay) {
+    let turns = Turns::Logged(&replay);
+    match perform(alloc, outside, line, &replay.input, &turns) {
         Ok(status) => status,
         Err(status) => status,
     }

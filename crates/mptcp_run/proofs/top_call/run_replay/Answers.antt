@@ -8,8 +8,8 @@ use Rattle.mptcp_run.proofs.PlainTasks.{as_turns, plain_input}
 use Rattle.mptcp_run.proofs.Starting.{cause_after}
 use Rattle.mptcp_run.proofs.top_call.run_replay.Goals as goal
 
-pub perform_replay-requires-clause-ranges : goal.perform_replay-requires-clause-ranges
-perform_replay-requires-clause-ranges g c = c.in-Ok.ensures.loaded.ranges
+pub perform-requires-clause-ranges : goal.perform-requires-clause-ranges
+perform-requires-clause-ranges g c = c.in-Ok.ensures.loaded.ranges
 
 pub returns-in-Err : goal.returns-in-Err
 returns-in-Err g c =
@@ -19,32 +19,32 @@ returns-in-Err g c =
     (g.O.Outside.calls c.args.outside.now) (g.O.Outside.calls c.load_replay.new.outside) c.args.order.now c.in-Err.status c.requires
     c.load_replay.ensures.loads.untouched cut.fault cut.calls_cut
 
-pub returns-in-Ok-perform_replay : goal.returns-in-Ok-perform_replay
-returns-in-Ok-perform_replay g c =
+pub returns-in-Ok-perform : goal.returns-in-Ok-perform
+returns-in-Ok-perform g c =
     let content = g.O.Outside.content c.args.outside.now in let line = shown c.args.line.now in let read = c.in-Ok.ensures in let replay = c.in-Ok.replay in
     let task : Task = task_from replay.input (course.told (all_turns replay.turns.items)) in
-    end_answer content line (g.O.Outside.load_faults c.args.outside.now) (g.O.Outside.load_faults c.perform_replay.new.outside)
-    (g.O.Outside.port_faults c.args.outside.now) (g.O.Outside.port_faults c.perform_replay.new.outside) (g.O.Outside.holds c.args.outside.now) (g.O.Outside.holds c.perform_replay.new.outside)
-    (g.O.Outside.calls c.args.outside.now) (g.O.Outside.calls c.perform_replay.new.outside) task
+    end_answer content line (g.O.Outside.load_faults c.args.outside.now) (g.O.Outside.load_faults c.perform.new.outside)
+    (g.O.Outside.port_faults c.args.outside.now) (g.O.Outside.port_faults c.perform.new.outside) (g.O.Outside.holds c.args.outside.now) (g.O.Outside.holds c.perform.new.outside)
+    (g.O.Outside.calls c.args.outside.now) (g.O.Outside.calls c.perform.new.outside) task
     (replay_task content line c.args.order.now replay.turns.items replay.input c.requires read.script read.file_a read.file_b read.turns) (plain_input _ read.loaded) read.file_a read.file_b
     read.within (script_valid content line replay.input.script read.script) (replay_order content line c.args.order.now replay.turns.items replay.input.script c.requires read.script read.turns)
-    refl (as_turns _ read.ends) (as_turns _ read.ends) c.in-Ok-perform_replay.status
-    (end_from (g.O.Outside.holds c.args.outside.now) (g.O.Outside.holds c.load_replay.new.outside) (g.O.Outside.holds c.perform_replay.new.outside) (λ p. (read.loads.untouched p).0) line task
-    (g.O.Outside.calls c.args.outside.now) (g.O.Outside.calls c.load_replay.new.outside) (g.O.Outside.calls c.perform_replay.new.outside) read.loads.made
-    c.in-Ok-perform_replay.status c.in-Ok-perform_replay.ensures.ended)
+    refl (as_turns _ read.ends) (as_turns _ read.ends) c.in-Ok-perform.status
+    (end_from (g.O.Outside.holds c.args.outside.now) (g.O.Outside.holds c.load_replay.new.outside) (g.O.Outside.holds c.perform.new.outside) (λ p. (read.loads.untouched p).0) line task
+    (g.O.Outside.calls c.args.outside.now) (g.O.Outside.calls c.load_replay.new.outside) (g.O.Outside.calls c.perform.new.outside) read.loads.made
+    c.in-Ok-perform.status c.in-Ok-perform.ensures.ended)
 
 pub returns : goal.returns
 returns g c =
     let content = g.O.Outside.content c.args.outside.now in let line = shown c.args.line.now in let read = c.in-Ok.ensures in let replay = c.in-Ok.replay in
     let task : Task = task_from replay.input (course.told (all_turns replay.turns.items)) in
-    replay_answer content line (g.O.Outside.load_faults c.args.outside.now) (g.O.Outside.load_faults c.perform_replay.new.outside)
-    (g.O.Outside.port_faults c.args.outside.now) (g.O.Outside.port_faults c.perform_replay.new.outside) (g.O.Outside.holds c.args.outside.now) (g.O.Outside.holds c.perform_replay.new.outside)
-    (g.O.Outside.calls c.args.outside.now) (g.O.Outside.calls c.perform_replay.new.outside) task
+    replay_answer content line (g.O.Outside.load_faults c.args.outside.now) (g.O.Outside.load_faults c.perform.new.outside)
+    (g.O.Outside.port_faults c.args.outside.now) (g.O.Outside.port_faults c.perform.new.outside) (g.O.Outside.holds c.args.outside.now) (g.O.Outside.holds c.perform.new.outside)
+    (g.O.Outside.calls c.args.outside.now) (g.O.Outside.calls c.perform.new.outside) task
     (replay_task content line c.args.order.now replay.turns.items replay.input c.requires read.script read.file_a read.file_b read.turns) (plain_input _ read.loaded) read.file_a read.file_b
     read.within (script_valid content line replay.input.script read.script) (replay_order content line c.args.order.now replay.turns.items replay.input.script c.requires read.script read.turns)
-    c.args.order.now replay.lines c.requires read.lines c.in-Err-perform_replay.status
-    (cause_after (g.O.Outside.port_faults c.args.outside.now) (g.O.Outside.port_faults c.load_replay.new.outside) (g.O.Outside.port_faults c.perform_replay.new.outside)
-    c.in-Err-perform_replay.status (λ p. let same = (read.loads.untouched p).1 in omega (arith, same)) c.in-Err-perform_replay.ensures.fault)
-    (replay_from (g.O.Outside.holds c.args.outside.now) (g.O.Outside.holds c.load_replay.new.outside) (g.O.Outside.holds c.perform_replay.new.outside) (λ p. (read.loads.untouched p).0) line task
-    (g.O.Outside.calls c.args.outside.now) (g.O.Outside.calls c.load_replay.new.outside) (g.O.Outside.calls c.perform_replay.new.outside) read.loads.made replay.lines
-    c.in-Err-perform_replay.status c.in-Err-perform_replay.ensures.err)
+    c.args.order.now replay.lines c.requires read.lines c.in-Err-perform.status
+    (cause_after (g.O.Outside.port_faults c.args.outside.now) (g.O.Outside.port_faults c.load_replay.new.outside) (g.O.Outside.port_faults c.perform.new.outside)
+    c.in-Err-perform.status (λ p. let same = (read.loads.untouched p).1 in omega (arith, same)) c.in-Err-perform.ensures.fault)
+    (replay_from (g.O.Outside.holds c.args.outside.now) (g.O.Outside.holds c.load_replay.new.outside) (g.O.Outside.holds c.perform.new.outside) (λ p. (read.loads.untouched p).0) line task
+    (g.O.Outside.calls c.args.outside.now) (g.O.Outside.calls c.load_replay.new.outside) (g.O.Outside.calls c.perform.new.outside) read.loads.made replay.lines
+    c.in-Err-perform.status c.in-Err-perform.ensures.early)

@@ -10,8 +10,8 @@ use Rattle.run_outside.proofs.Loading.{serial_loads}
 use Rattle.run_outside.proofs.PortsLemmas.{fault_after}
 use Rattle.mptcp_run.proofs.top_call.run_serial.Goals as goal
 
-pub perform_serial-requires : goal.perform_serial-requires
-perform_serial-requires g c = c.in-Ok.ensures.loaded.ranges
+pub perform-requires-clause-ranges : goal.perform-requires-clause-ranges
+perform-requires-clause-ranges g c = c.in-Ok.ensures.loaded.ranges
 
 pub returns-in-Err : goal.returns-in-Err
 returns-in-Err g c =
@@ -21,34 +21,34 @@ returns-in-Err g c =
     (g.O.Outside.calls c.args.outside.now) (g.O.Outside.calls c.load_input.new.outside) c.args.rounds (first_loads line) c.in-Err.status c.requires.asked
     c.load_input.ensures.loads.untouched cut.fault (serial_loads line c.args.rounds c.requires.asked) cut.calls_cut
 
-pub returns-in-Ok-perform_serial : goal.returns-in-Ok-perform_serial
-returns-in-Ok-perform_serial g c =
+pub returns-in-Ok-perform : goal.returns-in-Ok-perform
+returns-in-Ok-perform g c =
     let content = g.O.Outside.content c.args.outside.now in let line = shown c.args.line.now in let read = c.in-Ok.ensures in
     let task : Task = task_from c.in-Ok.input (course.rounds c.args.rounds) in
-    end_answer content line (g.O.Outside.load_faults c.args.outside.now) (g.O.Outside.load_faults c.perform_serial.new.outside)
-    (g.O.Outside.port_faults c.args.outside.now) (g.O.Outside.port_faults c.perform_serial.new.outside) (g.O.Outside.holds c.args.outside.now) (g.O.Outside.holds c.perform_serial.new.outside)
-    (g.O.Outside.calls c.args.outside.now) (g.O.Outside.calls c.perform_serial.new.outside) task
+    end_answer content line (g.O.Outside.load_faults c.args.outside.now) (g.O.Outside.load_faults c.perform.new.outside)
+    (g.O.Outside.port_faults c.args.outside.now) (g.O.Outside.port_faults c.perform.new.outside) (g.O.Outside.holds c.args.outside.now) (g.O.Outside.holds c.perform.new.outside)
+    (g.O.Outside.calls c.args.outside.now) (g.O.Outside.calls c.perform.new.outside) task
     (serial_task content line c.args.rounds c.in-Ok.input c.requires.asked read.script read.file_a read.file_b) (plain_input _ read.loaded) read.file_a read.file_b
     (serial_within content line c.args.rounds c.requires.asked read.within) (script_valid content line c.in-Ok.input.script read.script) (serial_order content line c.args.rounds c.requires.asked)
-    refl (subst (λ (w : Work). AsksInRange w) c.requires.asked c.requires.in_range) tt c.in-Ok-perform_serial.status
-    (end_from (g.O.Outside.holds c.args.outside.now) (g.O.Outside.holds c.load_input.new.outside) (g.O.Outside.holds c.perform_serial.new.outside) (λ p. (read.loads.untouched p).0) line task
-    (g.O.Outside.calls c.args.outside.now) (g.O.Outside.calls c.load_input.new.outside) (g.O.Outside.calls c.perform_serial.new.outside)
+    refl (subst (λ (w : Work). AsksInRange w) c.requires.asked c.requires.in_range) tt c.in-Ok-perform.status
+    (end_from (g.O.Outside.holds c.args.outside.now) (g.O.Outside.holds c.load_input.new.outside) (g.O.Outside.holds c.perform.new.outside) (λ p. (read.loads.untouched p).0) line task
+    (g.O.Outside.calls c.args.outside.now) (g.O.Outside.calls c.load_input.new.outside) (g.O.Outside.calls c.perform.new.outside)
     (subst (λ plan. AddsAll plan (g.O.Outside.calls c.args.outside.now) (g.O.Outside.calls c.load_input.new.outside)) (serial_loads line c.args.rounds c.requires.asked) read.loads.made)
-    c.in-Ok-perform_serial.status c.in-Ok-perform_serial.ensures.ended)
+    c.in-Ok-perform.status c.in-Ok-perform.ensures.ended)
 
 pub returns : goal.returns
 returns g c =
     let content = g.O.Outside.content c.args.outside.now in let line = shown c.args.line.now in let read = c.in-Ok.ensures in
     let task : Task = task_from c.in-Ok.input (course.rounds c.args.rounds) in
-    cut_answer content line (g.O.Outside.load_faults c.args.outside.now) (g.O.Outside.load_faults c.perform_serial.new.outside)
-    (g.O.Outside.port_faults c.args.outside.now) (g.O.Outside.port_faults c.perform_serial.new.outside) (g.O.Outside.holds c.args.outside.now) (g.O.Outside.holds c.perform_serial.new.outside)
-    (g.O.Outside.calls c.args.outside.now) (g.O.Outside.calls c.perform_serial.new.outside) task
+    cut_answer content line (g.O.Outside.load_faults c.args.outside.now) (g.O.Outside.load_faults c.perform.new.outside)
+    (g.O.Outside.port_faults c.args.outside.now) (g.O.Outside.port_faults c.perform.new.outside) (g.O.Outside.holds c.args.outside.now) (g.O.Outside.holds c.perform.new.outside)
+    (g.O.Outside.calls c.args.outside.now) (g.O.Outside.calls c.perform.new.outside) task
     (serial_task content line c.args.rounds c.in-Ok.input c.requires.asked read.script read.file_a read.file_b) (plain_input _ read.loaded) read.file_a read.file_b
     (serial_within content line c.args.rounds c.requires.asked read.within) (script_valid content line c.in-Ok.input.script read.script) (serial_order content line c.args.rounds c.requires.asked)
-    c.in-Err-perform_serial.status
-    (fault_after (g.O.Outside.port_faults c.args.outside.now) (g.O.Outside.port_faults c.load_input.new.outside) (g.O.Outside.port_faults c.perform_serial.new.outside)
-    c.in-Err-perform_serial.status (λ p. let same = (read.loads.untouched p).1 in omega (arith, same)) c.in-Err-perform_serial.ensures.fault)
-    (cut_from (g.O.Outside.holds c.args.outside.now) (g.O.Outside.holds c.load_input.new.outside) (g.O.Outside.holds c.perform_serial.new.outside) (λ p. (read.loads.untouched p).0) line task
-    (g.O.Outside.calls c.args.outside.now) (g.O.Outside.calls c.load_input.new.outside) (g.O.Outside.calls c.perform_serial.new.outside)
+    c.in-Err-perform.status
+    (fault_after (g.O.Outside.port_faults c.args.outside.now) (g.O.Outside.port_faults c.load_input.new.outside) (g.O.Outside.port_faults c.perform.new.outside)
+    c.in-Err-perform.status (λ p. let same = (read.loads.untouched p).1 in omega (arith, same)) c.in-Err-perform.ensures.fault)
+    (cut_from (g.O.Outside.holds c.args.outside.now) (g.O.Outside.holds c.load_input.new.outside) (g.O.Outside.holds c.perform.new.outside) (λ p. (read.loads.untouched p).0) line task
+    (g.O.Outside.calls c.args.outside.now) (g.O.Outside.calls c.load_input.new.outside) (g.O.Outside.calls c.perform.new.outside)
     (subst (λ plan. AddsAll plan (g.O.Outside.calls c.args.outside.now) (g.O.Outside.calls c.load_input.new.outside)) (serial_loads line c.args.rounds c.requires.asked) read.loads.made)
-    c.in-Err-perform_serial.status c.in-Err-perform_serial.ensures.cut)
+    c.in-Err-perform.status c.in-Err-perform.ensures.early)

@@ -1,4 +1,4 @@
-use Rattle.std.proofs.Common.{subst, List, arith}
+use Rattle.std.proofs.Common.{◌∙◌, subst, List, arith}
 use Rattle.std.proofs.lemmas.Result.{err_from_is_err_and}
 use Rattle.outside_kit.specs.declared.port.Port.TheVariants.{ReadByA, ReadByB}
 use Rattle.run_words.specs.Lines.{shown}
@@ -15,11 +15,11 @@ use Rattle.mptcp_run.proofs.Starting.{opened_at, replay_done, replay_stops, repl
 use Rattle.mptcp_run.proofs.top_call.take_turns.Goals as goal
 
 pub make_turns-requires-clause-begins : goal.make_turns-requires-clause-begins
-make_turns-requires-clause-begins g c = opened_at c.args.replay.now.input report.Log c.args.run.now c.requires.opened
+make_turns-requires-clause-begins g c = opened_at c.args.input.now report.Log c.args.run.now c.requires.opened
 
 pub returns-in_err-bind_readers-clause-err : goal.returns-in_err-bind_readers-clause-err
 returns-in_err-bind_readers-clause-err g c =
-    let order = all_turns c.args.replay.now.turns.items in let task : Task = task_from c.args.replay.now.input (course.told order) in
+    let order = all_turns c.args.replay.now.turns.items in let task : Task = task_from c.args.input.now (course.told order) in
     let p = err_from_is_err_and c.from_residual.result c.from_residual.ensures.1 in
     rw (p.1, p.2) (replay_is_cut (shown c.args.line.now) task c.args.replay.now.lines
     (g.O.Outside.calls c.args.outside.now) (g.O.Outside.calls c.bind_readers.new.outside) (g.O.Outside.holds c.args.outside.now) (g.O.Outside.holds c.bind_readers.new.outside)
@@ -31,7 +31,7 @@ returns-in_err-bind_readers-clause-err g c =
 pub returns-in_err-make_turns-clause-err : goal.returns-in_err-make_turns-clause-err
 returns-in_err-make_turns-clause-err g c =
     let p = err_from_is_err_and c.from_residual-in_err-make_turns.result c.from_residual-in_err-make_turns.ensures.1 in
-    rw (p.1, p.2) (replay_stops c.args.replay.now.input c.args.run.now c.requires.opened (shown c.args.line.now)
+    rw (p.1, p.2) (replay_stops c.args.input.now c.args.run.now c.requires.opened (shown c.args.line.now)
     (g.O.Outside.holds c.args.outside.now) (g.O.Outside.holds c.bind_readers.new.outside) (g.O.Outside.holds c.make_turns.new.outside)
     (record { read_by_b = c.in_ok-bind_readers.ensures.read_by_b; read_by_a = c.in_ok-bind_readers.ensures.read_by_a; log = c.bind_readers.ensures.log })
     (g.O.Outside.calls c.args.outside.now) (g.O.Outside.calls c.bind_readers.new.outside) (g.O.Outside.calls c.make_turns.new.outside) c.in_ok-bind_readers.ensures.puts.made
@@ -56,7 +56,7 @@ returns-clause-fault g c =
 pub returns-clause-ended : goal.returns-clause-ended
 returns-clause-ended g c =
     IfOk-and c.end.result
-    (λ status is grew told. replay_done c.args.replay.now.input c.args.run.now c.requires.opened (shown c.args.line.now)
+    (λ status is grew told. replay_done c.args.input.now c.args.run.now c.requires.opened (shown c.args.line.now)
     (g.O.Outside.holds c.args.outside.now) (g.O.Outside.holds c.bind_readers.new.outside) (g.O.Outside.holds c.make_turns.new.outside)
     (record { read_by_b = c.in_ok-bind_readers.ensures.read_by_b; read_by_a = c.in_ok-bind_readers.ensures.read_by_a; log = c.bind_readers.ensures.log })
     (g.O.Outside.calls c.args.outside.now) (g.O.Outside.calls c.bind_readers.new.outside) (g.O.Outside.calls c.make_turns.new.outside) c.in_ok-bind_readers.ensures.puts.made
@@ -75,9 +75,9 @@ returns-clause-ended g c =
 pub returns-clause-err : goal.returns-clause-err
 returns-clause-err g c =
     IfErr-three c.end.result
-    (λ status fault cut part. replay_is_cut (shown c.args.line.now) (task_from c.args.replay.now.input (course.told (all_turns c.args.replay.now.turns.items))) c.args.replay.now.lines
+    (λ status fault cut part. replay_is_cut (shown c.args.line.now) (task_from c.args.input.now (course.told (all_turns c.args.replay.now.turns.items))) c.args.replay.now.lines
     (g.O.Outside.calls c.args.outside.now) (g.O.Outside.calls c.end.new.outside) (g.O.Outside.holds c.args.outside.now) (g.O.Outside.holds c.end.new.outside) _ _ status fault
-    (replay_line_short c.args.replay.now.input c.args.run.now c.requires.opened (shown c.args.line.now)
+    (replay_line_short c.args.input.now c.args.run.now c.requires.opened (shown c.args.line.now)
     (g.O.Outside.holds c.args.outside.now) (g.O.Outside.holds c.bind_readers.new.outside) (g.O.Outside.holds c.make_turns.new.outside)
     (record { read_by_b = c.in_ok-bind_readers.ensures.read_by_b; read_by_a = c.in_ok-bind_readers.ensures.read_by_a; log = c.bind_readers.ensures.log })
     (g.O.Outside.calls c.args.outside.now) (g.O.Outside.calls c.bind_readers.new.outside) (g.O.Outside.calls c.make_turns.new.outside) c.in_ok-bind_readers.ensures.puts.made
@@ -93,3 +93,12 @@ pub returns-in_err-bind_readers-clause-fault : goal.returns-in_err-bind_readers-
 returns-in_err-bind_readers-clause-fault g c =
     let p = err_from_is_err_and c.from_residual.result c.from_residual.ensures.1 in
     rw (p.1, p.2) (replay_cause _ _ c.in_err-bind_readers.field-0.0 c.in_err-bind_readers.ensures.puts.fault)
+
+pub returns-in_err-bind_readers-clause-load_counts : goal.returns-in_err-bind_readers-clause-load_counts
+returns-in_err-bind_readers-clause-load_counts g c = c.bind_readers.ensures.puts.only.unloaded
+
+pub returns-in_err-make_turns-clause-load_counts : goal.returns-in_err-make_turns-clause-load_counts
+returns-in_err-make_turns-clause-load_counts g c = c.make_turns.ensures.only.unloaded ∙ c.bind_readers.ensures.puts.only.unloaded
+
+pub returns-clause-load_counts : goal.returns-clause-load_counts
+returns-clause-load_counts g c = c.end.ensures.puts.only.unloaded ∙ c.make_turns.ensures.only.unloaded ∙ c.bind_readers.ensures.puts.only.unloaded

@@ -1,0 +1,28 @@
+-- A run that took no turn.
+use Rattle.std.proofs.Common.{ℕ, List, Option}
+use Rattle.outside_kit.specs.declared.port.Port.{Port}
+use Rattle.run_words.specs.Lines.{Line}
+use Rattle.run_outside.specs.declared.input.Input.{Input}
+use Rattle.run_outside.specs.declared.status.Status.TheVariants.{Memory}
+use Rattle.run_outside.proofs.Calls.{Told}
+use Rattle.mptcp_run.specs.declared.turns.Turns.{Turns}
+use Rattle.mptcp_run.specs.declared.turns.Turns.TheVariants.{Whole, Logged}
+use Rattle.mptcp_run.specs.Rounds.{all_turns}
+use Rattle.mptcp_run.specs.Taken.{task_taken, EndsEarly, TurnsFault}
+use Rattle.mptcp_run.specs.Task.{opened}
+use Rattle.mptcp_run.proofs.Courses.{no_round, no_turn}
+use Rattle.mptcp_run.proofs.Performing.{nothing_made}
+
+abbrev Ports : Type 0
+Ports = Port → Option (List ℕ)
+
+-- for want of memory
+pub nothing_taken : (turns : Turns) (input : Input) (line : Line) (held : Ports) (told : Told) → EndsEarly turns line (task_taken input turns) held held told told Memory
+nothing_taken (Whole most report) input line held told =
+    let task = task_taken input (Whole most report) in nothing_made line task held told (no_round most (opened task))
+nothing_taken (Logged replay) input line held told =
+    let task = task_taken input (Logged replay) in nothing_made line task held told (no_turn (all_turns replay.now.turns.items) (opened task))
+
+pub memory_alone : (turns : Turns) (before faults : Port → ℕ) → TurnsFault turns before faults Memory
+memory_alone (Whole most report) before faults = tt
+memory_alone (Logged replay) before faults = tt
