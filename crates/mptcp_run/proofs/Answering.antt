@@ -9,7 +9,6 @@ use Rattle.outside_kit.specs.Outside.{HoldsAfter}
 use Rattle.link_script.specs.declared.script.Script.{Script}
 use Rattle.run_words.specs.Lines.{Line, serial, replay, ◌>>=◌}
 use Rattle.run_log.specs.declared.turn.Turn as log_turn
-use Rattle.run_log.specs.declared.fault.LogFault.TheVariants as log_fault
 use Rattle.run_outside.specs.declared.input.Input.{Input}
 use Rattle.world_laws.specs.Worlds.{Turn}
 use Rattle.mptcp_run.specs.declared.report.Report.TheVariants as report

@@ -1,5 +1,5 @@
 -- The turns of a course, from what the rounds or turns of a loop come to.
-use Rattle.std.proofs.Common.{◌≡◌, refl, sym, ◌∙◌, ap, subst, ℕ, zero, suc, ◌+◌, ◌≤◌, inl, inr, ◌⊎◌, List, [], ◌∷◌, ◌++◌, length, Option, arith}
+use Rattle.std.proofs.Common.{◌≡◌, refl, sym, ◌∙◌, ap, subst, ℕ, zero, suc, ◌≤◌, inl, inr, ◌⊎◌, List, [], ◌∷◌, ◌++◌, length, Option, arith}
 use Rattle.std.proofs.lemmas.List.{append-nil}
 use Rattle.outside_kit.specs.declared.port.Port.{Port}
 use Rattle.path_core.specs.Octets.{octets}

@@ -24,9 +24,7 @@ use Rattle.run_outside.specs.Calling.{Puts}
 use Rattle.run_log.specs.Fitting.{IsLong}
 use Rattle.mptcp_run.specs.Making.{RoundPut}
 use Rattle.mptcp_run.specs.Replaying.{last_after, rounds_after, round_turn, StepFault}
-use Rattle.run_log.specs.declared.turn.Turn as log_turn
-use Rattle.run_log.specs.declared.turn.Turn.TheVariants as logged
-use Rattle.mptcp_run.specs.Task.{Connection, turn_of}
+use Rattle.mptcp_run.specs.Task.{Connection}
 use Rattle.world_core.specs.Weaving.{IsSince, made_at, since}
 use Rattle.run_outside.proofs.Calls.{Told, adds_none, all_then, cut_then, cut_longer, cut_none}
 use Rattle.world_core.proofs.SinceRound.{read_grew, steps_since}

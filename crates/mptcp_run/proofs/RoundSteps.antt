@@ -1,29 +1,21 @@
 -- A round that was made: its steps, what its readers have read, and what the ports hold then.
-use Rattle.std.proofs.Common.{◌≡◌, refl, sym, ◌∙◌, ap, subst, ℕ, zero, suc, ◌<◌, ◌≤◌, Bool, true, false, nat_lt, Option, List, [], ◌∷◌, ◌++◌, map, drop, length, get_or, arith}
-use Rattle.std.proofs.Math.Seq.{drop-append_seam}
-use Rattle.std.proofs.lemmas.Grind.{flat_map-append}
+use Rattle.std.proofs.Common.{◌≡◌, refl, sym, ◌∙◌, ap, subst, ℕ, suc, Option, List, [], ◌∷◌, ◌++◌, drop}
 use Rattle.std.proofs.lemmas.List.{append-nil}
-use Rattle.std.proofs.lemmas.List.Elements.{filter-append}
 use Rattle.outside_kit.specs.declared.port.Port.{Port}
 use Rattle.outside_kit.specs.declared.port.Port.TheVariants as port
 use Rattle.outside_kit.specs.declared.side.Side.TheVariants.{A, B}
 use Rattle.outside_kit.specs.Outside.{HoldsAfter, HoldsPrefix}
 use Rattle.pipe_model.specs.Prefix.{IsPrefix}
-use Rattle.stream_lanes.specs.Words.{Every}
-use Rattle.actor_desk.specs.declared.ask.Note.{Note}
-use Rattle.actor_desk.specs.Journals.{above, with_notes, in_order}
 use Rattle.run_log.specs.Fitting.{IsLong}
-use Rattle.world_laws.specs.Actors.{ActorCrew}
 use Rattle.world_laws.specs.Fine.{lists_of}
-use Rattle.world_laws.specs.Outcomes.{bytes_noted, read_by, notes_at, output_of}
-use Rattle.world_laws.specs.Worlds.{greatest}
+use Rattle.world_laws.specs.Outcomes.{read_by, notes_at, output_of}
 use Rattle.world_core.proofs.SinceRound.{steps_since, read_grew}
 use Rattle.run_outside.specs.Ports.{IsBetween}
 use Rattle.world_core.specs.RoundEnds.{round_steps, steps_by_round, last_end}
 use Rattle.run_outside.specs.LogText.{NotesFit, round_text, log_text}
 use Rattle.mptcp_run.specs.Rounds.{HoldsRound, HoldsEnds, HoldsPart}
 use Rattle.mptcp_run.specs.Task.{Connection}
-use Rattle.world_core.specs.Weaving.{GrewAbove, AllGrewAbove, IsSince, made_at, since}
+use Rattle.world_core.specs.Weaving.{IsSince, made_at, since}
 use Rattle.run_outside.proofs.PortsLemmas.{IsPrefix-refl, IsPrefix-behind, whole_more, part_more, nothing_more, more_then, more_behind}
 
 module _ (made : List ℕ) (last w : Connection) (opening : Option (List ℕ)) (number : ℕ) (old new : Port → Option (List ℕ)) (read_by_b read_by_a lines : List ℕ)

@@ -1,6 +1,5 @@
 -- The made input of `bench`.
 use Rattle.std.specs.Prelude.{ℕ, List, Option, Some, None, option_and_then}
-use Rattle.outside_kit.specs.declared.side.Side.TheVariants.{A, B}
 use Rattle.run_words.specs.Lines.{Line, Work, run, serial, replay, bench, line_of}
 use Rattle.mptcp_run.specs.declared.report.Report.TheVariants.{Summary}
 use Rattle.mptcp_run.specs.Task.{Task, rounds}

@@ -8,7 +8,6 @@ use Rattle.outside_kit.specs.Calls as call
 use Rattle.path_core.specs.Octets.{octets}
 use Rattle.world_laws.specs.Outcomes.{output_of}
 use Rattle.world_laws.specs.Worlds.{Turn, AreLawful, IsLawfulTurn}
-use Rattle.run_outside.specs.declared.status.Status.TheVariants.{Put}
 use Rattle.world_core.specs.RoundEnds.{round_steps}
 use Rattle.run_outside.specs.LogText.{round_text}
 use Rattle.mptcp_run.specs.Putting.{opening_in, last_line, ends_of, world_after}

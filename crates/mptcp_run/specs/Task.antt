@@ -14,7 +14,6 @@ use Rattle.mptcp_run.specs.Asked.{asked_in}
 use Rattle.run_outside.specs.Reading.{script_of, log_reading}
 use Rattle.mptcp_run.specs.declared.report.Report.{Report}
 use Rattle.mptcp_run.specs.declared.report.Report.TheVariants.{Log}
-use Rattle.run_outside.specs.declared.status.Named.TheVariants as input
 
 -- a connection whose links carry octets
 abbrev pub Connection : Type 0

@@ -17,7 +17,7 @@ use outside_kit::Outside;
 use run_log::Turn;
 use run_outside::Status;
 use std::alloc::Global;
-use world_core::{Stepped, World};
+use world_core::World;
 
 /// Makes the step that a line of the log tells.
 fn make_step(world: &mut World, actor: u8, line: u64) -> Result<(), Status>
@@ -25,9 +25,9 @@ fn make_step(world: &mut World, actor: u8, line: u64) -> Result<(), Status>
     ensures going { OnOk result (is_going actor world.old.state ≡ true) }
     ensures fault { IfErr result (StepFault actor world.old.state line) }
 {
-    match world.step(actor) {
-        Ok(Stepped::Made(_)) => Ok(()),
-        Ok(Stepped::Ended) => Err(Status::Log { line }),
+    match world.go(actor) {
+        Ok(true) => Ok(()),
+        Ok(false) => Err(Status::Log { line }),
         Err(_) => Err(Status::Memory),
     }
 }

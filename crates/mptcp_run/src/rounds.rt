@@ -21,8 +21,7 @@ use run_outside::{Input, Piece, Status, logged_text, width_of};
 use std::alloc::{AllocError, Global};
 use world_core::{World, made_by, read_since, woven};
 
-/// A run under way.
-#[derive(Drop)]
+/// A run under way. It isn't dropped, but closed.
 pub struct Run {
     /// The connection.
     pub world: World,
@@ -158,5 +157,16 @@ impl Run {
         self.made = made;
         self.rounds += 1;
         Ok(())
+    }
+
+    /// Lets the run go, with its connection.
+    pub fn close(self) {
+        let Run {
+            world,
+            opening: _opening,
+            made: _made,
+            rounds: _,
+        } = self;
+        world.close();
     }
 }

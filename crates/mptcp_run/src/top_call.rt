@@ -170,7 +170,9 @@ fn perform<O: Outside>(
     let Ok(mut run) = Run::open(alloc, input, turns.report()) else {
         return Err(Status::Memory);
     };
-    take(alloc, outside, line, input, turns, &mut run)
+    let ended = take(alloc, outside, line, input, turns, &mut run);
+    run.close();
+    ended
 }
 
 /// A run of whole turns, at most so many rounds.

@@ -78,8 +78,12 @@ impl World {
         }
     }
 
-    // Makes one step of an actor, and answers whether its turn hadn't ended.
-    pub(crate) fn go(&mut self, actor: u8) -> Result<bool, AllocError>
+    /// Makes one step of an actor as `step` does, and answers whether its turn hadn't ended. No note is given.
+    ///
+    /// # Errors
+    ///
+    /// Where there is no memory. The world has failed then.
+    pub fn go(&mut self, actor: u8) -> Result<bool, AllocError>
         ensures going { IfOk result (λ went. went ≡ is_going actor self.old.state) }
         ensures ok { OnOk result (self.new ≡ standing (world_step octets actor self.old.state)) }
         ensures still { IfOk result (λ went. went ≡ false → self.new.state ≡ self.old.state) }

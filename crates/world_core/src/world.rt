@@ -100,6 +100,9 @@ impl World {
         self.crew.len() as u8
     }
 
+    /// Lets the connection go, with all that it holds.
+    pub fn close(self) {}
+
     /// Its books and its actors. It hasn't failed.
     pub fn into_parts(self) -> (Books, Vec<Crew>)
         requires { self.failed ≡ false }

@@ -1,4 +1,3 @@
-use Rattle.std.proofs.Common.{sym, subst}
 use Rattle.run_words.specs.Lines.{shown}
 use Rattle.mptcp_run.proofs.Taken.{nothing_taken, memory_alone}
 use Rattle.mptcp_run.proofs.top_call.perform.Goals as goal
