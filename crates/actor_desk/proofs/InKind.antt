@@ -46,7 +46,7 @@ granted_kind path max standby b tile positive (Ok span) is =
 pub send_kind : (b : Sending) (call : SendCall) → Tile b → send.CanAsk call → IsSendKind call (send.reply_to b call)
 send_kind b (send_calls.Write bytes) tile can = by (b.closed || b.aborted)
   where
-    by : (c : Bool) → IsSendKind (send_calls.Write bytes) (if c then send_replies.Shut else send_replies.Taken (send.taken bytes b))
+    by : (c : Bool) → IsSendKind (send_calls.Write bytes) (if c then send_replies.Shut else send_replies.Taken (send.bytes_taken bytes b))
     by true = tt
     by false = omega arith
 send_kind b send_calls.Close tile can = by b.aborted

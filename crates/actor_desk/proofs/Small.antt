@@ -42,7 +42,7 @@ written_given path (Err why) b small = small
 pub written_small : (b : Sending) (call : SendCall) → IsWrittenSmall b → IsWrittenSmall (send.after_call b call)
 written_small b (send_calls.Write bytes) small =
     written_either (b.closed || b.aborted) _ _ small
-    (record { written = omega (arith, length-append b.written (take (send.taken bytes b) bytes), length-take (send.taken bytes b) bytes, small.written) })
+    (record { written = omega (arith, length-append b.written (take (send.bytes_taken bytes b) bytes), length-take (send.bytes_taken bytes b) bytes, small.written) })
 written_small b send_calls.Close small = written_either b.aborted _ _ small (record { written = small.written })
 written_small b (send_calls.Grant path max standby) small = written_given path (send.decision path max standby b) b small
 written_small b (send_calls.AckIn next window) small = written_either (send.is_future next b) _ _ small (record { written = small.written })
@@ -67,7 +67,7 @@ granted_small path max standby b tile small (Ok span) is =
 pub send_small : (b : Sending) (call : SendCall) → Tile b → IsWrittenSmall b → IsSmallSend (send.reply_to b call)
 send_small b (send_calls.Write bytes) tile small = by (b.closed || b.aborted)
   where
-    by : (c : Bool) → IsSmallSend (if c then send_replies.Shut else send_replies.Taken (send.taken bytes b))
+    by : (c : Bool) → IsSmallSend (if c then send_replies.Shut else send_replies.Taken (send.bytes_taken bytes b))
     by true = tt
     by false = omega arith
 send_small b send_calls.Close tile small = by b.aborted

@@ -70,12 +70,12 @@ after_ask (asks.Local step) books = books
 -- as they are opened: with the size of the buffers, and the key of each side
 abbrev pub opened_books : ℕ → ℕ → ℕ → SixBooks
 opened_books buffer key_a key_b = record {
-  send_a = sending.opened buffer;
-  send_b = sending.opened buffer;
-  reassembly_a = arriving.opened buffer;
-  reassembly_b = arriving.opened buffer;
-  control_a = control.opened side.A key_a;
-  control_b = control.opened side.B key_b;
+  send_a = sending.new_sending buffer;
+  send_b = sending.new_sending buffer;
+  reassembly_a = arriving.new_arriving buffer;
+  reassembly_b = arriving.new_arriving buffer;
+  control_a = control.new_control side.A key_a;
+  control_b = control.new_control side.B key_b;
 }
 
 -- ---- steps

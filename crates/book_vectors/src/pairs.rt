@@ -35,7 +35,7 @@ fn segments(alloc: Global, run: &Run) -> Result<String, AllocError> {
 }
 
 /// What a case asks of a run.
-fn shown(alloc: Global, name: &str, run: &Run) -> Result<String, CaseFault> {
+fn run_text(alloc: Global, name: &str, run: &Run) -> Result<String, CaseFault> {
     match name {
         "ends" => Ok(ends(alloc, run)?),
         "segments" => Ok(segments(alloc, run)?),
@@ -52,5 +52,5 @@ pub fn answer(alloc: Global, line: &str) -> Result<String, CaseFault> {
         return links::link(alloc, rest);
     }
     let run = Run::of_case(alloc, Case::read(alloc, rest)?)?;
-    shown(alloc, name, &run)
+    run_text(alloc, name, &run)
 }

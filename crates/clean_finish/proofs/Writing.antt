@@ -7,7 +7,7 @@ use Rattle.send_book.specs.declared.mark.ByteMark.{ByteMark}
 use Rattle.send_book.specs.declared.mark.ByteMark.TheVariants.{Free}
 use Rattle.send_book.specs.Marks.{is_acked}
 use Rattle.send_book.specs.Tried.{no_paths}
-use Rattle.send_book.specs.Steps.{taken, write_reply, after_write, close_reply, after_close}
+use Rattle.send_book.specs.Steps.{bytes_taken, write_reply, after_write, close_reply, after_close}
 use Rattle.actor_desk.specs.declared.ask.Reply.TheVariants as replies
 use Rattle.stream_apps.specs.declared.duty.AppDuty.{AppDuty}
 use Rattle.stream_apps.specs.declared.duty.AppDuty.TheVariants.{Write, Close, Read, End}
@@ -95,7 +95,7 @@ module _ (k : Setting) (s : Lane) (t : ℕ) (p : Stage) (w : Lane) where
   -- the next part of the file is written, as far as the book has room
   writing : (a : AppState) (b : Sending) → Going k s t p w
       → WriterIs k w.written w.closed w.acked (record a { closed = false }) (record b { closed = false })
-      → w.writer_over ≡ false → 1 ≤ length a.rest → k.total ≤ 16777216 → (n : ℕ) → n ≡ taken (offered a) b
+      → w.writer_over ≡ false → 1 ≤ length a.rest → k.total ≤ 16777216 → (n : ℕ) → n ≡ bytes_taken (offered a) b
       → (told : Bool) (rest : List ℕ) → rest ≡ drop n a.rest
       → WriterGoes k s p w (app_settled (Close ∷ Read ∷ End ∷ [])
       (record a { rest = rest; closed = false; told = told; agenda = Close ∷ Read ∷ End ∷ [] }))
@@ -209,8 +209,8 @@ module _ (k : Setting) (s : Lane) (t : ℕ) (p : Stage) (w : Lane) where
       (subst (λ (c : Bool). Goes duties c b.closed b.aborted) (sym (shows.numbers.told ∙ unclosed))
       (subst (λ (c : Bool). Goes duties false c b.aborted) (sym unclosed)
       (subst (λ (ab : Bool). Goes duties false false ab) (sym shows.numbers.unaborted)
-      (writing a b' h now turn some small (taken (offered a) b') refl a.told
-      (drop (taken (offered a) b') a.rest) refl))))
+      (writing a b' h now turn some small (bytes_taken (offered a) b') refl a.told
+      (drop (bytes_taken (offered a) b') a.rest) refl))))
     where
       duties : List AppDuty
       duties = Write ∷ Close ∷ Read ∷ End ∷ []

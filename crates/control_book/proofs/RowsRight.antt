@@ -13,7 +13,7 @@ use Rattle.control_book.specs.declared.call.ControlCall.{ControlCall}
 use Rattle.control_book.specs.declared.call.ControlCall.TheVariants as call
 use Rattle.control_book.specs.Registry.{every_path, opening_paths, state_of, lives, idle, told_row, rows_with}
 use Rattle.control_book.specs.Calls.{can_ask}
-use Rattle.control_book.specs.Control.{Control, opened}
+use Rattle.control_book.specs.Control.{Control, new_control}
 use Rattle.control_book.specs.Replies.{notice_on}
 use Rattle.control_book.specs.Steps.{after}
 use Rattle.control_book.specs.Laws.{after_all, RowsAreRight, CanAskAll}
@@ -77,8 +77,8 @@ opening_rowless = (refl, (refl, (refl, (refl, (refl, (refl, (refl, (refl, (refl,
 opening_right : RowsAreRight opening_paths
 opening_right path = subst (λ (row : Option Row). IsRight row path) (sym (rowless_at opening_paths path opening_rowless)) tt
 
-pub rows_stay_right : (calls : List ControlCall) (side : Side) (key : ℕ) → CanAskAll calls → RowsAreRight (after_all calls (opened side key)).paths
-rows_stay_right calls side key can = right_all calls (opened side key) can opening_right
+pub rows_stay_right : (calls : List ControlCall) (side : Side) (key : ℕ) → CanAskAll calls → RowsAreRight (after_all calls (new_control side key)).paths
+rows_stay_right calls side key can = right_all calls (new_control side key) can opening_right
 
 -- What is told of right rows.
 

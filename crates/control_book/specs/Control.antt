@@ -30,8 +30,8 @@ unfoldable pub no_withdrawals : List (List Bool)
 no_withdrawals = replicate 16 no_ids
 
 -- when the connection opens
-abbrev pub opened : Side → ℕ → Control
-opened side key = record {
+abbrev pub new_control : Side → ℕ → Control
+new_control side key = record {
   side = side;
   keys = record { own = key; peer = None };
   fall = fall_opening;

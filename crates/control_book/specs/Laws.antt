@@ -10,7 +10,7 @@ use Rattle.control_book.specs.declared.call.ControlCall.{ControlCall}
 use Rattle.control_book.specs.declared.call.ControlCall.TheVariants as call
 use Rattle.control_book.specs.declared.call.Notice.TheVariants as notice
 use Rattle.control_book.specs.Registry.{state_of, rows_with}
-use Rattle.control_book.specs.Control.{Control, opened}
+use Rattle.control_book.specs.Control.{Control, new_control}
 use Rattle.control_book.specs.Replies.{notice_on}
 use Rattle.control_book.specs.Calls.{can_ask}
 use Rattle.control_book.specs.declared.registry.PathState.{PathState}
@@ -72,7 +72,7 @@ AnnouncementStays = (calls : List ControlCall) (c : Control) (id : ℕ) → is_m
 
 -- from the opening on every row that is kept is right
 abbrev pub RowsStayRight : Type 0
-RowsStayRight = (calls : List ControlCall) (side : Side) (key : ℕ) → CanAskAll calls → RowsAreRight (after_all calls (opened side key)).paths
+RowsStayRight = (calls : List ControlCall) (side : Side) (key : ℕ) → CanAskAll calls → RowsAreRight (after_all calls (new_control side key)).paths
 
 -- so the rows that are told beside one that came meet the conditions of the linked increase: each can be linked, and the
 -- one that came is among them

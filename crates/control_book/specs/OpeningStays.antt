@@ -4,13 +4,13 @@ use Rattle.control_book.specs.declared.call.ControlCall.{ControlCall}
 use Rattle.control_book.specs.declared.call.ControlCall.TheVariants as call
 use Rattle.control_book.specs.declared.call.Notice.{Notice}
 use Rattle.control_book.specs.declared.call.Notice.TheVariants as notice
-use Rattle.control_book.specs.Control.{Control, opened}
+use Rattle.control_book.specs.Control.{Control, new_control}
 use Rattle.control_book.specs.Replies.{notice_on}
 use Rattle.control_book.specs.Steps.{after, after_notice}
 
 -- the book that this one was opened with
 abbrev pub opening : Control → Control
-opening c = opened c.side c.keys.own
+opening c = new_control c.side c.keys.own
 
 pub opening-either : (b : Bool) (one other : Control) (c : Control) → opening one ≡ opening c → opening other ≡ opening c
     → opening (if b then one else other) ≡ opening c

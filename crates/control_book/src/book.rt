@@ -63,14 +63,14 @@ impl Model for ControlBook {
 }
 
 impl ControlBook {
-    ghost use Rattle.control_book.specs.Control.{opened};
+    ghost use Rattle.control_book.specs.Control.{new_control};
     ghost use Rattle.control_book.specs.Steps.{after_look, after_peer_key, after_keys, after_fell, after_join_begin, after_join_heard, after_live, after_dead, after_backup, after_rate, after_announce, after_withdraw, after_heard, after_echoed, after_removed, after_fast_close, after_fast_heard, is_known, after_event};
     ghost use Rattle.control_book.specs.Replies.{carries, resets, announcement, notice_on, look_reply, keys_reply, fell_reply, begin, join_begin_reply, join_heard_reply, rate_reply, is_right, address_reply, fast_heard_reply};
 
     /// The book of a side whose connection opens, with the side's own key: starting, unconfirmed, not joined and nothing
     /// failed; path 0 opens, and no other lives or opens.
     pub fn new(alloc: Global, side: Side, key: u64) -> Result<Self, AllocError>
-        ensures { IfOk result (λ book. book ≡ opened side key) }
+        ensures { IfOk result (λ book. book ≡ new_control side key) }
     {
         Ok(ControlBook {
             side,

@@ -134,14 +134,14 @@ fn stray_at(
 fn comes_before(strayed: &Strayed, other: &Strayed) -> bool
     ensures { result ≡ comes_before (shown_of strayed.now) (shown_of other.now) }
 {
-    match (shown(strayed), shown(other)) {
+    match (strayed_note(strayed), strayed_note(other)) {
         (Some(note), Some(other)) => comes_first(note, other),
         _ => false,
     }
 }
 
 // The note of a pair, the actor's where it has one.
-fn shown(strayed: &Strayed) -> Option<&Note>
+fn strayed_note(strayed: &Strayed) -> Option<&Note>
     ensures { option_map (λ note. note.now) result ≡ shown_of strayed.now }
 {
     match (&strayed.actor_entry, &strayed.book_entry) {

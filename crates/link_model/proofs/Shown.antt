@@ -6,7 +6,7 @@ use Rattle.link_model.specs.declared.flight.Flight.{Flight}
 use Rattle.link_model.specs.Fate.{fate_of, is_stripped, is_altered}
 use Rattle.link_model.specs.State.{LinkState}
 use Rattle.link_model.specs.Steps.{comes_before, with_flight, with_flights, arrivals, changed, peer, next_number, one_more, after_send}
-use Rattle.link_model.specs.Laws.{shown_flight, shown}
+use Rattle.link_model.specs.Laws.{shown_flight, with_copies_shown}
 
 module _ {C D : Type 0} (show : C → D) where
   with_shown : (f : Flight C) (flights : List (Flight C)) → map (shown_flight show) (with_flight f flights) ≡ with_flight (shown_flight show f) (map (shown_flight show) flights)
@@ -35,6 +35,6 @@ module _ {C D : Type 0} (show : C → D) where
   pub sent_shown : (strip alter : Side → C → C) (strip' alter' : Side → D → D)
       → ((side : Side) (c : C) → show (strip side c) ≡ strip' side (show c)) → ((side : Side) (c : C) → show (alter side c) ≡ alter' side (show c))
       → (from : Side) (carried : C) (now : ℕ) (link : LinkState C)
-      → shown show (after_send strip alter from carried now link) ≡ after_send strip' alter' from (show carried) now (shown show link)
+      → with_copies_shown show (after_send strip alter from carried now link) ≡ after_send strip' alter' from (show carried) now (with_copies_shown show link)
   sent_shown strip alter strip' alter' s a A carried now link = rw (all_shown, changed_shown (strip A) (alter A) (strip' A) (alter' A) (s A) (a A)) refl
   sent_shown strip alter strip' alter' s a B carried now link = rw (all_shown, changed_shown (strip B) (alter B) (strip' B) (alter' B) (s B) (a B)) refl

@@ -43,8 +43,8 @@ plain_flight strip alter from carried now link = record {
 abbrev pub shown_flight : {C D : Type 0} → (C → D) → Flight C → Flight D
 shown_flight show f = record { tick = f.tick; to = f.to; number = f.number; carried = show f.carried }
 
-abbrev pub shown : {C D : Type 0} → (C → D) → LinkState C → LinkState D
-shown show link = record {
+abbrev pub with_copies_shown : {C D : Type 0} → (C → D) → LinkState C → LinkState D
+with_copies_shown show link = record {
   path = link.path;
   delay = link.delay;
   lines = link.lines;

@@ -37,15 +37,15 @@ delay_of zero (line ∷ lines) = line.delay
 delay_of (suc path) (line ∷ lines) = delay_of path lines
 
 -- nothing is under way on the link of a path with this delay
-abbrev pub opened : {C : Type 0} → ℕ → ℕ → List ScriptLine → LinkState C
-opened path delay lines = record { path = path; delay = delay; lines = lines_of path lines; from_a = 0; from_b = 0; under_way = [] }
+abbrev pub new_link : {C : Type 0} → ℕ → ℕ → List ScriptLine → LinkState C
+new_link path delay lines = record { path = path; delay = delay; lines = lines_of path lines; from_a = 0; from_b = 0; under_way = [] }
 
 -- ---- taking a segment
 
 -- how many segments were taken from a side
-abbrev pub taken : {C : Type 0} → Side → LinkState C → ℕ
-taken A link = link.from_a
-taken B link = link.from_b
+abbrev pub segments_sent : {C : Type 0} → Side → LinkState C → ℕ
+segments_sent A link = link.from_a
+segments_sent B link = link.from_b
 
 -- counts stand still at 2 ^ 64 - 1
 abbrev pub one_more : {C : Type 0} → Side → LinkState C → LinkState C
@@ -54,7 +54,7 @@ one_more B link = record link { from_b = counted link.from_b }
 
 -- the number of the next segment from a side, which is what the count comes to
 abbrev pub next_number : {C : Type 0} → Side → LinkState C → ℕ
-next_number from link = counted (taken from link)
+next_number from link = counted (segments_sent from link)
 
 -- the ticks at which a segment arrives, which would be this one if nothing happened to it
 abbrev pub arrivals : Fate → ℕ → List ℕ

@@ -6,7 +6,7 @@ ghost use Rattle.link_model.specs.declared.flight.Due.{Due};
 ghost use Rattle.link_model.specs.State.{LinkState};
 ghost use Rattle.link_model.specs.Steps.{peer, next_number, after_send, after_delivery};
 ghost use Rattle.link_model.specs.Order.{AreInOrder};
-ghost use Rattle.link_model.specs.Laws.{moves, going_to, WereSentBefore, plain_flight, shown};
+ghost use Rattle.link_model.specs.Laws.{moves, going_to, WereSentBefore, plain_flight, with_copies_shown};
 
 /// A copy arrives later than its segment was sent: what is true of all copies under way, and of every copy that would
 /// arrive later than a tick, is true of all after a sending at that tick.
@@ -44,5 +44,5 @@ pub fn sending_commutes_with_showing()
     ensures { (show : List ℕ → List ℕ) (strip alter strip' alter' : Side → List ℕ → List ℕ)
         → ((side : Side) (c : List ℕ) → show (strip side c) ≡ strip' side (show c)) → ((side : Side) (c : List ℕ) → show (alter side c) ≡ alter' side (show c))
         → (from : Side) (carried : List ℕ) (now : ℕ) (link : LinkState (List ℕ))
-        → shown show (after_send strip alter from carried now link) ≡ after_send strip' alter' from (show carried) now (shown show link) }
+        → with_copies_shown show (after_send strip alter from carried now link) ≡ after_send strip' alter' from (show carried) now (with_copies_shown show link) }
 {}

@@ -5,7 +5,7 @@ use Rattle.std.specs.List.{onto_first}
 use Rattle.outside_kit.specs.Outside.{HoldsAfter}
 use Rattle.pipe_model.specs.Prefix.{IsPrefix}
 use Rattle.message_pipe.specs.Frames.{frame_of, frames, HaveFrames, first_message, behind_first}
-use Rattle.message_pipe.specs.Lines.{lines, shown}
+use Rattle.message_pipe.specs.Lines.{lines, message_lines}
 use Rattle.message_pipe.specs.LinesShown.{WholePortsShowAllLines, PortsShowFirstLines, RefusedPortsShowPrefixes}
 use Rattle.message_pipe.specs.Uses.{AreFirst}
 use Rattle.message_pipe.proofs.ReadAgain.{read_again}
@@ -83,7 +83,7 @@ all_ones (m ∷ messages) (n ∷ list) behind have all e none =
 pub whole_ports_show_all_lines : WholePortsShowAllLines
 whole_ports_show_all_lines port content first held small are shows =
     let same : shows.messages ≡ lines content = all_ones shows.messages (lines content) port.behind shows.have (lines_have content small) (sym shows.octets_are ∙ are) shows.no_more in
-    let P : List (List ℕ) → Type 0 = λ messages. HoldsAfter first held (λ _. shown messages) in
+    let P : List (List ℕ) → Type 0 = λ messages. HoldsAfter first held (λ _. message_lines messages) in
     subst P same shows.shown_is
 
 -- a prefix of the frames has the frames of messages at its front
@@ -99,14 +99,14 @@ ports_show_first_lines port content first held small prefix shows = record {
   shown_is = shows.shown_is;
 }
 
-longer_prefix : (text : List ℕ) (messages all : List (List ℕ)) → AreFirst messages all → IsPrefix text (shown messages) → IsPrefix text (shown all)
+longer_prefix : (text : List ℕ) (messages all : List (List ℕ)) → AreFirst messages all → IsPrefix text (message_lines messages) → IsPrefix text (message_lines all)
 longer_prefix text messages all few prefix = record {
-  rest = prefix.rest ++ shown few.others;
-  whole_is = ap shown few.are ∙ (shown-append messages few.others ∙ (ap (λ s. s ++ shown few.others) prefix.whole_is ∙ append_assoc text prefix.rest (shown few.others)));
+  rest = prefix.rest ++ message_lines few.others;
+  whole_is = ap message_lines few.are ∙ (shown-append messages few.others ∙ (ap (λ s. s ++ message_lines few.others) prefix.whole_is ∙ append_assoc text prefix.rest (message_lines few.others)));
 }
 
-still_prefix : (first held : Option (List ℕ)) (messages all : List (List ℕ)) → AreFirst messages all → IfSome first (λ _. IsSomeAnd held (λ text. IsPrefix text (shown messages)))
-    → IfSome first (λ _. IsSomeAnd held (λ text. IsPrefix text (shown all)))
+still_prefix : (first held : Option (List ℕ)) (messages all : List (List ℕ)) → AreFirst messages all → IfSome first (λ _. IsSomeAnd held (λ text. IsPrefix text (message_lines messages)))
+    → IfSome first (λ _. IsSomeAnd held (λ text. IsPrefix text (message_lines all)))
 still_prefix None held messages all few shows = tt
 still_prefix (Some told) None messages all few shows = shows
 still_prefix (Some told) (Some text) messages all few shows = longer_prefix text messages all few shows

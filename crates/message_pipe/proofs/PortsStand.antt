@@ -8,29 +8,29 @@ use Rattle.outside_kit.specs.declared.port.Port.TheVariants.{ReadByA, ReadByB}
 use Rattle.outside_kit.specs.Outside.{HasRisen, HoldsAfter, HoldsPrefix}
 use Rattle.pipe_model.specs.Prefix.{IsPrefix}
 use Rattle.message_pipe.specs.Frames.{frames, first_message}
-use Rattle.message_pipe.specs.Lines.{shown}
+use Rattle.message_pipe.specs.Lines.{message_lines}
 use Rattle.message_pipe.specs.Showing.{ShowsMore, ShowsPart, Counted, ShowsMessages, ShowsPrefix, PortStands}
 use Rattle.message_pipe.proofs.ShownMore.{frames-append, shown-append, have-append, risen_from}
 
 -- ---- what is held, by what was told at first
 
-held_all : (first old new : Option (List ℕ)) (messages more : List (List ℕ)) → HoldsAfter first old (λ _. shown messages) → HoldsAfter old new (λ held. held ++ shown more)
-    → HoldsAfter first new (λ _. shown (messages ++ more))
+held_all : (first old new : Option (List ℕ)) (messages more : List (List ℕ)) → HoldsAfter first old (λ _. message_lines messages) → HoldsAfter old new (λ held. held ++ message_lines more)
+    → HoldsAfter first new (λ _. message_lines (messages ++ more))
 held_all None old new messages more before now = tt
 held_all (Some text) old new messages more before now =
-    let last : new ≡ Some (shown messages ++ shown more) = let P : Option (List ℕ) → Type 0 = λ o. HoldsAfter o new (λ held. held ++ shown more) in subst P before now in
+    let last : new ≡ Some (message_lines messages ++ message_lines more) = let P : Option (List ℕ) → Type 0 = λ o. HoldsAfter o new (λ held. held ++ message_lines more) in subst P before now in
     last ∙ ap (λ t. Some t) (sym (shown-append messages more))
 
-held_front : (first old new : Option (List ℕ)) (messages more : List (List ℕ)) → HoldsAfter first old (λ _. shown messages) → HoldsPrefix old new (shown more)
-    → IfSome first (λ _. IsSomeAnd new (λ text. IsPrefix text (shown (messages ++ more))))
+held_front : (first old new : Option (List ℕ)) (messages more : List (List ℕ)) → HoldsAfter first old (λ _. message_lines messages) → HoldsPrefix old new (message_lines more)
+    → IfSome first (λ _. IsSomeAnd new (λ text. IsPrefix text (message_lines (messages ++ more))))
 held_front None old new messages more before now = tt
 held_front (Some text) old new messages more before now =
-    let last : HoldsPrefix (Some (shown messages)) new (shown more) = let P : Option (List ℕ) → Type 0 = λ o. HoldsPrefix o new (shown more) in subst P before now in
-    let Q : Option (List ℕ) → Type 0 = λ o. IsSomeAnd o (λ text. IsPrefix text (shown (messages ++ more))) in
+    let last : HoldsPrefix (Some (message_lines messages)) new (message_lines more) = let P : Option (List ℕ) → Type 0 = λ o. HoldsPrefix o new (message_lines more) in subst P before now in
+    let Q : Option (List ℕ) → Type 0 = λ o. IsSomeAnd o (λ text. IsPrefix text (message_lines (messages ++ more))) in
     subst Q (sym last.1)
     (record {
-      rest = drop last.0 (shown more);
-      whole_is = shown-append messages more ∙ (ap (λ end. shown messages ++ end) (sym (take-append-drop last.0 (shown more))) ∙ sym (append_assoc (shown messages) (take last.0 (shown more)) (drop last.0 (shown more))));
+      rest = drop last.0 (message_lines more);
+      whole_is = shown-append messages more ∙ (ap (λ end. message_lines messages ++ end) (sym (take-append-drop last.0 (message_lines more))) ∙ sym (append_assoc (message_lines messages) (take last.0 (message_lines more)) (drop last.0 (message_lines more))));
     })
 
 -- ---- refusals

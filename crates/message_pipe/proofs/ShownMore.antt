@@ -6,16 +6,16 @@ use Rattle.std.proofs.lemmas.List.{drop-drop}
 use Rattle.outside_kit.specs.declared.port.Port.{Port}
 use Rattle.outside_kit.specs.Outside.{HasRisen, HoldsAfter, HoldsPrefix}
 use Rattle.message_pipe.specs.Frames.{frame_of, frames, HaveFrames}
-use Rattle.message_pipe.specs.Lines.{line_of, shown}
+use Rattle.message_pipe.specs.Lines.{line_of, message_lines}
 use Rattle.message_pipe.specs.Showing.{ShowsMore, ShowsPart, StaysElsewhere}
 
 pub frames-append : (messages more : List (List ℕ)) → frames (messages ++ more) ≡ frames messages ++ frames more
 frames-append [] more = refl
 frames-append (message ∷ messages) more = ap (λ end. frame_of message ++ end) (frames-append messages more) ∙ sym (append_assoc (frame_of message) (frames messages) (frames more))
 
-pub shown-append : (messages more : List (List ℕ)) → shown (messages ++ more) ≡ shown messages ++ shown more
+pub shown-append : (messages more : List (List ℕ)) → message_lines (messages ++ more) ≡ message_lines messages ++ message_lines more
 shown-append [] more = refl
-shown-append (message ∷ messages) more = ap (λ end. line_of message ++ end) (shown-append messages more) ∙ sym (append_assoc (line_of message) (shown messages) (shown more))
+shown-append (message ∷ messages) more = ap (λ end. line_of message ++ end) (shown-append messages more) ∙ sym (append_assoc (line_of message) (message_lines messages) (message_lines more))
 
 pub have-append : (messages more : List (List ℕ)) → HaveFrames messages → HaveFrames more → HaveFrames (messages ++ more)
 have-append [] more have rest = rest
@@ -24,31 +24,31 @@ have-append (message ∷ messages) more have rest = (have.0, have-append message
 frames-one : (message : List ℕ) → frames (message ∷ []) ≡ frame_of message
 frames-one message = append-nil (frame_of message)
 
-shown-one : (message : List ℕ) → shown (message ∷ []) ≡ line_of message
+shown-one : (message : List ℕ) → message_lines (message ∷ []) ≡ line_of message
 shown-one message = append-nil (line_of message)
 
 -- with one message more
 frames_more : (messages : List (List ℕ)) (message : List ℕ) → frames (messages ++ message ∷ []) ≡ frames messages ++ frame_of message
 frames_more messages message = frames-append messages (message ∷ []) ∙ ap (λ end. frames messages ++ end) (frames-one message)
 
-shown_more : (messages : List (List ℕ)) (message : List ℕ) → shown (messages ++ message ∷ []) ≡ shown messages ++ line_of message
-shown_more messages message = shown-append messages (message ∷ []) ∙ ap (λ end. shown messages ++ end) (shown-one message)
+shown_more : (messages : List (List ℕ)) (message : List ℕ) → message_lines (messages ++ message ∷ []) ≡ message_lines messages ++ line_of message
+shown_more messages message = shown-append messages (message ∷ []) ∙ ap (λ end. message_lines messages ++ end) (shown-one message)
 
-held_more : (messages : List (List ℕ)) (message : List ℕ) (old mid new : Option (List ℕ)) → HoldsAfter old mid (λ held. held ++ shown messages)
-    → HoldsAfter mid new (λ held. held ++ line_of message) → HoldsAfter old new (λ held. held ++ shown (messages ++ message ∷ []))
+held_more : (messages : List (List ℕ)) (message : List ℕ) (old mid new : Option (List ℕ)) → HoldsAfter old mid (λ held. held ++ message_lines messages)
+    → HoldsAfter mid new (λ held. held ++ line_of message) → HoldsAfter old new (λ held. held ++ message_lines (messages ++ message ∷ []))
 held_more messages message None mid new first next = tt
 held_more messages message (Some held) mid new first next =
-    let last : new ≡ Some ((held ++ shown messages) ++ line_of message) = let P : Option (List ℕ) → Type 0 = λ m. HoldsAfter m new (λ held. held ++ line_of message) in subst P first next in
-    last ∙ ap (λ text. Some text) (append_assoc held (shown messages) (line_of message) ∙ ap (λ end. held ++ end) (sym (shown_more messages message)))
+    let last : new ≡ Some ((held ++ message_lines messages) ++ line_of message) = let P : Option (List ℕ) → Type 0 = λ m. HoldsAfter m new (λ held. held ++ line_of message) in subst P first next in
+    last ∙ ap (λ text. Some text) (append_assoc held (message_lines messages) (line_of message) ∙ ap (λ end. held ++ end) (sym (shown_more messages message)))
 
-held_part : (messages : List (List ℕ)) (message : List ℕ) (old mid new : Option (List ℕ)) → HoldsAfter old mid (λ held. held ++ shown messages)
-    → HoldsPrefix mid new (line_of message) → HoldsPrefix old new (shown (messages ++ message ∷ []))
+held_part : (messages : List (List ℕ)) (message : List ℕ) (old mid new : Option (List ℕ)) → HoldsAfter old mid (λ held. held ++ message_lines messages)
+    → HoldsPrefix mid new (line_of message) → HoldsPrefix old new (message_lines (messages ++ message ∷ []))
 held_part messages message None mid new first next = tt
 held_part messages message (Some held) mid new first next =
-    let last : HoldsPrefix (Some (held ++ shown messages)) new (line_of message) = let P : Option (List ℕ) → Type 0 = λ m. HoldsPrefix m new (line_of message) in subst P first next in (
-      length (shown messages) + last.0,
-      last.1 ∙ ap (λ text. Some text) (append_assoc held (shown messages) (take last.0 (line_of message))
-          ∙ ap (λ end. held ++ end) (sym (ap (λ text. take (length (shown messages) + last.0) text) (shown_more messages message) ∙ take-append-add (shown messages) (line_of message) last.0))),
+    let last : HoldsPrefix (Some (held ++ message_lines messages)) new (line_of message) = let P : Option (List ℕ) → Type 0 = λ m. HoldsPrefix m new (line_of message) in subst P first next in (
+      length (message_lines messages) + last.0,
+      last.1 ∙ ap (λ text. Some text) (append_assoc held (message_lines messages) (take last.0 (line_of message))
+          ∙ ap (λ end. held ++ end) (sym (ap (λ text. take (length (message_lines messages) + last.0) text) (shown_more messages message) ∙ take-append-add (message_lines messages) (line_of message) last.0))),
     )
 
 drop_further : (octets : List ℕ) (end count : ℕ) → drop count (drop end octets) ≡ drop (end + count) octets

@@ -13,9 +13,9 @@ abbrev pub line_of : List ℕ → List ℕ
 line_of message = message ++ 10 ∷ []
 
 -- messages as lines
-abbrev pub shown : List (List ℕ) → List ℕ
-shown [] = []
-shown (message ∷ messages) = line_of message ++ shown messages
+abbrev pub message_lines : List (List ℕ) → List ℕ
+message_lines [] = []
+message_lines (message ∷ messages) = line_of message ++ message_lines messages
 
 -- the frames of the lines of a content
 abbrev pub framed : List ℕ → List ℕ

@@ -2,7 +2,7 @@
 use Rattle.std.specs.Prelude.{◌≡◌, ℕ, ◌^◌, ◌<◌, List, length, Option, IfSome, IsSomeAnd}
 use Rattle.outside_kit.specs.Outside.{HoldsAfter}
 use Rattle.pipe_model.specs.Prefix.{IsPrefix}
-use Rattle.message_pipe.specs.Lines.{lines, shown, framed}
+use Rattle.message_pipe.specs.Lines.{lines, message_lines, framed}
 use Rattle.message_pipe.specs.Showing.{Counted, ShowsMessages, ShowsPrefix}
 use Rattle.message_pipe.specs.Uses.{AreFirst}
 
@@ -10,12 +10,12 @@ use Rattle.message_pipe.specs.Uses.{AreFirst}
 pub record ShowsFirstLines (content : List ℕ) (first held : Option (List ℕ)) : Type 0 where
   pub messages : List (List ℕ)
   pub are : AreFirst messages (lines content)
-  pub shown_is : HoldsAfter first held (λ _. shown messages)
+  pub shown_is : HoldsAfter first held (λ _. message_lines messages)
 
 abbrev pub WholePortsShowAllLines : Type 0
 WholePortsShowAllLines =
     (port : Counted) (content : List ℕ) (first held : Option (List ℕ)) → length content < 2 ^ 32 → port.octets ≡ framed content
-    → ShowsMessages port first held → HoldsAfter first held (λ _. shown (lines content))
+    → ShowsMessages port first held → HoldsAfter first held (λ _. message_lines (lines content))
 
 abbrev pub PortsShowFirstLines : Type 0
 PortsShowFirstLines =
@@ -25,4 +25,4 @@ PortsShowFirstLines =
 abbrev pub RefusedPortsShowPrefixes : Type 0
 RefusedPortsShowPrefixes =
     (port : Counted) (content : List ℕ) (first held : Option (List ℕ)) → length content < 2 ^ 32 → IsPrefix port.octets (framed content)
-    → ShowsPrefix port first held → IfSome first (λ _. IsSomeAnd held (λ text. IsPrefix text (shown (lines content))))
+    → ShowsPrefix port first held → IfSome first (λ _. IsSomeAnd held (λ text. IsPrefix text (message_lines (lines content))))

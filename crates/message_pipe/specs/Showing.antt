@@ -7,7 +7,7 @@ use Rattle.outside_kit.specs.declared.outside.PutFault.TheVariants.{Failed}
 use Rattle.outside_kit.specs.Outside.{HasRisen, HoldsAfter, HoldsPrefix}
 use Rattle.pipe_model.specs.Prefix.{IsPrefix}
 use Rattle.message_pipe.specs.Frames.{frames, HaveFrames, first_message}
-use Rattle.message_pipe.specs.Lines.{shown}
+use Rattle.message_pipe.specs.Lines.{message_lines}
 
 -- ---- puts
 
@@ -17,7 +17,7 @@ pub record ShowsMore (octets : List ℕ) (from to : ℕ) (old new : Option (List
   pub have : HaveFrames messages
   pub within : to ≤ length octets
   pub frames_are : drop from octets ≡ frames messages ++ drop to octets
-  pub shown_is : HoldsAfter old new (λ held. held ++ shown messages)
+  pub shown_is : HoldsAfter old new (λ held. held ++ message_lines messages)
 
 -- of the messages whose frames stand from this place on a prefix was shown
 pub record ShowsPart (octets : List ℕ) (from : ℕ) (old new : Option (List ℕ)) : Type 0 where
@@ -25,7 +25,7 @@ pub record ShowsPart (octets : List ℕ) (from : ℕ) (old new : Option (List �
   pub have : HaveFrames messages
   pub behind : List ℕ
   pub frames_are : drop from octets ≡ frames messages ++ behind
-  pub shown_is : HoldsPrefix old new (shown messages)
+  pub shown_is : HoldsPrefix old new (message_lines messages)
 
 -- after puts to this port: what was told is told, no count falls, and other ports and their counts are as they were
 pub record StaysElsewhere (port : Port) (content_before content : List ℕ → Option (List ℕ)) (held holds : Port → Option (List ℕ))
@@ -54,7 +54,7 @@ pub record ShowsMessages (port : Counted) (first held : Option (List ℕ)) : Typ
   pub have : HaveFrames messages
   pub octets_are : port.octets ≡ frames messages ++ port.behind
   pub no_more : first_message port.behind ≡ None
-  pub shown_is : HoldsAfter first held (λ _. shown messages)
+  pub shown_is : HoldsAfter first held (λ _. message_lines messages)
 
 -- a prefix of the lines of messages at the front of the octets is shown
 pub record ShowsPrefix (port : Counted) (first held : Option (List ℕ)) : Type 0 where
@@ -62,7 +62,7 @@ pub record ShowsPrefix (port : Counted) (first held : Option (List ℕ)) : Type 
   pub have : HaveFrames messages
   pub rest : List ℕ
   pub octets_are : port.octets ≡ frames messages ++ rest
-  pub shown_is : IfSome first (λ _. IsSomeAnd held (λ text. IsPrefix text (shown messages)))
+  pub shown_is : IfSome first (λ _. IsSomeAnd held (λ text. IsPrefix text (message_lines messages)))
 
 -- A port shows all whole messages, or after a refusal a prefix. A refusal of the device is kept only where the port's count has
 -- risen since it was this one at first.

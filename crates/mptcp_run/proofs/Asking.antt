@@ -11,7 +11,7 @@ use Rattle.mptcp_run.specs.Made.{Bench, made_task, bench_by, bench_of, bench_in}
 use Rattle.run_outside.specs.Causes.{IsWordsFault}
 use Rattle.run_outside.specs.Plan.{loads_of}
 use Rattle.mptcp_run.specs.Promised.{ReadersHaveFiles}
-use Rattle.mptcp_run.specs.Task.{opened}
+use Rattle.mptcp_run.specs.Task.{first_world}
 use Rattle.mptcp_run.proofs.Answering.{made_cut_answer}
 use Rattle.run_outside.proofs.Calls.{Told, adds_none, cut_none}
 use Rattle.mptcp_run.proofs.MadeTasks.{made_is_plain, of_words}
@@ -66,7 +66,7 @@ module _ (loads : ℕ) (faults : Port → ℕ) (holds : Ports) (ta : Told) where
       → IsMadeAnswer (record { line = line; task = made_task number most }) loads loads faults faults holds holds ta ta Memory
   made_memory line number most few =
       made_cut_answer (record { line = line; task = made_task number most }) (made_is_plain number most few) loads loads refl faults faults holds holds ta ta Memory tt
-      (nothing_made line (made_task number most) holds ta (no_round most (opened (made_task number most))))
+      (nothing_made line (made_task number most) holds ta (no_round most (first_world (made_task number most))))
 
   pub words_memory : (words : List (List ℕ)) → IfSome (bench_in words) (λ made. IsMadeAnswer made loads loads faults faults holds holds ta ta Memory)
   words_memory words = of_words (λ made. IsMadeAnswer made loads loads faults faults holds holds ta ta Memory) made_memory words

@@ -22,7 +22,7 @@ use Rattle.world_core.specs.RoundEnds.{round_ends, last_end, steps_by_round}
 use Rattle.run_outside.specs.LogText.{log_text, RoundsFit}
 use Rattle.mptcp_run.specs.Putting.{log_opening, opening_in, status_of, told_outcome, last_line_of, last_line, steps_so_far, read_so_far, log_so_far, world_after, IsWhole}
 use Rattle.run_outside.specs.Reading.{actors_of, width_of}
-use Rattle.mptcp_run.specs.Task.{Connection, Task, Course, rounds, told, opened, turns_in, AreTurnsOf}
+use Rattle.mptcp_run.specs.Task.{Connection, Task, Course, rounds, told, first_world, turns_in, AreTurnsOf}
 use Rattle.mptcp_run.proofs.LogAgain.{log_read, rounds_logged}
 use Rattle.mptcp_run.proofs.LogWoven.{told_turns, AreWoven, turns_woven, told_to_the_end, course_lawful}
 use Rattle.mptcp_run.proofs.Courses.{counts_ends}
@@ -100,14 +100,14 @@ module _ (script : Script) (file_a file_b : List ℕ) (way : Course) (status : S
   abbrev noted : List Turn
   noted = told_turns made
 
-  again : AreWoven whole.turns (opened task) (opened task)
-  again = turns_woven whole.turns [] (opened task) (opened task) (opened_begins (start_of task.script task.file_a task.file_b)) refl
-      (course_lawful task.course whole.turns (opened task) whole.are)
+  again : AreWoven whole.turns (first_world task) (first_world task)
+  again = turns_woven whole.turns [] (first_world task) (first_world task) (opened_begins (start_of task.script task.file_a task.file_b)) refl
+      (course_lawful task.course whole.turns (first_world task) whole.are)
 
   same_world : world_after task noted ≡ world_after task whole.turns
   same_world =
-      sym (told_to_the_end made (opened task)) ∙ ap (last_end (opened task)) again.ends
-      ∙ last_end_of_course task.course whole.turns (opened task) (ends task.course has) whole.are
+      sym (told_to_the_end made (first_world task)) ∙ ap (last_end (first_world task)) again.ends
+      ∙ last_end_of_course task.course whole.turns (first_world task) (ends task.course has) whole.are
     where
       ends : (course : Course) → HasRounds course → EndsWithRound course
       ends (rounds most) has = tt
@@ -115,10 +115,10 @@ module _ (script : Script) (file_a file_b : List ℕ) (way : Course) (status : S
 
   read_again : turns_in script (log_so_far task whole.turns ++ outcome_line (world_after task whole.turns)) ≡ Some noted
   read_again =
-      let some = course_round task.course whole.turns (opened task) has whole.are in
+      let some = course_round task.course whole.turns (first_world task) has whole.are in
       log_read script (drawn_of script 0).key_a (drawn_of script 0).key_b made _ _ (told_outcome (outcome_of (world_after task whole.turns).crew)) (width_fits script)
-      (ap (steps_by_round (opened task)) some.is) whole.ports.fits
-      (rounds_logged (start_of script file_a file_b) (let many = plans_many script 0 script.paths in omega (arith, many, few)) (actors_of script) (actors_many script file_a file_b) (log_opening script) whole.turns [] (opened task) (opened task) 0 refl whole.ports.fits)
+      (ap (steps_by_round (first_world task)) some.is) whole.ports.fits
+      (rounds_logged (start_of script file_a file_b) (let many = plans_many script 0 script.paths in omega (arith, many, few)) (actors_of script) (actors_many script file_a file_b) (log_opening script) whole.turns [] (first_world task) (first_world task) 0 refl whole.ports.fits)
 
   replay_whole : IsWhole (replayed task noted) status old new
   replay_whole = record {
@@ -126,11 +126,11 @@ module _ (script : Script) (file_a file_b : List ℕ) (way : Course) (status : S
     are = (refl, again.lawful);
     status_is = whole.status_is ∙ ap (λ w. status_of (outcome_of w.crew)) (sym same_world);
     ports = record {
-      read_by_b = subst (λ es. HoldsAfter (old ReadByB) (new ReadByB) (λ _. output_of B (last_end (opened task) es))) (sym again.ends) whole.ports.read_by_b;
-      read_by_a = subst (λ es. HoldsAfter (old ReadByA) (new ReadByA) (λ _. output_of A (last_end (opened task) es))) (sym again.ends) whole.ports.read_by_a;
-      log = subst (λ es. HoldsAfter (old Log) (new Log) (λ held. held ++ (log_text (opening_in task) 0 (steps_by_round (opened task) es) ++ outcome_line (world_after task noted)))) (sym again.ends)
+      read_by_b = subst (λ es. HoldsAfter (old ReadByB) (new ReadByB) (λ _. output_of B (last_end (first_world task) es))) (sym again.ends) whole.ports.read_by_b;
+      read_by_a = subst (λ es. HoldsAfter (old ReadByA) (new ReadByA) (λ _. output_of A (last_end (first_world task) es))) (sym again.ends) whole.ports.read_by_a;
+      log = subst (λ es. HoldsAfter (old Log) (new Log) (λ held. held ++ (log_text (opening_in task) 0 (steps_by_round (first_world task) es) ++ outcome_line (world_after task noted)))) (sym again.ends)
           (subst (λ w. HoldsAfter (old Log) (new Log) (λ held. held ++ (log_so_far task whole.turns ++ outcome_line w))) (sym same_world) whole.ports.log);
-      fits = subst (λ es. RoundsFit (opening_in task) 0 (steps_by_round (opened task) es)) (sym again.ends) whole.ports.fits;
+      fits = subst (λ es. RoundsFit (opening_in task) 0 (steps_by_round (first_world task) es)) (sym again.ends) whole.ports.fits;
     };
   }
 
@@ -159,7 +159,7 @@ turns_are_one (told order) ts us w x y = x.0 ∙ sym y.0
 
 pub whole_runs_agree : WholeRunsAgree
 whole_runs_agree task status other old new before after one two =
-    let same : two.turns ≡ one.turns = turns_are_one task.course two.turns one.turns (opened task) two.are one.are in (
+    let same : two.turns ≡ one.turns = turns_are_one task.course two.turns one.turns (first_world task) two.are one.are in (
       one.status_is ∙ sym (two.status_is ∙ ap (λ ts. status_of (outcome_of (world_after task ts).crew)) same),
       record {
         text_b = read_so_far B task one.turns;

@@ -11,7 +11,7 @@ use Rattle.outside_kit.specs.declared.outside.PutFault.TheVariants as fault
 use Rattle.outside_kit.specs.Outside.{HasRisen, HoldsAfter}
 use Rattle.pipe_model.specs.Prefix.{IsPrefix}
 use Rattle.message_pipe.specs.Frames.{frame_of, frames}
-use Rattle.message_pipe.specs.Lines.{lines, shown, framed}
+use Rattle.message_pipe.specs.Lines.{lines, message_lines, framed}
 use Rattle.message_pipe.specs.LinesShown.{ShowsFirstLines}
 use Rattle.message_pipe.specs.Showing.{Counted, ShowsPrefix, PortStands}
 use Rattle.message_pipe.specs.Lined.{lined_content, lined_holds, PortsStand}
@@ -62,12 +62,12 @@ module _ (port : Counted) (first held : Option (List ℕ)) (faults_first faults 
   by_refusal (Some fault) is whole part = let P : Option PutFault → Type 0 = λ o. IsSome o in part (subst P (sym is) refl)
 
   -- all that is shown is a prefix of messages that were put
-  all_is_prefix : (messages : List (List ℕ)) (before after : Option (List ℕ)) → HoldsAfter before after (λ _. shown messages)
-      → IfSome before (λ _. IsSomeAnd after (λ text. IsPrefix text (shown messages)))
+  all_is_prefix : (messages : List (List ℕ)) (before after : Option (List ℕ)) → HoldsAfter before after (λ _. message_lines messages)
+      → IfSome before (λ _. IsSomeAnd after (λ text. IsPrefix text (message_lines messages)))
   all_is_prefix messages None after is = tt
   all_is_prefix messages (Some text) after is =
-      let P : Option (List ℕ) → Type 0 = λ o. IsSomeAnd o (λ text. IsPrefix text (shown messages)) in
-      subst P (sym is) (record { rest = []; whole_is = sym (append-nil (shown messages)) })
+      let P : Option (List ℕ) → Type 0 = λ o. IsSomeAnd o (λ text. IsPrefix text (message_lines messages)) in
+      subst P (sym is) (record { rest = []; whole_is = sym (append-nil (message_lines messages)) })
 
   shows_prefix : ShowsPrefix port first held
   shows_prefix = by_refusal port.refused refl
@@ -80,13 +80,13 @@ module _ (port : Counted) (first held : Option (List ℕ)) (faults_first faults 
       })
       stand.part
 
-  pub shows_prefix_of : (file : List ℕ) → length file < 2 ^ 32 → IsPrefix port.octets (framed file) → HoldsPrefixOf first held (shown (lines file))
+  pub shows_prefix_of : (file : List ℕ) → length file < 2 ^ 32 → IsPrefix port.octets (framed file) → HoldsPrefixOf first held (message_lines (lines file))
   shows_prefix_of file small prefix = refused_ports_show_prefixes port file first held small prefix shows_prefix
 
   pub shows_first_lines : port.refused ≡ None → (file : List ℕ) → length file < 2 ^ 32 → IsPrefix port.octets (framed file) → ShowsFirstLines file first held
   shows_first_lines none file small prefix = ports_show_first_lines port file first held small prefix (stand.shows none)
 
-  pub shows_all_lines : port.refused ≡ None → (file : List ℕ) → length file < 2 ^ 32 → port.octets ≡ framed file → HoldsAfter first held (λ _. shown (lines file))
+  pub shows_all_lines : port.refused ≡ None → (file : List ℕ) → length file < 2 ^ 32 → port.octets ≡ framed file → HoldsAfter first held (λ _. message_lines (lines file))
   shows_all_lines none file small is = whole_ports_show_all_lines port file first held small is (stand.shows none)
 
   -- where nothing was put nothing is shown
@@ -95,7 +95,7 @@ module _ (port : Counted) (first held : Option (List ℕ)) (faults_first faults 
   empty_is (octet ∷ text) rest is = absurd cc
 
   shows_empty : (messages : List (List ℕ)) (rest : List ℕ) → [] ≡ frames messages ++ rest
-      → IfSome first (λ _. IsSomeAnd held (λ text. IsPrefix text (shown messages))) → HoldsAfter first held (λ _. [])
+      → IfSome first (λ _. IsSomeAnd held (λ text. IsPrefix text (message_lines messages))) → HoldsAfter first held (λ _. [])
   shows_empty [] rest is shows = by first held shows
     where
       by : (before after : Option (List ℕ)) → IfSome before (λ _. IsSomeAnd after (λ text. IsPrefix text [])) → HoldsAfter before after (λ _. [])
@@ -207,8 +207,8 @@ some_always (Some text) P p = p text
 
 nothing_is_cut : (file_a file_b : Option (List ℕ)) (held holds : Ports) → ReadersShowNothing file_a file_b held holds → ReadersShowPrefixes file_a file_b held holds
 nothing_is_cut file_a file_b held holds none = record {
-  read_by_b = some_always file_a _ (λ text. nothing_is_prefix (held ReadByB) (holds ReadByB) (shown (lines text)) none.read_by_b);
-  read_by_a = some_always file_b _ (λ text. nothing_is_prefix (held ReadByA) (holds ReadByA) (shown (lines text)) none.read_by_a);
+  read_by_b = some_always file_a _ (λ text. nothing_is_prefix (held ReadByB) (holds ReadByB) (message_lines (lines text)) none.read_by_b);
+  read_by_a = some_always file_b _ (λ text. nothing_is_prefix (held ReadByA) (holds ReadByA) (message_lines (lines text)) none.read_by_a);
 }
 
 -- ports that were empty, and are as they were

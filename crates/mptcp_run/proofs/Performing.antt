@@ -21,7 +21,7 @@ use Rattle.mptcp_run.specs.Plan.{puts_so_far, last_put}
 use Rattle.run_outside.specs.Ports.{HoldsMore, HoldsWithin, IsBetween}
 use Rattle.mptcp_run.specs.Putting.{opening_in, status_of, last_line, ends_of, read_so_far, log_so_far, HoldsRounds, HoldsRun, AreFirstOf}
 use Rattle.mptcp_run.specs.Rounds.{HoldsEnds, HoldsPart}
-use Rattle.mptcp_run.specs.Task.{Connection, Task, opened}
+use Rattle.mptcp_run.specs.Task.{Connection, Task, first_world}
 use Rattle.run_outside.proofs.Calls.{Told, adds_none, all_then, cut_then, cut_longer, cut_none, short_then}
 use Rattle.run_outside.proofs.PortsLemmas.{IsPrefix-refl, IsPrefix-append, nothing_more, all_held, part_held, all_behind, taken_part}
 
@@ -52,7 +52,7 @@ more_from : (a b c : Option (List ℕ)) (before : List ℕ) (P : List ℕ → Ty
 more_from a b c before P same h = subst (λ o. HoldsMore o c before P) same h
 
 -- the rounds that were put
-pub rounds_held : (task : Task) (turns : List Turn) (a b c : Ports) → AreBound a b → HoldsEnds (opening_in task) 0 (opened task) (ends_of task turns) b c
+pub rounds_held : (task : Task) (turns : List Turn) (a b c : Ports) → AreBound a b → HoldsEnds (opening_in task) 0 (first_world task) (ends_of task turns) b c
     → HoldsRounds task turns a c
 rounds_held task turns a b c bound h = record {
   read_by_b = all_held (a port.ReadByB) (b port.ReadByB) (c port.ReadByB) (read_so_far B task turns) bound.read_by_b h.read_by_b;
@@ -80,7 +80,7 @@ run_held task turns line a c d is h k = record {
 
 -- some rounds, and a part of the next one
 part_cut : (task : Task) (turns more : List Turn) (a b c : Ports) → AreBound a b
-    → HoldsPart (opening_in task) 0 (opened task) (ends_of task turns) (ends_of task (turns ++ more)) b c → HoldsCut task turns more a c
+    → HoldsPart (opening_in task) 0 (first_world task) (ends_of task turns) (ends_of task (turns ++ more)) b c → HoldsCut task turns more a c
 part_cut task turns more a b c bound h = record {
   read_by_b = part_held (turns ++ more ≡ []) (a port.ReadByB) (b port.ReadByB) (c port.ReadByB) _ _ bound.read_by_b h.read_by_b;
   read_by_a = part_held (turns ++ more ≡ []) (a port.ReadByA) (b port.ReadByA) (c port.ReadByA) _ _ bound.read_by_a h.read_by_a;
@@ -139,7 +139,7 @@ line_put line = call.Put port.Log line ∷ []
 
 module _ (line : Line) (task : Task) (ha hb hc : Ports) (held : AreBound ha hb) (a b c : Told) (bound : AddsAll (binds_of line) a b) where
   -- behind all turns
-  module _ (v : Connection) (made : CourseMade task.course (opening_in task) (opened task) v hb hc b c) (last : List ℕ) (is : last ≡ last_line task made.turns)
+  module _ (v : Connection) (made : CourseMade task.course (opening_in task) (first_world task) v hb hc b c) (last : List ℕ) (is : last ≡ last_line task made.turns)
       (status : Status) (hd : Ports) (d : Told) where
     -- the last line was put
     pub line_done : status ≡ status_of (outcome_of v.crew) → LogGrew last hc hd → AddsAll (line_put last) c d → CameToEnd [] line task ha hd a d status
@@ -171,14 +171,14 @@ module _ (line : Line) (task : Task) (ha hb hc : Ports) (held : AreBound ha hb) 
     })
 
   -- some turns were made
-  pub rounds_short : (status : Status) → CourseCut task.course (opening_in task) (opened task) hb hc b c status → IsCut [] line task ha hc a c status
+  pub rounds_short : (status : Status) → CourseCut task.course (opening_in task) (first_world task) hb hc b c status → IsCut [] line task ha hc a c status
   rounds_short status h = inl (record {
     ports = record { turns = h.turns; more = h.more; are = h.are; one = h.one; ports = part_cut task h.turns h.more ha hb hc held h.ports };
     calls = (h.made, (h.made_are, cut_then (binds_of line) _ status a b c bound h.calls));
   })
 
 -- not all was bound
-pub binds_short : (line : Line) (task : Task) (ha hb : Ports) (a b : Told) (status : Status) → AreFirstOf task.course [] [] (opened task)
+pub binds_short : (line : Line) (task : Task) (ha hb : Ports) (a b : Told) (status : Status) → AreFirstOf task.course [] [] (first_world task)
     → HoldsWithin (Unit {0}) (ha port.ReadByB) (hb port.ReadByB) [] [] → HoldsWithin (Unit {0}) (ha port.ReadByA) (hb port.ReadByA) [] []
     → hb port.Log ≡ ha port.Log → AddsCut (binds_of line) status a b → IsCut [] line task ha hb a b status
 binds_short line task ha hb a b status none read_by_b read_by_a log h = inl (record {
@@ -187,7 +187,7 @@ binds_short line task ha hb a b status none read_by_b read_by_a log h = inl (rec
 })
 
 -- nothing was made, for want of memory
-pub nothing_made : (line : Line) (task : Task) (ha : Ports) (a : Told) → AreFirstOf task.course [] [] (opened task) → IsCut [] line task ha ha a a Memory
+pub nothing_made : (line : Line) (task : Task) (ha : Ports) (a : Told) → AreFirstOf task.course [] [] (first_world task) → IsCut [] line task ha ha a a Memory
 nothing_made line task ha a none =
     binds_short line task ha ha a a Memory none (unbound (ha port.ReadByB)) (unbound (ha port.ReadByA)) refl (cut_none (binds_of line) Memory a a refl (adds_none a))
   where

@@ -18,7 +18,7 @@ use Rattle.run_outside.specs.Ports.{HoldsWithin}
 use Rattle.world_core.specs.RoundEnds.{round_ends, last_end}
 use Rattle.mptcp_run.specs.Putting.{status_of, read_so_far, world_after}
 use Rattle.mptcp_run.specs.Promised.{IsPlainTask, EndsWithRound, HoldsPrefixOf, HoldsPrefixIfBound, PlainTasksAreKept, WholeRunsGivePrefixes, DeliveredRunsGiveFiles, StoppedRunsGivePrefixes, CutRunsGivePrefixes, LinesCutGivePrefixes}
-use Rattle.mptcp_run.specs.Task.{Connection, Task, Course, rounds, told, opened, AreTurnsOf}
+use Rattle.mptcp_run.specs.Task.{Connection, Task, Course, rounds, told, first_world, AreTurnsOf}
 
 -- ---- prefixes
 
@@ -118,12 +118,12 @@ module _ (task : Task) (plain : IsPlainTask task) where
 
   -- at the last round's end
   module _ (P : Connection → Type 0) (always : (turns : List Turn) → P (world_after task turns)) where
-    at_last_end : (turns : List Turn) → P (last_end (opened task) (round_ends turns (opened task)))
-    at_last_end turns = by (last_end_after turns (opened task) (opened task))
+    at_last_end : (turns : List Turn) → P (last_end (first_world task) (round_ends turns (first_world task)))
+    at_last_end turns = by (last_end_after turns (first_world task) (first_world task))
       where
-        by : (last_end (opened task) (round_ends turns (opened task)) ≡ opened task)
-            ⊎ ((prefix : List Turn) × (last_end (opened task) (round_ends turns (opened task)) ≡ world_run octets prefix (opened task)))
-            → P (last_end (opened task) (round_ends turns (opened task)))
+        by : (last_end (first_world task) (round_ends turns (first_world task)) ≡ first_world task)
+            ⊎ ((prefix : List Turn) × (last_end (first_world task) (round_ends turns (first_world task)) ≡ world_run octets prefix (first_world task)))
+            → P (last_end (first_world task) (round_ends turns (first_world task)))
         by (inl is) = subst P (sym is) (always [])
         by (inr (prefix, is)) = subst P (sym is) (always prefix)
 
@@ -191,7 +191,7 @@ module _ (task : Task) (plain : IsPlainTask task) (turns : List Turn) (is : Deli
 
 pub delivered_runs_give_files : DeliveredRunsGiveFiles
 delivered_runs_give_files task old new plain ends whole =
-    let last = last_end_of_course task.course whole.turns (opened task) ends whole.are in
+    let last = last_end_of_course task.course whole.turns (first_world task) ends whole.are in
     record {
       read_by_b = file_held _ _ (read_so_far B task whole.turns) task.file_a whole.ports.read_by_b
           (ap (λ w. output_of B w) last ∙ b_read_all task plain whole.turns whole.status_is);

@@ -52,9 +52,9 @@ use Rattle.path_core.specs.Joining.{join_heard_ask, asked_at}
 use Rattle.join_handshake.specs.declared.hearing.JoinSyn.{JoinSyn}
 use Rattle.path_agenda.specs.Items.{key_heard, keys_heard}
 use Rattle.path_core.specs.Opening.{peer_key_ask, opened_ask}
-use Rattle.path_core.specs.Passing.{piece_of, piece_ask, fin_of, fin_ask, plain_fin, rate_ask}
-use Rattle.path_core.specs.Placing.{Piece}
-use Rattle.path_core.specs.Sends.{sends}
+use Rattle.path_core.specs.Passing.{piece_of, piece_ask, data_fin_of, fin_ask, plain_fin, rate_ask}
+use Rattle.path_core.specs.Deliver.{Piece}
+use Rattle.path_core.specs.Handover.{sends}
 use Rattle.path_core.specs.Starts.{waiting_path}
 use Rattle.path_core.specs.State.{PathState, end_at, path_of}
 use Rattle.path_core.specs.Steps.{asks_first, begins_turn}
@@ -187,7 +187,7 @@ module _ {C : Type 0} (k : Codec C) (p : PathState C) (low : path_of p < 16) whe
   path_asks_fair (duties.Silent (silent_duties.Keep s)) = tt
   path_asks_fair (duties.Ask (ask_duties.Edge s)) = piece_fair s (piece_of s p)
   path_asks_fair (duties.Step (step_duties.Unmapped s)) = break_fair s 6
-  path_asks_fair (duties.Ask (ask_duties.HeardFin s index)) = fin_fair s (fin_of index (end_at s p))
+  path_asks_fair (duties.Ask (ask_duties.HeardFin s index)) = fin_fair s (data_fin_of index (end_at s p))
   path_asks_fair (duties.Silent (silent_duties.PassFin s)) = tt
   path_asks_fair (duties.Ask (ask_duties.SubflowFin s)) = fin_fair s (plain_fin (end_at s p))
   path_asks_fair (duties.Ask (ask_duties.AckOut s)) = tt

@@ -21,7 +21,7 @@ use Rattle.world_core.specs.RoundEnds.{round_ends}
 use Rattle.mptcp_run.specs.Putting.{opening_of, opening_in, status_of, ends_of, world_after, last_line, last_line_of}
 use Rattle.mptcp_run.specs.Replaying.{IsReplayFault}
 use Rattle.mptcp_run.specs.Rounds.{Begins, AtRound, IsOpened}
-use Rattle.mptcp_run.specs.Task.{Connection, Task, task_with, task_from, opened}
+use Rattle.mptcp_run.specs.Task.{Connection, Task, task_with, task_from, first_world}
 use Rattle.mptcp_run.specs.Task as course
 use Rattle.run_outside.proofs.Calls.{Told, all_then}
 use Rattle.mptcp_run.proofs.Performing.{AreBound, LogGrew, LogGrewPart, rounds_held, line_put, line_done, line_short, rounds_short}
@@ -76,7 +76,7 @@ module _ (input : Input) (kind : Report) (run : Run) (h : IsOpened input kind ru
 
     module _ (count : ℕ) (v : Connection) (status : Status) (hd : Ports) (d : Told)
         (ok : (m : CourseMade (course.rounds most) run.opening run.world.state v hb hc b c) × (count ≡ length (round_ends m.turns run.world.state))) where
-      made : (m : CourseMade (course.rounds most) (opening_in serial_run) (opened serial_run) v hb hc b c) × (count ≡ length (ends_of serial_run m.turns))
+      made : (m : CourseMade (course.rounds most) (opening_in serial_run) (first_world serial_run) v hb hc b c) × (count ≡ length (ends_of serial_run m.turns))
       made = as_opened input kind run h (λ o w. (m : CourseMade (course.rounds most) o w v hb hc b c) × (count ≡ length (round_ends m.turns w))) ok
 
       pub serial_done : status ≡ status_of (outcome_of v.crew) → LogGrew (last_line_of kind count v) hc hd → AddsAll (line_put (last_line_of kind count v)) c d
@@ -97,7 +97,7 @@ module _ (input : Input) (run : Run) (h : IsOpened input report.Log run) (line :
   replay_run = task_from input (course.told order)
 
   module _ (count : ℕ) (v : Connection) (status : Status) (hd : Ports) (d : Told) (ok : CourseMade (course.told order) run.opening run.world.state v hb hc b c) where
-    told_made : CourseMade (course.told order) (opening_in replay_run) (opened replay_run) v hb hc b c
+    told_made : CourseMade (course.told order) (opening_in replay_run) (first_world replay_run) v hb hc b c
     told_made = as_opened input report.Log run h (λ o w. CourseMade (course.told order) o w v hb hc b c) ok
 
     pub replay_done : status ≡ status_of (outcome_of v.crew) → LogGrew (last_line_of report.Log count v) hc hd → AddsAll (line_put (last_line_of report.Log count v)) c d
@@ -116,7 +116,7 @@ module _ (input : Input) (run : Run) (h : IsOpened input report.Log run) (line :
 
 module _ (line : Line) (task : Task) (order : List Turn) (is : task.course ≡ course.told order) (lines : ℕ) (ha hb hc : Ports) (held : AreBound ha hb)
     (a b c : Told) (bound : AddsAll (binds_of line) a b) where
-  pub log_stops : (status : Status) → LogStops order lines (opening_in task) (opened task) hb hc b c status → ReplayEnds [] line task ha hc a c lines status
+  pub log_stops : (status : Status) → LogStops order lines (opening_in task) (first_world task) hb hc b c status → ReplayEnds [] line task ha hc a c lines status
   log_stops (Log at) h =
       let halted = h.1.1 in
       record {
@@ -147,9 +147,9 @@ module _ (line : Line) (task : Task) (order : List Turn) (is : task.course ≡ c
         );
       }
   log_stops (Put p) h =
-      rounds_short line task ha hb hc held a b c bound (Put p) (subst (λ x. CourseCut x (opening_in task) (opened task) hb hc b c (Put p)) (sym is) h)
+      rounds_short line task ha hb hc held a b c bound (Put p) (subst (λ x. CourseCut x (opening_in task) (first_world task) hb hc b c (Put p)) (sym is) h)
   log_stops Memory h =
-      rounds_short line task ha hb hc held a b c bound Memory (subst (λ x. CourseCut x (opening_in task) (opened task) hb hc b c Memory) (sym is) h)
+      rounds_short line task ha hb hc held a b c bound Memory (subst (λ x. CourseCut x (opening_in task) (first_world task) hb hc b c Memory) (sym is) h)
   log_stops Delivered h = absurd h
   log_stops Rounds h = absurd h
   log_stops NoPath h = absurd h

@@ -15,7 +15,7 @@ use Rattle.mptcp_run.specs.Plan.{puts_so_far, last_put, ArePuts, ArePutsBefore}
 use Rattle.run_outside.specs.Ports.{HoldsMore, HoldsWithin, IsBetween}
 use Rattle.world_core.specs.RoundEnds.{round_ends}
 use Rattle.mptcp_run.specs.Putting.{last_line, read_so_far, log_so_far, world_after, IsWhole, IsStopped, AreFirstOf}
-use Rattle.mptcp_run.specs.Task.{Task, opened, AreTurnsOf}
+use Rattle.mptcp_run.specs.Task.{Task, first_world, AreTurnsOf}
 
 abbrev Ports : Type 0
 Ports = Port → Option (List ℕ)
@@ -44,7 +44,7 @@ pub record HoldsCut (task : Task) (turns more : List Turn) (old new : Ports) : T
 pub record HoldsSomeRounds (task : Task) (old new : Ports) : Type 0 where
   pub turns : List Turn
   pub more : List Turn
-  pub are : AreFirstOf task.course turns more (opened task)
+  pub are : AreFirstOf task.course turns more (first_world task)
   pub one : length (round_ends more (world_after task turns)) ≤ 1
   pub ports : HoldsCut task turns more old new
 
@@ -69,7 +69,7 @@ abbrev pub AddsSome : List Call → Line → Task → Option (List Made) → Opt
     → Status → Type 0
 AddsSome loads line task told tells status =
     (turns : List Turn)
-    × (AreFirstOf task.course turns [] (opened task)
+    × (AreFirstOf task.course turns [] (first_world task)
     × AddsCut (plan_of loads line (puts_so_far task turns)) status told tells)
 
 module _ (loads : List Call) (line : Line) (task : Task) (held holds : Ports)
@@ -88,7 +88,7 @@ module _ (loads : List Call) (line : Line) (task : Task) (held holds : Ports)
   -- or at its last line, which wasn't put whole
   pub record IsCutAtLine (status : Status) : Type 0 where
     pub turns : List Turn
-    pub are : AreTurnsOf task.course turns (opened task)
+    pub are : AreTurnsOf task.course turns (first_world task)
     pub ports : HoldsToLine task turns held holds
     pub calls : AddsShort (plan_of loads line (puts_so_far task turns ++ last_put task turns))
         status told tells

@@ -8,7 +8,7 @@ use Rattle.mptcp_run.specs.declared.report.Report.TheVariants as report
 use Rattle.run_outside.specs.declared.status.Status.{Status}
 use Rattle.run_outside.specs.Ports.{HoldsMore}
 use Rattle.mptcp_run.specs.Putting.{world_after, IsWhole}
-use Rattle.mptcp_run.specs.Task.{Task, Course, rounds, told, opened, turns_in, AreTurnsOf}
+use Rattle.mptcp_run.specs.Task.{Task, Course, rounds, told, first_world, turns_in, AreTurnsOf}
 
 -- one round at least, and the last turn is the end of one
 abbrev pub HasRounds : Course → Type 0
@@ -30,7 +30,7 @@ pub record TellsTheRun (task : Task) (turns : List Turn) (status : Status) (old 
 -- what the log grew by tells the run of all turns of the task
 pub record LogTellsTheRun (task : Task) (status : Status) (old new : Port → Option (List ℕ)) : Type 0 where
   pub turns : List Turn
-  pub are : AreTurnsOf task.course turns (opened task)
+  pub are : AreTurnsOf task.course turns (first_world task)
   pub log : HoldsMore (old Log) (new Log) [] (TellsTheRun task turns status old new)
 
 -- two outsides after two runs: each reader has the same octets, and the logs grew by the same text

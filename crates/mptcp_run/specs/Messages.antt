@@ -6,7 +6,7 @@ use Rattle.outside_kit.specs.declared.port.Port.TheVariants.{ReadByA, ReadByB}
 use Rattle.outside_kit.specs.declared.outside.PutFault.{PutFault}
 use Rattle.outside_kit.specs.declared.outside.PutFault.TheVariants as fault
 use Rattle.outside_kit.specs.Outside.{HasRisen, HoldsAfter}
-use Rattle.message_pipe.specs.Lines.{lines, shown}
+use Rattle.message_pipe.specs.Lines.{lines, message_lines}
 use Rattle.message_pipe.specs.LinesShown.{ShowsFirstLines}
 use Rattle.message_pipe.specs.Showing.{Counted}
 use Rattle.message_pipe.specs.Lined.{lined_content, lined_holds, PortsStand}
@@ -49,8 +49,8 @@ messages_in words = option_and_then if_messages (line_of words)
 module _ (file_a file_b : Option (List ℕ)) (old new : Ports) where
   -- exactly the lines of the other side's file
   pub record ReadersShowLines : Type 0 where
-    pub read_by_b : IfSome file_a (λ file. HoldsAfter (old ReadByB) (new ReadByB) (λ _. shown (lines file)))
-    pub read_by_a : IfSome file_b (λ file. HoldsAfter (old ReadByA) (new ReadByA) (λ _. shown (lines file)))
+    pub read_by_b : IfSome file_a (λ file. HoldsAfter (old ReadByB) (new ReadByB) (λ _. message_lines (lines file)))
+    pub read_by_a : IfSome file_b (λ file. HoldsAfter (old ReadByA) (new ReadByA) (λ _. message_lines (lines file)))
 
   -- its first lines, each whole
   pub record ReadersShowFirstLines : Type 0 where
@@ -59,8 +59,8 @@ module _ (file_a file_b : Option (List ℕ)) (old new : Ports) where
 
   -- a prefix of its lines, whose last one may be cut
   pub record ReadersShowPrefixes : Type 0 where
-    pub read_by_b : IfSome file_a (λ file. HoldsPrefixOf (old ReadByB) (new ReadByB) (shown (lines file)))
-    pub read_by_a : IfSome file_b (λ file. HoldsPrefixOf (old ReadByA) (new ReadByA) (shown (lines file)))
+    pub read_by_b : IfSome file_a (λ file. HoldsPrefixOf (old ReadByB) (new ReadByB) (message_lines (lines file)))
+    pub read_by_a : IfSome file_b (λ file. HoldsPrefixOf (old ReadByA) (new ReadByA) (message_lines (lines file)))
 
   -- nothing
   pub record ReadersShowNothing : Type 0 where

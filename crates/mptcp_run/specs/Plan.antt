@@ -11,7 +11,7 @@ use Rattle.world_laws.specs.Worlds.{Turn, AreLawful, IsLawfulTurn}
 use Rattle.world_core.specs.RoundEnds.{round_steps}
 use Rattle.run_outside.specs.LogText.{round_text}
 use Rattle.mptcp_run.specs.Putting.{opening_in, last_line, ends_of, world_after}
-use Rattle.mptcp_run.specs.Task.{Connection, Task, opened, AreTurnsOf}
+use Rattle.mptcp_run.specs.Task.{Connection, Task, first_world, AreTurnsOf}
 use Rattle.mptcp_run.specs.Task as way
 use Rattle.run_outside.specs.Plan.{puts_of}
 
@@ -32,7 +32,7 @@ puts_by_round opening number last (w ∷ ends) = round_puts opening number last 
 
 -- those of the rounds that these turns end
 abbrev pub puts_so_far : Task → List Turn → List Call
-puts_so_far task turns = puts_by_round (opening_in task) 0 (opened task) (ends_of task turns)
+puts_so_far task turns = puts_by_round (opening_in task) 0 (first_world task) (ends_of task turns)
 
 -- the put of the last line
 abbrev pub last_put : Task → List Turn → List Call
@@ -42,7 +42,7 @@ last_put task turns = call.Put port.Log (last_line task turns) ∷ []
 abbrev pub ArePuts : Task → List Call → Type 0
 ArePuts task puts =
     (turns : List Turn)
-    × (AreTurnsOf task.course turns (opened task) × (puts ≡ puts_so_far task turns ++ last_put task turns))
+    × (AreTurnsOf task.course turns (first_world task) × (puts ≡ puts_so_far task turns ++ last_put task turns))
 
 -- those of the rounds that ended before a turn that can't be made
 pub record ArePutsBefore (task : Task) (puts : List Call) : Type 0 where
@@ -50,6 +50,6 @@ pub record ArePutsBefore (task : Task) (puts : List Call) : Type 0 where
   pub turn : Turn
   pub behind : List Turn
   pub order : task.course ≡ way.told (before ++ turn ∷ behind)
-  pub lawful : AreLawful octets before (opened task)
+  pub lawful : AreLawful octets before (first_world task)
   pub refused : IsLawfulTurn turn (world_after task before) → ⊥
   pub puts_are : puts ≡ puts_so_far task before

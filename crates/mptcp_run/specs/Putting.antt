@@ -26,7 +26,7 @@ use Rattle.mptcp_run.specs.declared.report.Report.TheVariants as report
 use Rattle.run_outside.specs.declared.status.Status.{Status}
 use Rattle.run_outside.specs.declared.status.Status.TheVariants.{Delivered, Rounds, NoPath, Aborted}
 use Rattle.run_outside.specs.Reading.{width_of}
-use Rattle.mptcp_run.specs.Task.{Connection, Task, Course, opened, AreTurnsOf}
+use Rattle.mptcp_run.specs.Task.{Connection, Task, Course, first_world, AreTurnsOf}
 use Rattle.mptcp_run.specs.Task as way
 use Rattle.run_outside.specs.LogText.{log_text, RoundsFit}
 
@@ -72,15 +72,15 @@ last_line_of (report.Summary number) rounds w = ended (summary_text number round
 -- ---- the turns of a task
 
 abbrev pub ends_of : Task → List Turn → List Connection
-ends_of task turns = round_ends turns (opened task)
+ends_of task turns = round_ends turns (first_world task)
 
 -- all that the reader of a side has read at the last round's end
 abbrev pub read_so_far : Side → Task → List Turn → List ℕ
-read_so_far s task turns = read_to_end s turns (opened task)
+read_so_far s task turns = read_to_end s turns (first_world task)
 
 -- the steps of each round that ended
 abbrev pub steps_so_far : Task → List Turn → List (List Note)
-steps_so_far task turns = steps_by_round (opened task) (ends_of task turns)
+steps_so_far task turns = steps_by_round (first_world task) (ends_of task turns)
 
 -- the lines with which the log opens, where one is kept
 abbrev pub opening_in : Task → Option (List ℕ)
@@ -90,7 +90,7 @@ abbrev pub log_so_far : Task → List Turn → List ℕ
 log_so_far task turns = log_text (opening_in task) 0 (steps_so_far task turns)
 
 abbrev pub world_after : Task → List Turn → Connection
-world_after task turns = world_run octets turns (opened task)
+world_after task turns = world_run octets turns (first_world task)
 
 abbrev pub last_line : Task → List Turn → List ℕ
 last_line task turns = last_line_of task.report (length (ends_of task turns)) (world_after task turns)
@@ -114,7 +114,7 @@ pub record HoldsRun (task : Task) (turns : List Turn) (old new : Port → Option
 -- all turns of the task were made, the status is the one that the connection shows then, and the ports hold the run
 pub record IsWhole (task : Task) (status : Status) (old new : Port → Option (List ℕ)) : Type 0 where
   pub turns : List Turn
-  pub are : AreTurnsOf task.course turns (opened task)
+  pub are : AreTurnsOf task.course turns (first_world task)
   pub status_is : status ≡ status_of (outcome_of (world_after task turns).crew)
   pub ports : HoldsRun task turns old new
 
@@ -126,7 +126,7 @@ pub record IsStopped (task : Task) (opening line : ℕ) (old new : Port → Opti
   pub turn : Turn
   pub behind : List Turn
   pub order : task.course ≡ way.told (before ++ turn ∷ behind)
-  pub lawful : AreLawful octets before (opened task)
+  pub lawful : AreLawful octets before (first_world task)
   pub refused : IsLawfulTurn turn (world_after task before) → ⊥
   pub line_is : line ≡ opening + length before + 1
   pub ports : HoldsRounds task before old new

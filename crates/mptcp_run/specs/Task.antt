@@ -34,8 +34,8 @@ pub record Task : Type 0 where
   pub report : Report
 
 -- the connection before its first step
-abbrev pub opened : Task → Connection
-opened task = opened_world (start_of task.script task.file_a task.file_b)
+abbrev pub first_world : Task → Connection
+first_world task = opened_world (start_of task.script task.file_a task.file_b)
 
 -- these are all turns of a course
 abbrev pub AreTurnsOf : Course → List Turn → Connection → Type 0

@@ -2,7 +2,7 @@
 
 ghost use Rattle.std.specs.Prelude.{◌≡◌, [], Some, map, string_bytes, IfOk, IfSome, IsNone};
 ghost use Rattle.outside_kit.specs.declared.port.Port.{Port};
-ghost use Rattle.run_words.specs.Lines.{shown, shown_work};
+ghost use Rattle.run_words.specs.Lines.{as_line, shown_work};
 ghost use Rattle.mptcp_run.specs.Answers.{NothingWasRun};
 ghost use Rattle.mptcp_run.specs.Asked.{asked_in, is_run};
 ghost use Rattle.run_outside.specs.Inputs.{order_of};
@@ -40,14 +40,14 @@ fn is_order(mode: Mode<'_>, name: &str) -> bool
 
 /// Whether a name is neither that of the script nor that of the log.
 fn is_apart(line: &CommandLine<'_>, name: &str) -> bool
-    ensures { result ≡ is_apart (shown line.now) name.now }
+    ensures { result ≡ is_apart (as_line line.now) name.now }
 {
     name != line.script && !is_order(line.mode, name)
 }
 
 /// Whether the lines of both files can be messages.
 fn takes_messages(line: &CommandLine<'_>) -> bool
-    ensures { result ≡ takes_messages (shown line.now) }
+    ensures { result ≡ takes_messages (as_line line.now) }
 {
     is_run(line.mode) && is_apart(line, line.file_a) && is_apart(line, line.file_b)
 }
@@ -111,10 +111,10 @@ fn run_over_frames<O: Outside, G: Gate + Sync, N: Naming>(
     requires faults { (port : Port) → N.faults port ≡ O.port_faults outside port }
     requires empty_a { IfSome (O.holds outside Port.ReadByA) (λ text. text ≡ []) }
     requires empty_b { IfSome (O.holds outside Port.ReadByB) (λ text. text ≡ []) }
-    requires words { asked_in (map string_bytes words.now) ≡ Some (shown line.now) }
+    requires words { asked_in (map string_bytes words.now) ≡ Some (as_line line.now) }
     requires file_a { string_bytes files.0 ≡ line.now.file_a.now }
     requires file_b { string_bytes files.1 ≡ line.now.file_b.now }
-    ensures { IsRunOverFrames (O.content outside) (shown line.now)
+    ensures { IsRunOverFrames (O.content outside) (as_line line.now)
         (O.load_faults outside) (O.load_faults result.1)
         (O.port_faults outside) (O.port_faults result.1)
         (O.holds outside) (O.holds result.1) result.0 }
@@ -135,8 +135,8 @@ fn run_line<O: Outside, G: Gate + Sync>(
 ) -> (Status, O)
     requires empty_a { IfSome (O.holds outside Port.ReadByA) (λ text. text ≡ []) }
     requires empty_b { IfSome (O.holds outside Port.ReadByB) (λ text. text ≡ []) }
-    requires words { asked_in (map string_bytes words.now) ≡ Some (shown line.now) }
-    ensures { IsMessagesAnswer (O.content outside) (shown line.now)
+    requires words { asked_in (map string_bytes words.now) ≡ Some (as_line line.now) }
+    ensures { IsMessagesAnswer (O.content outside) (as_line line.now)
         (O.load_faults outside) (O.load_faults result.1)
         (O.port_faults outside) (O.port_faults result.1)
         (O.holds outside) (O.holds result.1) result.0 }

@@ -5,7 +5,7 @@ ghost use Rattle.outside_kit.specs.declared.port.Port.{Port};
 ghost use Rattle.outside_kit.specs.Calls as call;
 ghost use Rattle.outside_kit.specs.Outside.{HoldsAfter, HoldsPrefix};
 ghost use Rattle.link_script.specs.Scripts.{HasRanges};
-ghost use Rattle.run_words.specs.Lines.{serial, replay, bench, shown};
+ghost use Rattle.run_words.specs.Lines.{serial, replay, bench, as_line};
 ghost use Rattle.world_laws.specs.Outcomes.{outcome_of};
 ghost use Rattle.run_outside.specs.Calling.{Puts};
 ghost use Rattle.mptcp_run.specs.Answers.{IsAnswer, IsMadeAnswer, NothingWasRun};
@@ -76,10 +76,10 @@ fn take_rounds<O: Outside>(
     run: &mut Run,
 ) -> Result<Status, Status>
     requires { IsOpened input.now report run.old }
-    ensures ended { IfOk result (CameToEnd [] (shown line.now)
+    ensures ended { IfOk result (CameToEnd [] (as_line line.now)
         (task_with input.now (course.rounds rounds) report)
         (O.holds outside.old) (O.holds outside.new) (O.calls outside.old) (O.calls outside.new)) }
-    ensures cut { IfErr result (IsCut [] (shown line.now)
+    ensures cut { IfErr result (IsCut [] (as_line line.now)
         (task_with input.now (course.rounds rounds) report)
         (O.holds outside.old) (O.holds outside.new) (O.calls outside.old) (O.calls outside.new)) }
     ensures fault { IfErr result
@@ -102,10 +102,10 @@ fn take_turns<O: Outside>(
 ) -> Result<Status, Status>
     requires opened { IsOpened input.now Report.Log run.old }
     requires few { replay.now.lines ≤ 3 }
-    ensures ended { IfOk result (CameToEnd [] (shown line.now)
+    ensures ended { IfOk result (CameToEnd [] (as_line line.now)
         (task_from input.now (course.told (all_turns replay.now.turns.items)))
         (O.holds outside.old) (O.holds outside.new) (O.calls outside.old) (O.calls outside.new)) }
-    ensures err { IfErr result (ReplayEnds [] (shown line.now)
+    ensures err { IfErr result (ReplayEnds [] (as_line line.now)
         (task_from input.now (course.told (all_turns replay.now.turns.items)))
         (O.holds outside.old) (O.holds outside.new) (O.calls outside.old) (O.calls outside.new)
         replay.now.lines) }
@@ -130,10 +130,10 @@ fn take<O: Outside>(
     requires opened { IsOpened input.now (report_in turns.now) run.old }
     requires few { HasFewLines turns.now }
     ensures ended { IfOk result
-        (CameToEnd [] (shown line.now) (task_taken input.now turns.now)
+        (CameToEnd [] (as_line line.now) (task_taken input.now turns.now)
         (O.holds outside.old) (O.holds outside.new) (O.calls outside.old) (O.calls outside.new)) }
     ensures early { IfErr result
-        (EndsEarly turns.now (shown line.now) (task_taken input.now turns.now)
+        (EndsEarly turns.now (as_line line.now) (task_taken input.now turns.now)
         (O.holds outside.old) (O.holds outside.new) (O.calls outside.old) (O.calls outside.new)) }
     ensures fault { IfErr result
         (TurnsFault turns.now (O.port_faults outside.old) (O.port_faults outside.new)) }
@@ -158,10 +158,10 @@ fn perform<O: Outside>(
     requires ranges { HasRanges input.now.script }
     requires few { HasFewLines turns.now }
     ensures ended { IfOk result
-        (CameToEnd [] (shown line.now) (task_taken input.now turns.now)
+        (CameToEnd [] (as_line line.now) (task_taken input.now turns.now)
         (O.holds outside.old) (O.holds outside.new) (O.calls outside.old) (O.calls outside.new)) }
     ensures early { IfErr result
-        (EndsEarly turns.now (shown line.now) (task_taken input.now turns.now)
+        (EndsEarly turns.now (as_line line.now) (task_taken input.now turns.now)
         (O.holds outside.old) (O.holds outside.new) (O.calls outside.old) (O.calls outside.new)) }
     ensures fault { IfErr result
         (TurnsFault turns.now (O.port_faults outside.old) (O.port_faults outside.new)) }
@@ -182,9 +182,9 @@ fn run_serial<O: Outside>(
     line: &CommandLine<'_>,
     rounds: u32,
 ) -> Status
-    requires asked { (shown line.now).work ≡ serial rounds }
-    requires in_range { AsksInRange (shown line.now).work }
-    ensures { IsAnswer (O.content outside.old) (shown line.now)
+    requires asked { (as_line line.now).work ≡ serial rounds }
+    requires in_range { AsksInRange (as_line line.now).work }
+    ensures { IsAnswer (O.content outside.old) (as_line line.now)
         (O.load_faults outside.old) (O.load_faults outside.new)
         (O.port_faults outside.old) (O.port_faults outside.new)
         (O.holds outside.old) (O.holds outside.new)
@@ -210,9 +210,9 @@ fn run_bench<O: Outside>(
     rounds: u32,
     number: u16,
 ) -> Status
-    requires asked { (shown line.now).work ≡ bench rounds number }
-    requires in_range { AsksInRange (shown line.now).work }
-    ensures { IfSome (bench_of (shown line.now)) (λ made. IsMadeAnswer made
+    requires asked { (as_line line.now).work ≡ bench rounds number }
+    requires in_range { AsksInRange (as_line line.now).work }
+    ensures { IfSome (bench_of (as_line line.now)) (λ made. IsMadeAnswer made
         (O.load_faults outside.old) (O.load_faults outside.new)
         (O.port_faults outside.old) (O.port_faults outside.new)
         (O.holds outside.old) (O.holds outside.new)
@@ -236,8 +236,8 @@ fn run_replay<O: Outside>(
     line: &CommandLine<'_>,
     order: &str,
 ) -> Status
-    requires { (shown line.now).work ≡ replay order.now }
-    ensures { IsAnswer (O.content outside.old) (shown line.now)
+    requires { (as_line line.now).work ≡ replay order.now }
+    ensures { IsAnswer (O.content outside.old) (as_line line.now)
         (O.load_faults outside.old) (O.load_faults outside.new)
         (O.port_faults outside.old) (O.port_faults outside.new)
         (O.holds outside.old) (O.holds outside.new)
@@ -256,20 +256,20 @@ fn run_replay<O: Outside>(
 
 /// What a command line asks for, if it is run.
 fn run_line<O: Outside>(alloc: Global, outside: &mut O, line: &CommandLine<'_>) -> Status
-    requires { AsksInRange (shown line.now).work }
-    ensures answer { IfSome (if_run (shown line.now)) (λ asked. IsAnswer
+    requires { AsksInRange (as_line line.now).work }
+    ensures answer { IfSome (if_run (as_line line.now)) (λ asked. IsAnswer
         (O.content outside.old) asked
         (O.load_faults outside.old) (O.load_faults outside.new)
         (O.port_faults outside.old) (O.port_faults outside.new)
         (O.holds outside.old) (O.holds outside.new)
         (O.calls outside.old) (O.calls outside.new) result) }
-    ensures bench { IfSome (bench_of (shown line.now)) (λ made. IsMadeAnswer made
+    ensures bench { IfSome (bench_of (as_line line.now)) (λ made. IsMadeAnswer made
         (O.load_faults outside.old) (O.load_faults outside.new)
         (O.port_faults outside.old) (O.port_faults outside.new)
         (O.holds outside.old) (O.holds outside.new)
         (O.calls outside.old) (O.calls outside.new) result) }
-    ensures neither { IsNone (if_run (shown line.now)) →
-        IsNone (bench_of (shown line.now)) → NothingWasRun
+    ensures neither { IsNone (if_run (as_line line.now)) →
+        IsNone (bench_of (as_line line.now)) → NothingWasRun
         (O.load_faults outside.old) (O.load_faults outside.new)
         (O.port_faults outside.old) (O.port_faults outside.new)
         (O.holds outside.old) (O.holds outside.new)

@@ -15,7 +15,7 @@ use Rattle.path_segments.specs.Laws.{IsFresh, meant}
 use Rattle.path_segments.proofs.ChangedSegments.{stripped_is_heard}
 use Rattle.path_segments.proofs.SegmentsAgain.{heard_as_meant}
 use Rattle.path_core.specs.Octets.{made, octets}
-use Rattle.path_core.specs.Segments.{spelled_by}
+use Rattle.path_core.specs.OptionsOut.{spelled_by}
 use Rattle.path_core.specs.Shown.{octets_of, IsFarReset}
 use Rattle.path_core.specs.Values.{Carried, as_arrived}
 use Rattle.path_core.proofs.FarResets.{unplaced, far_heard, far_stripped_heard}

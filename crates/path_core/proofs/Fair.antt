@@ -17,7 +17,7 @@ use Rattle.key_material.specs.declared.address.Address.{Address}
 use Rattle.path_agenda.specs.declared.heard.Heard.{Heard}
 use Rattle.path_agenda.specs.declared.heard.Heard.TheVariants as says
 use Rattle.path_agenda.specs.declared.notice.PeerNotice.TheVariants as notes
-use Rattle.path_core.specs.Arriving.{HeardOption, is_mapping, mapping_items, ack_items, end_items, infinite_items, map_items, key_items, join_items, address_items, item_removed, items_in}
+use Rattle.path_core.specs.Arriving.{HeardOption, is_mapping, mapping_items, ack_items, data_fin_items, infinite_items, map_items, key_items, join_items, address_items, item_removed, items_in}
 use Rattle.path_agenda.specs.Items.{IsFair}
 
 fair_ack : (next : Option (Option ℕ)) (window : ℕ) → All IsFair (ack_items next window)
@@ -29,7 +29,7 @@ fair_ack (Some (Some next)) window = by (nat_lt next (2 ^ 62)) refl
     by true is = All-cons IsFair (says.DataAck next window) [] (ltb-true _ _ is) (All-nil IsFair)
     by false is = All-nil IsFair
 
-fair_end : (place : ℕ) → All IsFair (end_items place)
+fair_end : (place : ℕ) → All IsFair (data_fin_items place)
 fair_end place = by (nat_le place (2 ^ 62)) refl
   where
     by : (b : Bool) → nat_le place (2 ^ 62) ≡ b → All IsFair (if b then says.DataFin place ∷ [] else [])

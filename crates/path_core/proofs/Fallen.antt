@@ -13,7 +13,7 @@ use Rattle.path_agenda.specs.Words.{replaced}
 use Rattle.path_agenda.specs.declared.duty.Duty.{Duty}
 use Rattle.path_agenda.specs.declared.duty.Duty.TheVariants as duties
 use Rattle.path_agenda.specs.declared.duty.AskDuty.TheVariants as ask_duties
-use Rattle.path_core.specs.Falling.{breaks_by, fell_duties}
+use Rattle.path_core.specs.Fallback.{breaks_by, fell_duties}
 use Rattle.path_core.specs.State.{PathState, end_at, left}
 
 broken_so : (P : List Duty → Type 0) (asked : Bool) (s : Side) (reason : ℕ) → P (breaks s reason) → P (resets s reason)

@@ -6,7 +6,7 @@ use Rattle.outside_kit.specs.declared.side.Side.{Side}
 use Rattle.subflow_send.specs.Records.{Record}
 use Rattle.subflow_tcp.specs.State.{EndState, is_at_limit}
 use Rattle.subflow_tcp.specs.States.{may_finish}
-use Rattle.path_core.specs.Closing.{is_fin_due}
+use Rattle.path_core.specs.StreamEnds.{is_fin_due}
 use Rattle.path_core.specs.Emission.{may_ask, data_stands}
 use Rattle.path_core.specs.Ends.{PathEnd}
 use Rattle.path_core.specs.State.{PathState, Profile}

@@ -27,7 +27,7 @@ use Rattle.path_agenda.specs.Agenda.{breaks, resets, leaves}
 use Rattle.path_core.specs.Breaking.{reset_of, reset_on, answered_break}
 use Rattle.path_core.specs.Codec.{Codec}
 use Rattle.path_core.specs.Duties.{stands, ask_for, answered}
-use Rattle.path_core.specs.Emission.{first_unsent, unsent_segment, having_sent_unsent, end_segment, having_sent_end, fin_segment_of, having_sent_fin, may_ask, data_stands, payload_size, grant_ask, data_ask, Grant, grant_in, granted, refused, answered_grant, answered_data}
+use Rattle.path_core.specs.Emission.{first_unsent, unsent_segment, having_sent_unsent, data_fin_segment, having_sent_data_fin, fin_segment_of, having_sent_fin, may_ask, data_stands, payload_size, grant_ask, data_ask, Grant, grant_in, granted, refused, answered_grant, answered_data}
 use Rattle.path_core.specs.Ends.{PathEnd}
 use Rattle.path_core.specs.Events.{died, never_joined, join_begun}
 use Rattle.path_core.specs.Joining.{with_mode_refused, is_never, keys_begun, opened_by, joined_by, asked_at, join_taken, refusal_of}
@@ -38,21 +38,21 @@ use Rattle.actor_desk.specs.Kinds.{IsOfKind, IsSomeOf}
 use Rattle.path_agenda.specs.Items.{key_heard, keys_heard}
 use Rattle.fallback_state.specs.declared.fall.Event.{Event}
 use Rattle.fallback_state.specs.declared.fall.Event.TheVariants as events
-use Rattle.path_core.specs.Falling.{after_fell, fell_duties, answered_fell, in_identity}
+use Rattle.path_core.specs.Fallback.{after_fell, fell_duties, answered_fell, in_identity}
 use Rattle.path_core.specs.Opening.{syn_ack_of, with_peer_key, answered_peer_key, after_keys, answered_opened}
-use Rattle.path_core.specs.Passing.{having_asked, piece_of, is_placed, placed, answered_piece, is_fin_set, with_peer_end, answered_fin_heard, with_fin_told, answered_plain_fin, after_rate, first_segment, answer_occasion, answer_of, dead_answer, resend_occasion, resend_of}
+use Rattle.path_core.specs.Passing.{having_asked, piece_of, is_placed, placed, answered_piece, is_fin_set, with_peer_data_fin, answered_fin_heard, with_fin_told, answered_plain_fin, after_rate, first_segment, answer_occasion, answer_of, dead_answer, resend_occasion, resend_of}
 use Rattle.path_core.specs.Passing as passing
-use Rattle.path_core.specs.Placing.{Piece, some_piece, plain_piece, piece_by, mapping_here, next_piece, after_piece}
+use Rattle.path_core.specs.Deliver.{Piece, some_piece, plain_piece, piece_by, mapping_here, next_piece, after_piece}
 use Rattle.subflow_recv.specs.Receiving.{filled}
 use Rattle.subflow_tcp.specs.State.{EndState}
 use Rattle.path_agenda.specs.Weights.{weight, weights}
 use Rattle.path_core.specs.Ranks.{work}
-use Rattle.path_core.specs.Sends.{having_sent, sent_on}
+use Rattle.path_core.specs.Handover.{having_sent, sent_on}
 use Rattle.path_core.specs.Standing.{after_look, after_ack_out, answered_ack_out, ack_segment, acknowledges}
-use Rattle.path_core.specs.Segments.{mapping_of}
+use Rattle.path_core.specs.OptionsOut.{mapping_of}
 use Rattle.path_core.specs.State.{PathState, Profile, end_at, with_agenda, goes_on, left, path_of}
-use Rattle.path_core.specs.Treating.{is_clash, is_acked, told_next, with_acked, answered_mapping, with_fin, answered_item, item_of, breaks_by_ack, with_plain_ack, answered_plain_ack, with_plain_acked}
-use Rattle.path_core.specs.Placing.{with_learned}
+use Rattle.path_core.specs.Treating.{is_clash, is_acked, told_next, with_acked, answered_mapping, with_data_fin, answered_item, item_of, breaks_by_ack, with_plain_ack, answered_plain_ack, with_plain_acked}
+use Rattle.path_core.specs.Deliver.{with_learned}
 use Rattle.path_core.specs.Turns.{TakesTime}
 use Rattle.path_agenda.specs.Words.{replaced}
 use Rattle.actor_desk.proofs.Falling.{Then}
@@ -186,14 +186,14 @@ module _ {C : Type 0} where
   fin_lowers : (s : Side) (set : Bool) (p : PathState C) → TakesTime p → weights (left p) < weights p.agenda → 12 ≤ weights p.agenda
       → Lowers p (answered_fin_heard s set p)
   fin_lowers s true p t less heavy =
-      goes_less s (having_asked (with_peer_end (end_at s p))) (left p) p t
-      (same_rests p.clock (end_at s p) (having_asked (with_peer_end (end_at s p))) refl) less
+      goes_less s (having_asked (with_peer_data_fin (end_at s p))) (left p) p t
+      (same_rests p.clock (end_at s p) (having_asked (with_peer_data_fin (end_at s p))) refl) less
   fin_lowers s false p t less heavy = refused_less s p t heavy
 
   plain_fin_lowers : (s : Side) (set : Bool) (p : PathState C) → TakesTime p → weights (left p) < weights p.agenda → 12 ≤ weights p.agenda
       → Lowers p (answered_plain_fin s set p)
   plain_fin_lowers s true p t less heavy =
-      let e = end_at s p in let f : PathEnd = having_asked (with_peer_end (with_fin_told e)) in
+      let e = end_at s p in let f : PathEnd = having_asked (with_peer_data_fin (with_fin_told e)) in
       goes_less s f (left p) p t (same_rests p.clock e f refl) less
   plain_fin_lowers s false p t less heavy = refused_less s p t heavy
 
@@ -316,7 +316,7 @@ module _ {C : Type 0} where
       (same_rests p.clock (end_at s p) (with_acked place r (end_at s p)) refl) (told_less s (is_acked r && nat_lt 0 place) p heavy.done next)
   heard_lowers k s (Some (says.Mapping fin)) r p t next heavy = mapping_lowers k s r p t heavy
   heard_lowers k s (Some (says.DataFin place)) r p t next heavy =
-      let f : PathEnd = with_fin place (after_fell events.MappingHeard r (end_at s p)) in
+      let f : PathEnd = with_data_fin place (after_fell events.MappingHeard r (end_at s p)) in
       fell_less s f r p t (same_rests p.clock (end_at s p) f refl) heavy
   heard_lowers k s (Some (says.InfiniteMapping place position)) r p t next heavy = verdict_lowers s events.InfiniteHeard r p t heavy
   heard_lowers k s (Some (says.PeerKey key)) r p t next heavy = agenda_less (left p) p t heavy.done
@@ -370,7 +370,7 @@ module _ {C : Type 0} where
       sent_less k s (unsent_segment s p) (having_sent_unsent s p) (left p) p t (same_rests p.clock (end_at s p) (having_sent_unsent s p) refl) (left_less _ ds p is)
   answered_lowers k (duties.Step (step_duties.Data s)) ds r p t is stands kind = data_lowers k s (first_unsent (end_at s p)) r p t (left_less _ ds p is) refl stands kind
   answered_lowers k (duties.Send (send_duties.DataFin s)) ds r p t is stands kind =
-      sent_less k s (end_segment s p) (having_sent_end s p) (left p) p t (same_rests p.clock (end_at s p) (having_sent_end s p) refl) (left_less _ ds p is)
+      sent_less k s (data_fin_segment s p) (having_sent_data_fin s p) (left p) p t (same_rests p.clock (end_at s p) (having_sent_data_fin s p) refl) (left_less _ ds p is)
   answered_lowers k (duties.Send (send_duties.Fin s)) ds r p t is stands kind =
       sent_less k s (fin_segment_of s p) (having_sent_fin s p) (left p) p t (same_rests p.clock (end_at s p) (having_sent_fin s p) refl) (left_less _ ds p is)
   answered_lowers k (duties.Silent (silent_duties.Timer s)) ds r p t is stands kind = agenda_less (left p) p t (left_less _ ds p is)

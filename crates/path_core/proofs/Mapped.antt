@@ -16,7 +16,7 @@ use Rattle.path_segments.specs.declared.segment.PathMapping.{PathMapping}
 use Rattle.path_segments.specs.declared.segment.PathMapping.TheVariants.{Bytes, End, Infinite}
 use Rattle.path_core.specs.Arriving.{HeardOption, checksum_heard, held_if, key_held, map_held, held_in}
 use Rattle.path_core.specs.Joins.{is_joined}
-use Rattle.path_core.specs.Placing.{kept_of}
+use Rattle.path_core.specs.Deliver.{kept_of}
 use Rattle.path_core.specs.State.{Profile}
 
 -- ---- the mapping at the edge

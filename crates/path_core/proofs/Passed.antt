@@ -10,12 +10,12 @@ use Rattle.path_agenda.specs.declared.duty.AskDuty.TheVariants as ask_duties
 use Rattle.path_agenda.specs.declared.duty.SendDuty.TheVariants as send_duties
 use Rattle.path_agenda.specs.declared.duty.SilentDuty.TheVariants as silent_duties
 use Rattle.path_agenda.specs.declared.duty.StepDuty.TheVariants as step_duties
-use Rattle.path_core.specs.Closing.{is_waiting}
+use Rattle.path_core.specs.StreamEnds.{is_waiting}
 use Rattle.path_core.specs.Duties.{stands, passed}
 use Rattle.path_core.specs.Emission.{after_timer}
 use Rattle.path_core.specs.Ends.{PathEnd}
 use Rattle.path_core.specs.Passing.{after_pass_fin}
-use Rattle.path_core.specs.Placing.{mapping_here, after_check, after_pieces}
+use Rattle.path_core.specs.Deliver.{mapping_here, after_check, after_pieces}
 use Rattle.path_agenda.specs.Weights.{weights}
 use Rattle.path_core.specs.State.{PathState, end_at, with_end, with_agenda}
 use Rattle.path_core.specs.Steps.{settled}

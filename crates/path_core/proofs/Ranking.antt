@@ -14,7 +14,7 @@ use Rattle.path_core.specs.Codec.{Codec}
 use Rattle.path_core.specs.Ends.{PathEnd}
 use Rattle.path_agenda.specs.Weights.{weights}
 use Rattle.path_core.specs.Ranks.{ticks_left, one_if_due, due_copies, due_timer, due_by_now, bytes_left, sendings_left}
-use Rattle.path_core.specs.Sends.{sent_on}
+use Rattle.path_core.specs.Handover.{sent_on}
 use Rattle.path_core.specs.State.{PathState, end_at, with_agenda, goes_on}
 use Rattle.path_core.specs.Turns.{TakesTime}
 use Rattle.actor_desk.proofs.Falling.{Then, Less}

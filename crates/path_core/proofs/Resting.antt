@@ -25,9 +25,9 @@ use Rattle.path_core.specs.Arriving.{owing_if, with_payload}
 use Rattle.path_agenda.specs.declared.heard.Heard.{Heard}
 use Rattle.path_agenda.specs.declared.heard.Heard.TheVariants as says
 use Rattle.path_core.specs.Ends.{PathEnd}
-use Rattle.path_core.specs.Placing.{is_wrong, forgotten_by, with_learned, with_skipped}
+use Rattle.path_core.specs.Deliver.{is_wrong, forgotten_by, with_learned, with_skipped}
 use Rattle.path_core.specs.Ranks.{one_if_due, due_timer}
-use Rattle.path_core.specs.Treating.{counts, with_fin, item_passed, is_dropped, after_keep}
+use Rattle.path_core.specs.Treating.{counts, with_data_fin, item_passed, is_dropped, after_keep}
 use Rattle.path_core.proofs.Ranking.{Rests, late_isn't}
 
 -- ---- timings
@@ -161,7 +161,7 @@ item_same s None e = refl
 item_same s (Some says.Dss) e = refl
 item_same s (Some (says.DataAck next window)) e = refl
 item_same s (Some (says.Mapping fin)) e = mapping_same (counts e) e
-item_same s (Some (says.DataFin place)) e = either_same (counts e) (with_fin place e) e refl
+item_same s (Some (says.DataFin place)) e = either_same (counts e) (with_data_fin place e) e refl
 item_same s (Some (says.InfiniteMapping place position)) e = refl
 item_same s (Some (says.PeerKey key)) e = refl
 item_same s (Some (says.Keys own peer)) e = refl

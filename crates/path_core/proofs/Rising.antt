@@ -3,7 +3,7 @@ use Rattle.std.proofs.Common.{◌≡◌, refl, sym, ap, ℕ, zero, suc, ◌-◌,
 use Rattle.std.specs.Prelude.{nat_lt, max, filter}
 use Rattle.std.specs.List.{list_any}
 use Rattle.path_core.specs.declared.granted_piece.GrantedPiece.{GrantedPiece}
-use Rattle.path_core.specs.Closing.{is_newly_heard, is_open, granted_to}
+use Rattle.path_core.specs.StreamEnds.{is_newly_heard, is_open, granted_to}
 use Rattle.path_core.specs.Rising.{IsLowest, Rise}
 
 lowest_at : (x : GrantedPiece) (xs : List GrantedPiece) (k : ℕ) (d : GrantedPiece) → IsLowest x xs → k < length xs → (x.from ≤ (get_or xs k d).from) × (x.to ≤ (get_or xs k d).to)

@@ -37,12 +37,12 @@ use Rattle.path_agenda.specs.declared.notice.OwnNotice.TheVariants as notes
 use Rattle.path_core.specs.Ends.{PathEnd}
 use Rattle.path_core.specs.Joins.{is_joined, peer_key_of, join_options, third_options}
 use Rattle.path_core.specs.declared.modes.Modes.{Modes}
-use Rattle.path_core.specs.Segments.{spelled_by, checksum_told, capable_options, syn_options, key_options, opening_options, end_mapping, ack_options, is_first_piece, first_piece_options, piece_options, owes_mapping, plain_options, fin_options, record_options, reset_options, segment_of, piece_mapping, ack_said, record_or_ack, syn_ack_said, notice_option, dss_and, HasAddress, HasAddresses}
+use Rattle.path_core.specs.OptionsOut.{spelled_by, checksum_told, capable_options, syn_options, key_options, opening_options, data_fin_mapping, ack_options, is_first_piece, first_piece_options, piece_options, owes_mapping, plain_options, fin_options, record_options, reset_options, segment_of, piece_mapping, ack_said, record_or_ack, syn_ack_said, notice_option, dss_and, HasAddress, HasAddresses}
 use Rattle.path_core.specs.declared.segment_kind.SegmentKind.{SegmentKind}
 use Rattle.path_core.specs.declared.segment_kind.SegmentKind.TheVariants as to_say
 use Rattle.subflow_tcp.specs.Emitting.{ack_at, record_segment, syn_ack_segment, fin_position, fin_segment, reset_segment}
 use Rattle.subflow_tcp.specs.State.{has_records}
-use Rattle.path_core.specs.Closing.{is_end_owed}
+use Rattle.path_core.specs.StreamEnds.{is_data_fin_owed}
 use Rattle.path_core.specs.Emission.{first_unsent}
 use Rattle.path_core.specs.Passing.{first_record, outgoing_or, ack_resent}
 use Rattle.path_core.specs.Said.{CanBeSaid, said_by}
@@ -188,7 +188,7 @@ opening_short c s e = by e.modes.owes_third
     by true = third_short c s e.modes
     by false = key_short c s e.modes.peer_key e
 
-end_short : (c : Profile) (s : Side) (fin : Option ℕ) (next : ℕ) → AreShort c.spelling (spelled_by s) (Dss (Some next) (end_mapping c s fin) ∷ [])
+end_short : (c : Profile) (s : Side) (fin : Option ℕ) (next : ℕ) → AreShort c.spelling (spelled_by s) (Dss (Some next) (data_fin_mapping c s fin) ∷ [])
 end_short c s None next = (record { form = (tt, refl) }, ack_length (data_number c.spelling (peer_of (spelled_by s)) next) false)
 end_short c s (Some place) next = (
   record { form = (told_form c.spelling.checksums _, tt) },
@@ -199,7 +199,7 @@ ack_short : (c : Profile) (s : Side) (fin : Option ℕ) (e : PathEnd) → AreSho
 ack_short c s fin e = by e.modes.identity e.modes.clear
   where
     by : (identity clear : Bool) → AreShort c.spelling (spelled_by s)
-        (if identity then [] else (if clear then Dss (Some e.receiving.next) (end_mapping c s fin) ∷ [] else opening_options c s e))
+        (if identity then [] else (if clear then Dss (Some e.receiving.next) (data_fin_mapping c s fin) ∷ [] else opening_options c s e))
     by true clear = tt
     by false true = end_short c s fin e.receiving.next
     by false false = opening_short c s e
@@ -330,7 +330,7 @@ module _ (c : Profile) (s : Side) (e : PathEnd) (path : c.spelling.path ≤ 15) 
   resend_can : (first : Bool) → IfSome (first_record e) (λ r. length r.piece ≤ 65475)
       → CanBeSaid c.spelling s (if first then record_or_ack c s (first_record e) e else ack_resent c s e)
   resend_can true few = record_can (first_record e) few
-  resend_can false few = resent_can e.modes.owes_third (is_end_owed e)
+  resend_can false few = resent_can e.modes.owes_third (is_data_fin_owed e)
 
   said_can : (kind : SegmentKind) → HasAddresses kind → IfSome (first_unsent e) (λ r. length r.piece ≤ 65475)
       → IfSome (first_record e) (λ r. length r.piece ≤ 65475) → CanBeSaid c.spelling s (said_by kind c s e)

@@ -8,10 +8,10 @@ use Rattle.outside_kit.specs.declared.side.Side.TheVariants.{A, B}
 use Rattle.link_model.specs.declared.flight.Due.{Due}
 use Rattle.link_model.specs.declared.flight.Flight.{Flight}
 use Rattle.link_model.specs.Fate.{fate_of, is_stripped, is_altered}
-use Rattle.link_model.specs.Laws.{shown, shown_flight}
+use Rattle.link_model.specs.Laws.{with_copies_shown, shown_flight}
 use Rattle.link_model.specs.State.{LinkState}
 use Rattle.outside_kit.specs.Memory.{one_more as counted}
-use Rattle.link_model.specs.Steps.{taken, next_number, peer, is_due, next_due, arriving, after_delivery, without, after_send, changed, arrivals, with_flights, one_more}
+use Rattle.link_model.specs.Steps.{segments_sent, next_number, peer, is_due, next_due, arriving, after_delivery, without, after_send, changed, arrivals, with_flights, one_more}
 use Rattle.link_model.proofs.Shown.{sent_shown}
 use Rattle.path_segments.specs.declared.position.HeardPosition.TheVariants.{At}
 use Rattle.path_segments.specs.declared.spelling.Spelling.{Spelling}
@@ -32,7 +32,7 @@ use Rattle.path_core.proofs.CopiesRead.{near_read, far_read}
 use Rattle.path_core.proofs.FarResets.{far_treated}
 use Rattle.path_core.specs.Arriving.{expected_by}
 use Rattle.path_core.specs.Codec.{HeardSegment}
-use Rattle.path_core.specs.Segments.{spelled_by}
+use Rattle.path_core.specs.OptionsOut.{spelled_by}
 use Rattle.actor_desk.specs.Words.{tail_of}
 use Rattle.subflow_tcp.specs.declared.segments.Occasion.TheVariants as to_send
 use Rattle.path_core.specs.Events.{never_joined, is_death, after_line, at_tick, copy_heard, heard_in, copy_taken, happens_if, died, step_for, next_event}
@@ -53,16 +53,16 @@ use Rattle.path_agenda.specs.declared.keys.KeyPair.{KeyPair}
 use Rattle.join_handshake.specs.declared.hearing.JoinSyn.{JoinSyn}
 use Rattle.path_core.specs.Joining.{is_never, keys_begun, opened_by, asked_at, join_heard_ask, join_taken, refusal_of}
 use Rattle.path_core.specs.Breaking.{reset_of, reset_on, break_ask, answered_break}
-use Rattle.path_core.specs.Emission.{first_unsent, data_ask, unsent_segment, having_sent_unsent, end_segment, having_sent_end, fin_segment_of, having_sent_fin, Grant, grant_in, answered_grant, answered_data}
+use Rattle.path_core.specs.Emission.{first_unsent, data_ask, unsent_segment, having_sent_unsent, data_fin_segment, having_sent_data_fin, fin_segment_of, having_sent_fin, Grant, grant_in, answered_grant, answered_data}
 use Rattle.path_core.specs.Opening.{syn_ack_of, peer_key_ask, answered_peer_key, opened_ask, answered_opened}
 use Rattle.loss_recovery.specs.declared.windows.Pending.{Pending}
 use Rattle.path_core.specs.Passing.{piece_of, is_placed, is_fin_set, answered_piece, answered_fin_heard, answered_plain_fin, rate_ask, first_segment, answer_occasion, resend_occasion, answer_of, dead_answer, resend_of}
-use Rattle.path_core.specs.Placing.{with_learned, Piece}
+use Rattle.path_core.specs.Deliver.{with_learned, Piece}
 use Rattle.path_core.specs.Standing.{ack_out_ask, answered_ack_out, ack_segment}
-use Rattle.path_core.specs.Falling.{fell_ask, after_fell, fell_duties, answered_fell}
-use Rattle.path_core.specs.Treating.{item_of, item_ask, is_clash, is_acked, told_next, with_acked, with_fin, breaks_by_ack, with_plain_ack, answered_item}
+use Rattle.path_core.specs.Fallback.{fell_ask, after_fell, fell_duties, answered_fell}
+use Rattle.path_core.specs.Treating.{item_of, item_ask, is_clash, is_acked, told_next, with_acked, with_data_fin, breaks_by_ack, with_plain_ack, answered_item}
 use Rattle.path_core.specs.Octets.{octets}
-use Rattle.path_core.specs.Sends.{sends, having_sent, handed, sent_on}
+use Rattle.path_core.specs.Handover.{sends, having_sent, handed, sent_on}
 use Rattle.path_core.specs.Ends.{PathEnd}
 use Rattle.path_core.specs.Shown.{octets_of, shown_path, AltersNothing, IsFarReset, IsFreshCopy, NextIsFresh}
 use Rattle.path_core.specs.State.{PathState, end_at, with_agenda, goes_on, left, path_of}
@@ -128,7 +128,7 @@ same_stands (duties.Ask (ask_duties.Leave s)) p = refl
 same_stands (duties.Ask (ask_duties.Dead s)) p = refl
 same_stands duties.End p = refl
 
-same_taken : (s : Side) (spelling : Spelling) (link : LinkState Carried) → taken s (shown (octets_of spelling) link) ≡ taken s link
+same_taken : (s : Side) (spelling : Spelling) (link : LinkState Carried) → segments_sent s (with_copies_shown (octets_of spelling) link) ≡ segments_sent s link
 same_taken A spelling link = refl
 same_taken B spelling link = refl
 
@@ -188,7 +188,7 @@ same_asks (duties.Ask (ask_duties.Window s)) p = refl
 same_asks (duties.Send (send_duties.Update s)) p = same_sends s (ack_segment s p) p
 same_asks (duties.Send (send_duties.Syn s)) p = same_sends s (unsent_segment s p) p
 same_asks (duties.Step (step_duties.Data s)) p = same_data s (first_unsent (end_at s p)) p
-same_asks (duties.Send (send_duties.DataFin s)) p = same_sends s (end_segment s p) p
+same_asks (duties.Send (send_duties.DataFin s)) p = same_sends s (data_fin_segment s p) p
 same_asks (duties.Send (send_duties.Fin s)) p = same_sends s (fin_segment_of s p) p
 same_asks (duties.Silent (silent_duties.Timer s)) p = refl
 same_asks (duties.Step step_duties.Events) p = ap (step_for (path_of p)) (same_event p)
@@ -321,18 +321,18 @@ octets_left spelling s segment true = refl
 octets_left spelling s segment false = refl
 
 same_handed : (s : Side) (segment : PlainSegment) (p : PathState Carried) → AltersNothing p.link.lines
-    → handed octets s segment (shown_path p) ≡ shown (octets_of p.profile.spelling) (handed values s segment p)
+    → handed octets s segment (shown_path p) ≡ with_copies_shown (octets_of p.profile.spelling) (handed values s segment p)
 same_handed s segment p nothing =
     let spelling = p.profile.spelling in let show : Carried → List ℕ = octets_of spelling in
     let strips : ℕ → Bool = λ taken. is_stripped s (counted taken) p.clock p.link.lines in
-    let left : Carried = (if strips (taken s p.link) then values.strips spelling s (values.makes spelling s segment) else values.makes spelling s segment) in
-    plain_send (octets.strips spelling) (octets.alters spelling) s (octets.makes spelling s segment) p.clock (shown show p.link) (record { alters = nothing.alters })
+    let left : Carried = (if strips (segments_sent s p.link) then values.strips spelling s (values.makes spelling s segment) else values.makes spelling s segment) in
+    plain_send (octets.strips spelling) (octets.alters spelling) s (octets.makes spelling s segment) p.clock (with_copies_shown show p.link) (record { alters = nothing.alters })
     ∙ ap (λ (n : ℕ). after_send (λ side c. c) (λ side c. c) s
-    (if strips n then octets.strips spelling s (octets.makes spelling s segment) else octets.makes spelling s segment) p.clock (shown show p.link))
+    (if strips n then octets.strips spelling s (octets.makes spelling s segment) else octets.makes spelling s segment) p.clock (with_copies_shown show p.link))
     (same_taken s spelling p.link)
-    ∙ ap (λ c. after_send (λ side c. c) (λ side c. c) s c p.clock (shown show p.link)) (sym (octets_left spelling s segment (strips (taken s p.link))))
+    ∙ ap (λ c. after_send (λ side c. c) (λ side c. c) s c p.clock (with_copies_shown show p.link)) (sym (octets_left spelling s segment (strips (segments_sent s p.link))))
     ∙ sym (sent_shown show (λ side c. c) (λ side c. c) (λ side c. c) (λ side c. c) (λ side c. refl) (λ side c. refl) s left p.clock p.link)
-    ∙ ap (shown show) (sym (plain_send (values.strips spelling) (values.alters spelling) s (values.makes spelling s segment) p.clock p.link nothing))
+    ∙ ap (with_copies_shown show) (sym (plain_send (values.strips spelling) (values.alters spelling) s (values.makes spelling s segment) p.clock p.link nothing))
 
 pub same_sent : (s : Side) (segment : PlainSegment) (e : PathEnd) (ds : List Duty) (p : PathState Carried) → AltersNothing p.link.lines
     → sent_on octets s segment e ds (shown_path p) ≡ shown_path (sent_on values s segment e ds p)
@@ -392,7 +392,7 @@ same_heard s (Some (says.DataAck next window)) r p nothing =
     ap (λ ds. goes_on s (with_acked next r (end_at s p)) ds (shown_path p)) (same_told s (is_acked r && nat_lt 0 next) p)
 same_heard s (Some (says.Mapping fin)) r p nothing =
     same_broken_or s (is_clash (end_at s p)) 1 r (with_learned (after_fell events.MappingHeard r (end_at s p))) p nothing
-same_heard s (Some (says.DataFin place)) r p nothing = same_fallen s r (with_fin place (after_fell events.MappingHeard r (end_at s p))) p
+same_heard s (Some (says.DataFin place)) r p nothing = same_fallen s r (with_data_fin place (after_fell events.MappingHeard r (end_at s p))) p
 same_heard s (Some (says.InfiniteMapping place position)) r p nothing = same_fell s events.InfiniteHeard r p
 same_heard s (Some (says.PeerKey key)) r p nothing = refl
 same_heard s (Some (says.Keys own peer)) r p nothing = refl
@@ -411,7 +411,7 @@ same_data_answered s (Some record_due) r p nothing = same_sent s (unsent_segment
 same_data_answered s None r p nothing = same_grant s (grant_in r) r p
 
 same_piece : (s : Side) (piece : Option Piece) (taken : Bool) (p : PathState Carried) → answered_piece s piece taken (shown_path p) ≡ shown_path (answered_piece s piece taken p)
-same_piece s None taken p = refl
+same_piece s None segments_sent p = refl
 same_piece s (Some piece) true p = refl
 same_piece s (Some piece) false p = refl
 
@@ -470,12 +470,12 @@ module _ (show : Carried → List ℕ) where
   same_without None flights = refl
   same_without (Some n) flights = rw (take-map, drop-map, ← map-append) refl
 
-  same_delivery : (due : Due) (link : LinkState Carried) → after_delivery due (shown show link) ≡ shown show (after_delivery due link)
+  same_delivery : (due : Due) (link : LinkState Carried) → after_delivery due (with_copies_shown show link) ≡ with_copies_shown show (after_delivery due link)
   same_delivery due link =
       let gone : without (position (is_due due) (map (shown_flight show) link.under_way)) (map (shown_flight show) link.under_way)
       ≡ map (shown_flight show) (without (position (is_due due) link.under_way) link.under_way)
       = rw (same_position due link.under_way) (same_without (position (is_due due) link.under_way) link.under_way) in
-      ap (λ flights. record (shown show link) { under_way = flights }) gone
+      ap (λ flights. record (with_copies_shown show link) { under_way = flights }) gone
 
 same_line : (death : Bool) (p : PathState Carried) → after_line death (shown_path p) ≡ shown_path (after_line death p)
 same_line true p = refl
@@ -518,7 +518,7 @@ same_copy : (due : Due) (p : PathState Carried)
 same_copy due p fresh =
     let show : Carried → List ℕ = octets_of p.profile.spelling in
     let heard : Option HeardSegment = heard_in values due.to (arriving due p.link) p in
-    let after : PathState (List ℕ) = record (at_tick due.tick (shown_path p)) { link = after_delivery due (shown show p.link) } in
+    let after : PathState (List ℕ) = record (at_tick due.tick (shown_path p)) { link = after_delivery due (with_copies_shown show p.link) } in
     ap (λ (o : Option (Flight (List ℕ))). copy_heard due.to (heard_in octets due.to o (shown_path p)) after) (same_arriving show due p.link.under_way)
     ∙ same_read due.to (arriving due p.link) p after refl fresh
     ∙ ap (λ link. copy_heard due.to heard (record (at_tick due.tick (shown_path p)) { link = link })) (same_delivery show due p.link)
@@ -544,7 +544,7 @@ same_answered (duties.Ask (ask_duties.Window s)) r p nothing fresh = refl
 same_answered (duties.Send (send_duties.Update s)) r p nothing fresh = same_sent s (ack_segment s p) (having_sent to_send.Ack p.clock (ack_segment s p) (end_at s p)) (left p) p nothing
 same_answered (duties.Send (send_duties.Syn s)) r p nothing fresh = same_sent s (unsent_segment s p) (having_sent_unsent s p) (left p) p nothing
 same_answered (duties.Step (step_duties.Data s)) r p nothing fresh = same_data_answered s (first_unsent (end_at s p)) r p nothing
-same_answered (duties.Send (send_duties.DataFin s)) r p nothing fresh = same_sent s (end_segment s p) (having_sent_end s p) (left p) p nothing
+same_answered (duties.Send (send_duties.DataFin s)) r p nothing fresh = same_sent s (data_fin_segment s p) (having_sent_data_fin s p) (left p) p nothing
 same_answered (duties.Send (send_duties.Fin s)) r p nothing fresh = same_sent s (fin_segment_of s p) (having_sent_fin s p) (left p) p nothing
 same_answered (duties.Silent (silent_duties.Timer s)) r p nothing fresh = refl
 same_answered (duties.Step step_duties.Events) r p nothing fresh =

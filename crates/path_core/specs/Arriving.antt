@@ -48,8 +48,8 @@ use Rattle.path_core.specs.declared.judged.Judged.TheVariants as judged
 use Rattle.path_core.specs.declared.modes.Modes.{Modes}
 use Rattle.path_core.specs.Ends.{PathEnd, Treated, nothing_treated}
 use Rattle.path_core.specs.Joins.{is_joined, join_asked, join_answer, third_in, is_third_right}
-use Rattle.path_core.specs.Placing.{kept_of}
-use Rattle.path_core.specs.Segments.{spelled_by}
+use Rattle.path_core.specs.Deliver.{kept_of}
+use Rattle.path_core.specs.OptionsOut.{spelled_by}
 use Rattle.path_core.specs.State.{Profile}
 use Rattle.actor_desk.specs.Words.{is_nil}
 
@@ -104,8 +104,8 @@ abbrev pub mapping_items : ℕ → ℕ → ℕ → Bool → List Heard
 mapping_items place position count fin = if is_mapping place position count then says.Mapping fin ∷ [] else []
 
 -- the end of the stream, at a place of at most 2^62
-abbrev pub end_items : ℕ → List Heard
-end_items place = if nat_le place (2 ^ 62) then says.DataFin place ∷ [] else []
+abbrev pub data_fin_items : ℕ → List Heard
+data_fin_items place = if nat_le place (2 ^ 62) then says.DataFin place ∷ [] else []
 
 -- an infinite mapping, which begins at a place below 2^62
 abbrev pub infinite_items : ℕ → Option ℕ → List Heard
@@ -114,7 +114,7 @@ infinite_items place position = if nat_lt place (2 ^ 62) then says.InfiniteMappi
 -- a mapping that names a place, the last number of which may be the DATA_FIN's; a DATA_FIN alone; an infinite mapping
 abbrev pub map_items : Option (PathMapping (Option ℕ)) → List Heard
 map_items (Some (Bytes (Some place) (Some position) len fin checksum)) = mapping_items place position (octets_in len fin) fin
-map_items (Some (End (Some place) checksum)) = end_items place
+map_items (Some (End (Some place) checksum)) = data_fin_items place
 map_items (Some (Infinite (Some place) position)) = infinite_items place position
 map_items _ = []
 

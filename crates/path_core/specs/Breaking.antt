@@ -11,8 +11,8 @@ use Rattle.path_agenda.specs.declared.duty.Duty.{Duty}
 use Rattle.path_agenda.specs.Agenda.{leaves, resets}
 use Rattle.path_core.specs.Codec.{Codec}
 use Rattle.path_core.specs.Events.{died}
-use Rattle.path_core.specs.Segments.{reset_said}
-use Rattle.path_core.specs.Sends.{sends, sent_on}
+use Rattle.path_core.specs.OptionsOut.{reset_said}
+use Rattle.path_core.specs.Handover.{sends, sent_on}
 use Rattle.path_core.specs.Standing.{ack_out_ask, answered_ack_out}
 use Rattle.path_core.specs.State.{PathState, end_at, path_of}
 

@@ -18,17 +18,17 @@ use Rattle.path_agenda.specs.declared.duty.StepDuty.TheVariants as step_duties
 use Rattle.path_agenda.specs.Agenda.{leaves}
 use Rattle.path_core.specs.Breaking.{reset_of, reset_on, break_ask, answered_break, return_ask, dead_ask}
 use Rattle.path_agenda.specs.Agenda.{resets}
-use Rattle.path_core.specs.Closing.{is_end_due, is_fin_due}
+use Rattle.path_core.specs.StreamEnds.{is_data_fin_due, is_fin_due}
 use Rattle.path_core.specs.Codec.{Codec}
-use Rattle.path_core.specs.Emission.{is_syn_due, data_stands, first_unsent, unsent_segment, data_ask, answered_syn, answered_data, end_segment, answered_end, fin_segment_of, answered_fin, after_timer}
+use Rattle.path_core.specs.Emission.{is_syn_due, data_stands, first_unsent, unsent_segment, data_ask, answered_syn, answered_data, data_fin_segment, answered_data_fin_sent, fin_segment_of, answered_fin, after_timer}
 use Rattle.path_core.specs.Events.{next_event, step_for, happens_if, answered_join_again}
 use Rattle.path_core.specs.Joining.{is_join_pending, join_begin_ask, asked_at, join_heard_ask, answered_join_heard, refusal_of, answered_refusal}
 use Rattle.path_agenda.specs.Items.{key_heard, keys_heard}
-use Rattle.path_core.specs.Falling.{fell_ask, answered_fell, identity_ask, answered_identity}
+use Rattle.path_core.specs.Fallback.{fell_ask, answered_fell, identity_ask, answered_identity}
 use Rattle.path_core.specs.Opening.{syn_window_ask, syn_ack_of, answered_syn_ack, is_plain_syn, peer_key_stands, peer_key_ask, answered_peer_key, is_opened_by_keys, is_opened_plainly, opened_ask, answered_opened, live_ask}
-use Rattle.path_core.specs.Passing.{piece_of, piece_ask, is_placed, answered_piece, is_fin_set, fin_of, fin_ask, answered_fin_heard, after_pass_fin, plain_fin, answered_plain_fin, rate_ask, answered_rate, first_segment, answered_again, answer_of, answered_answer, dead_answer, answered_dead, resend_of, answered_resend}
-use Rattle.path_core.specs.Placing.{after_check, breaks_by_unmapped, after_pieces}
-use Rattle.path_core.specs.Sends.{sends}
+use Rattle.path_core.specs.Passing.{piece_of, piece_ask, is_placed, answered_piece, is_fin_set, data_fin_of, fin_ask, answered_fin_heard, after_pass_fin, plain_fin, answered_plain_fin, rate_ask, answered_rate, first_segment, answered_again, answer_of, answered_answer, dead_answer, answered_dead, resend_of, answered_resend}
+use Rattle.path_core.specs.Deliver.{after_check, breaks_by_unmapped, after_pieces}
+use Rattle.path_core.specs.Handover.{sends}
 use Rattle.path_core.specs.Standing.{look_ask, answered_look, ack_out_ask, answered_ack_out, is_update_due, ack_segment, acknowledges}
 use Rattle.path_core.specs.State.{PathState, end_at, with_end, left, path_of, with_agenda}
 use Rattle.path_core.specs.Treating.{item_of, item_stands, item_ask, answered_item, item_passed, plain_ack_stands, plain_ack_ask, with_plain_ack, answered_plain_ack, subflow_ack_stands, subflow_ack_ask, answered_subflow_ack, plain_data_stands, after_keep}
@@ -52,7 +52,7 @@ stands (duties.Ask (ask_duties.SubflowAck s)) p = subflow_ack_stands (end_at s p
 stands (duties.Ask (ask_duties.PlainData s)) p = plain_data_stands (end_at s p)
 stands (duties.Ask (ask_duties.GoIdentity s)) p = true
 stands (duties.Ask (ask_duties.Edge s)) p = is_some (piece_of s p)
-stands (duties.Ask (ask_duties.HeardFin s index)) p = is_some (fin_of index (end_at s p))
+stands (duties.Ask (ask_duties.HeardFin s index)) p = is_some (data_fin_of index (end_at s p))
 stands (duties.Ask (ask_duties.SubflowFin s)) p = is_some (plain_fin (end_at s p))
 stands (duties.Ask (ask_duties.AckOut s)) p = (end_at s p).treated.asked
 stands (duties.Ask (ask_duties.Rate s)) p = is_some (end_at s p).tcp.congestion.pending
@@ -68,7 +68,7 @@ stands (duties.Step (step_duties.PlainAck s)) p = plain_ack_stands p.profile (en
 stands (duties.Step (step_duties.Unmapped s)) p = breaks_by_unmapped (end_at s p)
 stands (duties.Send (send_duties.Update s)) p = is_update_due p.profile (end_at s p)
 stands (duties.Send (send_duties.Syn s)) p = is_syn_due (end_at s p)
-stands (duties.Send (send_duties.DataFin s)) p = is_end_due (end_at s p)
+stands (duties.Send (send_duties.DataFin s)) p = is_data_fin_due (end_at s p)
 stands (duties.Send (send_duties.Fin s)) p = is_fin_due (end_at s p)
 stands (duties.Send (send_duties.SynAck s)) p = true
 stands (duties.Send (send_duties.Refuse s)) p = true
@@ -99,7 +99,7 @@ ask_for k (duties.Ask (ask_duties.SubflowAck s)) p = subflow_ack_ask s (end_at s
 ask_for k (duties.Ask (ask_duties.PlainData s)) p = fell_ask s events.PlainData p
 ask_for k (duties.Ask (ask_duties.GoIdentity s)) p = identity_ask s
 ask_for k (duties.Ask (ask_duties.Edge s)) p = piece_ask s (piece_of s p)
-ask_for k (duties.Ask (ask_duties.HeardFin s index)) p = fin_ask s (fin_of index (end_at s p))
+ask_for k (duties.Ask (ask_duties.HeardFin s index)) p = fin_ask s (data_fin_of index (end_at s p))
 ask_for k (duties.Ask (ask_duties.SubflowFin s)) p = fin_ask s (plain_fin (end_at s p))
 ask_for k (duties.Ask (ask_duties.AckOut s)) p = ack_out_ask s
 ask_for k (duties.Ask (ask_duties.Rate s)) p = rate_ask s (end_at s p).tcp.congestion.pending p
@@ -115,7 +115,7 @@ ask_for k (duties.Step (step_duties.PlainAck s)) p = plain_ack_ask k s p
 ask_for k (duties.Step (step_duties.Unmapped s)) p = break_ask k s 6 p
 ask_for k (duties.Send (send_duties.Update s)) p = sends k s (ack_segment s p) p
 ask_for k (duties.Send (send_duties.Syn s)) p = sends k s (unsent_segment s p) p
-ask_for k (duties.Send (send_duties.DataFin s)) p = sends k s (end_segment s p) p
+ask_for k (duties.Send (send_duties.DataFin s)) p = sends k s (data_fin_segment s p) p
 ask_for k (duties.Send (send_duties.Fin s)) p = sends k s (fin_segment_of s p) p
 ask_for k (duties.Send (send_duties.SynAck s)) p = sends k s (syn_ack_of s p) p
 ask_for k (duties.Send (send_duties.Refuse s)) p = sends k s (refusal_of s p) p
@@ -176,7 +176,7 @@ done p = with_agenda (left p) p
 abbrev pub sent_for : {C : Type 0} → Codec C → SendDuty → PathState C → PathState C
 sent_for k (send_duties.Update s) p = acknowledges k s p
 sent_for k (send_duties.Syn s) p = answered_syn k s p
-sent_for k (send_duties.DataFin s) p = answered_end k s p
+sent_for k (send_duties.DataFin s) p = answered_data_fin_sent k s p
 sent_for k (send_duties.Fin s) p = answered_fin k s p
 sent_for k (send_duties.SynAck s) p = answered_syn_ack k s p
 sent_for k (send_duties.Refuse s) p = answered_refusal k s p

@@ -20,12 +20,12 @@ use Rattle.actor_desk.specs.declared.ask.Ask.TheVariants as asks
 use Rattle.actor_desk.specs.declared.ask.Reply.{Reply}
 use Rattle.actor_desk.specs.declared.ask.Reply.TheVariants as replies
 use Rattle.path_core.specs.declared.granted_piece.GrantedPiece.{GrantedPiece}
-use Rattle.path_core.specs.Closing.{after_granted, after_refusal, with_end_sent, is_waiting, without_news}
+use Rattle.path_core.specs.StreamEnds.{after_granted, after_refusal, with_data_fin_sent, is_waiting, without_news}
 use Rattle.path_core.specs.Codec.{Codec}
 use Rattle.path_core.specs.Ends.{PathEnd, Sending}
 use Rattle.path_core.specs.Joins.{is_joined}
-use Rattle.path_core.specs.Segments.{ack_said, fin_said, record_or_ack, mapping_of}
-use Rattle.path_core.specs.Sends.{sends, having_sent, sent_on, with_told}
+use Rattle.path_core.specs.OptionsOut.{ack_said, fin_said, record_or_ack, mapping_of}
+use Rattle.path_core.specs.Handover.{sends, having_sent, sent_on, with_told}
 use Rattle.path_core.specs.State.{PathState, Profile, end_at, goes_on, left, path_of}
 use Rattle.path_core.specs.Words.{is_side_a}
 
@@ -122,15 +122,15 @@ answered_syn k s p = sent_on k s (unsent_segment s p) (having_sent_unsent s p) (
 -- ---- the ends of both streams
 
 -- the acknowledgement that carries the DATA_FIN
-abbrev pub end_segment : {C : Type 0} → Side → PathState C → PlainSegment
-end_segment s p = ack_said p.profile s (end_at s p).tcp.send.nxt (end_at s p).sending.known_end (end_at s p)
+abbrev pub data_fin_segment : {C : Type 0} → Side → PathState C → PlainSegment
+data_fin_segment s p = ack_said p.profile s (end_at s p).tcp.send.nxt (end_at s p).sending.known_end (end_at s p)
 
-abbrev pub having_sent_end : {C : Type 0} → Side → PathState C → PathEnd
-having_sent_end s p =
-    let e = having_sent to_send.Ack p.clock (end_segment s p) (end_at s p) in record e { sending = with_end_sent e.sending }
+abbrev pub having_sent_data_fin : {C : Type 0} → Side → PathState C → PathEnd
+having_sent_data_fin s p =
+    let e = having_sent to_send.Ack p.clock (data_fin_segment s p) (end_at s p) in record e { sending = with_data_fin_sent e.sending }
 
-abbrev pub answered_end : {C : Type 0} → Codec C → Side → PathState C → PathState C
-answered_end k s p = sent_on k s (end_segment s p) (having_sent_end s p) (left p) p
+abbrev pub answered_data_fin_sent : {C : Type 0} → Codec C → Side → PathState C → PathState C
+answered_data_fin_sent k s p = sent_on k s (data_fin_segment s p) (having_sent_data_fin s p) (left p) p
 
 abbrev pub fin_segment_of : {C : Type 0} → Side → PathState C → PlainSegment
 fin_segment_of s p = fin_said p.profile (end_at s p)

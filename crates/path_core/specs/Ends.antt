@@ -8,7 +8,7 @@ use Rattle.subflow_tcp.specs.State.{EndState}
 use Rattle.path_agenda.specs.declared.heard.Heard.{Heard}
 use Rattle.path_agenda.specs.declared.notice.OwnNotice.{OwnNotice}
 use Rattle.path_core.specs.declared.granted_piece.GrantedPiece.{GrantedPiece}
-use Rattle.path_core.specs.declared.mapped_fin.MappedFin.{MappedFin}
+use Rattle.path_core.specs.declared.mapped_data_fin.MappedDataFin.{MappedDataFin}
 use Rattle.path_core.specs.declared.modes.Modes.{Modes}
 
 -- the side's own stream
@@ -43,7 +43,7 @@ pub record Receiving : Type 0 where
   -- the peer's FIN was told as the end of its stream
   pub fin_told : Bool
   -- a DATA_FIN behind bytes that the edge hasn't passed yet
-  pub mapped_fin : Option MappedFin
+  pub mapped_data_fin : Option MappedDataFin
 
 -- the same, and for how many mappings more there is room
 pub record ReceivingStore : Type 0 where
@@ -111,7 +111,7 @@ no_sending = record {
 
 abbrev pub no_receiving : Receiving
 no_receiving =
-    record { next = 0; window = 0; told_edge = 0; mappings = no_mappings; unmapped = 0; unmapped_at = 0; fin_told = false; mapped_fin = None }
+    record { next = 0; window = 0; told_edge = 0; mappings = no_mappings; unmapped = 0; unmapped_at = 0; fin_told = false; mapped_data_fin = None }
 
 -- no copy is treated
 abbrev pub nothing_treated : Treated

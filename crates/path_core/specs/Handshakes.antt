@@ -21,7 +21,7 @@ use Rattle.subflow_send.specs.Records.{Record}
 use Rattle.path_agenda.specs.Items.{key_heard, keys_heard}
 use Rattle.path_core.specs.Arriving.{asks_capable, key_items}
 use Rattle.path_core.specs.Ends.{PathEnd}
-use Rattle.path_core.specs.Segments.{spelled_by, bare_mapping, checksum_in, checksum_told, capable_options, key_options, first_piece_options, end_mapping, reset_options}
+use Rattle.path_core.specs.OptionsOut.{spelled_by, bare_mapping, checksum_in, checksum_told, capable_options, key_options, first_piece_options, data_fin_mapping, reset_options}
 use Rattle.path_core.specs.State.{Profile}
 
 -- options as the octets of a side have them
@@ -84,7 +84,7 @@ number_at c s place = data_number (numbers_of c.spelling (spelled_by s)).idsn.0 
 -- a path's segments
 pub record EndsAreSaid (c : Profile) (s : Side) : Type 0 where
   pub data_fin : c.spelling.short ≡ false → (next place : ℕ)
-      → said_option c.spelling (spelled_by s) (Dss (Some next) (end_mapping c s (Some place)))
+      → said_option c.spelling (spelled_by s) (Dss (Some next) (data_fin_mapping c s (Some place)))
       ≡ value_of (data_fin_option (number_at c (peer s) next) (number_at c s place) (checksum_told c (checksum_in c (bare_mapping c s place 0 1) [])))
   pub reset : (reason : ℕ) → in_octets c s (reset_options (Some reason)) ≡ value_of (reset_option reason) ∷ []
   pub fast_close : (key : ℕ) → in_octets c s (FastClose key ∷ []) ≡ value_of (fast_close_option key) ∷ []

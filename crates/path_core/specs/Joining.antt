@@ -28,8 +28,8 @@ use Rattle.path_core.specs.Codec.{Codec}
 use Rattle.path_core.specs.Ends.{PathEnd}
 use Rattle.path_core.specs.Joins.{join_asked}
 use Rattle.path_core.specs.Passing.{outgoing_or}
-use Rattle.path_core.specs.Segments.{segment_of, reset_options}
-use Rattle.path_core.specs.Sends.{sent_on}
+use Rattle.path_core.specs.OptionsOut.{segment_of, reset_options}
+use Rattle.path_core.specs.Handover.{sent_on}
 use Rattle.path_core.specs.State.{PathState, end_at, goes_on, left, path_of, with_agenda}
 use Rattle.path_core.specs.declared.modes.Modes.{Modes}
 

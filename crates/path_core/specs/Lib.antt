@@ -3,11 +3,11 @@ pub mod Codec
 pub mod Ends
 pub mod State
 pub mod Joins
-pub mod Segments
-pub mod Sends
-pub mod Closing
+pub mod OptionsOut
+pub mod Handover
+pub mod StreamEnds
 pub mod Rising
-pub mod Placing
+pub mod Deliver
 pub mod Arriving
 pub mod FewThings
 pub mod Handshakes
@@ -15,7 +15,7 @@ pub mod Events
 pub mod Noticing
 pub mod Standing
 pub mod Emission
-pub mod Falling
+pub mod Fallback
 pub mod Opening
 pub mod Joining
 pub mod Breaking

@@ -7,7 +7,7 @@ use Rattle.path_segments.specs.declared.spelling.Spelling.{Spelling}
 use Rattle.path_segments.specs.Spelled.{PlainSegment, spelled_text, spelled_sum}
 use Rattle.path_segments.specs.Heard as hearing
 use Rattle.path_core.specs.Codec.{Codec, HeardSegment}
-use Rattle.path_core.specs.Segments.{spelled_by}
+use Rattle.path_core.specs.OptionsOut.{spelled_by}
 
 abbrev pub made : Spelling → Side → PlainSegment → List ℕ
 made spelling s segment = spelled_text spelling (spelled_by s) segment

@@ -18,9 +18,9 @@ use Rattle.path_agenda.specs.declared.keys.KeyPair.{KeyPair}
 use Rattle.path_agenda.specs.Items.{key_heard, keys_heard}
 use Rattle.path_core.specs.declared.modes.Modes.{Modes}
 use Rattle.path_core.specs.Ends.{PathEnd}
-use Rattle.path_core.specs.Falling.{fell_ask, answered_fell}
-use Rattle.path_core.specs.Segments.{syn_ack_said}
-use Rattle.path_core.specs.Sends.{having_sent, sent_on}
+use Rattle.path_core.specs.Fallback.{fell_ask, answered_fell}
+use Rattle.path_core.specs.OptionsOut.{syn_ack_said}
+use Rattle.path_core.specs.Handover.{having_sent, sent_on}
 use Rattle.path_core.specs.State.{PathState, end_at, goes_on, left, path_of}
 
 -- ---- the window of a SYN

@@ -24,12 +24,12 @@ use Rattle.actor_desk.specs.declared.ask.LocalStep.TheVariants as steps
 use Rattle.actor_desk.specs.declared.ask.Reply.{Reply}
 use Rattle.actor_desk.specs.declared.ask.Reply.TheVariants as replies
 use Rattle.path_agenda.specs.Agenda.{breaks}
-use Rattle.path_core.specs.Closing.{after_peer_end, is_end_owed}
+use Rattle.path_core.specs.StreamEnds.{after_peer_data_fin, is_data_fin_owed}
 use Rattle.path_core.specs.Codec.{Codec}
 use Rattle.path_core.specs.Ends.{PathEnd}
-use Rattle.path_core.specs.Placing.{Piece, next_piece, after_piece}
-use Rattle.path_core.specs.Segments.{ack_said, syn_ack_said, segment_of, record_or_ack}
-use Rattle.path_core.specs.Sends.{having_sent, sent_on}
+use Rattle.path_core.specs.Deliver.{Piece, next_piece, after_piece}
+use Rattle.path_core.specs.OptionsOut.{ack_said, syn_ack_said, segment_of, record_or_ack}
+use Rattle.path_core.specs.Handover.{having_sent, sent_on}
 use Rattle.path_core.specs.State.{PathState, Profile, end_at, goes_on, left, path_of}
 use Rattle.path_core.specs.Words.{item_at}
 
@@ -63,22 +63,22 @@ piece_of s p = next_piece p.profile (end_at s p)
 
 -- ---- the end of the stream
 
-abbrev pub fin_of : ℕ → PathEnd → Option ℕ
-fin_of index e = item_at index e.treated.fins
+abbrev pub data_fin_of : ℕ → PathEnd → Option ℕ
+data_fin_of index e = item_at index e.treated.fins
 
 abbrev pub fin_ask : Side → Option ℕ → Ask
 fin_ask s None = asks.Local steps.End
 fin_ask s (Some place) = asks.Reassembly s (reassembly_calls.Fin place)
 
-abbrev pub with_peer_end : PathEnd → PathEnd
-with_peer_end e = record e { sending = after_peer_end e.sending }
+abbrev pub with_peer_data_fin : PathEnd → PathEnd
+with_peer_data_fin e = record e { sending = after_peer_data_fin e.sending }
 
 abbrev pub is_fin_set : Reply → Bool
 is_fin_set (replies.Reassembly reassembly_replies.FinSet) = true
 is_fin_set _ = false
 
 abbrev pub fin_set : {C : Type 0} → Side → PathState C → PathState C
-fin_set s p = goes_on s (having_asked (with_peer_end (end_at s p))) (left p) p
+fin_set s p = goes_on s (having_asked (with_peer_data_fin (end_at s p))) (left p) p
 
 abbrev pub answered_fin_heard : {C : Type 0} → Side → Bool → PathState C → PathState C
 answered_fin_heard s set p = if set then fin_set s p else refused s p
@@ -102,7 +102,7 @@ with_fin_told e = record e { receiving = record e.receiving { fin_told = true } 
 
 abbrev pub answered_plain_fin : {C : Type 0} → Side → Bool → PathState C → PathState C
 answered_plain_fin s set p =
-    if set then goes_on s (having_asked (with_peer_end (with_fin_told (end_at s p)))) (left p) p else refused s p
+    if set then goes_on s (having_asked (with_peer_data_fin (with_fin_told (end_at s p)))) (left p) p else refused s p
 
 -- ---- the growth of the window
 
@@ -177,12 +177,12 @@ answered_dead k s p = sent_on k s (dead_answer s p) (end_at s p) (left p) p
 abbrev pub resend_occasion : PathEnd → Occasion
 resend_occasion e =
     if has_records e.tcp then to_send.First
-    else (if e.modes.owes_third || is_end_owed e then to_send.Ack else to_send.Probe)
+    else (if e.modes.owes_third || is_data_fin_owed e then to_send.Ack else to_send.Probe)
 
 abbrev pub ack_resent : Profile → Side → PathEnd → PlainSegment
 ack_resent c s e =
     if e.modes.owes_third then ack_said c s e.tcp.send.nxt None e
-    else (if is_end_owed e then ack_said c s e.tcp.send.nxt e.sending.known_end e
+    else (if is_data_fin_owed e then ack_said c s e.tcp.send.nxt e.sending.known_end e
     else ack_said c s (e.tcp.send.una - 1) None e)
 
 abbrev pub resend_said : Profile → Side → PathEnd → PlainSegment

@@ -14,9 +14,9 @@ use Rattle.path_core.specs.declared.segment_kind.SegmentKind.TheVariants as to_s
 use Rattle.path_core.specs.Emission.{first_unsent}
 use Rattle.path_core.specs.Ends.{PathEnd}
 use Rattle.path_core.specs.Passing.{outgoing_or, first_record, answer_said, resend_said}
-use Rattle.path_core.specs.Segments.{spelled_by, reset_options, segment_of, ack_said, notice_said, fast_close_said, fin_said, syn_ack_said, reset_said, fail_reset_said, record_or_ack}
+use Rattle.path_core.specs.OptionsOut.{spelled_by, reset_options, segment_of, ack_said, notice_said, fast_close_said, fin_said, syn_ack_said, reset_said, fail_reset_said, record_or_ack}
 use Rattle.path_core.specs.Octets.{octets}
-use Rattle.path_core.specs.Sends.{having_sent, sent_on}
+use Rattle.path_core.specs.Handover.{having_sent, sent_on}
 use Rattle.path_core.specs.State.{PathState, Profile, end_at}
 
 -- an option that may be there

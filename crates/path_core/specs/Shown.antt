@@ -5,7 +5,7 @@ use Rattle.link_script.specs.declared.script.ScriptLine.{ScriptLine}
 use Rattle.link_model.specs.declared.flight.Due.{Due}
 use Rattle.link_model.specs.declared.flight.Flight.{Flight}
 use Rattle.link_model.specs.Fate.{is_altered}
-use Rattle.link_model.specs.Laws.{shown}
+use Rattle.link_model.specs.Laws.{with_copies_shown}
 use Rattle.link_model.specs.Octets.{octets_stripped}
 use Rattle.link_model.specs.Steps.{peer, arriving}
 use Rattle.path_segments.specs.declared.expected.Expected.{Expected}
@@ -19,7 +19,7 @@ use Rattle.path_core.specs.Arriving.{expected_by}
 use Rattle.path_core.specs.Events.{next_event}
 use Rattle.path_core.specs.declared.event.Event.TheVariants as happenings
 use Rattle.path_core.specs.Octets.{made, octets}
-use Rattle.path_core.specs.Segments.{spelled_by}
+use Rattle.path_core.specs.OptionsOut.{spelled_by}
 use Rattle.path_core.specs.State.{PathState, end_at}
 use Rattle.path_core.specs.Steps.{asks_of, takes, next_round}
 use Rattle.path_core.specs.Values.{Carried, values}
@@ -33,7 +33,7 @@ octets_of spelling carried =
 abbrev pub shown_path : PathState Carried → PathState (List ℕ)
 shown_path p = record {
   profile = p.profile;
-  link = shown (octets_of p.profile.spelling) p.link;
+  link = with_copies_shown (octets_of p.profile.spelling) p.link;
   clock = p.clock;
   until = p.until;
   lines = p.lines;

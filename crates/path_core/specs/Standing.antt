@@ -20,8 +20,8 @@ use Rattle.path_core.specs.Codec.{Codec}
 use Rattle.path_core.specs.declared.modes.Modes.{Modes}
 use Rattle.path_core.specs.Ends.{PathEnd, Receiving, Notices}
 use Rattle.path_core.specs.Noticing.{after_notice, queues}
-use Rattle.path_core.specs.Segments.{ack_said}
-use Rattle.path_core.specs.Sends.{having_sent, sent_on}
+use Rattle.path_core.specs.OptionsOut.{ack_said}
+use Rattle.path_core.specs.Handover.{having_sent, sent_on}
 use Rattle.path_core.specs.State.{PathState, Profile, end_at, goes_on, left, path_of}
 
 -- ---- Look

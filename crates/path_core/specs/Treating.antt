@@ -20,18 +20,18 @@ use Rattle.path_agenda.specs.declared.duty.AskDuty.TheVariants as ask_duties
 use Rattle.path_agenda.specs.declared.heard.Heard.{Heard}
 use Rattle.path_agenda.specs.declared.heard.Heard.TheVariants as says
 use Rattle.path_core.specs.Breaking.{answered_break, break_ask}
-use Rattle.path_core.specs.Closing.{after_acked}
+use Rattle.path_core.specs.StreamEnds.{after_acked}
 use Rattle.path_core.specs.Codec.{Codec}
 use Rattle.path_core.specs.declared.modes.Modes.{Modes}
 use Rattle.path_core.specs.Ends.{PathEnd, Sending}
 use Rattle.path_core.specs.Opening.{keys_ask, after_keys}
-use Rattle.path_core.specs.Placing.{with_learned, with_skipped, fins_and}
+use Rattle.path_core.specs.Deliver.{with_learned, with_skipped, fins_and}
 use Rattle.path_core.specs.Joins.{is_joined}
 use Rattle.path_core.specs.State.{PathState, Profile, end_at, goes_on, left, with_agenda}
 use Rattle.path_agenda.specs.Words.{replaced}
 use Rattle.path_core.specs.Words.{is_side_a, item_at, one_more}
 -- what is told of the mode
-pub use Rattle.path_core.specs.Falling.{fell_ask, mode_in, after_verdict, after_fell, fell_duties, answered_fell}
+pub use Rattle.path_core.specs.Fallback.{fell_ask, mode_in, after_verdict, after_fell, fell_duties, answered_fell}
 
 -- ---- one thing that was heard
 
@@ -103,15 +103,15 @@ answered_mapping k s r p =
     else goes_on s (with_learned (after_fell events.MappingHeard r (end_at s p))) (fell_duties s r p) p
 
 -- the end of the stream is told later
-abbrev pub with_fin : ℕ → PathEnd → PathEnd
-with_fin place e =
+abbrev pub with_data_fin : ℕ → PathEnd → PathEnd
+with_data_fin place e =
     record e { treated = record e.treated { fins = fins_and (Some place) e.treated.fins } }
 
 abbrev pub answered_heard : {C : Type 0} → Codec C → Side → Heard → Reply → PathState C → PathState C
 answered_heard k s (says.DataAck next window) r p = answered_ack s next r p
 answered_heard k s (says.Mapping fin) r p = answered_mapping k s r p
 answered_heard k s (says.DataFin place) r p =
-    goes_on s (with_fin place (after_fell events.MappingHeard r (end_at s p))) (fell_duties s r p) p
+    goes_on s (with_data_fin place (after_fell events.MappingHeard r (end_at s p))) (fell_duties s r p) p
 answered_heard k s (says.InfiniteMapping place position) r p = answered_fell s events.InfiniteHeard r p
 answered_heard k s (says.Keys own peer) r p =
     goes_on s (after_keys r (Some (record { own = own; peer = peer })) (end_at s p)) (left p) p
@@ -128,7 +128,7 @@ after_dss s e = record e {
 abbrev pub heard_passed : Side → Heard → PathEnd → PathEnd
 heard_passed s says.Dss e = after_dss s e
 heard_passed s (says.Mapping fin) e = if counts e then with_learned e else with_skipped e
-heard_passed s (says.DataFin place) e = if counts e then with_fin place e else e
+heard_passed s (says.DataFin place) e = if counts e then with_data_fin place e else e
 heard_passed s _ e = e
 
 -- ---- by the number of the thing

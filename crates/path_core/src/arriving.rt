@@ -19,19 +19,19 @@ ghost use Rattle.path_core.specs.Octets.{octets, read};
 ghost use Rattle.path_core.specs.State.{end_at};
 
 use crate::end::PathEnd;
-use crate::hearing::{
-    asks_capable, edge_held, has_option, is_plain_ack, items_of, opens_by, options_heard, owes_by,
-};
 use crate::judged::Judged;
 use crate::machine::Machine;
 use crate::modes::Modes;
+use crate::options_in::{
+    asks_capable, edge_held, has_option, is_plain_ack, items_of, opens_by, options_heard, owes_by,
+};
 use crate::profile::{peer, spelled_by};
 use crate::treated::Treated;
 use dss_mapping::KeptMapping;
 use link_model::Due;
 use outside_kit::Side;
 use path_agenda::{Agenda, Heard, Items, place_in_first};
-use path_segments::{Expected, HeardPosition, HeardSegment, Spelling, hear};
+use path_segments::{Expected, HeardPosition, HeardSegment, Spelling, parse_segment};
 use seq_units::Pos;
 use std::alloc::AllocError;
 use subflow_tcp::{Arrival, Arriving, Meaning, Outgoing, Subflow};
@@ -51,7 +51,7 @@ fn heard_of<'a>(
     ensures short { IfSome result (λ heard. IsHeardShort (heard_value heard)) }
     ensures few { IfSome result (λ heard. SaysFew (heard_value heard).options) }
 {
-    hear(spelling, from, expected, octets)
+    parse_segment(spelling, from, expected, octets)
 }
 
 /// The header and the payload of a segment that is heard.
@@ -131,7 +131,7 @@ fn hold_payload(tcp: &mut Subflow, meaning: Meaning, payload: &[u8]) -> Result<(
 }
 
 /// A subflow takes a copy that means this.
-fn hear_meant(
+fn take_meant(
     tcp: &mut Subflow,
     meaning: Meaning,
     arriving: &Arriving<'_>,
@@ -143,7 +143,7 @@ fn hear_meant(
     ensures arrival { result ≡ arrival_of meaning (unkept place) (subflow.copy_of arriving.now) tcp.old }
     ensures after { tcp.new ≡ after_arrival meaning (unkept place) now (subflow.copy_of arriving.now) tcp.old }
 {
-    tcp.hear(meaning, arriving, place, now)
+    tcp.take_segment(meaning, arriving, place, now)
 }
 
 /// A subflow takes a copy as this: as what it means, or as nothing.
@@ -160,7 +160,7 @@ fn take_as(
 {
     match meaning {
         Meaning::Ignored => Arrival::Dropped,
-        _ => hear_meant(tcp, meaning, arriving, place, now),
+        _ => take_meant(tcp, meaning, arriving, place, now),
     }
 }
 
@@ -258,7 +258,7 @@ impl PathEnd {
 
     /// The subflow takes a copy of this meaning, which says these things and acknowledges this position where it is taken; they are
     /// still to be treated.
-    fn hear_copy(
+    fn take_copy_meant(
         &mut self,
         items: Items,
         now: u64,
@@ -285,7 +285,7 @@ impl PathEnd {
 
     /// A copy that is this to the end, and says these mappings, is taken, and is answered so at a dead end. At an error all is
     /// as it was.
-    fn hear_judged(
+    fn take_judged(
         &mut self,
         joined: bool,
         side: Side,
@@ -307,7 +307,7 @@ impl PathEnd {
         let acknowledged = self.acknowledged_by(meaning, heard);
         self.hold(meaning, heard, told)?;
         self.join_by(joined, items.as_slice(), meaning);
-        self.hear_copy(items, now, heard, meaning, acknowledged, answer);
+        self.take_copy_meant(items, now, heard, meaning, acknowledged, answer);
         Ok(())
     }
 
@@ -324,7 +324,7 @@ impl PathEnd {
     }
 
     /// A segment is heard, which says these mappings, and is answered so at a dead end. At an error all is as it was.
-    fn hear_segment(
+    fn take_segment(
         &mut self,
         joined: bool,
         side: Side,
@@ -343,14 +343,14 @@ impl PathEnd {
         let judged = self.judge(joined, side, heard);
         let count = items_of(joined, side, heard).len();
         let meaning = judged.taken_as();
-        self.hear_judged(joined, side, now, heard, meaning, told, answer)?;
+        self.take_judged(joined, side, now, heard, meaning, told, answer)?;
         Ok(template_judged(joined, side, count, judged))
     }
 }
 
 impl Machine {
     /// A segment is heard at a side at this tick, which follows the path's. At an error all is as it was.
-    fn hear_segment(
+    fn take_segment(
         &mut self,
         side: Side,
         now: u64,
@@ -366,14 +366,14 @@ impl Machine {
         let joined = self.profile.is_joined();
         let agenda = self
             .end_mut(side)
-            .hear_segment(joined, side, now, heard, told, answer)?;
+            .take_segment(joined, side, now, heard, told, answer)?;
         self.sets_about(agenda);
         Ok(())
     }
 
     /// A segment is heard at a side at this tick; after a fallback its options aren't. At an error all is as it was.
     #[tactic(auto, using(crate::proofs::FewThings::unheard_few))]
-    fn hear_told(
+    fn take_told_segment(
         &mut self,
         side: Side,
         now: u64,
@@ -385,18 +385,18 @@ impl Machine {
         ensures err { OnErr result (self.new ≡ self.old) }
     {
         let heard = options_heard(self.end(side).modes.identity, heard);
-        self.hear_segment(side, now, &heard)
+        self.take_segment(side, now, &heard)
     }
 
     /// Octets arrive at a side at this tick: those that are no segment are dropped. At an error all is as it was.
-    fn hear_octets(&mut self, side: Side, now: u64, octets: &[u8]) -> Result<(), AllocError>
+    fn take_octets(&mut self, side: Side, now: u64, octets: &[u8]) -> Result<(), AllocError>
         ensures ok { OnOk result (self.new ≡ heard_at now side (read self.old.profile.spelling (peer side) (expected_by (end_at side self.old)) octets.now) self.old) }
         ensures err { OnErr result (self.new ≡ self.old) }
     {
         let expected = self.end(side).expected();
         let spelling = *self.profile.spelling();
         match heard_of(&spelling, spelled_by(peer(side)), &expected, octets) {
-            Some(heard) => self.hear_told(side, now, &heard),
+            Some(heard) => self.take_told_segment(side, now, &heard),
             None => {
                 self.sets_about(Agenda::emission(side));
                 Ok(())
@@ -412,7 +412,7 @@ impl Machine {
     {
         let carried = self.link.octets(&due)?;
         let now = self.clock.now().max(due.tick);
-        self.hear_octets(due.to, now, carried.as_slice())?;
+        self.take_octets(due.to, now, carried.as_slice())?;
         self.link.deliver(&due);
         self.clock.reach(due.tick);
         Ok(())

@@ -141,7 +141,7 @@ impl Machine {
             AskDuty::HeardFin { side, .. } => self.answer_fin(side, reply),
             AskDuty::SubflowFin(side) => self.answer_plain_fin(side, reply),
             AskDuty::AckOut(side) => self.ack_out(side, reply),
-            AskDuty::Rate(side) => self.hear_rate(side, reply),
+            AskDuty::Rate(side) => self.take_rate_reply(side, reply),
             AskDuty::Return(_) => self.done(),
             AskDuty::BreakAck { side, reason } => self.ack_out_breaking(side, reply, reason),
             AskDuty::Leave(side) => self.turns_to(Duty::Ask(AskDuty::Dead(side))),

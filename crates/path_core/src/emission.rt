@@ -8,7 +8,7 @@ ghost use Rattle.subflow_tcp.specs.States.{may_finish};
 ghost use Rattle.subflow_tcp.specs.Closing.{after_finishing};
 ghost use Rattle.subflow_tcp.specs.Emitting.{after_sending};
 ghost use Rattle.path_core.specs.Octets.{octets};
-ghost use Rattle.path_core.specs.Emission.{first_unsent, is_syn_due, fits, may_send_data, may_ask, data_stands, grant_ask, data_ask, grant_in, with_piece, granted, refused, answered_grant, answered_data, answered_syn, answered_end, answered_fin, after_timer};
+ghost use Rattle.path_core.specs.Emission.{first_unsent, is_syn_due, fits, may_send_data, may_ask, data_stands, grant_ask, data_ask, grant_in, with_piece, granted, refused, answered_grant, answered_data, answered_syn, answered_data_fin_sent, answered_fin, after_timer};
 ghost use Rattle.path_agenda.specs.declared.duty.Duty.TheVariants as duties;
 ghost use Rattle.path_agenda.specs.declared.duty.SendDuty.TheVariants as send_duties;
 ghost use Rattle.path_agenda.specs.declared.duty.StepDuty.TheVariants as step_duties;
@@ -197,7 +197,7 @@ impl Machine {
     }
 
     /// What was granted is taken, or the refusal ends the asking. At an error all is as it was.
-    fn hear_grant(&mut self, side: Side, reply: &Reply) -> Result<(), AllocError>
+    fn take_grant_reply(&mut self, side: Side, reply: &Reply) -> Result<(), AllocError>
         requires grant { IsGrantSendable (grant_in reply.now) }
         requires may { may_ask self.old.profile side (end_at side self.old) ≡ true }
         ensures ok { OnOk result (self.new ≡ answered_grant side (grant_in reply.now) reply.now self.old) }
@@ -228,17 +228,17 @@ impl Machine {
         if self.end(side).tcp.first_unsent().is_some() {
             self.send(side, SegmentKind::Unsent, Occasion::Unsent)
         } else {
-            self.hear_grant(side, reply)
+            self.take_grant_reply(side, reply)
         }
     }
 
     /// The acknowledgement with the DATA_FIN is sent.
     pub(crate) fn send_data_fin(&mut self, side: Side) -> Result<(), AllocError>
-        ensures ok { OnOk result (self.new ≡ answered_end octets side self.old) }
+        ensures ok { OnOk result (self.new ≡ answered_data_fin_sent octets side self.old) }
         ensures err { OnErr result (self.new ≡ self.old) }
     {
         self.send_and_leave(side, SegmentKind::DataFin, Occasion::Ack)?;
-        self.end_mut(side).sending.end_is_sent();
+        self.end_mut(side).sending.data_fin_is_sent();
         Ok(())
     }
 

@@ -5,7 +5,7 @@ ghost use Rattle.std.specs.List.{list_any};
 ghost use Rattle.std.specs.VecDeque.{deque_len};
 ghost use Rattle.path_core.specs.declared.granted_piece.GrantedPiece.{GrantedPiece};
 ghost use Rattle.actor_desk.specs.Words.{is_nil};
-ghost use Rattle.path_core.specs.Closing.{is_newly_heard, is_open, granted_to};
+ghost use Rattle.path_core.specs.StreamEnds.{is_newly_heard, is_open, granted_to};
 ghost use Rattle.path_core.specs.Rising.{Rise};
 
 use crate::granted_piece::GrantedPiece;

@@ -6,9 +6,9 @@ ghost use Rattle.dss_mapping.specs.Learning.{IsWithin};
 ghost use Rattle.path_segments.specs.HeardLent.{heard_plain};
 ghost use Rattle.path_segments.specs.HeardSegments.{heard_value};
 ghost use Rattle.path_core.specs.Arriving.{checksum_heard, held_if, map_held, key_held, held_in, held_of};
-ghost use Rattle.path_core.specs.Placing.{kept_of};
+ghost use Rattle.path_core.specs.Deliver.{kept_of};
 
-use crate::hearing::{is_mapping, octets_in};
+use crate::options_in::{is_mapping, octets_in};
 use crate::profile::{Profile, peer};
 use dss_mapping::KeptMapping;
 use mptcp_options::CapableKeys;

@@ -84,7 +84,7 @@ fn take_joining_syn(tcp: &mut Subflow, window: u32, now: u64)
     };
     match tcp.state() {
         State::Listen => {
-            tcp.hear(Meaning::Opens, &arriving, None, now);
+            tcp.take_segment(Meaning::Opens, &arriving, None, now);
         }
         _ => {}
     }
@@ -102,7 +102,7 @@ impl Modes {
 
 impl PathEnd {
     /// A refusal tells the mode that keeps the side from joining.
-    fn hear_refusal(&mut self, reply: &Reply)
+    fn take_refusal_reply(&mut self, reply: &Reply)
         ensures { self.new ≡ with_mode_refused reply.now self.old }
     {
         self.modes.mode = mode_refused(reply, self.modes.mode);
@@ -143,7 +143,7 @@ impl Machine {
     {
         if is_never(reply) {
             self.a.die();
-            self.a.hear_refusal(reply);
+            self.a.take_refusal_reply(reply);
         } else {
             self.a.open(keys_begun(reply));
         }
@@ -209,7 +209,7 @@ impl Machine {
                 self.turns_to(Duty::Send(SendDuty::SynAck(side)));
             }
             (None, Some(_)) => {
-                self.end_mut(side).hear_refusal(reply);
+                self.end_mut(side).take_refusal_reply(reply);
                 self.turns_to(Duty::Send(SendDuty::Refuse(side)));
             }
             (_, None) => self.turns_to(Duty::Send(SendDuty::Refuse(side))),

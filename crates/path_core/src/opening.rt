@@ -50,7 +50,7 @@ impl Treated {
 
 impl Modes {
     /// Where the control book noted the keys, the peer's is kept, and the end may send a DSS from now on.
-    fn hear_keys(&mut self, reply: &Reply, keys: Option<KeyPair>)
+    fn take_keys_reply(&mut self, reply: &Reply, keys: Option<KeyPair>)
         ensures { self.new ≡ keys_in reply.now keys self.old }
     {
         if let (Reply::Control(ControlReply::Noted), Some(keys)) = (reply, keys) {
@@ -69,10 +69,10 @@ impl PathEnd {
     }
 
     /// The keys of the copy were told.
-    pub fn hear_keys(&mut self, reply: &Reply, keys: Option<KeyPair>)
+    pub fn take_keys_reply(&mut self, reply: &Reply, keys: Option<KeyPair>)
         ensures { self.new ≡ after_keys reply.now keys self.old }
     {
-        self.modes.hear_keys(reply, keys);
+        self.modes.take_keys_reply(reply, keys);
         self.treated.keys_were_told();
     }
 
@@ -98,7 +98,7 @@ impl PathEnd {
     }
 
     /// The peer's key was told.
-    fn hear_peer_key(&mut self, key: u64)
+    fn take_peer_key(&mut self, key: u64)
         ensures { self.new ≡ with_peer_key (Some key) self.old }
     {
         self.modes.peer_key = Some(key);
@@ -137,7 +137,7 @@ impl Machine {
     {
         match self.end(side).treated.key_heard() {
             Some(key) => {
-                self.end_mut(side).hear_peer_key(key);
+                self.end_mut(side).take_peer_key(key);
                 self.done();
             }
             None => self.answer_fell(side, Event::PlainHandshake, reply),
@@ -161,7 +161,7 @@ impl Machine {
     {
         match self.end(side).treated.keys_heard() {
             Some(keys) => {
-                self.end_mut(side).hear_keys(reply, Some(keys));
+                self.end_mut(side).take_keys_reply(reply, Some(keys));
                 self.done();
             }
             None => self.answer_fell(side, Event::PlainHandshake, reply),

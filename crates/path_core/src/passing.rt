@@ -6,7 +6,7 @@ ghost use Rattle.actor_desk.specs.Kinds.{CanBeAsked};
 ghost use Rattle.linked_increase.specs.Paths.{IsInRange};
 ghost use Rattle.subflow_tcp.specs.State.{has_records};
 ghost use Rattle.path_core.specs.Octets.{octets};
-ghost use Rattle.path_core.specs.Passing.{having_asked, refused, fin_of, fin_ask, with_peer_end, is_fin_set, fin_set, answered_fin_heard, after_pass_fin, rate_ask, is_row_of, growth_by, growth_in, after_rate, answered_rate, answered_again, answer_occasion, answered_answer, dead_answer, answered_dead, resend_occasion, answered_resend};
+ghost use Rattle.path_core.specs.Passing.{having_asked, refused, data_fin_of, fin_ask, with_peer_data_fin, is_fin_set, fin_set, answered_fin_heard, after_pass_fin, rate_ask, is_row_of, growth_by, growth_in, after_rate, answered_rate, answered_again, answer_occasion, answered_answer, dead_answer, answered_dead, resend_occasion, answered_resend};
 ghost use Rattle.path_core.specs.Replies.{AreRowsInRange};
 ghost use Rattle.path_core.specs.State.{end_at, goes_on, left, path_of, with_end};
 
@@ -75,10 +75,10 @@ impl PathEnd {
     }
 
     /// The end of the peer's stream was told.
-    pub fn hear_peer_end(&mut self)
-        ensures { self.new ≡ having_asked (with_peer_end self.old) }
+    pub fn take_peer_data_fin(&mut self)
+        ensures { self.new ≡ having_asked (with_peer_data_fin self.old) }
     {
-        self.sending.peer_ended();
+        self.sending.peer_data_fin_came();
         self.have_asked();
     }
 
@@ -92,7 +92,7 @@ impl PathEnd {
     }
 
     /// The window grows by what the rows of all paths say.
-    fn hear_rate(&mut self, path: u8, mss: u16, reply: &Reply)
+    fn take_rate_reply(&mut self, path: u8, mss: u16, reply: &Reply)
         requires rows { AreRowsInRange reply.now }
         requires mss { mss ≤ 1460 }
         ensures { self.new ≡ after_rate path mss reply.now self.old }
@@ -126,7 +126,7 @@ impl PathEnd {
     {
         if self.tcp.has_records() {
             Occasion::First
-        } else if self.modes.owes_third || self.is_end_owed() {
+        } else if self.modes.owes_third || self.is_data_fin_owed() {
             Occasion::Ack
         } else {
             Occasion::Probe
@@ -145,7 +145,7 @@ impl Machine {
 
     /// The end of the stream that the DATA_FIN of this number told.
     pub(crate) fn fin_ask(&self, side: Side, index: u64) -> Ask
-        ensures value { result ≡ fin_ask side (fin_of index (end_at side self.now)) }
+        ensures value { result ≡ fin_ask side (data_fin_of index (end_at side self.now)) }
         ensures able { CanBeAsked result }
     {
         match self.end(side).treated.fin(index) {
@@ -159,7 +159,7 @@ impl Machine {
         ensures { self.new ≡ answered_fin_heard side (is_fin_set reply.now) self.old }
     {
         if is_fin_set(reply) {
-            self.end_mut(side).hear_peer_end();
+            self.end_mut(side).take_peer_data_fin();
             self.done();
         } else {
             self.refuse(side);
@@ -190,12 +190,12 @@ impl Machine {
     }
 
     /// The window grows.
-    pub(crate) fn hear_rate(&mut self, side: Side, reply: &Reply)
+    pub(crate) fn take_rate_reply(&mut self, side: Side, reply: &Reply)
         requires { AreRowsInRange reply.now }
         ensures { self.new ≡ answered_rate side reply.now self.old }
     {
         let (path, mss) = (self.number(), self.profile.mss());
-        self.end_mut(side).hear_rate(path, mss, reply);
+        self.end_mut(side).take_rate_reply(path, mss, reply);
         self.done();
     }
 

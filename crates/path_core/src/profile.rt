@@ -2,7 +2,7 @@
 
 ghost use Rattle.std.specs.Prelude.{◌≡◌, ◌≤◌};
 ghost use Rattle.link_model.specs.Steps.{peer};
-ghost use Rattle.path_core.specs.Segments.{spelled_by};
+ghost use Rattle.path_core.specs.OptionsOut.{spelled_by};
 
 use outside_kit::Side;
 use path_segments::Spelling;

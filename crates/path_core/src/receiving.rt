@@ -4,7 +4,7 @@ ghost use Rattle.std.specs.Prelude.{◌≡◌, ◌≤◌, ◌+◌, ◌^◌, ◌=
 ghost use Rattle.path_core.specs.Words.{one_more};
 
 use crate::counts::one_more;
-use crate::mapped_fin::{MappedFin, fin_behind};
+use crate::mapped_data_fin::{MappedDataFin, data_fin_behind};
 use dss_mapping::Mappings;
 use seq_units::Pos;
 use std::alloc::Global;
@@ -28,7 +28,7 @@ pub(crate) struct Receiving {
     /// The peer's FIN was told as the end of its stream.
     fin_told: bool,
     /// A DATA_FIN behind bytes that the edge hasn't passed yet. Its place is at most 2^62.
-    mapped_fin: Option<MappedFin>,
+    mapped_data_fin: Option<MappedDataFin>,
 }
 
 impl Model for Receiving {
@@ -50,19 +50,19 @@ impl Model for Receiving {
         unmapped = v.unmapped;
         unmapped_at = v.unmapped_at;
         fin_told = v.fin_told;
-        mapped_fin = v.mapped_fin;
+        mapped_data_fin = v.mapped_data_fin;
       };
       ready = v.mappings.ready;
     } };
 
     ghost invariant = { λ v. (v.next ≤ 2 ^ 62 + 2 ^ 20) × (v.window ≤ 2 ^ 20) × (v.told_edge ≤ 2 ^ 62 + 2 ^ 21)
-        × IfSome v.mapped_fin (λ fin. fin.place ≤ 2 ^ 62) };
+        × IfSome v.mapped_data_fin (λ fin. fin.place ≤ 2 ^ 62) };
 }
 
 impl Receiving {
     ghost use Rattle.dss_mapping.specs.Learning.{first_held, after_learn_held};
     ghost use Rattle.path_core.specs.Ends.{no_receiving};
-    ghost use Rattle.path_core.specs.Placing.{fin_behind, end_reached};
+    ghost use Rattle.path_core.specs.Deliver.{data_fin_behind, data_fin_reached};
 
     /// Nothing came and nothing was told. Takes no memory.
     pub fn new(alloc: Global) -> Self
@@ -76,7 +76,7 @@ impl Receiving {
             unmapped: 0,
             unmapped_at: 0,
             fin_told: false,
-            mapped_fin: None,
+            mapped_data_fin: None,
         }
     }
 
@@ -139,21 +139,21 @@ impl Receiving {
 
     /// The first mapping that is held is learned; a DATA_FIN behind its bytes waits for the edge. Takes no memory.
     pub fn learn_held(&mut self)
-        ensures { self.new.receiving ≡ record self.old.receiving { mappings = after_learn_held self.old.receiving.mappings; mapped_fin = fin_behind (first_held self.old.receiving.mappings) self.old.receiving.mapped_fin } }
+        ensures { self.new.receiving ≡ record self.old.receiving { mappings = after_learn_held self.old.receiving.mappings; mapped_data_fin = data_fin_behind (first_held self.old.receiving.mappings) self.old.receiving.mapped_data_fin } }
     {
-        self.mapped_fin = fin_behind(self.mappings.first_held(), self.mapped_fin);
+        self.mapped_data_fin = data_fin_behind(self.mappings.first_held(), self.mapped_data_fin);
         self.mappings.learn_held();
     }
 
     /// The DATA_FIN behind bytes whose end this edge reached. It waits no more.
     pub fn take_reached(&mut self, edge: Pos) -> Option<u64>
-        ensures value { result ≡ end_reached self.old.receiving.mapped_fin edge }
-        ensures after { self.new ≡ record self.old { receiving = record self.old.receiving { mapped_fin = (if is_some (end_reached self.old.receiving.mapped_fin edge) then None else self.old.receiving.mapped_fin) } } }
+        ensures value { result ≡ data_fin_reached self.old.receiving.mapped_data_fin edge }
+        ensures after { self.new ≡ record self.old { receiving = record self.old.receiving { mapped_data_fin = (if is_some (data_fin_reached self.old.receiving.mapped_data_fin edge) then None else self.old.receiving.mapped_data_fin) } } }
         ensures bound { IfSome result (λ place. place ≤ 2 ^ 62) }
     {
-        match self.mapped_fin {
+        match self.mapped_data_fin {
             Some(fin) if fin.position <= edge => {
-                self.mapped_fin = None;
+                self.mapped_data_fin = None;
                 Some(fin.place)
             }
             _ => None,

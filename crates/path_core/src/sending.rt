@@ -53,7 +53,7 @@ impl Model for Sending {
 
 impl Sending {
     ghost use Rattle.path_core.specs.Ends.{no_sending};
-    ghost use Rattle.path_core.specs.Closing.{is_news, after_acked, after_peer_end, after_refusal, owes_end, is_all_granted, with_end_sent, without_news};
+    ghost use Rattle.path_core.specs.StreamEnds.{is_news, after_acked, after_peer_data_fin, after_refusal, owes_data_fin, is_all_granted, with_data_fin_sent, without_news};
 
     /// Nothing was granted, sent or heard. Takes no memory.
     pub fn new(alloc: Global) -> Self
@@ -107,8 +107,8 @@ impl Sending {
     }
 
     /// A DATA_FIN is acknowledged by nothing that was heard.
-    pub fn owes_end(&self) -> bool
-        ensures { result ≡ owes_end self.now }
+    pub fn owes_data_fin(&self) -> bool
+        ensures { result ≡ owes_data_fin self.now }
     {
         self.fin_sent && !self.close.own_acked
     }
@@ -131,15 +131,15 @@ impl Sending {
     }
 
     /// The DATA_FIN is to be sent: the end is known, and it was neither sent nor acknowledged.
-    pub fn is_end_due(&self) -> bool
+    pub fn is_data_fin_due(&self) -> bool
         ensures { result ≡ (is_some self.now.known_end && (not self.now.fin_sent && not self.now.close.own_acked)) }
     {
         self.known_end.is_some() && !self.fin_sent && !self.close.own_acked
     }
 
     /// The DATA_FIN was sent.
-    pub fn end_is_sent(&mut self)
-        ensures { self.new ≡ with_end_sent self.old }
+    pub fn data_fin_is_sent(&mut self)
+        ensures { self.new ≡ with_data_fin_sent self.old }
     {
         self.fin_sent = true;
     }
@@ -152,8 +152,8 @@ impl Sending {
     }
 
     /// The peer's DATA_FIN came.
-    pub fn peer_ended(&mut self)
-        ensures { self.new ≡ after_peer_end self.old }
+    pub fn peer_data_fin_came(&mut self)
+        ensures { self.new ≡ after_peer_data_fin self.old }
     {
         self.close.heard_fin();
     }

@@ -9,11 +9,11 @@ ghost use Rattle.path_core.specs.Standing.{look_ask, modes_told, may_note, notic
 ghost use Rattle.path_core.specs.State.{left, end_at};
 
 use crate::end::PathEnd;
+use crate::handover::window_told;
 use crate::machine::Machine;
 use crate::modes::Modes;
 use crate::profile::Profile;
 use crate::segment_kind::SegmentKind;
-use crate::sends::window_told;
 use actor_desk::{Ask, Reply};
 use control_book::{ControlCall, ControlReply};
 use outside_kit::Side;
@@ -70,7 +70,7 @@ impl PathEnd {
     }
 
     /// What the side has to note by this path is kept; a dead end does nothing with it. At an error all is as it was.
-    fn hear_notice(&mut self, reply: &Reply) -> Result<(), AllocError>
+    fn take_notice_reply(&mut self, reply: &Reply) -> Result<(), AllocError>
         ensures ok { OnOk result (self.new ≡ record self.old { notices = notices_told reply.now self.old }) }
         ensures err { OnErr result (self.new ≡ self.old) }
         ensures plain { queues_in reply.now self.old ≡ false → IsOk result }
@@ -90,7 +90,7 @@ impl PathEnd {
         ensures err { OnErr result (self.new ≡ self.old) }
         ensures plain { queues_in reply.now self.old ≡ false → IsOk result }
     {
-        self.hear_notice(reply)?;
+        self.take_notice_reply(reply)?;
         self.modes.tell(reply);
         Ok(())
     }
@@ -121,7 +121,7 @@ impl PathEnd {
     }
 
     /// It was told what is to be acknowledged, so nothing is left to be asked.
-    pub fn hear_ack_out(&mut self, reply: &Reply)
+    pub fn take_ack_out_reply(&mut self, reply: &Reply)
         requires { IsAckBounded reply.now }
         ensures { self.new ≡ after_ack_out reply.now self.old }
     {
@@ -166,7 +166,7 @@ impl Machine {
         requires { IsAckBounded reply.now }
         ensures { self.new ≡ answered_ack_out side reply.now (left self.old) self.old }
     {
-        self.end_mut(side).hear_ack_out(reply);
+        self.end_mut(side).take_ack_out_reply(reply);
         self.done();
     }
 
@@ -183,7 +183,7 @@ impl Machine {
         requires { IsAckBounded reply.now }
         ensures { self.new ≡ answered_ack_out side reply.now (resets side reason) self.old }
     {
-        self.end_mut(side).hear_ack_out(reply);
+        self.end_mut(side).take_ack_out_reply(reply);
         self.sets_about(Agenda::resets(side, reason));
     }
 }

@@ -5,8 +5,8 @@ ghost use Rattle.std.specs.Prelude.{◌≡◌, ◌-◌, ◌≤◌, ◌<◌, ◌^
 ghost use Rattle.actor_desk.specs.Kinds.{CanBeAsked};
 ghost use Rattle.path_core.specs.Breaking.{break_ask, answered_break};
 ghost use Rattle.path_core.specs.Octets.{octets};
-ghost use Rattle.path_core.specs.Passing.{is_fin_set, fin_ask, having_asked, with_peer_end, plain_fin, with_fin_told, answered_plain_fin};
-ghost use Rattle.path_core.specs.Placing.{is_unmapped, times_unmapped, breaks_by_unmapped, after_unmapped, with_end_reached, after_pieces};
+ghost use Rattle.path_core.specs.Passing.{is_fin_set, fin_ask, having_asked, with_peer_data_fin, plain_fin, with_fin_told, answered_plain_fin};
+ghost use Rattle.path_core.specs.Deliver.{is_unmapped, times_unmapped, breaks_by_unmapped, after_unmapped, with_data_fin_reached, after_pieces};
 ghost use Rattle.path_core.specs.Replies.{IsAckBounded};
 ghost use Rattle.path_core.specs.State.{end_at, with_end};
 ghost use Rattle.path_core.specs.Treating.{lacks_data_ack, breaks_by_ack, plain_ack_stands, plain_ack_ask, with_plain_ack, answered_plain_ack, plain_next, subflow_ack_stands, subflow_ack_ask, with_plain_acked, answered_subflow_ack, plain_data_stands};
@@ -76,11 +76,11 @@ impl PathEnd {
     }
 
     /// So many bytes of the stream are acknowledged, where that was taken.
-    fn hear_subflow_ack(&mut self, reply: &Reply)
+    fn take_subflow_ack_reply(&mut self, reply: &Reply)
         ensures { self.new ≡ with_plain_acked reply.now self.old }
     {
         let next = self.plain_next();
-        self.sending.hear_ack(next, reply);
+        self.sending.take_ack_reply(next, reply);
     }
 
     /// The next byte came without any option, and the side isn't sure.
@@ -126,11 +126,11 @@ impl PathEnd {
     }
 
     /// A DATA_FIN behind bytes is told next, where the edge reached it.
-    fn reach_end(&mut self)
-        ensures { self.new ≡ with_end_reached self.old }
+    fn reach_data_fin(&mut self)
+        ensures { self.new ≡ with_data_fin_reached self.old }
     {
         if let Some(place) = self.receiving.take_reached(self.tcp.edge()) {
-            self.treated.note_fin(place);
+            self.treated.note_data_fin(place);
         }
     }
 
@@ -139,7 +139,7 @@ impl PathEnd {
         ensures { self.new ≡ after_pieces self.old }
     {
         self.count_unmapped();
-        self.reach_end();
+        self.reach_data_fin();
     }
 
     /// After a fallback: the end of the stream by the peer's FIN, where the edge passed it and it wasn't told.
@@ -157,11 +157,11 @@ impl PathEnd {
     }
 
     /// It was told.
-    fn hear_plain_end(&mut self)
-        ensures { self.new ≡ having_asked (with_peer_end (with_fin_told self.old)) }
+    fn take_plain_fin_reply(&mut self)
+        ensures { self.new ≡ having_asked (with_peer_data_fin (with_fin_told self.old)) }
     {
         self.receiving.fin_is_told();
-        self.hear_peer_end();
+        self.take_peer_data_fin();
     }
 }
 
@@ -187,7 +187,7 @@ impl Machine {
         if self.end(side).breaks_by_ack(&self.profile) {
             return self.answer_break(side, STRIPPED, reply);
         }
-        self.end_mut(side).hear_fell(Event::PlainAck, reply);
+        self.end_mut(side).take_fell_reply(Event::PlainAck, reply);
         self.end_mut(side).count_plain_ack();
         self.go_by_verdict(side, reply);
         Ok(())
@@ -214,7 +214,7 @@ impl Machine {
     pub(crate) fn answer_subflow_ack(&mut self, side: Side, reply: &Reply)
         ensures { self.new ≡ answered_subflow_ack side reply.now self.old }
     {
-        self.end_mut(side).hear_subflow_ack(reply);
+        self.end_mut(side).take_subflow_ack_reply(reply);
         self.done();
     }
 
@@ -258,7 +258,7 @@ impl Machine {
         ensures { self.new ≡ answered_plain_fin side (is_fin_set reply.now) self.old }
     {
         if is_fin_set(reply) {
-            self.end_mut(side).hear_plain_end();
+            self.end_mut(side).take_plain_fin_reply();
             self.done();
         } else {
             self.refuse(side);

@@ -20,7 +20,7 @@ impl Machine {
         match duty {
             SendDuty::Update(side) => self.end(side).is_update_due(&self.profile),
             SendDuty::Syn(side) => self.end(side).is_syn_due(),
-            SendDuty::DataFin(side) => self.end(side).is_end_due(),
+            SendDuty::DataFin(side) => self.end(side).is_data_fin_due(),
             SendDuty::Fin(side) => self.end(side).is_fin_due(),
             SendDuty::Acknowledge(side) => self.end(side).tcp.owes_ack(),
             SendDuty::Again(side) => self.end(side).is_again_due(),

@@ -68,7 +68,7 @@ impl Model for Treated {
 
 impl Treated {
     ghost use Rattle.path_core.specs.Ends.{nothing_treated};
-    ghost use Rattle.path_core.specs.Placing.{fins_and};
+    ghost use Rattle.path_core.specs.Deliver.{fins_and};
 
     /// No copy is treated.
     pub fn nothing() -> Self
@@ -209,7 +209,7 @@ impl Treated {
     }
 
     /// This end of the stream, at most 2^62, is to be told; a fourth one counts no more.
-    pub fn note_fin(&mut self, place: u64)
+    pub fn note_data_fin(&mut self, place: u64)
         requires { place ≤ 2 ^ 62 }
         ensures { self.new ≡ record self.old { fins = fins_and (Some place) self.old.fins } }
     {

@@ -7,11 +7,11 @@ ghost use Rattle.fallback_state.specs.Modes.{reads_mappings};
 ghost use Rattle.path_agenda.specs.Items.{IsFair};
 ghost use Rattle.path_core.specs.Octets.{octets};
 ghost use Rattle.path_core.specs.Opening.{after_keys};
-ghost use Rattle.path_core.specs.Placing.{with_learned, with_skipped};
+ghost use Rattle.path_core.specs.Deliver.{with_learned, with_skipped};
 ghost use Rattle.path_core.specs.Replies.{IsAckBounded};
 ghost use Rattle.path_core.specs.State.{end_at, goes_on, left, with_agenda, with_end};
-ghost use Rattle.path_core.specs.Falling.{after_fell, fell_duties};
-ghost use Rattle.path_core.specs.Treating.{counts, is_clash, mapping_stands, heard_stands, mapping_ask, heard_ask, is_acked, told_next, acked_in, with_acked, answered_ack, answered_mapping, with_fin, answered_heard, after_dss, heard_passed, item_stands, item_ask, answered_item, item_passed, item_of, is_dropped, is_not_kept, after_keep};
+ghost use Rattle.path_core.specs.Fallback.{after_fell, fell_duties};
+ghost use Rattle.path_core.specs.Treating.{counts, is_clash, mapping_stands, heard_stands, mapping_ask, heard_ask, is_acked, told_next, acked_in, with_acked, answered_ack, answered_mapping, with_data_fin, answered_heard, after_dss, heard_passed, item_stands, item_ask, answered_item, item_passed, item_of, is_dropped, is_not_kept, after_keep};
 
 use crate::end::PathEnd;
 use crate::machine::Machine;
@@ -37,7 +37,7 @@ fn is_acked(reply: &Reply) -> bool
 
 impl Sending {
     /// So many bytes of the stream are acknowledged, where the Data ACK was taken.
-    pub fn hear_ack(&mut self, next: u64, reply: &Reply)
+    pub fn take_ack_reply(&mut self, next: u64, reply: &Reply)
         requires { next < 2 ^ 62 }
         ensures { self.new ≡ acked_in next reply.now self.old }
     {
@@ -133,19 +133,19 @@ impl PathEnd {
     }
 
     /// The end of the stream is told later.
-    fn note_fin(&mut self, place: u64)
+    fn note_data_fin(&mut self, place: u64)
         requires { place ≤ 2 ^ 62 }
-        ensures { self.new ≡ with_fin place self.old }
+        ensures { self.new ≡ with_data_fin place self.old }
     {
-        self.treated.note_fin(place);
+        self.treated.note_data_fin(place);
     }
 
     /// So many bytes of the stream are acknowledged, where the Data ACK was taken.
-    fn hear_ack(&mut self, next: u64, reply: &Reply)
+    fn take_ack_reply(&mut self, next: u64, reply: &Reply)
         requires { next < 2 ^ 62 }
         ensures { self.new ≡ with_acked next reply.now self.old }
     {
-        self.sending.hear_ack(next, reply);
+        self.sending.take_ack_reply(next, reply);
         self.modes.covered |= 0 < next;
         self.modes.plain_acks = 0;
         self.treated.data_ack_is_taken();
@@ -170,7 +170,7 @@ impl PathEnd {
             Heard::Mapping { .. } => self.pass_mapping(),
             Heard::DataFin { place } => {
                 if self.counts() {
-                    self.note_fin(place);
+                    self.note_data_fin(place);
                 }
             }
             Heard::DataAck { .. }
@@ -277,7 +277,7 @@ impl Machine {
         requires { next < 2 ^ 62 }
         ensures { self.new ≡ answered_ack side next reply.now self.old }
     {
-        self.end_mut(side).hear_ack(next, reply);
+        self.end_mut(side).take_ack_reply(next, reply);
         if is_acked(reply) && 0 < next {
             self.turns_to(Duty::Ask(AskDuty::AckHeard(side)));
         } else {
@@ -294,7 +294,8 @@ impl Machine {
         if self.end(side).is_clash() {
             return self.answer_break(side, CLASH, reply);
         }
-        self.end_mut(side).hear_fell(Event::MappingHeard, reply);
+        self.end_mut(side)
+            .take_fell_reply(Event::MappingHeard, reply);
         self.end_mut(side).learn();
         self.go_by_verdict(side, reply);
         Ok(())
@@ -303,10 +304,11 @@ impl Machine {
     /// The end of the stream is told later.
     fn answer_data_fin(&mut self, side: Side, place: u64, reply: &Reply)
         requires { place ≤ 2 ^ 62 }
-        ensures { self.new ≡ goes_on side (with_fin place (after_fell events.MappingHeard reply.now (end_at side self.old))) (fell_duties side reply.now self.old) self.old }
+        ensures { self.new ≡ goes_on side (with_data_fin place (after_fell events.MappingHeard reply.now (end_at side self.old))) (fell_duties side reply.now self.old) self.old }
     {
-        self.end_mut(side).hear_fell(Event::MappingHeard, reply);
-        self.end_mut(side).note_fin(place);
+        self.end_mut(side)
+            .take_fell_reply(Event::MappingHeard, reply);
+        self.end_mut(side).note_data_fin(place);
         self.go_by_verdict(side, reply);
     }
 
@@ -314,7 +316,7 @@ impl Machine {
     fn answer_keys(&mut self, side: Side, keys: KeyPair, reply: &Reply)
         ensures { self.new ≡ goes_on side (after_keys reply.now (Some keys) (end_at side self.old)) (left self.old) self.old }
     {
-        self.end_mut(side).hear_keys(reply, Some(keys));
+        self.end_mut(side).take_keys_reply(reply, Some(keys));
         self.done();
     }
 

@@ -24,7 +24,7 @@ pub use laws::{
     altered_is_said, octets_tell_the_segment, stripped_is_heard_without_options,
     written_is_heard_as_meant,
 };
-pub use listening::hear;
+pub use listening::parse_segment;
 pub use position::HeardPosition;
 pub use sayable::can_say;
 pub use segment::{PathMapping, PathOption, PathSegment, SaidSegment};

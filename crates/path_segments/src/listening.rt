@@ -19,7 +19,7 @@ use segment_wire::{SegmentRef, parse};
 /// What these octets of a side say to the other one, which expects these positions and places next, or none where they
 /// are no segment. Answers for all octets, copies nothing and takes no memory. Ports are not looked at: the path has
 /// brought the octets. The payload has at most 65,515 octets, and the position is below 2^63.
-pub fn hear<'a>(
+pub fn parse_segment<'a>(
     spelling: &Spelling,
     from: Side,
     expected: &Expected,

@@ -6,7 +6,7 @@ use Rattle.byte_pieces.proofs.Filling.{merged-nil}
 use Rattle.reassembly_book.specs.declared.call.ReassemblyCall.{ReassemblyCall}
 use Rattle.reassembly_book.specs.declared.call.ReassemblyCall.TheVariants.{Place, Fin, Read, AckOut, Abort}
 use Rattle.reassembly_book.specs.declared.call.ReassemblyReply.TheVariants.{Beyond, End, NoneYet}
-use Rattle.reassembly_book.specs.State.{Arriving, filled, opened}
+use Rattle.reassembly_book.specs.State.{Arriving, filled, new_arriving}
 use Rattle.reassembly_book.specs.Steps.{by_place, merged, edge, reaches_past, clash, placed_reply, is_taken, places_after, fin_clash, fin_reply_by, is_end, bytes_reply, reading, after_reading, reply_to, after_call}
 use Rattle.reassembly_book.specs.Laws.{after_calls, bytes_of, read_by, joined, came_by}
 
@@ -99,10 +99,10 @@ first_after_calls (call ∷ calls) b came bytes h =
     (first_after_calls calls (after_call b call) (joined call b came) (bytes ++ bytes_of (reply_to b call)) (first_after call b came bytes h))
 
 pub read_is_what_came_first : (calls : List ReassemblyCall) (capacity : ℕ)
-    → came_by calls (opened capacity) [] ≡ map Some (read_by calls (opened capacity)) ++ (after_calls calls (opened capacity)).places
+    → came_by calls (new_arriving capacity) [] ≡ map Some (read_by calls (new_arriving capacity)) ++ (after_calls calls (new_arriving capacity)).places
 read_is_what_came_first calls capacity =
-    (first_after_calls calls (opened capacity) [] [] (record { came_is = refl; read_is = refl })).came_is
+    (first_after_calls calls (new_arriving capacity) [] [] (record { came_is = refl; read_is = refl })).came_is
 
 pub read_by-len : (calls : List ReassemblyCall) (capacity : ℕ)
-    → length (read_by calls (opened capacity)) ≡ (after_calls calls (opened capacity)).read
-read_by-len calls capacity = (first_after_calls calls (opened capacity) [] [] (record { came_is = refl; read_is = refl })).read_is
+    → length (read_by calls (new_arriving capacity)) ≡ (after_calls calls (new_arriving capacity)).read
+read_by-len calls capacity = (first_after_calls calls (new_arriving capacity) [] [] (record { came_is = refl; read_is = refl })).read_is

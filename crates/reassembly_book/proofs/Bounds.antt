@@ -6,7 +6,7 @@ use Rattle.std.proofs.lemmas.List.{length-drop, length-take}
 use Rattle.reassembly_book.specs.declared.call.ReassemblyCall.{ReassemblyCall}
 use Rattle.reassembly_book.specs.declared.call.ReassemblyCall.TheVariants.{Place, Fin, Read, AckOut, Abort}
 use Rattle.reassembly_book.specs.declared.call.ReassemblyReply.TheVariants.{Bytes, End, NoneYet}
-use Rattle.reassembly_book.specs.State.{Arriving, filled, received, top, opened, IsSound}
+use Rattle.reassembly_book.specs.State.{Arriving, filled, received, top, new_arriving, IsSound}
 use Rattle.reassembly_book.specs.Steps.{by_place, merged, edge, reaches_past, clash, is_taken, places_after, fin_clash, is_end, bytes_reply, reading, after_reading, reply_to, after_call}
 use Rattle.reassembly_book.specs.Laws.{after_calls, read_by, told_edge}
 use Rattle.reassembly_book.proofs.Arrivals.{read_by-len}
@@ -142,14 +142,14 @@ pub sound-after_calls : (calls : List ReassemblyCall) (b : Arriving) → IsSound
 sound-after_calls [] b h = h
 sound-after_calls (call ∷ calls) b h = sound-after_calls calls (after_call b call) (sound-after_call call b h)
 
-pub sound-opened : (capacity : ℕ) → IsSound (opened capacity)
+pub sound-opened : (capacity : ℕ) → IsSound (new_arriving capacity)
 sound-opened capacity = record { ends = tt; fits = omega arith }
 
-pub read_below_the_end : (calls : List ReassemblyCall) (capacity e : ℕ) → (after_calls calls (opened capacity)).known_end ≡ Some e
-    → length (read_by calls (opened capacity)) ≤ e
+pub read_below_the_end : (calls : List ReassemblyCall) (capacity e : ℕ) → (after_calls calls (new_arriving capacity)).known_end ≡ Some e
+    → length (read_by calls (new_arriving capacity)) ≤ e
 read_below_the_end calls capacity e h =
-    let sound : IsSound (after_calls calls (opened capacity)) = sound-after_calls calls (opened capacity) (sound-opened capacity) in
-    let ends : top (after_calls calls (opened capacity)) ≤ e = subst (λ o. IfSome o (λ k. top (after_calls calls (opened capacity)) ≤ k)) h sound.ends in
+    let sound : IsSound (after_calls calls (new_arriving capacity)) = sound-after_calls calls (new_arriving capacity) (sound-opened capacity) in
+    let ends : top (after_calls calls (new_arriving capacity)) ≤ e = subst (λ o. IfSome o (λ k. top (after_calls calls (new_arriving capacity)) ≤ k)) h sound.ends in
     omega (arith, ends, read_by-len calls capacity)
 
 -- what was told: the edge, and one more where the end is reached

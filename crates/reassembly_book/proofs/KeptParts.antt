@@ -6,7 +6,7 @@ use Rattle.reassembly_book.specs.declared.call.ReassemblyCall.TheVariants.{Place
 use Rattle.byte_pieces.specs.Places.{PlacedBytes}
 use Rattle.reassembly_book.specs.State.{Arriving, IsSound, filled, received, top}
 use Rattle.reassembly_book.specs.Steps.{by_place, merged, places_after, with_places, edge, reaches_past, clash, is_taken, after_reading}
-use Rattle.reassembly_book.specs.Kept.{shown, IsKept}
+use Rattle.reassembly_book.specs.Kept.{as_arriving, IsKept}
 use Rattle.byte_pieces.proofs.Filling.{merged-nil}
 use Rattle.reassembly_book.proofs.Arrivals.{merged-filled}
 use Rattle.reassembly_book.proofs.Bounds.{not_both, length-merged, sound-after_call, sound-reading}
@@ -33,7 +33,7 @@ pub received-bound : (read : ℕ) (ring : List ℕ) (capacity : ℕ) (beyond : P
 received-bound read ring capacity beyond known_end aborted is = omega (arith, is.bound)
 
 pub received-shown : (read : ℕ) (ring : List ℕ) (capacity : ℕ) (beyond : PlacedBytes) (known_end : Option ℕ) (aborted : Option Bool)
-    → IsKept read ring capacity beyond known_end aborted → received (shown read ring capacity beyond.places known_end aborted) ≡ read + length ring
+    → IsKept read ring capacity beyond known_end aborted → received (as_arriving read ring capacity beyond.places known_end aborted) ≡ read + length ring
 received-shown read ring capacity beyond known_end aborted is =
     ap (λ bytes. read + length bytes) (filled-shown ring beyond.places is.gap)
 
@@ -42,21 +42,21 @@ length-some [] = refl
 length-some (byte ∷ bytes) = ap suc (length-some bytes)
 
 pub waiting-shown : (read : ℕ) (ring : List ℕ) (capacity : ℕ) (beyond : List (Option ℕ)) (known_end : Option ℕ) (aborted : Option Bool) (b : Arriving)
-    → filled beyond ≡ [] → shown read ring capacity beyond known_end aborted ≡ b → filled b.places ≡ ring
+    → filled beyond ≡ [] → as_arriving read ring capacity beyond known_end aborted ≡ b → filled b.places ≡ ring
 waiting-shown read ring capacity beyond known_end aborted b gap e =
     ap (λ b. filled b.places) (sym e) ∙ filled-shown ring beyond gap
 
 pub top-shown : (read : ℕ) (ring : List ℕ) (capacity : ℕ) (beyond : List (Option ℕ)) (known_end : Option ℕ) (aborted : Option Bool) (b : Arriving)
-    → filled beyond ≡ [] → shown read ring capacity beyond known_end aborted ≡ b → received b + length beyond ≡ top b
+    → filled beyond ≡ [] → as_arriving read ring capacity beyond known_end aborted ≡ b → received b + length beyond ≡ top b
 top-shown read ring capacity beyond known_end aborted b gap e =
-    let at : received (shown read ring capacity beyond known_end aborted) + length beyond ≡ top (shown read ring capacity beyond known_end aborted) =
+    let at : received (as_arriving read ring capacity beyond known_end aborted) + length beyond ≡ top (as_arriving read ring capacity beyond known_end aborted) =
     omega (arith, ap length (filled-shown ring beyond gap), length-append (map Some ring) beyond, length-some ring) in
     subst (λ b. received b + length beyond ≡ top b) e at
 
 -- so many bytes of the ring are passed over
 pub consumed-shown : (n read : ℕ) (ring : List ℕ) (capacity : ℕ) (beyond : List (Option ℕ)) (known_end : Option ℕ) (aborted : Option Bool)
     → filled beyond ≡ [] → n ≤ length ring
-    → shown (read + n) (drop n ring) capacity beyond known_end aborted ≡ after_reading n (shown read ring capacity beyond known_end aborted)
+    → as_arriving (read + n) (drop n ring) capacity beyond known_end aborted ≡ after_reading n (as_arriving read ring capacity beyond known_end aborted)
 consumed-shown n read ring capacity beyond known_end aborted gap within =
     let least : min n (length (filled (map Some ring ++ beyond))) ≡ n = omega (arith, ap length (filled-shown ring beyond gap), within) in
     rw (least, drop-shown n ring beyond within) refl
@@ -129,7 +129,7 @@ drop-drop m (suc n) (place ∷ places) = drop-drop m n places ∙ ap (λ k. drop
 
 -- the places beyond the gap alone are merged
 pub places-shown : (at read : ℕ) (bytes ring : List ℕ) (capacity : ℕ) (beyond : List (Option ℕ)) (known_end : Option ℕ) (aborted : Option Bool)
-    → places_after at bytes (shown read ring capacity beyond known_end aborted)
+    → places_after at bytes (as_arriving read ring capacity beyond known_end aborted)
     ≡ map Some ring ++ merged beyond (drop (read + length ring) (by_place at bytes))
 places-shown at read bytes ring capacity beyond known_end aborted =
     merged-filled ring beyond (drop read (by_place at bytes))
@@ -137,8 +137,8 @@ places-shown at read bytes ring capacity beyond known_end aborted =
 
 pub put-shown : (at read : ℕ) (bytes ring more : List ℕ) (capacity later : ℕ) (beyond after : List (Option ℕ)) (known_end : Option ℕ) (aborted : Option Bool)
     → map Some more ++ after ≡ map Some ring ++ merged beyond (drop (read + length ring) (by_place at bytes)) → later ≡ capacity
-    → shown read more later after known_end aborted
-    ≡ with_places (places_after at bytes (shown read ring capacity beyond known_end aborted)) (shown read ring capacity beyond known_end aborted)
+    → as_arriving read more later after known_end aborted
+    ≡ with_places (places_after at bytes (as_arriving read ring capacity beyond known_end aborted)) (as_arriving read ring capacity beyond known_end aborted)
 put-shown at read bytes ring more capacity later beyond after known_end aborted e f =
     rw (f, e ∙ sym (places-shown at read bytes ring capacity beyond known_end aborted)) refl
 
@@ -148,12 +148,12 @@ none-put at (byte ∷ bytes) b e = absurd (omega (arith, e))
 
 -- a book that has taken bytes is one that may be
 pub put-kept : (at read : ℕ) (bytes ring more : List ℕ) (capacity later : ℕ) (beyond after : PlacedBytes) (known_end : Option ℕ) (aborted : Option Bool)
-    → IsKept read ring capacity beyond known_end aborted → is_taken at bytes (shown read ring capacity beyond.places known_end aborted) ≡ true
+    → IsKept read ring capacity beyond known_end aborted → is_taken at bytes (as_arriving read ring capacity beyond.places known_end aborted) ≡ true
     → map Some more ++ after.places ≡ map Some ring ++ merged beyond.places (drop (read + length ring) (by_place at bytes)) → later ≡ capacity
     → after.from + length ring ≡ beyond.from + length more → at + length bytes ≤ 2 ^ 62 → filled after.places ≡ []
     → IsKept read more later after known_end aborted
 put-kept at read bytes ring more capacity later beyond after known_end aborted is taken e f from bound gap =
-    let b : Arriving = shown read ring capacity beyond.places known_end aborted in
+    let b : Arriving = as_arriving read ring capacity beyond.places known_end aborted in
     let others : List (Option ℕ) = drop (read + length ring) (by_place at bytes) in
     record {
       from = omega (arith, from, is.from);
@@ -176,7 +176,7 @@ put-kept at read bytes ring more capacity later beyond after known_end aborted i
     }
 
 pub count-shown : (at read fresh : ℕ) (bytes ring : List ℕ) (capacity : ℕ) (beyond : List (Option ℕ)) (known_end : Option ℕ) (aborted : Option Bool) (b : Arriving)
-    → shown read ring capacity beyond known_end aborted ≡ b
+    → as_arriving read ring capacity beyond known_end aborted ≡ b
     → fresh + count_by is_some beyond ≡ count_by is_some (merged beyond (drop (read + length ring) (by_place at bytes)))
     → fresh ≡ count_by is_some (places_after at bytes b) - count_by is_some b.places
 count-shown at read fresh bytes ring capacity beyond known_end aborted b e h =
@@ -185,7 +185,7 @@ count-shown at read fresh bytes ring capacity beyond known_end aborted b e h =
     (omega (arith, count, h, count-ring ring beyond, count-ring ring (merged beyond (drop (read + length ring) (by_place at bytes)))))
 
 pub received-now : (read : ℕ) (ring : List ℕ) (capacity : ℕ) (beyond : PlacedBytes) (known_end : Option ℕ) (aborted : Option Bool) (b : Arriving)
-    → IsKept read ring capacity beyond known_end aborted → shown read ring capacity beyond.places known_end aborted ≡ b → received b ≡ read + length ring
+    → IsKept read ring capacity beyond known_end aborted → as_arriving read ring capacity beyond.places known_end aborted ≡ b → received b ≡ read + length ring
 received-now read ring capacity beyond known_end aborted b is e =
     ap received (sym e) ∙ received-shown read ring capacity beyond known_end aborted is
 

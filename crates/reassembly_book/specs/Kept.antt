@@ -3,8 +3,8 @@ use Rattle.std.specs.Prelude.{ℕ, zero, suc, ◌≡◌, ◌+◌, ◌^◌, ◌�
 use Rattle.byte_pieces.specs.Places.{PlacedBytes}
 use Rattle.reassembly_book.specs.State.{Arriving, filled, IsSound}
 
-abbrev pub shown : ℕ → List ℕ → ℕ → List (Option ℕ) → Option ℕ → Option Bool → Arriving
-shown read ring capacity beyond known_end aborted = record {
+abbrev pub as_arriving : ℕ → List ℕ → ℕ → List (Option ℕ) → Option ℕ → Option Bool → Arriving
+as_arriving read ring capacity beyond known_end aborted = record {
   read = read;
   places = map Some ring ++ beyond;
   known_end = known_end;
@@ -17,7 +17,7 @@ pub record IsKept (read : ℕ) (ring : List ℕ) (capacity : ℕ) (beyond : Plac
   pub from : beyond.from ≡ read + length ring
   -- the first place beyond is empty
   pub gap : filled beyond.places ≡ []
-  pub sound : IsSound (shown read ring capacity beyond.places known_end aborted)
+  pub sound : IsSound (as_arriving read ring capacity beyond.places known_end aborted)
   -- places are at most 2^62
   pub bound : read + length ring + length beyond.places ≤ 2 ^ 62
 

@@ -15,12 +15,12 @@ pub record Arriving : Type 0 where
   pub aborted : Option Bool
 
 -- a book as it is opened
-abbrev pub opened : ℕ → Arriving
-opened capacity = record { read = 0; places = []; known_end = None; capacity = capacity; aborted = None }
+abbrev pub new_arriving : ℕ → Arriving
+new_arriving capacity = record { read = 0; places = []; known_end = None; capacity = capacity; aborted = None }
 
 -- what a book was opened with
 abbrev pub opening : Arriving → Arriving
-opening b = opened b.capacity
+opening b = new_arriving b.capacity
 
 -- how many bytes have arrived without a gap
 abbrev pub received : Arriving → ℕ

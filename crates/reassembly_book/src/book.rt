@@ -30,15 +30,15 @@ impl Model for ReassemblyBook {
 
     ghost Value = { Arriving };
 
-    ghost use Rattle.reassembly_book.specs.Kept.{shown, IsKept};
+    ghost use Rattle.reassembly_book.specs.Kept.{as_arriving, IsKept};
 
-    ghost view = { λ b. shown b.read b.ring.items b.ring.capacity b.beyond.places b.known_end b.aborted };
+    ghost view = { λ b. as_arriving b.read b.ring.items b.ring.capacity b.beyond.places b.known_end b.aborted };
 
     ghost invariant = { λ b. IsKept b.read b.ring.items b.ring.capacity b.beyond b.known_end b.aborted };
 }
 
 impl ReassemblyBook {
-    ghost use Rattle.reassembly_book.specs.State.{opened, filled};
+    ghost use Rattle.reassembly_book.specs.State.{new_arriving, filled};
     ghost use Rattle.reassembly_book.specs.State.{received, top};
     ghost use Rattle.reassembly_book.specs.Steps.{by_place, after_reading, edge, refusal, is_taken, with_places, places_after, bytes_reply, place_reply, after_place, fin_clash, fin_reply, after_fin, read_reply, after_read, next_wanted, window, CanAsk, after_call};
 
@@ -46,7 +46,7 @@ impl ReassemblyBook {
     pub fn new(alloc: Global, capacity: u64) -> Result<Self, AllocError>
         requires some { 1 ≤ capacity }
         requires most { capacity ≤ 1048576 }
-        ensures { IfOk result (λ book. book ≡ opened capacity) }
+        ensures { IfOk result (λ book. book ≡ new_arriving capacity) }
     {
         Ok(ReassemblyBook {
             alloc,

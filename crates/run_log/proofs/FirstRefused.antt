@@ -11,7 +11,7 @@ use Rattle.run_log.specs.declared.outcome.Outcome.TheVariants as outcomes
 use Rattle.run_log.specs.declared.turn.Turn.{Turn}
 use Rattle.run_log.specs.Lines.{round_text, width_text, keys_text, outcome_text}
 use Rattle.run_log.specs.Fitting.{IsLong}
-use Rattle.run_log.specs.Form.{HasRoundBelow, is_nothing, turn_list, taken, read_on, reading}
+use Rattle.run_log.specs.Form.{HasRoundBelow, is_nothing, turn_list, taken_line, read_on, reading}
 use Rattle.run_log.specs.Laws.{BeginsALog, IsFirstRefused, RefusesTheFirst}
 use Rattle.run_log.proofs.LogReads.{bytes_same, round_no_step, outcome_no_step, outcome_again, keys_again}
 use Rattle.run_log.proofs.Walking.{IsBelow, taken_below}
@@ -24,7 +24,7 @@ module _ (actors width : ℕ) where
 
   rest_of_log : Expected → List (List ℕ) → Bool
   rest_of_log expected [] = is_nothing expected
-  rest_of_log expected (line ∷ lines) = goes_on (taken actors width expected line) (λ next. rest_of_log next lines)
+  rest_of_log expected (line ∷ lines) = goes_on (taken_line actors width expected line) (λ next. rest_of_log next lines)
 
   -- ---- every beginning can be finished
 
@@ -40,12 +40,12 @@ module _ (actors width : ℕ) where
   finish Nothing = []
 
   turns_finish : (round : ℕ) (may_end : Bool) → IsLong round → rest_of_log (Turns round may_end) (finish_turns round may_end) ≡ true
-  unfolding rest_of_log finish_turns taken
+  unfolding rest_of_log finish_turns taken_line
   turns_finish round true h = rw (outcome_no_step actors outcomes.Rounds, outcome_again outcomes.Rounds) refl
   turns_finish round false h = rw (round_no_step actors round h, bytes_same (round_text round), outcome_no_step actors outcomes.Rounds, outcome_again outcomes.Rounds) refl
 
   finishes : (expected : Expected) → HasRoundBelow (2 ^ 64) expected → rest_of_log expected (finish expected) ≡ true
-  unfolding rest_of_log finish taken
+  unfolding rest_of_log finish taken_line
   finishes Format h = rw (keys_again 0 0) (turns_finish 0 false (omega arith))
   finishes Width h = rw (bytes_same (width_text width), keys_again 0 0) (turns_finish 0 false (omega arith))
   finishes Keys h = rw (keys_again 0 0) (turns_finish 0 false (omega arith))
@@ -64,10 +64,10 @@ module _ (actors width : ℕ) where
   same_ok : (lines : List (List ℕ)) (number : ℕ) (expected : Expected) (turns : List Turn) → is_ok (read_on actors width number expected turns lines) ≡ rest_of_log expected lines
   unfolding read_on rest_of_log
   same_ok [] number expected turns = ok_if (is_nothing expected) number turns
-  same_ok (line ∷ lines) number expected turns = by (same_ok lines) (taken actors width expected line) refl
+  same_ok (line ∷ lines) number expected turns = by (same_ok lines) (taken_line actors width expected line) refl
     where
       by : ((number : ℕ) (expected : Expected) (turns : List Turn) → is_ok (read_on actors width number expected turns lines) ≡ rest_of_log expected lines)
-          → (o : Option Taken) → taken actors width expected line ≡ o → is_ok (read_on actors width number expected turns (line ∷ lines)) ≡ rest_of_log expected (line ∷ lines)
+          → (o : Option Taken) → taken_line actors width expected line ≡ o → is_ok (read_on actors width number expected turns (line ∷ lines)) ≡ rest_of_log expected (line ∷ lines)
       by later (Some one) e = rw e (later (suc number) one.next (turns ++ turn_list one.turn))
       by later None e = rw e refl
 
@@ -97,11 +97,11 @@ module _ (actors width : ℕ) where
   from_end true number n turns e = absurd cc
   from_end false number n turns e = ap line_in e
 
-  rest_step : (expected : Expected) (line : List ℕ) (one : Taken) (lines : List (List ℕ)) → taken actors width expected line ≡ Some one → rest_of_log expected (line ∷ lines) ≡ rest_of_log one.next lines
+  rest_step : (expected : Expected) (line : List ℕ) (one : Taken) (lines : List (List ℕ)) → taken_line actors width expected line ≡ Some one → rest_of_log expected (line ∷ lines) ≡ rest_of_log one.next lines
   unfolding rest_of_log
   rest_step expected line one lines q = rw q refl
 
-  rest_none : (expected : Expected) (line : List ℕ) (lines : List (List ℕ)) → taken actors width expected line ≡ None → rest_of_log expected (line ∷ lines) ≡ false
+  rest_none : (expected : Expected) (line : List ℕ) (lines : List (List ℕ)) → taken_line actors width expected line ≡ None → rest_of_log expected (line ∷ lines) ≡ false
   unfolding rest_of_log
   rest_none expected line lines q = rw q refl
 
@@ -112,11 +112,11 @@ module _ (actors width : ℕ) where
       let same = from_end (is_nothing expected) number n turns e in
       let begun = finishes expected (low number expected below (omega arith)) in
       (0, omega (arith, same), record { few = omega arith; more = finish expected; begins = begun; refused = λ l others. absurd (omega arith) })
-  stops (line ∷ lines) number expected turns n below few e = by (stops lines) (taken actors width expected line) refl
+  stops (line ∷ lines) number expected turns n below few e = by (stops lines) (taken_line actors width expected line) refl
     where
       by : ((number : ℕ) (expected : Expected) (turns : List Turn) (n : ℕ) → HasRoundBelow number expected → number + length lines ≤ 2 ^ 64
           → read_on actors width number expected turns lines ≡ Err (fault.Line n) → StopsAt n number expected lines)
-          → (o : Option Taken) → taken actors width expected line ≡ o → StopsAt n number expected (line ∷ lines)
+          → (o : Option Taken) → taken_line actors width expected line ≡ o → StopsAt n number expected (line ∷ lines)
       by rest (Some one) q =
           let step : read_on actors width number expected turns (line ∷ lines) ≡ read_on actors width (suc number) one.next (turns ++ turn_list one.turn) lines = rw q refl in
           let next : HasRoundBelow (suc number) one.next = subst (λ (o : Option Taken). IsBelow actors width (suc number) o) q (taken_below actors width number expected line below) in

@@ -27,7 +27,7 @@ use Rattle.run_log.specs.Calls.{ask_words}
 use Rattle.run_log.specs.Replies.{send_reply_words, reassembly_reply_words, control_reply_words, reply_text}
 use Rattle.run_log.specs.Lines.{object_of, step_text}
 use Rattle.run_log.specs.Fitting.{AskFits, ReplyFits, NoteFits}
-use Rattle.run_log.specs.Telling.{told_ask, told_reply, told}
+use Rattle.run_log.specs.Telling.{told_ask, told_reply, as_told}
 use Rattle.run_log.specs.Laws.{LinesTellTheirNotes}
 use Rattle.run_log.proofs.PlainWords.{is_seen, ArePlain, plain_ask, plain_send_reply, plain_reassembly_reply, plain_control_reply}
 use Rattle.run_log.proofs.Lengths.{plain_seen, counted, ask_within, few_send_reply, few_reassembly_reply}
@@ -188,7 +188,7 @@ by_kind (asks.Local step) (replies.Send reply) stamp actor h k kind = absurd kin
 by_kind (asks.Local step) (replies.Reassembly reply) stamp actor h k kind = absurd kind
 by_kind (asks.Local step) (replies.Control reply) stamp actor h k kind = absurd kind
 
-note_again : (note : Note) → NoteFits note → IsOfKind note.ask note.reply → from_words (words_of (step_text note)) ≡ told note
+note_again : (note : Note) → NoteFits note → IsOfKind note.ask note.reply → from_words (words_of (step_text note)) ≡ as_told note
 note_again note f kind =
     let object = object_word (object_of note.ask) in
     let words = spaced (ask_words note.ask) ++ reply_text note.reply in

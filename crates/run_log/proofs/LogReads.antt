@@ -33,7 +33,7 @@ use Rattle.run_log.specs.Replies.{reply_text}
 use Rattle.run_log.specs.Lines.{object_of, step_text, round_text, width_text, key_word, keys_text, outcome_text, ended, opening_lines, old_opening_lines, round_lines, rounds_lines}
 use Rattle.run_log.specs.Fields.{field, is_number, actor_of, is_object, is_printable, step_actor, is_lower_hex, is_key, is_keys_line, is_outcome_line}
 use Rattle.run_log.specs.Fitting.{IsLong}
-use Rattle.run_log.specs.Form.{taken, read_on, reading}
+use Rattle.run_log.specs.Form.{taken_line, read_on, reading}
 use Rattle.run_log.specs.Laws.{CanBeLogged, turns_of_round, turns_of, log_behind, ReadsToItsTurns}
 use Rattle.run_log.proofs.PlainWords.{is_seen, plain_number}
 use Rattle.run_log.proofs.Lengths.{plain_seen, printable_word, printable_both, words_again}
@@ -245,7 +245,7 @@ module _ (actors width : ℕ) where
       → IsLong round → AllByRecursion (CanBeLogged actors) notes
       → Continues (Turns (suc round) true) (turns ++ turns_of_round notes) rest whole
       → Continues (Turns round may_end) turns (round_lines round notes ++ rest) whole
-  unfolding read_on taken Continues
+  unfolding read_on taken_line Continues
   round_read [] round may_end turns rest whole small h more number =
       rw (round_no_step actors round small, bytes_same (round_text round)) (more (suc number))
   round_read (note ∷ notes) round may_end turns rest whole small h more number =
@@ -270,7 +270,7 @@ module _ (actors width : ℕ) where
   rounds_read : (rounds : List (List Note)) (round : ℕ) (turns : List Turn) (outcome : Outcome)
       → round + length rounds ≤ 2 ^ 64 → AllByRecursion (AllByRecursion (CanBeLogged actors)) rounds
       → Continues (Turns round true) turns (rounds_lines round rounds ++ end_lines outcome) (Ok (turns ++ turns_of rounds))
-  unfolding read_on taken Continues
+  unfolding read_on taken_line Continues
   rounds_read [] round turns outcome few h number = rw (outcome_no_step actors outcome, outcome_again outcome) refl
   rounds_read (notes ∷ rounds) round turns outcome few h number =
       one_more notes rounds round true turns outcome (omega arith) h.0 (rounds_read rounds (suc round) (turns ++ turns_of_round notes) outcome (omega arith) h.1) number
@@ -284,12 +284,12 @@ module _ (actors width : ℕ) where
 
   opens : (key_a key_b : ℕ) (lines : List (List ℕ)) (whole : Result (List Turn) LogFault) → Continues (Turns 0 false) [] lines whole
       → read_on actors width 1 Format [] (opening_lines width key_a key_b ++ lines) ≡ whole
-  unfolding read_on taken Continues
+  unfolding read_on taken_line Continues
   opens key_a key_b lines whole more = rw (bytes_same (width_text width), keys_again key_a key_b) (more 4)
 
   opens_old : (key_a key_b : ℕ) (lines : List (List ℕ)) (whole : Result (List Turn) LogFault) → Continues (Turns 0 false) [] lines whole
       → read_on actors width 1 Format [] (old_opening_lines key_a key_b ++ lines) ≡ whole
-  unfolding read_on taken Continues
+  unfolding read_on taken_line Continues
   opens_old key_a key_b lines whole more = rw (keys_again key_a key_b) (more 3)
 
   are_step_lines : (notes : List Note) → AllByRecursion (CanBeLogged actors) notes → AllByRecursion IsLine (map step_text notes)

@@ -14,11 +14,11 @@ use Rattle.std.specs.Prelude.{codes}
 use Rattle.run_log.specs.declared.turn.Turn.TheVariants.{Round}
 use Rattle.std.specs.Str.{bytes_eq}
 use Rattle.run_log.specs.declared.turn.Turn.{Turn}
-use Rattle.run_log.specs.Form.{Fails, HasRoundBelow, is_nothing, silent, tells, step_or, end_line, after_line, taken, read_on, reading}
+use Rattle.run_log.specs.Form.{Fails, HasRoundBelow, is_nothing, silent, tells, step_or, end_line, after_line, taken_line, read_on, reading}
 
 module _ (actors width : ℕ) where
   pub goes_on : (number : ℕ) (expected next : Expected) (turns now : List Turn) (rest line after : List ℕ) (whole : Result (List Turn) LogFault)
-      → text_lines rest ≡ line ∷ text_lines after → after_line number turns (taken actors width expected line) ≡ Ok (next, now)
+      → text_lines rest ≡ line ∷ text_lines after → after_line number turns (taken_line actors width expected line) ≡ Ok (next, now)
       → read_on actors width number expected turns (text_lines rest) ≡ whole → read_on actors width (number + 1) next now (text_lines after) ≡ whole
   unfolding read_on
   goes_on number expected next turns now rest line after whole cut one so_far =
@@ -27,7 +27,7 @@ module _ (actors width : ℕ) where
 
   -- a line that is refused
   pub stops : (f : LogFault) (number : ℕ) (expected : Expected) (turns : List Turn) (rest line after : List ℕ) (whole : Result (List Turn) LogFault)
-      → text_lines rest ≡ line ∷ text_lines after → Fails f (after_line number turns (taken actors width expected line))
+      → text_lines rest ≡ line ∷ text_lines after → Fails f (after_line number turns (taken_line actors width expected line))
       → read_on actors width number expected turns (text_lines rest) ≡ whole → Fails f whole
   unfolding read_on
   stops fault.Memory number expected turns rest line after whole cut refused so_far = tt
@@ -68,8 +68,8 @@ module _ (actors width : ℕ) where
   behind_step number round (Some actor) other l p = omega arith
   behind_step number round None other l p = p
 
-  pub taken_below : (number : ℕ) (expected : Expected) (line : List ℕ) → HasRoundBelow number expected → IsBelow (suc number) (taken actors width expected line)
-  unfolding taken
+  pub taken_below : (number : ℕ) (expected : Expected) (line : List ℕ) → HasRoundBelow number expected → IsBelow (suc number) (taken_line actors width expected line)
+  unfolding taken_line
   taken_below number Format line l =
       let old = either (suc number) (bytes_eq line (codes "mptcp-log 1")) (Some (silent Keys)) None (tt {0}) (tt {0}) in
       either (suc number) (bytes_eq line (codes "mptcp-log 2")) (Some (silent Width)) _ (tt {0}) old
@@ -92,8 +92,8 @@ module _ (actors width : ℕ) where
   of_ok number turns now next None p e = absurd cc
 
   pub below_more : (number : ℕ) (expected next : Expected) (turns now : List Turn) (line : List ℕ) → HasRoundBelow number expected
-      → after_line number turns (taken actors width expected line) ≡ Ok (next, now) → HasRoundBelow (number + 1) next
-  below_more number expected next turns now line l e = of_ok number turns now next (taken actors width expected line) (taken_below number expected line l) e
+      → after_line number turns (taken_line actors width expected line) ≡ Ok (next, now) → HasRoundBelow (number + 1) next
+  below_more number expected next turns now line l e = of_ok number turns now next (taken_line actors width expected line) (taken_below number expected line l) e
 
   pub begins : (text : List ℕ) (turns : List Turn) → turns ≡ [] → read_on actors width 1 Format turns (text_lines text) ≡ reading actors width text
   unfolding reading

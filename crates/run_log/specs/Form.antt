@@ -52,12 +52,12 @@ Fails Memory read = Unit {0}
 Fails (Line number) read = read ≡ Err (Line number)
 
 -- what a line tells, and what may stand behind it; None where it can't stand there
-unfoldable pub taken : ℕ → ℕ → Expected → List ℕ → Option Taken
-taken actors width Format line = format_line line
-taken actors width Width line = width_line width line
-taken actors width Keys line = keys_line line
-taken actors width (Turns round may_end) line = turn_line actors round may_end line
-taken actors width Nothing line = None
+unfoldable pub taken_line : ℕ → ℕ → Expected → List ℕ → Option Taken
+taken_line actors width Format line = format_line line
+taken_line actors width Width line = width_line width line
+taken_line actors width Keys line = keys_line line
+taken_line actors width (Turns round may_end) line = turn_line actors round may_end line
+taken_line actors width Nothing line = None
 
 abbrev pub turn_list : Option Turn → List Turn
 turn_list (Some turn) = turn ∷ []
@@ -85,7 +85,7 @@ after_line number turns None = Err (Line number)
 unfoldable pub read_on : ℕ → ℕ → ℕ → Expected → List Turn → List (List ℕ) → Result (List Turn) LogFault
 read_on actors width number expected turns [] = at_end number expected turns
 read_on actors width number expected turns (line ∷ lines) =
-    after_line number turns (taken actors width expected line) >>= λ known. read_on actors width (suc number) known.0 known.1 lines
+    after_line number turns (taken_line actors width expected line) >>= λ known. read_on actors width (suc number) known.0 known.1 lines
 
 -- the turns of a log for so many actors and data numbers of so many octets, or the first line that is refused
 unfoldable pub reading : ℕ → ℕ → List ℕ → Result (List Turn) LogFault

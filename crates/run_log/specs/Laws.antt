@@ -14,7 +14,7 @@ use Rattle.run_log.specs.declared.turn.Turn.{Turn}
 use Rattle.run_log.specs.declared.turn.Turn.TheVariants.{Step, Round}
 use Rattle.run_log.specs.Fitting.{IsByte, IsLong, NoteFits}
 use Rattle.actor_desk.specs.Kinds.{IsOfKind}
-use Rattle.run_log.specs.Telling.{told}
+use Rattle.run_log.specs.Telling.{as_told}
 use Rattle.run_log.specs.Form.{read_on, reading}
 use Rattle.run_log.specs.Lines.{opening_lines, old_opening_lines, rounds_lines, outcome_text, step_text, ended}
 
@@ -64,4 +64,4 @@ RefusesTheFirst = (actors width : ℕ) (text : List ℕ) (number : ℕ) → IsLo
 
 -- two notes with one line are told alike, where the replies are of the asked kind
 abbrev pub LinesTellTheirNotes : Type 0
-LinesTellTheirNotes = (a b : Note) → NoteFits a → NoteFits b → IsOfKind a.ask a.reply → IsOfKind b.ask b.reply → step_text a ≡ step_text b → told a ≡ told b
+LinesTellTheirNotes = (a b : Note) → NoteFits a → NoteFits b → IsOfKind a.ask a.reply → IsOfKind b.ask b.reply → step_text a ≡ step_text b → as_told a ≡ as_told b

@@ -44,5 +44,5 @@ told_reply (replies.Send reply) = replies.Send (told_send_reply reply)
 told_reply (replies.Reassembly reply) = replies.Reassembly (told_reassembly_reply reply)
 told_reply reply = reply
 
-abbrev pub told : Note → Note
-told note = record { stamp = note.stamp; seen = 0; actor = note.actor; ask = told_ask note.ask; reply = told_reply note.reply }
+abbrev pub as_told : Note → Note
+as_told note = record { stamp = note.stamp; seen = 0; actor = note.actor; ask = told_ask note.ask; reply = told_reply note.reply }

@@ -77,7 +77,7 @@ fn is_round(alloc: Global, line: &[u8], round: u64) -> Result<bool, AllocError>
 }
 
 impl Expected {
-    ghost use Rattle.run_log.specs.Form.{format_line, width_line, keys_line, end_line, turn_line, taken, is_nothing, HasRoundBelow};
+    ghost use Rattle.run_log.specs.Form.{format_line, width_line, keys_line, end_line, turn_line, taken_line, is_nothing, HasRoundBelow};
 
     /// The first line names the format.
     fn take_format(line: &[u8]) -> Option<Taken>
@@ -158,7 +158,7 @@ impl Expected {
     }
 
     /// Takes the next line, unless it can't stand there.
-    #[tactic(auto, unfolding(crate::specs::Form::taken))]
+    #[tactic(auto, unfolding(crate::specs::Form::taken_line))]
     pub fn take(
         self,
         alloc: Global,
@@ -166,7 +166,7 @@ impl Expected {
         line: &[u8],
     ) -> Result<Option<Taken>, AllocError>
         requires { HasRoundBelow (2 ^ 64 - 1) self }
-        ensures { IfOk result (λ line_taken. line_taken ≡ taken setting.actors setting.width self line.now) }
+        ensures { IfOk result (λ line_taken. line_taken ≡ taken_line setting.actors setting.width self line.now) }
     {
         match self {
             Expected::Format => Ok(Expected::take_format(line)),

@@ -2,7 +2,7 @@
 
 ghost use Rattle.std.specs.Prelude.{◌≡◌, ◌<◌, ◌∷◌, ◌==◌, ◌+◌, ◌-◌, ◌^◌, ◌++◌, [], length, position, OnOk, IfOk};
 ghost use Rattle.link_script.specs.Words.{text_lines};
-ghost use Rattle.run_log.specs.Form.{HasRoundBelow, taken, turn_list, after_line, reading, Gives};
+ghost use Rattle.run_log.specs.Form.{HasRoundBelow, taken_line, turn_list, after_line, reading, Gives};
 
 use crate::fault::LogFault;
 use crate::form::{Expected, Setting};
@@ -48,7 +48,7 @@ fn take_line(
     line: &[u8],
 ) -> Result<(), LogFault>
     requires { HasRoundBelow (2 ^ 64 - 1) expected.old }
-    ensures { Gives (λ _. (expected.new, turns.new.items)) result (after_line number turns.old.items (taken setting.actors setting.width expected.old line.now)) }
+    ensures { Gives (λ _. (expected.new, turns.new.items)) result (after_line number turns.old.items (taken_line setting.actors setting.width expected.old line.now)) }
 {
     let Some(taken) = expected.take(alloc, setting, line)? else {
         return Err(LogFault::Line(number));

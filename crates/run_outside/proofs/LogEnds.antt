@@ -12,7 +12,7 @@ use Rattle.run_log.specs.declared.form.Taken.{Taken}
 use Rattle.run_log.specs.declared.turn.Turn as logged_turn
 use Rattle.run_log.specs.declared.turn.Turn.TheVariants as logged
 use Rattle.run_log.specs.Fields.{step_actor, is_keys_line, is_outcome_line}
-use Rattle.run_log.specs.Form.{silent, tells, taken, turn_list, step_or, end_line, at_end, after_line, read_on, reading}
+use Rattle.run_log.specs.Form.{silent, tells, taken_line, turn_list, step_or, end_line, at_end, after_line, read_on, reading}
 use Rattle.run_log.specs.Lines.{round_text, width_text}
 use Rattle.run_outside.specs.Reading.{EndsInRound}
 
@@ -52,8 +52,8 @@ step_keeps : (o : Option ℕ) (round : ℕ) (turns : LogTurns) (other : Option T
 step_keeps (Some actor) round turns other h = tt
 step_keeps None round turns other h = h
 
-taken_keeps : (actors width : ℕ) (expected : Expected) (line : List ℕ) (turns : LogTurns) → MayEnd expected turns → Keeps turns (taken actors width expected line)
-unfolding taken
+taken_keeps : (actors width : ℕ) (expected : Expected) (line : List ℕ) (turns : LogTurns) → MayEnd expected turns → Keeps turns (taken_line actors width expected line)
+unfolding taken_line
 taken_keeps actors width Format line turns h = format_keeps (bytes_eq line (codes "mptcp-log 2")) (bytes_eq line (codes "mptcp-log 1")) turns
 taken_keeps actors width Width line turns h = one_keeps (bytes_eq line (width_text width)) turns Keys tt
 taken_keeps actors width Keys line turns h = one_keeps (is_keys_line line) turns (Turns 0 false) tt
@@ -75,7 +75,7 @@ read_ends : (lines : List (List ℕ)) (actors width number : ℕ) (expected : Ex
 unfolding read_on
 read_ends [] actors width number expected turns all h e = end_ends number expected turns all h e
 read_ends (line ∷ lines) actors width number expected turns all h e =
-    by (taken actors width expected line) (taken_keeps actors width expected line turns h) (λ next more. read_ends lines actors width (suc number) next more all) e
+    by (taken_line actors width expected line) (taken_keeps actors width expected line turns h) (λ next more. read_ends lines actors width (suc number) next more all) e
   where
     by : (o : Option Taken) → Keeps turns o
         → ((next : Expected) (more : LogTurns) → MayEnd next more → read_on actors width (suc number) next more lines ≡ Ok all → EndsInRound all)

@@ -2,7 +2,7 @@
 
 ghost use Rattle.std.specs.Prelude.{◌≡◌, ◌≤◌, ℕ, length, List, [], ◌∷◌, Ok, IfOk, IfErr, IfSome, OnOk, OnErr, vec_len};
 ghost use Rattle.link_script.specs.Scripts.{HasRanges};
-ghost use Rattle.run_words.specs.Lines.{replay, shown};
+ghost use Rattle.run_words.specs.Lines.{replay, as_line};
 ghost use Rattle.run_outside.specs.Calling.{Loads};
 ghost use Rattle.run_outside.specs.declared.status.Named.TheVariants as named;
 ghost use Rattle.run_outside.specs.declared.status.Status.TheVariants.{Memory};
@@ -62,14 +62,14 @@ pub fn load_contents<O: Outside>(
     ensures script_within { IfOk result (λ contents. vec_len contents.script ≤ 65536) }
     ensures file_a_within { IfOk result (λ contents. length contents.file_a.items ≤ 16777216) }
     ensures file_b_within { IfOk result (λ contents. length contents.file_b.items ≤ 16777216) }
-    ensures within { OnOk result (AreFirstWithinLimits (O.content outside.old) (shown line.now)) }
-    ensures fault { IfErr result (IsLoadsFault (O.content outside.old) (shown line.now)
+    ensures within { OnOk result (AreFirstWithinLimits (O.content outside.old) (as_line line.now)) }
+    ensures fault { IfErr result (IsLoadsFault (O.content outside.old) (as_line line.now)
         (O.load_faults outside.old) (O.load_faults outside.new)) }
     ensures same_contents { (other : List ℕ) →
         O.content outside.new other ≡ O.content outside.old other }
-    ensures calls_cut { IfErr result (LoadsAdd (shown line.now) (first_loads (shown line.now))
+    ensures calls_cut { IfErr result (LoadsAdd (as_line line.now) (first_loads (as_line line.now))
         (O.calls outside.old) (O.calls outside.new)) }
-    ensures loads { Loads (first_loads (shown line.now))
+    ensures loads { Loads (first_loads (as_line line.now))
         (O.load_faults outside.old) (O.load_faults outside.new)
         (O.port_faults outside.old) (O.port_faults outside.new)
         (O.holds outside.old) (O.holds outside.new)
@@ -92,13 +92,13 @@ pub fn load_order<O: Outside>(
     line: &CommandLine<'_>,
     order: &str,
 ) -> Result<Vec<u8>, Status>
-    requires named { (shown line.now).work ≡ replay order.now }
-    requires before { AreFirstWithinLimits (O.content outside.old) (shown line.now) }
+    requires named { (as_line line.now).work ≡ replay order.now }
+    requires before { AreFirstWithinLimits (O.content outside.old) (as_line line.now) }
     ensures whole { IfOk result
         (λ log. IfSome (O.content outside.old order.now) (λ told. log.items ≡ told)) }
     ensures within { OnOk result
-        (IsWithinLimit (O.content outside.old) (shown line.now) named.Order) }
-    ensures fault { IfErr result (IsLoadsFault (O.content outside.old) (shown line.now)
+        (IsWithinLimit (O.content outside.old) (as_line line.now) named.Order) }
+    ensures fault { IfErr result (IsLoadsFault (O.content outside.old) (as_line line.now)
         (O.load_faults outside.old) (O.load_faults outside.new)) }
     ensures named { IfErr result (IsLoadFault named.Order (O.content outside.old order.now)
         (O.load_faults outside.old) (O.load_faults outside.new)) }
@@ -157,12 +157,12 @@ pub fn load_input<O: Outside>(
     ensures file_b { IfOk result (λ input. IfSome (O.content outside.old line.now.file_b.now)
         (λ told. input.file_b ≡ told)) }
     ensures loaded { IfOk result IsLoaded }
-    ensures within { OnOk result (AreFirstWithinLimits (O.content outside.old) (shown line.now)) }
-    ensures fault { IfErr result (IsInputFault (O.content outside.old) (shown line.now)
+    ensures within { OnOk result (AreFirstWithinLimits (O.content outside.old) (as_line line.now)) }
+    ensures fault { IfErr result (IsInputFault (O.content outside.old) (as_line line.now)
         (O.load_faults outside.old) (O.load_faults outside.new)) }
-    ensures calls_cut { IfErr result (InputAdds (shown line.now) (first_loads (shown line.now))
+    ensures calls_cut { IfErr result (InputAdds (as_line line.now) (first_loads (as_line line.now))
         (O.calls outside.old) (O.calls outside.new)) }
-    ensures loads { Loads (first_loads (shown line.now))
+    ensures loads { Loads (first_loads (as_line line.now))
         (O.load_faults outside.old) (O.load_faults outside.new)
         (O.port_faults outside.old) (O.port_faults outside.new)
         (O.holds outside.old) (O.holds outside.new)
@@ -189,7 +189,7 @@ pub fn load_replay<O: Outside>(
     line: &CommandLine<'_>,
     order: &str,
 ) -> Result<Replay, Status>
-    requires named { (shown line.now).work ≡ replay order.now }
+    requires named { (as_line line.now).work ≡ replay order.now }
     ensures script { IfOk result (λ replay. IfSome (O.content outside.old line.now.script.now)
         (λ told. script_meaning told ≡ Ok replay.input.script)) }
     ensures file_a { IfOk result (λ replay. IfSome (O.content outside.old line.now.file_a.now)
@@ -204,12 +204,12 @@ pub fn load_replay<O: Outside>(
     // The last turn of a log is the end of a round.
     ensures ends { IfOk result (λ replay. EndsInRound replay.turns.items) }
     ensures loaded { IfOk result (λ replay. IsLoaded replay.input) }
-    ensures within { OnOk result (AreWithinLimits (O.content outside.old) (shown line.now)) }
-    ensures fault { IfErr result (IsReplayInputFault (O.content outside.old) (shown line.now)
+    ensures within { OnOk result (AreWithinLimits (O.content outside.old) (as_line line.now)) }
+    ensures fault { IfErr result (IsReplayInputFault (O.content outside.old) (as_line line.now)
         (O.load_faults outside.old) (O.load_faults outside.new)) }
-    ensures calls_cut { IfErr result (InputAdds (shown line.now) (loads_of (shown line.now))
+    ensures calls_cut { IfErr result (InputAdds (as_line line.now) (loads_of (as_line line.now))
         (O.calls outside.old) (O.calls outside.new)) }
-    ensures loads { Loads (loads_of (shown line.now))
+    ensures loads { Loads (loads_of (as_line line.now))
         (O.load_faults outside.old) (O.load_faults outside.new)
         (O.port_faults outside.old) (O.port_faults outside.new)
         (O.holds outside.old) (O.holds outside.new)

@@ -3,7 +3,7 @@
 ghost use Rattle.std.specs.Prelude.{◌≡◌, [], OnOk, OnErr};
 ghost use Rattle.outside_kit.specs.declared.port.Port.{Port};
 ghost use Rattle.outside_kit.specs.Outside.{HoldsAfter};
-ghost use Rattle.run_words.specs.Lines.{shown};
+ghost use Rattle.run_words.specs.Lines.{as_line};
 ghost use Rattle.run_outside.specs.Calling.{Puts};
 ghost use Rattle.run_outside.specs.Plan.{binds_of};
 ghost use Rattle.run_outside.specs.Ports.{HoldsWithin};
@@ -24,7 +24,7 @@ pub fn bind_readers<O: Outside>(outside: &mut O, line: &CommandLine<'_>) -> Resu
     ensures read_by_a_err { OnErr result (HoldsWithin (Unit {0}) (O.holds outside.old Port.ReadByA)
         (O.holds outside.new Port.ReadByA) [] []) }
     ensures log { O.holds outside.new Port.Log ≡ O.holds outside.old Port.Log }
-    ensures puts { Puts (binds_of (shown line.now))
+    ensures puts { Puts (binds_of (as_line line.now))
         (O.load_faults outside.old) (O.load_faults outside.new)
         (O.port_faults outside.old) (O.port_faults outside.new)
         (O.calls outside.old) (O.calls outside.new) result }

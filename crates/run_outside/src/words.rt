@@ -1,7 +1,7 @@
 //! The words of a command line.
 
 ghost use Rattle.std.specs.Prelude.{◌≡◌, Some, map, string_bytes, IfOk, IfErr};
-ghost use Rattle.run_words.specs.Lines.{HasRanges, line_of, shown, shown_work};
+ghost use Rattle.run_words.specs.Lines.{HasRanges, line_of, as_line, shown_work};
 ghost use Rattle.run_outside.specs.Causes.{IsWordsFault};
 
 use crate::status::Status;
@@ -14,7 +14,7 @@ use std::alloc::Global;
 ///
 /// `Usage` where the words break the form of the command line, and `Memory` where memory runs out.
 pub fn read_words<'a>(alloc: Global, words: &'a [String]) -> Result<CommandLine<'a>, Status>
-    ensures line { IfOk result (λ line. line_of (map string_bytes words.entry.now) ≡ Some (shown line)) }
+    ensures line { IfOk result (λ line. line_of (map string_bytes words.entry.now) ≡ Some (as_line line)) }
     ensures ranges { IfOk result (λ line. HasRanges (shown_work line.mode)) }
     ensures fault { IfErr result (IsWordsFault (map string_bytes words.entry.now)) }
 {

@@ -127,8 +127,8 @@ shown_work (mode_is.Serial rounds) = serial rounds
 shown_work (mode_is.Replay order) = replay order.now
 shown_work (mode_is.Bench rounds number) = bench rounds number
 
-abbrev pub shown : CommandLine → Line
-shown line = record {
+abbrev pub as_line : CommandLine → Line
+as_line line = record {
   work = shown_work line.mode;
   names = record {
     script = line.script.now;

@@ -3,7 +3,7 @@
 ghost use Rattle.std.specs.Prelude.{◌≡◌, ◌≤◌, IfOk, IfSome, Some, None, map, option_map, string_bytes};
 ghost use Rattle.clap.specs.Words.{found_of, first_value};
 ghost use Rattle.run_words.specs.Numbers.{number_within};
-ghost use Rattle.run_words.specs.Lines.{HasRanges, line_of, rounds_in, work_in, shown, shown_work};
+ghost use Rattle.run_words.specs.Lines.{HasRanges, line_of, rounds_in, work_in, as_line, shown_work};
 ghost use Rattle.run_words.specs.Form.{given_name, work_by, line_by};
 
 use crate::command_line::{CommandLine, Mode};
@@ -87,7 +87,7 @@ fn mode<'a>(matches: &ArgMatches<'a>) -> Option<Mode<'a>>
 
 /// The command line that the options and names say.
 fn command_line<'a>(matches: &ArgMatches<'a>) -> Option<CommandLine<'a>>
-    ensures exact { option_map shown result ≡ line_by (first_value (found_of matches.now)) }
+    ensures exact { option_map as_line result ≡ line_by (first_value (found_of matches.now)) }
     ensures ranges { IfSome result (λ line. HasRanges (shown_work line.mode)) }
 {
     Some(CommandLine {
@@ -106,7 +106,7 @@ fn command_line<'a>(matches: &ArgMatches<'a>) -> Option<CommandLine<'a>>
 ///
 /// `Usage` comes only where the words break the line form, and `Memory` where memory runs out; other words are read.
 pub fn read<'a>(alloc: Global, words: &'a [String]) -> Result<CommandLine<'a>, WordsFault>
-    ensures ok { IfOk result (λ line. line_of (map string_bytes words.entry.now) ≡ Some (shown line)) }
+    ensures ok { IfOk result (λ line. line_of (map string_bytes words.entry.now) ≡ Some (as_line line)) }
     ensures usage { result ≡ Err WordsFault.Usage → line_of (map string_bytes words.entry.now) ≡ None }
     ensures ranges { IfOk result (λ line. HasRanges (shown_work line.mode)) }
 {

@@ -75,9 +75,9 @@ abbrev pub segment_of : SegmentRef → Segment
 segment_of lent = record { head = lent.head; options = lent.options.now; payload = lent.payload.now }
 
 -- the same of a result
-abbrev pub shown : Result SegmentRef SegmentFault → Result Segment SegmentFault
-shown (Ok lent) = Ok (segment_of lent)
-shown (Err fault) = Err fault
+abbrev pub as_segment : Result SegmentRef SegmentFault → Result Segment SegmentFault
+as_segment (Ok lent) = Ok (segment_of lent)
+as_segment (Err fault) = Err fault
 
 -- where the first option stands, and where the payload does
 abbrev pub options_place : SegmentRef → Ptr

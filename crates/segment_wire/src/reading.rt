@@ -5,7 +5,7 @@ ghost use Rattle.std.specs.Int.{w16, w32};
 ghost use Rattle.std.specs.Ptr.{as_ptr};
 ghost use Rattle.segment_wire.specs.Segment.{Segment, CanWrite, segment_text};
 ghost use Rattle.pipe_model.specs.Octets.{number_at};
-ghost use Rattle.segment_wire.specs.Reading.{head_in, segment_meaning, segment_of, shown, options_place, payload_place, StandsIn};
+ghost use Rattle.segment_wire.specs.Reading.{head_in, segment_meaning, segment_of, as_segment, options_place, payload_place, StandsIn};
 ghost use Rattle.segment_wire.specs.Options.{option_octets, placed_options};
 ghost use Rattle.segment_wire.specs.OptionFront.{options_left, octets_alone};
 
@@ -60,10 +60,10 @@ impl<'a> SegmentRef<'a> {
 ///
 /// The first fault in the order of `SegmentFault`.
 pub fn parse<'a>(bytes: &'a [u8], addresses: &Addresses) -> Result<SegmentRef<'a>, SegmentFault>
-    ensures exact { shown result ≡ segment_meaning addresses.now bytes.now }
+    ensures exact { as_segment result ≡ segment_meaning addresses.now bytes.now }
     // What is written between the same addresses is read again.
     ensures written { (segment : Segment) → CanWrite segment → bytes.now ≡ segment_text addresses.now segment
-        → shown result ≡ Ok segment }
+        → as_segment result ≡ Ok segment }
     ensures lent { IfOk result (StandsIn bytes.entry) }
 {
     read(bytes, addresses)
@@ -71,7 +71,7 @@ pub fn parse<'a>(bytes: &'a [u8], addresses: &Addresses) -> Result<SegmentRef<'a
 
 #[tactic(auto, unfolding(crate::specs::Reading::segment_meaning))]
 fn read<'a>(bytes: &'a [u8], addresses: &Addresses) -> Result<SegmentRef<'a>, SegmentFault>
-    ensures exact { shown result ≡ segment_meaning addresses.now bytes.now }
+    ensures exact { as_segment result ≡ segment_meaning addresses.now bytes.now }
     ensures lent { IfOk result (StandsIn bytes.entry) }
 {
     if bytes.len() < FIXED_HEADER_LEN {

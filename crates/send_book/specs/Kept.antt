@@ -15,8 +15,8 @@ use Rattle.send_book.specs.State.{Sending}
 abbrev pub all_marks : Marks ByteMark → List ByteMark
 all_marks kept = replicate kept.forgotten Acked ++ kept.marks
 
-abbrev pub shown : ℕ → List ℕ → Marks ByteMark → Bool → Bool → ℕ → Bool → Option ℕ → Sending
-shown buffer written kept closed aborted edge fin owner = record {
+abbrev pub as_sending : ℕ → List ℕ → Marks ByteMark → Bool → Bool → ℕ → Bool → Option ℕ → Sending
+as_sending buffer written kept closed aborted edge fin owner = record {
   buffer = buffer;
   written = written;
   marks = all_marks kept;

@@ -22,8 +22,8 @@ pub record Sending : Type 0 where
   pub owner : Option ℕ
 
 -- a book as it is opened
-abbrev pub opened : ℕ → Sending
-opened buffer = record {
+abbrev pub new_sending : ℕ → Sending
+new_sending buffer = record {
   buffer = buffer;
   written = [];
   marks = [];
@@ -36,7 +36,7 @@ opened buffer = record {
 
 -- what a book was opened with
 abbrev pub opening : Sending → Sending
-opening b = opened b.buffer
+opening b = new_sending b.buffer
 
 -- how many of these bytes are acknowledged
 abbrev pub acked_len : List ByteMark → ℕ

@@ -20,18 +20,18 @@ abbrev pub unacked_len : Sending → ℕ
 unacked_len b = length b.written - acked_len b.marks
 
 -- Write: no more bytes than the buffer has room for, and places stay at 2^62 - 3 or below
-abbrev pub taken : List ℕ → Sending → ℕ
-taken bytes b = min (length bytes) (min (b.buffer - unacked_len b) (2 ^ 62 - 3 - length b.written))
+abbrev pub bytes_taken : List ℕ → Sending → ℕ
+bytes_taken bytes b = min (length bytes) (min (b.buffer - unacked_len b) (2 ^ 62 - 3 - length b.written))
 
 abbrev pub write_reply : List ℕ → Sending → SendReply
-write_reply bytes b = if b.closed || b.aborted then Shut else Taken (taken bytes b)
+write_reply bytes b = if b.closed || b.aborted then Shut else Taken (bytes_taken bytes b)
 
 abbrev pub after_write : List ℕ → Sending → Sending
 after_write bytes b =
     if b.closed || b.aborted then b
     else record b {
-      written = b.written ++ take (taken bytes b) bytes;
-      marks = b.marks ++ replicate (taken bytes b) (Free no_paths);
+      written = b.written ++ take (bytes_taken bytes b) bytes;
+      marks = b.marks ++ replicate (bytes_taken bytes b) (Free no_paths);
     }
 
 -- Close

@@ -41,23 +41,23 @@ impl Model for SendBook {
 
     ghost Value = { Sending };
 
-    ghost use Rattle.send_book.specs.Kept.{shown, IsKept};
+    ghost use Rattle.send_book.specs.Kept.{as_sending, IsKept};
 
-    ghost view = { λ b. shown b.buffer b.written b.marks b.closed b.aborted b.edge b.fin b.owner };
+    ghost view = { λ b. as_sending b.buffer b.written b.marks b.closed b.aborted b.edge b.fin b.owner };
 
     ghost invariant = { λ b. IsKept b.written b.marks };
 }
 
 impl SendBook {
-    ghost use Rattle.send_book.specs.State.{opened, acked_len};
+    ghost use Rattle.send_book.specs.State.{new_sending, acked_len};
     ghost use Rattle.send_book.specs.Kept.{LiesWithin};
-    ghost use Rattle.send_book.specs.Steps.{taken, write_reply, after_write, close_reply, after_close, is_for, first_free, run_len, decision, end_of, grant_reply, after_grant, is_future, fin_after, ack_reply, after_ack, return_reply, after_return, is_gathered, infinite_reply, after_infinite, CanAsk, reply_to, after_call};
+    ghost use Rattle.send_book.specs.Steps.{bytes_taken, write_reply, after_write, close_reply, after_close, is_for, first_free, run_len, decision, end_of, grant_reply, after_grant, is_future, fin_after, ack_reply, after_ack, return_reply, after_return, is_gathered, infinite_reply, after_infinite, CanAsk, reply_to, after_call};
 
     /// An open book of which `buffer` bytes, 1 to 1,048,576, may be unacknowledged. It takes no memory.
     pub fn new(alloc: Global, buffer: u64) -> Self
         requires some { 1 ≤ buffer }
         requires most { buffer ≤ 1048576 }
-        ensures { result ≡ opened buffer }
+        ensures { result ≡ new_sending buffer }
     {
         SendBook {
             alloc,
@@ -87,8 +87,8 @@ impl SendBook {
     }
 
     // How many of these bytes are taken.
-    fn taken(&self, bytes: &Text) -> u64
-        ensures value { result ≡ taken bytes.now self.now }
+    fn bytes_taken(&self, bytes: &Text) -> u64
+        ensures value { result ≡ bytes_taken bytes.now self.now }
         ensures room { length self.now.written + result < 2 ^ 63 }
     {
         let unacked = self.written_len() - self.acked_len();
@@ -103,7 +103,7 @@ impl SendBook {
         if self.closed || self.aborted {
             return SendReply::Shut;
         }
-        SendReply::Taken(self.taken(bytes))
+        SendReply::Taken(self.bytes_taken(bytes))
     }
 
     fn write(&mut self, bytes: &Text) -> Result<(), AllocError>
@@ -113,7 +113,7 @@ impl SendBook {
         if self.closed || self.aborted {
             return Ok(());
         }
-        let count = self.taken(bytes) as usize;
+        let count = self.bytes_taken(bytes) as usize;
         let octets = bytes.slice(0, count)?;
         self.written.append(&mut self.marks, octets)
     }

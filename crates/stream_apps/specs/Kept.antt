@@ -16,8 +16,8 @@ agenda_from (Some Read) = Read ∷ End ∷ []
 agenda_from (Some End) = End ∷ []
 agenda_from None = []
 
-abbrev pub shown : Side → ℕ → List ℕ → ℕ → Bool → Bool → ℕ → Option ℕ → Option AppDuty → AppState
-shown s buffer file written closed told count stops_in due = record {
+abbrev pub as_app_state : Side → ℕ → List ℕ → ℕ → Bool → Bool → ℕ → Option ℕ → Option AppDuty → AppState
+as_app_state s buffer file written closed told count stops_in due = record {
   side = s;
   buffer = buffer;
   rest = drop written file;

@@ -44,11 +44,11 @@ pub struct App {
 
 impl Model for App {
     ghost use Rattle.stream_apps.specs.Apps.{AppState};
-    ghost use Rattle.stream_apps.specs.Kept.{shown, IsKept};
+    ghost use Rattle.stream_apps.specs.Kept.{as_app_state, IsKept};
 
     ghost Value = { AppState };
 
-    ghost view = { λ a. shown a.side a.buffer a.file a.written a.closed a.told a.count a.stops_in a.due };
+    ghost view = { λ a. as_app_state a.side a.buffer a.file a.written a.closed a.told a.count a.stops_in a.due };
 
     ghost invariant = { λ a. IsKept a.buffer a.file a.written a.count a.due };
 }
@@ -270,7 +270,7 @@ impl App {
     }
 
     // How many of the bytes that it offered were taken.
-    fn taken(&self, reply: &Reply) -> usize
+    fn bytes_taken(&self, reply: &Reply) -> usize
         requires due { self.now.agenda ≡ agenda_from (Some duty.Write) }
         requires kind { AnswersTo (app_asks_of self.now) reply.now }
         ensures value { result ≡ taken_in reply.now }
@@ -285,7 +285,7 @@ impl App {
         ensures { self.new ≡ app_takes reply.now self.old }
     {
         let _len = self.file.len();
-        self.written += self.taken(reply);
+        self.written += self.bytes_taken(reply);
         self.due = Some(self.from_close());
     }
 

@@ -14,7 +14,7 @@ use Rattle.send_book.specs.declared.mark.ByteMark.TheVariants.{Acked, Free}
 use Rattle.send_book.specs.Tried.{no_paths}
 use Rattle.send_book.specs.Marks.{returned, given}
 use Rattle.send_book.specs.State.{acked_len}
-use Rattle.send_book.specs.Steps.{taken, is_future, fin_after, is_gathered, decision, given_by, change_part}
+use Rattle.send_book.specs.Steps.{bytes_taken, is_future, fin_after, is_gathered, decision, given_by, change_part}
 use Rattle.send_book.proofs.Decisions.{decision-MayTake}
 use Rattle.reassembly_book.specs.declared.call.ReassemblyReply.TheVariants.{End, NoneYet}
 use Rattle.reassembly_book.specs.State.{filled, received}
@@ -75,16 +75,16 @@ module _ (f : Flags) (d : Direction) (h : DirectionHolds f d) where
   write_moves : (bytes : List ℕ) (shut : Bool) → (d.send.closed || d.send.aborted) ≡ shut
       → IsOneStepOrNone d (record d {
         send = if shut then d.send else record d.send {
-          written = d.send.written ++ take (taken bytes d.send) bytes;
-          marks = d.send.marks ++ replicate (taken bytes d.send) (Free no_paths);
+          written = d.send.written ++ take (bytes_taken bytes d.send) bytes;
+          marks = d.send.marks ++ replicate (bytes_taken bytes d.send) (Free no_paths);
         };
       })
   write_moves bytes true is = stays refl
   write_moves bytes false is = steps (record {
-    step = WriteStep (take (taken bytes d.send) bytes);
+    step = WriteStep (take (bytes_taken bytes d.send) bytes);
     allowed = may_write (pipe_of d) (or_parts d.send.closed d.send.aborted is).0;
-    becomes = ap (λ n. pipe (d.send.written ++ take (taken bytes d.send) bytes) d.send.closed d.arrived.read n d.reader.told)
-        (AreAcked-count (acked_len d.send.marks) _ (AreAcked-written (acked_len d.send.marks) (taken bytes d.send) d.send.marks h.send.first));
+    becomes = ap (λ n. pipe (d.send.written ++ take (bytes_taken bytes d.send) bytes) d.send.closed d.arrived.read n d.reader.told)
+        (AreAcked-count (acked_len d.send.marks) _ (AreAcked-written (acked_len d.send.marks) (bytes_taken bytes d.send) d.send.marks h.send.first));
     tells = tt;
   })
 

@@ -11,7 +11,7 @@ use Rattle.send_book.specs.declared.mark.ByteMark.TheVariants.{Acked, Free}
 use Rattle.send_book.specs.Tried.{no_paths}
 use Rattle.send_book.specs.Marks.{returned, given}
 use Rattle.send_book.specs.State.{Sending, acked_len}
-use Rattle.send_book.specs.Steps.{after_call, taken, is_future, fin_after, is_gathered, decision, given_by, change_part}
+use Rattle.send_book.specs.Steps.{after_call, bytes_taken, is_future, fin_after, is_gathered, decision, given_by, change_part}
 use Rattle.send_book.proofs.Decisions.{MayTake, decision-MayTake}
 use Rattle.send_book.proofs.Grants.{stays-after_call, spent-stays}
 use Rattle.reassembly_book.specs.State.{Arriving, received}
@@ -67,7 +67,7 @@ module _ (f : Flags) (s : Sending) (b : Arriving) (h : SendHolds s (view_of f s 
   write_step bytes = step_if (s.closed || s.aborted) s _ (λ shut. unseen s.aborted s.owner) writes
     where
       n : ℕ
-      n = taken bytes s
+      n = bytes_taken bytes s
 
       t : Sending
       t = record s { written = s.written ++ take n bytes; marks = s.marks ++ replicate n (Free no_paths) }

@@ -4,14 +4,14 @@ use Rattle.std.specs.Prelude.{ℕ, Bool, true, false, ◌||◌, if◌then◌else
 use Rattle.send_book.specs.declared.call.SendCall.{SendCall}
 use Rattle.send_book.specs.declared.call.SendCall.TheVariants.{Grant, AckIn}
 use Rattle.send_book.specs.declared.call.SendCall.TheVariants.{Write as WriteBytes, Close as CloseBook, Return as ReturnBytes, GoIdentity as GoIdentityBook, GoInfinite as GoInfiniteBook, Abort as AbortBook}
-use Rattle.send_book.specs.State.{Sending, opened as opened_send}
+use Rattle.send_book.specs.State.{Sending, new_sending as opened_send}
 use Rattle.send_book.specs.Steps.{reply_to as send_reply, after_call as after_send}
 use Rattle.reassembly_book.specs.declared.call.ReassemblyCall.{ReassemblyCall}
 use Rattle.reassembly_book.specs.declared.call.ReassemblyCall.TheVariants.{Place, Fin, AckOut}
 use Rattle.reassembly_book.specs.declared.call.ReassemblyCall.TheVariants.{Read as ReadBytes, Abort as AbortReading}
 use Rattle.reassembly_book.specs.declared.call.ReassemblyReply.{ReassemblyReply}
 use Rattle.reassembly_book.specs.declared.call.ReassemblyReply.TheVariants.{Bytes, End, Aborted}
-use Rattle.reassembly_book.specs.State.{Arriving, opened as opened_arriving}
+use Rattle.reassembly_book.specs.State.{Arriving, new_arriving as opened_arriving}
 use Rattle.reassembly_book.specs.Steps.{reply_to as arrival_reply, after_call as after_arrival}
 use Rattle.stream_lanes.specs.Lane.{Ask, Lane, new_lane}
 use Rattle.stream_lanes.specs.Lane.Ask.{Nothing, AskGrant, AskAckIn, AskPlace, AskFin, AskAckOut}

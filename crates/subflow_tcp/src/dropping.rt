@@ -33,7 +33,7 @@ impl Subflow {
     }
 
     /// The SYN that opened the end came again: so does the SYN/ACK.
-    pub(crate) fn hear_syn_again(&mut self) -> Arrival
+    pub(crate) fn take_syn_again(&mut self) -> Arrival
         ensures arrival { result ≡ AckNow }
         ensures after { self.new ≡ after_repeated_syn self.old }
     {
@@ -42,7 +42,7 @@ impl Subflow {
     }
 
     /// A segment outside the window is answered.
-    pub(crate) fn hear_outside(&mut self) -> Arrival
+    pub(crate) fn take_outside(&mut self) -> Arrival
         ensures arrival { result ≡ AckNow }
         ensures after { self.new ≡ after_answering self.old }
     {
@@ -51,7 +51,7 @@ impl Subflow {
     }
 
     /// A reset ends the end.
-    pub(crate) fn hear_death(&mut self) -> Arrival
+    pub(crate) fn take_death(&mut self) -> Arrival
         ensures arrival { result ≡ Killed }
         ensures after { self.new ≡ after_death false self.old }
     {
@@ -60,7 +60,7 @@ impl Subflow {
     }
 
     /// A reset or a SYN in the window that only looks like the peer's is answered.
-    pub(crate) fn hear_challenged(&mut self) -> Arrival
+    pub(crate) fn take_challenged(&mut self) -> Arrival
         ensures arrival { result ≡ Challenge }
         ensures after { self.new ≡ after_answering (after_hearing self.old) }
     {
@@ -70,7 +70,7 @@ impl Subflow {
     }
 
     /// A segment in the window that acknowledges nothing is heard, and no more.
-    pub(crate) fn hear_unacknowledging(&mut self) -> Arrival
+    pub(crate) fn take_unacknowledging(&mut self) -> Arrival
         ensures arrival { result ≡ Dropped }
         ensures after { self.new ≡ after_hearing self.old }
     {
@@ -79,7 +79,7 @@ impl Subflow {
     }
 
     /// A segment that acknowledges what was never sent is answered.
-    pub(crate) fn hear_ahead(&mut self) -> Arrival
+    pub(crate) fn take_ahead(&mut self) -> Arrival
         ensures arrival { result ≡ AckNow }
         ensures after { self.new ≡ after_answering (after_hearing self.old) }
     {

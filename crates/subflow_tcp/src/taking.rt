@@ -93,7 +93,7 @@ impl Subflow {
     }
 
     /// Takes a segment by positions that means this for the end. With `keep` of the hint its payload is kept, as by
-    /// [`keep`](Subflow::keep); all else is as [`hear`](Subflow::hear) has it.
+    /// [`keep`](Subflow::keep); all else is as [`take_segment`](Subflow::take_segment) has it.
     ///
     /// # Errors
     ///
@@ -112,13 +112,13 @@ impl Subflow {
         ensures err { OnErr result (self.new ≡ self.old) }
     {
         let new = self.keep_for(meaning, hint.keep, arriving.payload)?;
-        let arrival = self.hear(meaning, arriving, hint.data_ack, now);
+        let arrival = self.take_segment(meaning, arriving, hint.data_ack, now);
         Ok(arrival.with_new(new))
     }
 
     /// Takes a segment by positions that means this for the end, but for its payload, which isn't kept. `data_ack` is the
     /// place that its Data ACK names, if it names one. Takes no memory.
-    pub fn hear(
+    pub fn take_segment(
         &mut self,
         meaning: Meaning,
         arriving: &Arriving<'_>,
@@ -135,12 +135,12 @@ impl Subflow {
             Meaning::Ignored | Meaning::Unwanted => Arrival::Dropped,
             Meaning::Opens => self.open_by(arriving),
             Meaning::Accepts { acknowledged } => { self.accept_by(acknowledged, arriving, now) }
-            Meaning::RepeatedSyn => self.hear_syn_again(),
-            Meaning::Outside => self.hear_outside(),
-            Meaning::Kills => self.hear_death(),
-            Meaning::Challenged => self.hear_challenged(),
-            Meaning::Unacknowledging => self.hear_unacknowledging(),
-            Meaning::Ahead => self.hear_ahead(),
+            Meaning::RepeatedSyn => self.take_syn_again(),
+            Meaning::Outside => self.take_outside(),
+            Meaning::Kills => self.take_death(),
+            Meaning::Challenged => self.take_challenged(),
+            Meaning::Unacknowledging => self.take_unacknowledging(),
+            Meaning::Ahead => self.take_ahead(),
             Meaning::Taken {
                 position,
                 acknowledged,

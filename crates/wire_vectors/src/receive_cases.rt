@@ -162,7 +162,7 @@ fn piece_by(alloc: Global, kept: &mut BytePieces, fields: &[&str]) -> Result<Str
         "back" => cut_back(kept, parsed_at(fields, 1)?)?,
         "keep" => kept.keep_held(),
         "drop" => kept.drop_held(),
-        name => return shown(alloc, kept, name),
+        name => return pieces_text(alloc, kept, name),
     }
     Ok(String::new(alloc))
 }
@@ -206,7 +206,7 @@ fn cut_back(kept: &mut BytePieces, to: u64) -> Result<(), CaseFault> {
     Ok(())
 }
 
-fn shown(alloc: Global, kept: &BytePieces, name: &str) -> Result<String, CaseFault> {
+fn pieces_text(alloc: Global, kept: &BytePieces, name: &str) -> Result<String, CaseFault> {
     match name {
         "gap" => {
             let gap = kept.gap_len();

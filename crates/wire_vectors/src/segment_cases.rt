@@ -22,12 +22,12 @@ pub fn segment(alloc: Global, fields: &[&str]) -> Result<String, CaseFault> {
     let addresses = addresses_of(alloc, fields)?;
     let octets = octets_at(alloc, fields, 2)?;
     match parse(octets.as_slice(), &addresses) {
-        Ok(segment) => Ok(shown(alloc, &segment)?),
+        Ok(segment) => Ok(parsed_text(alloc, &segment)?),
         Err(fault) => Ok(format!(in alloc; "{fault:?}")?),
     }
 }
 
-fn shown(alloc: Global, segment: &SegmentRef<'_>) -> Result<String, AllocError> {
+fn parsed_text(alloc: Global, segment: &SegmentRef<'_>) -> Result<String, AllocError> {
     let head = segment.head;
     let mut text = format!(in alloc; "{head:?}")?;
     for option in segment.options() {

@@ -14,7 +14,7 @@ use key_material::Address;
 use mptcp_options::{CapableKeys, JoinForm};
 use path_segments::{
     EndNumbers, Expected, HeardSegment, PathMapping, PathOption, PathSegment, Side, Spelling,
-    can_say, hear, write,
+    can_say, parse_segment, write,
 };
 use seq_units::{POSITION_LIMIT, Seq32, Seq64};
 use std::alloc::{AllocError, Global};
@@ -206,7 +206,7 @@ fn heard_in(alloc: Global, fields: &[&str], octets: &[u8]) -> Result<String, Cas
     if expected.told >= POSITION_LIMIT || expected.place >= POSITION_LIMIT {
         return Err(CaseFault::Form);
     }
-    match hear(&spelling, from, &expected, octets) {
+    match parse_segment(&spelling, from, &expected, octets) {
         Some(segment) => Ok(heard_text(alloc, &segment)?),
         None => Ok(format!(in alloc; "no segment")?),
     }

@@ -111,7 +111,7 @@ impl Hearing {
     }
 
     /// One reply more, to this actor.
-    pub fn hear(&mut self, actor: u8, reply: &Reply)
+    pub fn take_reply(&mut self, actor: u8, reply: &Reply)
         ensures { self.new ≡ heard_more actor reply.now self.old }
     {
         match actor {

@@ -67,7 +67,7 @@ impl World {
         let alloc = *self.crew.allocator();
         match advance(alloc, &mut self.crew, &mut self.books, actor) {
             Ok(Some(note)) => {
-                self.hearing.hear(actor, &note.reply);
+                self.hearing.take_reply(actor, &note.reply);
                 Ok(Stepped::Made(note))
             }
             Ok(None) => Ok(Stepped::Ended),

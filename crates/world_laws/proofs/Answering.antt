@@ -29,16 +29,16 @@ use Rattle.path_agenda.specs.declared.duty.SendDuty.TheVariants as send_duties
 use Rattle.path_agenda.specs.Words.{replaced}
 use Rattle.path_agenda.specs.declared.keys.KeyPair.{KeyPair}
 use Rattle.path_core.specs.Breaking.{reset_of, reset_on, break_ask, answered_break}
-use Rattle.path_core.specs.Closing.{is_end_owed, with_end_sent}
+use Rattle.path_core.specs.StreamEnds.{is_data_fin_owed, with_data_fin_sent}
 use Rattle.path_agenda.specs.Agenda.{leaves, resets}
-use Rattle.path_core.specs.Emission.{first_unsent, unsent_segment, having_sent_unsent, end_segment, having_sent_end, fin_segment_of, having_sent_fin, answered_end, answered_fin}
+use Rattle.path_core.specs.Emission.{first_unsent, unsent_segment, having_sent_unsent, data_fin_segment, having_sent_data_fin, fin_segment_of, having_sent_fin, answered_data_fin_sent, answered_fin}
 use Rattle.path_core.specs.Ends.{PathEnd}
 use Rattle.path_core.specs.Events.{died}
 use Rattle.path_core.specs.Opening.{syn_ack_of}
 use Rattle.path_core.specs.Joining.{keys_begun, asked_at, join_heard_ask, joined_by, join_taken, answered_join_heard, refusal_of, answered_refusal, with_mode_refused}
 use Rattle.path_core.specs.Passing.{first_record, first_segment, answer_of, answer_occasion, answered_answer, answered_again, outgoing_or, dead_answer, answered_dead, resend_occasion, resend_of, answered_resend, rate_ask}
-use Rattle.path_core.specs.Segments.{ack_said, syn_ack_said, record_or_ack, reset_options, segment_of}
-use Rattle.path_core.specs.Sends.{sends, having_sent, sent_on}
+use Rattle.path_core.specs.OptionsOut.{ack_said, syn_ack_said, record_or_ack, reset_options, segment_of}
+use Rattle.path_core.specs.Handover.{sends, having_sent, sent_on}
 use Rattle.path_core.specs.Standing.{ack_out_ask, after_ack_out, answered_ack_out, ack_segment}
 use Rattle.path_core.specs.State.{PathState, Profile, end_at, goes_on, left, with_agenda}
 use Rattle.path_core.specs.Values.{Carried, values}
@@ -188,7 +188,7 @@ module _ (six : SixBooks) (others : Others) (p : PathState Carried) (ab ba : Lan
         by (Some o) none = outgoing_says p.profile s e back.acks out shows.acks.windows o (Some 1) none.0 none.1
 
     pub resend_step : IsCalm → Steps (sends values s (resend_of s p) p) (answered_resend values s p)
-    resend_step calm = occasion_step s (resend_of s p) (resend_occasion e) _ (by (has_records e.tcp) e.modes.owes_third (is_end_owed e))
+    resend_step calm = occasion_step s (resend_of s p) (resend_occasion e) _ (by (has_records e.tcp) e.modes.owes_third (is_data_fin_owed e))
       where
         by : (some third owes : Bool) → SegmentShows back.acks out (if some then record_or_ack p.profile s (first_record e) e
             else (if third then ack_said p.profile s e.tcp.send.nxt None e
@@ -204,12 +204,12 @@ module _ (six : SixBooks) (others : Others) (p : PathState Carried) (ab ba : Lan
 
     -- ---- the ends of the streams
 
-    pub data_fin_step : IsCalm → Steps (sends values s (end_segment s p) p) (answered_end values s p)
+    pub data_fin_step : IsCalm → Steps (sends values s (data_fin_segment s p) p) (answered_data_fin_sent values s p)
     data_fin_step calm =
-        sent_step s (end_segment s p) (having_sent_end s p) _ (ack_says p.profile s e back.acks out shows.acks.windows (shows.acks.sub calm) e.tcp.send.nxt e.sending.known_end shows.sender.known_end)
-        (ended (having_sent to_send.Ack p.clock (end_segment s p) e) (sent_end p.profile s out back to_send.Ack p.clock (end_segment s p) e shows))
+        sent_step s (data_fin_segment s p) (having_sent_data_fin s p) _ (ack_says p.profile s e back.acks out shows.acks.windows (shows.acks.sub calm) e.tcp.send.nxt e.sending.known_end shows.sender.known_end)
+        (ended (having_sent to_send.Ack p.clock (data_fin_segment s p) e) (sent_end p.profile s out back to_send.Ack p.clock (data_fin_segment s p) e shows))
       where
-        ended : (f : PathEnd) → EndShows p.profile s f out back → EndShows p.profile s (record f { sending = with_end_sent f.sending }) out back
+        ended : (f : PathEnd) → EndShows p.profile s f out back → EndShows p.profile s (record f { sending = with_data_fin_sent f.sending }) out back
         ended f x = record { sender = x.sender; receiver = x.receiver; acks = x.acks; told = x.told; treated = x.treated; held = x.held }
 
     pub fin_step : IsCalm → states.may_finish e.tcp.state ≡ true → (if out.sender_plain then is_whole out.known_end out else out.fin_acked) ≡ true

@@ -104,15 +104,15 @@ writes_more file rest buffer b some h = by (b.closed || b.aborted) refl
     nonempty (x ∷ xs) is e = cc
 
     by : (shut : Bool) → (b.closed || b.aborted) ≡ shut
-        → Writes file (drop (taken_in (replies.Send (if shut then send_replies.Shut else send_replies.Taken (send.taken (take buffer rest) b)))) rest)
+        → Writes file (drop (taken_in (replies.Send (if shut then send_replies.Shut else send_replies.Taken (send.bytes_taken (take buffer rest) b)))) rest)
         (if shut then b else record b {
-          written = b.written ++ take (send.taken (take buffer rest) b) (take buffer rest);
-          marks = b.marks ++ replicate (send.taken (take buffer rest) b) (Free no_paths);
+          written = b.written ++ take (send.bytes_taken (take buffer rest) b) (take buffer rest);
+          marks = b.marks ++ replicate (send.bytes_taken (take buffer rest) b) (Free no_paths);
         })
     by true is = h
     by false is = record {
-      prefix = h.prefix ∙ ap (λ xs. b.written ++ xs) (sym (taken_front (send.taken (take buffer rest) b) buffer rest (omega arith)))
-          ∙ sym (append_assoc b.written (take (send.taken (take buffer rest) b) (take buffer rest)) (drop (send.taken (take buffer rest) b) rest));
+      prefix = h.prefix ∙ ap (λ xs. b.written ++ xs) (sym (taken_front (send.bytes_taken (take buffer rest) b) buffer rest (omega arith)))
+          ∙ sym (append_assoc b.written (take (send.bytes_taken (take buffer rest) b) (take buffer rest)) (drop (send.bytes_taken (take buffer rest) b) rest));
       whole = λ closed. absurd (both_ways b.closed (or_parts b.closed b.aborted is).0 closed);
     }
 

@@ -33,9 +33,9 @@ use Rattle.path_agenda.specs.declared.keys.KeyPair.{KeyPair}
 use Rattle.path_agenda.specs.Items.{key_heard, keys_heard}
 use Rattle.path_core.specs.Joining.{asked_at, join_heard_ask}
 use Rattle.path_core.specs.Opening.{peer_key_ask, opened_ask}
-use Rattle.path_core.specs.Passing.{piece_of, piece_ask, fin_of, fin_ask, plain_fin, rate_ask}
-use Rattle.path_core.specs.Placing.{Piece}
-use Rattle.path_core.specs.Sends.{sends}
+use Rattle.path_core.specs.Passing.{piece_of, piece_ask, data_fin_of, fin_ask, plain_fin, rate_ask}
+use Rattle.path_core.specs.Deliver.{Piece}
+use Rattle.path_core.specs.Handover.{sends}
 use Rattle.path_core.specs.State.{PathState, end_at, path_of}
 use Rattle.path_core.specs.Treating.{is_clash, fell_ask, mapping_ask, item_ask, item_of, breaks_by_ack, plain_ack_ask}
 use Rattle.world_laws.proofs.Applying.{Writes}
@@ -151,7 +151,7 @@ module _ {C : Type 0} (k : Codec C) (p : PathState C) where
   asks_leave (duties.Ask (ask_duties.SubflowFin s)) = fin_leaves s (plain_fin (end_at s p))
   asks_leave (duties.Silent (silent_duties.Keep s)) = tt
   asks_leave (duties.Ask (ask_duties.Edge s)) = piece_leaves s (piece_of s p)
-  asks_leave (duties.Ask (ask_duties.HeardFin s index)) = fin_leaves s (fin_of index (end_at s p))
+  asks_leave (duties.Ask (ask_duties.HeardFin s index)) = fin_leaves s (data_fin_of index (end_at s p))
   asks_leave (duties.Silent (silent_duties.PassFin s)) = tt
   asks_leave (duties.Ask (ask_duties.AckOut s)) = tt
   asks_leave (duties.Ask (ask_duties.Rate s)) = rate_leaves s (end_at s p).tcp.congestion.pending

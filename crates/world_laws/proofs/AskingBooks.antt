@@ -14,7 +14,7 @@ use Rattle.send_book.specs.declared.mark.ByteMark.{ByteMark}
 use Rattle.send_book.specs.declared.mark.ByteMark.TheVariants.{Acked, Held, Free}
 use Rattle.send_book.specs.Marks.{is_acked, is_free_for, is_held_by, given, returned}
 use Rattle.send_book.specs.State.{Sending, acked_len}
-use Rattle.send_book.specs.Steps.{taken, is_for, span_at, decision, reply_by, run_len, given_by, is_future, fin_after, after_call}
+use Rattle.send_book.specs.Steps.{bytes_taken, is_for, span_at, decision, reply_by, run_len, given_by, is_future, fin_after, after_call}
 use Rattle.send_book.specs.Tried.{contains, no_paths}
 use Rattle.send_book.proofs.Decisions.{MayTake, decision-MayTake}
 use Rattle.send_book.proofs.PathSets.{contains-insert}
@@ -227,18 +227,18 @@ IsQuiet path _ = ⊥
 
 module _ (path written : ℕ) (b : Sending) (h : IsOnes path written b) where
   ones_written : (bytes : List ℕ) (shut : Bool) → IsOnes path written (if shut then b else record b {
-    written = b.written ++ take (taken bytes b) bytes;
-    marks = b.marks ++ replicate (taken bytes b) (Free no_paths);
+    written = b.written ++ take (bytes_taken bytes b) bytes;
+    marks = b.marks ++ replicate (bytes_taken bytes b) (Free no_paths);
   })
   ones_written bytes true = h
   ones_written bytes false = record {
     owner = h.owner;
-    tried = Every-append h.tried (every_same (taken bytes b) (Free no_paths) tt);
+    tried = Every-append h.tried (every_same (bytes_taken bytes b) (Free no_paths) tt);
     whole = (
-        let one = length-append b.marks (replicate (taken bytes b) (Free no_paths)) in let two = length-replicate (taken bytes b) (Free no_paths) in
-        let three = length-append b.written (take (taken bytes b) bytes) in let four = length-take (taken bytes b) bytes in
+        let one = length-append b.marks (replicate (bytes_taken bytes b) (Free no_paths)) in let two = length-replicate (bytes_taken bytes b) (Free no_paths) in
+        let three = length-append b.written (take (bytes_taken bytes b) bytes) in let four = length-take (bytes_taken bytes b) bytes in
         omega (arith, one, two, three, four, h.whole));
-    grown = (let three = length-append b.written (take (taken bytes b) bytes) in omega (arith, three, h.grown));
+    grown = (let three = length-append b.written (take (bytes_taken bytes b) bytes) in omega (arith, three, h.grown));
   }
 
   ones_closed : (aborted : Bool) → IsOnes path written (if aborted then b else record b { closed = true })
@@ -306,11 +306,11 @@ module _ (path written : ℕ) (b : Sending) (h : IsOnes path written b) where
   taken_after (Write bytes) is all = by (b.closed || b.aborted)
     where
       by : (shut : Bool) → AllTaken (if shut then b else record b {
-        written = b.written ++ take (taken bytes b) bytes;
-        marks = b.marks ++ replicate (taken bytes b) (Free no_paths);
+        written = b.written ++ take (bytes_taken bytes b) bytes;
+        marks = b.marks ++ replicate (bytes_taken bytes b) (Free no_paths);
       })
       by true = all
-      by false = let more = taken_written path (taken bytes b) b.marks in omega (arith, all, more)
+      by false = let more = taken_written path (bytes_taken bytes b) b.marks in omega (arith, all, more)
   taken_after Close is all = by b.aborted
     where
       by : (aborted : Bool) → AllTaken (if aborted then b else record b { closed = true })
@@ -333,8 +333,8 @@ module _ (path written : ℕ) (b : Sending) (h : IsOnes path written b) where
   barred_after (Write bytes) is barred = by (b.closed || b.aborted)
     where
       by : (shut : Bool) → is_for path (if shut then b else record b {
-        written = b.written ++ take (taken bytes b) bytes;
-        marks = b.marks ++ replicate (taken bytes b) (Free no_paths);
+        written = b.written ++ take (bytes_taken bytes b) bytes;
+        marks = b.marks ++ replicate (bytes_taken bytes b) (Free no_paths);
       }).owner ≡ false
       by true = barred
       by false = barred
@@ -355,8 +355,8 @@ module _ (path written : ℕ) (b : Sending) (h : IsOnes path written b) where
   stopped_after (Write bytes) is stopped = by (b.closed || b.aborted)
     where
       by : (shut : Bool) → (if shut then b else record b {
-        written = b.written ++ take (taken bytes b) bytes;
-        marks = b.marks ++ replicate (taken bytes b) (Free no_paths);
+        written = b.written ++ take (bytes_taken bytes b) bytes;
+        marks = b.marks ++ replicate (bytes_taken bytes b) (Free no_paths);
       }).aborted ≡ true
       by true = stopped
       by false = stopped

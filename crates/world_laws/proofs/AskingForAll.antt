@@ -8,7 +8,7 @@ use Rattle.outside_kit.specs.declared.side.Side.{Side}
 use Rattle.outside_kit.specs.declared.side.Side.TheVariants.{A, B}
 use Rattle.stamped_book.specs.declared.stamped.Pass.{Pass}
 use Rattle.stamped_book.specs.Journal.{last_stamp}
-use Rattle.send_book.specs.State.{Sending, opened}
+use Rattle.send_book.specs.State.{Sending, new_sending}
 use Rattle.stream_lanes.proofs.Lists.{Every-nil, in_map, in_set, set_same, set_other}
 use Rattle.actor_desk.specs.declared.ask.Ask.{Ask}
 use Rattle.actor_desk.specs.declared.ask.Note.{Note}
@@ -353,7 +353,7 @@ module _ {C : Type 0} (k : Codec C) (start : Start) where
           (begun_path number h.written_a h.written_b (record found.0.path { clock = found.0.path.until; until = found.0.path.until + 100 }) (raised_to (greatest 0 (world_of t).crew) found.0.at) (next_cast t)
           g.both.a.ones g.both.b.ones (ap (λ z. z.at.list) found.2 ∙ list_there (next_cast t) number x there))
 
-  opened_ones : (path buffer : ℕ) → IsOnes path 0 (opened buffer)
+  opened_ones : (path buffer : ℕ) → IsOnes path 0 (new_sending buffer)
   opened_ones path buffer = record { owner = inl refl; tried = Every-nil _; whole = refl; grown = omega arith }
 
   opened_begun : (number : ℕ) → Begun number (first_cast start)

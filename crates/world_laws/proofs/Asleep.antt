@@ -35,7 +35,7 @@ use Rattle.path_core.specs.declared.event.Event.TheVariants as happenings
 use Rattle.path_agenda.specs.Agenda.{rest_of_turn, emission, leaves, start_of_turn}
 use Rattle.path_agenda.specs.Words.{replaced}
 use Rattle.path_core.specs.declared.lines.LineLeft.{LineLeft}
-use Rattle.path_core.specs.Closing.{is_waiting}
+use Rattle.path_core.specs.StreamEnds.{is_waiting}
 use Rattle.path_core.specs.Codec.{Codec}
 use Rattle.path_core.specs.Duties.{stands, ask_for, passed, answered}
 use Rattle.path_core.specs.Emission.{first_unsent, data_stands, data_ask, after_timer}

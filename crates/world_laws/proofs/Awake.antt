@@ -54,17 +54,17 @@ use Rattle.path_core.specs.Duties.{stands, passed, answered, ask_for}
 use Rattle.path_core.specs.Emission.{Grant, after_timer, fin_segment_of, grant_in, answered_grant, answered_data, first_unsent, having_sent_fin}
 use Rattle.path_core.specs.Ends.{PathEnd}
 use Rattle.path_core.specs.Events.{next_event, step_for, heard_in, at_tick, died, is_death, after_line, copy_heard, happens_if, join_begun, timer_fired, template_fired, never_joined}
-use Rattle.path_core.specs.Falling.{is_fall, fell_ask, fell_in, after_fell, fell_duties, answered_fell, in_identity}
+use Rattle.path_core.specs.Fallback.{is_fall, fell_ask, fell_in, after_fell, fell_duties, answered_fell, in_identity}
 use Rattle.path_core.specs.Joining.{asked_at, is_never, join_heard_ask, join_taken, keys_begun, opened_by, refusal_of, with_mode_refused}
 use Rattle.path_core.specs.Joins.{is_joined, join_answer}
 use Rattle.path_core.specs.Opening.{after_keys, keys_in, opened_ask, answered_opened, peer_key_ask, answered_peer_key, with_peer_key}
 use Rattle.path_core.specs.Passing.{after_pass_fin, answer_occasion, answer_of, resend_occasion, answered_fin_heard, answered_plain_fin, answered_piece, dead_answer, is_fin_set, is_placed, piece_of, resend_of}
-use Rattle.path_core.specs.Placing.{Piece, after_check, after_pieces, mapping_here, is_wrong, with_learned, with_skipped, forgotten_by}
-use Rattle.path_core.specs.Sends.{sent_on}
+use Rattle.path_core.specs.Deliver.{Piece, after_check, after_pieces, mapping_here, is_wrong, with_learned, with_skipped, forgotten_by}
+use Rattle.path_core.specs.Handover.{sent_on}
 use Rattle.path_core.specs.Standing.{after_ack_out, after_look, answered_ack_out, modes_told}
 use Rattle.path_core.specs.State.{PathState, end_at, goes_on, left, with_agenda, with_end}
 use Rattle.path_core.specs.Steps.{settled, answers, asks_of, asks_first, takes, begins_turn}
-use Rattle.path_core.specs.Treating.{heard_ask, item_ask, plain_ack_ask, after_keep, answered_heard, answered_item, answered_plain_ack, breaks_by_ack, counts, is_acked, is_clash, is_dropped, item_of, item_passed, with_acked, with_fin, with_plain_ack}
+use Rattle.path_core.specs.Treating.{heard_ask, item_ask, plain_ack_ask, after_keep, answered_heard, answered_item, answered_plain_ack, breaks_by_ack, counts, is_acked, is_clash, is_dropped, item_of, item_passed, with_acked, with_data_fin, with_plain_ack}
 use Rattle.world_laws.proofs.Verdicts.{fell_cases}
 use Rattle.world_laws.proofs.KeysRight.{Known}
 use Rattle.world_laws.proofs.KeysHeld.{look_leaves, fell_leaves}
@@ -224,8 +224,8 @@ module _ {C : Type 0} (k : Codec C) (W : Type 0) where
       by false = same_goes s (with_skipped (end_at s p)) p refl refl refl
   item_goes s (Some (says.DataFin place)) p = by (counts (end_at s p))
     where
-      by : (b : Bool) → Goes s p (if b then with_fin place (end_at s p) else end_at s p)
-      by true = same_goes s (with_fin place (end_at s p)) p refl refl refl
+      by : (b : Bool) → Goes s p (if b then with_data_fin place (end_at s p) else end_at s p)
+      by true = same_goes s (with_data_fin place (end_at s p)) p refl refl refl
       by false = same_goes s (end_at s p) p refl refl refl
   item_goes s (Some (says.InfiniteMapping place position)) p = same_goes s (end_at s p) p refl refl refl
   item_goes s (Some (says.PeerKey key)) p = same_goes s (end_at s p) p refl refl refl
@@ -501,7 +501,7 @@ module _ {C : Type 0} (k : Codec C) (W : Type 0) where
       by true so = break_awake s 1 r p h
       by false so = verdict_awake s (with_learned (after_fell fall.MappingHeard r (end_at s p))) r p refl refl (fell_identity fall.MappingHeard r (end_at s p).modes) said so h
   heard_answered_awake s (says.DataFin place) r p said so h =
-      verdict_awake s (with_fin place (after_fell fall.MappingHeard r (end_at s p))) r p refl refl (fell_identity fall.MappingHeard r (end_at s p).modes) said so h
+      verdict_awake s (with_data_fin place (after_fell fall.MappingHeard r (end_at s p))) r p refl refl (fell_identity fall.MappingHeard r (end_at s p).modes) said so h
   heard_answered_awake s (says.InfiniteMapping place position) r p said so h = told_awake s fall.InfiniteHeard r p said so h
   heard_answered_awake s (says.Keys mine other) r p said so h = keys_awake s r (Some (record { own = mine; peer = other })) p h
   heard_answered_awake s says.Dss r p said so h = agenda (left p) p (tail_less p.agenda) h

@@ -196,8 +196,8 @@ Ahead done (AbortSend ∷ ds) = ds ≡ AbortReceive ∷ Write ∷ Close ∷ Read
 Ahead done (FastClose ∷ ds) = ds ≡ AbortSend ∷ AbortReceive ∷ Write ∷ Close ∷ Read ∷ End ∷ []
 
 -- all that had arrived is read where the end was told
-end_reached : (arrived : ℕ) (a : AppState) (notes : List Note) (b : Arriving) → Reading a notes b → arrived ≤ received b → a.told ≡ true → IsThrough arrived b.read notes
-end_reached arrived a notes b h within told = by (h.told told)
+data_fin_reached : (arrived : ℕ) (a : AppState) (notes : List Note) (b : Arriving) → Reading a notes b → arrived ≤ received b → a.told ≡ true → IsThrough arrived b.read notes
+data_fin_reached arrived a notes b h within told = by (h.told told)
   where
     by : (b.known_end ≡ Some b.read) ⊎ WasStopped notes → IsThrough arrived b.read notes
     by (inr stopped) = inr stopped
@@ -241,7 +241,7 @@ settled_caught arrived read ds a notes b h n ahead =
     record {
       reading = subst (λ m. Reading m notes b) (sym st.is) (same_reading st.agenda a notes b h);
       numbers = subst (λ m. InRound arrived read m b) (sym st.is) (same_numbers arrived read st.agenda a b n);
-      ahead = settled_ahead (IsThrough arrived b.read notes) ds a (λ told. end_reached arrived a notes b h n.within told) ahead;
+      ahead = settled_ahead (IsThrough arrived b.read notes) ds a (λ told. data_fin_reached arrived a notes b h n.within told) ahead;
     }
 
 -- ---- the book goes on without the reader

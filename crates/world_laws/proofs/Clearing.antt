@@ -45,13 +45,13 @@ use Rattle.path_core.specs.Joining.{keys_begun, is_never, opened_by, join_taken,
 use Rattle.path_core.specs.Joins.{is_joined, join_answer}
 use Rattle.path_core.specs.Opening.{keys_in, answered_peer_key, answered_opened}
 use Rattle.path_core.specs.Passing.{answered_piece, is_placed, is_fin_set, piece_of}
-use Rattle.path_core.specs.Placing.{Piece, is_wrong, forgotten_by, mapping_here}
+use Rattle.path_core.specs.Deliver.{Piece, is_wrong, forgotten_by, mapping_here}
 use Rattle.path_core.specs.Standing.{modes_told}
 use Rattle.path_core.specs.State.{PathState, end_at, goes_on, left, with_agenda}
 use Rattle.path_core.specs.Steps.{settled, settles_down, answers, takes, begins_turn, next_round}
 use Rattle.path_core.specs.Treating.{counts, is_clash, mode_in, heard_passed, item_passed, answered_heard, answered_item, item_of, breaks_by_ack, after_fell}
 use Rattle.path_core.specs.Words.{is_side_a}
-use Rattle.path_core.specs.Falling.{fell_in}
+use Rattle.path_core.specs.Fallback.{fell_in}
 
 -- what is clear was clear, or became so
 pub unclear_before : (b c : Bool) → (b ≡ true → c ≡ true) → c ≡ false → b ≡ false

@@ -16,7 +16,7 @@ use Rattle.stream_lanes.specs.Moves.Move.{WantGrant, HearAck, SendPiece, SendDat
 use Rattle.stream_lanes.specs.Words.{Has}
 use Rattle.stream_lanes.proofs.Lists.{Has-more}
 use Rattle.path_segments.specs.Spelling.{numbers_of}
-use Rattle.path_core.specs.Segments.{spelled_by, bare_mapping, place_numbered}
+use Rattle.path_core.specs.OptionsOut.{spelled_by, bare_mapping, place_numbered}
 use Rattle.path_core.specs.State.{Profile}
 use Rattle.world_laws.proofs.Growing.{SenderGoes, ReceiverGoes}
 use Rattle.world_laws.proofs.Roads.{moves, Strolls, one_move}

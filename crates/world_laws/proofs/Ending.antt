@@ -35,7 +35,7 @@ use Rattle.path_core.specs.Standing.{after_ack_out}
 use Rattle.path_core.specs.State.{Profile}
 use Rattle.path_core.specs.Treating.{acked_in}
 use Rattle.path_core.specs.Words.{told_last}
-use Rattle.path_core.specs.Closing.{is_open}
+use Rattle.path_core.specs.StreamEnds.{is_open}
 use Rattle.world_laws.proofs.Doing.{place_is, told_lane, ack_moves, told_goes, told_windows, with_piece, granted_lane, sends_the_piece, piece_goes, refused_lane, with_end, sends_the_end, end_goes, with_fin_sent, fin_goes, length-granted, has_last, told_sub}
 use Rattle.world_laws.proofs.Growing.{SenderGoes, ReceiverGoes, sender_stays, receiver_stays, Longer, sent_longer, data_longer, mapping_longer, fin_longer, same_edge}
 use Rattle.world_laws.proofs.Roads.{moves, Strolls, stays}

@@ -40,7 +40,7 @@ use Rattle.path_core.specs.Joining.{is_never, keys_begun, opened_by, asked_at, j
 use Rattle.path_core.specs.Joins.{is_joined}
 use Rattle.join_handshake.specs.declared.hearing.JoinSyn.{JoinSyn}
 use Rattle.path_core.specs.Passing.{piece_of, is_placed, answered_piece, is_fin_set, answered_fin_heard, answered_plain_fin}
-use Rattle.path_core.specs.Placing.{Piece, with_learned}
+use Rattle.path_core.specs.Deliver.{Piece, with_learned}
 use Rattle.path_core.specs.Standing.{answered_ack_out}
 use Rattle.path_core.specs.State.{PathState, end_at, with_agenda, goes_on, left}
 use Rattle.path_agenda.specs.Words.{replaced}
@@ -48,7 +48,7 @@ use Rattle.path_agenda.specs.Items.{key_heard, keys_heard}
 use Rattle.path_core.specs.Steps.{settled, takes}
 use Rattle.path_core.specs.Treating.{is_clash, told_next, answered_mapping, answered_item, item_of, answered_plain_ack, breaks_by_ack, with_plain_ack}
 use Rattle.path_core.specs.Opening.{answered_opened, answered_peer_key}
-use Rattle.path_core.specs.Falling.{after_fell, fell_duties}
+use Rattle.path_core.specs.Fallback.{after_fell, fell_duties}
 
 -- the events of the turn, and its end, are ahead
 abbrev pub Ahead : List Duty → Type 0

@@ -51,9 +51,9 @@ use Rattle.path_core.specs.Events.{next_event, step_for}
 use Rattle.path_core.specs.Joining.{asked_at, join_heard_ask}
 use Rattle.path_core.specs.Joins.{is_joined}
 use Rattle.path_core.specs.Opening.{peer_key_ask, opened_ask}
-use Rattle.path_core.specs.Passing.{piece_of, piece_ask, fin_of, fin_ask, plain_fin, rate_ask}
-use Rattle.path_core.specs.Placing.{Piece}
-use Rattle.path_core.specs.Sends.{sends}
+use Rattle.path_core.specs.Passing.{piece_of, piece_ask, data_fin_of, fin_ask, plain_fin, rate_ask}
+use Rattle.path_core.specs.Deliver.{Piece}
+use Rattle.path_core.specs.Handover.{sends}
 use Rattle.path_core.specs.Standing.{ack_out_ask}
 use Rattle.path_core.specs.Starts.{waiting_path}
 use Rattle.path_core.specs.State.{PathState, end_at}
@@ -218,7 +218,7 @@ module _ (p : PathState Carried) where
   fell_signs (duties.Ask (ask_duties.SubflowFin s)) none = no_fin s (plain_fin (end_at s p))
   fell_signs (duties.Silent (silent_duties.Keep s)) none = refl
   fell_signs (duties.Ask (ask_duties.Edge s)) none = no_piece s (piece_of s p)
-  fell_signs (duties.Ask (ask_duties.HeardFin s index)) none = no_fin s (fin_of index (end_at s p))
+  fell_signs (duties.Ask (ask_duties.HeardFin s index)) none = no_fin s (data_fin_of index (end_at s p))
   fell_signs (duties.Silent (silent_duties.PassFin s)) none = refl
   fell_signs (duties.Ask (ask_duties.AckOut s)) none = refl
   fell_signs (duties.Ask (ask_duties.Rate s)) none = no_rate s (end_at s p).tcp.congestion.pending

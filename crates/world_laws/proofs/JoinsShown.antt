@@ -17,7 +17,7 @@ use Rattle.path_core.specs.Arriving.{expected_by, judged_in}
 use Rattle.path_core.specs.Events.{heard_in, next_event}
 use Rattle.path_core.specs.Joins.{is_joined}
 use Rattle.path_core.specs.Octets.{octets}
-use Rattle.path_core.specs.Segments.{spelled_by}
+use Rattle.path_core.specs.OptionsOut.{spelled_by}
 use Rattle.path_core.specs.Shown.{octets_of, shown_path, IsFarReset, IsFreshCopy, NextIsFresh}
 use Rattle.path_core.specs.State.{PathState, end_at}
 use Rattle.path_core.specs.Values.{Carried, as_arrived, values}

@@ -49,11 +49,11 @@ use Rattle.path_core.specs.Duties.{ask_for}
 use Rattle.path_core.specs.Emission.{first_unsent, data_ask}
 use Rattle.path_core.specs.Events.{next_event, step_for}
 use Rattle.path_agenda.specs.Items.{key_heard, keys_heard}
-use Rattle.path_core.specs.Falling.{fell_ask}
+use Rattle.path_core.specs.Fallback.{fell_ask}
 use Rattle.path_core.specs.Opening.{peer_key_ask, opened_ask}
-use Rattle.path_core.specs.Passing.{piece_of, piece_ask, fin_of, fin_ask, plain_fin, rate_ask}
-use Rattle.path_core.specs.Placing.{Piece}
-use Rattle.path_core.specs.Sends.{sends}
+use Rattle.path_core.specs.Passing.{piece_of, piece_ask, data_fin_of, fin_ask, plain_fin, rate_ask}
+use Rattle.path_core.specs.Deliver.{Piece}
+use Rattle.path_core.specs.Handover.{sends}
 use Rattle.path_core.specs.Starts.{waiting_path}
 use Rattle.path_core.specs.Joining.{asked_at, join_heard_ask, keys_begun}
 use Rattle.path_core.specs.Joins.{is_joined}
@@ -188,7 +188,7 @@ module _ (k : Secrets) (right : Bool) (w back : Side → Type 0) (p : PathState 
   asks_are (duties.Ask (ask_duties.SubflowFin s)) = fin_is s (plain_fin (end_at s p))
   asks_are (duties.Silent (silent_duties.Keep s)) = tt
   asks_are (duties.Ask (ask_duties.Edge s)) = piece_is s (piece_of s p)
-  asks_are (duties.Ask (ask_duties.HeardFin s index)) = fin_is s (fin_of index (end_at s p))
+  asks_are (duties.Ask (ask_duties.HeardFin s index)) = fin_is s (data_fin_of index (end_at s p))
   asks_are (duties.Silent (silent_duties.PassFin s)) = tt
   asks_are (duties.Ask (ask_duties.AckOut s)) = tt
   asks_are (duties.Ask (ask_duties.Rate s)) = rate_is s (end_at s p).tcp.congestion.pending

@@ -49,10 +49,10 @@ use Rattle.path_agenda.specs.Items.{is_of_step, join_heard, key_heard, keys_hear
 use Rattle.path_core.specs.Joining.{joined_by, opened_by, syn_alone, is_listening, with_mode_refused}
 use Rattle.path_core.specs.Joins.{is_joined, join_answer, join_asked, join_value, peer_key_of}
 use Rattle.path_core.specs.Opening.{after_keys, keys_in}
-use Rattle.path_core.specs.Sends.{sent_on}
+use Rattle.path_core.specs.Handover.{sent_on}
 use Rattle.path_core.specs.Standing.{modes_told}
 use Rattle.path_core.specs.State.{PathState, Profile, end_at, with_end, with_agenda, goes_on, left}
-use Rattle.path_core.specs.Falling.{mode_in, fell_in, after_fell}
+use Rattle.path_core.specs.Fallback.{mode_in, fell_in, after_fell}
 use Rattle.path_core.specs.Values.{Carried, as_arrived, carried_by, stripped, altered, values}
 use Rattle.join_handshake.specs.Heard.{answer_heard, answer_taken, syn_heard}
 use Rattle.world_laws.proofs.KeysRight.{Secrets, is_past, known_in, OfB, IsFor, sure_if, drawn_key, drawn_nonce, JoinIs, OptionIs, SegmentIs, ItemIs, ModesAre, EndIs, HasMet, Knows, met_needs, same_knows, same_end}

@@ -40,7 +40,7 @@ use Rattle.path_agenda.specs.declared.keys.KeyPair.{KeyPair}
 use Rattle.path_core.specs.declared.modes.Modes.{Modes}
 use Rattle.path_agenda.specs.Agenda.{emission, leaves, resets, rest_of_turn, start_of_turn}
 use Rattle.path_core.specs.Breaking.{reset_of, reset_on, answered_break}
-use Rattle.path_core.specs.Closing.{is_end_owed}
+use Rattle.path_core.specs.StreamEnds.{is_data_fin_owed}
 use Rattle.path_core.specs.Duties.{stands, passed, answered, ask_for}
 use Rattle.path_core.specs.Emission.{Grant, grant_in, answered_grant, answered_data, first_unsent, fin_segment_of, data_stands, fits, after_timer, having_sent_fin}
 use Rattle.path_core.specs.Ends.{PathEnd}
@@ -51,16 +51,16 @@ use Rattle.path_core.specs.Joining.{asked_at, is_never, join_heard_ask, join_tak
 use Rattle.path_core.specs.Joins.{is_joined}
 use Rattle.path_core.specs.Opening.{peer_key_ask, opened_ask, answered_peer_key, answered_opened}
 use Rattle.path_core.specs.Passing.{after_pass_fin, is_placed, piece_of, answered_piece, is_fin_set, answered_fin_heard, answered_plain_fin, answer_occasion, resend_occasion, first_record, answer_of, resend_of}
-use Rattle.path_core.specs.Placing.{Piece, with_learned, with_skipped, mapping_here, is_wrong, forgotten_by, after_pieces}
-use Rattle.path_core.specs.Segments.{ack_said, syn_ack_said, record_or_ack}
+use Rattle.path_core.specs.Deliver.{Piece, with_learned, with_skipped, mapping_here, is_wrong, forgotten_by, after_pieces}
+use Rattle.path_core.specs.OptionsOut.{ack_said, syn_ack_said, record_or_ack}
 use Rattle.path_core.specs.Standing.{answered_ack_out}
 use Rattle.path_core.specs.State.{PathState, end_at, with_end, with_agenda, goes_on, left}
 use Rattle.path_core.specs.Steps.{settled, answers, asks_of, asks_first, takes, begins_turn}
 use Rattle.path_core.specs.Turns.{FirstStands, IsSettled}
 use Rattle.path_core.specs.Words.{is_side_a, item_at}
 use Rattle.path_core.specs.Breaking.{break_ask}
-use Rattle.path_core.specs.Falling.{is_fall, fell_ask, in_identity, after_fell, fell_duties, answered_fell}
-use Rattle.path_core.specs.Treating.{is_acked, is_dropped, with_acked, counts, is_clash, with_fin, with_plain_ack, breaks_by_ack, answered_plain_ack, answered_heard, answered_item, item_of, item_passed, heard_ask, item_ask, plain_ack_ask}
+use Rattle.path_core.specs.Fallback.{is_fall, fell_ask, in_identity, after_fell, fell_duties, answered_fell}
+use Rattle.path_core.specs.Treating.{is_acked, is_dropped, with_acked, counts, is_clash, with_data_fin, with_plain_ack, breaks_by_ack, answered_plain_ack, answered_heard, answered_item, item_of, item_passed, heard_ask, item_ask, plain_ack_ask}
 use Rattle.path_core.specs.Values.{Carried, values}
 use Rattle.world_laws.proofs.Finding.{find_every, one_side}
 use Rattle.fallback_state.specs.declared.fall.Event.{Event as FallEvent}
@@ -127,7 +127,7 @@ module _ (k : Secrets) (right : Bool) (w back : Side → Type 0) where
       by false = record { modes = h.modes; items = h.items; woken = h.woken; past = h.past }
   passed_item joined s (Some (says.DataFin place)) e said h = by (counts e)
     where
-      by : (b : Bool) → EndIs k right w back joined s (if b then with_fin place e else e)
+      by : (b : Bool) → EndIs k right w back joined s (if b then with_data_fin place e else e)
       by true = record { modes = h.modes; items = h.items; woken = h.woken; past = h.past }
       by false = h
   passed_item joined s (Some (says.InfiniteMapping place position)) e said h = h
@@ -151,7 +151,7 @@ module _ (k : Secrets) (right : Bool) (w back : Side → Type 0) where
       by false = has
   passed_stays t s (Some (says.DataFin place)) e has = by (counts e)
     where
-      by : (b : Bool) → Knows k right w back t (if b then with_fin place e else e).modes
+      by : (b : Bool) → Knows k right w back t (if b then with_data_fin place e else e).modes
       by true = has
       by false = has
   passed_stays t s (Some (says.InfiniteMapping place position)) e has = has
@@ -173,7 +173,7 @@ module _ (k : Secrets) (right : Bool) (w back : Side → Type 0) where
       by false is = is
   item_waits s (Some (says.DataFin place)) e is = by (counts e) is
     where
-      by : (b : Bool) → is_waiting (if b then with_fin place e else e).tcp.state ≡ true → is_waiting e.tcp.state ≡ true
+      by : (b : Bool) → is_waiting (if b then with_data_fin place e else e).tcp.state ≡ true → is_waiting e.tcp.state ≡ true
       by true is = is
       by false is = is
   item_waits s (Some (says.InfiniteMapping place position)) e is = is
@@ -497,7 +497,7 @@ module _ (k : Secrets) (right : Bool) (w back : Side → Type 0) where
       by false is =
           verdict_is s (with_learned (after_fell fall.MappingHeard r (end_at s p))) r p (verdict_leaves r (end_at s p).modes) refl (record { up = λ x. x; waits = λ x. x; past = λ x. x }) said is h
   heard_answered s (says.DataFin place) r p own said is h =
-      verdict_is s (with_fin place (after_fell fall.MappingHeard r (end_at s p))) r p (verdict_leaves r (end_at s p).modes) refl (record { up = λ x. x; waits = λ x. x; past = λ x. x }) said is h
+      verdict_is s (with_data_fin place (after_fell fall.MappingHeard r (end_at s p))) r p (verdict_leaves r (end_at s p).modes) refl (record { up = λ x. x; waits = λ x. x; past = λ x. x }) said is h
   heard_answered s (says.InfiniteMapping place position) r p own said is h = told_is s fall.InfiniteHeard r p said is h
   heard_answered s (says.Keys mine other) r p own said is h =
       goes_is k right w back s _ _ p (keys_are k right w back (is_joined p.profile) s r (Some (record { own = mine; peer = other })) (end_at s p) own (end_is k right w back s p h)) (λ is. is) (none_left k right w back p)
@@ -534,7 +534,7 @@ module _ (k : Secrets) (right : Bool) (w back : Side → Type 0) where
       by false = ack_said_is s (end_at s p).tcp.send.nxt None p h
 
   resend_is : (s : Side) (p : PathState Carried) → Said s p → PathIs k right w back p → SegmentIs k right w back p.profile s (resend_of s p)
-  resend_is s p said h = by (has_records (end_at s p).tcp) (end_at s p).modes.owes_third (is_end_owed (end_at s p))
+  resend_is s p said h = by (has_records (end_at s p).tcp) (end_at s p).modes.owes_third (is_data_fin_owed (end_at s p))
     where
       e : PathEnd
       e = end_at s p

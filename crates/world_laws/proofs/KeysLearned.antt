@@ -55,13 +55,13 @@ use Rattle.path_core.specs.Events.{heard_at, heard_in, at_tick, died, is_death, 
 use Rattle.path_core.specs.Joining.{is_never, keys_begun, opened_by, mode_refused}
 use Rattle.path_core.specs.Joins.{is_joined}
 use Rattle.path_core.specs.Passing.{after_pass_fin}
-use Rattle.path_core.specs.Placing.{after_check, after_pieces, mapping_here, is_wrong, with_learned, with_skipped, forgotten_by}
-use Rattle.path_core.specs.Sends.{sent_on}
+use Rattle.path_core.specs.Deliver.{after_check, after_pieces, mapping_here, is_wrong, with_learned, with_skipped, forgotten_by}
+use Rattle.path_core.specs.Handover.{sent_on}
 use Rattle.path_core.specs.Standing.{modes_told}
 use Rattle.path_core.specs.State.{PathState, end_at, goes_on, with_agenda, with_end, path_of}
 use Rattle.path_core.specs.Steps.{settled}
-use Rattle.path_core.specs.Treating.{after_keep, counts, is_dropped, item_of, item_passed, mode_in, with_fin, with_plain_ack}
-use Rattle.path_core.specs.Falling.{fell_in}
+use Rattle.path_core.specs.Treating.{after_keep, counts, is_dropped, item_of, item_passed, mode_in, with_data_fin, with_plain_ack}
+use Rattle.path_core.specs.Fallback.{fell_in}
 use Rattle.path_core.specs.Values.{Carried, values}
 use Rattle.world_laws.proofs.KeysMet.{is_met, passed_met_state, is_accepts, Fits, fits, is_calm, signs, Fewer, same_duties, tail_fewer, new_duties, b_template, arrived_state, unmet_stays, a_template, a_signs}
 
@@ -213,8 +213,8 @@ module _ (T : Type 0) where
       by false = same_goes s (with_skipped (end_at s p)) p refl refl
   item_goes s (Some (says.DataFin place)) p = by (counts (end_at s p))
     where
-      by : (b : Bool) → Goes s p (if b then with_fin place (end_at s p) else end_at s p)
-      by true = same_goes s (with_fin place (end_at s p)) p refl refl
+      by : (b : Bool) → Goes s p (if b then with_data_fin place (end_at s p) else end_at s p)
+      by true = same_goes s (with_data_fin place (end_at s p)) p refl refl
       by false = same_goes s (end_at s p) p refl refl
   item_goes s (Some (says.InfiniteMapping place position)) p = same_goes s (end_at s p) p refl refl
   item_goes s (Some (says.PeerKey key)) p = same_goes s (end_at s p) p refl refl

@@ -44,7 +44,7 @@ use Rattle.path_core.specs.Arriving.{items_of, owing_if, reset_for, taken_as, te
 use Rattle.path_core.specs.Ends.{PathEnd}
 use Rattle.path_core.specs.Joins.{is_joined, join_options}
 use Rattle.path_core.specs.Passing.{outgoing_or}
-use Rattle.path_core.specs.Segments.{ack_said, capable_options, record_options, record_or_ack, record_said, segment_of, syn_ack_said, syn_options}
+use Rattle.path_core.specs.OptionsOut.{ack_said, capable_options, record_options, record_or_ack, record_said, segment_of, syn_ack_said, syn_options}
 use Rattle.path_core.specs.State.{Profile}
 use Rattle.path_core.specs.Words.{is_side_a}
 use Rattle.path_agenda.specs.declared.heard.JoinStep.TheVariants as step

@@ -30,10 +30,10 @@ use Rattle.path_agenda.specs.declared.heard.Heard.TheVariants as says
 use Rattle.path_agenda.specs.declared.notice.PeerNotice.TheVariants as notes
 use Rattle.world_laws.proofs.Noting.{noted, removed_noted, address_noted}
 use Rattle.path_core.specs.declared.modes.Modes.{Modes}
-use Rattle.path_core.specs.Arriving.{options_heard, ack_items, is_mapping, mapping_items, end_items, infinite_items, map_items, key_items, join_items, items_in, items_of}
+use Rattle.path_core.specs.Arriving.{options_heard, ack_items, is_mapping, mapping_items, data_fin_items, infinite_items, map_items, key_items, join_items, items_in, items_of}
 use Rattle.path_core.specs.Ends.{PathEnd}
 use Rattle.path_core.specs.Joins.{is_joined, peer_key_of, join_options, third_options}
-use Rattle.path_core.specs.Segments.{capable_options, syn_options, key_options, opening_options, ack_options, end_mapping, is_first_piece, first_piece_options, piece_options, piece_mapping, owes_mapping, plain_options, fin_options, record_options, reset_options, reset_said, ack_said, syn_ack_said, record_or_ack}
+use Rattle.path_core.specs.OptionsOut.{capable_options, syn_options, key_options, opening_options, ack_options, data_fin_mapping, is_first_piece, first_piece_options, piece_options, piece_mapping, owes_mapping, plain_options, fin_options, record_options, reset_options, reset_said, ack_said, syn_ack_said, record_or_ack}
 use Rattle.path_core.specs.State.{Profile}
 use Rattle.dss_mapping.specs.Mappings.{octets_in}
 
@@ -250,7 +250,7 @@ module _ (k : Secrets) (right : Bool) (w back : Side → Type 0) where
     ack_options_are fin = by e.modes.identity e.modes.clear refl
       where
         by : (fell b : Bool) → e.modes.clear ≡ b
-            → Every (OptionIs (is_joined c) s) (if fell then [] else (if b then Dss (Some e.receiving.next) (end_mapping c s fin) ∷ [] else opening_options c s e))
+            → Every (OptionIs (is_joined c) s) (if fell then [] else (if b then Dss (Some e.receiving.next) (data_fin_mapping c s fin) ∷ [] else opening_options c s e))
         by true b is = Every-nil _
         by false true is = every_one _ (λ joins. of_b s (w B) (h.modes.cleared joins is))
         by false false is = opening_is
@@ -368,7 +368,7 @@ module _ (k : Secrets) (right : Bool) (w back : Side → Type 0) where
         by true = every_one _ tt
         by false = Every-nil _
 
-    end_items_are : (s : Side) (place : ℕ) → Every (ItemIs joined s) (end_items place)
+    end_items_are : (s : Side) (place : ℕ) → Every (ItemIs joined s) (data_fin_items place)
     end_items_are s place = by (nat_le place (2 ^ 62))
       where
         by : (b : Bool) → Every (ItemIs joined s) (if b then says.DataFin place ∷ [] else [])

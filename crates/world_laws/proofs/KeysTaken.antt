@@ -34,8 +34,8 @@ use Rattle.path_core.specs.Events.{next_event, died}
 use Rattle.path_core.specs.Joining.{asked_at, refusal_of, join_taken, joined_by, keys_begun, with_mode_refused, join_heard_ask}
 use Rattle.path_core.specs.Opening.{after_keys, keys_in, opened_ask, answered_opened, peer_key_ask, answered_peer_key, with_peer_key}
 use Rattle.path_core.specs.Passing.{answer_occasion, answer_of, resend_occasion, answered_fin_heard, answered_plain_fin, answered_piece, dead_answer, is_fin_set, is_placed, piece_of, resend_of}
-use Rattle.path_core.specs.Placing.{Piece, with_learned}
-use Rattle.path_core.specs.Sends.{having_sent, sent_on}
+use Rattle.path_core.specs.Deliver.{Piece, with_learned}
+use Rattle.path_core.specs.Handover.{having_sent, sent_on}
 use Rattle.path_core.specs.Standing.{after_ack_out, after_look, answered_ack_out}
 use Rattle.path_core.specs.State.{PathState, end_at, goes_on, left, path_of, with_agenda}
 use Rattle.path_core.specs.declared.modes.Modes.{Modes}
@@ -47,8 +47,8 @@ use Rattle.control_book.specs.declared.call.ControlCall.TheVariants as control_c
 use Rattle.actor_desk.specs.declared.ask.Ask.TheVariants as asks
 use Rattle.path_core.specs.Steps.{settled, answers, asks_of, asks_first, takes, begins_turn}
 use Rattle.path_core.specs.Breaking.{break_ask}
-use Rattle.path_core.specs.Falling.{fell_ask, fell_in, after_fell, fell_duties, answered_fell, in_identity}
-use Rattle.path_core.specs.Treating.{heard_ask, item_ask, plain_ack_ask, breaks_by_ack, with_plain_ack, answered_plain_ack, answered_heard, answered_item, is_acked, is_clash, item_of, with_acked, with_fin}
+use Rattle.path_core.specs.Fallback.{fell_ask, fell_in, after_fell, fell_duties, answered_fell, in_identity}
+use Rattle.path_core.specs.Treating.{heard_ask, item_ask, plain_ack_ask, breaks_by_ack, with_plain_ack, answered_plain_ack, answered_heard, answered_item, is_acked, is_clash, item_of, with_acked, with_data_fin}
 use Rattle.path_core.specs.Values.{Carried, values}
 use Rattle.subflow_tcp.specs.Taking.{after_syn, unkept}
 use Rattle.path_core.specs.Joining.{is_listening, syn_alone}
@@ -163,7 +163,7 @@ module _ (T : Type 0) where
           → CalmMet T (if b then answered_break values s 1 r p else goes_on s (with_learned (after_fell fall.MappingHeard r (end_at s p))) (fell_duties s r p) p)
       by true gains = break_met s 1 r p h
       by false gains = verdict_met s fall.MappingHeard r (with_learned (after_fell fall.MappingHeard r (end_at s p))) p refl refl gains h
-  heard_answered_met s (says.DataFin place) r p gains sign h = verdict_met s fall.MappingHeard r (with_fin place (after_fell fall.MappingHeard r (end_at s p))) p refl refl gains h
+  heard_answered_met s (says.DataFin place) r p gains sign h = verdict_met s fall.MappingHeard r (with_data_fin place (after_fell fall.MappingHeard r (end_at s p))) p refl refl gains h
   heard_answered_met s (says.InfiniteMapping place position) r p gains sign h = told_met s fall.InfiniteHeard r p gains h
   heard_answered_met s (says.Keys mine other) r p gains sign h = keys_met s r (Some (record { own = mine; peer = other })) p h
   heard_answered_met s says.Dss r p gains sign h = agenda_met T (left p) p (tail_fewer p.agenda) h

@@ -48,12 +48,12 @@ use Rattle.path_core.specs.Events.{next_event, after_line, is_death, at_tick, di
 use Rattle.path_core.specs.Joining.{keys_begun, is_never, opened_by, join_taken, asked_at}
 use Rattle.path_core.specs.Joins.{is_joined}
 use Rattle.path_core.specs.Passing.{answered_piece, is_placed, is_fin_set, answered_fin_heard, piece_of, answered_plain_fin}
-use Rattle.path_core.specs.Placing.{Piece, is_wrong, forgotten_by, with_learned, with_skipped, mapping_here}
+use Rattle.path_core.specs.Deliver.{Piece, is_wrong, forgotten_by, with_learned, with_skipped, mapping_here}
 use Rattle.path_core.specs.Standing.{answered_ack_out}
 use Rattle.path_core.specs.State.{PathState, end_at, goes_on, with_end, with_agenda}
 use Rattle.path_core.specs.Steps.{settled, takes, begins_turn, next_round}
 use Rattle.path_core.specs.Turns.{FirstStands, IsSettled}
-use Rattle.path_core.specs.Treating.{item_stands, counts, is_clash, told_next, with_fin, item_passed, answered_item, item_of, after_fell, fell_duties, answered_fell, answered_plain_ack, breaks_by_ack, with_plain_ack}
+use Rattle.path_core.specs.Treating.{item_stands, counts, is_clash, told_next, with_data_fin, item_passed, answered_item, item_of, after_fell, fell_duties, answered_fell, answered_plain_ack, breaks_by_ack, with_plain_ack}
 use Rattle.path_core.specs.Words.{item_at}
 use Rattle.path_core.specs.Opening.{answered_peer_key, answered_opened}
 use Rattle.world_laws.proofs.Clearing.{maybe_end, passed_clear, answered_clear, Stays}
@@ -271,7 +271,7 @@ same_items s (Some (says.Mapping fin)) e = by (counts e)
     by false = refl
 same_items s (Some (says.DataFin place)) e = by (counts e)
   where
-    by : (b : Bool) → (if b then with_fin place e else e).treated.items ≡ e.treated.items
+    by : (b : Bool) → (if b then with_data_fin place e else e).treated.items ≡ e.treated.items
     by true = refl
     by false = refl
 same_items s (Some (says.InfiniteMapping place position)) e = refl

@@ -30,9 +30,9 @@ use Rattle.path_core.specs.Events.{next_event, step_for}
 use Rattle.path_agenda.specs.Items.{key_heard, keys_heard}
 use Rattle.path_core.specs.Joining.{asked_at, join_heard_ask}
 use Rattle.path_core.specs.Opening.{peer_key_ask, opened_ask}
-use Rattle.path_core.specs.Passing.{piece_of, piece_ask, fin_of, fin_ask, plain_fin, rate_ask}
-use Rattle.path_core.specs.Placing.{Piece}
-use Rattle.path_core.specs.Sends.{sends}
+use Rattle.path_core.specs.Passing.{piece_of, piece_ask, data_fin_of, fin_ask, plain_fin, rate_ask}
+use Rattle.path_core.specs.Deliver.{Piece}
+use Rattle.path_core.specs.Handover.{sends}
 use Rattle.path_core.specs.State.{PathState, end_at, path_of}
 use Rattle.path_core.specs.Treating.{breaks_by_ack, plain_ack_ask, is_clash, fell_ask, mapping_ask, item_ask, item_of}
 use Rattle.world_laws.proofs.Asking.{AskLeavesFile, asks_leave}
@@ -150,7 +150,7 @@ module _ {C : Type 0} (k : Codec C) (p : PathState C) where
   path_asks (duties.Ask (ask_duties.SubflowFin s)) = fin_is s (plain_fin (end_at s p))
   path_asks (duties.Silent (silent_duties.Keep s)) = tt
   path_asks (duties.Ask (ask_duties.Edge s)) = piece_is s (piece_of s p)
-  path_asks (duties.Ask (ask_duties.HeardFin s index)) = fin_is s (fin_of index (end_at s p))
+  path_asks (duties.Ask (ask_duties.HeardFin s index)) = fin_is s (data_fin_of index (end_at s p))
   path_asks (duties.Silent (silent_duties.PassFin s)) = tt
   path_asks (duties.Ask (ask_duties.AckOut s)) = tt
   path_asks (duties.Ask (ask_duties.Rate s)) = rate_is s (end_at s p).tcp.congestion.pending
@@ -275,7 +275,7 @@ module _ {C : Type 0} (k : Codec C) (p : PathState C) where
   quiet_asks (duties.Ask (ask_duties.SubflowFin s)) q = fin_quiet s (plain_fin (end_at s p))
   quiet_asks (duties.Silent (silent_duties.Keep s)) q = tt
   quiet_asks (duties.Ask (ask_duties.Edge s)) q = piece_quiet s (piece_of s p)
-  quiet_asks (duties.Ask (ask_duties.HeardFin s index)) q = fin_quiet s (fin_of index (end_at s p))
+  quiet_asks (duties.Ask (ask_duties.HeardFin s index)) q = fin_quiet s (data_fin_of index (end_at s p))
   quiet_asks (duties.Silent (silent_duties.PassFin s)) q = tt
   quiet_asks (duties.Ask (ask_duties.AckOut s)) q = tt
   quiet_asks (duties.Ask (ask_duties.Rate s)) q = rate_quiet s (end_at s p).tcp.congestion.pending

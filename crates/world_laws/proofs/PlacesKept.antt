@@ -52,15 +52,15 @@ use Rattle.path_core.specs.Ends.{PathEnd, Receiving}
 use Rattle.path_core.specs.Events.{next_event, heard_in, at_tick, died, died_unless_dead, is_death, after_line, copy_heard, happens_if, join_begun, told_at, never_joined}
 use Rattle.path_core.specs.Joining.{asked_at, is_never, join_taken, keys_begun, opened_by}
 use Rattle.path_core.specs.Passing.{is_placed, piece_of, answered_piece, is_fin_set, answered_fin_heard, answered_plain_fin}
-use Rattle.path_core.specs.Placing.{Piece, with_learned, with_skipped, is_wrong, forgotten_by, mapping_here}
-use Rattle.path_core.specs.Sends.{sent_on}
+use Rattle.path_core.specs.Deliver.{Piece, with_learned, with_skipped, is_wrong, forgotten_by, mapping_here}
+use Rattle.path_core.specs.Handover.{sent_on}
 use Rattle.path_core.specs.Standing.{window_in, answered_ack_out}
 use Rattle.path_core.specs.State.{PathState, end_at, with_end, with_agenda, goes_on, left}
 use Rattle.path_core.specs.Steps.{settled, answers, takes, begins_turn}
-use Rattle.path_core.specs.Treating.{counts, is_clash, with_fin, answered_heard, answered_item, item_of, item_passed, breaks_by_ack, with_plain_ack}
+use Rattle.path_core.specs.Treating.{counts, is_clash, with_data_fin, answered_heard, answered_item, item_of, item_passed, breaks_by_ack, with_plain_ack}
 use Rattle.path_core.specs.Values.{Carried, values}
 use Rattle.path_core.specs.Opening.{answered_opened, answered_peer_key}
-use Rattle.path_core.specs.Falling.{after_fell, fell_duties}
+use Rattle.path_core.specs.Fallback.{after_fell, fell_duties}
 use Rattle.world_laws.proofs.Finding.{find_every, one_side}
 
 -- ---- mappings
@@ -178,7 +178,7 @@ module _ (R : Side → ℕ → ℕ → Type 0) where
       by false = skipped_knows (R s) e.receiving.mappings h
   item_knows s (Some (says.DataFin place)) e h = by (counts e)
     where
-      by : (b : Bool) → EndKnows s (if b then with_fin place e else e)
+      by : (b : Bool) → EndKnows s (if b then with_data_fin place e else e)
       by true = h
       by false = h
   item_knows s (Some (says.InfiniteMapping place position)) e h = h

@@ -29,7 +29,7 @@ use Rattle.stream_lanes.specs.Words.{Every}
 use Rattle.stream_lanes.proofs.Lists.{Every-map, Every-push, Has-more, in_drop, in_map}
 use Rattle.path_core.specs.Ends.{PathEnd}
 use Rattle.path_core.specs.Passing.{having_asked, after_pass_fin, place_passed, plain_fin}
-use Rattle.path_core.specs.Placing.{Piece, count_in, piece_in, is_whole, is_right, some_piece, checked_piece, piece_by, next_piece, after_piece, with_learned, with_skipped, plain_piece, fin_behind}
+use Rattle.path_core.specs.Deliver.{Piece, count_in, piece_in, is_whole, is_right, some_piece, checked_piece, piece_by, next_piece, after_piece, with_learned, with_skipped, plain_piece, data_fin_behind}
 use Rattle.path_core.specs.State.{Profile}
 use Rattle.world_laws.proofs.Ending.{Did, did_nothing}
 use Rattle.world_laws.proofs.Growing.{sender_stays, receiver_stays, same_edge}
@@ -79,7 +79,7 @@ module _ (c : Profile) (s : Side) (out back : Lane) where
       v = e.receiving.mappings
 
       by : (xs : List KeptMapping) → v.held ≡ xs → Every (HeldShows back.datas) xs
-          → Did c s (record e { receiving = record e.receiving { mappings = after_skip_held (learned_if (first_of xs) v); mapped_fin = fin_behind (first_of xs) e.receiving.mapped_fin } }) out out back back
+          → Did c s (record e { receiving = record e.receiving { mappings = after_skip_held (learned_if (first_of xs) v); mapped_data_fin = data_fin_behind (first_of xs) e.receiving.mapped_data_fin } }) out out back back
       by [] is held = record {
         out_after = out;
         back_after = back;

@@ -208,7 +208,7 @@ granted_untold (Err why) b = refl
 write_untold : (bytes : List ℕ) (b : Sending) → tells_refusal (replies.Send (sending.write_reply bytes b)) ≡ false
 write_untold bytes b = by (b.closed || b.aborted)
   where
-    by : (c : Bool) → tells_refusal (replies.Send (if c then send_replies.Shut else send_replies.Taken (sending.taken bytes b))) ≡ false
+    by : (c : Bool) → tells_refusal (replies.Send (if c then send_replies.Shut else send_replies.Taken (sending.bytes_taken bytes b))) ≡ false
     by true = refl
     by false = refl
 

@@ -42,13 +42,13 @@ use Rattle.path_core.specs.Ends.{PathEnd}
 use Rattle.path_agenda.specs.declared.keys.KeyPair.{KeyPair}
 use Rattle.path_agenda.specs.declared.duty.Duty.{Duty}
 use Rattle.path_core.specs.Opening.{syn_window_ask, keys_ask, after_keys, peer_key_ask, opened_ask, answered_peer_key, answered_opened, with_peer_key}
-use Rattle.path_core.specs.Passing.{having_asked, with_peer_end, piece_ask, answered_piece, is_placed, piece_of, fin_of, fin_ask, answered_fin_heard, is_fin_set, rate_ask, after_rate, answered_rate, plain_fin, answered_plain_fin, with_fin_told}
-use Rattle.path_core.specs.Placing.{Piece, after_piece, with_learned}
+use Rattle.path_core.specs.Passing.{having_asked, with_peer_data_fin, piece_ask, answered_piece, is_placed, piece_of, data_fin_of, fin_ask, answered_fin_heard, is_fin_set, rate_ask, after_rate, answered_rate, plain_fin, answered_plain_fin, with_fin_told}
+use Rattle.path_core.specs.Deliver.{Piece, after_piece, with_learned}
 use Rattle.path_core.specs.State.{PathState, Profile, end_at, goes_on, left, path_of, with_agenda}
-use Rattle.path_core.specs.Treating.{fell_ask, is_clash, mapping_ask, answered_mapping, heard_ask, answered_heard, answered_ack, with_acked, with_fin, item_ask, answered_item, subflow_ack_stands, after_fell, fell_duties, item_stands, plain_ack_ask, subflow_ack_ask, item_of, answered_plain_ack, answered_subflow_ack, with_plain_ack, acked_in, plain_next, breaks_by_ack, with_plain_acked}
+use Rattle.path_core.specs.Treating.{fell_ask, is_clash, mapping_ask, answered_mapping, heard_ask, answered_heard, answered_ack, with_acked, with_data_fin, item_ask, answered_item, subflow_ack_stands, after_fell, fell_duties, item_stands, plain_ack_ask, subflow_ack_ask, item_of, answered_plain_ack, answered_subflow_ack, with_plain_ack, acked_in, plain_next, breaks_by_ack, with_plain_acked}
 use Rattle.path_core.specs.Values.{Carried, values}
 use Rattle.path_core.specs.Words.{item_at}
-use Rattle.path_core.specs.Falling.{identity_ask, answered_identity, answered_fell}
+use Rattle.path_core.specs.Fallback.{identity_ask, answered_identity, answered_fell}
 use Rattle.world_laws.proofs.Falls.{is_plain}
 use Rattle.world_laws.proofs.Answering.{IsReady, Steps, shows_at, agenda_step, agenda_side, end_step, did_step, did_then, break_step, rate_quiet}
 use Rattle.world_laws.proofs.Doing.{granted_lane, refused_lane, wants_grant, hears_ack, wants_fin, hears_none, hears_sub, wants_plain_fin}
@@ -66,7 +66,7 @@ use Rattle.world_laws.proofs.Roads.{Strolls, stays}
 -- ---- ends
 
 -- an end of the stream that is told later
-pub fin_shows : (c : Profile) (s : Side) (place : ℕ) (e : PathEnd) (out back : Lane) → HasNumber back.data_fins place → EndShows c s e out back → EndShows c s (with_fin place e) out back
+pub fin_shows : (c : Profile) (s : Side) (place : ℕ) (e : PathEnd) (out back : Lane) → HasNumber back.data_fins place → EndShows c s e out back → EndShows c s (with_data_fin place e) out back
 fin_shows c s place e out back has h = record {
   sender = h.sender;
   receiver = h.receiver;
@@ -185,7 +185,7 @@ module _ (six : SixBooks) (others : Others) (p : PathState Carried) (ab ba : Lan
     heard_step (says.DataAck next window) above has = data_ack_step next window above has
     heard_step (says.Mapping fin) above has = mapping_step
     heard_step (says.DataFin place) above has =
-        fell_step events.MappingHeard tt (with_fin place) (λ f x. fin_shows p.profile s place f out back has x) (fell_duties s (reply_of six (fell_ask s events.MappingHeard p)) p)
+        fell_step events.MappingHeard tt (with_data_fin place) (λ f x. fin_shows p.profile s place f out back has x) (fell_duties s (reply_of six (fell_ask s events.MappingHeard p)) p)
     heard_step (says.InfiniteMapping place position) above has = told_fell events.InfiniteHeard tt
     heard_step (says.Keys own peer) above has =
         let keys : Option KeyPair = Some (record { own = own; peer = peer }) in
@@ -304,8 +304,8 @@ module _ (six : SixBooks) (others : Others) (p : PathState Carried) (ab ba : Lan
 
         by : (r : ReassemblyReply) → SideDid p.profile s p (answered_fin_heard s (is_fin_set (replies.Reassembly r)) p) ab ba out (takes_fin r back)
         by reassembly_replies.FinSet =
-            side_kept p.profile p ab ba h s out _ (having_asked (with_peer_end e)) (left p)
-            (asked_end p.profile s out back true (having_asked (with_peer_end e)) refl (asked_shows p.profile s out back (with_peer_end e) (peer_end_shows p.profile s out back e shows)))
+            side_kept p.profile p ab ba h s out _ (having_asked (with_peer_data_fin e)) (left p)
+            (asked_end p.profile s out back true (having_asked (with_peer_data_fin e)) refl (asked_shows p.profile s out back (with_peer_data_fin e) (peer_end_shows p.profile s out back e shows)))
         by (reassembly_replies.Placed new) = other
         by (reassembly_replies.Beyond edge) = other
         by (reassembly_replies.FinClash fin at) = other
@@ -316,8 +316,8 @@ module _ (six : SixBooks) (others : Others) (p : PathState Carried) (ab ba : Lan
         by (reassembly_replies.Aborted by_peer) = other
         by reassembly_replies.Noted = other
 
-    pub fin_heard_step : (index : ℕ) → Makes (fin_ask s (fin_of index e)) (answered_fin_heard s (is_fin_set (reply_of six (fin_ask s (fin_of index e)))) p)
-    fin_heard_step index = fin_by (fin_of index e) (every_item index e.treated.fins shows.treated.fins)
+    pub fin_heard_step : (index : ℕ) → Makes (fin_ask s (data_fin_of index e)) (answered_fin_heard s (is_fin_set (reply_of six (fin_ask s (data_fin_of index e)))) p)
+    fin_heard_step index = fin_by (data_fin_of index e) (every_item index e.treated.fins shows.treated.fins)
 
     -- in plain TCP the FIN stands for it
     pub plain_fin_step : (o : Option ℕ) → plain_fin e ≡ o → Makes (fin_ask s o) (answered_plain_fin s (is_fin_set (reply_of six (fin_ask s o))) p)
@@ -333,7 +333,7 @@ module _ (six : SixBooks) (others : Others) (p : PathState Carried) (ab ba : Lan
 
         by : (r : ReassemblyReply) → SideDid p.profile s p (answered_plain_fin s (is_fin_set (replies.Reassembly r)) p) ab ba out (takes_fin r back)
         by reassembly_replies.FinSet =
-            let f : PathEnd = with_peer_end (with_fin_told e) in
+            let f : PathEnd = with_peer_data_fin (with_fin_told e) in
             side_kept p.profile p ab ba h s out _ (having_asked f) (left p)
             (asked_end p.profile s out back true (having_asked f) refl (asked_shows p.profile s out back f (peer_end_shows p.profile s out back (with_fin_told e) (fin_told_shows p.profile s out back e shows))))
         by (reassembly_replies.Placed new) = other

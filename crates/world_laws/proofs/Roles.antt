@@ -48,23 +48,23 @@ use Rattle.path_core.specs.declared.judged.Judged.{Judged}
 use Rattle.path_core.specs.Arriving.{after_judged, copy_judged, copy_of, held_of, hint_of, items_of, judged_in, options_heard, owes_by, reset_for, taken_as, template_of}
 use Rattle.path_core.specs.Breaking.{reset_of, reset_on, answered_break}
 use Rattle.path_core.specs.Codec.{HeardSegment}
-use Rattle.path_core.specs.Closing.{is_end_owed}
+use Rattle.path_core.specs.StreamEnds.{is_data_fin_owed}
 use Rattle.path_core.specs.Duties.{stands, passed, answered}
 use Rattle.path_core.specs.Emission.{Grant, after_timer, fin_segment_of, grant_in, answered_grant, answered_data, first_unsent, having_sent_fin}
 use Rattle.path_core.specs.Ends.{PathEnd}
 use Rattle.path_core.specs.Events.{next_event, heard_at, heard_in, at_tick, died, died_unless_dead, is_death, after_line, copy_heard, happens_if, join_begun, timer_fired, template_fired, never_joined}
-use Rattle.path_core.specs.Falling.{after_fell, fell_duties, answered_fell}
+use Rattle.path_core.specs.Fallback.{after_fell, fell_duties, answered_fell}
 use Rattle.path_core.specs.Joining.{asked_at, is_listening, is_never, join_taken, joined_by, keys_begun, opened_by, refusal_of, syn_alone, with_mode_refused}
 use Rattle.path_core.specs.Joins.{is_joined}
 use Rattle.path_core.specs.Opening.{after_keys, answered_opened, answered_peer_key, with_peer_key}
 use Rattle.path_core.specs.Passing.{after_pass_fin, answer_occasion, answer_of, resend_occasion, answered_fin_heard, answered_plain_fin, answered_piece, dead_answer, first_record, is_fin_set, is_placed, piece_of, resend_of}
-use Rattle.path_core.specs.Placing.{Piece, after_check, after_pieces, mapping_here, is_wrong, with_learned, with_skipped, forgotten_by}
-use Rattle.path_core.specs.Segments.{ack_said, reset_options, record_or_ack, syn_ack_said}
-use Rattle.path_core.specs.Sends.{having_sent, sent_on}
+use Rattle.path_core.specs.Deliver.{Piece, after_check, after_pieces, mapping_here, is_wrong, with_learned, with_skipped, forgotten_by}
+use Rattle.path_core.specs.OptionsOut.{ack_said, reset_options, record_or_ack, syn_ack_said}
+use Rattle.path_core.specs.Handover.{having_sent, sent_on}
 use Rattle.path_core.specs.Standing.{after_ack_out, answered_ack_out}
 use Rattle.path_core.specs.State.{PathState, end_at, goes_on, left, with_agenda, with_end}
 use Rattle.path_core.specs.Steps.{settled, answers, takes, begins_turn}
-use Rattle.path_core.specs.Treating.{after_keep, answered_heard, answered_item, answered_plain_ack, breaks_by_ack, counts, is_clash, is_dropped, item_of, item_passed, with_acked, with_fin, with_plain_ack}
+use Rattle.path_core.specs.Treating.{after_keep, answered_heard, answered_item, answered_plain_ack, breaks_by_ack, counts, is_clash, is_dropped, item_of, item_passed, with_acked, with_data_fin, with_plain_ack}
 use Rattle.path_core.specs.Values.{Carried, as_arrived, carried_by, stripped, altered, values}
 use Rattle.world_laws.proofs.KeysHeld.{in_removed}
 use Rattle.world_laws.proofs.KeysWoken.{WakesNone, joined_wakes_none}
@@ -192,8 +192,8 @@ item_goes s (Some (says.Mapping fin)) p h = by (counts (end_at s p))
     by false = same_goes s (with_skipped (end_at s p)) p refl refl h
 item_goes s (Some (says.DataFin place)) p h = by (counts (end_at s p))
   where
-    by : (b : Bool) → Goes s p (if b then with_fin place (end_at s p) else end_at s p)
-    by true = same_goes s (with_fin place (end_at s p)) p refl refl h
+    by : (b : Bool) → Goes s p (if b then with_data_fin place (end_at s p) else end_at s p)
+    by true = same_goes s (with_data_fin place (end_at s p)) p refl refl h
     by false = same_goes s (end_at s p) p refl refl h
 item_goes s (Some (says.InfiniteMapping place position)) p h = same_goes s (end_at s p) p refl refl h
 item_goes s (Some (says.PeerKey key)) p h = same_goes s (end_at s p) p refl refl h
@@ -370,7 +370,7 @@ heard_answered_roles s (says.Mapping fin) r p h = by (is_clash (end_at s p))
     by : (b : Bool) → HasRoles (if b then answered_break values s 1 r p else goes_on s (with_learned (after_fell fall.MappingHeard r (end_at s p))) (fell_duties s r p) p)
     by true = break_roles s 1 r p h
     by false = same_roles s (with_learned (after_fell fall.MappingHeard r (end_at s p))) (fell_duties s r p) p refl refl h
-heard_answered_roles s (says.DataFin place) r p h = same_roles s (with_fin place (after_fell fall.MappingHeard r (end_at s p))) (fell_duties s r p) p refl refl h
+heard_answered_roles s (says.DataFin place) r p h = same_roles s (with_data_fin place (after_fell fall.MappingHeard r (end_at s p))) (fell_duties s r p) p refl refl h
 heard_answered_roles s (says.InfiniteMapping place position) r p h = told_roles s fall.InfiniteHeard r p h
 heard_answered_roles s (says.Keys mine other) r p h = keys_roles s r (Some (record { own = mine; peer = other })) p h
 heard_answered_roles s says.Dss r p h = agenda_roles (left p) p h
@@ -420,7 +420,7 @@ answer_tells s p = by (end_at s p).tcp.due.syn_ack
     by false = ack_tells s (end_at s p).tcp.send.nxt None p
 
 resend_tells : (s : Side) (p : PathState Carried) → TellsKey (is_joined p.profile) (peer s) (resend_of s p)
-resend_tells s p = by (has_records e.tcp) e.modes.owes_third (is_end_owed e)
+resend_tells s p = by (has_records e.tcp) e.modes.owes_third (is_data_fin_owed e)
   where
     e : PathEnd
     e = end_at s p

@@ -30,9 +30,9 @@ use Rattle.path_core.specs.Events.{next_event, step_for}
 use Rattle.path_agenda.specs.Items.{key_heard, keys_heard}
 use Rattle.path_core.specs.Joining.{asked_at, join_heard_ask}
 use Rattle.path_core.specs.Opening.{peer_key_ask, opened_ask}
-use Rattle.path_core.specs.Passing.{piece_of, piece_ask, fin_of, fin_ask, rate_ask, plain_fin}
-use Rattle.path_core.specs.Placing.{Piece}
-use Rattle.path_core.specs.Sends.{sends}
+use Rattle.path_core.specs.Passing.{piece_of, piece_ask, data_fin_of, fin_ask, rate_ask, plain_fin}
+use Rattle.path_core.specs.Deliver.{Piece}
+use Rattle.path_core.specs.Handover.{sends}
 use Rattle.path_core.specs.State.{PathState, end_at, path_of}
 use Rattle.path_core.specs.Treating.{is_clash, fell_ask, mapping_ask, item_ask, item_of, plain_ack_ask, breaks_by_ack}
 use Rattle.world_laws.proofs.RoundReplies.{AsksSome}
@@ -147,7 +147,7 @@ module _ {C : Type 0} (k : Codec C) (p : PathState C) (some : 1 ≤ payload_size
   asks_some (duties.Ask (ask_duties.SubflowFin s)) = fin_some s (plain_fin (end_at s p))
   asks_some (duties.Silent (silent_duties.Keep s)) = tt
   asks_some (duties.Ask (ask_duties.Edge s)) = piece_some s (piece_of s p)
-  asks_some (duties.Ask (ask_duties.HeardFin s index)) = fin_some s (fin_of index (end_at s p))
+  asks_some (duties.Ask (ask_duties.HeardFin s index)) = fin_some s (data_fin_of index (end_at s p))
   asks_some (duties.Silent (silent_duties.PassFin s)) = tt
   asks_some (duties.Ask (ask_duties.AckOut s)) = tt
   asks_some (duties.Ask (ask_duties.Rate s)) = rate_some s (end_at s p).tcp.congestion.pending

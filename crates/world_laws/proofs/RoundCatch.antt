@@ -5,7 +5,7 @@ use Rattle.outside_kit.specs.declared.side.Side.{Side}
 use Rattle.outside_kit.specs.declared.side.Side.TheVariants.{A, B}
 use Rattle.reassembly_book.specs.declared.call.ReassemblyCall.{ReassemblyCall}
 use Rattle.reassembly_book.specs.declared.call.ReassemblyCall.TheVariants as calls
-use Rattle.reassembly_book.specs.State.{Arriving, received, opened}
+use Rattle.reassembly_book.specs.State.{Arriving, received, new_arriving}
 use Rattle.reassembly_book.specs.Steps.{after_call, reply_to}
 use Rattle.reassembly_book.proofs.Bounds.{sound-after_call, sound-opened}
 use Rattle.reassembly_book.proofs.Merging.{filled-le}
@@ -221,12 +221,12 @@ starts_caught m notes b none h =
 begun_caught : (a : AppState) (notes : List Note) (b : Arriving) → Reading a notes b → Caught (received b) b.read (app_settled start_of_app (fresh_turn a)) notes b
 begun_caught a notes b h = starts_caught (fresh_turn a) notes b refl (record { sound = h.sound; capacity = h.capacity; whole = h.whole; told = h.told })
 
-opened_reading : (s : Side) (buffer : ℕ) (file : List ℕ) (tick : Option ℕ) → Reading (untouched s buffer file tick) [] (opened buffer)
+opened_reading : (s : Side) (buffer : ℕ) (file : List ℕ) (tick : Option ℕ) → Reading (untouched s buffer file tick) [] (new_arriving buffer)
 opened_reading s buffer file tick = record { sound = sound-opened buffer; capacity = refl; whole = refl; told = λ never. cc }
 
 opened_caught : (s : Side) (buffer : ℕ) (file : List ℕ) (tick : Option ℕ)
-    → Caught (received (opened buffer)) (opened buffer).read (first_app_turn s buffer file tick) [] (opened buffer)
-opened_caught s buffer file tick = starts_caught (untouched s buffer file tick) [] (opened buffer) refl (opened_reading s buffer file tick)
+    → Caught (received (new_arriving buffer)) (new_arriving buffer).read (first_app_turn s buffer file tick) [] (new_arriving buffer)
+opened_caught s buffer file tick = starts_caught (untouched s buffer file tick) [] (new_arriving buffer) refl (opened_reading s buffer file tick)
 
 module _ {C : Type 0} (k : Codec C) (start : Start) where
   -- in a round that began with these books

@@ -26,7 +26,7 @@ use Rattle.path_core.specs.declared.event.Event.{Event}
 use Rattle.path_core.specs.declared.event.Event.TheVariants as happenings
 use Rattle.path_core.specs.Joining.{is_never, keys_begun, asked_at, join_taken}
 use Rattle.path_core.specs.Passing.{answered_piece, is_placed, is_fin_set, piece_of}
-use Rattle.path_core.specs.Placing.{Piece}
+use Rattle.path_core.specs.Deliver.{Piece}
 use Rattle.path_core.specs.State.{PathState, end_at, with_agenda, left, path_of}
 use Rattle.path_core.specs.Steps.{settled, settles_down, answers, takes, begins_turn}
 use Rattle.path_core.specs.Opening.{answered_peer_key, answered_opened}

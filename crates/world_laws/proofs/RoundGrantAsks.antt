@@ -28,9 +28,9 @@ use Rattle.path_core.specs.Events.{next_event, step_for}
 use Rattle.path_agenda.specs.Items.{key_heard, keys_heard}
 use Rattle.path_core.specs.Joining.{asked_at, join_heard_ask}
 use Rattle.path_core.specs.Opening.{peer_key_ask, opened_ask}
-use Rattle.path_core.specs.Passing.{piece_of, piece_ask, fin_of, fin_ask, rate_ask, plain_fin}
-use Rattle.path_core.specs.Placing.{Piece}
-use Rattle.path_core.specs.Sends.{sends}
+use Rattle.path_core.specs.Passing.{piece_of, piece_ask, data_fin_of, fin_ask, rate_ask, plain_fin}
+use Rattle.path_core.specs.Deliver.{Piece}
+use Rattle.path_core.specs.Handover.{sends}
 use Rattle.path_core.specs.State.{PathState, end_at, path_of}
 use Rattle.path_core.specs.Treating.{is_clash, fell_ask, mapping_ask, item_ask, item_of, plain_ack_ask, breaks_by_ack}
 use Rattle.world_laws.specs.RoundEnd.{asks_grant}
@@ -164,7 +164,7 @@ module _ {C : Type 0} (k : Codec C) (p : PathState C) where
   asks_none (duties.Ask (ask_duties.SubflowFin s)) other = fin_none s (plain_fin (end_at s p))
   asks_none (duties.Silent (silent_duties.Keep s)) other = tt
   asks_none (duties.Ask (ask_duties.Edge s)) other = piece_none s (piece_of s p)
-  asks_none (duties.Ask (ask_duties.HeardFin s index)) other = fin_none s (fin_of index (end_at s p))
+  asks_none (duties.Ask (ask_duties.HeardFin s index)) other = fin_none s (data_fin_of index (end_at s p))
   asks_none (duties.Silent (silent_duties.PassFin s)) other = tt
   asks_none (duties.Ask (ask_duties.AckOut s)) other = tt
   asks_none (duties.Ask (ask_duties.Rate s)) other = rate_none s (end_at s p).tcp.congestion.pending

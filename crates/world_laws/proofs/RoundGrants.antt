@@ -44,8 +44,8 @@ use Rattle.path_core.specs.Joining.{is_never, keys_begun, opened_by, asked_at, j
 use Rattle.path_core.specs.Joins.{is_joined}
 use Rattle.path_core.specs.Events.{next_event, heard_in, at_tick, join_begun, died, died_unless_dead, path_died, is_death, after_line, copy_heard, template_fired, happens_if, never_joined}
 use Rattle.path_core.specs.Passing.{piece_of, is_placed, answered_piece, is_fin_set, answered_fin_heard, answered_plain_fin}
-use Rattle.path_core.specs.Placing.{Piece, with_learned}
-use Rattle.path_core.specs.Sends.{sent_on}
+use Rattle.path_core.specs.Deliver.{Piece, with_learned}
+use Rattle.path_core.specs.Handover.{sent_on}
 use Rattle.path_core.specs.Standing.{answered_ack_out}
 use Rattle.path_core.specs.State.{PathState, Profile, end_at, with_end, with_agenda, goes_on}
 use Rattle.path_core.specs.Steps.{settled}

@@ -10,14 +10,14 @@ use Rattle.send_book.specs.declared.call.SendReply.TheVariants as send_replies
 use Rattle.send_book.specs.declared.mark.ByteMark.TheVariants.{Acked, Free}
 use Rattle.send_book.specs.Marks.{given, returned}
 use Rattle.send_book.specs.Tried.{no_paths}
-use Rattle.send_book.specs.State.{Sending, Tile, acked_len, opened}
+use Rattle.send_book.specs.State.{Sending, Tile, acked_len, new_sending}
 use Rattle.send_book.specs.Steps as send
 use Rattle.send_book.proofs.Decisions.{decision-MayTake}
 use Rattle.reassembly_book.specs.declared.call.ReassemblyCall.{ReassemblyCall}
 use Rattle.reassembly_book.specs.declared.call.ReassemblyCall.TheVariants as reassembly_calls
 use Rattle.reassembly_book.specs.declared.call.ReassemblyReply.TheVariants as reassembly_replies
 use Rattle.reassembly_book.specs.State.{Arriving, filled}
-use Rattle.reassembly_book.specs.State.{opened as none}
+use Rattle.reassembly_book.specs.State.{new_arriving as none}
 use Rattle.reassembly_book.specs.Steps as reassembly
 use Rattle.control_book.specs.declared.call.ControlCall.{ControlCall}
 use Rattle.control_book.specs.declared.call.ControlCall.TheVariants as control_calls
@@ -70,10 +70,10 @@ call_marked b (send_calls.Write bytes) h =
       whole = omega (
         arith,
         h.whole,
-        length-append b.written (take (send.taken bytes b) bytes),
-        length-take (send.taken bytes b) bytes,
-        length-append b.marks (replicate (send.taken bytes b) (Free no_paths)),
-        length-replicate (send.taken bytes b) (Free no_paths),
+        length-append b.written (take (send.bytes_taken bytes b) bytes),
+        length-take (send.bytes_taken bytes b) bytes,
+        length-append b.marks (replicate (send.bytes_taken bytes b) (Free no_paths)),
+        length-replicate (send.bytes_taken bytes b) (Free no_paths),
       );
     })
 call_marked b send_calls.Close h = either_marked b.aborted _ _ h (record { whole = h.whole })
@@ -132,7 +132,7 @@ granted_kind path max standby b h some (Ok span) is =
 send_kind : (b : Sending) (call : SendCall) → IsMarked b → WantsSome call → IsSendKind call (send.reply_to b call)
 send_kind b (send_calls.Write bytes) h some = by (b.closed || b.aborted)
   where
-    by : (c : Bool) → IsSendKind (send_calls.Write bytes) (if c then send_replies.Shut else send_replies.Taken (send.taken bytes b))
+    by : (c : Bool) → IsSendKind (send_calls.Write bytes) (if c then send_replies.Shut else send_replies.Taken (send.bytes_taken bytes b))
     by true = tt
     by false = omega arith
 send_kind b send_calls.Close h some = by b.aborted
@@ -194,14 +194,14 @@ either_kind : (call : ControlCall) (c : Bool) (x y : ControlReply) → IsControl
 either_kind call true x y p q = p
 either_kind call false x y p q = q
 
-tiled : Tile (opened 0)
+tiled : Tile (new_sending 0)
 tiled = record { whole = refl; acked_first = refl; held = refl }
 
 -- a call that the book takes whatever its numbers
 free_kind : (c : Control) (call : ControlCall) → can_ask call → IsControlKind call (control.reply_to c call)
 free_kind c call can =
     books_answer
-    (record { send_a = opened 0; send_b = opened 0; reassembly_a = none 0; reassembly_b = none 0; control_a = c; control_b = c })
+    (record { send_a = new_sending 0; send_b = new_sending 0; reassembly_a = none 0; reassembly_b = none 0; control_a = c; control_b = c })
     (asks.Control A call) (record { a = tiled; b = tiled }) can
 
 pub control_kind : (c : Control) (call : ControlCall) → IsControlKind call (control.reply_to c call)

@@ -30,12 +30,12 @@ use Rattle.path_agenda.specs.declared.keys.KeyPair.{KeyPair}
 use Rattle.join_handshake.specs.declared.hearing.JoinSyn.{JoinSyn}
 use Rattle.path_core.specs.Joining.{opened_by, syn_alone, is_listening, joined_by, with_mode_refused}
 use Rattle.path_core.specs.Opening.{with_peer_key, after_keys, keys_in}
-use Rattle.path_core.specs.Passing.{having_asked, with_peer_end, after_rate, with_fin_told}
-use Rattle.path_core.specs.Placing.{is_wrong, forgotten_by, after_pieces}
+use Rattle.path_core.specs.Passing.{having_asked, with_peer_data_fin, after_rate, with_fin_told}
+use Rattle.path_core.specs.Deliver.{is_wrong, forgotten_by, after_pieces}
 use Rattle.path_core.specs.Standing.{after_look, modes_told, notices_told}
 use Rattle.path_core.specs.State.{Profile}
 use Rattle.path_core.specs.Treating.{after_dss, after_keep, is_dropped, covered_by, is_not_kept, with_plain_ack}
-use Rattle.path_core.specs.Falling.{after_fell, fell_in, mode_in}
+use Rattle.path_core.specs.Fallback.{after_fell, fell_in, mode_in}
 use Rattle.path_core.specs.declared.modes.Modes.{Modes}
 use Rattle.world_laws.proofs.Arriving.{syn_both}
 use Rattle.world_laws.proofs.Hearing.{cut_shows, dropped_shows, state_shows}
@@ -176,7 +176,7 @@ module _ (c : Profile) (s : Side) (out back : Lane) where
     held = h.held;
   }
 
-  pub peer_end_shows : (e : PathEnd) → Shows e → Shows (with_peer_end e)
+  pub peer_end_shows : (e : PathEnd) → Shows e → Shows (with_peer_data_fin e)
   peer_end_shows e h = record { sender = h.sender; receiver = h.receiver; acks = h.acks; told = h.told; treated = h.treated; held = h.held }
 
   pub timer_shows : (now : ℕ) (e : PathEnd) → Shows e → Shows (after_timer now e)

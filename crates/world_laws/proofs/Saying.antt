@@ -25,7 +25,7 @@ use Rattle.stream_lanes.specs.Words.{Every}
 use Rattle.stream_lanes.proofs.Lists.{Every-nil, Every-push}
 use Rattle.path_core.specs.Ends.{PathEnd}
 use Rattle.path_core.specs.Joins.{is_joined, join_options, third_options}
-use Rattle.path_core.specs.Segments.{place_numbered, owes_mapping, plain_options, fin_options, capable_options, syn_options, key_options, opening_options, end_mapping, ack_options, is_first_piece, first_piece_options, piece_options, piece_mapping, record_options, reset_options, segment_of, ack_said, record_said, syn_ack_said, fin_said, reset_said, record_or_ack}
+use Rattle.path_core.specs.OptionsOut.{place_numbered, owes_mapping, plain_options, fin_options, capable_options, syn_options, key_options, opening_options, data_fin_mapping, ack_options, is_first_piece, first_piece_options, piece_options, piece_mapping, record_options, reset_options, segment_of, ack_said, record_said, syn_ack_said, fin_said, reset_said, record_or_ack}
 use Rattle.path_core.specs.State.{Profile}
 use Rattle.path_core.specs.Words.{is_side_a}
 use Rattle.world_laws.proofs.Showing.{HasSub, HasNone, HasMapping, HasNumber, HasFin, KindShows, RecordShows, WindowShows, OptionShows, SegmentShows}
@@ -53,7 +53,7 @@ module _ (c : Profile) (s : Side) (e : PathEnd) (acks : List AckCopy) (p : Lane)
   opening_say window true = every_one _ tt
   opening_say window false = keys_say window s e.modes.peer_key
 
-  end_says : (fin : Option ℕ) → IfSome fin (HasNumber p.data_fins) → OptionShows (window_told false e.receiving.window) acks p (Dss (Some e.receiving.next) (end_mapping c s fin))
+  end_says : (fin : Option ℕ) → IfSome fin (HasNumber p.data_fins) → OptionShows (window_told false e.receiving.window) acks p (Dss (Some e.receiving.next) (data_fin_mapping c s fin))
   end_says None h = (w.ack, tt)
   end_says (Some place) h = (w.ack, h)
 
@@ -61,7 +61,7 @@ module _ (c : Profile) (s : Side) (e : PathEnd) (acks : List AckCopy) (p : Lane)
   ack_options_say fin h = by e.modes.identity e.modes.clear
     where
       by : (plain clear : Bool) → Every (OptionShows (window_told false e.receiving.window) acks p)
-          (if plain then [] else (if clear then Dss (Some e.receiving.next) (end_mapping c s fin) ∷ [] else opening_options c s e))
+          (if plain then [] else (if clear then Dss (Some e.receiving.next) (data_fin_mapping c s fin) ∷ [] else opening_options c s e))
       by true clear = Every-nil _
       by false true = every_one _ (end_says fin h)
       by false false = opening_say _ e.modes.owes_third

@@ -19,10 +19,10 @@ use Rattle.path_core.specs.Duties.{stands, passed}
 use Rattle.path_core.specs.Emission.{after_timer}
 use Rattle.path_core.specs.Ends.{PathEnd}
 use Rattle.path_core.specs.Passing.{after_pass_fin}
-use Rattle.path_core.specs.Placing.{after_check, with_learned, with_skipped, mapping_here, after_pieces}
+use Rattle.path_core.specs.Deliver.{after_check, with_learned, with_skipped, mapping_here, after_pieces}
 use Rattle.path_core.specs.State.{PathState, Profile, end_at, with_end, with_agenda}
 use Rattle.path_core.specs.Steps.{settled}
-use Rattle.path_core.specs.Treating.{counts, with_fin, after_dss, after_keep, heard_passed, item_passed, item_of, with_plain_ack}
+use Rattle.path_core.specs.Treating.{counts, with_data_fin, after_dss, after_keep, heard_passed, item_passed, item_of, with_plain_ack}
 use Rattle.path_core.specs.Values.{Carried}
 use Rattle.path_core.specs.Words.{item_at}
 use Rattle.world_laws.proofs.Ending.{Did, did_nothing}
@@ -131,8 +131,8 @@ module _ (six : SixBooks) (others : Others) (c : Profile) where
           by false = did_nothing c s out back (with_skipped e) (skipped_shows c s out back e shows)
       item_did (says.DataFin place) has = by (counts e)
         where
-          by : (b : Bool) → Did c s (if b then with_fin place e else e) out out back back
-          by true = did_nothing c s out back (with_fin place e) (fin_shows c s place e out back has shows)
+          by : (b : Bool) → Did c s (if b then with_data_fin place e else e) out out back back
+          by true = did_nothing c s out back (with_data_fin place e) (fin_shows c s place e out back has shows)
           by false = did_nothing c s out back e shows
       item_did (says.InfiniteMapping place position) has = did_nothing c s out back e shows
       item_did (says.PeerKey key) has = did_nothing c s out back e shows

@@ -42,12 +42,12 @@ use Rattle.path_core.specs.Events.{next_event, after_line, is_death, at_tick, di
 use Rattle.path_core.specs.Joining.{keys_begun, is_never, opened_by, join_taken, asked_at}
 use Rattle.path_core.specs.Joins.{is_joined}
 use Rattle.path_core.specs.Opening.{answered_peer_key, answered_opened}
-use Rattle.path_core.specs.Passing.{answered_piece, is_placed, is_fin_set, piece_of, after_pass_fin, having_asked, refused, with_peer_end, with_fin_told, answered_fin_heard, answered_plain_fin}
-use Rattle.path_core.specs.Placing.{Piece, is_wrong, forgotten_by, mapping_here, with_learned, with_skipped, after_check, after_pieces, after_piece}
+use Rattle.path_core.specs.Passing.{answered_piece, is_placed, is_fin_set, piece_of, after_pass_fin, having_asked, refused, with_peer_data_fin, with_fin_told, answered_fin_heard, answered_plain_fin}
+use Rattle.path_core.specs.Deliver.{Piece, is_wrong, forgotten_by, mapping_here, with_learned, with_skipped, after_check, after_pieces, after_piece}
 use Rattle.path_core.specs.Standing.{after_ack_out, answered_ack_out}
 use Rattle.path_core.specs.State.{PathState, end_at, goes_on, with_agenda}
 use Rattle.path_core.specs.Steps.{settled, takes, next_round}
-use Rattle.path_core.specs.Treating.{counts, is_clash, heard_passed, item_passed, answered_item, item_of, breaks_by_ack, after_fell, with_plain_ack, after_keep, with_fin, told_next, fell_duties, answered_fell, answered_plain_ack}
+use Rattle.path_core.specs.Treating.{counts, is_clash, heard_passed, item_passed, answered_item, item_of, breaks_by_ack, after_fell, with_plain_ack, after_keep, with_data_fin, told_next, fell_duties, answered_fell, answered_plain_ack}
 use Rattle.path_core.specs.declared.event.Event.TheVariants as happenings
 use Rattle.path_core.specs.declared.event.Event.{Event}
 use Rattle.path_core.specs.declared.judged.Judged.{Judged}
@@ -174,7 +174,7 @@ begun_end (Some keys) e h = h
 
 item_end : (s : Side) (item : Heard) (e : PathEnd) → EndCalms e (heard_passed s item e)
 item_end s (says.Mapping fin) e = either_end (counts e) e (with_learned e) (with_skipped e) (λ h. h) (λ h. h)
-item_end s (says.DataFin place) e = either_end (counts e) e (with_fin place e) e (λ h. h) (λ h. h)
+item_end s (says.DataFin place) e = either_end (counts e) e (with_data_fin place e) e (λ h. h) (λ h. h)
 item_end s _ e = λ h. h
 
 maybe_end : (s : Side) (o : Option Heard) (e : PathEnd) → EndCalms e (item_passed s o e)
@@ -459,14 +459,14 @@ module _ {C : Type 0} where
   fin_shielded s index false ds p shape calm = refused_shielded s (with_agenda (duties.Ask (ask_duties.HeardFin s index) ∷ ds) p) calm
   fin_shielded s index true ds p shape calm =
       let parts = and_parts (guarded s ds) (is_sheltered ds) shape in
-      told_shielded s (having_asked (with_peer_end (end_at s p))) ds (with_agenda (duties.Ask (ask_duties.HeardFin s index) ∷ ds) p) parts.1 (λ is. parts.0) (λ t is asked. absurd (calm t is asked))
+      told_shielded s (having_asked (with_peer_data_fin (end_at s p))) ds (with_agenda (duties.Ask (ask_duties.HeardFin s index) ∷ ds) p) parts.1 (λ is. parts.0) (λ t is asked. absurd (calm t is asked))
 
   plain_fin_shielded : (s : Side) (set : Bool) (ds : List Duty) (p : PathState C) → is_sheltered (duties.Ask (ask_duties.SubflowFin s) ∷ ds) ≡ true → OthersCalm s p
       → Shielded (answered_plain_fin s set (with_agenda (duties.Ask (ask_duties.SubflowFin s) ∷ ds) p))
   plain_fin_shielded s false ds p shape calm = refused_shielded s (with_agenda (duties.Ask (ask_duties.SubflowFin s) ∷ ds) p) calm
   plain_fin_shielded s true ds p shape calm =
       let parts = and_parts (guarded s ds) (is_sheltered ds) shape in
-      told_shielded s (having_asked (with_peer_end (with_fin_told (end_at s p)))) ds (with_agenda (duties.Ask (ask_duties.SubflowFin s) ∷ ds) p) parts.1 (λ is. parts.0) (λ t is asked. absurd (calm t is asked))
+      told_shielded s (having_asked (with_peer_data_fin (with_fin_told (end_at s p)))) ds (with_agenda (duties.Ask (ask_duties.SubflowFin s) ∷ ds) p) parts.1 (λ is. parts.0) (λ t is asked. absurd (calm t is asked))
 
   broken_shielded : (k : Codec C) (s : Side) (reason : ℕ) (r : Reply) (p : PathState C) → OthersCalm s p → Shielded (answered_break k s reason r p)
   broken_shielded k s reason r p calm = by (end_at s p).treated.asked

@@ -28,12 +28,12 @@ use Rattle.path_agenda.specs.declared.heard.Heard.{Heard}
 use Rattle.path_agenda.specs.declared.heard.Heard.TheVariants as says
 use Rattle.path_core.specs.Ends.{PathEnd, Treated}
 use Rattle.path_core.specs.Joins.{join_asked}
-use Rattle.path_core.specs.Segments.{place_numbered}
+use Rattle.path_core.specs.OptionsOut.{place_numbered}
 use Rattle.path_core.specs.State.{PathState, Profile}
 use Rattle.path_core.specs.Shown.{AltersNothing}
 use Rattle.path_core.specs.Values.{Carried}
 use Rattle.dss_mapping.specs.Mappings.{octets_of}
-use Rattle.path_core.specs.declared.mapped_fin.MappedFin.{MappedFin}
+use Rattle.path_core.specs.declared.mapped_data_fin.MappedDataFin.{MappedDataFin}
 
 -- ---- what was ever sent on a lane
 
@@ -181,9 +181,9 @@ abbrev pub HeldShows : List DataCopy → KeptMapping → Type 0
 HeldShows datas kept = HasMapping datas kept.place kept.pos (octets_of kept) × (kept.fin ≡ false)
 
 -- none of them has a DATA_FIN behind its bytes, and none waits for the edge
-pub record HoldsShow (datas : List DataCopy) (held : List KeptMapping) (mapped_fin : Option MappedFin) : Type 0 where
+pub record HoldsShow (datas : List DataCopy) (held : List KeptMapping) (mapped_data_fin : Option MappedDataFin) : Type 0 where
   pub each : Every (HeldShows datas) held
-  pub none : mapped_fin ≡ None
+  pub none : mapped_data_fin ≡ None
 
 -- the windows that segments tell are those of acknowledgements of the lane, with and without the place
 pub record WindowShows (next window : ℕ) (acks : List AckCopy) : Type 0 where
@@ -230,7 +230,7 @@ pub record EndShows (c : Profile) (s : Side) (e : PathEnd) (out back : Lane) : T
   pub acks : AcksShow e.receiving.next e.receiving.window e.treated.asked e.tcp.recv.edge back
   pub told : HasNone out.acks e.tcp.congestion.told.window
   pub treated : TreatedShows e.treated out.acks back
-  pub held : HoldsShow back.datas e.receiving.mappings.held e.receiving.mapped_fin
+  pub held : HoldsShow back.datas e.receiving.mappings.held e.receiving.mapped_data_fin
 
 -- ---- copies
 

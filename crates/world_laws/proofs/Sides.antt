@@ -25,7 +25,7 @@ use Rattle.actor_desk.specs.Desk.{SixBooks, send_of, reassembly_of, after_ask}
 use Rattle.actor_desk.specs.Words.{pick}
 use Rattle.path_agenda.specs.declared.duty.Duty.{Duty}
 use Rattle.path_core.specs.Ends.{PathEnd}
-use Rattle.path_core.specs.Sends.{sent_on}
+use Rattle.path_core.specs.Handover.{sent_on}
 use Rattle.path_core.specs.State.{PathState, Profile, end_at, goes_on}
 use Rattle.path_core.specs.Values.{Carried, values}
 use Rattle.world_laws.proofs.Ending.{Did}

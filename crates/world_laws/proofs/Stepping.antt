@@ -32,7 +32,7 @@ use Rattle.path_core.specs.Passing.{piece_of, plain_fin}
 use Rattle.path_core.specs.Standing.{look_ask, after_look}
 use Rattle.path_core.specs.State.{PathState, end_at, left, path_of, with_agenda}
 use Rattle.path_core.specs.Values.{Carried, values}
-use Rattle.path_core.specs.Closing.{is_all_granted}
+use Rattle.path_core.specs.StreamEnds.{is_all_granted}
 use Rattle.path_agenda.specs.Words.{replaced}
 use Rattle.world_laws.proofs.Answering as answering
 use Rattle.world_laws.proofs.Answering.{IsReady, Steps}

@@ -22,7 +22,7 @@ use Rattle.stream_lanes.proofs.Lists.{Every-map}
 use Rattle.stream_lanes.proofs.Refusals.{never_refused}
 use Rattle.actor_desk.specs.Desk.{SixBooks, send_of, reassembly_of}
 use Rattle.actor_desk.specs.Words.{pick}
-use Rattle.path_core.specs.Sends.{handed}
+use Rattle.path_core.specs.Handover.{handed}
 use Rattle.path_core.specs.Shown.{AltersNothing}
 use Rattle.path_core.specs.State.{PathState, Profile, end_at}
 use Rattle.path_core.specs.Values.{Carried, carried_by, stripped, altered, values}

@@ -55,9 +55,9 @@ use Rattle.path_core.specs.Emission.{first_unsent, data_ask}
 use Rattle.path_core.specs.Events.{next_event, step_for}
 use Rattle.path_core.specs.Joining.{asked_at, join_heard_ask}
 use Rattle.path_core.specs.Opening.{peer_key_ask, opened_ask}
-use Rattle.path_core.specs.Passing.{piece_of, piece_ask, fin_of, fin_ask, rate_ask, plain_fin}
-use Rattle.path_core.specs.Placing.{Piece}
-use Rattle.path_core.specs.Sends.{sends}
+use Rattle.path_core.specs.Passing.{piece_of, piece_ask, data_fin_of, fin_ask, rate_ask, plain_fin}
+use Rattle.path_core.specs.Deliver.{Piece}
+use Rattle.path_core.specs.Handover.{sends}
 use Rattle.path_core.specs.Starts.{waiting_path}
 use Rattle.path_core.specs.State.{PathState, end_at, path_of, with_agenda}
 use Rattle.path_core.specs.Steps.{settled, asks_first, answers}
@@ -362,7 +362,7 @@ module _ (p : PathState Carried) where
   first_mild (duties.Ask (ask_duties.SubflowFin s)) ds h unclear = fin_mild s (plain_fin (end_at s p))
   first_mild (duties.Silent (silent_duties.Keep s)) ds h unclear = tt
   first_mild (duties.Ask (ask_duties.Edge s)) ds h unclear = piece_mild s (piece_of s p)
-  first_mild (duties.Ask (ask_duties.HeardFin s index)) ds h unclear = fin_mild s (fin_of index (end_at s p))
+  first_mild (duties.Ask (ask_duties.HeardFin s index)) ds h unclear = fin_mild s (data_fin_of index (end_at s p))
   first_mild (duties.Silent (silent_duties.PassFin s)) ds h unclear = tt
   first_mild (duties.Ask (ask_duties.AckOut s)) ds h unclear = tt
   first_mild (duties.Ask (ask_duties.Rate s)) ds h unclear = rate_mild s (end_at s p).tcp.congestion.pending

@@ -49,7 +49,7 @@ use Rattle.path_core.specs.declared.modes.Modes.{Modes}
 use Rattle.path_core.specs.Ends.{PathEnd, Sending, Receiving, Treated}
 use Rattle.path_core.specs.Joins.{is_joined, peer_key_of, join_options, third_options}
 use Rattle.path_core.specs.Passing.{outgoing_or}
-use Rattle.path_core.specs.Segments.{spelled_by, bare_mapping, checksum_in, place_numbered, checksum_told, owes_mapping, plain_options, capable_options, syn_options, key_options, opening_options, end_mapping, ack_options, piece_mapping, is_first_piece, first_piece_options, piece_options, fin_options, record_options, reset_options, segment_of, ack_said, record_said, syn_ack_said, fin_said, reset_said, record_or_ack}
+use Rattle.path_core.specs.OptionsOut.{spelled_by, bare_mapping, checksum_in, place_numbered, checksum_told, owes_mapping, plain_options, capable_options, syn_options, key_options, opening_options, data_fin_mapping, ack_options, piece_mapping, is_first_piece, first_piece_options, piece_options, fin_options, record_options, reset_options, segment_of, ack_said, record_said, syn_ack_said, fin_said, reset_said, record_or_ack}
 use Rattle.path_core.specs.Shown.{IsFarReset}
 use Rattle.path_core.specs.State.{Profile}
 
@@ -435,7 +435,7 @@ module _ (c : Profile) (s : Side) (path : c.spelling.path ≤ 15) (mss : c.mss <
       by true = third_tells
       by false = key_tells s e.modes.peer_key h.modes.peer_key
 
-  end_tells : (o : Option ℕ) → IfSome o IsShort → Says c s (Dss (Some e.receiving.next) (end_mapping c s o))
+  end_tells : (o : Option ℕ) → IfSome o IsShort → Says c s (Dss (Some e.receiving.next) (data_fin_mapping c s o))
   end_tells None n = record {
     can = record { form = (tt, refl) };
     few = ack_length ack_number false;
@@ -456,7 +456,7 @@ module _ (c : Profile) (s : Side) (path : c.spelling.path ≤ 15) (mss : c.mss <
   ack_tells : (fin : Option ℕ) → IfSome fin IsShort → One (ack_options c s fin e)
   ack_tells fin n = by e.modes.identity e.modes.clear
     where
-      by : (identity clear : Bool) → One (if identity then [] else (if clear then Dss (Some e.receiving.next) (end_mapping c s fin) ∷ [] else opening_options c s e))
+      by : (identity clear : Bool) → One (if identity then [] else (if clear then Dss (Some e.receiving.next) (data_fin_mapping c s fin) ∷ [] else opening_options c s e))
       by true clear = tt
       by false true = end_tells fin n
       by false false = opening_tells

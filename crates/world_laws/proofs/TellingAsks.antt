@@ -41,9 +41,9 @@ use Rattle.path_core.specs.Emission.{first_unsent, data_ask}
 use Rattle.path_core.specs.Events.{next_event, step_for}
 use Rattle.path_core.specs.Joining.{keys_begun, asked_at, join_begin_ask, join_heard_ask}
 use Rattle.path_core.specs.Opening.{peer_key_ask, opened_ask}
-use Rattle.path_core.specs.Passing.{piece_of, piece_ask, fin_of, fin_ask, plain_fin, rate_ask}
-use Rattle.path_core.specs.Placing.{Piece}
-use Rattle.path_core.specs.Sends.{sends}
+use Rattle.path_core.specs.Passing.{piece_of, piece_ask, data_fin_of, fin_ask, plain_fin, rate_ask}
+use Rattle.path_core.specs.Deliver.{Piece}
+use Rattle.path_core.specs.Handover.{sends}
 use Rattle.path_core.specs.State.{PathState, Profile, end_at, path_of}
 use Rattle.path_core.specs.Treating.{is_clash, fell_ask, mapping_ask, breaks_by_ack, plain_ack_ask, item_ask, item_of}
 use Rattle.path_core.specs.Values.{Carried, values}
@@ -259,7 +259,7 @@ module _ (c : Profile) (p : PathState Carried) (h : PathTells c p) where
   asks_tell (duties.Ask (ask_duties.SubflowFin s)) = fin_tells s (plain_fin (end_at s p))
   asks_tell (duties.Silent (silent_duties.Keep s)) = tt
   asks_tell (duties.Ask (ask_duties.Edge s)) = piece_tells s (piece_of s p)
-  asks_tell (duties.Ask (ask_duties.HeardFin s index)) = fin_tells s (fin_of index (end_at s p))
+  asks_tell (duties.Ask (ask_duties.HeardFin s index)) = fin_tells s (data_fin_of index (end_at s p))
   asks_tell (duties.Silent (silent_duties.PassFin s)) = tt
   asks_tell (duties.Ask (ask_duties.AckOut s)) = tt
   asks_tell (duties.Ask (ask_duties.Rate s)) = rate_tells s (end_at s p).tcp.congestion.pending

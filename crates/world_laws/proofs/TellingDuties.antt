@@ -60,22 +60,22 @@ use Rattle.path_agenda.specs.Agenda.{leaves, resets, breaks}
 use Rattle.path_agenda.specs.Items.{key_heard, keys_heard}
 use Rattle.path_agenda.specs.Words.{replaced}
 use Rattle.path_core.specs.Breaking.{reset_of, reset_on, break_ask, answered_break}
-use Rattle.path_core.specs.Closing.{is_end_owed}
+use Rattle.path_core.specs.StreamEnds.{is_data_fin_owed}
 use Rattle.path_core.specs.Duties.{stands, ask_for, answered}
-use Rattle.path_core.specs.Emission.{payload_size, first_unsent, unsent_segment, data_stands, data_ask, answered_data, grant_in, granted, refused, answered_grant, end_segment, having_sent_end, answered_end, fin_segment_of, having_sent_fin, answered_fin}
+use Rattle.path_core.specs.Emission.{payload_size, first_unsent, unsent_segment, data_stands, data_ask, answered_data, grant_in, granted, refused, answered_grant, data_fin_segment, having_sent_data_fin, answered_data_fin_sent, fin_segment_of, having_sent_fin, answered_fin}
 use Rattle.path_core.specs.Ends.{PathEnd}
 use Rattle.path_core.specs.Events.{next_event, step_for, died}
 use Rattle.path_core.specs.Joining.{keys_begun, asked_at, join_heard_ask, joined_by, join_taken, answered_join_heard, refusal_of, answered_refusal, with_mode_refused}
 use Rattle.path_core.specs.Opening.{with_peer_key, peer_key_ask, answered_peer_key, keys_ask, after_keys, opened_ask, answered_opened, syn_ack_of}
-use Rattle.path_core.specs.Passing.{having_asked, with_peer_end, plain_fin, with_fin_told, answered_plain_fin, piece_ask, answered_piece, is_placed, piece_of, fin_of, fin_ask, answered_fin_heard, is_fin_set, rate_ask, after_rate, first_record, first_segment, answer_of, answer_occasion, dead_answer, answered_dead, resend_occasion, resend_of}
-use Rattle.path_core.specs.Placing.{Piece, after_piece, with_learned}
-use Rattle.path_core.specs.Segments.{ack_said, syn_ack_said, record_or_ack}
-use Rattle.path_core.specs.Sends.{sends, having_sent, sent_on}
+use Rattle.path_core.specs.Passing.{having_asked, with_peer_data_fin, plain_fin, with_fin_told, answered_plain_fin, piece_ask, answered_piece, is_placed, piece_of, data_fin_of, fin_ask, answered_fin_heard, is_fin_set, rate_ask, after_rate, first_record, first_segment, answer_of, answer_occasion, dead_answer, answered_dead, resend_occasion, resend_of}
+use Rattle.path_core.specs.Deliver.{Piece, after_piece, with_learned}
+use Rattle.path_core.specs.OptionsOut.{ack_said, syn_ack_said, record_or_ack}
+use Rattle.path_core.specs.Handover.{sends, having_sent, sent_on}
 use Rattle.path_core.specs.Standing.{look_ask, after_look, ack_out_ask, after_ack_out, answered_ack_out, ack_segment}
 use Rattle.path_core.specs.State.{PathState, Profile, end_at, goes_on, left, path_of, with_agenda}
-use Rattle.path_core.specs.Falling.{fell_ask, after_fell, breaks_by, fell_duties, answered_fell, in_identity}
-use Rattle.path_core.specs.Sends.{with_told}
-use Rattle.path_core.specs.Treating.{is_clash, breaks_by_ack, plain_ack_ask, answered_plain_ack, with_plain_ack, plain_next, subflow_ack_ask, answered_subflow_ack, told_next, is_acked, mapping_ask, answered_mapping, heard_ask, answered_heard, with_acked, with_fin, item_ask, answered_item, item_of}
+use Rattle.path_core.specs.Fallback.{fell_ask, after_fell, breaks_by, fell_duties, answered_fell, in_identity}
+use Rattle.path_core.specs.Handover.{with_told}
+use Rattle.path_core.specs.Treating.{is_clash, breaks_by_ack, plain_ack_ask, answered_plain_ack, with_plain_ack, plain_next, subflow_ack_ask, answered_subflow_ack, told_next, is_acked, mapping_ask, answered_mapping, heard_ask, answered_heard, with_acked, with_data_fin, item_ask, answered_item, item_of}
 use Rattle.path_core.specs.Values.{Carried, values}
 use Rattle.world_laws.proofs.Answering.{IsReady}
 use Rattle.world_laws.proofs.Ending.{unfinished_if}
@@ -311,7 +311,7 @@ module _ (six : SixBooks) (others : Others) (p : PathState Carried) (ab ba : Lan
         by false = ack_tells e.tcp.send.nxt None tells.sender.next tt
 
     resend_told : SegmentTells p.profile s (resend_of s p)
-    resend_told = by (has_records e.tcp) e.modes.owes_third (is_end_owed e)
+    resend_told = by (has_records e.tcp) e.modes.owes_third (is_data_fin_owed e)
       where
         by : (some third owes : Bool) → SegmentTells p.profile s (if some then record_or_ack p.profile s (first_record e) e
             else (if third then ack_said p.profile s e.tcp.send.nxt None e
@@ -398,7 +398,7 @@ module _ (six : SixBooks) (others : Others) (p : PathState Carried) (ab ba : Lan
     heard_told (says.DataFin place) x =
         let r : Reply = reply_of six (fell_ask s events.MappingHeard p) in
         let f : PathEnd = after_fell events.MappingHeard r e in
-        on (with_fin place f) (fell_duties s r p) (rules.fin_tells p.profile s f (rules.fell_tells p.profile s e tells events.MappingHeard r) place) (fell_fair events.MappingHeard)
+        on (with_data_fin place f) (fell_duties s r p) (rules.fin_tells p.profile s f (rules.fell_tells p.profile s e tells events.MappingHeard r) place) (fell_fair events.MappingHeard)
     heard_told (says.InfiniteMapping place position) x = fell_told events.InfiniteHeard
     heard_told (says.Keys own peer) x =
         let keys : Option KeyPair = Some (record { own = own; peer = peer }) in keyed (reply_of six (keys_ask s keys)) keys x.1
@@ -536,23 +536,23 @@ module _ (six : SixBooks) (others : Others) (p : PathState Carried) (ab ba : Lan
     fin_told : (set : Bool) → Tells (answered_fin_heard s set p)
     fin_told false = broken
     fin_told true =
-        let f : PathEnd = with_peer_end e in
+        let f : PathEnd = with_peer_data_fin e in
         on (having_asked f) (left p) (rules.asked_tells p.profile s f (rules.peer_end_tells p.profile s e tells)) left_fair
 
     plain_fin_told : (set : Bool) → Tells (answered_plain_fin s set p)
     plain_fin_told false = broken
     plain_fin_told true =
         let f : PathEnd = with_fin_told e in
-        let g : PathEnd = with_peer_end f in
+        let g : PathEnd = with_peer_data_fin f in
         on (having_asked g) (left p) (rules.asked_tells p.profile s g (rules.peer_end_tells p.profile s f (rules.fin_told_tells p.profile s e tells))) left_fair
 
     -- ---- the ends of the streams
 
-    data_fin_told : Tells (answered_end values s p)
+    data_fin_told : Tells (answered_data_fin_sent values s p)
     data_fin_told =
-        let f : PathEnd = having_sent to_send.Ack p.clock (end_segment s p) e in
-        tells_sent p.profile p t h.unchanged s (end_segment s p) (having_sent_end s p) (left p) (ack_tells e.tcp.send.nxt e.sending.known_end tells.sender.next tells.stream.known_end)
-        (rules.end_sent_tells p.profile s f (rules.sent_end_tells p.profile s e tells to_send.Ack p.clock (end_segment s p))) left_fair
+        let f : PathEnd = having_sent to_send.Ack p.clock (data_fin_segment s p) e in
+        tells_sent p.profile p t h.unchanged s (data_fin_segment s p) (having_sent_data_fin s p) (left p) (ack_tells e.tcp.send.nxt e.sending.known_end tells.sender.next tells.stream.known_end)
+        (rules.end_sent_tells p.profile s f (rules.sent_end_tells p.profile s e tells to_send.Ack p.clock (data_fin_segment s p))) left_fair
 
     fin_at : (finished : Bool) → IsShort (if finished then e.tcp.send.nxt - 1 else e.tcp.send.nxt)
     fin_at true = let next = tells.sender.next in omega (arith, next)
@@ -604,7 +604,7 @@ module _ (six : SixBooks) (others : Others) (p : PathState Carried) (ab ba : Lan
   duty_tells (duties.Ask (ask_duties.SubflowFin s)) is fair = plain_fin_told s (is_fin_set (reply_of six (fin_ask s (plain_fin (end_at s p)))))
   duty_tells (duties.Silent (silent_duties.Keep s)) is fair = done_tells
   duty_tells (duties.Ask (ask_duties.Edge s)) is fair = piece_by s (piece_of s p) refl (is_placed (reply_of six (piece_ask s (piece_of s p))))
-  duty_tells (duties.Ask (ask_duties.HeardFin s index)) is fair = fin_told s (is_fin_set (reply_of six (fin_ask s (fin_of index (end_at s p)))))
+  duty_tells (duties.Ask (ask_duties.HeardFin s index)) is fair = fin_told s (is_fin_set (reply_of six (fin_ask s (data_fin_of index (end_at s p)))))
   duty_tells (duties.Silent (silent_duties.PassFin s)) is fair = done_tells
   duty_tells (duties.Ask (ask_duties.AckOut s)) is fair = ack_out_told s (left p) left_fair
   duty_tells (duties.Ask (ask_duties.Rate s)) is fair =

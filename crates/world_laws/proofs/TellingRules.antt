@@ -46,7 +46,7 @@ use Rattle.path_agenda.specs.declared.heard.JoinStep.{JoinStep}
 use Rattle.path_agenda.specs.declared.heard.JoinStep.TheVariants as step
 use Rattle.path_agenda.specs.declared.keys.KeyPair.{KeyPair}
 use Rattle.path_core.specs.declared.modes.Modes.{Modes}
-use Rattle.path_core.specs.Closing.{with_end_sent}
+use Rattle.path_core.specs.StreamEnds.{with_data_fin_sent}
 use Rattle.path_core.specs.Emission.{granted, refused, after_timer}
 use Rattle.path_core.specs.Ends.{PathEnd, Treated, nothing_treated}
 use Rattle.path_core.specs.Events.{died, died_unless_dead, after_firing}
@@ -54,14 +54,14 @@ use Rattle.path_agenda.specs.Items.{key_in, key_heard, pair_in, keys_heard, is_o
 use Rattle.path_core.specs.Joining.{with_keys, opened_by, with_mode_refused}
 use Rattle.path_core.specs.Joins.{peer_key_of, join_value, join_asked, join_answer}
 use Rattle.path_core.specs.Opening.{with_peer_key, keys_in, after_keys}
-use Rattle.path_core.specs.Falling.{mode_in, fell_in, after_fell, in_identity}
-use Rattle.path_core.specs.Passing.{having_asked, with_peer_end, with_fin_told, after_rate, after_pass_fin}
-use Rattle.path_core.specs.Placing.{Piece, is_wrong, forgotten_by, after_piece, with_learned, with_skipped, after_pieces}
-use Rattle.path_core.specs.Segments.{bare_mapping}
-use Rattle.path_core.specs.Sends.{with_told, having_sent}
+use Rattle.path_core.specs.Fallback.{mode_in, fell_in, after_fell, in_identity}
+use Rattle.path_core.specs.Passing.{having_asked, with_peer_data_fin, with_fin_told, after_rate, after_pass_fin}
+use Rattle.path_core.specs.Deliver.{Piece, is_wrong, forgotten_by, after_piece, with_learned, with_skipped, after_pieces}
+use Rattle.path_core.specs.OptionsOut.{bare_mapping}
+use Rattle.path_core.specs.Handover.{with_told, having_sent}
 use Rattle.path_core.specs.Standing.{modes_told, after_look, after_ack_out}
 use Rattle.path_core.specs.State.{Profile}
-use Rattle.path_core.specs.Treating.{with_acked, with_plain_acked, with_plain_ack, with_fin, after_dss, is_dropped, after_keep}
+use Rattle.path_core.specs.Treating.{with_acked, with_plain_acked, with_plain_ack, with_data_fin, after_dss, is_dropped, after_keep}
 use Rattle.path_core.specs.Words.{told_last}
 use Rattle.path_segments.specs.Spelled.{PlainSegment}
 use Rattle.world_laws.proofs.Doing.{place_is}
@@ -303,7 +303,7 @@ module _ (c : Profile) (s : Side) (e : PathEnd) (h : EndTells c s e) where
   }
   plain_acked _ = h
 
-  pub fin_tells : (place : ℕ) → EndTells c s (with_fin place e)
+  pub fin_tells : (place : ℕ) → EndTells c s (with_data_fin place e)
   fin_tells place = record { sender = h.sender; edge = h.edge; stream = h.stream; window = h.window; modes = h.modes; treated = record { items = h.treated.items; answer = h.treated.answer; acknowledged = h.treated.acknowledged } }
 
   pub learned_tells : EndTells c s (with_learned e)
@@ -315,7 +315,7 @@ module _ (c : Profile) (s : Side) (e : PathEnd) (h : EndTells c s e) where
   pub asked_tells : EndTells c s (having_asked e)
   asked_tells = record { sender = h.sender; edge = h.edge; stream = h.stream; window = h.window; modes = h.modes; treated = record { items = h.treated.items; answer = h.treated.answer; acknowledged = h.treated.acknowledged } }
 
-  pub peer_end_tells : EndTells c s (with_peer_end e)
+  pub peer_end_tells : EndTells c s (with_peer_data_fin e)
   peer_end_tells = record { sender = h.sender; edge = h.edge; stream = record { heard = h.stream.heard; known_end = h.stream.known_end }; window = h.window; modes = h.modes; treated = h.treated }
 
   pub fin_told_tells : EndTells c s (with_fin_told e)
@@ -404,7 +404,7 @@ module _ (c : Profile) (s : Side) (e : PathEnd) (h : EndTells c s e) where
   pub fin_record_tells : (now : ℕ) → EndTells c s (record e { tcp = after_sending to_send.Fin now e.tcp })
   fin_record_tells now = record { sender = fin_sent_tells c s e.tcp.send h.sender now; edge = h.edge; stream = h.stream; window = h.window; modes = h.modes; treated = h.treated }
 
-  pub end_sent_tells : EndTells c s (record e { sending = with_end_sent e.sending })
+  pub end_sent_tells : EndTells c s (record e { sending = with_data_fin_sent e.sending })
   end_sent_tells = record { sender = h.sender; edge = h.edge; stream = record { heard = h.stream.heard; known_end = h.stream.known_end }; window = h.window; modes = h.modes; treated = h.treated }
 
   pub finished_tells : IsShort (e.tcp.send.nxt + 1) → EndTells c s (record e { tcp = after_finishing e.tcp })

@@ -23,10 +23,10 @@ use Rattle.path_core.specs.Duties.{stands, passed}
 use Rattle.path_core.specs.Emission.{after_timer}
 use Rattle.path_core.specs.Ends.{PathEnd}
 use Rattle.path_core.specs.Passing.{after_pass_fin}
-use Rattle.path_core.specs.Placing.{mapping_here, after_check, with_learned, with_skipped, after_pieces}
+use Rattle.path_core.specs.Deliver.{mapping_here, after_check, with_learned, with_skipped, after_pieces}
 use Rattle.path_core.specs.State.{PathState, Profile, end_at, with_end, with_agenda}
 use Rattle.path_core.specs.Steps.{settled}
-use Rattle.path_core.specs.Treating.{counts, with_fin, with_plain_ack, after_keep, heard_passed, item_passed, item_of}
+use Rattle.path_core.specs.Treating.{counts, with_data_fin, with_plain_ack, after_keep, heard_passed, item_passed, item_of}
 use Rattle.path_core.specs.Values.{Carried}
 use Rattle.world_laws.proofs.Lanes.{Others, duo_at}
 use Rattle.world_laws.proofs.Settling.{passes}
@@ -52,7 +52,7 @@ item_told c s e h (says.Mapping fin) = by (counts e)
     by false = rules.skipped_tells c s e h
 item_told c s e h (says.DataFin place) = by (counts e)
   where
-    by : (b : Bool) → EndTells c s (if b then with_fin place e else e)
+    by : (b : Bool) → EndTells c s (if b then with_data_fin place e else e)
     by true = rules.fin_tells c s e h place
     by false = h
 item_told c s e h (says.PeerKey key) = h

@@ -19,7 +19,7 @@ use Rattle.path_agenda.specs.declared.duty.Duty.{Duty}
 use Rattle.path_core.specs.Ends.{PathEnd}
 use Rattle.path_core.specs.State.{PathState, Profile, goes_on, end_at}
 use Rattle.path_core.specs.Values.{Carried}
-use Rattle.path_core.specs.Falling.{in_identity}
+use Rattle.path_core.specs.Fallback.{in_identity}
 use Rattle.send_book.specs.State.{Sending}
 use Rattle.reassembly_book.specs.State.{Arriving}
 use Rattle.world_laws.proofs.Falls.{is_plain}

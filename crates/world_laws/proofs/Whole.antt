@@ -18,7 +18,7 @@ use Rattle.stream_lanes.proofs.Duos.{fallen_ab}
 use Rattle.stream_lanes.specs.Duo.{Modes}
 use Rattle.actor_desk.specs.Desk.{SixBooks, send_of, reassembly_of}
 use Rattle.actor_desk.specs.Words.{pick}
-use Rattle.path_core.specs.Closing.{granted_to, is_all_granted}
+use Rattle.path_core.specs.StreamEnds.{granted_to, is_all_granted}
 use Rattle.path_core.specs.Ends.{PathEnd}
 use Rattle.world_laws.proofs.Lanes.{flags_of, Others, duo_at}
 use Rattle.world_laws.proofs.Records.{every_first, every_rest}

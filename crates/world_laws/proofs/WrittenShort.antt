@@ -9,7 +9,7 @@ use Rattle.send_book.specs.declared.call.SendCall.TheVariants.{Write, Close, Gra
 use Rattle.send_book.specs.declared.call.Span.{Span}
 use Rattle.send_book.specs.declared.call.Why.{Why}
 use Rattle.send_book.specs.State.{Sending}
-use Rattle.send_book.specs.Steps.{taken, decision, given_by, is_future, is_gathered, after_call}
+use Rattle.send_book.specs.Steps.{bytes_taken, decision, given_by, is_future, is_gathered, after_call}
 use Rattle.actor_desk.specs.declared.ask.Ask.{Ask}
 use Rattle.actor_desk.specs.declared.ask.Ask.TheVariants as asks
 use Rattle.actor_desk.specs.Books.{books_in}
@@ -29,8 +29,8 @@ either_way false x y h g = g
 
 call_bounded : (b : Sending) (call : SendCall) → IsBounded b → IsBounded (after_call b call)
 call_bounded b (Write bytes) h = either_way (b.closed || b.aborted) b _ h (
-    let one = length-append b.written (take (taken bytes b) bytes) in let two = length-take (taken bytes b) bytes in
-    let room : taken bytes b ≤ 2 ^ 62 - 3 - length b.written = omega arith in
+    let one = length-append b.written (take (bytes_taken bytes b) bytes) in let two = length-take (bytes_taken bytes b) bytes in
+    let room : bytes_taken bytes b ≤ 2 ^ 62 - 3 - length b.written = omega arith in
     omega (arith, h, one, two, room))
 call_bounded b Close h = either_way b.aborted b _ h h
 call_bounded b (Grant path max standby) h = by (decision path max standby b)

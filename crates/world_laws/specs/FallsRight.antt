@@ -21,7 +21,7 @@ use Rattle.actor_desk.specs.Desk.{control_of}
 use Rattle.actor_desk.specs.Words.{pick}
 use Rattle.path_core.specs.Codec.{Codec}
 use Rattle.path_core.specs.Ends.{PathEnd}
-use Rattle.path_core.specs.Segments.{place_numbered}
+use Rattle.path_core.specs.OptionsOut.{place_numbered}
 use Rattle.path_core.specs.State.{Profile, end_at}
 use Rattle.world_laws.specs.declared.member.Member.TheVariants.{App, Path}
 use Rattle.world_laws.specs.Actors.{Actor, ActorCrew}

@@ -46,7 +46,7 @@ fn is_made(place: u64, octets: &[u8]) -> bool {
 }
 
 /// Octets as they are, or their number where there are many: `made` or `other`.
-pub fn shown(alloc: Global, place: u64, octets: &[u8]) -> Result<String, AllocError> {
+pub fn octets_text(alloc: Global, place: u64, octets: &[u8]) -> Result<String, AllocError> {
     let count = octets.len();
     if is_made(place, octets) {
         return format!(in alloc; "made {count}");

@@ -5,7 +5,7 @@
 ghost use Rattle.std.specs.Prelude.{IfOk, IsTrue, ◌≤◌, ◌^◌};
 ghost use Rattle.reassembly_book.specs.Steps.{CanAsk};
 
-use crate::books::octets::{made, octets_at, shown};
+use crate::books::octets::{made, octets_at, octets_text};
 use crate::books::words::reply_words;
 use crate::calls::reassembly_call;
 use actor_desk::{Ask, Reply};
@@ -93,7 +93,7 @@ fn call_of(alloc: Global, name: &str, fields: &[&str]) -> Result<ReassemblyCall,
 /// The words of a reply to a reader that has read so many bytes before: those of a log, but the octets as they are.
 fn words_of(alloc: Global, read: u64, reply: ReassemblyReply) -> Result<String, AllocError> {
     if let ReassemblyReply::Bytes(bytes) = &reply {
-        let bytes = shown(alloc, read, bytes.as_bytes())?;
+        let bytes = octets_text(alloc, read, bytes.as_bytes())?;
         return format!(in alloc; "bytes {bytes}");
     }
     reply_words(
@@ -112,7 +112,11 @@ fn count_of(reply: &ReassemblyReply) -> u64 {
 }
 
 /// The words of the book's reply to one call.
-fn told(alloc: Global, reading: &mut Reading, call: &ReassemblyCall) -> Result<String, AllocError>
+fn reading_text(
+    alloc: Global,
+    reading: &mut Reading,
+    call: &ReassemblyCall,
+) -> Result<String, AllocError>
     requires { CanAsk call.now }
 {
     let before = reading.read;
@@ -123,7 +127,7 @@ fn told(alloc: Global, reading: &mut Reading, call: &ReassemblyCall) -> Result<S
 
 /// What is lent of the bytes that can be read.
 fn front(alloc: Global, reading: &Reading) -> Result<String, AllocError> {
-    shown(alloc, reading.read, reading.book.front())
+    octets_text(alloc, reading.read, reading.book.front())
 }
 
 /// How many of the octets that are made for the places from `at` on are placed.
@@ -201,7 +205,7 @@ fn reads(alloc: Global, reading: &mut Reading, fields: &[&str]) -> Result<String
     let last = read_all(&mut reading.book, &call, &mut all)?;
     let start = reading.read;
     reading.read = start.saturating_add(all.len() as u64);
-    let all = shown(alloc, start, all.as_bytes())?;
+    let all = octets_text(alloc, start, all.as_bytes())?;
     let last = words_of(alloc, start, last)?;
     Ok(format!(in alloc; "{all} {last}")?)
 }
@@ -217,7 +221,7 @@ fn asked_once(
     if !may_ask(&call) {
         return Err(CaseFault::Form);
     }
-    Ok(told(alloc, reading, &call)?)
+    Ok(reading_text(alloc, reading, &call)?)
 }
 
 /// The words of the book's reply to a call.

@@ -5,7 +5,7 @@
 ghost use Rattle.std.specs.Prelude.{IfOk, IsTrue, ◌<◌, ◌≤◌};
 ghost use Rattle.send_book.specs.Steps.{CanAsk};
 
-use crate::books::octets::{octets_at, shown};
+use crate::books::octets::{octets_at, octets_text};
 use crate::books::words::reply_words;
 use crate::calls::send_call;
 use actor_desk::{Ask, Reply};
@@ -85,7 +85,7 @@ fn call_of(
 fn piece_words(alloc: Global, reply: &SendReply) -> Result<String, AllocError> {
     match reply {
         SendReply::Granted { span, piece } => {
-            let piece = shown(alloc, span.from, piece.as_bytes())?;
+            let piece = octets_text(alloc, span.from, piece.as_bytes())?;
             format!(in alloc; " {piece}")
         }
         _ => Ok(String::new(alloc)),
@@ -145,7 +145,7 @@ fn turns(alloc: Global, book: &mut SendBook, fields: &[&str]) -> Result<String, 
 }
 
 /// How many bytes the reply says were written.
-fn taken(reply: &SendReply) -> u64 {
+fn count_taken(reply: &SendReply) -> u64 {
     match reply {
         SendReply::Taken(count) => *count,
         _ => 0,
@@ -167,6 +167,6 @@ pub fn asked(
         return Err(CaseFault::Form);
     }
     let reply = writing.book.apply(&call)?;
-    writing.written = writing.written.saturating_add(taken(&reply));
+    writing.written = writing.written.saturating_add(count_taken(&reply));
     Ok(words_of(alloc, call, reply)?)
 }

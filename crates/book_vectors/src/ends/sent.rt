@@ -34,7 +34,7 @@ pub fn emit(alloc: Global, end: &mut Subflow, fields: &[&str]) -> Result<String,
         return Ok(format!(in alloc; "another segment than was foreseen")?);
     }
     match emission {
-        Some(emission) => Ok(shown(alloc, &emission)?),
+        Some(emission) => Ok(emission_text(alloc, &emission)?),
         None => Ok(format!(in alloc; "nothing")?),
     }
 }
@@ -45,7 +45,7 @@ fn letter(flag: bool, letter: &str) -> &str {
 }
 
 /// Flags, number, acknowledgement and length.
-fn shown(alloc: Global, emission: &Emission) -> Result<String, AllocError> {
+fn emission_text(alloc: Global, emission: &Emission) -> Result<String, AllocError> {
     let head = emission.head;
     let (syn, fin) = (letter(head.syn, "S"), letter(head.fin, "F"));
     let (rst, ack) = (letter(head.rst, "R"), letter(head.ack_set, "A"));

@@ -85,7 +85,10 @@ impl Run {
 
     /// How many segments A and B sent.
     pub fn sent(&self) -> (u64, u64) {
-        (self.link.taken(Side::A), self.link.taken(Side::B))
+        (
+            self.link.segments_sent(Side::A),
+            self.link.segments_sent(Side::B),
+        )
     }
 
     /// What happens next, and when.

@@ -1,5 +1,5 @@
 use Rattle.std.proofs.Common.{sym, map, string_bytes}
-use Rattle.run_words.specs.Lines.{shown}
+use Rattle.run_words.specs.Lines.{as_line}
 use Rattle.mptcp_run.specs.Messages.{messages_in}
 use Rattle.mptcp_run.proofs.MessagesShown.{messages_shown, taken, not_taken, taken_is_asked, of_line, of_nothing, not_nothing, unread_messages, unread_lines}
 use Rattle.mptcp_run.proofs.Asking.{unread}
@@ -7,30 +7,30 @@ use Rattle.mptcp_run.proofs.messages.run_messages.Goals as goal
 
 pub run_line-requires-clause-words : goal.run_line-requires-clause-words
 run_line-requires-clause-words g c _ _ =
-    taken_is_asked (map string_bytes c.args.words.now) (shown c.in-Ok.line) c.in-Ok.ensures.line (sym c.if-takes_messages.ensures)
+    taken_is_asked (map string_bytes c.args.words.now) (as_line c.in-Ok.line) c.in-Ok.ensures.line (sym c.if-takes_messages.ensures)
 
 pub returns-in-Ok-clause-answer : goal.returns-in-Ok-clause-answer
 returns-in-Ok-clause-answer g c =
-    of_line (messages_in (map string_bytes c.args.words.now)) (shown c.in-Ok.line) _
-    (taken (map string_bytes c.args.words.now) (shown c.in-Ok.line) c.in-Ok.ensures.line (sym c.if-takes_messages.ensures)) c.run_line.ensures
+    of_line (messages_in (map string_bytes c.args.words.now)) (as_line c.in-Ok.line) _
+    (taken (map string_bytes c.args.words.now) (as_line c.in-Ok.line) c.in-Ok.ensures.line (sym c.if-takes_messages.ensures)) c.run_line.ensures
 
 pub returns-in-Ok-clause-lines : goal.returns-in-Ok-clause-lines
 returns-in-Ok-clause-lines g c =
-    of_line (messages_in (map string_bytes c.args.words.now)) (shown c.in-Ok.line) _
-    (taken (map string_bytes c.args.words.now) (shown c.in-Ok.line) c.in-Ok.ensures.line (sym c.if-takes_messages.ensures))
-    (messages_shown (g.O.Outside.content c.args.outside) (shown c.in-Ok.line) (g.O.Outside.load_faults c.args.outside) (g.O.Outside.load_faults c.run_line.result.1)
+    of_line (messages_in (map string_bytes c.args.words.now)) (as_line c.in-Ok.line) _
+    (taken (map string_bytes c.args.words.now) (as_line c.in-Ok.line) c.in-Ok.ensures.line (sym c.if-takes_messages.ensures))
+    (messages_shown (g.O.Outside.content c.args.outside) (as_line c.in-Ok.line) (g.O.Outside.load_faults c.args.outside) (g.O.Outside.load_faults c.run_line.result.1)
     (g.O.Outside.port_faults c.args.outside) (g.O.Outside.port_faults c.run_line.result.1) (g.O.Outside.holds c.args.outside) (g.O.Outside.holds c.run_line.result.1) c.run_line.result.0
     c.requires.empty_a c.requires.empty_b c.run_line.ensures)
 
 pub returns-in-Ok-clause-neither : goal.returns-in-Ok-clause-neither
 returns-in-Ok-clause-neither g c none =
-    absurd (not_nothing (messages_in (map string_bytes c.args.words.now)) (shown c.in-Ok.line)
-    (taken (map string_bytes c.args.words.now) (shown c.in-Ok.line) c.in-Ok.ensures.line (sym c.if-takes_messages.ensures)) none)
+    absurd (not_nothing (messages_in (map string_bytes c.args.words.now)) (as_line c.in-Ok.line)
+    (taken (map string_bytes c.args.words.now) (as_line c.in-Ok.line) c.in-Ok.ensures.line (sym c.if-takes_messages.ensures)) none)
 
 pub returns-in-Ok-2-clause-answer : goal.returns-in-Ok-2-clause-answer
 returns-in-Ok-2-clause-answer g c =
     of_nothing (messages_in (map string_bytes c.args.words.now)) _
-    (not_taken (map string_bytes c.args.words.now) (shown c.in-Ok.line) c.in-Ok.ensures.line (sym c.if-takes_messages.ensures))
+    (not_taken (map string_bytes c.args.words.now) (as_line c.in-Ok.line) c.in-Ok.ensures.line (sym c.if-takes_messages.ensures))
 
 -- ---- words that weren't read
 

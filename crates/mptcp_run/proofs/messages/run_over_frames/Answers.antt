@@ -1,6 +1,6 @@
 use Rattle.std.proofs.Common.{sym, subst, [], map, string_bytes, IfSome, None}
 use Rattle.message_pipe.specs.Lined.{lined_content, lined_holds}
-use Rattle.run_words.specs.Lines.{shown}
+use Rattle.run_words.specs.Lines.{as_line}
 use Rattle.mptcp_run.specs.Answers.{IsAnswer}
 use Rattle.mptcp_run.specs.Asked.{asked_in}
 use Rattle.mptcp_run.proofs.MessagesShown.{ran_over_frames}
@@ -19,7 +19,7 @@ returns g c =
     let last_is = subst (λ o. IfSome (asked_in (map string_bytes c.args.words.now)) (λ line. IsAnswer (lined_content (string_bytes c.args.files.0) (string_bytes c.args.files.1) (content c.args.outside)) line
     (loads c.args.outside) (loads o) (faults c.args.outside) (faults o) (lined_holds [] [] (holds c.args.outside)) (lined_holds last.read_by_a.octets last.read_by_b.octets (holds o)) None None
     c.run-ended.result)) (sym c.into_inner.ensures.inner) first_is in
-    ran_over_frames (asked_in (map string_bytes c.args.words.now)) (shown c.args.line.now) (string_bytes c.args.files.0) (string_bytes c.args.files.1) (content c.args.outside)
+    ran_over_frames (asked_in (map string_bytes c.args.words.now)) (as_line c.args.line.now) (string_bytes c.args.files.0) (string_bytes c.args.files.1) (content c.args.outside)
     (loads c.args.outside) (loads c.into_inner.result) (faults c.args.outside) (faults c.into_inner.result) g.N.Naming.faults (holds c.args.outside) (holds c.into_inner.result) g.N.Naming.held
     last.read_by_a last.read_by_b c.run-ended.result c.with_refusals-status.result c.requires.words last_is c.requires.held c.requires.faults c.into_inner.ensures.ports
     c.with_refusals-status.ensures c.requires.file_a c.requires.file_b

@@ -1,5 +1,5 @@
 use Rattle.std.proofs.Common.{sym, subst, map, string_bytes, IfSome, IsNone, Option}
-use Rattle.run_words.specs.Lines.{Line, shown}
+use Rattle.run_words.specs.Lines.{Line, as_line}
 use Rattle.mptcp_run.specs.Answers.{IsAnswer, IsMadeAnswer}
 use Rattle.mptcp_run.specs.Asked.{asked_in}
 use Rattle.mptcp_run.specs.Made.{Bench}
@@ -8,7 +8,7 @@ use Rattle.mptcp_run.proofs.Asking.{asked_is, bench_is, delivered_files, unread_
 use Rattle.mptcp_run.proofs.top_call.run.Goals as goal
 
 pub run_line-requires : goal.run_line-requires
-run_line-requires g c = line_asked (map string_bytes c.args.words.now) (shown c.in-Ok.line) c.in-Ok.ensures.line
+run_line-requires g c = line_asked (map string_bytes c.args.words.now) (as_line c.in-Ok.line) c.in-Ok.ensures.line
 
 -- ---- a line that was read
 
@@ -17,7 +17,7 @@ returns-in-Ok-clause-answer g c =
     subst (λ (o : Option Line). IfSome o (λ line. IsAnswer (g.O.Outside.content c.args.outside.now) line (g.O.Outside.load_faults c.args.outside.now) (g.O.Outside.load_faults c.run_line.new.outside)
     (g.O.Outside.port_faults c.args.outside.now) (g.O.Outside.port_faults c.run_line.new.outside) (g.O.Outside.holds c.args.outside.now) (g.O.Outside.holds c.run_line.new.outside)
     (g.O.Outside.calls c.args.outside.now) (g.O.Outside.calls c.run_line.new.outside) c.run_line.result))
-    (sym (asked_is (map string_bytes c.args.words.now) (shown c.in-Ok.line) c.in-Ok.ensures.line)) c.run_line.ensures.answer
+    (sym (asked_is (map string_bytes c.args.words.now) (as_line c.in-Ok.line) c.in-Ok.ensures.line)) c.run_line.ensures.answer
 
 pub returns-in-Ok-clause-delivered : goal.returns-in-Ok-clause-delivered
 returns-in-Ok-clause-delivered g c is =
@@ -31,12 +31,12 @@ returns-in-Ok-clause-bench g c =
     subst (λ (o : Option Bench). IfSome o (λ made. IsMadeAnswer made (g.O.Outside.load_faults c.args.outside.now) (g.O.Outside.load_faults c.run_line.new.outside)
     (g.O.Outside.port_faults c.args.outside.now) (g.O.Outside.port_faults c.run_line.new.outside) (g.O.Outside.holds c.args.outside.now) (g.O.Outside.holds c.run_line.new.outside)
     (g.O.Outside.calls c.args.outside.now) (g.O.Outside.calls c.run_line.new.outside) c.run_line.result))
-    (sym (bench_is (map string_bytes c.args.words.now) (shown c.in-Ok.line) c.in-Ok.ensures.line)) c.run_line.ensures.bench
+    (sym (bench_is (map string_bytes c.args.words.now) (as_line c.in-Ok.line) c.in-Ok.ensures.line)) c.run_line.ensures.bench
 
 pub returns-in-Ok-clause-neither : goal.returns-in-Ok-clause-neither
 returns-in-Ok-clause-neither g c none unmade =
-    c.run_line.ensures.neither (subst (λ (o : Option Line). IsNone o) (asked_is (map string_bytes c.args.words.now) (shown c.in-Ok.line) c.in-Ok.ensures.line) none)
-    (subst (λ (o : Option Bench). IsNone o) (bench_is (map string_bytes c.args.words.now) (shown c.in-Ok.line) c.in-Ok.ensures.line) unmade)
+    c.run_line.ensures.neither (subst (λ (o : Option Line). IsNone o) (asked_is (map string_bytes c.args.words.now) (as_line c.in-Ok.line) c.in-Ok.ensures.line) none)
+    (subst (λ (o : Option Bench). IsNone o) (bench_is (map string_bytes c.args.words.now) (as_line c.in-Ok.line) c.in-Ok.ensures.line) unmade)
 
 -- ---- words that weren't read
 

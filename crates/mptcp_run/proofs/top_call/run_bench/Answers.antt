@@ -1,5 +1,5 @@
 use Rattle.std.proofs.Common.{subst, []}
-use Rattle.run_words.specs.Lines.{Work, shown}
+use Rattle.run_words.specs.Lines.{Work, as_line}
 use Rattle.mptcp_run.specs.Asked.{AsksInRange}
 use Rattle.mptcp_run.specs.Ends.{CameToEnd, IsCut}
 use Rattle.mptcp_run.specs.Made.{made_task}
@@ -11,14 +11,14 @@ use Rattle.mptcp_run.proofs.top_call.run_bench.Goals as goal
 
 pub returns-in_default : goal.returns-in_default
 returns-in_default g c =
-    let line = shown c.args.line.now in
+    let line = as_line c.args.line.now in
     made_by_work line c.args.rounds c.args.number _ c.requires.asked
     (made_memory (g.O.Outside.load_faults c.args.outside.now) (g.O.Outside.port_faults c.args.outside.now) (g.O.Outside.holds c.args.outside.now) (g.O.Outside.calls c.args.outside.now)
     line c.args.number c.args.rounds (subst (λ (w : Work). AsksInRange w) c.requires.asked c.requires.in_range))
 
 pub returns-in-Ok-perform : goal.returns-in-Ok-perform
 returns-in-Ok-perform g c =
-    let line = shown c.args.line.now in let made = c.in-Ok.ensures in
+    let line = as_line c.args.line.now in let made = c.in-Ok.ensures in
     let few = subst (λ (w : Work). AsksInRange w) c.requires.asked c.requires.in_range in
     made_by_work line c.args.rounds c.args.number _ c.requires.asked
     (made_end_answer (record { line = line; task = made_task c.args.number c.args.rounds }) (made_is_plain c.args.number c.args.rounds few)
@@ -31,7 +31,7 @@ returns-in-Ok-perform g c =
 
 pub returns : goal.returns
 returns g c =
-    let line = shown c.args.line.now in let made = c.in-Ok.ensures in
+    let line = as_line c.args.line.now in let made = c.in-Ok.ensures in
     let few = subst (λ (w : Work). AsksInRange w) c.requires.asked c.requires.in_range in
     made_by_work line c.args.rounds c.args.number _ c.requires.asked
     (made_cut_answer (record { line = line; task = made_task c.args.number c.args.rounds }) (made_is_plain c.args.number c.args.rounds few)

@@ -1,5 +1,5 @@
 use Rattle.std.proofs.Common.{refl, arith}
-use Rattle.run_words.specs.Lines.{shown}
+use Rattle.run_words.specs.Lines.{as_line}
 use Rattle.mptcp_run.specs.Rounds.{all_turns}
 use Rattle.mptcp_run.specs.Task.{Task, task_from}
 use Rattle.mptcp_run.specs.Task as course
@@ -14,14 +14,14 @@ perform-requires-clause-ranges g c = c.in-Ok.ensures.loaded.ranges
 pub returns-in-Err : goal.returns-in-Err
 returns-in-Err g c =
     let cut = c.in-Err.ensures in
-    replay_input_answer (g.O.Outside.content c.args.outside.now) (shown c.args.line.now) (g.O.Outside.load_faults c.args.outside.now) (g.O.Outside.load_faults c.load_replay.new.outside)
+    replay_input_answer (g.O.Outside.content c.args.outside.now) (as_line c.args.line.now) (g.O.Outside.load_faults c.args.outside.now) (g.O.Outside.load_faults c.load_replay.new.outside)
     (g.O.Outside.port_faults c.args.outside.now) (g.O.Outside.port_faults c.load_replay.new.outside) (g.O.Outside.holds c.args.outside.now) (g.O.Outside.holds c.load_replay.new.outside)
     (g.O.Outside.calls c.args.outside.now) (g.O.Outside.calls c.load_replay.new.outside) c.args.order.now c.in-Err.status c.requires
     c.load_replay.ensures.loads.untouched cut.fault cut.calls_cut
 
 pub returns-in-Ok-perform : goal.returns-in-Ok-perform
 returns-in-Ok-perform g c =
-    let content = g.O.Outside.content c.args.outside.now in let line = shown c.args.line.now in let read = c.in-Ok.ensures in let replay = c.in-Ok.replay in
+    let content = g.O.Outside.content c.args.outside.now in let line = as_line c.args.line.now in let read = c.in-Ok.ensures in let replay = c.in-Ok.replay in
     let task : Task = task_from replay.input (course.told (all_turns replay.turns.items)) in
     end_answer content line (g.O.Outside.load_faults c.args.outside.now) (g.O.Outside.load_faults c.perform.new.outside)
     (g.O.Outside.port_faults c.args.outside.now) (g.O.Outside.port_faults c.perform.new.outside) (g.O.Outside.holds c.args.outside.now) (g.O.Outside.holds c.perform.new.outside)
@@ -35,7 +35,7 @@ returns-in-Ok-perform g c =
 
 pub returns : goal.returns
 returns g c =
-    let content = g.O.Outside.content c.args.outside.now in let line = shown c.args.line.now in let read = c.in-Ok.ensures in let replay = c.in-Ok.replay in
+    let content = g.O.Outside.content c.args.outside.now in let line = as_line c.args.line.now in let read = c.in-Ok.ensures in let replay = c.in-Ok.replay in
     let task : Task = task_from replay.input (course.told (all_turns replay.turns.items)) in
     replay_answer content line (g.O.Outside.load_faults c.args.outside.now) (g.O.Outside.load_faults c.perform.new.outside)
     (g.O.Outside.port_faults c.args.outside.now) (g.O.Outside.port_faults c.perform.new.outside) (g.O.Outside.holds c.args.outside.now) (g.O.Outside.holds c.perform.new.outside)

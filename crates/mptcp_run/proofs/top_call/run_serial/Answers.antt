@@ -1,5 +1,5 @@
 use Rattle.std.proofs.Common.{refl, subst, arith}
-use Rattle.run_words.specs.Lines.{Work, shown}
+use Rattle.run_words.specs.Lines.{Work, as_line}
 use Rattle.mptcp_run.specs.Asked.{AsksInRange}
 use Rattle.run_outside.specs.Plan.{AddsAll, first_loads}
 use Rattle.mptcp_run.specs.Task.{Task, task_from}
@@ -15,7 +15,7 @@ perform-requires-clause-ranges g c = c.in-Ok.ensures.loaded.ranges
 
 pub returns-in-Err : goal.returns-in-Err
 returns-in-Err g c =
-    let line = shown c.args.line.now in let cut = c.in-Err.ensures in
+    let line = as_line c.args.line.now in let cut = c.in-Err.ensures in
     input_answer (g.O.Outside.content c.args.outside.now) line (g.O.Outside.load_faults c.args.outside.now) (g.O.Outside.load_faults c.load_input.new.outside)
     (g.O.Outside.port_faults c.args.outside.now) (g.O.Outside.port_faults c.load_input.new.outside) (g.O.Outside.holds c.args.outside.now) (g.O.Outside.holds c.load_input.new.outside)
     (g.O.Outside.calls c.args.outside.now) (g.O.Outside.calls c.load_input.new.outside) c.args.rounds (first_loads line) c.in-Err.status c.requires.asked
@@ -23,7 +23,7 @@ returns-in-Err g c =
 
 pub returns-in-Ok-perform : goal.returns-in-Ok-perform
 returns-in-Ok-perform g c =
-    let content = g.O.Outside.content c.args.outside.now in let line = shown c.args.line.now in let read = c.in-Ok.ensures in
+    let content = g.O.Outside.content c.args.outside.now in let line = as_line c.args.line.now in let read = c.in-Ok.ensures in
     let task : Task = task_from c.in-Ok.input (course.rounds c.args.rounds) in
     end_answer content line (g.O.Outside.load_faults c.args.outside.now) (g.O.Outside.load_faults c.perform.new.outside)
     (g.O.Outside.port_faults c.args.outside.now) (g.O.Outside.port_faults c.perform.new.outside) (g.O.Outside.holds c.args.outside.now) (g.O.Outside.holds c.perform.new.outside)
@@ -38,7 +38,7 @@ returns-in-Ok-perform g c =
 
 pub returns : goal.returns
 returns g c =
-    let content = g.O.Outside.content c.args.outside.now in let line = shown c.args.line.now in let read = c.in-Ok.ensures in
+    let content = g.O.Outside.content c.args.outside.now in let line = as_line c.args.line.now in let read = c.in-Ok.ensures in
     let task : Task = task_from c.in-Ok.input (course.rounds c.args.rounds) in
     cut_answer content line (g.O.Outside.load_faults c.args.outside.now) (g.O.Outside.load_faults c.perform.new.outside)
     (g.O.Outside.port_faults c.args.outside.now) (g.O.Outside.port_faults c.perform.new.outside) (g.O.Outside.holds c.args.outside.now) (g.O.Outside.holds c.perform.new.outside)

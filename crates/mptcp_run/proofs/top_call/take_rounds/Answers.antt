@@ -1,8 +1,8 @@
 use Rattle.std.proofs.Common.{◌∙◌, arith}
 use Rattle.std.proofs.lemmas.Result.{err_from_is_err_and}
 use Rattle.outside_kit.specs.declared.port.Port.TheVariants.{ReadByA, ReadByB}
-use Rattle.run_words.specs.Lines.{shown}
-use Rattle.mptcp_run.specs.Task.{Task, task_with, opened}
+use Rattle.run_words.specs.Lines.{as_line}
+use Rattle.mptcp_run.specs.Task.{Task, task_with, first_world}
 use Rattle.mptcp_run.specs.Task as course
 use Rattle.mptcp_run.proofs.Courses.{no_round}
 use Rattle.mptcp_run.proofs.Performing.{binds_short}
@@ -17,14 +17,14 @@ pub returns-in_err-bind_readers-clause-cut : goal.returns-in_err-bind_readers-cl
 returns-in_err-bind_readers-clause-cut g c =
     let task : Task = task_with c.args.input.now (course.rounds c.args.rounds) c.args.report in
     let p = err_from_is_err_and c.from_residual.result c.from_residual.ensures.1 in
-    rw (p.1, p.2) (binds_short (shown c.args.line.now) task
+    rw (p.1, p.2) (binds_short (as_line c.args.line.now) task
     (g.O.Outside.holds c.args.outside.now) (g.O.Outside.holds c.bind_readers.new.outside) (g.O.Outside.calls c.args.outside.now) (g.O.Outside.calls c.bind_readers.new.outside)
-    c.in_err-bind_readers.field-0.0 (no_round c.args.rounds (opened task)) c.in_err-bind_readers.ensures.read_by_b_err c.in_err-bind_readers.ensures.read_by_a_err c.bind_readers.ensures.log c.in_err-bind_readers.ensures.puts.cut)
+    c.in_err-bind_readers.field-0.0 (no_round c.args.rounds (first_world task)) c.in_err-bind_readers.ensures.read_by_b_err c.in_err-bind_readers.ensures.read_by_a_err c.bind_readers.ensures.log c.in_err-bind_readers.ensures.puts.cut)
 
 pub returns-in_err-make_rounds-clause-cut : goal.returns-in_err-make_rounds-clause-cut
 returns-in_err-make_rounds-clause-cut g c =
     let p = err_from_is_err_and c.from_residual-in_err-make_rounds.result c.from_residual-in_err-make_rounds.ensures.1 in
-    rw (p.1, p.2) (serial_short c.args.input.now c.args.report c.args.run.now c.requires (shown c.args.line.now)
+    rw (p.1, p.2) (serial_short c.args.input.now c.args.report c.args.run.now c.requires (as_line c.args.line.now)
     (g.O.Outside.holds c.args.outside.now) (g.O.Outside.holds c.bind_readers.new.outside) (g.O.Outside.holds c.make_rounds.new.outside)
     (record { read_by_b = c.in_ok-bind_readers.ensures.read_by_b; read_by_a = c.in_ok-bind_readers.ensures.read_by_a; log = c.bind_readers.ensures.log })
     (g.O.Outside.calls c.args.outside.now) (g.O.Outside.calls c.bind_readers.new.outside) (g.O.Outside.calls c.make_rounds.new.outside) c.in_ok-bind_readers.ensures.puts.made
@@ -46,7 +46,7 @@ returns-clause-fault g c =
 pub returns-clause-ended : goal.returns-clause-ended
 returns-clause-ended g c =
     IfOk-and c.end.result
-    (λ status is grew told. serial_done c.args.input.now c.args.report c.args.run.now c.requires (shown c.args.line.now)
+    (λ status is grew told. serial_done c.args.input.now c.args.report c.args.run.now c.requires (as_line c.args.line.now)
     (g.O.Outside.holds c.args.outside.now) (g.O.Outside.holds c.bind_readers.new.outside) (g.O.Outside.holds c.make_rounds.new.outside)
     (record { read_by_b = c.in_ok-bind_readers.ensures.read_by_b; read_by_a = c.in_ok-bind_readers.ensures.read_by_a; log = c.bind_readers.ensures.log })
     (g.O.Outside.calls c.args.outside.now) (g.O.Outside.calls c.bind_readers.new.outside) (g.O.Outside.calls c.make_rounds.new.outside) c.in_ok-bind_readers.ensures.puts.made
@@ -63,7 +63,7 @@ returns-clause-ended g c =
 pub returns-clause-cut : goal.returns-clause-cut
 returns-clause-cut g c =
     IfErr-both c.end.result
-    (λ status cut part. serial_line_short c.args.input.now c.args.report c.args.run.now c.requires (shown c.args.line.now)
+    (λ status cut part. serial_line_short c.args.input.now c.args.report c.args.run.now c.requires (as_line c.args.line.now)
     (g.O.Outside.holds c.args.outside.now) (g.O.Outside.holds c.bind_readers.new.outside) (g.O.Outside.holds c.make_rounds.new.outside)
     (record { read_by_b = c.in_ok-bind_readers.ensures.read_by_b; read_by_a = c.in_ok-bind_readers.ensures.read_by_a; log = c.bind_readers.ensures.log })
     (g.O.Outside.calls c.args.outside.now) (g.O.Outside.calls c.bind_readers.new.outside) (g.O.Outside.calls c.make_rounds.new.outside) c.in_ok-bind_readers.ensures.puts.made

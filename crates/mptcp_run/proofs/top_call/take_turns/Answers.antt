@@ -1,12 +1,12 @@
 use Rattle.std.proofs.Common.{◌∙◌, subst, List, arith}
 use Rattle.std.proofs.lemmas.Result.{err_from_is_err_and}
 use Rattle.outside_kit.specs.declared.port.Port.TheVariants.{ReadByA, ReadByB}
-use Rattle.run_words.specs.Lines.{shown}
+use Rattle.run_words.specs.Lines.{as_line}
 use Rattle.run_log.specs.declared.turn.Turn.{Turn}
 use Rattle.mptcp_run.specs.declared.report.Report.TheVariants as report
 use Rattle.mptcp_run.specs.Courses.{CourseMade, LogStops}
 use Rattle.mptcp_run.specs.Rounds.{all_turns}
-use Rattle.mptcp_run.specs.Task.{Task, task_from, opened}
+use Rattle.mptcp_run.specs.Task.{Task, task_from, first_world}
 use Rattle.mptcp_run.specs.Task as course
 use Rattle.mptcp_run.proofs.Courses.{no_turn}
 use Rattle.mptcp_run.proofs.Performing.{binds_short}
@@ -21,17 +21,17 @@ pub returns-in_err-bind_readers-clause-err : goal.returns-in_err-bind_readers-cl
 returns-in_err-bind_readers-clause-err g c =
     let order = all_turns c.args.replay.now.turns.items in let task : Task = task_from c.args.input.now (course.told order) in
     let p = err_from_is_err_and c.from_residual.result c.from_residual.ensures.1 in
-    rw (p.1, p.2) (replay_is_cut (shown c.args.line.now) task c.args.replay.now.lines
+    rw (p.1, p.2) (replay_is_cut (as_line c.args.line.now) task c.args.replay.now.lines
     (g.O.Outside.calls c.args.outside.now) (g.O.Outside.calls c.bind_readers.new.outside) (g.O.Outside.holds c.args.outside.now) (g.O.Outside.holds c.bind_readers.new.outside)
     _ _ c.in_err-bind_readers.field-0.0 c.in_err-bind_readers.ensures.puts.fault
-    (binds_short (shown c.args.line.now) task
+    (binds_short (as_line c.args.line.now) task
     (g.O.Outside.holds c.args.outside.now) (g.O.Outside.holds c.bind_readers.new.outside) (g.O.Outside.calls c.args.outside.now) (g.O.Outside.calls c.bind_readers.new.outside)
-    c.in_err-bind_readers.field-0.0 (no_turn order (opened task)) c.in_err-bind_readers.ensures.read_by_b_err c.in_err-bind_readers.ensures.read_by_a_err c.bind_readers.ensures.log c.in_err-bind_readers.ensures.puts.cut))
+    c.in_err-bind_readers.field-0.0 (no_turn order (first_world task)) c.in_err-bind_readers.ensures.read_by_b_err c.in_err-bind_readers.ensures.read_by_a_err c.bind_readers.ensures.log c.in_err-bind_readers.ensures.puts.cut))
 
 pub returns-in_err-make_turns-clause-err : goal.returns-in_err-make_turns-clause-err
 returns-in_err-make_turns-clause-err g c =
     let p = err_from_is_err_and c.from_residual-in_err-make_turns.result c.from_residual-in_err-make_turns.ensures.1 in
-    rw (p.1, p.2) (replay_stops c.args.input.now c.args.run.now c.requires.opened (shown c.args.line.now)
+    rw (p.1, p.2) (replay_stops c.args.input.now c.args.run.now c.requires.opened (as_line c.args.line.now)
     (g.O.Outside.holds c.args.outside.now) (g.O.Outside.holds c.bind_readers.new.outside) (g.O.Outside.holds c.make_turns.new.outside)
     (record { read_by_b = c.in_ok-bind_readers.ensures.read_by_b; read_by_a = c.in_ok-bind_readers.ensures.read_by_a; log = c.bind_readers.ensures.log })
     (g.O.Outside.calls c.args.outside.now) (g.O.Outside.calls c.bind_readers.new.outside) (g.O.Outside.calls c.make_turns.new.outside) c.in_ok-bind_readers.ensures.puts.made
@@ -56,7 +56,7 @@ returns-clause-fault g c =
 pub returns-clause-ended : goal.returns-clause-ended
 returns-clause-ended g c =
     IfOk-and c.end.result
-    (λ status is grew told. replay_done c.args.input.now c.args.run.now c.requires.opened (shown c.args.line.now)
+    (λ status is grew told. replay_done c.args.input.now c.args.run.now c.requires.opened (as_line c.args.line.now)
     (g.O.Outside.holds c.args.outside.now) (g.O.Outside.holds c.bind_readers.new.outside) (g.O.Outside.holds c.make_turns.new.outside)
     (record { read_by_b = c.in_ok-bind_readers.ensures.read_by_b; read_by_a = c.in_ok-bind_readers.ensures.read_by_a; log = c.bind_readers.ensures.log })
     (g.O.Outside.calls c.args.outside.now) (g.O.Outside.calls c.bind_readers.new.outside) (g.O.Outside.calls c.make_turns.new.outside) c.in_ok-bind_readers.ensures.puts.made
@@ -75,9 +75,9 @@ returns-clause-ended g c =
 pub returns-clause-err : goal.returns-clause-err
 returns-clause-err g c =
     IfErr-three c.end.result
-    (λ status fault cut part. replay_is_cut (shown c.args.line.now) (task_from c.args.input.now (course.told (all_turns c.args.replay.now.turns.items))) c.args.replay.now.lines
+    (λ status fault cut part. replay_is_cut (as_line c.args.line.now) (task_from c.args.input.now (course.told (all_turns c.args.replay.now.turns.items))) c.args.replay.now.lines
     (g.O.Outside.calls c.args.outside.now) (g.O.Outside.calls c.end.new.outside) (g.O.Outside.holds c.args.outside.now) (g.O.Outside.holds c.end.new.outside) _ _ status fault
-    (replay_line_short c.args.input.now c.args.run.now c.requires.opened (shown c.args.line.now)
+    (replay_line_short c.args.input.now c.args.run.now c.requires.opened (as_line c.args.line.now)
     (g.O.Outside.holds c.args.outside.now) (g.O.Outside.holds c.bind_readers.new.outside) (g.O.Outside.holds c.make_turns.new.outside)
     (record { read_by_b = c.in_ok-bind_readers.ensures.read_by_b; read_by_a = c.in_ok-bind_readers.ensures.read_by_a; log = c.bind_readers.ensures.log })
     (g.O.Outside.calls c.args.outside.now) (g.O.Outside.calls c.bind_readers.new.outside) (g.O.Outside.calls c.make_turns.new.outside) c.in_ok-bind_readers.ensures.puts.made

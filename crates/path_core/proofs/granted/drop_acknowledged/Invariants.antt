@@ -1,6 +1,6 @@
 use Rattle.std.proofs.Common.{◌≡◌, length}
 use Rattle.std.specs.Prelude.{filter}
-use Rattle.path_core.specs.Closing.{is_open}
+use Rattle.path_core.specs.StreamEnds.{is_open}
 use Rattle.path_core.specs.Rising.{Rise}
 use Rattle.path_core.proofs.granted.drop_acknowledged.Given as goal
 

@@ -1,5 +1,5 @@
 use Rattle.std.proofs.Common.{◌∙◌, ap, is_some, arith}
-use Rattle.path_core.specs.Closing.{is_newly_heard}
+use Rattle.path_core.specs.StreamEnds.{is_newly_heard}
 use Rattle.path_core.proofs.Rising.{first_tells}
 use Rattle.path_core.proofs.granted.first_is_newly_heard.Goals as goal
 

@@ -1,5 +1,5 @@
 use Rattle.std.proofs.Common.{◌≡◌, max, drop}
-use Rattle.path_core.specs.Closing.{granted_to}
+use Rattle.path_core.specs.StreamEnds.{granted_to}
 use Rattle.path_core.proofs.granted.granted_to.Given as goal
 
 abbrev pub invariant-loop-piece : goal.invariant-loop-piece

@@ -1,5 +1,5 @@
 use Rattle.std.proofs.Common.{◌∙◌, sym, ap, not}
-use Rattle.path_core.specs.Closing.{is_open}
+use Rattle.path_core.specs.StreamEnds.{is_open}
 use Rattle.path_core.proofs.Rising.{all_stay}
 use Rattle.path_core.proofs.granted.is_first_acknowledged.Goals as goal
 

@@ -1,5 +1,5 @@
 use Rattle.std.proofs.Common.{◌∙◌, sym, ap}
-use Rattle.path_core.specs.Closing.{granted_to}
+use Rattle.path_core.specs.StreamEnds.{granted_to}
 use Rattle.path_core.proofs.Rising.{granted_to-append}
 use Rattle.path_core.proofs.granted.GrantedPieces.granted_to.Goals as goal
 

@@ -14,8 +14,8 @@ append-requires-clause-few c =
     omega (
       arith,
       ap length c.in_ok-octets.ensures,
-      length-take (c.taken-count.result - 0) c.args.bytes.now,
-      c.taken-count.ensures.room,
+      length-take (c.bytes_taken-count.result - 0) c.args.bytes.now,
+      c.bytes_taken-count.ensures.room,
       same,
       c.self.invariant.whole,
     )

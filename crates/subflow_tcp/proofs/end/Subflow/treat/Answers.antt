@@ -8,8 +8,8 @@ pub keep_for-requires-clause-below : goal.keep_for-requires-clause-below
 keep_for-requires-clause-below c =
     subst IsBelow (sym c.requires.meaning) (below-meant c.args.self.now.state (copy_of c.args.arriving.now) c.args.self.now refl)
 
-pub hear-arrival-requires : goal.hear-arrival-requires
-hear-arrival-requires c =
+pub take_segment-arrival-requires : goal.take_segment-arrival-requires
+take_segment-arrival-requires c =
     c.requires.meaning
     ∙ sym (ap (meaning_of (copy_of c.args.arriving.now)) c.in_ok-new.ensures.ok
     ∙ meant-kept c.args.meaning c.args.hint.now.keep c.args.arriving.now.payload.now (copy_of c.args.arriving.now) c.args.self.now)

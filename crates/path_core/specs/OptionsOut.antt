@@ -1,0 +1,223 @@
+-- The segments that an end sends: their options, their windows, and the mapping of a piece (RFC 8684, section 3).
+use Rattle.std.specs.Prelude.{ℕ, ◌+◌, ◌-◌, ◌%◌, ◌^◌, ◌≤◌, ◌==◌, ◌&&◌, not, nat_le, Bool, true, false, if◌then◌else◌, Option, Some, None, List, [], ◌∷◌, length}
+use Rattle.outside_kit.specs.declared.side.Side.{Side}
+use Rattle.outside_kit.specs.declared.side.Side.TheVariants.{A, B}
+use Rattle.seq_units.specs.declared.mapping.Mapping.{Mapping}
+use Rattle.key_material.specs.declared.address.Address.TheVariants.{V4}
+use Rattle.key_material.specs.Address.{octets_of}
+use Rattle.key_material.specs.AddressHmac.{add_addr64_of}
+use Rattle.mptcp_options.specs.declared.capable.CapableKeys.TheVariants.{NoKey, Sender, Both, WithData}
+use Rattle.dss_checksum.specs.Checksum.{dss_checksum}
+use Rattle.path_segments.specs.declared.spelling.Side.TheVariants as spelled_side
+use Rattle.path_segments.specs.declared.spelling.Side.{Side as SpelledSide}
+use Rattle.path_segments.specs.declared.segment.PathOption.TheVariants.{Capable, Dss, AddAddr, Remove, Prio, Fail, FastClose, Reset}
+use Rattle.path_segments.specs.declared.segment.PathMapping.{PathMapping}
+use Rattle.path_segments.specs.declared.segment.PathMapping.TheVariants.{Bytes, End, Infinite}
+use Rattle.path_segments.specs.Spelling.{whole_number}
+use Rattle.path_segments.specs.Options.{PlainOption, relative_number}
+use Rattle.path_segments.specs.Spelled.{PlainSegment}
+use Rattle.subflow_send.specs.declared.record.RecordKind.{RecordKind}
+use Rattle.subflow_send.specs.declared.record.RecordKind.TheVariants.{Syn, Data, Fin}
+use Rattle.subflow_send.specs.Records.{Record}
+use Rattle.subflow_tcp.specs.declared.segments.Outgoing.{Outgoing}
+use Rattle.subflow_tcp.specs.Emitting.{ack_at, syn_ack_segment, reset_segment, fin_position, fin_segment, record_segment}
+use Rattle.path_agenda.specs.declared.notice.OwnNotice.{OwnNotice}
+use Rattle.path_agenda.specs.declared.notice.OwnNotice.TheVariants as notes
+use Rattle.path_core.specs.declared.modes.Modes.{Modes}
+use Rattle.path_core.specs.declared.segment_kind.SegmentKind.{SegmentKind}
+use Rattle.path_core.specs.declared.segment_kind.SegmentKind.TheVariants as to_say
+use Rattle.path_core.specs.Ends.{PathEnd}
+use Rattle.path_core.specs.Joins.{is_joined, peer_key_of, join_options, third_options}
+use Rattle.path_core.specs.State.{Profile}
+use Rattle.path_core.specs.Words.{is_side_a}
+
+-- the same side, as the segments of a path have it
+abbrev pub spelled_by : Side → SpelledSide
+spelled_by A = spelled_side.A
+spelled_by B = spelled_side.B
+
+-- ---- mappings
+
+-- of these bytes, from this place and this position on, before there is a checksum
+abbrev pub bare_mapping : Profile → Side → ℕ → ℕ → ℕ → Mapping
+bare_mapping c s place position len = record {
+  number = whole_number c.spelling (spelled_by s) place;
+  relative = relative_number position;
+  length = len;
+  checksum = 0;
+}
+
+-- where checksums are used, that of the mapping and its bytes (RFC 8684, section 3.3.1)
+abbrev pub checksum_in : Profile → Mapping → List ℕ → ℕ
+checksum_in c mapping octets = if c.spelling.checksums then dss_checksum mapping octets else 0
+
+-- the mapping that a granted piece has for ever
+abbrev pub mapping_of : Profile → Side → ℕ → ℕ → List ℕ → Mapping
+mapping_of c s place position octets =
+    record (bare_mapping c s place position (length octets)) {
+      checksum = checksum_in c (bare_mapping c s place position (length octets)) octets;
+    }
+
+-- the place that the first number of a mapping stands for
+abbrev pub place_numbered : Profile → Side → ℕ → ℕ
+place_numbered c s number = (number + (2 ^ 64 - whole_number c.spelling (spelled_by s) 0)) % 2 ^ 64
+
+-- a checksum stands in an option exactly where checksums are used
+abbrev pub checksum_told : Profile → ℕ → Option ℕ
+checksum_told c checksum = if c.spelling.checksums then Some checksum else None
+
+-- ---- plain TCP
+
+-- a segment with the infinite mapping is acknowledged
+abbrev pub is_reached : Option ℕ → ℕ → Bool
+is_reached None una = false
+is_reached (Some to) una = nat_le to una
+
+abbrev pub owes_mapping : PathEnd → Bool
+owes_mapping e = e.modes.owes_mapping && not (is_reached e.modes.mapped_to e.tcp.send.una)
+
+-- on data and FIN after a fallback: the infinite mapping from this position on, as long as it is owed (RFC 8684, section 3.7)
+abbrev pub plain_options : ℕ → PathEnd → List PlainOption
+plain_options position e = if owes_mapping e then Dss None (Some (Infinite (position - 1) position)) ∷ [] else []
+
+-- ---- options
+
+-- on a SYN that opens the connection: A asks for Multipath TCP, and B answers with its key where A asked (RFC 8684, section 3.1)
+abbrev pub capable_options : Profile → Side → PathEnd → List PlainOption
+capable_options c A e = Capable c.spelling.checksums false NoKey ∷ []
+capable_options c B e =
+    if e.modes.capable_asked && not e.modes.identity then Capable c.spelling.checksums false (Sender e.modes.own_key) ∷ [] else []
+
+abbrev pub syn_options : Profile → Side → PathEnd → List PlainOption
+syn_options c s e = if is_joined c then join_options c s e.modes else capable_options c s e
+
+-- before A may send a DSS it shows both keys; B says nothing before it has them
+abbrev pub key_options : Profile → Side → Option ℕ → PathEnd → List PlainOption
+key_options c A (Some peer) e = Capable c.spelling.checksums false (Both e.modes.own_key peer) ∷ []
+key_options c A None e = []
+key_options c B peer e = []
+
+-- the mapping of a DATA_FIN without data: relative number 0 and length 1 (RFC 8684, section 3.3.3)
+abbrev pub data_fin_mapping : Profile → Side → Option ℕ → Option (PathMapping ℕ)
+data_fin_mapping c s None = None
+data_fin_mapping c s (Some place) = Some (End place (checksum_told c (checksum_in c (bare_mapping c s place 0 1) [])))
+
+-- before an end may send a DSS: the third MP_JOIN, as long as it is owed, or the keys
+abbrev pub opening_options : Profile → Side → PathEnd → List PlainOption
+opening_options c s e = if e.modes.owes_third then third_options e.modes else key_options c s e.modes.peer_key e
+
+-- on an acknowledgement, perhaps with the DATA_FIN; none after a fallback
+abbrev pub ack_options : Profile → Side → Option ℕ → PathEnd → List PlainOption
+ack_options c s fin e =
+    if e.modes.identity then []
+    else (if e.modes.clear then Dss (Some e.receiving.next) (data_fin_mapping c s fin) ∷ [] else opening_options c s e)
+
+-- on data: the mapping that the piece was granted with
+abbrev pub piece_mapping : Profile → Side → Record → PathMapping ℕ
+piece_mapping c s r =
+    Bytes (place_numbered c s r.mapping.number) r.pos r.mapping.length false (checksum_told c r.mapping.checksum)
+
+-- until A may send a DSS its first piece carries both keys
+abbrev pub is_first_piece : Side → Record → PathEnd → Bool
+is_first_piece s r e = is_side_a s && (not e.modes.clear && r.pos == 1)
+
+abbrev pub first_piece_options : Profile → Option ℕ → Record → PathEnd → List PlainOption
+first_piece_options c (Some peer) r e =
+    Capable c.spelling.checksums false (WithData e.modes.own_key peer r.mapping.length (checksum_told c r.mapping.checksum)) ∷ []
+first_piece_options c None r e = []
+
+abbrev pub piece_options : Profile → Side → Record → PathEnd → List PlainOption
+piece_options c s r e =
+    if e.modes.identity then plain_options r.pos e
+    else (if is_first_piece s r e then first_piece_options c e.modes.peer_key r e
+    else Dss (Some e.receiving.next) (Some (piece_mapping c s r)) ∷ [])
+
+-- on the FIN at this position
+abbrev pub fin_options : ℕ → PathEnd → List PlainOption
+fin_options position e = if e.modes.identity then plain_options position e else Dss (Some e.receiving.next) None ∷ []
+
+abbrev pub record_options : RecordKind → Profile → Side → Record → PathEnd → List PlainOption
+record_options Syn c s r e = syn_options c s e
+record_options Data c s r e = piece_options c s r e
+record_options Fin c s r e = fin_options r.pos e
+
+-- why the path is reset, where there is a reason; the fault doesn't pass (RFC 8684, section 3.6). After a fallback no option is sent.
+abbrev pub reset_options : Option ℕ → List PlainOption
+reset_options None = []
+reset_options (Some reason) = Reset false reason ∷ []
+
+-- The own address of an id is 10.0.id.2, without a port. An announcement shows the HMAC of both keys (RFC 8684, section 3.4.1).
+abbrev pub announcement : ℕ → Modes → PlainOption
+announcement id m =
+    let address = V4 (10 ∷ 0 ∷ id ∷ 2 ∷ []) in
+    AddAddr false id address None (Some (add_addr64_of m.own_key (peer_key_of m) id address 0))
+
+-- a notice; an echo has no HMAC
+abbrev pub notice_option : OwnNotice → Modes → PlainOption
+notice_option (notes.AddAddr id) m = announcement id m
+notice_option (notes.AddEcho id address port) m = AddAddr true id address port None
+notice_option (notes.Removes id) m = Remove (id ∷ [])
+notice_option (notes.Prio backup) m = Prio backup
+
+-- an address that is echoed has 16 octets at most
+abbrev pub HasAddress : OwnNotice → Type 0
+HasAddress (notes.AddEcho id address port) = length (octets_of address) ≤ 16
+HasAddress _ = Unit {0}
+
+abbrev pub HasAddresses : SegmentKind → Type 0
+HasAddresses (to_say.Notice notice) = HasAddress notice
+HasAddresses _ = Unit {0}
+
+-- ---- segments
+
+-- a segment has the window that the book told last, and a SYN the maximum segment size
+abbrev pub segment_of : Profile → Outgoing → List PlainOption → List ℕ → PathEnd → PlainSegment
+segment_of c o options payload e = record {
+  position = o.position;
+  acknowledged = o.acknowledged;
+  syn = o.syn;
+  fin = o.fin;
+  rst = o.rst;
+  window = e.receiving.window;
+  mss = (if o.syn then Some c.mss else None);
+  options = options;
+  payload = payload;
+}
+
+-- the acknowledgement at this position
+abbrev pub ack_said : Profile → Side → ℕ → Option ℕ → PathEnd → PlainSegment
+ack_said c s position fin e = segment_of c (ack_at position e.tcp) (ack_options c s fin e) [] e
+
+-- a record, for the first time or again
+abbrev pub record_said : Profile → Side → Record → PathEnd → PlainSegment
+record_said c s r e = segment_of c (record_segment e.tcp r) (record_options r.kind c s r e) r.piece e
+
+abbrev pub syn_ack_said : Profile → Side → PathEnd → PlainSegment
+syn_ack_said c s e = segment_of c (syn_ack_segment e.tcp) (syn_options c s e) [] e
+
+-- the FIN, also before there is a record of it
+abbrev pub fin_said : Profile → PathEnd → PlainSegment
+fin_said c e = segment_of c (fin_segment e.tcp) (fin_options (fin_position e.tcp.send) e) [] e
+
+abbrev pub reset_said : Profile → Option ℕ → PathEnd → PlainSegment
+reset_said c reason e = segment_of c (reset_segment e.tcp) (if e.modes.identity then [] else reset_options reason) [] e
+
+-- the check of the mapping at this place of the peer's stream failed: MP_FAIL stands before the reason (RFC 8684, sections 3.6, 3.7)
+abbrev pub fail_reset_said : Profile → ℕ → PathEnd → PlainSegment
+fail_reset_said c place e = segment_of c (reset_segment e.tcp) (Fail place ∷ Reset false 6 ∷ []) [] e
+
+-- an acknowledgement with a DSS, and this option behind it
+abbrev pub dss_and : Profile → PlainOption → PathEnd → PlainSegment
+dss_and c option e = segment_of c (ack_at e.tcp.send.nxt e.tcp) (Dss (Some e.receiving.next) None ∷ option ∷ []) [] e
+
+abbrev pub notice_said : Profile → OwnNotice → PathEnd → PlainSegment
+notice_said c notice e = dss_and c (notice_option notice e.modes) e
+
+-- with the peer's key (RFC 8684, section 3.5)
+abbrev pub fast_close_said : Profile → ℕ → PathEnd → PlainSegment
+fast_close_said c key e = dss_and c (FastClose key) e
+
+-- a record that may be there
+abbrev pub record_or_ack : Profile → Side → Option Record → PathEnd → PlainSegment
+record_or_ack c s (Some r) e = record_said c s r e
+record_or_ack c s None e = ack_said c s e.tcp.send.nxt None e

@@ -1,0 +1,550 @@
+//! The segments that an end sends: their options, their windows, and the mapping of a piece (RFC 8684, section 3).
+
+ghost use Rattle.std.specs.Prelude.{◌≡◌, ◌≤◌, false, length, option_map, IfSome};
+ghost use Rattle.dss_checksum.specs.Checksum.{dss_checksum};
+ghost use Rattle.outside_kit.specs.declared.side.Side.TheVariants.{A};
+ghost use Rattle.path_segments.specs.declared.segment.PathOption.TheVariants.{Capable};
+ghost use Rattle.subflow_send.specs.Records.{record_of};
+ghost use Rattle.path_core.specs.declared.segment_kind.SegmentKind.TheVariants.{DeadAnswer, Refusal};
+ghost use Rattle.path_core.specs.OptionsOut.{owes_mapping, bare_mapping, checksum_in, mapping_of, place_numbered, checksum_told, plain_options, capable_options, syn_options, key_options, opening_options, data_fin_mapping, ack_options, piece_mapping, first_piece_options, piece_options, fin_options, record_options, reset_options, announcement, notice_option, dss_and, HasAddress, HasAddresses, segment_of, ack_said, fail_reset_said, record_said, record_or_ack, syn_ack_said, fin_said, reset_said};
+ghost use Rattle.path_core.specs.Passing.{answer_said, ack_resent, resend_said};
+ghost use Rattle.path_core.specs.Said.{options_by, said_options, plain_said, said_by, CanBeSaid};
+
+use crate::end::PathEnd;
+use crate::modes::Modes;
+use crate::profile::{Profile, spelled_by};
+use crate::said::{Said, SaidOptions, Saying};
+use crate::segment_kind::SegmentKind;
+use dss_checksum::DssSum;
+use key_material::{Address, add_addr64};
+use mptcp_options::CapableKeys;
+use outside_kit::Side;
+use path_agenda::OwnNotice;
+use path_segments::{PathMapping, PathOption, relative_number};
+use seq_units::{Mapping, Pos};
+use subflow_tcp::{Outgoing, RecordKind, RecordRef};
+
+impl Profile {
+    /// The mapping of `length` bytes of a side's stream, before there is a checksum.
+    pub fn bare_mapping(&self, side: Side, place: u64, position: Pos, length: u16) -> Mapping
+        ensures { result ≡ bare_mapping self.now side place position length }
+    {
+        Mapping {
+            number: self.spelling().whole_number(spelled_by(side), place),
+            relative: relative_number(position),
+            length,
+            checksum: 0,
+        }
+    }
+
+    /// The checksum of a mapping and its bytes, where checksums are used (RFC 8684, section 3.3.1).
+    fn checksum_in(&self, mapping: &Mapping, octets: &[u8]) -> u16
+        requires { length octets.now ≤ 65535 }
+        ensures { result ≡ checksum_in self.now mapping.now octets.now }
+    {
+        if self.spelling().checksums {
+            checksum_of(mapping, octets)
+        } else {
+            0
+        }
+    }
+
+    /// The mapping that a granted piece has for ever.
+    pub fn mapping_of(&self, side: Side, place: u64, position: Pos, octets: &[u8]) -> Mapping
+        requires { length octets.now ≤ 65535 }
+        ensures { result ≡ mapping_of self.now side place position octets.now }
+    {
+        let bare = self.bare_mapping(side, place, position, octets.len() as u16);
+        Mapping {
+            checksum: self.checksum_in(&bare, octets),
+            ..bare
+        }
+    }
+
+    /// The place that the first number of a mapping stands for.
+    fn place_numbered(&self, side: Side, number: u64) -> u64
+        ensures { result ≡ place_numbered self.now side number }
+    {
+        number.wrapping_sub(self.spelling().whole_number(spelled_by(side), 0))
+    }
+
+    /// A checksum stands in an option exactly where checksums are used.
+    fn checksum_told(&self, checksum: u16) -> Option<u16>
+        ensures { result ≡ checksum_told self.now checksum }
+    {
+        self.spelling().checksums.then_some(checksum)
+    }
+
+    /// MP_CAPABLE with these keys (RFC 8684, section 3.1).
+    fn capable(&self, keys: CapableKeys) -> Saying
+        ensures { result ≡ Capable self.now.spelling.checksums false keys }
+    {
+        PathOption::Capable {
+            flag_a: self.spelling().checksums,
+            flag_c: false,
+            keys,
+        }
+    }
+
+    /// The mapping of the DATA_FIN without data: relative number 0 and length 1 (RFC 8684, section 3.3.3).
+    fn data_fin_mapping(&self, side: Side, fin: Option<u64>) -> Option<PathMapping<u64>>
+        ensures { result ≡ data_fin_mapping self.now side fin }
+    {
+        let place = fin?;
+        let checksum = self.checksum_in(&self.bare_mapping(side, place, 0, 1), &[]);
+        Some(PathMapping::End {
+            place,
+            checksum: self.checksum_told(checksum),
+        })
+    }
+
+    /// On data: the mapping that the piece was granted with.
+    fn piece_mapping(&self, side: Side, lent: &RecordRef<'_>) -> PathMapping<u64>
+        ensures { result ≡ piece_mapping self.now side (record_of lent.now) }
+    {
+        PathMapping::Bytes {
+            place: self.place_numbered(side, lent.mapping.number),
+            position: lent.pos,
+            length: lent.mapping.length,
+            fin: false,
+            checksum: self.checksum_told(lent.mapping.checksum),
+        }
+    }
+}
+
+/// The checksum of a mapping and its bytes.
+pub(crate) fn checksum_of(mapping: &Mapping, octets: &[u8]) -> u16
+    requires { length octets.now ≤ 65535 }
+    ensures { result ≡ dss_checksum mapping.now octets.now }
+{
+    let mut sum = DssSum::new(mapping);
+    sum.add(octets);
+    sum.make()
+}
+
+impl Modes {
+    /// A notice of the end's side; an announcement shows the HMAC of both keys (RFC 8684, section 3.4.1).
+    fn notice_option(&self, notice: OwnNotice) -> Saying
+        ensures { result ≡ notice_option notice self.now }
+    {
+        match notice {
+            OwnNotice::AddAddr { id } => self.announcement(id),
+            OwnNotice::AddEcho { id, address, port } => PathOption::AddAddr {
+                echo: true,
+                id,
+                address,
+                port,
+                hmac: None,
+            },
+            OwnNotice::Removes { id } => PathOption::Remove { ids: [id] },
+            OwnNotice::Prio { backup } => PathOption::Prio { backup },
+        }
+    }
+
+    /// The announcement of the own address of this id.
+    fn announcement(&self, id: u8) -> Saying
+        ensures { result ≡ announcement id self.now }
+    {
+        let address = Address::V4([10, 0, id, 2]);
+        let hmac = add_addr64(self.own_key, self.peer_key_of(), id, &address, 0);
+        PathOption::AddAddr {
+            echo: false,
+            id,
+            address,
+            port: None,
+            hmac: Some(hmac),
+        }
+    }
+}
+
+/// The address of an echo has 16 octets at most.
+fn has_address(notice: OwnNotice)
+    ensures { HasAddress notice }
+{
+    match notice {
+        OwnNotice::AddEcho { address, .. } => {
+            let _octets = address.octets();
+        }
+        OwnNotice::AddAddr { .. } | OwnNotice::Removes { .. } | OwnNotice::Prio { .. } => {}
+    }
+}
+
+impl SegmentKind {
+    /// An address that it carries has 16 octets at most.
+    fn has_addresses(self)
+        ensures { HasAddresses self }
+    {
+        match self {
+            SegmentKind::Notice { notice } => has_address(notice),
+            _ => {}
+        }
+    }
+}
+
+impl PathEnd {
+    /// The infinite mapping is owed: the side fell back as this end missed an option, and no segment that had the mapping is
+    /// acknowledged.
+    pub fn owes_mapping(&self) -> bool
+        ensures { result ≡ owes_mapping self.now }
+    {
+        let reached = match self.modes.mapped_to {
+            Some(to) => to <= self.tcp.una(),
+            None => false,
+        };
+        self.modes.owes_mapping && !reached
+    }
+
+    /// On data and FIN after a fallback: the infinite mapping from this position on, as long as it is owed (RFC 8684,
+    /// section 3.7).
+    fn plain_option(&self, position: Pos) -> Option<Saying>
+        ensures value { options_by result ≡ plain_options position self.now }
+    {
+        if self.owes_mapping() {
+            let place = position.saturating_sub(1);
+            Some(PathOption::Dss {
+                next: None,
+                mapping: Some(PathMapping::Infinite { place, position }),
+            })
+        } else {
+            None
+        }
+    }
+
+    /// On a SYN that opens the connection: A asks for Multipath TCP, and B answers with its key where A asked (RFC 8684,
+    /// section 3.1).
+    fn capable_option(&self, profile: &Profile, side: Side) -> Option<Saying>
+        ensures value { options_by result ≡ capable_options profile.now side self.now }
+    {
+        match side {
+            Side::A => Some(profile.capable(CapableKeys::NoKey)),
+            Side::B if self.modes.capable_asked && !self.modes.identity => {
+                Some(profile.capable(CapableKeys::Sender {
+                    sender: self.modes.own_key,
+                }))
+            }
+            Side::B => None,
+        }
+    }
+
+    /// On a SYN.
+    fn syn_option(&self, profile: &Profile, side: Side) -> Option<Saying>
+        ensures value { options_by result ≡ syn_options profile.now side self.now }
+    {
+        if profile.is_joined() {
+            self.modes.join_option(profile, side)
+        } else {
+            self.capable_option(profile, side)
+        }
+    }
+
+    /// Before A may send a DSS it shows both keys; B says nothing before it has them.
+    fn key_option(&self, profile: &Profile, side: Side) -> Option<Saying>
+        ensures value { options_by result ≡ key_options profile.now side self.now.modes.peer_key self.now }
+    {
+        match (side, self.modes.peer_key) {
+            (Side::A, Some(receiver)) => Some(profile.capable(CapableKeys::Both {
+                sender: self.modes.own_key,
+                receiver,
+            })),
+            _ => None,
+        }
+    }
+
+    /// Before the end may send a DSS: the third MP_JOIN, as long as it is owed, or the keys.
+    fn opening_option(&self, profile: &Profile, side: Side) -> Option<Saying>
+        ensures value { options_by result ≡ opening_options profile.now side self.now }
+    {
+        if self.modes.owes_third {
+            self.modes.third_option()
+        } else {
+            self.key_option(profile, side)
+        }
+    }
+
+    /// On an acknowledgement, perhaps with the DATA_FIN; none after a fallback.
+    fn ack_option(&self, profile: &Profile, side: Side, fin: Option<u64>) -> Option<Saying>
+        ensures value { options_by result ≡ ack_options profile.now side fin self.now }
+    {
+        if self.modes.identity {
+            None
+        } else if self.modes.clear {
+            Some(PathOption::Dss {
+                next: Some(self.receiving.next()),
+                mapping: profile.data_fin_mapping(side, fin),
+            })
+        } else {
+            self.opening_option(profile, side)
+        }
+    }
+
+    /// A's first piece carries both keys, until A may send a DSS.
+    fn first_piece_option(&self, profile: &Profile, lent: &RecordRef<'_>) -> Option<Saying>
+        ensures value { options_by result ≡ first_piece_options profile.now self.now.modes.peer_key (record_of lent.now) self.now }
+    {
+        let receiver = self.modes.peer_key?;
+        Some(profile.capable(CapableKeys::WithData {
+            sender: self.modes.own_key,
+            receiver,
+            length: lent.mapping.length,
+            checksum: profile.checksum_told(lent.mapping.checksum),
+        }))
+    }
+
+    /// On data.
+    fn piece_option(&self, profile: &Profile, side: Side, lent: &RecordRef<'_>) -> Option<Saying>
+        ensures value { options_by result ≡ piece_options profile.now side (record_of lent.now) self.now }
+    {
+        if self.modes.identity {
+            return self.plain_option(lent.pos);
+        }
+        if side == Side::A && !self.modes.clear && lent.pos == 1 {
+            return self.first_piece_option(profile, lent);
+        }
+        Some(PathOption::Dss {
+            next: Some(self.receiving.next()),
+            mapping: Some(profile.piece_mapping(side, lent)),
+        })
+    }
+
+    /// On the FIN at this position.
+    fn fin_option(&self, position: Pos) -> Option<Saying>
+        ensures value { options_by result ≡ fin_options position self.now }
+    {
+        if self.modes.identity {
+            return self.plain_option(position);
+        }
+        Some(PathOption::Dss {
+            next: Some(self.receiving.next()),
+            mapping: None,
+        })
+    }
+
+    /// On a record.
+    fn record_option(&self, profile: &Profile, side: Side, lent: &RecordRef<'_>) -> Option<Saying>
+        ensures value { options_by result ≡ record_options lent.now.kind profile.now side (record_of lent.now) self.now }
+    {
+        match lent.kind {
+            RecordKind::Syn => self.syn_option(profile, side),
+            RecordKind::Data => self.piece_option(profile, side, lent),
+            RecordKind::Fin => self.fin_option(lent.pos),
+        }
+    }
+
+    /// A segment with the window that the book told last, and on a SYN with the maximum segment size.
+    fn segment_of<'a>(
+        &'a self,
+        profile: &Profile,
+        outgoing: Outgoing,
+        options: SaidOptions,
+        payload: &'a [u8],
+    ) -> Said<'a>
+        ensures { plain_said result ≡ segment_of profile.now outgoing (said_options options) payload.now self.now }
+    {
+        Said {
+            outgoing,
+            window: self.receiving.window(),
+            mss: outgoing.syn.then_some(profile.mss()),
+            options,
+            payload,
+        }
+    }
+
+    /// The acknowledgement at this position, perhaps with the DATA_FIN.
+    fn ack_said(&self, profile: &Profile, side: Side, position: Pos, fin: Option<u64>) -> Said<'_>
+        ensures { plain_said result ≡ ack_said profile.now side position fin self.now }
+    {
+        let options = SaidOptions::of(self.ack_option(profile, side, fin));
+        self.segment_of(profile, self.tcp.ack_at(position), options, &[])
+    }
+
+    /// A record, for the first time or again.
+    fn record_said<'a>(&'a self, profile: &Profile, side: Side, lent: &RecordRef<'a>) -> Said<'a>
+        requires { length lent.now.piece.now ≤ 65475 }
+        ensures { plain_said result ≡ record_said profile.now side (record_of lent.now) self.now }
+    {
+        let options = SaidOptions::of(self.record_option(profile, side, lent));
+        let outgoing = self.tcp.record_segment(lent);
+        self.segment_of(profile, outgoing, options, lent.piece)
+    }
+
+    /// A record, or else an acknowledgement.
+    fn record_or_ack<'a>(
+        &'a self,
+        profile: &Profile,
+        side: Side,
+        lent: Option<RecordRef<'a>>,
+    ) -> Said<'a>
+        requires { IfSome lent (λ lent. length lent.piece.now ≤ 65475) }
+        ensures { plain_said result ≡ record_or_ack profile.now side (option_map record_of lent.entry) self.now }
+    {
+        match lent {
+            Some(lent) => self.record_said(profile, side, &lent),
+            None => self.ack_said(profile, side, self.tcp.nxt(), None),
+        }
+    }
+
+    fn syn_ack_said(&self, profile: &Profile, side: Side) -> Said<'_>
+        ensures { plain_said result ≡ syn_ack_said profile.now side self.now }
+    {
+        let options = SaidOptions::of(self.syn_option(profile, side));
+        self.segment_of(profile, self.tcp.syn_ack_segment(), options, &[])
+    }
+
+    /// The FIN, also before there is a record of it.
+    fn fin_said(&self, profile: &Profile) -> Said<'_>
+        ensures { plain_said result ≡ fin_said profile.now self.now }
+    {
+        let outgoing = self.tcp.fin_segment();
+        let options = SaidOptions::of(self.fin_option(outgoing.position));
+        self.segment_of(profile, outgoing, options, &[])
+    }
+
+    /// The reset, perhaps with a reason; the fault doesn't pass (RFC 8684, section 3.6). After a fallback no option is sent.
+    fn reset_said(&self, profile: &Profile, reason: Option<u8>) -> Said<'_>
+        ensures { plain_said result ≡ reset_said profile.now reason self.now }
+    {
+        let option = if self.modes.identity {
+            None
+        } else {
+            reset_option(reason)
+        };
+        let options = SaidOptions::of(option);
+        self.segment_of(profile, self.tcp.reset_segment(), options, &[])
+    }
+
+    /// The reset of an end that found bytes which aren't those of the mapping at this place of the peer's stream, with the reason 6
+    /// (RFC 8684, sections 3.6 and 3.7).
+    fn fail_reset_said(&self, profile: &Profile, place: u64) -> Said<'_>
+        ensures { plain_said result ≡ fail_reset_said profile.now place self.now }
+    {
+        let reset = PathOption::Reset {
+            transient: false,
+            reason: 6,
+        };
+        let options = SaidOptions::Two(PathOption::Fail { place }, reset);
+        self.segment_of(profile, self.tcp.reset_segment(), options, &[])
+    }
+
+    /// The acknowledgement that says this option behind its DSS.
+    fn dss_and(&self, profile: &Profile, option: Saying) -> Said<'_>
+        ensures { plain_said result ≡ dss_and profile.now option self.now }
+    {
+        let dss = PathOption::Dss {
+            next: Some(self.receiving.next()),
+            mapping: None,
+        };
+        let outgoing = self.tcp.ack_at(self.tcp.nxt());
+        self.segment_of(profile, outgoing, SaidOptions::Two(dss, option), &[])
+    }
+
+    /// The answer to a segment that is passed over.
+    fn answer_said(&self, profile: &Profile, side: Side) -> Said<'_>
+        ensures { plain_said result ≡ answer_said profile.now side self.now }
+    {
+        if self.tcp.owes_syn_ack() {
+            self.syn_ack_said(profile, side)
+        } else {
+            self.ack_said(profile, side, self.tcp.nxt(), None)
+        }
+    }
+
+    /// The reset that answers a copy at a dead end.
+    fn dead_answer_said(&self, profile: &Profile) -> Said<'_>
+        ensures { plain_said result ≡ said_by DeadAnswer profile.now A self.now }
+    {
+        let outgoing = match self.treated.answer() {
+            Some(outgoing) => outgoing,
+            None => self.tcp.reset_segment(),
+        };
+        self.segment_of(profile, outgoing, SaidOptions::Nothing, &[])
+    }
+
+    /// The reset that refuses a path which joins, with the reason 1 (RFC 8684, section 3.6).
+    fn refusal_said(&self, profile: &Profile) -> Said<'_>
+        ensures { plain_said result ≡ said_by Refusal profile.now A self.now }
+    {
+        let outgoing = match self.treated.answer() {
+            Some(outgoing) => outgoing,
+            None => self.tcp.reset_segment(),
+        };
+        let options = SaidOptions::of(reset_option(Some(1)));
+        self.segment_of(profile, outgoing, options, &[])
+    }
+
+    /// What an expiry sends again where no record is left: the third MP_JOIN, or else the DATA_FIN, or else what a peer that
+    /// is there answers.
+    fn ack_resent(&self, profile: &Profile, side: Side) -> Said<'_>
+        ensures { plain_said result ≡ ack_resent profile.now side self.now }
+    {
+        if self.modes.owes_third {
+            return self.ack_said(profile, side, self.tcp.nxt(), None);
+        }
+        if self.is_data_fin_owed() {
+            return self.ack_said(profile, side, self.tcp.nxt(), self.sending.known_end());
+        }
+        let probe = self.tcp.una().saturating_sub(1);
+        self.ack_said(profile, side, probe, None)
+    }
+
+    /// What an expiry sends again: the first record, or else an acknowledgement.
+    fn resend_said(&self, profile: &Profile, side: Side) -> Said<'_>
+        ensures { plain_said result ≡ resend_said profile.now side self.now }
+    {
+        if self.tcp.has_records() {
+            self.record_or_ack(profile, side, self.tcp.first_record())
+        } else {
+            self.ack_resent(profile, side)
+        }
+    }
+
+    /// The segment of this kind.
+    fn said_by(&self, profile: &Profile, side: Side, kind: SegmentKind) -> Said<'_>
+        ensures { plain_said result ≡ said_by kind profile.now side self.now }
+    {
+        match kind {
+            SegmentKind::Ack => self.ack_said(profile, side, self.tcp.nxt(), None),
+            SegmentKind::DataFin => {
+                self.ack_said(profile, side, self.tcp.nxt(), self.sending.known_end())
+            }
+            SegmentKind::Fin => self.fin_said(profile),
+            SegmentKind::Unsent => self.record_or_ack(profile, side, self.tcp.first_unsent()),
+            SegmentKind::First => self.record_or_ack(profile, side, self.tcp.first_record()),
+            SegmentKind::SynAck => self.syn_ack_said(profile, side),
+            SegmentKind::Answer => self.answer_said(profile, side),
+            SegmentKind::DeadAnswer => self.dead_answer_said(profile),
+            SegmentKind::Refusal => self.refusal_said(profile),
+            SegmentKind::Resend => self.resend_said(profile, side),
+            SegmentKind::Reset { reason } => self.reset_said(profile, reason),
+            SegmentKind::FailReset { place } => self.fail_reset_said(profile, place),
+            SegmentKind::Notice { notice } => {
+                self.dss_and(profile, self.modes.notice_option(notice))
+            }
+            SegmentKind::FastClose { key } => {
+                self.dss_and(profile, PathOption::FastClose { key })
+            }
+        }
+    }
+
+    /// The segment of this kind, which can be said.
+    #[tactic(auto, using(crate::proofs::Sayable::can_be_said))]
+    pub fn said(&self, profile: &Profile, side: Side, kind: SegmentKind) -> Said<'_>
+        ensures value { plain_said result ≡ said_by kind profile.now side self.now }
+        ensures can { CanBeSaid profile.now.spelling side (plain_said result) }
+    {
+        let _path = profile.spelling();
+        let _window = self.receiving.window();
+        kind.has_addresses();
+        let (_unsent, _first) = (self.tcp.first_unsent(), self.tcp.first_record());
+        self.said_by(profile, side, kind)
+    }
+}
+
+/// Why the path is reset, where there is a reason.
+fn reset_option(reason: Option<u8>) -> Option<Saying>
+    ensures { options_by result ≡ reset_options reason }
+{
+    Some(PathOption::Reset {
+        transient: false,
+        reason: reason?,
+    })
+}
