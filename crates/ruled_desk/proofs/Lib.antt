@@ -1,0 +1,11 @@
+mod Weights
+mod RuleWords
+mod RuleSteps
+mod RuleAdding
+mod RuleJoining
+mod Entering
+mod Putting
+mod Members
+mod Outs
+mod Ridden
+mod Calling

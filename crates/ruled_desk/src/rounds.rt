@@ -1,0 +1,399 @@
+//! Seats at a ruled desk, and rounds by threads: the calls that may wait.
+ghost use Rattle.std.specs.Prelude.{◌≡◌, ◌+◌, ◌-◌, ◌^◌, ◌<◌, ◌≤◌, ◌↔◌, ◌⊎◌, ◌++◌, ◌∷◌, ℕ, true, false, None, Some, [], All, length, IfOk, OnOk, OnErr};
+ghost use Rattle.std.specs.List.{list_any, slice_index_or};
+ghost use Rattle.stamped_book.specs.declared.stamped.Refusal.TheVariants as refusals;
+ghost use Rattle.actor_desk.specs.Noted.{Rises};
+ghost use Rattle.ruled_desk.specs.Growing.{entry_by};
+ghost use Rattle.stamped_book.specs.declared.stamped.Refusal.TheVariants.{Memory, Stamps};
+ghost use Rattle.send_book.specs.Steps as sending;
+ghost use Rattle.reassembly_book.specs.Steps as arriving;
+ghost use Rattle.control_book.specs.Calls as controlling;
+ghost use Rattle.actor_desk.specs.declared.ask.Ask.TheVariants as asks;
+ghost use Rattle.actor_desk.specs.declared.ask.Reply.TheVariants as replies;
+ghost use Rattle.actor_desk.specs.Bounds.{IsSmallControl, IsSmallReassembly, IsSmallSend};
+ghost use Rattle.actor_desk.specs.Kinds.{IsControlKind, IsReassemblyKind, IsSendKind};
+ghost use Rattle.actor_desk.specs.Noted.{note_of, with_note};
+ghost use Rattle.ruled_desk.specs.declared.rider.Rider.{Rider};
+ghost use Rattle.ruled_desk.specs.Riding.{HasPass, OneIsUsedUp, Rode, is_rider_refused};
+ghost use Rattle.ruled_desk.specs.SixSeats.{AreOf, notes_by, notes_full};
+
+use crate::answering::Answering;
+use crate::desk::{RuledDesk, RuledPass};
+use crate::held::Held;
+use crate::lock::{BookSeat, RestingSeat, RuledLock};
+use crate::refusing::outcome_of;
+use crate::rider::Rider;
+use actor_desk::{Actor, Ask, Crew, Desk, Reply};
+use control_book::{ControlCall, ControlReply};
+use outside_kit::{Gate, Object, Side};
+use reassembly_book::{ReassemblyCall, ReassemblyReply};
+use send_book::{SendCall, SendReply};
+use stamped_book::{Pass, Refusal};
+use std::alloc::Global;
+use std::sync::Wait;
+use std::thread;
+use std::thread::Threads;
+use subflow_worker::turn;
+
+impl<O: Answering + Drop> RuledLock<O> {
+    ghost use Rattle.ruled_desk.specs.Called.{IsCalled, IsRefused};
+    ghost use Rattle.ruled_desk.specs.Rule.{HasTaken, IsAtRest, IsOut, IsWaiting};
+
+    // Waits until the ticket is served. Then the seat has the book.
+    fn wait<R: Wait>(&self, rt: &R, seat: &mut BookSeat<O>, ticket: u64)
+        requires table { seat.old.table_id ≡ self.now.table }
+        requires waits { IsWaiting seat.old.me ticket }
+        ensures table { seat.new.table_id ≡ seat.old.table_id }
+        ensures taken { HasTaken seat.old.me seat.new.me }
+    {
+        for _ in rt.forever() {
+            if self.look(seat, ticket) {
+                return;
+            }
+            thread::yield_now();
+        }
+        unreachable!()
+    }
+
+    // Draws a ticket, waits until it is served, and takes the book.
+    fn take<R: Wait>(&self, rt: &R, seat: &mut BookSeat<O>) -> Held<O>
+        requires table { seat.old.table_id ≡ self.now.table }
+        requires rests { IsAtRest seat.old.me.0 }
+        requires holds { seat.old.me.1 ≡ [] }
+        requires parts { 1 ≤ seat.old.me.0.parts }
+        ensures table { seat.new.table_id ≡ seat.old.table_id }
+        ensures out { IsOut result seat.old.me seat.new.me }
+    {
+        let ticket = self.draw(seat);
+        self.wait(rt, seat, ticket);
+        self.take_out(seat)
+    }
+
+    // Asks the book with a seat at rest, which is at rest again afterwards. The entry of the call is the seat's own; after a
+    // refusal the book is put back as it was.
+    fn call_at<G: Gate, R: Wait>(
+        &self,
+        rt: &R,
+        gate: &G,
+        object: Object,
+        seat: &mut BookSeat<O>,
+        pass: &mut Pass,
+        call: &O::Call,
+    ) -> Result<O::Reply, Refusal>
+        requires table { seat.old.table_id ≡ self.now.table }
+        requires rests { IsAtRest seat.old.me.0 }
+        requires holds { seat.old.me.1 ≡ [] }
+        requires parts { 1 ≤ seat.old.me.0.parts }
+        requires can_ask { O.can_ask call.now }
+        ensures meets { IfOk result (λ reply. O.meets call.now reply) }
+        ensures done { IfOk result (λ reply. IsCalled (entry_by pass.old pass.new call.now reply ∷ []) false seat.old.me seat.new.me) }
+        ensures rises { OnOk result (Rises pass.old pass.new) }
+        ensures err { OnErr result (IsRefused seat.old.me seat.new.me) }
+        ensures pass_err { OnErr result (pass.new ≡ pass.old) }
+        ensures table { seat.new.table_id ≡ seat.old.table_id }
+        ensures stamps { result ≡ Err refusals.Stamps → (2 ^ 62 - 1 ≤ pass.old.stamp) ⊎ (seat.new.me.0.full ≡ true) }
+    {
+        let mut held = self.take(rt, seat);
+        gate.held(pass.actor, object);
+        match held.enter(pass, call) {
+            Ok(reply) => {
+                self.put_entry(seat, held);
+                Ok(reply)
+            }
+            Err(Refusal::Stamps) => {
+                self.put_refused(seat, held);
+                Err(Refusal::Stamps)
+            }
+            Err(Refusal::Memory) => {
+                self.put_back(seat, held);
+                Err(Refusal::Memory)
+            }
+        }
+    }
+
+    /// Asks the book, which may wait for its turn. The entry of the call is the seat's own. After a refusal the book is put
+    /// back as it was.
+    fn call<G: Gate, R: Wait>(
+        &self,
+        rt: &R,
+        gate: &G,
+        object: Object,
+        seat: &mut RestingSeat<O>,
+        pass: &mut Pass,
+        call: &O::Call,
+    ) -> Result<O::Reply, Refusal>
+        requires table { seat.old.table ≡ self.now.table }
+        requires parts { 1 ≤ seat.old.parts }
+        requires can_ask { O.can_ask call.now }
+        ensures meets { IfOk result (λ reply. O.meets call.now reply) }
+        ensures own { IfOk result (λ reply. seat.new ≡ record seat.old { own = seat.old.own ++ entry_by pass.old pass.new call.now reply ∷ [] }) }
+        ensures rises { OnOk result (Rises pass.old pass.new) }
+        ensures err { OnErr result (seat.new.own ≡ seat.old.own) }
+        ensures pass_err { OnErr result (pass.new ≡ pass.old) }
+        ensures table { seat.new.table ≡ seat.old.table }
+        ensures parts { seat.new.parts ≡ seat.old.parts }
+        ensures stamps { result ≡ Err refusals.Stamps → (2 ^ 62 - 1 ≤ pass.old.stamp) ⊎ (seat.new.full ≡ true) }
+    {
+        self.call_at(rt, gate, object, &mut seat.seat, pass, call)
+    }
+}
+
+/// A seat at a desk of tables: it waits for its turn at one book for one call, and tells the gate while it has the book.
+#[derive(Drop)]
+pub struct RuledSeat<'a, G: Gate, R: Wait> {
+    desk: &'a RuledDesk,
+    pass: RuledPass,
+    gate: &'a G,
+    rt: &'a R,
+}
+
+impl RuledDesk {
+    ghost use Rattle.ruled_desk.specs.SixSeats.{AreOf};
+
+    /// A seat for the actor of a pass. It takes no memory.
+    pub fn seat<'a, G: Gate, R: Wait>(
+        &'a self,
+        rt: &'a R,
+        pass: RuledPass,
+        gate: &'a G,
+    ) -> RuledSeat<'a, G, R>
+        requires { AreOf self.now pass.books }
+        ensures desk { result.desk.now ≡ self.entry.now }
+        ensures pass { result.pass ≡ pass }
+    {
+        RuledSeat {
+            desk: self,
+            pass,
+            gate,
+            rt,
+        }
+    }
+}
+
+impl<'a, G: Gate, R: Wait> RuledSeat<'a, G, R> {
+    /// The pass as it stands.
+    pub fn into_pass(self) -> RuledPass
+        ensures { result ≡ self.entry.pass }
+    {
+        let RuledSeat {
+            desk: _,
+            pass,
+            gate: _,
+            rt: _,
+        } = self;
+        pass
+    }
+}
+
+impl RuledPass {
+    // Asks the send book of a side.
+    fn ask_send<G: Gate, R: Wait>(
+        &mut self,
+        rt: &R,
+        desk: &RuledDesk,
+        gate: &G,
+        pass: &mut Pass,
+        side: Side,
+        call: &SendCall,
+    ) -> Result<SendReply, Refusal>
+        requires can_ask { sending.CanAsk call.now }
+        requires of { AreOf desk.now self.old.books }
+        ensures kind { IfOk result (λ reply. IsSendKind call.now reply) }
+        ensures bounds { IfOk result (λ reply. IsSmallSend reply) }
+        ensures notes { IfOk result (λ reply. notes_by self.new.books ≡ with_note (asks.Send side call.now) (note_of pass.old pass.new (asks.Send side call.now) (replies.Send reply)) (notes_by self.old.books)) }
+        ensures rises { OnOk result (Rises pass.old pass.new) }
+        ensures err { OnErr result (notes_by self.new.books ≡ notes_by self.old.books) }
+        ensures pass_err { OnErr result (pass.new ≡ pass.old) }
+        ensures actor { self.new.actor ≡ self.old.actor }
+        ensures of { AreOf desk.now self.new.books }
+        ensures stamps { result ≡ Err refusals.Stamps → (2 ^ 62 - 1 ≤ pass.old.stamp) ⊎ (notes_full (asks.Send side call.now) self.new.books ≡ true) }
+    {
+        let object = Object::Send(side);
+        match side {
+            Side::A => desk
+                .send_a
+                .call(rt, gate, object, &mut self.seats.send_a, pass, call),
+            Side::B => desk
+                .send_b
+                .call(rt, gate, object, &mut self.seats.send_b, pass, call),
+        }
+    }
+
+    // Asks the reassembly book of a side.
+    fn ask_reassembly<G: Gate, R: Wait>(
+        &mut self,
+        rt: &R,
+        desk: &RuledDesk,
+        gate: &G,
+        pass: &mut Pass,
+        side: Side,
+        call: &ReassemblyCall,
+    ) -> Result<ReassemblyReply, Refusal>
+        requires can_ask { arriving.CanAsk call.now }
+        requires of { AreOf desk.now self.old.books }
+        ensures kind { IfOk result (λ reply. IsReassemblyKind call.now reply) }
+        ensures bounds { IfOk result (λ reply. IsSmallReassembly reply) }
+        ensures notes { IfOk result (λ reply. notes_by self.new.books ≡ with_note (asks.Reassembly side call.now) (note_of pass.old pass.new (asks.Reassembly side call.now) (replies.Reassembly reply)) (notes_by self.old.books)) }
+        ensures rises { OnOk result (Rises pass.old pass.new) }
+        ensures err { OnErr result (notes_by self.new.books ≡ notes_by self.old.books) }
+        ensures pass_err { OnErr result (pass.new ≡ pass.old) }
+        ensures actor { self.new.actor ≡ self.old.actor }
+        ensures of { AreOf desk.now self.new.books }
+        ensures stamps { result ≡ Err refusals.Stamps → (2 ^ 62 - 1 ≤ pass.old.stamp) ⊎ (notes_full (asks.Reassembly side call.now) self.new.books ≡ true) }
+    {
+        let object = Object::Reassembly(side);
+        match side {
+            Side::A => desk
+                .reassembly_a
+                .call(rt, gate, object, &mut self.seats.reassembly_a, pass, call),
+            Side::B => desk
+                .reassembly_b
+                .call(rt, gate, object, &mut self.seats.reassembly_b, pass, call),
+        }
+    }
+
+    // Asks the control book of a side.
+    fn ask_control<G: Gate, R: Wait>(
+        &mut self,
+        rt: &R,
+        desk: &RuledDesk,
+        gate: &G,
+        pass: &mut Pass,
+        side: Side,
+        call: &ControlCall,
+    ) -> Result<ControlReply, Refusal>
+        requires can_ask { controlling.can_ask call.now }
+        requires of { AreOf desk.now self.old.books }
+        ensures kind { IfOk result (λ reply. IsControlKind call.now reply) }
+        ensures bounds { IfOk result (λ reply. IsSmallControl call.now reply) }
+        ensures notes { IfOk result (λ reply. notes_by self.new.books ≡ with_note (asks.Control side call.now) (note_of pass.old pass.new (asks.Control side call.now) (replies.Control reply)) (notes_by self.old.books)) }
+        ensures rises { OnOk result (Rises pass.old pass.new) }
+        ensures err { OnErr result (notes_by self.new.books ≡ notes_by self.old.books) }
+        ensures pass_err { OnErr result (pass.new ≡ pass.old) }
+        ensures actor { self.new.actor ≡ self.old.actor }
+        ensures of { AreOf desk.now self.new.books }
+        ensures stamps { result ≡ Err refusals.Stamps → (2 ^ 62 - 1 ≤ pass.old.stamp) ⊎ (notes_full (asks.Control side call.now) self.new.books ≡ true) }
+    {
+        let object = Object::Control(side);
+        match side {
+            Side::A => desk
+                .control_a
+                .call(rt, gate, object, &mut self.seats.control_a, pass, call),
+            Side::B => desk
+                .control_b
+                .call(rt, gate, object, &mut self.seats.control_b, pass, call),
+        }
+    }
+}
+
+impl<G: Gate, R: Wait> Desk for RuledSeat<'_, G, R> {
+    ghost use Rattle.std.specs.Prelude.{Option, Some};
+    ghost use Rattle.actor_desk.specs.Bounds.{IsBounded};
+    ghost use Rattle.actor_desk.specs.Journals.{is_local};
+    ghost use Rattle.actor_desk.specs.Kinds.{CanBeAsked, IsOfKind};
+    ghost use Rattle.actor_desk.specs.Noted.{Rises, note_of, noted};
+    ghost use Rattle.ruled_desk.specs.SixSeats.{AreOf, names_of, notes_by, notes_full, origin_at};
+
+    ghost serves = { λ seat actor. (seat.pass.actor ≡ actor) × AreOf seat.desk.now seat.pass.books };
+
+    ghost is_full = { λ seat ask pass. (2 ^ 62 - 1 ≤ pass.stamp) ⊎ (notes_full ask seat.pass.books ≡ true) };
+
+    ghost notes = { λ seat. Some (notes_by seat.pass.books) };
+
+    ghost origin = { λ seat. origin_at seat.desk.now };
+
+    ghost root = { λ seat. names_of seat.desk.now };
+
+    /// Asks a book, which may wait for its turn there. The actor of the pass is served. Its pass notes the entry of the call,
+    /// which stands in the book's journal; after a refusal the book is as it was, and so are the pass's entries.
+    fn call(&mut self, pass: &mut Pass, ask: &Ask) -> Result<Reply, Refusal> {
+        let desk = self.desk;
+        let gate = self.gate;
+        match ask {
+            Ask::Send(side, call) => Ok(Reply::Send(
+                self.pass.ask_send(self.rt, desk, gate, pass, *side, call)?,
+            )),
+            Ask::Reassembly(side, call) => Ok(Reply::Reassembly(
+                self.pass
+                    .ask_reassembly(self.rt, desk, gate, pass, *side, call)?,
+            )),
+            Ask::Control(side, call) => Ok(Reply::Control(
+                self.pass
+                    .ask_control(self.rt, desk, gate, pass, *side, call)?,
+            )),
+            Ask::Local(_) => unreachable!(),
+        }
+    }
+}
+
+// The turn of one actor, at a seat with its pass.
+fn turn_with<A: Actor, G: Gate, R: Wait>(
+    rt: &R,
+    alloc: Global,
+    crew: &mut Crew<A>,
+    pass: RuledPass,
+    desk: &RuledDesk,
+    gate: &G,
+) -> RuledPass
+    requires actor { pass.actor ≡ crew.old.pass.actor }
+    requires of { AreOf desk.now pass.books }
+    ensures { Rode A.asks A.takes desk.now (record { crew = crew.old; pass = Some pass }) (record { crew = crew.new; pass = Some result }) }
+{
+    let mut seat = desk.seat(rt, pass, gate);
+    let _told = turn(alloc, crew, &mut seat, gate);
+    seat.into_pass()
+}
+
+// The turn of one rider.
+fn ride<A: Actor, G: Gate, R: Wait>(
+    rt: &R,
+    alloc: Global,
+    rider: &mut Rider<A>,
+    desk: &RuledDesk,
+    gate: &G,
+)
+    requires { HasPass desk.now rider.old }
+    ensures { Rode A.asks A.takes desk.now rider.old rider.new }
+{
+    match rider.pass.take() {
+        Some(pass) => {
+            rider.pass = Some(turn_with(rt, alloc, &mut rider.crew, pass, desk, gate));
+        }
+        None => unreachable!(),
+    }
+}
+
+/// A round: the turns of all riders, each in a thread of its own at a seat of its pass, or one after the other where no thread
+/// can be made. The steps that were made so far stand, whatever the answer, and each rider has its pass again.
+///
+/// # Errors
+///
+/// `Memory` where a turn stopped for want of memory; else `Stamps` where one stopped since stamps were used up: then the pass
+/// of some actor stands at 2^62 - 1 or more, or its pass at the desk notes a full journal.
+pub fn ruled_round<A: Actor + Send, G: Gate + Sync, R: Threads + Wait + Sync>(
+    rt: &R,
+    alloc: Global,
+    riders: &mut [Rider<A>],
+    desk: &RuledDesk,
+    gate: &G,
+) -> Result<(), Refusal>
+    requires { All (HasPass desk.now) riders.old }
+    ensures many { length riders.new ≡ length riders.old }
+    ensures rode { (i : ℕ) (d : Rider A) → i < length riders.old → Rode A.asks A.takes desk.now (slice_index_or riders.old i d) (slice_index_or riders.new i d) }
+    ensures done { OnOk result (All (λ rider. rider.crew.refused ≡ None) riders.new) }
+    ensures memory { (result ≡ Err Memory) ↔ (list_any (is_rider_refused Memory) riders.new ≡ true) }
+    ensures stamps { (result ≡ Err Stamps) ↔ ((list_any (is_rider_refused Memory) riders.new ≡ false) × (list_any (is_rider_refused Stamps) riders.new ≡ true)) }
+    ensures used_up { result ≡ Err Stamps → OneIsUsedUp riders.new }
+{
+    let threads = riders.len().max(1);
+    thread::for_each_mut(
+        rt,
+        riders,
+        threads,
+        &|_: usize, rider: &mut Rider<A>|
+            requires { HasPass desk.now rider.now }
+            ensures { Rode A.asks A.takes desk.entry.now rider.entry.now rider.exit.now }
+        { ride(rt, alloc, rider, desk, gate) },
+    );
+    outcome_of(riders)
+}
