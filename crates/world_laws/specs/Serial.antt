@@ -5,7 +5,7 @@ use Rattle.path_core.specs.Codec.{Codec}
 use Rattle.world_laws.specs.declared.outcome.Outcome.{Outcome}
 use Rattle.world_laws.specs.declared.outcome.Outcome.TheVariants.{Going}
 use Rattle.world_laws.specs.Outcomes.{outcome_of}
-use Rattle.world_laws.specs.Worlds.{WorldState, Turn, is_going, world_step, end_round, world_run}
+use Rattle.world_laws.specs.Worlds.{WorldState, Turn, is_going, world_step, end_round}
 
 abbrev pub goes_on : Outcome → Bool
 goes_on Going = true
@@ -77,7 +77,3 @@ module _ {C : Type 0} (k : Codec C) where
   -- these are the turns of at most so many rounds
   abbrev pub IsSerial : ℕ → List Turn → WorldState C → Type 0
   IsSerial most turns w = (rounds : List (List ℕ)) × AreRounds most rounds w × (turns ≡ spelled rounds)
-
-  -- this is the world after them
-  abbrev pub SerialTo : ℕ → WorldState C → WorldState C → Type 0
-  SerialTo most w v = (turns : List Turn) × IsSerial most turns w × (v ≡ world_run k turns w)
