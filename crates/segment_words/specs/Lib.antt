@@ -1,0 +1,3 @@
+pub mod Multipath
+pub mod Options
+pub mod Segments

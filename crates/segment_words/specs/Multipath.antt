@@ -1,0 +1,125 @@
+-- The options of Multipath TCP in words (RFC 8684, section 3): names and fields as tcpdump's print-mptcp.c has them, numbers of
+-- fields in decimal, keys, tokens, nonces, HMACs and checksums in hexadecimal.
+use Rattle.std.specs.Prelude.{ℕ, Bool, true, false, if◌then◌else◌, Option, Some, None, List, [], ◌∷◌, ◌++◌, codes}
+use Rattle.std.specs.Fmt.{decimal, digits}
+use Rattle.std.specs.List.{flat_map}
+use Rattle.hex.specs.Hex.{encode_lower}
+use Rattle.key_material.specs.declared.address.Address.{Address}
+use Rattle.key_material.specs.declared.address.Address.TheVariants.{V4, V6}
+use Rattle.mptcp_options.specs.declared.capable.CapableKeys.{CapableKeys}
+use Rattle.mptcp_options.specs.declared.capable.CapableKeys.TheVariants.{NoKey, Sender, Both, WithData}
+use Rattle.mptcp_options.specs.declared.join.JoinForm.{JoinForm}
+use Rattle.mptcp_options.specs.declared.join.JoinForm.TheVariants as join
+use Rattle.mptcp_options.specs.declared.dss.DataNumber.{DataNumber}
+use Rattle.mptcp_options.specs.declared.dss.DataNumber.TheVariants.{Whole, Low}
+use Rattle.mptcp_options.specs.declared.dss.DssMap.{DssMap}
+use Rattle.mptcp_options.specs.Value as wire
+use Rattle.std.specs.Prelude.{slice_index}
+
+abbrev pub hexadecimal : ℕ → List ℕ
+hexadecimal n = codes "0x" ++ digits 16 false n
+
+abbrev pub word_if : Bool → List ℕ → List ℕ
+word_if flag word = if flag then word else []
+
+abbrev pub optional_checksum : Option ℕ → List ℕ
+optional_checksum None = []
+optional_checksum (Some checksum) = codes " csum " ++ hexadecimal checksum
+
+-- ---- MP_CAPABLE
+
+abbrev pub key_words : CapableKeys → List ℕ
+key_words NoKey = []
+key_words (Sender sender) = codes " {" ++ hexadecimal sender ++ codes "}"
+key_words (Both sender receiver) = codes " {" ++ hexadecimal sender ++ codes "," ++ hexadecimal receiver ++ codes "}"
+key_words (WithData sender receiver len checksum) =
+    codes " {" ++ hexadecimal sender ++ codes "," ++ hexadecimal receiver ++ codes "} len " ++ decimal len ++ optional_checksum checksum
+
+abbrev pub capable_words : Bool → CapableKeys → List ℕ
+capable_words required keys = codes "capable v1" ++ word_if required (codes " csum") ++ key_words keys
+
+-- ---- MP_JOIN
+
+abbrev pub third_words : List ℕ → List ℕ
+third_words hmac = codes " hmac 0x" ++ encode_lower hmac
+
+abbrev pub join_words : JoinForm → List ℕ
+join_words (join.Syn backup id token nonce) =
+    codes "join" ++ word_if backup (codes " backup") ++ codes " id " ++ decimal id
+    ++ codes " token " ++ hexadecimal token ++ codes " nonce " ++ hexadecimal nonce
+join_words (join.Answer backup id hmac nonce) =
+    codes "join" ++ word_if backup (codes " backup") ++ codes " id " ++ decimal id
+    ++ codes " hmac " ++ hexadecimal hmac ++ codes " nonce " ++ hexadecimal nonce
+join_words (join.Third hmac) = codes "join" ++ third_words hmac
+
+-- ---- DSS
+
+-- a data number, as wide as it stands
+abbrev pub number_words : DataNumber → ℕ
+number_words (Whole number) = number
+number_words (Low low) = low
+
+abbrev pub ack_words : Option DataNumber → List ℕ
+ack_words None = []
+ack_words (Some number) = codes " ack " ++ decimal (number_words number)
+
+abbrev pub mapping_words : Option DssMap → List ℕ
+mapping_words None = []
+mapping_words (Some map) =
+    codes " seq " ++ decimal (number_words map.number) ++ codes " subseq " ++ decimal map.relative
+    ++ codes " len " ++ decimal map.length ++ optional_checksum map.checksum
+
+abbrev pub dss_words : Option DataNumber → Option DssMap → Bool → List ℕ
+dss_words ack mapping fin = codes "dss" ++ word_if fin (codes " fin") ++ ack_words ack ++ mapping_words mapping
+
+-- ---- addresses
+
+abbrev pub v4_words : List ℕ → List ℕ
+v4_words octets =
+    codes " " ++ decimal (slice_index octets 0) ++ codes "." ++ decimal (slice_index octets 1)
+    ++ codes "." ++ decimal (slice_index octets 2) ++ codes "." ++ decimal (slice_index octets 3)
+
+abbrev pub v6_words : List ℕ → List ℕ
+v6_words octets = codes " " ++ encode_lower octets
+
+abbrev pub address_words : Address → List ℕ
+address_words (V4 octets) = v4_words octets
+address_words (V6 octets) = v6_words octets
+
+abbrev pub port_words : Option ℕ → List ℕ
+port_words None = []
+port_words (Some port) = codes ":" ++ decimal port
+
+abbrev pub hmac_words : Option ℕ → List ℕ
+hmac_words None = []
+hmac_words (Some hmac) = codes " hmac " ++ hexadecimal hmac
+
+abbrev pub ids_words : List ℕ → List ℕ
+ids_words ids = flat_map (λ id. codes " " ++ decimal id) ids
+
+abbrev pub announced_words : Address → Option ℕ → Option ℕ → List ℕ
+announced_words address port hmac = address_words address ++ port_words port ++ hmac_words hmac
+
+abbrev pub removed_words : List ℕ → List ℕ
+removed_words ids = codes "rem-addr id" ++ ids_words ids
+
+-- ---- all of them
+
+abbrev pub key_told : ℕ → List ℕ
+key_told key = codes " key " ++ hexadecimal key
+
+abbrev pub fast_close_words : ℕ → List ℕ
+fast_close_words key = codes "fast-close" ++ key_told key
+
+abbrev pub value_words : wire.OptionValue → List ℕ
+value_words (wire.Capable flag_a flag_c keys) = capable_words flag_a keys
+value_words (wire.Join form) = join_words form
+value_words (wire.Dss ack mapping fin) = dss_words ack mapping fin
+value_words (wire.AddAddr echo id address port hmac) =
+    codes "add-addr" ++ word_if echo (codes " echo") ++ codes " id " ++ decimal id ++ announced_words address port hmac
+value_words (wire.RemoveAddr ids) = removed_words ids
+value_words (wire.Prio backup) = codes "prio" ++ word_if backup (codes " backup")
+value_words (wire.Fail number) = codes "fail seq " ++ decimal number
+value_words (wire.FastClose key) = fast_close_words key
+value_words (wire.Reset transient reason) =
+    codes "rst" ++ word_if transient (codes " transient") ++ codes " reason " ++ decimal reason

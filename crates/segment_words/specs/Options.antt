@@ -1,0 +1,43 @@
+-- The options of a segment in words.
+use Rattle.std.specs.Prelude.{ℕ, Bool, true, false, Option, Some, None, List, [], ◌∷◌, ◌++◌, codes}
+use Rattle.std.specs.Fmt.{decimal}
+use Rattle.mptcp_options.specs.Meaning.{option_meaning}
+use Rattle.mptcp_options.specs.Value as wire
+use Rattle.segment_wire.specs.Options.{mss_of, window_scale_of}
+use Rattle.segment_words.specs.Multipath.{value_words}
+
+-- of an option of another kind
+abbrev pub kind_words : List ℕ → List ℕ
+kind_words [] = codes "unknown"
+kind_words (kind ∷ rest) = codes "unknown-" ++ decimal kind
+
+abbrev pub meaning_words : List ℕ → wire.Meaning → List ℕ
+meaning_words option (wire.Known value) = codes "mptcp " ++ value_words value
+meaning_words option wire.Malformed = codes "mptcp malformed"
+meaning_words option wire.Unknown = kind_words option
+
+-- of one of Multipath TCP, where checksums of data are used or aren't
+abbrev pub multipath_words : List ℕ → Bool → List ℕ
+multipath_words option checksums = meaning_words option (option_meaning option checksums)
+
+abbrev pub scale_words : Option ℕ → Bool → List ℕ → List ℕ
+scale_words (Some shift) checksums option = codes "wscale " ++ decimal shift
+scale_words None checksums option = multipath_words option checksums
+
+abbrev pub mss_words : Option ℕ → Bool → List ℕ → List ℕ
+mss_words (Some size) checksums option = codes "mss " ++ decimal size
+mss_words None checksums option = scale_words (window_scale_of option) checksums option
+
+abbrev pub option_words : Bool → List ℕ → List ℕ
+option_words checksums option = mss_words (mss_of option) checksums option
+
+abbrev pub before_words : Bool → List ℕ
+before_words true = codes ", options ["
+before_words false = codes ","
+
+-- the first of these is the first of all, or isn't
+abbrev pub list_words : Bool → Bool → List (List ℕ) → List ℕ
+list_words checksums true [] = []
+list_words checksums false [] = codes "]"
+list_words checksums is_first (option ∷ options) =
+    before_words is_first ++ (option_words checksums option ++ list_words checksums false options)
