@@ -1,4 +1,5 @@
-//! What neither a clause nor a line of a program of cases says: real files, a mark of a user's own type, the gate that is open.
+//! What neither a clause nor a line of a program of cases says: real files, a mark of a user's own type, the gate that is open, and
+//! threads that meet.
 #![tactic(auto)]
 
 #[cfg(test)]
@@ -6,4 +7,8 @@ mod files;
 #[cfg(test)]
 mod marks;
 #[cfg(test)]
+mod meetings;
+#[cfg(test)]
 mod outsides;
+#[cfg(test)]
+mod strays;

@@ -4,3 +4,6 @@ pub mod Driven
 pub mod Above
 pub mod Gathered
 pub mod FirstStray
+mod JournalsGrown
+mod TurnsTaken
+pub mod RoundsWoven

@@ -1,2 +1,4 @@
 pub mod Weaving
 pub mod Laws
+pub mod Journals
+pub mod Rounds

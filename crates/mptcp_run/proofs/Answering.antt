@@ -7,7 +7,7 @@ use Rattle.outside_kit.specs.declared.port.Port.TheVariants as port
 use Rattle.outside_kit.specs.Calls.{Call}
 use Rattle.outside_kit.specs.Outside.{HoldsAfter}
 use Rattle.link_script.specs.declared.script.Script.{Script}
-use Rattle.run_words.specs.Lines.{Line, serial, replay, ◌>>=◌}
+use Rattle.run_words.specs.Lines.{Line, run, serial, replay, ◌>>=◌}
 use Rattle.run_log.specs.declared.turn.Turn as log_turn
 use Rattle.run_outside.specs.declared.input.Input.{Input}
 use Rattle.world_laws.specs.Worlds.{Turn}
@@ -16,21 +16,21 @@ use Rattle.run_outside.specs.declared.status.Named.TheVariants as input
 use Rattle.run_outside.specs.declared.status.Status.{Status}
 use Rattle.run_outside.specs.declared.status.Status.TheVariants.{Delivered, Rounds, NoPath, Aborted, Usage, Script as ScriptStatus, Load, Put, TooLong, Memory, Log}
 use Rattle.run_outside.specs.Loading.{InputAdds}
-use Rattle.mptcp_run.specs.Answers.{WasRead, TurnRow, CutRow, EndRow, IsAnswer, MadeEndRow, MadeCutRow, MadeRow, IsMadeAnswer}
+use Rattle.mptcp_run.specs.Answers.{WasRead, HasRun, HasStopped, TurnRow, CutRow, EndRow, IsAnswer, MadeEndRow, MadeCutRow, MadeRow, IsMadeAnswer}
 use Rattle.run_outside.specs.Causes.{limit_of}
 use Rattle.mptcp_run.specs.Ends.{HoldsSomeRounds, HoldsToLine, CameToEnd, IsCut, IsHalted, ReplayEnds}
 use Rattle.run_outside.specs.Inputs.{order_of, content_of, AreFirstWithinLimits, IsInputFault, IsReplayInputFault, opening_count, AreWithinLimits, HasValidScript, HasValidOrder}
-use Rattle.mptcp_run.specs.Logged.{HasRounds, LogTellsTheRun}
+use Rattle.mptcp_run.specs.Logged.{HasRounds}
 use Rattle.mptcp_run.specs.Made.{Bench}
 use Rattle.run_outside.specs.Plan.{AddsAll, AddsCut, plan_of, loads_of}
-use Rattle.mptcp_run.specs.Plan.{puts_so_far, last_put, ArePuts, ArePutsBefore}
+use Rattle.mptcp_run.specs.Plan.{puts_so_far, all_puts}
 use Rattle.run_outside.specs.Ports.{IsUntouched, IsPortsFault, HoldsMore, HoldsWithin}
 use Rattle.mptcp_run.specs.Promised.{IsPlainTask, EndsWithRound, IsAlwaysKept, HoldsPrefixOf, HoldsPrefixIfBound, ReadersHaveFiles, ReadersHavePrefixes, ReadersHavePrefixesIfBound}
 use Rattle.mptcp_run.specs.Putting.{IsWhole, IsStopped}
 use Rattle.mptcp_run.specs.Replaying.{IsReplayFault}
 use Rattle.run_outside.specs.Script.{script_meaning, script_in}
 use Rattle.run_outside.specs.Reading.{script_of, log_reading}
-use Rattle.mptcp_run.specs.Task.{Task, Course, rounds, told, task_from, turn_of, turns_in, course_of, task_of}
+use Rattle.mptcp_run.specs.Task.{Task, Course, rounds, threads, told, task_from, turn_of, turns_in, course_of, task_of}
 use Rattle.mptcp_run.specs.Rounds.{all_turns}
 use Rattle.run_outside.proofs.Calls.{Told, all_then, cut_then, short_then, short_cut}
 use Rattle.mptcp_run.proofs.Logged.{whole_runs_are_told}
@@ -69,6 +69,15 @@ task_known (Some s) a b c input course script file_a file_b way =
     by (Some a) None c file_a file_b way = tt
     by (Some a) (Some b) None file_a file_b way = tt
     by (Some a) (Some b) (Some c) file_a file_b way = cc
+
+-- what a task of rounds by threads is
+pub threads_task : (content : List ℕ → Option (List ℕ)) (line : Line) (most : ℕ) (input : Input) → line.work ≡ run most
+    → IfSome (content line.names.script) (λ text. script_meaning text ≡ Ok input.script)
+    → IfSome (content line.names.file_a) (λ text. input.file_a ≡ text) → IfSome (content line.names.file_b) (λ text. input.file_b ≡ text)
+    → IfSome (task_of content line) (λ t. t ≡ task_from input (threads most))
+threads_task content line most input is script file_a file_b =
+    task_known (content line.names.script) (content line.names.file_a) (content line.names.file_b) (λ s. course_of content s line.work) input (threads most) script file_a file_b
+    (subst (λ w. IfSome (course_of content input.script w) (λ x. x ≡ threads most)) (sym is) refl)
 
 -- what a task of whole turns is
 pub serial_task : (content : List ℕ → Option (List ℕ)) (line : Line) (most : ℕ) (input : Input) → line.work ≡ serial most
@@ -164,16 +173,18 @@ module _ (a b c : Ports) (same : (p : Port) → b p ≡ a p) where
   -- behind loads
   module _ (line : Line) (task : Task) (ta tb tc : Told) (loaded : AddsAll (loads_of line) ta tb) where
     pub end_from : (status : Status) → CameToEnd [] line task b c tb tc status → CameToEnd (loads_of line) line task a c ta tc status
+    unfolding whole_from
     end_from status h = record {
       ended = h.ended;
       whole = whole_from task status h.whole;
-      calls = (h.calls.0, (h.calls.1.0, all_then (loads_of line) _ ta tb tc loaded h.calls.1.1));
+      calls = all_then (loads_of line) _ ta tb tc loaded h.calls;
     }
 
     pub cut_from : (status : Status) → IsCut [] line task b c tb tc status → IsCut (loads_of line) line task a c ta tc status
+    unfolding rounds_from
     cut_from status (inl h) = inl (record {
       ports = rounds_from task h.ports;
-      calls = (h.calls.0, (h.calls.1.0, cut_then (loads_of line) _ status ta tb tc loaded h.calls.1.1));
+      calls = cut_then (loads_of line) _ status ta tb tc loaded h.calls;
     })
     cut_from status (inr h) = inr (record {
       turns = h.turns;
@@ -183,9 +194,10 @@ module _ (a b c : Ports) (same : (p : Port) → b p ≡ a p) where
     })
 
     pub replay_from : (lines : ℕ) (status : Status) → ReplayEnds [] line task b c tb tc lines status → ReplayEnds (loads_of line) line task a c ta tc lines status
+    unfolding stopped_from
     replay_from lines (Log at) h = record {
       stopped = stopped_from task lines at h.stopped;
-      calls = (h.calls.0, (h.calls.1.0, all_then (loads_of line) _ ta tb tc loaded h.calls.1.1));
+      calls = all_then (loads_of line) _ ta tb tc loaded h.calls;
     }
     replay_from lines (Put p) h = cut_from (Put p) h
     replay_from lines Memory h = cut_from Memory h
@@ -217,9 +229,8 @@ cut_prefixes loads line task held holds ta tb status plain (inr h) =
 -- the calls alone
 cut_calls : (loads : List Call) (line : Line) (task : Task) (held holds : Ports) (ta tb : Told) (status : Status) → IsCut loads line task held holds ta tb status
     → (puts : List Call) × AddsCut (plan_of loads line puts) status ta tb
-cut_calls loads line task held holds ta tb status (inl h) = (puts_so_far task h.calls.0, h.calls.1.1)
-cut_calls loads line task held holds ta tb status (inr h) =
-    (puts_so_far task h.turns ++ last_put task h.turns, short_cut _ status ta tb h.calls)
+cut_calls loads line task held holds ta tb status (inl h) = (puts_so_far task (h.ports.turns ++ h.ports.more), h.calls)
+cut_calls loads line task held holds ta tb status (inr h) = (all_puts task h.turns, short_cut _ status ta tb h.calls)
 
 -- ---- what was read
 
@@ -233,18 +244,19 @@ ok_known : {X E : Type 0} (r : Result X E) (x : X) → r ≡ Ok x → IsOk r
 ok_known r x is = subst (λ q. IsOk q) (sym is) refl
 
 module _ (content : List ℕ → Option (List ℕ)) (line : Line) where
-  pub serial_within : (most : ℕ) → line.work ≡ serial most → AreFirstWithinLimits content line → AreWithinLimits content line
-  serial_within most is h input.Script = h.0
-  serial_within most is h input.FileA = h.1.0
-  serial_within most is h input.FileB = h.1.1
-  serial_within most is h input.Order = subst (λ w. IfSome (option_and_then content (order_of w)) (λ told. length told ≤ limit_of input.Order)) (sym is) tt
+  -- of a run that reads no log
+  pub unordered_within : order_of line.work ≡ None → AreFirstWithinLimits content line → AreWithinLimits content line
+  unordered_within none h input.Script = h.0
+  unordered_within none h input.FileA = h.1.0
+  unordered_within none h input.FileB = h.1.1
+  unordered_within none h input.Order = subst (λ (o : Option (List ℕ)). IfSome (option_and_then content o) (λ told. length told ≤ limit_of input.Order)) (sym none) tt
 
   pub script_valid : (script : Script) → IfSome (content line.names.script) (λ text. script_meaning text ≡ Ok script) → HasValidScript content line
   script_valid script h = some_weaker (content line.names.script) _ _ (λ text is. ok_known (script_meaning text) script is) h
 
-  pub serial_order : (most : ℕ) → line.work ≡ serial most → HasValidOrder content line
-  serial_order most is = some_always (script_of content line) _
-      (λ script. subst (λ w. IfSome (option_and_then content (order_of w)) (λ told. IsOk (log_reading script told))) (sym is) tt)
+  pub unordered_valid : order_of line.work ≡ None → HasValidOrder content line
+  unordered_valid none = some_always (script_of content line) _
+      (λ script. subst (λ (o : Option (List ℕ)). IfSome (option_and_then content o) (λ told. IsOk (log_reading script told))) (sym none) tt)
 
   pub replay_order : (log : List ℕ) (turns : List log_turn.Turn) (script : Script) → line.work ≡ replay log
       → IfSome (content line.names.script) (λ text. script_meaning text ≡ Ok script) → IfSome (content log) (λ text. log_reading script text ≡ Ok turns)
@@ -264,26 +276,26 @@ module _ (content : List ℕ → Option (List ℕ)) (line : Line) (loads_before 
   abbrev Answer : Status → Type 0
   Answer status = IsAnswer content line loads_before loads faults_before faults held holds ta tb status
 
-  -- what a run of whole turns reads ends it
-  pub input_answer : (most : ℕ) (plan : List Call) (status : Status) → line.work ≡ serial most → IsUntouched held holds faults_before faults
+  -- what a run without a log reads ends it
+  pub input_answer : (plan : List Call) (status : Status) → order_of line.work ≡ None → IsUntouched held holds faults_before faults
       → IsInputFault content line loads_before loads status → plan ≡ loads_of line → InputAdds line plan ta tb status
       → IsAnswer content line loads_before loads faults_before faults held holds ta tb status
-  input_answer most plan (Load named) is still h plan_is calls = record { cause = h; untouched = still; calls = calls }
-  input_answer most plan (TooLong named) is still h plan_is calls = record { cause = h; untouched = still; calls = calls }
-  input_answer most plan (ScriptStatus at kind) is still h plan_is calls = record {
-    within = serial_within content line most is h.0;
+  input_answer plan (Load named) is still h plan_is calls = record { cause = h; untouched = still; calls = calls }
+  input_answer plan (TooLong named) is still h plan_is calls = record { cause = h; untouched = still; calls = calls }
+  input_answer plan (ScriptStatus at kind) is still h plan_is calls = record {
+    within = unordered_within content line is h.0;
     cause = h.1;
     untouched = still;
     calls = subst (λ xs. AddsAll xs ta tb) plan_is calls;
   }
-  input_answer most plan Memory is still h plan_is calls = inl (record { untouched = still; calls = subst (λ xs. AddsCut xs Memory ta tb) plan_is calls })
-  input_answer most plan Delivered is still h plan_is calls = absurd h
-  input_answer most plan Rounds is still h plan_is calls = absurd h
-  input_answer most plan NoPath is still h plan_is calls = absurd h
-  input_answer most plan (Aborted reader) is still h plan_is calls = absurd h
-  input_answer most plan Usage is still h plan_is calls = absurd h
-  input_answer most plan (Put p) is still h plan_is calls = absurd h
-  input_answer most plan (Log at) is still h plan_is calls = absurd h
+  input_answer plan Memory is still h plan_is calls = inl (record { untouched = still; calls = subst (λ xs. AddsCut xs Memory ta tb) plan_is calls })
+  input_answer plan Delivered is still h plan_is calls = absurd h
+  input_answer plan Rounds is still h plan_is calls = absurd h
+  input_answer plan NoPath is still h plan_is calls = absurd h
+  input_answer plan (Aborted reader) is still h plan_is calls = absurd h
+  input_answer plan Usage is still h plan_is calls = absurd h
+  input_answer plan (Put p) is still h plan_is calls = absurd h
+  input_answer plan (Log at) is still h plan_is calls = absurd h
 
   -- what a run of the turns of a log reads does
   pub replay_input_answer : (log : List ℕ) (status : Status) → line.work ≡ replay log → IsUntouched held holds faults_before faults
@@ -348,11 +360,14 @@ module _ (content : List ℕ → Option (List ℕ)) (line : Line) (loads_before 
           → EndRow content line loads_before loads faults_before faults held holds ta tb status
       end_row status h = record {
         read = was_read;
-        whole = some_is (task_of content line) task (λ t. IsWhole t status held holds) known h.whole;
+        puts = all_puts task h.whole.turns;
+        run = some_is (task_of content line) task (λ t. HasRun t status (all_puts task h.whole.turns) held holds) known (record {
+          whole = h.whole;
+          puts_are = refl;
+          logged = whole_runs_are_told task status held holds kept plain.ranges.few_paths some h.whole;
+        });
         prefixes = prefixes (whole_runs_give_prefixes task status held holds plain h.whole);
-        logged = some_is (task_of content line) task (λ t. LogTellsTheRun t status held holds) known
-            (whole_runs_are_told task status held holds kept plain.ranges.few_paths some h.whole);
-        calls = (h.calls.0, (some_is (task_of content line) task (λ t. ArePuts t h.calls.0) known h.calls.1.0, h.calls.1.1));
+        calls = h.calls;
       }
 
       pub end_answer : (status : Status) → CameToEnd (loads_of line) line task held holds ta tb status
@@ -400,12 +415,17 @@ module _ (content : List ℕ → Option (List ℕ)) (line : Line) (loads_before 
       turn_row at h = record {
         replay = subst (λ w. IsSome (order_of w)) (sym is) refl;
         read = was_read;
-        stopped = subst (λ w. IfSome (option_and_then content (order_of w)) (λ text. IfSome (task_of content line) (λ t. IsStopped t (opening_count text) at held holds))) (sym is)
-            (some_weaker (content log) (λ text. opening ≡ opening_count text) (λ text. IfSome (task_of content line) (λ t. IsStopped t (opening_count text) at held holds))
-            (λ text same. some_is (task_of content line) task (λ t. IsStopped t (opening_count text) at held holds) known (subst (λ n. IsStopped task n at held holds) same h.stopped)) count);
+        puts = puts;
+        stopped = subst (λ w. IfSome (option_and_then content (order_of w)) (λ text. IfSome (task_of content line) (λ t. HasStopped t (opening_count text) at puts held holds))) (sym is)
+            (some_weaker (content log) (λ text. opening ≡ opening_count text) (λ text. IfSome (task_of content line) (λ t. HasStopped t (opening_count text) at puts held holds))
+            (λ text same. some_is (task_of content line) task (λ t. HasStopped t (opening_count text) at puts held holds) known
+            (subst (λ n. HasStopped task n at puts held holds) same (record { stopped = h.stopped; puts_are = refl }))) count);
         prefixes = prefixes (stopped_runs_give_prefixes task opening at held holds plain h.stopped);
-        calls = (h.calls.0, (some_is (task_of content line) task (λ t. ArePutsBefore t h.calls.0) known h.calls.1.0, h.calls.1.1));
+        calls = h.calls;
       }
+        where
+          puts : List Call
+          puts = puts_so_far task h.stopped.before
 
       pub replay_answer : (status : Status) → IsReplayFault faults_before faults status → ReplayEnds (loads_of line) line task held holds ta tb opening status
           → IsAnswer content line loads_before loads faults_before faults held holds ta tb status

@@ -51,7 +51,7 @@ some_rounds (Some word) = within_least 1 65536 word
 
 plain_asks : (b c : Bool) (o : Option ℕ) → IfSome o (λ n. 1 ≤ n) → IfSome (if b then option_map run o else (if c then option_map serial o else None)) AsksInRange
 plain_asks true c None h = tt
-plain_asks true c (Some n) h = tt
+plain_asks true c (Some n) h = h
 plain_asks false true None h = tt
 plain_asks false true (Some n) h = h
 plain_asks false false o h = tt

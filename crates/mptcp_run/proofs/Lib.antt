@@ -23,4 +23,7 @@ mod Courses
 mod PutsMade
 mod MessagesShown
 mod OneTurn
+mod RoundsWoven
+mod ThreadsMade
+mod TurnsTimely
 mod Taken

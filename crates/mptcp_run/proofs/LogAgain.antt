@@ -28,7 +28,8 @@ use Rattle.link_script.specs.declared.script.Script.{Script}
 use Rattle.run_outside.specs.Reading.{actors_of, width_of}
 use Rattle.mptcp_run.specs.Task.{Connection, turn_of, turns_in}
 use Rattle.mptcp_run.proofs.AllTurns.{step_length}
-use Rattle.mptcp_run.proofs.LogWoven.{told_turns}
+use Rattle.mptcp_run.specs.WovenRounds.{turns_told}
+use Rattle.mptcp_run.proofs.LogWoven.{turns_read}
 use Rattle.mptcp_run.proofs.RowsInRange.{rows_in_range}
 use Rattle.mptcp_run.proofs.Turning.{end_length}
 
@@ -65,15 +66,16 @@ few_rounds opening number steps (next ∷ more) fits = let rest = few_rounds ope
 -- the log of some rounds of a script's run, whose notes can be logged
 pub log_read : (script : Script) (key_a key_b : ℕ) (steps more : List (List Note)) (first : List Note) (outcome : Outcome) → width_of script < 256 → steps ≡ first ∷ more
     → RoundsFit (Some (flat_map ended (opening_lines (width_of script) key_a key_b))) 0 steps → AllByRecursion (AllByRecursion (CanBeLogged (actors_of script))) steps
-    → turns_in script (log_text (Some (flat_map ended (opening_lines (width_of script) key_a key_b))) 0 steps ++ ended (outcome_text outcome)) ≡ Some (told_turns steps)
+    → turns_in script (log_text (Some (flat_map ended (opening_lines (width_of script) key_a key_b))) 0 steps ++ ended (outcome_text outcome)) ≡ Some (turns_told steps)
 log_read script key_a key_b steps more first outcome byte is fits logged =
     let lines = opening_lines (width_of script) key_a key_b in
-    subst (λ ss. turns_in script (log_text (Some (flat_map ended lines)) 0 ss ++ ended (outcome_text outcome)) ≡ Some (told_turns ss)) (sym is)
+    subst (λ ss. turns_in script (log_text (Some (flat_map ended lines)) 0 ss ++ ended (outcome_text outcome)) ≡ Some (turns_told ss)) (sym is)
     (ap (turns_in script) (lines_are lines first more outcome)
     ∙ ap (λ r. option_map (map turn_of) (result_ok r))
     (reads_to_its_turns (actors_of script) (width_of script) key_a key_b first more outcome byte
     (let few : 0 + length more < 2 ^ 64 = few_rounds (Some (flat_map ended lines)) 0 first more (subst (RoundsFit (Some (flat_map ended lines)) 0) is fits) in omega (arith, few))
-    (subst (AllByRecursion (AllByRecursion (CanBeLogged (actors_of script)))) is logged)).0)
+    (subst (AllByRecursion (AllByRecursion (CanBeLogged (actors_of script)))) is logged)).0
+    ∙ ap Some (turns_read (first ∷ more)))
 
 -- ---- each note can be logged
 

@@ -13,25 +13,25 @@ use Rattle.world_laws.proofs.RoundTurns.{rounds_lawful}
 use Rattle.world_laws.proofs.WeavingRounds.{run_append, lawful_append, steps_weave}
 use Rattle.world_core.specs.RoundEnds.{round_ends, last_end, round_steps, steps_by_round}
 use Rattle.mptcp_run.specs.Rounds.{Begins}
-use Rattle.mptcp_run.specs.Task.{Connection, Course, rounds, told, turn_of, AreTurnsOf}
+use Rattle.mptcp_run.specs.Task.{Connection, Course, rounds, threads, told, turn_of, AreTurnsOf}
+use Rattle.mptcp_run.specs.WovenRounds.{turns_told}
 use Rattle.mptcp_run.proofs.UnderWay.{lists_at_end, next_begins}
 
 -- ---- the turns that notes tell
 
-abbrev pub told_turns : List (List Note) → List Turn
-told_turns steps = map turn_of (turns_of steps)
-
-round_told : (notes : List Note) (rest : List log_turn.Turn)
+round_read : (notes : List Note) (rest : List log_turn.Turn)
     → map turn_of (turns_of_round notes ++ rest) ≡ steps_by (map (λ note. note.actor) notes) ++ Turn.Round ∷ map turn_of rest
-round_told [] rest = refl
-round_told (note ∷ notes) rest = ap (λ ts. Turn.Step note.actor ∷ ts) (round_told notes rest)
+round_read [] rest = refl
+round_read (note ∷ notes) rest = ap (λ ts. Turn.Step note.actor ∷ ts) (round_read notes rest)
 
-told_more : (notes : List Note) (more : List (List Note)) → told_turns (notes ∷ more) ≡ steps_by (map (λ note. note.actor) notes) ++ Turn.Round ∷ told_turns more
-told_more notes more = round_told notes (turns_of more)
+-- they are those that a log of the notes is read as
+pub turns_read : (steps : List (List Note)) → map turn_of (turns_of steps) ≡ turns_told steps
+turns_read [] = refl
+turns_read (notes ∷ more) = round_read notes (turns_of more) ∙ ap (λ ts. steps_by (map (λ note. note.actor) notes) ++ Turn.Round ∷ ts) (turns_read more)
 
 -- ---- steps, one after the other
 
-steps_end : (actors : List ℕ) (rest : List Turn) (w : Connection) → round_ends (steps_by actors ++ rest) w ≡ round_ends rest (world_run octets (steps_by actors) w)
+pub steps_end : (actors : List ℕ) (rest : List Turn) (w : Connection) → round_ends (steps_by actors ++ rest) w ≡ round_ends rest (world_run octets (steps_by actors) w)
 steps_end [] rest w = refl
 steps_end (actor ∷ actors) rest w = steps_end actors rest (world_step octets actor w)
 
@@ -39,7 +39,7 @@ steps_push : (actors : List ℕ) (actor : ℕ) (w : Connection) → world_run oc
 steps_push [] actor w = refl
 steps_push (first ∷ actors) actor w = steps_push actors actor (world_step octets first w)
 
-steps_fine : (actors : List ℕ) (w : Connection) → IsFine w → IsFine (world_run octets (steps_by actors) w)
+pub steps_fine : (actors : List ℕ) (w : Connection) → IsFine w → IsFine (world_run octets (steps_by actors) w)
 steps_fine [] w fine = fine
 steps_fine (actor ∷ actors) w fine = steps_fine actors (world_step octets actor w) (step_fine octets actor w fine)
 
@@ -47,8 +47,8 @@ steps_fine (actor ∷ actors) w fine = steps_fine actors (world_step octets acto
 
 -- the turns that the rounds of some turns tell, from the world where the round of the first one began
 pub record AreWoven (turns : List Turn) (last w : Connection) : Type 0 where
-  pub lawful : AreLawful octets (told_turns (steps_by_round last (round_ends turns w))) last
-  pub ends : round_ends (told_turns (steps_by_round last (round_ends turns w))) last ≡ round_ends turns w
+  pub lawful : AreLawful octets (turns_told (steps_by_round last (round_ends turns w))) last
+  pub ends : round_ends (turns_told (steps_by_round last (round_ends turns w))) last ≡ round_ends turns w
 
 fine_steps : (actors : List ℕ) (last w : Connection) → Begins last → w ≡ world_run octets (steps_by actors) last → IsFine w
 fine_steps actors last w begins is = subst IsFine (sym is) (steps_fine actors last begins.fine)
@@ -71,11 +71,10 @@ round_woven turns actors last w begins is over rest = record {
         (steps_weave octets top last (record { fine = begins.fine; known = begins.known }) actors).1
 
     later : List Turn
-    later = told_turns (steps_by_round (end_round w) (round_ends turns (end_round w)))
+    later = turns_told (steps_by_round (end_round w) (round_ends turns (end_round w)))
 
-    order_is : told_turns (round_steps last (end_round w) ∷ steps_by_round (end_round w) (round_ends turns (end_round w))) ≡ woven top w ++ Turn.Round ∷ later
-    order_is = told_more (round_steps last (end_round w)) (steps_by_round (end_round w) (round_ends turns (end_round w)))
-        ∙ ap (λ lists. steps_by (order_of top lists) ++ Turn.Round ∷ later) (lists_at_end w)
+    order_is : turns_told (round_steps last (end_round w) ∷ steps_by_round (end_round w) (round_ends turns (end_round w))) ≡ woven top w ++ Turn.Round ∷ later
+    order_is = ap (λ lists. steps_by (order_of top lists) ++ Turn.Round ∷ later) (lists_at_end w)
 
 -- these actors have made the steps of the round so far
 pub turns_woven : (turns : List Turn) (actors : List ℕ) (last w : Connection) → Begins last → w ≡ world_run octets (steps_by actors) last → AreLawful octets turns w
@@ -89,15 +88,15 @@ turns_woven (Turn.Round ∷ turns) actors last w begins is lawful =
     (turns_woven turns [] (end_round w) (end_round w) (next_begins w (fine_steps actors last w begins is) lawful.0) refl lawful.1)
 
 -- turns that notes tell lead to the last round's end
-pub told_to_the_end : (steps : List (List Note)) (w : Connection) → last_end w (round_ends (told_turns steps) w) ≡ world_run octets (told_turns steps) w
+pub told_to_the_end : (steps : List (List Note)) (w : Connection) → last_end w (round_ends (turns_told steps) w) ≡ world_run octets (turns_told steps) w
 told_to_the_end [] w = refl
 told_to_the_end (notes ∷ more) w =
     let actors : List ℕ = map (λ note. note.actor) notes in
-    let v : Connection = end_round (world_run octets (steps_by actors) w) in
-    ap (λ ts. last_end w (round_ends ts w)) (told_more notes more) ∙ ap (last_end w) (steps_end actors (Turn.Round ∷ told_turns more) w)
-    ∙ told_to_the_end more v ∙ sym (ap (λ ts. world_run octets ts w) (told_more notes more) ∙ run_append octets (steps_by actors) (Turn.Round ∷ told_turns more) w)
+    ap (last_end w) (steps_end actors (Turn.Round ∷ turns_told more) w) ∙ told_to_the_end more (end_round (world_run octets (steps_by actors) w))
+    ∙ sym (run_append octets (steps_by actors) (Turn.Round ∷ turns_told more) w)
 
 -- all turns of a course are lawful
 pub course_lawful : (course : Course) (turns : List Turn) (w : Connection) → AreTurnsOf course turns w → AreLawful octets turns w
 course_lawful (rounds most) turns w (counted, are, is) = subst (λ ts. AreLawful octets ts w) (sym is) (rounds_lawful octets most counted w are)
+course_lawful (threads most) turns w are = are.lawful
 course_lawful (told order) turns w are = are.1

@@ -14,17 +14,19 @@ use Rattle.world_laws.specs.Outcomes.{outcome_of, output_of}
 use Rattle.world_laws.specs.Serial.{spelled, after_round, AreRounds}
 use Rattle.world_laws.specs.Worlds.{Turn, world_step, end_round}
 use Rattle.world_laws.proofs.Serially.{serial_is_one}
+use Rattle.mptcp_run.specs.declared.report.Report.{Report}
 use Rattle.mptcp_run.specs.declared.report.Report.TheVariants as report
 use Rattle.run_outside.specs.declared.status.Status.{Status}
-use Rattle.mptcp_run.specs.Logged.{HasRounds, replayed, TellsTheRun, LogTellsTheRun, WholeRunsAreTold, WholeRunsAgree}
+use Rattle.mptcp_run.specs.Logged.{HasRounds, IsSettled, replayed, TellsTheRun, LogTellsTheRun, WholeRunsAreTold, WholeRunsAgree}
 use Rattle.mptcp_run.specs.Promised.{EndsWithRound}
 use Rattle.world_core.specs.RoundEnds.{round_ends, last_end, steps_by_round}
 use Rattle.run_outside.specs.LogText.{log_text, RoundsFit}
 use Rattle.mptcp_run.specs.Putting.{log_opening, opening_in, status_of, told_outcome, last_line_of, last_line, steps_so_far, read_so_far, log_so_far, world_after, IsWhole}
 use Rattle.run_outside.specs.Reading.{actors_of, width_of}
-use Rattle.mptcp_run.specs.Task.{Connection, Task, Course, rounds, told, first_world, turns_in, AreTurnsOf}
+use Rattle.mptcp_run.specs.Task.{Connection, Task, Course, rounds, threads, told, first_world, turns_in, AreTurnsOf}
+use Rattle.mptcp_run.specs.WovenRounds.{turns_told, AreAtMost}
 use Rattle.mptcp_run.proofs.LogAgain.{log_read, rounds_logged}
-use Rattle.mptcp_run.proofs.LogWoven.{told_turns, AreWoven, turns_woven, told_to_the_end, course_lawful}
+use Rattle.mptcp_run.proofs.LogWoven.{AreWoven, turns_woven, told_to_the_end, course_lawful}
 use Rattle.mptcp_run.proofs.Courses.{counts_ends}
 use Rattle.run_outside.proofs.PortsLemmas.{whole_more, more_weaker}
 use Rattle.mptcp_run.proofs.Promised.{last_end_of_course}
@@ -51,8 +53,14 @@ serial_round (suc most) (counts ∷ counted) w some are = record {
   is = counts_ends 0 counts (spelled counted) w;
 }
 
+woven_round : (most : ℕ) (ends : List Connection) → 1 ≤ most → AreAtMost most ends → SomeEnded ends
+woven_round zero ends some few = absurd (omega (arith, some))
+woven_round (suc most) [] some few = absurd few
+woven_round (suc most) (v ∷ ends) some few = record { first = v; more = ends; is = refl }
+
 course_round : (course : Course) (turns : List Turn) (w : Connection) → HasRounds course → AreTurnsOf course turns w → SomeEnded (round_ends turns w)
 course_round (rounds most) turns w has (counted, are, is) = subst (λ ts. SomeEnded (round_ends ts w)) (sym is) (serial_round most counted w has are)
+course_round (threads most) turns w has are = woven_round most (round_ends turns w) has are.few
 course_round (told order) turns w (prefix, order_is) are = subst (λ ts. SomeEnded (round_ends ts w)) (sym (are.0 ∙ order_is)) (at_round prefix w)
 
 -- ---- the run that the log tells
@@ -81,9 +89,9 @@ width_fits script = by script.short
 abbrev logged : Script → List ℕ → List ℕ → Course → Task
 logged script file_a file_b course = record { script = script; file_a = file_a; file_b = file_b; course = course; report = report.Log }
 
-as_logged : (task : Task) → task.report ≡ report.Log → logged task.script task.file_a task.file_b task.course ≡ task
-as_logged task kept =
-    ap (λ r. record { script = task.script; file_a = task.file_a; file_b = task.file_b; course = task.course; report = r }) (sym kept)
+-- this task with such a report
+abbrev reporting : Task → Report → Task
+reporting task r = record { script = task.script; file_a = task.file_a; file_b = task.file_b; course = task.course; report = r }
 
 -- the line of the outcome
 abbrev outcome_line : Connection → List ℕ
@@ -98,7 +106,7 @@ module _ (script : Script) (file_a file_b : List ℕ) (way : Course) (status : S
   made = steps_so_far task whole.turns
 
   abbrev noted : List Turn
-  noted = told_turns made
+  noted = turns_told made
 
   again : AreWoven whole.turns (first_world task) (first_world task)
   again = turns_woven whole.turns [] (first_world task) (first_world task) (opened_begins (start_of task.script task.file_a task.file_b)) refl
@@ -111,6 +119,7 @@ module _ (script : Script) (file_a file_b : List ℕ) (way : Course) (status : S
     where
       ends : (course : Course) → HasRounds course → EndsWithRound course
       ends (rounds most) has = tt
+      ends (threads most) has = tt
       ends (told order) has = has
 
   read_again : turns_in script (log_so_far task whole.turns ++ outcome_line (world_after task whole.turns)) ≡ Some noted
@@ -134,32 +143,31 @@ module _ (script : Script) (file_a file_b : List ℕ) (way : Course) (status : S
     };
   }
 
-  pub whole_run_is_told : LogTellsTheRun task status old new
+  pub whole_run_is_told : LogTellsTheRun task whole.turns status old new
   whole_run_is_told =
       let text : List ℕ = log_so_far task whole.turns ++ outcome_line (world_after task whole.turns) in
       let tells : TellsTheRun task whole.turns status old new text = record { order = noted; read = read_again; whole = replay_whole; same = same_world } in
-      record {
-        turns = whole.turns;
-        are = whole.are;
-        log = more_weaker (old Log) (new Log) [] (λ all. all ≡ text) (TellsTheRun task whole.turns status old new) (λ all is. subst (TellsTheRun task whole.turns status old new) (sym is) tells)
-            (whole_more (old Log) (new Log) [] text text whole.ports.log refl);
-      }
+      more_weaker (old Log) (new Log) [] (λ all. all ≡ text) (TellsTheRun task whole.turns status old new) (λ all is. subst (TellsTheRun task whole.turns status old new) (sym is) tells)
+      (whole_more (old Log) (new Log) [] text text whole.ports.log refl)
 
 pub whole_runs_are_told : WholeRunsAreTold
 whole_runs_are_told task status old new kept few has whole =
-    let same = as_logged task kept in
-    subst (λ t. LogTellsTheRun t status old new) same
-    (whole_run_is_told task.script task.file_a task.file_b task.course status old new few has (subst (λ t. IsWhole t status old new) (sym same) whole))
+    by task.report kept whole
+  where
+    by : (r : Report) → r ≡ report.Log → (whole : IsWhole (reporting task r) status old new) → LogTellsTheRun (reporting task r) whole.turns status old new
+    by report.Log is whole = whole_run_is_told task.script task.file_a task.file_b task.course status old new few has whole
+    by (report.Summary number) is whole = cc
 
 -- ---- runs of one task
 
-turns_are_one : (course : Course) (ts us : List Turn) (w : Connection) → AreTurnsOf course ts w → AreTurnsOf course us w → ts ≡ us
-turns_are_one (rounds most) ts us w x y = serial_is_one octets most ts us w x y
-turns_are_one (told order) ts us w x y = x.0 ∙ sym y.0
+turns_are_one : (course : Course) (ts us : List Turn) (w : Connection) → IsSettled course → AreTurnsOf course ts w → AreTurnsOf course us w → ts ≡ us
+turns_are_one (rounds most) ts us w settled x y = serial_is_one octets most ts us w x y
+turns_are_one (threads most) ts us w settled x y = absurd settled
+turns_are_one (told order) ts us w settled x y = x.0 ∙ sym y.0
 
 pub whole_runs_agree : WholeRunsAgree
-whole_runs_agree task status other old new before after one two =
-    let same : two.turns ≡ one.turns = turns_are_one task.course two.turns one.turns (first_world task) two.are one.are in (
+whole_runs_agree task status other old new before after settled one two =
+    let same : two.turns ≡ one.turns = turns_are_one task.course two.turns one.turns (first_world task) settled two.are one.are in (
       one.status_is ∙ sym (two.status_is ∙ ap (λ ts. status_of (outcome_of (world_after task ts).crew)) same),
       record {
         text_b = read_so_far B task one.turns;

@@ -11,28 +11,27 @@ use Rattle.mptcp_run.specs.declared.rounds.Run.{Run}
 use Rattle.run_outside.specs.declared.status.Status.{Status}
 use Rattle.run_outside.specs.declared.status.Status.TheVariants.{Delivered, Rounds, NoPath, Aborted, Usage, Script, Load, Put, TooLong, Memory, Log}
 use Rattle.mptcp_run.specs.Making.{TurnMade}
-use Rattle.mptcp_run.specs.Replaying.{UnderWay, StepFault, TurnFault, IsReplayFault, round_turn}
+use Rattle.mptcp_run.specs.Replaying.{UnderWay, StepFault, TurnStops, IsReplayFault, round_turn}
 use Rattle.mptcp_run.specs.Task.{Connection, turn_of}
 use Rattle.run_outside.proofs.Calls.{Told, adds_none}
 use Rattle.run_outside.proofs.Calling.{only_none}
 use Rattle.run_outside.proofs.PortsLemmas.{OnOk-holds, IfErr-map}
-use Rattle.mptcp_run.proofs.PutsMade.{step_ends}
 use Rattle.mptcp_run.proofs.Turning.{under_step}
 
--- a step that wasn't made, as a turn
-step_part : (opening : Option (List ℕ)) (number actor : ℕ) (last w : Connection) (line : ℕ) (o : Port → Option (List ℕ)) (status : Status)
-    → StepFault actor w line status → TurnFault opening number (Turn.Step actor) last w line o o status
-step_part opening number actor last w line o (Log at) h = (h.0, (λ going. let stopped = h.1 in cc (going, stopped), λ port. refl))
-step_part opening number actor last w line o Memory h = inl (λ port. refl)
-step_part opening number actor last w line o Delivered h = absurd h
-step_part opening number actor last w line o Rounds h = absurd h
-step_part opening number actor last w line o NoPath h = absurd h
-step_part opening number actor last w line o (Aborted reader) h = absurd h
-step_part opening number actor last w line o Usage h = absurd h
-step_part opening number actor last w line o (Script at kind) h = absurd h
-step_part opening number actor last w line o (Load named) h = absurd h
-step_part opening number actor last w line o (Put p) h = absurd h
-step_part opening number actor last w line o (TooLong named) h = absurd h
+-- a step that wasn't made, as a turn: it makes no call
+step_stops : (opening : Option (List ℕ)) (number actor : ℕ) (last w : Connection) (line : ℕ) (o : Port → Option (List ℕ)) (a : Told) (status : Status)
+    → StepFault actor w line status → TurnStops opening number (Turn.Step actor) last w line o o a a status
+step_stops opening number actor last w line o a (Log at) h = (h.0, ((λ going. let stopped = h.1 in cc (going, stopped)), ((λ port. refl), adds_none a)))
+step_stops opening number actor last w line o a Memory h = inl (refl, ((λ port. refl), adds_none a))
+step_stops opening number actor last w line o a Delivered h = absurd h
+step_stops opening number actor last w line o a Rounds h = absurd h
+step_stops opening number actor last w line o a NoPath h = absurd h
+step_stops opening number actor last w line o a (Aborted reader) h = absurd h
+step_stops opening number actor last w line o a Usage h = absurd h
+step_stops opening number actor last w line o a (Script at kind) h = absurd h
+step_stops opening number actor last w line o a (Load named) h = absurd h
+step_stops opening number actor last w line o a (Put p) h = absurd h
+step_stops opening number actor last w line o a (TooLong named) h = absurd h
 
 step_cause : (actor : ℕ) (w : Connection) (line : ℕ) (f : Port → ℕ) (status : Status) → StepFault actor w line status → IsReplayFault f f status
 step_cause actor w line f (Log at) h = tt
@@ -57,9 +56,8 @@ step_made opening number turn actor last line run world l f o a r is under ok fa
     (record {
       under = on_ok_weaker r (λ made. under_step last run (record run { world = world }) actor under made refl) ok;
       whole = OnOk-holds r _ (λ port. refl);
-      part = IfErr-map r (λ status h. step_part opening number actor last run.world.state line o status h) fault;
       made = OnOk-holds r _ (adds_none a);
-      cut = IfErr-map r (λ status h. step_ends opening number actor last run.world.state a line status h) fault;
+      stops = IfErr-map r (λ status h. step_stops opening number actor last run.world.state line o a status h) fault;
       fault = IfErr-map r (λ status h. step_cause actor run.world.state line f status h) fault;
       only = only_none l f;
     })

@@ -17,7 +17,7 @@ use Rattle.run_outside.specs.declared.status.Status.TheVariants.{Memory}
 use Rattle.mptcp_run.specs.Courses.{CourseMade, CourseCut}
 use Rattle.mptcp_run.specs.Ends.{HasEnded, HoldsCut, HoldsToLine, CameToEnd, IsCut}
 use Rattle.run_outside.specs.Plan.{AddsAll, AddsCut, AddsShort, binds_of}
-use Rattle.mptcp_run.specs.Plan.{puts_so_far, last_put}
+use Rattle.mptcp_run.specs.Plan.{puts_so_far}
 use Rattle.run_outside.specs.Ports.{HoldsMore, HoldsWithin, IsBetween}
 use Rattle.mptcp_run.specs.Putting.{opening_in, status_of, last_line, ends_of, read_so_far, log_so_far, HoldsRounds, HoldsRun, AreFirstOf}
 use Rattle.mptcp_run.specs.Rounds.{HoldsEnds, HoldsPart}
@@ -151,13 +151,8 @@ module _ (line : Line) (task : Task) (ha hb hc : Ports) (held : AreBound ha hb) 
         status_is = shown ∙ ap (λ w. status_of (outcome_of w.crew)) made.world;
         ports = run_held task made.turns last ha hc hd is (rounds_held task made.turns ha hb hc held made.ports) grew;
       };
-      calls = (
-        puts_so_far task made.turns ++ last_put task made.turns,
-        (
-          (made.turns, (made.are, refl)),
-          all_then (binds_of line) _ a b d bound (all_then (puts_so_far task made.turns) _ b c d made.calls (subst (λ text. AddsAll (line_put text) c d) is told)),
-        ),
-      );
+      calls = all_then (binds_of line) _ a b d bound
+          (all_then (puts_so_far task made.turns) _ b c d made.calls (subst (λ text. AddsAll (line_put text) c d) is told));
     }
 
     -- it wasn't put whole
@@ -174,7 +169,7 @@ module _ (line : Line) (task : Task) (ha hb hc : Ports) (held : AreBound ha hb) 
   pub rounds_short : (status : Status) → CourseCut task.course (opening_in task) (first_world task) hb hc b c status → IsCut [] line task ha hc a c status
   rounds_short status h = inl (record {
     ports = record { turns = h.turns; more = h.more; are = h.are; one = h.one; ports = part_cut task h.turns h.more ha hb hc held h.ports };
-    calls = (h.made, (h.made_are, cut_then (binds_of line) _ status a b c bound h.calls));
+    calls = cut_then (binds_of line) _ status a b c bound h.calls;
   })
 
 -- not all was bound
@@ -183,7 +178,7 @@ pub binds_short : (line : Line) (task : Task) (ha hb : Ports) (a b : Told) (stat
     → hb port.Log ≡ ha port.Log → AddsCut (binds_of line) status a b → IsCut [] line task ha hb a b status
 binds_short line task ha hb a b status none read_by_b read_by_a log h = inl (record {
   ports = record { turns = []; more = []; are = none; one = omega arith; ports = begin_cut task ha hb read_by_b read_by_a log };
-  calls = ([], (none, cut_longer (binds_of line) [] status a b h));
+  calls = cut_longer (binds_of line) [] status a b h;
 })
 
 -- nothing was made, for want of memory

@@ -18,7 +18,8 @@ use Rattle.run_outside.specs.Ports.{HoldsWithin}
 use Rattle.world_core.specs.RoundEnds.{round_ends, last_end}
 use Rattle.mptcp_run.specs.Putting.{status_of, read_so_far, world_after}
 use Rattle.mptcp_run.specs.Promised.{IsPlainTask, EndsWithRound, HoldsPrefixOf, HoldsPrefixIfBound, PlainTasksAreKept, WholeRunsGivePrefixes, DeliveredRunsGiveFiles, StoppedRunsGivePrefixes, CutRunsGivePrefixes, LinesCutGivePrefixes}
-use Rattle.mptcp_run.specs.Task.{Connection, Task, Course, rounds, told, first_world, AreTurnsOf}
+use Rattle.mptcp_run.specs.Task.{Connection, Task, Course, rounds, threads, told, first_world, AreTurnsOf}
+use Rattle.mptcp_run.proofs.RoundsWoven.{woven_to_the_end}
 
 -- ---- prefixes
 
@@ -92,6 +93,7 @@ pub last_end_of_course : (course : Course) (turns : List Turn) (w : Connection) 
     → last_end w (round_ends turns w) ≡ world_run octets turns w
 last_end_of_course (rounds most) turns w ends (counted, are, is) =
     subst (λ (ts : List Turn). last_end w (round_ends ts w) ≡ world_run octets ts w) (sym is) (last_end_of_rounds counted w)
+last_end_of_course (threads most) turns w ends are = woven_to_the_end most turns w are
 last_end_of_course (told order) turns w (prefix, order_is) are =
     subst (λ (ts : List Turn). last_end w (round_ends ts w) ≡ world_run octets ts w) (sym (are.0 ∙ order_is)) (last_end_at_round prefix w w)
 

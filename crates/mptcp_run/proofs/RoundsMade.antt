@@ -1,135 +1,174 @@
--- Rounds of whole turns, made and put one after the other.
-use Rattle.std.proofs.Common.{◌≡◌, refl, sym, subst, ℕ, suc, ◌+◌, ◌≤◌, Bool, true, false, inl, inr, ◌⊎◌, List, [], ◌∷◌, ◌++◌, Option, arith}
+-- Rounds of a kind, made and put one after the other.
+use Rattle.std.proofs.Common.{◌≡◌, refl, sym, ◌∙◌, ap, subst, ℕ, suc, ◌+◌, ◌≤◌, true, false, inl, inr, ◌⊎◌, List, [], ◌∷◌, ◌++◌, length, Option, append_assoc, arith}
+use Rattle.std.proofs.lemmas.List.{append-nil}
 use Rattle.outside_kit.specs.declared.port.Port.{Port}
 use Rattle.outside_kit.specs.declared.side.Side.TheVariants.{A, B}
 use Rattle.path_core.specs.Octets.{octets}
 use Rattle.world_laws.specs.Outcomes.{outcome_of, output_of}
-use Rattle.world_laws.specs.Serial.{goes_on, OneOf, AreRounds, after_round}
-use Rattle.world_core.specs.Rounds.{RoundTo}
-use Rattle.mptcp_run.specs.Rounds.{HoldsRound, HoldsPart, RoundCut}
+use Rattle.world_laws.specs.Serial.{goes_on}
+use Rattle.world_laws.specs.Worlds.{Turn, world_run}
+use Rattle.world_laws.proofs.WeavingRounds.{run_append}
+use Rattle.world_core.specs.RoundEnds.{round_ends}
+use Rattle.run_outside.specs.declared.status.Status.{Status}
+use Rattle.mptcp_run.specs.Making.{RoundMade, RoundStops}
+use Rattle.run_outside.specs.Plan.{AddsAll, AddsCut}
+use Rattle.mptcp_run.specs.Plan.{round_puts, puts_by_round}
+use Rattle.mptcp_run.specs.Putting.{AreFirst}
+use Rattle.mptcp_run.specs.Rounds.{HoldsEnds, HoldsPart}
 use Rattle.mptcp_run.specs.Task.{Connection}
+use Rattle.run_outside.proofs.Calls.{Told, adds_none, all_then, cut_then, cut_longer, cut_none}
+use Rattle.mptcp_run.proofs.Folding.{RoundsPut, RoundsCut}
 use Rattle.run_outside.proofs.PortsLemmas.{IsPrefix-refl}
 use Rattle.mptcp_run.proofs.RoundSteps.{nothing_part, nothing_ends, ends_more, part_behind}
-use Rattle.mptcp_run.proofs.Folding.{ends_by, RoundsPut, RoundsCut}
-
-pub one_true : (b : Bool) (this that : Type 0) → b ≡ true → this → OneOf b this that
-one_true b this that is x = subst (λ c. OneOf c this that) (sym is) x
-
-pub one_false : (b : Bool) (this that : Type 0) → b ≡ false → that → OneOf b this that
-one_false b this that is x = subst (λ c. OneOf c this that) (sym is) x
-
-pub one_both : (b : Bool) (this that : Type 0) → this → that → OneOf b this that
-one_both true this that x y = x
-one_both false this that x y = y
 
 abbrev Ports : Type 0
 Ports = Port → Option (List ℕ)
 
-module _ (opening : Option (List ℕ)) where
+-- What a kind of rounds has: the turns of each, and those of at most so many.
+pub record IsKind (To : Connection → Connection → Type 0) (Are : ℕ → List Turn → Connection → Type 0) : Type 0 where
+  pub turns_of : (w v : Connection) → To w v → List Turn
+  pub ran : (w v : Connection) (r : To w v) → world_run octets (turns_of w v r) w ≡ v
+  pub ends : (w v : Connection) (r : To w v) (rest : List Turn) → round_ends (turns_of w v r ++ rest) w ≡ v ∷ round_ends rest v
+  pub none : (w : Connection) → Are 0 [] w
+  pub one : (w v : Connection) (r : To w v) → Are 1 (turns_of w v r) w
+  pub last : (n : ℕ) (w v : Connection) (r : To w v) → goes_on (outcome_of v.crew) ≡ false → Are (suc n) (turns_of w v r) w
+  pub more : (n : ℕ) (w v : Connection) (r : To w v) (rest : List Turn) → goes_on (outcome_of v.crew) ≡ true → Are n rest v
+      → Are (suc n) (turns_of w v r ++ rest) w
+
+module _ (To : Connection → Connection → Type 0) (Are : ℕ → List Turn → Connection → Type 0) (kind : IsKind To Are) (opening : Option (List ℕ)) where
+  ran_more : (w v : Connection) (r : To w v) (rest : List Turn) → world_run octets (kind.turns_of w v r ++ rest) w ≡ world_run octets rest v
+  ran_more w v r rest = run_append octets (kind.turns_of w v r) rest w ∙ ap (world_run octets rest) (kind.ran w v r)
+
+  one_end : (w v : Connection) (r : To w v) → round_ends (kind.turns_of w v r) w ≡ v ∷ []
+  one_end w v r = ap (λ ts. round_ends ts w) (sym (append-nil (kind.turns_of w v r))) ∙ kind.ends w v r []
+
   -- ---- all of them
 
   -- a round first, whose outcome is Going
-  pub rounds_more : (most left number count : ℕ) (w v x : Connection) (a b c : Ports) → most ≡ suc left → RoundTo octets w v → goes_on (outcome_of v.crew) ≡ true
-      → HoldsRound opening number w v a b → RoundsPut opening left (suc number) count v x b c → RoundsPut opening most number count w x a c
-  rounds_more most left number count w v x a b c e r going round rest = subst (λ m. RoundsPut opening m number count w x a c) (sym e)
-      (by (subst (λ z. goes_on (outcome_of z.crew) ≡ true) r.2 going) (subst (λ z. HoldsRound opening number w z a b) r.2 round)
-      (subst (λ z. RoundsPut opening left (suc number) count z x b c) r.2 rest))
-    where
-      by : goes_on (outcome_of (after_round octets r.0 w).crew) ≡ true → HoldsRound opening number w (after_round octets r.0 w) a b
-          → RoundsPut opening left (suc number) count (after_round octets r.0 w) x b c → RoundsPut opening (suc left) number count w x a c
-      by going round rest = record {
-        rounds = r.0 ∷ rest.rounds;
-        count_is = let many = rest.count_is in omega (arith, many);
-        are = (r.1, one_true _ _ _ going rest.are);
-        world = rest.world;
-        ports = ends_more opening number w (after_round octets r.0 w) (ends_by rest.rounds (after_round octets r.0 w)) a b c round rest.ports;
+  rounds_more : (left number count : ℕ) (w v x : Connection) (a b c : Ports) (ta tb tc : Told) → goes_on (outcome_of v.crew) ≡ true
+      → RoundMade To opening number w v a b ta tb → RoundsPut Are opening left (suc number) count v x b c tb tc
+      → RoundsPut Are opening (suc left) number count w x a c ta tc
+  rounds_more left number count w v x a b c ta tb tc going made rest =
+      let ends = kind.ends w v made.round rest.turns in
+      record {
+        turns = kind.turns_of w v made.round ++ rest.turns;
+        are = kind.more left w v made.round rest.turns going rest.are;
+        world = rest.world ∙ sym (ran_more w v made.round rest.turns);
+        count_is = let many = rest.count_is in
+            let as_many : length (round_ends (kind.turns_of w v made.round ++ rest.turns) w) ≡ suc (length (round_ends rest.turns v)) = ap length ends in omega (arith, many, as_many);
+        ports = subst (λ es. HoldsEnds opening number w es a c) (sym ends) (ends_more opening number w v (round_ends rest.turns v) a b c made.ports rest.ports);
+        calls = subst (λ es. AddsAll (puts_by_round opening number w es) ta tc) (sym ends)
+            (all_then (round_puts opening number w v) (puts_by_round opening (suc number) v (round_ends rest.turns v)) ta tb tc made.calls rest.calls);
       }
 
   -- the last one
-  pub rounds_last : (most left number count : ℕ) (w v : Connection) (a b : Ports) → most ≡ suc left → RoundTo octets w v → goes_on (outcome_of v.crew) ≡ false
-      → HoldsRound opening number w v a b → count ≡ number + 1 → RoundsPut opening most number count w v a b
-  rounds_last most left number count w v a b e r over round many = subst (λ m. RoundsPut opening m number count w v a b) (sym e) (record {
-    rounds = r.0 ∷ [];
-    count_is = many;
-    are = (r.1, one_false _ _ _ (subst (λ z. goes_on (outcome_of z.crew) ≡ false) r.2 over) refl);
-    world = r.2;
-    ports = ends_more opening number w (after_round octets r.0 w) [] a b b (subst (λ z. HoldsRound opening number w z a b) r.2 round)
-        (nothing_ends opening (suc number) (after_round octets r.0 w) b b (λ p. refl));
-  })
+  rounds_last : (left number count : ℕ) (w v : Connection) (a b : Ports) (ta tb : Told) → goes_on (outcome_of v.crew) ≡ false
+      → RoundMade To opening number w v a b ta tb → count ≡ number + 1 → RoundsPut Are opening (suc left) number count w v a b ta tb
+  rounds_last left number count w v a b ta tb over made many =
+      let end = one_end w v made.round in
+      record {
+        turns = kind.turns_of w v made.round;
+        are = kind.last left w v made.round over;
+        world = sym (kind.ran w v made.round);
+        count_is = let one : length (round_ends (kind.turns_of w v made.round) w) ≡ 1 = ap length end in omega (arith, many, one);
+        ports = subst (λ es. HoldsEnds opening number w es a b) (sym end)
+            (ends_more opening number w v [] a b b made.ports (nothing_ends opening (suc number) v b b (λ p. refl)));
+        calls = subst (λ es. AddsAll (puts_by_round opening number w es) ta tb) (sym end) (all_then (round_puts opening number w v) [] ta tb tb made.calls (adds_none tb));
+      }
 
-  pub rounds_over : (most number count : ℕ) (w : Connection) (a : Ports) → most ≡ 0 → count ≡ number → RoundsPut opening most number count w w a a
-  rounds_over most number count w a none many = subst (λ m. RoundsPut opening m number count w w a a) (sym none) (record {
-    rounds = [];
-    count_is = omega (arith, many);
-    are = refl;
+  pub rounds_over : (most number count : ℕ) (w : Connection) (a : Ports) (ta : Told) → most ≡ 0 → count ≡ number → RoundsPut Are opening most number count w w a a ta ta
+  rounds_over most number count w a ta none many = subst (λ m. RoundsPut Are opening m number count w w a a ta ta) (sym none) (record {
+    turns = [];
+    are = kind.none w;
     world = refl;
+    count_is = omega (arith, many);
     ports = nothing_ends opening number w a a (λ p. refl);
+    calls = adds_none ta;
   })
 
   -- ---- some of them
 
-  pub cut_more : (most left number : ℕ) (w v : Connection) (a b c : Ports) → most ≡ suc left → RoundTo octets w v → goes_on (outcome_of v.crew) ≡ true
-      → HoldsRound opening number w v a b → RoundsCut opening left (suc number) v b c → RoundsCut opening most number w a c
-  cut_more most left number w v a b c e r going round rest = subst (λ m. RoundsCut opening m number w a c) (sym e)
-      (by (subst (λ z. goes_on (outcome_of z.crew) ≡ true) r.2 going) (subst (λ z. HoldsRound opening number w z a b) r.2 round)
-      (subst (λ z. RoundsCut opening left (suc number) z b c) r.2 rest))
+  cut_more : (left number : ℕ) (w v : Connection) (a b c : Ports) (ta tb tc : Told) (status : Status) → goes_on (outcome_of v.crew) ≡ true
+      → RoundMade To opening number w v a b ta tb → RoundsCut Are opening left (suc number) v b c tb tc status
+      → RoundsCut Are opening (suc left) number w a c ta tc status
+  cut_more left number w v a b c ta tb tc status going made rest = record {
+    turns = turns ++ rest.turns;
+    more = rest.more;
+    are = first rest.are;
+    one = subst (λ z. length (round_ends rest.more z) ≤ 1) (sym (ran_more w v made.round rest.turns)) rest.one;
+    ports = subst (λ es. HoldsPart opening number w es (round_ends ((turns ++ rest.turns) ++ rest.more) w) a c) (sym (kind.ends w v made.round rest.turns))
+        (subst (λ es. HoldsPart opening number w (v ∷ round_ends rest.turns v) es a c) (sym ends)
+        (part_behind opening number w v (round_ends rest.turns v) (round_ends (rest.turns ++ rest.more) v) a b c made.ports rest.ports));
+    calls = subst (λ es. AddsCut (puts_by_round opening number w es) status ta tc) (sym ends)
+        (cut_then (round_puts opening number w v) (puts_by_round opening (suc number) v (round_ends (rest.turns ++ rest.more) v)) status ta tb tc made.calls rest.calls);
+  }
     where
-      by : goes_on (outcome_of (after_round octets r.0 w).crew) ≡ true → HoldsRound opening number w (after_round octets r.0 w) a b
-          → RoundsCut opening left (suc number) (after_round octets r.0 w) b c → RoundsCut opening (suc left) number w a c
-      by going round rest = record {
-        n = suc rest.n;
-        rounds = r.0 ∷ rest.rounds;
-        more = rest.more;
-        few = let few = rest.few in omega (arith, few);
-        are = (r.1, one_true _ _ _ going rest.are);
-        next = next rest.next;
-        ports = part_behind opening number w (after_round octets r.0 w) (ends_by rest.rounds (after_round octets r.0 w))
-            (ends_by (rest.rounds ++ rest.more) (after_round octets r.0 w)) a b c round rest.ports;
-      }
-        where
-          next : (rest.more ≡ []) ⊎ ((suc rest.n ≤ left) × (((counts : List ℕ) × (rest.more ≡ counts ∷ [])) × AreRounds octets (suc rest.n) (rest.rounds ++ rest.more) (after_round octets r.0 w)))
-              → (rest.more ≡ []) ⊎ ((suc (suc rest.n) ≤ suc left) × (((counts : List ℕ) × (rest.more ≡ counts ∷ [])) × AreRounds octets (suc (suc rest.n)) (r.0 ∷ (rest.rounds ++ rest.more)) w))
-          next (inl none) = inl none
-          next (inr (few, (one, are))) = inr (omega (arith, few), (one, (r.1, one_true _ _ _ going are)))
+      turns : List Turn
+      turns = kind.turns_of w v made.round
+
+      ends : round_ends ((turns ++ rest.turns) ++ rest.more) w ≡ v ∷ round_ends (rest.turns ++ rest.more) v
+      ends = ap (λ ts. round_ends ts w) (append_assoc turns rest.turns rest.more) ∙ kind.ends w v made.round (rest.turns ++ rest.more)
+
+      next : (n : ℕ) → (rest.more ≡ []) ⊎ ((suc n ≤ left) × Are (suc n) (rest.turns ++ rest.more) v)
+          → (rest.more ≡ []) ⊎ ((suc (suc n) ≤ suc left) × Are (suc (suc n)) ((turns ++ rest.turns) ++ rest.more) w)
+      next n (inl none) = inl none
+      next n (inr (few, are)) = inr (
+        omega (arith, few),
+        subst (λ ts. Are (suc (suc n)) ts w) (sym (append_assoc turns rest.turns rest.more)) (kind.more (suc n) w v made.round (rest.turns ++ rest.more) going are),
+      )
+
+      first : AreFirst (λ n ts. Are n ts v) left rest.turns rest.more → AreFirst (λ n ts. Are n ts w) (suc left) (turns ++ rest.turns) rest.more
+      first (n, (few, (are, after))) = (suc n, (omega (arith, few), (kind.more n w v made.round rest.turns going are, next n after)))
 
   -- a part of the first one, or nothing
-  pub cut_here : (most left number : ℕ) (w : Connection) (a b : Ports) → most ≡ suc left → RoundCut opening number w a b → RoundsCut opening most number w a b
-  cut_here most left number w a b e (inl same) = record {
-    n = 0;
-    rounds = [];
+  cut_here : (left number : ℕ) (w : Connection) (a b : Ports) (ta tb : Told) (status : Status) → RoundStops To opening number w a b ta tb status
+      → RoundsCut Are opening (suc left) number w a b ta tb status
+  cut_here left number w a b ta tb status (inl (is, (same, none))) = record {
+    turns = [];
     more = [];
-    few = omega arith;
-    are = refl;
-    next = inl refl;
+    are = (0, (omega arith, (kind.none w, inl refl)));
+    one = omega arith;
     ports = nothing_part opening number w [] a b same (IsPrefix-refl (output_of B w)) (IsPrefix-refl (output_of A w));
+    calls = cut_none [] status ta tb is none;
   }
-  cut_here most left number w a b e (inr (v, (r, part))) = record {
-    n = 0;
-    rounds = [];
-    more = r.0 ∷ [];
-    few = omega arith;
-    are = refl;
-    next = inr (omega (arith, e), ((r.0, refl), (r.1, one_both _ _ _ refl refl)));
-    ports = subst (λ z. HoldsPart opening number w [] (z ∷ []) a b) r.2 part;
-  }
+  cut_here left number w a b ta tb status (inr cut) =
+      let end = one_end w cut.end cut.round in
+      record {
+        turns = [];
+        more = kind.turns_of w cut.end cut.round;
+        are = (0, (omega arith, (kind.none w, inr (omega arith, kind.one w cut.end cut.round))));
+        one = let many : length (round_ends (kind.turns_of w cut.end cut.round) w) ≡ 1 = ap length end in omega (arith, many);
+        ports = subst (λ es. HoldsPart opening number w [] es a b) (sym end) cut.ports;
+        calls = subst (λ es. AddsCut (puts_by_round opening number w es) status ta tb) (sym end) (cut_longer (round_puts opening number w cut.end) [] status ta tb cut.calls);
+      }
 
 -- ---- the same, with numbers as a loop counts them
 
-pub put_more : (op next_op : Option (List ℕ)) (most left i next n count : ℕ) (w v x : Connection) (a b c : Ports) → next_op ≡ op → most ≡ suc left → next ≡ suc i → n ≡ i
-    → RoundTo octets w v → goes_on (outcome_of v.crew) ≡ true → HoldsRound op n w v a b → RoundsPut next_op left next count v x b c → RoundsPut op most i count w x a c
-put_more op next_op most left i next n count w v x a b c same e f g r going round rest =
-    rounds_more op most left i count w v x a b c e r going (subst (λ m. HoldsRound op m w v a b) g round)
-    (subst (λ m. RoundsPut op left m count v x b c) f (subst (λ o. RoundsPut o left next count v x b c) same rest))
+module _ (To : Connection → Connection → Type 0) (Are : ℕ → List Turn → Connection → Type 0) (kind : IsKind To Are) (op : Option (List ℕ)) (most left i n : ℕ)
+    (e : most ≡ suc left) (g : n ≡ i) where
+  pub put_more : (next_op : Option (List ℕ)) (next count : ℕ) (w v x : Connection) (a b c : Ports) (ta tb tc : Told) → next_op ≡ op → next ≡ suc i
+      → goes_on (outcome_of v.crew) ≡ true → RoundMade To op n w v a b ta tb → RoundsPut Are next_op left next count v x b c tb tc
+      → RoundsPut Are op most i count w x a c ta tc
+  put_more next_op next count w v x a b c ta tb tc same f going made rest =
+      subst (λ m. RoundsPut Are op m i count w x a c ta tc) (sym e)
+      (rounds_more To Are kind op left i count w v x a b c ta tb tc going (subst (λ m. RoundMade To op m w v a b ta tb) g made)
+      (subst (λ m. RoundsPut Are op left m count v x b c tb tc) f (subst (λ o. RoundsPut Are o left next count v x b c tb tc) same rest)))
 
-pub put_last : (op : Option (List ℕ)) (most left i n count : ℕ) (w v : Connection) (a b : Ports) → most ≡ suc left → n ≡ i → RoundTo octets w v
-    → goes_on (outcome_of v.crew) ≡ false → HoldsRound op n w v a b → count ≡ i + 1 → RoundsPut op most i count w v a b
-put_last op most left i n count w v a b e g r over round many = rounds_last op most left i count w v a b e r over (subst (λ m. HoldsRound op m w v a b) g round) many
+  pub put_last : (count : ℕ) (w v : Connection) (a b : Ports) (ta tb : Told) → goes_on (outcome_of v.crew) ≡ false → RoundMade To op n w v a b ta tb
+      → count ≡ i + 1 → RoundsPut Are op most i count w v a b ta tb
+  put_last count w v a b ta tb over made many =
+      subst (λ m. RoundsPut Are op m i count w v a b ta tb) (sym e)
+      (rounds_last To Are kind op left i count w v a b ta tb over (subst (λ m. RoundMade To op m w v a b ta tb) g made) many)
 
-pub cut_later : (op next_op : Option (List ℕ)) (most left i next n : ℕ) (w v : Connection) (a b c : Ports) → next_op ≡ op → most ≡ suc left → next ≡ suc i → n ≡ i
-    → RoundTo octets w v → goes_on (outcome_of v.crew) ≡ true → HoldsRound op n w v a b → RoundsCut next_op left next v b c → RoundsCut op most i w a c
-cut_later op next_op most left i next n w v a b c same e f g r going round rest =
-    cut_more op most left i w v a b c e r going (subst (λ m. HoldsRound op m w v a b) g round)
-    (subst (λ m. RoundsCut op left m v b c) f (subst (λ o. RoundsCut o left next v b c) same rest))
+  pub cut_later : (next_op : Option (List ℕ)) (next : ℕ) (w v : Connection) (a b c : Ports) (ta tb tc : Told) (status : Status) → next_op ≡ op → next ≡ suc i
+      → goes_on (outcome_of v.crew) ≡ true → RoundMade To op n w v a b ta tb → RoundsCut Are next_op left next v b c tb tc status
+      → RoundsCut Are op most i w a c ta tc status
+  cut_later next_op next w v a b c ta tb tc status same f going made rest =
+      subst (λ m. RoundsCut Are op m i w a c ta tc status) (sym e)
+      (cut_more To Are kind op left i w v a b c ta tb tc status going (subst (λ m. RoundMade To op m w v a b ta tb) g made)
+      (subst (λ m. RoundsCut Are op left m v b c tb tc status) f (subst (λ o. RoundsCut Are o left next v b c tb tc status) same rest)))
 
-pub cut_now : (op : Option (List ℕ)) (most left i n : ℕ) (w : Connection) (a b : Ports) → most ≡ suc left → n ≡ i → RoundCut op n w a b → RoundsCut op most i w a b
-cut_now op most left i n w a b e g cut = cut_here op most left i w a b e (subst (λ m. RoundCut op m w a b) g cut)
+  pub cut_now : (w : Connection) (a b : Ports) (ta tb : Told) (status : Status) → RoundStops To op n w a b ta tb status → RoundsCut Are op most i w a b ta tb status
+  cut_now w a b ta tb status stops =
+      subst (λ m. RoundsCut Are op m i w a b ta tb status) (sym e)
+      (cut_here To Are kind op left i w a b ta tb status (subst (λ m. RoundStops To op m w a b ta tb status) g stops))

@@ -15,13 +15,12 @@ use Rattle.run_outside.specs.declared.status.Status.TheVariants.{Delivered, Roun
 use Rattle.mptcp_run.specs.Courses.{CourseMade, CourseCut, LogStops}
 use Rattle.mptcp_run.specs.Ends.{CameToEnd, IsCut, ReplayEnds}
 use Rattle.run_outside.specs.Plan.{AddsAll, AddsShort, binds_of}
-use Rattle.mptcp_run.specs.Plan.{puts_so_far}
 use Rattle.run_outside.specs.Ports.{NeverFall, IsPortsFault}
 use Rattle.world_core.specs.RoundEnds.{round_ends}
 use Rattle.mptcp_run.specs.Putting.{opening_of, opening_in, status_of, ends_of, world_after, last_line, last_line_of}
 use Rattle.mptcp_run.specs.Replaying.{IsReplayFault}
 use Rattle.mptcp_run.specs.Rounds.{Begins, AtRound, IsOpened}
-use Rattle.mptcp_run.specs.Task.{Connection, Task, task_with, task_from, first_world}
+use Rattle.mptcp_run.specs.Task.{Connection, Course, Task, task_with, task_from, first_world}
 use Rattle.mptcp_run.specs.Task as course
 use Rattle.run_outside.proofs.Calls.{Told, all_then}
 use Rattle.mptcp_run.proofs.Performing.{AreBound, LogGrew, LogGrewPart, rounds_held, line_put, line_done, line_short, rounds_short}
@@ -64,31 +63,30 @@ logged_line task turns count v kept end =
 
 module _ (input : Input) (kind : Report) (run : Run) (h : IsOpened input kind run) (line : Line) (ha hb hc : Ports) (held : AreBound ha hb) (a b c : Told)
     (bound : AddsAll (binds_of line) a b) where
-  -- whole turns
-  module _ (most : ℕ) where
-    abbrev serial_run : Task
-    serial_run = task_with input (course.rounds most) kind
+  -- rounds
+  module _ (way : Course) where
+    abbrev rounds_run : Task
+    rounds_run = task_with input way kind
 
-    pub serial_short : (status : Status) → CourseCut (course.rounds most) run.opening run.world.state hb hc b c status
-        → IsCut [] line (task_with input (course.rounds most) kind) ha hc a c status
-    serial_short status cut =
-        rounds_short line serial_run ha hb hc held a b c bound status (as_opened input kind run h (λ o w. CourseCut (course.rounds most) o w hb hc b c status) cut)
+    pub course_short : (status : Status) → CourseCut way run.opening run.world.state hb hc b c status → IsCut [] line (task_with input way kind) ha hc a c status
+    course_short status cut =
+        rounds_short line rounds_run ha hb hc held a b c bound status (as_opened input kind run h (λ o w. CourseCut way o w hb hc b c status) cut)
 
     module _ (count : ℕ) (v : Connection) (status : Status) (hd : Ports) (d : Told)
-        (ok : (m : CourseMade (course.rounds most) run.opening run.world.state v hb hc b c) × (count ≡ length (round_ends m.turns run.world.state))) where
-      made : (m : CourseMade (course.rounds most) (opening_in serial_run) (first_world serial_run) v hb hc b c) × (count ≡ length (ends_of serial_run m.turns))
-      made = as_opened input kind run h (λ o w. (m : CourseMade (course.rounds most) o w v hb hc b c) × (count ≡ length (round_ends m.turns w))) ok
+        (ok : (m : CourseMade way run.opening run.world.state v hb hc b c) × (count ≡ length (round_ends m.turns run.world.state))) where
+      made : (m : CourseMade way (opening_in rounds_run) (first_world rounds_run) v hb hc b c) × (count ≡ length (ends_of rounds_run m.turns))
+      made = as_opened input kind run h (λ o w. (m : CourseMade way o w v hb hc b c) × (count ≡ length (round_ends m.turns w))) ok
 
-      pub serial_done : status ≡ status_of (outcome_of v.crew) → LogGrew (last_line_of kind count v) hc hd → AddsAll (line_put (last_line_of kind count v)) c d
-          → CameToEnd [] line (task_with input (course.rounds most) kind) ha hd a d status
-      serial_done shown grew told =
-          line_done line serial_run ha hb hc held a b c bound v made.0 (last_line_of kind count v) (line_after serial_run count v made.0.turns made.1 made.0.world)
+      pub course_done : status ≡ status_of (outcome_of v.crew) → LogGrew (last_line_of kind count v) hc hd → AddsAll (line_put (last_line_of kind count v)) c d
+          → CameToEnd [] line (task_with input way kind) ha hd a d status
+      course_done shown grew told =
+          line_done line rounds_run ha hb hc held a b c bound v made.0 (last_line_of kind count v) (line_after rounds_run count v made.0.turns made.1 made.0.world)
           status hd d shown grew told
 
-      pub serial_line_short : LogGrewPart (last_line_of kind count v) hc hd → AddsShort (line_put (last_line_of kind count v)) status c d
-          → IsCut [] line (task_with input (course.rounds most) kind) ha hd a d status
-      serial_line_short grew cut =
-          line_short line serial_run ha hb hc held a b c bound v made.0 (last_line_of kind count v) (line_after serial_run count v made.0.turns made.1 made.0.world)
+      pub course_line_short : LogGrewPart (last_line_of kind count v) hc hd → AddsShort (line_put (last_line_of kind count v)) status c d
+          → IsCut [] line (task_with input way kind) ha hd a d status
+      course_line_short grew cut =
+          line_short line rounds_run ha hb hc held a b c bound v made.0 (last_line_of kind count v) (line_after rounds_run count v made.0.turns made.1 made.0.world)
           status hd d grew cut
 
 module _ (input : Input) (run : Run) (h : IsOpened input report.Log run) (line : Line) (ha hb hc : Ports) (held : AreBound ha hb) (a b c : Told)
@@ -130,21 +128,7 @@ module _ (line : Line) (task : Task) (order : List Turn) (is : task.course ≡ c
           line_is = h.1.0 ∙ ap (λ n. lines + n + 1) halted.count_is;
           ports = rounds_held task halted.made ha hb hc held halted.ports;
         };
-        calls = (
-          puts_so_far task halted.made,
-          (
-            record {
-              before = halted.made;
-              turn = halted.turn;
-              behind = halted.behind;
-              order = is ∙ ap course.told halted.order_is;
-              lawful = halted.lawful;
-              refused = halted.refused;
-              puts_are = refl;
-            },
-            all_then (binds_of line) _ a b c bound halted.calls,
-          ),
-        );
+        calls = all_then (binds_of line) _ a b c bound halted.calls;
       }
   log_stops (Put p) h =
       rounds_short line task ha hb hc held a b c bound (Put p) (subst (λ x. CourseCut x (opening_in task) (first_world task) hb hc b c (Put p)) (sym is) h)

@@ -10,11 +10,14 @@ use Rattle.world_laws.specs.Worlds.{world_step, all_over, end_round, greatest}
 use Rattle.mptcp_run.specs.declared.rounds.Run.{Run}
 use Rattle.run_outside.specs.declared.status.Status.{Status}
 use Rattle.run_outside.specs.declared.status.Status.TheVariants.{Delivered, Rounds, NoPath, Aborted, Usage, Script, Load, Put, TooLong, Memory, Log}
+use Rattle.run_outside.specs.Plan.{AddsCut}
+use Rattle.mptcp_run.specs.Plan.{round_puts}
 use Rattle.run_outside.specs.Ports.{IsPortsFault}
-use Rattle.mptcp_run.specs.Replaying.{GoesOn, UnderWay, TurnFault, round_turn}
+use Rattle.mptcp_run.specs.Replaying.{GoesOn, UnderWay, TurnStops, round_turn}
 use Rattle.mptcp_run.specs.Rounds.{AtRound, HoldsPart}
 use Rattle.mptcp_run.specs.Task.{Connection}
 use Rattle.world_core.specs.Weaving.{AllGrewAbove, IsSince}
+use Rattle.run_outside.proofs.Calls.{Told}
 use Rattle.mptcp_run.proofs.UnderWay.{step_goes, begins_going, lists_at_end, next_begins}
 use Rattle.mptcp_run.proofs.AllTurns.{since_length}
 
@@ -62,24 +65,25 @@ under_end last run new h over world made =
     }
 
 -- a round that wasn't put whole
-pub put_fault : (opening : Option (List ℕ)) (number : ℕ) (last w : Connection) (line : ℕ) (old new : Port → Option (List ℕ)) (before faults : Port → ℕ) (r : Result (Unit {0}) Status)
-    → all_over w.crew ≡ true → IfErr r (IsPortsFault before faults) → OnErr r (HoldsPart opening number last [] (end_round w ∷ []) old new)
-    → IfErr r (TurnFault opening number round_turn last w line old new)
-put_fault opening number last w line old new before faults (Ok x) over cause part = tt
-put_fault opening number last w line old new before faults (Err status) over cause part = by status cause
+pub round_stops : (opening : Option (List ℕ)) (number : ℕ) (last w : Connection) (line : ℕ) (old new : Port → Option (List ℕ)) (before faults : Port → ℕ) (a b : Told)
+    (r : Result (Unit {0}) Status) → all_over w.crew ≡ true → IfErr r (IsPortsFault before faults) → OnErr r (HoldsPart opening number last [] (end_round w ∷ []) old new)
+    → IfErr r (λ status. AddsCut (round_puts opening number last (end_round w)) status a b) → IfErr r (TurnStops opening number round_turn last w line old new a b)
+round_stops opening number last w line old new before faults a b (Ok x) over cause part cut = tt
+round_stops opening number last w line old new before faults a b (Err status) over cause part cut = by status cause cut
   where
-    by : (status : Status) → IsPortsFault before faults status → TurnFault opening number round_turn last w line old new status
-    by (Put p) cause = inr (over, part)
-    by Memory cause = inr (over, part)
-    by Delivered cause = absurd cause
-    by Rounds cause = absurd cause
-    by NoPath cause = absurd cause
-    by (Aborted reader) cause = absurd cause
-    by Usage cause = absurd cause
-    by (Script at kind) cause = absurd cause
-    by (Load input) cause = absurd cause
-    by (TooLong input) cause = absurd cause
-    by (Log at) cause = absurd cause
+    by : (status : Status) → IsPortsFault before faults status → AddsCut (round_puts opening number last (end_round w)) status a b
+        → TurnStops opening number round_turn last w line old new a b status
+    by (Put p) cause cut = inr (over, (part, cut))
+    by Memory cause cut = inr (over, (part, cut))
+    by Delivered cause cut = absurd cause
+    by Rounds cause cut = absurd cause
+    by NoPath cause cut = absurd cause
+    by (Aborted reader) cause cut = absurd cause
+    by Usage cause cut = absurd cause
+    by (Script at kind) cause cut = absurd cause
+    by (Load input) cause cut = absurd cause
+    by (TooLong input) cause cut = absurd cause
+    by (Log at) cause cut = absurd cause
 
 -- a round didn't end, though the world stands: some turn isn't over
 pub not_over : (failed over result : Bool) → result ≡ (not failed && over) → failed ≡ false → result ≡ false → over ≡ true → ⊥

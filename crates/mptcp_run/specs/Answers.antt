@@ -11,12 +11,12 @@ use Rattle.run_outside.specs.declared.status.Named.{Named}
 use Rattle.run_outside.specs.declared.status.Named.TheVariants as input
 use Rattle.run_outside.specs.declared.status.Status.{Status}
 use Rattle.run_outside.specs.declared.status.Status.TheVariants.{Delivered, Rounds, NoPath, Aborted, Usage, Script, Load, Put, TooLong, Memory, Log}
-use Rattle.mptcp_run.specs.Ends.{HasEnded, AddsWork, IsCut}
+use Rattle.mptcp_run.specs.Ends.{HasEnded, IsCut}
 use Rattle.run_outside.specs.Inputs.{order_of, content_of, IsLoadsFault, opening_count, AreWithinLimits, HasValidScript, HasValidOrder, IsValid}
 use Rattle.mptcp_run.specs.Logged.{LogTellsTheRun}
 use Rattle.mptcp_run.specs.Made.{Bench}
 use Rattle.run_outside.specs.Plan.{AddsAll, AddsCut, AddsLoadsTo, loads_of, plan_of}
-use Rattle.mptcp_run.specs.Plan.{ArePuts, ArePutsBefore}
+use Rattle.mptcp_run.specs.Plan.{puts_so_far, all_puts}
 use Rattle.run_outside.specs.Ports.{IsUntouched}
 use Rattle.mptcp_run.specs.Promised.{IsAlwaysKept, ReadersHaveFiles, ReadersHavePrefixes, ReadersHavePrefixesIfBound}
 use Rattle.mptcp_run.specs.Putting.{IsWhole, IsStopped}
@@ -37,17 +37,23 @@ pub record WasRead (content : List ℕ → Option (List ℕ)) (line : Line) : Ty
   pub order : HasValidOrder content line
   pub kept : IfSome (task_of content line) IsAlwaysKept
 
--- ---- a run of `serial` or `replay`
+-- A run of a task came to its own end: the ports hold the run of all its turns, these are the puts
+-- of them, and the log tells them.
+pub record HasRun (task : Task) (status : Status) (puts : List Call) (held holds : Ports) : Type 0 where
+  pub whole : IsWhole task status held holds
+  pub puts_are : puts ≡ all_puts task whole.turns
+  pub logged : LogTellsTheRun task whole.turns status held holds
+
+-- It stopped at a turn that can't be made: the ports hold the rounds before, and these are their
+-- puts.
+pub record HasStopped (task : Task) (opening line : ℕ) (puts : List Call) (held holds : Ports) : Type 0 where
+  pub stopped : IsStopped task opening line held holds
+  pub puts_are : puts ≡ puts_so_far task stopped.before
+
+-- ---- a run of `run`, `serial` or `replay`
 
 module _ (content : List ℕ → Option (List ℕ)) (line : Line) (loads_before loads : ℕ)
     (faults_before faults : Port → ℕ) (held holds : Ports) (told tells : Option (List Made)) where
-  -- all of a plan was made whose puts are such ones of the task
-  abbrev pub AddsPlan : (Task → List Call → Type 0) → Type 0
-  AddsPlan Are =
-      (puts : List Call)
-      × (IfSome (task_of content line) (λ task. Are task puts)
-      × AddsAll (plan_of (loads_of line) line puts) told tells)
-
   -- an input can't be loaded, or is too long
   pub record LoadRow (named : Named) (status : Status) : Type 0 where
     pub cause : IsLoadsFault content line loads_before loads status
@@ -77,11 +83,12 @@ module _ (content : List ℕ → Option (List ℕ)) (line : Line) (loads_before 
   pub record TurnRow (at : ℕ) : Type 0 where
     pub replay : IsSome (order_of line.work)
     pub read : WasRead content line
-    pub stopped : IfSome (content_of content line input.Order) (λ log.
-        IfSome (task_of content line) (λ task. IsStopped task (opening_count log) at held holds))
+    pub puts : List Call
+    pub stopped : IfSome (content_of content line input.Order) (λ log. IfSome
+        (task_of content line) (λ task. HasStopped task (opening_count log) at puts held holds))
     pub prefixes : ReadersHavePrefixes (content line.names.file_a) (content line.names.file_b)
         held holds
-    pub calls : AddsPlan ArePutsBefore
+    pub calls : AddsAll (plan_of (loads_of line) line puts) told tells
 
   -- the run was cut off behind its loads
   pub record CutRow (status : Status) : Type 0 where
@@ -100,11 +107,11 @@ module _ (content : List ℕ → Option (List ℕ)) (line : Line) (loads_before 
   -- the run came to its own end
   pub record EndRow (status : Status) : Type 0 where
     pub read : WasRead content line
-    pub whole : IfSome (task_of content line) (λ task. IsWhole task status held holds)
+    pub puts : List Call
+    pub run : IfSome (task_of content line) (λ task. HasRun task status puts held holds)
     pub prefixes : ReadersHavePrefixes (content line.names.file_a) (content line.names.file_b)
         held holds
-    pub logged : IfSome (task_of content line) (λ task. LogTellsTheRun task status held holds)
-    pub calls : AddsPlan ArePuts
+    pub calls : AddsAll (plan_of (loads_of line) line puts) told tells
 
   abbrev pub IsAnswer : Status → Type 0
   IsAnswer Delivered =
@@ -129,7 +136,7 @@ module _ (made : Bench) (loads_before loads : ℕ) (faults_before faults : Port 
     pub whole : IsWhole made.task status held holds
     pub prefixes : ReadersHavePrefixes (Some made.task.file_a) (Some made.task.file_b)
         held holds
-    pub calls : AddsWork [] made.line made.task told tells ArePuts
+    pub calls : AddsAll (plan_of [] made.line (all_puts made.task whole.turns)) told tells
 
   pub record MadeCutRow (status : Status) : Type 0 where
     pub cut : IsCut [] made.line made.task held holds told tells status

@@ -1,5 +1,5 @@
 -- The turns of a course, made and put from the opening on.
-use Rattle.std.specs.Prelude.{◌≡◌, ℕ, ◌+◌, ◌≤◌, List, [], ◌∷◌, ◌++◌, length, Option}
+use Rattle.std.specs.Prelude.{◌≡◌, ℕ, ◌+◌, ◌≤◌, List, ◌∷◌, ◌++◌, length, Option}
 use Rattle.outside_kit.specs.declared.port.Port.{Port}
 use Rattle.outside_kit.specs.Calls.{Made}
 use Rattle.path_core.specs.Octets.{octets}
@@ -27,7 +27,7 @@ pub record CourseMade (course : Course) (opening : Option (List ℕ)) (w v : Con
   pub calls : AddsAll (puts_by_round opening 0 w (round_ends turns w)) before after
 
 -- Those of its first rounds were, and a run ends with this status: the ports grew by what these
--- put, and by a part of what the next one puts.
+-- put, and by a part of what the next one puts, whose last call that was made ended the run.
 pub record CourseCut (course : Course) (opening : Option (List ℕ)) (w : Connection) (old new : Ports)
     (before after : Option (List Made)) (status : Status) : Type 0 where
   pub turns : List Turn
@@ -35,9 +35,7 @@ pub record CourseCut (course : Course) (opening : Option (List ℕ)) (w : Connec
   pub are : AreFirstOf course turns more w
   pub one : length (round_ends more (world_run octets turns w)) ≤ 1
   pub ports : HoldsPart opening 0 w (round_ends turns w) (round_ends (turns ++ more) w) old new
-  pub made : List Turn
-  pub made_are : AreFirstOf course made [] w
-  pub calls : AddsCut (puts_by_round opening 0 w (round_ends made w)) status before after
+  pub calls : AddsCut (puts_by_round opening 0 w (round_ends (turns ++ more) w)) status before after
 
 -- a turn of a log, the one behind so many, is the first that can't be made; the rounds before it
 -- were put

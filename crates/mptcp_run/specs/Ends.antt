@@ -11,7 +11,7 @@ use Rattle.run_outside.specs.declared.status.Status.{Status}
 use Rattle.run_outside.specs.declared.status.Status.TheVariants.{Delivered, Rounds, NoPath, Aborted, Put, Memory}
 use Rattle.run_outside.specs.declared.status.Status.TheVariants as status_is
 use Rattle.run_outside.specs.Plan.{AddsAll, AddsCut, AddsShort, plan_of}
-use Rattle.mptcp_run.specs.Plan.{puts_so_far, last_put, ArePuts, ArePutsBefore}
+use Rattle.mptcp_run.specs.Plan.{puts_so_far, all_puts}
 use Rattle.run_outside.specs.Ports.{HoldsMore, HoldsWithin, IsBetween}
 use Rattle.world_core.specs.RoundEnds.{round_ends}
 use Rattle.mptcp_run.specs.Putting.{last_line, read_so_far, log_so_far, world_after, IsWhole, IsStopped, AreFirstOf}
@@ -56,21 +56,7 @@ pub record HoldsToLine (task : Task) (turns : List Turn) (old new : Ports) : Typ
   pub log : HoldsMore (old Log) (new Log) []
       (IsBetween (log_so_far task turns) (log_so_far task turns ++ last_line task turns))
 
--- ---- with the calls that were made: these loads, the binds, and puts
-
--- all of a plan was made whose puts are such ones of the task
-abbrev pub AddsWork : List Call → Line → Task → Option (List Made) → Option (List Made)
-    → (Task → List Call → Type 0) → Type 0
-AddsWork loads line task told tells Are =
-    (puts : List Call) × (Are task puts × AddsAll (plan_of loads line puts) told tells)
-
--- its first calls were, up to puts of the first rounds of the task
-abbrev pub AddsSome : List Call → Line → Task → Option (List Made) → Option (List Made)
-    → Status → Type 0
-AddsSome loads line task told tells status =
-    (turns : List Turn)
-    × (AreFirstOf task.course turns [] (first_world task)
-    × AddsCut (plan_of loads line (puts_so_far task turns)) status told tells)
+-- ---- with the calls that were made: these loads, the binds, and the puts of the same turns
 
 module _ (loads : List Call) (line : Line) (task : Task) (held holds : Ports)
     (told tells : Option (List Made)) where
@@ -78,20 +64,20 @@ module _ (loads : List Call) (line : Line) (task : Task) (held holds : Ports)
   pub record CameToEnd (status : Status) : Type 0 where
     pub ended : HasEnded status
     pub whole : IsWhole task status held holds
-    pub calls : AddsWork loads line task told tells ArePuts
+    pub calls : AddsAll (plan_of loads line (all_puts task whole.turns)) told tells
 
   -- it was cut off while it was bound or in its rounds
   pub record IsCutInRounds (status : Status) : Type 0 where
     pub ports : HoldsSomeRounds task held holds
-    pub calls : AddsSome loads line task told tells status
+    pub calls : AddsCut (plan_of loads line (puts_so_far task (ports.turns ++ ports.more))) status
+        told tells
 
   -- or at its last line, which wasn't put whole
   pub record IsCutAtLine (status : Status) : Type 0 where
     pub turns : List Turn
     pub are : AreTurnsOf task.course turns (first_world task)
     pub ports : HoldsToLine task turns held holds
-    pub calls : AddsShort (plan_of loads line (puts_so_far task turns ++ last_put task turns))
-        status told tells
+    pub calls : AddsShort (plan_of loads line (all_puts task turns)) status told tells
 
   abbrev pub IsCut : Status → Type 0
   IsCut status = IsCutInRounds status ⊎ IsCutAtLine status
@@ -99,7 +85,7 @@ module _ (loads : List Call) (line : Line) (task : Task) (held holds : Ports)
   -- a turn of its log can't be made, where so many lines stand before the first one
   pub record IsHalted (opening at : ℕ) : Type 0 where
     pub stopped : IsStopped task opening at held holds
-    pub calls : AddsWork loads line task told tells ArePutsBefore
+    pub calls : AddsAll (plan_of loads line (puts_so_far task stopped.before)) told tells
 
   -- the turns of a log end a run with this status
   abbrev pub ReplayEnds : ℕ → Status → Type 0

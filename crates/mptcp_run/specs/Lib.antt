@@ -14,3 +14,5 @@ pub mod Replaying
 pub mod Rounds
 pub mod Taken
 pub mod Task
+pub mod Threads
+pub mod WovenRounds

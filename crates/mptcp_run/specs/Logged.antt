@@ -8,11 +8,12 @@ use Rattle.mptcp_run.specs.declared.report.Report.TheVariants as report
 use Rattle.run_outside.specs.declared.status.Status.{Status}
 use Rattle.run_outside.specs.Ports.{HoldsMore}
 use Rattle.mptcp_run.specs.Putting.{world_after, IsWhole}
-use Rattle.mptcp_run.specs.Task.{Task, Course, rounds, told, first_world, turns_in, AreTurnsOf}
+use Rattle.mptcp_run.specs.Task.{Task, Course, rounds, threads, told, turns_in}
 
 -- one round at least, and the last turn is the end of one
 abbrev pub HasRounds : Course → Type 0
 HasRounds (rounds most) = 1 ≤ most
+HasRounds (threads most) = 1 ≤ most
 HasRounds (told order) = (prefix : List Turn) × (order ≡ prefix ++ Turn.Round ∷ [])
 
 -- the same connection, and these turns
@@ -27,11 +28,9 @@ pub record TellsTheRun (task : Task) (turns : List Turn) (status : Status) (old 
   pub whole : IsWhole (replayed task order) status old new
   pub same : world_after task order ≡ world_after task turns
 
--- what the log grew by tells the run of all turns of the task
-pub record LogTellsTheRun (task : Task) (status : Status) (old new : Port → Option (List ℕ)) : Type 0 where
-  pub turns : List Turn
-  pub are : AreTurnsOf task.course turns (first_world task)
-  pub log : HoldsMore (old Log) (new Log) [] (TellsTheRun task turns status old new)
+-- what the log grew by tells the run of these turns
+abbrev pub LogTellsTheRun : Task → List Turn → Status → (Port → Option (List ℕ)) → (Port → Option (List ℕ)) → Type 0
+LogTellsTheRun task turns status old new = HoldsMore (old Log) (new Log) [] (TellsTheRun task turns status old new)
 
 -- two outsides after two runs: each reader has the same octets, and the logs grew by the same text
 pub record HoldTheSame (old new before after : Port → Option (List ℕ)) : Type 0 where
@@ -47,10 +46,16 @@ pub record HoldTheSame (old new before after : Port → Option (List ℕ)) : Typ
 -- so it is of each run of at most sixteen paths that keeps a log and came to its own end
 abbrev pub WholeRunsAreTold : Type 0
 WholeRunsAreTold = (task : Task) (status : Status) (old new : Port → Option (List ℕ)) → task.report ≡ report.Log → length task.script.paths ≤ 16 → HasRounds task.course
-    → IsWhole task status old new
-    → LogTellsTheRun task status old new
+    → (whole : IsWhole task status old new)
+    → LogTellsTheRun task whole.turns status old new
 
--- two runs of one task that came to their own ends came to the same
+-- one list of turns alone is all turns of the course: threads may come to several
+abbrev pub IsSettled : Course → Type 0
+IsSettled (rounds most) = Unit {0}
+IsSettled (threads most) = ⊥
+IsSettled (told order) = Unit {0}
+
+-- two runs of one task without threads that came to their own ends came to the same
 abbrev pub WholeRunsAgree : Type 0
-WholeRunsAgree = (task : Task) (status other : Status) (old new before after : Port → Option (List ℕ)) → IsWhole task status old new
+WholeRunsAgree = (task : Task) (status other : Status) (old new before after : Port → Option (List ℕ)) → IsSettled task.course → IsWhole task status old new
     → IsWhole task other before after → (status ≡ other) × HoldTheSame old new before after

@@ -32,7 +32,7 @@ is_order (Some log) name = bytes_eq name log
 abbrev pub is_apart : Line → List ℕ → Bool
 is_apart line name = not (bytes_eq name line.names.script) && not (is_order (order_of line.work) name)
 
--- the lines of both files can be messages: in `serial` and `replay`, of files that are neither the script nor the log
+-- the lines of both files can be messages: in `run`, `serial` and `replay`, of files that are neither the script nor the log
 abbrev pub takes_messages : Line → Bool
 takes_messages line = is_run line.work && (is_apart line line.names.file_a && is_apart line line.names.file_b)
 

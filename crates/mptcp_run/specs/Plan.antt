@@ -5,14 +5,12 @@ use Rattle.outside_kit.specs.declared.side.Side.{Side}
 use Rattle.outside_kit.specs.declared.side.Side.TheVariants.{A, B}
 use Rattle.outside_kit.specs.Calls.{Call}
 use Rattle.outside_kit.specs.Calls as call
-use Rattle.path_core.specs.Octets.{octets}
 use Rattle.world_laws.specs.Outcomes.{output_of}
-use Rattle.world_laws.specs.Worlds.{Turn, AreLawful, IsLawfulTurn}
+use Rattle.world_laws.specs.Worlds.{Turn}
 use Rattle.world_core.specs.RoundEnds.{round_steps}
 use Rattle.run_outside.specs.LogText.{round_text}
-use Rattle.mptcp_run.specs.Putting.{opening_in, last_line, ends_of, world_after}
-use Rattle.mptcp_run.specs.Task.{Connection, Task, first_world, AreTurnsOf}
-use Rattle.mptcp_run.specs.Task as way
+use Rattle.mptcp_run.specs.Putting.{opening_in, last_line, ends_of}
+use Rattle.mptcp_run.specs.Task.{Connection, Task, first_world}
 use Rattle.run_outside.specs.Plan.{puts_of}
 
 -- ---- puts
@@ -38,18 +36,6 @@ puts_so_far task turns = puts_by_round (opening_in task) 0 (first_world task) (e
 abbrev pub last_put : Task → List Turn → List Call
 last_put task turns = call.Put port.Log (last_line task turns) ∷ []
 
--- all puts of a run: those of all its rounds, and the last line
-abbrev pub ArePuts : Task → List Call → Type 0
-ArePuts task puts =
-    (turns : List Turn)
-    × (AreTurnsOf task.course turns (first_world task) × (puts ≡ puts_so_far task turns ++ last_put task turns))
-
--- those of the rounds that ended before a turn that can't be made
-pub record ArePutsBefore (task : Task) (puts : List Call) : Type 0 where
-  pub before : List Turn
-  pub turn : Turn
-  pub behind : List Turn
-  pub order : task.course ≡ way.told (before ++ turn ∷ behind)
-  pub lawful : AreLawful octets before (first_world task)
-  pub refused : IsLawfulTurn turn (world_after task before) → ⊥
-  pub puts_are : puts ≡ puts_so_far task before
+-- all puts of a run of these turns: those of all its rounds, and the last line
+abbrev pub all_puts : Task → List Turn → List Call
+all_puts task turns = puts_so_far task turns ++ last_put task turns

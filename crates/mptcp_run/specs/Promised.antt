@@ -18,7 +18,7 @@ use Rattle.mptcp_run.specs.Ends.{HoldsSomeRounds, HoldsToLine}
 use Rattle.mptcp_run.specs.Putting.{world_after, IsWhole, IsStopped}
 use Rattle.run_outside.specs.declared.input.Input.{Input}
 use Rattle.run_outside.specs.Inputs.{AreWithinLimits}
-use Rattle.mptcp_run.specs.Task.{Task, Course, rounds, told, task_of}
+use Rattle.mptcp_run.specs.Task.{Task, Course, rounds, threads, told, task_of}
 
 -- no line of the script alters a payload, and both files are shorter than 2^31 - 2 octets
 abbrev pub IsPlainTask : Task → Type 0
@@ -28,9 +28,10 @@ IsPlainTask task = IsPlainScript task.script task.file_a task.file_b
 abbrev pub IsPlainInput : Input → Type 0
 IsPlainInput input = IsPlainScript input.script input.file_a input.file_b
 
--- the last turn is the end of a round, as it is of each serial run and in each log
+-- the last turn is the end of a round, as it is of each run of rounds and in each log
 abbrev pub EndsWithRound : Course → Type 0
 EndsWithRound (rounds most) = Unit {0}
+EndsWithRound (threads most) = Unit {0}
 EndsWithRound (told order) = (prefix : List Turn) × (order ≡ prefix ++ Turn.Round ∷ [])
 
 pub record IsPromisedTask (task : Task) : Type 0 where

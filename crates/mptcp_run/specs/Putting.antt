@@ -28,6 +28,7 @@ use Rattle.run_outside.specs.declared.status.Status.TheVariants.{Delivered, Roun
 use Rattle.run_outside.specs.Reading.{width_of}
 use Rattle.mptcp_run.specs.Task.{Connection, Task, Course, first_world, AreTurnsOf}
 use Rattle.mptcp_run.specs.Task as way
+use Rattle.mptcp_run.specs.WovenRounds.{AreWovenRounds}
 use Rattle.run_outside.specs.LogText.{log_text, RoundsFit}
 
 -- ---- the log
@@ -131,8 +132,16 @@ pub record IsStopped (task : Task) (opening line : ℕ) (old new : Port → Opti
   pub line_is : line ≡ opening + length before + 1
   pub ports : HoldsRounds task before old new
 
+-- of at most so many rounds, whose turns are such ones, these are those of the first ones, and of the
+-- next one, or none
+abbrev pub AreFirst : (ℕ → List Turn → Type 0) → ℕ → List Turn → List Turn → Type 0
+AreFirst Are most turns more =
+    (n : ℕ)
+    × ((n ≤ most)
+    × (Are n turns × ((more ≡ []) ⊎ ((suc n ≤ most) × Are (suc n) (turns ++ more)))))
+
 -- these are the turns of the first rounds of a task, and those of the next one, or none
 abbrev pub AreFirstOf : Course → List Turn → List Turn → Connection → Type 0
-AreFirstOf (way.rounds most) turns more w =
-    (n : ℕ) × ((n ≤ most) × (IsSerial octets n turns w × ((more ≡ []) ⊎ ((suc n ≤ most) × IsSerial octets (suc n) (turns ++ more) w))))
+AreFirstOf (way.rounds most) turns more w = AreFirst (λ n ts. IsSerial octets n ts w) most turns more
+AreFirstOf (way.threads most) turns more w = AreFirst (λ n ts. AreWovenRounds n ts w) most turns more
 AreFirstOf (way.told order) turns more w = (behind : List Turn) × ((order ≡ turns ++ (more ++ behind)) × AreLawful octets (turns ++ more) w)

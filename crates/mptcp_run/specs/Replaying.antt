@@ -1,6 +1,7 @@
 -- A turn of a log, made and put.
 use Rattle.std.specs.Prelude.{◌≡◌, ℕ, suc, false, ◌≤◌, ◌⊎◌, List, [], ◌∷◌, map, length, Option}
 use Rattle.outside_kit.specs.declared.port.Port.{Port}
+use Rattle.outside_kit.specs.Calls.{Made}
 use Rattle.outside_kit.specs.Outside.{HasRisen}
 use Rattle.stream_lanes.specs.Words.{Every}
 use Rattle.world_laws.specs.Fine.{IsFine, lists_of}
@@ -8,6 +9,8 @@ use Rattle.world_laws.specs.Worlds.{Turn, is_going, end_round, greatest, IsLawfu
 use Rattle.mptcp_run.specs.declared.rounds.Run.{Run}
 use Rattle.run_outside.specs.declared.status.Status.{Status}
 use Rattle.run_outside.specs.declared.status.Status.TheVariants.{Put, Memory, Log}
+use Rattle.mptcp_run.specs.Adding.{turn_puts}
+use Rattle.run_outside.specs.Plan.{AddsAll, AddsCut}
 use Rattle.world_core.specs.RoundEnds.{round_ends}
 use Rattle.mptcp_run.specs.Rounds.{Begins, HoldsRound, HoldsPart}
 use Rattle.mptcp_run.specs.Task.{Connection}
@@ -44,17 +47,27 @@ TurnHolds opening number Turn.Round last w old new = HoldsRound opening number l
 abbrev pub IsUnchanged : (Port → Option (List ℕ)) → (Port → Option (List ℕ)) → Type 0
 IsUnchanged old new = (port : Port) → new port ≡ old port
 
--- nothing was put, or a part of the round that the turn ends
-abbrev pub TurnCut : Option (List ℕ) → ℕ → Turn → Connection → Connection → (Port → Option (List ℕ)) → (Port → Option (List ℕ)) → Type 0
-TurnCut opening number turn last w old new =
-    IsUnchanged old new ⊎ (IsLawfulTurn turn w × HoldsPart opening number last [] (round_ends (turn ∷ []) w) old new)
+-- A turn of a log was cut off, with this status: it wasn't made for want of memory; or it ends a
+-- round, and a part of what that puts was put.
+abbrev pub TurnCut : Option (List ℕ) → ℕ → Turn → Connection → Connection
+    → (Port → Option (List ℕ)) → (Port → Option (List ℕ)) → Option (List Made) → Option (List Made) → Status → Type 0
+TurnCut opening number turn last w old new before after status =
+    ((status ≡ Memory) × (IsUnchanged old new × AddsAll [] before after))
+    ⊎ (IsLawfulTurn turn w
+    × (HoldsPart opening number last [] (round_ends (turn ∷ []) w) old new
+    × AddsCut (turn_puts opening number turn last w) status before after))
 
--- a turn of a log ends a run with this status: it can't be made and stands in this line, or its round isn't put whole
-abbrev pub TurnFault : Option (List ℕ) → ℕ → Turn → Connection → Connection → ℕ → (Port → Option (List ℕ)) → (Port → Option (List ℕ)) → Status → Type 0
-TurnFault opening number turn last w line old new (Log at) = (at ≡ line) × ((IsLawfulTurn turn w → ⊥) × IsUnchanged old new)
-TurnFault opening number turn last w line old new (Put port) = TurnCut opening number turn last w old new
-TurnFault opening number turn last w line old new Memory = TurnCut opening number turn last w old new
-TurnFault opening number turn last w line old new status = ⊥
+-- A turn of a log ends a run with this status: it can't be made and stands in this line, or it was
+-- cut off.
+abbrev pub TurnStops : Option (List ℕ) → ℕ → Turn → Connection → Connection → ℕ
+    → (Port → Option (List ℕ)) → (Port → Option (List ℕ)) → Option (List Made) → Option (List Made) → Status → Type 0
+TurnStops opening number turn last w line old new before after (Log at) =
+    (at ≡ line) × ((IsLawfulTurn turn w → ⊥) × (IsUnchanged old new × AddsAll [] before after))
+TurnStops opening number turn last w line old new before after (Put port) =
+    TurnCut opening number turn last w old new before after (Put port)
+TurnStops opening number turn last w line old new before after Memory =
+    TurnCut opening number turn last w old new before after Memory
+TurnStops opening number turn last w line old new before after status = ⊥
 
 -- a step does
 abbrev pub StepFault : ℕ → Connection → ℕ → Status → Type 0

@@ -1,18 +1,16 @@
 -- A round that was made, with what it put.
-use Rattle.std.specs.Prelude.{◌≡◌, ℕ, false, ◌⊎◌, List, [], ◌∷◌, map, length, Option}
+use Rattle.std.specs.Prelude.{◌≡◌, ℕ, false, List, [], map, length, Option}
 use Rattle.outside_kit.specs.declared.port.Port.{Port}
 use Rattle.outside_kit.specs.declared.port.Port.TheVariants as port
 use Rattle.outside_kit.specs.declared.side.Side.TheVariants.{A, B}
 use Rattle.run_log.specs.declared.turn.Turn as log_turn
 use Rattle.stream_lanes.specs.Words.{Every}
-use Rattle.path_core.specs.Octets.{octets}
 use Rattle.world_laws.specs.Fine.{IsFine, lists_of}
 use Rattle.world_laws.specs.Openings.{start_of, opened_world}
 use Rattle.world_laws.specs.Outcomes.{output_of}
 use Rattle.run_outside.specs.declared.input.Input.{Input}
 use Rattle.world_core.specs.Kept.{standing}
 use Rattle.world_laws.specs.Worlds.{Turn, greatest}
-use Rattle.world_core.specs.Rounds.{RoundTo}
 use Rattle.mptcp_run.specs.declared.report.Report.{Report}
 use Rattle.mptcp_run.specs.declared.rounds.Run.{Run}
 use Rattle.run_outside.specs.Ports.{HoldsMore, IsBetween}
@@ -61,11 +59,6 @@ pub record HoldsPart (opening : Option (List ℕ)) (number : ℕ) (w : Connectio
   pub read_by_a : HoldsMore (old port.ReadByA) (new port.ReadByA) (output_of A w) (IsBetween (output_of A (last_end w low)) (output_of A (last_end w high)))
   pub log : HoldsMore (old port.Log) (new port.Log) []
       (IsBetween (log_text opening number (steps_by_round w low)) (log_text opening number (steps_by_round w high)))
-
--- a part of the round after this world was put, or nothing
-abbrev pub RoundCut : Option (List ℕ) → ℕ → Connection → (Port → Option (List ℕ)) → (Port → Option (List ℕ)) → Type 0
-RoundCut opening number w old new =
-    ((port : Port) → new port ≡ old port) ⊎ ((v : Connection) × (RoundTo octets w v × HoldsPart opening number w [] (v ∷ []) old new))
 
 -- ---- the turns of a log
 

@@ -12,6 +12,7 @@ use Rattle.world_laws.specs.Serial.{IsSerial}
 use Rattle.world_laws.specs.Worlds.{WorldState, Turn, AreLawful}
 use Rattle.mptcp_run.specs.Asked.{asked_in}
 use Rattle.run_outside.specs.Reading.{script_of, log_reading}
+use Rattle.mptcp_run.specs.WovenRounds.{AreWovenRounds}
 use Rattle.mptcp_run.specs.declared.report.Report.{Report}
 use Rattle.mptcp_run.specs.declared.report.Report.TheVariants.{Log}
 
@@ -19,9 +20,13 @@ use Rattle.mptcp_run.specs.declared.report.Report.TheVariants.{Log}
 abbrev pub Connection : Type 0
 Connection = WorldState (List ℕ)
 
--- whole turns in order of number, at most so many rounds; or these turns
+-- which turns the actors take
 pub data Course : Type 0 where
+  -- whole turns in order of number, at most so many rounds
   rounds : ℕ → Course
+  -- at most so many rounds, each with its steps by stamp, then actor, as threads come to make them
+  threads : ℕ → Course
+  -- these
   told : List Turn → Course
 
 pub record Task : Type 0 where
@@ -40,6 +45,7 @@ first_world task = opened_world (start_of task.script task.file_a task.file_b)
 -- these are all turns of a course
 abbrev pub AreTurnsOf : Course → List Turn → Connection → Type 0
 AreTurnsOf (rounds most) turns w = IsSerial octets most turns w
+AreTurnsOf (threads most) turns w = AreWovenRounds most turns w
 AreTurnsOf (told order) turns w = (turns ≡ order) × AreLawful octets turns w
 
 -- with these inputs
@@ -63,7 +69,7 @@ turns_in script log = option_map (map turn_of) (result_ok (log_reading script lo
 abbrev pub course_of : (List ℕ → Option (List ℕ)) → Script → Work → Option Course
 course_of content script (serial most) = Some (rounds most)
 course_of content script (replay log) = option_map told (option_and_then (turns_in script) (content log))
-course_of content script (run most) = None
+course_of content script (run most) = Some (threads most)
 course_of content script (bench most number) = None
 
 -- the task of a command line, where the contents are told and valid

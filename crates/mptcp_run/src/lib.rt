@@ -8,6 +8,7 @@ mod replay;
 mod report;
 mod rounds;
 mod serial;
+mod threads;
 mod top_call;
 mod turns;
 

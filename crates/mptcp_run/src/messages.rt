@@ -15,6 +15,8 @@ use run_outside::{Status, read_words};
 use run_words::{CommandLine, Mode};
 use std::alloc::{AllocError, Global};
 use std::marker::Brand;
+use std::sync::Wait;
+use std::thread::Threads;
 
 /// Whether the mode is run.
 fn is_run(mode: Mode<'_>) -> bool
@@ -23,8 +25,8 @@ fn is_run(mode: Mode<'_>) -> bool
     match mode {
         Mode::Serial { .. } => true,
         Mode::Replay { .. } => true,
+        Mode::Run { .. } => true,
         Mode::Bench { .. } => false,
-        Mode::Run { .. } => false,
     }
 }
 
@@ -99,7 +101,8 @@ fn with_refusals<O: Outside, N: Naming>(lines: &LineOutside<O, N>, ended: Status
 }
 
 /// Runs over the frames of the lines of both files, whose names are copied, in an outside whose ports N tells.
-fn run_over_frames<O: Outside, G: Gate + Sync, N: Naming>(
+fn run_over_frames<O: Outside, G: Gate + Sync, R: Threads + Wait + Sync, N: Naming>(
+    rt: &R,
     alloc: Global,
     words: &[String],
     line: &CommandLine<'_>,
@@ -120,13 +123,14 @@ fn run_over_frames<O: Outside, G: Gate + Sync, N: Naming>(
         (O.holds outside) (O.holds result.1) result.0 }
 {
     let mut lines: LineOutside<O, N> = LineOutside::new(alloc, outside, files.0, files.1);
-    let ended = run(alloc, words, &mut lines, gate);
+    let ended = run(rt, alloc, words, &mut lines, gate);
     let status = with_refusals(&lines, ended);
     (status, lines.into_inner())
 }
 
 /// Runs a command line whose files' lines are messages.
-fn run_line<O: Outside, G: Gate + Sync>(
+fn run_line<O: Outside, G: Gate + Sync, R: Threads + Wait + Sync>(
+    rt: &R,
     alloc: Global,
     words: &[String],
     line: &CommandLine<'_>,
@@ -142,7 +146,9 @@ fn run_line<O: Outside, G: Gate + Sync>(
         (O.holds outside) (O.holds result.1) result.0 }
 {
     match file_names(alloc, line) {
-        Ok(files) => run_over_frames::<O, G, Brand>(alloc, words, line, files, outside, gate),
+        Ok(files) => {
+            run_over_frames::<O, G, R, Brand>(rt, alloc, words, line, files, outside, gate)
+        }
         Err(_) => (Status::Memory, outside),
     }
 }
@@ -151,10 +157,11 @@ fn run_line<O: Outside, G: Gate + Sync>(
 /// both files hold the frames of their lines, each line behind its length in four octets. Lines end with LF, and a last line
 /// without one counts. A reader's port gets each message with LF behind it, in one put, once all of it has come.
 ///
-/// The modes are `serial` and `replay`; a log of `replay` is that of a run of messages. Neither file is the script or the log. The
+/// The modes are `run`, `serial` and `replay`; a log of `replay` is that of a run of messages. Neither file is the script or the log. The
 /// limit of a file is that of its frames. The readers' ports are empty, where that is told. The outside is given back as
 /// it stands.
-pub fn run_messages<O: Outside, G: Gate + Sync>(
+pub fn run_messages<O: Outside, G: Gate + Sync, R: Threads + Wait + Sync>(
+    rt: &R,
     alloc: Global,
     words: &[String],
     outside: O,
@@ -181,7 +188,7 @@ pub fn run_messages<O: Outside, G: Gate + Sync>(
         (O.calls outside) (O.calls result.1) result.0 }
 {
     match read_words(alloc, words) {
-        Ok(line) if takes_messages(&line) => run_line(alloc, words, &line, outside, gate),
+        Ok(line) if takes_messages(&line) => run_line(rt, alloc, words, &line, outside, gate),
         Ok(_) => (Status::Usage, outside),
         Err(status) => (status, outside),
     }

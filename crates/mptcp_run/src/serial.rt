@@ -4,7 +4,7 @@ ghost use Rattle.std.specs.Prelude.{◌≡◌, ◌+◌, ◌-◌, ◌^◌, ◌<�
 ghost use Rattle.path_core.specs.Octets.{octets};
 ghost use Rattle.world_core.specs.Rounds.{RoundTo};
 ghost use Rattle.run_outside.specs.Calling.{OnlyPuts};
-ghost use Rattle.mptcp_run.specs.Making.{RoundMade};
+ghost use Rattle.mptcp_run.specs.Making.{RoundMade, RoundStops};
 ghost use Rattle.mptcp_run.specs.Courses.{CourseMade, CourseCut};
 ghost use Rattle.run_outside.specs.Ports.{IsPortsFault};
 ghost use Rattle.world_core.specs.RoundEnds.{round_ends};
@@ -21,15 +21,20 @@ use world_core::round;
 fn make_round<O: Outside>(alloc: Global, outside: &mut O, run: &mut Run) -> Result<(), Status>
     requires begins { AtRound run.old }
     requires few { run.old.rounds < 2 ^ 64 - 1 }
-    ensures round { OnOk result (RoundTo octets run.old.world.state run.new.world.state) }
+    ensures made { OnOk result (RoundMade (RoundTo octets) run.old.opening run.old.rounds
+        run.old.world.state run.new.world.state (O.holds outside.old) (O.holds outside.new)
+        (O.calls outside.old) (O.calls outside.new)) }
     ensures begins { OnOk result (AtRound run.new) }
     ensures rounds { OnOk result (run.new.rounds ≡ run.old.rounds + 1) }
     ensures opening { run.new.opening ≡ run.old.opening }
-    ensures puts { RoundMade run.old.opening run.old.rounds run.old.world.state run.new.world.state
+    ensures stops { IfErr result (RoundStops (RoundTo octets) run.old.opening run.old.rounds
+        run.old.world.state (O.holds outside.old) (O.holds outside.new)
+        (O.calls outside.old) (O.calls outside.new)) }
+    ensures fault { IfErr result
+        (IsPortsFault (O.port_faults outside.old) (O.port_faults outside.new)) }
+    ensures only { OnlyPuts
         (O.load_faults outside.old) (O.load_faults outside.new)
-        (O.port_faults outside.old) (O.port_faults outside.new)
-        (O.holds outside.old) (O.holds outside.new)
-        (O.calls outside.old) (O.calls outside.new) result }
+        (O.port_faults outside.old) (O.port_faults outside.new) }
 {
     match round(&mut run.world) {
         Ok(()) => run.put_round(alloc, outside),

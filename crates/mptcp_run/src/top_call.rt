@@ -5,6 +5,7 @@ ghost use Rattle.outside_kit.specs.declared.port.Port.{Port};
 ghost use Rattle.outside_kit.specs.Calls as call;
 ghost use Rattle.outside_kit.specs.Outside.{HoldsAfter, HoldsPrefix};
 ghost use Rattle.link_script.specs.Scripts.{HasRanges};
+ghost use Rattle.run_words.specs.Lines as lines;
 ghost use Rattle.run_words.specs.Lines.{serial, replay, bench, as_line};
 ghost use Rattle.world_laws.specs.Outcomes.{outcome_of};
 ghost use Rattle.run_outside.specs.Calling.{Puts};
@@ -27,6 +28,7 @@ use crate::replay::make_turns;
 use crate::report::Report;
 use crate::rounds::Run;
 use crate::serial::make_rounds;
+use crate::threads::make_threaded_rounds;
 use crate::turns::Turns;
 use outside_kit::{Gate, Outside, Port};
 use run_outside::{
@@ -34,6 +36,8 @@ use run_outside::{
 };
 use run_words::{CommandLine, Mode};
 use std::alloc::Global;
+use std::sync::Wait;
+use std::thread::Threads;
 
 /// Puts the last line of a run whose rounds were made, and answers how it ended.
 fn end<O: Outside>(
@@ -202,6 +206,97 @@ fn run_serial<O: Outside>(
     }
 }
 
+/// Makes rounds by threads, at most so many, of a run before its first step, and puts its last line.
+fn take_threaded_rounds<O: Outside, G: Gate + Sync, R: Threads + Wait + Sync>(
+    rt: &R,
+    alloc: Global,
+    outside: &mut O,
+    line: &CommandLine<'_>,
+    input: &Input,
+    rounds: u32,
+    gate: &G,
+    run: Run,
+) -> (Run, Result<Status, Status>)
+    requires opened { IsOpened input.now Report.Log run }
+    requires ranges { HasRanges input.now.script }
+    ensures ended { IfOk result.1 (CameToEnd [] (as_line line.now)
+        (task_from input.now (course.threads rounds))
+        (O.holds outside.old) (O.holds outside.new) (O.calls outside.old) (O.calls outside.new)) }
+    ensures cut { IfErr result.1 (IsCut [] (as_line line.now)
+        (task_from input.now (course.threads rounds))
+        (O.holds outside.old) (O.holds outside.new) (O.calls outside.old) (O.calls outside.new)) }
+    ensures fault { IfErr result.1
+        (IsPortsFault (O.port_faults outside.old) (O.port_faults outside.new)) }
+{
+    match bind_readers(outside, line) {
+        Ok(()) => {}
+        Err(status) => return (run, Err(status)),
+    }
+    let (run, told) = make_threaded_rounds(rt, alloc, outside, input, run, rounds, gate);
+    match told {
+        Ok(()) => {
+            let told = end(alloc, outside, &run, Report::Log);
+            (run, told)
+        }
+        Err(status) => (run, Err(status)),
+    }
+}
+
+/// Opens a run, makes rounds by threads, at most so many, and puts its last line.
+fn perform_threads<O: Outside, G: Gate + Sync, R: Threads + Wait + Sync>(
+    rt: &R,
+    alloc: Global,
+    outside: &mut O,
+    line: &CommandLine<'_>,
+    input: &Input,
+    rounds: u32,
+    gate: &G,
+) -> Result<Status, Status>
+    requires ranges { HasRanges input.now.script }
+    ensures ended { IfOk result (CameToEnd [] (as_line line.now)
+        (task_from input.now (course.threads rounds))
+        (O.holds outside.old) (O.holds outside.new) (O.calls outside.old) (O.calls outside.new)) }
+    ensures cut { IfErr result (IsCut [] (as_line line.now)
+        (task_from input.now (course.threads rounds))
+        (O.holds outside.old) (O.holds outside.new) (O.calls outside.old) (O.calls outside.new)) }
+    ensures fault { IfErr result
+        (IsPortsFault (O.port_faults outside.old) (O.port_faults outside.new)) }
+{
+    let Ok(run) = Run::open(alloc, input, Report::Log) else {
+        return Err(Status::Memory);
+    };
+    let (run, told) = take_threaded_rounds(rt, alloc, outside, line, input, rounds, gate, run);
+    run.close();
+    told
+}
+
+/// A run of rounds by threads, at most so many.
+fn run_threads<O: Outside, G: Gate + Sync, R: Threads + Wait + Sync>(
+    rt: &R,
+    alloc: Global,
+    outside: &mut O,
+    line: &CommandLine<'_>,
+    rounds: u32,
+    gate: &G,
+) -> Status
+    requires asked { (as_line line.now).work ≡ lines.run rounds }
+    requires in_range { AsksInRange (as_line line.now).work }
+    ensures { IsAnswer (O.content outside.old) (as_line line.now)
+        (O.load_faults outside.old) (O.load_faults outside.new)
+        (O.port_faults outside.old) (O.port_faults outside.new)
+        (O.holds outside.old) (O.holds outside.new)
+        (O.calls outside.old) (O.calls outside.new) result }
+{
+    let input = match load_input(alloc, outside, line) {
+        Ok(input) => input,
+        Err(status) => return status,
+    };
+    match perform_threads(rt, alloc, outside, line, &input, rounds, gate) {
+        Ok(status) => status,
+        Err(status) => status,
+    }
+}
+
 /// A run of whole turns over the made input of a number; nothing is loaded.
 fn run_bench<O: Outside>(
     alloc: Global,
@@ -255,8 +350,14 @@ fn run_replay<O: Outside>(
 }
 
 /// What a command line asks for, if it is run.
-fn run_line<O: Outside>(alloc: Global, outside: &mut O, line: &CommandLine<'_>) -> Status
-    requires { AsksInRange (as_line line.now).work }
+fn run_line<O: Outside, G: Gate + Sync, R: Threads + Wait + Sync>(
+    rt: &R,
+    alloc: Global,
+    outside: &mut O,
+    line: &CommandLine<'_>,
+    gate: &G,
+) -> Status
+    requires in_range { AsksInRange (as_line line.now).work }
     ensures answer { IfSome (if_run (as_line line.now)) (λ asked. IsAnswer
         (O.content outside.old) asked
         (O.load_faults outside.old) (O.load_faults outside.new)
@@ -279,13 +380,13 @@ fn run_line<O: Outside>(alloc: Global, outside: &mut O, line: &CommandLine<'_>) 
         Mode::Serial { rounds } => run_serial(alloc, outside, line, rounds),
         Mode::Replay { order } => run_replay(alloc, outside, line, order),
         Mode::Bench { rounds, number } => run_bench(alloc, outside, line, rounds, number),
-        Mode::Run { .. } => Status::Usage,
+        Mode::Run { rounds } => run_threads(rt, alloc, outside, line, rounds, gate),
     }
 }
 
 /// Runs a connection as the words say: `--mode serial SCRIPT FILE_A FILE_B READ_BY_B READ_BY_A
-/// [--rounds N]`, `--mode replay` with `--order LOG` in the place of the rounds, or `--mode bench`
-/// with `--number N`.
+/// [--rounds N]`, `--mode run` with the same words, `--mode replay` with `--order LOG` in the place
+/// of the rounds, or `--mode bench` with `--number N`.
 ///
 /// In `serial` the actors take whole turns, one after the other, round by round, until both readers
 /// were told the end, each path is dead, or N rounds were made (1 to 65,536; 4,096 where nothing is
@@ -293,21 +394,30 @@ fn run_line<O: Outside>(alloc: Global, outside: &mut O, line: &CommandLine<'_>) 
 /// reader have read in it is put to `ReadByB` and `ReadByA`, if it is anything, and the lines of the
 /// round's steps to `Log`, by stamp, then actor; and last the outcome. In `bench`, with `--number N`
 /// (1 to 256), nothing is loaded: the input is made from the number and run as in `serial`, and
-/// `Log` gets one line in the place of a log, at the end. The mode `run` isn't run yet. The promises
-/// on what `outside` holds are kept as far as it tells it. No thread is started, and `gate` isn't
-/// passed.
-pub fn run<O: Outside, G: Gate + Sync>(
+/// `Log` gets one line in the place of a log, at the end.
+///
+/// In `run` the actors of a round take their turns at the same time, each in a thread of its own,
+/// over books behind locks; the rest is as in `serial`. Which steps come first is up to the threads,
+/// so two runs may differ, but each is that of its log. A round whose steps can't be put in order by
+/// stamp, or that ran out of stamps, isn't put: the rounds before it are made again, and it and all
+/// later ones are made as in `serial`. Only in `run` is a thread started and `gate` passed, and only
+/// there may the call wait.
+///
+/// The promises on what `outside` holds are kept as far as it tells it. None says that a thread is
+/// started, that a lock is got, or that the call returns.
+pub fn run<O: Outside, G: Gate + Sync, R: Threads + Wait + Sync>(
+    rt: &R,
     alloc: Global,
     words: &[String],
     outside: &mut O,
-    _gate: &G,
+    gate: &G,
 ) -> Status
     // Status 0: what each reader's port holds is what the other side's file holds.
     ensures delivered { result ≡ Status.Delivered →
         IfSome (asked_in (map string_bytes words.now)) (λ line. ReadersHaveFiles
         (O.content outside.old line.names.file_a) (O.content outside.old line.names.file_b)
         (O.holds outside.old) (O.holds outside.new)) }
-    // Words that ask for `serial` or `replay`: the row of the answer.
+    // Words that ask for `run`, `serial` or `replay`: the row of the answer.
     ensures answer { IfSome (asked_in (map string_bytes words.now)) (λ line. IsAnswer
         (O.content outside.old) line
         (O.load_faults outside.old) (O.load_faults outside.new)
@@ -329,7 +439,7 @@ pub fn run<O: Outside, G: Gate + Sync>(
         (O.calls outside.old) (O.calls outside.new) result }
 {
     match read_words(alloc, words) {
-        Ok(line) => run_line(alloc, outside, &line),
+        Ok(line) => run_line(rt, alloc, outside, &line, gate),
         Err(status) => status,
     }
 }

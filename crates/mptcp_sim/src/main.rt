@@ -10,6 +10,8 @@ use std::env::{self, Env};
 use std::io;
 use std::os::fd::AsFd;
 use std::process::ExitCode;
+use std::sync::Wait;
+use std::thread::Threads;
 
 /// The words after the program's name, or the status where there are none to be had.
 fn words_of(rt: &(impl Env + Alloc<A = Global>)) -> Result<Vec<String>, Status> {
@@ -33,21 +35,21 @@ fn has_output(rt: &HostRuntime) -> bool {
     rt.stdout().as_fd().try_clone_to_owned().is_ok()
 }
 
-/// Runs a connection as the words say, over files and standard output.
-fn status_of(rt: &HostRuntime, words: &[String]) -> Status {
+/// Runs a connection as the words say, over files and standard output, with threads of that runtime.
+fn status_of<R: Threads + Wait + Sync>(rt: &HostRuntime, threads: &R, words: &[String]) -> Status {
     let mut outside = FileOutside::new(rt, has_output(rt));
     match words {
         [first, others @ ..] if first.as_str() == "messages" => {
-            let (status, _outside) = run_messages(rt.alloc(), others, outside, &OpenGate);
+            let (status, _outside) = run_messages(threads, rt.alloc(), others, outside, &OpenGate);
             status
         }
-        _ => run(rt.alloc(), words, &mut outside, &OpenGate),
+        _ => run(threads, rt.alloc(), words, &mut outside, &OpenGate),
     }
 }
 
 fn main(rt: HostRuntime) -> ExitCode {
     let status = match words_of(&rt) {
-        Ok(words) => status_of(&rt, &words),
+        Ok(words) => status_of(&rt, &rt, &words),
         Err(status) => status,
     };
     if let Ok(line) = fault_text(rt.alloc(), &status) {

@@ -1,5 +1,5 @@
 -- Loads, one after the other, up to one that failed.
-use Rattle.std.proofs.Common.{◌≡◌, refl, sym, ap, subst, ℕ, ◌<◌, ◌≤◌, List, [], ◌∷◌, ◌++◌, length, map, Option, Some, Result, Ok, Err, IfOk, IfSome}
+use Rattle.std.proofs.Common.{◌≡◌, refl, sym, ap, subst, ℕ, ◌<◌, ◌≤◌, List, [], ◌∷◌, ◌++◌, length, map, Option, Some, Result, Ok, Err, IfOk, IfSome, None}
 use Rattle.std.specs.Prelude.{IsSome, IsSomeAnd, option_and_then}
 use Rattle.outside_kit.specs.Calls.{Call}
 use Rattle.outside_kit.specs.Calls as call
@@ -9,7 +9,7 @@ use Rattle.link_script.specs.Scripts.{HasRanges}
 use Rattle.run_outside.specs.declared.input.Input.{Input}
 use Rattle.run_outside.specs.Loaded.{IsLoaded}
 use Rattle.run_outside.specs.Script.{script_meaning}
-use Rattle.run_words.specs.Lines.{Line, serial, replay}
+use Rattle.run_words.specs.Lines.{Line, replay}
 use Rattle.run_outside.specs.declared.status.Named.{Named}
 use Rattle.run_outside.specs.declared.status.Status.{Status}
 use Rattle.run_outside.specs.declared.status.Status.TheVariants.{Delivered, Rounds, NoPath, Aborted, Usage, Script, Load, Put, TooLong, Memory, Log}
@@ -154,8 +154,9 @@ form_adds line plan a b script log (TooLong named) h fault = absurd fault
 
 -- ---- all loads
 
-pub serial_loads : (line : Line) (most : ℕ) → line.work ≡ serial most → first_loads line ≡ loads_of line
-serial_loads line most is = ap (λ w. first_loads line ++ load_of (order_of w)) (sym is)
+-- of a run that reads no log
+pub unordered_loads : (line : Line) → order_of line.work ≡ None → first_loads line ≡ loads_of line
+unordered_loads line none = ap (λ (o : Option (List ℕ)). first_loads line ++ load_of o) (sym none)
 
 pub replay_loads : (line : Line) (log : List ℕ) → line.work ≡ replay log → first_loads line ++ call.Load log ∷ [] ≡ loads_of line
 replay_loads line log is = ap (λ w. first_loads line ++ load_of (order_of w)) (sym is)

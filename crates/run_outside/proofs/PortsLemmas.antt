@@ -131,6 +131,10 @@ pub OnOk-holds : {T E : Type 0} (r : Result T E) (P : Type 0) → P → OnOk r P
 OnOk-holds (Ok x) P h = h
 OnOk-holds (Err e) P h = tt
 
+pub OnOk-both : {T E P Q R : Type 0} (r : Result T E) → (P → Q → R) → OnOk r P → OnOk r Q → OnOk r R
+OnOk-both (Ok x) f p q = f p q
+OnOk-both (Err e) f p q = tt
+
 -- a text that was put whole is a part of itself
 pub whole_part : (a b c : Option (List ℕ)) (text : List ℕ) → HoldsAfter a b (λ held. held ++ text) → c ≡ b → HoldsPrefix a c text
 whole_part None b c text h same = tt

@@ -29,7 +29,7 @@ pub enum Status {
     NoPath,
     /// The reader of this side was told that its peer aborted the connection (RFC 8684, section 3.5).
     Aborted { reader: Side },
-    /// The words break the form of the command line, or ask for a mode that isn't run yet.
+    /// The words break the form of the command line.
     Usage,
     /// The script is refused at this line, counted from 1.
     Script { line: u64, kind: ScriptKind },

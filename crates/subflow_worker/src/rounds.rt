@@ -166,15 +166,15 @@ fn round_at<A: Actor + Send, N: Naming + Send + Sync, G: Gate + Sync, R: Threads
     (told, desk.into_books())
 }
 
-/// A round over these books, each behind a lock of its own for as long as the round takes: what [`round`] answers, and the
-/// books, whose journals begin with those that they had.
-pub fn threaded_round<A: Actor + Send, G: Gate + Sync, R: Threads + Wait + Sync>(
+// A round over the books that are named as they are.
+fn round_of<A: Actor + Send, G: Gate + Sync, R: Threads + Wait + Sync>(
     rt: &R,
     alloc: Global,
     crew: &mut [Crew<A>],
     books: Books,
     gate: &G,
 ) -> (Result<(), Refusal>, Books)
+    ensures many { length crew.new ≡ length crew.old }
     ensures turned { (i : ℕ) (d : Crew A) → i < length crew.old → Turned A.asks A.takes (slice_index_or crew.old i d) (slice_index_or crew.new i d) }
     ensures done { OnOk result.0 (All (λ c. c.refused ≡ None) crew.new) }
     ensures memory { (result.0 ≡ Err Memory) ↔ (list_any (is_refused Memory) crew.new ≡ true) }
@@ -182,4 +182,23 @@ pub fn threaded_round<A: Actor + Send, G: Gate + Sync, R: Threads + Wait + Sync>
     ensures books { BooksExtend books result.1 }
 {
     round_at::<A, Brand, G, R>(rt, alloc, crew, books, gate)
+}
+
+/// A round over these books, each behind a lock of its own for as long as the round takes: what [`round`] answers, and the
+/// books, whose journals begin with those that they had.
+pub fn threaded_round<A: Actor + Send, G: Gate + Sync, R: Threads + Wait + Sync>(
+    rt: &R,
+    alloc: Global,
+    crew: &mut Vec<Crew<A>>,
+    books: Books,
+    gate: &G,
+) -> (Result<(), Refusal>, Books)
+    ensures many { length crew.new.items ≡ length crew.old.items }
+    ensures turned { (i : ℕ) (d : Crew A) → i < length crew.old.items → Turned A.asks A.takes (slice_index_or crew.old.items i d) (slice_index_or crew.new.items i d) }
+    ensures done { OnOk result.0 (All (λ c. c.refused ≡ None) crew.new.items) }
+    ensures memory { (result.0 ≡ Err Memory) ↔ (list_any (is_refused Memory) crew.new.items ≡ true) }
+    ensures stamps { (result.0 ≡ Err Stamps) ↔ ((list_any (is_refused Memory) crew.new.items ≡ false) × (list_any (is_refused Stamps) crew.new.items ≡ true)) }
+    ensures books { BooksExtend books result.1 }
+{
+    round_of(rt, alloc, crew, books, gate)
 }

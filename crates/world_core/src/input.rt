@@ -92,6 +92,6 @@ impl World {
     {
         let crew = opened_crew(alloc, input)?;
         let books = opened_books(alloc, &input.script)?;
-        Ok(World::from_parts(books, crew))
+        Ok(World::from_parts(books, crew, false))
     }
 }

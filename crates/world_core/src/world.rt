@@ -113,20 +113,20 @@ impl World {
         (self.books, self.crew)
     }
 
-    /// The connection of these parts, whose lists and journals are paired at every stamp, rise, and are chained above the
-    /// greatest stamp at the last round's end; there are fewer than 32 actors, each of which has fewer than 2^57 notes and
-    /// began no more rounds.
-    pub fn from_parts(books: Books, crew: Vec<Crew>) -> World
-        requires sound { IsSound (world crew.items books) }
+    /// The connection of these parts. Unless it has failed, lists and journals are paired at every stamp, rise, and are chained
+    /// above the greatest stamp at the last round's end, and each actor has fewer than 2^57 notes and began no more rounds.
+    /// There are fewer than 32 actors.
+    pub fn from_parts(books: Books, crew: Vec<Crew>, failed: bool) -> World
+        requires sound { failed ≡ false → IsSound (world crew.items books) }
         requires few { length crew.items < 32 }
-        ensures { result ≡ standing (world crew.items books) }
+        ensures { result ≡ record { failed = failed; state = world crew.items books } }
     {
         let hearing = Hearing::of(&crew);
         World {
             crew,
             books,
             hearing,
-            failed: false,
+            failed,
         }
     }
 }

@@ -22,27 +22,35 @@ use recorder::Recorder;
 use report::report;
 use std::alloc::{AllocError, Global};
 use std::io;
+use std::sync::Wait;
+use std::thread::Threads;
 
 /// The run of a case: how it ended, and the outside then.
-fn ended(
+fn ended<R: Threads + Wait + Sync>(
+    rt: &R,
     alloc: Global,
     case: &Case<'_>,
     words: &[String],
     mut outside: Recorder,
 ) -> (Status, Recorder) {
     if case.has_messages {
-        return run_messages(alloc, words, outside, &OpenGate);
+        return run_messages(rt, alloc, words, outside, &OpenGate);
     }
-    let status = run(alloc, words, &mut outside, &OpenGate);
+    let status = run(rt, alloc, words, &mut outside, &OpenGate);
     (status, outside)
 }
 
 /// How a case ends, and what is shown of it. A serial case leaves its log in `log`.
-fn answer(alloc: Global, line: &str, log: &mut Vec<u8>) -> Result<String, CaseFault> {
+fn answer<R: Threads + Wait + Sync>(
+    rt: &R,
+    alloc: Global,
+    line: &str,
+    log: &mut Vec<u8>,
+) -> Result<String, CaseFault> {
     let case = Case::read(alloc, line)?;
     let outside = Recorder::new(alloc, case.outside(alloc, log.as_slice())?);
     let words = case.words(alloc)?;
-    let (status, outside) = ended(alloc, &case, words.as_slice(), outside);
+    let (status, outside) = ended(rt, alloc, &case, words.as_slice(), outside);
     let report = report(alloc, case.shown, &outside)?;
     if case.is_serial() {
         *log = Vec::from_slice(alloc, outside.port(Port::Log))?;
@@ -51,18 +59,23 @@ fn answer(alloc: Global, line: &str, log: &mut Vec<u8>) -> Result<String, CaseFa
 }
 
 /// What is printed for a line of standard input.
-fn respond(alloc: Global, line: &str, log: &mut Vec<u8>) -> Result<String, CaseFault> {
+fn respond<R: Threads + Wait + Sync>(
+    rt: &R,
+    alloc: Global,
+    line: &str,
+    log: &mut Vec<u8>,
+) -> Result<String, CaseFault> {
     if line.is_empty() || line.starts_with("#") {
         return Ok(String::from_str(alloc, line)?);
     }
-    answer(alloc, line, log)
+    answer(rt, alloc, line, log)
 }
 
 fn main(rt: HostRuntime) -> io::Result<()> {
     let mut log = Vec::new(rt.alloc());
     for line in rt.lines(rt.alloc()) {
         let line = line?;
-        match respond(rt.alloc(), line.as_str(), &mut log) {
+        match respond(&rt, rt.alloc(), line.as_str(), &mut log) {
             Ok(text) => println!(rt; "{text}")?,
             Err(CaseFault::Form) => println!(rt; "no case: {line}")?,
             Err(CaseFault::Memory) => return Err(AllocError.into()),

@@ -8,9 +8,8 @@ use Rattle.mptcp_run.specs.Rounds.{HoldsRound, HoldsPart}
 use Rattle.world_core.specs.Weaving.{IsSince}
 use Rattle.run_outside.proofs.Calling.{only_none}
 use Rattle.run_outside.proofs.Calls.{adds_none}
-use Rattle.mptcp_run.proofs.Turning.{end_since, end_length, under_end, put_fault, ended_parts, not_over}
+use Rattle.mptcp_run.proofs.Turning.{end_since, end_length, under_end, round_stops, ended_parts, not_over}
 use Rattle.run_outside.proofs.PortsLemmas.{IfErr-map}
-use Rattle.mptcp_run.proofs.PutsMade.{round_cut}
 use Rattle.mptcp_run.proofs.Starting.{replay_cause}
 use Rattle.mptcp_run.proofs.replay.end_round.Goals as goal
 
@@ -26,9 +25,8 @@ returns-then-not-end_round-clause-turn g c last under =
     record {
       under = tt;
       whole = tt;
-      part = (refl, (refused, λ port. refl));
       made = tt;
-      cut = (refused, adds_none _);
+      stops = (refl, (refused, ((λ port. refl), adds_none _)));
       fault = tt;
       only = only_none _ _;
     }
@@ -45,16 +43,14 @@ returns-clause-turn g c last under =
       whole = on_ok_weaker c.put_round.result
           (λ held. subst (λ (k : Kept). HoldsRound c.args.run.now.opening c.args.run.now.rounds last k.state (g.O.Outside.holds c.args.outside.now) (g.O.Outside.holds c.put_round.new.outside)) is held)
           put.whole;
-      part = put_fault c.args.run.now.opening c.args.run.now.rounds last c.args.run.now.world.state c.args.line (g.O.Outside.holds c.args.outside.now) (g.O.Outside.holds c.put_round.new.outside) _ _
-          c.put_round.result ended.1 put.puts.fault
-          (on_err_weaker c.put_round.result
-          (λ part. subst (λ (k : Kept). HoldsPart c.args.run.now.opening c.args.run.now.rounds last [] (k.state ∷ []) (g.O.Outside.holds c.args.outside.now) (g.O.Outside.holds c.put_round.new.outside)) is part)
-          put.part);
       made = on_ok_weaker c.put_round.result
           (λ all. subst (λ (k : Kept). AddsAll (round_puts c.args.run.now.opening c.args.run.now.rounds last k.state) (g.O.Outside.calls c.args.outside.now) (g.O.Outside.calls c.put_round.new.outside)) is all)
           put.puts.made;
-      cut = round_cut c.args.run.now.opening c.args.run.now.rounds last c.args.run.now.world.state (g.O.Outside.calls c.args.outside.now) (g.O.Outside.calls c.put_round.new.outside) _ _
-          c.put_round.result ended.1 put.puts.fault
+      stops = round_stops c.args.run.now.opening c.args.run.now.rounds last c.args.run.now.world.state c.args.line (g.O.Outside.holds c.args.outside.now) (g.O.Outside.holds c.put_round.new.outside) _ _
+          (g.O.Outside.calls c.args.outside.now) (g.O.Outside.calls c.put_round.new.outside) c.put_round.result ended.1 put.puts.fault
+          (on_err_weaker c.put_round.result
+          (λ part. subst (λ (k : Kept). HoldsPart c.args.run.now.opening c.args.run.now.rounds last [] (k.state ∷ []) (g.O.Outside.holds c.args.outside.now) (g.O.Outside.holds c.put_round.new.outside)) is part)
+          put.part)
           (IfErr-map c.put_round.result
           (λ status cut. subst (λ (k : Kept). AddsCut (round_puts c.args.run.now.opening c.args.run.now.rounds last k.state) status (g.O.Outside.calls c.args.outside.now) (g.O.Outside.calls c.put_round.new.outside)) is cut)
           put.puts.cut);

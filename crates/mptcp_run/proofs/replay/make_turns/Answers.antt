@@ -1,30 +1,25 @@
 use Rattle.std.proofs.Common.{refl, sym, subst, ap, arith, map, drop, ◌+◌}
 use Rattle.std.proofs.lemmas.List.{drop_more, at_drop_all}
 use Rattle.std.proofs.lemmas.Result.{err_from_is_err_and}
-use Rattle.run_outside.specs.Plan.{AddsAll}
-use Rattle.mptcp_run.specs.Plan.{puts_by_round}
-use Rattle.world_core.specs.RoundEnds.{round_ends}
 use Rattle.mptcp_run.specs.Task.{turn_of}
 use Rattle.mptcp_run.specs.Rounds.{all_turns}
 use Rattle.mptcp_run.proofs.Turning.{under_length, under_begins}
 use Rattle.mptcp_run.proofs.TurnsMade.{put_turn, turns_over, fault_later, fault_now, rounds_few}
 use Rattle.run_outside.proofs.Calling.{only_none, only_then}
-use Rattle.run_outside.proofs.Calls.{adds_none}
 use Rattle.mptcp_run.proofs.Courses.{turns_made, turns_stop}
 use Rattle.mptcp_run.proofs.Starting.{cause_after}
-use Rattle.mptcp_run.proofs.PutsMade.{add_turn, end_later, end_now}
 use Rattle.mptcp_run.proofs.replay.make_turns.Goals as goal
-use Rattle.mptcp_run.proofs.Folding.{TurnsEnd, TurnsPut, TurnsFault}
+use Rattle.mptcp_run.proofs.Folding.{TurnsPut, TurnsFault}
 
 pub loop-turn-init : goal.loop-turn-init
 loop-turn-init g c = (
   c.args.run.now.world.state,
   record {
     under = under_begins c.args.run.now c.requires.begins;
-    put = λ v new h. subst (λ n. TurnsPut c.args.run.now.opening n (all_turns c.args.order.now) c.args.run.now.world.state c.args.run.now.world.state v (g.O.Outside.holds c.args.outside.now) new) c.requires.none h;
-    fault = λ status new h. subst (λ n. TurnsFault c.args.run.now.opening n (all_turns c.args.order.now) c.args.run.now.world.state c.args.run.now.world.state c.args.lines (g.O.Outside.holds c.args.outside.now) new status) c.requires.none h;
-    added = λ new h. subst (λ n. AddsAll (puts_by_round c.args.run.now.opening n c.args.run.now.world.state (round_ends (all_turns c.args.order.now) c.args.run.now.world.state)) (g.O.Outside.calls c.args.outside.now) new) c.requires.none h;
-    ended = λ status new h. subst (λ n. TurnsEnd c.args.run.now.opening n (all_turns c.args.order.now) c.args.run.now.world.state c.args.run.now.world.state (g.O.Outside.calls c.args.outside.now) new status) c.requires.none h;
+    put = λ v new after h. subst (λ n. TurnsPut c.args.run.now.opening n (all_turns c.args.order.now) c.args.run.now.world.state c.args.run.now.world.state v
+        (g.O.Outside.holds c.args.outside.now) new (g.O.Outside.calls c.args.outside.now) after) c.requires.none h;
+    fault = λ status new after h. subst (λ n. TurnsFault c.args.run.now.opening n (all_turns c.args.order.now) c.args.run.now.world.state c.args.run.now.world.state c.args.lines
+        (g.O.Outside.holds c.args.outside.now) new (g.O.Outside.calls c.args.outside.now) after status) c.requires.none h;
     rounds = let none = c.requires.none in omega (arith, none);
     line = omega arith;
     few = omega arith;
@@ -43,14 +38,12 @@ loop-turn-preserved g c =
       _,
       record {
         under = turn.under;
-        put = λ v new rest. inv.put v new (put_turn c.loop-turn.run.opening c.make_turn.new.run.opening c.loop-turn.run.rounds c.make_turn.new.run.rounds _ _ (all_turns (drop c.loop-turn.turn-index c.args.order.now))
-            last c.loop-turn.run.world.state c.make_turn.new.run.world v _ _ new made.opening made.rounds order_is made.ok made.lawful turn.whole rest);
-        fault = λ status new rest. inv.fault status new (fault_later c.loop-turn.run.opening c.make_turn.new.run.opening c.loop-turn.run.rounds c.make_turn.new.run.rounds c.loop-turn.line (c.loop-turn.line + 1) _ _
-            (all_turns (drop c.loop-turn.turn-index c.args.order.now)) last c.loop-turn.run.world.state c.make_turn.new.run.world _ _ new status made.opening made.rounds refl order_is made.ok made.lawful turn.whole rest);
-        added = λ new rest. inv.added new (add_turn c.loop-turn.run.opening c.make_turn.new.run.opening c.loop-turn.run.rounds c.make_turn.new.run.rounds _ _ (all_turns (drop c.loop-turn.turn-index c.args.order.now))
-            last c.loop-turn.run.world.state c.make_turn.new.run.world _ _ new made.opening made.rounds order_is made.ok turn.made rest);
-        ended = λ status new rest. inv.ended status new (end_later c.loop-turn.run.opening c.make_turn.new.run.opening c.loop-turn.run.rounds c.make_turn.new.run.rounds _ _
-            (all_turns (drop c.loop-turn.turn-index c.args.order.now)) last c.loop-turn.run.world.state c.make_turn.new.run.world _ _ new status made.opening made.rounds order_is made.ok made.lawful turn.made rest);
+        put = λ v new after rest. inv.put v new after (put_turn c.loop-turn.run.opening c.make_turn.new.run.opening c.loop-turn.run.rounds c.make_turn.new.run.rounds _ _
+            (all_turns (drop c.loop-turn.turn-index c.args.order.now)) last c.loop-turn.run.world.state c.make_turn.new.run.world _ _ new _ _ after
+            made.opening made.rounds order_is made.ok made.lawful turn.whole turn.made v rest);
+        fault = λ status new after rest. inv.fault status new after (fault_later c.loop-turn.run.opening c.make_turn.new.run.opening c.loop-turn.run.rounds c.make_turn.new.run.rounds _ _
+            (all_turns (drop c.loop-turn.turn-index c.args.order.now)) last c.loop-turn.run.world.state c.make_turn.new.run.world _ _ new _ _ after
+            made.opening made.rounds order_is made.ok made.lawful turn.whole turn.made c.loop-turn.line (c.loop-turn.line + 1) status refl rest);
         rounds = rounds_few _ c.loop-turn.run.rounds c.loop-turn.turn-index c.make_turn.new.run.rounds inv.rounds made.rounds;
         line = let line = inv.line in omega (arith, line);
         few = omega (arith, within);
@@ -63,25 +56,19 @@ returns-in_err-make_turn-clause-stop g c =
     let inv = c.loop-turn.invariant.1 in let turn = c.in_err-make_turn.ensures.turn c.loop-turn.invariant.0 inv.under in
     let p = err_from_is_err_and c.from_residual.result c.from_residual.ensures.1 in
     rw (p.1, p.2) (turns_stop c.args.run.now.opening (all_turns c.args.order.now) c.args.run.now.world.state _ _ _ _ c.args.lines c.in_err-make_turn.field-0.0
-    (inv.fault c.in_err-make_turn.field-0.0 _
+    (inv.fault c.in_err-make_turn.field-0.0 _ _
     (fault_now c.loop-turn.run.opening c.loop-turn.run.rounds c.loop-turn.line (c.loop-turn.line + 1) _ _ (all_turns (drop c.loop-turn.turn-index c.args.order.now)) c.loop-turn.invariant.0
-    c.loop-turn.run.world.state _ _ c.in_err-make_turn.field-0.0 refl (ap (map turn_of) (drop_more c.args.order.now c.loop-turn.turn-index _ c.loop-turn-test.true)) turn.part))
-    (inv.ended c.in_err-make_turn.field-0.0 _
-    (end_now c.loop-turn.run.opening c.loop-turn.run.rounds _ _ (all_turns (drop c.loop-turn.turn-index c.args.order.now)) c.loop-turn.invariant.0 c.loop-turn.run.world.state _ _ c.in_err-make_turn.field-0.0
-    (ap (map turn_of) (drop_more c.args.order.now c.loop-turn.turn-index _ c.loop-turn-test.true)) turn.cut)))
+    c.loop-turn.run.world.state _ _ _ _ c.in_err-make_turn.field-0.0 refl (ap (map turn_of) (drop_more c.args.order.now c.loop-turn.turn-index _ c.loop-turn-test.true)) turn.stops)))
 
 pub returns-clause-ok : goal.returns-clause-ok
 returns-clause-ok g c =
     turns_made c.args.run.now.opening (all_turns c.args.order.now) c.args.run.now.world.state _ _ _ _ c.loop-turn.run.world.state
-    (c.loop-turn.invariant.1.put _ _
+    (c.loop-turn.invariant.1.put _ _ _
     (subst (λ ts. TurnsPut c.loop-turn.run.opening c.loop-turn.run.rounds (all_turns ts) c.loop-turn.invariant.0 c.loop-turn.run.world.state c.loop-turn.run.world.state
-    (g.O.Outside.holds c.loop-turn.outside) (g.O.Outside.holds c.loop-turn.outside))
+    (g.O.Outside.holds c.loop-turn.outside) (g.O.Outside.holds c.loop-turn.outside) (g.O.Outside.calls c.loop-turn.outside) (g.O.Outside.calls c.loop-turn.outside))
     (sym (at_drop_all (λ ts. ts) c.args.order.now c.loop-turn.turn-index (let over = c.loop-turn-test.false in omega (arith, over))))
-    (turns_over c.loop-turn.run.opening c.loop-turn.run.rounds c.loop-turn.invariant.0 c.loop-turn.run.world.state (g.O.Outside.holds c.loop-turn.outside))))
-    (c.loop-turn.invariant.1.added _
-    (subst (λ ts. AddsAll (puts_by_round c.loop-turn.run.opening c.loop-turn.run.rounds c.loop-turn.invariant.0 (round_ends (all_turns ts) c.loop-turn.run.world.state)) (g.O.Outside.calls c.loop-turn.outside)
-    (g.O.Outside.calls c.loop-turn.outside))
-    (sym (at_drop_all (λ ts. ts) c.args.order.now c.loop-turn.turn-index (let over = c.loop-turn-test.false in omega (arith, over)))) (adds_none (g.O.Outside.calls c.loop-turn.outside))))
+    (turns_over c.loop-turn.run.opening c.loop-turn.run.rounds c.loop-turn.invariant.0 c.loop-turn.run.world.state (g.O.Outside.holds c.loop-turn.outside)
+    (g.O.Outside.calls c.loop-turn.outside))))
 
 pub returns-in_err-make_turn-clause-cause : goal.returns-in_err-make_turn-clause-cause
 returns-in_err-make_turn-clause-cause g c =

@@ -1,27 +1,24 @@
 use Rattle.std.proofs.Common.{◌≡◌, ◌≤◌, ◌+◌, drop, length}
-use Rattle.run_outside.specs.Plan.{AddsAll}
-use Rattle.mptcp_run.specs.Plan.{puts_by_round}
-use Rattle.world_core.specs.RoundEnds.{round_ends}
 use Rattle.run_outside.specs.Calling.{OnlyPuts}
 use Rattle.mptcp_run.specs.Replaying.{UnderWay}
 use Rattle.mptcp_run.specs.Rounds.{all_turns}
 use Rattle.mptcp_run.specs.Task.{Connection}
 use Rattle.mptcp_run.proofs.replay.make_turns.Given as goal
-use Rattle.mptcp_run.proofs.Folding.{TurnsEnd, TurnsPut, TurnsFault}
+use Rattle.mptcp_run.proofs.Folding.{TurnsPut, TurnsFault}
 
 -- what the turns that are left come to, all turns do
 abbrev pub invariant-loop-turn : goal.invariant-loop-turn
 invariant-loop-turn g l =
     (last : Connection) × record {
       under : UnderWay last l.run;
-      put : (v : _) (new : _) → TurnsPut l.run.opening l.run.rounds (all_turns (drop l.turn-index l.order)) last l.run.world.state v (g.O.Outside.holds l.outside) new
-          → TurnsPut l.initial.run.opening 0 (all_turns l.order) l.initial.run.world.state l.initial.run.world.state v (g.O.Outside.holds l.initial.outside) new;
-      fault : (status : _) (new : _) → TurnsFault l.run.opening l.run.rounds (all_turns (drop l.turn-index l.order)) last l.run.world.state l.line (g.O.Outside.holds l.outside) new status
-          → TurnsFault l.initial.run.opening 0 (all_turns l.order) l.initial.run.world.state l.initial.run.world.state l.lines (g.O.Outside.holds l.initial.outside) new status;
-      added : (new : _) → AddsAll (puts_by_round l.run.opening l.run.rounds last (round_ends (all_turns (drop l.turn-index l.order)) l.run.world.state)) (g.O.Outside.calls l.outside) new
-          → AddsAll (puts_by_round l.initial.run.opening 0 l.initial.run.world.state (round_ends (all_turns l.order) l.initial.run.world.state)) (g.O.Outside.calls l.initial.outside) new;
-      ended : (status : _) (new : _) → TurnsEnd l.run.opening l.run.rounds (all_turns (drop l.turn-index l.order)) last l.run.world.state (g.O.Outside.calls l.outside) new status
-          → TurnsEnd l.initial.run.opening 0 (all_turns l.order) l.initial.run.world.state l.initial.run.world.state (g.O.Outside.calls l.initial.outside) new status;
+      put : (v : _) (new : _) (after : _) → TurnsPut l.run.opening l.run.rounds (all_turns (drop l.turn-index l.order)) last l.run.world.state v
+          (g.O.Outside.holds l.outside) new (g.O.Outside.calls l.outside) after
+          → TurnsPut l.initial.run.opening 0 (all_turns l.order) l.initial.run.world.state l.initial.run.world.state v
+          (g.O.Outside.holds l.initial.outside) new (g.O.Outside.calls l.initial.outside) after;
+      fault : (status : _) (new : _) (after : _) → TurnsFault l.run.opening l.run.rounds (all_turns (drop l.turn-index l.order)) last l.run.world.state l.line
+          (g.O.Outside.holds l.outside) new (g.O.Outside.calls l.outside) after status
+          → TurnsFault l.initial.run.opening 0 (all_turns l.order) l.initial.run.world.state l.initial.run.world.state l.lines
+          (g.O.Outside.holds l.initial.outside) new (g.O.Outside.calls l.initial.outside) after status;
       rounds : l.run.rounds ≤ l.turn-index;
       line : l.line ≡ l.lines + l.turn-index;
       few : l.turn-index ≤ length l.order;

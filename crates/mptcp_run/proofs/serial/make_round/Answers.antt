@@ -1,14 +1,15 @@
 use Rattle.std.proofs.Common.{◌∙◌, refl, sym, ap, subst, map, length, inl, inr}
-use Rattle.std.proofs.lemmas.Result.{on_ok_weaker, on_err_weaker}
+use Rattle.std.proofs.lemmas.Result.{on_ok_weaker}
+use Rattle.path_core.specs.Octets.{octets}
 use Rattle.world_laws.specs.Fine.{lists_of}
 use Rattle.world_core.specs.Kept.{Kept}
-use Rattle.run_outside.specs.Plan.{AddsAll}
-use Rattle.mptcp_run.specs.Plan.{round_puts}
-use Rattle.mptcp_run.specs.Rounds.{Begins, HoldsRound}
+use Rattle.world_core.specs.Rounds.{RoundTo}
+use Rattle.mptcp_run.specs.Making.{RoundMade}
+use Rattle.mptcp_run.specs.Rounds.{Begins}
 use Rattle.mptcp_run.proofs.AllTurns.{round_begins, round_since, since_length}
 use Rattle.run_outside.proofs.Calling.{only_none}
 use Rattle.run_outside.proofs.Calls.{adds_none}
-use Rattle.run_outside.proofs.PortsLemmas.{IfErr-map}
+use Rattle.run_outside.proofs.PortsLemmas.{OnOk-both, IfErr-both}
 use Rattle.mptcp_run.proofs.serial.make_round.Goals as goal
 
 pub put_round-requires-clause-made : goal.put_round-requires-clause-made
@@ -27,29 +28,37 @@ returns-in-Ok-clause-begins g c =
     })
     c.put_round.ensures.made
 
-pub returns-in-Ok-clause-puts : goal.returns-in-Ok-clause-puts
-returns-in-Ok-clause-puts g c =
+pub returns-in-Ok-clause-made : goal.returns-in-Ok-clause-made
+returns-in-Ok-clause-made g c =
     let put = c.put_round.ensures.put c.args.run.now.world.state
     (round_since c.args.run.now.made.items c.args.run.now.world.state c.round.new.world.state c.requires.begins.made_is c.requires.begins.begins c.in-Ok.ensures.ok) in
-    record {
-      whole = on_ok_weaker c.put_round.result
-          (λ held. subst (λ (k : Kept). HoldsRound c.args.run.now.opening c.args.run.now.rounds c.args.run.now.world.state k.state (g.O.Outside.holds c.args.outside.now) (g.O.Outside.holds c.put_round.new.outside))
-          (sym c.put_round.ensures.world) held) put.whole;
-      part = on_err_weaker c.put_round.result (λ part. inr (c.round.new.world.state, (c.in-Ok.ensures.ok, part))) put.part;
-      made = on_ok_weaker c.put_round.result
-          (λ all. subst (λ (k : Kept). AddsAll (round_puts c.args.run.now.opening c.args.run.now.rounds c.args.run.now.world.state k.state) (g.O.Outside.calls c.args.outside.now) (g.O.Outside.calls c.put_round.new.outside))
-          (sym c.put_round.ensures.world) all) put.puts.made;
-      cut = IfErr-map c.put_round.result (λ status cut. inr (c.round.new.world.state, (c.in-Ok.ensures.ok, cut))) put.puts.cut;
-      fault = put.puts.fault;
-      only = put.puts.only;
-    }
+    OnOk-both c.put_round.result
+    (λ held calls. subst (λ (k : Kept). RoundMade (RoundTo octets) c.args.run.now.opening c.args.run.now.rounds c.args.run.now.world.state k.state
+    (g.O.Outside.holds c.args.outside.now) (g.O.Outside.holds c.put_round.new.outside) (g.O.Outside.calls c.args.outside.now) (g.O.Outside.calls c.put_round.new.outside))
+    (sym c.put_round.ensures.world) (record { round = c.in-Ok.ensures.ok; ports = held; calls = calls }))
+    put.whole put.puts.made
 
-pub returns-in-Err-clause-puts : goal.returns-in-Err-clause-puts
-returns-in-Err-clause-puts g c = record {
-  whole = tt;
-  part = inl (λ port. refl);
-  made = tt;
-  cut = inl (refl, adds_none _);
-  fault = tt;
-  only = only_none _ _;
-}
+pub returns-in-Ok-clause-stops : goal.returns-in-Ok-clause-stops
+returns-in-Ok-clause-stops g c =
+    let put = c.put_round.ensures.put c.args.run.now.world.state
+    (round_since c.args.run.now.made.items c.args.run.now.world.state c.round.new.world.state c.requires.begins.made_is c.requires.begins.begins c.in-Ok.ensures.ok) in
+    IfErr-both c.put_round.result
+    (λ status cut part. inr (record { end = c.round.new.world.state; round = c.in-Ok.ensures.ok; ports = part; calls = cut })) put.puts.cut put.part
+
+pub returns-in-Ok-clause-fault : goal.returns-in-Ok-clause-fault
+returns-in-Ok-clause-fault g c =
+    let put = c.put_round.ensures.put c.args.run.now.world.state
+    (round_since c.args.run.now.made.items c.args.run.now.world.state c.round.new.world.state c.requires.begins.made_is c.requires.begins.begins c.in-Ok.ensures.ok) in
+    put.puts.fault
+
+pub returns-in-Ok-clause-only : goal.returns-in-Ok-clause-only
+returns-in-Ok-clause-only g c =
+    let put = c.put_round.ensures.put c.args.run.now.world.state
+    (round_since c.args.run.now.made.items c.args.run.now.world.state c.round.new.world.state c.requires.begins.made_is c.requires.begins.begins c.in-Ok.ensures.ok) in
+    put.puts.only
+
+pub returns-in-Err-clause-stops : goal.returns-in-Err-clause-stops
+returns-in-Err-clause-stops g c = inl (refl, ((λ port. refl), adds_none _))
+
+pub returns-in-Err-clause-only : goal.returns-in-Err-clause-only
+returns-in-Err-clause-only g c = only_none _ _

@@ -1,8 +1,15 @@
-use Rattle.std.proofs.Common.{◌≡◌, ◌≤◌, ◌-◌}
+use Rattle.std.proofs.Common.{◌≡◌, ◌≤◌, ◌-◌, ℕ, List}
+use Rattle.path_core.specs.Octets.{octets}
+use Rattle.world_laws.specs.Serial.{IsSerial}
+use Rattle.world_laws.specs.Worlds.{Turn}
 use Rattle.run_outside.specs.Calling.{OnlyPuts}
 use Rattle.mptcp_run.specs.Rounds.{AtRound}
 use Rattle.mptcp_run.proofs.serial.make_rounds.Given as goal
-use Rattle.mptcp_run.proofs.Folding.{RoundsAdd, RoundsAddCut, RoundsPut, RoundsCut}
+use Rattle.mptcp_run.proofs.Folding.{RoundsPut, RoundsCut}
+use Rattle.mptcp_run.specs.Task.{Connection}
+
+abbrev serial : ℕ → List Turn → Connection → Type 0
+serial n ts w = IsSerial octets n ts w
 
 -- what the rounds that are left come to, all rounds do
 abbrev pub invariant-loop-round : goal.invariant-loop-round
@@ -11,14 +18,14 @@ invariant-loop-round g l = record {
   opening : l.run.opening ≡ l.initial.run.opening;
   rounds : l.run.rounds ≡ l._round;
   few : l._round ≤ l.most;
-  put : (count : _) (v : _) (new : _) → RoundsPut l.run.opening (l.most - l._round) l._round count l.run.world.state v (g.O.Outside.holds l.outside) new
-      → RoundsPut l.initial.run.opening l.most 0 count l.initial.run.world.state v (g.O.Outside.holds l.initial.outside) new;
-  cut : (new : _) → RoundsCut l.run.opening (l.most - l._round) l._round l.run.world.state (g.O.Outside.holds l.outside) new
-      → RoundsCut l.initial.run.opening l.most 0 l.initial.run.world.state (g.O.Outside.holds l.initial.outside) new;
-  added : (v : _) (new : _) → RoundsAdd l.run.opening (l.most - l._round) l._round l.run.world.state v (g.O.Outside.calls l.outside) new
-      → RoundsAdd l.initial.run.opening l.most 0 l.initial.run.world.state v (g.O.Outside.calls l.initial.outside) new;
-  added_cut : (status : _) (new : _) → RoundsAddCut l.run.opening (l.most - l._round) l._round l.run.world.state (g.O.Outside.calls l.outside) new status
-      → RoundsAddCut l.initial.run.opening l.most 0 l.initial.run.world.state (g.O.Outside.calls l.initial.outside) new status;
+  put : (count : _) (v : _) (new : _) (after : _) → RoundsPut serial l.run.opening (l.most - l._round) l._round count l.run.world.state v
+      (g.O.Outside.holds l.outside) new (g.O.Outside.calls l.outside) after
+      → RoundsPut serial l.initial.run.opening l.most 0 count l.initial.run.world.state v
+      (g.O.Outside.holds l.initial.outside) new (g.O.Outside.calls l.initial.outside) after;
+  cut : (new : _) (after : _) (status : _) → RoundsCut serial l.run.opening (l.most - l._round) l._round l.run.world.state
+      (g.O.Outside.holds l.outside) new (g.O.Outside.calls l.outside) after status
+      → RoundsCut serial l.initial.run.opening l.most 0 l.initial.run.world.state
+      (g.O.Outside.holds l.initial.outside) new (g.O.Outside.calls l.initial.outside) after status;
   only : OnlyPuts (g.O.Outside.load_faults l.initial.outside) (g.O.Outside.load_faults l.outside)
       (g.O.Outside.port_faults l.initial.outside) (g.O.Outside.port_faults l.outside);
 }

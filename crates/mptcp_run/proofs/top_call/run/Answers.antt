@@ -7,8 +7,8 @@ use Rattle.mptcp_run.proofs.AskedRounds.{line_asked}
 use Rattle.mptcp_run.proofs.Asking.{asked_is, bench_is, delivered_files, unread_answer, unread_bench, unread}
 use Rattle.mptcp_run.proofs.top_call.run.Goals as goal
 
-pub run_line-requires : goal.run_line-requires
-run_line-requires g c = line_asked (map string_bytes c.args.words.now) (as_line c.in-Ok.line) c.in-Ok.ensures.line
+pub run_line-requires-clause-in_range : goal.run_line-requires-clause-in_range
+run_line-requires-clause-in_range g c κs lives = line_asked (map string_bytes c.args.words.now) (as_line c.in-Ok.line) c.in-Ok.ensures.line
 
 -- ---- a line that was read
 

@@ -1,12 +1,13 @@
-use Rattle.std.proofs.Common.{refl, subst, arith}
+use Rattle.std.proofs.Common.{refl, ap, subst, arith}
 use Rattle.run_words.specs.Lines.{Work, as_line}
 use Rattle.mptcp_run.specs.Asked.{AsksInRange}
+use Rattle.run_outside.specs.Inputs.{order_of}
 use Rattle.run_outside.specs.Plan.{AddsAll, first_loads}
 use Rattle.mptcp_run.specs.Task.{Task, task_from}
 use Rattle.mptcp_run.specs.Task as course
 use Rattle.mptcp_run.proofs.PlainTasks.{plain_input}
-use Rattle.mptcp_run.proofs.Answering.{serial_task, serial_within, script_valid, serial_order, end_from, cut_from, input_answer, end_answer, cut_answer}
-use Rattle.run_outside.proofs.Loading.{serial_loads}
+use Rattle.mptcp_run.proofs.Answering.{serial_task, unordered_within, script_valid, unordered_valid, end_from, cut_from, input_answer, end_answer, cut_answer}
+use Rattle.run_outside.proofs.Loading.{unordered_loads}
 use Rattle.run_outside.proofs.PortsLemmas.{fault_after}
 use Rattle.mptcp_run.proofs.top_call.run_serial.Goals as goal
 
@@ -18,8 +19,8 @@ returns-in-Err g c =
     let line = as_line c.args.line.now in let cut = c.in-Err.ensures in
     input_answer (g.O.Outside.content c.args.outside.now) line (g.O.Outside.load_faults c.args.outside.now) (g.O.Outside.load_faults c.load_input.new.outside)
     (g.O.Outside.port_faults c.args.outside.now) (g.O.Outside.port_faults c.load_input.new.outside) (g.O.Outside.holds c.args.outside.now) (g.O.Outside.holds c.load_input.new.outside)
-    (g.O.Outside.calls c.args.outside.now) (g.O.Outside.calls c.load_input.new.outside) c.args.rounds (first_loads line) c.in-Err.status c.requires.asked
-    c.load_input.ensures.loads.untouched cut.fault (serial_loads line c.args.rounds c.requires.asked) cut.calls_cut
+    (g.O.Outside.calls c.args.outside.now) (g.O.Outside.calls c.load_input.new.outside) (first_loads line) c.in-Err.status (ap order_of c.requires.asked)
+    c.load_input.ensures.loads.untouched cut.fault (unordered_loads line (ap order_of c.requires.asked)) cut.calls_cut
 
 pub returns-in-Ok-perform : goal.returns-in-Ok-perform
 returns-in-Ok-perform g c =
@@ -29,11 +30,11 @@ returns-in-Ok-perform g c =
     (g.O.Outside.port_faults c.args.outside.now) (g.O.Outside.port_faults c.perform.new.outside) (g.O.Outside.holds c.args.outside.now) (g.O.Outside.holds c.perform.new.outside)
     (g.O.Outside.calls c.args.outside.now) (g.O.Outside.calls c.perform.new.outside) task
     (serial_task content line c.args.rounds c.in-Ok.input c.requires.asked read.script read.file_a read.file_b) (plain_input _ read.loaded) read.file_a read.file_b
-    (serial_within content line c.args.rounds c.requires.asked read.within) (script_valid content line c.in-Ok.input.script read.script) (serial_order content line c.args.rounds c.requires.asked)
+    (unordered_within content line (ap order_of c.requires.asked) read.within) (script_valid content line c.in-Ok.input.script read.script) (unordered_valid content line (ap order_of c.requires.asked))
     refl (subst (λ (w : Work). AsksInRange w) c.requires.asked c.requires.in_range) tt c.in-Ok-perform.status
     (end_from (g.O.Outside.holds c.args.outside.now) (g.O.Outside.holds c.load_input.new.outside) (g.O.Outside.holds c.perform.new.outside) (λ p. (read.loads.untouched p).0) line task
     (g.O.Outside.calls c.args.outside.now) (g.O.Outside.calls c.load_input.new.outside) (g.O.Outside.calls c.perform.new.outside)
-    (subst (λ plan. AddsAll plan (g.O.Outside.calls c.args.outside.now) (g.O.Outside.calls c.load_input.new.outside)) (serial_loads line c.args.rounds c.requires.asked) read.loads.made)
+    (subst (λ plan. AddsAll plan (g.O.Outside.calls c.args.outside.now) (g.O.Outside.calls c.load_input.new.outside)) (unordered_loads line (ap order_of c.requires.asked)) read.loads.made)
     c.in-Ok-perform.status c.in-Ok-perform.ensures.ended)
 
 pub returns : goal.returns
@@ -44,11 +45,11 @@ returns g c =
     (g.O.Outside.port_faults c.args.outside.now) (g.O.Outside.port_faults c.perform.new.outside) (g.O.Outside.holds c.args.outside.now) (g.O.Outside.holds c.perform.new.outside)
     (g.O.Outside.calls c.args.outside.now) (g.O.Outside.calls c.perform.new.outside) task
     (serial_task content line c.args.rounds c.in-Ok.input c.requires.asked read.script read.file_a read.file_b) (plain_input _ read.loaded) read.file_a read.file_b
-    (serial_within content line c.args.rounds c.requires.asked read.within) (script_valid content line c.in-Ok.input.script read.script) (serial_order content line c.args.rounds c.requires.asked)
+    (unordered_within content line (ap order_of c.requires.asked) read.within) (script_valid content line c.in-Ok.input.script read.script) (unordered_valid content line (ap order_of c.requires.asked))
     c.in-Err-perform.status
     (fault_after (g.O.Outside.port_faults c.args.outside.now) (g.O.Outside.port_faults c.load_input.new.outside) (g.O.Outside.port_faults c.perform.new.outside)
     c.in-Err-perform.status (λ p. let same = (read.loads.untouched p).1 in omega (arith, same)) c.in-Err-perform.ensures.fault)
     (cut_from (g.O.Outside.holds c.args.outside.now) (g.O.Outside.holds c.load_input.new.outside) (g.O.Outside.holds c.perform.new.outside) (λ p. (read.loads.untouched p).0) line task
     (g.O.Outside.calls c.args.outside.now) (g.O.Outside.calls c.load_input.new.outside) (g.O.Outside.calls c.perform.new.outside)
-    (subst (λ plan. AddsAll plan (g.O.Outside.calls c.args.outside.now) (g.O.Outside.calls c.load_input.new.outside)) (serial_loads line c.args.rounds c.requires.asked) read.loads.made)
+    (subst (λ plan. AddsAll plan (g.O.Outside.calls c.args.outside.now) (g.O.Outside.calls c.load_input.new.outside)) (unordered_loads line (ap order_of c.requires.asked)) read.loads.made)
     c.in-Err-perform.status c.in-Err-perform.ensures.early)

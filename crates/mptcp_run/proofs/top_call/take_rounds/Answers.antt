@@ -7,7 +7,7 @@ use Rattle.mptcp_run.specs.Task as course
 use Rattle.mptcp_run.proofs.Courses.{no_round}
 use Rattle.mptcp_run.proofs.Performing.{binds_short}
 use Rattle.run_outside.proofs.PortsLemmas.{IfOk-and, IfErr-both, IfErr-map, fault_after, b_isnt_log, a_isnt_log}
-use Rattle.mptcp_run.proofs.Starting.{opened_at, serial_done, serial_short, serial_line_short}
+use Rattle.mptcp_run.proofs.Starting.{opened_at, course_done, course_short, course_line_short}
 use Rattle.mptcp_run.proofs.top_call.take_rounds.Goals as goal
 
 pub make_rounds-requires-clause-begins : goal.make_rounds-requires-clause-begins
@@ -24,11 +24,11 @@ returns-in_err-bind_readers-clause-cut g c =
 pub returns-in_err-make_rounds-clause-cut : goal.returns-in_err-make_rounds-clause-cut
 returns-in_err-make_rounds-clause-cut g c =
     let p = err_from_is_err_and c.from_residual-in_err-make_rounds.result c.from_residual-in_err-make_rounds.ensures.1 in
-    rw (p.1, p.2) (serial_short c.args.input.now c.args.report c.args.run.now c.requires (as_line c.args.line.now)
+    rw (p.1, p.2) (course_short c.args.input.now c.args.report c.args.run.now c.requires (as_line c.args.line.now)
     (g.O.Outside.holds c.args.outside.now) (g.O.Outside.holds c.bind_readers.new.outside) (g.O.Outside.holds c.make_rounds.new.outside)
     (record { read_by_b = c.in_ok-bind_readers.ensures.read_by_b; read_by_a = c.in_ok-bind_readers.ensures.read_by_a; log = c.bind_readers.ensures.log })
     (g.O.Outside.calls c.args.outside.now) (g.O.Outside.calls c.bind_readers.new.outside) (g.O.Outside.calls c.make_rounds.new.outside) c.in_ok-bind_readers.ensures.puts.made
-    c.args.rounds c.in_err-make_rounds.field-0.0 c.in_err-make_rounds.ensures.cut)
+    (course.rounds c.args.rounds) c.in_err-make_rounds.field-0.0 c.in_err-make_rounds.ensures.cut)
 
 pub returns-in_err-make_rounds-clause-fault : goal.returns-in_err-make_rounds-clause-fault
 returns-in_err-make_rounds-clause-fault g c =
@@ -46,11 +46,11 @@ returns-clause-fault g c =
 pub returns-clause-ended : goal.returns-clause-ended
 returns-clause-ended g c =
     IfOk-and c.end.result
-    (λ status is grew told. serial_done c.args.input.now c.args.report c.args.run.now c.requires (as_line c.args.line.now)
+    (λ status is grew told. course_done c.args.input.now c.args.report c.args.run.now c.requires (as_line c.args.line.now)
     (g.O.Outside.holds c.args.outside.now) (g.O.Outside.holds c.bind_readers.new.outside) (g.O.Outside.holds c.make_rounds.new.outside)
     (record { read_by_b = c.in_ok-bind_readers.ensures.read_by_b; read_by_a = c.in_ok-bind_readers.ensures.read_by_a; log = c.bind_readers.ensures.log })
     (g.O.Outside.calls c.args.outside.now) (g.O.Outside.calls c.bind_readers.new.outside) (g.O.Outside.calls c.make_rounds.new.outside) c.in_ok-bind_readers.ensures.puts.made
-    c.args.rounds c.make_rounds.new.run.rounds c.make_rounds.new.run.world.state status (g.O.Outside.holds c.end.new.outside) (g.O.Outside.calls c.end.new.outside)
+    (course.rounds c.args.rounds) c.make_rounds.new.run.rounds c.make_rounds.new.run.world.state status (g.O.Outside.holds c.end.new.outside) (g.O.Outside.calls c.end.new.outside)
     c.in_ok-make_rounds.ensures.ok is
     (record {
       read_by_b = c.end.ensures.other_ports ReadByB b_isnt_log;
@@ -63,11 +63,11 @@ returns-clause-ended g c =
 pub returns-clause-cut : goal.returns-clause-cut
 returns-clause-cut g c =
     IfErr-both c.end.result
-    (λ status cut part. serial_line_short c.args.input.now c.args.report c.args.run.now c.requires (as_line c.args.line.now)
+    (λ status cut part. course_line_short c.args.input.now c.args.report c.args.run.now c.requires (as_line c.args.line.now)
     (g.O.Outside.holds c.args.outside.now) (g.O.Outside.holds c.bind_readers.new.outside) (g.O.Outside.holds c.make_rounds.new.outside)
     (record { read_by_b = c.in_ok-bind_readers.ensures.read_by_b; read_by_a = c.in_ok-bind_readers.ensures.read_by_a; log = c.bind_readers.ensures.log })
     (g.O.Outside.calls c.args.outside.now) (g.O.Outside.calls c.bind_readers.new.outside) (g.O.Outside.calls c.make_rounds.new.outside) c.in_ok-bind_readers.ensures.puts.made
-    c.args.rounds c.make_rounds.new.run.rounds c.make_rounds.new.run.world.state status (g.O.Outside.holds c.end.new.outside) (g.O.Outside.calls c.end.new.outside)
+    (course.rounds c.args.rounds) c.make_rounds.new.run.rounds c.make_rounds.new.run.world.state status (g.O.Outside.holds c.end.new.outside) (g.O.Outside.calls c.end.new.outside)
     c.in_ok-make_rounds.ensures.ok
     (record {
       read_by_b = c.end.ensures.other_ports ReadByB b_isnt_log;

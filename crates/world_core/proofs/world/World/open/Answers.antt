@@ -6,7 +6,7 @@ use Rattle.world_core.proofs.Opening.{crew_many}
 use Rattle.world_core.proofs.world.World.open.Goals as goal
 
 pub from_parts-requires-clause-sound : goal.from_parts-requires-clause-sound
-from_parts-requires-clause-sound c =
+from_parts-requires-clause-sound c = λ _.
     opened_parts (start_of c.args.input.now.script c.args.input.now.file_a c.args.input.now.file_b) c.in_ok-crew.crew.items c.in_ok-books.books c.in_ok-crew.ensures c.in_ok-books.ensures
 
 pub from_parts-requires-clause-few : goal.from_parts-requires-clause-few

@@ -1,4 +1,4 @@
-use Rattle.subflow_worker.proofs.rounds.threaded_round.Given as goal
+use Rattle.subflow_worker.proofs.rounds.round_of.Given as goal
 
 -- the books that are given are the named ones
 abbrev pub ghosts-round_at : goal.ghosts-round_at

@@ -1,0 +1,174 @@
+-- Rounds whose steps stand by stamp, then actor: how one is made of any steps, and what many of them come to.
+use Rattle.std.proofs.Common.{◌≡◌, refl, sym, ◌∙◌, ap, subst, ℕ, zero, suc, ◌+◌, ◌<◌, true, false, List, [], ◌∷◌, ◌++◌, map, drop, length, get_or, append_assoc}
+use Rattle.std.proofs.lemmas.Bool.{both_ways}
+use Rattle.std.proofs.lemmas.List.{append-nil, drop_more}
+use Rattle.actor_desk.specs.declared.ask.Note.{Note}
+use Rattle.actor_desk.specs.Journals.{order_of}
+use Rattle.path_core.specs.Octets.{octets}
+use Rattle.world_laws.specs.Fine.{lists_of}
+use Rattle.world_laws.specs.Serial.{after_turns}
+use Rattle.world_laws.specs.Weaving.{Worked, steps_by}
+use Rattle.world_laws.specs.Worlds.{Turn, is_going, world_step, all_over, end_round, greatest, world_run, RunTo, AreLawful}
+use Rattle.world_laws.proofs.RoundTurns.{all_turns_over}
+use Rattle.world_laws.proofs.WeavingRounds.{run_append, lawful_append}
+use Rattle.world_laws.proofs.WeavingSteps.{begins_working, turns_working, worked}
+use Rattle.journal_weave.specs.Rounds.{IsWovenRound}
+use Rattle.journal_weave.proofs.RoundsWoven.{worked_round}
+use Rattle.world_core.specs.RoundEnds.{round_ends, last_end, round_steps, steps_by_round}
+use Rattle.world_core.specs.Rounds.{RoundTo}
+use Rattle.world_core.specs.Kept.{Kept}
+use Rattle.world_core.specs.Weaving.{AllGrewAbove, IsSince}
+use Rattle.mptcp_run.specs.declared.rounds.Run.{Run}
+use Rattle.mptcp_run.specs.Replaying.{GoesOn}
+use Rattle.mptcp_run.specs.Rounds.{AtRound, Begins}
+use Rattle.mptcp_run.specs.Task.{Connection}
+use Rattle.mptcp_run.specs.Threads.{after_orders, AreOrders, LeadTo}
+use Rattle.mptcp_run.specs.WovenRounds.{after_woven, WovenTo, turns_told, AreAtMost, AreWovenRounds}
+use Rattle.mptcp_run.proofs.Courses.{one_true, one_false, one_both}
+use Rattle.mptcp_run.proofs.LogWoven.{steps_end, steps_fine, told_to_the_end}
+use Rattle.mptcp_run.proofs.RoundsMade.{IsKind}
+use Rattle.mptcp_run.proofs.UnderWay.{step_goes, begins_going, lists_at_end, next_begins}
+
+-- ---- one round
+
+-- what steps made of a world, up to the end of each turn, is a round of those steps by stamp, then actor
+worked_woven : (w x : Connection) → Begins w → Worked octets (greatest 0 w.crew) w x → all_over x.crew ≡ true → WovenTo w (end_round x)
+worked_woven w x begins worked over =
+    let r = worked_round w x (record { fine = begins.fine; known = begins.known }) worked over in
+    record { actors = order_of (greatest 0 w.crew) (lists_of x.crew); round = r.round; world = ap end_round (sym r.leads) }
+
+-- whole turns in order of number do
+pub serial_woven : (w v : Connection) → Begins w → RoundTo octets w v → WovenTo w v
+serial_woven w v begins r =
+    let x : Connection = after_turns octets 0 r.0 w in
+    let working = turns_working octets (greatest 0 w.crew) 0 r.0 w w (begins_working octets (greatest 0 w.crew) w (record { fine = begins.fine; known = begins.known })) in
+    subst (WovenTo w) (sym r.2) (worked_woven w x begins (worked octets (greatest 0 w.crew) w x working) (all_turns_over octets r.0 w r.1))
+
+-- the next round begins behind it
+pub woven_begins : (w v : Connection) → Begins w → WovenTo w v → Begins v
+woven_begins w v begins r =
+    subst Begins (sym r.world) (next_begins (world_run octets (steps_by r.actors) w) (steps_fine r.actors w begins.fine) r.round.over)
+
+-- ---- many of them
+
+module _ (w v : Connection) (r : WovenTo w v) where
+  abbrev turns : List Turn
+  turns = steps_by r.actors ++ Turn.Round ∷ []
+
+  ran : world_run octets turns w ≡ v
+  ran = run_append octets (steps_by r.actors) (Turn.Round ∷ []) w ∙ sym r.world
+
+  ends : (rest : List Turn) → round_ends (turns ++ rest) w ≡ v ∷ round_ends rest v
+  ends rest =
+      ap (λ ts. round_ends ts w) (append_assoc (steps_by r.actors) (Turn.Round ∷ []) rest) ∙ steps_end r.actors (Turn.Round ∷ rest) w
+      ∙ ap (λ x. x ∷ round_ends rest x) (sym r.world)
+
+  -- the steps of the round tell its turns
+  told_first : (rest : List Turn) (more : List (List Note)) → rest ≡ turns_told more → turns ++ rest ≡ turns_told (round_steps w v ∷ more)
+  told_first rest more is =
+      append_assoc (steps_by r.actors) (Turn.Round ∷ []) rest ∙ ap (λ ts. steps_by r.actors ++ Turn.Round ∷ ts) is
+      ∙ ap (λ actors. steps_by actors ++ Turn.Round ∷ turns_told more)
+      (r.round.in_order ∙ ap (order_of (greatest 0 w.crew)) (sym (lists_at_end (world_run octets (steps_by r.actors) w)))
+      ∙ ap (λ (x : Connection). order_of (greatest 0 w.crew) (lists_of x.crew)) (sym r.world))
+
+  lawful : (rest : List Turn) → AreLawful octets rest v → AreLawful octets (turns ++ rest) w
+  lawful rest h = subst (λ ts. AreLawful octets ts w) (sym (append_assoc (steps_by r.actors) (Turn.Round ∷ []) rest))
+      (lawful_append octets (steps_by r.actors) (Turn.Round ∷ rest) w r.round.lawful (r.round.over, subst (AreLawful octets rest) r.world h))
+
+  -- a round before others
+  before : (most : ℕ) (rest : List Turn) → AreLawful octets rest v → rest ≡ turns_told (steps_by_round v (round_ends rest v))
+      → AreAtMost most (v ∷ round_ends rest v) → AreWovenRounds most (turns ++ rest) w
+  before most rest h is few = record {
+    lawful = lawful rest h;
+    in_order = told_first rest (steps_by_round v (round_ends rest v)) is ∙ ap (λ es. turns_told (steps_by_round w es)) (sym (ends rest));
+    few = subst (AreAtMost most) (sym (ends rest)) few;
+  }
+
+  -- alone
+  alone : (most : ℕ) → AreAtMost most (v ∷ []) → AreWovenRounds most turns w
+  alone most few = subst (λ ts. AreWovenRounds most ts w) (append-nil turns) (before most [] tt refl few)
+
+pub woven_kind : IsKind WovenTo AreWovenRounds
+woven_kind = record {
+  turns_of = λ w v r. turns w v r;
+  ran = λ w v r. ran w v r;
+  ends = λ w v r rest. ends w v r rest;
+  none = λ w. record { lawful = tt; in_order = refl; few = refl };
+  one = λ w v r. alone w v r 1 (one_both _ _ _ refl refl);
+  last = λ n w v r over. alone w v r (suc n) (one_false _ _ _ over refl);
+  more = λ n w v r rest going h. before w v r (suc n) rest h.lawful h.in_order (one_true _ _ _ going h.few);
+}
+
+-- ---- the last round's end
+
+pub woven_to_the_end : (most : ℕ) (turns : List Turn) (w : Connection) → AreWovenRounds most turns w → last_end w (round_ends turns w) ≡ world_run octets turns w
+woven_to_the_end most turns w h =
+    subst (λ ts. last_end w (round_ends ts w) ≡ world_run octets ts w) (sym h.in_order) (told_to_the_end (steps_by_round w (round_ends turns w)) w)
+
+-- ---- made again
+
+-- lawful steps are made whole
+pub run_whole : (order : List ℕ) (count : ℕ) (w v : Connection) → AreLawful octets (steps_by order) w → RunTo octets order count w v → v ≡ world_run octets (steps_by order) w
+run_whole [] count w v lawful h = h.1
+run_whole (actor ∷ order) zero w v lawful h = absurd (both_ways (is_going actor w) h.0 lawful.0)
+run_whole (actor ∷ order) (suc count) w v lawful h = run_whole order count (world_step octets actor w) v lawful.1 h.1
+
+-- one of the rounds was made again
+order_again : (actors : List ℕ) (rest : List (List ℕ)) (count : ℕ) (w x v u : Connection) → AreOrders (actors ∷ rest) w → RunTo octets actors count w x → v ≡ end_round x
+    → after_orders (actors ∷ rest) w ≡ u → AreOrders rest v × (after_orders rest v ≡ u)
+order_again actors rest count w x v u h ran ended is =
+    let v_is : after_woven actors w ≡ v = ap end_round (sym (run_whole actors count w x h.0.lawful ran)) ∙ sym ended in
+    (subst (AreOrders rest) v_is h.1, ap (after_orders rest) (sym v_is) ∙ is)
+
+-- as a loop over them has it
+pub again_more : {X : Type 0} (f : X → List ℕ) (xs : List X) (i : ℕ) (d : X) (actors : List ℕ) (count : ℕ) (w x v u : Connection) → i < length xs
+    → actors ≡ f d → d ≡ get_or xs i d → AreOrders (map f (drop i xs)) w → RunTo octets actors count w x → v ≡ end_round x → after_orders (map f (drop i xs)) w ≡ u
+    → AreOrders (map f (drop (i + 1) xs)) v × (after_orders (map f (drop (i + 1) xs)) v ≡ u)
+again_more f xs i d actors count w x v u within actors_are d_is h ran ended all =
+    let actors_is = actors_are ∙ ap f d_is in
+    let is : map f (drop i xs) ≡ f (get_or xs i d) ∷ map f (drop (i + 1) xs) = ap (map f) (drop_more xs i d within) in
+    order_again (f (get_or xs i d)) (map f (drop (i + 1) xs)) count w x v u (subst (λ os. AreOrders os w) is h)
+    (subst (λ as_made. RunTo octets as_made count w x) actors_is ran) ended (subst (λ os. after_orders os w ≡ u) is all)
+
+orders_after : (orders : List (List ℕ)) (actors : List ℕ) (w : Connection) → after_orders (orders ++ actors ∷ []) w ≡ after_woven actors (after_orders orders w)
+orders_after [] actors w = refl
+orders_after (first ∷ orders) actors w = orders_after orders actors (after_woven first w)
+
+orders_with : (orders : List (List ℕ)) (actors : List ℕ) (w : Connection) → AreOrders orders w → IsWovenRound actors (after_orders orders w)
+    → AreOrders (orders ++ actors ∷ []) w
+orders_with [] actors w h round = (round, tt)
+orders_with (first ∷ orders) actors w h round = (h.0, orders_with orders actors (after_woven first w) h.1 round)
+
+-- with one round more
+pub lead_on : (orders : List (List ℕ)) (actors : List ℕ) (opening w : Connection) → LeadTo orders opening w → IsWovenRound actors w
+    → LeadTo (orders ++ actors ∷ []) opening (after_woven actors w)
+lead_on orders actors opening w h round = record {
+  are = orders_with orders actors opening h.are (subst (IsWovenRound actors) h.end round);
+  end = ap (after_woven actors) h.end ∙ sym (orders_after orders actors opening);
+}
+
+-- ---- a run
+
+-- its lists grew by the steps of the round
+pub woven_since : (run : Run) (v : Connection) → AtRound run → WovenTo run.world.state v → IsSince run.world.state run.made.items v
+woven_since run v h r =
+    let w : Connection = run.world.state in
+    let goes : GoesOn w (world_run octets (steps_by r.actors) w) = actors_go w w r.actors (begins_going w h.begins) in
+    record {
+      made_is = h.made_is;
+      grew = subst (λ (x : Connection). AllGrewAbove (greatest 0 w.crew) (lists_of w.crew) (lists_of x.crew)) (sym r.world)
+          (subst (λ lists. AllGrewAbove (greatest 0 w.crew) (lists_of w.crew) lists) (sym (lists_at_end (world_run octets (steps_by r.actors) w))) goes.grew);
+    }
+  where
+    actors_go : (last x : Connection) (actors : List ℕ) → GoesOn last x → GoesOn last (world_run octets (steps_by actors) x)
+    actors_go last x [] h = h
+    actors_go last x (actor ∷ actors) h = actors_go last (world_step octets actor x) actors (step_goes last x actor h)
+
+-- the next round of the run begins
+pub woven_next : (run new : Run) (k : Kept) → AtRound run → WovenTo run.world.state k.state → k.failed ≡ false → new.world ≡ k
+    → new.made.items ≡ map length (lists_of k.state.crew) → AtRound new
+woven_next run new k h r stands world made = record {
+  stands = ap (λ (x : Kept). x.failed) world ∙ stands;
+  begins = subst (λ (x : Kept). Begins x.state) (sym world) (woven_begins run.world.state k.state h.begins r);
+  made_is = made ∙ ap (λ (x : Kept). map length (lists_of x.state.crew)) (sym world);
+}

@@ -1,0 +1,18 @@
+use Rattle.mptcp_run.proofs.ThreadsMade.{parts_begin, found_sound, found_woven}
+use Rattle.mptcp_run.proofs.threads.by_threads.Goals as goal
+
+pub woven_round-books-requires-clause-begins : goal.woven_round-books-requires-clause-begins
+woven_round-books-requires-clause-begins g c κs lives =
+    parts_begin c.args.world c.into_parts-books.result.1.items c.into_parts-books.result.0 c.into_parts-books.ensures.parts c.requires.begins
+
+pub from_parts-requires-clause-sound : goal.from_parts-requires-clause-sound
+from_parts-requires-clause-sound g c =
+    found_sound (λ order. order.items) c.woven_round-books.result.1 c.has_order-failed.result c.has_order-failed.ensures
+    c.into_parts-books.result.1.items c.woven_round-books.new.crew.items c.into_parts-books.result.0 c.woven_round-books.result.0 c.woven_round-books.ensures.order
+    c.into_parts-books.ensures.sound c.woven_round-books.ensures.many c.woven_round-books.ensures.turned
+
+pub returns : goal.returns
+returns g c =
+    found_woven (λ order. order.items) c.woven_round-books.result.1 c.has_order-failed.result c.has_order-failed.ensures
+    c.into_parts-books.result.1.items c.woven_round-books.new.crew.items c.into_parts-books.result.0 c.woven_round-books.result.0 c.woven_round-books.ensures.order
+    c.args.world c.from_parts.result c.into_parts-books.ensures.parts c.from_parts.ensures

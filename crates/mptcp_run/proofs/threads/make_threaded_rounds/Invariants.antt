@@ -1,0 +1,28 @@
+use Rattle.std.proofs.Common.{◌≡◌, ◌≤◌, ◌-◌}
+use Rattle.world_laws.specs.Openings.{opened_world, start_of}
+use Rattle.run_outside.specs.Calling.{OnlyPuts}
+use Rattle.mptcp_run.specs.Rounds.{AtRound}
+use Rattle.mptcp_run.specs.Threads.{CanBeMadeAgain}
+use Rattle.mptcp_run.specs.WovenRounds.{AreWovenRounds}
+use Rattle.mptcp_run.proofs.threads.make_threaded_rounds.Given as goal
+use Rattle.mptcp_run.proofs.Folding.{RoundsPut, RoundsCut}
+
+-- what the rounds that are left come to, all rounds do
+abbrev pub invariant-loop-round : goal.invariant-loop-round
+invariant-loop-round g l = record {
+  begins : AtRound l.run;
+  opening : l.run.opening ≡ l.initial.run.opening;
+  rounds : l.run.rounds ≡ l._round;
+  few : l._round ≤ l.most;
+  again : CanBeMadeAgain l.orders (opened_world (start_of l.input.script l.input.file_a l.input.file_b)) l.run.world.state;
+  put : (count : _) (v : _) (new : _) (after : _) → RoundsPut AreWovenRounds l.run.opening (l.most - l._round) l._round count l.run.world.state v
+      (g.O.Outside.holds l.outside) new (g.O.Outside.calls l.outside) after
+      → RoundsPut AreWovenRounds l.initial.run.opening l.most 0 count l.initial.run.world.state v
+      (g.O.Outside.holds l.initial.outside) new (g.O.Outside.calls l.initial.outside) after;
+  cut : (new : _) (after : _) (status : _) → RoundsCut AreWovenRounds l.run.opening (l.most - l._round) l._round l.run.world.state
+      (g.O.Outside.holds l.outside) new (g.O.Outside.calls l.outside) after status
+      → RoundsCut AreWovenRounds l.initial.run.opening l.most 0 l.initial.run.world.state
+      (g.O.Outside.holds l.initial.outside) new (g.O.Outside.calls l.initial.outside) after status;
+  only : OnlyPuts (g.O.Outside.load_faults l.initial.outside) (g.O.Outside.load_faults l.outside)
+      (g.O.Outside.port_faults l.initial.outside) (g.O.Outside.port_faults l.outside);
+}
