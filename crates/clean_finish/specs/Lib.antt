@@ -4,4 +4,7 @@ pub mod Bound
 pub mod Laws
 pub mod Machine
 pub mod Reading
+pub mod Running
+pub mod Segments
+pub mod Shows
 pub mod Writing

@@ -1,0 +1,240 @@
+-- The SYN/ACK arrives at A: the end.
+use Rattle.std.proofs.Common.{◌≡◌, refl, sym, subst, ap, ◌∙◌, ℕ, ◌+◌, ◌-◌, ◌<◌, ◌≤◌, min, max, nat_lt, Bool, true, false, not, ◌&&◌, ◌==◌, if◌then◌else◌, ◌⊎◌, inl, inr, ⊎_elim, Option, Some, None, List, [], ◌∷◌, length, All, arith}
+use Rattle.std.proofs.lemmas.Bool.{both_ways, and_parts}
+use Rattle.std.proofs.lemmas.List.Elements.{All-weaker}
+use Rattle.outside_kit.specs.declared.side.Side.{Side}
+use Rattle.outside_kit.specs.declared.side.Side.TheVariants.{A, B}
+use Rattle.dss_mapping.specs.declared.kept.KeptMapping.{KeptMapping}
+use Rattle.dss_mapping.specs.Learning.{after_hold}
+use Rattle.loss_recovery.specs.Timers.{heard as timing_heard, measured, rtt_told}
+use Rattle.path_segments.specs.Laws.{meant}
+use Rattle.subflow_send.specs.Rules.{newly_acknowledged, sample_of}
+use Rattle.subflow_tcp.specs.declared.dues.Due.{Due}
+use Rattle.subflow_tcp.specs.declared.handshake.State.TheVariants.{SynSent, Established}
+use Rattle.subflow_tcp.specs.declared.segments.Outgoing.{Outgoing}
+use Rattle.subflow_tcp.specs.declared.verdicts.Meaning.TheVariants as means
+use Rattle.subflow_tcp.specs.Segments.{Copy as SubflowCopy}
+use Rattle.subflow_tcp.specs.State.{EndState}
+use Rattle.subflow_tcp.specs.Taking.{after_hearing, after_payload, after_new_ack, after_acknowledgement, after_telling, after_occupying, told_by_syn, is_fin_acked}
+use Rattle.subflow_tcp.proofs.WindowGrowth.{acknowledged_grows}
+use Rattle.path_agenda.specs.declared.duty.Duty.{Duty}
+use Rattle.path_core.specs.Arriving.{copy_of, copy_judged, items_of, hint_of, treated_of, with_held}
+use Rattle.path_core.specs.Codec.{HeardSegment}
+use Rattle.path_core.specs.Ends.{PathEnd}
+use Rattle.path_core.specs.State.{Profile}
+use Rattle.pace.specs.Lane.{Setting, Lane, Receiver}
+use Rattle.pace.specs.Rules.{hears_data, rested}
+use Rattle.clean_finish.specs.Segments.{Sent, Keys, copy_in, said}
+use Rattle.clean_finish.specs.Segments.Brings.{OpensSubflow}
+use Rattle.clean_finish.specs.Shows.{Hand, EndIs, IsGranted, IsOpen, IsToldEdge, row_seen}
+use Rattle.clean_finish.specs.Shows.IsPhase.{Open}
+use Rattle.clean_finish.specs.Shows.IsToldEdge.{Same, Before}
+use Rattle.clean_finish.specs.Running.{Half, Facing}
+use Rattle.clean_finish.proofs.AckNew.{acked_to, new_ack, records_acked, row_ends, window_on, open_acked}
+use Rattle.clean_finish.proofs.Machine.{stays_long}
+
+-- B's SYN with what varies of it
+abbrev pub answer_at : (at low window edge least : ℕ) → Sent
+answer_at at low window edge least = record {
+  at = at;
+  brings = OpensSubflow;
+  low = low;
+  control = 1;
+  keys = 0;
+  telling = record { next = 0; edge = least; seen = 1; dss = 0 };
+  window = window;
+  edge = edge;
+}
+
+module _ {keys : Keys} {k j : Setting} {c : Profile} {begun begun_back : Lane} {m n : Half} {clock until : ℕ} {ds : List Duty}
+    (h : Facing A keys k j c begun begun_back m n clock until ds) (none_came : h.back.control_came ≡ 0)
+    (low : m.end.tcp.send.una ≡ 0) (sent_one : h.out.control_sent ≡ 1) (nothing_waits : h.waiting ≡ 0)
+    (tick place window edge : ℕ) (at : place ≡ h.back.received) (some : 1 ≤ edge) (one_edge : edge ≤ 1) (most_edge : edge ≤ m.end.tcp.send.nxt)
+    (told : List KeptMapping) (answer : Outgoing)
+  where
+    sent_some : 1 ≤ h.out.control_sent
+    sent_some = one sent_one
+      where
+        one : {y : ℕ} → y ≡ 1 → 1 ≤ y
+        one is = omega (arith, is)
+
+    unfinished : true ≡ not m.end.tcp.send.finished
+    unfinished = ap not (sym (h.own.subflow.records.finished ∙ ap (λ (y : ℕ). nat_lt 1 y) sent_one))
+
+    abbrev pub x : Sent
+    x = answer_at tick place window edge k.least
+
+    abbrev pub hand_after : Option Hand
+    hand_after = Some (record { sent = x; brings = false; tells = true })
+
+    abbrev pub heard : HeardSegment
+    heard = meant (said c keys B x)
+
+    abbrev pub copy : SubflowCopy
+    copy = copy_of heard
+
+    -- as it is established, before the acknowledgement
+    abbrev pub opened : EndState
+    opened = record (after_hearing (after_payload 1 (hint_of (items_of false A heard)) copy m.end.tcp)) { state = Established }
+
+    abbrev pub octets : ℕ
+    octets = newly_acknowledged edge opened.send
+
+    abbrev pub since : Option ℕ
+    since = sample_of edge opened.send
+
+    abbrev pub rtt : ℕ
+    rtt = rtt_told (measured since clock (timing_heard m.end.tcp.timing))
+
+    abbrev pub acked : EndState
+    acked = after_new_ack octets since clock (acked_to edge opened)
+
+    abbrev pub tcp_after : EndState → EndState
+    tcp_after s = after_occupying copy (after_telling (told_by_syn copy) s)
+
+    -- with what the acknowledgement makes of the subflow
+    abbrev pub end_by : EndState → PathEnd
+    end_by s = record (with_held told heard (means.Accepts edge) m.end) {
+      tcp = tcp_after s;
+      treated = treated_of (items_of false A heard) (means.Accepts edge) heard answer m.end.tcp;
+    }
+
+    abbrev pub end_after : PathEnd
+    end_after = end_by acked
+
+    pub above : {y z : ℕ} → y ≡ 0 → 1 ≤ z → y < z
+    above is one = omega (arith, is, one)
+
+    -- it is so
+    pub acked_is : after_acknowledgement edge clock opened ≡ acked
+    acked_is = new_ack edge clock opened (above low some) most_edge
+
+    pub judged_is : copy_judged false told answer A clock heard (means.Accepts edge) m.end ≡ end_by (after_acknowledgement edge clock opened)
+    judged_is = refl
+
+    pub came_some : {y : ℕ} → y ≡ 0 → 1 ≤ max y 1
+    came_some is = omega (arith, is)
+
+    pub max_none : (y : ℕ) → max y 0 ≡ y
+    max_none y = omega arith
+
+    pub not_b : A ≡ B → ⊥
+    not_b e = cc
+
+    pub zero_low : {y : ℕ} (z : ℕ) → y ≡ 0 → y ≤ z
+    zero_low z is = omega (arith, is)
+
+    pub bytes_on : {y una : ℕ} → una ≡ 0 → y ≤ una - 1 → y ≤ edge - 1
+    bytes_on is less = omega (arith, is, less)
+
+    pub opened_on : {y una : ℕ} → una ≡ 0 → y ≤ una → y ≤ edge
+    opened_on is less = omega (arith, is, less)
+
+    pub not_next : {una nxt : ℕ} → una ≡ 0 → una ≡ nxt → 1 ≤ edge → edge ≤ nxt → ⊥
+    not_next is same one most = absurd (omega (arith, is, same, one, most))
+
+    pub una_low : {y : ℕ} (total : ℕ) → y ≤ 1 → y ≤ 1 + total + (1 - 1)
+    una_low total less = omega (arith, less)
+
+    pub edge_on : {e received came place : ℕ} → e ≡ 1 + received + (came - 1) → place ≡ received → came ≡ 0 → e ≡ 1 + (place + 0) + (max came 1 - 1)
+    edge_on is same none = omega (arith, is, same, none)
+
+    pub within : {to waiting : ℕ} (granted : ℕ) → waiting ≡ 0 → to ≤ granted + waiting → to ≤ granted + 0
+    within granted none less = omega (arith, none, less)
+
+    pub bytes_some : {waiting : ℕ} (granted : ℕ) → waiting ≡ 0 → 1 ≤ granted + 0 → 1 ≤ granted + waiting
+    bytes_some granted none less = omega (arith, none, less)
+
+    pub ready_on : {ready came : ℕ} → ready ≤ min 1 came → came ≡ 0 → ready ≤ min 1 (max came 1)
+    ready_on few none = omega (arith, few, none)
+
+    pub plus_zero : {y z : ℕ} → y ≡ z → z ≡ 0 → y + 0 ≡ 0
+    plus_zero a b = omega (arith, a, b)
+
+    pub told_on : {e : ℕ} → IsToldEdge A j h.owes h.back.receiver e → IsToldEdge A j true (hears_data (copy_in x) [] h.back).receiver e
+    told_on (Same same) = Same same
+    told_on (Before side received least) = Before side (inr refl) least
+
+    pub open_is : IsOpen m.end.tcp.send.finished (tcp_after acked).state
+    open_is = open_acked m.end.tcp.send.finished (is_fin_acked (acked_to edge opened).send) Established
+        (λ is. (and_parts m.end.tcp.send.finished _ is).0)
+        (record { finish = unfinished; closed = refl; half = refl; opening = refl; connected = refl })
+
+    pub grown : (k.payload + h.out.window ≤ (tcp_after acked).congestion.reno.window) × ((tcp_after acked).congestion.reno.window ≤ 1048576)
+        × ((tcp_after acked).congestion.reno.in_fast_recovery ≡ false)
+    grown =
+        let grows = acknowledged_grows octets rtt m.end.tcp.congestion h.own.subflow.congestion.most h.own.subflow.congestion.steady in (
+          window_on k.payload h.out.window octets rtt m.end.tcp.congestion h.own.subflow.congestion.window h.own.subflow.congestion.most
+              h.own.subflow.congestion.steady,
+          grows.cap,
+          grows.calm,
+        )
+
+    pub heard_own : EndIs A keys k j (rested h.out).sender (hears_data (copy_in x) [] h.back).receiver hand_after true 0 end_after
+    heard_own = record {
+      subflow = record {
+        phase = Open (came_some none_came) some (open_is);
+        opens = h.own.subflow.opens;
+        records = records_acked k h.out.sender (rested h.out).sender h.waiting edge m.end.tcp (tcp_after acked) h.own.subflow.records nothing_waits sent_some
+            (above low some) most_edge refl refl refl;
+        ahead = record {
+          bytes = bytes_on low h.own.subflow.ahead.bytes;
+          opened = opened_on low h.own.subflow.ahead.opened;
+          finished = λ e. absurd (not_next low (h.own.subflow.ahead.finished e) some most_edge);
+        };
+        congestion = record {
+          window = grown.0;
+          most = grown.1;
+          steady = grown.2;
+          row = zero_low (row_seen h.out.sender hand_after) (row_ends octets rtt m.end.tcp.congestion);
+        };
+        come = record { edge = edge_on h.own.subflow.come.edge at none_came; window = h.own.subflow.come.window };
+        heard = record { told = tt; most = una_low k.total one_edge; end = λ e. absurd (omega (arith, e)); few = omega arith };
+        quiet = λ e. absurd (both_ways _ e open_is.connected);
+        begun = λ is. absurd (not_b is);
+        keyed = λ is. absurd (not_b is);
+        long = stays_long.measured since clock (timing_heard m.end.tcp.timing) (stays_long.heard m.end.tcp.timing h.own.subflow.long);
+        due = ap (λ (d : Due). record d { ack = true }) h.own.subflow.due;
+      };
+      sending = record {
+        heard = h.own.sending.heard;
+        known = h.own.sending.known;
+        data_fin = h.own.sending.data_fin;
+        acked = h.own.sending.acked;
+        came = max_none h.back.data_fin_came ∙ h.own.sending.came;
+        shut = h.own.sending.shut;
+        granted = All-weaker (IsGranted h.out.sender h.waiting) (IsGranted (rested h.out).sender 0)
+            (λ span is. record { waits = is.waits; within = within h.out.granted nothing_waits is.within }) m.end.sending.granted h.own.sending.granted;
+        bytes = λ some_bytes. h.own.sending.bytes (bytes_some h.out.granted nothing_waits some_bytes);
+        end = h.own.sending.end;
+        acked_end = h.own.sending.acked_end;
+        finish = h.own.sending.finish;
+      };
+      receiving = record {
+        next = h.own.receiving.next;
+        limit = h.own.receiving.limit;
+        told = told_on h.own.receiving.told;
+        least = h.own.receiving.least;
+        unmapped = h.own.receiving.unmapped;
+        fin_told = h.own.receiving.fin_told;
+        said = h.own.receiving.said;
+      };
+      modes = record {
+        mode = h.own.modes.mode;
+        standby = h.own.modes.standby;
+        identity = h.own.modes.identity;
+        owes_third = h.own.modes.owes_third;
+        owes_mapping = h.own.modes.owes_mapping;
+        mapped_to = h.own.modes.mapped_to;
+        plain_acks = h.own.modes.plain_acks;
+        own_key = h.own.modes.own_key;
+        peer_key = h.own.modes.peer_key;
+        clear = h.own.modes.clear;
+        capable = λ is. absurd (not_b is);
+        ready = ready_on h.own.modes.ready none_came;
+        cleared = h.own.modes.cleared;
+        both = λ is. absurd (not_b is);
+        shown = h.own.modes.shown;
+      };
+      timer = refl;
+    }

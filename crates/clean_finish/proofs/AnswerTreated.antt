@@ -1,0 +1,265 @@
+-- The steps in which A treats the SYN/ACK, but for its answer: B's window is told, its key is kept, and the path lives.
+use Rattle.std.proofs.Common.{◌≡◌, refl, sym, subst, ap, ◌∙◌, ℕ, ◌+◌, ◌<◌, ◌≤◌, min, max, nat_lt, Bool, true, false, ◌||◌, is_some, ◌⊎◌, inl, inr, ⊎_elim, Option, Some, None, List, [], ◌∷◌, ◌++◌, arith}
+use Rattle.std.proofs.lemmas.Bool.{both_ways, le-ltb}
+use Rattle.outside_kit.specs.declared.side.Side.{Side}
+use Rattle.outside_kit.specs.declared.side.Side.TheVariants.{A, B}
+use Rattle.subflow_tcp.specs.declared.handshake.State.{State}
+use Rattle.actor_desk.specs.Desk.{SixBooks, reply_of, after_ask}
+use Rattle.stream_apps.specs.Apps.{AppState}
+use Rattle.path_agenda.specs.declared.duty.Duty.{Duty}
+use Rattle.path_agenda.specs.declared.duty.Duty.TheVariants as duties
+use Rattle.path_agenda.specs.declared.duty.AskDuty.TheVariants as ask_duties
+use Rattle.path_agenda.specs.declared.duty.SendDuty.TheVariants as send_duties
+use Rattle.path_agenda.specs.Agenda.{emission}
+use Rattle.path_agenda.specs.Items.{key_heard}
+use Rattle.path_core.specs.Opening.{syn_window_ask, peer_key_ask, answered_peer_key, live_ask}
+use Rattle.path_core.specs.Standing.{is_connected}
+use Rattle.path_core.specs.State.{PathState, with_agenda}
+use Rattle.path_core.specs.Values.{Carried}
+use Rattle.world_laws.specs.Openings.{PathPlan, Start}
+use Rattle.pace.specs.Lane.{Setting, Telling, Lane, all_left}
+use Rattle.pace.specs.Going.{Going}
+use Rattle.clean_finish.specs.Machine.{seen_timer}
+use Rattle.clean_finish.specs.Segments.{Keys}
+use Rattle.clean_finish.specs.Shows.{IsPhase}
+use Rattle.clean_finish.specs.Shows.IsPhase.{Opening, Listening, HalfOpen, Open}
+use Rattle.clean_finish.specs.Running.{own_bench, other_bench, IsSetting, Runs, keys_in}
+use Rattle.clean_finish.proofs.Acknowledged.{hears_on}
+use Rattle.clean_finish.proofs.Enlivened.{enlivened}
+use Rattle.clean_finish.proofs.Keyed.{keyed}
+use Rattle.clean_finish.proofs.Raised.{Emits}
+use Rattle.clean_finish.proofs.SynTold.{told_own}
+
+emits_three : (d e f : Duty) → Emits A (d ∷ e ∷ f ∷ emission A)
+emits_three d e f = record {
+  bytes = inr (inr (inr (inr (inl refl))));
+  end = inr (inr (inr (inr (inr (inl refl)))));
+  timer = inr (inr (inr (inr (inr (inr (inr (inl refl)))))));
+  events = inr (inr (inr (inr (inr (inr (inr (inr (inl refl))))))));
+}
+
+emits_two : (d e : Duty) → Emits A (d ∷ e ∷ emission A)
+emits_two d e = record {
+  bytes = inr (inr (inr (inl refl)));
+  end = inr (inr (inr (inr (inl refl))));
+  timer = inr (inr (inr (inr (inr (inr (inl refl))))));
+  events = inr (inr (inr (inr (inr (inr (inr (inl refl)))))));
+}
+
+-- once the SYN/ACK came both SYNs are acknowledged
+established : (came una : ℕ) (finished : Bool) (state : State) → IsPhase A came una finished state → came ≡ 1 → (1 ≤ una) × (is_connected state ≡ true)
+established came una finished state (Opening side none low is) one = absurd (omega (arith, none, one))
+established came una finished state (Listening side none low is) one = absurd (omega (arith, none, one))
+established came una finished state (HalfOpen side one low is) zero_came = absurd (not_b side)
+  where
+    not_b : A ≡ B → ⊥
+    not_b e = cc
+established came una finished state (Open some high is) one = (high, is.connected)
+
+module _ (start : Start) (plan : PathPlan) (k j : Setting) (s v : Lane) (t0 u0 : ℕ)
+    (going : Going k s t0 all_left s) (going_back : Going j v u0 all_left v)
+  where
+    abbrev keys : Keys
+    keys = keys_in start
+
+    module _ (a b : AppState) (books : SixBooks) (p : PathState Carried) (ds : List Duty)
+        (k_is : IsSetting p.profile plan.delay k) (j_is : IsSetting p.profile plan.delay j)
+      where
+        abbrev Relation : SixBooks → PathState Carried → Type 0
+        Relation six q = Runs start plan k j s v a b six q
+
+        -- ---- its window
+
+        abbrev answer_told : SixBooks
+        answer_told = after_ask (syn_window_ask A p.a) books
+
+        hears_answer : Relation books (with_agenda (duties.Ask (ask_duties.SynAnswered A) ∷ duties.Ask (ask_duties.PeerKey A) ∷ duties.Ask (ask_duties.Live A) ∷ duties.Send (send_duties.Acknowledge A) ∷ emission A) p)
+            → Relation answer_told (with_agenda (duties.Ask (ask_duties.PeerKey A) ∷ duties.Ask (ask_duties.Live A) ∷ duties.Send (send_duties.Acknowledge A) ∷ emission A) p)
+        hears_answer h =
+            let t = h.treats in
+            let x = t.0.sent in
+            let next : x.telling.next ≡ 0 = ap (λ (y : Telling). y.next) t.0.seen in
+            let seen : x.telling.seen ≡ 1 = ap (λ (y : Telling). y.seen) t.0.seen in
+            let dss : x.telling.dss ≡ 0 = ap (λ (y : Telling). y.dss) t.0.seen in
+            let there = emits_three (duties.Ask (ask_duties.PeerKey A)) (duties.Ask (ask_duties.Live A)) (duties.Send (send_duties.Acknowledge A)) in
+            let up = established h.back.control_came p.a.tcp.send.una p.a.tcp.send.finished p.a.tcp.state h.own.subflow.phase t.0.came in
+            let faces = hears_on h.faces refl there x false t.0.hand 0 p.a.tcp.congestion.told.window (none_future _) next (plus (t.0.edge refl))
+            (λ less. h.own.timer ∙ ap (λ (b : Bool). seen_timer (b || p.a.sending.news) p.a.tcp.timing.timer) t.0.news)
+            p.a.sending p.a.modes p.a.treated refl
+            (told_own h.faces refl there x false t.0.hand next dss (few seen) (low seen up.0)) in
+            record {
+              path = record {
+                profile = h.path.profile;
+                delay = h.path.delay;
+                number = h.path.number;
+                unspoken = h.path.unspoken;
+                lines = h.path.lines;
+                joined = h.path.joined;
+              };
+              link = h.link;
+              faces = faces;
+              treats = (
+                record {
+                  side = refl;
+                  sent = x;
+                  hand = refl;
+                  brings = t.0.brings;
+                  edge = λ e. absurd (both_ways false refl e);
+                  seen = t.0.seen;
+                  idle = t.0.idle;
+                  owes = t.0.owes;
+                  came = t.0.came;
+                  sent_one = t.0.sent_one;
+                  received = t.0.received;
+                  ready = t.0.ready;
+                  unclear = zero_max t.0.unclear dss;
+                  unshown = t.0.unshown;
+                  data_fin = t.0.data_fin;
+                  key = t.0.key;
+                  news = t.0.news;
+                  waiting = t.0.waiting;
+                },
+                t.1,
+                t.2,
+                refl,
+              );
+            }
+          where
+            none_future : (n : ℕ) → nat_lt n 0 ≡ false
+            none_future n = le-ltb n 0 (omega arith)
+
+            plus : {x y : ℕ} → x ≡ y → x ≡ 0 + y
+            plus is = omega (arith, is)
+
+            few : {x : ℕ} → x ≡ 1 → x ≤ 1
+            few is = omega (arith, is)
+
+            low : {x y : ℕ} → x ≡ 1 → 1 ≤ y → x ≤ y
+            low is one = omega (arith, is, one)
+
+            zero_max : {x y : ℕ} → x ≡ 0 → y ≡ 0 → max x y ≡ 0
+            zero_max a b = omega (arith, a, b)
+
+        pub answers_syn_answered : Relation books (with_agenda (duties.Ask (ask_duties.SynAnswered A) ∷ ds) p) → Relation answer_told (with_agenda ds p)
+        answers_syn_answered h =
+            subst (λ (es : List Duty). Relation answer_told (with_agenda es p)) (sym h.treats.3)
+            (hears_answer (subst (λ (es : List Duty). Relation books (with_agenda (duties.Ask (ask_duties.SynAnswered A) ∷ es) p)) h.treats.3 h))
+
+        -- ---- its key
+
+        keeps_key : Relation books (with_agenda (duties.Ask (ask_duties.PeerKey A) ∷ duties.Ask (ask_duties.Live A) ∷ duties.Send (send_duties.Acknowledge A) ∷ emission A) p)
+            → let q = with_agenda (duties.Ask (ask_duties.PeerKey A) ∷ duties.Ask (ask_duties.Live A) ∷ duties.Send (send_duties.Acknowledge A) ∷ emission A) p in
+            (o : Option ℕ) → o ≡ Some keys.b
+            → Relation (after_ask (peer_key_ask A o q) books) (answered_peer_key A o (reply_of books (peer_key_ask A o q)) q)
+        keeps_key h o is =
+            let q = with_agenda (duties.Ask (ask_duties.PeerKey A) ∷ duties.Ask (ask_duties.Live A) ∷ duties.Send (send_duties.Acknowledge A) ∷ emission A) p in
+            let t = h.treats in
+            let up = established h.back.control_came p.a.tcp.send.una p.a.tcp.send.finished p.a.tcp.state h.own.subflow.phase t.0.came in
+            let faces = keyed plan.delay t0 u0 k_is j_is going going_back h.faces (emits_two (duties.Ask (ask_duties.Live A)) (duties.Send (send_duties.Acknowledge A))) t.0.waiting
+            (one t.0.sent_one) (one_came t.0.came) t.0.ready up.1 in
+            subst (λ (w : Option ℕ). Relation (after_ask (peer_key_ask A w q) books) (answered_peer_key A w (reply_of books (peer_key_ask A w q)) q)) (sym is)
+            (record {
+              path = record {
+                profile = h.path.profile;
+                delay = h.path.delay;
+                number = h.path.number;
+                unspoken = h.path.unspoken;
+                lines = h.path.lines;
+                joined = h.path.joined;
+              };
+              link = h.link;
+              faces = faces;
+              treats = (
+                record {
+                  side = refl;
+                  sent = t.0.sent;
+                  hand = t.0.hand;
+                  brings = t.0.brings;
+                  edge = λ e. absurd (both_ways false refl e);
+                  seen = t.0.seen;
+                  idle = t.0.idle;
+                  owes = t.0.owes;
+                  came = t.0.came;
+                  sent_one = t.0.sent_one;
+                  received = t.0.received;
+                  ready = refl;
+                  unclear = t.0.unclear;
+                  unshown = t.0.unshown;
+                  data_fin = t.0.data_fin;
+                  key = λ e. absurd (omega (arith, e));
+                  news = t.0.news;
+                  waiting = refl;
+                },
+                t.1,
+                t.2,
+                refl,
+              );
+            })
+          where
+            one : {x : ℕ} → x ≡ 1 → 1 ≤ x
+            one is_one = omega (arith, is_one)
+
+            one_came : {x : ℕ} → x ≡ 1 → 1 ≤ min 1 x
+            one_came is_one = omega (arith, is_one)
+
+        pub answers_peer_key : Relation books (with_agenda (duties.Ask (ask_duties.PeerKey A) ∷ ds) p)
+            → let q = with_agenda (duties.Ask (ask_duties.PeerKey A) ∷ ds) p in let o = key_heard p.a.treated.items in
+            Relation (after_ask (peer_key_ask A o q) books) (answered_peer_key A o (reply_of books (peer_key_ask A o q)) q)
+        answers_peer_key h =
+            let o = key_heard p.a.treated.items in
+            subst (λ (es : List Duty). let q = with_agenda (duties.Ask (ask_duties.PeerKey A) ∷ es) p in
+            Relation (after_ask (peer_key_ask A o q) books) (answered_peer_key A o (reply_of books (peer_key_ask A o q)) q)) (sym h.treats.3)
+            (keeps_key (subst (λ (es : List Duty). Relation books (with_agenda (duties.Ask (ask_duties.PeerKey A) ∷ es) p)) h.treats.3 h) o (h.treats.0.key refl))
+
+        -- ---- the path lives
+
+        abbrev lives : SixBooks
+        lives = after_ask (live_ask A p) books
+
+        enlivens : Relation books (with_agenda (duties.Ask (ask_duties.Live A) ∷ duties.Send (send_duties.Acknowledge A) ∷ emission A) p)
+            → Relation lives (with_agenda (duties.Send (send_duties.Acknowledge A) ∷ emission A) p)
+        enlivens h =
+            let t = h.treats in
+            let faces = enlivened (duties.Ask (ask_duties.Live A)) (duties.Send (send_duties.Acknowledge A) ∷ emission A) refl p.link.path p.a.modes.backup_heard h.path.number h.faces in
+            record {
+              path = record {
+                profile = h.path.profile;
+                delay = h.path.delay;
+                number = h.path.number;
+                unspoken = h.path.unspoken;
+                lines = h.path.lines;
+                joined = h.path.joined;
+              };
+              link = h.link;
+              faces = faces;
+              treats = (
+                record {
+                  side = refl;
+                  sent = t.0.sent;
+                  hand = t.0.hand;
+                  brings = t.0.brings;
+                  edge = λ e. absurd (both_ways false refl e);
+                  seen = t.0.seen;
+                  idle = t.0.idle;
+                  owes = t.0.owes;
+                  came = t.0.came;
+                  sent_one = t.0.sent_one;
+                  received = t.0.received;
+                  ready = t.0.ready;
+                  unclear = t.0.unclear;
+                  unshown = t.0.unshown;
+                  data_fin = t.0.data_fin;
+                  key = λ e. absurd (omega (arith, e));
+                  news = t.0.news;
+                  waiting = t.0.waiting;
+                },
+                t.1,
+                t.2,
+                refl,
+              );
+            }
+
+        pub answers_live : Relation books (with_agenda (duties.Ask (ask_duties.Live A) ∷ ds) p) → Relation lives (with_agenda ds p)
+        answers_live h =
+            subst (λ (es : List Duty). Relation lives (with_agenda es p)) (sym h.treats.3)
+            (enlivens (subst (λ (es : List Duty). Relation books (with_agenda (duties.Ask (ask_duties.Live A) ∷ es) p)) h.treats.3 h))

@@ -1,0 +1,132 @@
+-- A copy arrives at B: both lanes at its tick, as B sees them, and the segment that it carries.
+use Rattle.std.proofs.Common.{◌≡◌, refl, sym, subst, ap, ◌∙◌, ℕ, ◌+◌, ◌<◌, ◌≤◌, max, false, ◌⊎◌, inl, Option, None, List, [], ◌∷◌, ◌++◌, length, map, arith}
+use Rattle.outside_kit.specs.declared.side.Side.TheVariants.{A, B}
+use Rattle.link_model.specs.declared.flight.Flight.{Flight}
+use Rattle.link_model.specs.Laws.{going_to}
+use Rattle.link_model.specs.Steps.{due_of}
+use Rattle.path_segments.specs.Laws.{meant}
+use Rattle.subflow_tcp.specs.declared.verdicts.Meaning.{Meaning}
+use Rattle.subflow_tcp.specs.Judging.{meaning_of}
+use Rattle.actor_desk.specs.Desk.{SixBooks}
+use Rattle.stream_apps.specs.Apps.{AppState}
+use Rattle.path_agenda.specs.declared.duty.Duty.TheVariants as duties
+use Rattle.path_agenda.specs.declared.duty.StepDuty.TheVariants as step_duties
+use Rattle.path_core.specs.Arriving.{copy_of}
+use Rattle.path_core.specs.Events.{copy_taken}
+use Rattle.path_core.specs.Joins.{is_joined}
+use Rattle.path_core.specs.State.{PathState}
+use Rattle.path_core.specs.Values.{Carried, values}
+use Rattle.world_laws.specs.Openings.{PathPlan, Start}
+use Rattle.pace.specs.Lane.{Setting, Copy, Lane, all_left}
+use Rattle.pace.specs.Going.{Going}
+use Rattle.pace.specs.Lists.{first_at}
+use Rattle.clean_finish.specs.Segments.{Sent, Keys, copy_in, said, octets_of, CountsAs, TellsAs, AcknowledgesAs, ShowsFirst, Follow}
+use Rattle.clean_finish.specs.Shows.{Hand, brings_in}
+use Rattle.clean_finish.specs.Running.{Facing, half, IsSetting, Runs, keys_in, LinkIs}
+use Rattle.clean_finish.proofs.Arriving.{AreFrom, way_from, FirstSent, first_sent, first_later, from_first, going_from, link_arrived}
+use Rattle.clean_finish.proofs.CopyTaken.{arrived, heard_as, taken_is, told_is}
+use Rattle.clean_finish.proofs.Moved.{moves_on}
+use Rattle.clean_finish.proofs.Quiet.{now_out, now_back}
+use Rattle.clean_finish.proofs.Turned.{from_a}
+
+module _ (start : Start) (plan : PathPlan) (k j : Setting) (s v : Lane) (t0 u0 : ℕ)
+    (going : Going k s t0 all_left s) (going_back : Going j v u0 all_left v)
+  where
+    abbrev pub keys : Keys
+    keys = keys_in start
+
+    module _ (a b : AppState) (books : SixBooks) (p : PathState Carried) (f : Flight Carried) (others : List (Flight Carried))
+        (k_is : IsSetting p.profile plan.delay k) (j_is : IsSetting p.profile plan.delay j)
+      where
+        abbrev pub copy : Flight Carried
+        copy = record f { to = B }
+
+        -- as it stands before
+        abbrev pub q : PathState Carried
+        q = record p { link = record p.link { under_way = copy ∷ others }; agenda = (duties.Step step_duties.Events) ∷ duties.End ∷ [] }
+
+        abbrev pub tick : ℕ
+        tick = max p.clock f.tick
+
+        -- at its tick
+        abbrev pub moment : PathState Carried
+        moment = arrived f.tick others q
+
+        module _ (h : Runs start plan k j s v a b books q) (early : f.tick < p.until) where
+          pub first : FirstSent p.profile keys A copy (going_to B others) h.way.sent
+          first = first_sent p.profile keys A copy (going_to B others) h.way.sent h.way.flights
+
+          pub at_first : {x : Sent} {xs : List Sent} {copies : List Copy} → copies ≡ map copy_in (brings_in h.hand_back ++ h.way.sent)
+              → h.way.sent ≡ x ∷ xs → copies ≡ map copy_in (x ∷ xs)
+          at_first copies sent = copies ∙ (ap (λ (o : Option Hand). map copy_in (brings_in o ++ h.way.sent)) h.treats.0.1.none
+              ∙ ap (λ (ys : List Sent). map copy_in ys) sent)
+
+          pub later : p.clock ≤ f.tick
+          later = subst (λ (n : ℕ). p.clock ≤ n) (sym first.flies.tick) (subst (λ (n : ℕ). n ≤ first.x.at) h.now.0
+              (first_later h.out.clock (h.out.clock + k.delay) h.out.datas first.x first.xs (at_first h.way.datas_are first.is)
+              (now_out plan.delay t0 u0 k_is j_is going going_back h.faces).under_way.datas_at))
+
+          pub all_from : AreFrom tick (copy ∷ others)
+          all_from = from_first p.clock copy others h.link.order later
+
+          pub early_now : p.clock < p.until
+          early_now = subst (λ (n : ℕ). n < p.until) h.now.0 (subst (λ (n : ℕ). h.out.clock < n) h.now.1
+              (now_out plan.delay t0 u0 k_is j_is going going_back h.faces).round.early)
+
+          pub before : tick < p.until
+          before = most early_now early
+            where
+              most : {x y z : ℕ} → x < z → y < z → max x y < z
+              most less more = omega (arith, less, more)
+
+          pub up : (x y : ℕ) → x ≤ max x y
+          up x y = omega arith
+
+          pub under : {x y : ℕ} → x < y → x ≤ y
+          under less = omega (arith, less)
+
+          pub there : (tick ≤ first_at p.until h.out.datas) × (tick ≤ first_at p.until h.back.acks)
+          there = way_from p.profile keys j A h.out.sender h.out.receiver h.out.datas h.back.acks h.hand_back p.b.tcp.send.una p.a.tcp.recv.edge
+              tick p.until (going_to B (copy ∷ others)) h.way h.treats.0.1.none (going_from tick B (copy ∷ others) all_from) (under before)
+
+          pub here : (tick ≤ first_at p.until h.back.datas) × (tick ≤ first_at p.until h.out.acks)
+          here = way_from p.profile keys k B h.back.sender h.back.receiver h.back.datas h.out.acks h.hand p.a.tcp.send.una p.b.tcp.recv.edge
+              tick p.until (going_to A (copy ∷ others)) h.way_back h.treats.0.0.none (going_from tick A (copy ∷ others) all_from) (under before)
+
+          abbrev pub moved : Facing A keys k j p.profile s v (half A a books q) (half B b books q) tick p.until ((duties.Step step_duties.Events) ∷ duties.End ∷ [])
+          moved = moves_on ((duties.Step step_duties.Events) ∷ duties.End ∷ []) h.faces tick (inl refl) (up p.clock f.tick) before there.0 here.1 here.0 there.1
+
+          -- as B sees it
+          abbrev pub faced : Facing B keys j k p.profile v s (half B b books q) (half A a books q) tick p.until ((duties.Step step_duties.Events) ∷ duties.End ∷ [])
+          faced = from_a keys k j s v a b books (record q { clock = tick }) moved
+
+          pub link : LinkIs tick (record p.link { under_way = others })
+          link = link_arrived p.clock f.tick (record p.link { under_way = copy ∷ others }) copy others refl h.link
+
+          -- it follows what came
+          pub record Follows : Type 0 where
+            pub low : first.x.low ≡ h.out.received
+            pub counts : CountsAs h.out.control_came h.out.keys_came first.x.control first.x.keys first.x.brings
+            pub tells : TellsAs j.least A first.x.window first.x.telling first.x.brings
+            pub acknowledges : AcknowledgesAs j.total first.x
+            pub shows : ShowsFirst A first.x
+
+          pub follows : Follows
+          follows = record { low = all.0; counts = all.1; tells = all.2; acknowledges = all.3.0; shows = all.3.1 }
+            where
+              all : Follow j.least j.total A h.out.received h.out.control_came h.out.keys_came (first.x ∷ first.xs)
+              all = subst (λ (ys : List Sent). Follow j.least j.total A h.out.received h.out.control_came h.out.keys_came ys) first.is
+                  (subst (λ (o : Option Hand). Follow j.least j.total A h.out.received h.out.control_came h.out.keys_came
+                  (brings_in o ++ h.way.sent)) h.treats.0.1.none h.way.follow)
+
+          -- taken as this, it makes this of the path
+          pub comes_as : (meaning : Meaning) → meaning_of (copy_of (meant (said p.profile keys A first.x))) p.b.tcp ≡ meaning
+              → copy_taken values (due_of copy) q ≡ heard_as B (meant (said p.profile keys A first.x)) meaning moment
+          comes_as meaning is = taken_is B A (said p.profile keys A first.x) q copy others refl first.flies.carried refl mptcp
+              ∙ told_is B (meant (said p.profile keys A first.x)) meaning moment opens is
+            where
+              mptcp : p.b.modes.identity ≡ false
+              mptcp = h.other.modes.identity
+
+              opens : is_joined p.profile ≡ false
+              opens = rw k_is.path refl

@@ -1,0 +1,136 @@
+-- The step in which a copy that is no SYN arrives at A.
+use Rattle.std.proofs.Common.{◌≡◌, refl, sym, subst, ap, ◌∙◌, ℕ, ◌<◌, ◌≤◌, min, Bool, true, false, Option, None, List, [], ◌∷◌, length}
+use Rattle.outside_kit.specs.declared.side.Side.TheVariants.{A, B}
+use Rattle.dss_mapping.specs.declared.kept.KeptMapping.{KeptMapping}
+use Rattle.link_model.specs.declared.flight.Flight.{Flight}
+use Rattle.link_model.specs.Laws.{going_to}
+use Rattle.link_model.specs.Steps.{due_of}
+use Rattle.path_segments.specs.Laws.{meant}
+use Rattle.subflow_tcp.specs.declared.segments.Outgoing.{Outgoing}
+use Rattle.subflow_tcp.specs.declared.verdicts.Meaning.TheVariants as means
+use Rattle.actor_desk.specs.Desk.{SixBooks}
+use Rattle.stream_apps.specs.Apps.{AppState}
+use Rattle.path_agenda.specs.declared.duty.Duty.TheVariants as duties
+use Rattle.path_agenda.specs.declared.duty.StepDuty.TheVariants as step_duties
+use Rattle.path_agenda.specs.Agenda.{copy_came}
+use Rattle.path_core.specs.Arriving.{held_of, reset_for, copy_judged}
+use Rattle.path_core.specs.Ends.{PathEnd}
+use Rattle.path_core.specs.Events.{copy_taken}
+use Rattle.path_core.specs.State.{PathState, goes_on}
+use Rattle.path_core.specs.Values.{Carried, values}
+use Rattle.world_laws.specs.Openings.{PathPlan, Start}
+use Rattle.pace.specs.Lane.{Setting, Lane, all_left}
+use Rattle.pace.specs.Going.{Going}
+use Rattle.clean_finish.specs.Segments.{Sent, Keys, is_opening, position_of, said}
+use Rattle.clean_finish.specs.Shows.{Hand, WayIs}
+use Rattle.clean_finish.specs.Running.{Facing, half, own_bench, other_bench, IsSetting, Runs, keys_in}
+use Rattle.clean_finish.proofs.ArrivesAtA.{copy, q, tick, moment, first, moved, link, Follows, follows, comes_as}
+use Rattle.clean_finish.proofs.CopyComes.{comes, judged_is, meaning, taken}
+use Rattle.clean_finish.proofs.Hands.{way_none}
+use Rattle.clean_finish.proofs.TakenOwn.{end_by, items}
+
+module _ (start : Start) (plan : PathPlan) (k j : Setting) (s v : Lane) (t0 u0 : ℕ)
+    (going : Going k s t0 all_left s) (going_back : Going j v u0 all_left v)
+  where
+    abbrev keys : Keys
+    keys = keys_in start
+
+    module _ (a b : AppState) (books : SixBooks) (p : PathState Carried) (f : Flight Carried) (others : List (Flight Carried))
+        (k_is : IsSetting p.profile plan.delay k) (j_is : IsSetting p.profile plan.delay j)
+        (h : Runs start plan k j s v a b books (q start plan k j s v t0 u0 going going_back a b books p f others k_is j_is)) (early : f.tick < p.until)
+      where
+        abbrev x : Sent
+        x = (first start plan k j s v t0 u0 going going_back a b books p f others k_is j_is h early).x
+
+        abbrev xs : List Sent
+        xs = (first start plan k j s v t0 u0 going going_back a b books p f others k_is j_is h early).xs
+
+        abbrev now_before : PathState Carried
+        now_before = q start plan k j s v t0 u0 going going_back a b books p f others k_is j_is
+
+        abbrev now : PathState Carried
+        now = moment start plan k j s v t0 u0 going going_back a b books p f others k_is j_is
+
+        abbrev Relation : PathState Carried → Type 0
+        Relation r = Runs start plan k j s v a b books r
+
+        abbrev face : Facing A keys k j p.profile s v (half A a books now_before) (half B b books now_before) (tick start plan k j s v t0 u0 going going_back a b books p f others k_is j_is) p.until
+            ((duties.Step step_duties.Events) ∷ duties.End ∷ [])
+        face = moved start plan k j s v t0 u0 going going_back a b books p f others k_is j_is h early
+
+        module _ (opens : is_opening x.brings ≡ false) where
+          follow : Follows start plan k j s v t0 u0 going going_back a b books p f others k_is j_is h early
+          follow = follows start plan k j s v t0 u0 going going_back a b books p f others k_is j_is h early
+
+          none : face.hand ≡ None
+          none = h.treats.0.0.none
+
+          unowed : face.owes ≡ false
+          unowed = h.treats.0.0.owes
+
+          waiting : face.waiting ≡ 0
+          waiting = h.treats.1
+
+          answered : min 1 face.back.control_came ≤ face.out.control_sent
+          answered = h.treats.0.0.answered
+
+          abbrev way : WayIs p.profile keys k B face.back.sender face.back.receiver face.back.datas face.out.acks None p.a.tcp.send.una p.b.tcp.recv.edge
+              (copy start plan k j s v t0 u0 going going_back a b books p f others k_is j_is ∷ going_to A others)
+          way = way_none p.profile keys k B face.back.sender face.back.receiver face.back.datas face.out.acks p.a.tcp.send.una p.b.tcp.recv.edge h.hand
+              h.treats.0.0.none (copy start plan k j s v t0 u0 going going_back a b books p f others k_is j_is ∷ going_to A others) face.way_back
+
+          sent : way.sent ≡ x ∷ xs
+          sent = (first start plan k j s v t0 u0 going going_back a b books p f others k_is j_is h early).is
+
+          abbrev told : List KeptMapping
+          told = held_of p.profile A (meant (said p.profile keys B x))
+
+          abbrev answer : Outgoing
+          answer = reset_for p.profile A (meant (said p.profile keys B x))
+
+          abbrev count : ℕ
+          count = length (items face x told answer)
+
+          abbrev end_after : PathEnd
+          end_after = end_by face x told answer (taken plan.delay t0 u0 k_is j_is going going_back face none unowed waiting answered (copy start plan k j s v t0 u0 going going_back a b books p f others k_is j_is) (going_to A others) x xs way sent
+              opens follow.low follow.counts follow.tells follow.acknowledges follow.shows told answer)
+
+          arrives : Relation (goes_on A end_after (copy_came A count) now)
+          arrives =
+              let faces = comes plan.delay t0 u0 k_is j_is going going_back face none unowed waiting answered (copy start plan k j s v t0 u0 going going_back a b books p f others k_is j_is) (going_to A others) x xs way sent opens follow.low follow.counts follow.tells
+              follow.acknowledges follow.shows told answer in
+              record {
+                path = record {
+                  profile = h.path.profile;
+                  delay = h.path.delay;
+                  number = h.path.number;
+                  unspoken = h.path.unspoken;
+                  lines = h.path.lines;
+                  joined = h.path.joined;
+                };
+                link = link start plan k j s v t0 u0 going going_back a b books p f others k_is j_is h early;
+                faces = faces;
+                treats = (
+                  record {
+                    sent = x;
+                    hand = refl;
+                    kind = opens;
+                    items = refl;
+                    asked = refl;
+                    waiting = refl;
+                    owes = refl;
+                  },
+                  h.treats.0.1,
+                  h.treats.2,
+                  refl,
+                );
+              }
+
+          pub copy_comes : Relation (copy_taken values (due_of (copy start plan k j s v t0 u0 going going_back a b books p f others k_is j_is)) (q start plan k j s v t0 u0 going going_back a b books p f others k_is j_is))
+          copy_comes =
+              subst Relation (sym (comes_as start plan k j s v t0 u0 going going_back a b books p f others k_is j_is h early (means.Taken (position_of x) x.edge)
+              (meaning plan.delay t0 u0 k_is j_is going going_back face none unowed waiting answered (copy start plan k j s v t0 u0 going going_back a b books p f others k_is j_is) (going_to A others) x xs way sent opens follow.low follow.counts
+              follow.tells follow.acknowledges follow.shows told answer)))
+              (subst (λ (e : PathEnd). Relation (goes_on A e (copy_came A count) now))
+              (sym (judged_is plan.delay t0 u0 k_is j_is going going_back face none unowed waiting answered (copy start plan k j s v t0 u0 going going_back a b books p f others k_is j_is) (going_to A others) x xs way sent opens follow.low follow.counts
+              follow.tells follow.acknowledges follow.shows told answer)) arrives)

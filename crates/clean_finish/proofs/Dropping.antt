@@ -1,0 +1,160 @@
+-- A duty that nothing waits for is left behind: all stays as it is.
+use Rattle.std.proofs.Common.{◌≡◌, refl, sym, ◌∙◌, ap, ℕ, ◌≤◌, ◌==◌, eq-eqb, Bool, true, false, ◌⊎◌, inl, inr, ⊎_elim, List, [], ◌∷◌}
+use Rattle.std.proofs.lemmas.Bool.{both_ways}
+use Rattle.outside_kit.specs.declared.side.Side.{Side}
+use Rattle.outside_kit.specs.declared.side.Side.TheVariants.{A}
+use Rattle.path_agenda.specs.declared.duty.Duty.{Duty}
+use Rattle.path_agenda.specs.declared.duty.Duty.TheVariants as duties
+use Rattle.path_agenda.specs.declared.duty.AskDuty.TheVariants as ask_duties
+use Rattle.path_agenda.specs.declared.duty.SendDuty.TheVariants as send_duties
+use Rattle.path_agenda.specs.declared.duty.SilentDuty.TheVariants as silent_duties
+use Rattle.path_agenda.specs.declared.duty.StepDuty.TheVariants as step_duties
+use Rattle.path_core.specs.Ends.{PathEnd}
+use Rattle.pace.specs.Lane.{Setting, Sender, Receiver, Stage}
+use Rattle.clean_finish.specs.Running.{Has, StageIs, IsSettledSoon, HasNotBegun}
+
+-- something waits for these
+abbrev pub is_waited : Duty → Bool
+is_waited (duties.Ask (ask_duties.Window s)) = true
+is_waited (duties.Send (send_duties.Update s)) = true
+is_waited (duties.Send (send_duties.Syn s)) = true
+is_waited (duties.Step (step_duties.Data s)) = true
+is_waited (duties.Send (send_duties.DataFin s)) = true
+is_waited (duties.Silent (silent_duties.Timer s)) = true
+is_waited (duties.Step step_duties.Events) = true
+is_waited (duties.Send (send_duties.SynAck s)) = true
+is_waited (duties.Send (send_duties.Acknowledge s)) = true
+is_waited (duties.Ask (ask_duties.AckOut s)) = true
+is_waited _ = false
+
+pub apart : {x d : Duty} → is_waited x ≡ true → is_waited d ≡ false → x ≡ d → ⊥
+apart waited free same = both_ways _ (sym waited ∙ ap is_waited same ∙ free) refl
+
+-- the kinds of duties that are waited for
+abbrev pub kind : Duty → ℕ
+kind (duties.Ask (ask_duties.Window s)) = 1
+kind (duties.Send (send_duties.Update s)) = 2
+kind (duties.Send (send_duties.Syn s)) = 3
+kind (duties.Step (step_duties.Data s)) = 4
+kind (duties.Send (send_duties.DataFin s)) = 5
+kind (duties.Silent (silent_duties.Timer s)) = 6
+kind (duties.Step step_duties.Events) = 7
+kind (duties.Send (send_duties.SynAck s)) = 8
+kind (duties.Send (send_duties.Acknowledge s)) = 9
+kind (duties.Ask (ask_duties.AckOut s)) = 10
+kind _ = 0
+
+pub differ : {x d : Duty} → (kind x == kind d) ≡ false → x ≡ d → ⊥
+differ {x} {d} other same = both_ways (kind x == kind d) other (eq-eqb (kind x) (kind d) (ap kind same))
+
+pub behind : {x d : Duty} (ds : List Duty) → (x ≡ d → ⊥) → Has x (d ∷ ds) → Has x ds
+behind ds apart h = ⊎_elim (λ e. absurd (apart e)) (λ i. i) h
+
+pub behind_or : {x d : Duty} {b : Bool} (ds : List Duty) → (x ≡ d → ⊥) → (b ≡ false) ⊎ Has x (d ∷ ds) → (b ≡ false) ⊎ Has x ds
+behind_or ds apart h = ⊎_elim (λ e. inl e) (λ i. inr (behind ds apart i)) h
+
+-- none of the duties that a stage waits for
+pub record IsApart (s r : Side) (d : Duty) : Type 0 where
+  pub window : duties.Ask (ask_duties.Window r) ≡ d → ⊥
+  pub update : duties.Send (send_duties.Update r) ≡ d → ⊥
+  pub emit : duties.Step (step_duties.Data s) ≡ d → ⊥
+  pub finish : duties.Send (send_duties.DataFin s) ≡ d → ⊥
+  pub wait : (duties.Step step_duties.Events) ≡ d → ⊥
+  pub syn_ack : duties.Send (send_duties.SynAck r) ≡ d → ⊥
+  pub acknowledge : duties.Send (send_duties.Acknowledge r) ≡ d → ⊥
+  pub ask : duties.Ask (ask_duties.AckOut r) ≡ d → ⊥
+
+pub is_apart : (s r : Side) (d : Duty) → is_waited d ≡ false → IsApart s r d
+is_apart s r d free = record {
+  window = apart refl free;
+  update = apart refl free;
+  emit = apart refl free;
+  finish = apart refl free;
+  wait = apart refl free;
+  syn_ack = apart refl free;
+  acknowledge = apart refl free;
+  ask = apart refl free;
+}
+
+pub stage_drops : (s r : Side) (d : Duty) (ds : List Duty) (asked owes : Bool) (p : Stage) → IsApart s r d
+    → StageIs s r (d ∷ ds) asked owes p → StageIs s r ds asked owes p
+stage_drops s r d ds asked owes p apart is = record {
+  window = behind_or ds apart.window is.window;
+  update = behind_or ds apart.update is.update;
+  emit = behind_or ds apart.emit is.emit;
+  finish = behind_or ds apart.finish is.finish;
+  wait = behind_or ds apart.wait is.wait;
+  tell = ⊎_elim (λ e. inl e) (λ a. inr (⊎_elim (λ i. inl (behind ds apart.syn_ack i))
+      (λ i. inr (behind ds apart.acknowledge i.0, i.1)) a)) is.tell;
+  ask = ⊎_elim (λ e. inl e) (λ a. inr (⊎_elim (λ i. inl (behind ds apart.window i))
+      (λ i. inr (behind ds apart.ask i.0, i.1)) a)) is.ask;
+}
+
+-- a stage without the flag of the duty
+pub window_drops : (s r : Side) (d : Duty) (ds : List Duty) (asked owes : Bool) (p : Stage) → d ≡ duties.Ask (ask_duties.Window r)
+    → StageIs s r (d ∷ ds) asked owes p → StageIs s r ds false owes (record p { ask = false; window = false })
+window_drops s r d ds asked owes p at is = record {
+  window = inl refl;
+  update = behind_or ds (λ e. cc) is.update;
+  emit = behind_or ds (λ e. cc) is.emit;
+  finish = behind_or ds (λ e. cc) is.finish;
+  wait = behind_or ds (λ e. cc) is.wait;
+  tell = ⊎_elim (λ e. inl e) (λ a. inr (⊎_elim (λ i. inl (behind ds (λ e. cc) i)) (λ i. inr (behind ds (λ e. cc) i.0, i.1)) a)) is.tell;
+  ask = inl refl;
+}
+
+pub update_drops : (s r : Side) (d : Duty) (ds : List Duty) (asked owes : Bool) (p : Stage) → d ≡ duties.Send (send_duties.Update r)
+    → StageIs s r (d ∷ ds) asked owes p → StageIs s r ds asked owes (record p { update = false })
+update_drops s r d ds asked owes p at is = record {
+  window = behind_or ds (λ e. cc) is.window;
+  update = inl refl;
+  emit = behind_or ds (λ e. cc) is.emit;
+  finish = behind_or ds (λ e. cc) is.finish;
+  wait = behind_or ds (λ e. cc) is.wait;
+  tell = ⊎_elim (λ e. inl e) (λ a. inr (⊎_elim (λ i. inl (behind ds (λ e. cc) i)) (λ i. inr (behind ds (λ e. cc) i.0, i.1)) a)) is.tell;
+  ask = ⊎_elim (λ e. inl e) (λ a. inr (⊎_elim (λ i. inl (behind ds (λ e. cc) i)) (λ i. inr (behind ds (λ e. cc) i.0, i.1)) a)) is.ask;
+}
+
+pub emit_drops : (s r : Side) (d : Duty) (ds : List Duty) (asked owes : Bool) (p : Stage) → d ≡ duties.Step (step_duties.Data s)
+    → StageIs s r (d ∷ ds) asked owes p → StageIs s r ds asked owes (record p { emit = false })
+emit_drops s r d ds asked owes p at is = record {
+  window = behind_or ds (λ e. cc) is.window;
+  update = behind_or ds (λ e. cc) is.update;
+  emit = inl refl;
+  finish = behind_or ds (λ e. cc) is.finish;
+  wait = behind_or ds (λ e. cc) is.wait;
+  tell = ⊎_elim (λ e. inl e) (λ a. inr (⊎_elim (λ i. inl (behind ds (λ e. cc) i)) (λ i. inr (behind ds (λ e. cc) i.0, i.1)) a)) is.tell;
+  ask = ⊎_elim (λ e. inl e) (λ a. inr (⊎_elim (λ i. inl (behind ds (λ e. cc) i)) (λ i. inr (behind ds (λ e. cc) i.0, i.1)) a)) is.ask;
+}
+
+pub finish_drops : (s r : Side) (d : Duty) (ds : List Duty) (asked owes : Bool) (p : Stage) → d ≡ duties.Send (send_duties.DataFin s)
+    → StageIs s r (d ∷ ds) asked owes p → StageIs s r ds asked owes (record p { finish = false })
+finish_drops s r d ds asked owes p at is = record {
+  window = behind_or ds (λ e. cc) is.window;
+  update = behind_or ds (λ e. cc) is.update;
+  emit = behind_or ds (λ e. cc) is.emit;
+  finish = inl refl;
+  wait = behind_or ds (λ e. cc) is.wait;
+  tell = ⊎_elim (λ e. inl e) (λ a. inr (⊎_elim (λ i. inl (behind ds (λ e. cc) i)) (λ i. inr (behind ds (λ e. cc) i.0, i.1)) a)) is.tell;
+  ask = ⊎_elim (λ e. inl e) (λ a. inr (⊎_elim (λ i. inl (behind ds (λ e. cc) i)) (λ i. inr (behind ds (λ e. cc) i.0, i.1)) a)) is.ask;
+}
+
+-- ---- what else waits
+
+pub settles_drop : (s : Side) (d : Duty) (ds : List Duty) (e : PathEnd) → (duties.Silent (silent_duties.Timer s) ≡ d → ⊥) → IsSettledSoon s (d ∷ ds) e → IsSettledSoon s ds e
+settles_drop s d ds e apart h = ⊎_elim (λ is. inl is) (λ i. inr (behind ds apart i)) h
+
+pub begun_drops : {n : ℕ} (s : Side) (j : Setting) (out : Sender) (back : Receiver) (e : PathEnd) (d : Duty) (ds : List Duty)
+    → (duties.Ask (ask_duties.Window s) ≡ d → ⊥) → (s ≡ A → duties.Send (send_duties.Syn A) ≡ d → ⊥)
+    → (1 ≤ n) ⊎ HasNotBegun s j out back e (d ∷ ds) → (1 ≤ n) ⊎ HasNotBegun s j out back e ds
+begun_drops s j out back e d ds window syn (inl sent) = inl sent
+begun_drops s j out back e d ds window syn (inr h) = inr (record {
+  ready = h.ready;
+  received = h.received;
+  data_fin = h.data_fin;
+  keys = h.keys;
+  told = h.told;
+  next = h.next;
+  window = ⊎_elim (λ is. inl is) (λ i. inr (behind ds window i)) h.window;
+  syn = λ is. ((h.syn is).0, behind ds (syn is) (h.syn is).1);
+})

@@ -1,0 +1,244 @@
+-- A keeps B's key: from then on it may send bytes.
+use Rattle.std.proofs.Common.{◌≡◌, refl, sym, subst, ap, ◌∙◌, ℕ, ◌+◌, ◌-◌, ◌<◌, ◌≤◌, min, max, nat_lt, Bool, true, false, if◌then◌else◌, ◌⊎◌, inl, inr, ⊎_elim, Option, Some, None, List, [], ◌∷◌, length, All, arith}
+use Rattle.std.proofs.lemmas.Bool.{both_ways}
+use Rattle.std.proofs.lemmas.List.Elements.{All-weaker}
+use Rattle.outside_kit.specs.declared.side.Side.{Side}
+use Rattle.outside_kit.specs.declared.side.Side.TheVariants.{A, B}
+use Rattle.control_book.specs.Steps.{after_peer_key}
+use Rattle.path_agenda.specs.declared.duty.Duty.{Duty}
+use Rattle.path_agenda.specs.declared.duty.Duty.TheVariants as duties
+use Rattle.path_agenda.specs.declared.duty.AskDuty.TheVariants as ask_duties
+use Rattle.path_core.specs.Ends.{PathEnd}
+use Rattle.path_core.specs.Opening.{with_peer_key}
+use Rattle.path_core.specs.Standing.{is_connected}
+use Rattle.path_core.specs.State.{Profile}
+use Rattle.pace.specs.Lane.{Setting, Lane, all_left}
+use Rattle.pace.specs.Rules.{flagged}
+use Rattle.pace.specs.Going.{Going}
+use Rattle.pace.specs.Moves.{MayFlag}
+use Rattle.pace.specs.Moves.Move.{goes_back, flags}
+use Rattle.clean_finish.specs.Segments.{Keys}
+use Rattle.clean_finish.specs.Shows.{Hand, EndIs, HeardIs, IsGranted, last_told, row_seen}
+use Rattle.clean_finish.specs.Running.{Half, Facing, IsSetting}
+use Rattle.clean_finish.proofs.AckNew.{records_same}
+use Rattle.clean_finish.proofs.Dropping.{apart, is_apart, stage_drops, settles_drop, begun_drops}
+use Rattle.clean_finish.proofs.Passing.{stands_then}
+use Rattle.clean_finish.proofs.Quiet.{now_out, now_back}
+use Rattle.clean_finish.proofs.Raised.{raised, before_raised, Emits, stage_raised}
+
+module _ {keys : Keys} {k j : Setting} {c : Profile} {begun begun_back : Lane} {m n : Half} {clock until : ℕ} (ticks t u : ℕ)
+    (k_is : IsSetting c ticks k) (j_is : IsSetting c ticks j)
+    (going : Going k begun t all_left begun) (going_back : Going j begun_back u all_left begun_back)
+    {ds : List Duty} (h : Facing A keys k j c begun begun_back m n clock until (duties.Ask (ask_duties.PeerKey A) ∷ ds)) (there : Emits A ds)
+    (nothing_waits : h.waiting ≡ 0) (sent : 1 ≤ h.out.control_sent) (came : 1 ≤ min 1 h.back.control_came) (unready : h.out.ready ≡ 0)
+    (connected : is_connected m.end.tcp.state ≡ true)
+  where
+    abbrev pub out_after : Lane
+    out_after = flagged 1 h.out.clear h.out
+
+    abbrev pub end_after : PathEnd
+    end_after = with_peer_key (Some keys.b) m.end
+
+    pub not_b : A ≡ B → ⊥
+    not_b e = cc
+
+    pub up : {x y : ℕ} → x ≤ y → y ≡ 0 → x ≤ 1
+    up less is = omega (arith, less, is)
+
+    pub within : {to waiting : ℕ} (granted : ℕ) → waiting ≡ 0 → to ≤ granted + waiting → to ≤ granted + 0
+    within granted none less = omega (arith, none, less)
+
+    pub room_on : {waiting written : ℕ} (granted : ℕ) → waiting ≡ 0 → granted + waiting ≤ written → granted + 0 ≤ written
+    room_on granted none less = omega (arith, none, less)
+
+    pub row_on : (o : Option Hand) {x : ℕ} → x ≤ row_seen h.out.sender o → x ≤ row_seen out_after.sender o
+    row_on None less = less
+    row_on (Some y) less = less
+
+    pub heard_on : (o : Option Hand) → HeardIs A k.total (last_told h.out.heard o) m.end.tcp → HeardIs A k.total (last_told out_after.heard o) m.end.tcp
+    heard_on o is = is
+
+    pub may_flag : MayFlag k begun (raised h.stage) 1 h.out.clear h.out
+    may_flag = record {
+      emit = refl;
+      finish = refl;
+      ready = low unready;
+      clear = same h.out.clear;
+      window = λ e. near h.out.told.edge k.least k.threshold lane.since.read lane.numbers.read lane.numbers.received granted (h.other.receiving.least (answered came lane_back.numbers.control)) k_is.some;
+    }
+      where
+        lane : Going k begun t h.stage h.out
+        lane = now_out ticks t u k_is j_is going going_back h
+
+        lane_back : Going j begun_back u h.stage_back h.back
+        lane_back = now_back ticks t u k_is j_is going going_back h
+
+        low : {x : ℕ} → x ≡ 0 → x ≤ 1
+        low is = omega (arith, is)
+
+        same : (x : ℕ) → x ≤ x
+        same x = omega arith
+
+        answered : {x y : ℕ} → 1 ≤ min 1 x → x ≤ y → 1 ≤ y
+        answered a b = omega (arith, a, b)
+
+        granted : h.out.granted ≡ 0
+        granted = zero_is h.out.granted (λ one. not_both (h.own.sending.bytes (more h.waiting one)) unready)
+          where
+            zero_is : (x : ℕ) → (1 ≤ x → ⊥) → x ≡ 0
+            zero_is x less = omega (arith, less)
+
+            more : {x : ℕ} (y : ℕ) → 1 ≤ x → 1 ≤ x + y
+            more y one = omega (arith, one)
+
+            not_both : {x : ℕ} → 1 ≤ x → x ≡ 0 → ⊥
+            not_both one is = absurd (omega (arith, one, is))
+
+        near : {s r e g : ℕ} (told least threshold : ℕ) → s ≤ r → r ≤ e → e ≤ g → g ≡ 0 → least ≤ told + 31 → 1 ≤ threshold
+            → s + least < told + 31 + threshold
+        near told least threshold a b d is f one = omega (arith, a, b, d, is, f, one)
+
+    pub keyed_own : EndIs A keys k j out_after.sender h.back.receiver h.hand h.owes 0 end_after
+    keyed_own = record {
+      subflow = record {
+        phase = h.own.subflow.phase;
+        opens = h.own.subflow.opens;
+        records = records_same k h.out.sender out_after.sender h.waiting m.end.tcp m.end.tcp h.own.subflow.records nothing_waits sent refl refl refl;
+        ahead = record {
+          bytes = h.own.subflow.ahead.bytes;
+          opened = h.own.subflow.ahead.opened;
+          finished = h.own.subflow.ahead.finished;
+        };
+        congestion = record {
+          window = h.own.subflow.congestion.window;
+          most = h.own.subflow.congestion.most;
+          steady = h.own.subflow.congestion.steady;
+          row = row_on h.hand h.own.subflow.congestion.row;
+        };
+        come = h.own.subflow.come;
+        heard = heard_on h.hand h.own.subflow.heard;
+        quiet = λ e. absurd (both_ways _ e connected);
+        begun = h.own.subflow.begun;
+        keyed = λ is. absurd (not_b is);
+        long = h.own.subflow.long;
+        due = h.own.subflow.due;
+      };
+      sending = record {
+        heard = h.own.sending.heard;
+        known = h.own.sending.known;
+        data_fin = h.own.sending.data_fin;
+        acked = h.own.sending.acked;
+        came = h.own.sending.came;
+        shut = h.own.sending.shut;
+        granted = All-weaker (IsGranted h.out.sender h.waiting) (IsGranted out_after.sender 0)
+            (λ span is. record { waits = is.waits; within = within h.out.granted nothing_waits is.within }) m.end.sending.granted h.own.sending.granted;
+        bytes = λ some. omega arith;
+        end = h.own.sending.end;
+        acked_end = h.own.sending.acked_end;
+        finish = h.own.sending.finish;
+      };
+      receiving = record {
+        next = h.own.receiving.next;
+        limit = h.own.receiving.limit;
+        told = h.own.receiving.told;
+        least = h.own.receiving.least;
+        unmapped = h.own.receiving.unmapped;
+        fin_told = h.own.receiving.fin_told;
+        said = h.own.receiving.said;
+      };
+      modes = record {
+        mode = h.own.modes.mode;
+        standby = h.own.modes.standby;
+        identity = h.own.modes.identity;
+        owes_third = h.own.modes.owes_third;
+        owes_mapping = h.own.modes.owes_mapping;
+        mapped_to = h.own.modes.mapped_to;
+        plain_acks = h.own.modes.plain_acks;
+        own_key = h.own.modes.own_key;
+        peer_key = refl;
+        clear = h.own.modes.clear;
+        capable = λ is. absurd (not_b is);
+        ready = came;
+        cleared = up h.own.modes.cleared unready;
+        both = λ is. absurd (not_b is);
+        shown = up h.own.modes.shown unready;
+      };
+      timer = h.own.timer;
+    }
+
+    abbrev pub keyed : Facing A keys k j c begun begun_back (record m { end = end_after; control = after_peer_key keys.b m.control }) n clock until ds
+    keyed = record {
+      out = out_after;
+      back = h.back;
+      stage = raised h.stage;
+      stage_back = h.stage_back;
+      going = stands_then (stands_then h.going (raised h.stage) h.out (goes_back (raised h.stage) (before_raised h.stage)))
+          (raised h.stage) out_after (flags 1 h.out.clear may_flag);
+      going_back = h.going_back;
+      now = h.now;
+      now_back = h.now_back;
+      hand = h.hand;
+      hand_back = h.hand_back;
+      owes = h.owes;
+      owes_back = h.owes_back;
+      waiting = 0;
+      waiting_back = h.waiting_back;
+      own = keyed_own;
+      other = h.other;
+      way = record {
+        sent = h.way.sent;
+        flights = h.way.flights;
+        datas_are = h.way.datas_are;
+        acks_are = h.way.acks_are;
+        follow = h.way.follow;
+        low = h.way.low;
+        control = h.way.control;
+        keys_shown = h.way.keys_shown;
+        rise = h.way.rise;
+        passed = h.way.passed;
+      };
+      way_back = h.way_back;
+      apps = record {
+        writes = record {
+          numbers = h.apps.writes.numbers;
+          over = h.apps.writes.over;
+        };
+        reads = record {
+          numbers = h.apps.reads.numbers;
+          received = h.apps.reads.received;
+          over = h.apps.reads.over;
+        };
+        receives = record {
+          read = h.apps.receives.read;
+          received = h.apps.receives.received;
+          known = h.apps.receives.known;
+          capacity = h.apps.receives.capacity;
+        };
+        book = record {
+          edge = h.apps.book.edge;
+          owner = h.apps.book.owner;
+          marks = h.apps.book.marks;
+        };
+        room = room_on h.out.granted nothing_waits h.apps.room;
+      };
+      apps_back = h.apps_back;
+      stages = stage_raised A B ds n.end.treated.asked h.owes_back h.stage there
+          (stage_drops A B (duties.Ask (ask_duties.PeerKey A)) ds n.end.treated.asked h.owes_back h.stage (is_apart A B (duties.Ask (ask_duties.PeerKey A)) refl) h.stages);
+      stages_back = stage_drops B A (duties.Ask (ask_duties.PeerKey A)) ds m.end.treated.asked h.owes h.stage_back (is_apart B A (duties.Ask (ask_duties.PeerKey A)) refl) h.stages_back;
+      control = record {
+        mode = h.control.mode;
+        joined = h.control.joined;
+        own_key = h.control.own_key;
+        first = h.control.first;
+        alone = h.control.alone;
+      };
+      control_back = h.control_back;
+      turn = h.turn;
+      turn_back = h.turn_back;
+      settles = inr there.timer;
+      settles_back = settles_drop B (duties.Ask (ask_duties.PeerKey A)) ds n.end (apart refl refl) h.settles_back;
+      begins = inl sent;
+      begins_back = begun_drops B k h.back.sender h.out.receiver n.end (duties.Ask (ask_duties.PeerKey A)) ds (apart refl refl) (λ is. apart refl refl) h.begins_back;
+      owed = h.owed;
+      owed_back = h.owed_back;
+    }

@@ -1,0 +1,139 @@
+-- The control book tells how the side stands: with Multipath TCP, and no path beside this one.
+use Rattle.std.proofs.Common.{◌≡◌, refl, sym, subst, ap, ◌∙◌, ℕ, ◌≤◌, Bool, true, false, ◌&&◌, ◌⊎◌, inl, inr, List, [], ◌∷◌}
+use Rattle.std.specs.List.{list_any}
+use Rattle.outside_kit.specs.declared.side.Side.{Side}
+use Rattle.outside_kit.specs.declared.side.Side.TheVariants.{A, B}
+use Rattle.link_model.specs.Steps.{peer}
+use Rattle.address_manager.specs.IdSet.{is_member}
+use Rattle.control_book.specs.declared.call.Notice.{Notice}
+use Rattle.control_book.specs.declared.call.Notice.TheVariants as notices
+use Rattle.control_book.specs.declared.registry.PathState.{PathState as RegistryPath}
+use Rattle.control_book.specs.Control.{Control}
+use Rattle.control_book.specs.Registry.{every_path, opening_paths, serves_beside, standby}
+use Rattle.control_book.specs.Replies.{notice_on, look_reply}
+use Rattle.control_book.specs.Steps.{after_notice, after_look as book_looked}
+use Rattle.actor_desk.specs.declared.ask.Reply.TheVariants as replies
+use Rattle.actor_desk.specs.Words.{tail_of}
+use Rattle.path_agenda.specs.declared.duty.Duty.{Duty}
+use Rattle.path_agenda.specs.declared.duty.Duty.TheVariants as duties
+use Rattle.path_agenda.specs.declared.duty.AskDuty.TheVariants as ask_duties
+use Rattle.path_agenda.specs.declared.duty.StepDuty.TheVariants as step_duties
+use Rattle.path_core.specs.Ends.{PathEnd}
+use Rattle.path_core.specs.Standing.{after_look}
+use Rattle.path_core.specs.State.{Profile}
+use Rattle.pace.specs.Lane.{Setting, Lane}
+use Rattle.clean_finish.specs.Segments.{Keys}
+use Rattle.clean_finish.specs.Shows.{EndIs, ControlIs}
+use Rattle.clean_finish.specs.Running.{Has, Half, Facing, HasNotBegun}
+use Rattle.clean_finish.proofs.Dropping.{differ, behind, is_apart, stage_drops, settles_drop, begun_drops}
+
+and_false : (a b : Bool) → b ≡ false → a && b ≡ false
+and_false true b e = e
+and_false false b e = refl
+
+-- no other path lives
+none_serves : (first : RegistryPath) (backups : List Bool) → list_any (serves_beside (first ∷ tail_of opening_paths) backups 0) every_path ≡ false
+unfolding opening_paths every_path serves_beside
+none_serves first backups = refl
+
+pub never_standby : (first : RegistryPath) (paths : List RegistryPath) (backups : List Bool) → paths ≡ first ∷ tail_of opening_paths
+    → standby paths backups 0 ≡ false
+never_standby first paths backups is =
+    subst (λ (ps : List RegistryPath). standby ps backups 0 ≡ false) (sym is)
+    (and_false (is_member backups 0) _ (none_serves first backups))
+
+-- a notice is told, or isn't
+notice_keeps : (s : Side) (keys : Keys) (path : ℕ) (n : Notice) (c : Control) → ControlIs s keys c → ControlIs s keys (after_notice n path c)
+notice_keeps s keys path (notices.Withdraw id) c is =
+    record { mode = is.mode; joined = is.joined; own_key = is.own_key; first = is.first; alone = is.alone }
+notice_keeps s keys path notices.Nothing c is = is
+notice_keeps s keys path (notices.Announce id) c is = is
+notice_keeps s keys path (notices.Carrier key) c is = is
+notice_keeps s keys path notices.Reset c is = is
+
+module _ {s : Side} {keys : Keys} {k j : Setting} {c : Profile} {begun begun_back : Lane} {m n : Half} {clock until : ℕ} where
+  module _ {ds : List Duty} (h : Facing s keys k j c begun begun_back m n clock until (duties.Step (step_duties.Look s) ∷ ds)) where
+    abbrev pub end_after : PathEnd
+    end_after = after_look (replies.Control (look_reply 0 m.control)) m.end
+
+    pub control_after : (b : Control) → ControlIs s keys b → ControlIs s keys (book_looked 0 b)
+    control_after b is = notice_keeps s keys 0 (notice_on b 0) b is
+
+    pub begun_after : (1 ≤ h.out.control_sent) ⊎ HasNotBegun s j h.out.sender h.back.receiver m.end (duties.Step (step_duties.Look s) ∷ ds)
+        → (1 ≤ h.out.control_sent) ⊎ HasNotBegun s j h.out.sender h.back.receiver end_after ds
+    begun_after (inl sent) = inl sent
+    begun_after (inr none) = inr (record {
+      ready = none.ready;
+      received = none.received;
+      data_fin = none.data_fin;
+      keys = none.keys;
+      told = none.told;
+      next = none.next;
+      window = window_on none.window;
+      syn = λ is. ((none.syn is).0, behind ds (differ refl) (none.syn is).1);
+    })
+      where
+        window_on : (m.end.receiving.window ≡ j.buffer) ⊎ Has (duties.Ask (ask_duties.Window s)) (duties.Step (step_duties.Look s) ∷ ds) → (m.end.receiving.window ≡ j.buffer) ⊎ Has (duties.Ask (ask_duties.Window s)) ds
+        window_on (inl is) = inl is
+        window_on (inr there) = inr (behind ds (differ refl) there)
+
+    pub own_after : EndIs s keys k j h.out.sender h.back.receiver h.hand h.owes h.waiting end_after
+    own_after = record {
+      subflow = h.own.subflow;
+      sending = h.own.sending;
+      receiving = h.own.receiving;
+      modes = record {
+        mode = h.control.mode;
+        standby = never_standby h.control.first m.control.paths m.control.addresses.backups h.control.alone;
+        identity = h.own.modes.identity;
+        owes_third = h.own.modes.owes_third;
+        owes_mapping = h.own.modes.owes_mapping;
+        mapped_to = h.own.modes.mapped_to;
+        plain_acks = h.own.modes.plain_acks;
+        own_key = h.own.modes.own_key;
+        peer_key = h.own.modes.peer_key;
+        clear = h.own.modes.clear;
+        capable = h.own.modes.capable;
+        ready = h.own.modes.ready;
+        cleared = h.own.modes.cleared;
+        both = h.own.modes.both;
+        shown = h.own.modes.shown;
+      };
+      timer = h.own.timer;
+    }
+
+    abbrev pub looked : Facing s keys k j c begun begun_back (record m { end = end_after; control = book_looked 0 m.control }) n clock until ds
+    looked = record {
+      out = h.out;
+      back = h.back;
+      stage = h.stage;
+      stage_back = h.stage_back;
+      going = h.going;
+      going_back = h.going_back;
+      now = h.now;
+      now_back = h.now_back;
+      hand = h.hand;
+      hand_back = h.hand_back;
+      owes = h.owes;
+      owes_back = h.owes_back;
+      waiting = h.waiting;
+      waiting_back = h.waiting_back;
+      own = own_after;
+      other = h.other;
+      way = h.way;
+      way_back = h.way_back;
+      apps = h.apps;
+      apps_back = h.apps_back;
+      stages = stage_drops s (peer s) (duties.Step (step_duties.Look s)) ds n.end.treated.asked h.owes_back h.stage (is_apart s (peer s) (duties.Step (step_duties.Look s)) refl) h.stages;
+      stages_back = stage_drops (peer s) s (duties.Step (step_duties.Look s)) ds m.end.treated.asked h.owes h.stage_back (is_apart (peer s) s (duties.Step (step_duties.Look s)) refl) h.stages_back;
+      control = control_after m.control h.control;
+      control_back = h.control_back;
+      turn = h.turn;
+      turn_back = h.turn_back;
+      settles = settles_drop s (duties.Step (step_duties.Look s)) ds m.end (differ refl) h.settles;
+      settles_back = settles_drop (peer s) (duties.Step (step_duties.Look s)) ds n.end (differ refl) h.settles_back;
+      begins = begun_after h.begins;
+      begins_back = begun_drops (peer s) k h.back.sender h.out.receiver n.end (duties.Step (step_duties.Look s)) ds (differ refl) (λ is. differ refl) h.begins_back;
+      owed = h.owed;
+      owed_back = h.owed_back;
+    }

@@ -1,0 +1,45 @@
+-- A stage goes back to all that follows an event: bytes and a DATA_FIN may be sent, and segments may arrive.
+use Rattle.std.proofs.Common.{◌≡◌, refl, Bool, true, false, ◌⊎◌, inr, List}
+use Rattle.std.proofs.lemmas.Bool.{both_ways}
+use Rattle.outside_kit.specs.declared.side.Side.{Side}
+use Rattle.path_agenda.specs.declared.duty.Duty.{Duty}
+use Rattle.path_agenda.specs.declared.duty.Duty.TheVariants as duties
+use Rattle.path_agenda.specs.declared.duty.SendDuty.TheVariants as send_duties
+use Rattle.path_agenda.specs.declared.duty.SilentDuty.TheVariants as silent_duties
+use Rattle.path_agenda.specs.declared.duty.StepDuty.TheVariants as step_duties
+use Rattle.pace.specs.Lane.{Stage}
+use Rattle.pace.specs.Moves.{IsBefore}
+use Rattle.clean_finish.specs.Running.{Has, StageIs}
+
+abbrev pub raised : Stage → Stage
+raised p = record p { emit = true; finish = true; wait = true }
+
+pub before_raised : (p : Stage) → IsBefore (raised p) p
+before_raised p = record {
+  ask = λ e. e;
+  tell = refl;
+  window = λ e. e;
+  update = λ e. e;
+  emit = λ e. absurd (both_ways _ e refl);
+  finish = λ e. absurd (both_ways _ e refl);
+  wait = λ e. absurd (both_ways _ e refl);
+}
+
+-- the duties of an emission are ahead
+pub record Emits (s : Side) (ds : List Duty) : Type 0 where
+  pub bytes : Has (duties.Step (step_duties.Data s)) ds
+  pub end : Has (duties.Send (send_duties.DataFin s)) ds
+  pub timer : Has (duties.Silent (silent_duties.Timer s)) ds
+  pub events : Has (duties.Step step_duties.Events) ds
+
+pub stage_raised : (s r : Side) (ds : List Duty) (asked owes : Bool) (p : Stage) → Emits s ds → StageIs s r ds asked owes p
+    → StageIs s r ds asked owes (raised p)
+stage_raised s r ds asked owes p there is = record {
+  window = is.window;
+  update = is.update;
+  emit = inr there.bytes;
+  finish = inr there.end;
+  wait = inr there.events;
+  tell = is.tell;
+  ask = is.ask;
+}

@@ -1,0 +1,36 @@
+-- What the templates of a turn have ahead.
+use Rattle.std.proofs.Common.{◌≡◌, refl, ◌⊎◌, inl, inr, List, [], ◌∷◌}
+use Rattle.outside_kit.specs.declared.side.Side.{Side}
+use Rattle.outside_kit.specs.declared.side.Side.TheVariants.{A, B}
+use Rattle.path_agenda.specs.Agenda.{emission}
+use Rattle.clean_finish.specs.Running.{ArePlain}
+use Rattle.clean_finish.proofs.Raised.{Emits}
+
+-- an emission treats nothing
+pub emission_plain : (s : Side) → ArePlain (emission s)
+emission_plain A = (
+  refl,
+  (refl, inr (inr (inr (inr (inl refl))))),
+  (
+    refl,
+    inr (inr (inr (inl refl))),
+    (refl, inr (inr (inl refl)), (refl, inr (inl refl), (refl, refl, (refl, refl, (refl, refl, tt))))),
+  ),
+)
+emission_plain B = (
+  refl,
+  (refl, inr (inr (inr (inr (inl refl))))),
+  (
+    refl,
+    inr (inr (inr (inl refl))),
+    (refl, inr (inr (inl refl)), (refl, inr (inl refl), (refl, refl, (refl, refl, (refl, refl, tt))))),
+  ),
+)
+
+pub emission_emits : (s : Side) → Emits s (emission s)
+emission_emits s = record {
+  bytes = inr (inl refl);
+  end = inr (inr (inl refl));
+  timer = inr (inr (inr (inr (inl refl))));
+  events = inr (inr (inr (inr (inr (inl refl)))));
+}

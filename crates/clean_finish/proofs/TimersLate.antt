@@ -1,0 +1,44 @@
+-- No timer runs out in the round: that of an end is the one of its lane, once it is settled.
+use Rattle.std.proofs.Common.{◌≡◌, refl, sym, subst, ap, ◌∙◌, ℕ, ◌≤◌, Bool, true, false, ◌||◌, ◌⊎◌, inl, inr, Option, Some, None, IfSome, List, [], ◌∷◌, arith}
+use Rattle.outside_kit.specs.declared.side.Side.{Side}
+use Rattle.path_agenda.specs.declared.duty.Duty.{Duty}
+use Rattle.path_agenda.specs.declared.duty.Duty.TheVariants as duties
+use Rattle.path_agenda.specs.declared.duty.StepDuty.TheVariants as step_duties
+use Rattle.path_core.specs.State.{Profile}
+use Rattle.pace.specs.Lane.{Setting, Lane, all_left}
+use Rattle.pace.specs.Going.{Going, Reason}
+use Rattle.clean_finish.specs.Machine.{seen_timer}
+use Rattle.clean_finish.specs.Segments.{Keys}
+use Rattle.clean_finish.specs.Running.{IsSettledSoon, Half, Facing, IsSetting}
+use Rattle.clean_finish.proofs.Dropping.{differ}
+use Rattle.clean_finish.proofs.Quiet.{now_out}
+
+late_by : (R : Type 0) (t until : ℕ) (timer seen : Option ℕ) (news : Bool) → news ≡ false → seen ≡ seen_timer news timer
+    → IfSome seen (λ x. R × (t ≤ x)) → until ≤ t → IfSome timer (λ x. until ≤ x)
+late_by R t until timer seen news quiet is late low =
+    by timer (subst (λ (o : Option ℕ). IfSome o (λ x. R × (t ≤ x))) (is ∙ ap (λ (b : Bool). seen_timer b timer) quiet) late)
+  where
+    up : {x y z : ℕ} → x ≤ y → y ≤ z → x ≤ z
+    up a b = omega (arith, a, b)
+
+    by : (o : Option ℕ) → IfSome o (λ x. R × (t ≤ x)) → IfSome o (λ x. until ≤ x)
+    by None far = tt
+    by (Some x) far = up low far.1
+
+module _ {s : Side} {keys : Keys} {k j : Setting} {c : Profile} {begun begun_back : Lane} {m n : Half} {clock until : ℕ} (ticks t u : ℕ)
+    (k_is : IsSetting c ticks k) (j_is : IsSetting c ticks j)
+    (going : Going k begun t all_left begun) (going_back : Going j begun_back u all_left begun_back)
+    (h : Facing s keys k j c begun begun_back m n clock until ((duties.Step step_duties.Events) ∷ duties.End ∷ []))
+  where
+    now : Going k begun t h.stage h.out
+    now = now_out ticks t u k_is j_is going going_back h
+
+    settled : IsSettledSoon s ((duties.Step step_duties.Events) ∷ duties.End ∷ []) m.end → (m.end.tcp.timing.news || m.end.sending.news) ≡ false
+    settled (inl is) = is
+    settled (inr (inl same)) = absurd (differ refl same)
+    settled (inr (inr (inl same))) = absurd (differ refl same)
+    settled (inr (inr (inr never))) = absurd never
+
+    pub timer_late : IfSome m.end.tcp.timing.timer (λ x. until ≤ x)
+    timer_late = late_by (Reason k h.out) t until m.end.tcp.timing.timer h.out.timer (m.end.tcp.timing.news || m.end.sending.news)
+        (settled h.settles) h.own.timer now.timer.late (subst (λ (x : ℕ). x ≤ t) h.now.1 now.round.timers)

@@ -1,0 +1,382 @@
+-- The relation that a world of one clean path keeps with the two lanes at every moment of a round: both lanes came by moves
+-- from the round's start, and show in the path and the books.
+use Rattle.std.specs.Prelude.{ℕ, ◌≡◌, ◌+◌, ◌-◌, ◌*◌, ◌≤◌, ◌⊎◌, min, length, nat_lt, Bool, true, false, ◌||◌, Option, Some, None, List, [], ◌∷◌}
+use Rattle.std.specs.List.{list_any}
+use Rattle.outside_kit.specs.declared.side.Side.{Side}
+use Rattle.outside_kit.specs.declared.side.Side.TheVariants.{A, B}
+use Rattle.link_script.specs.Places.{same_side}
+use Rattle.path_segments.specs.Laws.{meant}
+use Rattle.send_book.specs.State.{Sending as SendBook}
+use Rattle.subflow_tcp.specs.Segments.{occupied}
+use Rattle.reassembly_book.specs.State.{Arriving as ArrivingBook}
+use Rattle.link_model.specs.declared.flight.Flight.{Flight}
+use Rattle.link_model.specs.Laws.{going_to, WereSentBefore}
+use Rattle.link_model.specs.Order.{AreInOrder}
+use Rattle.link_model.specs.State.{LinkState}
+use Rattle.link_model.specs.Steps.{peer, next_number}
+use Rattle.control_book.specs.Control.{Control}
+use Rattle.actor_desk.specs.Books.{books_in}
+use Rattle.actor_desk.specs.Desk.{SixBooks, send_of, reassembly_of, control_of}
+use Rattle.actor_desk.specs.Words.{pick}
+use Rattle.path_agenda.specs.Agenda.{emission, heard_and, payload_came}
+use Rattle.path_agenda.specs.Items.{key_heard, wants_ack}
+use Rattle.stream_apps.specs.declared.duty.AppDuty.{AppDuty}
+use Rattle.stream_apps.specs.declared.duty.AppDuty.TheVariants.{Write, Close, Read, End}
+use Rattle.stream_apps.specs.Apps.{AppState}
+use Rattle.path_agenda.specs.declared.duty.Duty.{Duty}
+use Rattle.path_agenda.specs.declared.duty.Duty.TheVariants as duties
+use Rattle.path_agenda.specs.declared.duty.AskDuty.TheVariants as ask_duties
+use Rattle.path_agenda.specs.declared.duty.SendDuty.TheVariants as send_duties
+use Rattle.path_agenda.specs.declared.duty.SilentDuty.TheVariants as silent_duties
+use Rattle.path_agenda.specs.declared.duty.StepDuty.TheVariants as step_duties
+use Rattle.path_core.specs.Arriving.{copy_of, items_of}
+use Rattle.path_core.specs.Starts.{PathStart}
+use Rattle.path_core.specs.Ends.{PathEnd}
+use Rattle.path_core.specs.State.{PathState, Profile, end_at}
+use Rattle.path_core.specs.Values.{Carried, values}
+use Rattle.world_laws.specs.Openings.{PathPlan, Start, path_begins, opened_world}
+use Rattle.world_laws.specs.Worlds.{Turn, world_run}
+use Rattle.world_laws.proofs.Casts.{Walker, Cast, world_of}
+use Rattle.pace.specs.Lane.{Setting, Lane, Sender, Receiver, Stage, all_left}
+use Rattle.pace.specs.Laws.{HasRanges}
+use Rattle.pace.specs.Rounds.{Moves}
+use Rattle.clean_finish.specs.Books.{ReceiverIs}
+use Rattle.clean_finish.specs.Reading.{ReaderShows}
+use Rattle.clean_finish.specs.Segments.{Sent, Keys, is_opening, said}
+use Rattle.clean_finish.specs.Segments.Brings.{OpensSubflow}
+use Rattle.clean_finish.specs.Shows.{Hand, brings_still, IsIdle, EndIs, BookIs, ControlIs, WayIs}
+use Rattle.clean_finish.specs.Writing.{WriterShows}
+
+-- ---- what is still to be done
+
+-- the duty is among them
+abbrev pub Has : Duty → List Duty → Type 0
+Has d [] = ⊥
+Has d (x ∷ xs) = (d ≡ x) ⊎ Has d xs
+
+-- an answer is owed: the SYN/ACK, or an acknowledgement
+abbrev pub Answers : Side → Bool → List Duty → Type 0
+Answers r owes ds = Has (duties.Send (send_duties.SynAck r)) ds ⊎ (Has (duties.Send (send_duties.Acknowledge r)) ds × (owes ≡ true))
+
+-- the book was told something that its answer doesn't count yet, or will be told it
+abbrev pub Asks : Side → List Duty → Type 0
+Asks r ds = Has (duties.Ask (ask_duties.Window r)) ds ⊎ Has (duties.Ask (ask_duties.AckOut r)) ds
+
+-- The stage of the lane from s to r says what is still to be done, by these duties: what none of them does is done.
+pub record StageIs (s r : Side) (ds : List Duty) (asked owes : Bool) (p : Stage) : Type 0 where
+  pub window : (p.window ≡ false) ⊎ Has (duties.Ask (ask_duties.Window r)) ds
+  pub update : (p.update ≡ false) ⊎ Has (duties.Send (send_duties.Update r)) ds
+  pub emit : (p.emit ≡ false) ⊎ Has (duties.Step (step_duties.Data s)) ds
+  pub finish : (p.finish ≡ false) ⊎ Has (duties.Send (send_duties.DataFin s)) ds
+  pub wait : (p.wait ≡ false) ⊎ Has (duties.Step step_duties.Events) ds
+  pub tell : (p.tell ≡ false) ⊎ Answers r owes ds
+  pub ask : (p.ask ≡ false) ⊎ (Has (duties.Ask (ask_duties.Window r)) ds ⊎ (Has (duties.Ask (ask_duties.AckOut r)) ds × (asked ≡ true)))
+
+-- ---- a lane, with its books and applications
+
+pub record LaneStands (k : Setting) (begun : Lane) (stage : Stage) (lane : Lane) : Type 0 where
+  pub count : ℕ
+  pub moves : Moves k begun count all_left begun stage lane
+
+pub record AppsShow (k : Setting) (lane : Lane) (waiting : ℕ) (writer : AppState) (send : SendBook) (reader : AppState) (arrived : ArrivingBook) : Type 0 where
+  pub writes : WriterShows k lane writer send
+  pub reads : ReaderShows k lane reader arrived
+  pub receives : ReceiverIs k lane arrived
+  pub book : BookIs lane.sender send
+  -- what waits to be sent was written
+  pub room : lane.granted + waiting ≤ lane.written
+
+-- what is left of the turn of an application
+pub data IsAppTurn : List AppDuty → Type 0 where
+  Begun : IsAppTurn (Write ∷ Close ∷ Read ∷ End ∷ [])
+  Written : IsAppTurn (Close ∷ Read ∷ End ∷ [])
+  Closed : IsAppTurn (Read ∷ End ∷ [])
+  ReadAll : IsAppTurn (End ∷ [])
+  Ended : IsAppTurn []
+
+-- the path itself
+abbrev pub PathIs : PathStart → ℕ → PathState Carried → Type 0
+PathIs start ticks p = record {
+  profile : p.profile ≡ start.profile;
+  delay : p.link.delay ≡ ticks;
+  number : p.link.path ≡ 0;
+  unspoken : p.link.lines ≡ [];
+  lines : p.lines ≡ [];
+  joined : p.joined_at ≡ None;
+}
+
+-- the copies on the link: the next one to arrive stands first, and the next one that is sent comes last on its way
+pub record LinkIs (clock : ℕ) (link : LinkState Carried) : Type 0 where
+  pub order : AreInOrder link.under_way
+  pub from_a : WereSentBefore (next_number A link) (clock + link.delay) (going_to B link.under_way)
+  pub from_b : WereSentBefore (next_number B link) (clock + link.delay) (going_to A link.under_way)
+
+abbrev pub keys_in : Start → Keys
+keys_in start = record { a = start.key_a; b = start.key_b }
+
+-- the world came by turns from its opening
+pub record Came (start : Start) (t : Cast Carried) : Type 0 where
+  pub turns : List Turn
+  pub is : world_of t ≡ world_run values turns (opened_world start)
+
+-- The numbers of a lane are those of the path. A window update is due from `threshold` on.
+pub record IsSetting (c : Profile) (ticks : ℕ) (k : Setting) : Type 0 where
+  pub delay : ticks ≡ k.delay
+  pub payload : c.mss - 28 ≡ k.payload
+  pub threshold : min c.buffer (4 * c.mss) ≤ 2 * k.threshold
+  pub some : 1 ≤ k.threshold
+  pub buffer : c.buffer ≡ k.buffer
+  pub least : k.least ≡ min 65535 k.buffer
+  pub rto : k.rto ≡ 1000
+  pub small : k.total ≤ 16777216
+  pub path : c.spelling.path ≡ 0
+  pub ranges : HasRanges k
+
+-- ---- the world from one side
+
+-- What a side has: its end of the path, its application, its books, and its copies on their way.
+pub record Half : Type 0 where
+  pub end : PathEnd
+  pub app : AppState
+  pub send : SendBook
+  pub arrived : ArrivingBook
+  pub control : Control
+  pub flying : List (Flight Carried)
+
+-- the timer is settled, or still to be
+abbrev pub IsSettledSoon : Side → List Duty → PathEnd → Type 0
+IsSettledSoon s ds e = ((e.tcp.timing.news || e.sending.news) ≡ false) ⊎ Has (duties.Silent (silent_duties.Timer s)) ds
+
+-- An end that has sent nothing: no more than a SYN has come, and A's SYN is the first that it sends.
+pub record HasNotBegun (s : Side) (j : Setting) (out : Sender) (back : Receiver) (e : PathEnd) (ds : List Duty) : Type 0 where
+  pub ready : out.ready ≡ 0
+  pub received : back.received ≡ 0
+  pub data_fin : back.data_fin_came ≡ 0
+  pub keys : back.keys_came ≡ 0
+  pub told : back.told.edge ≡ 0
+  pub next : e.receiving.next ≡ 0
+  pub window : (e.receiving.window ≡ j.buffer) ⊎ Has (duties.Ask (ask_duties.Window s)) ds
+  pub syn : s ≡ A → (back.control_came ≡ 0) × Has (duties.Send (send_duties.Syn A)) ds
+
+-- Both lanes and both halves, as this side sees them: `out` is the lane that it sends on, and `begun` that lane as the round
+-- began.
+pub record Facing (s : Side) (keys : Keys) (k j : Setting) (c : Profile) (begun begun_back : Lane) (m n : Half) (clock until : ℕ)
+    (ds : List Duty) : Type 0 where
+  pub out : Lane
+  pub back : Lane
+  pub stage : Stage
+  pub stage_back : Stage
+  pub going : LaneStands k begun stage out
+  pub going_back : LaneStands j begun_back stage_back back
+  pub now : (out.clock ≡ clock) × (out.until ≡ until)
+  pub now_back : (back.clock ≡ clock) × (back.until ≡ until)
+  -- what each end has in hand, whether it owes an acknowledgement, and how many octets were granted to it and wait
+  pub hand : Option Hand
+  pub hand_back : Option Hand
+  pub owes : Bool
+  pub owes_back : Bool
+  pub waiting : ℕ
+  pub waiting_back : ℕ
+  pub own : EndIs s keys k j out.sender back.receiver hand owes waiting m.end
+  pub other : EndIs (peer s) keys j k back.sender out.receiver hand_back owes_back waiting_back n.end
+  pub way : WayIs c keys j s out.sender out.receiver out.datas back.acks hand_back n.end.tcp.send.una m.end.tcp.recv.edge m.flying
+  pub way_back : WayIs c keys k (peer s) back.sender back.receiver back.datas out.acks hand m.end.tcp.send.una
+      n.end.tcp.recv.edge n.flying
+  pub apps : AppsShow k out waiting m.app m.send n.app n.arrived
+  pub apps_back : AppsShow j back waiting_back n.app n.send m.app m.arrived
+  pub stages : StageIs s (peer s) ds n.end.treated.asked owes_back stage
+  pub stages_back : StageIs (peer s) s ds m.end.treated.asked owes stage_back
+  pub control : ControlIs s keys m.control
+  pub control_back : ControlIs (peer s) keys n.control
+  pub turn : IsAppTurn m.app.agenda
+  pub turn_back : IsAppTurn n.app.agenda
+  pub settles : IsSettledSoon s ds m.end
+  pub settles_back : IsSettledSoon (peer s) ds n.end
+  pub begins : (1 ≤ out.control_sent) ⊎ HasNotBegun s j out.sender back.receiver m.end ds
+  pub begins_back : (1 ≤ back.control_sent) ⊎ HasNotBegun (peer s) k back.sender out.receiver n.end ds
+  -- where an acknowledgement is owed the lane has still to answer
+  pub owed : owes ≡ true → brings_still hand ≡ false → stage_back.tell ≡ true
+  pub owed_back : owes_back ≡ true → brings_still hand_back ≡ false → stage.tell ≡ true
+
+-- ---- what is treated
+
+-- an end with its lanes and what it has in hand
+pub record Bench : Type 0 where
+  pub profile : Profile
+  pub out : Sender
+  pub back : Receiver
+  pub hand : Option Hand
+  pub owes : Bool
+  pub waiting : ℕ
+  pub end : PathEnd
+
+abbrev pub own_bench : {s : Side} {keys : Keys} {k j : Setting} {c : Profile} {begun begun_back : Lane} {m n : Half} {clock until : ℕ}
+    {ds : List Duty} → Facing s keys k j c begun begun_back m n clock until ds → Bench
+own_bench {s} {keys} {k} {j} {c} {begun} {begun_back} {m} h =
+    record { profile = c; out = h.out.sender; back = h.back.receiver; hand = h.hand; owes = h.owes; waiting = h.waiting; end = m.end }
+
+abbrev pub other_bench : {s : Side} {keys : Keys} {k j : Setting} {c : Profile} {begun begun_back : Lane} {m n : Half} {clock until : ℕ}
+    {ds : List Duty} → Facing s keys k j c begun begun_back m n clock until ds → Bench
+other_bench {s} {keys} {k} {j} {c} {begun} {begun_back} {m} {n} h =
+    record { profile = c; out = h.back.sender; back = h.out.receiver; hand = h.hand_back; owes = h.owes_back; waiting = h.waiting_back; end = n.end }
+
+-- Nothing is in hand: what came was answered, and A has B's key and showed its own where the SYN/ACK came.
+pub record IsBetween (s : Side) (x : Bench) : Type 0 where
+  pub none : x.hand ≡ None
+  pub idle : IsIdle x.back x.end.tcp
+  pub owes : x.owes ≡ false
+  pub answered : min 1 x.back.control_came ≤ x.out.control_sent
+  pub ready : s ≡ A → min 1 x.back.control_came ≤ x.out.ready
+  pub shown : s ≡ A → x.out.ready ≤ x.out.keys_sent
+
+-- B has A's SYN in hand, and its own wasn't sent
+pub record TreatsSyn (q : Side) (tells : Bool) (x : Bench) : Type 0 where
+  pub side : q ≡ B
+  pub sent : Sent
+  pub hand : x.hand ≡ Some (record { sent = sent; brings = false; tells = tells })
+  pub brings : sent.brings ≡ OpensSubflow
+  pub edge : sent.telling.edge ≡ x.end.tcp.congestion.told.window
+  pub seen : sent.telling ≡ record { next = 0; edge = sent.telling.edge; seen = 0; dss = 0 }
+  pub idle : IsIdle x.back x.end.tcp
+  pub owes : x.owes ≡ false
+  pub came : x.back.control_came ≡ 1
+  pub unsent : x.out.control_sent ≡ 0
+  pub waiting : x.waiting ≡ 0
+
+-- A has the SYN/ACK in hand, which its third segment answers; `keyed` is 1 once B's key is kept
+pub record TreatsSynAck (q : Side) (tells : Bool) (keyed : ℕ) (keys : Keys) (x : Bench) : Type 0 where
+  pub side : q ≡ A
+  pub sent : Sent
+  pub hand : x.hand ≡ Some (record { sent = sent; brings = false; tells = tells })
+  pub brings : sent.brings ≡ OpensSubflow
+  pub edge : tells ≡ true → sent.telling.edge ≡ x.end.tcp.congestion.told.window
+  pub seen : sent.telling ≡ record { next = 0; edge = sent.telling.edge; seen = 1; dss = 0 }
+  pub idle : IsIdle x.back x.end.tcp
+  pub owes : x.owes ≡ true
+  pub came : x.back.control_came ≡ 1
+  pub sent_one : x.out.control_sent ≡ 1
+  pub received : x.back.received ≡ 0
+  pub ready : x.out.ready ≡ keyed
+  pub unclear : x.out.clear ≡ 0
+  pub unshown : x.out.keys_sent ≡ 0
+  pub data_fin : x.back.data_fin_came ≡ 0
+  pub key : keyed ≡ 0 → key_heard x.end.treated.items ≡ Some keys.b
+  pub news : x.end.tcp.timing.news ≡ true
+  pub waiting : x.waiting ≡ 0
+
+-- A copy that is no SYN is taken: its lane has still to take what it brings, or not, and the other one what it acknowledges.
+pub record TreatsCopy (q : Side) (keys : Keys) (brings tells : Bool) (x : Bench) : Type 0 where
+  pub sent : Sent
+  pub hand : x.hand ≡ Some (record { sent = sent; brings = brings; tells = tells })
+  pub kind : is_opening sent.brings ≡ false
+  pub items : x.end.treated.items ≡ items_of false q (meant (said x.profile keys (peer q) sent))
+  pub asked : x.end.treated.asked ≡ false
+  pub waiting : x.waiting ≡ 0
+  -- what wants an acknowledgement, or occupies a position, is to be acknowledged
+  pub owes : x.owes ≡ (list_any wants_ack x.end.treated.items || nat_lt 0 (occupied (copy_of (meant (said x.profile keys (peer q) sent)))))
+
+-- the duties of a turn that treat no copy
+abbrev pub is_plain : Duty → Bool
+is_plain (duties.Ask ask_duties.JoinAgain) = true
+is_plain (duties.Step (step_duties.Look s)) = true
+is_plain (duties.Ask (ask_duties.Window s)) = true
+is_plain (duties.Send (send_duties.Update s)) = true
+is_plain (duties.Send (send_duties.Syn s)) = true
+is_plain (duties.Step (step_duties.Data s)) = true
+is_plain (duties.Send (send_duties.DataFin s)) = true
+is_plain (duties.Send (send_duties.Fin s)) = true
+is_plain (duties.Silent (silent_duties.Timer s)) = true
+is_plain (duties.Step step_duties.Events) = true
+is_plain duties.End = true
+is_plain _ = false
+
+-- it asks for the window of this side; it sends its SYN
+abbrev pub is_window : Side → Duty → Bool
+is_window s (duties.Ask (ask_duties.Window q)) = same_side s q
+is_window s _ = false
+
+abbrev pub is_syn : Side → Duty → Bool
+is_syn s (duties.Send (send_duties.Syn q)) = same_side s q
+is_syn s _ = false
+
+abbrev pub any_duty : (Duty → Bool) → List Duty → Bool
+any_duty is [] = false
+any_duty is (d ∷ ds) = is d || any_duty is ds
+
+-- what comes behind a duty, and what doesn't
+abbrev pub IsBefore : Duty → List Duty → Type 0
+IsBefore (duties.Send (send_duties.Update s)) ds = (any_duty (is_window s) ds ≡ false) × Has (duties.Step step_duties.Events) ds
+IsBefore (duties.Send (send_duties.Syn s)) ds = (any_duty (is_window s) ds ≡ false) × Has (duties.Step step_duties.Events) ds
+IsBefore (duties.Step (step_duties.Data s)) ds = Has (duties.Step step_duties.Events) ds
+IsBefore (duties.Send (send_duties.DataFin s)) ds = Has (duties.Step step_duties.Events) ds
+IsBefore (duties.Send (send_duties.Fin s)) ds = Has (duties.Step step_duties.Events) ds
+IsBefore (duties.Silent (silent_duties.Timer s)) ds = any_duty (is_syn s) ds ≡ false
+IsBefore (duties.Step step_duties.Events) ds = ds ≡ duties.End ∷ []
+IsBefore duties.End ds = ds ≡ []
+IsBefore _ ds = Unit {0}
+
+-- the rest of a turn in which no copy is treated
+abbrev pub ArePlain : List Duty → Type 0
+ArePlain [] = Unit {0}
+ArePlain (d ∷ ds) = (is_plain d ≡ true) × IsBefore d ds × ArePlain ds
+
+abbrev pub AreBetween : Bench → Bench → Type 0
+AreBetween a b = IsBetween A a × IsBetween B b
+
+-- What is treated, by the duty that comes first. Bytes wait for nothing else but their sending. Of copies that are taken
+-- nothing is said yet.
+abbrev pub Treats : Keys → Bench → Bench → List Duty → Type 0
+Treats keys a b [] = AreBetween a b × (a.waiting ≡ 0) × (b.waiting ≡ 0)
+Treats keys a b (duties.Step (step_duties.Data q) ∷ ds) = AreBetween a b × (pick q b.waiting a.waiting ≡ 0) × (Has (duties.Step step_duties.Events) ds × ArePlain ds)
+Treats keys a b (duties.Ask (ask_duties.SynHeard q) ∷ ds) =
+    TreatsSyn q true b × IsBetween A a × (a.waiting ≡ 0) × (ds ≡ duties.Ask (ask_duties.PlainHandshake q) ∷ duties.Send (send_duties.SynAck q) ∷ emission q)
+Treats keys a b (duties.Ask (ask_duties.PlainHandshake q) ∷ ds) =
+    TreatsSyn q false b × IsBetween A a × (a.waiting ≡ 0) × (ds ≡ duties.Send (send_duties.SynAck q) ∷ emission q)
+Treats keys a b (duties.Send (send_duties.SynAck q) ∷ ds) = TreatsSyn q false b × IsBetween A a × (a.waiting ≡ 0) × (ds ≡ emission q)
+Treats keys a b (duties.Ask (ask_duties.SynAnswered q) ∷ ds) =
+    TreatsSynAck q true 0 keys a × IsBetween B b × (b.waiting ≡ 0)
+    × (ds ≡ duties.Ask (ask_duties.PeerKey q) ∷ duties.Ask (ask_duties.Live q) ∷ duties.Send (send_duties.Acknowledge q) ∷ emission q)
+Treats keys a b (duties.Ask (ask_duties.PeerKey q) ∷ ds) =
+    TreatsSynAck q false 0 keys a × IsBetween B b × (b.waiting ≡ 0) × (ds ≡ duties.Ask (ask_duties.Live q) ∷ duties.Send (send_duties.Acknowledge q) ∷ emission q)
+Treats keys a b (duties.Ask (ask_duties.Live q) ∷ ds) =
+    TreatsSynAck q false 1 keys a × IsBetween B b × (b.waiting ≡ 0) × (ds ≡ duties.Send (send_duties.Acknowledge q) ∷ emission q)
+Treats keys a b (duties.Send (send_duties.Acknowledge q) ∷ ds) = TreatsSynAck q false 1 keys a × IsBetween B b × (b.waiting ≡ 0) × (ds ≡ emission q)
+Treats keys a b (duties.Ask (ask_duties.Opened q) ∷ ds) =
+    TreatsCopy q keys true true (pick q a b) × IsBetween (peer q) (pick q b a) × ((pick q b a).waiting ≡ 0)
+    × (ds ≡ duties.Ask (ask_duties.Live q) ∷ heard_and q 0 (length (pick q a b).end.treated.items) (payload_came q))
+Treats keys a b (d ∷ ds) = AreBetween a b × (a.waiting ≡ 0) × (b.waiting ≡ 0) × (is_plain d ≡ true) × IsBefore d ds × ArePlain ds
+
+-- ---- all
+
+abbrev pub half : Side → AppState → SixBooks → PathState Carried → Half
+half s app books p = record {
+  end = end_at s p;
+  app = app;
+  send = send_of s books;
+  arrived = reassembly_of s books;
+  control = control_of s books;
+  flying = going_to (peer s) p.link.under_way;
+}
+
+-- as A sees the world, of which `s` and `v` are the lanes as the round began
+abbrev pub FacesOfA : Keys → Setting → Setting → Lane → Lane → AppState → AppState → SixBooks → PathState Carried → Type 0
+FacesOfA keys k j s v a b books p =
+    Facing A keys k j p.profile s v (half A a books p) (half B b books p) p.clock p.until p.agenda
+
+abbrev pub FacesOfB : Keys → Setting → Setting → Lane → Lane → AppState → AppState → SixBooks → PathState Carried → Type 0
+FacesOfB keys k j s v a b books p =
+    Facing B keys j k p.profile v s (half B b books p) (half A a books p) p.clock p.until p.agenda
+
+-- `s` and `v` are the lanes as the round began.
+pub record Runs (start : Start) (plan : PathPlan) (k j : Setting) (s v : Lane) (a b : AppState) (books : SixBooks) (p : PathState Carried) : Type 0 where
+  pub path : PathIs (path_begins start 0 plan) plan.delay p
+  pub link : LinkIs p.clock p.link
+  pub faces : FacesOfA (keys_in start) k j s v a b books p
+  pub open faces use *
+  pub treats : Treats (keys_in start) (own_bench faces) (other_bench faces) p.agenda
+
+pub record Running (start : Start) (plan : PathPlan) (k j : Setting) (s v : Lane) (t : Cast Carried) : Type 0 where
+  pub walker : Walker Carried
+  pub alone : t.paths ≡ walker ∷ []
+  pub runs : Runs start plan k j s v t.a t.b (books_in t.books) walker.path
+  pub open runs use *
