@@ -1,11 +1,10 @@
 -- What an acknowledgement makes of a subflow: of its records, its windows and its state.
-use Rattle.std.proofs.Common.{◌≡◌, refl, sym, subst, ap, ◌∙◌, ℕ, suc, ◌+◌, ◌-◌, ◌==◌, ◌<◌, ◌≤◌, min, max, nat_lt, nat_le, Bool, true, false, not, ◌&&◌, if◌then◌else◌, Option, Some, None, List, [], ◌∷◌, ◌++◌, length, All, map, arith}
-use Rattle.std.proofs.lemmas.Bool.{both_ways, le-ltb, lt-ltb, le-leb, eq-eqb, ltb-true}
+use Rattle.std.proofs.Common.{◌≡◌, refl, sym, subst, ap, ◌∙◌, ℕ, ◌+◌, ◌-◌, ◌<◌, ◌≤◌, nat_lt, nat_le, Bool, true, false, not, if◌then◌else◌, List, [], ◌∷◌, ◌++◌, All, map, arith}
+use Rattle.std.proofs.lemmas.Bool.{le-ltb, lt-ltb, le-leb, eq-eqb}
 use Rattle.std.proofs.lemmas.List.{append-nil}
 use Rattle.std.proofs.lemmas.List.Elements.{All-tail}
 use Rattle.loss_recovery.specs.declared.windows.Congestion.{Congestion}
 use Rattle.loss_recovery.specs.Windows.{acknowledged, is_growth_linked}
-use Rattle.reno_window.specs.Window.{Window}
 use Rattle.subflow_send.specs.declared.record.AckKind.{AckKind}
 use Rattle.subflow_send.specs.declared.record.AckKind.TheVariants.{New, Duplicate}
 use Rattle.subflow_send.specs.Records.{Record, SendState, Tile, end_of, span_of}
@@ -16,7 +15,7 @@ use Rattle.subflow_tcp.specs.declared.handshake.State.TheVariants as states
 use Rattle.subflow_tcp.specs.State.{EndState}
 use Rattle.subflow_tcp.specs.States.{after_fin_acked}
 use Rattle.subflow_tcp.specs.Taking.{after_new_ack, after_ack_kind, after_acknowledgement}
-use Rattle.subflow_tcp.proofs.WindowGrowth.{Grows, acknowledged_grows}
+use Rattle.subflow_tcp.proofs.WindowGrowth.{acknowledged_grows}
 use Rattle.pace.specs.Lane.{Setting, Sender}
 use Rattle.clean_finish.specs.Machine.{IsPiece}
 use Rattle.clean_finish.specs.Shows.{IsOpen, RecordsAre, Waits}

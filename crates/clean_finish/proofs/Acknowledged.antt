@@ -1,12 +1,11 @@
 -- What a segment in hand acknowledges is told to the send book, and heard by the lane.
-use Rattle.std.proofs.Common.{◌≡◌, refl, sym, subst, ap, ◌∙◌, ℕ, ◌+◌, ◌<◌, ◌≤◌, min, max, Bool, true, false, if◌then◌else◌, ◌⊎◌, inl, inr, ⊎_elim, Option, Some, None, List, [], ◌∷◌, ◌++◌, length, map, drop, replicate, arith}
+use Rattle.std.proofs.Common.{◌≡◌, refl, sym, subst, ap, ◌∙◌, ℕ, ◌+◌, ◌<◌, ◌≤◌, min, max, Bool, true, false, if◌then◌else◌, ◌⊎◌, inl, inr, ⊎_elim, Option, None, List, ◌∷◌, ◌++◌, length, map, drop, replicate}
 use Rattle.outside_kit.specs.declared.side.Side.{Side}
 use Rattle.link_model.specs.Steps.{peer}
 use Rattle.send_book.specs.State.{Sending as SendBook}
 use Rattle.send_book.specs.declared.mark.ByteMark.TheVariants.{Acked}
 use Rattle.send_book.specs.Steps.{is_future, fin_after, after_ack}
 use Rattle.path_agenda.specs.declared.duty.Duty.{Duty}
-use Rattle.path_agenda.specs.declared.duty.Duty.TheVariants as duties
 use Rattle.path_core.specs.declared.modes.Modes.{Modes}
 use Rattle.path_core.specs.Ends.{Sending, Treated, PathEnd}
 use Rattle.path_core.specs.State.{Profile}
@@ -17,7 +16,7 @@ use Rattle.pace.specs.Moves.Move.{goes_back, is_acknowledged}
 use Rattle.clean_finish.specs.Segments.{Sent, Keys, copy_in, Follow, low_after, control_after, keys_after}
 use Rattle.clean_finish.specs.Shows.{Hand, brings_still, brings_in, tells_in, EndIs, BookIs, WayIs}
 use Rattle.clean_finish.specs.Writing.{WriterIs}
-use Rattle.clean_finish.specs.Running.{Has, StageIs, HasNotBegun, Half, Facing}
+use Rattle.clean_finish.specs.Running.{StageIs, HasNotBegun, Half, Facing}
 use Rattle.clean_finish.proofs.Books.{hears_as_lanes}
 use Rattle.clean_finish.proofs.Dropping.{is_waited, apart, behind, is_apart, stage_drops, settles_drop}
 use Rattle.clean_finish.proofs.Hands.{in_hand}

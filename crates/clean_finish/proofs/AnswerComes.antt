@@ -1,7 +1,6 @@
 -- The step in which the SYN/ACK arrives at A.
-use Rattle.std.proofs.Common.{◌≡◌, refl, sym, subst, ap, ◌∙◌, ℕ, ◌+◌, ◌-◌, ◌^◌, ◌<◌, ◌≤◌, min, max, nat_lt, nat_le, Bool, true, false, ◌||◌, if◌then◌else◌, ◌⊎◌, inl, inr, ⊎_elim, Option, Some, None, List, [], ◌∷◌, ◌++◌, length, map, arith}
-use Rattle.std.proofs.lemmas.Bool.{both_ways, cases_lt, lt-ltb, le-leb, lt-leb}
-use Rattle.outside_kit.specs.declared.side.Side.{Side}
+use Rattle.std.proofs.Common.{◌≡◌, refl, sym, subst, ap, ◌∙◌, ℕ, ◌+◌, ◌-◌, ◌^◌, ◌<◌, ◌≤◌, max, nat_lt, nat_le, Bool, true, false, inl, ⊎_elim, Option, Some, None, List, [], ◌∷◌, ◌++◌, map, arith}
+use Rattle.std.proofs.lemmas.Bool.{cases_lt, lt-ltb, le-leb}
 use Rattle.outside_kit.specs.declared.side.Side.TheVariants.{A, B}
 use Rattle.link_model.specs.declared.flight.Flight.{Flight}
 use Rattle.link_model.specs.Laws.{going_to}
@@ -15,7 +14,6 @@ use Rattle.subflow_tcp.specs.Segments.{Copy as SubflowCopy}
 use Rattle.subflow_tcp.specs.State.{EndState}
 use Rattle.actor_desk.specs.Desk.{SixBooks}
 use Rattle.stream_apps.specs.Apps.{AppState}
-use Rattle.path_agenda.specs.declared.duty.Duty.{Duty}
 use Rattle.path_agenda.specs.declared.duty.Duty.TheVariants as duties
 use Rattle.path_agenda.specs.declared.duty.StepDuty.TheVariants as step_duties
 use Rattle.path_agenda.specs.Agenda.{syn_ack_came}
@@ -24,7 +22,7 @@ use Rattle.path_core.specs.Codec.{HeardSegment}
 use Rattle.path_core.specs.Ends.{PathEnd}
 use Rattle.path_core.specs.Events.{copy_taken}
 use Rattle.path_core.specs.Standing.{is_connected}
-use Rattle.path_core.specs.State.{PathState, Profile, goes_on}
+use Rattle.path_core.specs.State.{PathState, goes_on}
 use Rattle.path_core.specs.Values.{Carried, values}
 use Rattle.world_laws.specs.Openings.{PathPlan, Start}
 use Rattle.pace.specs.Lane.{Setting, Copy, Lane, all_left}
@@ -34,7 +32,7 @@ use Rattle.clean_finish.specs.Segments.{Sent, Keys, Brings, copy_in, said, Count
 use Rattle.clean_finish.specs.Segments.Brings.{OpensSubflow}
 use Rattle.clean_finish.specs.Shows.{Hand, IsPhase, WayIs, tells_in}
 use Rattle.clean_finish.specs.Shows.IsPhase.{Opening, Listening, HalfOpen, Open}
-use Rattle.clean_finish.specs.Running.{Half, Facing, half, own_bench, other_bench, IsSetting, Runs, keys_in}
+use Rattle.clean_finish.specs.Running.{Facing, half, IsSetting, Runs, keys_in}
 use Rattle.clean_finish.proofs.AnswerArrived.{answer_arrived}
 use Rattle.clean_finish.proofs.AnswerHeard.{answer_at, acked, end_by, acked_is}
 use Rattle.clean_finish.proofs.ArrivesAtA.{copy, q, tick, moment, first, moved, link, Follows, follows, comes_as}

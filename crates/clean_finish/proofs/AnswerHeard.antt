@@ -1,16 +1,14 @@
 -- The SYN/ACK arrives at A: the end.
-use Rattle.std.proofs.Common.{◌≡◌, refl, sym, subst, ap, ◌∙◌, ℕ, ◌+◌, ◌-◌, ◌<◌, ◌≤◌, min, max, nat_lt, Bool, true, false, not, ◌&&◌, ◌==◌, if◌then◌else◌, ◌⊎◌, inl, inr, ⊎_elim, Option, Some, None, List, [], ◌∷◌, length, All, arith}
+use Rattle.std.proofs.Common.{◌≡◌, refl, sym, ap, ◌∙◌, ℕ, ◌+◌, ◌-◌, ◌<◌, ◌≤◌, min, max, nat_lt, true, false, not, inr, Option, Some, List, [], arith}
 use Rattle.std.proofs.lemmas.Bool.{both_ways, and_parts}
 use Rattle.std.proofs.lemmas.List.Elements.{All-weaker}
-use Rattle.outside_kit.specs.declared.side.Side.{Side}
 use Rattle.outside_kit.specs.declared.side.Side.TheVariants.{A, B}
 use Rattle.dss_mapping.specs.declared.kept.KeptMapping.{KeptMapping}
-use Rattle.dss_mapping.specs.Learning.{after_hold}
 use Rattle.loss_recovery.specs.Timers.{heard as timing_heard, measured, rtt_told}
 use Rattle.path_segments.specs.Laws.{meant}
 use Rattle.subflow_send.specs.Rules.{newly_acknowledged, sample_of}
 use Rattle.subflow_tcp.specs.declared.dues.Due.{Due}
-use Rattle.subflow_tcp.specs.declared.handshake.State.TheVariants.{SynSent, Established}
+use Rattle.subflow_tcp.specs.declared.handshake.State.TheVariants.{Established}
 use Rattle.subflow_tcp.specs.declared.segments.Outgoing.{Outgoing}
 use Rattle.subflow_tcp.specs.declared.verdicts.Meaning.TheVariants as means
 use Rattle.subflow_tcp.specs.Segments.{Copy as SubflowCopy}
@@ -22,7 +20,7 @@ use Rattle.path_core.specs.Arriving.{copy_of, copy_judged, items_of, hint_of, tr
 use Rattle.path_core.specs.Codec.{HeardSegment}
 use Rattle.path_core.specs.Ends.{PathEnd}
 use Rattle.path_core.specs.State.{Profile}
-use Rattle.pace.specs.Lane.{Setting, Lane, Receiver}
+use Rattle.pace.specs.Lane.{Setting, Lane}
 use Rattle.pace.specs.Rules.{hears_data, rested}
 use Rattle.clean_finish.specs.Segments.{Sent, Keys, copy_in, said}
 use Rattle.clean_finish.specs.Segments.Brings.{OpensSubflow}

@@ -1,15 +1,12 @@
 -- B sends the SYN/ACK.
-use Rattle.std.proofs.Common.{◌≡◌, refl, sym, subst, ap, ◌∙◌, ℕ, ◌+◌, ◌-◌, ◌==◌, ◌<◌, ◌≤◌, min, max, nat_lt, Bool, true, false, not, cond, ◌&&◌, if◌then◌else◌, ◌⊎◌, inl, inr, ⊎_elim, Option, Some, None, List, [], ◌∷◌, ◌++◌, length, All, map, le_refl, arith}
+use Rattle.std.proofs.Common.{◌≡◌, refl, sym, subst, ap, ◌∙◌, ℕ, ◌+◌, ◌-◌, ◌==◌, ◌<◌, ◌≤◌, min, max, nat_lt, Bool, true, false, if◌then◌else◌, inl, inr, ⊎_elim, Option, None, List, [], ◌∷◌, ◌++◌, map, le_refl, arith}
 use Rattle.std.proofs.lemmas.Bool.{both_ways}
 use Rattle.std.proofs.lemmas.List.Elements.{All-weaker}
-use Rattle.outside_kit.specs.declared.side.Side.{Side}
 use Rattle.outside_kit.specs.declared.side.Side.TheVariants.{A, B}
 use Rattle.link_model.specs.declared.flight.Flight.{Flight}
-use Rattle.link_model.specs.Steps.{peer}
 use Rattle.subflow_send.specs.Records.{Record, Tile, Follow, span_of}
 use Rattle.subflow_send.specs.Rules.{syn_record, after_resent}
 use Rattle.subflow_send.specs.Sendings.{never_sent}
-use Rattle.subflow_send.proofs.Covering.{Follow-le}
 use Rattle.subflow_tcp.specs.declared.dues.Due.{Due}
 use Rattle.path_agenda.specs.declared.duty.Duty.{Duty}
 use Rattle.path_agenda.specs.declared.duty.Duty.TheVariants as duties
@@ -20,8 +17,8 @@ use Rattle.path_core.specs.OptionsOut.{syn_ack_said}
 use Rattle.path_core.specs.Handover.{with_told}
 use Rattle.path_core.specs.State.{Profile}
 use Rattle.path_core.specs.Values.{Carried}
-use Rattle.pace.specs.Lane.{Setting, Telling, Copy, Lane, Stage, is_whole, all_left}
-use Rattle.pace.specs.Rules.{sent_by, said_by, repeats}
+use Rattle.pace.specs.Lane.{Setting, Lane, Stage, is_whole, all_left}
+use Rattle.pace.specs.Rules.{sent_by, said_by}
 use Rattle.pace.specs.Going.{Going, pending}
 use Rattle.pace.specs.Moves.{MaySay, MaySend}
 use Rattle.pace.specs.Moves.Move.{goes_back, sends_none, says}

@@ -1,7 +1,6 @@
 -- The steps in which A treats the SYN/ACK, but for its answer: B's window is told, its key is kept, and the path lives.
-use Rattle.std.proofs.Common.{◌≡◌, refl, sym, subst, ap, ◌∙◌, ℕ, ◌+◌, ◌<◌, ◌≤◌, min, max, nat_lt, Bool, true, false, ◌||◌, is_some, ◌⊎◌, inl, inr, ⊎_elim, Option, Some, None, List, [], ◌∷◌, ◌++◌, arith}
+use Rattle.std.proofs.Common.{◌≡◌, refl, sym, subst, ap, ◌∙◌, ℕ, ◌+◌, ◌≤◌, min, max, nat_lt, Bool, true, false, ◌||◌, inl, inr, Option, Some, List, ◌∷◌, arith}
 use Rattle.std.proofs.lemmas.Bool.{both_ways, le-ltb}
-use Rattle.outside_kit.specs.declared.side.Side.{Side}
 use Rattle.outside_kit.specs.declared.side.Side.TheVariants.{A, B}
 use Rattle.subflow_tcp.specs.declared.handshake.State.{State}
 use Rattle.actor_desk.specs.Desk.{SixBooks, reply_of, after_ask}
@@ -23,7 +22,7 @@ use Rattle.clean_finish.specs.Machine.{seen_timer}
 use Rattle.clean_finish.specs.Segments.{Keys}
 use Rattle.clean_finish.specs.Shows.{IsPhase}
 use Rattle.clean_finish.specs.Shows.IsPhase.{Opening, Listening, HalfOpen, Open}
-use Rattle.clean_finish.specs.Running.{own_bench, other_bench, IsSetting, Runs, keys_in}
+use Rattle.clean_finish.specs.Running.{IsSetting, Runs, keys_in}
 use Rattle.clean_finish.proofs.Acknowledged.{hears_on}
 use Rattle.clean_finish.proofs.Enlivened.{enlivened}
 use Rattle.clean_finish.proofs.Keyed.{keyed}

@@ -1,5 +1,5 @@
 -- A copy arrives at A: both lanes at its tick, as A sees them, and the segment that it carries.
-use Rattle.std.proofs.Common.{◌≡◌, refl, sym, subst, ap, ◌∙◌, ℕ, ◌+◌, ◌<◌, ◌≤◌, max, false, ◌⊎◌, inl, Option, None, List, [], ◌∷◌, ◌++◌, length, map, arith}
+use Rattle.std.proofs.Common.{◌≡◌, refl, sym, subst, ap, ◌∙◌, ℕ, ◌+◌, ◌<◌, ◌≤◌, max, false, inl, Option, List, [], ◌∷◌, ◌++◌, map, arith}
 use Rattle.outside_kit.specs.declared.side.Side.TheVariants.{A, B}
 use Rattle.link_model.specs.declared.flight.Flight.{Flight}
 use Rattle.link_model.specs.Laws.{going_to}
@@ -20,7 +20,7 @@ use Rattle.world_laws.specs.Openings.{PathPlan, Start}
 use Rattle.pace.specs.Lane.{Setting, Copy, Lane, all_left}
 use Rattle.pace.specs.Going.{Going}
 use Rattle.pace.specs.Lists.{first_at}
-use Rattle.clean_finish.specs.Segments.{Sent, Keys, copy_in, said, octets_of, CountsAs, TellsAs, AcknowledgesAs, ShowsFirst, Follow}
+use Rattle.clean_finish.specs.Segments.{Sent, Keys, copy_in, said, CountsAs, TellsAs, AcknowledgesAs, ShowsFirst, Follow}
 use Rattle.clean_finish.specs.Shows.{Hand, brings_in}
 use Rattle.clean_finish.specs.Running.{Facing, half, IsSetting, Runs, keys_in, LinkIs}
 use Rattle.clean_finish.proofs.Arriving.{AreFrom, way_from, FirstSent, first_sent, first_later, from_first, going_from, link_arrived}

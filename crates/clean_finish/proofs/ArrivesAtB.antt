@@ -1,5 +1,5 @@
 -- A copy arrives at B: both lanes at its tick, as B sees them, and the segment that it carries.
-use Rattle.std.proofs.Common.{◌≡◌, refl, sym, subst, ap, ◌∙◌, ℕ, ◌+◌, ◌<◌, ◌≤◌, max, false, ◌⊎◌, inl, Option, None, List, [], ◌∷◌, ◌++◌, length, map, arith}
+use Rattle.std.proofs.Common.{◌≡◌, refl, sym, subst, ap, ◌∙◌, ℕ, ◌+◌, ◌<◌, ◌≤◌, max, false, inl, Option, List, [], ◌∷◌, ◌++◌, map, arith}
 use Rattle.outside_kit.specs.declared.side.Side.TheVariants.{A, B}
 use Rattle.link_model.specs.declared.flight.Flight.{Flight}
 use Rattle.link_model.specs.Laws.{going_to}
@@ -20,13 +20,13 @@ use Rattle.world_laws.specs.Openings.{PathPlan, Start}
 use Rattle.pace.specs.Lane.{Setting, Copy, Lane, all_left}
 use Rattle.pace.specs.Going.{Going}
 use Rattle.pace.specs.Lists.{first_at}
-use Rattle.clean_finish.specs.Segments.{Sent, Keys, copy_in, said, octets_of, CountsAs, TellsAs, AcknowledgesAs, ShowsFirst, Follow}
+use Rattle.clean_finish.specs.Segments.{Sent, Keys, copy_in, said, CountsAs, TellsAs, AcknowledgesAs, ShowsFirst, Follow}
 use Rattle.clean_finish.specs.Shows.{Hand, brings_in}
 use Rattle.clean_finish.specs.Running.{Facing, half, IsSetting, Runs, keys_in, LinkIs}
 use Rattle.clean_finish.proofs.Arriving.{AreFrom, way_from, FirstSent, first_sent, first_later, from_first, going_from, link_arrived}
 use Rattle.clean_finish.proofs.CopyTaken.{arrived, heard_as, taken_is, told_is}
 use Rattle.clean_finish.proofs.Moved.{moves_on}
-use Rattle.clean_finish.proofs.Quiet.{now_out, now_back}
+use Rattle.clean_finish.proofs.Quiet.{now_out}
 use Rattle.clean_finish.proofs.Turned.{from_a}
 
 module _ (start : Start) (plan : PathPlan) (k j : Setting) (s v : Lane) (t0 u0 : ℕ)

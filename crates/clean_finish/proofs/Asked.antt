@@ -1,11 +1,9 @@
 -- The book is asked what is acknowledged, and for the window, as a turn begins.
-use Rattle.std.proofs.Common.{◌≡◌, refl, sym, subst, ap, ◌∙◌, ℕ, ◌+◌, ◌-◌, ◌≤◌, min, Bool, true, false, ◌⊎◌, inl, inr, ⊎_elim, List, ◌∷◌, arith}
+use Rattle.std.proofs.Common.{◌≡◌, refl, ap, ℕ, ◌+◌, ◌-◌, ◌≤◌, min, false, ◌⊎◌, inl, inr, List, ◌∷◌, arith}
 use Rattle.outside_kit.specs.declared.side.Side.{Side}
-use Rattle.outside_kit.specs.declared.side.Side.TheVariants.{A, B}
 use Rattle.link_model.specs.Steps.{peer}
 use Rattle.path_segments.specs.Laws.{window_told}
 use Rattle.reassembly_book.specs.declared.call.ReassemblyReply.TheVariants as reassembly_replies
-use Rattle.reassembly_book.specs.State.{received}
 use Rattle.reassembly_book.specs.Steps.{next_wanted, window}
 use Rattle.actor_desk.specs.declared.ask.Reply.TheVariants as replies
 use Rattle.path_agenda.specs.declared.duty.Duty.{Duty}
@@ -14,7 +12,7 @@ use Rattle.path_agenda.specs.declared.duty.AskDuty.TheVariants as ask_duties
 use Rattle.path_core.specs.Ends.{PathEnd}
 use Rattle.path_core.specs.Standing.{after_ack_out}
 use Rattle.path_core.specs.State.{Profile}
-use Rattle.pace.specs.Lane.{Setting, Lane, data_ack, all_left}
+use Rattle.pace.specs.Lane.{Setting, Lane, all_left}
 use Rattle.pace.specs.Rules.{asked_out}
 use Rattle.pace.specs.Going.{Going}
 use Rattle.pace.specs.Moves.Move.{asks as lane_asks}

@@ -1,5 +1,5 @@
 -- A copy that is taken arrives: the world from the side of the end that takes it, to the first duty of its treatment.
-use Rattle.std.proofs.Common.{◌≡◌, refl, sym, subst, ap, ◌∙◌, ℕ, zero, suc, ◌+◌, ◌≤◌, Bool, true, false, if◌then◌else◌, ◌⊎◌, inl, inr, ⊎_elim, Option, None, List, [], ◌∷◌, ◌++◌, length, map, arith}
+use Rattle.std.proofs.Common.{◌≡◌, refl, sym, subst, ap, ◌∙◌, ℕ, zero, suc, ◌+◌, ◌≤◌, Bool, true, false, ◌⊎◌, inl, inr, ⊎_elim, None, List, [], ◌∷◌, arith}
 use Rattle.std.proofs.lemmas.Bool.{both_ways}
 use Rattle.outside_kit.specs.declared.side.Side.{Side}
 use Rattle.dss_mapping.specs.declared.kept.KeptMapping.{KeptMapping}
@@ -17,15 +17,15 @@ use Rattle.path_agenda.specs.declared.duty.StepDuty.TheVariants as step_duties
 use Rattle.path_agenda.specs.Agenda.{heard_and, payload_came, copy_came}
 use Rattle.path_core.specs.State.{Profile}
 use Rattle.path_core.specs.Values.{Carried}
-use Rattle.pace.specs.Lane.{Setting, Copy, Lane, Stage}
+use Rattle.pace.specs.Lane.{Setting, Lane, Stage}
 use Rattle.pace.specs.Moves.Move.{goes_back, rests}
-use Rattle.clean_finish.specs.Segments.{Sent, Keys, copy_in}
-use Rattle.clean_finish.specs.Shows.{Hand, EndIs, WayIs}
+use Rattle.clean_finish.specs.Segments.{Sent, Keys}
+use Rattle.clean_finish.specs.Shows.{EndIs, WayIs}
 use Rattle.clean_finish.specs.Running.{Has, LaneStands, StageIs, Half, Facing}
 use Rattle.clean_finish.proofs.CopyHeeded.{Heeds}
 use Rattle.clean_finish.proofs.Hands.{in_hand, way_arrives}
 use Rattle.clean_finish.proofs.Passing.{stands_then}
-use Rattle.clean_finish.proofs.Raised.{raised, before_raised, Emits, stage_raised}
+use Rattle.clean_finish.proofs.Raised.{raised, before_raised, Emits}
 use Rattle.clean_finish.proofs.SynArrived.{last, not_last, done, all_settled}
 use Rattle.clean_finish.proofs.TakenOwn.{rested_if, held, owes_after, fresh, end_by}
 

@@ -1,5 +1,5 @@
 -- A copy that is no SYN arrives: what its end knows of it, and the world from its side.
-use Rattle.std.proofs.Common.{◌≡◌, refl, sym, subst, ap, ◌∙◌, ℕ, ◌+◌, ◌-◌, ◌^◌, ◌<◌, ◌≤◌, min, max, nat_lt, nat_le, Bool, true, false, not, ◌&&◌, ◌||◌, cond, if◌then◌else◌, ◌⊎◌, inl, inr, ⊎_elim, Option, Some, None, IfSome, List, [], ◌∷◌, ◌++◌, length, map, le_refl, arith}
+use Rattle.std.proofs.Common.{◌≡◌, refl, sym, subst, ap, ◌∙◌, ℕ, ◌+◌, ◌-◌, ◌^◌, ◌<◌, ◌≤◌, min, nat_lt, nat_le, Bool, true, false, if◌then◌else◌, ◌⊎◌, inl, inr, Option, None, List, [], ◌∷◌, length, map, arith}
 use Rattle.std.specs.List.{list_any}
 use Rattle.std.proofs.lemmas.Bool.{both_ways, cases_lt, and_parts, lt-ltb, le-ltb, lt-leb}
 use Rattle.outside_kit.specs.declared.side.Side.{Side}
@@ -8,8 +8,7 @@ use Rattle.link_model.specs.declared.flight.Flight.{Flight}
 use Rattle.link_model.specs.Steps.{peer}
 use Rattle.dss_mapping.specs.declared.kept.KeptMapping.{KeptMapping}
 use Rattle.dss_mapping.specs.Learning.{after_hold as after_hold_mappings}
-use Rattle.path_segments.specs.Laws.{meant, window_told}
-use Rattle.subflow_tcp.specs.declared.handshake.State.{State}
+use Rattle.path_segments.specs.Laws.{window_told}
 use Rattle.subflow_tcp.specs.declared.handshake.State.TheVariants as states
 use Rattle.subflow_tcp.specs.declared.segments.Outgoing.{Outgoing}
 use Rattle.subflow_tcp.specs.declared.verdicts.Meaning.TheVariants as means
@@ -28,11 +27,11 @@ use Rattle.path_core.specs.Arriving.{after_copy, copy_judged, hint_of, owing_if}
 use Rattle.path_core.specs.Standing.{is_connected}
 use Rattle.path_core.specs.State.{Profile}
 use Rattle.path_core.specs.Values.{Carried}
-use Rattle.pace.specs.Lane.{Setting, Telling, Copy, Lane, all_left}
+use Rattle.pace.specs.Lane.{Setting, Copy, Lane, all_left}
 use Rattle.pace.specs.Lists.{In, repeated}
-use Rattle.pace.specs.Rules.{is_same, repeats}
+use Rattle.pace.specs.Rules.{is_same}
 use Rattle.pace.specs.Going.{Going, Covers, may_tell, pending}
-use Rattle.clean_finish.specs.Segments.{Sent, Keys, Brings, is_opening, copy_in, octets_of, is_subflow_end, position_by, position_of, said, CountsAs, TellsAs, AcknowledgesAs, ShowsFirst, Rise, edge_after}
+use Rattle.clean_finish.specs.Segments.{Sent, Keys, Brings, is_opening, copy_in, octets_of, position_by, position_of, CountsAs, TellsAs, AcknowledgesAs, ShowsFirst, Rise, edge_after}
 use Rattle.clean_finish.specs.Segments.Brings.{OpensSubflow, ShowsKeys, FirstPiece, Piece, Acknowledges, EndsStream, EndsSubflow}
 use Rattle.clean_finish.specs.Shows.{Hand, EndIs, RecordsAre, brings_still, last_told, row_seen, HeardIs, WayIs}
 use Rattle.clean_finish.specs.Running.{Half, Facing, IsSetting}

@@ -1,5 +1,5 @@
 -- The step in which a copy that is no SYN arrives at B.
-use Rattle.std.proofs.Common.{◌≡◌, refl, sym, subst, ap, ◌∙◌, ℕ, ◌<◌, ◌≤◌, min, Bool, true, false, Option, None, List, [], ◌∷◌, length}
+use Rattle.std.proofs.Common.{◌≡◌, refl, sym, subst, ℕ, ◌<◌, ◌≤◌, min, false, None, List, [], ◌∷◌, length}
 use Rattle.outside_kit.specs.declared.side.Side.TheVariants.{A, B}
 use Rattle.dss_mapping.specs.declared.kept.KeptMapping.{KeptMapping}
 use Rattle.link_model.specs.declared.flight.Flight.{Flight}
@@ -13,7 +13,7 @@ use Rattle.stream_apps.specs.Apps.{AppState}
 use Rattle.path_agenda.specs.declared.duty.Duty.TheVariants as duties
 use Rattle.path_agenda.specs.declared.duty.StepDuty.TheVariants as step_duties
 use Rattle.path_agenda.specs.Agenda.{copy_came}
-use Rattle.path_core.specs.Arriving.{held_of, reset_for, copy_judged}
+use Rattle.path_core.specs.Arriving.{held_of, reset_for}
 use Rattle.path_core.specs.Ends.{PathEnd}
 use Rattle.path_core.specs.Events.{copy_taken}
 use Rattle.path_core.specs.State.{PathState, goes_on}
@@ -22,8 +22,8 @@ use Rattle.world_laws.specs.Openings.{PathPlan, Start}
 use Rattle.pace.specs.Lane.{Setting, Lane, all_left}
 use Rattle.pace.specs.Going.{Going}
 use Rattle.clean_finish.specs.Segments.{Sent, Keys, is_opening, position_of, said}
-use Rattle.clean_finish.specs.Shows.{Hand, WayIs}
-use Rattle.clean_finish.specs.Running.{Facing, half, own_bench, other_bench, IsSetting, Runs, keys_in}
+use Rattle.clean_finish.specs.Shows.{WayIs}
+use Rattle.clean_finish.specs.Running.{Facing, half, IsSetting, Runs, keys_in}
 use Rattle.clean_finish.proofs.ArrivesAtB.{copy, q, tick, moment, first, faced, link, Follows, follows, comes_as}
 use Rattle.clean_finish.proofs.CopyComes.{comes, judged_is, meaning, taken}
 use Rattle.clean_finish.proofs.Hands.{way_none}

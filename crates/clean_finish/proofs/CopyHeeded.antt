@@ -1,31 +1,28 @@
 -- A copy that is taken, as the subflow of an end hears it: what it acknowledges, and how that goes with its lane.
-use Rattle.std.proofs.Common.{◌≡◌, refl, sym, subst, ap, ◌∙◌, ℕ, zero, suc, ◌+◌, ◌-◌, ◌==◌, ◌<◌, ◌≤◌, min, max, nat_lt, Bool, true, false, not, cond, ◌&&◌, if◌then◌else◌, ◌⊎◌, inl, inr, ⊎_elim, Option, Some, None, IfSome, List, [], ◌∷◌, length, All, arith}
-use Rattle.std.proofs.lemmas.Bool.{both_ways, cases_lt, lt-ltb, and_parts, eqb-true, eq-eqb}
+use Rattle.std.proofs.Common.{◌≡◌, refl, sym, subst, ap, ◌∙◌, ℕ, ◌+◌, ◌<◌, ◌≤◌, Bool, true, false, not, ◌&&◌, if◌then◌else◌, ⊎_elim, arith}
+use Rattle.std.proofs.lemmas.Bool.{both_ways, cases_lt, lt-ltb, and_parts}
 use Rattle.outside_kit.specs.declared.side.Side.{Side}
-use Rattle.outside_kit.specs.declared.side.Side.TheVariants.{A, B}
-use Rattle.link_model.specs.Steps.{peer}
-use Rattle.loss_recovery.specs.declared.timers.Timing.{Timing}
 use Rattle.loss_recovery.specs.declared.windows.Congestion.{Congestion}
 use Rattle.loss_recovery.specs.declared.windows.Told.{Told}
-use Rattle.loss_recovery.specs.Timers.{heard as timing_heard, measured, rtt_told}
-use Rattle.loss_recovery.specs.Windows.{acknowledged, duplicated, interrupted, is_third, is_same_place, is_same_told}
+use Rattle.loss_recovery.specs.Timers.{measured, rtt_told}
+use Rattle.loss_recovery.specs.Windows.{duplicated, is_third}
 use Rattle.subflow_send.specs.declared.record.AckKind.{AckKind}
 use Rattle.subflow_send.specs.declared.record.AckKind.TheVariants.{New, Duplicate}
 use Rattle.subflow_send.specs.Rules.{newly_acknowledged, sample_of, ack_kind}
 use Rattle.subflow_tcp.specs.declared.handshake.State.{State}
 use Rattle.subflow_tcp.specs.declared.handshake.State.TheVariants as states
 use Rattle.subflow_tcp.specs.Segments.{Copy as SubflowCopy}
-use Rattle.subflow_tcp.specs.State.{EndState, has_records}
+use Rattle.subflow_tcp.specs.State.{EndState}
 use Rattle.subflow_tcp.specs.States.{after_handshake}
-use Rattle.subflow_tcp.specs.Taking.{after_new_ack, after_acknowledgement, after_row, after_duplicate, after_interruption, is_duplicate, is_empty, is_ack_again, is_fin_acked}
+use Rattle.subflow_tcp.specs.Taking.{after_new_ack, after_acknowledgement, after_row, after_duplicate, after_interruption, is_duplicate, is_fin_acked}
 use Rattle.subflow_tcp.proofs.WindowGrowth.{acknowledged_grows}
-use Rattle.pace.specs.Lane.{Setting, Telling, Sender}
+use Rattle.pace.specs.Lane.{Setting, Sender}
 use Rattle.pace.specs.Rules.{is_same, repeats, next_row}
 use Rattle.clean_finish.specs.Machine.{IsLong}
 use Rattle.clean_finish.specs.Segments.{Sent, copy_in}
-use Rattle.clean_finish.specs.Shows.{IsOpen, IsPhase, RecordsAre, CongestionIs, HeardIs}
+use Rattle.clean_finish.specs.Shows.{IsOpen, IsPhase, RecordsAre}
 use Rattle.clean_finish.specs.Shows.IsPhase.{Opening, Listening, HalfOpen, Open}
-use Rattle.clean_finish.proofs.AckNew.{acked_to, new_ack, same_ack, kind_new, kind_same, records_acked, records_same, row_ends, window_on, open_acked}
+use Rattle.clean_finish.proofs.AckNew.{acked_to, new_ack, same_ack, kind_new, kind_same, records_acked, records_same, window_on, open_acked}
 use Rattle.clean_finish.proofs.Machine.{stays_long}
 
 -- ---- the state

@@ -1,17 +1,16 @@
 -- A copy is taken on a path of which no line speaks: the segment is heard as it was meant, by the end that it goes to.
-use Rattle.std.proofs.Common.{◌≡◌, refl, sym, subst, ap, ◌∙◌, ℕ, max, nat_lt, Bool, true, false, if◌then◌else◌, Option, Some, List, [], ◌∷◌, length}
+use Rattle.std.proofs.Common.{◌≡◌, sym, subst, ap, ◌∙◌, ℕ, max, Bool, false, if◌then◌else◌, Option, Some, List, [], ◌∷◌, length}
 use Rattle.outside_kit.specs.declared.side.Side.{Side}
 use Rattle.outside_kit.specs.declared.side.Side.TheVariants.{A, B}
 use Rattle.link_model.specs.declared.flight.Flight.{Flight}
 use Rattle.link_model.specs.State.{LinkState}
-use Rattle.link_model.specs.Steps.{due_of, arriving, after_delivery}
+use Rattle.link_model.specs.Steps.{due_of, arriving}
 use Rattle.path_segments.specs.Spelled.{PlainSegment}
 use Rattle.path_segments.specs.Laws.{meant}
 use Rattle.subflow_tcp.specs.declared.verdicts.Meaning.{Meaning}
 use Rattle.subflow_tcp.specs.Judging.{meaning_of}
 use Rattle.path_core.specs.Arriving.{copy_of, copy_judged, held_of, items_of, reset_for, options_heard, judged_of, taken_as, template_by, template_of}
 use Rattle.path_core.specs.Codec.{HeardSegment}
-use Rattle.path_core.specs.Ends.{PathEnd}
 use Rattle.path_core.specs.Events.{at_tick, heard_in, copy_heard, copy_taken, told_at}
 use Rattle.path_core.specs.Joins.{is_joined}
 use Rattle.path_core.specs.State.{PathState, end_at, goes_on}

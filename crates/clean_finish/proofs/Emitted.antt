@@ -1,5 +1,5 @@
 -- Where an end neither sends a record nor asks for bytes, what was written has no room in the windows, or its end is known.
-use Rattle.std.proofs.Common.{◌≡◌, refl, sym, subst, ap, ◌∙◌, ℕ, zero, suc, ◌+◌, ◌-◌, ◌^◌, ◌<◌, ◌≤◌, min, nat_lt, nat_le, Bool, true, false, not, ◌&&◌, ◌||◌, if◌then◌else◌, ◌⊎◌, inl, inr, ⊎_elim, Option, Some, None, List, [], ◌∷◌, ◌++◌, length, All, find, arith}
+use Rattle.std.proofs.Common.{◌≡◌, refl, sym, subst, ap, ◌∙◌, ℕ, ◌+◌, ◌-◌, ◌^◌, ◌<◌, ◌≤◌, min, nat_le, Bool, true, false, not, ◌&&◌, ◌||◌, if◌then◌else◌, ◌⊎◌, inl, inr, ⊎_elim, Option, Some, None, List, [], ◌∷◌, ◌++◌, All, find, arith}
 use Rattle.std.proofs.lemmas.Bool.{both_ways, cases_lt, leb-false, leb-true, ltb-true, le-leb}
 use Rattle.std.proofs.lemmas.List.Elements.{All-head, All-tail}
 use Rattle.outside_kit.specs.declared.side.Side.{Side}
@@ -8,7 +8,7 @@ use Rattle.subflow_send.specs.Records.{Record}
 use Rattle.subflow_send.specs.Rules.{is_unsent, flight}
 use Rattle.subflow_tcp.specs.Sizes.{room}
 use Rattle.subflow_tcp.specs.State.{is_at_limit}
-use Rattle.subflow_tcp.specs.States.{may_finish, is_closed_to_segments}
+use Rattle.subflow_tcp.specs.States.{may_finish}
 use Rattle.path_agenda.specs.declared.duty.Duty.{Duty}
 use Rattle.path_core.specs.Emission.{first_unsent, data_stands, may_send_data, payload_size}
 use Rattle.path_core.specs.State.{Profile}
@@ -16,8 +16,7 @@ use Rattle.pace.specs.Lane.{Setting, Lane, all_left}
 use Rattle.pace.specs.Going.{Going}
 use Rattle.pace.specs.Moves.{HasEmitted}
 use Rattle.clean_finish.specs.Segments.{Keys}
-use Rattle.clean_finish.specs.Shows.{IsOpen, IsPhase, RecordsAre, Waits}
-use Rattle.clean_finish.specs.Shows.IsPhase.{Opening, Listening, HalfOpen, Open}
+use Rattle.clean_finish.specs.Shows.{IsOpen, Waits}
 use Rattle.clean_finish.specs.Shows.Waits.{WaitsSyn, WaitsNone, WaitsBytes}
 use Rattle.clean_finish.specs.Writing.{count_of}
 use Rattle.clean_finish.specs.Running.{Half, Facing, IsSetting}

@@ -1,13 +1,11 @@
 -- The path lives for the control book.
-use Rattle.std.proofs.Common.{◌≡◌, refl, sym, subst, ap, ◌∙◌, ℕ, ◌≤◌, Bool, true, false, List, [], ◌∷◌, slice_set}
+use Rattle.std.proofs.Common.{◌≡◌, ap, ◌∙◌, ℕ, Bool, false, List, ◌∷◌}
 use Rattle.outside_kit.specs.declared.side.Side.{Side}
 use Rattle.control_book.specs.declared.registry.PathState.{PathState as RegistryPath}
 use Rattle.control_book.specs.declared.registry.Phase.TheVariants.{Living}
 use Rattle.control_book.specs.Control.{Control}
-use Rattle.control_book.specs.Registry.{opening_paths, state_of, with_phase}
+use Rattle.control_book.specs.Registry.{with_phase}
 use Rattle.control_book.specs.Steps.{after_live}
-use Rattle.link_model.specs.Steps.{peer}
-use Rattle.actor_desk.specs.Words.{tail_of}
 use Rattle.path_agenda.specs.declared.duty.Duty.{Duty}
 use Rattle.path_core.specs.State.{Profile}
 use Rattle.pace.specs.Lane.{Setting, Lane}

@@ -12,7 +12,6 @@ use Rattle.path_agenda.specs.declared.duty.Duty.TheVariants as duties
 use Rattle.path_agenda.specs.declared.duty.StepDuty.TheVariants as step_duties
 use Rattle.path_agenda.specs.Agenda.{rest_of_turn}
 use Rattle.path_core.specs.declared.event.Event.{Event}
-use Rattle.path_core.specs.declared.event.Event.TheVariants.{Arrives}
 use Rattle.path_core.specs.Events.{next_event, step_for, copy_taken, happens_if}
 use Rattle.path_core.specs.State.{PathState, path_of, with_agenda}
 use Rattle.path_core.specs.Values.{Carried, values}
@@ -27,7 +26,7 @@ use Rattle.clean_finish.proofs.ArrivesAtA.{first as first_a}
 use Rattle.clean_finish.proofs.ArrivesAtB.{first as first_b}
 use Rattle.clean_finish.proofs.CopyComesToA.{copy_comes as copy_comes_a}
 use Rattle.clean_finish.proofs.CopyComesToB.{copy_comes as copy_comes_b}
-use Rattle.clean_finish.proofs.NextCopy.{IsCopy, next_is_copy}
+use Rattle.clean_finish.proofs.NextCopy.{next_is_copy}
 use Rattle.clean_finish.proofs.SynComes.{syn_comes}
 use Rattle.clean_finish.proofs.TimersLate.{timer_late}
 use Rattle.clean_finish.proofs.Turned.{from_a}

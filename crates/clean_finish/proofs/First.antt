@@ -1,5 +1,5 @@
 -- The relation holds as the first round begins.
-use Rattle.std.proofs.Common.{◌≡◌, refl, sym, subst, ℕ, ◌+◌, ◌≤◌, min, Bool, true, false, inl, inr, None, List, [], ◌∷◌, length, arith}
+use Rattle.std.proofs.Common.{◌≡◌, refl, sym, subst, ℕ, ◌+◌, ◌≤◌, Bool, true, false, inl, inr, None, List, [], ◌∷◌, length, arith}
 use Rattle.std.proofs.lemmas.Bool.{both_ways, le-ltb}
 use Rattle.std.proofs.lemmas.List.Elements.{All-nil, All-cons}
 use Rattle.outside_kit.specs.declared.side.Side.{Side}

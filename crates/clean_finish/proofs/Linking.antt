@@ -1,16 +1,14 @@
 -- A segment that is handed to a link on which nothing happens: it comes last on its way, and the other way stays.
-use Rattle.std.proofs.Common.{◌≡◌, refl, sym, subst, ap, ◌∙◌, ℕ, ◌+◌, Bool, true, false, List, [], ◌∷◌, ◌++◌, le_refl}
+use Rattle.std.proofs.Common.{◌≡◌, refl, sym, subst, ap, ◌∙◌, ℕ, ◌+◌, false, List, [], ◌∷◌, ◌++◌, le_refl}
 use Rattle.std.specs.List.{AllByRecursion}
 use Rattle.outside_kit.specs.declared.side.Side.{Side}
 use Rattle.outside_kit.specs.declared.side.Side.TheVariants.{A, B}
 use Rattle.link_script.specs.declared.script.ScriptLine.{ScriptLine}
-use Rattle.link_script.specs.Places.{same_side}
 use Rattle.link_model.specs.declared.flight.Flight.{Flight}
 use Rattle.link_model.specs.Fate.{is_stripped, is_altered}
 use Rattle.link_model.specs.Laws.{moves, going_to, plain_flight, WereSentBefore}
-use Rattle.link_model.specs.Order.{AreInOrder}
 use Rattle.link_model.specs.State.{LinkState}
-use Rattle.link_model.specs.Steps.{peer, next_number, after_send, changed}
+use Rattle.link_model.specs.Steps.{next_number, after_send, changed}
 use Rattle.link_model.proofs.Order.{in_order_sent}
 use Rattle.link_model.proofs.Plain.{sent_last, sent_before_next}
 use Rattle.path_core.specs.Values.{Carried}

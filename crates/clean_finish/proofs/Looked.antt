@@ -1,8 +1,7 @@
 -- The control book tells how the side stands: with Multipath TCP, and no path beside this one.
-use Rattle.std.proofs.Common.{◌≡◌, refl, sym, subst, ap, ◌∙◌, ℕ, ◌≤◌, Bool, true, false, ◌&&◌, ◌⊎◌, inl, inr, List, [], ◌∷◌}
+use Rattle.std.proofs.Common.{◌≡◌, refl, sym, subst, ℕ, ◌≤◌, Bool, true, false, ◌&&◌, ◌⊎◌, inl, inr, List, ◌∷◌}
 use Rattle.std.specs.List.{list_any}
 use Rattle.outside_kit.specs.declared.side.Side.{Side}
-use Rattle.outside_kit.specs.declared.side.Side.TheVariants.{A, B}
 use Rattle.link_model.specs.Steps.{peer}
 use Rattle.address_manager.specs.IdSet.{is_member}
 use Rattle.control_book.specs.declared.call.Notice.{Notice}

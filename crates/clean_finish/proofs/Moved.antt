@@ -1,5 +1,5 @@
 -- The clock goes on to the tick of the next arrival, in both lanes.
-use Rattle.std.proofs.Common.{◌≡◌, refl, sym, subst, ℕ, ◌<◌, ◌≤◌, Bool, true, List}
+use Rattle.std.proofs.Common.{◌≡◌, refl, sym, subst, ℕ, ◌<◌, ◌≤◌, List}
 use Rattle.outside_kit.specs.declared.side.Side.{Side}
 use Rattle.link_model.specs.Steps.{peer}
 use Rattle.path_agenda.specs.declared.duty.Duty.{Duty}

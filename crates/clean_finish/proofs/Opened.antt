@@ -1,12 +1,10 @@
 -- A sends its SYN.
-use Rattle.std.proofs.Common.{◌≡◌, refl, sym, subst, ap, ◌∙◌, ℕ, ◌+◌, ◌-◌, ◌==◌, ◌<◌, ◌≤◌, min, max, nat_lt, Bool, true, false, cond, ◌&&◌, ◌⊎◌, inl, inr, ⊎_elim, Option, Some, None, List, [], ◌∷◌, ◌++◌, length, All, map, find, arith}
+use Rattle.std.proofs.Common.{◌≡◌, refl, sym, subst, ◌∙◌, ℕ, ◌+◌, ◌-◌, ◌==◌, ◌≤◌, min, max, nat_lt, Bool, true, false, cond, ◌&&◌, inl, inr, Some, List, [], ◌∷◌, ◌++◌, arith}
 use Rattle.std.proofs.lemmas.Bool.{both_ways, ne_eqb}
 use Rattle.std.proofs.lemmas.List.Elements.{All-weaker}
 use Rattle.outside_kit.specs.declared.side.Side.{Side}
 use Rattle.outside_kit.specs.declared.side.Side.TheVariants.{A, B}
 use Rattle.link_model.specs.declared.flight.Flight.{Flight}
-use Rattle.link_model.specs.Steps.{peer}
-use Rattle.subflow_tcp.specs.declared.handshake.State.{State}
 use Rattle.subflow_tcp.specs.declared.handshake.State.TheVariants.{SynSent}
 use Rattle.subflow_send.specs.Rules.{syn_record}
 use Rattle.subflow_send.specs.Sendings.{never_sent}
@@ -20,8 +18,8 @@ use Rattle.path_core.specs.Handover.{having_sent}
 use Rattle.path_core.specs.Ends.{PathEnd}
 use Rattle.path_core.specs.OptionsOut.{record_or_ack}
 use Rattle.path_core.specs.State.{Profile}
-use Rattle.path_core.specs.Values.{Carried, carried_by}
-use Rattle.pace.specs.Lane.{Setting, Telling, Copy, Lane, Stage, data_ack, is_whole, all_left}
+use Rattle.path_core.specs.Values.{Carried}
+use Rattle.pace.specs.Lane.{Setting, Telling, Copy, Lane, Stage, is_whole, all_left}
 use Rattle.pace.specs.Rules.{sent_by, said_by, repeats}
 use Rattle.pace.specs.Going.{Going, pending}
 use Rattle.pace.specs.Moves.{MaySay, MaySend, IsBefore}

@@ -1,5 +1,5 @@
 -- A stage goes back to all that follows an event: bytes and a DATA_FIN may be sent, and segments may arrive.
-use Rattle.std.proofs.Common.{◌≡◌, refl, Bool, true, false, ◌⊎◌, inr, List}
+use Rattle.std.proofs.Common.{refl, Bool, true, inr, List}
 use Rattle.std.proofs.lemmas.Bool.{both_ways}
 use Rattle.outside_kit.specs.declared.side.Side.{Side}
 use Rattle.path_agenda.specs.declared.duty.Duty.{Duty}

@@ -1,5 +1,5 @@
 -- An end sends a segment: both lanes and the link, whatever it brings.
-use Rattle.std.proofs.Common.{◌≡◌, refl, sym, subst, ap, ◌∙◌, ℕ, ◌+◌, ◌≤◌, max, Bool, true, false, ◌⊎◌, inl, Option, List, [], ◌∷◌, ◌++◌, length, map}
+use Rattle.std.proofs.Common.{◌≡◌, refl, sym, subst, ℕ, ◌+◌, ◌≤◌, Bool, true, false, ◌⊎◌, inl, Option, List, [], ◌∷◌, ◌++◌}
 use Rattle.outside_kit.specs.declared.side.Side.{Side}
 use Rattle.link_model.specs.declared.flight.Flight.{Flight}
 use Rattle.link_model.specs.Steps.{peer}
@@ -13,7 +13,7 @@ use Rattle.pace.specs.Lane.{Setting, Lane}
 use Rattle.pace.specs.Rules.{sends, said_by}
 use Rattle.pace.specs.Moves.{Move, MaySay}
 use Rattle.pace.specs.Moves.Move.{goes_back, says}
-use Rattle.clean_finish.specs.Segments.{Sent, Keys, copy_in, octets_of, FliesAs, CountsAs, TellsAs, AcknowledgesAs, ShowsFirst}
+use Rattle.clean_finish.specs.Segments.{Sent, Keys, copy_in, FliesAs, CountsAs, TellsAs, AcknowledgesAs, ShowsFirst}
 use Rattle.clean_finish.specs.Shows.{Hand, brings_still, EndIs, WayIs}
 use Rattle.clean_finish.specs.Running.{Has, StageIs, IsSettledSoon, HasNotBegun, Half, Facing}
 use Rattle.clean_finish.proofs.Opened.{waiting_on, before_waiting, stage_waits}

@@ -1,6 +1,6 @@
 -- The timer is settled: it runs for a reason of the lane.
-use Rattle.std.proofs.Common.{◌≡◌, refl, sym, subst, ap, ◌∙◌, ℕ, zero, suc, ◌+◌, ◌-◌, ◌<◌, ◌≤◌, min, nat_lt, cond, Bool, true, false, not, ◌&&◌, ◌||◌, ◌⊎◌, inl, inr, ⊎_elim, Option, Some, None, List, [], ◌∷◌, ◌++◌, length, map, All, arith}
-use Rattle.std.proofs.lemmas.Bool.{both_ways, cases_lt, and_parts, ltb-false, ltb-true}
+use Rattle.std.proofs.Common.{◌≡◌, refl, sym, subst, ap, ◌∙◌, ℕ, ◌+◌, ◌-◌, ◌<◌, ◌≤◌, min, cond, Bool, true, false, not, ◌&&◌, ◌||◌, ◌⊎◌, inl, inr, ⊎_elim, Option, Some, None, List, [], ◌∷◌, map, All, arith}
+use Rattle.std.proofs.lemmas.Bool.{both_ways, cases_lt, and_parts, ltb-false}
 use Rattle.std.proofs.lemmas.List.Elements.{All-head, All-weaker}
 use Rattle.outside_kit.specs.declared.side.Side.{Side}
 use Rattle.outside_kit.specs.declared.side.Side.TheVariants.{A, B}
@@ -28,11 +28,11 @@ use Rattle.pace.specs.Going.{Going, Reason}
 use Rattle.pace.specs.Moves.Move.{settles as lane_settles}
 use Rattle.clean_finish.specs.Machine.{IsLong, seen_timer}
 use Rattle.clean_finish.specs.Segments.{Keys}
-use Rattle.clean_finish.specs.Shows.{EndIs, IsPhase, IsGranted, Waits, RecordsAre}
+use Rattle.clean_finish.specs.Shows.{EndIs, IsPhase, IsGranted, Waits}
 use Rattle.clean_finish.specs.Shows.IsPhase.{Opening, Listening, HalfOpen, Open}
 use Rattle.clean_finish.specs.Shows.Waits.{WaitsSyn, WaitsNone, WaitsBytes}
 use Rattle.clean_finish.specs.Writing.{count_of}
-use Rattle.clean_finish.specs.Running.{Has, Half, Facing, IsSetting, HasNotBegun, is_syn, any_duty}
+use Rattle.clean_finish.specs.Running.{Half, Facing, IsSetting, HasNotBegun, is_syn, any_duty}
 use Rattle.clean_finish.proofs.Dropping.{differ, IsApart, stage_drops, settles_drop, begun_drops}
 use Rattle.clean_finish.proofs.Machine.{settles_as_a_lane}
 use Rattle.clean_finish.proofs.Passing.{stands_then, peer_is_other}

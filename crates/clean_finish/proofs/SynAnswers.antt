@@ -1,14 +1,11 @@
 -- The steps in which B treats A's SYN: its window is told, and the SYN/ACK goes.
-use Rattle.std.proofs.Common.{◌≡◌, refl, sym, subst, ap, ◌∙◌, ℕ, ◌+◌, ◌<◌, ◌≤◌, min, max, ◌==◌, nat_lt, Bool, true, false, not, ◌&&◌, ◌⊎◌, inl, inr, ⊎_elim, Option, Some, None, List, [], ◌∷◌, ◌++◌, arith}
-use Rattle.std.proofs.lemmas.Bool.{both_ways, le-ltb}
+use Rattle.std.proofs.Common.{◌≡◌, refl, sym, subst, ap, ℕ, ◌+◌, ◌<◌, ◌≤◌, min, max, nat_lt, Bool, true, false, inl, inr, ⊎_elim, List, [], ◌∷◌, arith}
+use Rattle.std.proofs.lemmas.Bool.{le-ltb}
 use Rattle.outside_kit.specs.declared.side.Side.{Side}
 use Rattle.outside_kit.specs.declared.side.Side.TheVariants.{A, B}
-use Rattle.link_model.specs.declared.flight.Flight.{Flight}
 use Rattle.link_model.specs.Laws.{plain_flight, going_to}
 use Rattle.link_model.specs.Steps.{after_send}
 use Rattle.path_segments.specs.Spelled.{PlainSegment}
-use Rattle.send_book.specs.State.{Sending as SendBook}
-use Rattle.send_book.specs.Steps.{is_future}
 use Rattle.subflow_send.specs.Records.{Record}
 use Rattle.subflow_send.specs.Rules.{syn_record}
 use Rattle.subflow_send.specs.Sendings.{never_sent}
@@ -23,17 +20,16 @@ use Rattle.path_agenda.specs.declared.duty.StepDuty.TheVariants as step_duties
 use Rattle.path_agenda.specs.Agenda.{emission}
 use Rattle.path_core.specs.Ends.{PathEnd}
 use Rattle.path_core.specs.Opening.{syn_window_ask, answered_syn_ack, is_plain_syn}
-use Rattle.path_core.specs.OptionsOut.{syn_ack_said}
 use Rattle.path_core.specs.Handover.{having_sent, sent_on}
 use Rattle.path_core.specs.State.{PathState, with_agenda}
 use Rattle.path_core.specs.Values.{Carried, carried_by, stripped, altered, values}
 use Rattle.world_laws.specs.Openings.{PathPlan, Start}
 use Rattle.pace.specs.Lane.{Setting, Telling, Lane, Sender, all_left}
 use Rattle.pace.specs.Going.{Going}
-use Rattle.clean_finish.specs.Segments.{Sent, Keys, said, FliesAs}
+use Rattle.clean_finish.specs.Segments.{Keys, said, FliesAs}
 use Rattle.clean_finish.specs.Shows.{Waits}
 use Rattle.clean_finish.specs.Shows.Waits.{WaitsSyn, WaitsNone, WaitsBytes}
-use Rattle.clean_finish.specs.Running.{Has, Half, Facing, own_bench, other_bench, HasNotBegun, IsSetting, Runs, keys_in}
+use Rattle.clean_finish.specs.Running.{Has, own_bench, other_bench, IsSetting, Runs, keys_in}
 use Rattle.clean_finish.proofs.Acknowledged.{hears_on}
 use Rattle.clean_finish.proofs.AnswerSent.{syn_ack_is, answer, end_by, first_test, syn_ack_sent}
 use Rattle.clean_finish.proofs.Dropping.{differ}
@@ -42,7 +38,7 @@ use Rattle.clean_finish.proofs.Passing.{free_drops}
 use Rattle.clean_finish.proofs.Plainly.{plain_on}
 use Rattle.clean_finish.proofs.Raised.{Emits}
 use Rattle.clean_finish.proofs.SynTold.{told_own}
-use Rattle.clean_finish.proofs.Templates.{emission_plain, emission_emits}
+use Rattle.clean_finish.proofs.Templates.{emission_plain}
 use Rattle.clean_finish.proofs.Turned.{from_a, from_b}
 
 not_a : B ≡ A → ⊥

@@ -1,5 +1,5 @@
 -- The SYN arrives at B: the world from B's side, from the arrival to the first duty of its treatment.
-use Rattle.std.proofs.Common.{◌≡◌, refl, sym, subst, ap, ◌∙◌, ℕ, ◌+◌, ◌<◌, ◌≤◌, max, Bool, true, false, ◌⊎◌, inl, inr, ⊎_elim, ◌==◌, ◌||◌, Option, None, List, [], ◌∷◌, ◌++◌, map, arith}
+use Rattle.std.proofs.Common.{◌≡◌, refl, sym, subst, ap, ◌∙◌, ℕ, ◌+◌, ◌<◌, ◌≤◌, max, Bool, true, false, ◌⊎◌, inl, inr, ⊎_elim, ◌==◌, ◌||◌, Option, None, List, [], ◌∷◌, map, arith}
 use Rattle.std.proofs.lemmas.Bool.{both_ways}
 use Rattle.outside_kit.specs.declared.side.Side.{Side}
 use Rattle.outside_kit.specs.declared.side.Side.TheVariants.{A, B}
@@ -17,7 +17,7 @@ use Rattle.path_core.specs.Ends.{PathEnd}
 use Rattle.path_core.specs.Standing.{is_connected}
 use Rattle.path_core.specs.State.{Profile}
 use Rattle.path_core.specs.Values.{Carried}
-use Rattle.pace.specs.Lane.{Setting, Copy, Lane, Stage}
+use Rattle.pace.specs.Lane.{Setting, Copy, Lane}
 use Rattle.pace.specs.Rules.{hears_data}
 use Rattle.pace.specs.Moves.{MayHearData, IsBefore}
 use Rattle.pace.specs.Moves.Move.{goes_back, hears}

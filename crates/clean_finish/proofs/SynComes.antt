@@ -1,6 +1,5 @@
 -- The step in which A's SYN arrives at B.
-use Rattle.std.proofs.Common.{◌≡◌, refl, sym, subst, ap, ◌∙◌, ℕ, ◌+◌, ◌-◌, ◌<◌, ◌≤◌, min, max, nat_lt, Bool, true, false, if◌then◌else◌, ◌⊎◌, inl, inr, ⊎_elim, Option, Some, None, List, [], ◌∷◌, ◌++◌, length, map, arith}
-use Rattle.outside_kit.specs.declared.side.Side.{Side}
+use Rattle.std.proofs.Common.{◌≡◌, refl, sym, subst, ap, ◌∙◌, ℕ, ◌+◌, ◌<◌, ◌≤◌, min, max, nat_lt, Bool, true, false, if◌then◌else◌, Option, Some, None, List, [], ◌∷◌, arith}
 use Rattle.outside_kit.specs.declared.side.Side.TheVariants.{A, B}
 use Rattle.link_model.specs.declared.flight.Flight.{Flight}
 use Rattle.link_model.specs.Laws.{going_to}
@@ -27,9 +26,9 @@ use Rattle.pace.specs.Lane.{Setting, Lane, Receiver, all_left}
 use Rattle.pace.specs.Going.{Going}
 use Rattle.clean_finish.specs.Segments.{Sent, Keys, Brings, said, CountsAs, TellsAs}
 use Rattle.clean_finish.specs.Segments.Brings.{OpensSubflow}
-use Rattle.clean_finish.specs.Shows.{Hand, IsIdle, IsPhase, WayIs}
+use Rattle.clean_finish.specs.Shows.{IsIdle, IsPhase}
 use Rattle.clean_finish.specs.Shows.IsPhase.{Opening, Listening, HalfOpen, Open}
-use Rattle.clean_finish.specs.Running.{Half, Facing, half, own_bench, other_bench, IsSetting, Runs, keys_in}
+use Rattle.clean_finish.specs.Running.{Half, Facing, half, IsSetting, Runs, keys_in}
 use Rattle.clean_finish.proofs.ArrivesAtB.{copy, q, tick, moment, first, faced, link, Follows, follows, comes_as}
 use Rattle.clean_finish.proofs.CopyTaken.{heard_as}
 use Rattle.clean_finish.proofs.Hands.{way_none}

@@ -1,9 +1,8 @@
 -- The step in which A sends its SYN.
-use Rattle.std.proofs.Common.{◌≡◌, refl, sym, subst, ap, ◌∙◌, ℕ, zero, suc, ◌+◌, ◌<◌, ◌≤◌, max, Bool, true, false, ◌&&◌, is_some, ◌⊎◌, inl, inr, ⊎_elim, Option, Some, None, List, [], ◌∷◌, ◌++◌, find, arith}
+use Rattle.std.proofs.Common.{◌≡◌, refl, sym, subst, ap, ◌∙◌, ℕ, ◌+◌, ◌≤◌, max, true, false, is_some, inl, inr, ⊎_elim, Some, List, [], ◌∷◌, find, arith}
 use Rattle.std.proofs.lemmas.Bool.{both_ways, and_parts}
 use Rattle.outside_kit.specs.declared.side.Side.{Side}
 use Rattle.outside_kit.specs.declared.side.Side.TheVariants.{A, B}
-use Rattle.link_model.specs.declared.flight.Flight.{Flight}
 use Rattle.link_model.specs.Laws.{plain_flight, going_to}
 use Rattle.link_model.specs.Steps.{after_send}
 use Rattle.path_segments.specs.Spelled.{PlainSegment}
@@ -21,7 +20,6 @@ use Rattle.path_agenda.specs.declared.duty.Duty.TheVariants as duties
 use Rattle.path_agenda.specs.declared.duty.AskDuty.TheVariants as ask_duties
 use Rattle.path_agenda.specs.declared.duty.SendDuty.TheVariants as send_duties
 use Rattle.path_core.specs.Emission.{first_unsent, is_syn_due, answered_syn}
-use Rattle.path_core.specs.OptionsOut.{record_or_ack}
 use Rattle.path_core.specs.Handover.{having_sent, sent_on}
 use Rattle.path_core.specs.Standing.{is_connected}
 use Rattle.path_core.specs.State.{PathState, with_agenda}
@@ -29,7 +27,7 @@ use Rattle.path_core.specs.Values.{Carried, carried_by, stripped, altered, value
 use Rattle.world_laws.specs.Openings.{PathPlan, Start}
 use Rattle.pace.specs.Lane.{Setting, Lane, all_left}
 use Rattle.pace.specs.Going.{Going}
-use Rattle.clean_finish.specs.Segments.{Keys, said, FliesAs}
+use Rattle.clean_finish.specs.Segments.{Keys, said}
 use Rattle.clean_finish.specs.Shows.{Waits}
 use Rattle.clean_finish.specs.Shows.Waits.{WaitsSyn, WaitsNone, WaitsBytes}
 use Rattle.clean_finish.specs.Running.{Has, Facing, Half, own_bench, other_bench, is_window, any_duty, IsSetting, HasNotBegun, Runs, keys_in}

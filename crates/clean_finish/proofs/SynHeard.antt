@@ -1,9 +1,6 @@
 -- The SYN arrives at B, as B sees it: the end, and both lanes.
-use Rattle.std.proofs.Common.{◌≡◌, refl, sym, subst, ap, ◌∙◌, ℕ, zero, suc, ◌+◌, ◌-◌, ◌≤◌, min, max, Bool, true, false, nat_lt, if◌then◌else◌, ◌⊎◌, inl, inr, ⊎_elim, Option, Some, None, List, [], ◌∷◌, length, arith}
-use Rattle.std.proofs.lemmas.Bool.{both_ways}
-use Rattle.outside_kit.specs.declared.side.Side.{Side}
+use Rattle.std.proofs.Common.{◌≡◌, refl, subst, ap, ◌∙◌, ℕ, zero, suc, ◌+◌, ◌-◌, ◌≤◌, min, max, true, false, Option, Some, None, List, [], arith}
 use Rattle.outside_kit.specs.declared.side.Side.TheVariants.{A, B}
-use Rattle.link_model.specs.Steps.{peer}
 use Rattle.dss_mapping.specs.declared.kept.KeptMapping.{KeptMapping}
 use Rattle.path_segments.specs.Laws.{meant}
 use Rattle.subflow_tcp.specs.declared.handshake.State.TheVariants.{Listen}
@@ -14,7 +11,7 @@ use Rattle.path_core.specs.Arriving.{copy_judged}
 use Rattle.path_core.specs.Ends.{PathEnd}
 use Rattle.path_core.specs.Standing.{is_connected}
 use Rattle.path_core.specs.State.{Profile}
-use Rattle.pace.specs.Lane.{Setting, Lane, Receiver}
+use Rattle.pace.specs.Lane.{Setting, Lane}
 use Rattle.pace.specs.Rules.{hears_data, repeats, next_row}
 use Rattle.clean_finish.specs.Segments.{Sent, Keys, copy_in, said}
 use Rattle.clean_finish.specs.Segments.Brings.{OpensSubflow}

@@ -1,5 +1,5 @@
 -- A SYN that was sent isn't sent again, and B's goes out by its answer; and the turn of a path ends.
-use Rattle.std.proofs.Common.{◌≡◌, refl, sym, subst, ap, ◌∙◌, ℕ, ◌<◌, ◌≤◌, Bool, true, false, ◌&&◌, is_some, ◌⊎◌, inl, inr, ⊎_elim, Option, List, [], ◌∷◌, find, arith}
+use Rattle.std.proofs.Common.{◌≡◌, refl, subst, ap, ◌∙◌, ℕ, ◌≤◌, Bool, true, false, ◌&&◌, is_some, ◌⊎◌, inl, inr, ⊎_elim, List, [], ◌∷◌, find, arith}
 use Rattle.std.proofs.lemmas.Bool.{both_ways, cases_lt}
 use Rattle.outside_kit.specs.declared.side.Side.{Side}
 use Rattle.outside_kit.specs.declared.side.Side.TheVariants.{A, B}

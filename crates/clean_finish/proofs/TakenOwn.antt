@@ -1,10 +1,9 @@
 -- A copy that is taken arrives at an end that had nothing in hand: the end.
-use Rattle.std.proofs.Common.{◌≡◌, refl, sym, subst, ap, ◌∙◌, ℕ, ◌+◌, ◌-◌, ◌<◌, ◌≤◌, min, max, nat_lt, Bool, true, false, ◌||◌, if◌then◌else◌, ◌⊎◌, inl, inr, ⊎_elim, Option, Some, None, IfSome, List, [], ◌∷◌, length, All, arith}
+use Rattle.std.proofs.Common.{◌≡◌, refl, sym, subst, ap, ◌∙◌, ℕ, ◌+◌, ◌-◌, ◌≤◌, min, nat_lt, Bool, true, false, ◌||◌, if◌then◌else◌, inl, inr, None, IfSome, List, arith}
 use Rattle.std.specs.List.{list_any}
-use Rattle.std.proofs.lemmas.Bool.{both_ways, cases_lt, ltb-true, ltb-false}
+use Rattle.std.proofs.lemmas.Bool.{both_ways, ltb-true, ltb-false}
 use Rattle.std.proofs.lemmas.List.Elements.{All-weaker}
 use Rattle.outside_kit.specs.declared.side.Side.{Side}
-use Rattle.outside_kit.specs.declared.side.Side.TheVariants.{A, B}
 use Rattle.link_model.specs.Steps.{peer}
 use Rattle.dss_mapping.specs.declared.kept.KeptMapping.{KeptMapping}
 use Rattle.loss_recovery.specs.declared.timers.Timing.{Timing}
@@ -28,10 +27,9 @@ use Rattle.path_core.specs.Codec.{HeardSegment}
 use Rattle.path_core.specs.Ends.{PathEnd}
 use Rattle.path_core.specs.State.{Profile}
 use Rattle.pace.specs.Lane.{Setting, Lane}
-use Rattle.pace.specs.Rules.{is_same}
-use Rattle.clean_finish.specs.Machine.{IsLong, seen_timer}
-use Rattle.clean_finish.specs.Segments.{Sent, Keys, copy_in, octets_of, dss_from, position_of, said, AcknowledgesAs}
-use Rattle.clean_finish.specs.Shows.{Hand, EndIs, IsGranted, IsOpen, IsToldEdge, RecordsAre, row_seen}
+use Rattle.clean_finish.specs.Machine.{seen_timer}
+use Rattle.clean_finish.specs.Segments.{Sent, Keys, octets_of, dss_from, position_of, said, AcknowledgesAs}
+use Rattle.clean_finish.specs.Shows.{EndIs, IsGranted, IsToldEdge}
 use Rattle.clean_finish.specs.Shows.IsPhase.{Open}
 use Rattle.clean_finish.specs.Shows.IsToldEdge.{Same, Before}
 use Rattle.clean_finish.specs.Running.{Half, Facing}

@@ -1,24 +1,23 @@
 -- What a copy that is taken tells, as the subflow compares it with the one before.
-use Rattle.std.proofs.Common.{◌≡◌, refl, sym, subst, ap, ◌∙◌, ℕ, ◌+◌, ◌-◌, ◌^◌, ◌==◌, ◌<◌, ◌≤◌, nat_lt, nat_le, Bool, true, false, not, ◌&&◌, if◌then◌else◌, ◌⊎◌, inl, inr, ⊎_elim, Option, Some, None, IfSome, List, [], ◌∷◌, ◌++◌, length, arith}
+use Rattle.std.proofs.Common.{◌≡◌, refl, sym, subst, ap, ◌∙◌, ℕ, ◌+◌, ◌-◌, ◌^◌, ◌==◌, ◌≤◌, nat_lt, Bool, true, false, not, ◌&&◌, if◌then◌else◌, ⊎_elim, Option, Some, None, IfSome, List, [], ◌∷◌, ◌++◌, length, arith}
 use Rattle.std.proofs.lemmas.Bool.{both_ways, cases_lt, and_parts, eqb-true, eq-eqb}
 use Rattle.outside_kit.specs.declared.side.Side.{Side}
 use Rattle.outside_kit.specs.declared.side.Side.TheVariants.{A, B}
-use Rattle.link_model.specs.Steps.{peer}
 use Rattle.loss_recovery.specs.declared.windows.Told.{Told}
 use Rattle.loss_recovery.specs.Windows.{is_same_place, is_same_told}
 use Rattle.path_segments.specs.Laws.{meant, window_told}
 use Rattle.subflow_send.specs.declared.record.AckKind.TheVariants.{Duplicate}
 use Rattle.subflow_tcp.specs.Segments.{Copy as SubflowCopy}
 use Rattle.subflow_tcp.specs.State.{EndState, has_records}
-use Rattle.subflow_tcp.specs.Taking.{is_empty, is_duplicate, told_by}
+use Rattle.subflow_tcp.specs.Taking.{is_empty, is_duplicate}
 use Rattle.path_agenda.specs.declared.heard.Heard.{Heard}
 use Rattle.path_agenda.specs.declared.heard.Heard.TheVariants as says
 use Rattle.path_agenda.specs.Items.{place_in_first}
-use Rattle.path_core.specs.Arriving.{copy_of, items_of, hint_of, is_mapping}
+use Rattle.path_core.specs.Arriving.{items_of, is_mapping}
 use Rattle.path_core.specs.State.{Profile}
 use Rattle.pace.specs.Lane.{Telling, Sender}
 use Rattle.pace.specs.Rules.{is_same}
-use Rattle.clean_finish.specs.Segments.{Sent, Keys, Brings, is_opening, is_solid, is_subflow_end, octets_of, copy_in, dss_from, said, TellsAs}
+use Rattle.clean_finish.specs.Segments.{Sent, Keys, Brings, is_opening, is_solid, is_subflow_end, octets_of, dss_from, said, TellsAs}
 use Rattle.clean_finish.specs.Segments.Brings.{OpensSubflow, ShowsKeys, FirstPiece, Piece, Acknowledges, EndsStream, EndsSubflow}
 use Rattle.clean_finish.proofs.CopyHeeded.{Repeated}
 

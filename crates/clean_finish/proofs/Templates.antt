@@ -1,5 +1,5 @@
 -- What the templates of a turn have ahead.
-use Rattle.std.proofs.Common.{◌≡◌, refl, ◌⊎◌, inl, inr, List, [], ◌∷◌}
+use Rattle.std.proofs.Common.{refl, inl, inr}
 use Rattle.outside_kit.specs.declared.side.Side.{Side}
 use Rattle.outside_kit.specs.declared.side.Side.TheVariants.{A, B}
 use Rattle.path_agenda.specs.Agenda.{emission}

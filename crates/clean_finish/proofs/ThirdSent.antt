@@ -1,11 +1,11 @@
 -- A answers the SYN/ACK: its third segment shows both keys (RFC 8684, section 3.1).
-use Rattle.std.proofs.Common.{◌≡◌, refl, sym, subst, ap, ◌∙◌, ℕ, zero, suc, ◌+◌, ◌-◌, ◌==◌, ◌<◌, ◌≤◌, min, max, nat_lt, Bool, true, false, cond, if◌then◌else◌, ◌&&◌, ◌⊎◌, inl, inr, ⊎_elim, Option, Some, None, List, [], ◌∷◌, ◌++◌, length, map, le_refl, arith}
+use Rattle.std.proofs.Common.{◌≡◌, refl, sym, subst, ap, ◌∙◌, ℕ, ◌+◌, ◌-◌, ◌==◌, ◌<◌, ◌≤◌, min, max, nat_lt, Bool, true, false, cond, if◌then◌else◌, ◌&&◌, inl, inr, ⊎_elim, Option, Some, None, List, [], ◌∷◌, ◌++◌, le_refl, arith}
 use Rattle.std.proofs.lemmas.Bool.{both_ways, eqb-true, and_parts}
 use Rattle.outside_kit.specs.declared.side.Side.{Side}
 use Rattle.outside_kit.specs.declared.side.Side.TheVariants.{A, B}
 use Rattle.link_model.specs.declared.flight.Flight.{Flight}
 use Rattle.link_model.specs.Laws.{plain_flight, going_to}
-use Rattle.link_model.specs.Steps.{peer, after_send}
+use Rattle.link_model.specs.Steps.{after_send}
 use Rattle.path_segments.specs.Spelled.{PlainSegment}
 use Rattle.subflow_tcp.specs.declared.segments.Occasion.TheVariants as to_send
 use Rattle.actor_desk.specs.Desk.{SixBooks}
@@ -23,8 +23,8 @@ use Rattle.path_core.specs.Standing.{acknowledges}
 use Rattle.path_core.specs.State.{PathState, Profile, with_agenda}
 use Rattle.path_core.specs.Values.{Carried, carried_by, stripped, altered, values}
 use Rattle.world_laws.specs.Openings.{PathPlan, Start}
-use Rattle.pace.specs.Lane.{Setting, Telling, Copy, Lane, Stage, data_ack, is_whole, all_left}
-use Rattle.pace.specs.Rules.{is_same, sent_by, said_by, repeats}
+use Rattle.pace.specs.Lane.{Setting, Copy, Lane, Stage, data_ack, is_whole, all_left}
+use Rattle.pace.specs.Rules.{is_same, repeats}
 use Rattle.pace.specs.Going.{Going, pending}
 use Rattle.pace.specs.Moves.{MaySay, MaySend}
 use Rattle.pace.specs.Moves.Move.{sends_none}
@@ -37,7 +37,6 @@ use Rattle.clean_finish.proofs.Dropping.{differ, behind, behind_or, IsApart, sta
 use Rattle.clean_finish.proofs.Hands.{in_hand, way_done}
 use Rattle.clean_finish.proofs.Linking.{carried_is, last_from_a, others_of_a, link_after_a}
 use Rattle.clean_finish.proofs.Opened.{waiting_on}
-use Rattle.clean_finish.proofs.Passing.{peer_is_other}
 use Rattle.clean_finish.proofs.Plainly.{plain_on}
 use Rattle.clean_finish.proofs.Quiet.{now_out, now_back}
 use Rattle.clean_finish.proofs.Saying.{end_after, own_said}

@@ -1,5 +1,5 @@
 -- The first steps of a turn: how the side stands, and what is to be acknowledged.
-use Rattle.std.proofs.Common.{◌≡◌, refl, sym, subst, ℕ, List, ◌∷◌}
+use Rattle.std.proofs.Common.{sym, subst, ℕ, List, ◌∷◌}
 use Rattle.outside_kit.specs.declared.side.Side.{Side}
 use Rattle.outside_kit.specs.declared.side.Side.TheVariants.{A, B}
 use Rattle.control_book.specs.declared.call.ControlCall.TheVariants as control_calls

@@ -1,6 +1,6 @@
 -- The events of a turn are over, and the turn ends.
-use Rattle.std.proofs.Common.{◌≡◌, refl, sym, subst, ap, ◌∙◌, ℕ, ◌<◌, ◌≤◌, nat_lt, nat_le, Bool, true, false, if◌then◌else◌, is_some, ◌⊎◌, inl, inr, ⊎_elim, Option, Some, None, IfSome, List, [], ◌∷◌, ◌++◌, filter, map, le_refl, arith}
-use Rattle.std.proofs.lemmas.Bool.{both_ways, ltb-false, leb-false, leb-true}
+use Rattle.std.proofs.Common.{◌≡◌, refl, sym, subst, ap, ◌∙◌, ℕ, ◌≤◌, nat_lt, nat_le, Bool, true, false, if◌then◌else◌, is_some, inl, inr, ⊎_elim, Option, Some, None, IfSome, List, [], ◌∷◌, ◌++◌, map, le_refl, arith}
+use Rattle.std.proofs.lemmas.Bool.{both_ways, ltb-false, leb-false}
 use Rattle.std.specs.List.{AllByRecursion}
 use Rattle.std.specs.Option.{option_and_then}
 use Rattle.outside_kit.specs.declared.side.Side.{Side}
@@ -8,7 +8,6 @@ use Rattle.outside_kit.specs.declared.side.Side.TheVariants.{A, B}
 use Rattle.link_script.specs.Places.{same_side}
 use Rattle.link_model.specs.declared.flight.Flight.{Flight}
 use Rattle.link_model.specs.Laws.{going_to}
-use Rattle.link_model.specs.Order.{AreInOrder}
 use Rattle.link_model.specs.Steps.{peer, next_due}
 use Rattle.link_model.proofs.Order.{earliest as first_of_all}
 use Rattle.actor_desk.specs.Desk.{SixBooks}
@@ -26,10 +25,10 @@ use Rattle.pace.specs.Lists.{first_at}
 use Rattle.pace.specs.Moves.Move.{waits_no_more}
 use Rattle.clean_finish.specs.Segments.{Sent, Keys, copy_in, FlyAs}
 use Rattle.clean_finish.specs.Shows.{Hand, brings_in, tells_in, WayIs}
-use Rattle.clean_finish.specs.Running.{StageIs, Half, Facing, own_bench, other_bench, Runs, keys_in}
+use Rattle.clean_finish.specs.Running.{StageIs, Half, Facing, Runs, keys_in}
 use Rattle.clean_finish.proofs.Dropping.{differ, behind, behind_or, settles_drop, begun_drops}
 use Rattle.clean_finish.proofs.Passing.{stands_then}
-use Rattle.clean_finish.proofs.Plainly.{plain_on, passes_free}
+use Rattle.clean_finish.proofs.Plainly.{plain_on}
 
 -- the stage of a turn in which nothing more arrives
 pub wait_drops : (s r : Side) (ds : List Duty) (asked owes : Bool) (p : Stage)
