@@ -120,6 +120,11 @@ module _ (after : ℕ) (lists : List (List Note)) (books : StampedBooks) where
       asked_in_order after (λ n. book_of n.ask) lists (journals_of books) book journal (own_numbered 0 lists own) (journals_numbered books rise) at
       (λ n is. below_asked n.ask book few is) paired
 
+  pub all_asked : AreOwn 0 lists → JournalsRise books → ArePaired after lists (journals_of books)
+      → AreAllAsked (in_order after lists) (map (above after) (journals_of books))
+  all_asked own rise paired book entries at =
+      let from = mapped_at (above after) (journals_of books) book entries at in asked_is own rise paired book from.0 from.1 ∙ sym from.2
+
   pub never_strayed : AreOwn 0 lists → JournalsRise books → ArePaired after lists (journals_of books) → (s : Strayed)
       → IsFirstStrayed (in_order after lists) (map (above after) (journals_of books)) s → ⊥
   never_strayed own rise paired s h =
@@ -155,3 +160,10 @@ module _ (after : ℕ) (lists : List (List Note)) (books : StampedBooks) where
   pub is_fault : AreOwn 0 lists → JournalsRise books → (s : Strayed) → IsFirstStrayed (in_order after lists) (map (above after) (journals_of books)) s
       → IsFault after lists (journals_of books) (faults.Strayed s)
   is_fault own rise s h = ((λ paired. never_strayed own rise paired s h), h)
+
+-- what is paired at every stamp is paired above each
+pub paired_above : (after : ℕ) (lists journals : List (List Note)) → ArePaired 0 lists journals → ArePaired after lists journals
+paired_above after lists journals paired = record {
+  notes = λ list note there of later book. paired.notes list note there of (omega (arith, later)) book;
+  entries = λ journal note there of later. paired.entries journal note there of (omega (arith, later));
+}

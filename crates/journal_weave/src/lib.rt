@@ -17,4 +17,4 @@ pub use fault::{Strayed, WeaveFault};
 pub use journals::JournalLengths;
 pub use laws::woven_orders_do_the_same;
 pub use rounds::woven_round;
-pub use weaving::weave;
+pub use weaving::{weave, weave_paired};

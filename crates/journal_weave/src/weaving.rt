@@ -1,8 +1,8 @@
 //! Lists and journals in one order.
 ghost use Rattle.std.specs.Prelude.{◌≡◌, map, IfOk, IfErr, OnOk};
-ghost use Rattle.actor_desk.specs.Journals.{ArePaired, above, order_of};
+ghost use Rattle.actor_desk.specs.Journals.{ArePaired, above, in_order, order_of};
 ghost use Rattle.world_laws.specs.StampedBooks.{journals_of};
-ghost use Rattle.journal_weave.specs.Weaving.{AreOwn, IsFault, StrayedFirst, lists_in};
+ghost use Rattle.journal_weave.specs.Weaving.{AreAllAsked, AreOwn, IsFault, StrayedFirst, lists_in};
 
 use crate::fault::{Strayed, WeaveFault};
 use crate::gathering::{journals_above, journals_rise};
@@ -61,4 +61,27 @@ pub fn weave<A>(
         Some(strayed) => Err(WeaveFault::Strayed(strayed)),
         None => Ok(actors_of(alloc, &order)?),
     }
+}
+
+/// The actors of all notes above a stamp, by stamp, then by actor, where lists and journals are paired at every stamp. The notes
+/// of the i-th list are actor i's, and their stamps rise. In this order each book's notes above that stamp are its journal's.
+///
+/// # Errors
+///
+/// Only where there is no memory.
+pub fn weave_paired<A>(
+    alloc: Global,
+    books: &Books,
+    crew: &[Crew<A>],
+    after: u64,
+) -> Result<Vec<u8>, AllocError>
+    requires own { AreOwn 0 (lists_in crew.now) }
+    requires paired { ArePaired 0 (lists_in crew.now) (journals_of books.now) }
+    ensures order { IfOk result (λ order. order.items ≡ order_of after (lists_in crew.now)) }
+    ensures journals { AreAllAsked (in_order after (lists_in crew.now))
+        (map (above after) (journals_of books.now)) }
+{
+    journals_rise(books);
+    let order = order_above(alloc, crew, after)?;
+    actors_of(alloc, &order)
 }
