@@ -9,3 +9,7 @@ mod Members
 mod Outs
 mod Ridden
 mod Calling
+mod PassesGiven
+mod Gaining
+pub mod Pairing
+mod WholeRounds

@@ -6,3 +6,5 @@ pub mod Seats
 pub mod SixSeats
 pub mod Parts
 pub mod Riding
+pub mod Gaining
+pub mod WholeRounds

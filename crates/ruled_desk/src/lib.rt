@@ -8,7 +8,10 @@
 mod answering;
 mod desk;
 mod held;
+mod laws;
 mod lock;
+mod mounting;
+mod passing;
 mod refusing;
 mod rider;
 mod rounds;
@@ -16,5 +19,6 @@ mod rule;
 mod seats;
 
 pub use desk::{OpenFault, RootPass, RuledDesk, RuledPass};
+pub use laws::gaining_alike_stays_paired;
 pub use rider::Rider;
-pub use rounds::{RuledSeat, ruled_round};
+pub use rounds::{RuledSeat, round_at_tables, ruled_round};

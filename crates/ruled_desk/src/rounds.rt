@@ -14,16 +14,18 @@ ghost use Rattle.actor_desk.specs.Bounds.{IsSmallControl, IsSmallReassembly, IsS
 ghost use Rattle.actor_desk.specs.Kinds.{IsControlKind, IsReassemblyKind, IsSendKind};
 ghost use Rattle.actor_desk.specs.Noted.{note_of, with_note};
 ghost use Rattle.ruled_desk.specs.declared.rider.Rider.{Rider};
-ghost use Rattle.ruled_desk.specs.Riding.{HasPass, OneIsUsedUp, Rode, is_rider_refused};
-ghost use Rattle.ruled_desk.specs.SixSeats.{AreOf, notes_by, notes_full};
+ghost use Rattle.ruled_desk.specs.Riding.{AreNumbered, HasPass, OneIsUsedUp, Rode, is_rider_refused};
+ghost use Rattle.ruled_desk.specs.SixSeats.{AreOf, given_to, nobody_out, nothing_known, notes_by, notes_full};
+ghost use Rattle.ruled_desk.specs.WholeRounds.{AreActors, IsWholeRound, OneIsFull, OneKnowsLast, crew_of};
 
 use crate::answering::Answering;
-use crate::desk::{RuledDesk, RuledPass};
+use crate::desk::{OpenFault, RootPass, RuledDesk, RuledPass};
 use crate::held::Held;
 use crate::lock::{BookSeat, RestingSeat, RuledLock};
+use crate::mounting::{dismount, mount};
 use crate::refusing::outcome_of;
 use crate::rider::Rider;
-use actor_desk::{Actor, Ask, Crew, Desk, Reply};
+use actor_desk::{Actor, Ask, Books, Crew, Desk, Reply};
 use control_book::{ControlCall, ControlReply};
 use outside_kit::{Gate, Object, Side};
 use reassembly_book::{ReassemblyCall, ReassemblyReply};
@@ -396,4 +398,74 @@ pub fn ruled_round<A: Actor + Send, G: Gate + Sync, R: Threads + Wait + Sync>(
         { ride(rt, alloc, rider, desk, gate) },
     );
     outcome_of(riders)
+}
+
+// A round of riders at a desk that was just opened: a pass for each, the round, the passes back, and the books out of their
+// tables.
+fn ride_at<A: Actor + Send, G: Gate + Sync, R: Threads + Wait + Sync>(
+    rt: &R,
+    alloc: Global,
+    riders: &mut [Rider<A>],
+    desk: RuledDesk,
+    root: RootPass,
+    gate: &G,
+) -> (Result<(), Refusal>, Books)
+    requires numbered { AreNumbered 0 riders.old }
+    requires root { root ≡ record { out = nobody_out; books = nothing_known desk } }
+    ensures ok { OnOk result.0 (IsWholeRound A.asks A.takes (crew_of riders.old) (crew_of riders.new) (given_to desk) result.1) }
+    ensures used_up { result.0 ≡ Err Stamps → OneKnowsLast (crew_of riders.new) ⊎ OneIsFull result.1 }
+    ensures many { length riders.new ≡ length riders.old }
+{
+    let mut root = root;
+    desk.split_all(&mut root, riders);
+    let told = ruled_round(rt, alloc, riders, &desk, gate);
+    desk.join_all(&mut root, riders);
+    (told, desk.close(root))
+}
+
+// A round of riders over these books.
+fn ride_all<A: Actor + Send, G: Gate + Sync, R: Threads + Wait + Sync>(
+    rt: &R,
+    alloc: Global,
+    riders: &mut [Rider<A>],
+    books: Books,
+    gate: &G,
+) -> (Result<(), Refusal>, Books)
+    requires { AreNumbered 0 riders.old }
+    ensures ok { OnOk result.0 (IsWholeRound A.asks A.takes (crew_of riders.old) (crew_of riders.new) books result.1) }
+    ensures used_up { result.0 ≡ Err Stamps → OneKnowsLast (crew_of riders.new) ⊎ OneIsFull result.1 }
+    ensures many { length riders.new ≡ length riders.old }
+{
+    match RuledDesk::open(alloc, books) {
+        Ok((desk, root)) => ride_at(rt, alloc, riders, desk, root, gate),
+        Err(OpenFault { books, fault: _ }) => (Err(Refusal::Memory), books),
+    }
+}
+
+/// A round over these books, each in a table of its own for as long as the round takes: how [`ruled_round`] ended, and the books.
+/// The actors are those from 0 on. At Ok each made its turn to its end, and each entry that a journal gained is a note of an
+/// actor's list, and each note of a call at a book that a list gained is an entry.
+///
+/// # Errors
+///
+/// `Memory` where there is none for the tables, for the passes or for a step; else `Stamps` where stamps were used up: then an
+/// actor knows the last stamp, 2^62 - 1, or an entry of a journal has it.
+pub fn round_at_tables<A: Actor + Drop + Send, G: Gate + Sync, R: Threads + Wait + Sync>(
+    rt: &R,
+    alloc: Global,
+    crew: &mut Vec<Crew<A>>,
+    books: Books,
+    gate: &G,
+) -> (Result<(), Refusal>, Books)
+    requires { AreActors 0 crew.old.items }
+    ensures ok { OnOk result.0 (IsWholeRound A.asks A.takes crew.old.items crew.new.items books result.1) }
+    ensures used_up { result.0 ≡ Err Stamps → OneKnowsLast crew.new.items ⊎ OneIsFull result.1 }
+{
+    let mut riders = match mount(alloc, crew) {
+        Ok(riders) => riders,
+        Err(_) => return (Err(Refusal::Memory), books),
+    };
+    let told = ride_all(rt, alloc, &mut riders, books, gate);
+    dismount(crew, riders);
+    told
 }

@@ -1,0 +1,27 @@
+use Rattle.std.proofs.Common.{◌⊎◌, sym, ◌∙◌, ap, subst, List, OnOk, arith}
+use Rattle.actor_desk.specs.declared.actor.Crew.{Crew}
+use Rattle.ruled_desk.specs.Riding.{AreNumbered}
+use Rattle.ruled_desk.specs.WholeRounds.{IsWholeRound, OneIsFull, OneKnowsLast, crew_of}
+use Rattle.ruled_desk.proofs.WholeRounds.{crew_again, lent_riders, numbered_riders}
+use Rattle.ruled_desk.proofs.rounds.round_at_tables.Goals as goal
+
+pub ride_all-told-requires-after_bounds : goal.ride_all-told-requires-after_bounds
+ride_all-told-requires-after_bounds g c κs within =
+    subst (λ l. AreNumbered 0 l) (sym (c.deref_mut.ensures.value ∙ c.in-Ok.ensures.riders)) (numbered_riders 0 c.args.crew.now.items c.requires)
+
+pub returns-clause-ok : goal.returns-clause-ok
+returns-clause-ok g c =
+    lent_riders
+    (λ (crew : List (Crew g.row.A.Denot)). OnOk c.ride_all-told.result.0
+    (IsWholeRound g.A.Actor.asks g.A.Actor.takes c.args.crew.now.items crew c.args.books c.ride_all-told.result.1))
+    c.in-Ok.riders.len c.ride_all-told.new.riders c.in-Ok.riders.items c.dismount.new.crew.items
+    (omega (arith, c.deref_mut.ensures.len, c.ride_all-told.ensures.many)) c.dismount.ensures
+    (subst (λ (crew : List (Crew g.row.A.Denot)). OnOk c.ride_all-told.result.0
+    (IsWholeRound g.A.Actor.asks g.A.Actor.takes crew (crew_of c.ride_all-told.new.riders) c.args.books c.ride_all-told.result.1))
+    (ap (λ l. crew_of l) (c.deref_mut.ensures.value ∙ c.in-Ok.ensures.riders) ∙ crew_again c.args.crew.now.items) c.ride_all-told.ensures.ok)
+
+pub returns-clause-used_up : goal.returns-clause-used_up
+returns-clause-used_up g c is =
+    lent_riders (λ (crew : List (Crew g.row.A.Denot)). OneKnowsLast crew ⊎ OneIsFull c.ride_all-told.result.1) c.in-Ok.riders.len c.ride_all-told.new.riders
+    c.in-Ok.riders.items c.dismount.new.crew.items (omega (arith, c.deref_mut.ensures.len, c.ride_all-told.ensures.many)) c.dismount.ensures
+    (c.ride_all-told.ensures.used_up is)
