@@ -12,7 +12,7 @@ pub returns-clause-order : goal.returns-clause-order
 returns-clause-order g c =
     IfOk-weaker c.actors_of.result _ _
     (λ order is. is ∙ (actors_lent c.deref.result.now
-      ∙ ap (λ notes. map (λ note. note.actor) notes) (ap (λ (notes : List (Bor Note)). lent notes) c.deref.ensures.value ∙ c.in_ok-order.ensures)))
+    ∙ ap (λ notes. map (λ note. note.actor) notes) (ap (λ (notes : List (Bor Note)). lent notes) c.deref.ensures.value ∙ c.in_ok-order.ensures)))
     c.actors_of.ensures
 
 pub returns-clause-journals : goal.returns-clause-journals
