@@ -1,5 +1,4 @@
-//! What neither a clause nor a line of a program of cases says: real files, a mark of a user's own type, the gate that is open, and
-//! threads that meet.
+//! What neither a clause nor a line of a program of cases says: real files, a mark of a user's own type, the gate that is open.
 #![tactic(auto)]
 
 #[cfg(test)]
@@ -7,8 +6,4 @@ mod files;
 #[cfg(test)]
 mod marks;
 #[cfg(test)]
-mod meetings;
-#[cfg(test)]
 mod outsides;
-#[cfg(test)]
-mod strays;
