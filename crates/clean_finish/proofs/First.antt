@@ -139,7 +139,7 @@ module _ (k j : Setting) (window window_back : ℕ) (writer writer_back : Writer
         control = omega arith;
         fits = omega arith;
       };
-      ahead = record { bytes = omega arith; new_control = omega arith; finished = λ e. absurd (omega (arith, e)) };
+      ahead = record { bytes = omega arith; opened = omega arith; finished = λ e. absurd (omega (arith, e)) };
       congestion = record { window = room; most = most; steady = refl; row = omega arith };
       come = record { edge = refl; window = refl };
       quiet = λ e. (refl, refl, refl, refl);
